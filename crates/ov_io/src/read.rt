@@ -1,0 +1,55 @@
+//! Reading a source to its end.
+ghost use Rattle.std.specs.Prelude.{◌≡◌, ◌<◌, ◌≤◌, ◌^◌, length, IfOk, IfSome, vec_len};
+ghost use Rattle.ov_io.specs.Causes.{Rose};
+ghost use Rattle.ov_io.specs.Inputs.{WasReadWhole};
+ghost use Rattle.ov_io.specs.declared.read.ReadRefusal.TheVariants.{NoMemory};
+
+use crate::source::Source;
+use std::alloc::{AllocError, Global};
+
+/// Why a source was not read to its end.
+#[derive(Clone, Copy, Debug, PartialEq, Eq)]
+pub enum ReadRefusal {
+    Fault,
+    TooLong,
+    NoMemory,
+}
+
+impl From<AllocError> for ReadRefusal {
+    ghost from_gives = { λ _ e. e ≡ NoMemory };
+
+    fn from(_e: AllocError) -> ReadRefusal {
+        ReadRefusal::NoMemory
+    }
+}
+
+/// Reads a source to its end, where at most `most` octets come.
+pub fn read_all<S: Source>(
+    alloc: Global,
+    source: &mut S,
+    most: usize,
+) -> Result<Vec<u8>, ReadRefusal>
+    requires { most < 2 ^ 32 }
+    ensures whole { IfOk result (λ v. WasReadWhole (S.left source.old) (S.left source.new) v.items) }
+    ensures short { IfOk result (λ v. vec_len v ≤ most) }
+    ensures long { result ≡ Err ReadRefusal.TooLong → IfSome (S.left source.old) (λ octets. most < length octets) }
+    ensures fault { result ≡ Err ReadRefusal.Fault → Rose (S.faults source.old) (S.faults source.new) }
+    ensures later { S.faults source.old ≤ S.faults source.new }
+{
+    let mut octets = Vec::new(alloc);
+    let mut buffer = [0u8; 4096];
+    for _turn in 0..most + 1 {
+        let count = match source.read(&mut buffer) {
+            Ok(count) => count,
+            Err(_) => return Err(ReadRefusal::Fault),
+        };
+        if count == 0 {
+            return Ok(octets);
+        }
+        if octets.len() + count > most {
+            return Err(ReadRefusal::TooLong);
+        }
+        octets.extend_from_slice(&buffer[..count])?;
+    }
+    unreachable!()
+}

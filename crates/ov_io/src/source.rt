@@ -1,0 +1,84 @@
+//! Sources.
+ghost use Rattle.std.specs.Prelude.{◌≡◌, ◌≤◌, ◌<◌, ◌+◌, [], length, take, List, ℕ, Option, Some, drop};
+ghost use Rattle.std.specs.Io.{ReadsAtMost};
+ghost use Rattle.std.specs.Io.KnownBytes.{ReadConsumes};
+ghost use Rattle.ov_io.specs.Causes.{HasCause};
+
+/// A read failed.
+#[derive(Clone, Copy, Debug, PartialEq, Eq)]
+pub enum SourceFault {
+    Failed,
+}
+
+/// Where octets come from.
+pub trait Source {
+    /// The octets left, where the source tells them.
+    ghost left: { Self → Option (List ℕ) };
+
+    /// How many reads failed.
+    ghost faults: { Self → ℕ };
+
+    /// Reads some octets. None into a slice that is not empty is the end.
+    fn read(&mut self, into: &mut [u8]) -> Result<usize, SourceFault>
+        ensures bound { ReadsAtMost result into.new }
+        ensures bytes { ReadConsumes (left self.old) (left self.new) result into.new }
+        ensures cause { HasCause (faults self.old) (faults self.new) result };
+}
+
+/// A source over memory. The reads whose numbers are listed fail, counted from 1.
+#[derive(Debug, Drop)]
+pub struct MemSource {
+    octets: Vec<u8>,
+    at: usize,
+    failing: Vec<u64>,
+    calls: u64,
+    faults: u64,
+}
+
+impl MemSource {
+    pub fn new(octets: Vec<u8>, failing: Vec<u64>) -> MemSource
+        ensures left { ⟦<MemSource as Source>⟧.left result ≡ Some octets.items }
+        ensures faults { ⟦<MemSource as Source>⟧.faults result ≡ 0 }
+    {
+        MemSource {
+            octets,
+            at: 0,
+            failing,
+            calls: 0,
+            faults: 0,
+        }
+    }
+}
+
+impl Source for MemSource {
+    ghost left = { λ s. Some (drop s.at s.octets.items) };
+
+    ghost faults = { λ s. s.faults };
+
+    fn read(&mut self, into: &mut [u8]) -> Result<usize, SourceFault> {
+        self.calls = self.calls.saturating_add(1);
+        if self.failing.contains(&self.calls) {
+            self.faults = self.faults.saturating_add(1);
+            return Err(SourceFault::Failed);
+        }
+        let count = front_into(self.octets.as_slice(), self.at, into);
+        self.at += count;
+        Ok(count)
+    }
+}
+
+/// Copies what fits from a place on.
+fn front_into(octets: &[u8], at: usize, into: &mut [u8]) -> usize
+    ensures fits { result ≤ length into.new }
+    ensures copied { take result into.new ≡ take result (drop at octets.now) }
+    ensures within { at ≤ length octets.now → at + result ≤ length octets.now }
+    ensures ended { result ≡ 0 → 0 < length into.new → drop at octets.now ≡ [] }
+{
+    if at >= octets.len() {
+        return 0;
+    }
+    let rest = &octets[at..];
+    let count = rest.len().min(into.len());
+    into[..count].copy_from_slice(&rest[..count]);
+    count
+}

@@ -1,0 +1,47 @@
+//! Building text.
+ghost use Rattle.std.specs.Prelude.{◌≡◌, ◌++◌, [], OnOk, OnErr};
+
+use ov_types::NoMemory;
+use std::alloc::Global;
+use std::marker::Model;
+
+/// A builder of text.
+#[derive(Debug, Drop)]
+pub struct TextOut {
+    octets: Vec<u8>,
+}
+
+impl Model for TextOut {
+    ghost use Rattle.std.specs.Prelude.{List, ℕ};
+
+    ghost Value = { List ℕ };
+
+    ghost view = { λ t. t.octets.items };
+}
+
+impl TextOut {
+    /// No text. It takes no memory.
+    pub fn new(alloc: Global) -> TextOut
+        ensures { result ≡ [] }
+    {
+        TextOut {
+            octets: Vec::new(alloc),
+        }
+    }
+
+    /// Appends the whole text.
+    pub fn push(&mut self, text: &[u8]) -> Result<(), NoMemory>
+        ensures ok { OnOk result (self.new ≡ self.old ++ text.now) }
+        ensures err { OnErr result (self.new ≡ self.old) }
+    {
+        self.octets.extend_from_slice(text)?;
+        Ok(())
+    }
+
+    /// All that was appended.
+    pub fn octets(&self) -> &[u8]
+        ensures { result.now ≡ self.now }
+    {
+        self.octets.as_slice()
+    }
+}

@@ -1,0 +1,3 @@
+pub mod Names
+pub mod Blocks
+pub mod Places

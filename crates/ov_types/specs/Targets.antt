@@ -1,0 +1,25 @@
+-- Ascending lists of targets.
+use Rattle.std.specs.Prelude.{◌≡◌, ◌≤◌, insert, length, ℕ, ◌<◌, ◌==◌, nat_lt, List, [], ◌∷◌, if◌then◌else◌}
+use Rattle.ov_types.specs.declared.targets.Target.{Target}
+use Rattle.ov_types.specs.declared.targets.Place.{Place}
+use Rattle.ov_types.specs.declared.targets.Place.TheVariants.{Held, Before}
+
+-- ascending and distinct, and all above a number
+abbrev pub AscendFrom : ℕ → List Target → Type 0
+AscendFrom n [] = Unit {0}
+AscendFrom n (x ∷ xs) = (n < x.0) × AscendFrom x.0 xs
+
+-- ascending and distinct
+abbrev pub IsAscending : List Target → Type 0
+IsAscending [] = Unit {0}
+IsAscending (x ∷ xs) = AscendFrom x.0 xs
+
+-- the list with a target in its place
+abbrev pub with_target : Target → List Target → List Target
+with_target t [] = t ∷ []
+with_target t (x ∷ xs) = if nat_lt t.0 x.0 then t ∷ x ∷ xs else (if t.0 == x.0 then x ∷ xs else x ∷ with_target t xs)
+
+-- where a target goes in a list
+abbrev pub IsPlace : Target → List Target → Place → Type 0
+IsPlace t xs Held = with_target t xs ≡ xs
+IsPlace t xs (Before i) = (i ≤ length xs) × (with_target t xs ≡ insert xs i t)

@@ -1,0 +1,97 @@
+//! Route targets.
+ghost use Rattle.std.specs.Prelude.{◌≡◌, [], OnOk, OnErr};
+ghost use Rattle.ov_types.specs.Targets.{with_target, IsAscending, IsPlace};
+
+use crate::items::NoMemory;
+use crate::kinded::Kinded;
+use std::alloc::Global;
+use std::fmt;
+use std::marker::Model;
+
+/// A route target: the eight octets of an extended community as a number, big-endian (RFC 4360, section 4).
+#[derive(Clone, Copy, Debug, PartialEq, Eq, PartialOrd, Ord)]
+pub struct Target(pub u64);
+
+impl fmt::Display for Target {
+    ghost use Rattle.std.specs.Prelude.{Some};
+    ghost use Rattle.ov_types.specs.Texts.{target_text};
+
+    ghost output = { λ t. Some (target_text t.0) };
+
+    fn fmt<W: fmt::Write>(&self, f: &mut fmt::Formatter<W>) -> fmt::Result {
+        let octets = self.0;
+        let kind = octets / 72_057_594_037_927_936;
+        let text = Kinded { kind, octets };
+        write!(f, "{text}")
+    }
+}
+
+/// Targets, ascending and distinct.
+#[derive(Debug, Drop)]
+pub struct Targets {
+    list: Vec<Target>,
+}
+
+impl Model for Targets {
+    ghost use Rattle.std.specs.Prelude.{List};
+    ghost use Rattle.ov_types.specs.declared.targets.Target.{Target as TargetValue};
+    ghost use Rattle.ov_types.specs.Targets.{IsAscending};
+
+    ghost Value = { List TargetValue };
+
+    ghost view = { λ a. a.list.items };
+
+    ghost invariant = { λ a. IsAscending a.list.items };
+}
+
+impl Targets {
+    /// No targets. It takes no memory.
+    pub fn new(alloc: Global) -> Targets
+        ensures { result ≡ [] }
+    {
+        Targets {
+            list: Vec::new(alloc),
+        }
+    }
+
+    pub fn items(&self) -> &[Target]
+        ensures list { result.now ≡ self.now }
+        ensures ascending { IsAscending self.now }
+    {
+        self.list.as_slice()
+    }
+
+    /// Puts a target in its place. One that is there changes nothing.
+    pub fn insert(&mut self, target: Target) -> Result<(), NoMemory>
+        ensures ok { OnOk result (self.new ≡ with_target target self.old) }
+        ensures err { OnErr result (self.new ≡ self.old) }
+    {
+        match place_of(self.list.as_slice(), target) {
+            Place::Held => Ok(()),
+            Place::Before(index) => {
+                self.list.insert(index, target)?;
+                Ok(())
+            }
+        }
+    }
+}
+
+/// Where a target goes.
+enum Place {
+    Held,
+    Before(usize),
+}
+
+fn place_of(list: &[Target], target: Target) -> Place
+    ensures { IsPlace target list.now result }
+{
+    for (index, x) in list.iter().enumerate() {
+        if target.0 < x.0 {
+            return Place::Before(index);
+        }
+        if target.0 == x.0 {
+            return Place::Held;
+        }
+    }
+    Place::Before(list.len())
+}
