@@ -1,0 +1,6 @@
+//! The expansion of service chains.
+#![tactic(auto)]
+
+mod fault;
+
+pub use fault::ChainFault;
