@@ -62,6 +62,12 @@ lets_through Pass = true
 lets_through Deny = false
 lets_through (Through chain use_no) = true
 
+-- a rule passes packets
+abbrev pub passes : Action → Bool
+passes Pass = true
+passes Deny = false
+passes (Through chain use_no) = false
+
 -- two networks are related where they differ and a rule between them lets packets through
 abbrev pub are_related : Config → Network → Network → Bool
 are_related c a b = not (same_name a.name b.name) && list_any (λ r. lets_through r.rule.action) (rules_between c a b)

@@ -2,24 +2,24 @@
 ghost use Rattle.std.specs.Prelude.{◌≡◌, ◌<◌, ◌≤◌, ◌^◌, length, IfOk, IfSome, vec_len};
 ghost use Rattle.ov_io.specs.Causes.{Rose};
 ghost use Rattle.ov_io.specs.Inputs.{WasReadWhole};
-ghost use Rattle.ov_io.specs.declared.read.ReadRefusal.TheVariants.{NoMemory};
+ghost use Rattle.ov_io.specs.declared.read.InputRefusal.TheVariants.{NoMemory};
 
 use crate::source::Source;
 use std::alloc::{AllocError, Global};
 
 /// Why a source was not read to its end.
 #[derive(Clone, Copy, Debug, PartialEq, Eq)]
-pub enum ReadRefusal {
+pub enum InputRefusal {
     Fault,
     TooLong,
     NoMemory,
 }
 
-impl From<AllocError> for ReadRefusal {
+impl From<AllocError> for InputRefusal {
     ghost from_gives = { λ _ e. e ≡ NoMemory };
 
-    fn from(_e: AllocError) -> ReadRefusal {
-        ReadRefusal::NoMemory
+    fn from(_e: AllocError) -> InputRefusal {
+        InputRefusal::NoMemory
     }
 }
 
@@ -28,12 +28,12 @@ pub fn read_all<S: Source>(
     alloc: Global,
     source: &mut S,
     most: usize,
-) -> Result<Vec<u8>, ReadRefusal>
+) -> Result<Vec<u8>, InputRefusal>
     requires { most < 2 ^ 32 }
     ensures whole { IfOk result (λ v. WasReadWhole (S.left source.old) (S.left source.new) v.items) }
     ensures short { IfOk result (λ v. vec_len v ≤ most) }
-    ensures long { result ≡ Err ReadRefusal.TooLong → IfSome (S.left source.old) (λ octets. most < length octets) }
-    ensures fault { result ≡ Err ReadRefusal.Fault → Rose (S.faults source.old) (S.faults source.new) }
+    ensures long { result ≡ Err InputRefusal.TooLong → IfSome (S.left source.old) (λ octets. most < length octets) }
+    ensures fault { result ≡ Err InputRefusal.Fault → Rose (S.faults source.old) (S.faults source.new) }
     ensures later { S.faults source.old ≤ S.faults source.new }
 {
     let mut octets = Vec::new(alloc);
@@ -41,13 +41,13 @@ pub fn read_all<S: Source>(
     for _turn in 0..most + 1 {
         let count = match source.read(&mut buffer) {
             Ok(count) => count,
-            Err(_) => return Err(ReadRefusal::Fault),
+            Err(_) => return Err(InputRefusal::Fault),
         };
         if count == 0 {
             return Ok(octets);
         }
         if octets.len() + count > most {
-            return Err(ReadRefusal::TooLong);
+            return Err(InputRefusal::TooLong);
         }
         octets.extend_from_slice(&buffer[..count])?;
     }

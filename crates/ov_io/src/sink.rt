@@ -1,4 +1,4 @@
-//! Sinks.
+//! Where the program's octets go.
 ghost use Rattle.std.specs.Prelude.{◌≡◌, [], ◌<◌, ◌++◌, List, ℕ, Option, Some, length, IfOk, OnOk, OnErr};
 ghost use Rattle.std.specs.Io.{WritesAtMost};
 ghost use Rattle.std.specs.Io.KnownBytes.{WriteAppends, Appends};
@@ -18,10 +18,10 @@ pub trait Sink {
     /// The octets taken, where the sink tells them.
     ghost taken: { Self → Option (List ℕ) };
 
-    /// How many writes failed.
+    /// How many writes failed, in a count that stops at the last value of a u64.
     ghost faults: { Self → ℕ };
 
-    /// Takes some octets of a piece, at least one if there is one.
+    /// Takes some octets from the front of a piece, at least one if there is one, and answers how many.
     fn write(&mut self, from: &[u8]) -> Result<usize, SinkFault>
         ensures bound { WritesAtMost result from.now }
         ensures some { IfOk result (λ count. 0 < length from.now → 0 < count) }
@@ -29,7 +29,7 @@ pub trait Sink {
         ensures cause { HasCause (faults self.old) (faults self.new) result };
 }
 
-/// Writes all of a text, or a front of it.
+/// Writes all of a text. Where a write fails, what was taken is a front of the text.
 pub fn write_all<K: Sink>(sink: &mut K, text: &[u8]) -> Result<(), SinkFault>
     ensures ok { OnOk result (Appends (K.taken sink.old) (K.taken sink.new) text.now) }
     ensures front { TookFront (K.taken sink.old) (K.taken sink.new) text.now }
@@ -43,7 +43,8 @@ pub fn write_all<K: Sink>(sink: &mut K, text: &[u8]) -> Result<(), SinkFault>
     Ok(())
 }
 
-/// A sink over memory. The writes whose numbers are listed fail, counted from 1.
+/// A sink over memory. The calls of `write` whose numbers are listed fail, counted from 1; a write that finds
+/// no memory takes nothing and is a fault too.
 #[derive(Debug, Drop)]
 pub struct MemSink {
     octets: Vec<u8>,
@@ -53,6 +54,7 @@ pub struct MemSink {
 }
 
 impl MemSink {
+    /// A sink that has taken nothing, no write of which has failed yet. It takes no memory.
     pub fn new(alloc: Global, failing: Vec<u64>) -> MemSink
         ensures taken { ⟦<MemSink as Sink>⟧.taken result ≡ Some [] }
         ensures faults { ⟦<MemSink as Sink>⟧.faults result ≡ 0 }
@@ -65,6 +67,7 @@ impl MemSink {
         }
     }
 
+    /// All that was taken.
     pub fn taken(&self) -> &[u8]
         ensures { ⟦<MemSink as Sink>⟧.taken self.now ≡ Some result.now }
     {
@@ -90,5 +93,21 @@ impl Sink for MemSink {
                 Err(SinkFault::Failed)
             }
         }
+    }
+}
+
+#[cfg(test)]
+mod tests {
+    use super::*;
+    use std::test::Fail;
+
+    #[test]
+    fn a_listed_write_fails_and_takes_nothing(rt: HostRuntime) -> Result<(), Fail> {
+        let alloc = rt.alloc();
+        let mut sink = MemSink::new(alloc, vec![in alloc; 2]?);
+        assert_eq!(rt; write_all(&mut sink, b"ab"), Ok(()));
+        assert_eq!(rt; write_all(&mut sink, b"cd"), Err(SinkFault::Failed));
+        assert_eq!(rt; sink.taken(), b"ab".as_slice());
+        Ok(())
     }
 }

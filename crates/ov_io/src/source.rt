@@ -1,8 +1,10 @@
-//! Sources.
+//! Where the program's octets come from.
 ghost use Rattle.std.specs.Prelude.{◌≡◌, ◌≤◌, ◌<◌, ◌+◌, [], length, take, List, ℕ, Option, Some, drop};
 ghost use Rattle.std.specs.Io.{ReadsAtMost};
 ghost use Rattle.std.specs.Io.KnownBytes.{ReadConsumes};
 ghost use Rattle.ov_io.specs.Causes.{HasCause};
+
+use std::alloc::Global;
 
 /// A read failed.
 #[derive(Clone, Copy, Debug, PartialEq, Eq)]
@@ -15,17 +17,17 @@ pub trait Source {
     /// The octets left, where the source tells them.
     ghost left: { Self → Option (List ℕ) };
 
-    /// How many reads failed.
+    /// How many reads failed, in a count that stops at the last value of a u64.
     ghost faults: { Self → ℕ };
 
-    /// Reads some octets. None into a slice that is not empty is the end.
+    /// Reads some octets to the front of `into`, and answers how many. None into a slice that is not empty is the end.
     fn read(&mut self, into: &mut [u8]) -> Result<usize, SourceFault>
         ensures bound { ReadsAtMost result into.new }
         ensures bytes { ReadConsumes (left self.old) (left self.new) result into.new }
         ensures cause { HasCause (faults self.old) (faults self.new) result };
 }
 
-/// A source over memory. The reads whose numbers are listed fail, counted from 1.
+/// A source over memory. The calls of `read` whose numbers are listed fail, counted from 1.
 #[derive(Debug, Drop)]
 pub struct MemSource {
     octets: Vec<u8>,
@@ -36,7 +38,8 @@ pub struct MemSource {
 }
 
 impl MemSource {
-    pub fn new(octets: Vec<u8>, failing: Vec<u64>) -> MemSource
+    /// A source of these octets, no read of which has failed yet. It takes no memory.
+    pub fn new(_alloc: Global, octets: Vec<u8>, failing: Vec<u64>) -> MemSource
         ensures left { ⟦<MemSource as Source>⟧.left result ≡ Some octets.items }
         ensures faults { ⟦<MemSource as Source>⟧.faults result ≡ 0 }
     {
@@ -81,4 +84,25 @@ fn front_into(octets: &[u8], at: usize, into: &mut [u8]) -> usize
     let count = rest.len().min(into.len());
     into[..count].copy_from_slice(&rest[..count]);
     count
+}
+
+#[cfg(test)]
+mod tests {
+    use super::*;
+    use std::test::Fail;
+
+    #[test]
+    fn a_listed_read_fails_and_loses_nothing(rt: HostRuntime) -> Result<(), Fail> {
+        let alloc = rt.alloc();
+        let octets = b"abc".to_vec(alloc)?;
+        let mut source = MemSource::new(alloc, octets, vec![in alloc; 2]?);
+        let mut two = [0u8; 2];
+        assert_eq!(rt; source.read(&mut two), Ok(2));
+        assert_eq!(rt; two, *b"ab");
+        assert_eq!(rt; source.read(&mut two), Err(SourceFault::Failed));
+        assert_eq!(rt; source.read(&mut two), Ok(1));
+        assert_eq!(rt; two[0], b'c');
+        assert_eq!(rt; source.read(&mut two), Ok(0));
+        Ok(())
+    }
 }

@@ -1,5 +1,6 @@
 pub mod Name
 pub mod Numbers
 pub mod Prefix
+pub mod Rows
 pub mod Targets
 pub mod Texts

@@ -17,7 +17,7 @@ hex_text n = padded_integral (format_spec 32 0 4 16 (2 ^ 64 - 1)) false [] (digi
 
 -- a distinguisher or a target of a kind: of kind 0 `AS:N` with two octets and four, of kind 1 `ADDRESS:N`,
 -- of kind 2 `LAS:N` with the letter L and four octets and two, and of another `x` and its 16 digits
-abbrev pub kinded_text : ℕ → ℕ → List ℕ
+unfoldable pub kinded_text : ℕ → ℕ → List ℕ
 kinded_text kind n =
     if kind == 0 then decimal (n / 2 ^ 32 % 2 ^ 16) ++ (codes ":" ++ decimal (n % 2 ^ 32))
     else (if kind == 1 then address_text (n / 2 ^ 16 % 2 ^ 32) ++ (codes ":" ++ decimal (n % 2 ^ 16))

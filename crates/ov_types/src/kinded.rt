@@ -15,6 +15,7 @@ impl fmt::Display for Kinded {
 
     ghost output = { λ k. Some (kinded_text k.kind k.octets) };
 
+    #[tactic(auto, unfolding(crate::specs::Texts::kinded_text))]
     fn fmt<W: fmt::Write>(&self, f: &mut fmt::Formatter<W>) -> fmt::Result {
         let octets = self.octets;
         let high = octets / 4_294_967_296 % 65_536;

@@ -1,10 +1,11 @@
-//! Addresses and prefixes.
+//! IPv4 addresses and prefixes.
 ghost use Rattle.std.specs.Prelude.{◌≡◌, ◌+◌, ◌↔◌, ◌&&◌, nat_le, ℕ, IsTrue};
-ghost use Rattle.ov_types.specs.Prefix.{prefix_of, contains, size_of};
+ghost use Rattle.ov_types.specs.Prefix.{prefix_of, contains, size_of, is_inside, host_prefix};
 
 use std::fmt;
 use std::marker::Model;
 
+/// An IPv4 address as a number, its first octet the most significant.
 #[derive(Clone, Copy, Debug, PartialEq, Eq, PartialOrd, Ord)]
 pub struct Addr(pub u32);
 
@@ -29,7 +30,7 @@ impl Model for Prefix {
 }
 
 impl Prefix {
-    /// None exactly where len is above 32 or a bit past len is set.
+    /// The prefix of these bits. There is none exactly where len is above 32 or a bit past len is set.
     pub fn new(addr: Addr, len: u8) -> Option<Prefix>
         ensures { result ≡ prefix_of addr.0 len }
     {
@@ -43,18 +44,28 @@ impl Prefix {
         Some(Prefix { addr, len })
     }
 
+    /// The prefix of one address, which has length 32.
+    pub fn host(addr: Addr) -> Prefix
+        ensures { result ≡ host_prefix addr.0 }
+    {
+        Prefix { addr, len: 32 }
+    }
+
+    /// The first address.
     pub fn addr(&self) -> Addr
         ensures { result.0 ≡ self.now.addr }
     {
         self.addr
     }
 
+    /// How many bits its addresses share.
     pub fn len(&self) -> u8
         ensures { result ≡ self.now.len }
     {
         self.len
     }
 
+    /// Whether an address begins with these bits.
     pub fn contains(&self, addr: Addr) -> bool
         ensures { result ≡ contains self.now addr.0 }
     {

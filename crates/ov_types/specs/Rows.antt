@@ -1,0 +1,8 @@
+-- The text of a row.
+use Rattle.std.specs.Prelude.{ℕ, List, ◌++◌, codes, decimal}
+use Rattle.ov_types.specs.Texts.{address_text, distinguisher_text}
+use Rattle.ov_types.specs.declared.rows.TableRow.{TableRow}
+
+-- the distinguisher, the next hop and the label
+unfoldable pub table_row_text : TableRow → List ℕ
+table_row_text r = distinguisher_text r.rd.0 ++ (codes " " ++ (address_text r.next_hop.0 ++ (codes " " ++ decimal r.label.0)))

@@ -1,0 +1,6 @@
+//! The program `overlay`.
+#![tactic(auto)]
+
+mod lines;
+
+fn main(_rt: HostRuntime) {}

@@ -1,0 +1,9 @@
+//! The tables that a configuration asks for, computed from it alone.
+#![tactic(auto)]
+
+mod rows;
+mod tables;
+mod transform;
+
+pub use tables::Compiled;
+pub use transform::compiled;
