@@ -11,13 +11,18 @@ use Rattle.config_model.specs.declared.fault.ReadRefusal.{ReadRefusal}
 use Rattle.config_model.specs.declared.fault.ReadRefusal.TheVariants.{Doc, NoMemory}
 use Rattle.config_model.specs.declared.fields.Count.{Count}
 use Rattle.std.specs.Prelude.{Result}
-use Rattle.config_model.specs.Faults.{Fault, IsFault, Fails}
+use Rattle.config_model.specs.Faults.{Fault, IsFault, Fails, ◌>>=◌}
 use Rattle.config_model.specs.Fields.{allows, list_at}
 
 -- a refusal with the fault at which reading stops
 pub fails : {Y : Type 0} (e : ReadRefusal) (f : Fault) (read : Result Y Fault) → IsFault e f → read ≡ Err f → Fails e read
 fails (Doc d) f read is stopped = stopped ∙ ap (λ (g : Fault). Err g) (sym is)
 fails NoMemory f read is stopped = tt
+
+-- what follows is not read
+pub fails_through : {X Y : Type 0} (e : ReadRefusal) (read : Result X Fault) (next : X → Result Y Fault) → Fails e read → Fails e (read >>= next)
+fails_through (Doc d) read next stopped = rw stopped refl
+fails_through NoMemory read next stopped = tt
 
 pub is_kept : (count : Count) (path : List ℕ) (d : Data) (vs ws : List Value) → ws ≡ vs → Some (items_view vs) ≡ as_array d → allows count (length ws) ≡ true → list_at count path d ≡ Ok (items_view ws)
 unfolding list_at

@@ -174,5 +174,5 @@ pub fn read_config(alloc: Global, value: &Value) -> Result<Config, ReadRefusal>
     ensures reads { Gives (λ c. c) result (config_at [] (view value.now)) }
     ensures form { IfOk result (λ c. IsTrue (has_config_form c)) }
 {
-    Config::read(alloc, Place::Root, value)
+    Config::read(alloc, Place::At(""), value)
 }

@@ -58,10 +58,11 @@ impl<T: Drop> From<AllocFailed<T>> for ReadRefusal {
     }
 }
 
-/// Where a value stands: it is the whole value, a member of the object at a path, or an item of the list at a path.
+/// Where a value stands: at a path, or as a member of the object or an item of the list at a path. The whole value is
+/// at the empty path.
 #[derive(Clone, Copy)]
 pub(crate) enum Place<'a> {
-    Root,
+    At(&'a str),
     Member(&'a str, &'a str),
     Item(&'a str, usize),
 }
@@ -72,7 +73,7 @@ impl Place<'_> {
         ensures { IfOk result (λ s. string_bytes s ≡ place_text self.entry) }
     {
         match self {
-            Place::Root => Ok(String::new(alloc)),
+            Place::At(path) => String::from_str(alloc, path),
             Place::Member(path, name) => member_text(alloc, path, name),
             Place::Item(path, index) => item_text(alloc, path, index),
         }

@@ -5,7 +5,7 @@ ghost use Rattle.serde_json.specs.Data.{Data};
 ghost use Rattle.serde_json.specs.View.{view};
 ghost use Rattle.config_model.specs.Paths.{place_text};
 ghost use Rattle.config_model.specs.Faults.{Gives, Fault};
-ghost use Rattle.config_model.specs.Form.{has_packet_form, has_topology_form, has_config_form};
+ghost use Rattle.config_model.specs.Form.{has_topology_form, has_config_form, has_packet_form};
 ghost use Rattle.config_model.specs.Input.{packet_at, compile_at, reach_at};
 
 use crate::config::Config;
@@ -78,39 +78,58 @@ pub fn read_packet(alloc: Global, value: &Value) -> Result<Packet, ReadRefusal>
     ensures reads { Gives (λ p. p) result (packet_at [] (view value.now)) }
     ensures form { IfOk result (λ p. IsTrue (has_packet_form p)) }
 {
-    Packet::read(alloc, Place::Root, value)
+    Packet::read(alloc, Place::At(""), value)
+}
+
+/// What `compile` takes: an object with `topology` and `configuration`.
+#[tactic(auto, unfolding(crate::specs::Input::compile_at))]
+fn plan_of(alloc: Global, path: &str, value: &Value) -> Result<Plan, ReadRefusal>
+    ensures reads { Gives (λ p. p) result (compile_at path.now (view value.now)) }
+    ensures topology_form { IfOk result (λ p. IsTrue (has_topology_form p.topology)) }
+    ensures config_form { IfOk result (λ p. IsTrue (has_config_form p.config)) }
+{
+    let members = object_of(alloc, Place::At(path), value)?;
+    let topology = read_member::<Topology>(alloc, path, "topology", value)?;
+    let config = read_member::<Config>(alloc, path, "configuration", value)?;
+    check_others(alloc, path, &["topology", "configuration"], members)?;
+    Ok(Plan { topology, config })
+}
+
+/// What `reach` takes: an object with `topology`, `configuration` and `packets`, a list.
+#[tactic(auto, unfolding(crate::specs::Input::reach_at))]
+fn reach_input_of(alloc: Global, path: &str, value: &Value) -> Result<ReachInput, ReadRefusal>
+    ensures reads { Gives (λ r. r) result (reach_at path.now (view value.now)) }
+    ensures topology_form { IfOk result (λ r. IsTrue (has_topology_form r.topology)) }
+    ensures config_form { IfOk result (λ r. IsTrue (has_config_form r.config)) }
+    ensures packets_form { IfOk result (λ r. IsTrue (list_all has_packet_form r.packets)) }
+{
+    let members = object_of(alloc, Place::At(path), value)?;
+    let topology = read_member::<Topology>(alloc, path, "topology", value)?;
+    let config = read_member::<Config>(alloc, path, "configuration", value)?;
+    let packets = list_member::<Packet>(alloc, path, "packets", Count::AnyNumber, value)?;
+    check_others(alloc, path, &["topology", "configuration", "packets"], members)?;
+    Ok(ReachInput {
+        topology,
+        config,
+        packets,
+    })
 }
 
 /// The whole input of `compile`: an object with `topology` and `configuration`.
-#[tactic(auto, unfolding(crate::specs::Input::compile_at))]
 pub fn read_compile(alloc: Global, value: &Value) -> Result<Plan, ReadRefusal>
     ensures reads { Gives (λ p. p) result (compile_at [] (view value.now)) }
     ensures topology_form { IfOk result (λ p. IsTrue (has_topology_form p.topology)) }
     ensures config_form { IfOk result (λ p. IsTrue (has_config_form p.config)) }
 {
-    let members = object_of(alloc, Place::Root, value)?;
-    let topology = read_member::<Topology>(alloc, "", "topology", value)?;
-    let config = read_member::<Config>(alloc, "", "configuration", value)?;
-    check_others(alloc, "", &["topology", "configuration"], members)?;
-    Ok(Plan { topology, config })
+    plan_of(alloc, "", value)
 }
 
 /// The whole input of `reach`: an object with `topology`, `configuration` and `packets`, a list.
-#[tactic(auto, unfolding(crate::specs::Input::reach_at))]
 pub fn read_reach(alloc: Global, value: &Value) -> Result<ReachInput, ReadRefusal>
     ensures reads { Gives (λ r. r) result (reach_at [] (view value.now)) }
     ensures topology_form { IfOk result (λ r. IsTrue (has_topology_form r.topology)) }
     ensures config_form { IfOk result (λ r. IsTrue (has_config_form r.config)) }
     ensures packets_form { IfOk result (λ r. IsTrue (list_all has_packet_form r.packets)) }
 {
-    let members = object_of(alloc, Place::Root, value)?;
-    let topology = read_member::<Topology>(alloc, "", "topology", value)?;
-    let config = read_member::<Config>(alloc, "", "configuration", value)?;
-    let packets = list_member::<Packet>(alloc, "", "packets", Count::AnyNumber, value)?;
-    check_others(alloc, "", &["topology", "configuration", "packets"], members)?;
-    Ok(ReachInput {
-        topology,
-        config,
-        packets,
-    })
+    reach_input_of(alloc, "", value)
 }

@@ -194,32 +194,39 @@ fn check_other_members(
     }
 }
 
+/// The rule at a path.
+#[tactic(auto, unfolding(crate::specs::Rule::rule_at, crate::specs::Form::has_rule_form))]
+fn rule_of(alloc: Global, path: &str, value: &Value) -> Result<Rule, ReadRefusal>
+    ensures reads { Gives (λ x. x) result (rule_at path.now (view value.now)) }
+    ensures form { IfOk result (λ rule. IsTrue (has_rule_form rule)) }
+{
+    let members = object_of(alloc, Place::At(path), value)?;
+    let direction = read_member::<Direction>(alloc, path, "direction", value)?;
+    let source = read_member::<End>(alloc, path, "source", value)?;
+    let destination = read_member::<End>(alloc, path, "destination", value)?;
+    let protocol = read_member::<Protocol>(alloc, path, "protocol", value)?;
+    let source_ports = read_member::<Range16>(alloc, path, "source_ports", value)?;
+    let destination_ports = read_member::<Range16>(alloc, path, "destination_ports", value)?;
+    let action = action_of(alloc, path, value)?;
+    check_other_members(alloc, path, &action, members)?;
+    Ok(Rule {
+        direction,
+        source,
+        destination,
+        protocol,
+        source_ports,
+        destination_ports,
+        action,
+    })
+}
+
 impl FromDocument for Rule {
     ghost reads = { rule_at };
 
     ghost has_form = { has_rule_form };
 
-    #[tactic(auto, unfolding(crate::specs::Rule::rule_at, crate::specs::Form::has_rule_form))]
     fn read(alloc: Global, place: Place<'_>, value: &Value) -> Result<Self, ReadRefusal> {
-        let members = object_of(alloc, place, value)?;
         let path = place.text(alloc)?;
-        let path = path.as_str();
-        let direction = read_member::<Direction>(alloc, path, "direction", value)?;
-        let source = read_member::<End>(alloc, path, "source", value)?;
-        let destination = read_member::<End>(alloc, path, "destination", value)?;
-        let protocol = read_member::<Protocol>(alloc, path, "protocol", value)?;
-        let source_ports = read_member::<Range16>(alloc, path, "source_ports", value)?;
-        let destination_ports = read_member::<Range16>(alloc, path, "destination_ports", value)?;
-        let action = action_of(alloc, path, value)?;
-        check_other_members(alloc, path, &action, members)?;
-        Ok(Rule {
-            direction,
-            source,
-            destination,
-            protocol,
-            source_ports,
-            destination_ports,
-            action,
-        })
+        rule_of(alloc, path.as_str(), value)
     }
 }

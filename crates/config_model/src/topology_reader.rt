@@ -132,5 +132,5 @@ pub fn read_topology(alloc: Global, value: &Value) -> Result<Topology, ReadRefus
     ensures reads { Gives (λ t. t) result (topology_at [] (view value.now)) }
     ensures form { IfOk result (λ t. IsTrue (has_topology_form t)) }
 {
-    Topology::read(alloc, Place::Root, value)
+    Topology::read(alloc, Place::At(""), value)
 }
