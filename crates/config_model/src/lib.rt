@@ -20,3 +20,6 @@ pub use fault::{DocFault, DocKind, ReadRefusal};
 pub use input::{Plan, ReachInput, read_compile, read_packet, read_reach};
 pub use topology_reader::read_topology;
 pub use topology::{Node, Topology};
+
+#[cfg(test)]
+mod tests;
