@@ -1,0 +1,5 @@
+pub mod Members
+pub mod Lists
+pub mod Addresses
+pub mod Lengths
+pub mod Counts

@@ -2,9 +2,24 @@
 #![tactic(auto)]
 
 mod config;
+mod config_reader;
+mod fault;
+mod fields;
+mod input;
+mod rule_reader;
+mod topology_reader;
 mod topology;
+mod values;
+mod written;
 
 pub use config::{
     Action, Chain, Config, Direction, End, Network, Policy, Port, Protocol, Rule, Service,
 };
+pub use config_reader::read_config;
+pub use fault::{DocFault, DocKind, ReadRefusal};
+pub use input::{Plan, ReachInput, read_compile, read_packet, read_reach};
+pub use topology_reader::read_topology;
 pub use topology::{Node, Topology};
+
+#[cfg(test)]
+mod tests;
