@@ -1,2 +1,3 @@
 pub mod First
 pub mod Expansion
+pub mod Room
