@@ -1,5 +1,5 @@
 -- What a hop gives, by what it names.
-use Rattle.std.proofs.Common.{◌≡◌, ℕ, zero, suc, ◌<◌, ◌≤◌, ◌-◌, ◌+◌, ◌≢◌, List, [], ◌∷◌, Option, Some, None, refl, ap, ◌∙◌, sym, arith, sub-one, ◌++◌, length, take, get_or, length-append}
+use Rattle.std.proofs.Common.{◌≡◌, ℕ, zero, suc, ◌<◌, ◌≤◌, ◌-◌, ◌≢◌, List, [], ◌∷◌, Some, None, refl, ap, ◌∙◌, sym, arith, sub-one, ◌++◌, length, take, get_or, length-append}
 use Rattle.std.proofs.lemmas.List.{append-nil}
 use Rattle.std.proofs.lemmas.List.Folds.{length-flat_map-take}
 use Rattle.std.specs.List.{flat_map}

@@ -1,5 +1,5 @@
 -- The search for a service that stands twice, a step on.
-use Rattle.std.proofs.Common.{◌≡◌, ℕ, ◌+◌, ◌<◌, List, [], ◌∷◌, ◌++◌, Bool, Option, Some, None, option_map, length, take, drop, get_or, refl, ap, sym, ◌∙◌}
+use Rattle.std.proofs.Common.{◌≡◌, ℕ, ◌+◌, ◌<◌, List, [], ◌∷◌, ◌++◌, Bool, None, option_map, length, take, drop, get_or, ap, sym, ◌∙◌}
 use Rattle.std.specs.List.{find}
 use Rattle.std.proofs.lemmas.List.{take_more, drop_more}
 use Rattle.config_model.specs.declared.config.Service.{Service}

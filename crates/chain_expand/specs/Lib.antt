@@ -1,3 +1,4 @@
 pub mod First
 pub mod Expansion
 pub mod Room
+pub mod Links

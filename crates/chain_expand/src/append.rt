@@ -4,11 +4,10 @@ ghost use Rattle.chain_expand.specs.Room.{IsAppended};
 ghost use Rattle.chain_expand.specs.Expansion.{services_within};
 ghost use Rattle.std.specs.List.{flat_map};
 
-use crate::hops;
 use crate::found::Found;
+use crate::hops;
 use config_model::{Config, Service};
 use ov_types::Name;
-
 
 /// Whether what was to be appended had room.
 pub enum Room {

@@ -10,11 +10,7 @@ use ov_types::Name;
 pub fn service_named<'a>(config: &'a Config, name: &Name) -> Option<&'a Service>
     ensures { option_copied result ≡ service_named config.now name.now }
 {
-    config
-        .services
-        .as_slice()
-        .iter()
-        .find(|s| s.name == *name)
+    config.services.as_slice().iter().find(|s| s.name == *name)
 }
 
 /// The first chain of a name.

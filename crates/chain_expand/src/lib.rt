@@ -2,11 +2,14 @@
 #![tactic(auto)]
 
 mod append;
-mod expand;
+mod expansion;
 mod fault;
 mod found;
 mod hops;
+mod links;
+mod loops;
 mod numbers;
 
-pub use expand::expand_straight;
+pub use expansion::{expand, expand_straight};
 pub use fault::ChainFault;
+pub use loops::first_loop;

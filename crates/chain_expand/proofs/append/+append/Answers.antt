@@ -1,6 +1,5 @@
-use Rattle.std.specs.List.{flat_map}
 use Rattle.chain_expand.specs.Expansion.{services_within}
-use Rattle.std.proofs.Common.{arith, ◌≡◌, ◌++◌, ◌<◌, length, take, subst, ap}
+use Rattle.std.proofs.Common.{arith}
 use Rattle.chain_expand.proofs.Expansions.{too_long}
 use Rattle.chain_expand.proofs.append.+append.Goals as goal
 
