@@ -1,0 +1,4 @@
+pub mod Expansions
+pub mod Reached
+pub mod Rows
+pub mod Twice

@@ -1,2 +1,4 @@
 pub mod First
 pub mod Expansion
+pub mod Room
+pub mod Links

@@ -1,0 +1,66 @@
+//! The services of a chain, as many as a use can have.
+ghost use Rattle.std.specs.Prelude.{◌≡◌, ◌==◌, ◌<◌, ◌≤◌, [], ◌∷◌, ◌++◌, length};
+
+use config_model::Service;
+use ov_types::{Name, ServiceNo};
+use std::marker::Model;
+
+const MOST: usize = 15;
+
+/// At most 15 services, in place.
+#[derive(Drop)]
+pub struct Found {
+    places: [Service; 15],
+    len: usize,
+}
+
+impl Model for Found {
+    ghost use Rattle.std.specs.Prelude.{List, ◌≡◌, ◌≤◌, take, length};
+    ghost use Rattle.config_model.specs.declared.config.Service.{Service as ServiceValue};
+
+    ghost Value = { List ServiceValue };
+
+    ghost view = { λ a. take a.len a.places };
+
+    ghost invariant = { λ a. (a.len ≤ 15) × (length a.places ≡ 15) };
+}
+
+impl Found {
+    /// No services; the places hold a blank one of the given name.
+    pub fn new(blank: Name) -> Found
+        ensures { result ≡ [] }
+    {
+        let blank = Service {
+            name: blank,
+            id: ServiceNo(0),
+            node: blank,
+        };
+        Found {
+            places: [blank; 15],
+            len: 0,
+        }
+    }
+
+    pub fn is_full(&self) -> bool
+        ensures full { result ≡ (length self.now == 15) }
+        ensures most { length self.now ≤ 15 }
+    {
+        self.len == MOST
+    }
+
+    /// Appends a service.
+    pub fn push(&mut self, service: Service)
+        requires { length self.old < 15 }
+        ensures { self.new ≡ self.old ++ service ∷ [] }
+    {
+        self.places[self.len] = service;
+        self.len += 1;
+    }
+
+    pub fn as_slice(&self) -> &[Service]
+        ensures services { result.now ≡ self.now }
+        ensures most { length self.now ≤ 15 }
+    {
+        &self.places[..self.len]
+    }
+}
