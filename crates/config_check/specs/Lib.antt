@@ -1,3 +1,4 @@
 pub mod Checked
 pub mod Related
 pub mod Rules
+pub mod Texts

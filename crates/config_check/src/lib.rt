@@ -3,6 +3,7 @@
 
 mod between;
 mod refusal;
+mod text;
 mod valid;
 
 pub use between::{does_fit, passes_between};

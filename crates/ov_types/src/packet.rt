@@ -2,12 +2,26 @@
 use crate::numbers::PortNo;
 use crate::prefix::Addr;
 use crate::services::Services;
+use std::fmt;
 
 /// A rule: the sequence of its policy, and its position there, counted from 1.
 #[derive(Clone, Copy, Debug, PartialEq, Eq, PartialOrd, Ord)]
 pub struct RuleNo {
     pub sequence: u16,
     pub position: u16,
+}
+
+impl fmt::Display for RuleNo {
+    ghost use Rattle.std.specs.Prelude.{Some};
+    ghost use Rattle.ov_types.specs.Rows.{rule_text};
+
+    ghost output = { λ r. Some (rule_text r) };
+
+    fn fmt<W: fmt::Write>(&self, f: &mut fmt::Formatter<W>) -> fmt::Result {
+        let sequence = self.sequence;
+        let position = self.position;
+        write!(f, "{sequence}/{position}")
+    }
 }
 
 /// The port numbers from `lo` to `hi`, both included.

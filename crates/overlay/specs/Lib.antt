@@ -1,1 +1,5 @@
+pub mod Json
 pub mod Lines
+pub mod Answers
+pub mod Commands
+pub mod Runs

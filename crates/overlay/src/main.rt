@@ -1,6 +1,83 @@
-//! The program `overlay`.
+//! The program `overlay`: a cloud overlay controller, replayed over a schedule.
 #![tactic(auto)]
 
+mod answer;
+mod command;
 mod lines;
+mod top;
 
-fn main(_rt: HostRuntime) {}
+use ov_io::{StdSink, StdSource};
+use std::env::Env;
+use std::process::ExitCode;
+use std::{env, io};
+use top::{Status, overlay};
+
+const USAGE: &str = "usage: overlay compile < DOCUMENT
+       overlay --help | --version
+";
+
+const VERSION: &str = "overlay 0.1.0\n";
+
+/// What is asked of `main` itself, before the top call.
+enum Asked {
+    Help,
+    Version,
+    Run,
+}
+
+fn asked(words: &[String]) -> Asked {
+    match words {
+        [word] if word.as_str() == "--help" => Asked::Help,
+        [word] if word.as_str() == "--version" => Asked::Version,
+        _ => Asked::Run,
+    }
+}
+
+/// The words after the program's name.
+fn words_of<R: Env + AllocGlobal>(rt: &R) -> io::Result<Vec<String>> {
+    let mut words = Vec::new(rt.alloc());
+    for word in env::args(rt)?.skip(1) {
+        words.push(word)?;
+    }
+    Ok(words)
+}
+
+/// The status where the words can't be had: there is no memory for them, or one is no UTF-8.
+fn status_without_words(error: &io::Error) -> Status {
+    match error.kind() {
+        io::ErrorKind::OutOfMemory => Status::NoMemory,
+        _ => Status::Usage,
+    }
+}
+
+/// Prints to standard output, and says how that ended.
+fn printed(rt: &impl Print, text: &str) -> Status {
+    match rt.print(text) {
+        Ok(()) => Status::Done,
+        Err(_) => Status::WriteFault,
+    }
+}
+
+/// Runs the top call over standard input and output. Where the words ask for nothing that there is, a short usage
+/// text goes to standard error.
+fn run(rt: HostRuntime, words: &[String]) -> Status {
+    let mut source = StdSource::new(rt.stdin());
+    let mut sink = StdSink::new(rt.stdout());
+    let status = overlay(rt.alloc(), words, &mut source, &mut sink);
+    if status == Status::Usage {
+        let _ = rt.eprint(USAGE);
+    }
+    status
+}
+
+fn main(rt: HostRuntime) -> ExitCode {
+    let status = match words_of(&rt) {
+        Ok(words) => match asked(words.as_slice()) {
+            Asked::Help => printed(&rt, USAGE),
+            Asked::Version => printed(&rt, VERSION),
+            Asked::Run => run(rt, words.as_slice()),
+        },
+        Err(error) => status_without_words(&error),
+    };
+    ExitCode::from(status.number())
+}

@@ -1,0 +1,59 @@
+-- What a run is told by: its words, and the octets that its source held.
+use Rattle.std.specs.Prelude.{◌≡◌, ℕ, ◌≤◌, List, length, Option, Some, None, ⊤}
+use Rattle.overlay.specs.declared.answer.Verdict.{Verdict}
+use Rattle.overlay.specs.declared.answer.Verdict.TheVariants as Found
+use Rattle.overlay.specs.declared.command.Command.{Command}
+use Rattle.overlay.specs.declared.top.Status.{Status}
+use Rattle.overlay.specs.declared.top.Status.TheVariants as Ended
+use Rattle.overlay.specs.Answers.{answer_of}
+
+-- a fact of the command that was given and of the input; nothing is said of an input that the source does not tell
+abbrev pub OfInput : Option Command → Option (List ℕ) → (Command → List ℕ → Type 0) → Type 0
+OfInput None held Fact = ⊥
+OfInput (Some command) None Fact = ⊤
+OfInput (Some command) (Some octets) Fact = Fact command octets
+
+-- the same where a command was given
+abbrev pub IfInput : Option Command → Option (List ℕ) → (Command → List ℕ → Type 0) → Type 0
+IfInput None held Fact = ⊤
+IfInput (Some command) None Fact = ⊤
+IfInput (Some command) (Some octets) Fact = Fact command octets
+
+-- the input is no longer than the limit, and is found to be this
+abbrev pub IsFound : ℕ → Verdict → Command → List ℕ → Type 0
+IsFound limit verdict command octets = (length octets ≤ limit) × ((answer_of command octets).verdict ≡ verdict)
+
+-- the status that tells a verdict
+abbrev pub status_of : Verdict → Status
+status_of Found.Good = Ended.Done
+status_of Found.NotJson = Ended.NotJson
+status_of Found.BadDocument = Ended.BadDocument
+status_of Found.Refused = Ended.Refused
+
+-- the number of a status
+abbrev pub number_of : Status → ℕ
+number_of Ended.Done = 0
+number_of Ended.Usage = 2
+number_of Ended.ReadFault = 3
+number_of Ended.TooLong = 4
+number_of Ended.NotJson = 5
+number_of Ended.BadDocument = 6
+number_of Ended.Refused = 7
+number_of Ended.WriteFault = 8
+number_of Ended.NoMemory = 9
+
+-- the status is that of an answer that was written whole
+abbrev pub IsWritten : Status → Type 0
+IsWritten Ended.Done = ⊤
+IsWritten Ended.NotJson = ⊤
+IsWritten Ended.BadDocument = ⊤
+IsWritten Ended.Refused = ⊤
+IsWritten _ = ⊥
+
+-- the status is that of a run that wrote nothing
+abbrev pub IsSilent : Status → Type 0
+IsSilent Ended.Usage = ⊤
+IsSilent Ended.ReadFault = ⊤
+IsSilent Ended.TooLong = ⊤
+IsSilent Ended.NoMemory = ⊤
+IsSilent _ = ⊥

@@ -1,0 +1,27 @@
+//! The commands.
+ghost use Rattle.std.specs.Prelude.{◌≡◌};
+ghost use Rattle.overlay.specs.Commands.{command_of};
+
+/// What the program is asked to do.
+#[derive(Clone, Copy, Debug, PartialEq, Eq)]
+pub enum Command {
+    Compile,
+}
+
+/// The command that the words after the program's name give.
+pub(crate) fn command_from(words: &[String]) -> Option<Command>
+    ensures { result ≡ command_of words.now }
+{
+    match words {
+        [word] => named(word.as_str()),
+        _ => None,
+    }
+}
+
+fn named(word: &str) -> Option<Command> {
+    if word == "compile" {
+        Some(Command::Compile)
+    } else {
+        None
+    }
+}

@@ -1,0 +1,120 @@
+//! The top call.
+ghost use Rattle.std.specs.Prelude.{◌≡◌, ◌↔◌, ◌<◌, ◌≤◌, ◌⊎◌, None, length};
+ghost use Rattle.std.specs.Io.KnownBytes.{Appends};
+ghost use Rattle.ov_io.specs.Causes.{Rose};
+ghost use Rattle.ov_io.specs.Inputs.{TookFront, WasReadWhole};
+ghost use Rattle.overlay.specs.Answers.{answer_of};
+ghost use Rattle.overlay.specs.Commands.{command_of};
+ghost use Rattle.overlay.specs.Runs.{OfInput, IfInput, IsFound, IsSilent, IsWritten, number_of, status_of};
+
+use crate::answer::{Verdict, answer_to};
+use crate::command::command_from;
+use ov_io::{InputRefusal, Sink, Source, read_all, write_all};
+use std::alloc::Global;
+
+/// The most octets that an input may have.
+pub const LIMIT: usize = 16_777_216;
+
+/// How a run ended. Its number is the exit status of the program.
+#[derive(Clone, Copy, Debug, PartialEq, Eq)]
+pub enum Status {
+    Done,
+    Usage,
+    ReadFault,
+    TooLong,
+    NotJson,
+    BadDocument,
+    Refused,
+    WriteFault,
+    NoMemory,
+}
+
+impl Status {
+    /// The exit status.
+    pub fn number(self) -> u8
+        ensures { result ≡ number_of self }
+    {
+        match self {
+            Status::Done => 0,
+            Status::Usage => 2,
+            Status::ReadFault => 3,
+            Status::TooLong => 4,
+            Status::NotJson => 5,
+            Status::BadDocument => 6,
+            Status::Refused => 7,
+            Status::WriteFault => 8,
+            Status::NoMemory => 9,
+        }
+    }
+}
+
+/// All that the program does: what its words ask for, from a source to a sink. The answer is made whole before
+/// any of it is written.
+pub fn overlay<S: Source, K: Sink>(
+    alloc: Global,
+    words: &[String],
+    source: &mut S,
+    sink: &mut K,
+) -> Status
+    // Which status comes.
+    ensures usage { (result ≡ Status.Usage) ↔ (command_of words.now ≡ None) }
+    ensures read_fault { result ≡ Status.ReadFault → Rose (S.faults source.old) (S.faults source.new) }
+    ensures too_long { result ≡ Status.TooLong
+        → OfInput (command_of words.now) (S.left source.old) (λ command octets. LIMIT < length octets) }
+    ensures not_json { result ≡ Status.NotJson
+        → OfInput (command_of words.now) (S.left source.old) (IsFound LIMIT Verdict.NotJson) }
+    ensures bad_document { result ≡ Status.BadDocument
+        → OfInput (command_of words.now) (S.left source.old) (IsFound LIMIT Verdict.BadDocument) }
+    ensures refused { result ≡ Status.Refused
+        → OfInput (command_of words.now) (S.left source.old) (IsFound LIMIT Verdict.Refused) }
+    ensures write_fault { result ≡ Status.WriteFault → Rose (K.faults sink.old) (K.faults sink.new) }
+    ensures done { result ≡ Status.Done
+        → OfInput (command_of words.now) (S.left source.old) (IsFound LIMIT Verdict.Good) }
+
+    // What is written.
+    ensures written { IsWritten result → OfInput (command_of words.now) (S.left source.old)
+        (λ command octets. Appends (K.taken sink.old) (K.taken sink.new) (answer_of command octets).text) }
+    ensures front { result ≡ Status.WriteFault → OfInput (command_of words.now) (S.left source.old)
+        (λ command octets. (length octets ≤ LIMIT) × TookFront (K.taken sink.old) (K.taken sink.new) (answer_of command octets).text) }
+    ensures silent { IsSilent result → sink.new ≡ sink.old }
+
+    // What is read.
+    ensures read_whole { IsWritten result ⊎ (result ≡ Status.WriteFault) → OfInput (command_of words.now) (S.left source.old)
+        (λ command octets. WasReadWhole (S.left source.old) (S.left source.new) octets) }
+    ensures unread { result ≡ Status.Usage → source.new ≡ source.old }
+
+    // Nothing is refused without a cause.
+    ensures complete { ¬ Rose (S.faults source.old) (S.faults source.new) → ¬ Rose (K.faults sink.old) (K.faults sink.new)
+        → IfInput (command_of words.now) (S.left source.old) (λ command octets. length octets ≤ LIMIT
+        → (result ≡ status_of (answer_of command octets).verdict) ⊎ (result ≡ Status.NoMemory)) }
+{
+    let Some(command) = command_from(words) else {
+        return Status::Usage;
+    };
+    let octets = match read_all(alloc, source, LIMIT) {
+        Ok(octets) => octets,
+        Err(InputRefusal::Fault) => return Status::ReadFault,
+        Err(InputRefusal::TooLong) => return Status::TooLong,
+        Err(InputRefusal::NoMemory) => return Status::NoMemory,
+    };
+    let answer = match answer_to(alloc, command, octets.as_slice()) {
+        Ok(answer) => answer,
+        Err(_) => return Status::NoMemory,
+    };
+    match write_all(sink, answer.text.octets()) {
+        Ok(()) => status_from(answer.verdict),
+        Err(_) => Status::WriteFault,
+    }
+}
+
+/// The status that tells a verdict.
+fn status_from(verdict: Verdict) -> Status
+    ensures { result ≡ status_of verdict }
+{
+    match verdict {
+        Verdict::Good => Status::Done,
+        Verdict::NotJson => Status::NotJson,
+        Verdict::BadDocument => Status::BadDocument,
+        Verdict::Refused => Status::Refused,
+    }
+}
