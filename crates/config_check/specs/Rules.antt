@@ -33,19 +33,27 @@ abbrev pub limit_unless : LimitKind → Bool → Option Refusal
 limit_unless what true = None
 limit_unless what false = Some (Limit what)
 
-unfoldable pub broken_limit : Topology → Config → Option Refusal
-broken_limit t c =
+-- of all there is
+abbrev pub broken_count : Topology → Config → Option Refusal
+broken_count t c =
     limit_unless Counted.Controllers (nat_le (length t.controllers) 8)
     <|> (limit_unless Counted.Nodes (nat_le (length t.nodes) 64)
     <|> (limit_unless Counted.Networks (nat_le (length c.networks) 128)
     <|> (limit_unless Counted.Ports (nat_le (length c.ports) 1024)
     <|> (limit_unless Counted.Policies (nat_le (length c.policies) 128)
     <|> (limit_unless Counted.Services (nat_le (length c.services) 128)
-    <|> (limit_unless Counted.Chains (nat_le (length c.chains) 128)
-    <|> (limit_unless Counted.Subnets (list_all (λ n. nat_le (length n.subnets) 4) c.networks)
+    <|> limit_unless Counted.Chains (nat_le (length c.chains) 128))))))
+
+-- of what one object has
+abbrev pub broken_part : Config → Option Refusal
+broken_part c =
+    limit_unless Counted.Subnets (list_all (λ n. nat_le (length n.subnets) 4) c.networks)
     <|> (limit_unless Counted.Attachments (list_all (λ n. nat_le (length n.policies) 4) c.networks)
     <|> (limit_unless Counted.Rules (list_all (λ p. nat_le (length p.rules) 16) c.policies)
-    <|> limit_unless Counted.Hops (list_all (λ d. nat_le (length d.hops) 64) c.chains))))))))))
+    <|> limit_unless Counted.Hops (list_all (λ d. nat_le (length d.hops) 64) c.chains)))
+
+unfoldable pub broken_limit : Topology → Config → Option Refusal
+broken_limit t c = broken_count t c <|> broken_part c
 
 -- 2. No two names of one namespace are equal, and no compute node lists a control node twice.
 
@@ -142,15 +150,19 @@ overlap p q = is_inside p q || is_inside q p
 abbrev pub circuit_addresses : Block
 circuit_addresses = record { addr = 0xfa00_0000; len = 15 }
 
+abbrev pub reserved_in : Network → Option Refusal
+reserved_in n = option_map (λ p. SubnetReserved n.name p) (find (overlap circuit_addresses) n.subnets)
+
 unfoldable pub broken_reserved : Config → Option Refusal
-broken_reserved c =
-    first_of (λ n. option_map (λ p. SubnetReserved n.name p) (find (overlap circuit_addresses) n.subnets)) c.networks
+broken_reserved c = first_of reserved_in c.networks
 
 -- 6. No two subnets of one network overlap.
 
+abbrev pub nested_in : Network → Option Refusal
+nested_in n = option_map (λ m. SubnetNested n.name m.0 m.1) (first_meeting overlap n.subnets)
+
 unfoldable pub broken_nested : Config → Option Refusal
-broken_nested c =
-    first_of (λ n. option_map (λ m. SubnetNested n.name m.0 m.1) (first_meeting overlap n.subnets)) c.networks
+broken_nested c = first_of nested_in c.networks
 
 -- 7. A port's address is in a subnet of its network.
 
