@@ -1,6 +1,7 @@
 -- First things in what is left of a list.
 use Rattle.std.proofs.Common.{◌≡◌, ℕ, suc, ◌+◌, ◌<◌, Bool, true, false, cond, List, [], ◌∷◌, ◌++◌, Option, Some, None, option_map, length, take, drop, get_or, refl, sym, ap, ◌∙◌, add-one, drop-cons}
-use Rattle.std.specs.List.{find, list_any}
+use Rattle.std.specs.List.{find, list_all}
+use Rattle.std.proofs.lemmas.List.Folds.{list_all_at}
 use Rattle.std.proofs.lemmas.List.{take_more}
 use Rattle.chain_expand.specs.First.{◌<|>◌, first_of, meeting_after, first_meeting}
 
@@ -46,3 +47,10 @@ pub not_found_here : {A : Type 0} (p : A → Bool) (xs : List A) (i : ℕ) (x : 
 not_found_here {A} p xs i x total lt at missed so_far =
     let step : find p (x ∷ drop (i + 1) xs) ≡ find p (drop (i + 1) xs) = rw missed refl in
     sym step ∙ ap (find p) (sym (next_is xs i x lt at)) ∙ so_far
+
+pub all_here : {A : Type 0} (p : A → Bool) (xs : List A) (i : ℕ) (x : A) → i < length xs → x ≡ get_or xs i x → list_all p xs ≡ true → p x ≡ true
+all_here {A} p xs i x lt at all =
+    elim (p x) as (λ b. p x ≡ b → b ≡ true) [
+      | true ↦ λ e. refl
+      | false ↦ λ e. sym (list_all_at p xs i x lt (ap p (sym at) ∙ e)) ∙ all
+    ] refl

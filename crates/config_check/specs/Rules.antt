@@ -57,17 +57,41 @@ broken_limit t c = broken_count t c <|> broken_part c
 
 -- 2. No two names of one namespace are equal, and no compute node lists a control node twice.
 
+abbrev pub controller_names : Topology → List (List ℕ)
+controller_names t = map (λ n. n.name) t.controllers
+
+abbrev pub node_names : Topology → List (List ℕ)
+node_names t = map (λ n. n.name) t.nodes
+
+abbrev pub network_names : Config → List (List ℕ)
+network_names c = map (λ n. n.name) c.networks
+
+abbrev pub port_names : Config → List (List ℕ)
+port_names c = map (λ p. p.name) c.ports
+
+abbrev pub policy_names : Config → List (List ℕ)
+policy_names c = map (λ p. p.name) c.policies
+
+abbrev pub service_names : Config → List (List ℕ)
+service_names c = map (λ s. s.name) c.services
+
+abbrev pub chain_names : Config → List (List ℕ)
+chain_names c = map (λ d. d.name) c.chains
+
 abbrev pub repeated_name : List (List ℕ) → Option Refusal
 repeated_name names = option_map (λ m. DuplicateName m.1) (first_meeting same_name names)
 
+abbrev pub repeated_controller : Node → Option Refusal
+repeated_controller n = repeated_name n.controllers
+
 unfoldable pub broken_name : Topology → Config → Option Refusal
 broken_name t c =
-    repeated_name (map (λ n. n.name) t.controllers ++ map (λ n. n.name) t.nodes)
-    <|> (repeated_name (map (λ n. n.name) c.networks)
-    <|> (repeated_name (map (λ p. p.name) c.ports)
-    <|> (repeated_name (map (λ p. p.name) c.policies)
-    <|> (repeated_name (map (λ s. s.name) c.services ++ map (λ d. d.name) c.chains)
-    <|> first_of (λ n. repeated_name n.controllers) t.nodes))))
+    repeated_name (controller_names t ++ node_names t)
+    <|> (repeated_name (network_names c)
+    <|> (repeated_name (port_names c)
+    <|> (repeated_name (policy_names c)
+    <|> (repeated_name (service_names c ++ chain_names c)
+    <|> first_of repeated_controller t.nodes))))
 
 -- 3. No two numbers of one kind are equal.
 
@@ -84,6 +108,10 @@ use_of Pass = None
 use_of Deny = None
 use_of (Through chain use_no) = Some use_no
 
+-- the use numbers of all chain rules
+abbrev pub use_numbers : Config → List ℕ
+use_numbers c = filter_map (λ r. use_of r.rule.action) (all_rules c)
+
 unfoldable pub broken_id : Topology → Config → Option Refusal
 broken_id t c =
     repeated_id Id.Address (map (λ n. n.address.0) t.controllers ++ map (λ n. n.address.0) t.nodes)
@@ -91,7 +119,7 @@ broken_id t c =
     <|> (repeated_id Id.Port (map (λ p. p.id.0) c.ports)
     <|> (repeated_id Id.Sequence (map (λ p. p.sequence) c.policies)
     <|> (repeated_id Id.Service (map (λ s. s.id.0) c.services)
-    <|> repeated_id Id.Use (filter_map (λ r. use_of r.rule.action) (all_rules c))))))
+    <|> repeated_id Id.Use (use_numbers c)))))
 
 -- 4. Each name that is referred to exists.
 
@@ -108,38 +136,33 @@ missing_chain names Pass = None
 missing_chain names Deny = None
 missing_chain names (Through chain use_no) = missing names chain
 
-abbrev pub controller_names : Topology → List (List ℕ)
-controller_names t = map (λ n. n.name) t.controllers
+abbrev pub missing_in_node : List (List ℕ) → Node → Option Refusal
+missing_in_node controllers n = first_of (missing controllers) n.controllers
 
-abbrev pub node_names : Topology → List (List ℕ)
-node_names t = map (λ n. n.name) t.nodes
+abbrev pub missing_in_network : List (List ℕ) → Network → Option Refusal
+missing_in_network policies n = first_of (missing policies) n.policies
 
-abbrev pub network_names : Config → List (List ℕ)
-network_names c = map (λ n. n.name) c.networks
+abbrev pub missing_in_port : List (List ℕ) → List (List ℕ) → Port → Option Refusal
+missing_in_port networks nodes p = missing networks p.network <|> missing nodes p.node
 
-abbrev pub policy_names : Config → List (List ℕ)
-policy_names c = map (λ p. p.name) c.policies
+abbrev pub missing_in_rule : List (List ℕ) → List (List ℕ) → NumberedRule → Option Refusal
+missing_in_rule networks chains r =
+    missing_end networks r.rule.source <|> (missing_end networks r.rule.destination <|> missing_chain chains r.rule.action)
 
-abbrev pub chain_names : Config → List (List ℕ)
-chain_names c = map (λ d. d.name) c.chains
+abbrev pub missing_in_service : List (List ℕ) → Service → Option Refusal
+missing_in_service nodes s = missing nodes s.node
 
-abbrev pub hop_names : Config → List (List ℕ)
-hop_names c = map (λ s. s.name) c.services ++ chain_names c
-
-abbrev pub missing_in_rule : Config → NumberedRule → Option Refusal
-missing_in_rule c r =
-    missing_end (network_names c) r.rule.source
-    <|> (missing_end (network_names c) r.rule.destination
-    <|> missing_chain (chain_names c) r.rule.action)
+abbrev pub missing_in_chain : List (List ℕ) → Chain → Option Refusal
+missing_in_chain services_and_chains d = first_of (missing services_and_chains) d.hops
 
 unfoldable pub broken_reference : Topology → Config → Option Refusal
 broken_reference t c =
-    first_of (λ n. first_of (missing (controller_names t)) n.controllers) t.nodes
-    <|> (first_of (λ n. first_of (missing (policy_names c)) n.policies) c.networks
-    <|> (first_of (λ p. missing (network_names c) p.network <|> missing (node_names t) p.node) c.ports
-    <|> (first_of (missing_in_rule c) (all_rules c)
-    <|> (first_of (λ s. missing (node_names t) s.node) c.services
-    <|> first_of (λ d. first_of (missing (hop_names c)) d.hops) c.chains))))
+    first_of (missing_in_node (controller_names t)) t.nodes
+    <|> (first_of (missing_in_network (policy_names c)) c.networks
+    <|> (first_of (missing_in_port (network_names c) (node_names t)) c.ports
+    <|> (first_of (missing_in_rule (network_names c) (chain_names c)) (all_rules c)
+    <|> (first_of (missing_in_service (node_names t)) c.services
+    <|> first_of (missing_in_chain (service_names c ++ chain_names c)) c.chains))))
 
 -- 5. No subnet overlaps 250.0.0.0/15, the addresses of circuits.
 
@@ -199,10 +222,12 @@ abbrev pub is_any : End → Bool
 is_any Any = true
 is_any (Named name) = false
 
+-- a chain rule has `any` as an end
+abbrev pub lacks_network : Rule → Bool
+lacks_network r = is_chain_rule r.action && (is_any r.source || is_any r.destination)
+
 unfoldable pub broken_needs : Config → Option Refusal
-broken_needs c =
-    option_map (λ r. ChainNeedsNetworks r.number)
-    (find (λ r. is_chain_rule r.rule.action && (is_any r.rule.source || is_any r.rule.destination)) (all_rules c))
+broken_needs c = option_map (λ r. ChainNeedsNetworks r.number) (find (λ r. lacks_network r.rule) (all_rules c))
 
 -- 10. They differ.
 
@@ -210,10 +235,12 @@ abbrev pub same_end : End → End → Bool
 same_end (Named a) (Named b) = same_name a b
 same_end _ _ = false
 
+-- a chain rule names one network twice
+abbrev pub turns_back : Rule → Bool
+turns_back r = is_chain_rule r.action && same_end r.source r.destination
+
 unfoldable pub broken_same : Config → Option Refusal
-broken_same c =
-    option_map (λ r. ChainSameNetwork r.number)
-    (find (λ r. is_chain_rule r.rule.action && same_end r.rule.source r.rule.destination) (all_rules c))
+broken_same c = option_map (λ r. ChainSameNetwork r.number) (find (λ r. turns_back r.rule) (all_rules c))
 
 -- 11. No chain leads back to itself.
 

@@ -1,11 +1,16 @@
 //! Valid configurations: the fourteen rules, and the first that is broken.
 #![tactic(auto)]
 
+mod ids;
 mod limits;
 mod meeting;
+mod names;
+mod ports;
+mod references;
 mod refusal;
 mod related;
 mod subnets;
+mod uses;
 
 pub use refusal::{CheckRefusal, IdKind, LimitKind, Refusal};
-pub use related::{are_related, attaches, end_fits, fits, lets_through};
+pub use related::{NumberedRule, are_related, attaches, end_fits, fits, lets_through};
