@@ -226,8 +226,8 @@ is_any (Named name) = false
 abbrev pub lacks_network : Rule → Bool
 lacks_network r = is_chain_rule r.action && (is_any r.source || is_any r.destination)
 
-unfoldable pub broken_needs : Config → Option Refusal
-broken_needs c = option_map (λ r. ChainNeedsNetworks r.number) (find (λ r. lacks_network r.rule) (all_rules c))
+unfoldable pub broken_needs : List NumberedRule → Option Refusal
+broken_needs rules = option_map (λ r. ChainNeedsNetworks r.number) (find (λ r. lacks_network r.rule) rules)
 
 -- 10. They differ.
 
@@ -239,8 +239,8 @@ same_end _ _ = false
 abbrev pub turns_back : Rule → Bool
 turns_back r = is_chain_rule r.action && same_end r.source r.destination
 
-unfoldable pub broken_same : Config → Option Refusal
-broken_same c = option_map (λ r. ChainSameNetwork r.number) (find (λ r. turns_back r.rule) (all_rules c))
+unfoldable pub broken_same : List NumberedRule → Option Refusal
+broken_same rules = option_map (λ r. ChainSameNetwork r.number) (find (λ r. turns_back r.rule) rules)
 
 -- 11. No chain leads back to itself.
 
@@ -277,13 +277,16 @@ abbrev pub overlapping : List Network → Option Refusal
 overlapping [] = None
 overlapping (a ∷ bs) = option_map (λ b. SubnetOverlap a.name b.name) (find (share_addresses a) bs) <|> overlapping bs
 
+abbrev pub overlapping_around : Config → Network → Option Refusal
+overlapping_around c n = overlapping (group_of c n)
+
 unfoldable pub broken_overlap : Config → Option Refusal
-broken_overlap c = first_of (λ n. overlapping (group_of c n)) c.networks
+broken_overlap c = first_of (overlapping_around c) c.networks
 
 -- the first broken rule, in order
 unfoldable pub first_broken : Topology → Config → Option Refusal
 first_broken t c =
     broken_limit t c <|> (broken_name t c <|> (broken_id t c <|> (broken_reference t c
     <|> (broken_reserved c <|> (broken_nested c <|> (broken_outside c <|> (broken_taken c
-    <|> (broken_needs c <|> (broken_same c <|> (broken_loop c <|> (broken_long c
+    <|> (broken_needs (all_rules c) <|> (broken_same (all_rules c) <|> (broken_loop c <|> (broken_long c
     <|> (broken_twice c <|> broken_overlap c))))))))))))

@@ -5,6 +5,7 @@ mod ids;
 mod limits;
 mod meeting;
 mod names;
+mod overlaps;
 mod ports;
 mod references;
 mod refusal;

@@ -1,10 +1,10 @@
 //! The rules of chain rules: each names two networks, and they differ.
 ghost use Rattle.std.specs.Prelude.{◌≡◌, find};
-ghost use Rattle.config_check.specs.Rules.{all_rules, is_chain_rule, is_any, same_end, lacks_network, turns_back, broken_needs, broken_same};
+ghost use Rattle.config_check.specs.Rules.{is_chain_rule, is_any, same_end, lacks_network, turns_back, broken_needs, broken_same};
 
 use crate::refusal::Refusal;
 use crate::related::NumberedRule;
-use config_model::{Action, Config, End, Rule};
+use config_model::{Action, End, Rule};
 
 fn is_chain_rule(action: &Action) -> bool
     ensures { result ≡ is_chain_rule action.now }
@@ -59,9 +59,8 @@ fn first_turning(rules: &[NumberedRule]) -> Option<NumberedRule>
 
 /// The first chain rule that has `any` as an end.
 #[tactic(auto, unfolding(crate::specs::Rules::broken_needs))]
-pub(crate) fn broken_needs(config: &Config, rules: &[NumberedRule]) -> Option<Refusal>
-    requires { rules.now ≡ all_rules config.now }
-    ensures { result ≡ broken_needs config.now }
+pub(crate) fn broken_needs(rules: &[NumberedRule]) -> Option<Refusal>
+    ensures { result ≡ broken_needs rules.now }
 {
     let found = first_lacking(rules)?;
     Some(Refusal::ChainNeedsNetworks { rule: found.number })
@@ -69,9 +68,8 @@ pub(crate) fn broken_needs(config: &Config, rules: &[NumberedRule]) -> Option<Re
 
 /// The first chain rule that names one network twice.
 #[tactic(auto, unfolding(crate::specs::Rules::broken_same))]
-pub(crate) fn broken_same(config: &Config, rules: &[NumberedRule]) -> Option<Refusal>
-    requires { rules.now ≡ all_rules config.now }
-    ensures { result ≡ broken_same config.now }
+pub(crate) fn broken_same(rules: &[NumberedRule]) -> Option<Refusal>
+    ensures { result ≡ broken_same rules.now }
 {
     let found = first_turning(rules)?;
     Some(Refusal::ChainSameNetwork { rule: found.number })
