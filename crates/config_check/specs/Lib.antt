@@ -1,3 +1,4 @@
 pub mod Related
 pub mod Rules
 pub mod Between
+pub mod Checked

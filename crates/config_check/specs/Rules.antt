@@ -283,10 +283,20 @@ overlapping_around c n = overlapping (group_of c n)
 unfoldable pub broken_overlap : Config → Option Refusal
 broken_overlap c = first_of (overlapping_around c) c.networks
 
+-- rules 5 to 8, of subnets and ports
+abbrev pub broken_place : Config → Option Refusal
+broken_place c = broken_reserved c <|> (broken_nested c <|> (broken_outside c <|> broken_taken c))
+
+-- rules 9 and 10, of chain rules
+abbrev pub broken_use : List NumberedRule → Option Refusal
+broken_use rules = broken_needs rules <|> broken_same rules
+
+-- rules 11 to 13, of chains
+abbrev pub broken_chain : Config → Option Refusal
+broken_chain c = broken_loop c <|> (broken_long c <|> broken_twice c)
+
 -- the first broken rule, in order
 unfoldable pub first_broken : Topology → Config → Option Refusal
 first_broken t c =
     broken_limit t c <|> (broken_name t c <|> (broken_id t c <|> (broken_reference t c
-    <|> (broken_reserved c <|> (broken_nested c <|> (broken_outside c <|> (broken_taken c
-    <|> (broken_needs (all_rules c) <|> (broken_same (all_rules c) <|> (broken_loop c <|> (broken_long c
-    <|> (broken_twice c <|> broken_overlap c))))))))))))
+    <|> (broken_place c <|> (broken_use (all_rules c) <|> (broken_chain c <|> broken_overlap c))))))

@@ -1,6 +1,7 @@
 //! Valid configurations: the fourteen rules, and the first that is broken.
 #![tactic(auto)]
 
+mod chains;
 mod ids;
 mod limits;
 mod meeting;
@@ -12,6 +13,8 @@ mod refusal;
 mod related;
 mod subnets;
 mod uses;
+mod valid;
 
 pub use refusal::{CheckRefusal, IdKind, LimitKind, Refusal};
 pub use related::{NumberedRule, are_related, attaches, end_fits, fits, lets_through};
+pub use valid::{Valid, check};
