@@ -1,3 +1,5 @@
 pub mod Blocks
 pub mod Lists
 pub mod SomeRule
+pub mod Straight
+pub mod Few

@@ -1,5 +1,5 @@
 -- First things in what is left of a list.
-use Rattle.std.proofs.Common.{◌≡◌, ℕ, suc, ◌+◌, ◌<◌, Bool, true, false, cond, List, [], ◌∷◌, ◌++◌, Option, Some, None, option_map, length, take, drop, get_or, refl, sym, ap, ◌∙◌, add-one, drop-cons}
+use Rattle.std.proofs.Common.{◌≡◌, ℕ, zero, suc, arith, ◌+◌, ◌<◌, Bool, true, false, cond, List, [], ◌∷◌, ◌++◌, Option, Some, None, option_map, length, take, drop, get_or, refl, sym, ap, ◌∙◌, add-one, drop-cons}
 use Rattle.std.specs.List.{find, list_all}
 use Rattle.std.proofs.lemmas.List.Folds.{list_all_at}
 use Rattle.std.proofs.lemmas.List.{take_more}
@@ -54,3 +54,10 @@ all_here {A} p xs i x lt at all =
       | true ↦ λ e. refl
       | false ↦ λ e. sym (list_all_at p xs i x lt (ap p (sym at) ∙ e)) ∙ all
     ] refl
+
+pub none_found : {A : Type 0} (p : A → Bool) (xs : List A) (i : ℕ) (x : A) → i < length xs → x ≡ get_or xs i x → find p xs ≡ None → p x ≡ false
+none_found {A} p [] i x lt at h = absurd (omega arith)
+none_found {A} p (y ∷ ys) zero x lt at h =
+    ap p at ∙ elim (p y) as (λ b. cond b (Some y) (find p ys) ≡ None → b ≡ false) [ true ↦ λ e. cc | false ↦ λ e. refl ] h
+none_found {A} p (y ∷ ys) (suc i) x lt at h =
+    none_found p ys i x (omega arith) at (elim (p y) as (λ b. cond b (Some y) (find p ys) ≡ None → find p ys ≡ None) [ true ↦ λ e. cc | false ↦ λ e. e ] h)

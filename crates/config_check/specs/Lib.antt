@@ -2,3 +2,4 @@ pub mod Related
 pub mod Rules
 pub mod Between
 pub mod Checked
+pub mod Twice

@@ -1,11 +1,13 @@
 //! The rules of chains: none leads back to itself, none gives too many services, and none gives one twice.
-ghost use Rattle.std.specs.Prelude.{◌≡◌, ◌≤◌, nat_lt, length, None, false, is_none};
-ghost use Rattle.chain_expand.specs.Expansion.{expansion, loop_of};
+ghost use Rattle.std.specs.Prelude.{◌≡◌, ◌≤◌, nat_lt, length, None, false};
+ghost use Rattle.chain_expand.specs.Expansion.{expansion};
+ghost use Rattle.config_check.specs.Twice.{twice_of};
 ghost use Rattle.config_check.specs.Rules.{is_too_long, twice_in, broken_loop, broken_long, broken_twice};
 
 use crate::refusal::Refusal;
 use chain_expand::{ChainFault, expand_straight, first_loop};
 use config_model::{Chain, Config};
+use ov_types::{Name, Services};
 
 /// The first chain that leads back to itself.
 #[tactic(auto, unfolding(crate::specs::Rules::broken_loop))]
@@ -50,16 +52,25 @@ pub(crate) fn broken_long(config: &Config) -> Option<Refusal>
     None
 }
 
+fn twice_of(chain: &Name, expanded: &Result<Services<15>, ChainFault>) -> Option<Refusal>
+    ensures { result ≡ twice_of chain.now expanded.now }
+{
+    match expanded {
+        Err(ChainFault::Twice { service, .. }) => Some(Refusal::ServiceTwice {
+            chain: *chain,
+            service: *service,
+        }),
+        _ => None,
+    }
+}
+
 fn twice_in(config: &Config, chain: &Chain) -> Option<Refusal>
     requires few { length config.now.chains ≤ 128 }
     requires straight { broken_loop config.now ≡ None }
     requires short { is_too_long config.now chain.now ≡ false }
     ensures { result ≡ twice_in config.now chain.now }
 {
-    match expand_straight(config, &chain.name) {
-        Err(ChainFault::Twice { chain, service }) => Some(Refusal::ServiceTwice { chain, service }),
-        _ => None,
-    }
+    twice_of(&chain.name, &expand_straight(config, &chain.name))
 }
 
 /// The first chain that gives a service twice, where none leads back to itself or is too long.

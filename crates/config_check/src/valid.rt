@@ -94,7 +94,7 @@ fn broken_chain(config: &Config) -> Option<Refusal>
     broken_twice(config)
 }
 
-#[tactic(auto, unfolding(crate::specs::Rules::first_broken))]
+#[tactic(auto, using(crate::proofs::Few::few_rules, crate::proofs::Few::few_chains), unfolding(crate::specs::Rules::first_broken))]
 fn first_broken(
     alloc: Global,
     topology: &Topology,
