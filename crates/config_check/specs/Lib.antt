@@ -3,3 +3,4 @@ pub mod Rules
 pub mod Between
 pub mod Checked
 pub mod Twice
+pub mod Texts

@@ -12,6 +12,7 @@ mod references;
 mod refusal;
 mod related;
 mod subnets;
+mod texts;
 mod uses;
 mod valid;
 
