@@ -3,3 +3,4 @@ pub mod Lists
 pub mod SomeRule
 pub mod Straight
 pub mod Few
+pub mod Iffs

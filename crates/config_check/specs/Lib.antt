@@ -4,3 +4,4 @@ pub mod Between
 pub mod Checked
 pub mod Twice
 pub mod Texts
+pub mod Sentences
