@@ -1,1 +1,7 @@
 pub mod AnyRule
+pub mod Blocks
+pub mod Lists
+pub mod SomeRule
+pub mod Straight
+pub mod Few
+pub mod Iffs

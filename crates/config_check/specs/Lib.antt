@@ -1,4 +1,7 @@
-pub mod Checked
 pub mod Related
 pub mod Rules
+pub mod Between
+pub mod Checked
+pub mod Twice
 pub mod Texts
+pub mod Sentences

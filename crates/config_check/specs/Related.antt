@@ -1,7 +1,6 @@
 -- The rules between two networks, and which networks are related.
 use Rattle.std.specs.Prelude.{ℕ, ◌+◌, ◌&&◌, ◌||◌, nat_le, Bool, true, false, not, List, [], ◌∷◌, filter, flat_map, if◌then◌else◌}
 use Rattle.std.specs.List.{list_any}
-use Rattle.ov_types.specs.declared.packet.RuleNo.{RuleNo}
 use Rattle.config_model.specs.declared.config.Action.{Action}
 use Rattle.config_model.specs.declared.config.Action.TheVariants.{Pass, Deny, Through}
 use Rattle.config_model.specs.declared.config.Config.{Config}
@@ -11,11 +10,7 @@ use Rattle.config_model.specs.declared.config.Network.{Network}
 use Rattle.config_model.specs.declared.config.Policy.{Policy}
 use Rattle.config_model.specs.declared.config.Rule.{Rule}
 use Rattle.chain_expand.specs.First.{same_name}
-
--- a rule, with the number that names it
-pub record NumberedRule : Type 0 where
-  pub number : RuleNo
-  pub rule : Rule
+pub use Rattle.config_check.specs.declared.related.NumberedRule.{NumberedRule}
 
 -- the rules of a policy in order, the first at a position
 abbrev pub numbered_from : ℕ → ℕ → List Rule → List NumberedRule

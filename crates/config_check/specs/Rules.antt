@@ -33,33 +33,65 @@ abbrev pub limit_unless : LimitKind → Bool → Option Refusal
 limit_unless what true = None
 limit_unless what false = Some (Limit what)
 
-unfoldable pub broken_limit : Topology → Config → Option Refusal
-broken_limit t c =
+-- of all there is
+abbrev pub broken_count : Topology → Config → Option Refusal
+broken_count t c =
     limit_unless Counted.Controllers (nat_le (length t.controllers) 8)
     <|> (limit_unless Counted.Nodes (nat_le (length t.nodes) 64)
     <|> (limit_unless Counted.Networks (nat_le (length c.networks) 128)
     <|> (limit_unless Counted.Ports (nat_le (length c.ports) 1024)
     <|> (limit_unless Counted.Policies (nat_le (length c.policies) 128)
     <|> (limit_unless Counted.Services (nat_le (length c.services) 128)
-    <|> (limit_unless Counted.Chains (nat_le (length c.chains) 128)
-    <|> (limit_unless Counted.Subnets (list_all (λ n. nat_le (length n.subnets) 4) c.networks)
+    <|> limit_unless Counted.Chains (nat_le (length c.chains) 128))))))
+
+-- of what one object has
+abbrev pub broken_part : Config → Option Refusal
+broken_part c =
+    limit_unless Counted.Subnets (list_all (λ n. nat_le (length n.subnets) 4) c.networks)
     <|> (limit_unless Counted.Attachments (list_all (λ n. nat_le (length n.policies) 4) c.networks)
     <|> (limit_unless Counted.Rules (list_all (λ p. nat_le (length p.rules) 16) c.policies)
-    <|> limit_unless Counted.Hops (list_all (λ d. nat_le (length d.hops) 64) c.chains))))))))))
+    <|> limit_unless Counted.Hops (list_all (λ d. nat_le (length d.hops) 64) c.chains)))
+
+unfoldable pub broken_limit : Topology → Config → Option Refusal
+broken_limit t c = broken_count t c <|> broken_part c
 
 -- 2. No two names of one namespace are equal, and no compute node lists a control node twice.
+
+abbrev pub controller_names : Topology → List (List ℕ)
+controller_names t = map (λ n. n.name) t.controllers
+
+abbrev pub node_names : Topology → List (List ℕ)
+node_names t = map (λ n. n.name) t.nodes
+
+abbrev pub network_names : Config → List (List ℕ)
+network_names c = map (λ n. n.name) c.networks
+
+abbrev pub port_names : Config → List (List ℕ)
+port_names c = map (λ p. p.name) c.ports
+
+abbrev pub policy_names : Config → List (List ℕ)
+policy_names c = map (λ p. p.name) c.policies
+
+abbrev pub service_names : Config → List (List ℕ)
+service_names c = map (λ s. s.name) c.services
+
+abbrev pub chain_names : Config → List (List ℕ)
+chain_names c = map (λ d. d.name) c.chains
 
 abbrev pub repeated_name : List (List ℕ) → Option Refusal
 repeated_name names = option_map (λ m. DuplicateName m.1) (first_meeting same_name names)
 
+abbrev pub repeated_controller : Node → Option Refusal
+repeated_controller n = repeated_name n.controllers
+
 unfoldable pub broken_name : Topology → Config → Option Refusal
 broken_name t c =
-    repeated_name (map (λ n. n.name) t.controllers ++ map (λ n. n.name) t.nodes)
-    <|> (repeated_name (map (λ n. n.name) c.networks)
-    <|> (repeated_name (map (λ p. p.name) c.ports)
-    <|> (repeated_name (map (λ p. p.name) c.policies)
-    <|> (repeated_name (map (λ s. s.name) c.services ++ map (λ d. d.name) c.chains)
-    <|> first_of (λ n. repeated_name n.controllers) t.nodes))))
+    repeated_name (controller_names t ++ node_names t)
+    <|> (repeated_name (network_names c)
+    <|> (repeated_name (port_names c)
+    <|> (repeated_name (policy_names c)
+    <|> (repeated_name (service_names c ++ chain_names c)
+    <|> first_of repeated_controller t.nodes))))
 
 -- 3. No two numbers of one kind are equal.
 
@@ -76,6 +108,10 @@ use_of Pass = None
 use_of Deny = None
 use_of (Through chain use_no) = Some use_no
 
+-- the use numbers of all chain rules
+abbrev pub use_numbers : Config → List ℕ
+use_numbers c = filter_map (λ r. use_of r.rule.action) (all_rules c)
+
 unfoldable pub broken_id : Topology → Config → Option Refusal
 broken_id t c =
     repeated_id Id.Address (map (λ n. n.address.0) t.controllers ++ map (λ n. n.address.0) t.nodes)
@@ -83,7 +119,7 @@ broken_id t c =
     <|> (repeated_id Id.Port (map (λ p. p.id.0) c.ports)
     <|> (repeated_id Id.Sequence (map (λ p. p.sequence) c.policies)
     <|> (repeated_id Id.Service (map (λ s. s.id.0) c.services)
-    <|> repeated_id Id.Use (filter_map (λ r. use_of r.rule.action) (all_rules c))))))
+    <|> repeated_id Id.Use (use_numbers c)))))
 
 -- 4. Each name that is referred to exists.
 
@@ -100,38 +136,33 @@ missing_chain names Pass = None
 missing_chain names Deny = None
 missing_chain names (Through chain use_no) = missing names chain
 
-abbrev pub controller_names : Topology → List (List ℕ)
-controller_names t = map (λ n. n.name) t.controllers
+abbrev pub missing_in_node : List (List ℕ) → Node → Option Refusal
+missing_in_node controllers n = first_of (missing controllers) n.controllers
 
-abbrev pub node_names : Topology → List (List ℕ)
-node_names t = map (λ n. n.name) t.nodes
+abbrev pub missing_in_network : List (List ℕ) → Network → Option Refusal
+missing_in_network policies n = first_of (missing policies) n.policies
 
-abbrev pub network_names : Config → List (List ℕ)
-network_names c = map (λ n. n.name) c.networks
+abbrev pub missing_in_port : List (List ℕ) → List (List ℕ) → Port → Option Refusal
+missing_in_port networks nodes p = missing networks p.network <|> missing nodes p.node
 
-abbrev pub policy_names : Config → List (List ℕ)
-policy_names c = map (λ p. p.name) c.policies
+abbrev pub missing_in_rule : List (List ℕ) → List (List ℕ) → NumberedRule → Option Refusal
+missing_in_rule networks chains r =
+    missing_end networks r.rule.source <|> (missing_end networks r.rule.destination <|> missing_chain chains r.rule.action)
 
-abbrev pub chain_names : Config → List (List ℕ)
-chain_names c = map (λ d. d.name) c.chains
+abbrev pub missing_in_service : List (List ℕ) → Service → Option Refusal
+missing_in_service nodes s = missing nodes s.node
 
-abbrev pub hop_names : Config → List (List ℕ)
-hop_names c = map (λ s. s.name) c.services ++ chain_names c
-
-abbrev pub missing_in_rule : Config → NumberedRule → Option Refusal
-missing_in_rule c r =
-    missing_end (network_names c) r.rule.source
-    <|> (missing_end (network_names c) r.rule.destination
-    <|> missing_chain (chain_names c) r.rule.action)
+abbrev pub missing_in_chain : List (List ℕ) → Chain → Option Refusal
+missing_in_chain services_and_chains d = first_of (missing services_and_chains) d.hops
 
 unfoldable pub broken_reference : Topology → Config → Option Refusal
 broken_reference t c =
-    first_of (λ n. first_of (missing (controller_names t)) n.controllers) t.nodes
-    <|> (first_of (λ n. first_of (missing (policy_names c)) n.policies) c.networks
-    <|> (first_of (λ p. missing (network_names c) p.network <|> missing (node_names t) p.node) c.ports
-    <|> (first_of (missing_in_rule c) (all_rules c)
-    <|> (first_of (λ s. missing (node_names t) s.node) c.services
-    <|> first_of (λ d. first_of (missing (hop_names c)) d.hops) c.chains))))
+    first_of (missing_in_node (controller_names t)) t.nodes
+    <|> (first_of (missing_in_network (policy_names c)) c.networks
+    <|> (first_of (missing_in_port (network_names c) (node_names t)) c.ports
+    <|> (first_of (missing_in_rule (network_names c) (chain_names c)) (all_rules c)
+    <|> (first_of (missing_in_service (node_names t)) c.services
+    <|> first_of (missing_in_chain (service_names c ++ chain_names c)) c.chains))))
 
 -- 5. No subnet overlaps 250.0.0.0/15, the addresses of circuits.
 
@@ -142,15 +173,19 @@ overlap p q = is_inside p q || is_inside q p
 abbrev pub circuit_addresses : Block
 circuit_addresses = record { addr = 0xfa00_0000; len = 15 }
 
+abbrev pub reserved_in : Network → Option Refusal
+reserved_in n = option_map (λ p. SubnetReserved n.name p) (find (overlap circuit_addresses) n.subnets)
+
 unfoldable pub broken_reserved : Config → Option Refusal
-broken_reserved c =
-    first_of (λ n. option_map (λ p. SubnetReserved n.name p) (find (overlap circuit_addresses) n.subnets)) c.networks
+broken_reserved c = first_of reserved_in c.networks
 
 -- 6. No two subnets of one network overlap.
 
+abbrev pub nested_in : Network → Option Refusal
+nested_in n = option_map (λ m. SubnetNested n.name m.0 m.1) (first_meeting overlap n.subnets)
+
 unfoldable pub broken_nested : Config → Option Refusal
-broken_nested c =
-    first_of (λ n. option_map (λ m. SubnetNested n.name m.0 m.1) (first_meeting overlap n.subnets)) c.networks
+broken_nested c = first_of nested_in c.networks
 
 -- 7. A port's address is in a subnet of its network.
 
@@ -187,10 +222,12 @@ abbrev pub is_any : End → Bool
 is_any Any = true
 is_any (Named name) = false
 
-unfoldable pub broken_needs : Config → Option Refusal
-broken_needs c =
-    option_map (λ r. ChainNeedsNetworks r.number)
-    (find (λ r. is_chain_rule r.rule.action && (is_any r.rule.source || is_any r.rule.destination)) (all_rules c))
+-- a chain rule has `any` as an end
+abbrev pub lacks_network : Rule → Bool
+lacks_network r = is_chain_rule r.action && (is_any r.source || is_any r.destination)
+
+unfoldable pub broken_needs : List NumberedRule → Option Refusal
+broken_needs rules = option_map (λ r. ChainNeedsNetworks r.number) (find (λ r. lacks_network r.rule) rules)
 
 -- 10. They differ.
 
@@ -198,10 +235,12 @@ abbrev pub same_end : End → End → Bool
 same_end (Named a) (Named b) = same_name a b
 same_end _ _ = false
 
-unfoldable pub broken_same : Config → Option Refusal
-broken_same c =
-    option_map (λ r. ChainSameNetwork r.number)
-    (find (λ r. is_chain_rule r.rule.action && same_end r.rule.source r.rule.destination) (all_rules c))
+-- a chain rule names one network twice
+abbrev pub turns_back : Rule → Bool
+turns_back r = is_chain_rule r.action && same_end r.source r.destination
+
+unfoldable pub broken_same : List NumberedRule → Option Refusal
+broken_same rules = option_map (λ r. ChainSameNetwork r.number) (find (λ r. turns_back r.rule) rules)
 
 -- 11. No chain leads back to itself.
 
@@ -238,13 +277,26 @@ abbrev pub overlapping : List Network → Option Refusal
 overlapping [] = None
 overlapping (a ∷ bs) = option_map (λ b. SubnetOverlap a.name b.name) (find (share_addresses a) bs) <|> overlapping bs
 
+abbrev pub overlapping_around : Config → Network → Option Refusal
+overlapping_around c n = overlapping (group_of c n)
+
 unfoldable pub broken_overlap : Config → Option Refusal
-broken_overlap c = first_of (λ n. overlapping (group_of c n)) c.networks
+broken_overlap c = first_of (overlapping_around c) c.networks
+
+-- rules 5 to 8, of subnets and ports
+abbrev pub broken_place : Config → Option Refusal
+broken_place c = broken_reserved c <|> (broken_nested c <|> (broken_outside c <|> broken_taken c))
+
+-- rules 9 and 10, of chain rules
+abbrev pub broken_use : List NumberedRule → Option Refusal
+broken_use rules = broken_needs rules <|> broken_same rules
+
+-- rules 11 to 13, of chains
+abbrev pub broken_chain : Config → Option Refusal
+broken_chain c = broken_loop c <|> (broken_long c <|> broken_twice c)
 
 -- the first broken rule, in order
 unfoldable pub first_broken : Topology → Config → Option Refusal
 first_broken t c =
     broken_limit t c <|> (broken_name t c <|> (broken_id t c <|> (broken_reference t c
-    <|> (broken_reserved c <|> (broken_nested c <|> (broken_outside c <|> (broken_taken c
-    <|> (broken_needs c <|> (broken_same c <|> (broken_loop c <|> (broken_long c
-    <|> (broken_twice c <|> broken_overlap c))))))))))))
+    <|> (broken_place c <|> (broken_use (all_rules c) <|> (broken_chain c <|> broken_overlap c))))))

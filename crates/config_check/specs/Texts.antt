@@ -1,41 +1,50 @@
--- The texts of refusals.
-use Rattle.std.specs.Prelude.{ℕ, List, ◌++◌, codes, decimal}
+-- How refusals are printed: the rule, and the objects that break it.
+use Rattle.std.specs.Prelude.{ℕ, ◌++◌, List, codes, decimal}
 use Rattle.ov_types.specs.Texts.{address_text, prefix_text}
-use Rattle.ov_types.specs.Rows.{rule_text}
+use Rattle.ov_types.specs.declared.packet.RuleNo.{RuleNo}
 use Rattle.config_check.specs.declared.refusal.IdKind.{IdKind}
-use Rattle.config_check.specs.declared.refusal.IdKind.TheVariants as Id
+use Rattle.config_check.specs.declared.refusal.IdKind.TheVariants.{Address, Network, Port, Sequence, Service, Use}
 use Rattle.config_check.specs.declared.refusal.LimitKind.{LimitKind}
-use Rattle.config_check.specs.declared.refusal.LimitKind.TheVariants as Counted
+use Rattle.config_check.specs.declared.refusal.LimitKind.TheVariants.{Controllers, Nodes, Networks, Ports, Policies, Services, Chains, Subnets, Attachments, Rules, Hops}
 use Rattle.config_check.specs.declared.refusal.Refusal.{Refusal}
 use Rattle.config_check.specs.declared.refusal.Refusal.TheVariants.{Limit, DuplicateName, DuplicateId, BadReference, SubnetReserved, SubnetNested, AddressOutside, AddressTaken, ChainNeedsNetworks, ChainSameNetwork, ChainLoop, ChainTooLong, ServiceTwice, SubnetOverlap}
 
-abbrev pub limit_text : LimitKind → List ℕ
-limit_text Counted.Controllers = codes "controllers"
-limit_text Counted.Nodes = codes "nodes"
-limit_text Counted.Networks = codes "networks"
-limit_text Counted.Ports = codes "ports"
-limit_text Counted.Policies = codes "policies"
-limit_text Counted.Services = codes "services"
-limit_text Counted.Chains = codes "chains"
-limit_text Counted.Subnets = codes "subnets"
-limit_text Counted.Attachments = codes "attachments"
-limit_text Counted.Rules = codes "rules"
-limit_text Counted.Hops = codes "hops"
+-- what is counted
+abbrev pub limit_word : LimitKind → List ℕ
+limit_word Controllers = codes "controllers"
+limit_word Nodes = codes "nodes"
+limit_word Networks = codes "networks"
+limit_word Ports = codes "ports"
+limit_word Policies = codes "policies"
+limit_word Services = codes "services"
+limit_word Chains = codes "chains"
+limit_word Subnets = codes "subnets"
+limit_word Attachments = codes "attachments"
+limit_word Rules = codes "rules"
+limit_word Hops = codes "hops"
 
--- the kind of a number and the number; an address is printed as one
+-- what a number names
+abbrev pub id_word : IdKind → List ℕ
+id_word Address = codes "address"
+id_word Network = codes "network"
+id_word Port = codes "port"
+id_word Sequence = codes "sequence"
+id_word Service = codes "service"
+id_word Use = codes "use"
+
+-- the number, an address as one
 abbrev pub id_text : IdKind → ℕ → List ℕ
-id_text Id.Address n = codes "address " ++ address_text n
-id_text Id.Network n = codes "network " ++ decimal n
-id_text Id.Port n = codes "port " ++ decimal n
-id_text Id.Sequence n = codes "sequence " ++ decimal n
-id_text Id.Service n = codes "service " ++ decimal n
-id_text Id.Use n = codes "use " ++ decimal n
+id_text Address id = address_text id
+id_text _ id = decimal id
 
--- the name of the rule that is broken, and the objects
-unfoldable pub refusal_text : Refusal → List ℕ
-refusal_text (Limit what) = codes "Limit " ++ limit_text what
+-- a rule by its policy's sequence and its position there
+abbrev pub rule_text : RuleNo → List ℕ
+rule_text r = decimal r.sequence ++ (codes "/" ++ decimal r.position)
+
+abbrev pub refusal_text : Refusal → List ℕ
+refusal_text (Limit what) = codes "Limit " ++ limit_word what
 refusal_text (DuplicateName name) = codes "DuplicateName " ++ name
-refusal_text (DuplicateId what id) = codes "DuplicateId " ++ id_text what id
+refusal_text (DuplicateId what id) = codes "DuplicateId " ++ (id_word what ++ (codes " " ++ id_text what id))
 refusal_text (BadReference name) = codes "BadReference " ++ name
 refusal_text (SubnetReserved network prefix) = codes "SubnetReserved " ++ (network ++ (codes " " ++ prefix_text prefix))
 refusal_text (SubnetNested network first second) = codes "SubnetNested " ++ (network ++ (codes " " ++ (prefix_text first ++ (codes " " ++ prefix_text second))))

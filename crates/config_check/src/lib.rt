@@ -1,11 +1,23 @@
 //! Valid configurations: the fourteen rules, and the first that is broken.
 #![tactic(auto)]
 
-mod between;
+mod chains;
+mod ids;
+mod limits;
+mod meeting;
+mod names;
+mod overlaps;
+mod passing;
+mod ports;
+mod references;
 mod refusal;
-mod text;
+mod related;
+mod subnets;
+mod texts;
+mod uses;
 mod valid;
 
-pub use between::{does_fit, passes_between};
+pub use passing::passes_between;
 pub use refusal::{CheckRefusal, IdKind, LimitKind, Refusal};
-pub use valid::Valid;
+pub use related::{NumberedRule, are_related, attaches, end_fits, fits, lets_through};
+pub use valid::{Valid, check};

@@ -1,5 +1,5 @@
 //! What breaks a rule of valid configurations.
-use ov_types::{Name, Prefix, RuleNo};
+use ov_types::{Name, NoMemory, Prefix, RuleNo};
 
 /// What is counted against a limit, in the order of the tests.
 #[derive(Clone, Copy, Debug, PartialEq, Eq)]
@@ -87,4 +87,15 @@ pub enum Refusal {
 pub enum CheckRefusal {
     Rule(Refusal),
     NoMemory,
+}
+
+impl From<NoMemory> for CheckRefusal {
+    ghost use Rattle.std.specs.Prelude.{◌≡◌};
+    ghost use Rattle.config_check.specs.declared.refusal.CheckRefusal.TheVariants.{NoMemory as WantsMemory};
+
+    ghost from_gives = { λ _ e. e ≡ WantsMemory };
+
+    fn from(_e: NoMemory) -> CheckRefusal {
+        CheckRefusal::NoMemory
+    }
 }

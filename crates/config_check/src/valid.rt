@@ -1,12 +1,26 @@
 //! Valid configurations.
-ghost use Rattle.std.specs.Prelude.{◌≡◌, IsTrue, is_none};
+ghost use Rattle.std.specs.Prelude.{◌≡◌, ◌≤◌, length, IfOk, IfErr, IsTrue};
 ghost use Rattle.config_model.specs.Form.{has_topology_form, has_config_form};
-ghost use Rattle.config_check.specs.Rules.{first_broken};
+ghost use Rattle.config_check.specs.Rules.{broken_place, broken_use, broken_chain, first_broken};
+ghost use Rattle.config_check.specs.Checked.{Checked, Refuses};
 
+use crate::chains::{broken_long, broken_loop, broken_twice};
+use crate::ids::broken_id;
+use crate::limits::broken_limit;
+use crate::names::broken_name;
+use crate::overlaps::broken_overlap;
+use crate::ports::{broken_outside, broken_taken};
+use crate::references::broken_reference;
+use crate::refusal::{CheckRefusal, Refusal};
+use crate::related::{NumberedRule, all_rules};
+use crate::subnets::{broken_nested, broken_reserved};
+use crate::uses::{broken_needs, broken_same};
 use config_model::{Config, Topology};
+use ov_types::NoMemory;
+use std::alloc::Global;
 use std::marker::Model;
 
-/// A topology and a configuration that have the written form and break no rule.
+/// A topology and a configuration that break no rule. Only `check` makes one.
 #[derive(Debug, Drop)]
 pub struct Valid {
     topology: Topology,
@@ -14,33 +28,114 @@ pub struct Valid {
 }
 
 impl Model for Valid {
-    ghost use Rattle.std.specs.Prelude.{IsTrue, is_none};
+    ghost use Rattle.std.specs.Prelude.{◌≡◌, None, IsTrue};
     ghost use Rattle.config_model.specs.Form.{has_topology_form, has_config_form};
+    ghost use Rattle.config_check.specs.Rules.{first_broken};
     ghost use Rattle.config_check.specs.Checked.{Checked};
-    ghost use Rattle.config_check.specs.Rules.{first_broken as first};
 
     ghost Value = { Checked };
 
     ghost view = { λ v. record { topology = v.topology; config = v.config } };
 
-    ghost invariant = { λ v. IsTrue (has_topology_form v.topology) × IsTrue (has_config_form v.config) × IsTrue (is_none (first v.topology v.config)) };
+    ghost invariant = { λ v. IsTrue (has_topology_form v.topology) × IsTrue (has_config_form v.config) × (first_broken v.topology v.config ≡ None) };
 }
 
 impl Valid {
-    /// The topology.
+    /// The topology. It takes no memory.
     pub fn topology(&self) -> &Topology
         ensures part { result.now ≡ self.now.topology }
-        ensures form { IsTrue (has_topology_form self.now.topology) }
+        ensures topology_form { IsTrue (has_topology_form self.now.topology) }
+        ensures config_form { IsTrue (has_config_form self.now.config) }
+        ensures valid { first_broken self.now.topology self.now.config ≡ None }
     {
         &self.topology
     }
 
-    /// The configuration.
+    /// The configuration. It takes no memory.
     pub fn config(&self) -> &Config
         ensures part { result.now ≡ self.now.config }
-        ensures form { IsTrue (has_config_form self.now.config) }
-        ensures unbroken { IsTrue (is_none (first_broken self.now.topology self.now.config)) }
+        ensures topology_form { IsTrue (has_topology_form self.now.topology) }
+        ensures config_form { IsTrue (has_config_form self.now.config) }
+        ensures valid { first_broken self.now.topology self.now.config ≡ None }
     {
         &self.config
+    }
+}
+
+/// The first of the rules of subnets and ports that is broken.
+fn broken_place(config: &Config) -> Option<Refusal>
+    ensures { result ≡ broken_place config.now }
+{
+    let reserved = broken_reserved(config);
+    let nested = broken_nested(config);
+    let outside = broken_outside(config);
+    let taken = broken_taken(config);
+    reserved.or(nested.or(outside.or(taken)))
+}
+
+/// The first of the rules of chain rules that is broken.
+fn broken_use(rules: &[NumberedRule]) -> Option<Refusal>
+    ensures { result ≡ broken_use rules.now }
+{
+    broken_needs(rules).or(broken_same(rules))
+}
+
+/// The first of the rules of chains that is broken.
+fn broken_chain(config: &Config) -> Option<Refusal>
+    requires { length config.now.chains ≤ 128 }
+    ensures { result ≡ broken_chain config.now }
+{
+    if let Some(refusal) = broken_loop(config) {
+        return Some(refusal);
+    }
+    if let Some(refusal) = broken_long(config) {
+        return Some(refusal);
+    }
+    broken_twice(config)
+}
+
+#[tactic(auto, using(crate::proofs::Few::few_rules, crate::proofs::Few::few_chains), unfolding(crate::specs::Rules::first_broken))]
+fn first_broken(
+    alloc: Global,
+    topology: &Topology,
+    config: &Config,
+) -> Result<Option<Refusal>, NoMemory>
+    ensures { IfOk result (λ found. found ≡ first_broken topology.now config.now) }
+{
+    if let Some(refusal) = broken_limit(topology, config) {
+        return Ok(Some(refusal));
+    }
+    if let Some(refusal) = broken_name(alloc, topology, config)? {
+        return Ok(Some(refusal));
+    }
+    let rules = all_rules(alloc, config)?;
+    if let Some(refusal) = broken_id(alloc, topology, config, &rules)? {
+        return Ok(Some(refusal));
+    }
+    if let Some(refusal) = broken_reference(alloc, topology, config, &rules)? {
+        return Ok(Some(refusal));
+    }
+    if let Some(refusal) = broken_place(config) {
+        return Ok(Some(refusal));
+    }
+    if let Some(refusal) = broken_use(&rules) {
+        return Ok(Some(refusal));
+    }
+    if let Some(refusal) = broken_chain(config) {
+        return Ok(Some(refusal));
+    }
+    broken_overlap(alloc, config)
+}
+
+/// Answers the first broken rule, in the order of the rules, else that the two are valid.
+pub fn check(alloc: Global, topology: Topology, config: Config) -> Result<Valid, CheckRefusal>
+    requires topology_form { IsTrue (has_topology_form topology) }
+    requires config_form { IsTrue (has_config_form config) }
+    ensures ok { IfOk result (λ v. (v ≡ record { topology = topology; config = config }) × (first_broken topology config ≡ None)) }
+    ensures rule { IfErr result (λ e. Refuses e (first_broken topology config)) }
+{
+    match first_broken(alloc, &topology, &config)? {
+        Some(refusal) => Err(CheckRefusal::Rule(refusal)),
+        None => Ok(Valid { topology, config }),
     }
 }

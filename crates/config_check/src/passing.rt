@@ -1,9 +1,10 @@
-//! The rules between two networks.
+//! Pass rules between two networks.
 ghost use Rattle.std.specs.Prelude.{◌≡◌, ◌&&◌, ◌||◌};
 ghost use Rattle.std.specs.List.{list_any};
-ghost use Rattle.config_check.specs.Related.{attaches, end_fits, fits, passes, rules_between};
+ghost use Rattle.config_check.specs.Related.{attaches, fits, passes, rules_between};
 
-use config_model::{Action, Config, End, Network, Policy, Rule};
+use crate::related::{attaches, fits};
+use config_model::{Action, Config, Network, Policy, Rule};
 
 /// Whether a pass rule stands between two networks.
 pub fn passes_between(config: &Config, a: &Network, b: &Network) -> bool
@@ -24,46 +25,19 @@ fn passes_by(policy: &Policy, a: &Network, b: &Network) -> bool
     ensures { result ≡ ((attaches a.now policy.now && attaches b.now policy.now)
         && list_any (λ r. (fits r a.now b.now || fits r b.now a.now) && passes r.action) policy.now.rules) }
 {
-    is_attached(a, policy) && is_attached(b, policy) && has_pass_rule(policy.rules.as_slice(), a, b)
+    attaches(a, policy) && attaches(b, policy) && has_pass_rule(policy.rules.as_slice(), a, b)
 }
 
 fn has_pass_rule(rules: &[Rule], a: &Network, b: &Network) -> bool
     ensures { result ≡ list_any (λ r. (fits r a.now b.now || fits r b.now a.now) && passes r.action) rules.now }
 {
-    rules.iter().any(|rule| fits_either_way(rule, a, b) && is_pass(&rule.action))
+    rules.iter().any(|rule| passes_either_way(rule, a, b))
 }
 
-/// Whether a network attaches a policy.
-fn is_attached(network: &Network, policy: &Policy) -> bool
-    ensures { result ≡ attaches network.now policy.now }
+fn passes_either_way(rule: &Rule, a: &Network, b: &Network) -> bool
+    ensures { result ≡ ((fits rule.now a.now b.now || fits rule.now b.now a.now) && passes rule.now.action) }
 {
-    network
-        .policies
-        .as_slice()
-        .iter()
-        .any(|name| policy.name == *name)
-}
-
-fn fits_either_way(rule: &Rule, a: &Network, b: &Network) -> bool
-    ensures { result ≡ (fits rule.now a.now b.now || fits rule.now b.now a.now) }
-{
-    does_fit(rule, a, b) || does_fit(rule, b, a)
-}
-
-/// Whether a rule speaks of packets from one network to another.
-pub fn does_fit(rule: &Rule, from: &Network, to: &Network) -> bool
-    ensures { result ≡ fits rule.now from.now to.now }
-{
-    does_end_fit(&rule.source, from) && does_end_fit(&rule.destination, to)
-}
-
-fn does_end_fit(end: &End, network: &Network) -> bool
-    ensures { result ≡ end_fits end.now network.now }
-{
-    match end {
-        End::Any => true,
-        End::Named(name) => *name == network.name,
-    }
+    (fits(rule, a, b) || fits(rule, b, a)) && is_pass(&rule.action)
 }
 
 fn is_pass(action: &Action) -> bool

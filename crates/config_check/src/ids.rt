@@ -1,0 +1,99 @@
+//! The rule of numbers: no two of one kind are equal.
+ghost use Rattle.std.specs.Prelude.{◌≡◌, ◌++◌, map, IfOk};
+ghost use Rattle.std.specs.List.{filter_map};
+ghost use Rattle.config_check.specs.Rules.{all_rules, repeated_id, use_of, use_numbers, broken_id};
+
+use crate::meeting::first_meeting;
+use crate::refusal::{IdKind, Refusal};
+use crate::related::NumberedRule;
+use config_model::{Action, Config, Topology};
+use ov_types::NoMemory;
+use std::alloc::Global;
+
+fn controller_addresses(alloc: Global, topology: &Topology) -> Result<Vec<u32>, NoMemory>
+    ensures { IfOk result (λ v. v.items ≡ map (λ n. n.address.0) topology.now.controllers) }
+{
+    Ok(topology.controllers.as_slice().iter().map(|n| n.address.0).collect(alloc)?)
+}
+
+fn node_addresses(alloc: Global, topology: &Topology) -> Result<Vec<u32>, NoMemory>
+    ensures { IfOk result (λ v. v.items ≡ map (λ n. n.address.0) topology.now.nodes) }
+{
+    Ok(topology.nodes.as_slice().iter().map(|n| n.address.0).collect(alloc)?)
+}
+
+/// The addresses of control nodes and of compute nodes.
+fn addresses(alloc: Global, topology: &Topology) -> Result<Vec<u32>, NoMemory>
+    ensures { IfOk result (λ v. v.items ≡ map (λ n. n.address.0) topology.now.controllers ++ map (λ n. n.address.0) topology.now.nodes) }
+{
+    let mut addresses = controller_addresses(alloc, topology)?;
+    let of_nodes = node_addresses(alloc, topology)?;
+    addresses.extend_from_slice(&of_nodes)?;
+    Ok(addresses)
+}
+
+fn network_ids(alloc: Global, config: &Config) -> Result<Vec<u32>, NoMemory>
+    ensures { IfOk result (λ v. v.items ≡ map (λ n. n.id.0) config.now.networks) }
+{
+    Ok(config.networks.as_slice().iter().map(|n| u32::from(n.id.0)).collect(alloc)?)
+}
+
+fn port_ids(alloc: Global, config: &Config) -> Result<Vec<u32>, NoMemory>
+    ensures { IfOk result (λ v. v.items ≡ map (λ p. p.id.0) config.now.ports) }
+{
+    Ok(config.ports.as_slice().iter().map(|p| p.id.0).collect(alloc)?)
+}
+
+fn sequences(alloc: Global, config: &Config) -> Result<Vec<u32>, NoMemory>
+    ensures { IfOk result (λ v. v.items ≡ map (λ p. p.sequence) config.now.policies) }
+{
+    Ok(config.policies.as_slice().iter().map(|p| u32::from(p.sequence)).collect(alloc)?)
+}
+
+fn service_ids(alloc: Global, config: &Config) -> Result<Vec<u32>, NoMemory>
+    ensures { IfOk result (λ v. v.items ≡ map (λ s. s.id.0) config.now.services) }
+{
+    Ok(config.services.as_slice().iter().map(|s| u32::from(s.id.0)).collect(alloc)?)
+}
+
+fn use_of(action: &Action) -> Option<u32>
+    ensures { result ≡ use_of action.now }
+{
+    match action {
+        Action::Pass | Action::Deny => None,
+        Action::Through { use_no, .. } => Some(u32::from(*use_no)),
+    }
+}
+
+fn use_numbers(alloc: Global, rules: &[NumberedRule]) -> Result<Vec<u32>, NoMemory>
+    ensures { IfOk result (λ v. v.items ≡ filter_map (λ r. use_of r.rule.action) rules.now) }
+{
+    Ok(rules.iter().filter_map(|r| use_of(&r.rule.action)).collect(alloc)?)
+}
+
+fn repeated_id(what: IdKind, ids: &[u32]) -> Option<Refusal>
+    ensures { result ≡ repeated_id what ids.now }
+{
+    let (_, id) = first_meeting(ids)?;
+    Some(Refusal::DuplicateId { what, id })
+}
+
+/// The first number that stands twice among those of its kind.
+#[tactic(auto, unfolding(crate::specs::Rules::broken_id))]
+pub(crate) fn broken_id(
+    alloc: Global,
+    topology: &Topology,
+    config: &Config,
+    rules: &[NumberedRule],
+) -> Result<Option<Refusal>, NoMemory>
+    requires { rules.now ≡ all_rules config.now }
+    ensures { IfOk result (λ found. found ≡ broken_id topology.now config.now) }
+{
+    let addresses = repeated_id(IdKind::Address, &addresses(alloc, topology)?);
+    let networks = repeated_id(IdKind::Network, &network_ids(alloc, config)?);
+    let ports = repeated_id(IdKind::Port, &port_ids(alloc, config)?);
+    let sequences = repeated_id(IdKind::Sequence, &sequences(alloc, config)?);
+    let services = repeated_id(IdKind::Service, &service_ids(alloc, config)?);
+    let uses = repeated_id(IdKind::Use, &use_numbers(alloc, rules)?);
+    Ok(addresses.or(networks.or(ports.or(sequences.or(services.or(uses))))))
+}

@@ -1,0 +1,173 @@
+//! The rule of references: each name that is referred to exists.
+ghost use Rattle.std.specs.Prelude.{◌≡◌, ◌++◌, IfOk};
+ghost use Rattle.std.specs.List.{list_any};
+ghost use Rattle.chain_expand.specs.First.{same_name, first_of};
+ghost use Rattle.config_check.specs.Rules.{all_rules, missing, missing_end, missing_chain, missing_in_node, missing_in_network, missing_in_port, missing_in_rule, missing_in_service, missing_in_chain, broken_reference};
+
+use crate::names::{chain_names, controller_names, hop_names, network_names, node_names, policy_names};
+use crate::refusal::Refusal;
+use crate::related::NumberedRule;
+use config_model::{Action, Chain, Config, End, Network, Node, Port, Service, Topology};
+use ov_types::{Name, NoMemory};
+use std::alloc::Global;
+
+fn is_among(names: &[Name], name: &Name) -> bool
+    ensures { result ≡ list_any (same_name name.now) names.now }
+{
+    names.iter().any(|n| *name == *n)
+}
+
+/// A refusal where none of the names is the one that is referred to.
+fn missing(names: &[Name], name: &Name) -> Option<Refusal>
+    ensures { result ≡ missing names.now name.now }
+{
+    if is_among(names, name) {
+        None
+    } else {
+        Some(Refusal::BadReference { name: *name })
+    }
+}
+
+#[tactic(auto, using(crate::proofs::Lists::none_here, crate::proofs::Lists::some_here))]
+fn first_missing(names: &[Name], references: &[Name]) -> Option<Refusal>
+    ensures { result ≡ first_of (missing names.now) references.now }
+{
+    for name in references {
+        if let Some(refusal) = missing(names, name) {
+            return Some(refusal);
+        }
+    }
+    None
+}
+
+fn missing_end(networks: &[Name], end: &End) -> Option<Refusal>
+    ensures { result ≡ missing_end networks.now end.now }
+{
+    match end {
+        End::Any => None,
+        End::Named(name) => missing(networks, name),
+    }
+}
+
+fn missing_chain(chains: &[Name], action: &Action) -> Option<Refusal>
+    ensures { result ≡ missing_chain chains.now action.now }
+{
+    match action {
+        Action::Pass | Action::Deny => None,
+        Action::Through { chain, .. } => missing(chains, chain),
+    }
+}
+
+fn missing_in_port(networks: &[Name], nodes: &[Name], port: &Port) -> Option<Refusal>
+    ensures { result ≡ missing_in_port networks.now nodes.now port.now }
+{
+    missing(networks, &port.network).or(missing(nodes, &port.node))
+}
+
+fn missing_in_rule(networks: &[Name], chains: &[Name], numbered: &NumberedRule) -> Option<Refusal>
+    ensures { result ≡ missing_in_rule networks.now chains.now numbered.now }
+{
+    let rule = &numbered.rule;
+    let source = missing_end(networks, &rule.source);
+    let destination = missing_end(networks, &rule.destination);
+    let chain = missing_chain(chains, &rule.action);
+    source.or(destination.or(chain))
+}
+
+#[tactic(auto, using(crate::proofs::Lists::none_here, crate::proofs::Lists::some_here))]
+fn missing_in_nodes(controllers: &[Name], nodes: &[Node]) -> Option<Refusal>
+    ensures { result ≡ first_of (missing_in_node controllers.now) nodes.now }
+{
+    for node in nodes {
+        if let Some(refusal) = first_missing(controllers, node.controllers.as_slice()) {
+            return Some(refusal);
+        }
+    }
+    None
+}
+
+#[tactic(auto, using(crate::proofs::Lists::none_here, crate::proofs::Lists::some_here))]
+fn missing_in_networks(policies: &[Name], networks: &[Network]) -> Option<Refusal>
+    ensures { result ≡ first_of (missing_in_network policies.now) networks.now }
+{
+    for network in networks {
+        if let Some(refusal) = first_missing(policies, network.policies.as_slice()) {
+            return Some(refusal);
+        }
+    }
+    None
+}
+
+#[tactic(auto, using(crate::proofs::Lists::none_here, crate::proofs::Lists::some_here))]
+fn missing_in_ports(networks: &[Name], nodes: &[Name], ports: &[Port]) -> Option<Refusal>
+    ensures { result ≡ first_of (missing_in_port networks.now nodes.now) ports.now }
+{
+    for port in ports {
+        if let Some(refusal) = missing_in_port(networks, nodes, port) {
+            return Some(refusal);
+        }
+    }
+    None
+}
+
+#[tactic(auto, using(crate::proofs::Lists::none_here, crate::proofs::Lists::some_here))]
+fn missing_in_rules(networks: &[Name], chains: &[Name], rules: &[NumberedRule]) -> Option<Refusal>
+    ensures { result ≡ first_of (missing_in_rule networks.now chains.now) rules.now }
+{
+    for rule in rules {
+        if let Some(refusal) = missing_in_rule(networks, chains, rule) {
+            return Some(refusal);
+        }
+    }
+    None
+}
+
+#[tactic(auto, using(crate::proofs::Lists::none_here, crate::proofs::Lists::some_here))]
+fn missing_in_services(nodes: &[Name], services: &[Service]) -> Option<Refusal>
+    ensures { result ≡ first_of (missing_in_service nodes.now) services.now }
+{
+    for service in services {
+        if let Some(refusal) = missing(nodes, &service.node) {
+            return Some(refusal);
+        }
+    }
+    None
+}
+
+#[tactic(auto, using(crate::proofs::Lists::none_here, crate::proofs::Lists::some_here))]
+fn missing_in_chains(hops: &[Name], chains: &[Chain]) -> Option<Refusal>
+    ensures { result ≡ first_of (missing_in_chain hops.now) chains.now }
+{
+    for chain in chains {
+        if let Some(refusal) = first_missing(hops, chain.hops.as_slice()) {
+            return Some(refusal);
+        }
+    }
+    None
+}
+
+/// The first reference to a name that nothing has.
+#[tactic(auto, unfolding(crate::specs::Rules::broken_reference))]
+pub(crate) fn broken_reference(
+    alloc: Global,
+    topology: &Topology,
+    config: &Config,
+    rules: &[NumberedRule],
+) -> Result<Option<Refusal>, NoMemory>
+    requires { rules.now ≡ all_rules config.now }
+    ensures { IfOk result (λ found. found ≡ broken_reference topology.now config.now) }
+{
+    let controllers = controller_names(alloc, topology)?;
+    let nodes = node_names(alloc, topology)?;
+    let policies = policy_names(alloc, config)?;
+    let networks = network_names(alloc, config)?;
+    let chains = chain_names(alloc, config)?;
+    let hops = hop_names(alloc, config)?;
+    let in_nodes = missing_in_nodes(&controllers, topology.nodes.as_slice());
+    let in_networks = missing_in_networks(&policies, config.networks.as_slice());
+    let in_ports = missing_in_ports(&networks, &nodes, config.ports.as_slice());
+    let in_rules = missing_in_rules(&networks, &chains, rules);
+    let in_services = missing_in_services(&nodes, config.services.as_slice());
+    let in_chains = missing_in_chains(&hops, config.chains.as_slice());
+    Ok(in_nodes.or(in_networks.or(in_ports.or(in_rules.or(in_services.or(in_chains))))))
+}

@@ -1,0 +1,90 @@
+//! The rules of subnets: none is reserved, and none of one network overlaps another of it.
+ghost use Rattle.std.specs.Prelude.{◌≡◌};
+ghost use Rattle.ov_types.specs.Prefix.{is_inside};
+ghost use Rattle.config_check.specs.Rules.{overlap, circuit_addresses, reserved_in, broken_reserved, nested_in, broken_nested};
+
+use crate::meeting::{Meets, first_meeting};
+use crate::refusal::Refusal;
+use config_model::{Config, Network};
+use ov_types::{Addr, Prefix};
+
+fn is_inside(p: &Prefix, q: &Prefix) -> bool
+    ensures { result ≡ is_inside p.now q.now }
+{
+    p.within(q)
+}
+
+/// Whether one of two prefixes contains the other.
+pub(crate) fn overlap(p: &Prefix, q: &Prefix) -> bool
+    ensures { result ≡ overlap p.now q.now }
+{
+    is_inside(p, q) || is_inside(q, p)
+}
+
+impl Meets for Prefix {
+    ghost use Rattle.config_check.specs.Rules.{overlap};
+
+    ghost meets = { overlap };
+
+    fn meets(&self, other: &Prefix) -> bool {
+        overlap(self, other)
+    }
+}
+
+/// The addresses of circuits, 250.0.0.0/15.
+fn circuit_addresses() -> Prefix
+    ensures { result ≡ circuit_addresses }
+{
+    match Prefix::new(Addr(0xfa00_0000), 15) {
+        Some(prefix) => prefix,
+        None => unreachable!(),
+    }
+}
+
+fn reserved_in(network: &Network) -> Option<Refusal>
+    ensures { result ≡ reserved_in network.now }
+{
+    let circuits = circuit_addresses();
+    for prefix in network.subnets.as_slice() {
+        if overlap(&circuits, prefix) {
+            return Some(Refusal::SubnetReserved {
+                network: network.name,
+                prefix: *prefix,
+            });
+        }
+    }
+    None
+}
+
+/// The first subnet that overlaps the addresses of circuits.
+#[tactic(auto, using(crate::proofs::Lists::none_here, crate::proofs::Lists::some_here), unfolding(crate::specs::Rules::broken_reserved))]
+pub(crate) fn broken_reserved(config: &Config) -> Option<Refusal>
+    ensures { result ≡ broken_reserved config.now }
+{
+    for network in config.networks.as_slice() {
+        if let Some(refusal) = reserved_in(network) {
+            return Some(refusal);
+        }
+    }
+    None
+}
+
+fn nested_in(network: &Network) -> Option<Refusal>
+    ensures { result ≡ nested_in network.now }
+{
+    let (first, second) = first_meeting(network.subnets.as_slice())?;
+    Some(Refusal::SubnetNested { network: network.name, first, second })
+}
+
+/// The first subnet that overlaps an earlier one of its network.
+#[tactic(auto, using(crate::proofs::Lists::none_here, crate::proofs::Lists::some_here), unfolding(crate::specs::Rules::broken_nested))]
+pub(crate) fn broken_nested(config: &Config) -> Option<Refusal>
+    ensures { result ≡ broken_nested config.now }
+{
+    for network in config.networks.as_slice() {
+        if let Some(refusal) = nested_in(network) {
+            return Some(refusal);
+        }
+    }
+    None
+}
