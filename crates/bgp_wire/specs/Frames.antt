@@ -1,6 +1,6 @@
 -- The frame of a message (RFC 4271, sections 4.1 and 6.1).
 use Rattle.std.specs.Prelude.{◌≡◌, ◌≤◌, ◌<◌, ◌+◌, ◌==◌, ◌&&◌, ◌||◌, not, nat_lt, nat_le, ℕ, List, [], ◌∷◌, ◌++◌, length, take, drop, replicate, slice_index, Option, Some, None, if◌then◌else◌, ◌⊎◌}
-use Rattle.std.specs.List.{list_any}
+use Rattle.std.specs.List.{list_all}
 use Rattle.byteorder.specs.Endian.{big_bytes, big_number}
 use Rattle.bgp_wire.specs.declared.fault.WireFault.{WireFault}
 use Rattle.bgp_wire.specs.declared.kind.Kind.{Kind}
@@ -55,7 +55,7 @@ kind_at octets = kind_of (slice_index octets 18)
 
 -- the checks on a frame: each looks only at octets that are there
 abbrev pub marker_fault : List ℕ → Option WireFault
-marker_fault octets = fault_if (list_any (λ octet. not (octet == 255)) (take 16 octets)) not_synchronized
+marker_fault octets = fault_if (not (list_all (λ octet. octet == 255) (take 16 octets))) not_synchronized
 
 abbrev pub length_fault : List ℕ → Option WireFault
 length_fault octets =
@@ -77,3 +77,9 @@ frame_fault octets = marker_fault octets then_check (length_fault octets then_ch
 pub record IsProperPrefix (octets : List ℕ) : Type 0 where
   pub passes : frame_fault octets ≡ None
   pub short : (length octets < 19) ⊎ (length octets < length_at octets)
+
+-- the head of a frame is there, and says this
+pub record IsHeadOf (octets : List ℕ) (kind : Kind) (len : ℕ) : Type 0 where
+  pub there : 19 ≤ length octets
+  pub kind_is : kind_at octets ≡ Some kind
+  pub len_is : length_at octets ≡ len

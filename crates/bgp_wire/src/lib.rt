@@ -1,13 +1,15 @@
-// A library with one function.
+//! BGP messages (RFC 4271): their frames and bodies.
 #![tactic(auto)]
 
-ghost use Rattle.std.specs.Prelude.{◌≡◌};
-ghost use Rattle.bgp_wire.specs.Echo.{echo_of};
+mod fault;
+mod frame;
+mod kind;
+mod message;
+mod open;
+mod part;
+mod update;
 
-// The `ensures` clause is the contract: what `echo` returns is `echo_of` of its argument, a definition
-// in `specs/Echo.antt`, which a caller's clause can cite too.
-pub fn echo(x: usize) -> usize
-    ensures { result ≡ echo_of x }
-{
-    x
-}
+pub use fault::WireFault;
+pub use message::{Message, read_message};
+pub use open::OpenPart;
+pub use update::UpdatePart;

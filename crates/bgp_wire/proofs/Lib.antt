@@ -1,0 +1,6 @@
+pub mod Octets
+pub mod Checking
+pub mod Splitting
+pub mod OpenBodies
+pub mod UpdateBodies
+pub mod Framing
