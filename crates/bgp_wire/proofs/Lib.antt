@@ -4,3 +4,5 @@ pub mod Splitting
 pub mod OpenBodies
 pub mod UpdateBodies
 pub mod Framing
+pub mod Exclusion
+pub mod Bodies

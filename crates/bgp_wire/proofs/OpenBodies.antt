@@ -56,7 +56,7 @@ open_passes body h =
     }
 
 -- a body, by its fields' octets
-abbrev shape : ℕ → List ℕ → List ℕ → List ℕ → ℕ → List ℕ → List ℕ
+abbrev pub shape : ℕ → List ℕ → List ℕ → List ℕ → ℕ → List ℕ → List ℕ
 shape version asn hold id len rest = version ∷ [] ++ asn ++ hold ++ id ++ len ∷ [] ++ rest
 
 -- ten octets, taken apart
