@@ -6,3 +6,4 @@ pub mod UpdateBodies
 pub mod Framing
 pub mod Exclusion
 pub mod Bodies
+pub mod Readings

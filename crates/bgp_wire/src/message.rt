@@ -1,5 +1,6 @@
 //! Messages, read from the octets that came.
-ghost use Rattle.std.specs.Prelude.{◌≡◌, ◌≤◌, ◌+◌, ◌↔◌, ℕ, length, IfOk, IfErr, IfSome, Some, None, Ok, Err};
+ghost use Rattle.std.specs.Prelude.{◌≡◌, ◌≤◌, ◌+◌, ◌↔◌, ℕ, length, IfOk, IfErr, IfSome, IsOkAnd, IsSomeAnd};
+ghost use Rattle.bgp_wire.specs.declared.fault.WireFault.{WireFault};
 ghost use Rattle.bgp_wire.specs.Content.{Content};
 ghost use Rattle.bgp_wire.specs.Frames.{least, greatest, IsProperPrefix};
 ghost use Rattle.bgp_wire.specs.Messages.{content_of, IsBody, HasBodyFault, BeginsWith, HasFault};
@@ -39,6 +40,19 @@ fn read_body(kind: Kind, body: &[u8]) -> Result<Message<'_>, WireFault>
 
 /// The message that the octets begin with, and how many of them it takes. `None` where more octets are needed.
 pub fn read_message(bytes: &[u8]) -> Result<Option<(Message<'_>, usize)>, WireFault>
+    ensures message { IfOk result (λ found. IfSome found (λ x. BeginsWith bytes.now (content_of x.0) x.1)) }
+    ensures none { (result ≡ Ok None) ↔ IsProperPrefix bytes.now }
+    ensures fault { IfErr result (λ f. HasFault bytes.now f) }
+
+    // Each message and each fault is found.
+    ensures every_message { (content : Content) (n : ℕ) → BeginsWith bytes.now content n
+        → IsOkAnd result (λ found. IsSomeAnd found (λ x. (content_of x.0 ≡ content) × (x.1 ≡ n))) }
+    ensures every_fault { (f : WireFault) → HasFault bytes.now f → result ≡ Err f }
+{
+    read(bytes)
+}
+
+fn read(bytes: &[u8]) -> Result<Option<(Message<'_>, usize)>, WireFault>
     ensures message { IfOk result (λ found. IfSome found (λ x. BeginsWith bytes.now (content_of x.0) x.1)) }
     ensures none { (result ≡ Ok None) ↔ IsProperPrefix bytes.now }
     ensures fault { IfErr result (λ f. HasFault bytes.now f) }

@@ -1,7 +1,7 @@
 use Rattle.std.proofs.Common.{arith, rules}
 use Rattle.std.proofs.lemmas.Result.{err_from_is_err_and}
 use Rattle.bgp_wire.proofs.Framing.{begins_with, body_fault}
-use Rattle.bgp_wire.proofs.message.read_message.Goals as goal
+use Rattle.bgp_wire.proofs.message.read.Goals as goal
 
 pub returns-in_err-message-clause-fault : goal.returns-in_err-message-clause-fault
 returns-in_err-message-clause-fault c =
