@@ -44,8 +44,8 @@ open_none : (body : List ℕ) → Passes body → open_fault body ≡ None
 open_none body passes =
     both_pass _ _ (fault_if-false _ _ (not_from_true _ (eq-eqb (version_at body) 4 passes.version)))
     (both_pass _ _ (fault_if-false _ _ (or_from _ _ (ne_eqb (hold_at body) 1 passes.no_one) (ne_eqb (hold_at body) 2 passes.no_two)))
-      (both_pass _ _ (fault_if-false _ _ (ne_eqb (id_at body) 0 passes.identifier))
-        (fault_if-false _ _ (not_from_true _ (eq-eqb (10 + parameters_length_at body) (length body) passes.fills)))))
+    (both_pass _ _ (fault_if-false _ _ (ne_eqb (id_at body) 0 passes.identifier))
+    (fault_if-false _ _ (not_from_true _ (eq-eqb (10 + parameters_length_at body) (length body) passes.fills)))))
 
 spelled_back : (body : List ℕ) (p : OpenFields) → IsOpen body p → OpenBack (spelled_open p) p
 spelled_back body p is =
@@ -145,7 +145,7 @@ spelled_update_back w a r small small_too =
     let deep : drop (4 + wl) body ≡ a ++ r = ap (λ (n : ℕ). drop n body) places ∙ sym (drop-drop 2 (2 + wl) body) ∙ ap (drop 2) behind in
     record {
       none = both_pass _ _ (fault_if-false _ _ (le-ltb (length body) (4 + wl) (omega arith)))
-      (fault_if-false _ _ (le-ltb (length body) (4 + wl + al) (omega arith)));
+          (fault_if-false _ _ (le-ltb (length body) (4 + wl + al) (omega arith)));
       withdrawn = sym (ap (λ (n : ℕ). take n (w ++ inner)) first ∙ take_at w inner (length w) refl);
       attributes = sym (ap (λ (n : ℕ). take n (drop (4 + wl) body)) second ∙ ap (take (length a)) deep ∙ take_at a r (length a) refl);
       routes = sym (sym (drop-drop al (4 + wl) body) ∙ ap (λ (n : ℕ). drop n (drop (4 + wl) body)) second ∙ ap (drop (length a)) deep ∙ drop_at a r (length a) refl);
@@ -179,9 +179,11 @@ update_or_fault_of body None octets is =
     let room = ltb-false (length body) (4 + n) (fault_if-None _ _ passes.0) in
     let more_room = ltb-false (length body) (4 + n + m) (fault_if-None _ _ passes.1) in
     let rest = drop n (drop 2 body) in
-    inl (parts_of (take n (drop 2 body)) (take m (drop 2 rest)) (drop m (drop 2 rest)),
+    inl (
+      parts_of (take n (drop 2 body)) (take m (drop 2 rest)) (drop m (drop 2 rest)),
       update_is body (take n (drop 2 body)) rest (take m (drop 2 rest)) (drop m (drop 2 rest)) n m octets refl room refl refl
-      (ap (big_number 2) (sym (drop-drop n 2 body))) more_room refl refl)
+          (ap (big_number 2) (sym (drop-drop n 2 body))) more_room refl refl,
+    )
 
 -- a body says one thing
 pub one_content : (kind : Kind) (body : List ℕ) (c d : Content) → IsBody kind body c → IsBody kind body d → c ≡ d

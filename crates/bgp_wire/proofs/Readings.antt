@@ -51,8 +51,8 @@ head_back len kind rest low high =
       none =
           both_pass (marker_fault octets) (length_fault octets then_check type_fault octets) refl
           (both_pass (length_fault octets) (type_fault octets)
-            (fault_if-false _ _ (and_right _ _ (or_from _ _ (le-ltb (length_at octets) 19 (omega arith)) (le-ltb 4096 (length_at octets) (omega arith)))))
-            (cond_both _ _ _ (λ (o : Option WireFault). o ≡ None) (λ e. typed) (λ e. refl)));
+          (fault_if-false _ _ (and_right _ _ (or_from _ _ (le-ltb (length_at octets) 19 (omega arith)) (le-ltb 4096 (length_at octets) (omega arith)))))
+          (cond_both _ _ _ (λ (o : Option WireFault). o ≡ None) (λ e. typed) (λ e. refl)));
       found = record { there = omega arith; kind_is = named; len_is = says };
     }
 

@@ -14,11 +14,12 @@ sized octets are enough =
     let n = big_number 2 octets in
     let len = length-take-le (big_number 2 octets) (drop 2 octets) (omega (arith, length-drop 2 octets)) in
     let whole : octets ≡ big_bytes 2 (big_number 2 octets) ++ drop 2 octets = split_two octets are (omega arith) in
-    let behind : drop 2 octets ≡ take (big_number 2 octets) (drop 2 octets) ++ drop (big_number 2 octets) (drop 2 octets) = sym (take-append-drop (big_number 2 octets) (drop 2 octets)) in
-    (len,
+    let behind : drop 2 octets ≡ take (big_number 2 octets) (drop 2 octets) ++ drop (big_number 2 octets) (drop 2 octets) = sym (take-append-drop (big_number 2 octets) (drop 2 octets)) in (
+      len,
       whole ∙ ap (λ (r : List ℕ). big_bytes 2 (big_number 2 octets) ++ r) behind
-      ∙ sym (append_assoc (big_bytes 2 (big_number 2 octets)) (take (big_number 2 octets) (drop 2 octets)) (drop (big_number 2 octets) (drop 2 octets)))
-      ∙ ap (λ (k : ℕ). big_bytes 2 k ++ take (big_number 2 octets) (drop 2 octets) ++ drop (big_number 2 octets) (drop 2 octets)) (sym len))
+          ∙ sym (append_assoc (big_bytes 2 (big_number 2 octets)) (take (big_number 2 octets) (drop 2 octets)) (drop (big_number 2 octets) (drop 2 octets)))
+          ∙ ap (λ (k : ℕ). big_bytes 2 k ++ take (big_number 2 octets) (drop 2 octets) ++ drop (big_number 2 octets) (drop 2 octets)) (sym len),
+    )
 
 pub update_is : (body withdrawn rest attributes routes : List ℕ) (n m : ℕ) → AreOctets body
     → n ≡ big_number 2 body → 4 + n ≤ length body → withdrawn ≡ take n (drop 2 body) → rest ≡ drop n (drop 2 body)

@@ -10,10 +10,12 @@ pub(crate) const NOT_SYNCHRONIZED: WireFault = WireFault {
     code: 1,
     subcode: 1,
 };
+
 pub(crate) const BAD_MESSAGE_LENGTH: WireFault = WireFault {
     code: 1,
     subcode: 2,
 };
+
 pub(crate) const BAD_MESSAGE_TYPE: WireFault = WireFault {
     code: 1,
     subcode: 3,
@@ -24,18 +26,22 @@ pub(crate) const UNSPECIFIC_OPEN: WireFault = WireFault {
     code: 2,
     subcode: 0,
 };
+
 pub(crate) const UNSUPPORTED_VERSION: WireFault = WireFault {
     code: 2,
     subcode: 1,
 };
+
 pub(crate) const BAD_IDENTIFIER: WireFault = WireFault {
     code: 2,
     subcode: 3,
 };
+
 pub(crate) const UNSUPPORTED_PARAMETER: WireFault = WireFault {
     code: 2,
     subcode: 4,
 };
+
 pub(crate) const UNACCEPTABLE_HOLD_TIME: WireFault = WireFault {
     code: 2,
     subcode: 6,

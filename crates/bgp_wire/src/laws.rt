@@ -16,8 +16,7 @@ pub fn octets_are_one_of_three()
         → BeginsWith octets content n → HasFault octets f → ⊥ }
     ensures prefix_or_fault { (octets : List ℕ) (f : WireFault)
         → IsProperPrefix octets → HasFault octets f → ⊥ }
-{
-}
+{}
 
 /// Octets begin with one message, of one length, or have one fault.
 pub fn octets_say_one_thing()
@@ -26,20 +25,17 @@ pub fn octets_say_one_thing()
     ensures length { (octets : List ℕ) (a b : Content) (n m : ℕ)
         → BeginsWith octets a n → BeginsWith octets b m → n ≡ m }
     ensures fault { (octets : List ℕ) (f g : WireFault) → HasFault octets f → HasFault octets g → f ≡ g }
-{
-}
+{}
 
 /// What follows changes nothing that was read.
 pub fn what_follows_changes_nothing()
     ensures message { (octets more : List ℕ) (content : Content) (n : ℕ)
         → BeginsWith octets content n → BeginsWith (octets ++ more) content n }
     ensures fault { (octets more : List ℕ) (f : WireFault) → HasFault octets f → HasFault (octets ++ more) f }
-{
-}
+{}
 
 /// No message begins another.
 pub fn no_message_begins_another()
     ensures { (octets more : List ℕ) (a b : Content)
         → IsMessage octets a → IsMessage (octets ++ more) b → more ≡ [] }
-{
-}
+{}

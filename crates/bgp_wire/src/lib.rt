@@ -18,3 +18,6 @@ pub use laws::{
 pub use message::{Message, read_message};
 pub use open::OpenPart;
 pub use update::UpdatePart;
+
+#[cfg(test)]
+mod tests;

@@ -101,16 +101,16 @@ fn check_parameters(octets: &[u8]) -> Result<(), WireFault>
 {
     let mut rest = octets;
     while !rest.is_empty() {
-        let Some(front) = split_part(rest) else {
+        let Some(parameter) = split_part(rest) else {
             return Err(UNSPECIFIC_OPEN);
         };
-        if front.kind != 2 {
+        if parameter.kind != 2 {
             return Err(UNSUPPORTED_PARAMETER);
         }
-        if !are_capabilities(front.value) {
+        if !are_capabilities(parameter.value) {
             return Err(UNSPECIFIC_OPEN);
         }
-        rest = front.after;
+        rest = parameter.after;
     }
     Ok(())
 }
@@ -120,13 +120,13 @@ fn are_capabilities(octets: &[u8]) -> bool
 {
     let mut rest = octets;
     while !rest.is_empty() {
-        let Some(front) = split_part(rest) else {
+        let Some(capability) = split_part(rest) else {
             return false;
         };
-        if !is_capability(front.kind, front.value) {
+        if !is_capability(capability.kind, capability.value) {
             return false;
         }
-        rest = front.after;
+        rest = capability.after;
     }
     true
 }
