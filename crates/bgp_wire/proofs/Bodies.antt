@@ -1,19 +1,18 @@
 -- Bodies: a body says one thing, or has one fault, and never both.
-use Rattle.std.proofs.Common.{◌≡◌, ◌≢◌, ◌<◌, ◌≤◌, ◌-◌, ℕ, ◌+◌, ◌^◌, List, [], ◌∷◌, ◌++◌, length, take, drop, refl, ap, sym, ◌∙◌, arith, subst, inl, inr, ◌⊎◌, Option, Some, None, slice_index}
+use Rattle.std.proofs.Common.{◌≡◌, ◌<◌, ◌≤◌, ℕ, ◌+◌, ◌^◌, List, [], ◌∷◌, ◌++◌, length, take, drop, refl, ap, sym, ◌∙◌, arith, subst, inl, inr, ◌⊎◌, Option, Some, None}
 use Rattle.std.specs.Option.{MatchOption}
-use Rattle.std.proofs.lemmas.Bool.{cases_lt, eq-eqb, ne_eqb, not_from_true, or_from, le-ltb, ltb-false}
-use Rattle.std.proofs.lemmas.List.{nil_from_length, append_assoc, drop_at, take_at, length-append, drop-drop, length-drop}
+use Rattle.std.proofs.lemmas.Bool.{eq-eqb, ne_eqb, not_from_true, or_from, le-ltb, ltb-false}
+use Rattle.std.proofs.lemmas.List.{nil_from_length, drop_at, take_at, length-append, drop-drop}
 use Rattle.byteorder.specs.Endian.{big_bytes, big_number}
 use Rattle.byteorder.specs.Numbers.{big_number-reads_back}
 use Rattle.bgp_wire.specs.declared.fault.WireFault.{WireFault}
 use Rattle.bgp_wire.specs.declared.kind.Kind.{Kind}
 use Rattle.bgp_wire.specs.declared.kind.Kind.TheVariants.{Open, Update, Notification, Keepalive}
 use Rattle.bgp_wire.specs.Content.{OpenFields, UpdateFields, Content, Opens, Updates, Notifies, KeepsAlive}
-use Rattle.bgp_wire.specs.Faults.{fault_if, ◌then_check◌, malformed_attributes}
-use Rattle.bgp_wire.specs.Opens.{AreParameters, HasFaultyParameter, IsOpen, open_fault, version_at, asn_at, hold_at, id_at, parameters_length_at, HasOpenFault}
+use Rattle.bgp_wire.specs.Opens.{HasFaultyParameter, IsOpen, open_fault, version_at, asn_at, hold_at, id_at, parameters_length_at, HasOpenFault}
 use Rattle.bgp_wire.specs.Updates.{IsUpdate, update_fault, withdrawn_length_at, attributes_length_at}
 use Rattle.bgp_wire.specs.Frames.{least, greatest}
-use Rattle.bgp_wire.specs.Messages.{AreOctets, IsNotification, IsBody, HasBodyFault}
+use Rattle.bgp_wire.specs.Messages.{AreOctets, IsBody, HasBodyFault}
 use Rattle.bgp_wire.proofs.Checking.{pass_both, both_pass, fault_if-None, fault_if-false}
 use Rattle.bgp_wire.proofs.OpenBodies.{shape, Passes, open_is}
 use Rattle.bgp_wire.proofs.UpdateBodies.{update_is}

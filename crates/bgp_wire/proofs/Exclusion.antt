@@ -1,9 +1,9 @@
 -- Parameters: good or at fault, never both, and of one fault.
-use Rattle.std.proofs.Common.{◌≡◌, ◌≢◌, ◌<◌, ◌≤◌, ℕ, suc, ◌+◌, List, [], ◌∷◌, ◌++◌, length, refl, ap, sym, ◌∙◌, arith, subst, inl, inr, ◌⊎◌}
+use Rattle.std.proofs.Common.{◌≡◌, ◌≢◌, ℕ, suc, List, [], length, refl, ap, sym, ◌∙◌, arith, subst, inl, inr, ◌⊎◌}
 use Rattle.std.proofs.lemmas.Bool.{cases_eq}
 use Rattle.bgp_wire.specs.declared.fault.WireFault.{WireFault}
 use Rattle.bgp_wire.specs.Faults.{unspecific_open, unsupported_parameter}
-use Rattle.bgp_wire.specs.Parts.{Part, octets_of, IsOverrun, BeginsWithPart, PartsThen}
+use Rattle.bgp_wire.specs.Parts.{Part, IsOverrun, BeginsWithPart, PartsThen}
 use Rattle.bgp_wire.specs.Opens.{IsCapability, IsMalformedCapability, AreCapabilities, AreBrokenCapabilities, IsParameter, AreParameters, IsFaultyParameter, overruns, has_another_type, has_broken_capabilities, HasFaultyParameter}
 use Rattle.bgp_wire.proofs.Splitting.{HasNoPart, same_part, same_rest, nil_has_none, overrun_has_none, part_or_overrun, parts_or_end}
 

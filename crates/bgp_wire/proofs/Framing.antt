@@ -1,17 +1,17 @@
 -- Frames: their octets, by place and as a whole.
-use Rattle.std.proofs.Common.{◌≡◌, ◌<◌, ◌≤◌, ◌-◌, ℕ, ◌+◌, List, [], ◌∷◌, ◌++◌, length, take, drop, replicate, slice_index, refl, ap, sym, ◌∙◌, arith, subst, Option, Some, None, Bool, true, false, cond, eqb, ltb, ◌==◌, ◌⊎◌, inl, inr}
+use Rattle.std.proofs.Common.{◌≡◌, ◌≤◌, ◌-◌, ℕ, ◌+◌, List, [], ◌∷◌, ◌++◌, length, take, drop, replicate, slice_index, refl, ap, sym, ◌∙◌, arith, subst, Option, Some, None, Bool, true, false, cond, ◌==◌, ◌⊎◌, inl, inr}
 use Rattle.std.specs.List.{list_all}
 use Rattle.std.specs.Option.{MatchOption}
 use Rattle.std.proofs.Math.Seq.{take-append-add}
-use Rattle.std.proofs.lemmas.List.{append_assoc, take-append-drop, length-take-le, length-drop, drop-drop, drop_more}
+use Rattle.std.proofs.lemmas.List.{take-append-drop, length-take-le, length-drop, drop-drop, drop_more}
 use Rattle.std.proofs.lemmas.Bool.{not-false, ltb-false, or_parts, and_parts, eqb-true, le-leb}
-use Rattle.byteorder.specs.Endian.{big_bytes, big_number}
+use Rattle.byteorder.specs.Endian.{big_bytes}
 use Rattle.bgp_wire.specs.declared.fault.WireFault.{WireFault}
 use Rattle.bgp_wire.specs.declared.kind.Kind.{Kind}
 use Rattle.bgp_wire.specs.declared.kind.Kind.TheVariants.{Open, Update, Notification, Keepalive}
 use Rattle.bgp_wire.specs.Content.{Content}
-use Rattle.bgp_wire.specs.Faults.{fault_if, ◌then_check◌}
-use Rattle.bgp_wire.specs.Frames.{octet_of, kind_of, least, greatest, head, IsFrame, length_at, kind_at, marker_fault, length_fault, kind_fault, type_fault, frame_fault, IsHeadOf}
+use Rattle.bgp_wire.specs.Faults.{◌then_check◌}
+use Rattle.bgp_wire.specs.Frames.{octet_of, kind_of, least, greatest, head, IsFrame, marker_fault, length_fault, kind_fault, type_fault, frame_fault, IsHeadOf}
 use Rattle.bgp_wire.specs.Messages.{AreOctets, IsBody, HasBodyFault, BeginsWith, HasFault, HasFaultyBody}
 use Rattle.bgp_wire.proofs.Octets.{split_two, AreOctets-drop}
 use Rattle.bgp_wire.proofs.Checking.{pass_both, fault_if-None}

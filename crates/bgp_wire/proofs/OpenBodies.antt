@@ -1,12 +1,11 @@
 -- The body of an OPEN: its parameters, and its fields.
-use Rattle.std.proofs.Common.{◌≡◌, ◌≢◌, ◌<◌, ◌≤◌, ℕ, zero, suc, ◌+◌, List, [], ◌∷◌, ◌++◌, length, take, drop, refl, ap, sym, ◌∙◌, arith, subst, inl, inr, ◌⊎◌, None, Some, Bool, true, false, eqb, slice_index}
+use Rattle.std.proofs.Common.{◌≡◌, ◌≢◌, ◌≤◌, ℕ, ◌+◌, List, [], ◌∷◌, ◌++◌, length, drop, refl, ap, sym, ◌∙◌, arith, subst, inr, ◌⊎◌, None}
 use Rattle.std.proofs.lemmas.Bool.{eqb-true, eqb-false, not-false, or_parts}
 use Rattle.byteorder.specs.Endian.{big_bytes, big_number}
-use Rattle.bgp_wire.specs.declared.fault.WireFault.{WireFault}
 use Rattle.bgp_wire.specs.Content.{OpenFields}
-use Rattle.bgp_wire.specs.Faults.{unspecific_open, unsupported_parameter, unsupported_version, bad_identifier, unacceptable_hold_time, fault_if, ◌then_check◌}
-use Rattle.bgp_wire.specs.Parts.{Part, octets_of, IsOverrun, BeginsWithPart, PartsThen}
-use Rattle.bgp_wire.specs.Opens.{IsCapability, IsMalformedCapability, AreBrokenCapabilities, IsParameter, AreParameters, IsFaultyParameter, overruns, has_another_type, has_broken_capabilities, HasFaultyParameter, IsOpen, open_fault, version_at, asn_at, hold_at, id_at, parameters_length_at}
+use Rattle.bgp_wire.specs.Faults.{unspecific_open, unsupported_parameter}
+use Rattle.bgp_wire.specs.Parts.{Part, octets_of, IsOverrun, BeginsWithPart}
+use Rattle.bgp_wire.specs.Opens.{IsCapability, IsMalformedCapability, AreBrokenCapabilities, IsParameter, AreParameters, IsFaultyParameter, has_another_type, has_broken_capabilities, HasFaultyParameter, IsOpen, open_fault, version_at, asn_at, hold_at, id_at, parameters_length_at}
 use Rattle.bgp_wire.specs.Messages.{AreOctets}
 use Rattle.bgp_wire.proofs.Octets.{bytes_of_two, bytes_of_four, number_below_two, number_below_four, AreOctets-drop}
 use Rattle.bgp_wire.proofs.Checking.{pass_both, fault_if-None}

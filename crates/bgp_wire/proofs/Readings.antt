@@ -1,12 +1,12 @@
 -- Octets begin with a message, or are a proper prefix, or have a fault: one of the three, in one way.
-use Rattle.std.proofs.Common.{◌≡◌, ◌≢◌, ◌<◌, ◌≤◌, ◌-◌, ℕ, ◌+◌, ◌^◌, List, [], ◌∷◌, ◌++◌, length, take, drop, refl, ap, sym, ◌∙◌, arith, subst, inl, inr, ◌⊎◌, Option, Some, None, slice_index, Bool, true, false, cond, not, nat_le, nat_lt, ◌==◌, ◌&&◌, ◌||◌}
+use Rattle.std.proofs.Common.{◌≡◌, ◌≤◌, ◌-◌, ℕ, ◌+◌, List, [], ◌∷◌, ◌++◌, length, take, drop, refl, ap, sym, ◌∙◌, arith, subst, inl, inr, ◌⊎◌, Option, Some, None, Bool, false, cond, not, nat_le, nat_lt, ◌==◌, ◌&&◌, ◌||◌}
 use Rattle.std.specs.Option.{MatchOption}
 use Rattle.std.specs.List.{list_all}
 use Rattle.std.proofs.lemmas.List.Folds.{list_all-append}
 use Rattle.std.proofs.lemmas.Bool.{cases_lt, le-ltb, or_from, and_right, cond_both, le-leb, lt-leb, cond-true, cond-false, not-true, and_left, and_parts, leb-true}
-use Rattle.std.proofs.lemmas.List.{append_assoc, take_all, take_at, drop_at, take-append-drop, take-append-le, drop-append-le, get_or_append_left, length-append, length-take-le, length-drop, nil_from_length}
+use Rattle.std.proofs.lemmas.List.{append_assoc, take_all, take_at, take-append-drop, take-append-le, drop-append-le, get_or_append_left, length-append, length-take-le, length-drop, nil_from_length}
 use Rattle.std.proofs.Math.Seq.{take-append-add}
-use Rattle.byteorder.specs.Endian.{big_bytes, big_number}
+use Rattle.byteorder.specs.Endian.{big_number}
 use Rattle.byteorder.specs.Numbers.{big_number-reads_back, big_from-append}
 use Rattle.bgp_wire.specs.declared.fault.WireFault.{WireFault}
 use Rattle.bgp_wire.specs.declared.kind.Kind.{Kind}
@@ -16,8 +16,8 @@ use Rattle.bgp_wire.specs.Faults.{fault_if, ◌then_check◌, not_synchronized, 
 use Rattle.bgp_wire.specs.Frames.{octet_of, kind_of, least, greatest, head, IsFrame, length_at, kind_at, marker_fault, length_fault, kind_fault, type_fault, frame_fault, IsHeadOf, IsProperPrefix}
 use Rattle.bgp_wire.specs.Messages.{AreOctets, IsBody, HasBodyFault, IsMessage, BeginsWith, HasFault, HasFaultyBody}
 use Rattle.bgp_wire.proofs.Octets.{AreOctets-drop, AreOctets-take}
-use Rattle.bgp_wire.proofs.Checking.{pass_both, both_pass, fault_if-None, fault_if-false, fault_if-Some}
-use Rattle.bgp_wire.proofs.Framing.{frame_is, head_passes, least_is, begins_with, has_fault, body_fault}
+use Rattle.bgp_wire.proofs.Checking.{pass_both, both_pass, fault_if-false, fault_if-Some}
+use Rattle.bgp_wire.proofs.Framing.{frame_is, least_is, begins_with, has_fault, body_fault}
 use Rattle.bgp_wire.proofs.Bodies.{one_content, never_content_and_fault, one_body_fault, content_or_fault}
 
 greatest_is : (kind : Kind) → greatest kind ≤ 4096

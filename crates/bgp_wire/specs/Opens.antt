@@ -1,5 +1,5 @@
 -- The body of an OPEN (RFC 4271, sections 4.2 and 6.2).
-use Rattle.std.specs.Prelude.{◌≡◌, ◌≢◌, ◌<◌, ◌^◌, ◌+◌, ◌==◌, ◌||◌, not, ℕ, List, [], ◌∷◌, ◌++◌, length, drop, slice_index, Option, Some, None, MatchOption, ◌⊎◌}
+use Rattle.std.specs.Prelude.{◌≡◌, ◌≢◌, ◌<◌, ◌^◌, ◌+◌, ◌==◌, ◌||◌, not, ℕ, List, [], ◌∷◌, ◌++◌, length, drop, slice_index, Option, MatchOption, ◌⊎◌}
 use Rattle.byteorder.specs.Endian.{big_bytes, big_number}
 use Rattle.bgp_wire.specs.declared.fault.WireFault.{WireFault}
 use Rattle.bgp_wire.specs.Content.{OpenFields}

@@ -1,4 +1,4 @@
-use Rattle.std.proofs.Common.{arith, rules}
+use Rattle.std.proofs.Common.{arith}
 use Rattle.std.proofs.lemmas.Result.{err_from_is_err_and}
 use Rattle.bgp_wire.proofs.Framing.{begins_with, body_fault}
 use Rattle.bgp_wire.proofs.message.read.Goals as goal

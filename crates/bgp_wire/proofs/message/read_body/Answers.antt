@@ -1,4 +1,4 @@
-use Rattle.std.proofs.Common.{◌≡◌, ◌≤◌, ℕ, List, ◌∷◌, [], ◌++◌, slice_index, drop, length, refl, ap, arith}
+use Rattle.std.proofs.Common.{◌≡◌, ◌≤◌, ℕ, List, ◌∷◌, [], slice_index, drop, length, refl, ap, arith}
 use Rattle.bgp_wire.specs.Frames.{least}
 use Rattle.bgp_wire.proofs.message.read_body.Goals as goal
 

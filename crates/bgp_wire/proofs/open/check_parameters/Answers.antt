@@ -1,4 +1,3 @@
-use Rattle.std.proofs.Common.{◌≡◌, arith}
 use Rattle.bgp_wire.specs.Opens.{IsParameter}
 use Rattle.bgp_wire.proofs.OpenBodies.{type_ends, broken_ends}
 use Rattle.bgp_wire.proofs.Splitting.{leaves_less}

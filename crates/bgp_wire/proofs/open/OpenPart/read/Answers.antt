@@ -1,4 +1,4 @@
-use Rattle.std.proofs.Common.{arith, rules, subst, ap, ◌∙◌}
+use Rattle.std.proofs.Common.{arith, subst, ap, ◌∙◌}
 use Rattle.byteorder.specs.Endian.{big_number}
 use Rattle.bgp_wire.specs.Opens.{AreParameters}
 use Rattle.bgp_wire.proofs.Octets.{range_from}
