@@ -1,0 +1,21 @@
+-- What messages say, whatever octets they lie in.
+use Rattle.std.specs.Prelude.{ℕ, List}
+
+-- the fields of an OPEN
+pub record OpenFields : Type 0 where
+  pub asn : ℕ
+  pub hold : ℕ
+  pub id : ℕ
+  pub parameters : List ℕ
+
+-- the parts of an UPDATE
+pub record UpdateFields : Type 0 where
+  pub withdrawn : List ℕ
+  pub attributes : List ℕ
+  pub routes : List ℕ
+
+pub data Content : Type 0 where
+  Opens : OpenFields → Content
+  Updates : UpdateFields → Content
+  Notifies : (code subcode : ℕ) → Content
+  KeepsAlive : Content

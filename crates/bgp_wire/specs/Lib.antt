@@ -1,0 +1,7 @@
+pub mod Content
+pub mod Faults
+pub mod Parts
+pub mod Opens
+pub mod Updates
+pub mod Frames
+pub mod Messages

@@ -1,0 +1,45 @@
+ghost use Rattle.std.specs.Prelude.{◌≡◌, ◌≤◌, ◌^◌, ◌<◌};
+ghost use Rattle.bgp_wire.specs.Frames.{kind_of, least, greatest};
+
+/// The types of messages (RFC 4271, section 4.1).
+#[derive(Clone, Copy, Debug, PartialEq, Eq)]
+pub(crate) enum Kind {
+    Open,
+    Update,
+    Notification,
+    Keepalive,
+}
+
+impl Kind {
+    pub(crate) fn from_octet(octet: u8) -> Option<Kind>
+        ensures { result ≡ kind_of octet }
+    {
+        match octet {
+            1 => Some(Kind::Open),
+            2 => Some(Kind::Update),
+            3 => Some(Kind::Notification),
+            4 => Some(Kind::Keepalive),
+            _ => None,
+        }
+    }
+
+    pub(crate) fn least(self) -> usize
+        ensures { result ≡ least self }
+    {
+        match self {
+            Kind::Open => 29,
+            Kind::Update => 23,
+            Kind::Notification => 21,
+            Kind::Keepalive => 19,
+        }
+    }
+
+    pub(crate) fn greatest(self) -> usize
+        ensures { result ≡ greatest self }
+    {
+        match self {
+            Kind::Open | Kind::Update | Kind::Notification => 4096,
+            Kind::Keepalive => 19,
+        }
+    }
+}

@@ -1,0 +1,41 @@
+//! What the grammar of messages promises.
+ghost use Rattle.std.specs.Prelude.{◌≡◌, ◌++◌, ◌⊎◌, ℕ, List, []};
+ghost use Rattle.bgp_wire.specs.declared.fault.WireFault.{WireFault};
+ghost use Rattle.bgp_wire.specs.Content.{Content};
+ghost use Rattle.bgp_wire.specs.Frames.{IsProperPrefix};
+ghost use Rattle.bgp_wire.specs.Messages.{AreOctets, IsMessage, BeginsWith, HasFault};
+
+/// Octets begin with a message, or are a proper prefix of a frame, or have a fault: always one of the three, and only one.
+pub fn octets_are_one_of_three()
+    ensures one { (octets : List ℕ) → AreOctets octets
+        → ((content : Content) × (n : ℕ) × BeginsWith octets content n)
+        ⊎ (IsProperPrefix octets ⊎ ((f : WireFault) × HasFault octets f)) }
+    ensures message_or_prefix { (octets : List ℕ) (content : Content) (n : ℕ)
+        → BeginsWith octets content n → IsProperPrefix octets → ⊥ }
+    ensures message_or_fault { (octets : List ℕ) (content : Content) (n : ℕ) (f : WireFault)
+        → BeginsWith octets content n → HasFault octets f → ⊥ }
+    ensures prefix_or_fault { (octets : List ℕ) (f : WireFault)
+        → IsProperPrefix octets → HasFault octets f → ⊥ }
+{}
+
+/// Octets begin with one message, of one length, or have one fault.
+pub fn octets_say_one_thing()
+    ensures content { (octets : List ℕ) (a b : Content) (n m : ℕ)
+        → BeginsWith octets a n → BeginsWith octets b m → a ≡ b }
+    ensures length { (octets : List ℕ) (a b : Content) (n m : ℕ)
+        → BeginsWith octets a n → BeginsWith octets b m → n ≡ m }
+    ensures fault { (octets : List ℕ) (f g : WireFault) → HasFault octets f → HasFault octets g → f ≡ g }
+{}
+
+/// What follows changes nothing that was read.
+pub fn what_follows_changes_nothing()
+    ensures message { (octets more : List ℕ) (content : Content) (n : ℕ)
+        → BeginsWith octets content n → BeginsWith (octets ++ more) content n }
+    ensures fault { (octets more : List ℕ) (f : WireFault) → HasFault octets f → HasFault (octets ++ more) f }
+{}
+
+/// No message begins another.
+pub fn no_message_begins_another()
+    ensures { (octets more : List ℕ) (a b : Content)
+        → IsMessage octets a → IsMessage (octets ++ more) b → more ≡ [] }
+{}

@@ -1,0 +1,23 @@
+//! BGP messages (RFC 4271): their frames and bodies.
+#![tactic(auto)]
+
+mod fault;
+mod frame;
+mod kind;
+mod laws;
+mod message;
+mod open;
+mod part;
+mod update;
+
+pub use fault::WireFault;
+pub use laws::{
+    no_message_begins_another, octets_are_one_of_three, octets_say_one_thing,
+    what_follows_changes_nothing,
+};
+pub use message::{Message, read_message};
+pub use open::OpenPart;
+pub use update::UpdatePart;
+
+#[cfg(test)]
+mod tests;

@@ -1,0 +1,139 @@
+//! The body of an OPEN.
+ghost use Rattle.std.specs.Prelude.{◌≡◌, ◌≤◌, ◌<◌, ◌+◌, ◌==◌, length, drop, IfOk, MatchBool, MatchResult, IfErr, Ok};
+ghost use Rattle.bgp_wire.specs.Faults.{Checks};
+ghost use Rattle.bgp_wire.specs.Opens.{IsCapability, IsMalformedCapability, AreCapabilities, AreBrokenCapabilities, AreParameters, HasFaultyParameter, open_fault};
+
+use crate::fault::{
+    BAD_IDENTIFIER, UNACCEPTABLE_HOLD_TIME, UNSPECIFIC_OPEN, UNSUPPORTED_PARAMETER,
+    UNSUPPORTED_VERSION, WireFault,
+};
+use crate::part::split_part;
+use byteorder::{BigEndian, ByteOrder};
+use ov_types::Addr;
+use std::marker::Model;
+
+/// What an OPEN says (RFC 4271, section 4.2).
+#[derive(Drop)]
+pub struct OpenPart<'a> {
+    asn: u32,
+    hold: u16,
+    id: Addr,
+    parameters: &'a [u8],
+}
+
+impl<'a> Model for OpenPart<'a> {
+    ghost use Rattle.bgp_wire.specs.Content.{OpenFields};
+
+    ghost Value = { OpenFields };
+
+    ghost view = { λ p. record { asn = p.asn; hold = p.hold; id = p.id.0; parameters = p.parameters.now } };
+}
+
+impl<'a> OpenPart<'a> {
+    ghost use Rattle.bgp_wire.specs.Opens.{IsOpen, HasOpenFault};
+
+    /// The number of the autonomous system.
+    pub fn asn(&self) -> u32
+        ensures { result ≡ self.now.asn }
+    {
+        self.asn
+    }
+
+    /// The Hold Time in seconds.
+    pub fn hold(&self) -> u16
+        ensures { result ≡ self.now.hold }
+    {
+        self.hold
+    }
+
+    pub fn id(&self) -> Addr
+        ensures { result.0 ≡ self.now.id }
+    {
+        self.id
+    }
+
+    /// The optional parameters, one after the other, each a type, a length of one octet and a value.
+    pub fn parameters(&self) -> &'a [u8]
+        ensures { result.now ≡ self.now.parameters }
+    {
+        self.parameters
+    }
+
+    pub(crate) fn read(body: &'a [u8]) -> Result<OpenPart<'a>, WireFault>
+        requires { 10 ≤ length body.now }
+        ensures open { IfOk result (λ fields. IsOpen body.now fields) }
+        ensures fault { IfErr result (λ f. HasOpenFault body.now f) }
+    {
+        check_open(body)?;
+        let parameters = &body[10..];
+        check_parameters(parameters)?;
+        Ok(OpenPart {
+            asn: u32::from(BigEndian::read_u16(&body[1..])),
+            hold: BigEndian::read_u16(&body[3..]),
+            id: Addr(BigEndian::read_u32(&body[5..])),
+            parameters,
+        })
+    }
+}
+
+fn check_open(body: &[u8]) -> Result<(), WireFault>
+    requires { 10 ≤ length body.now }
+    ensures { Checks result (open_fault body.now) }
+{
+    if body[0] != 4 {
+        return Err(UNSUPPORTED_VERSION);
+    }
+    let hold = BigEndian::read_u16(&body[3..]);
+    if hold == 1 || hold == 2 {
+        return Err(UNACCEPTABLE_HOLD_TIME);
+    }
+    if BigEndian::read_u32(&body[5..]) == 0 {
+        return Err(BAD_IDENTIFIER);
+    }
+    if 10 + usize::from(body[9]) != body.len() {
+        return Err(UNSPECIFIC_OPEN);
+    }
+    Ok(())
+}
+
+fn check_parameters(octets: &[u8]) -> Result<(), WireFault>
+    ensures { MatchResult result (λ _. AreParameters octets.now) (λ f. HasFaultyParameter octets.now f) }
+{
+    let mut rest = octets;
+    while !rest.is_empty() {
+        let Some(parameter) = split_part(rest) else {
+            return Err(UNSPECIFIC_OPEN);
+        };
+        if parameter.kind != 2 {
+            return Err(UNSUPPORTED_PARAMETER);
+        }
+        if !are_capabilities(parameter.value) {
+            return Err(UNSPECIFIC_OPEN);
+        }
+        rest = parameter.after;
+    }
+    Ok(())
+}
+
+fn are_capabilities(octets: &[u8]) -> bool
+    ensures { MatchBool result (AreCapabilities octets.now) (AreBrokenCapabilities octets.now) }
+{
+    let mut rest = octets;
+    while !rest.is_empty() {
+        let Some(capability) = split_part(rest) else {
+            return false;
+        };
+        if !is_capability(capability.kind, capability.value) {
+            return false;
+        }
+        rest = capability.after;
+    }
+    true
+}
+
+fn is_capability(kind: u8, value: &[u8]) -> bool
+    ensures { MatchBool result (IsCapability (record { kind = kind; value = value.now }))
+        (IsMalformedCapability (record { kind = kind; value = value.now })) }
+{
+    kind != 1 || value.len() == 4
+}

@@ -1,0 +1,7 @@
+//! Plain reachability: which rule decides on a packet, and what becomes of it. Nothing here knows of routes, labels,
+//! instances of tables, nodes or sessions.
+#![tactic(auto)]
+
+mod decision;
+
+pub use decision::Decision;
