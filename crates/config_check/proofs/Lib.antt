@@ -4,3 +4,4 @@ pub mod SomeRule
 pub mod Straight
 pub mod Few
 pub mod Iffs
+pub mod Meanings
