@@ -5,3 +5,4 @@ pub mod Straight
 pub mod Few
 pub mod Iffs
 pub mod Meanings
+pub mod EachRule

@@ -24,7 +24,7 @@ use Rattle.config_check.specs.declared.refusal.Refusal.TheVariants.{DuplicateNam
 use Rattle.config_check.specs.Related.{are_related}
 use Rattle.config_check.specs.Rules.{repeated_name, repeated_id, missing, missing_end, missing_chain, overlap, network_named, holds_address, is_outside, share_address, is_chain_rule, is_any, same_end, share_addresses, overlapping, group_of, overlapping_around}
 use Rattle.config_check.specs.Sentences.{AreDistinct, EndExists, ChainExists, IsWithin, Overlap, IsAround, AreApart}
-use Rattle.config_check.proofs.Iffs.{iff_then, iff_both, all_iff, pairs_iff, both_none, mapped_none, find_none, first_meeting_none, list_any_false, pairs_head, pairs_tail}
+use Rattle.config_check.proofs.Iffs.{iff_then, iff_both, all_iff, pairs_iff, both_none, mapped_none, find_none, first_meeting_none, list_any_false, pairs_head, pairs_tail, pairs_kept}
 
 -- tests
 
@@ -170,3 +170,20 @@ none_overlaps (a ∷ bs) h =
       none_overlaps bs (pairs_tail R a bs h)
     )
 
+
+around_test : (c : Config) (n a : Network) → IsTrue (same_name a.name n.name || are_related c n a) ↔ IsAround c n a
+around_test c n a = or_iff (same_name a.name n.name) (are_related c n a) (same_name_iff a.name n.name) (λ h. h, λ h. h)
+
+pub around_iff : (c : Config) (n : Network)
+    → (overlapping_around c n ≡ None) ↔ AllPairs (λ a b. IsAround c n a → IsAround c n b → AreApart a b) c.networks
+around_iff c n =
+    let g : Network → Bool = λ a. same_name a.name n.name || are_related c n a in
+    let R : Network → Network → Type 0 = λ a b. share_addresses a b ≡ false in
+    let K : Network → Network → Type 0 = λ a b. IsTrue (g a) → IsTrue (g b) → R a b in
+    let S : Network → Network → Type 0 = λ a b. IsAround c n a → IsAround c n b → AreApart a b in
+    let both : (a b : Network) → K a b ↔ S a b = λ a b. (
+      λ h x y. (networks_apart_iff a b).0 (h ((around_test c n a).1 x) ((around_test c n b).1 y)),
+      λ h x y. (networks_apart_iff a b).1 (h ((around_test c n a).0 x) ((around_test c n b).0 y))
+    ) in
+    let listed : (overlapping (filter g c.networks) ≡ None) ↔ AllPairs R (filter g c.networks) = (no_overlapping (filter g c.networks), none_overlaps (filter g c.networks)) in
+    iff_then listed (iff_then (pairs_kept g R c.networks) (pairs_iff K S both c.networks))
