@@ -6,3 +6,4 @@ pub mod Few
 pub mod Iffs
 pub mod Meanings
 pub mod EachRule
+pub mod Validity
