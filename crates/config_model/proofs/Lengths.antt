@@ -47,7 +47,7 @@ decimal_begins (suc n) small =
     let d = (decimal_is_IsNumeral (suc n) (omega arith)).0 in
     begins_of (decimal (suc n)) d.1 d.0 (λ _. first_decimal (suc n) (omega arith) (omega arith))
 
-found : (text : List ℕ) (n : ℕ) → n ≤ 32 → decimal n ≡ text → Some n ≡ length_of text
+pub found : (text : List ℕ) (n : ℕ) → n ≤ 32 → decimal n ≡ text → Some n ≡ length_of text
 unfolding length_of
 found text n small e =
     let v = value_of text n small e in
@@ -94,7 +94,7 @@ not_parsed text e h p = not_found text (λ n small same.
     p (subst (λ (t : List ℕ). IsNumeral 10 t × (digits_value 10 t < 2 ^ 8)) (sym (no_plus text h)) w))
 
 -- a text without a slash
-empty_length : None ≡ length_of []
+pub empty_length : None ≡ length_of []
 empty_length = not_plain [] refl
 
 none_from : (o : Option ℕ) → None ≡ block_from o None

@@ -6,6 +6,7 @@ mod config_reader;
 mod fault;
 mod fields;
 mod input;
+mod laws;
 mod rule_reader;
 mod topology_reader;
 mod topology;
@@ -18,6 +19,10 @@ pub use config::{
 pub use config_reader::read_config;
 pub use fault::{DocFault, DocKind, ReadRefusal};
 pub use input::{Plan, ReachInput, read_compile, read_packet, read_reach};
+pub use laws::{
+    configurations_have_just_their_members, packets_have_just_their_members, texts_are_one,
+    topologies_have_just_their_members,
+};
 pub use topology_reader::read_topology;
 pub use topology::{Node, Topology};
 
