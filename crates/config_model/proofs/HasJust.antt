@@ -1,5 +1,5 @@
 -- What a value that was read has in its object.
-use Rattle.std.proofs.Common.{◌≡◌, ℕ, ◌&&◌, ◌++◌, Bool, true, false, IsTrue, nat_eq, List, [], ◌∷◌, Option, Some, None, is_some, Result, Ok, Err, refl, sym, subst, ap, ◌∙◌, codes, inl, inr}
+use Rattle.std.proofs.Common.{◌≡◌, ℕ, Bool, true, nat_eq, List, [], Option, Some, None, is_some, Result, Ok, Err, refl, subst, ap, ◌∙◌, codes, inl, inr}
 use Rattle.std.specs.List.{list_any, list_all}
 use Rattle.std.specs.Cmp.Lexicographic.{pointwise}
 use Rattle.std.proofs.lemmas.Bool.{cases_Bool}
@@ -11,8 +11,7 @@ use Rattle.config_model.specs.declared.fault.DocKind.{DocKind}
 use Rattle.config_model.specs.declared.config.Action.{Action}
 use Rattle.config_model.specs.declared.config.Action.TheVariants.{Pass, Deny, Through}
 use Rattle.config_model.specs.declared.config.Rule.{Rule}
-use Rattle.config_model.specs.Paths.{member_path}
-use Rattle.config_model.specs.Faults.{Fault, ◌>>=◌, wanted, refused}
+use Rattle.config_model.specs.Faults.{Fault, ◌>>=◌, wanted}
 use Rattle.config_model.specs.Fields.{Reads, member_at, in_member, object_at, first_other, none_left, only_at, optional_all, name_at}
 use Rattle.config_model.specs.Laws.{names_of, is_one_of, HasJust, ControllerHasJust, NodeHasJust, TopologyHasJust, NetworkHasJust, PortHasJust, PolicyHasJust, RuleHasJust, ServiceHasJust, ChainHasJust, ConfigHasJust, PacketHasJust}
 use Rattle.config_model.specs.Topology.{controller_at, node_at, topology_at}
@@ -231,12 +230,12 @@ from_has path d text x h =
     elim (cases_Bool (pointwise nat_eq text (codes "pass"))) [
       | inl e ↦ let g : Ok Pass ≡ Ok x = rw e at h in let same : Pass ≡ x = cc in subst (HasChain d) same tt
       | inr e ↦ elim (cases_Bool (pointwise nat_eq text (codes "deny"))) [
-          | inl f ↦ let g : Ok Deny ≡ Ok x = rw (e, f) at h in let same : Deny ≡ x = cc in subst (HasChain d) same tt
-          | inr f ↦ elim (cases_Bool (pointwise nat_eq text (codes "chain"))) [
-              | inl g ↦ through_has path d x (rw (e, f, g) at h)
-              | inr g ↦ let no : Err _ ≡ Ok x = rw (e, f, g) at h in absurd (cc)
-            ]
+        | inl f ↦ let g : Ok Deny ≡ Ok x = rw (e, f) at h in let same : Deny ≡ x = cc in subst (HasChain d) same tt
+        | inr f ↦ elim (cases_Bool (pointwise nat_eq text (codes "chain"))) [
+          | inl g ↦ through_has path d x (rw (e, f, g) at h)
+          | inr g ↦ let no : Err _ ≡ Ok x = rw (e, f, g) at h in absurd (cc)
         ]
+      ]
     ]
 
 action_has : (path : List ℕ) (d : Data) (x : Action) → action_at path d ≡ Ok x → (is_some (get (codes "action") d) ≡ true) × HasChain d x

@@ -5,3 +5,4 @@ pub mod Lengths
 pub mod Counts
 pub mod HasJust
 pub mod OneText
+pub mod Missed

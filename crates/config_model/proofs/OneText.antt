@@ -1,8 +1,8 @@
 -- One text for each address, prefix and name.
-use Rattle.std.proofs.Common.{◌≡◌, ℕ, suc, ◌+◌, ◌-◌, ◌*◌, ◌/◌, ◌%◌, ◌^◌, ◌<◌, ◌≤◌, ◌&&◌, ◌↔◌, Bool, true, false, IsTrue, cond, eqb, List, [], ◌∷◌, ◌++◌, length, take, drop, get_or, Option, Some, None, refl, sym, subst, ap, ◌∙◌, arith, add-one, append_assoc, inl, inr, codes, decimal, bytes_eq, nat_le, nat_lt, ◌==◌, not}
+use Rattle.std.proofs.Common.{◌≡◌, ℕ, ◌+◌, ◌/◌, ◌%◌, ◌^◌, ◌<◌, ◌≤◌, ◌&&◌, Bool, true, false, IsTrue, eqb, List, [], ◌∷◌, ◌++◌, length, take, drop, get_or, Option, Some, None, refl, sym, subst, ap, ◌∙◌, arith, add-one, inl, inr, codes, decimal, bytes_eq, nat_le, nat_lt, ◌==◌, not}
 use Rattle.std.specs.List.{position_or_len, before_first, after_first, list_all}
 use Rattle.std.specs.Str.Parse.{AllDigits, digits_value}
-use Rattle.std.proofs.lemmas.Bool.{cases_Bool, cases_lt, and_parts, ne_eqb, eqb-true, leb-true, ltb-true}
+use Rattle.std.proofs.lemmas.Bool.{cases_Bool, cases_lt, and_parts, ne_eqb, eqb-true, ltb-true}
 use Rattle.std.proofs.Math.ListN.{drop_of_length-le}
 use Rattle.std.proofs.lemmas.List.{take_at}
 use Rattle.std.proofs.lemmas.List.Folds.{list_all-append}
@@ -10,11 +10,10 @@ use Rattle.std.proofs.lemmas.Fmt.{decimal_is_IsNumeral}
 use Rattle.std.proofs.lemmas.List.Sums.{split_at_first, passes_at_first}
 use Rattle.std.proofs.lemmas.Slice.Eq.{bytes_eq-Decides}
 use Rattle.std.proofs.lemmas.Str.Parse.{digit_from_value}
-use Rattle.ov_types.specs.Name.{is_name, name_of}
 use Rattle.ov_types.specs.Prefix.{Block, is_prefix, prefix_of, size_of}
 use Rattle.ov_types.specs.Texts.{address_text, prefix_text}
 use Rattle.config_model.specs.Written.{parts_value, address_of, length_of, is_slash, block_from, block_of}
-use Rattle.config_model.specs.Laws.{AddressHasOneText, PrefixHasOneText, NameIsItsText}
+use Rattle.config_model.specs.Laws.{AddressHasOneText, PrefixHasOneText}
 use Rattle.config_model.proofs.Lengths.{empty_length, found as spelled_length}
 use Rattle.config_model.proofs.Addresses.{whole, text_value, found}
 

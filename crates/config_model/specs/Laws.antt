@@ -1,23 +1,15 @@
 -- What is said of the written form.
-use Rattle.std.specs.Prelude.{◌≡◌, ◌↔◌, ℕ, ◌<◌, ◌^◌, ◌∷◌, [], ◌++◌, List, Bool, IsTrue, IsSome, is_some, nat_eq, codes, Some, Ok}
+use Rattle.std.specs.Prelude.{◌≡◌, ◌↔◌, ℕ, ◌<◌, ◌^◌, ◌∷◌, [], ◌++◌, List, Bool, IsTrue, is_some, nat_eq, codes, Some, None, Ok, Err}
 use Rattle.std.specs.List.{list_any, list_all}
 use Rattle.std.specs.Cmp.Lexicographic.{pointwise}
-use Rattle.serde_json.specs.Data.{Data, null, boolean, number, string, array, object, Items, Members, no_members, member}
+use Rattle.serde_json.specs.Data.{Data, Members, no_members, member}
 use Rattle.serde_json.specs.Find.{get, as_object}
 use Rattle.ov_types.specs.Name.{is_name, name_of}
 use Rattle.ov_types.specs.Prefix.{Block, is_prefix}
 use Rattle.ov_types.specs.Texts.{address_text, prefix_text}
-use Rattle.ov_types.specs.declared.packet.Packet.{Packet}
-use Rattle.ov_types.specs.declared.rows.NodeId.{NodeId}
-use Rattle.config_model.specs.declared.config.Chain.{Chain}
-use Rattle.config_model.specs.declared.config.Config.{Config}
-use Rattle.config_model.specs.declared.config.Network.{Network}
-use Rattle.config_model.specs.declared.config.Policy.{Policy}
-use Rattle.config_model.specs.declared.config.Port.{Port}
 use Rattle.config_model.specs.declared.config.Rule.{Rule}
-use Rattle.config_model.specs.declared.config.Service.{Service}
-use Rattle.config_model.specs.declared.topology.Node.{Node}
-use Rattle.config_model.specs.declared.topology.Topology.{Topology}
+use Rattle.config_model.specs.declared.fault.DocKind.TheVariants.{Missing}
+use Rattle.config_model.specs.Paths.{member_path}
 use Rattle.config_model.specs.Written.{address_of, block_of}
 use Rattle.config_model.specs.Fields.{Reads}
 use Rattle.config_model.specs.Topology.{controller_at, node_at, topology_at}
@@ -89,3 +81,7 @@ PrefixHasOneText = (text : List ℕ) (b : Block) → (block_of text ≡ Some b) 
 -- each name is its own text
 abbrev pub NameIsItsText : Type 0
 NameIsItsText = (text name : List ℕ) → (name_of text ≡ Some name) ↔ (IsTrue (is_name name) × (text ≡ name))
+
+-- where this member of an object is absent, the fault is that it is missing, at its path
+abbrev pub FirstIsMissed : {A : Type 0} → Reads A → List ℕ → Type 0
+FirstIsMissed reads name = (path : List ℕ) (d : Data) (members : Members) → as_object d ≡ Some members → get name d ≡ None → reads path d ≡ Err (record { path = member_path path name; kind = Missing })
