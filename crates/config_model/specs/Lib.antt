@@ -1,1 +1,10 @@
 pub mod Form
+pub mod Paths
+pub mod Faults
+pub mod Written
+pub mod Fields
+pub mod Topology
+pub mod Rule
+pub mod Config
+pub mod Input
+pub mod Laws

@@ -1,0 +1,135 @@
+//! Reading packets, and what the commands take.
+ghost use Rattle.std.specs.Prelude.{◌≡◌, [], codes, List, ℕ, Bool, IsTrue, Result, IfOk};
+ghost use Rattle.std.specs.List.{list_all};
+ghost use Rattle.serde_json.specs.Data.{Data};
+ghost use Rattle.serde_json.specs.View.{view};
+ghost use Rattle.config_model.specs.Paths.{place_text};
+ghost use Rattle.config_model.specs.Faults.{Gives, Fault};
+ghost use Rattle.config_model.specs.Form.{has_topology_form, has_config_form, has_packet_form};
+ghost use Rattle.config_model.specs.Input.{packet_at, compile_at, reach_at};
+
+use crate::bounds::{LAST_PORT, LAST_PORT_NUMBER, LAST_PROTOCOL};
+use crate::config::Config;
+use crate::fault::{Place, ReadRefusal};
+use crate::fields::{
+    Count, FromDocument, check_others, list_member, object_of, read_member, whole_member,
+};
+use crate::topology::Topology;
+use crate::values::address_member;
+use ov_types::{Items, Packet, PortNo, Tuple};
+use serde_json::Value;
+use std::alloc::Global;
+
+/// What there is, and what is configured.
+#[derive(Clone, Debug, Drop, PartialEq, Eq)]
+pub struct Plan {
+    pub topology: Topology,
+    pub config: Config,
+}
+
+/// What there is, what is configured, and packets to ask about.
+#[derive(Clone, Debug, Drop, PartialEq, Eq)]
+pub struct ReachInput {
+    pub topology: Topology,
+    pub config: Config,
+    pub packets: Items<Packet>,
+}
+
+impl FromDocument for Packet {
+    ghost reads = { packet_at };
+
+    ghost has_form = { has_packet_form };
+
+    #[tactic(auto, unfolding(crate::specs::Input::packet_at, crate::specs::Form::has_packet_form))]
+    fn read(alloc: Global, place: Place<'_>, value: &Value) -> Result<Self, ReadRefusal> {
+        let members = object_of(alloc, place, value)?;
+        let path = place.text(alloc)?;
+        let path = path.as_str();
+        let port = whole_member(alloc, path, "port", 0, LAST_PORT, value)?;
+        let destination = address_member(alloc, path, "to", 0, u32::MAX, value)?;
+        let protocol = whole_member(alloc, path, "protocol", 0, LAST_PROTOCOL, value)?;
+        let sport = whole_member(alloc, path, "sport", 0, LAST_PORT_NUMBER, value)?;
+        let dport = whole_member(alloc, path, "dport", 0, LAST_PORT_NUMBER, value)?;
+        check_others(
+            alloc,
+            path,
+            &["port", "to", "protocol", "sport", "dport"],
+            members,
+        )?;
+        Ok(Packet {
+            source: PortNo(port as u32),
+            destination,
+            tuple: Tuple {
+                proto: protocol as u8,
+                sport: sport as u16,
+                dport: dport as u16,
+            },
+        })
+    }
+}
+
+/// The packet that a value writes. Paths begin at the value.
+pub fn read_packet(alloc: Global, value: &Value) -> Result<Packet, ReadRefusal>
+    ensures reads { Gives (λ p. p) result (packet_at [] (view value.now)) }
+    ensures form { IfOk result (λ p. IsTrue (has_packet_form p)) }
+{
+    Packet::read(alloc, Place::At(""), value)
+}
+
+/// What `compile` takes: an object with `topology` and `configuration`.
+#[tactic(auto, unfolding(crate::specs::Input::compile_at))]
+fn plan_of(alloc: Global, path: &str, value: &Value) -> Result<Plan, ReadRefusal>
+    ensures reads { Gives (λ p. p) result (compile_at path.now (view value.now)) }
+    ensures topology_form { IfOk result (λ p. IsTrue (has_topology_form p.topology)) }
+    ensures config_form { IfOk result (λ p. IsTrue (has_config_form p.config)) }
+{
+    let members = object_of(alloc, Place::At(path), value)?;
+    let topology = read_member::<Topology>(alloc, path, "topology", value)?;
+    let config = read_member::<Config>(alloc, path, "configuration", value)?;
+    check_others(alloc, path, &["topology", "configuration"], members)?;
+    Ok(Plan { topology, config })
+}
+
+/// What `reach` takes: an object with `topology`, `configuration` and `packets`, a list.
+#[tactic(auto, unfolding(crate::specs::Input::reach_at))]
+fn reach_input_of(alloc: Global, path: &str, value: &Value) -> Result<ReachInput, ReadRefusal>
+    ensures reads { Gives (λ r. r) result (reach_at path.now (view value.now)) }
+    ensures topology_form { IfOk result (λ r. IsTrue (has_topology_form r.topology)) }
+    ensures config_form { IfOk result (λ r. IsTrue (has_config_form r.config)) }
+    ensures packets_form { IfOk result (λ r. IsTrue (list_all has_packet_form r.packets)) }
+{
+    let members = object_of(alloc, Place::At(path), value)?;
+    let topology = read_member::<Topology>(alloc, path, "topology", value)?;
+    let config = read_member::<Config>(alloc, path, "configuration", value)?;
+    let packets = list_member::<Packet>(alloc, path, "packets", Count::AnyNumber, value)?;
+    check_others(
+        alloc,
+        path,
+        &["topology", "configuration", "packets"],
+        members,
+    )?;
+    Ok(ReachInput {
+        topology,
+        config,
+        packets,
+    })
+}
+
+/// The whole input of `compile`: an object with `topology` and `configuration`.
+pub fn read_compile(alloc: Global, value: &Value) -> Result<Plan, ReadRefusal>
+    ensures reads { Gives (λ p. p) result (compile_at [] (view value.now)) }
+    ensures topology_form { IfOk result (λ p. IsTrue (has_topology_form p.topology)) }
+    ensures config_form { IfOk result (λ p. IsTrue (has_config_form p.config)) }
+{
+    plan_of(alloc, "", value)
+}
+
+/// The whole input of `reach`: an object with `topology`, `configuration` and `packets`, a list.
+pub fn read_reach(alloc: Global, value: &Value) -> Result<ReachInput, ReadRefusal>
+    ensures reads { Gives (λ r. r) result (reach_at [] (view value.now)) }
+    ensures topology_form { IfOk result (λ r. IsTrue (has_topology_form r.topology)) }
+    ensures config_form { IfOk result (λ r. IsTrue (has_config_form r.config)) }
+    ensures packets_form { IfOk result (λ r. IsTrue (list_all has_packet_form r.packets)) }
+{
+    reach_input_of(alloc, "", value)
+}

@@ -1,0 +1,131 @@
+//! Reading topologies.
+ghost use Rattle.std.specs.Prelude.{◌≡◌, [], codes, List, ℕ, Bool, IsTrue, Result, IfOk, ◌≤◌};
+ghost use Rattle.serde_json.specs.Data.{Data};
+ghost use Rattle.serde_json.specs.View.{view};
+ghost use Rattle.config_model.specs.Paths.{place_text};
+ghost use Rattle.config_model.specs.Faults.{Gives, Fault};
+ghost use Rattle.config_model.specs.Form.{is_as_number, has_controller_form, has_node_form, has_topology_form};
+ghost use Rattle.config_model.specs.Fields.{in_member};
+ghost use Rattle.config_model.specs.Topology.{as_at, controller_at, node_at, topology_at};
+
+use crate::bounds::{FIRST_NODE_ADDRESS, LAST_AS, LAST_NODE_ADDRESS, RESERVED_AS};
+use crate::fault::{DocKind, Place, ReadRefusal};
+use crate::fields::{
+    Count, FromDocument, check_others, list_member, member_of, object_of, whole_of,
+};
+use crate::topology::{Node, Topology};
+use crate::values::{address_member, name_but_member};
+use ov_types::{Name, NodeId};
+use serde_json::Value;
+use std::alloc::Global;
+
+/// The number of an autonomous system.
+#[tactic(auto, unfolding(crate::specs::Topology::as_at))]
+fn as_of(alloc: Global, place: Place<'_>, value: &Value) -> Result<u32, ReadRefusal>
+    ensures reads { Gives (λ n. n) result (as_at (place_text place.entry) (view value.now)) }
+    ensures form { IfOk result (λ n. IsTrue (is_as_number n)) }
+{
+    let number = whole_of(alloc, place, 1, LAST_AS, value)?;
+    if number == RESERVED_AS {
+        return Err(place.fault(alloc, DocKind::Range));
+    }
+    Ok(number as u32)
+}
+
+#[tactic(auto, unfolding(crate::specs::Fields::in_member))]
+fn as_member(alloc: Global, path: &str, name: &str, value: &Value) -> Result<u32, ReadRefusal>
+    ensures reads { Gives (λ n. n) result (in_member as_at path.now name.now (view value.now)) }
+    ensures form { IfOk result (λ n. IsTrue (is_as_number n)) }
+{
+    let found = member_of(alloc, path, name, value)?;
+    as_of(alloc, Place::Member(path, name), found)
+}
+
+impl FromDocument for NodeId {
+    ghost reads = { controller_at };
+
+    ghost has_form = { has_controller_form };
+
+    #[tactic(auto, unfolding(crate::specs::Topology::controller_at, crate::specs::Form::has_controller_form))]
+    fn read(alloc: Global, place: Place<'_>, value: &Value) -> Result<Self, ReadRefusal> {
+        let members = object_of(alloc, place, value)?;
+        let path = place.text(alloc)?;
+        let path = path.as_str();
+        let name = name_but_member(alloc, path, "name", "config", value)?;
+        let address = address_member(
+            alloc,
+            path,
+            "address",
+            FIRST_NODE_ADDRESS,
+            LAST_NODE_ADDRESS,
+            value,
+        )?;
+        check_others(alloc, path, &["name", "address"], members)?;
+        Ok(NodeId { name, address })
+    }
+}
+
+impl FromDocument for Node {
+    ghost reads = { node_at };
+
+    ghost has_form = { has_node_form };
+
+    #[tactic(auto, unfolding(crate::specs::Topology::node_at, crate::specs::Form::has_node_form))]
+    fn read(alloc: Global, place: Place<'_>, value: &Value) -> Result<Self, ReadRefusal> {
+        let members = object_of(alloc, place, value)?;
+        let path = place.text(alloc)?;
+        let path = path.as_str();
+        let name = name_but_member(alloc, path, "name", "config", value)?;
+        let address = address_member(
+            alloc,
+            path,
+            "address",
+            FIRST_NODE_ADDRESS,
+            LAST_NODE_ADDRESS,
+            value,
+        )?;
+        let controllers = list_member::<Name>(alloc, path, "controllers", Count::OneOrTwo, value)?;
+        check_others(alloc, path, &["name", "address", "controllers"], members)?;
+        Ok(Node {
+            name,
+            address,
+            controllers,
+        })
+    }
+}
+
+impl FromDocument for Topology {
+    ghost reads = { topology_at };
+
+    ghost has_form = { has_topology_form };
+
+    #[tactic(auto, unfolding(crate::specs::Topology::topology_at, crate::specs::Form::has_topology_form))]
+    fn read(alloc: Global, place: Place<'_>, value: &Value) -> Result<Self, ReadRefusal> {
+        let members = object_of(alloc, place, value)?;
+        let path = place.text(alloc)?;
+        let path = path.as_str();
+        let asn = as_member(alloc, path, "as", value)?;
+        let controllers = list_member::<NodeId>(
+            alloc,
+            path,
+            "controllers",
+            Count::AtLeastOne,
+            value,
+        )?;
+        let nodes = list_member::<Node>(alloc, path, "nodes", Count::AtLeastOne, value)?;
+        check_others(alloc, path, &["as", "controllers", "nodes"], members)?;
+        Ok(Topology {
+            asn,
+            controllers,
+            nodes,
+        })
+    }
+}
+
+/// The topology that a value writes, with `as`, `controllers` and `nodes`. Paths begin at the value.
+pub fn read_topology(alloc: Global, value: &Value) -> Result<Topology, ReadRefusal>
+    ensures reads { Gives (λ t. t) result (topology_at [] (view value.now)) }
+    ensures form { IfOk result (λ t. IsTrue (has_topology_form t)) }
+{
+    Topology::read(alloc, Place::At(""), value)
+}
