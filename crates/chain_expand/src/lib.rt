@@ -9,6 +9,8 @@ mod hops;
 mod links;
 mod loops;
 mod numbers;
+#[cfg(test)]
+mod tests;
 
 pub use expansion::{expand, expand_straight};
 pub use fault::ChainFault;
