@@ -44,10 +44,10 @@ unfolding leads_within leads_at
 leads_some zero c from to p e = refl
 leads_some (suc n) c from to p e = ap (list_any (λ hop. names_chain c hop && (same_name hop to || leads_within n c hop to))) (hops_of_some c from p e)
 
-no_chain : Chain
+pub no_chain : Chain
 no_chain = record { name = []; hops = [] }
 
-named_at : (c : Config) (name : List ℕ) (p : ℕ) → place_of c name ≡ Some p → (p < length c.chains) × ((get_or c.chains p no_chain).name ≡ name)
+pub named_at : (c : Config) (name : List ℕ) (p : ℕ) → place_of c name ≡ Some p → (p < length c.chains) × ((get_or c.chains p no_chain).name ≡ name)
 named_at c name p e =
     let at = position-Some (λ d. same_name d.name name) c.chains p no_chain e in
     (at.0, same_text _ _ (sym at.1))
@@ -65,7 +65,7 @@ same_place c hop to p target at at' =
     by false e =
         ne_eqb p target (λ one. other_text hop to (sym e) (sym (named_at c hop p at).1 ∙ ap (λ k. (get_or c.chains k no_chain).name) one ∙ (named_at c to target at').1))
 
-list_any_same : {X : Type 0} (p q : X → Bool) → ((x : X) → p x ≡ q x) → (xs : List X) → list_any p xs ≡ list_any q xs
+pub list_any_same : {X : Type 0} (p q : X → Bool) → ((x : X) → p x ≡ q x) → (xs : List X) → list_any p xs ≡ list_any q xs
 list_any_same p q same [] = refl
 list_any_same p q same (x ∷ xs) = ap (λ b. b || list_any p xs) (same x) ∙ ap (λ b. q x || b) (list_any_same p q same xs)
 
