@@ -6,6 +6,7 @@ mod expansion;
 mod fault;
 mod found;
 mod hops;
+mod laws;
 mod links;
 mod loops;
 mod numbers;
@@ -14,4 +15,5 @@ mod tests;
 
 pub use expansion::{expand, expand_straight};
 pub use fault::ChainFault;
+pub use laws::leads_by_hops;
 pub use loops::first_loop;
