@@ -1,4 +1,5 @@
 pub mod Expansions
+pub mod ExpandsLaws
 pub mod LeadsLaws
 pub mod Reached
 pub mod Rows

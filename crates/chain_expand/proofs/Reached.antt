@@ -15,7 +15,7 @@ use Rattle.chain_expand.specs.Expansion.{names_chain, hops_of, leads_within, lea
 use Rattle.chain_expand.specs.Links.{place_of, place_named, hops_at, is_marked, meets, IsLinked, IsReached, IsRound, leads_at}
 
 -- what is found stands at its place
-found_at : {X : Type 0} (p : X → Bool) (xs : List X) (o : Option ℕ) → position p xs ≡ o → find p xs ≡ option_and_then (slice_get xs) o
+pub found_at : {X : Type 0} (p : X → Bool) (xs : List X) (o : Option ℕ) → position p xs ≡ o → find p xs ≡ option_and_then (slice_get xs) o
 found_at p xs o e =
     let n = position_or_len p xs in
     elim (cases_lt n (length xs)) [

@@ -73,11 +73,11 @@ still_from_chains n c to same = λ from. by from (place_of c from) refl
         ∙ ap (λ bs. get_or bs p false) same
         ∙ get_or-map (from_chain n c to) c.chains p no_chain false at.0)
 
-counted : {X : Type 0} → (X → Bool) → List X → ℕ
+unfoldable pub counted : {X : Type 0} → (X → Bool) → List X → ℕ
 counted p [] = 0
 counted p (x ∷ xs) = cond (p x) (suc (counted p xs)) (counted p xs)
 
-counted-le : {X : Type 0} (p : X → Bool) (xs : List X) → counted p xs ≤ length xs
+pub counted-le : {X : Type 0} (p : X → Bool) (xs : List X) → counted p xs ≤ length xs
 unfolding counted
 counted-le p [] = omega arith
 counted-le p (x ∷ xs) = by (p x) (counted-le p xs)
@@ -87,13 +87,13 @@ counted-le p (x ∷ xs) = by (p x) (counted-le p xs)
     by false le = omega (arith, le)
 
 -- how one test's count is below another's that passes more
-more_counted : (m n : ℕ) (a b : Bool) → (a ≡ true → b ≡ true) → m ≤ n → cond a (suc m) m ≤ cond b (suc n) n
+pub more_counted : (m n : ℕ) (a b : Bool) → (a ≡ true → b ≡ true) → m ≤ n → cond a (suc m) m ≤ cond b (suc n) n
 more_counted m n true true h le = omega (arith, le)
-more_counted m n true false h le = let no : false ≡ true = h refl in absurd cc
+more_counted m n true false h le = let never : false ≡ true = h refl in absurd cc
 more_counted m n false true h le = omega (arith, le)
 more_counted m n false false h le = le
 
-count_le : {X : Type 0} (p q : X → Bool) → ((x : X) → p x ≡ true → q x ≡ true) → (xs : List X) → counted p xs ≤ counted q xs
+pub count_le : {X : Type 0} (p q : X → Bool) → ((x : X) → p x ≡ true → q x ≡ true) → (xs : List X) → counted p xs ≤ counted q xs
 unfolding counted
 count_le p q more [] = omega arith
 count_le p q more (x ∷ xs) = more_counted (counted p xs) (counted q xs) (p x) (q x) (more x) (count_le p q more xs)
@@ -101,7 +101,7 @@ count_le p q more (x ∷ xs) = more_counted (counted p xs) (counted q xs) (p x) 
 step_or_same : (m n : ℕ) (a b : Bool) (ps qs : List Bool) → (a ≡ true → b ≡ true) → m ≤ n → (m < n) ⊎ (qs ≡ ps) → (cond a (suc m) m < cond b (suc n) n) ⊎ ((b ∷ qs) ≡ (a ∷ ps))
 step_or_same m n true true ps qs h le (inl lt) = inl (omega (arith, lt))
 step_or_same m n true true ps qs h le (inr e) = inr (ap (λ bs. true ∷ bs) e)
-step_or_same m n true false ps qs h le d = let no : false ≡ true = h refl in absurd cc
+step_or_same m n true false ps qs h le d = let never : false ≡ true = h refl in absurd cc
 step_or_same m n false true ps qs h le d = inl (omega (arith, le))
 step_or_same m n false false ps qs h le (inl lt) = inl lt
 step_or_same m n false false ps qs h le (inr e) = inr (ap (λ bs. false ∷ bs) e)
