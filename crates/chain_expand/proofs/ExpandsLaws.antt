@@ -107,8 +107,10 @@ each_hop n c from names below (hop ∷ hops) within =
   where
     here : Contains (hops_of c from) hop
     here = within hop (0, omega arith, refl)
+
     rest : List Service
     rest = flat_map (services_within n c) hops
+
     by_chain : (d : Option Chain) → chain_named c hop ≡ d → service_named c hop ≡ None → Expands c hops (flat_map (services_within n c) hops) → Expands c (hop ∷ hops) (services_within n c hop ++ flat_map (services_within n c) hops)
     by_chain None none' none others =
         elim (names from hop (inl refl) here) [
@@ -121,6 +123,7 @@ each_hop n c from names below (hop ∷ hops) within =
         let same : hops_of c hop ≡ d.hops = ap (λ o. option_map_or (λ x. x.hops) o []) named in
         let inside : Expands c d.hops (flat_map (services_within (n - 1) c) (hops_of c hop)) = subst (λ (hs : List (List ℕ)). Expands c hs (flat_map (services_within (n - 1) c) (hops_of c hop))) same inner.1 in
         of_chain none named inside others (ap (λ ss. ss ++ flat_map (services_within n c) hops) (services_of_chain n c hop none inner.0))
+
     by : (o : Option Service) → service_named c hop ≡ o → Expands c hops (flat_map (services_within n c) hops) → Expands c (hop ∷ hops) (services_within n c hop ++ flat_map (services_within n c) hops)
     by (Some s) named others = of_service named others (ap (λ ss. ss ++ flat_map (services_within n c) hops) (services_of_service n c hop s named))
     by None none others = by_chain (chain_named c hop) refl none others
@@ -133,14 +136,16 @@ expands_within zero c from free names le =
 expands_within (suc n) c from free names le =
     each_hop (suc n) c from names
     (λ hop d hops named.
-      let lt = rank_less c from hop d hops named (free hop (inr (direct hops))) in
-      let ne : suc n ≢ 0 = omega arith in
-      let less : n ≡ suc n - 1 = omega arith in
-      (ne, subst (λ (m : ℕ). Expands c (hops_of c hop) (flat_map (services_within m c) (hops_of c hop))) less
-        (expands_within n c hop
+    let lt = rank_less c from hop d hops named (free hop (inr (direct hops))) in
+    let ne : suc n ≢ 0 = omega arith in
+    let less : n ≡ suc n - 1 = omega arith in (
+      ne,
+      subst (λ (m : ℕ). Expands c (hops_of c hop) (flat_map (services_within m c) (hops_of c hop))) less
+          (expands_within n c hop
           (λ name along. free name (along_on c from hop name hops along))
           (λ name h along at. names name h (along_on c from hop name hops along) at)
-          (omega (arith, lt, le)))))
+          (omega (arith, lt, le))),
+    ))
     (hops_of c from) (λ hop at. at)
 
 pub expansion_expands : (c : Config) (name : List ℕ) → IsLoopFree c name → NamesThings c name → Expands c (hops_of c name) (expansion c name)

@@ -1,6 +1,7 @@
 pub mod Expansions
 pub mod ExpandsLaws
 pub mod LeadsLaws
+pub mod OkLaws
 pub mod Reached
 pub mod Rows
 pub mod Settled

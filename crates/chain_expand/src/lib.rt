@@ -15,5 +15,5 @@ mod tests;
 
 pub use expansion::{expand, expand_straight};
 pub use fault::ChainFault;
-pub use laws::{expands_by_hops, expands_to_one, leads_by_hops};
+pub use laws::{expands_by_hops, expands_to_one, expands_where, leads_by_hops};
 pub use loops::first_loop;
