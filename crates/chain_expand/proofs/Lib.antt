@@ -1,3 +1,4 @@
+pub mod Barren
 pub mod Expansions
 pub mod ExpandsLaws
 pub mod LeadsLaws

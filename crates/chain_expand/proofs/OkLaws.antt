@@ -89,7 +89,7 @@ nothing_before {A = A} meets x before other e = by (find (λ b. meets b x) befor
   where
     by : (o : Option A) → find (λ b. meets b x) before ≡ o → (find (λ b. meets b x) before ≡ None) × (other ≡ None)
     by None e' = (e', ap (λ o. option_map (λ b. (b, x)) o <|> other) (sym e') ∙ e)
-    by (Some b) e' = let never : Some (b, x) ≡ None = ap (λ o. option_map (λ b. (b, x)) o <|> other) (sym e') ∙ e in absurd cc
+    by (Some b) e' = let found : Option (A × A) = Some (b, x) in let never : found ≡ None = ap (λ o. option_map (λ b. (b, x)) o <|> other) (sym e') ∙ e in absurd cc
 
 none_meet : {A : Type 0} (meets : A → A → Bool) (before xs : List A) → meeting_after meets before xs ≡ None → (k i : ℕ) (d : A) → k < length xs → i < length before + k → meets (get_or (before ++ xs) i d) (get_or xs k d) ≡ false
 none_meet meets before [] e k i d lt lt' = absurd (omega (arith, lt))

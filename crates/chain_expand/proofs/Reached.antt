@@ -28,10 +28,10 @@ found_at p xs o e =
     ]
 
 -- the hops of a name are those at its place
-hops_of_none : (c : Config) (name : List ℕ) → place_of c name ≡ None → hops_of c name ≡ []
+pub hops_of_none : (c : Config) (name : List ℕ) → place_of c name ≡ None → hops_of c name ≡ []
 hops_of_none c name e = ap (λ o. option_map_or (λ d. d.hops) o []) (found_at (λ d. same_name d.name name) c.chains None e)
 
-hops_of_some : (c : Config) (name : List ℕ) (p : ℕ) → place_of c name ≡ Some p → hops_of c name ≡ hops_at c p
+pub hops_of_some : (c : Config) (name : List ℕ) (p : ℕ) → place_of c name ≡ Some p → hops_of c name ≡ hops_at c p
 hops_of_some c name p e = ap (λ o. option_map_or (λ d. d.hops) o []) (found_at (λ d. same_name d.name name) c.chains (Some p) e)
 
 pub leads_none : (n : ℕ) (c : Config) (from to : List ℕ) → place_of c from ≡ None → leads_within n c from to ≡ false
