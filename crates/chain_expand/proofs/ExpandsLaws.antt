@@ -1,12 +1,12 @@
 -- Expanding hop by hop.
-use Rattle.std.proofs.Common.{◌≡◌, ℕ, zero, suc, ◌+◌, ◌-◌, ◌<◌, ◌≤◌, ◌≢◌, ◌⊎◌, inl, inr, Bool, true, false, cond, IsTrue, List, [], ◌∷◌, ◌++◌, length, get_or, Option, Some, None, refl, sym, ap, ◌∙◌, arith, subst}
+use Rattle.std.proofs.Common.{◌≡◌, ℕ, zero, suc, ◌-◌, ◌<◌, ◌≤◌, ◌≢◌, ◌⊎◌, inl, inr, Bool, true, false, cond, List, [], ◌∷◌, ◌++◌, length, get_or, Option, Some, None, refl, sym, ap, ◌∙◌, arith, subst}
 use Rattle.std.specs.List.{Contains, flat_map}
-use Rattle.std.specs.Option.{IsSome, option_map_or, option_and_then, is_none}
+use Rattle.std.specs.Option.{IsSome, option_map_or, is_none}
 use Rattle.config_model.specs.declared.config.Chain.{Chain}
 use Rattle.config_model.specs.declared.config.Config.{Config}
 use Rattle.config_model.specs.declared.config.Service.{Service}
 use Rattle.chain_expand.specs.First.{same_name}
-use Rattle.chain_expand.specs.Expansion.{service_named, chain_named, names_chain, hops_of, leads, services_within, expansion}
+use Rattle.chain_expand.specs.Expansion.{service_named, chain_named, hops_of, leads, services_within, expansion}
 use Rattle.chain_expand.specs.Links.{place_of}
 use Rattle.chain_expand.specs.Leading.{HopsTo, Leads, Expands, IsAlong, IsLoopFree, NamesThings}
 use Rattle.chain_expand.specs.Leading.Leads.{direct, onward}

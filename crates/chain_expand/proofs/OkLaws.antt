@@ -1,15 +1,15 @@
 -- When a chain has an expansion that a use can have.
-use Rattle.std.proofs.Common.{◌≡◌, ℕ, zero, suc, ◌+◌, ◌-◌, ◌<◌, ◌≤◌, ◌≢◌, ◌⊎◌, ◌↔◌, inl, inr, ◌&&◌, ◌||◌, Bool, true, false, cond, List, [], ◌∷◌, ◌++◌, length, get_or, take, eq-eqb, ltb, Option, Some, None, option_map, Result, Ok, Err, refl, sym, ap, ◌∙◌, arith, subst, append_assoc, length-append}
+use Rattle.std.proofs.Common.{◌≡◌, ℕ, zero, suc, ◌+◌, ◌<◌, ◌≤◌, ◌≢◌, ◌⊎◌, ◌↔◌, inl, inr, ◌&&◌, ◌||◌, Bool, true, false, cond, List, [], ◌∷◌, ◌++◌, length, get_or, eq-eqb, ltb, Option, Some, None, option_map, Err, refl, sym, ap, ◌∙◌, arith, subst, append_assoc, length-append}
 use Rattle.std.specs.List.{find, AllPairs}
-use Rattle.std.specs.Result.{IsOk, is_ok}
+use Rattle.std.specs.Result.{IsOk}
 use Rattle.std.specs.Cmp.Lexicographic.{same_text}
-use Rattle.std.proofs.lemmas.Bool.{and_parts, lt-ltb, le-ltb, cases_lt, eqb-true, ne_eqb}
+use Rattle.std.proofs.lemmas.Bool.{and_parts, lt-ltb, le-ltb, cases_lt, ne_eqb}
 use Rattle.std.proofs.lemmas.List.{get_or_append_left}
 use Rattle.config_model.specs.declared.config.Chain.{Chain}
 use Rattle.config_model.specs.declared.config.Config.{Config}
 use Rattle.config_model.specs.declared.config.Service.{Service}
 use Rattle.chain_expand.specs.First.{same_name, meeting_after, first_meeting, ◌<|>◌}
-use Rattle.chain_expand.specs.Expansion.{leads, loops, loop_of, same_number, expansion, expansion_of, numbers_or_fault, numbers_or_twice, unless_loop}
+use Rattle.chain_expand.specs.Expansion.{leads, loops, loop_of, same_number, expansion, expansion_of, numbers_or_twice, unless_loop}
 use Rattle.chain_expand.specs.declared.fault.ChainFault.TheVariants.{TooLong}
 use Rattle.chain_expand.specs.Links.{place_of}
 use Rattle.chain_expand.specs.Leading.{Leads, IsAlong, IsLoopFree}

@@ -6,8 +6,7 @@ ghost use Rattle.chain_expand.specs.Links.{hops_at};
 ghost use Rattle.std.specs.List.{flat_map};
 
 use crate::found::Found;
-use crate::hops;
-use crate::links;
+use crate::{hops, links};
 use config_model::{Config, Service};
 use ov_types::Name;
 

@@ -20,7 +20,13 @@ pub fn expand_straight(config: &Config, chain: &Name) -> Result<Services<15>, Ch
     let mut found = Found::new(*chain);
     let mut barren = [0; 128];
     let depth = config.chains.len();
-    match append_hops(config, depth, hops::hops_of(config, chain), &mut found, &mut barren) {
+    match append_hops(
+        config,
+        depth,
+        hops::hops_of(config, chain),
+        &mut found,
+        &mut barren,
+    ) {
         Room::Full => Err(ChainFault::TooLong { chain: *chain }),
         Room::Fits => numbers_or_twice(chain, found.as_slice()),
     }

@@ -100,13 +100,13 @@ fn expands_chains(rt: HostRuntime) -> Result<(), Fail> {
     Ok(())
 }
 
-/// 127 chains, of which each names the next 64 times, and the last a service.
-fn deep(alloc: Global) -> Result<Config, Fail> {
+/// 127 chains, of which each names the next 64 times, and the last what is given.
+fn deep(alloc: Global, last: &str) -> Result<Config, Fail> {
     let mut config = config_of(alloc, &["fw"], &[])?;
     for n in 1..128u32 {
         let name = format!(in alloc; "c{n}")?;
         let next = if n == 127 {
-            String::from_str(alloc, "fw")?
+            String::from_str(alloc, last)?
         } else {
             let after = n + 1;
             format!(in alloc; "c{after}")?
@@ -125,12 +125,19 @@ fn deep(alloc: Global) -> Result<Config, Fail> {
 
 #[test]
 fn ends_at_once_where_chains_are_deep(rt: HostRuntime) -> Result<(), Fail> {
-    let config = deep(rt.alloc())?;
+    let config = deep(rt.alloc(), "fw")?;
     assert!(rt; config.chains.len() <= 128);
     assert_eq!(rt; first_loop(&config), None);
-    let chain = name_of("c1")?;
-    assert!(rt; expand_straight(&config, &chain).is_err());
     let found = answer(&rt, rt.alloc(), &config, "c1")?;
     assert_eq!(rt; found.as_str(), r#"TooLong { chain: "c1" }"#);
+    Ok(())
+}
+
+#[test]
+fn ends_at_once_where_deep_chains_have_no_service(rt: HostRuntime) -> Result<(), Fail> {
+    let config = deep(rt.alloc(), "none")?;
+    assert!(rt; config.chains.len() <= 128);
+    let services = expand_straight(&config, &name_of("c1")?);
+    assert!(rt; services.is_ok_and(|found| found.is_empty()));
     Ok(())
 }
