@@ -71,6 +71,13 @@ impl Name {
         Some(Name { octets, len })
     }
 
+    /// The octets of the text.
+    fn spelling(&self) -> &[u8]
+        ensures { result.now ≡ self.now }
+    {
+        &self.octets[..self.len]
+    }
+
     /// The text. It takes no memory.
     pub fn text(&self) -> &str
         ensures text { result.now ≡ self.now }
@@ -90,7 +97,7 @@ impl PartialEq for Name {
     ghost laws = { partial_equiv_from_equiv nat_list_eq_equiv };
 
     fn eq(&self, other: &Self) -> bool {
-        self.text() == other.text()
+        self.spelling() == other.spelling()
     }
 }
 
@@ -118,7 +125,7 @@ impl Ord for Name {
     ghost matches_eq = { λ s t. texts_ties s t };
 
     fn cmp(&self, other: &Self) -> Ordering {
-        self.text().cmp(other.text())
+        self.spelling().cmp(other.spelling())
     }
 }
 

@@ -6,6 +6,9 @@ mod command;
 mod lines;
 mod top;
 
+#[cfg(test)]
+mod tests;
+
 use ov_io::{StdSink, StdSource};
 use std::env::Env;
 use std::process::ExitCode;
