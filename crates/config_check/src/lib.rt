@@ -20,3 +20,6 @@ mod valid;
 pub use refusal::{CheckRefusal, IdKind, LimitKind, Refusal};
 pub use related::{NumberedRule, are_related, attaches, end_fits, fits, lets_through};
 pub use valid::{Valid, check};
+
+#[cfg(test)]
+mod tests;
