@@ -77,9 +77,9 @@ pub names_iff : (t : Topology) (c : Config) → (broken_name t c ≡ None) ↔ H
 unfolding broken_name
 names_iff t c =
     let parts = six_none (repeated_name (controller_names t ++ node_names t)) (repeated_name (network_names c)) (repeated_name (port_names c))
-      (repeated_name (policy_names c)) (repeated_name (service_names c ++ chain_names c)) (first_of repeated_controller t.nodes) in
+    (repeated_name (policy_names c)) (repeated_name (service_names c ++ chain_names c)) (first_of repeated_controller t.nodes) in
     let listed = iff_then (first_of_none repeated_controller t.nodes)
-      (all_iff (λ (n : Node). repeated_controller n ≡ None) (λ (n : Node). AreDistinct n.controllers) (λ n. distinct_names n.controllers) t.nodes) in (
+    (all_iff (λ (n : Node). repeated_controller n ≡ None) (λ (n : Node). AreDistinct n.controllers) (λ n. distinct_names n.controllers) t.nodes) in (
       λ h. let p = parts.0 h in record {
         nodes = (distinct_names (controller_names t ++ node_names t)).0 p.0;
         networks = (distinct_names (network_names c)).0 p.1;
@@ -94,8 +94,8 @@ names_iff t c =
         (distinct_names (port_names c)).1 k.ports,
         (distinct_names (policy_names c)).1 k.policies,
         (distinct_names (service_names c ++ chain_names c)).1 k.hops,
-        listed.1 k.controllers
-      )
+        listed.1 k.controllers,
+      ),
     )
 
 -- 3
@@ -109,7 +109,7 @@ numbers_iff t c =
     let sequences : List ℕ = map (λ p. p.sequence) c.policies in
     let services : List ℕ = map (λ s. s.id.0) c.services in
     let parts = six_none (repeated_id Id.Address addresses) (repeated_id Id.Network networks) (repeated_id Id.Port ports)
-      (repeated_id Id.Sequence sequences) (repeated_id Id.Service services) (repeated_id Id.Use (use_numbers c)) in (
+    (repeated_id Id.Sequence sequences) (repeated_id Id.Service services) (repeated_id Id.Use (use_numbers c)) in (
       λ h. let p = parts.0 h in record {
         addresses = (distinct_ids Id.Address addresses).0 p.0;
         networks = (distinct_ids Id.Network networks).0 p.1;
@@ -124,8 +124,8 @@ numbers_iff t c =
         (distinct_ids Id.Port ports).1 k.ports,
         (distinct_ids Id.Sequence sequences).1 k.sequences,
         (distinct_ids Id.Service services).1 k.services,
-        (distinct_ids Id.Use (use_numbers c)).1 k.uses
-      )
+        (distinct_ids Id.Use (use_numbers c)).1 k.uses,
+      ),
     )
 
 -- 4
@@ -147,7 +147,7 @@ rule_iff networks chains r =
     let outer = both_none (missing_end networks r.rule.source) (missing_end networks r.rule.destination <|> missing_chain chains r.rule.action) in
     let inner = both_none (missing_end networks r.rule.destination) (missing_chain chains r.rule.action) in (
       λ h. let p = outer.0 h in let q = inner.0 p.1 in (source.0 p.0, destination.0 q.0, action.0 q.1),
-      λ k. outer.1 (source.1 k.0, inner.1 (destination.1 k.1, action.1 k.2))
+      λ k. outer.1 (source.1 k.0, inner.1 (destination.1 k.1, action.1 k.2)),
     )
 
 each_iff : {A : Type 0} (f : A → Option Refusal) (P : A → Type 0) → ((x : A) → (f x ≡ None) ↔ P x) → (xs : List A) → (first_of f xs ≡ None) ↔ All P xs
@@ -158,20 +158,25 @@ unfolding broken_reference
 references_iff t c =
     let hop_names : List (List ℕ) = service_names c ++ chain_names c in
     let parts = six_none (first_of (missing_in_node (controller_names t)) t.nodes) (first_of (missing_in_network (policy_names c)) c.networks)
-      (first_of (missing_in_port (network_names c) (node_names t)) c.ports) (first_of (missing_in_rule (network_names c) (chain_names c)) (all_rules c))
-      (first_of (missing_in_service (node_names t)) c.services) (first_of (missing_in_chain hop_names) c.chains) in
+    (first_of (missing_in_port (network_names c) (node_names t)) c.ports) (first_of (missing_in_rule (network_names c) (chain_names c)) (all_rules c))
+    (first_of (missing_in_service (node_names t)) c.services) (first_of (missing_in_chain hop_names) c.chains) in
     let nodes = each_iff (missing_in_node (controller_names t)) (λ n. All (Contains (controller_names t)) n.controllers) (λ n. all_exist_iff (controller_names t) n.controllers) t.nodes in
     let networks = each_iff (missing_in_network (policy_names c)) (λ n. All (Contains (policy_names c)) n.policies) (λ n. all_exist_iff (policy_names c) n.policies) c.networks in
     let ports = each_iff (missing_in_port (network_names c) (node_names t)) (λ p. Contains (network_names c) p.network × Contains (node_names t) p.node) (port_iff (network_names c) (node_names t)) c.ports in
     let rules = each_iff (missing_in_rule (network_names c) (chain_names c))
-      (λ r. EndExists (network_names c) r.rule.source × EndExists (network_names c) r.rule.destination × ChainExists (chain_names c) r.rule.action)
-      (rule_iff (network_names c) (chain_names c)) (all_rules c) in
+    (λ r. EndExists (network_names c) r.rule.source × EndExists (network_names c) r.rule.destination × ChainExists (chain_names c) r.rule.action)
+    (rule_iff (network_names c) (chain_names c)) (all_rules c) in
     let services = each_iff (missing_in_service (node_names t)) (λ s. Contains (node_names t) s.node) (λ s. exists_iff (node_names t) s.node) c.services in
     let chains = each_iff (missing_in_chain hop_names) (λ d. All (Contains hop_names) d.hops) (λ d. all_exist_iff hop_names d.hops) c.chains in (
       λ h. let p = parts.0 h in record {
-        controllers = nodes.0 p.0; policies = networks.0 p.1; ports = ports.0 p.2; rules = rules.0 p.3; services = services.0 p.4; hops = chains.0 p.5;
+        controllers = nodes.0 p.0;
+        policies = networks.0 p.1;
+        ports = ports.0 p.2;
+        rules = rules.0 p.3;
+        services = services.0 p.4;
+        hops = chains.0 p.5;
       },
-      λ k. parts.1 (nodes.1 k.controllers, networks.1 k.policies, ports.1 k.ports, rules.1 k.rules, services.1 k.services, chains.1 k.hops)
+      λ k. parts.1 (nodes.1 k.controllers, networks.1 k.policies, ports.1 k.ports, rules.1 k.rules, services.1 k.services, chains.1 k.hops),
     )
 
 -- 5 to 8

@@ -37,7 +37,7 @@ pub record FewInAll (controllers nodes networks ports policies services chains :
 
 pub all_kept : (a b c d e f g : Bool)
     → (limit_unless Counted.Controllers a <|> (limit_unless Counted.Nodes b <|> (limit_unless Counted.Networks c <|> (limit_unless Counted.Ports d
-      <|> (limit_unless Counted.Policies e <|> (limit_unless Counted.Services f <|> limit_unless Counted.Chains g)))))) ≡ None
+    <|> (limit_unless Counted.Policies e <|> (limit_unless Counted.Services f <|> limit_unless Counted.Chains g)))))) ≡ None
     → FewInAll a b c d e f g
 all_kept false b c d e f g h = cc
 all_kept true false c d e f g h = cc

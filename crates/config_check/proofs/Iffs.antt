@@ -68,7 +68,7 @@ all_fail : {A : Type 0} (p : A → Bool) (xs : List A) → find p xs ≡ None �
 all_fail p [] h = λ k d lt. absurd (omega arith)
 all_fail {A} p (x ∷ xs) h =
     let parts : (p x ≡ false) × (find p xs ≡ None) =
-      elim (p x) as (λ b. cond b (Some x) (find p xs) ≡ None → (b ≡ false) × (find p xs ≡ None)) [ true ↦ λ e. cc | false ↦ λ e. (refl, e) ] h
+    elim (p x) as (λ b. cond b (Some x) (find p xs) ≡ None → (b ≡ false) × (find p xs ≡ None)) [ true ↦ λ e. cc | false ↦ λ e. (refl, e) ] h
     in all_cons (λ y. p y ≡ false) x xs parts.0 (all_fail p xs parts.1)
 
 none_passes : {A : Type 0} (p : A → Bool) (xs : List A) → All (λ x. p x ≡ false) xs → find p xs ≡ None
@@ -112,7 +112,7 @@ module _ {A : Type 0} (meets : A → A → Bool) where
       let here : apart_from before x = all_fail (λ b. meets b x) before ((mapped_none (λ (b : A). (b, x)) earlier).0 parts.0) in
       let later = no_meeting (before ++ x ∷ []) xs parts.1 in (
         AllPairs-cons apart x xs (λ k d lt. all_last (λ b. apart b (get_or xs k d)) before x (later.1 k d lt)) later.0,
-        all_cons (apart_from before) x xs here (λ k d lt. all_front (λ b. apart b (get_or xs k d)) before x (later.1 k d lt))
+        all_cons (apart_from before) x xs here (λ k d lt. all_front (λ b. apart b (get_or xs k d)) before x (later.1 k d lt)),
       )
 
   no_two_meet : (before xs : List A) → AllPairs apart xs → All (apart_from before) xs → meeting_after meets before xs ≡ None
@@ -123,7 +123,7 @@ module _ {A : Type 0} (meets : A → A → Bool) where
       (both_none (option_map (λ (b : A). (b, x)) earlier) rest).1 (
         (mapped_none (λ (b : A). (b, x)) earlier).1 (none_passes (λ b. meets b x) before (all_head (apart_from before) x xs others)),
         no_two_meet (before ++ x ∷ []) xs (pairs_tail apart x xs pairs)
-        (λ k d lt. all_snoc (λ b. apart b (get_or xs k d)) before x (all_tail (apart_from before) x xs others k d lt) (pairs_head apart x xs pairs k d lt))
+            (λ k d lt. all_snoc (λ b. apart b (get_or xs k d)) before x (all_tail (apart_from before) x xs others k d lt) (pairs_head apart x xs pairs k d lt)),
       )
 
   pub first_meeting_none : (xs : List A) → (first_meeting meets xs ≡ None) ↔ AllPairs (λ a b. meets a b ≡ false) xs
@@ -138,7 +138,7 @@ any_fails : {A : Type 0} (p : A → Bool) (xs : List A) → list_any p xs ≡ fa
 any_fails p [] h = λ k d lt. absurd (omega arith)
 any_fails {A} p (x ∷ xs) h =
     let parts : (p x ≡ false) × (list_any p xs ≡ false) =
-      elim (p x) as (λ b. (b || list_any p xs) ≡ false → (b ≡ false) × (list_any p xs ≡ false)) [ true ↦ λ e. cc | false ↦ λ e. (refl, e) ] h
+    elim (p x) as (λ b. (b || list_any p xs) ≡ false → (b ≡ false) × (list_any p xs ≡ false)) [ true ↦ λ e. cc | false ↦ λ e. (refl, e) ] h
     in all_cons (λ y. p y ≡ false) x xs parts.0 (any_fails p xs parts.1)
 
 all_failed : {A : Type 0} (p : A → Bool) (xs : List A) → All (λ x. p x ≡ false) xs → list_any p xs ≡ false
@@ -157,7 +157,7 @@ all_pass : {A : Type 0} (p : A → Bool) (xs : List A) → list_all p xs ≡ tru
 all_pass p [] h = λ k d lt. absurd (omega arith)
 all_pass {A} p (x ∷ xs) h =
     let parts : (p x ≡ true) × (list_all p xs ≡ true) =
-      elim (p x) as (λ b. (b && list_all p xs) ≡ true → (b ≡ true) × (list_all p xs ≡ true)) [ true ↦ λ e. (refl, e) | false ↦ λ e. cc ] h
+    elim (p x) as (λ b. (b && list_all p xs) ≡ true → (b ≡ true) × (list_all p xs ≡ true)) [ true ↦ λ e. (refl, e) | false ↦ λ e. cc ] h
     in all_cons (λ y. p y ≡ true) x xs parts.0 (all_pass p xs parts.1)
 
 all_passed : {A : Type 0} (p : A → Bool) (xs : List A) → All (λ x. p x ≡ true) xs → list_all p xs ≡ true
@@ -180,13 +180,13 @@ six_none a b c d e f =
     let p4 = both_none d (e <|> f) in
     let p5 = both_none e f in (
       λ h.
-        let h1 = p1.0 h in
-        let h2 = p2.0 h1.1 in
-        let h3 = p3.0 h2.1 in
-        let h4 = p4.0 h3.1 in
-        let h5 = p5.0 h4.1 in
-        (h1.0, h2.0, h3.0, h4.0, h5.0, h5.1),
-      λ k. p1.1 (k.0, p2.1 (k.1, p3.1 (k.2, p4.1 (k.3, p5.1 (k.4, k.5)))))
+          let h1 = p1.0 h in
+          let h2 = p2.0 h1.1 in
+          let h3 = p3.0 h2.1 in
+          let h4 = p4.0 h3.1 in
+          let h5 = p5.0 h4.1 in
+          (h1.0, h2.0, h3.0, h4.0, h5.0, h5.1),
+      λ k. p1.1 (k.0, p2.1 (k.1, p3.1 (k.2, p4.1 (k.3, p5.1 (k.4, k.5))))),
     )
 
 -- what is kept of a list
@@ -200,11 +200,11 @@ module _ {A : Type 0} (g : A → Bool) where
       elim (g x) as (λ b. (b ≡ g x) → All P (cond b (x ∷ filter g xs) (filter g xs)) ↔ All Q (x ∷ xs)) [
         | true ↦ λ e. (
           λ h. all_cons Q x xs (λ t. all_head P x (filter g xs) h) (rest.0 (all_tail P x (filter g xs) h)),
-          λ h. all_cons P x (filter g xs) (all_head Q x xs h (sym e)) (rest.1 (all_tail Q x xs h))
+          λ h. all_cons P x (filter g xs) (all_head Q x xs h (sym e)) (rest.1 (all_tail Q x xs h)),
         )
         | false ↦ λ e. (
           λ h. all_cons Q x xs (λ t. let absent : false ≡ true = e ∙ t in cc) (rest.0 h),
-          λ h. rest.1 (all_tail Q x xs h)
+          λ h. rest.1 (all_tail Q x xs h),
         )
       ] refl
 
@@ -216,10 +216,10 @@ module _ {A : Type 0} (g : A → Bool) where
       elim (g x) as (λ b. (b ≡ g x) → AllPairs R (cond b (x ∷ filter g xs) (filter g xs)) ↔ AllPairs K (x ∷ xs)) [
         | true ↦ λ e. (
           λ h. AllPairs-cons K x xs (λ k d lt t u. (all_kept (R x) xs).0 (pairs_head R x (filter g xs) h) k d lt u) (rest.0 (pairs_tail R x (filter g xs) h)),
-          λ h. AllPairs-cons R x (filter g xs) ((all_kept (R x) xs).1 (λ k d lt u. pairs_head K x xs h k d lt (sym e) u)) (rest.1 (pairs_tail K x xs h))
+          λ h. AllPairs-cons R x (filter g xs) ((all_kept (R x) xs).1 (λ k d lt u. pairs_head K x xs h k d lt (sym e) u)) (rest.1 (pairs_tail K x xs h)),
         )
         | false ↦ λ e. (
           λ h. AllPairs-cons K x xs (λ k d lt t u. let absent : false ≡ true = e ∙ t in cc) (rest.0 h),
-          λ h. rest.1 (pairs_tail K x xs h)
+          λ h. rest.1 (pairs_tail K x xs h),
         )
       ] refl

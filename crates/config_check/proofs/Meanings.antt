@@ -135,7 +135,7 @@ two_iff (Through c u) (Ends.Named x) Ends.Any = (λ h chain name use_no e e1 e2.
 two_iff (Through c u) (Ends.Named x) (Ends.Named y) =
     let differ : (same_name x y ≡ false) ↔ (¬ (x ≡ y)) = fails_iff (same_name x y) (same_name_iff x y) in (
       λ h chain name use_no e e1 e2. let one : x ≡ y = cc in differ.0 h one,
-      λ h. differ.1 (λ e. h c x u refl refl (ap Ends.Named (sym e)))
+      λ h. differ.1 (λ e. h c x u refl refl (ap Ends.Named (sym e))),
     )
 
 pub names_two_iff : (a : Action) (s d : End) → ((is_chain_rule a && same_end s d) ≡ false)
@@ -167,9 +167,8 @@ none_overlaps (a ∷ bs) h =
     let named : Network → Refusal = λ b. SubnetOverlap a.name b.name in
     (both_none (option_map named shared) (overlapping bs)).1 (
       (mapped_none named shared).1 ((find_none (share_addresses a) bs).1 (pairs_head R a bs h)),
-      none_overlaps bs (pairs_tail R a bs h)
+      none_overlaps bs (pairs_tail R a bs h),
     )
-
 
 around_test : (c : Config) (n a : Network) → IsTrue (same_name a.name n.name || are_related c n a) ↔ IsAround c n a
 around_test c n a = or_iff (same_name a.name n.name) (are_related c n a) (same_name_iff a.name n.name) (λ h. h, λ h. h)
@@ -183,7 +182,7 @@ around_iff c n =
     let S : Network → Network → Type 0 = λ a b. IsAround c n a → IsAround c n b → AreApart a b in
     let both : (a b : Network) → K a b ↔ S a b = λ a b. (
       λ h x y. (networks_apart_iff a b).0 (h ((around_test c n a).1 x) ((around_test c n b).1 y)),
-      λ h x y. (networks_apart_iff a b).1 (h ((around_test c n a).0 x) ((around_test c n b).0 y))
+      λ h x y. (networks_apart_iff a b).1 (h ((around_test c n a).0 x) ((around_test c n b).0 y)),
     ) in
     let listed : (overlapping (filter g c.networks) ≡ None) ↔ AllPairs R (filter g c.networks) = (no_overlapping (filter g c.networks), none_overlaps (filter g c.networks)) in
     iff_then listed (iff_then (pairs_kept g R c.networks) (pairs_iff K S both c.networks))

@@ -56,9 +56,9 @@ some_between c a b =
     let both : Policy → Bool = λ p. attaches a p && attaches b p in
     let leads : NumberedRule → Bool = λ r. leads_between a b r.rule in
     sym (
-      any_filter (λ (r : NumberedRule). lets_through r.rule.action) (λ (r : NumberedRule). fits r.rule a b || fits r.rule b a) (flat_map numbered_rules (by_sequence (filter both c.policies)))
-      ∙ any_flat_map leads numbered_rules (by_sequence (filter both c.policies))
-      ∙ any_by_sequence (λ (p : Policy). list_any leads (numbered_rules p)) (filter both c.policies)
-      ∙ any_filter (λ (p : Policy). list_any leads (numbered_rules p)) both c.policies
-      ∙ any_same _ (relates a b) (λ p. ap (λ (r : Bool). both p && r) (any_numbered (leads_between a b) p.sequence 1 p.rules)) c.policies
+    any_filter (λ (r : NumberedRule). lets_through r.rule.action) (λ (r : NumberedRule). fits r.rule a b || fits r.rule b a) (flat_map numbered_rules (by_sequence (filter both c.policies)))
+    ∙ any_flat_map leads numbered_rules (by_sequence (filter both c.policies))
+    ∙ any_by_sequence (λ (p : Policy). list_any leads (numbered_rules p)) (filter both c.policies)
+    ∙ any_filter (λ (p : Policy). list_any leads (numbered_rules p)) both c.policies
+    ∙ any_same _ (relates a b) (λ p. ap (λ (r : Bool). both p && r) (any_numbered (leads_between a b) p.sequence 1 p.rules)) c.policies
     )

@@ -13,13 +13,27 @@ use std::alloc::Global;
 fn controller_addresses(alloc: Global, topology: &Topology) -> Result<Vec<u32>, NoMemory>
     ensures { IfOk result (λ v. v.items ≡ map (λ n. n.address.0) topology.now.controllers) }
 {
-    Ok(topology.controllers.as_slice().iter().map(|n| n.address.0).collect(alloc)?)
+    Ok(
+        topology
+            .controllers
+            .as_slice()
+            .iter()
+            .map(|n| n.address.0)
+            .collect(alloc)?,
+    )
 }
 
 fn node_addresses(alloc: Global, topology: &Topology) -> Result<Vec<u32>, NoMemory>
     ensures { IfOk result (λ v. v.items ≡ map (λ n. n.address.0) topology.now.nodes) }
 {
-    Ok(topology.nodes.as_slice().iter().map(|n| n.address.0).collect(alloc)?)
+    Ok(
+        topology
+            .nodes
+            .as_slice()
+            .iter()
+            .map(|n| n.address.0)
+            .collect(alloc)?,
+    )
 }
 
 /// The addresses of control nodes and of compute nodes.
@@ -35,25 +49,53 @@ fn addresses(alloc: Global, topology: &Topology) -> Result<Vec<u32>, NoMemory>
 fn network_ids(alloc: Global, config: &Config) -> Result<Vec<u32>, NoMemory>
     ensures { IfOk result (λ v. v.items ≡ map (λ n. n.id.0) config.now.networks) }
 {
-    Ok(config.networks.as_slice().iter().map(|n| u32::from(n.id.0)).collect(alloc)?)
+    Ok(
+        config
+            .networks
+            .as_slice()
+            .iter()
+            .map(|n| u32::from(n.id.0))
+            .collect(alloc)?,
+    )
 }
 
 fn port_ids(alloc: Global, config: &Config) -> Result<Vec<u32>, NoMemory>
     ensures { IfOk result (λ v. v.items ≡ map (λ p. p.id.0) config.now.ports) }
 {
-    Ok(config.ports.as_slice().iter().map(|p| p.id.0).collect(alloc)?)
+    Ok(
+        config
+            .ports
+            .as_slice()
+            .iter()
+            .map(|p| p.id.0)
+            .collect(alloc)?,
+    )
 }
 
 fn sequences(alloc: Global, config: &Config) -> Result<Vec<u32>, NoMemory>
     ensures { IfOk result (λ v. v.items ≡ map (λ p. p.sequence) config.now.policies) }
 {
-    Ok(config.policies.as_slice().iter().map(|p| u32::from(p.sequence)).collect(alloc)?)
+    Ok(
+        config
+            .policies
+            .as_slice()
+            .iter()
+            .map(|p| u32::from(p.sequence))
+            .collect(alloc)?,
+    )
 }
 
 fn service_ids(alloc: Global, config: &Config) -> Result<Vec<u32>, NoMemory>
     ensures { IfOk result (λ v. v.items ≡ map (λ s. s.id.0) config.now.services) }
 {
-    Ok(config.services.as_slice().iter().map(|s| u32::from(s.id.0)).collect(alloc)?)
+    Ok(
+        config
+            .services
+            .as_slice()
+            .iter()
+            .map(|s| u32::from(s.id.0))
+            .collect(alloc)?,
+    )
 }
 
 fn use_of(action: &Action) -> Option<u32>
@@ -68,7 +110,12 @@ fn use_of(action: &Action) -> Option<u32>
 fn use_numbers(alloc: Global, rules: &[NumberedRule]) -> Result<Vec<u32>, NoMemory>
     ensures { IfOk result (λ v. v.items ≡ filter_map (λ r. use_of r.rule.action) rules.now) }
 {
-    Ok(rules.iter().filter_map(|r| use_of(&r.rule.action)).collect(alloc)?)
+    Ok(
+        rules
+            .iter()
+            .filter_map(|r| use_of(&r.rule.action))
+            .collect(alloc)?,
+    )
 }
 
 fn repeated_id(what: IdKind, ids: &[u32]) -> Option<Refusal>

@@ -22,3 +22,6 @@ pub use passing::passes_between;
 pub use refusal::{CheckRefusal, IdKind, LimitKind, Refusal};
 pub use related::{NumberedRule, are_related, attaches, end_fits, fits, lets_through};
 pub use valid::{Valid, check};
+
+#[cfg(test)]
+mod tests;

@@ -7,15 +7,25 @@ use crate::refusal::{LimitKind, Refusal};
 use config_model::{Chain, Config, Network, Policy, Topology};
 
 const CONTROLLERS: usize = 8;
+
 const NODES: usize = 64;
+
 const NETWORKS: usize = 128;
+
 const PORTS: usize = 1024;
+
 const POLICIES: usize = 128;
+
 const SERVICES: usize = 128;
+
 const CHAINS: usize = 128;
+
 const SUBNETS: usize = 4;
+
 const ATTACHMENTS: usize = 4;
+
 const RULES: usize = 16;
+
 const HOPS: usize = 64;
 
 fn limit_unless(what: LimitKind, is_kept: bool) -> Option<Refusal>
@@ -31,7 +41,10 @@ fn limit_unless(what: LimitKind, is_kept: bool) -> Option<Refusal>
 fn broken_count(topology: &Topology, config: &Config) -> Option<Refusal>
     ensures { result ≡ broken_count topology.now config.now }
 {
-    let controllers = limit_unless(LimitKind::Controllers, topology.controllers.len() <= CONTROLLERS);
+    let controllers = limit_unless(
+        LimitKind::Controllers,
+        topology.controllers.len() <= CONTROLLERS,
+    );
     let nodes = limit_unless(LimitKind::Nodes, topology.nodes.len() <= NODES);
     let networks = limit_unless(LimitKind::Networks, config.networks.len() <= NETWORKS);
     let ports = limit_unless(LimitKind::Ports, config.ports.len() <= PORTS);

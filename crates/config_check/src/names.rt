@@ -12,43 +12,92 @@ use std::alloc::Global;
 pub(crate) fn controller_names(alloc: Global, topology: &Topology) -> Result<Vec<Name>, NoMemory>
     ensures { IfOk result (λ v. v.items ≡ controller_names topology.now) }
 {
-    Ok(topology.controllers.as_slice().iter().map(|n| n.name).collect(alloc)?)
+    Ok(
+        topology
+            .controllers
+            .as_slice()
+            .iter()
+            .map(|n| n.name)
+            .collect(alloc)?,
+    )
 }
 
 pub(crate) fn node_names(alloc: Global, topology: &Topology) -> Result<Vec<Name>, NoMemory>
     ensures { IfOk result (λ v. v.items ≡ node_names topology.now) }
 {
-    Ok(topology.nodes.as_slice().iter().map(|n| n.name).collect(alloc)?)
+    Ok(
+        topology
+            .nodes
+            .as_slice()
+            .iter()
+            .map(|n| n.name)
+            .collect(alloc)?,
+    )
 }
 
 pub(crate) fn network_names(alloc: Global, config: &Config) -> Result<Vec<Name>, NoMemory>
     ensures { IfOk result (λ v. v.items ≡ network_names config.now) }
 {
-    Ok(config.networks.as_slice().iter().map(|n| n.name).collect(alloc)?)
+    Ok(
+        config
+            .networks
+            .as_slice()
+            .iter()
+            .map(|n| n.name)
+            .collect(alloc)?,
+    )
 }
 
 pub(crate) fn port_names(alloc: Global, config: &Config) -> Result<Vec<Name>, NoMemory>
     ensures { IfOk result (λ v. v.items ≡ port_names config.now) }
 {
-    Ok(config.ports.as_slice().iter().map(|p| p.name).collect(alloc)?)
+    Ok(
+        config
+            .ports
+            .as_slice()
+            .iter()
+            .map(|p| p.name)
+            .collect(alloc)?,
+    )
 }
 
 pub(crate) fn policy_names(alloc: Global, config: &Config) -> Result<Vec<Name>, NoMemory>
     ensures { IfOk result (λ v. v.items ≡ policy_names config.now) }
 {
-    Ok(config.policies.as_slice().iter().map(|p| p.name).collect(alloc)?)
+    Ok(
+        config
+            .policies
+            .as_slice()
+            .iter()
+            .map(|p| p.name)
+            .collect(alloc)?,
+    )
 }
 
 fn service_names(alloc: Global, config: &Config) -> Result<Vec<Name>, NoMemory>
     ensures { IfOk result (λ v. v.items ≡ service_names config.now) }
 {
-    Ok(config.services.as_slice().iter().map(|s| s.name).collect(alloc)?)
+    Ok(
+        config
+            .services
+            .as_slice()
+            .iter()
+            .map(|s| s.name)
+            .collect(alloc)?,
+    )
 }
 
 pub(crate) fn chain_names(alloc: Global, config: &Config) -> Result<Vec<Name>, NoMemory>
     ensures { IfOk result (λ v. v.items ≡ chain_names config.now) }
 {
-    Ok(config.chains.as_slice().iter().map(|d| d.name).collect(alloc)?)
+    Ok(
+        config
+            .chains
+            .as_slice()
+            .iter()
+            .map(|d| d.name)
+            .collect(alloc)?,
+    )
 }
 
 /// The names of control nodes and of compute nodes, which share a namespace.
@@ -98,7 +147,11 @@ fn first_repeated_controller(nodes: &[Node]) -> Option<Refusal>
 
 /// The first name that stands twice in its namespace.
 #[tactic(auto, unfolding(crate::specs::Rules::broken_name))]
-pub(crate) fn broken_name(alloc: Global, topology: &Topology, config: &Config) -> Result<Option<Refusal>, NoMemory>
+pub(crate) fn broken_name(
+    alloc: Global,
+    topology: &Topology,
+    config: &Config,
+) -> Result<Option<Refusal>, NoMemory>
     ensures { IfOk result (λ found. found ≡ broken_name topology.now config.now) }
 {
     let nodes = repeated_name(&all_node_names(alloc, topology)?);

@@ -22,7 +22,10 @@ fn overlaps_some(prefix: &Prefix, subnets: &[Prefix]) -> bool
 fn share_addresses(a: &Network, b: &Network) -> bool
     ensures { result ≡ share_addresses a.now b.now }
 {
-    a.subnets.as_slice().iter().any(|p| overlaps_some(p, b.subnets.as_slice()))
+    a.subnets
+        .as_slice()
+        .iter()
+        .any(|p| overlaps_some(p, b.subnets.as_slice()))
 }
 
 fn is_in_group(config: &Config, network: &Network, other: &Network) -> bool
@@ -32,7 +35,11 @@ fn is_in_group(config: &Config, network: &Network, other: &Network) -> bool
 }
 
 /// A network, and those that are related to it, in the document's order.
-fn group_of<'a>(alloc: Global, config: &'a Config, network: &Network) -> Result<Vec<&'a Network>, NoMemory>
+fn group_of<'a>(
+    alloc: Global,
+    config: &'a Config,
+    network: &Network,
+) -> Result<Vec<&'a Network>, NoMemory>
     ensures { IfOk result (λ v. map (λ n. n.now) v.items ≡ group_of config.now network.now) }
 {
     let mut group = Vec::new(alloc);
@@ -69,7 +76,11 @@ fn overlapping(group: &[&Network]) -> Option<Refusal>
     None
 }
 
-fn overlapping_around(alloc: Global, config: &Config, network: &Network) -> Result<Option<Refusal>, NoMemory>
+fn overlapping_around(
+    alloc: Global,
+    config: &Config,
+    network: &Network,
+) -> Result<Option<Refusal>, NoMemory>
     ensures { IfOk result (λ found. found ≡ overlapping_around config.now network.now) }
 {
     let group = group_of(alloc, config, network)?;

@@ -17,7 +17,11 @@ fn network_named<'a>(config: &'a Config, name: &Name) -> Option<&'a Network>
 fn holds_address(network: &Network, address: Addr) -> bool
     ensures { result ≡ holds_address network.now address.0 }
 {
-    network.subnets.as_slice().iter().any(|p| p.contains(address))
+    network
+        .subnets
+        .as_slice()
+        .iter()
+        .any(|p| p.contains(address))
 }
 
 /// Whether the port's network is there, and has no subnet that holds the port's address.
@@ -33,7 +37,12 @@ fn is_outside(config: &Config, port: &Port) -> bool
 fn first_outside(config: &Config) -> Option<Port>
     ensures { result ≡ find (is_outside config.now) config.now.ports }
 {
-    config.ports.as_slice().iter().copied().find(|p| is_outside(config, p))
+    config
+        .ports
+        .as_slice()
+        .iter()
+        .copied()
+        .find(|p| is_outside(config, p))
 }
 
 /// The first port whose address is in no subnet of its network.

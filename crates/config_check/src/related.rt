@@ -51,7 +51,11 @@ pub(crate) fn all_rules(alloc: Global, config: &Config) -> Result<Vec<NumberedRu
 pub fn attaches(network: &Network, policy: &Policy) -> bool
     ensures { result ≡ attaches network.now policy.now }
 {
-    network.policies.as_slice().iter().any(|name| policy.name == *name)
+    network
+        .policies
+        .as_slice()
+        .iter()
+        .any(|name| policy.name == *name)
 }
 
 /// Whether an end of a rule is this network, or any.
@@ -90,7 +94,11 @@ fn leads_between(rule: &Rule, a: &Network, b: &Network) -> bool
 fn some_rule_leads(policy: &Policy, a: &Network, b: &Network) -> bool
     ensures { result ≡ list_any (leads_between a.now b.now) policy.now.rules }
 {
-    policy.rules.as_slice().iter().any(|rule| leads_between(rule, a, b))
+    policy
+        .rules
+        .as_slice()
+        .iter()
+        .any(|rule| leads_between(rule, a, b))
 }
 
 fn relates(policy: &Policy, a: &Network, b: &Network) -> bool

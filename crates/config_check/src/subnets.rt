@@ -73,7 +73,11 @@ fn nested_in(network: &Network) -> Option<Refusal>
     ensures { result ≡ nested_in network.now }
 {
     let (first, second) = first_meeting(network.subnets.as_slice())?;
-    Some(Refusal::SubnetNested { network: network.name, first, second })
+    Some(Refusal::SubnetNested {
+        network: network.name,
+        first,
+        second,
+    })
 }
 
 /// The first subnet that overlaps an earlier one of its network.
