@@ -15,7 +15,7 @@ use Rattle.chain_expand.specs.Expansion.{names_chain, hops_of, leads_within, lea
 use Rattle.chain_expand.specs.Links.{place_of, place_named, hops_at, is_marked, meets, IsLinked, IsReached, IsRound, leads_at}
 
 -- what is found stands at its place
-found_at : {X : Type 0} (p : X → Bool) (xs : List X) (o : Option ℕ) → position p xs ≡ o → find p xs ≡ option_and_then (slice_get xs) o
+pub found_at : {X : Type 0} (p : X → Bool) (xs : List X) (o : Option ℕ) → position p xs ≡ o → find p xs ≡ option_and_then (slice_get xs) o
 found_at p xs o e =
     let n = position_or_len p xs in
     elim (cases_lt n (length xs)) [
@@ -28,10 +28,10 @@ found_at p xs o e =
     ]
 
 -- the hops of a name are those at its place
-hops_of_none : (c : Config) (name : List ℕ) → place_of c name ≡ None → hops_of c name ≡ []
+pub hops_of_none : (c : Config) (name : List ℕ) → place_of c name ≡ None → hops_of c name ≡ []
 hops_of_none c name e = ap (λ o. option_map_or (λ d. d.hops) o []) (found_at (λ d. same_name d.name name) c.chains None e)
 
-hops_of_some : (c : Config) (name : List ℕ) (p : ℕ) → place_of c name ≡ Some p → hops_of c name ≡ hops_at c p
+pub hops_of_some : (c : Config) (name : List ℕ) (p : ℕ) → place_of c name ≡ Some p → hops_of c name ≡ hops_at c p
 hops_of_some c name p e = ap (λ o. option_map_or (λ d. d.hops) o []) (found_at (λ d. same_name d.name name) c.chains (Some p) e)
 
 pub leads_none : (n : ℕ) (c : Config) (from to : List ℕ) → place_of c from ≡ None → leads_within n c from to ≡ false
@@ -44,10 +44,10 @@ unfolding leads_within leads_at
 leads_some zero c from to p e = refl
 leads_some (suc n) c from to p e = ap (list_any (λ hop. names_chain c hop && (same_name hop to || leads_within n c hop to))) (hops_of_some c from p e)
 
-no_chain : Chain
+pub no_chain : Chain
 no_chain = record { name = []; hops = [] }
 
-named_at : (c : Config) (name : List ℕ) (p : ℕ) → place_of c name ≡ Some p → (p < length c.chains) × ((get_or c.chains p no_chain).name ≡ name)
+pub named_at : (c : Config) (name : List ℕ) (p : ℕ) → place_of c name ≡ Some p → (p < length c.chains) × ((get_or c.chains p no_chain).name ≡ name)
 named_at c name p e =
     let at = position-Some (λ d. same_name d.name name) c.chains p no_chain e in
     (at.0, same_text _ _ (sym at.1))
@@ -65,7 +65,7 @@ same_place c hop to p target at at' =
     by false e =
         ne_eqb p target (λ one. other_text hop to (sym e) (sym (named_at c hop p at).1 ∙ ap (λ k. (get_or c.chains k no_chain).name) one ∙ (named_at c to target at').1))
 
-list_any_same : {X : Type 0} (p q : X → Bool) → ((x : X) → p x ≡ q x) → (xs : List X) → list_any p xs ≡ list_any q xs
+pub list_any_same : {X : Type 0} (p q : X → Bool) → ((x : X) → p x ≡ q x) → (xs : List X) → list_any p xs ≡ list_any q xs
 list_any_same p q same [] = refl
 list_any_same p q same (x ∷ xs) = ap (λ b. b || list_any p xs) (same x) ∙ ap (λ b. q x || b) (list_any_same p q same xs)
 

@@ -1,4 +1,5 @@
 pub mod First
 pub mod Expansion
 pub mod Room
+pub mod Leading
 pub mod Links

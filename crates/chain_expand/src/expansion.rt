@@ -18,8 +18,15 @@ pub fn expand_straight(config: &Config, chain: &Name) -> Result<Services<15>, Ch
     ensures { result ≡ numbers_or_fault chain.now (expansion config.now chain.now) }
 {
     let mut found = Found::new(*chain);
+    let mut barren = [0; 128];
     let depth = config.chains.len();
-    match append_hops(config, depth, hops::hops_of(config, chain), &mut found) {
+    match append_hops(
+        config,
+        depth,
+        hops::hops_of(config, chain),
+        &mut found,
+        &mut barren,
+    ) {
         Room::Full => Err(ChainFault::TooLong { chain: *chain }),
         Room::Fits => numbers_or_twice(chain, found.as_slice()),
     }

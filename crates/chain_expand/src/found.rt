@@ -48,6 +48,12 @@ impl Found {
         self.len == MOST
     }
 
+    pub fn len(&self) -> usize
+        ensures { result ≡ length self.now }
+    {
+        self.len
+    }
+
     /// Appends a service.
     pub fn push(&mut self, service: Service)
         requires { length self.old < 15 }

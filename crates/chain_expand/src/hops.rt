@@ -1,7 +1,8 @@
 //! What the hops of chains name.
-ghost use Rattle.std.specs.Prelude.{◌≡◌, option_copied};
+ghost use Rattle.std.specs.Prelude.{◌≡◌, ◌<◌, length, option_copied};
 ghost use Rattle.std.specs.Cmp.Lexicographic.{pointwise};
 ghost use Rattle.chain_expand.specs.Expansion.{service_named, chain_named, hops_of};
+ghost use Rattle.chain_expand.specs.Links.{hops_at};
 
 use config_model::{Chain, Config, Service};
 use ov_types::Name;
@@ -28,4 +29,12 @@ pub fn hops_of<'a>(config: &'a Config, name: &Name) -> &'a [Name]
         Some(chain) => chain.hops.as_slice(),
         None => &[],
     }
+}
+
+/// The hops of the chain at a place.
+pub fn hops_at(config: &Config, place: usize) -> &[Name]
+    requires { place < length config.now.chains }
+    ensures { result.now ≡ hops_at config.now place }
+{
+    config.chains.as_slice()[place].hops.as_slice()
 }

@@ -6,10 +6,14 @@ mod expansion;
 mod fault;
 mod found;
 mod hops;
+mod laws;
 mod links;
 mod loops;
 mod numbers;
+#[cfg(test)]
+mod tests;
 
 pub use expansion::{expand, expand_straight};
 pub use fault::ChainFault;
+pub use laws::{expands_by_hops, expands_to_one, expands_where, leads_by_hops};
 pub use loops::first_loop;

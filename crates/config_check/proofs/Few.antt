@@ -17,11 +17,11 @@ pub second_none : {A : Type 0} (a b : Option A) → (a <|> b) ≡ None → b ≡
 second_none None b h = h
 second_none (Some x) b h = cc
 
-parts_kept : (t : Topology) (c : Config) → broken_limit t c ≡ None → broken_part c ≡ None
+pub parts_kept : (t : Topology) (c : Config) → broken_limit t c ≡ None → broken_part c ≡ None
 unfolding broken_limit
 parts_kept t c h = second_none (broken_count t c) (broken_part c) h
 
-counts_kept : (t : Topology) (c : Config) → broken_limit t c ≡ None → broken_count t c ≡ None
+pub counts_kept : (t : Topology) (c : Config) → broken_limit t c ≡ None → broken_count t c ≡ None
 unfolding broken_limit
 counts_kept t c h = first_none (broken_count t c) (broken_part c) h
 
@@ -35,7 +35,7 @@ pub record FewInAll (controllers nodes networks ports policies services chains :
   pub services_kept : services ≡ true
   pub chains_kept : chains ≡ true
 
-all_kept : (a b c d e f g : Bool)
+pub all_kept : (a b c d e f g : Bool)
     → (limit_unless Counted.Controllers a <|> (limit_unless Counted.Nodes b <|> (limit_unless Counted.Networks c <|> (limit_unless Counted.Ports d
       <|> (limit_unless Counted.Policies e <|> (limit_unless Counted.Services f <|> limit_unless Counted.Chains g)))))) ≡ None
     → FewInAll a b c d e f g
@@ -55,7 +55,7 @@ pub record FewInEach (subnets attachments rules hops : Bool) : Type 0 where
   pub rules_kept : rules ≡ true
   pub hops_kept : hops ≡ true
 
-each_kept : (a b c d : Bool)
+pub each_kept : (a b c d : Bool)
     → (limit_unless Counted.Subnets a <|> (limit_unless Counted.Attachments b <|> (limit_unless Counted.Rules c <|> limit_unless Counted.Hops d))) ≡ None
     → FewInEach a b c d
 each_kept false b c d h = cc

@@ -5,3 +5,6 @@ pub mod SomeRule
 pub mod Straight
 pub mod Few
 pub mod Iffs
+pub mod Meanings
+pub mod EachRule
+pub mod Validity

@@ -3,6 +3,7 @@
 
 mod chains;
 mod ids;
+pub mod laws;
 mod limits;
 mod meeting;
 mod names;

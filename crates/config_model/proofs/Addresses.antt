@@ -31,7 +31,7 @@ decimal_read n a rest lt =
     digits_read n 0 (decimal a) rest d.0.1 ∙ ap (λ (v : ℕ). parts_value n v rest) d.1
 
 -- four parts
-abbrev whole : ℕ → ℕ → ℕ → ℕ → ℕ
+abbrev pub whole : ℕ → ℕ → ℕ → ℕ → ℕ
 whole a b c d = (((0 * 256 + a) * 256 + b) * 256 + c) * 256 + d
 
 dotted_read : (a b c d : ℕ) → a < 256 → b < 256 → c < 256 → d < 256
@@ -42,6 +42,10 @@ dotted_read a b c d la lb lc ld =
     ∙ decimal_read ((0 * 256 + a) * 256 + b) c (codes "." ++ decimal d) lc
     ∙ ap (λ (t : List ℕ). parts_value (((0 * 256 + a) * 256 + b) * 256 + c) 0 t) (sym (append-nil (decimal d)))
     ∙ decimal_read (((0 * 256 + a) * 256 + b) * 256 + c) d [] ld
+
+-- the text of an address is read as its parts
+pub text_value : (n : ℕ) → parts_value 0 0 (address_text n) ≡ whole (n / 16777216 % 256) (n / 65536 % 256) (n / 256 % 256) (n % 256)
+text_value n = dotted_read (n / 16777216 % 256) (n / 65536 % 256) (n / 256 % 256) (n % 256) (omega arith) (omega arith) (omega arith) (omega arith)
 
 -- the parts of a whole
 spelled_again : (a b c d : ℕ) → a < 256 → b < 256 → c < 256 → d < 256
@@ -54,7 +58,7 @@ spelled_again a b c d la lb lc ld =
     rw (ea, eb, ec, ed) refl
 
 -- text that an address spells is read as that address
-found : (text : List ℕ) (n : ℕ) → parts_value 0 0 text ≡ n → address_text n ≡ text → address_of text ≡ Some n
+pub found : (text : List ℕ) (n : ℕ) → parts_value 0 0 text ≡ n → address_text n ≡ text → address_of text ≡ Some n
 unfolding address_of
 found text n value spelled =
     let e : bytes_eq (address_text (parts_value 0 0 text)) text ≡ true = (bytes_eq-Decides _ _).1 (ap address_text value ∙ spelled) in

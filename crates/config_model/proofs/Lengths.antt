@@ -1,5 +1,5 @@
 -- Lengths of prefixes in decimal.
-use Rattle.std.proofs.Common.{◌≡◌, ◌≢◌, ℕ, zero, suc, ◌+◌, ◌^◌, ◌<◌, ◌≤◌, ◌&&◌, true, false, List, [], ◌∷◌, length, drop, get_or, Option, Some, None, Ok, Err, Result, refl, sym, subst, ap, ◌∙◌, arith, inl, inr}
+use Rattle.std.proofs.Common.{◌≡◌, ℕ, zero, suc, ◌^◌, ◌<◌, ◌≤◌, ◌&&◌, true, false, List, [], ◌∷◌, length, get_or, Option, Some, None, Err, refl, sym, subst, ap, ◌∙◌, arith, inl, inr}
 use Rattle.std.specs.Prelude.{decimal, bytes_eq, nat_le}
 use Rattle.std.specs.List.{position_or_len, after_first}
 use Rattle.std.specs.Str.Parse.{AllDigits, IsNumeral, digits_value, without_leading_plus, ParsesUnsigned}
@@ -8,7 +8,6 @@ use Rattle.std.proofs.lemmas.Bool.{cases_Bool, and_parts, leb-true, le-leb}
 use Rattle.std.proofs.lemmas.Fmt.{decimal_is_IsNumeral, decimal-digits_value, first_decimal, decimal_digit}
 use Rattle.std.proofs.lemmas.Slice.Eq.{bytes_eq-Decides}
 use Rattle.std.proofs.lemmas.Str.Parse.{numerals_by_value, tells_digits, digit_from_value, without_leading_plus_none}
-use Rattle.ov_types.specs.Prefix.{Block}
 use Rattle.config_model.specs.Written.{begins_plainly, length_of, is_slash, block_from}
 
 -- the text of a number is read as it
@@ -47,7 +46,7 @@ decimal_begins (suc n) small =
     let d = (decimal_is_IsNumeral (suc n) (omega arith)).0 in
     begins_of (decimal (suc n)) d.1 d.0 (λ _. first_decimal (suc n) (omega arith) (omega arith))
 
-found : (text : List ℕ) (n : ℕ) → n ≤ 32 → decimal n ≡ text → Some n ≡ length_of text
+pub found : (text : List ℕ) (n : ℕ) → n ≤ 32 → decimal n ≡ text → Some n ≡ length_of text
 unfolding length_of
 found text n small e =
     let v = value_of text n small e in
@@ -94,7 +93,7 @@ not_parsed text e h p = not_found text (λ n small same.
     p (subst (λ (t : List ℕ). IsNumeral 10 t × (digits_value 10 t < 2 ^ 8)) (sym (no_plus text h)) w))
 
 -- a text without a slash
-empty_length : None ≡ length_of []
+pub empty_length : None ≡ length_of []
 empty_length = not_plain [] refl
 
 none_from : (o : Option ℕ) → None ≡ block_from o None

@@ -1,5 +1,5 @@
 -- Members of objects and items of lists.
-use Rattle.std.specs.Prelude.{ℕ, ◌+◌, ◌∷◌, [], List, ⊤, Bool, true, not, nat_le, ◌==◌, nat_eq, Option, Some, None, Result, Ok, Err, if◌then◌else◌}
+use Rattle.std.specs.Prelude.{ℕ, ◌+◌, ◌∷◌, [], List, ⊤, Bool, true, not, nat_le, ◌==◌, nat_eq, Option, Some, None, Result, Ok, if◌then◌else◌}
 use Rattle.std.specs.List.{list_any}
 use Rattle.std.specs.Cmp.Lexicographic.{pointwise}
 use Rattle.serde_json.specs.Data.{Num, unsigned, negative, float, Data, Items, no_items, item, Members, no_members, member}
@@ -8,7 +8,6 @@ use Rattle.serde_json.specs.Find.{get, as_number, as_str, as_array, as_object}
 use Rattle.ov_types.specs.Name.{name_of}
 use Rattle.ov_types.specs.Prefix.{Block}
 use Rattle.ov_types.specs.declared.prefix.Addr.{Addr}
-use Rattle.config_model.specs.declared.fault.DocKind.{DocKind}
 use Rattle.config_model.specs.declared.fault.DocKind.TheVariants.{Missing, Kind, Range, Unknown}
 use Rattle.config_model.specs.declared.fields.Count.{Count}
 use Rattle.config_model.specs.declared.fields.Count.TheVariants.{AnyNumber, AtLeastOne, OneOrTwo, Two}

@@ -7,3 +7,4 @@ pub mod Topology
 pub mod Rule
 pub mod Config
 pub mod Input
+pub mod Laws

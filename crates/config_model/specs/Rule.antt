@@ -1,5 +1,5 @@
 -- The written form of a rule.
-use Rattle.std.specs.Prelude.{ℕ, ◌∷◌, [], ◌++◌, List, nat_eq, nat_le, codes, Option, Some, None, Result, Ok, Err, if◌then◌else◌}
+use Rattle.std.specs.Prelude.{ℕ, ◌∷◌, [], ◌++◌, List, nat_eq, nat_le, codes, Option, Some, None, Result, Ok, if◌then◌else◌}
 use Rattle.std.specs.Cmp.Lexicographic.{pointwise}
 use Rattle.serde_json.specs.Data.{Data}
 use Rattle.serde_json.specs.Find.{as_str}

@@ -7,6 +7,7 @@ ghost use Rattle.config_model.specs.Faults.{Gives, Fault};
 ghost use Rattle.config_model.specs.Form.{has_network_form, has_port_form, has_policy_form, has_service_form, has_chain_form, has_config_form};
 ghost use Rattle.config_model.specs.Config.{network_at, port_at, policy_at, service_at, chain_at, config_at};
 
+use crate::bounds::{LAST_NETWORK, LAST_PORT, LAST_SEQUENCE, LAST_SERVICE};
 use crate::config::{Chain, Config, Network, Policy, Port, Rule, Service};
 use crate::fault::{Place, ReadRefusal};
 use crate::fields::{
@@ -17,14 +18,6 @@ use crate::values::{address_member, name_but_member};
 use ov_types::{InstanceId, Name, PortNo, Prefix, ServiceNo};
 use serde_json::Value;
 use std::alloc::Global;
-
-const LAST_NETWORK: u64 = 16_383;
-
-const LAST_PORT: u64 = 524_271;
-
-const LAST_SEQUENCE: u64 = 65_535;
-
-const LAST_SERVICE: u64 = 65_535;
 
 impl FromDocument for Network {
     ghost reads = { network_at };
@@ -65,7 +58,12 @@ impl FromDocument for Port {
         let network = read_member::<Name>(alloc, path, "network", value)?;
         let address = address_member(alloc, path, "address", 0, u32::MAX, value)?;
         let node = read_member::<Name>(alloc, path, "node", value)?;
-        check_others(alloc, path, &["name", "id", "network", "address", "node"], members)?;
+        check_others(
+            alloc,
+            path,
+            &["name", "id", "network", "address", "node"],
+            members,
+        )?;
         Ok(Port {
             name,
             id: PortNo(id as u32),

@@ -8,6 +8,7 @@ ghost use Rattle.config_model.specs.Faults.{Gives, Fault};
 ghost use Rattle.config_model.specs.Form.{has_topology_form, has_config_form, has_packet_form};
 ghost use Rattle.config_model.specs.Input.{packet_at, compile_at, reach_at};
 
+use crate::bounds::{LAST_PORT, LAST_PORT_NUMBER, LAST_PROTOCOL};
 use crate::config::Config;
 use crate::fault::{Place, ReadRefusal};
 use crate::fields::{
@@ -18,12 +19,6 @@ use crate::values::address_member;
 use ov_types::{Items, Packet, PortNo, Tuple};
 use serde_json::Value;
 use std::alloc::Global;
-
-const LAST_PORT: u64 = 524_271;
-
-const LAST_PROTOCOL: u64 = 255;
-
-const LAST_PORT_NUMBER: u64 = 65_535;
 
 /// What there is, and what is configured.
 #[derive(Clone, Debug, Drop, PartialEq, Eq)]
@@ -107,7 +102,12 @@ fn reach_input_of(alloc: Global, path: &str, value: &Value) -> Result<ReachInput
     let topology = read_member::<Topology>(alloc, path, "topology", value)?;
     let config = read_member::<Config>(alloc, path, "configuration", value)?;
     let packets = list_member::<Packet>(alloc, path, "packets", Count::AnyNumber, value)?;
-    check_others(alloc, path, &["topology", "configuration", "packets"], members)?;
+    check_others(
+        alloc,
+        path,
+        &["topology", "configuration", "packets"],
+        members,
+    )?;
     Ok(ReachInput {
         topology,
         config,

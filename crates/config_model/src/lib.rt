@@ -1,14 +1,16 @@
 //! Documents: what a topology and a configuration are, and the exact readers of their written form.
 #![tactic(auto)]
 
+mod bounds;
 mod config;
 mod config_reader;
 mod fault;
 mod fields;
 mod input;
+mod laws;
 mod rule_reader;
-mod topology_reader;
 mod topology;
+mod topology_reader;
 mod values;
 mod written;
 
@@ -18,8 +20,12 @@ pub use config::{
 pub use config_reader::read_config;
 pub use fault::{DocFault, DocKind, ReadRefusal};
 pub use input::{Plan, ReachInput, read_compile, read_packet, read_reach};
-pub use topology_reader::read_topology;
+pub use laws::{
+    configurations_have_just_their_members, first_members_are_missed,
+    packets_have_just_their_members, texts_are_one, topologies_have_just_their_members,
+};
 pub use topology::{Node, Topology};
+pub use topology_reader::read_topology;
 
 #[cfg(test)]
 mod tests;

@@ -8,6 +8,7 @@ ghost use Rattle.config_model.specs.Form.{is_range, has_end_form, has_protocol_f
 ghost use Rattle.config_model.specs.Fields.{in_member, text_at, only_at};
 ghost use Rattle.config_model.specs.Rule.{direction_of, direction_at, end_at, protocol_at, port_number_at, range_at, through_at, action_at, members_with, rule_at};
 
+use crate::bounds::{LAST_PORT_NUMBER, LAST_PROTOCOL, LAST_USE};
 use crate::config::{Action, Direction, End, Protocol, Rule};
 use crate::fault::{DocKind, Place, ReadRefusal};
 use crate::fields::{
@@ -17,12 +18,6 @@ use crate::fields::{
 use ov_types::{Name, Range16};
 use serde_json::{Map, Value};
 use std::alloc::Global;
-
-const LAST_PROTOCOL: u64 = 255;
-
-const LAST_PORT_NUMBER: u64 = 65_535;
-
-const LAST_USE: u64 = 3_071;
 
 fn direction_from(text: &str) -> Option<Direction>
     ensures { result ≡ direction_of text.now }

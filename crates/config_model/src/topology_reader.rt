@@ -8,6 +8,7 @@ ghost use Rattle.config_model.specs.Form.{is_as_number, has_controller_form, has
 ghost use Rattle.config_model.specs.Fields.{in_member};
 ghost use Rattle.config_model.specs.Topology.{as_at, controller_at, node_at, topology_at};
 
+use crate::bounds::{FIRST_NODE_ADDRESS, LAST_AS, LAST_NODE_ADDRESS, RESERVED_AS};
 use crate::fault::{DocKind, Place, ReadRefusal};
 use crate::fields::{
     Count, FromDocument, check_others, list_member, member_of, object_of, whole_of,
@@ -17,17 +18,6 @@ use crate::values::{address_member, name_but_member};
 use ov_types::{Name, NodeId};
 use serde_json::Value;
 use std::alloc::Global;
-
-const LAST_AS: u64 = 65_534;
-
-/// The number that stands in for those of four octets (RFC 6793).
-const RESERVED_AS: u64 = 23_456;
-
-/// 1.0.0.0
-const FIRST_NODE_ADDRESS: u32 = 0x0100_0000;
-
-/// 223.255.255.255
-const LAST_NODE_ADDRESS: u32 = 0xdfff_ffff;
 
 /// The number of an autonomous system.
 #[tactic(auto, unfolding(crate::specs::Topology::as_at))]
@@ -115,8 +105,13 @@ impl FromDocument for Topology {
         let path = place.text(alloc)?;
         let path = path.as_str();
         let asn = as_member(alloc, path, "as", value)?;
-        let controllers =
-            list_member::<NodeId>(alloc, path, "controllers", Count::AtLeastOne, value)?;
+        let controllers = list_member::<NodeId>(
+            alloc,
+            path,
+            "controllers",
+            Count::AtLeastOne,
+            value,
+        )?;
         let nodes = list_member::<Node>(alloc, path, "nodes", Count::AtLeastOne, value)?;
         check_others(alloc, path, &["as", "controllers", "nodes"], members)?;
         Ok(Topology {

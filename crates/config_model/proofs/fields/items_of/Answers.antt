@@ -1,6 +1,4 @@
-use Rattle.std.proofs.Common.{◌≡◌, ap, ◌∙◌, sym, arith, IsTrue, true, ◌++◌, ◌∷◌, []}
-use Rattle.std.specs.List.{list_all}
-use Rattle.std.proofs.lemmas.List.Folds.{list_all-append}
+use Rattle.std.proofs.Common.{arith}
 use Rattle.std.proofs.lemmas.Result.{err_from_is_err_and}
 use Rattle.std.proofs.lemmas.Grind.{common_steps}
 use Rattle.config_model.proofs.Lists.{goes_on, stops, is_done, form_goes_on}
@@ -16,7 +14,7 @@ pub loop-index-preserved : goal.loop-index-preserved
 loop-index-preserved g c =
     rw c.in_ok-push.ensures.ok (record {
       so_far = goes_on g.T.FromDocument.reads c.args.path.now c.loop-index.items c.args.values.now c.loop-index.index c.index-values-index.result c.in_ok-read.field-0 _
-      c.loop-index-test.true c.index-values-index.is c.in_ok-read.ensures.reads c.loop-index.invariant.so_far;
+          c.loop-index-test.true c.index-values-index.is c.in_ok-read.ensures.reads c.loop-index.invariant.so_far;
       form = form_goes_on g.T.FromDocument.has_form c.loop-index.items c.in_ok-read.field-0 c.loop-index.invariant.form c.in_ok-read.ensures.form;
       size = grind (arith, common_steps, c.loop-index.invariant.size);
     })

@@ -1,5 +1,4 @@
-use Rattle.std.proofs.Common.{◌≡◌, sym, ◌∙◌, true, false}
-use Rattle.config_model.specs.Written.{begins_plainly}
+use Rattle.std.proofs.Common.{sym, ◌∙◌}
 use Rattle.config_model.proofs.Lengths.{not_plain, reads_length, too_long, not_parsed}
 use Rattle.config_model.proofs.written.length_from.Goals as goal
 

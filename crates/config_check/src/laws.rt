@@ -1,0 +1,84 @@
+//! What the rules mean, as laws: each is the contract of a function that does nothing.
+ghost use Rattle.std.specs.Prelude.{◌≡◌, ◌≢◌, ◌↔◌, ◌≤◌, List, length, false};
+ghost use Rattle.std.specs.List.{All, AllPairs};
+ghost use Rattle.config_model.specs.declared.config.Config.{Config};
+ghost use Rattle.config_model.specs.declared.topology.Topology.{Topology};
+ghost use Rattle.chain_expand.specs.Expansion.{loops, expansion};
+ghost use Rattle.config_check.specs.Related.{NumberedRule};
+ghost use Rattle.config_check.specs.Rules.{broken_limit, broken_name, broken_id, broken_reference, broken_reserved, broken_nested, broken_outside, broken_taken, broken_needs, broken_same, broken_loop, broken_long, broken_twice, broken_overlap, first_broken};
+ghost use Rattle.config_check.specs.Sentences.{KeepsLimits, HasDistinctNames, HasDistinctNumbers, HasReferents, ReservesCircuits, HasFlatSubnets, HoldsAddresses, HasDistinctAddresses, NamesEnds, NamesTwo, IsAround, AreApart, IsValid};
+
+/// The first rule is kept exactly where no count is above its limit.
+pub fn limits_are_kept()
+    ensures { (t : Topology) (c : Config) → (broken_limit t c ≡ None) ↔ KeepsLimits t c }
+{}
+
+/// The second rule is kept exactly where names are distinct in each namespace.
+pub fn names_are_distinct()
+    ensures { (t : Topology) (c : Config) → (broken_name t c ≡ None) ↔ HasDistinctNames t c }
+{}
+
+/// The third rule is kept exactly where numbers of one kind are distinct.
+pub fn numbers_are_distinct()
+    ensures { (t : Topology) (c : Config) → (broken_id t c ≡ None) ↔ HasDistinctNumbers t c }
+{}
+
+/// The fourth rule is kept exactly where each name that is referred to exists.
+pub fn references_exist()
+    ensures { (t : Topology) (c : Config) → (broken_reference t c ≡ None) ↔ HasReferents t c }
+{}
+
+/// The fifth rule is kept exactly where no subnet overlaps the addresses of circuits.
+pub fn circuits_are_reserved()
+    ensures { (c : Config) → (broken_reserved c ≡ None) ↔ ReservesCircuits c }
+{}
+
+/// The sixth rule is kept exactly where no two subnets of a network overlap.
+pub fn subnets_are_flat()
+    ensures { (c : Config) → (broken_nested c ≡ None) ↔ HasFlatSubnets c }
+{}
+
+/// The seventh rule is kept exactly where each port's address is in a subnet of its network.
+pub fn addresses_are_inside()
+    ensures { (c : Config) → (broken_outside c ≡ None) ↔ HoldsAddresses c }
+{}
+
+/// The eighth rule is kept exactly where no two ports of a network have one address.
+pub fn addresses_are_distinct()
+    ensures { (c : Config) → (broken_taken c ≡ None) ↔ HasDistinctAddresses c }
+{}
+
+/// The ninth rule is kept exactly where no end of a chain rule is `any`.
+pub fn chain_rules_name_networks()
+    ensures { (rules : List NumberedRule) → (broken_needs rules ≡ None) ↔ All (λ r. NamesEnds r.rule) rules }
+{}
+
+/// The tenth rule is kept exactly where no chain rule names one network twice.
+pub fn chain_rules_name_two()
+    ensures { (rules : List NumberedRule) → (broken_same rules ≡ None) ↔ All (λ r. NamesTwo r.rule) rules }
+{}
+
+/// The eleventh rule is kept exactly where no chain leads back to itself.
+pub fn chains_are_straight()
+    ensures { (c : Config) → (broken_loop c ≡ None) ↔ All (λ d. loops c d.name ≡ false) c.chains }
+{}
+
+/// Where no chain loops, the twelfth rule is kept exactly where no expansion has more than 15 services.
+pub fn chains_are_short()
+    ensures { (c : Config) → broken_loop c ≡ None → (broken_long c ≡ None) ↔ All (λ d. length (expansion c d.name) ≤ 15) c.chains }
+{}
+
+/// Where no chain loops, the thirteenth rule is kept exactly where no expansion has a service twice.
+pub fn services_stand_once()
+    ensures { (c : Config) → broken_loop c ≡ None → (broken_twice c ≡ None) ↔ All (λ d. AllPairs (λ s u. s.id.0 ≢ u.id.0) (expansion c d.name)) c.chains }
+{}
+
+/// The last rule is kept exactly where no two networks, each a third one or related to it, have overlapping subnets.
+pub fn related_networks_are_apart()
+    ensures { (c : Config) → (broken_overlap c ≡ None) ↔ All (λ n. AllPairs (λ a b. IsAround c n a → IsAround c n b → AreApart a b) c.networks) c.networks }
+{}
+
+/// No rule is broken exactly where the fourteen sentences hold.
+pub fn none_broken_is_valid()
+    ensures { (t : Topology) (c : Config) → (first_broken t c ≡ None) ↔ IsValid t c }
+{}

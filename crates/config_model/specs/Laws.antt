@@ -1,0 +1,87 @@
+-- What is said of the written form.
+use Rattle.std.specs.Prelude.{◌≡◌, ◌↔◌, ℕ, ◌<◌, ◌^◌, ◌∷◌, [], ◌++◌, List, Bool, IsTrue, is_some, nat_eq, codes, Some, None, Ok, Err}
+use Rattle.std.specs.List.{list_any, list_all}
+use Rattle.std.specs.Cmp.Lexicographic.{pointwise}
+use Rattle.serde_json.specs.Data.{Data, Members, no_members, member}
+use Rattle.serde_json.specs.Find.{get, as_object}
+use Rattle.ov_types.specs.Name.{is_name, name_of}
+use Rattle.ov_types.specs.Prefix.{Block, is_prefix}
+use Rattle.ov_types.specs.Texts.{address_text, prefix_text}
+use Rattle.config_model.specs.declared.config.Rule.{Rule}
+use Rattle.config_model.specs.declared.fault.DocKind.TheVariants.{Missing}
+use Rattle.config_model.specs.Paths.{member_path}
+use Rattle.config_model.specs.Written.{address_of, block_of}
+use Rattle.config_model.specs.Fields.{Reads}
+use Rattle.config_model.specs.Topology.{controller_at, node_at, topology_at}
+use Rattle.config_model.specs.Rule.{rule_at, members_with}
+use Rattle.config_model.specs.Config.{network_at, port_at, policy_at, service_at, chain_at, config_at}
+use Rattle.config_model.specs.Input.{packet_at}
+
+-- the names of the members, in order
+abbrev pub names_of : Members → List (List ℕ)
+names_of no_members = []
+names_of (member k d ms) = k ∷ names_of ms
+
+abbrev pub is_one_of : List (List ℕ) → List ℕ → Bool
+is_one_of names k = list_any (λ x. pointwise nat_eq x k) names
+
+-- an object that has each of the required members, and no member but these and the optional ones
+pub record HasJust (required optional : List (List ℕ)) (d : Data) : Type 0 where
+  pub members : Members
+  pub is_object : as_object d ≡ Some members
+  pub has_each : IsTrue (list_all (λ k. is_some (get k d)) required)
+  pub has_no_other : IsTrue (list_all (is_one_of (required ++ optional)) (names_of members))
+
+-- what is read so has just these members
+abbrev pub ReadHasJust : {A : Type 0} → Reads A → List (List ℕ) → List (List ℕ) → Type 0
+ReadHasJust {A} reads required optional = (path : List ℕ) (d : Data) (x : A) → reads path d ≡ Ok x → HasJust required optional d
+
+abbrev pub ControllerHasJust : Type 0
+ControllerHasJust = ReadHasJust controller_at (codes "name" ∷ codes "address" ∷ []) []
+
+abbrev pub NodeHasJust : Type 0
+NodeHasJust = ReadHasJust node_at (codes "name" ∷ codes "address" ∷ codes "controllers" ∷ []) []
+
+abbrev pub TopologyHasJust : Type 0
+TopologyHasJust = ReadHasJust topology_at (codes "as" ∷ codes "controllers" ∷ codes "nodes" ∷ []) []
+
+abbrev pub NetworkHasJust : Type 0
+NetworkHasJust = ReadHasJust network_at (codes "name" ∷ codes "id" ∷ codes "subnets" ∷ []) (codes "policies" ∷ [])
+
+abbrev pub PortHasJust : Type 0
+PortHasJust = ReadHasJust port_at (codes "name" ∷ codes "id" ∷ codes "network" ∷ codes "address" ∷ codes "node" ∷ []) []
+
+abbrev pub PolicyHasJust : Type 0
+PolicyHasJust = ReadHasJust policy_at (codes "name" ∷ codes "sequence" ∷ codes "rules" ∷ []) []
+
+-- a rule has `chain` and `use` just where its action is `chain`
+abbrev pub RuleHasJust : Type 0
+RuleHasJust = (path : List ℕ) (d : Data) (rule : Rule) → rule_at path d ≡ Ok rule → HasJust (members_with rule.action) [] d
+
+abbrev pub ServiceHasJust : Type 0
+ServiceHasJust = ReadHasJust service_at (codes "name" ∷ codes "id" ∷ codes "node" ∷ []) []
+
+abbrev pub ChainHasJust : Type 0
+ChainHasJust = ReadHasJust chain_at (codes "name" ∷ codes "hops" ∷ []) []
+
+abbrev pub ConfigHasJust : Type 0
+ConfigHasJust = ReadHasJust config_at [] (codes "networks" ∷ codes "ports" ∷ codes "policies" ∷ codes "services" ∷ codes "chains" ∷ [])
+
+abbrev pub PacketHasJust : Type 0
+PacketHasJust = ReadHasJust packet_at (codes "port" ∷ codes "to" ∷ codes "protocol" ∷ codes "sport" ∷ codes "dport" ∷ []) []
+
+-- each address has one text, which reads as it, and no other text does
+abbrev pub AddressHasOneText : Type 0
+AddressHasOneText = (text : List ℕ) (n : ℕ) → (address_of text ≡ Some n) ↔ ((n < 2 ^ 32) × (text ≡ address_text n))
+
+-- each prefix has one text, which reads as it, and no other text does
+abbrev pub PrefixHasOneText : Type 0
+PrefixHasOneText = (text : List ℕ) (b : Block) → (block_of text ≡ Some b) ↔ ((b.addr < 2 ^ 32) × IsTrue (is_prefix b.addr b.len) × (text ≡ prefix_text b))
+
+-- each name is its own text
+abbrev pub NameIsItsText : Type 0
+NameIsItsText = (text name : List ℕ) → (name_of text ≡ Some name) ↔ (IsTrue (is_name name) × (text ≡ name))
+
+-- where this member of an object is absent, the fault is that it is missing, at its path
+abbrev pub FirstIsMissed : {A : Type 0} → Reads A → List ℕ → Type 0
+FirstIsMissed reads name = (path : List ℕ) (d : Data) (members : Members) → as_object d ≡ Some members → get name d ≡ None → reads path d ≡ Err (record { path = member_path path name; kind = Missing })
