@@ -1,2 +1,4 @@
 pub mod Matching
+pub mod Least
+pub mod Decided
 pub mod Reachability

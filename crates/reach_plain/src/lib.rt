@@ -2,6 +2,8 @@
 //! instances of tables, nodes or sessions.
 #![tactic(auto)]
 
+mod deciding;
 mod decision;
+mod matching;
 
 pub use decision::Decision;
