@@ -71,8 +71,8 @@ sequence_kept a b t s place (r ∷ rs) m h =
     elim (match_by a b t here) as (λ o. match_by a b t here ≡ o → (o <|> rest) ≡ Some m → sequence_of m ≡ s) [
       | None ↦ λ e h'. sequence_kept a b t s (place + 1) rs m h'
       | Some k ↦ λ e h'.
-        let same : k ≡ m = cc in
-        ap sequence_of (sym same) ∙ ap (λ (x : NumberedRule). x.number.sequence) (matched_rule a b t here k e)
+          let same : k ≡ m = cc in
+          ap sequence_of (sym same) ∙ ap (λ (x : NumberedRule). x.number.sequence) (matched_rule a b t here k e)
     ] refl h
 
 -- policies in order, none before a sequence
@@ -101,9 +101,9 @@ module _ (g : Policy → Option Match) (kept : (p : Policy) (m : Match) → g p 
       elim (g q) as (λ o. g q ≡ o → (o <|> first_of g qs) ≡ Some m → s ≤ sequence_of m) [
         | None ↦ λ e h'. let later : q.sequence ≤ sequence_of m = not_before q.sequence qs m up.1 h' in omega (arith, up.0, later)
         | Some k ↦ λ e h'.
-          let same : k ≡ m = cc in
-          let at : sequence_of m ≡ q.sequence = ap sequence_of (sym same) ∙ kept q k e in
-          omega (arith, up.0, at)
+            let same : k ≡ m = cc in
+            let at : sequence_of m ≡ q.sequence = ap sequence_of (sym same) ∙ kept q k e in
+            omega (arith, up.0, at)
       ] refl h
 
   -- a match that comes first
@@ -113,8 +113,8 @@ module _ (g : Policy → Option Match) (kept : (p : Policy) (m : Match) → g p 
       elim (g p) as (λ x. g p ≡ x → Some m ≡ least x (Some m)) [
         | None ↦ λ f. refl
         | Some k ↦ λ f.
-          let first : leb (sequence_of m) (sequence_of k) ≡ true = le-leb (sequence_of m) (sequence_of k) (omega (arith, kept q m e, kept p k f, le)) in
-          sym (rw first refl)
+            let first : leb (sequence_of m) (sequence_of k) ≡ true = le-leb (sequence_of m) (sequence_of k) (omega (arith, kept q m e, kept p k f, le)) in
+            sym (rw first refl)
       ] refl
 
   -- a match that comes before all others
@@ -123,12 +123,12 @@ module _ (g : Policy → Option Match) (kept : (p : Policy) (m : Match) → g p 
       elim (g p) as (λ x. g p ≡ x → (x <|> later) ≡ least x later) [
         | None ↦ λ f. refl
         | Some k ↦ λ f.
-          elim later as (λ o. later ≡ o → Some k ≡ least (Some k) o) [
-            | None ↦ λ e. refl
-            | Some m ↦ λ e.
-              let last : leb (sequence_of m) (sequence_of k) ≡ false = lt-leb (sequence_of m) (sequence_of k) (omega (arith, far m e, kept p k f)) in
-              sym (rw last refl)
-          ] refl
+            elim later as (λ o. later ≡ o → Some k ≡ least (Some k) o) [
+              | None ↦ λ e. refl
+              | Some m ↦ λ e.
+                  let last : leb (sequence_of m) (sequence_of k) ≡ false = lt-leb (sequence_of m) (sequence_of k) (omega (arith, far m e, kept p k f)) in
+                  sym (rw last refl)
+            ] refl
       ] refl
 
   put_least : (s : ℕ) (p : Policy) (qs : List Policy) → Ascends s qs → first_of g (put_by_sequence p qs) ≡ least (g p) (first_of g qs)
@@ -136,11 +136,11 @@ module _ (g : Policy → Option Match) (kept : (p : Policy) (m : Match) → g p 
   put_least s p (q ∷ qs) up =
       elim (leb q.sequence p.sequence) as (λ b. leb q.sequence p.sequence ≡ b → first_of g (cond b (q ∷ put_by_sequence p qs) (p ∷ q ∷ qs)) ≡ least (g p) (g q <|> first_of g qs)) [
         | true ↦ λ e.
-          ap (λ (o : Option Match). g q <|> o) (put_least q.sequence p qs up.1)
-          ∙ over p q (g q) (first_of g qs) refl (leb-true q.sequence p.sequence e)
+            ap (λ (o : Option Match). g q <|> o) (put_least q.sequence p qs up.1)
+            ∙ over p q (g q) (first_of g qs) refl (leb-true q.sequence p.sequence e)
         | false ↦ λ e.
-          before p (g q <|> first_of g qs)
-          (λ m h. let far : q.sequence ≤ sequence_of m = not_before q.sequence (q ∷ qs) m (omega arith, up.1) h in omega (arith, leb-false q.sequence p.sequence e, far))
+            before p (g q <|> first_of g qs)
+            (λ m h. let far : q.sequence ≤ sequence_of m = not_before q.sequence (q ∷ qs) m (omega arith, up.1) h in omega (arith, leb-false q.sequence p.sequence e, far))
       ] refl
 
 -- the rule that decides, policy by policy in the document's order
@@ -177,15 +177,15 @@ least_apart (Some a) (Some b) (Some c) =
     let k : ℕ = sequence_of c in
     elim (leb j i) as (λ u. leb j i ≡ u → least (cond u (Some b) (Some a)) (Some c) ≡ least (Some a) (cond (leb k j) (Some c) (Some b))) [
       | true ↦ λ e.
-        elim (leb k j) as (λ v. leb k j ≡ v → cond v (Some c) (Some b) ≡ least (Some a) (cond v (Some c) (Some b))) [
-          | true ↦ λ f. let first : leb k i ≡ true = le-leb k i (omega (arith, leb-true j i e, leb-true k j f)) in sym (rw first refl)
-          | false ↦ λ f. sym (rw e refl)
-        ] refl
+          elim (leb k j) as (λ v. leb k j ≡ v → cond v (Some c) (Some b) ≡ least (Some a) (cond v (Some c) (Some b))) [
+            | true ↦ λ f. let first : leb k i ≡ true = le-leb k i (omega (arith, leb-true j i e, leb-true k j f)) in sym (rw first refl)
+            | false ↦ λ f. sym (rw e refl)
+          ] refl
       | false ↦ λ e.
-        elim (leb k j) as (λ v. leb k j ≡ v → cond (leb k i) (Some c) (Some a) ≡ least (Some a) (cond v (Some c) (Some b))) [
-          | true ↦ λ f. refl
-          | false ↦ λ f. let last : leb k i ≡ false = lt-leb k i (omega (arith, leb-false j i e, leb-false k j f)) in rw (last, e) refl
-        ] refl
+          elim (leb k j) as (λ v. leb k j ≡ v → cond (leb k i) (Some c) (Some a) ≡ least (Some a) (cond v (Some c) (Some b))) [
+            | true ↦ λ f. refl
+            | false ↦ λ f. let last : leb k i ≡ false = lt-leb k i (omega (arith, leb-false j i e, leb-false k j f)) in rw (last, e) refl
+          ] refl
     ] refl
 
 next_is : {A : Type 0} (xs : List A) (i : ℕ) (x : A) → i < length xs → x ≡ get_or xs i x → drop i xs ≡ x ∷ drop (i + 1) xs

@@ -23,7 +23,10 @@ fn first_match(policy: &Policy, from: &Network, to: &Network, tuple: &Tuple) -> 
             sequence: policy.sequence,
             position,
         };
-        let rule = NumberedRule { number, rule: *rule };
+        let rule = NumberedRule {
+            number,
+            rule: *rule,
+        };
         if let Some(found) = match_by(rule, from, to, tuple) {
             return Some(found);
         }

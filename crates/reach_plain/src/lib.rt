@@ -4,6 +4,11 @@
 
 mod deciding;
 mod decision;
+mod decisions;
 mod matching;
+mod outcomes;
+mod services;
 
 pub use decision::Decision;
+pub use decisions::decide;
+pub use outcomes::reach;

@@ -1,7 +1,8 @@
 //! How a rule matches a packet between two networks.
 ghost use Rattle.std.specs.Prelude.{◌≡◌};
-ghost use Rattle.reach_plain.specs.Matching.{in_range, has_protocol, speaks_both_ways, matches_forwards, matches_mirrored, match_by};
+ghost use Rattle.reach_plain.specs.Matching.{in_range, has_protocol, speaks_both_ways, matches_forwards, matches_mirrored, match_by, decision_by};
 
+use crate::Decision;
 use config_check::{NumberedRule, fits};
 use config_model::{Direction, Network, Protocol, Rule};
 use ov_types::{Range16, Tuple};
@@ -66,10 +67,26 @@ pub(crate) fn match_by(
     ensures { result ≡ match_by from.now to.now tuple.now rule }
 {
     if matches_forwards(&rule.rule, from, to, tuple) {
-        return Some(Match { rule, mirrored: false });
+        return Some(Match {
+            rule,
+            mirrored: false,
+        });
     }
     if matches_mirrored(&rule.rule, from, to, tuple) {
-        return Some(Match { rule, mirrored: true });
+        return Some(Match {
+            rule,
+            mirrored: true,
+        });
     }
     None
+}
+
+/// The number of the rule that matches, and whether it matches mirrored.
+pub(crate) fn decision_by(found: &Match) -> Decision
+    ensures { result ≡ decision_by found.now }
+{
+    Decision {
+        rule: found.rule.number,
+        mirrored: found.mirrored,
+    }
 }
