@@ -4,6 +4,7 @@
 
 mod deciding;
 mod decision;
+pub mod laws;
 mod decisions;
 mod matching;
 mod outcomes;
