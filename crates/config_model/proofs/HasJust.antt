@@ -13,11 +13,11 @@ use Rattle.config_model.specs.declared.config.Action.TheVariants.{Pass, Deny, Th
 use Rattle.config_model.specs.declared.config.Rule.{Rule}
 use Rattle.config_model.specs.Faults.{Fault, ◌>>=◌, wanted}
 use Rattle.config_model.specs.Fields.{Reads, member_at, in_member, object_at, first_other, none_left, only_at, optional_all, name_at}
-use Rattle.config_model.specs.Laws.{names_of, is_one_of, HasJust, ControllerHasJust, NodeHasJust, TopologyHasJust, NetworkHasJust, PortHasJust, PolicyHasJust, RuleHasJust, ServiceHasJust, ChainHasJust, ConfigHasJust, PacketHasJust}
+use Rattle.config_model.specs.Laws.{names_of, is_one_of, HasJust, ControllerHasJust, NodeHasJust, TopologyHasJust, NetworkHasJust, PortHasJust, PolicyHasJust, RuleHasJust, ServiceHasJust, ChainHasJust, ConfigHasJust, PacketHasJust, CompileHasJust, ReachHasJust}
 use Rattle.config_model.specs.Topology.{controller_at, node_at, topology_at}
 use Rattle.config_model.specs.Config.{network_at, port_at, policy_at, service_at, chain_at, config_at}
 use Rattle.config_model.specs.Rule.{direction_at, end_at, protocol_at, range_at, rule_at, action_at, action_from, through_at, rule_members, chain_members, members_with}
-use Rattle.config_model.specs.Input.{packet_at}
+use Rattle.config_model.specs.Input.{packet_at, compile_at, reach_at}
 
 -- where reading gave a value, its first step gave one
 pub bind_ok : {A B : Type 0} (read : Result A Fault) (next : A → Result B Fault) (y : B) → (read >>= next) ≡ Ok y → (x : A) × (read ≡ Ok x) × (next x ≡ Ok y)
@@ -208,6 +208,35 @@ packet_has_just path d x h =
       members = a.0;
       is_object = is_object path d a.0 a.1;
       has_each = rw (is_there _ _ _ d b.0 b.1, is_there _ _ _ d c.0 c.1, is_there _ _ _ d e.0 e.1, is_there _ _ _ d f.0 f.1, is_there _ _ _ d g.0 g.1) refl;
+      has_no_other = has_no_other path _ a.0 z.1;
+    }
+
+pub compile_has_just : CompileHasJust
+unfolding compile_at
+compile_has_just path d x h =
+    let a = bind_ok _ _ x h in
+    let b = bind_ok _ _ x a.2 in
+    let c = bind_ok _ _ x b.2 in
+    let z = bind_ok _ _ x c.2 in
+    record {
+      members = a.0;
+      is_object = is_object path d a.0 a.1;
+      has_each = rw (is_there _ _ _ d b.0 b.1, is_there _ _ _ d c.0 c.1) refl;
+      has_no_other = has_no_other path _ a.0 z.1;
+    }
+
+pub reach_has_just : ReachHasJust
+unfolding reach_at
+reach_has_just path d x h =
+    let a = bind_ok _ _ x h in
+    let b = bind_ok _ _ x a.2 in
+    let c = bind_ok _ _ x b.2 in
+    let e = bind_ok _ _ x c.2 in
+    let z = bind_ok _ _ x e.2 in
+    record {
+      members = a.0;
+      is_object = is_object path d a.0 a.1;
+      has_each = rw (is_there _ _ _ d b.0 b.1, is_there _ _ _ d c.0 c.1, is_there _ _ _ d e.0 e.1) refl;
       has_no_other = has_no_other path _ a.0 z.1;
     }
 

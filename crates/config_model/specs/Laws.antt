@@ -15,7 +15,7 @@ use Rattle.config_model.specs.Fields.{Reads}
 use Rattle.config_model.specs.Topology.{controller_at, node_at, topology_at}
 use Rattle.config_model.specs.Rule.{rule_at, members_with}
 use Rattle.config_model.specs.Config.{network_at, port_at, policy_at, service_at, chain_at, config_at}
-use Rattle.config_model.specs.Input.{packet_at}
+use Rattle.config_model.specs.Input.{packet_at, compile_at, reach_at}
 
 -- the names of the members, in order
 abbrev pub names_of : Members → List (List ℕ)
@@ -69,6 +69,12 @@ ConfigHasJust = ReadHasJust config_at [] (codes "networks" ∷ codes "ports" ∷
 
 abbrev pub PacketHasJust : Type 0
 PacketHasJust = ReadHasJust packet_at (codes "port" ∷ codes "to" ∷ codes "protocol" ∷ codes "sport" ∷ codes "dport" ∷ []) []
+
+abbrev pub CompileHasJust : Type 0
+CompileHasJust = ReadHasJust compile_at (codes "topology" ∷ codes "configuration" ∷ []) []
+
+abbrev pub ReachHasJust : Type 0
+ReachHasJust = ReadHasJust reach_at (codes "topology" ∷ codes "configuration" ∷ codes "packets" ∷ []) []
 
 -- each address has one text, which reads as it, and no other text does
 abbrev pub AddressHasOneText : Type 0

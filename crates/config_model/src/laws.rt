@@ -1,5 +1,5 @@
 //! What is true of every document that is read, in the words of its subject.
-ghost use Rattle.config_model.specs.Laws.{ControllerHasJust, NodeHasJust, TopologyHasJust, NetworkHasJust, PortHasJust, PolicyHasJust, RuleHasJust, ServiceHasJust, ChainHasJust, ConfigHasJust, PacketHasJust, FirstIsMissed, AddressHasOneText, PrefixHasOneText, NameIsItsText};
+ghost use Rattle.config_model.specs.Laws.{ControllerHasJust, NodeHasJust, TopologyHasJust, NetworkHasJust, PortHasJust, PolicyHasJust, RuleHasJust, ServiceHasJust, ChainHasJust, ConfigHasJust, PacketHasJust, CompileHasJust, ReachHasJust, FirstIsMissed, AddressHasOneText, PrefixHasOneText, NameIsItsText};
 ghost use Rattle.std.specs.Prelude.{codes};
 ghost use Rattle.config_model.specs.Topology.{controller_at, node_at, topology_at};
 ghost use Rattle.config_model.specs.Rule.{rule_at};
@@ -24,9 +24,11 @@ pub fn configurations_have_just_their_members()
     ensures chain { ChainHasJust }
 {}
 
-/// A packet has each member of its table, and no other.
-pub fn packets_have_just_their_members()
-    ensures { PacketHasJust }
+/// What a command takes, and a packet, has each member of its table, and no other.
+pub fn inputs_have_just_their_members()
+    ensures packet { PacketHasJust }
+    ensures compile { CompileHasJust }
+    ensures reach { ReachHasJust }
 {}
 
 /// Where the first required member of an object is absent, that is its fault.

@@ -22,7 +22,7 @@ pub use fault::{DocFault, DocKind, ReadRefusal};
 pub use input::{Plan, ReachInput, read_compile, read_packet, read_reach};
 pub use laws::{
     configurations_have_just_their_members, first_members_are_missed,
-    packets_have_just_their_members, texts_are_one, topologies_have_just_their_members,
+    inputs_have_just_their_members, texts_are_one, topologies_have_just_their_members,
 };
 pub use topology::{Node, Topology};
 pub use topology_reader::read_topology;

@@ -127,3 +127,20 @@ impl fmt::Display for Prefix {
         write!(f, "{addr}/{len}")
     }
 }
+
+#[cfg(test)]
+mod tests {
+    use super::*;
+    use std::test::Fail;
+
+    #[test]
+    fn prefixes_are_read_and_printed(rt: HostRuntime) -> Result<(), Fail> {
+        let net = Prefix::new(Addr(0x0a01_0000), 16).ok_or("10.1.0.0/16")?;
+        assert_eq!(rt; format!(in rt.alloc(); "{net}")?.as_str(), "10.1.0.0/16");
+        assert!(rt; net.contains(Addr(0x0a01_ffff)));
+        assert!(rt; !net.contains(Addr(0x0a02_0000)));
+        assert!(rt; Prefix::host(Addr(0x0a01_0005)).within(&net));
+        assert_eq!(rt; Prefix::new(Addr(0x0a01_0001), 16), None);
+        Ok(())
+    }
+}

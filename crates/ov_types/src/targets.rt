@@ -95,3 +95,19 @@ fn place_of(list: &[Target], target: Target) -> Place
     }
     Place::Before(list.len())
 }
+
+#[cfg(test)]
+mod tests {
+    use super::*;
+    use std::test::Fail;
+
+    #[test]
+    fn targets_stand_in_order_once(rt: HostRuntime) -> Result<(), Fail> {
+        let mut targets = Targets::new(rt.alloc());
+        for number in [3, 1, 3] {
+            assert_eq!(rt; targets.insert(Target(number)), Ok(()));
+        }
+        assert_eq!(rt; targets.items(), [Target(1), Target(3)].as_slice());
+        Ok(())
+    }
+}

@@ -1,12 +1,16 @@
 -- The words of the command line.
-use Rattle.std.specs.Prelude.{List, [], ◌∷◌, codes, nat_eq, Option, Some, None, String, string_bytes, if◌then◌else◌}
+use Rattle.std.specs.Prelude.{ℕ, List, [], ◌∷◌, codes, nat_eq, Option, Some, None, String, string_bytes, if◌then◌else◌}
 use Rattle.std.specs.declared.alloc.Global.{Global}
 use Rattle.std.specs.Cmp.Lexicographic.{pointwise}
 use Rattle.overlay.specs.declared.command.Command.{Command}
 use Rattle.overlay.specs.declared.command.Command.TheVariants.{Compile}
 
+-- the command of a name
+abbrev pub command_named : List ℕ → Option Command
+command_named word = if pointwise nat_eq word (codes "compile") then Some Compile else None
+
 -- the command that words name: one word, alone
 abbrev pub command_of : List (String Global) → Option Command
 command_of [] = None
-command_of (word ∷ []) = if pointwise nat_eq (string_bytes word) (codes "compile") then Some Compile else None
+command_of (word ∷ []) = command_named (string_bytes word)
 command_of (word ∷ other ∷ words) = None

@@ -1,6 +1,6 @@
 //! The commands.
 ghost use Rattle.std.specs.Prelude.{◌≡◌};
-ghost use Rattle.overlay.specs.Commands.{command_of};
+ghost use Rattle.overlay.specs.Commands.{command_named, command_of};
 
 /// What the program is asked to do.
 #[derive(Clone, Copy, Debug, PartialEq, Eq)]
@@ -18,7 +18,10 @@ pub(crate) fn command_from(words: &[String]) -> Option<Command>
     }
 }
 
-fn named(word: &str) -> Option<Command> {
+/// The command of a name.
+fn named(word: &str) -> Option<Command>
+    ensures { result ≡ command_named word.now }
+{
     if word == "compile" {
         Some(Command::Compile)
     } else {

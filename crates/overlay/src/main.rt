@@ -19,17 +19,17 @@ const USAGE: &str = "usage: overlay compile < DOCUMENT
 const VERSION: &str = "overlay 0.1.0\n";
 
 /// What is asked of `main` itself, before the top call.
-enum Asked {
+enum Request {
     Help,
     Version,
     Run,
 }
 
-fn asked(words: &[String]) -> Asked {
+fn request_of(words: &[String]) -> Request {
     match words {
-        [word] if word.as_str() == "--help" => Asked::Help,
-        [word] if word.as_str() == "--version" => Asked::Version,
-        _ => Asked::Run,
+        [word] if word.as_str() == "--help" => Request::Help,
+        [word] if word.as_str() == "--version" => Request::Version,
+        _ => Request::Run,
     }
 }
 
@@ -72,10 +72,10 @@ fn run(rt: HostRuntime, words: &[String]) -> Status {
 
 fn main(rt: HostRuntime) -> ExitCode {
     let status = match words_of(&rt) {
-        Ok(words) => match asked(words.as_slice()) {
-            Asked::Help => printed(&rt, USAGE),
-            Asked::Version => printed(&rt, VERSION),
-            Asked::Run => run(rt, words.as_slice()),
+        Ok(words) => match request_of(words.as_slice()) {
+            Request::Help => printed(&rt, USAGE),
+            Request::Version => printed(&rt, VERSION),
+            Request::Run => run(rt, words.as_slice()),
         },
         Err(error) => status_without_words(&error),
     };
