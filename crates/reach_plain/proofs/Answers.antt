@@ -45,7 +45,7 @@ symmetric c a b =
     ap (λ (ps : List Policy). filter (λ (r : NumberedRule). fits r.rule a b || fits r.rule b a) (shared ps))
     (filter_same (λ p. attaches a p && attaches b p) (λ p. attaches b p && attaches a p) (λ p. and_swap (attaches a p) (attaches b p)) c.policies)
     ∙ filter_same (λ (r : NumberedRule). fits r.rule a b || fits r.rule b a) (λ r. fits r.rule b a || fits r.rule a b) (λ r. or_swap (fits r.rule a b) (fits r.rule b a))
-      (shared (filter (λ p. attaches b p && attaches a p) c.policies))
+    (shared (filter (λ p. attaches b p && attaches a p) c.policies))
 
 -- a rule that names two networks fits a pair one way only
 
@@ -91,7 +91,7 @@ match_is : (a b : Network) (t : Tuple) (r : NumberedRule) → r.rule.direction �
 unfolding tried
 match_is a b t r both =
     ap (λ (d : Direction). cond (matches_forwards a b t r.rule) (Some (record { rule = r; mirrored = false }))
-      (cond ((((speaks_both_ways d && fits r.rule b a) && has_protocol r.rule.protocol t.proto) && in_range r.rule.source_ports t.dport) && in_range r.rule.destination_ports t.sport) (Some (record { rule = r; mirrored = true })) None)) both
+    (cond ((((speaks_both_ways d && fits r.rule b a) && has_protocol r.rule.protocol t.proto) && in_range r.rule.source_ports t.dport) && in_range r.rule.destination_ports t.sport) (Some (record { rule = r; mirrored = true })) None)) both
 
 fits_where : (a b : Network) (t : Tuple) (r : Rule) → matches_forwards a b t r ≡ true → fits r a b ≡ true
 fits_where a b t r h =

@@ -80,8 +80,8 @@ between c a b p number services h =
     let o : Option Port = port_at c b p.destination.0 in
     elim (same_name b.name a.name) as (λ v. same_name b.name a.name ≡ v → cond v (arrival_at o []) (outcome_by c o (deciding c a b p.tuple)) ≡ Delivered number services → HasWay c a b p o number services) [
       | true ↦ λ e k.
-        let (q, at, port, list) = arrived o [] number services k in
-        (q, at, port, inl (same_text b.name a.name (sym e), list))
+          let (q, at, port, list) = arrived o [] number services k in
+          (q, at, port, inl (same_text b.name a.name (sym e), list))
       | false ↦ λ e k. by_rule c a b p o number services (deciding c a b p.tuple) refl k
     ] refl h
 

@@ -1,5 +1,5 @@
 //! Decisions between networks that are given by their numbers.
-ghost use Rattle.std.specs.Prelude.{◌≡◌, IsSome, IfSome, Some, option_copied};
+ghost use Rattle.std.specs.Prelude.{◌≡◌, ◌↔◌, IsTrue, IsSome, IfSome, Some, option_copied};
 ghost use Rattle.reach_plain.specs.Matching.{decision};
 ghost use Rattle.reach_plain.specs.Decided.{network_numbered};
 
@@ -18,6 +18,13 @@ fn network_numbered<'a>(config: &'a Config, number: InstanceId) -> Option<&'a Ne
         .as_slice()
         .iter()
         .find(|n| n.id.0 == number.0)
+}
+
+/// Whether a number is a network's. It takes no memory.
+pub fn is_network(valid: &Valid, number: InstanceId) -> bool
+    ensures { IsTrue result ↔ IsSome (network_numbered valid.now.config number.0) }
+{
+    network_numbered(valid.config(), number).is_some()
 }
 
 /// The first network of a number that is a network's.

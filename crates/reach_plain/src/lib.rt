@@ -4,12 +4,15 @@
 
 mod deciding;
 mod decision;
-pub mod laws;
 mod decisions;
+pub mod laws;
 mod matching;
 mod outcomes;
 mod services;
 
 pub use decision::Decision;
-pub use decisions::decide;
+pub use decisions::{decide, is_network};
 pub use outcomes::reach;
+
+#[cfg(test)]
+mod tests;
