@@ -1,0 +1,4 @@
+pub mod Answers
+pub mod Delivery
+pub mod Kept
+pub mod Ordered

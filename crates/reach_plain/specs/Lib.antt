@@ -1,2 +1,6 @@
 pub mod Matching
+pub mod Least
+pub mod Decided
+pub mod Answering
 pub mod Reachability
+pub mod Delivery

@@ -13,6 +13,7 @@ use Rattle.config_check.specs.declared.related.NumberedRule.{NumberedRule}
 use Rattle.config_check.specs.Related.{fits, rules_between}
 use Rattle.chain_expand.specs.First.{first_of}
 use Rattle.reach_plain.specs.declared.decision.Decision.{Decision}
+pub use Rattle.reach_plain.specs.declared.matching.Match.{Match}
 
 abbrev pub in_range : Range16 → ℕ → Bool
 in_range r n = nat_le r.lo n && nat_le n r.hi
@@ -33,11 +34,6 @@ matches_forwards from to t r = fits r from to && has_protocol r.protocol t.proto
 -- ports exchanged
 abbrev pub matches_mirrored : Network → Network → Tuple → Rule → Bool
 matches_mirrored from to t r = speaks_both_ways r.direction && fits r to from && has_protocol r.protocol t.proto && in_range r.source_ports t.dport && in_range r.destination_ports t.sport
-
--- a rule that matches, and whether mirrored
-pub record Match : Type 0 where
-  pub rule : NumberedRule
-  pub mirrored : Bool
 
 -- how a rule matches: forwards is tried first
 abbrev pub match_by : Network → Network → Tuple → NumberedRule → Option Match

@@ -2,6 +2,17 @@
 //! instances of tables, nodes or sessions.
 #![tactic(auto)]
 
+mod deciding;
 mod decision;
+mod decisions;
+pub mod laws;
+mod matching;
+mod outcomes;
+mod services;
 
 pub use decision::Decision;
+pub use decisions::{decide, is_network};
+pub use outcomes::reach;
+
+#[cfg(test)]
+mod tests;

@@ -1,0 +1,63 @@
+//! Decisions between networks that are given by their numbers.
+ghost use Rattle.std.specs.Prelude.{◌≡◌, ◌↔◌, IsTrue, IsSome, IfSome, Some, option_copied};
+ghost use Rattle.reach_plain.specs.Matching.{decision};
+ghost use Rattle.reach_plain.specs.Decided.{network_numbered};
+
+use crate::Decision;
+use crate::deciding::deciding;
+use crate::matching::decision_by;
+use config_check::Valid;
+use config_model::{Config, Network};
+use ov_types::{InstanceId, Tuple};
+
+fn network_numbered<'a>(config: &'a Config, number: InstanceId) -> Option<&'a Network>
+    ensures { option_copied result ≡ network_numbered config.now number.0 }
+{
+    config
+        .networks
+        .as_slice()
+        .iter()
+        .find(|n| n.id.0 == number.0)
+}
+
+/// Whether a number is a network's. It takes no memory.
+pub fn is_network(valid: &Valid, number: InstanceId) -> bool
+    ensures { IsTrue result ↔ IsSome (network_numbered valid.now.config number.0) }
+{
+    network_numbered(valid.config(), number).is_some()
+}
+
+/// The first network of a number that is a network's.
+fn numbered<'a>(config: &'a Config, number: InstanceId) -> &'a Network
+    requires { IsSome (network_numbered config.now number.0) }
+    ensures { network_numbered config.now number.0 ≡ Some result.now }
+{
+    match network_numbered(config, number) {
+        Some(network) => network,
+        None => unreachable!(),
+    }
+}
+
+#[tactic(auto, using(crate::proofs::Kept::few_rules))]
+fn decision(valid: &Valid, from: &Network, to: &Network, tuple: &Tuple) -> Option<Decision>
+    ensures { result ≡ decision valid.now.config from.now to.now tuple.now }
+{
+    match deciding(valid.config(), from, to, tuple) {
+        Some(found) => Some(decision_by(&found)),
+        None => None,
+    }
+}
+
+/// The first rule between two networks that matches a packet from the one to the other, by sequence and then
+/// position, and whether it matches mirrored; there is none where no rule matches. It takes no memory.
+pub fn decide(valid: &Valid, from: InstanceId, to: InstanceId, tuple: Tuple) -> Option<Decision>
+    requires source { IsSome (network_numbered valid.now.config from.0) }
+    requires destination { IsSome (network_numbered valid.now.config to.0) }
+    ensures { IfSome (network_numbered valid.now.config from.0) (λ a.
+        IfSome (network_numbered valid.now.config to.0) (λ b. result ≡ decision valid.now.config a b tuple)) }
+{
+    let config = valid.config();
+    let from = numbered(config, from);
+    let to = numbered(config, to);
+    decision(valid, from, to, &tuple)
+}

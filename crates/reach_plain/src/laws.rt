@@ -1,0 +1,46 @@
+//! What decisions and outcomes promise, as laws: each is the contract of a function that does nothing.
+ghost use Rattle.std.specs.Prelude.{◌≡◌, ◌≢◌, List, not};
+ghost use Rattle.std.specs.List.{AllPairs};
+ghost use Rattle.ov_types.specs.declared.numbers.PortNo.{PortNo};
+ghost use Rattle.ov_types.specs.declared.numbers.ServiceNo.{ServiceNo};
+ghost use Rattle.ov_types.specs.declared.packet.Outcome.TheVariants.{Delivered};
+ghost use Rattle.ov_types.specs.declared.packet.Packet.{Packet};
+ghost use Rattle.ov_types.specs.declared.packet.Tuple.{Tuple};
+ghost use Rattle.config_model.specs.declared.config.Config.{Config};
+ghost use Rattle.config_model.specs.declared.config.Network.{Network};
+ghost use Rattle.config_model.specs.declared.topology.Topology.{Topology};
+ghost use Rattle.config_check.specs.Related.{rules_between};
+ghost use Rattle.config_check.specs.Rules.{first_broken};
+ghost use Rattle.reach_plain.specs.Matching.{Match, deciding, decision};
+ghost use Rattle.reach_plain.specs.Answering.{answering, SpeakBothWays, NamesTwoEnds, rule_of};
+ghost use Rattle.reach_plain.specs.Reachability.{reachability};
+ghost use Rattle.reach_plain.specs.Delivery.{IsDelivered};
+
+/// The rules between two networks do not depend on which of them comes first.
+pub fn rules_between_are_symmetric()
+    ensures { (c : Config) (a b : Network) → rules_between c a b ≡ rules_between c b a }
+{}
+
+/// Where all rules between two networks are of both directions, a packet and its answer are decided by the same rule,
+/// and by a rule that names two networks in opposite directions.
+pub fn answers_are_decided_alike()
+    ensures rule { (c : Config) (a b : Network) (t : Tuple) → SpeakBothWays c a b
+        → rule_of (decision c b a (answering t)) ≡ rule_of (decision c a b t) }
+    ensures direction { (c : Config) (a b : Network) (t : Tuple) (m n : Match) → SpeakBothWays c a b
+        → deciding c a b t ≡ Some m → deciding c b a (answering t) ≡ Some n
+        → NamesTwoEnds m.rule.rule → n.mirrored ≡ not m.mirrored }
+{}
+
+/// A packet that is delivered comes to a port that has its destination's address, of the source's own network or of
+/// one that is related to it, through just the services of the rule that decides.
+pub fn deliveries_are_allowed()
+    ensures { (c : Config) (p : Packet) (number : PortNo) (services : List ServiceNo)
+        → reachability c p ≡ Delivered number services → IsDelivered c p number services }
+{}
+
+/// In a valid configuration no packet is led through a service twice.
+pub fn services_are_passed_once()
+    ensures { (topology : Topology) (c : Config) (p : Packet) (number : PortNo) (services : List ServiceNo)
+        → first_broken topology c ≡ None → reachability c p ≡ Delivered number services
+        → AllPairs (λ s u. s.0 ≢ u.0) services }
+{}

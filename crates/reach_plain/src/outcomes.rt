@@ -1,0 +1,181 @@
+//! What becomes of a packet.
+ghost use Rattle.std.specs.Prelude.{◌≡◌, ◌&&◌, ◌||◌, option_copied};
+ghost use Rattle.chain_expand.specs.First.{same_name};
+ghost use Rattle.config_check.specs.Related.{are_related};
+ghost use Rattle.config_check.specs.Rules.{network_named, holds_address};
+ghost use Rattle.reach_plain.specs.Reachability.{port_numbered, network_towards, port_at, arrival_at, outcome_of, outcome_by, outcome_between, outcome_towards, outcome_from, outcome_at, reachability};
+
+use crate::deciding::deciding;
+use crate::matching::Match;
+use crate::services::services_through;
+use config_check::{Valid, are_related};
+use config_model::{Action, Config, Network, Port};
+use ov_types::{Addr, Name, Outcome, Packet, PortNo, RuleNo, Services, Why};
+
+fn port_numbered<'a>(config: &'a Config, number: PortNo) -> Option<&'a Port>
+    ensures { option_copied result ≡ port_numbered config.now number.0 }
+{
+    config.ports.as_slice().iter().find(|p| p.id.0 == number.0)
+}
+
+fn network_named<'a>(config: &'a Config, name: &Name) -> Option<&'a Network>
+    ensures { option_copied result ≡ network_named config.now name.now }
+{
+    config.networks.as_slice().iter().find(|n| n.name == *name)
+}
+
+fn holds_address(network: &Network, address: Addr) -> bool
+    ensures { result ≡ holds_address network.now address.0 }
+{
+    network
+        .subnets
+        .as_slice()
+        .iter()
+        .any(|p| p.contains(address))
+}
+
+/// Whether a packet from a network may be for another: for itself, or for a related one.
+fn is_near(config: &Config, from: &Network, other: &Network) -> bool
+    ensures { result ≡ (same_name other.now.name from.now.name || are_related config.now from.now other.now) }
+{
+    other.name == from.name || are_related(config, from, other)
+}
+
+fn is_towards(config: &Config, from: &Network, other: &Network, address: Addr) -> bool
+    ensures { result ≡ ((same_name other.now.name from.now.name || are_related config.now from.now other.now) && holds_address other.now address.0) }
+{
+    is_near(config, from, other) && holds_address(other, address)
+}
+
+/// The network that a packet is for.
+fn network_towards<'a>(config: &'a Config, from: &Network, address: Addr) -> Option<&'a Network>
+    ensures { option_copied result ≡ network_towards config.now from.now address.0 }
+{
+    config
+        .networks
+        .as_slice()
+        .iter()
+        .find(|n| is_towards(config, from, n, address))
+}
+
+fn port_at<'a>(config: &'a Config, network: &Network, address: Addr) -> Option<&'a Port>
+    ensures { option_copied result ≡ port_at config.now network.now address.0 }
+{
+    config
+        .ports
+        .as_slice()
+        .iter()
+        .find(|p| p.network == network.name && p.address.0 == address.0)
+}
+
+/// A packet that may enter a network arrives at the port that has the address.
+fn arrival_at(port: Option<&Port>, services: Services<64>) -> Outcome
+    ensures { result ≡ arrival_at (option_copied port.entry) services }
+{
+    match port {
+        Some(port) => Outcome::Delivered {
+            port: port.id,
+            services,
+        },
+        None => Outcome::Dropped { why: Why::NoRoute },
+    }
+}
+
+fn outcome_of(
+    valid: &Valid,
+    port: Option<&Port>,
+    number: RuleNo,
+    mirrored: bool,
+    action: &Action,
+) -> Outcome
+    ensures { result ≡ outcome_of valid.now.config (option_copied port.entry) number mirrored action.now }
+{
+    match action {
+        Action::Pass => arrival_at(port, Services::new()),
+        Action::Deny => Outcome::Dropped {
+            why: Why::Denied { rule: Some(number) },
+        },
+        Action::Through { chain, .. } => arrival_at(port, services_through(valid, chain, mirrored)),
+    }
+}
+
+/// What the rule that decides does with a packet to a port.
+fn outcome_by(valid: &Valid, port: Option<&Port>, found: Option<Match>) -> Outcome
+    ensures { result ≡ outcome_by valid.now.config (option_copied port.entry) found }
+{
+    match found {
+        Some(found) => outcome_of(
+            valid,
+            port,
+            found.rule.number,
+            found.mirrored,
+            &found.rule.rule.action,
+        ),
+        None => Outcome::Dropped {
+            why: Why::Denied { rule: None },
+        },
+    }
+}
+
+#[tactic(auto, using(crate::proofs::Kept::few_rules))]
+fn outcome_between(valid: &Valid, from: &Network, to: &Network, packet: &Packet) -> Outcome
+    ensures { result ≡ outcome_between valid.now.config from.now to.now packet.now }
+{
+    let config = valid.config();
+    let port = port_at(config, to, packet.destination);
+    if to.name == from.name {
+        return arrival_at(port, Services::new());
+    }
+    outcome_by(valid, port, deciding(config, from, to, &packet.tuple))
+}
+
+fn outcome_towards(valid: &Valid, from: &Network, packet: &Packet, to: Option<&Network>) -> Outcome
+    ensures { result ≡ outcome_towards valid.now.config from.now packet.now (option_copied to.entry) }
+{
+    match to {
+        Some(to) => outcome_between(valid, from, to, packet),
+        None => Outcome::Dropped {
+            why: Why::NoDestination,
+        },
+    }
+}
+
+fn outcome_from(valid: &Valid, packet: &Packet, from: Option<&Network>) -> Outcome
+    ensures { result ≡ outcome_from valid.now.config packet.now (option_copied from.entry) }
+{
+    match from {
+        Some(from) => outcome_towards(
+            valid,
+            from,
+            packet,
+            network_towards(valid.config(), from, packet.destination),
+        ),
+        None => Outcome::Dropped {
+            why: Why::NoDestination,
+        },
+    }
+}
+
+fn outcome_at(valid: &Valid, packet: &Packet, source: Option<&Port>) -> Outcome
+    ensures { result ≡ outcome_at valid.now.config packet.now (option_copied source.entry) }
+{
+    match source {
+        Some(source) => outcome_from(
+            valid,
+            packet,
+            network_named(valid.config(), &source.network),
+        ),
+        None => Outcome::Dropped {
+            why: Why::NoSourcePort,
+        },
+    }
+}
+
+/// What becomes of a packet: it is dropped, or delivered to a port through services. It takes no memory, and
+/// never gives `NoLabel` or `TtlExpired`.
+#[tactic(auto, unfolding(crate::specs::Reachability::reachability))]
+pub fn reach(valid: &Valid, packet: Packet) -> Outcome
+    ensures { result ≡ reachability valid.now.config packet }
+{
+    outcome_at(valid, &packet, port_numbered(valid.config(), packet.source))
+}
