@@ -4,8 +4,9 @@ use Rattle.serde_json.specs.Data.{Data}
 use Rattle.config_model.specs.declared.fault.DocKind.{DocKind}
 use Rattle.config_model.specs.declared.fault.DocKind.TheVariants.{Missing, Kind, Range, Unknown}
 use Rattle.config_model.specs.declared.input.Plan.{Plan}
+use Rattle.config_model.specs.declared.input.ReachInput.{ReachInput}
 use Rattle.config_model.specs.Faults.{Fault}
-use Rattle.config_model.specs.Input.{compile_at}
+use Rattle.config_model.specs.Input.{compile_at, reach_at}
 use Rattle.config_check.specs.declared.refusal.Refusal.{Refusal}
 use Rattle.config_check.specs.Checked.{Checked}
 use Rattle.config_check.specs.Rules.{first_broken}
@@ -14,9 +15,10 @@ use Rattle.overlay.specs.declared.answer.Verdict.{Verdict}
 use Rattle.overlay.specs.declared.answer.Verdict.TheVariants.{Good, NotJson, BadDocument, Refused}
 use Rattle.overlay.specs.declared.answer.Answer.{Answer}
 use Rattle.overlay.specs.declared.command.Command.{Command}
-use Rattle.overlay.specs.declared.command.Command.TheVariants.{Compile}
+use Rattle.overlay.specs.declared.command.Command.TheVariants.{Compile, Reach}
 use Rattle.overlay.specs.Json.{json_of}
 use Rattle.overlay.specs.Lines.{compile_text}
+use Rattle.overlay.specs.Outcomes.{reach_text}
 
 abbrev pub kind_text : DocKind → List ℕ
 kind_text Missing = codes "Missing"
@@ -49,12 +51,22 @@ abbrev pub compile_reading : Result Plan Fault → Answer
 compile_reading (Err f) = answer_bad f
 compile_reading (Ok p) = answer_checked (first_broken p.topology p.config) (compile_text (record { topology = p.topology; config = p.config }))
 
+-- of what was read for `reach`, or not, it writes the outcomes
+abbrev pub reach_reading : Result ReachInput Fault → Answer
+reach_reading (Err f) = answer_bad f
+reach_reading (Ok r) = answer_checked (first_broken r.topology r.config) (reach_text (record { topology = r.topology; config = r.config }) r.packets)
+
 -- of a value `compile` reads a topology and a configuration
 unfoldable pub compile_value : Data → Answer
 compile_value d = compile_reading (compile_at [] d)
 
+-- of a value `reach` reads packets too
+unfoldable pub reach_value : Data → Answer
+reach_value d = reach_reading (reach_at [] d)
+
 abbrev pub of_value : Command → Data → Answer
 of_value Compile d = compile_value d
+of_value Reach d = reach_value d
 
 abbrev pub of_json : Command → Option Data → Answer
 of_json command None = answer_not_json

@@ -1,5 +1,6 @@
 pub mod Json
 pub mod Lines
+pub mod Outcomes
 pub mod Answers
 pub mod Commands
 pub mod Runs

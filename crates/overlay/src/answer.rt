@@ -4,12 +4,13 @@ ghost use Rattle.serde_json.specs.View.{view};
 ghost use Rattle.config_model.specs.Faults.{fault_of};
 ghost use Rattle.config_model.specs.Form.{has_topology_form, has_config_form};
 ghost use Rattle.overlay.specs.Json.{json_of};
-ghost use Rattle.overlay.specs.Answers.{answer_bad, answer_of, compile_reading, compile_value, fault_line, kind_text, of_value, refused_line};
+ghost use Rattle.overlay.specs.Answers.{answer_bad, answer_of, compile_reading, compile_value, fault_line, kind_text, of_value, reach_reading, reach_value, refused_line};
 
 use crate::command::Command;
 use crate::lines::compile_lines;
+use crate::outcomes::reach_lines;
 use config_check::{CheckRefusal, Refusal, check};
-use config_model::{DocFault, DocKind, Plan, ReadRefusal, read_compile};
+use config_model::{DocFault, DocKind, Plan, ReachInput, ReadRefusal, read_compile, read_reach};
 use ov_io::TextOut;
 use ov_types::NoMemory;
 use serde_json::Value;
@@ -137,11 +138,43 @@ fn compile_document(alloc: Global, value: &Value) -> Result<Answer, NoMemory>
     }
 }
 
+/// What `reach` answers to a topology, a configuration and packets.
+fn reach_input(alloc: Global, input: ReachInput) -> Result<Answer, NoMemory>
+    requires topology_form { IsTrue (has_topology_form input.topology) }
+    requires config_form { IsTrue (has_config_form input.config) }
+    ensures { IfOk result (λ a. a ≡ reach_reading (Ok input)) }
+{
+    match check(alloc, input.topology, input.config) {
+        Ok(valid) => {
+            let text = reach_lines(alloc, &valid, input.packets.as_slice())?;
+            Ok(Answer {
+                verdict: Verdict::Good,
+                text,
+            })
+        }
+        Err(CheckRefusal::Rule(refusal)) => answer_refused(alloc, &refusal),
+        Err(CheckRefusal::NoMemory) => Err(NoMemory),
+    }
+}
+
+/// What `reach` answers to a value.
+#[tactic(auto, unfolding(crate::specs::Answers::reach_value))]
+fn reach_document(alloc: Global, value: &Value) -> Result<Answer, NoMemory>
+    ensures { IfOk result (λ a. a ≡ reach_value (view value.now)) }
+{
+    match read_reach(alloc, value) {
+        Ok(input) => reach_input(alloc, input),
+        Err(ReadRefusal::Doc(fault)) => answer_unread(alloc, &fault),
+        Err(ReadRefusal::NoMemory) => Err(NoMemory),
+    }
+}
+
 fn answer_value(alloc: Global, command: Command, value: &Value) -> Result<Answer, NoMemory>
     ensures { IfOk result (λ a. a ≡ of_value command (view value.now)) }
 {
     match command {
         Command::Compile => compile_document(alloc, value),
+        Command::Reach => reach_document(alloc, value),
     }
 }
 

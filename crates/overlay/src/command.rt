@@ -5,7 +5,10 @@ ghost use Rattle.overlay.specs.Commands.{command_named, command_of};
 /// What the program is asked to do.
 #[derive(Clone, Copy, Debug, PartialEq, Eq)]
 pub enum Command {
+    /// The tables that a configuration asks for.
     Compile,
+    /// What becomes of packets.
+    Reach,
 }
 
 /// The command that the words after the program's name give.
@@ -24,6 +27,8 @@ fn named(word: &str) -> Option<Command>
 {
     if word == "compile" {
         Some(Command::Compile)
+    } else if word == "reach" {
+        Some(Command::Reach)
     } else {
         None
     }

@@ -4,6 +4,7 @@
 mod answer;
 mod command;
 mod lines;
+mod outcomes;
 mod top;
 
 #[cfg(test)]
@@ -15,7 +16,7 @@ use std::process::ExitCode;
 use std::{env, io};
 use top::{Status, overlay};
 
-const USAGE: &str = "usage: overlay compile < DOCUMENT
+const USAGE: &str = "usage: overlay compile | reach < DOCUMENT
        overlay --help | --version
 ";
 

@@ -1,0 +1,78 @@
+//! The lines of outcomes.
+ghost use Rattle.std.specs.Prelude.{◌≡◌, ◌++◌, IfOk, OnOk, string_bytes};
+ghost use Rattle.overlay.specs.Outcomes.{more_services, outcome_line, reach_text, services_text, why_text};
+
+use config_check::Valid;
+use ov_io::TextOut;
+use ov_types::{NoMemory, Outcome, Packet, ServiceNo, Why};
+use reach_plain::reach;
+use std::alloc::{AllocError, Global};
+
+fn more_of(alloc: Global, first: String, services: &[ServiceNo]) -> Result<String, AllocError>
+    ensures { IfOk result (λ s. string_bytes s ≡ string_bytes first ++ more_services services.now) }
+{
+    let mut text = first;
+    for service in services {
+        let more = format!(in alloc; ",{service}")?;
+        text.push_str(more.as_str())?;
+    }
+    Ok(text)
+}
+
+/// The services joined by commas, and `-` where there are none.
+fn services_of(alloc: Global, services: &[ServiceNo]) -> Result<String, AllocError>
+    ensures { IfOk result (λ s. string_bytes s ≡ services_text services.now) }
+{
+    match services {
+        [] => String::from_str(alloc, "-"),
+        [first, others @ ..] => more_of(alloc, format!(in alloc; "{first}")?, others),
+    }
+}
+
+fn reason_of(alloc: Global, why: Why) -> Result<String, AllocError>
+    ensures { IfOk result (λ s. string_bytes s ≡ why_text why) }
+{
+    match why {
+        Why::NoSourcePort => String::from_str(alloc, "no-source-port"),
+        Why::NoDestination => String::from_str(alloc, "no-destination"),
+        Why::NoRoute => String::from_str(alloc, "no-route"),
+        Why::Denied { rule: None } => String::from_str(alloc, "denied -"),
+        Why::Denied { rule: Some(rule) } => format!(in alloc; "denied {rule}"),
+        Why::NoLabel => String::from_str(alloc, "no-label"),
+        Why::TtlExpired => String::from_str(alloc, "ttl-expired"),
+    }
+}
+
+#[tactic(auto, unfolding(crate::specs::Outcomes::outcome_line))]
+fn line_of(alloc: Global, number: usize, outcome: &Outcome) -> Result<String, AllocError>
+    ensures { IfOk result (λ s. string_bytes s ≡ outcome_line number outcome.now) }
+{
+    match outcome {
+        Outcome::Delivered { port, services } => {
+            let services = services_of(alloc, services.as_slice())?;
+            format!(in alloc; "{number} delivered port {port} services {services}\n")
+        }
+        Outcome::Dropped { why } => {
+            let reason = reason_of(alloc, *why)?;
+            format!(in alloc; "{number} dropped {reason}\n")
+        }
+    }
+}
+
+/// What `reach` writes of a valid configuration and of packets.
+#[tactic(auto, unfolding(crate::specs::Outcomes::reach_text))]
+pub(crate) fn reach_lines(
+    alloc: Global,
+    valid: &Valid,
+    packets: &[Packet],
+) -> Result<TextOut, NoMemory>
+    ensures { IfOk result (λ text. text ≡ reach_text valid.now packets.now) }
+{
+    let mut out = TextOut::new(alloc);
+    for (index, packet) in packets.iter().enumerate() {
+        let outcome = reach(valid, *packet);
+        let line = line_of(alloc, index + 1, &outcome)?;
+        out.push(line.as_bytes())?;
+    }
+    Ok(out)
+}
