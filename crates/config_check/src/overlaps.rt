@@ -1,15 +1,15 @@
 //! The rule of addresses: among a network and all that are related to it no two have overlapping subnets.
-ghost use Rattle.std.specs.Prelude.{◌≡◌, ◌||◌, filter, find, map, option_copied, option_map, IfOk};
+ghost use Rattle.std.specs.Prelude.{◌≡◌, filter, find, map, option_copied, option_map, IfOk};
 ghost use Rattle.std.specs.List.{list_any};
 ghost use Rattle.ov_types.specs.Prefix.{Block};
-ghost use Rattle.chain_expand.specs.First.{same_name};
-ghost use Rattle.config_check.specs.Related.{are_related};
+ghost use Rattle.config_check.specs.Related.{attaches};
+ghost use Rattle.config_check.specs.Between.{also_leads, is_in_group};
 ghost use Rattle.config_check.specs.Rules.{overlap, group_of, share_addresses, overlapping, overlapping_around, broken_overlap};
 
 use crate::refusal::Refusal;
-use crate::related::are_related;
+use crate::related::{attaches, some_rule_leads};
 use crate::subnets::overlap;
-use config_model::{Config, Network};
+use config_model::{Config, Network, Policy};
 use ov_types::{NoMemory, Prefix};
 use std::alloc::Global;
 
@@ -28,13 +28,66 @@ fn share_addresses(a: &Network, b: &Network) -> bool
         .any(|p| overlaps_some(p, b.subnets.as_slice()))
 }
 
-fn is_in_group(config: &Config, network: &Network, other: &Network) -> bool
-    ensures { result ≡ (same_name other.now.name network.now.name || are_related config.now network.now other.now) }
+/// The policies that a network attaches, in the document's order.
+fn attached_policies<'a>(
+    alloc: Global,
+    config: &'a Config,
+    network: &Network,
+) -> Result<Vec<&'a Policy>, NoMemory>
+    ensures { IfOk result (λ v. map (λ p. p.now) v.items ≡ filter (attaches network.now) config.now.policies) }
 {
-    other.name == network.name || are_related(config, network, other)
+    let mut policies = Vec::new(alloc);
+    for policy in config.policies.as_slice() {
+        if attaches(network, policy) {
+            policies.push(policy)?;
+        }
+    }
+    Ok(policies)
+}
+
+fn also_leads(policy: &Policy, network: &Network, other: &Network) -> bool
+    ensures { result ≡ also_leads network.now other.now policy.now }
+{
+    attaches(other, policy) && some_rule_leads(policy, network, other)
+}
+
+fn some_also_leads(policies: &[&Policy], network: &Network, other: &Network) -> bool
+    ensures { result ≡ list_any (also_leads network.now other.now) (map (λ p. p.now) policies.now) }
+{
+    for policy in policies {
+        if also_leads(policy, network, other) {
+            return true;
+        }
+    }
+    false
+}
+
+fn is_in_group(policies: &[&Policy], network: &Network, other: &Network) -> bool
+    ensures { result ≡ is_in_group (map (λ p. p.now) policies.now) network.now other.now }
+{
+    other.name == network.name || some_also_leads(policies, network, other)
+}
+
+/// A network, and those that are related to it by the policies that it attaches.
+fn group_by<'a>(
+    alloc: Global,
+    policies: &[&Policy],
+    config: &'a Config,
+    network: &Network,
+) -> Result<Vec<&'a Network>, NoMemory>
+    ensures { IfOk result (λ v. map (λ n. n.now) v.items ≡ filter (is_in_group (map (λ p. p.now) policies.now) network.now) config.now.networks) }
+{
+    let mut group = Vec::new(alloc);
+    for other in config.networks.as_slice() {
+        if is_in_group(policies, network, other) {
+            group.push(other)?;
+        }
+    }
+    Ok(group)
 }
 
 /// A network, and those that are related to it, in the document's order.
+#[tactic(auto, using(crate::proofs::SomeRule::group_from))]
 fn group_of<'a>(
     alloc: Global,
     config: &'a Config,
@@ -42,13 +95,8 @@ fn group_of<'a>(
 ) -> Result<Vec<&'a Network>, NoMemory>
     ensures { IfOk result (λ v. map (λ n. n.now) v.items ≡ group_of config.now network.now) }
 {
-    let mut group = Vec::new(alloc);
-    for other in config.networks.as_slice() {
-        if is_in_group(config, network, other) {
-            group.push(other)?;
-        }
-    }
-    Ok(group)
+    let policies = attached_policies(alloc, config, network)?;
+    group_by(alloc, &policies, config, network)
 }
 
 fn sharing_with<'a>(network: &Network, others: &[&'a Network]) -> Option<&'a Network>

@@ -91,7 +91,7 @@ fn leads_between(rule: &Rule, a: &Network, b: &Network) -> bool
     (fits(rule, a, b) || fits(rule, b, a)) && lets_through(&rule.action)
 }
 
-fn some_rule_leads(policy: &Policy, a: &Network, b: &Network) -> bool
+pub(crate) fn some_rule_leads(policy: &Policy, a: &Network, b: &Network) -> bool
     ensures { result ≡ list_any (leads_between a.now b.now) policy.now.rules }
 {
     policy
