@@ -8,6 +8,6 @@ pub enum ChainFault {
     Loop { chain: Name },
     /// The asked chain has more than 15 services.
     TooLong { chain: Name },
-    /// The asked chain has a service twice: the first that stood before.
+    /// The asked chain has a service twice: the first one that stands again, by the name at its second place.
     Twice { chain: Name, service: Name },
 }

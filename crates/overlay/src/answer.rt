@@ -180,11 +180,7 @@ fn answer_value(alloc: Global, command: Command, value: &Value) -> Result<Answer
 
 /// What a command answers to an input.
 #[tactic(auto, unfolding(crate::specs::Answers::answer_of))]
-pub(crate) fn answer_to(
-    alloc: Global,
-    command: Command,
-    octets: &[u8],
-) -> Result<Answer, NoMemory>
+pub(crate) fn answer_to(alloc: Global, command: Command, octets: &[u8]) -> Result<Answer, NoMemory>
     ensures { IfOk result (λ a. a ≡ answer_of command octets.now) }
 {
     match value_of(alloc, octets)? {

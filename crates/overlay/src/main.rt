@@ -5,10 +5,9 @@ mod answer;
 mod command;
 mod lines;
 mod outcomes;
-mod top;
-
 #[cfg(test)]
 mod tests;
+mod top;
 
 use ov_io::{StdSink, StdSource};
 use std::env::Env;

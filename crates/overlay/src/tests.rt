@@ -4,25 +4,35 @@ use ov_io::{MemSink, MemSource, Sink, SinkFault, Source, SourceFault};
 use std::alloc::Global;
 use std::test::Fail;
 
-const ONE: &str = r#"{"topology":{"as":64512,"controllers":[{"name":"c1","address":"192.0.2.1"}],"nodes":[{"name":"n1","address":"192.0.2.11","controllers":["c1"]}]},"configuration":{"networks":[{"name":"red","id":1,"subnets":["10.1.0.0/24"]}],"ports":[{"name":"vm7","id":7,"network":"red","address":"10.1.0.5","node":"n1"}]}}"#;
+const ONE: &str =
+    r#"{"topology":{"as":64512,"controllers":[{"name":"c1","address":"192.0.2.1"}],"nodes":[{"name":"n1","address":"192.0.2.11","controllers":["c1"]}]},"configuration":{"networks":[{"name":"red","id":1,"subnets":["10.1.0.0/24"]}],"ports":[{"name":"vm7","id":7,"network":"red","address":"10.1.0.5","node":"n1"}]}}"#;
 
-const LAST_NETWORK: &str = r#"{"topology":{"as":64512,"controllers":[{"name":"c1","address":"192.0.2.1"}],"nodes":[{"name":"n1","address":"192.0.2.11","controllers":["c1"]}]},"configuration":{"networks":[{"name":"red","id":16383,"subnets":["10.1.0.0/24"]}],"ports":[{"name":"vm7","id":7,"network":"red","address":"10.1.0.5","node":"n1"}]}}"#;
+const LAST_NETWORK: &str =
+    r#"{"topology":{"as":64512,"controllers":[{"name":"c1","address":"192.0.2.1"}],"nodes":[{"name":"n1","address":"192.0.2.11","controllers":["c1"]}]},"configuration":{"networks":[{"name":"red","id":16383,"subnets":["10.1.0.0/24"]}],"ports":[{"name":"vm7","id":7,"network":"red","address":"10.1.0.5","node":"n1"}]}}"#;
 
-const PAST_THE_LAST_NETWORK: &str = r#"{"topology":{"as":64512,"controllers":[{"name":"c1","address":"192.0.2.1"}],"nodes":[{"name":"n1","address":"192.0.2.11","controllers":["c1"]}]},"configuration":{"networks":[{"name":"red","id":16384,"subnets":["10.1.0.0/24"]}],"ports":[{"name":"vm7","id":7,"network":"red","address":"10.1.0.5","node":"n1"}]}}"#;
+const PAST_THE_LAST_NETWORK: &str =
+    r#"{"topology":{"as":64512,"controllers":[{"name":"c1","address":"192.0.2.1"}],"nodes":[{"name":"n1","address":"192.0.2.11","controllers":["c1"]}]},"configuration":{"networks":[{"name":"red","id":16384,"subnets":["10.1.0.0/24"]}],"ports":[{"name":"vm7","id":7,"network":"red","address":"10.1.0.5","node":"n1"}]}}"#;
 
-const OVERLAP: &str = r#"{"topology":{"as":64512,"controllers":[{"name":"c1","address":"192.0.2.1"}],"nodes":[{"name":"n1","address":"192.0.2.11","controllers":["c1"]}]},"configuration":{"networks":[{"name":"red","id":1,"subnets":["10.1.0.0/24"],"policies":["p1","p2"]},{"name":"green","id":2,"subnets":["10.2.0.0/24"],"policies":["p1"]},{"name":"blue","id":3,"subnets":["10.2.0.0/24"],"policies":["p2"]}],"policies":[{"name":"p1","sequence":1,"rules":[{"direction":"<>","source":"any","destination":"any","protocol":"any","source_ports":[0,65535],"destination_ports":[0,65535],"action":"pass"}]},{"name":"p2","sequence":2,"rules":[{"direction":"<>","source":"any","destination":"any","protocol":"any","source_ports":[0,65535],"destination_ports":[0,65535],"action":"pass"}]}]}}"#;
+const OVERLAP: &str =
+    r#"{"topology":{"as":64512,"controllers":[{"name":"c1","address":"192.0.2.1"}],"nodes":[{"name":"n1","address":"192.0.2.11","controllers":["c1"]}]},"configuration":{"networks":[{"name":"red","id":1,"subnets":["10.1.0.0/24"],"policies":["p1","p2"]},{"name":"green","id":2,"subnets":["10.2.0.0/24"],"policies":["p1"]},{"name":"blue","id":3,"subnets":["10.2.0.0/24"],"policies":["p2"]}],"policies":[{"name":"p1","sequence":1,"rules":[{"direction":"<>","source":"any","destination":"any","protocol":"any","source_ports":[0,65535],"destination_ports":[0,65535],"action":"pass"}]},{"name":"p2","sequence":2,"rules":[{"direction":"<>","source":"any","destination":"any","protocol":"any","source_ports":[0,65535],"destination_ports":[0,65535],"action":"pass"}]}]}}"#;
 
-const FIFTEEN: &str = r#"{"topology":{"as":64512,"controllers":[{"name":"c1","address":"192.0.2.1"}],"nodes":[{"name":"n1","address":"192.0.2.11","controllers":["c1"]}]},"configuration":{"networks":[{"name":"red","id":1,"subnets":["10.1.0.0/24"]}],"ports":[{"name":"vm7","id":7,"network":"red","address":"10.1.0.5","node":"n1"}],"services":[{"name":"s1","id":1,"node":"n1"},{"name":"s2","id":2,"node":"n1"},{"name":"s3","id":3,"node":"n1"},{"name":"s4","id":4,"node":"n1"},{"name":"s5","id":5,"node":"n1"},{"name":"s6","id":6,"node":"n1"},{"name":"s7","id":7,"node":"n1"},{"name":"s8","id":8,"node":"n1"},{"name":"s9","id":9,"node":"n1"},{"name":"s10","id":10,"node":"n1"},{"name":"s11","id":11,"node":"n1"},{"name":"s12","id":12,"node":"n1"},{"name":"s13","id":13,"node":"n1"},{"name":"s14","id":14,"node":"n1"},{"name":"s15","id":15,"node":"n1"}],"chains":[{"name":"long","hops":["s1","s2","s3","s4","s5","s6","s7","s8","s9","s10","s11","s12","s13","s14","s15"]}]}}"#;
+const FIFTEEN: &str =
+    r#"{"topology":{"as":64512,"controllers":[{"name":"c1","address":"192.0.2.1"}],"nodes":[{"name":"n1","address":"192.0.2.11","controllers":["c1"]}]},"configuration":{"networks":[{"name":"red","id":1,"subnets":["10.1.0.0/24"]}],"ports":[{"name":"vm7","id":7,"network":"red","address":"10.1.0.5","node":"n1"}],"services":[{"name":"s1","id":1,"node":"n1"},{"name":"s2","id":2,"node":"n1"},{"name":"s3","id":3,"node":"n1"},{"name":"s4","id":4,"node":"n1"},{"name":"s5","id":5,"node":"n1"},{"name":"s6","id":6,"node":"n1"},{"name":"s7","id":7,"node":"n1"},{"name":"s8","id":8,"node":"n1"},{"name":"s9","id":9,"node":"n1"},{"name":"s10","id":10,"node":"n1"},{"name":"s11","id":11,"node":"n1"},{"name":"s12","id":12,"node":"n1"},{"name":"s13","id":13,"node":"n1"},{"name":"s14","id":14,"node":"n1"},{"name":"s15","id":15,"node":"n1"}],"chains":[{"name":"long","hops":["s1","s2","s3","s4","s5","s6","s7","s8","s9","s10","s11","s12","s13","s14","s15"]}]}}"#;
 
-const SIXTEEN: &str = r#"{"topology":{"as":64512,"controllers":[{"name":"c1","address":"192.0.2.1"}],"nodes":[{"name":"n1","address":"192.0.2.11","controllers":["c1"]}]},"configuration":{"networks":[{"name":"red","id":1,"subnets":["10.1.0.0/24"]}],"ports":[{"name":"vm7","id":7,"network":"red","address":"10.1.0.5","node":"n1"}],"services":[{"name":"s1","id":1,"node":"n1"},{"name":"s2","id":2,"node":"n1"},{"name":"s3","id":3,"node":"n1"},{"name":"s4","id":4,"node":"n1"},{"name":"s5","id":5,"node":"n1"},{"name":"s6","id":6,"node":"n1"},{"name":"s7","id":7,"node":"n1"},{"name":"s8","id":8,"node":"n1"},{"name":"s9","id":9,"node":"n1"},{"name":"s10","id":10,"node":"n1"},{"name":"s11","id":11,"node":"n1"},{"name":"s12","id":12,"node":"n1"},{"name":"s13","id":13,"node":"n1"},{"name":"s14","id":14,"node":"n1"},{"name":"s15","id":15,"node":"n1"},{"name":"s16","id":16,"node":"n1"}],"chains":[{"name":"long","hops":["s1","s2","s3","s4","s5","s6","s7","s8","s9","s10","s11","s12","s13","s14","s15","s16"]}]}}"#;
+const SIXTEEN: &str =
+    r#"{"topology":{"as":64512,"controllers":[{"name":"c1","address":"192.0.2.1"}],"nodes":[{"name":"n1","address":"192.0.2.11","controllers":["c1"]}]},"configuration":{"networks":[{"name":"red","id":1,"subnets":["10.1.0.0/24"]}],"ports":[{"name":"vm7","id":7,"network":"red","address":"10.1.0.5","node":"n1"}],"services":[{"name":"s1","id":1,"node":"n1"},{"name":"s2","id":2,"node":"n1"},{"name":"s3","id":3,"node":"n1"},{"name":"s4","id":4,"node":"n1"},{"name":"s5","id":5,"node":"n1"},{"name":"s6","id":6,"node":"n1"},{"name":"s7","id":7,"node":"n1"},{"name":"s8","id":8,"node":"n1"},{"name":"s9","id":9,"node":"n1"},{"name":"s10","id":10,"node":"n1"},{"name":"s11","id":11,"node":"n1"},{"name":"s12","id":12,"node":"n1"},{"name":"s13","id":13,"node":"n1"},{"name":"s14","id":14,"node":"n1"},{"name":"s15","id":15,"node":"n1"},{"name":"s16","id":16,"node":"n1"}],"chains":[{"name":"long","hops":["s1","s2","s3","s4","s5","s6","s7","s8","s9","s10","s11","s12","s13","s14","s15","s16"]}]}}"#;
 
-const LOOP: &str = r#"{"topology":{"as":64512,"controllers":[{"name":"c1","address":"192.0.2.1"}],"nodes":[{"name":"n1","address":"192.0.2.11","controllers":["c1"]}]},"configuration":{"networks":[{"name":"red","id":1,"subnets":["10.1.0.0/24"]}],"ports":[{"name":"vm7","id":7,"network":"red","address":"10.1.0.5","node":"n1"}],"chains":[{"name":"c1","hops":["c2"]},{"name":"c2","hops":["c1"]}]}}"#;
+const LOOP: &str =
+    r#"{"topology":{"as":64512,"controllers":[{"name":"c1","address":"192.0.2.1"}],"nodes":[{"name":"n1","address":"192.0.2.11","controllers":["c1"]}]},"configuration":{"networks":[{"name":"red","id":1,"subnets":["10.1.0.0/24"]}],"ports":[{"name":"vm7","id":7,"network":"red","address":"10.1.0.5","node":"n1"}],"chains":[{"name":"c1","hops":["c2"]},{"name":"c2","hops":["c1"]}]}}"#;
 
-const TWICE: &str = r#"{"topology":{"as":64512,"controllers":[{"name":"c1","address":"192.0.2.1"}],"nodes":[{"name":"n1","address":"192.0.2.11","controllers":["c1"]}]},"configuration":{"networks":[{"name":"red","id":1,"subnets":["10.1.0.0/24"]}],"ports":[{"name":"vm7","id":7,"network":"red","address":"10.1.0.5","node":"n1"}],"services":[{"name":"fw","id":1,"node":"n1"}],"chains":[{"name":"a","hops":["fw"]},{"name":"b","hops":["fw"]},{"name":"outer","hops":["a","b"]}]}}"#;
+const TWICE: &str =
+    r#"{"topology":{"as":64512,"controllers":[{"name":"c1","address":"192.0.2.1"}],"nodes":[{"name":"n1","address":"192.0.2.11","controllers":["c1"]}]},"configuration":{"networks":[{"name":"red","id":1,"subnets":["10.1.0.0/24"]}],"ports":[{"name":"vm7","id":7,"network":"red","address":"10.1.0.5","node":"n1"}],"services":[{"name":"fw","id":1,"node":"n1"}],"chains":[{"name":"a","hops":["fw"]},{"name":"b","hops":["fw"]},{"name":"outer","hops":["a","b"]}]}}"#;
 
-const EQUAL_ADDRESSES: &str = r#"{"topology":{"as":64512,"controllers":[{"name":"c1","address":"192.0.2.1"}],"nodes":[{"name":"n1","address":"192.0.2.11","controllers":["c1"]}]},"configuration":{"networks":[{"name":"red","id":1,"subnets":["10.0.0.0/24"],"policies":[]},{"name":"blue","id":2,"subnets":["10.0.0.0/24"],"policies":[]}],"ports":[{"name":"p1","id":1,"network":"red","address":"10.0.0.1","node":"n1"},{"name":"p2","id":2,"network":"red","address":"10.0.0.9","node":"n1"},{"name":"p3","id":3,"network":"blue","address":"10.0.0.1","node":"n1"},{"name":"p4","id":4,"network":"blue","address":"10.0.0.9","node":"n1"}]}}"#;
+const EQUAL_ADDRESSES: &str =
+    r#"{"topology":{"as":64512,"controllers":[{"name":"c1","address":"192.0.2.1"}],"nodes":[{"name":"n1","address":"192.0.2.11","controllers":["c1"]}]},"configuration":{"networks":[{"name":"red","id":1,"subnets":["10.0.0.0/24"],"policies":[]},{"name":"blue","id":2,"subnets":["10.0.0.0/24"],"policies":[]}],"ports":[{"name":"p1","id":1,"network":"red","address":"10.0.0.1","node":"n1"},{"name":"p2","id":2,"network":"red","address":"10.0.0.9","node":"n1"},{"name":"p3","id":3,"network":"blue","address":"10.0.0.1","node":"n1"},{"name":"p4","id":4,"network":"blue","address":"10.0.0.9","node":"n1"}]}}"#;
 
-const PASS: &str = r#"{"topology":{"as":64512,"controllers":[{"name":"c1","address":"192.0.2.1"},{"name":"c2","address":"192.0.2.2"}],"nodes":[{"name":"n1","address":"192.0.2.11","controllers":["c1"]},{"name":"n2","address":"192.0.2.12","controllers":["c2"]}]},"configuration":{"networks":[{"name":"red","id":1,"subnets":["10.1.0.0/24"],"policies":["web"]},{"name":"blue","id":2,"subnets":["10.2.0.0/24"],"policies":["web"]}],"ports":[{"name":"vm1","id":1,"network":"red","address":"10.1.0.1","node":"n1"},{"name":"vm2","id":2,"network":"blue","address":"10.2.0.2","node":"n2"}],"policies":[{"name":"web","sequence":10,"rules":[{"direction":"<>","source":"any","destination":"any","protocol":6,"source_ports":[0,65535],"destination_ports":[22,22],"action":"deny"},{"direction":"<>","source":"any","destination":"any","protocol":"any","source_ports":[0,65535],"destination_ports":[0,65535],"action":"pass"}]}]}}"#;
+const PASS: &str =
+    r#"{"topology":{"as":64512,"controllers":[{"name":"c1","address":"192.0.2.1"},{"name":"c2","address":"192.0.2.2"}],"nodes":[{"name":"n1","address":"192.0.2.11","controllers":["c1"]},{"name":"n2","address":"192.0.2.12","controllers":["c2"]}]},"configuration":{"networks":[{"name":"red","id":1,"subnets":["10.1.0.0/24"],"policies":["web"]},{"name":"blue","id":2,"subnets":["10.2.0.0/24"],"policies":["web"]}],"ports":[{"name":"vm1","id":1,"network":"red","address":"10.1.0.1","node":"n1"},{"name":"vm2","id":2,"network":"blue","address":"10.2.0.2","node":"n2"}],"policies":[{"name":"web","sequence":10,"rules":[{"direction":"<>","source":"any","destination":"any","protocol":6,"source_ports":[0,65535],"destination_ports":[22,22],"action":"deny"},{"direction":"<>","source":"any","destination":"any","protocol":"any","source_ports":[0,65535],"destination_ports":[0,65535],"action":"pass"}]}]}}"#;
 
 /// How a run of `compile` ended, and what it wrote.
 fn compiled(alloc: Global, input: &[u8]) -> Result<(Status, MemSink), Fail> {
@@ -36,24 +46,51 @@ fn compiled(alloc: Global, input: &[u8]) -> Result<(Status, MemSink), Fail> {
 #[test]
 fn documents_are_answered(rt: HostRuntime) -> Result<(), Fail> {
     for (input, status, output) in [
-        (ONE, Status::Done, "control c1 table 1 10.1.0.5/32 192.0.2.11:1 192.0.2.11 23\n"),
-        (LAST_NETWORK, Status::Done, "control c1 table 16383 10.1.0.5/32 192.0.2.11:16383 192.0.2.11 23\n"),
-        (PAST_THE_LAST_NETWORK, Status::BadDocument, "bad document configuration.networks[0].id Range\n"),
+        (
+            ONE,
+            Status::Done,
+            "control c1 table 1 10.1.0.5/32 192.0.2.11:1 192.0.2.11 23\n",
+        ),
+        (
+            LAST_NETWORK,
+            Status::Done,
+            "control c1 table 16383 10.1.0.5/32 192.0.2.11:16383 192.0.2.11 23\n",
+        ),
+        (
+            PAST_THE_LAST_NETWORK,
+            Status::BadDocument,
+            "bad document configuration.networks[0].id Range\n",
+        ),
         ("{\"topology\":", Status::NotJson, "not json\n"),
         ("[]", Status::BadDocument, "bad document Kind\n"),
         ("{}", Status::BadDocument, "bad document topology Missing\n"),
-        (OVERLAP, Status::Refused, "refused SubnetOverlap green blue\n"),
-        (FIFTEEN, Status::Done, "control c1 table 1 10.1.0.5/32 192.0.2.11:1 192.0.2.11 23\n"),
+        (
+            OVERLAP,
+            Status::Refused,
+            "refused SubnetOverlap green blue\n",
+        ),
+        (
+            FIFTEEN,
+            Status::Done,
+            "control c1 table 1 10.1.0.5/32 192.0.2.11:1 192.0.2.11 23\n",
+        ),
         (SIXTEEN, Status::Refused, "refused ChainTooLong long\n"),
         (LOOP, Status::Refused, "refused ChainLoop c1\n"),
         (TWICE, Status::Refused, "refused ServiceTwice outer fw\n"),
-        (EQUAL_ADDRESSES, Status::Done, "\
+        (
+            EQUAL_ADDRESSES,
+            Status::Done,
+            "\
 control c1 table 1 10.0.0.1/32 192.0.2.11:1 192.0.2.11 17
 control c1 table 1 10.0.0.9/32 192.0.2.11:1 192.0.2.11 18
 control c1 table 2 10.0.0.1/32 192.0.2.11:2 192.0.2.11 19
 control c1 table 2 10.0.0.9/32 192.0.2.11:2 192.0.2.11 20
-"),
-        (PASS, Status::Done, "\
+",
+        ),
+        (
+            PASS,
+            Status::Done,
+            "\
 control c1 table 1 10.1.0.1/32 192.0.2.11:1 192.0.2.11 17
 control c1 table 1 10.2.0.2/32 192.0.2.12:2 192.0.2.12 18
 control c1 table 2 10.1.0.1/32 192.0.2.11:1 192.0.2.11 17
@@ -62,7 +99,8 @@ control c2 table 1 10.1.0.1/32 192.0.2.11:1 192.0.2.11 17
 control c2 table 1 10.2.0.2/32 192.0.2.12:2 192.0.2.12 18
 control c2 table 2 10.1.0.1/32 192.0.2.11:1 192.0.2.11 17
 control c2 table 2 10.2.0.2/32 192.0.2.12:2 192.0.2.12 18
-"),
+",
+        ),
     ] {
         let (ended, sink) = compiled(rt.alloc(), input.as_bytes())?;
         assert_eq!(rt; ended, status, "{input}");
@@ -98,7 +136,10 @@ fn other_words_are_usage(rt: HostRuntime) -> Result<(), Fail> {
     let mut source = MemSource::new(alloc, Vec::new(alloc), vec![in alloc; 1]?);
     let mut sink = MemSink::new(alloc, vec![in alloc; 1]?);
     let none: &[String] = &[];
-    assert_eq!(rt; overlay(alloc, words.as_slice(), &mut source, &mut sink), Status::Usage);
+    assert_eq!(rt;
+        overlay(alloc, words.as_slice(), &mut source, &mut sink),
+        Status::Usage
+    );
     assert_eq!(rt; overlay(alloc, none, &mut source, &mut sink), Status::Usage);
     Ok(())
 }
@@ -110,12 +151,18 @@ fn a_fault_of_an_end_is_told(rt: HostRuntime) -> Result<(), Fail> {
     let octets = ONE.as_bytes().to_vec(alloc)?;
     let mut source = MemSource::new(alloc, octets, vec![in alloc; 2]?);
     let mut sink = MemSink::new(alloc, Vec::new(alloc));
-    assert_eq!(rt; overlay(alloc, words.as_slice(), &mut source, &mut sink), Status::ReadFault);
+    assert_eq!(rt;
+        overlay(alloc, words.as_slice(), &mut source, &mut sink),
+        Status::ReadFault
+    );
     assert_eq!(rt; sink.taken().len(), 0);
     let octets = ONE.as_bytes().to_vec(alloc)?;
     let mut source = MemSource::new(alloc, octets, Vec::new(alloc));
     let mut sink = MemSink::new(alloc, vec![in alloc; 1]?);
-    assert_eq!(rt; overlay(alloc, words.as_slice(), &mut source, &mut sink), Status::WriteFault);
+    assert_eq!(rt;
+        overlay(alloc, words.as_slice(), &mut source, &mut sink),
+        Status::WriteFault
+    );
     assert_eq!(rt; sink.taken().len(), 0);
     Ok(())
 }
@@ -175,7 +222,10 @@ fn short_reads_and_writes_lose_nothing(rt: HostRuntime) -> Result<(), Fail> {
         let mut sink = Dribble { inner, most };
         let status = overlay(alloc, words.as_slice(), &mut source, &mut sink);
         assert_eq!(rt; status, Status::Done);
-        assert_eq!(rt; sink.inner.taken(), b"control c1 table 1 10.1.0.5/32 192.0.2.11:1 192.0.2.11 23\n".as_slice());
+        assert_eq!(rt;
+            sink.inner.taken(),
+            b"control c1 table 1 10.1.0.5/32 192.0.2.11:1 192.0.2.11 23\n".as_slice()
+        );
     }
     Ok(())
 }
@@ -199,7 +249,9 @@ fn document_at_the_limits(alloc: Global) -> Result<String, Fail> {
     )?;
     for network in 1..=128u32 {
         let comma = if network == 1 { "" } else { "," };
-        let object = format!(in alloc; r#"{comma}{{"name":"w{network}","id":{network},"subnets":["10.0.0.0/24"]}}"#)?;
+        let object = format!(in alloc;
+            r#"{comma}{{"name":"w{network}","id":{network},"subnets":["10.0.0.0/24"]}}"#
+        )?;
         text.push_str(object.as_str())?;
     }
     text.push_str(r#"],"ports":["#)?;
@@ -207,7 +259,9 @@ fn document_at_the_limits(alloc: Global) -> Result<String, Fail> {
         let comma = if port == 0 { "" } else { "," };
         let network = 1 + port / 8;
         let host = 1 + port % 8;
-        let object = format!(in alloc; r#"{comma}{{"name":"p{port}","id":{port},"network":"w{network}","address":"10.0.0.{host}","node":"n1"}}"#)?;
+        let object = format!(in alloc;
+            r#"{comma}{{"name":"p{port}","id":{port},"network":"w{network}","address":"10.0.0.{host}","node":"n1"}}"#
+        )?;
         text.push_str(object.as_str())?;
     }
     text.push_str("]}}")?;
