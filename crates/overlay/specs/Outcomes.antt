@@ -1,6 +1,7 @@
 -- The lines of outcomes.
 use Rattle.std.specs.Prelude.{ℕ, ◌+◌, List, [], ◌∷◌, ◌++◌, codes, decimal, Some, None}
 use Rattle.ov_types.specs.Rows.{rule_text}
+use Rattle.ov_types.specs.declared.numbers.PortNo.{PortNo}
 use Rattle.ov_types.specs.declared.numbers.ServiceNo.{ServiceNo}
 use Rattle.ov_types.specs.declared.packet.Outcome.{Outcome}
 use Rattle.ov_types.specs.declared.packet.Outcome.TheVariants.{Delivered, Dropped}
@@ -30,9 +31,12 @@ why_text (Denied (Some r)) = codes "denied " ++ rule_text r
 why_text NoLabel = codes "no-label"
 why_text TtlExpired = codes "ttl-expired"
 
+abbrev pub delivered_text : ℕ → PortNo → List ℕ → List ℕ
+delivered_text n port services = decimal n ++ (codes " delivered port " ++ (decimal port.0 ++ (codes " services " ++ (services ++ (10 ∷ [])))))
+
 -- the number of a packet, and its outcome
 unfoldable pub outcome_line : ℕ → Outcome → List ℕ
-outcome_line n (Delivered port services) = decimal n ++ (codes " delivered port " ++ (decimal port.0 ++ (codes " services " ++ (services_text services ++ (10 ∷ [])))))
+outcome_line n (Delivered port services) = delivered_text n port (services_text services)
 outcome_line n (Dropped why) = decimal n ++ (codes " dropped " ++ (why_text why ++ (10 ∷ [])))
 
 -- the outcome of each packet, the first with a number

@@ -1,10 +1,10 @@
 //! The lines of outcomes.
 ghost use Rattle.std.specs.Prelude.{◌≡◌, ◌++◌, IfOk, OnOk, string_bytes};
-ghost use Rattle.overlay.specs.Outcomes.{more_services, outcome_line, reach_text, services_text, why_text};
+ghost use Rattle.overlay.specs.Outcomes.{delivered_text, more_services, outcome_line, reach_text, services_text, why_text};
 
 use config_check::Valid;
 use ov_io::TextOut;
-use ov_types::{NoMemory, Outcome, Packet, ServiceNo, Why};
+use ov_types::{NoMemory, Outcome, Packet, PortNo, ServiceNo, Why};
 use reach_plain::reach;
 use std::alloc::{AllocError, Global};
 
@@ -43,6 +43,17 @@ fn reason_of(alloc: Global, why: Why) -> Result<String, AllocError>
     }
 }
 
+fn delivered_line(
+    alloc: Global,
+    number: usize,
+    port: PortNo,
+    services: &str,
+) -> Result<String, AllocError>
+    ensures { IfOk result (λ s. string_bytes s ≡ delivered_text number port services.now) }
+{
+    format!(in alloc; "{number} delivered port {port} services {services}\n")
+}
+
 #[tactic(auto, unfolding(crate::specs::Outcomes::outcome_line))]
 fn line_of(alloc: Global, number: usize, outcome: &Outcome) -> Result<String, AllocError>
     ensures { IfOk result (λ s. string_bytes s ≡ outcome_line number outcome.now) }
@@ -50,7 +61,7 @@ fn line_of(alloc: Global, number: usize, outcome: &Outcome) -> Result<String, Al
     match outcome {
         Outcome::Delivered { port, services } => {
             let services = services_of(alloc, services.as_slice())?;
-            format!(in alloc; "{number} delivered port {port} services {services}\n")
+            delivered_line(alloc, number, *port, services.as_str())
         }
         Outcome::Dropped { why } => {
             let reason = reason_of(alloc, *why)?;
