@@ -34,13 +34,58 @@ const EQUAL_ADDRESSES: &str =
 const PASS: &str =
     r#"{"topology":{"as":64512,"controllers":[{"name":"c1","address":"192.0.2.1"},{"name":"c2","address":"192.0.2.2"}],"nodes":[{"name":"n1","address":"192.0.2.11","controllers":["c1"]},{"name":"n2","address":"192.0.2.12","controllers":["c2"]}]},"configuration":{"networks":[{"name":"red","id":1,"subnets":["10.1.0.0/24"],"policies":["web"]},{"name":"blue","id":2,"subnets":["10.2.0.0/24"],"policies":["web"]}],"ports":[{"name":"vm1","id":1,"network":"red","address":"10.1.0.1","node":"n1"},{"name":"vm2","id":2,"network":"blue","address":"10.2.0.2","node":"n2"}],"policies":[{"name":"web","sequence":10,"rules":[{"direction":"<>","source":"any","destination":"any","protocol":6,"source_ports":[0,65535],"destination_ports":[22,22],"action":"deny"},{"direction":"<>","source":"any","destination":"any","protocol":"any","source_ports":[0,65535],"destination_ports":[0,65535],"action":"pass"}]}]}}"#;
 
-/// How a run of `compile` ended, and what it wrote.
-fn compiled(alloc: Global, input: &[u8]) -> Result<(Status, MemSink), Fail> {
-    let words = vec![in alloc; String::from_str(alloc, "compile")?]?;
+const REACH: &str =
+    r#"{"topology":{"as":64512,"controllers":[{"name":"c1","address":"192.0.2.1"},{"name":"c2","address":"192.0.2.2"}],"nodes":[{"name":"n1","address":"192.0.2.11","controllers":["c1"]},{"name":"n2","address":"192.0.2.12","controllers":["c2"]}]},"configuration":{"networks":[{"name":"red","id":1,"subnets":["10.1.0.0/24"],"policies":["web"]},{"name":"blue","id":2,"subnets":["10.2.0.0/24"],"policies":["web"]}],"ports":[{"name":"vm1","id":1,"network":"red","address":"10.1.0.1","node":"n1"},{"name":"vm2","id":2,"network":"blue","address":"10.2.0.2","node":"n2"}],"policies":[{"name":"web","sequence":10,"rules":[{"direction":"<>","source":"any","destination":"any","protocol":6,"source_ports":[0,65535],"destination_ports":[22,22],"action":"deny"},{"direction":"<>","source":"any","destination":"any","protocol":"any","source_ports":[0,65535],"destination_ports":[0,65535],"action":"pass"}]}]},"packets":[{"port":1,"to":"10.2.0.2","protocol":6,"sport":50000,"dport":22},{"port":1,"to":"10.2.0.2","protocol":6,"sport":50000,"dport":80},{"port":1,"to":"10.2.0.9","protocol":6,"sport":50000,"dport":80},{"port":9,"to":"10.2.0.2","protocol":6,"sport":50000,"dport":80}]}"#;
+
+const REACH_THROUGH_A_CHAIN: &str =
+    r#"{"topology":{"as":64512,"controllers":[{"name":"c1","address":"192.0.2.1"},{"name":"c2","address":"192.0.2.2"}],"nodes":[{"name":"n1","address":"192.0.2.11","controllers":["c1"]},{"name":"n2","address":"192.0.2.12","controllers":["c2"]}]},"configuration":{"networks":[{"name":"red","id":1,"subnets":["10.1.0.0/24"],"policies":["sec"]},{"name":"blue","id":2,"subnets":["10.2.0.0/24"],"policies":["sec"]}],"ports":[{"name":"vm1","id":1,"network":"red","address":"10.1.0.1","node":"n1"},{"name":"vm2","id":2,"network":"blue","address":"10.2.0.2","node":"n2"}],"services":[{"name":"s1","id":1,"node":"n1"},{"name":"s2","id":2,"node":"n2"}],"chains":[{"name":"pair","hops":["s1","s2"]}],"policies":[{"name":"sec","sequence":20,"rules":[{"direction":"<>","source":"red","destination":"blue","protocol":"any","source_ports":[0,65535],"destination_ports":[0,65535],"action":"chain","chain":"pair","use":0}]}]},"packets":[{"port":1,"to":"10.2.0.2","protocol":6,"sport":50000,"dport":80},{"port":2,"to":"10.1.0.1","protocol":6,"sport":50000,"dport":80}]}"#;
+
+const REACH_ONE_SIDED: &str =
+    r#"{"topology":{"as":64512,"controllers":[{"name":"c1","address":"192.0.2.1"},{"name":"c2","address":"192.0.2.2"}],"nodes":[{"name":"n1","address":"192.0.2.11","controllers":["c1"]},{"name":"n2","address":"192.0.2.12","controllers":["c2"]}]},"configuration":{"networks":[{"name":"red","id":1,"subnets":["10.1.0.0/24"],"policies":["web"]},{"name":"blue","id":2,"subnets":["10.2.0.0/24"],"policies":[]}],"ports":[{"name":"vm1","id":1,"network":"red","address":"10.1.0.1","node":"n1"},{"name":"vm2","id":2,"network":"blue","address":"10.2.0.2","node":"n2"}],"policies":[{"name":"web","sequence":10,"rules":[{"direction":"<>","source":"any","destination":"any","protocol":6,"source_ports":[0,65535],"destination_ports":[22,22],"action":"deny"},{"direction":"<>","source":"any","destination":"any","protocol":"any","source_ports":[0,65535],"destination_ports":[0,65535],"action":"pass"}]}]},"packets":[{"port":1,"to":"10.2.0.2","protocol":6,"sport":50000,"dport":80}]}"#;
+
+/// How a run of a command ended, and what it wrote.
+fn ran(alloc: Global, word: &str, input: &[u8]) -> Result<(Status, MemSink), Fail> {
+    let words = vec![in alloc; String::from_str(alloc, word)?]?;
     let mut source = MemSource::new(alloc, input.to_vec(alloc)?, Vec::new(alloc));
     let mut sink = MemSink::new(alloc, Vec::new(alloc));
     let status = overlay(alloc, words.as_slice(), &mut source, &mut sink);
     Ok((status, sink))
+}
+
+/// How a run of `compile` ended, and what it wrote.
+fn compiled(alloc: Global, input: &[u8]) -> Result<(Status, MemSink), Fail> {
+    ran(alloc, "compile", input)
+}
+
+#[test]
+fn packets_are_answered(rt: HostRuntime) -> Result<(), Fail> {
+    for (input, status, output) in [
+        (
+            REACH,
+            Status::Done,
+            "\
+1 dropped denied 10/1
+2 delivered port 2 services -
+3 dropped no-route
+4 dropped no-source-port
+",
+        ),
+        (
+            REACH_THROUGH_A_CHAIN,
+            Status::Done,
+            "\
+1 delivered port 2 services 1,2
+2 delivered port 1 services 2,1
+",
+        ),
+        (REACH_ONE_SIDED, Status::Done, "1 dropped no-destination\n"),
+        (ONE, Status::BadDocument, "bad document packets Missing\n"),
+    ] {
+        let (ended, sink) = ran(rt.alloc(), "reach", input.as_bytes())?;
+        assert_eq!(rt; ended, status, "{input}");
+        assert_eq!(rt; sink.taken(), output.as_bytes(), "{input}");
+    }
+    Ok(())
 }
 
 #[test]
