@@ -1,8 +1,7 @@
 -- A packet and its answer.
-use Rattle.std.proofs.Common.{◌≡◌, ◌≢◌, ℕ, ◌&&◌, ◌||◌, Bool, true, false, not, cond, List, [], ◌∷◌, Option, Some, None, option_map, flat_map, filter, refl, sym, ap, ◌∙◌, subst}
+use Rattle.std.proofs.Common.{◌≡◌, ◌&&◌, ◌||◌, Bool, true, false, not, cond, List, [], ◌∷◌, Option, Some, None, option_map, flat_map, filter, refl, sym, ap, ◌∙◌, subst}
 use Rattle.std.specs.List.{All}
 use Rattle.std.specs.Cmp.Lexicographic.{same_text}
-use Rattle.ov_types.specs.declared.packet.RuleNo.{RuleNo}
 use Rattle.ov_types.specs.declared.packet.Tuple.{Tuple}
 use Rattle.config_model.specs.declared.config.Config.{Config}
 use Rattle.config_model.specs.declared.config.Direction.{Direction}
@@ -12,7 +11,7 @@ use Rattle.config_model.specs.declared.config.End.TheVariants.{Named}
 use Rattle.config_model.specs.declared.config.Network.{Network}
 use Rattle.config_model.specs.declared.config.Policy.{Policy}
 use Rattle.config_model.specs.declared.config.Rule.{Rule}
-use Rattle.chain_expand.specs.First.{◌<|>◌, same_name, first_of}
+use Rattle.chain_expand.specs.First.{◌<|>◌, first_of}
 use Rattle.config_check.specs.declared.related.NumberedRule.{NumberedRule}
 use Rattle.config_check.specs.Related.{numbered_rules, attaches, by_sequence, end_fits, fits, rules_between}
 use Rattle.config_check.proofs.Iffs.{all_head, all_tail}

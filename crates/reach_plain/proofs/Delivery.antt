@@ -1,6 +1,6 @@
 -- What a delivery says of the packet.
-use Rattle.std.proofs.Common.{◌≡◌, ◌≢◌, ◌⊎◌, inl, inr, ℕ, ◌&&◌, ◌||◌, ◌<◌, ◌≤◌, ◌-◌, ◌==◌, Bool, true, false, cond, IsTrue, List, [], ◌∷◌, Option, Some, None, map, reverse, length, get_or, refl, sym, ap, ◌∙◌, subst, arith}
-use Rattle.std.specs.List.{All, AllPairs, Contains, find}
+use Rattle.std.proofs.Common.{◌≡◌, ◌≢◌, ◌⊎◌, inl, inr, ℕ, ◌&&◌, ◌||◌, ◌<◌, ◌-◌, ◌==◌, Bool, true, false, cond, List, [], ◌∷◌, Option, Some, None, map, reverse, length, get_or, refl, sym, ap, ◌∙◌, subst, arith}
+use Rattle.std.specs.List.{All, AllPairs, Contains}
 use Rattle.std.specs.Cmp.Lexicographic.{same_text}
 use Rattle.std.proofs.lemmas.Bool.{eqb-true}
 use Rattle.std.proofs.lemmas.List.{get_or-reverse, length-reverse}
@@ -8,8 +8,7 @@ use Rattle.std.proofs.lemmas.List.Elements.{All-contains_itself}
 use Rattle.std.proofs.lemmas.List.Kept.{AllPairs-cons}
 use Rattle.ov_types.specs.declared.numbers.PortNo.{PortNo}
 use Rattle.ov_types.specs.declared.numbers.ServiceNo.{ServiceNo}
-use Rattle.ov_types.specs.declared.packet.Outcome.{Outcome}
-use Rattle.ov_types.specs.declared.packet.Outcome.TheVariants.{Delivered, Dropped}
+use Rattle.ov_types.specs.declared.packet.Outcome.TheVariants.{Delivered}
 use Rattle.ov_types.specs.declared.packet.Packet.{Packet}
 use Rattle.ov_types.specs.declared.prefix.Addr.{Addr}
 use Rattle.config_model.specs.declared.config.Action.{Action}
@@ -26,7 +25,7 @@ use Rattle.config_check.specs.Rules.{network_named, holds_address, first_broken}
 use Rattle.config_check.specs.Sentences.{IsAround}
 use Rattle.config_check.proofs.Iffs.{all_head, all_tail, all_cons, pairs_head, pairs_tail}
 use Rattle.reach_plain.specs.Matching.{Match, deciding}
-use Rattle.reach_plain.specs.Reachability.{port_numbered, network_towards, port_at, arrival_at, services_through, outcome_of, outcome_by, outcome_between, outcome_towards, outcome_from, outcome_at, reachability}
+use Rattle.reach_plain.specs.Reachability.{port_numbered, network_towards, port_at, arrival_at, outcome_of, outcome_by, outcome_between, outcome_towards, outcome_from, outcome_at, reachability}
 use Rattle.reach_plain.specs.Delivery.{numbers_of, LeadsThrough, IsLetThrough, IsDelivered}
 use Rattle.reach_plain.proofs.Kept.{found_in, chain_is_once}
 

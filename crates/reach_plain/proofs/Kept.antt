@@ -1,5 +1,5 @@
 -- What a valid configuration keeps that decisions and outcomes rest on.
-use Rattle.std.proofs.Common.{◌≡◌, ◌≢◌, ℕ, ◌≤◌, ◌<◌, ◌&&◌, leb, ltb, Bool, true, false, cond, IsTrue, List, [], ◌∷◌, Option, Some, None, Result, Ok, map, length, get_or, refl, sym, ap, subst, ◌∙◌, arith}
+use Rattle.std.proofs.Common.{◌≡◌, ◌≢◌, ℕ, ◌≤◌, leb, ltb, Bool, true, false, cond, List, [], ◌∷◌, Some, None, Ok, map, length, get_or, refl, sym, ap, subst, ◌∙◌, arith}
 use Rattle.std.specs.List.{All, AllPairs, find, list_all}
 use Rattle.std.specs.Cmp.Lexicographic.{same_text}
 use Rattle.std.proofs.lemmas.Bool.{le-ltb}
@@ -9,14 +9,14 @@ use Rattle.config_model.specs.declared.config.Config.{Config}
 use Rattle.config_model.specs.declared.config.Service.{Service}
 use Rattle.config_model.specs.declared.topology.Topology.{Topology}
 use Rattle.chain_expand.specs.First.{same_name, first_meeting}
-use Rattle.chain_expand.specs.Expansion.{chain_named, hops_of, expansion, same_number, numbers_or_twice, numbers_or_fault}
+use Rattle.chain_expand.specs.Expansion.{chain_named, expansion, same_number, numbers_or_fault}
 use Rattle.config_check.specs.Rules.{first_broken}
 use Rattle.config_check.specs.Sentences.{IsValid}
 use Rattle.config_check.proofs.Iffs.{all_head, all_tail, first_meeting_none}
 use Rattle.config_check.proofs.Few.{few_rules as rules_are_few, first_none}
 use Rattle.config_check.proofs.Validity.{valid_iff}
 
-valid : (t : Topology) (c : Config) → first_broken t c ≡ None → IsValid t c
+pub valid : (t : Topology) (c : Config) → first_broken t c ≡ None → IsValid t c
 valid t c h = (valid_iff t c).0 h
 
 pub few_rules : (t : Topology) (c : Config) → first_broken t c ≡ None → list_all (λ p. leb (length p.rules) 16) c.policies ≡ true

@@ -2,14 +2,13 @@
 use Rattle.std.proofs.Common.{◌≡◌, ℕ, suc, ◌+◌, ◌<◌, ◌≤◌, ◌&&◌, ◌||◌, leb, Bool, true, false, cond, List, [], ◌∷◌, ◌++◌, Option, Some, None, flat_map, filter, length, get_or, drop, refl, sym, ap, ◌∙◌, add-one, drop-cons, arith}
 use Rattle.std.proofs.lemmas.Bool.{leb-true, leb-false, le-leb, lt-leb}
 use Rattle.ov_types.specs.declared.packet.Tuple.{Tuple}
-use Rattle.config_model.specs.declared.config.Config.{Config}
 use Rattle.config_model.specs.declared.config.Network.{Network}
 use Rattle.config_model.specs.declared.config.Policy.{Policy}
 use Rattle.config_model.specs.declared.config.Rule.{Rule}
 use Rattle.chain_expand.specs.First.{◌<|>◌, first_of}
 use Rattle.config_check.specs.declared.related.NumberedRule.{NumberedRule}
-use Rattle.config_check.specs.Related.{numbered_from, numbered_rules, attaches, put_by_sequence, by_sequence, fits, rules_between}
-use Rattle.reach_plain.specs.Matching.{Match, has_protocol, in_range, speaks_both_ways, match_by, deciding}
+use Rattle.config_check.specs.Related.{numbered_from, numbered_rules, attaches, put_by_sequence, by_sequence, fits}
+use Rattle.reach_plain.specs.Matching.{Match, has_protocol, in_range, speaks_both_ways, match_by}
 use Rattle.reach_plain.specs.Least.{match_in, least}
 
 -- first answers over lists

@@ -5,8 +5,6 @@ use Rattle.ov_types.specs.declared.packet.Outcome.{Outcome}
 use Rattle.ov_types.specs.declared.packet.Outcome.TheVariants.{Delivered, Dropped}
 use Rattle.ov_types.specs.declared.packet.Packet.{Packet}
 use Rattle.ov_types.specs.declared.packet.RuleNo.{RuleNo}
-use Rattle.ov_types.specs.declared.packet.Tuple.{Tuple}
-use Rattle.ov_types.specs.declared.packet.Why.{Why}
 use Rattle.ov_types.specs.declared.packet.Why.TheVariants.{NoSourcePort, NoDestination, NoRoute, Denied}
 use Rattle.config_model.specs.declared.config.Action.{Action}
 use Rattle.config_model.specs.declared.config.Action.TheVariants.{Pass, Deny, Through}

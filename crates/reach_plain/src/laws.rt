@@ -1,17 +1,18 @@
 //! What decisions and outcomes promise, as laws: each is the contract of a function that does nothing.
-ghost use Rattle.std.specs.Prelude.{◌≡◌, ◌≢◌, List, not};
-ghost use Rattle.std.specs.List.{AllPairs};
+ghost use Rattle.std.specs.Prelude.{◌≡◌, ◌≢◌, ◌↔◌, ℕ, List, false, not};
+ghost use Rattle.std.specs.List.{All, AllPairs};
 ghost use Rattle.ov_types.specs.declared.numbers.PortNo.{PortNo};
 ghost use Rattle.ov_types.specs.declared.numbers.ServiceNo.{ServiceNo};
 ghost use Rattle.ov_types.specs.declared.packet.Outcome.TheVariants.{Delivered};
 ghost use Rattle.ov_types.specs.declared.packet.Packet.{Packet};
 ghost use Rattle.ov_types.specs.declared.packet.Tuple.{Tuple};
+ghost use Rattle.config_model.specs.declared.config.Action.TheVariants.{Through};
 ghost use Rattle.config_model.specs.declared.config.Config.{Config};
 ghost use Rattle.config_model.specs.declared.config.Network.{Network};
 ghost use Rattle.config_model.specs.declared.topology.Topology.{Topology};
 ghost use Rattle.config_check.specs.Related.{rules_between};
 ghost use Rattle.config_check.specs.Rules.{first_broken};
-ghost use Rattle.reach_plain.specs.Matching.{Match, deciding, decision};
+ghost use Rattle.reach_plain.specs.Matching.{Match, matches_forwards, matches_mirrored, deciding, decision};
 ghost use Rattle.reach_plain.specs.Answering.{answering, SpeakBothWays, NamesTwoEnds, rule_of};
 ghost use Rattle.reach_plain.specs.Reachability.{reachability};
 ghost use Rattle.reach_plain.specs.Delivery.{IsDelivered};
@@ -19,6 +20,12 @@ ghost use Rattle.reach_plain.specs.Delivery.{IsDelivered};
 /// The rules between two networks do not depend on which of them comes first.
 pub fn rules_between_are_symmetric()
     ensures { (c : Config) (a b : Network) → rules_between c a b ≡ rules_between c b a }
+{}
+
+/// No rule decides on a packet exactly where none between the two networks matches it, forwards or mirrored.
+pub fn none_decides_where_none_matches()
+    ensures { (c : Config) (a b : Network) (t : Tuple) → (decision c a b t ≡ None)
+        ↔ All (λ r. (matches_forwards a b t r.rule ≡ false) × (matches_mirrored a b t r.rule ≡ false)) (rules_between c a b) }
 {}
 
 /// Where all rules between two networks are of both directions, a packet and its answer are decided by the same rule,
@@ -29,6 +36,16 @@ pub fn answers_are_decided_alike()
     ensures direction { (c : Config) (a b : Network) (t : Tuple) (m n : Match) → SpeakBothWays c a b
         → deciding c a b t ≡ Some m → deciding c b a (answering t) ≡ Some n
         → NamesTwoEnds m.rule.rule → n.mirrored ≡ not m.mirrored }
+{}
+
+/// In a valid configuration, where all rules between two networks are of both directions, a packet that is decided by
+/// a chain rule and its answer are decided in opposite directions, so that they pass the same services in opposite
+/// order.
+pub fn chains_are_passed_back()
+    ensures { (topology : Topology) (c : Config) (a b : Network) (t : Tuple) (m n : Match) (chain : List ℕ) (use_no : ℕ)
+        → first_broken topology c ≡ None → SpeakBothWays c a b
+        → deciding c a b t ≡ Some m → deciding c b a (answering t) ≡ Some n
+        → m.rule.rule.action ≡ Through chain use_no → n.mirrored ≡ not m.mirrored }
 {}
 
 /// A packet that is delivered comes to a port that has its destination's address, of the source's own network or of

@@ -1,0 +1,5 @@
+use Rattle.reach_plain.proofs.Members.{chain_rules_opposite}
+use Rattle.reach_plain.proofs.laws.chains_are_passed_back.Goals as goal
+
+pub returns : goal.returns
+returns c = chain_rules_opposite
