@@ -1,5 +1,5 @@
 -- That a block is inside another as a test, and as a fact on each address.
-use Rattle.std.proofs.Common.{◌≡◌, ℕ, ◌↔◌, Bool, true, false, IsTrue, refl, sym, arith}
+use Rattle.std.proofs.Common.{◌≡◌, ℕ, ◌↔◌, Bool, true, false, IsTrue, refl, sym}
 use Rattle.ov_types.specs.Prefix.{Block, contains, is_inside}
 use Rattle.ov_types.proofs.Blocks.{within_is}
 

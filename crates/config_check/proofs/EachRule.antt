@@ -1,5 +1,5 @@
 -- For each rule: it is kept exactly where its sentence holds.
-use Rattle.std.proofs.Common.{◌≡◌, ◌≢◌, ◌↔◌, ◌≤◌, ◌<◌, ◌++◌, ◌&&◌, ◌||◌, ◌==◌, leb, ltb, ℕ, Bool, true, false, IsTrue, List, Option, Some, None, option_map, IfSome, map, find, length, refl, sym, ap, ◌∙◌, arith}
+use Rattle.std.proofs.Common.{◌≡◌, ◌≢◌, ◌↔◌, ◌≤◌, ◌++◌, leb, ltb, ℕ, Bool, true, false, List, Option, None, option_map, IfSome, map, find, length, refl, sym, ◌∙◌, arith}
 use Rattle.std.specs.List.{All, AllPairs, Any, Contains, list_all}
 use Rattle.std.proofs.lemmas.Bool.{leb-true, le-leb, le-ltb}
 use Rattle.std.proofs.lemmas.Bool.Decides.{nat_tests}
@@ -12,7 +12,7 @@ use Rattle.config_model.specs.declared.config.Port.{Port}
 use Rattle.config_model.specs.declared.config.Service.{Service}
 use Rattle.config_model.specs.declared.topology.Node.{Node}
 use Rattle.config_model.specs.declared.topology.Topology.{Topology}
-use Rattle.chain_expand.specs.First.{◌<|>◌, same_name, first_of, first_meeting}
+use Rattle.chain_expand.specs.First.{◌<|>◌, first_of, first_meeting}
 use Rattle.chain_expand.specs.Expansion.{loops, expansion, same_number}
 use Rattle.config_check.specs.declared.refusal.IdKind.TheVariants as Id
 use Rattle.config_check.specs.declared.refusal.Refusal.{Refusal}
@@ -22,7 +22,7 @@ use Rattle.config_check.specs.Rules.{broken_count, broken_part, broken_limit, re
 use Rattle.config_check.specs.Sentences.{AreDistinct, KeepsLimits, HasDistinctNames, HasDistinctNumbers, HasReferents, EndExists, ChainExists, Overlap, ReservesCircuits, HasFlatSubnets, HoldsAddresses, HasDistinctAddresses, NamesEnds, NamesTwo, IsAround, AreApart}
 use Rattle.config_check.proofs.Few.{all_kept, each_kept, counts_kept, parts_kept}
 use Rattle.config_check.proofs.Iffs.{iff_then, iff_both, all_iff, pairs_iff, both_none, mapped_none, find_none, first_of_none, first_meeting_none, list_all_true, six_none}
-use Rattle.config_check.proofs.Meanings.{fails_iff, distinct_names, distinct_ids, exists_iff, end_exists_iff, chain_exists_iff, apart_iff, inside_iff, shares_iff, ends_iff, names_two_iff, around_iff}
+use Rattle.config_check.proofs.Meanings.{distinct_names, distinct_ids, exists_iff, end_exists_iff, chain_exists_iff, apart_iff, inside_iff, shares_iff, ends_iff, names_two_iff, around_iff}
 use Rattle.config_check.proofs.Straight.{no_loop, too_long_is}
 
 -- 1

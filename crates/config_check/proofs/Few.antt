@@ -1,11 +1,10 @@
 -- What holds where no count is above its limit.
-use Rattle.std.proofs.Common.{◌≡◌, ◌≤◌, leb, Bool, true, false, IsTrue, Option, Some, None, length, refl}
+use Rattle.std.proofs.Common.{◌≡◌, ◌≤◌, leb, Bool, true, false, Option, Some, None, length, refl}
 use Rattle.std.specs.List.{list_all}
 use Rattle.std.proofs.lemmas.Bool.{leb-true}
 use Rattle.chain_expand.specs.First.{◌<|>◌}
 use Rattle.config_model.specs.declared.config.Config.{Config}
 use Rattle.config_model.specs.declared.topology.Topology.{Topology}
-use Rattle.config_check.specs.declared.refusal.LimitKind.{LimitKind}
 use Rattle.config_check.specs.declared.refusal.LimitKind.TheVariants as Counted
 use Rattle.config_check.specs.Rules.{limit_unless, broken_count, broken_part, broken_limit}
 

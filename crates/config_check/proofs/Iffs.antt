@@ -1,6 +1,6 @@
 -- That nothing is found, as a fact on all items or on all pairs of them.
-use Rattle.std.proofs.Common.{◌≡◌, ◌≢◌, ◌↔◌, ◌≤◌, ◌<◌, ◌+◌, ◌||◌, ◌&&◌, ℕ, zero, suc, Bool, true, false, not, cond, IsTrue, List, [], ◌∷◌, ◌++◌, Option, Some, None, option_map, length, get_or, refl, sym, ap, ◌∙◌, arith}
-use Rattle.std.specs.List.{All, AllPairs, Any, find, list_any, list_all, filter}
+use Rattle.std.proofs.Common.{◌≡◌, ◌↔◌, ◌<◌, ◌||◌, ◌&&◌, ℕ, zero, suc, Bool, true, false, cond, IsTrue, List, [], ◌∷◌, ◌++◌, Option, Some, None, option_map, length, get_or, refl, sym, ◌∙◌, arith}
+use Rattle.std.specs.List.{All, AllPairs, find, list_any, list_all, filter}
 use Rattle.std.proofs.lemmas.List.Kept.{AllPairs-cons}
 use Rattle.chain_expand.specs.First.{◌<|>◌, first_of, meeting_after, first_meeting}
 

@@ -1,10 +1,9 @@
 -- What the tests of the rules mean.
-use Rattle.std.proofs.Common.{◌≡◌, ◌≢◌, ◌↔◌, ◌⊎◌, inl, inr, ◌≤◌, ◌<◌, ◌+◌, ◌||◌, ◌&&◌, ◌==◌, ltb, ℕ, zero, suc, Bool, true, false, not, cond, IsTrue, List, [], ◌∷◌, ◌++◌, Option, Some, None, option_map, IfSome, filter, find, length, get_or, refl, sym, ap, ◌∙◌, arith}
+use Rattle.std.proofs.Common.{◌≡◌, ◌≢◌, ◌↔◌, ◌⊎◌, inl, inr, ◌||◌, ◌&&◌, ◌==◌, ℕ, Bool, true, false, not, cond, IsTrue, List, [], ◌∷◌, Option, Some, None, option_map, IfSome, filter, find, refl, sym, ap, ◌∙◌, arith}
 use Rattle.std.specs.Cmp.Lexicographic.{same_text, nat_list_eq_equiv}
 use Rattle.std.specs.List.{All, AllPairs, Any, Contains, list_any}
 use Rattle.std.specs.Option.{option_map_or}
 use Rattle.std.proofs.lemmas.Bool.{eqb-true, eq-eqb}
-use Rattle.std.proofs.lemmas.Bool.Decides.{nat_tests}
 use Rattle.std.proofs.lemmas.List.Folds.{Any-from_list_any, list_any-from_Any}
 use Rattle.std.proofs.lemmas.List.Kept.{AllPairs-cons}
 use Rattle.std.proofs.lemmas.Map.Views.{list_any-from_Contains, Contains-from_any}
@@ -17,14 +16,14 @@ use Rattle.config_model.specs.declared.config.End.{End}
 use Rattle.config_model.specs.declared.config.End.TheVariants as Ends
 use Rattle.config_model.specs.declared.config.Network.{Network}
 use Rattle.config_model.specs.declared.config.Port.{Port}
-use Rattle.chain_expand.specs.First.{◌<|>◌, same_name, first_meeting}
+use Rattle.chain_expand.specs.First.{same_name, first_meeting}
 use Rattle.config_check.specs.declared.refusal.IdKind.{IdKind}
 use Rattle.config_check.specs.declared.refusal.Refusal.{Refusal}
 use Rattle.config_check.specs.declared.refusal.Refusal.TheVariants.{DuplicateName, DuplicateId, BadReference, SubnetOverlap}
 use Rattle.config_check.specs.Related.{are_related}
-use Rattle.config_check.specs.Rules.{repeated_name, repeated_id, missing, missing_end, missing_chain, overlap, network_named, holds_address, is_outside, share_address, is_chain_rule, is_any, same_end, share_addresses, overlapping, group_of, overlapping_around}
-use Rattle.config_check.specs.Sentences.{AreDistinct, EndExists, ChainExists, IsWithin, Overlap, IsAround, AreApart}
-use Rattle.config_check.proofs.Iffs.{iff_then, iff_both, all_iff, pairs_iff, both_none, mapped_none, find_none, first_meeting_none, list_any_false, pairs_head, pairs_tail, pairs_kept}
+use Rattle.config_check.specs.Rules.{repeated_name, repeated_id, missing, missing_end, missing_chain, overlap, network_named, holds_address, is_outside, share_address, is_chain_rule, is_any, same_end, share_addresses, overlapping, overlapping_around}
+use Rattle.config_check.specs.Sentences.{AreDistinct, EndExists, ChainExists, Overlap, IsAround, AreApart}
+use Rattle.config_check.proofs.Iffs.{iff_then, all_iff, pairs_iff, both_none, mapped_none, find_none, first_meeting_none, list_any_false, pairs_head, pairs_tail, pairs_kept}
 
 -- tests
 

@@ -1,5 +1,5 @@
 -- Whether some rule lets packets through between two networks, whatever the order of their policies.
-use Rattle.std.proofs.Common.{◌≡◌, ℕ, ◌+◌, ◌&&◌, ◌||◌, leb, Bool, true, false, cond, List, [], ◌∷◌, ◌++◌, flat_map, filter, not, refl, sym, ap, ◌∙◌}
+use Rattle.std.proofs.Common.{◌≡◌, ℕ, ◌+◌, ◌&&◌, ◌||◌, leb, Bool, true, false, cond, List, [], ◌∷◌, flat_map, filter, not, refl, sym, ap, ◌∙◌}
 use Rattle.std.specs.List.{list_any}
 use Rattle.std.proofs.lemmas.List.Folds.{list_any-append}
 use Rattle.config_model.specs.declared.config.Network.{Network}

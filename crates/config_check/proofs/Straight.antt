@@ -1,15 +1,11 @@
 -- Chains where none leads back to itself.
-use Rattle.std.proofs.Common.{◌≡◌, ℕ, ◌+◌, ◌<◌, ◌&&◌, ◌||◌, ltb, Bool, true, false, cond, List, [], ◌∷◌, Option, Some, None, option_map, is_none, Result, Ok, Err, map, length, get_or, drop, refl, sym, ap, ◌∙◌}
+use Rattle.std.proofs.Common.{◌≡◌, ℕ, ◌<◌, ◌&&◌, ◌||◌, ltb, Bool, true, false, cond, List, [], ◌∷◌, Option, Some, None, option_map, length, get_or, refl, sym, ◌∙◌}
 use Rattle.std.specs.List.{find}
 use Rattle.chain_expand.specs.First.{same_name, first_meeting}
 use Rattle.chain_expand.specs.Expansion.{leads, loops, loop_of, expansion, same_number, numbers_or_twice, numbers_or_fault}
-use Rattle.chain_expand.specs.declared.fault.ChainFault.{ChainFault}
-use Rattle.chain_expand.specs.declared.fault.ChainFault.TheVariants.{Loop, TooLong, Twice}
 use Rattle.config_model.specs.declared.config.Chain.{Chain}
 use Rattle.config_model.specs.declared.config.Config.{Config}
 use Rattle.config_model.specs.declared.config.Service.{Service}
-use Rattle.ov_types.specs.declared.numbers.ServiceNo.{ServiceNo}
-use Rattle.config_check.specs.declared.refusal.Refusal.{Refusal}
 use Rattle.config_check.specs.declared.refusal.Refusal.TheVariants.{ChainLoop, ChainTooLong, ServiceTwice}
 use Rattle.config_check.specs.Rules.{broken_loop, broken_long, is_too_long, twice_in}
 use Rattle.config_check.specs.Twice.{twice_of}

@@ -1,4 +1,4 @@
-use Rattle.std.proofs.Common.{ap, ◌∙◌, get_or, length, ◌<◌, arith}
+use Rattle.std.proofs.Common.{ap, ◌∙◌, get_or, length, ◌<◌}
 use Rattle.config_check.proofs.Straight.{none_too_long}
 use Rattle.config_check.proofs.chains.broken_twice.Goals as goal
 

@@ -1,4 +1,3 @@
-use Rattle.std.proofs.Common.{◌≡◌, ◌∙◌, sym}
 use Rattle.config_check.specs.Related.{passes}
 use Rattle.config_check.proofs.AnyRule.{any_between}
 use Rattle.config_check.proofs.passing.passes_between.Goals as goal
