@@ -28,7 +28,7 @@ pub any_flat_map : {A B : Type 0} (f : B → Bool) (g : A → List B) (xs : List
 any_flat_map f g [] = refl
 any_flat_map f g (x ∷ xs) = list_any-append f (g x) (flat_map g xs) ∙ ap (λ (r : Bool). list_any f (g x) || r) (any_flat_map f g xs)
 
-any_same : {A : Type 0} (f g : A → Bool) → ((x : A) → f x ≡ g x) → (xs : List A) → list_any f xs ≡ list_any g xs
+pub any_same : {A : Type 0} (f g : A → Bool) → ((x : A) → f x ≡ g x) → (xs : List A) → list_any f xs ≡ list_any g xs
 any_same f g same [] = refl
 any_same f g same (x ∷ xs) = ap (λ (b : Bool). b || list_any f xs) (same x) ∙ ap (λ (r : Bool). g x || r) (any_same f g same xs)
 
