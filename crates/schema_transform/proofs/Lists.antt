@@ -1,0 +1,66 @@
+-- Items of one list, and what a function gives of them.
+use Rattle.std.proofs.Common.{◌≡◌, ◌⊎◌, inl, inr, ◌<◌, ◌||◌, ℕ, suc, Bool, true, false, cond, IsTrue, List, [], ◌∷◌, Option, Some, None, length, get_or, refl, sym, ap, ◌∙◌, subst, arith}
+use Rattle.std.specs.List.{All, AllPairs, Contains, find, filter_map, cons_option, list_any}
+use Rattle.std.proofs.lemmas.Bool.{cases_order}
+use Rattle.std.proofs.lemmas.List.{get_or_default}
+use Rattle.std.proofs.lemmas.List.Elements.{All-cons, All-head, All-tail}
+use Rattle.std.proofs.lemmas.List.Kept.{AllPairs-cons}
+use Rattle.config_check.proofs.Iffs.{pairs_head, pairs_tail}
+
+-- what a search finds passes its test, and is in the list
+pub found : {A : Type 0} (p : A → Bool) (xs : List A) (a : A) → find p xs ≡ Some a → (p a ≡ true) × Contains xs a
+found p [] a h = cc
+found p (x ∷ xs) a h =
+    elim (p x) as (λ b. (b ≡ p x) → cond b (Some x) (find p xs) ≡ Some a → (p a ≡ true) × Contains (x ∷ xs) a) [
+      | true ↦ λ e is. let same : x ≡ a = cc in (ap p (sym same) ∙ sym e, (0, omega arith, same))
+      | false ↦ λ e is. let rest = found p xs a is in (rest.0, (suc rest.1.0, omega arith, rest.1.2))
+    ] refl h
+
+pub any_weaker : {A : Type 0} (p q : A → Bool) → ((x : A) → IsTrue (p x) → IsTrue (q x)) → (xs : List A) → IsTrue (list_any p xs) → IsTrue (list_any q xs)
+any_weaker p q weaker [] h = h
+any_weaker p q weaker (x ∷ xs) h =
+    elim (p x) as (λ b. (b ≡ p x) → IsTrue (b || list_any p xs) → IsTrue (q x || list_any q xs)) [
+      | true ↦ λ e t. rw (weaker x (sym e)) refl
+      | false ↦ λ e t. elim (q x) as (λ b. IsTrue (b || list_any q xs)) [ true ↦ refl | false ↦ any_weaker p q weaker xs t ]
+    ] refl h
+
+module _ {A : Type 0} (R : A → A → Type 0) (xs : List A) where
+  in_order : (i j : ℕ) (a b : A) → AllPairs R xs → i < j → j < length xs → get_or xs i a ≡ a → get_or xs j b ≡ b → R a b
+  in_order i j a b pairs lt within at_i at_j =
+      let h : R (get_or xs i a) (get_or xs j a) = pairs i j a lt within in
+      let first : R a (get_or xs j a) = subst (λ (x : A). R x (get_or xs j a)) at_i h in
+      subst (λ (y : A). R a y) (get_or_default xs j a b within ∙ at_j) first
+
+  -- two items of a list whose pairs are related are one item, or related one way or the other
+  pub two_among : (a b : A) → AllPairs R xs → Contains xs a → Contains xs b → (a ≡ b) ⊎ (R a b ⊎ R b a)
+  two_among a b pairs p q =
+      elim (cases_order p.0 q.0) [
+        | inl same ↦ inl (sym p.2 ∙ ap (λ (k : ℕ). get_or xs k a) same ∙ get_or_default xs q.0 a b q.1 ∙ q.2)
+        | inr other ↦ elim other [
+          | inl lt ↦ inr (inl (in_order p.0 q.0 a b pairs lt q.1 p.2 q.2))
+          | inr gt ↦ inr (inr (in_order q.0 p.0 b a pairs gt p.1 q.2 p.2))
+        ]
+      ]
+
+module _ {A B : Type 0} (f : A → Option B) where
+  -- what f gives of all items, where it gives something
+  pub all_given : (P : B → Type 0) (xs : List A) → All (λ x. (u : B) → f x ≡ Some u → P u) xs → All P (filter_map f xs)
+  all_given P [] h = λ k d lt. absurd (omega arith)
+  all_given P (x ∷ xs) h =
+      let Q : A → Type 0 = λ y. (u : B) → f y ≡ Some u → P u in
+      let rest = all_given P xs (All-tail Q x xs h) in
+      elim (f x) as (λ o. (o ≡ f x) → All P (cons_option o (filter_map f xs))) [
+        | None ↦ λ e. rest
+        | Some u ↦ λ e. All-cons P u (filter_map f xs) (All-head Q x xs h u (sym e)) rest
+      ] refl
+
+  -- of all pairs of items
+  pub pairs_given : (R : B → B → Type 0) (xs : List A) → AllPairs (λ x y. (u v : B) → f x ≡ Some u → f y ≡ Some v → R u v) xs → AllPairs R (filter_map f xs)
+  pairs_given R [] h = λ i j d lt within. absurd (omega arith)
+  pairs_given R (x ∷ xs) h =
+      let S : A → A → Type 0 = λ y z. (u v : B) → f y ≡ Some u → f z ≡ Some v → R u v in
+      let rest = pairs_given R xs (pairs_tail S x xs h) in
+      elim (f x) as (λ o. (o ≡ f x) → AllPairs R (cons_option o (filter_map f xs))) [
+        | None ↦ λ e. rest
+        | Some u ↦ λ e. AllPairs-cons R u (filter_map f xs) (all_given (R u) xs (λ k d lt v is. pairs_head S x xs h k d lt u v (sym e) is)) rest
+      ] refl
