@@ -61,3 +61,9 @@ abbrev pub NextAttribute : List ℕ → Option (Result Attribute WireFault) → 
 NextAttribute octets None after = (octets ≡ []) × (after ≡ [])
 NextAttribute octets (Some (Ok a)) after = BeginsWithAttribute octets (fields_of a) after
 NextAttribute octets (Some (Err f)) after = IsCut octets × (f ≡ malformed_attributes) × (after ≡ [])
+
+-- items say these attributes, each once and in order, and then one fault exactly where the tail is a cut attribute
+abbrev pub SaysAll : List (Result Attribute WireFault) → List AttributeFields → List ℕ → Type 0
+SaysAll [] attributes tail = (attributes ≡ []) × (tail ≡ [])
+SaysAll ((Ok item) ∷ items) attributes tail = (others : List AttributeFields) × (attributes ≡ fields_of item ∷ others) × SaysAll items others tail
+SaysAll ((Err f) ∷ items) attributes tail = (attributes ≡ []) × IsCut tail × (f ≡ malformed_attributes) × (items ≡ [])
