@@ -29,8 +29,11 @@ impl<'a> Model for Attributes<'a> {
 }
 
 impl<'a> Attributes<'a> {
+    ghost use Rattle.bgp_wire.specs.Messages.{AreOctets};
+
     pub(crate) fn new(octets: &'a [u8]) -> Attributes<'a>
-        ensures { result ≡ octets.now }
+        ensures all { result ≡ octets.now }
+        ensures octets { AreOctets octets.now }
     {
         Attributes { rest: octets }
     }
