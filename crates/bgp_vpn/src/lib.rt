@@ -14,3 +14,6 @@ mod update;
 
 pub use fault::UpdateFault;
 pub use update::read_update;
+
+#[cfg(test)]
+mod tests;
