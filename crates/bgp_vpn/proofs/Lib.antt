@@ -4,3 +4,5 @@ pub mod ValueLemmas
 pub mod FindLemmas
 pub mod CheckLemmas
 pub mod UpdateLemmas
+pub mod SpellingLemmas
+pub mod TargetLemmas

@@ -116,3 +116,13 @@ put_is next_hop targets found r key label done new is keys labels same =
     is ∙ ap (λ (k : VpnKey). done ++ Put k (route_to next_hop label found) ∷ []) keys
     ∙ ap (λ (l : Label). done ++ Put (key_of r) (route_to next_hop l found) ∷ []) labels
     ∙ ap (λ (ts : List Target). done ++ Put (key_of r) (route_to next_hop (label_of r) ts) ∷ []) same
+
+-- octets are routes in one way
+pub one_routes : (octets : List ℕ) (a b : List RouteFields) → AreRoutes octets a → AreRoutes octets b → a ≡ b
+one_routes octets [] [] x y = refl
+one_routes octets [] (r ∷ b) x y = let e = sym x.spelled ∙ y.spelled in absurd cc
+one_routes octets (r ∷ a) b x y =
+    let begins : BeginsWithRoute octets r (flat_map route_octets a) = record { spelled = x.spelled; is = x.each.0 } in
+    let less = behind octets (flat_map route_octets a) b r y begins in
+    let left : AreRoutes (flat_map route_octets a) a = record { spelled = refl; each = x.each.1 } in
+    ap (λ (rs : List RouteFields). r ∷ rs) (one_routes (flat_map route_octets a) a less.others left less.are) ∙ sym less.is

@@ -5,3 +5,4 @@ pub mod Values
 pub mod Checks
 pub mod Updates
 pub mod Spelled
+pub mod Spellings

@@ -144,6 +144,11 @@ fn a_withdrawal_drops_whatever_its_label(rt: HostRuntime) -> Result<(), Fail> {
         };
         assert!(rt; is_key(key, 0x0001_c000_020b_0001, 0x0a01_0005, 32));
     }
+    an_update_says_one_thing();
+    spellings_of_a_route_are_one();
+    spellings_of_a_next_hop_are_one();
+    equal_routes_make_equal_changes();
+    targets_are_those_communities();
     Ok(())
 }
 
