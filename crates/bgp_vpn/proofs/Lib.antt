@@ -6,3 +6,4 @@ pub mod CheckLemmas
 pub mod UpdateLemmas
 pub mod SpellingLemmas
 pub mod TargetLemmas
+pub mod GrammarLemmas

@@ -9,6 +9,8 @@ ghost use Rattle.ov_types.specs.Targets.{IsAscending};
 ghost use Rattle.bgp_wire.specs.Attributes.{AttributeFields};
 ghost use Rattle.bgp_wire.specs.Content.{UpdateFields};
 ghost use Rattle.bgp_wire.specs.Messages.{AreOctets};
+ghost use Rattle.bgp_vpn.specs.Pieces.{are_prefixes, are_segments};
+ghost use Rattle.bgp_vpn.specs.Grammar.{ArePrefixes, SegmentFields, AreSegments};
 ghost use Rattle.bgp_vpn.specs.Routes.{RouteFields, label_of, distinguisher_of, key_of, drop_of};
 ghost use Rattle.bgp_vpn.specs.Values.{next_hop_of, routes_behind, next_hop_in, targets_in, communities, is_target, targets_among};
 ghost use Rattle.bgp_vpn.specs.Spellings.{spelled_route, AgreeIn, reach_value};
@@ -60,4 +62,14 @@ pub fn targets_are_those_communities()
     ensures each { (value : List ℕ) (t : Target)
         → Contains (targets_among value) t ↔ (Contains (communities value) t.0 × IsTrue (is_target t.0)) }
     ensures ascending { (value : List ℕ) → IsAscending (targets_among value) }
+{}
+
+/// The tests on routes and on segments of an AS_PATH hold of exactly the octets that are lists of these.
+pub fn tests_hold_of_exactly_the_lists()
+    ensures prefixes { (least greatest : ℕ) (octets : List ℕ) → IsTrue (are_prefixes least greatest octets)
+        → (prefixes : List RouteFields) × ArePrefixes least greatest octets prefixes }
+    ensures no_other_prefixes { (least greatest : ℕ) (octets : List ℕ) (prefixes : List RouteFields)
+        → ArePrefixes least greatest octets prefixes → IsTrue (are_prefixes least greatest octets) }
+    ensures segments { (octets : List ℕ) → IsTrue (are_segments octets) → (segments : List SegmentFields) × AreSegments octets segments }
+    ensures no_other_segments { (octets : List ℕ) (segments : List SegmentFields) → AreSegments octets segments → IsTrue (are_segments octets) }
 {}
