@@ -1,0 +1,9 @@
+pub mod PieceLemmas
+pub mod RouteLemmas
+pub mod ValueLemmas
+pub mod FindLemmas
+pub mod CheckLemmas
+pub mod UpdateLemmas
+pub mod SpellingLemmas
+pub mod TargetLemmas
+pub mod GrammarLemmas
