@@ -1,11 +1,11 @@
 -- The tests of routes and of segments hold of exactly the lists of them.
-use Rattle.std.proofs.Common.{◌≡◌, ◌≤◌, ◌<◌, ◌+◌, ◌*◌, ◌==◌, nat_le, nat_lt, ℕ, zero, suc, List, [], ◌∷◌, ◌++◌, length, take, drop, get_or, refl, ap, sym, ◌∙◌, subst, arith, inl, inr, ◌⊎◌, Bool, true, false, ◌&&◌, ◌||◌}
+use Rattle.std.proofs.Common.{◌≡◌, ◌≤◌, ◌+◌, ◌*◌, ◌==◌, nat_le, nat_lt, ℕ, zero, suc, List, [], ◌∷◌, ◌++◌, length, take, drop, get_or, refl, ap, sym, ◌∙◌, arith, inl, inr, ◌⊎◌, Bool, true, false, ◌&&◌, ◌||◌}
 use Rattle.std.specs.List.{flat_map, AllByRecursion}
 use Rattle.std.proofs.lemmas.List.{take-append-drop, length-take-le, length-append, drop_at}
-use Rattle.std.proofs.lemmas.Bool.{and_parts, leb-true, le-leb, ltb-true, lt-ltb, eqb-true, eq-eqb}
+use Rattle.std.proofs.lemmas.Bool.{and_parts, leb-true, le-leb, ltb-true, lt-ltb, eqb-true}
 use Rattle.bgp_vpn.specs.Pieces.{are_pieces_behind, octets_for, are_prefixes, are_segments}
-use Rattle.bgp_vpn.specs.Routes.{RouteFields, route_octets}
-use Rattle.bgp_vpn.specs.Grammar.{IsPrefix, ArePrefixes, SegmentFields, segment_octets, IsSegment, AreSegments}
+use Rattle.bgp_vpn.specs.Routes.{RouteFields, route_octets, IsPrefix, ArePrefixes}
+use Rattle.bgp_vpn.specs.Segments.{SegmentFields, segment_octets, IsSegment, AreSegments}
 use Rattle.bgp_vpn.proofs.PieceLemmas.{skipped, both}
 
 abbrev route : ℕ → List ℕ → RouteFields
@@ -80,12 +80,13 @@ segments_behind zero [] h = (omega arith, ([], record { spelled = refl; each = t
 segments_behind (suc n) [] h = absurd cc
 segments_behind (suc n) (x ∷ xs) h = let less = segments_behind n xs h in (omega arith, less.1)
 segments_behind zero (x ∷ []) h =
-    let parts = and_parts _ _ (and_parts _ _ h).0 in
+    let begins = and_parts (good x []) (are_pieces_behind good len (len x []) []) h in
+    let parts = and_parts (x == 1 || x == 2) (nat_lt 0 0) begins.0 in
     let some = ltb-true 0 0 parts.1 in
     absurd (omega arith)
 segments_behind zero (x ∷ c ∷ ys) h =
-    let parts = and_parts _ _ h in
-    let first = and_parts _ _ parts.0 in
+    let parts = and_parts (good x (c ∷ ys)) (are_pieces_behind good len (len x (c ∷ ys)) (c ∷ ys)) h in
+    let first = and_parts (x == 1 || x == 2) (nat_lt 0 c) parts.0 in
     let less = segments_behind (1 + 2 * c) (c ∷ ys) parts.1 in
     let next : drop (1 + 2 * c) (c ∷ ys) ≡ drop (2 * c) ys = let e : 1 + 2 * c ≡ suc (2 * c) = omega arith in ap (λ (n : ℕ). drop n (c ∷ ys)) e in
     let enough : 2 * c ≤ length ys = let l = less.0 in omega arith in (

@@ -1,12 +1,11 @@
 -- What it means that an UPDATE passes all checks.
 use Rattle.bgp_wire.specs.Messages.{AreOctets}
 use Rattle.std.proofs.Common.{◌⊎◌, inl, inr, ◌≡◌, ◌==◌, ◌&&◌, ℕ, List, [], ◌∷◌, ◌++◌, length, drop, refl, ap, sym, ◌∙◌, subst, cond, not, Option, Some, None, Bool, true, false, find}
-use Rattle.std.specs.Option.{option_map, IfSome}
+use Rattle.std.specs.Option.{option_map}
 use Rattle.std.proofs.lemmas.Bool.{eqb-true, not-false}
 use Rattle.std.proofs.lemmas.List.{nil_from_length}
 use Rattle.bgp_wire.specs.declared.fault.WireFault.{WireFault}
 use Rattle.bgp_wire.specs.Content.{UpdateFields}
-use Rattle.bgp_wire.specs.Faults.{fault_if, ◌then_check◌}
 use Rattle.bgp_wire.specs.Attributes.{AttributeFields, AreAttributes}
 use Rattle.bgp_wire.proofs.Checking.{pass_both, fault_if-None}
 use Rattle.bgp_wire.proofs.Attributing.{SomeAttributes, some_split, one_split}
@@ -15,10 +14,11 @@ use Rattle.ov_types.specs.declared.vpn.VpnRoute.{VpnRoute}
 use Rattle.ov_sync.specs.declared.Delta.{Delta}
 use Rattle.bgp_vpn.specs.Profile.{row_of}
 use Rattle.bgp_vpn.specs.Routes.{RouteFields, AreRoutes}
-use Rattle.bgp_vpn.specs.Values.{value_at, is_vpn, are_routes, is_reach, routes_behind, withdrawn_octets, reached_octets}
-use Rattle.bgp_vpn.specs.Checks.{value_fault, known_fault, fault_in_row, own_fault, attribute_fault, attributes_fault, routes_follow_in, update_fault}
+use Rattle.bgp_vpn.specs.Values.{value_at, is_vpn, are_routes, routes_behind, withdrawn_octets, reached_octets}
+use Rattle.bgp_vpn.specs.Checks.{value_fault, known_fault, fault_in_row, own_fault, attributes_fault, routes_follow_in, update_fault}
 use Rattle.bgp_vpn.specs.Updates.{changes_of, Changes, HasUpdateFault}
-use Rattle.bgp_vpn.proofs.RouteLemmas.{some_routes, one_routes}
+use Rattle.bgp_vpn.proofs.RouteLemmas.{one_routes}
+use Rattle.bgp_vpn.proofs.GrammarLemmas.{prefixes_found}
 
 -- the attribute of a type passes the checks on it alone
 pub record PassesAt (routes_follow : Bool) (kind : ℕ) (value : List ℕ) : Type 0 where
@@ -100,8 +100,8 @@ passing parts all tail none =
     let second = pass_both _ _ first.1 in
     let size = eqb-true (length tail) 0 (not-false _ (fault_if-None _ _ second.0)) in
     let follow = routes_follow_in parts in
-    let withdrawn = some_routes (withdrawn_octets all) (withdrawn_good follow all (value_at 15 all) first.0 refl) in
-    let reached = some_routes (reached_octets all) (reached_good follow all (value_at 14 all) first.0 refl) in
+    let withdrawn = prefixes_found 88 120 (withdrawn_octets all) (withdrawn_good follow all (value_at 15 all) first.0 refl) in
+    let reached = prefixes_found 88 120 (reached_octets all) (reached_good follow all (value_at 14 all) first.0 refl) in
     record {
       whole = nil_from_length tail size;
       withdrawn = withdrawn.0;

@@ -6,4 +6,4 @@ pub mod Checks
 pub mod Updates
 pub mod Spelled
 pub mod Spellings
-pub mod Grammar
+pub mod Segments

@@ -1,5 +1,5 @@
 -- Spellings that a reader passes over.
-use Rattle.std.specs.Prelude.{◌≡◌, ℕ, ◌-◌, ◌/◌, ◌^◌, List, [], ◌∷◌, ◌++◌}
+use Rattle.std.specs.Prelude.{◌≡◌, ℕ, ◌-◌, ◌/◌, ◌^◌, List, ◌∷◌, ◌++◌}
 use Rattle.byteorder.specs.Endian.{big_bytes, big_number}
 use Rattle.bgp_vpn.specs.Routes.{RouteFields}
 
