@@ -7,3 +7,4 @@ pub mod Framing
 pub mod Exclusion
 pub mod Bodies
 pub mod Readings
+pub mod Attributing

@@ -53,7 +53,7 @@ leaves_end P Q octets rest so_far ends = record {
 abbrev pub HasNoPart : (Part → Type 0) → List ℕ → Type 0
 HasNoPart P rest = BeginsWithPart P rest → ⊥
 
-same_front : (xs ys left right : List ℕ) → length xs ≡ length ys → xs ++ left ≡ ys ++ right → (xs ≡ ys) × (left ≡ right)
+pub same_front : (xs ys left right : List ℕ) → length xs ≡ length ys → xs ++ left ≡ ys ++ right → (xs ≡ ys) × (left ≡ right)
 same_front [] [] left right len h = (refl, h)
 same_front [] (y ∷ ys) left right len h = absurd (omega arith)
 same_front (x ∷ xs) [] left right len h = absurd (omega arith)

@@ -3,6 +3,10 @@ ghost use Rattle.std.specs.Prelude.{◌≡◌, ◌++◌, ◌⊎◌, ℕ, List, [
 ghost use Rattle.bgp_wire.specs.declared.fault.WireFault.{WireFault};
 ghost use Rattle.bgp_wire.specs.Content.{Content};
 ghost use Rattle.bgp_wire.specs.Frames.{IsProperPrefix};
+ghost use Rattle.std.specs.Prelude.{Option, Result, None, map};
+ghost use Rattle.std.specs.Iterator.{YieldsThen};
+ghost use Rattle.bgp_wire.specs.declared.attribute.Attribute.{Attribute};
+ghost use Rattle.bgp_wire.specs.Attributes.{AttributeFields, AreAttributes, NextAttribute, SaysAll};
 ghost use Rattle.bgp_wire.specs.Messages.{AreOctets, IsMessage, BeginsWith, HasFault};
 
 /// Octets begin with a message, or are a proper prefix of a frame, or have a fault: always one of the three, and only one.
@@ -38,4 +42,21 @@ pub fn what_follows_changes_nothing()
 pub fn no_message_begins_another()
     ensures { (octets more : List ℕ) (a b : Content)
         → IsMessage octets a → IsMessage (octets ++ more) b → more ≡ [] }
+{}
+
+/// Octets are always attributes and a tail, and in one way.
+pub fn octets_are_attributes_in_one_way()
+    ensures some { (octets : List ℕ) → AreOctets octets
+        → (attributes : List AttributeFields) × (tail : List ℕ) × AreAttributes octets attributes tail }
+    ensures attributes { (octets s t : List ℕ) (a b : List AttributeFields)
+        → AreAttributes octets a s → AreAttributes octets b t → a ≡ b }
+    ensures tail { (octets s t : List ℕ) (a b : List AttributeFields)
+        → AreAttributes octets a s → AreAttributes octets b t → s ≡ t }
+{}
+
+/// What the iterator gives until it ends is each attribute, and then one fault exactly where the tail is a cut one.
+pub fn each_attribute_comes_once()
+    ensures { (octets tail after : List ℕ) (attributes : List AttributeFields) (items : List (Result Attribute WireFault))
+        → AreAttributes octets attributes tail → YieldsThen NextAttribute octets items None after
+        → SaysAll items attributes tail }
 {}

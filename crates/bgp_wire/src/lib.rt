@@ -1,6 +1,7 @@
 //! BGP messages (RFC 4271): their frames and bodies.
 #![tactic(auto)]
 
+mod attribute;
 mod fault;
 mod frame;
 mod kind;
@@ -10,14 +11,15 @@ mod open;
 mod part;
 mod update;
 
+pub use attribute::{Attribute, Attributes};
 pub use fault::WireFault;
 pub use laws::{
-    no_message_begins_another, octets_are_one_of_three, octets_say_one_thing,
-    what_follows_changes_nothing,
+    each_attribute_comes_once, no_message_begins_another, octets_are_attributes_in_one_way,
+    octets_are_one_of_three, octets_say_one_thing, what_follows_changes_nothing,
 };
 pub use message::{Message, read_message};
 pub use open::OpenPart;
-pub use update::UpdatePart;
+pub use update::{UpdatePart, attributes};
 
 #[cfg(test)]
 mod tests;

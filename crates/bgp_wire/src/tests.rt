@@ -162,6 +162,39 @@ fn other_messages_are_read(rt: HostRuntime) -> Result<(), Fail> {
     octets_are_one_of_three();
     octets_say_one_thing();
     what_follows_changes_nothing();
+    octets_are_attributes_in_one_way();
+    each_attribute_comes_once();
     no_message_begins_another();
+    Ok(())
+}
+
+#[test]
+fn attributes_are_given_in_order(rt: HostRuntime) -> Result<(), Fail> {
+    let update = octets(rt.alloc(), "M 0023 02 0000 000c 40010100 90e00002aabb 8004")?;
+    let Ok(Some((Message::Update(part), _))) = read_message(update.as_slice()) else {
+        return Err("the octets are an UPDATE".into());
+    };
+    let mut given = attributes(&part);
+    for (flags, kind, value) in [
+        (0x40, 1, [0].as_slice()),
+        (0x90, 0xe0, [0xaa, 0xbb].as_slice()),
+    ] {
+        let Some(Ok(attribute)) = given.next() else {
+            return Err("an attribute".into());
+        };
+        assert_eq!(rt; attribute.flags, flags);
+        assert_eq!(rt; attribute.kind, kind);
+        assert_eq!(rt; attribute.value, value);
+    }
+    assert!(rt;
+        matches!(
+            given.next(),
+            Some(Err(WireFault {
+                code: 3,
+                subcode: 1
+            }))
+        )
+    );
+    assert!(rt; given.next().is_none());
     Ok(())
 }

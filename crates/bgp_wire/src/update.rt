@@ -1,8 +1,10 @@
 //! The body of an UPDATE, up to its attributes.
 ghost use Rattle.std.specs.Prelude.{◌≡◌, ◌≤◌, ◌<◌, length, IfOk};
 ghost use Rattle.bgp_wire.specs.Faults.{Checks};
+ghost use Rattle.bgp_wire.specs.Messages.{AreOctets};
 ghost use Rattle.bgp_wire.specs.Updates.{IsUpdate, update_fault};
 
+use crate::attribute::Attributes;
 use crate::fault::{MALFORMED_ATTRIBUTES, WireFault};
 use byteorder::{BigEndian, ByteOrder};
 
@@ -35,4 +37,12 @@ pub(crate) fn read_update(body: &[u8]) -> Result<UpdatePart<'_>, WireFault>
         attributes,
         routes,
     })
+}
+
+/// The path attributes, in order: `Ok` of each, and where one is cut its fault, as the last item.
+pub fn attributes<'a>(part: &UpdatePart<'a>) -> Attributes<'a>
+    ensures all { result ≡ part.now.attributes.now }
+    ensures octets { AreOctets part.now.attributes.now }
+{
+    Attributes::new(part.attributes)
 }

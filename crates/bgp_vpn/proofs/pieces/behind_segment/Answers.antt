@@ -1,0 +1,14 @@
+use Rattle.std.proofs.Common.{length, take, drop, ◌-◌, ◌+◌, ◌*◌, arith, refl, ap, sym, ◌∙◌, ℕ}
+use Rattle.bgp_wire.proofs.Octets.{range_from}
+use Rattle.bgp_vpn.proofs.PieceLemmas.{piece_cut, piece_whole}
+use Rattle.bgp_vpn.proofs.pieces.behind_segment.Goals as goal
+
+pub returns-then-behind-len-clause-none : goal.returns-then-behind-len-clause-none
+returns-then-behind-len-clause-none c =
+    piece_cut _ _ c.args.octets.now _ (1 + 2 * c.from.result) c.requires (range_from 1 c.args.octets.now)
+    (sym c.is_segment.ensures ∙ c.if-not-is_segment.false) (ap (λ (n : ℕ). 1 + 2 * n) (c.from.ensures ∙ c.octet_at.ensures)) c.if-behind-len.true
+
+pub returns-clause-same : goal.returns-clause-same
+returns-clause-same c =
+    piece_whole _ _ c.args.octets.now _ (1 + 2 * c.from.result) c.requires (range_from 1 c.args.octets.now)
+    (sym c.is_segment.ensures ∙ c.if-not-is_segment.false) (ap (λ (n : ℕ). 1 + 2 * n) (c.from.ensures ∙ c.octet_at.ensures)) c.if-behind-len.false

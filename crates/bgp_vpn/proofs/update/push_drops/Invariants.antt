@@ -1,0 +1,11 @@
+use Rattle.std.proofs.Common.{length}
+use Rattle.bgp_vpn.specs.Routes.{drop_of, put_of}
+use Rattle.bgp_vpn.specs.Values.{targets_among}
+use Rattle.bgp_vpn.proofs.RouteLemmas.{Pending}
+use Rattle.bgp_vpn.proofs.update.push_drops.Given as goal
+
+abbrev pub invariant-loop-route : goal.invariant-loop-route
+invariant-loop-route l = Pending drop_of l.octets l.rest l.fn.deltas.items l.deltas.items
+
+abbrev pub decreases-loop-route : goal.decreases-loop-route
+decreases-loop-route l = length l.rest

@@ -1,0 +1,106 @@
+-- The checks on an UPDATE (RFC 4271, section 6.3; RFC 4760, section 7), in the order in which they are made.
+use Rattle.std.specs.Prelude.{ℕ, ◌==◌, ◌&&◌, ◌||◌, ◌%◌, not, nat_lt, List, [], ◌∷◌, ◌++◌, length, slice_index, drop, Bool, true, false, Option, Some, None, if◌then◌else◌, is_some, bit_and}
+use Rattle.std.specs.List.{list_any}
+use Rattle.byteorder.specs.Endian.{big_number}
+use Rattle.bgp_wire.specs.declared.fault.WireFault.{WireFault}
+use Rattle.bgp_wire.specs.Content.{UpdateFields}
+use Rattle.bgp_wire.specs.Faults.{fault, fault_if, ◌then_check◌, malformed_attributes}
+use Rattle.bgp_wire.specs.Attributes.{AttributeFields}
+use Rattle.bgp_vpn.specs.Pieces.{are_prefixes, are_segments}
+use Rattle.bgp_vpn.specs.Profile.{row_of, flags_in, least_in, greatest_in, subcode_in}
+use Rattle.bgp_vpn.specs.Values.{value_at, is_vpn, are_routes, is_reach}
+
+-- the UPDATE message errors besides a malformed list of attributes
+abbrev pub unrecognized_well_known : WireFault
+unrecognized_well_known = fault 3 2
+
+abbrev pub missing_well_known : WireFault
+missing_well_known = fault 3 3
+
+abbrev pub attribute_flags : WireFault
+attribute_flags = fault 3 4
+
+abbrev pub invalid_origin : WireFault
+invalid_origin = fault 3 6
+
+abbrev pub invalid_next_hop : WireFault
+invalid_next_hop = fault 3 8
+
+abbrev pub optional_attribute : WireFault
+optional_attribute = fault 3 9
+
+abbrev pub invalid_network : WireFault
+invalid_network = fault 3 10
+
+abbrev pub malformed_as_path : WireFault
+malformed_as_path = fault 3 11
+
+-- 1.0.0.0 to 223.255.255.255
+abbrev pub is_host : ℕ → Bool
+is_host address = not (nat_lt address 0x0100_0000 || nat_lt 0xDFFF_FFFF address)
+
+-- the check on the value of an attribute; a NEXT_HOP is looked at only where plain routes follow
+abbrev pub value_fault : Bool → ℕ → List ℕ → Option WireFault
+value_fault routes_follow kind value =
+    if kind == 1 then fault_if (nat_lt 2 (slice_index value 0)) invalid_origin
+    else (if kind == 2 then fault_if (not (are_segments value)) malformed_as_path
+    else (if kind == 3 then fault_if (routes_follow && not (is_host (big_number 4 value))) invalid_next_hop
+    else (if kind == 14 then fault_if (is_vpn value && not (is_reach value)) optional_attribute
+    else (if kind == 15 then fault_if (is_vpn value && not (are_routes (drop 3 value))) optional_attribute
+    else None))))
+
+-- a length that the attribute's row does not have; extended communities have eight octets each
+abbrev pub is_wrong_length : ℕ → ℕ → ℕ → Bool
+is_wrong_length row kind len = nat_lt len (least_in row) || (nat_lt (greatest_in row) len || (kind == 16 && not (len % 8 == 0)))
+
+-- the checks on an attribute of a row: the flags Optional and Transitive, the length, the value
+abbrev pub known_fault : Bool → ℕ → AttributeFields → Option WireFault
+known_fault routes_follow row a =
+    fault_if (not (bit_and a.flags 0xC0 == flags_in row)) attribute_flags
+    then_check (fault_if (is_wrong_length row a.kind (length a.value)) (fault 3 (subcode_in row))
+    then_check value_fault routes_follow a.kind a.value)
+
+-- the check on an attribute of no row: only an optional one is passed over
+abbrev pub unknown_fault : AttributeFields → Option WireFault
+unknown_fault a = fault_if (bit_and a.flags 0x80 == 0) unrecognized_well_known
+
+abbrev pub fault_in_row : Bool → Option ℕ → AttributeFields → Option WireFault
+fault_in_row routes_follow None a = unknown_fault a
+fault_in_row routes_follow (Some row) a = known_fault routes_follow row a
+
+-- the checks on an attribute alone
+abbrev pub own_fault : Bool → AttributeFields → Option WireFault
+own_fault routes_follow a = fault_in_row routes_follow (row_of a.kind) a
+
+-- an attribute of a type is among these
+abbrev pub has_kind : List AttributeFields → ℕ → Bool
+has_kind attributes kind = list_any (λ a. a.kind == kind) attributes
+
+-- the checks on an attribute that stands behind others
+abbrev pub attribute_fault : Bool → List AttributeFields → AttributeFields → Option WireFault
+attribute_fault routes_follow others a = fault_if (has_kind others a.kind) malformed_attributes then_check own_fault routes_follow a
+
+-- the first check that fails on attributes that stand behind others
+abbrev pub attributes_fault : Bool → List AttributeFields → List AttributeFields → Option WireFault
+attributes_fault routes_follow others [] = None
+attributes_fault routes_follow others (a ∷ attributes) =
+    attribute_fault routes_follow others a then_check attributes_fault routes_follow (others ++ a ∷ []) attributes
+
+-- plain routes stand after the attributes
+abbrev pub routes_follow_in : UpdateFields → Bool
+routes_follow_in parts = not (length parts.routes == 0)
+
+-- an attribute that the message lacks: ORIGIN and AS_PATH go with each route, and NEXT_HOP with each plain one
+abbrev pub missing_fault : Bool → List AttributeFields → Option WireFault
+missing_fault routes_follow attributes =
+    fault_if ((is_some (value_at 14 attributes) || routes_follow) && not (is_some (value_at 1 attributes) && is_some (value_at 2 attributes))) missing_well_known
+    then_check fault_if (routes_follow && not (is_some (value_at 3 attributes))) missing_well_known
+
+-- the first check that fails on an UPDATE whose attributes are these and then a tail, which is nothing or a cut attribute
+abbrev pub update_fault : UpdateFields → List AttributeFields → List ℕ → Option WireFault
+update_fault parts attributes tail =
+    attributes_fault (routes_follow_in parts) [] attributes
+    then_check (fault_if (not (length tail == 0)) malformed_attributes
+    then_check (fault_if (not (are_prefixes 0 32 parts.withdrawn)) invalid_network
+    then_check (fault_if (not (are_prefixes 0 32 parts.routes)) invalid_network
+    then_check missing_fault (routes_follow_in parts) attributes)))

@@ -1,0 +1,67 @@
+-- VPN-IPv4 routes (RFC 4364, section 4.3.4; RFC 8277, section 2).
+use Rattle.std.specs.Prelude.{◌≡◌, ◌≤◌, ℕ, ◌+◌, ◌-◌, ◌*◌, ◌/◌, ◌^◌, List, [], ◌∷◌, ◌++◌, length, drop}
+use Rattle.std.specs.List.{flat_map, AllByRecursion}
+use Rattle.byteorder.specs.Endian.{big_number}
+use Rattle.ov_types.specs.Prefix.{Block}
+use Rattle.ov_types.specs.declared.prefix.Addr.{Addr}
+use Rattle.ov_types.specs.declared.numbers.Rd.{Rd}
+use Rattle.ov_types.specs.declared.numbers.Label.{Label}
+use Rattle.ov_types.specs.declared.targets.Target.{Target}
+use Rattle.ov_types.specs.declared.vpn.VpnKey.{VpnKey}
+use Rattle.ov_types.specs.declared.vpn.VpnRoute.{VpnRoute}
+use Rattle.ov_sync.specs.declared.Delta.{Delta}
+use Rattle.ov_sync.specs.declared.Delta.TheVariants.{Put, Drop}
+use Rattle.bgp_vpn.specs.Pieces.{octets_for}
+
+-- a route as it is spelled: its length in bits, and its octets, which are a label field of three octets, a distinguisher of
+-- eight, and the prefix
+pub record RouteFields : Type 0 where
+  pub bits : ℕ
+  pub octets : List ℕ
+
+abbrev pub route_octets : RouteFields → List ℕ
+route_octets r = r.bits ∷ r.octets
+
+-- a label field and a distinguisher have 88 bits, and a prefix at most 32
+pub record IsRoute (r : RouteFields) : Type 0 where
+  pub least : 88 ≤ r.bits
+  pub greatest : r.bits ≤ 120
+  pub whole : length r.octets ≡ octets_for r.bits
+
+-- the octets are these routes, one after the other
+pub record AreRoutes (octets : List ℕ) (routes : List RouteFields) : Type 0 where
+  pub spelled : octets ≡ flat_map route_octets routes
+  pub each : AllByRecursion IsRoute routes
+
+-- the octets begin with this route, and these stand after it
+pub record BeginsWithRoute (octets : List ℕ) (r : RouteFields) (after : List ℕ) : Type 0 where
+  pub spelled : octets ≡ route_octets r ++ after
+  pub is : IsRoute r
+
+-- the first bits of an address: the others are 0
+abbrev pub first_bits : ℕ → ℕ → Block
+first_bits len address = record { addr = address / 2 ^ (32 - len) * 2 ^ (32 - len); len = len }
+
+-- the label is the upper 20 bits of its field (RFC 3032, section 2.1)
+abbrev pub label_of : RouteFields → Label
+label_of r = record { 0 = big_number 3 r.octets / 16 }
+
+abbrev pub distinguisher_of : RouteFields → Rd
+distinguisher_of r = record { 0 = big_number 8 (drop 3 r.octets) }
+
+-- octets that the prefix does not have are 0
+abbrev pub prefix_of : RouteFields → Block
+prefix_of r = first_bits (r.bits - 88) (big_number 4 (drop 11 r.octets))
+
+abbrev pub key_of : RouteFields → VpnKey
+key_of r = record { rd = distinguisher_of r; prefix = prefix_of r }
+
+-- what a route leads to, with the next hop and the targets of its UPDATE
+abbrev pub value_of : Addr → List Target → RouteFields → VpnRoute
+value_of next_hop targets r = record { next_hop = next_hop; label = label_of r; targets = targets }
+
+abbrev pub drop_of : RouteFields → Delta VpnKey VpnRoute
+drop_of r = Drop (key_of r)
+
+abbrev pub put_of : Addr → List Target → RouteFields → Delta VpnKey VpnRoute
+put_of next_hop targets r = Put (key_of r) (value_of next_hop targets r)

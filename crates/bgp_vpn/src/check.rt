@@ -1,0 +1,121 @@
+//! The checks on an UPDATE, in order.
+ghost use Rattle.std.specs.Prelude.{◌≡◌, ◌<◌, ℕ, List, [], slice_index_or, slice_set, length, not, ◌==◌, false, true, is_some};
+ghost use Rattle.bgp_wire.specs.Faults.{Checks, fault_if, ◌then_check◌, malformed_attributes};
+ghost use Rattle.bgp_wire.specs.Attributes.{AttributeFields, AreAttributes, fields_of};
+ghost use Rattle.bgp_wire.specs.Messages.{AreOctets};
+ghost use Rattle.bgp_vpn.specs.Checks.{is_wrong_length, known_fault, own_fault, attributes_fault, missing_fault, update_fault};
+ghost use Rattle.bgp_vpn.specs.Values.{value_at};
+ghost use Rattle.bgp_vpn.specs.Updates.{parts_of};
+
+use crate::check_value::check_value;
+use crate::fault::{
+    ATTRIBUTE_FLAGS, INVALID_NETWORK, MALFORMED_ATTRIBUTES, MISSING_WELL_KNOWN,
+    UNRECOGNIZED_WELL_KNOWN,
+};
+use crate::find::value_of;
+use crate::pieces::are_prefixes;
+use crate::profile::{flags_in, greatest_in, least_in, row_of, subcode_in};
+use bgp_wire::{Attribute, UpdatePart, WireFault, attributes};
+use std::mem;
+
+fn is_wrong_length(row: usize, kind: u8, len: usize) -> bool
+    requires { row < 9 }
+    ensures { result ≡ is_wrong_length row kind len }
+{
+    len < least_in(row) || len > greatest_in(row) || (kind == 16 && len % 8 != 0)
+}
+
+fn check_known(routes_follow: bool, row: usize, attribute: &Attribute<'_>) -> Result<(), WireFault>
+    requires { row < 9 }
+    ensures { Checks result (known_fault routes_follow row (fields_of attribute.now)) }
+{
+    if u16::from(attribute.flags & 0xC0) != flags_in(row) {
+        return Err(ATTRIBUTE_FLAGS);
+    }
+    if is_wrong_length(row, attribute.kind, attribute.value.len()) {
+        return Err(WireFault {
+            code: 3,
+            subcode: subcode_in(row),
+        });
+    }
+    check_value(routes_follow, attribute.kind, attribute.value)
+}
+
+/// The checks on an attribute alone.
+fn check_attribute(routes_follow: bool, attribute: &Attribute<'_>) -> Result<(), WireFault>
+    ensures { Checks result (own_fault routes_follow (fields_of attribute.now)) }
+{
+    match row_of(attribute.kind) {
+        Some(row) => check_known(routes_follow, row, attribute),
+        None => {
+            if attribute.flags & 0x80 == 0 {
+                return Err(UNRECOGNIZED_WELL_KNOWN);
+            }
+            Ok(())
+        }
+    }
+}
+
+/// Marks a type, and says whether it was marked before.
+fn mark(marked: &mut [bool; 256], kind: u8) -> bool
+    ensures was { result ≡ slice_index_or marked.old kind false }
+    ensures marked { marked.new ≡ slice_set marked.old kind true }
+    ensures octet { kind < 256 }
+{
+    mem::replace(&mut marked[usize::from(kind)], true)
+}
+
+/// The attributes one after the other, each wholly before the next.
+fn check_attributes(routes_follow: bool, part: &UpdatePart<'_>) -> Result<(), WireFault>
+    ensures octets { AreOctets part.now.attributes.now }
+    ensures checks { (all : List AttributeFields) (tail : List ℕ) → AreAttributes part.now.attributes.now all tail
+        → Checks result (attributes_fault routes_follow [] all then_check fault_if (not (length tail == 0)) malformed_attributes) }
+{
+    let mut marked = [false; 256];
+    for item in attributes(part) {
+        let attribute = item?;
+        if mark(&mut marked, attribute.kind) {
+            return Err(MALFORMED_ATTRIBUTES);
+        }
+        check_attribute(routes_follow, &attribute)?;
+    }
+    Ok(())
+}
+
+fn has_kind(part: &UpdatePart<'_>, kind: u8) -> bool
+    ensures { (all : List AttributeFields) (tail : List ℕ) → AreAttributes part.now.attributes.now all tail
+        → result ≡ is_some (value_at kind all) }
+{
+    value_of(part, kind).is_some()
+}
+
+/// An attribute that has to be there with the routes that are there.
+fn check_missing(routes_follow: bool, part: &UpdatePart<'_>) -> Result<(), WireFault>
+    ensures { (all : List AttributeFields) (tail : List ℕ) → AreAttributes part.now.attributes.now all tail
+        → Checks result (missing_fault routes_follow all) }
+{
+    if (has_kind(part, 14) || routes_follow) && !(has_kind(part, 1) && has_kind(part, 2)) {
+        return Err(MISSING_WELL_KNOWN);
+    }
+    if routes_follow && !has_kind(part, 3) {
+        return Err(MISSING_WELL_KNOWN);
+    }
+    Ok(())
+}
+
+/// All checks, in order.
+pub(crate) fn check_update(part: &UpdatePart<'_>) -> Result<(), WireFault>
+    ensures octets { AreOctets part.now.attributes.now }
+    ensures checks { (all : List AttributeFields) (tail : List ℕ) → AreAttributes part.now.attributes.now all tail
+        → Checks result (update_fault (parts_of part.now) all tail) }
+{
+    let routes_follow = !part.routes.is_empty();
+    check_attributes(routes_follow, part)?;
+    if !are_prefixes(part.withdrawn, 0, 32) {
+        return Err(INVALID_NETWORK);
+    }
+    if !are_prefixes(part.routes, 0, 32) {
+        return Err(INVALID_NETWORK);
+    }
+    check_missing(routes_follow, part)
+}

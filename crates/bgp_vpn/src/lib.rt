@@ -1,0 +1,19 @@
+//! VPN-IPv4 routes in BGP messages (RFC 4364, RFC 4760): what an UPDATE changes.
+#![tactic(auto)]
+
+mod check;
+mod check_value;
+mod fault;
+mod find;
+mod octets;
+mod pieces;
+mod profile;
+mod route;
+mod targets;
+mod update;
+
+pub use fault::UpdateFault;
+pub use update::read_update;
+
+#[cfg(test)]
+mod tests;
