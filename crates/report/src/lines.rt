@@ -104,12 +104,7 @@ pub fn notification_lines(
 
 /// Appends the line of a fault: the code and the subcode of the NOTIFICATION that answers it (RFC 4271, section 6).
 #[tactic(auto, unfolding(crate::specs::Lines::fault_line))]
-pub fn fault_lines(
-    alloc: Global,
-    code: u8,
-    subcode: u8,
-    out: &mut TextOut,
-) -> Result<(), NoMemory>
+pub fn fault_lines(alloc: Global, code: u8, subcode: u8, out: &mut TextOut) -> Result<(), NoMemory>
     ensures ok { OnOk result (out.new ≡ out.old ++ fault_line code subcode) }
     ensures err { OnErr result (out.new ≡ out.old) }
 {

@@ -16,7 +16,10 @@ fn lines_are_appended_in_order(rt: HostRuntime) -> Result<(), Fail> {
         targets: Targets::new(alloc),
     };
     let mut out = TextOut::new(alloc);
-    assert_eq!(rt; open_lines(alloc, 64512, 180, Addr(0xc000_0202), &mut out), Ok(()));
+    assert_eq!(rt;
+        open_lines(alloc, 64512, 180, Addr(0xc000_0202), &mut out),
+        Ok(())
+    );
     assert_eq!(rt; put_lines(alloc, &key, &route, &mut out), Ok(()));
     for target in [0x0002_fc00_007a_1201, 0x0102_c000_0201_0007] {
         assert_eq!(rt; route.targets.insert(Target(target)), Ok(()));
@@ -37,7 +40,7 @@ notification 6/0
 fault 3/11
 incomplete 18
 "
-        .as_bytes()
+            .as_bytes()
     );
     Ok(())
 }
