@@ -1,5 +1,5 @@
 -- What is answered to an input: what it is found to be, and the text that is written.
-use Rattle.std.specs.Prelude.{ℕ, List, [], ◌∷◌, ◌++◌, ◌==◌, length, codes, Option, Some, None, Result, Ok, Err, if◌then◌else◌}
+use Rattle.std.specs.Prelude.{◌≡◌, ℕ, List, [], ◌∷◌, ◌++◌, ◌==◌, length, codes, Option, Some, None, Result, Ok, Err, if◌then◌else◌}
 use Rattle.serde_json.specs.Data.{Data}
 use Rattle.config_model.specs.declared.fault.DocKind.{DocKind}
 use Rattle.config_model.specs.declared.fault.DocKind.TheVariants.{Missing, Kind, Range, Unknown}
@@ -15,7 +15,8 @@ use Rattle.overlay.specs.declared.answer.Verdict.{Verdict}
 use Rattle.overlay.specs.declared.answer.Verdict.TheVariants.{Good, NotJson, BadDocument, Refused}
 use Rattle.overlay.specs.declared.answer.Answer.{Answer}
 use Rattle.overlay.specs.declared.command.Command.{Command}
-use Rattle.overlay.specs.declared.command.Command.TheVariants.{Compile, Reach}
+use Rattle.overlay.specs.declared.command.Command.TheVariants.{Compile, Reach, Decode}
+use Rattle.overlay.specs.Decoding.{spelled, IsReport}
 use Rattle.overlay.specs.Json.{json_of}
 use Rattle.overlay.specs.Lines.{compile_text}
 use Rattle.overlay.specs.Outcomes.{reach_text}
@@ -64,14 +65,37 @@ compile_value d = compile_reading (compile_at [] d)
 unfoldable pub reach_value : Data → Answer
 reach_value d = reach_reading (reach_at [] d)
 
-abbrev pub of_value : Command → Data → Answer
-of_value Compile d = compile_value d
-of_value Reach d = reach_value d
+-- the answer to a document by what is answered to its value
+abbrev pub of_json : (Data → Answer) → Option Data → Answer
+of_json answer None = answer_not_json
+of_json answer (Some d) = answer d
 
-abbrev pub of_json : Command → Option Data → Answer
-of_json command None = answer_not_json
-of_json command (Some d) = of_value command d
+-- what `compile` answers to a document
+unfoldable pub compile_answer : List ℕ → Answer
+compile_answer octets = of_json compile_value (json_of octets)
 
--- what a command answers to an input
-unfoldable pub answer_of : Command → List ℕ → Answer
-answer_of command octets = of_json command (json_of octets)
+-- what `reach` answers to a document
+unfoldable pub reach_answer : List ℕ → Answer
+reach_answer octets = of_json reach_value (json_of octets)
+
+-- what a text is found to be that spells octets, or none
+abbrev pub decode_verdict : Option (List ℕ) → Verdict
+decode_verdict None = NotJson
+decode_verdict (Some octets) = Good
+
+-- of octets that are spelled `decode` writes a report, and of a text that spells none one line
+abbrev pub WritesSpelled : Option (List ℕ) → List ℕ → Type 0
+WritesSpelled None text = text ≡ codes "not hex" ++ (10 ∷ [])
+WritesSpelled (Some octets) text = IsReport octets text
+
+-- what an input is found to be
+unfoldable pub verdict_of : Command → List ℕ → Verdict
+verdict_of Compile octets = (compile_answer octets).verdict
+verdict_of Reach octets = (reach_answer octets).verdict
+verdict_of Decode octets = decode_verdict (spelled octets)
+
+-- the text is what a command writes of an input
+unfoldable pub Writes : Command → List ℕ → List ℕ → Type 0
+Writes Compile octets text = text ≡ (compile_answer octets).text
+Writes Reach octets text = text ≡ (reach_answer octets).text
+Writes Decode octets text = WritesSpelled (spelled octets) text

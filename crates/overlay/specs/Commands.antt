@@ -3,13 +3,14 @@ use Rattle.std.specs.Prelude.{ℕ, List, [], ◌∷◌, codes, nat_eq, Option, S
 use Rattle.std.specs.declared.alloc.Global.{Global}
 use Rattle.std.specs.Cmp.Lexicographic.{pointwise}
 use Rattle.overlay.specs.declared.command.Command.{Command}
-use Rattle.overlay.specs.declared.command.Command.TheVariants.{Compile, Reach}
+use Rattle.overlay.specs.declared.command.Command.TheVariants.{Compile, Reach, Decode}
 
 -- the command of a name
 abbrev pub command_named : List ℕ → Option Command
 command_named word =
     if pointwise nat_eq word (codes "compile") then Some Compile
-    else (if pointwise nat_eq word (codes "reach") then Some Reach else None)
+    else (if pointwise nat_eq word (codes "reach") then Some Reach
+    else (if pointwise nat_eq word (codes "decode") then Some Decode else None))
 
 -- the command that words name: one word, alone
 abbrev pub command_of : List (String Global) → Option Command

@@ -1,6 +1,8 @@
 pub mod Json
 pub mod Lines
 pub mod Outcomes
+pub mod Decoding
+pub mod Reporting
 pub mod Answers
 pub mod Commands
 pub mod Runs

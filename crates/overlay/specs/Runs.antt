@@ -1,11 +1,13 @@
 -- What a run is told by: its words, and the octets that its source held.
 use Rattle.std.specs.Prelude.{◌≡◌, ℕ, ◌≤◌, List, length, Option, Some, None, ⊤}
+use Rattle.std.specs.Io.KnownBytes.{Appends}
+use Rattle.ov_io.specs.Inputs.{TookFront}
 use Rattle.overlay.specs.declared.answer.Verdict.{Verdict}
 use Rattle.overlay.specs.declared.answer.Verdict.TheVariants as Found
 use Rattle.overlay.specs.declared.command.Command.{Command}
 use Rattle.overlay.specs.declared.top.Status.{Status}
 use Rattle.overlay.specs.declared.top.Status.TheVariants as Ended
-use Rattle.overlay.specs.Answers.{answer_of}
+use Rattle.overlay.specs.Answers.{verdict_of, Writes}
 
 -- a fact of the command that was given and of the input; nothing is said of an input that the source does not tell
 abbrev pub OfInput : Option Command → Option (List ℕ) → (Command → List ℕ → Type 0) → Type 0
@@ -21,7 +23,19 @@ IfInput (Some command) (Some octets) Fact = Fact command octets
 
 -- the input is no longer than the limit, and is found to be this
 abbrev pub IsFound : ℕ → Verdict → Command → List ℕ → Type 0
-IsFound limit verdict command octets = (length octets ≤ limit) × ((answer_of command octets).verdict ≡ verdict)
+IsFound limit verdict command octets = (length octets ≤ limit) × (verdict_of command octets ≡ verdict)
+
+-- a text of this command and input was taken whole
+pub record TookText (command : Command) (octets : List ℕ) (old new : Option (List ℕ)) : Type 0 where
+  pub text : List ℕ
+  pub is : Writes command octets text
+  pub taken : Appends old new text
+
+-- a front of a text of this command and input was taken
+pub record TookFrontOf (command : Command) (octets : List ℕ) (old new : Option (List ℕ)) : Type 0 where
+  pub text : List ℕ
+  pub is : Writes command octets text
+  pub taken : TookFront old new text
 
 -- the status that tells a verdict
 abbrev pub status_of : Verdict → Status

@@ -4,9 +4,11 @@ ghost use Rattle.serde_json.specs.View.{view};
 ghost use Rattle.config_model.specs.Faults.{fault_of};
 ghost use Rattle.config_model.specs.Form.{has_topology_form, has_config_form};
 ghost use Rattle.overlay.specs.Json.{json_of};
-ghost use Rattle.overlay.specs.Answers.{answer_bad, answer_of, compile_reading, compile_value, fault_line, kind_text, of_value, reach_reading, reach_value, refused_line};
+ghost use Rattle.overlay.specs.Decoding.{spelled};
+ghost use Rattle.overlay.specs.Answers.{answer_bad, compile_answer, compile_reading, compile_value, decode_verdict, fault_line, kind_text, reach_answer, reach_reading, reach_value, refused_line, verdict_of, Writes, WritesSpelled};
 
 use crate::command::Command;
+use crate::decoding::{octets_of, report_of};
 use crate::lines::compile_lines;
 use crate::outcomes::reach_lines;
 use config_check::{CheckRefusal, Refusal, check};
@@ -169,22 +171,51 @@ fn reach_document(alloc: Global, value: &Value) -> Result<Answer, NoMemory>
     }
 }
 
-fn answer_value(alloc: Global, command: Command, value: &Value) -> Result<Answer, NoMemory>
-    ensures { IfOk result (λ a. a ≡ of_value command (view value.now)) }
+/// What `compile` answers to an input.
+#[tactic(auto, unfolding(crate::specs::Answers::compile_answer))]
+fn compile_answer(alloc: Global, octets: &[u8]) -> Result<Answer, NoMemory>
+    ensures { IfOk result (λ a. a ≡ compile_answer octets.now) }
 {
-    match command {
-        Command::Compile => compile_document(alloc, value),
-        Command::Reach => reach_document(alloc, value),
+    match value_of(alloc, octets)? {
+        None => answer_with(alloc, Verdict::NotJson, b"not json\n"),
+        Some(value) => compile_document(alloc, &value),
+    }
+}
+
+/// What `reach` answers to an input.
+#[tactic(auto, unfolding(crate::specs::Answers::reach_answer))]
+fn reach_answer(alloc: Global, octets: &[u8]) -> Result<Answer, NoMemory>
+    ensures { IfOk result (λ a. a ≡ reach_answer octets.now) }
+{
+    match value_of(alloc, octets)? {
+        None => answer_with(alloc, Verdict::NotJson, b"not json\n"),
+        Some(value) => reach_document(alloc, &value),
+    }
+}
+
+/// What `decode` answers to an input.
+fn decode_answer(alloc: Global, text: &[u8]) -> Result<Answer, NoMemory>
+    ensures verdict { IfOk result (λ a. a.verdict ≡ decode_verdict (spelled text.now)) }
+    ensures text { IfOk result (λ a. WritesSpelled (spelled text.now) a.text) }
+{
+    match octets_of(alloc, text)? {
+        None => answer_with(alloc, Verdict::NotJson, b"not hex\n"),
+        Some(octets) => Ok(Answer {
+            verdict: Verdict::Good,
+            text: report_of(alloc, octets.as_slice())?,
+        }),
     }
 }
 
 /// What a command answers to an input.
-#[tactic(auto, unfolding(crate::specs::Answers::answer_of))]
+#[tactic(auto, unfolding(crate::specs::Answers::verdict_of, crate::specs::Answers::Writes))]
 pub(crate) fn answer_to(alloc: Global, command: Command, octets: &[u8]) -> Result<Answer, NoMemory>
-    ensures { IfOk result (λ a. a ≡ answer_of command octets.now) }
+    ensures verdict { IfOk result (λ a. a.verdict ≡ verdict_of command octets.now) }
+    ensures text { IfOk result (λ a. Writes command octets.now a.text) }
 {
-    match value_of(alloc, octets)? {
-        None => answer_with(alloc, Verdict::NotJson, b"not json\n"),
-        Some(value) => answer_value(alloc, command, &value),
+    match command {
+        Command::Compile => compile_answer(alloc, octets),
+        Command::Reach => reach_answer(alloc, octets),
+        Command::Decode => decode_answer(alloc, octets),
     }
 }

@@ -9,6 +9,8 @@ pub enum Command {
     Compile,
     /// What becomes of packets.
     Reach,
+    /// What BGP messages say that are spelled in hexadecimal digits.
+    Decode,
 }
 
 /// The command that the words after the program's name give.
@@ -29,6 +31,8 @@ fn named(word: &str) -> Option<Command>
         Some(Command::Compile)
     } else if word == "reach" {
         Some(Command::Reach)
+    } else if word == "decode" {
+        Some(Command::Decode)
     } else {
         None
     }

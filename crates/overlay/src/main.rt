@@ -3,6 +3,7 @@
 
 mod answer;
 mod command;
+mod decoding;
 mod lines;
 mod outcomes;
 #[cfg(test)]
@@ -16,6 +17,7 @@ use std::{env, io};
 use top::{Status, overlay};
 
 const USAGE: &str = "usage: overlay compile | reach < DOCUMENT
+       overlay decode < DIGITS
        overlay --help | --version
 ";
 

@@ -1,11 +1,10 @@
 //! The top call.
 ghost use Rattle.std.specs.Prelude.{◌≡◌, ◌↔◌, ◌<◌, ◌≤◌, ◌⊎◌, None, length};
-ghost use Rattle.std.specs.Io.KnownBytes.{Appends};
 ghost use Rattle.ov_io.specs.Causes.{Rose};
-ghost use Rattle.ov_io.specs.Inputs.{TookFront, WasReadWhole};
-ghost use Rattle.overlay.specs.Answers.{answer_of};
+ghost use Rattle.ov_io.specs.Inputs.{WasReadWhole};
+ghost use Rattle.overlay.specs.Answers.{verdict_of};
 ghost use Rattle.overlay.specs.Commands.{command_of};
-ghost use Rattle.overlay.specs.Runs.{OfInput, IfInput, IsFound, IsSilent, IsWritten, number_of, status_of};
+ghost use Rattle.overlay.specs.Runs.{OfInput, IfInput, IsFound, IsSilent, IsWritten, TookFrontOf, TookText, number_of, status_of};
 
 use crate::answer::{Verdict, answer_to};
 use crate::command::command_from;
@@ -73,9 +72,9 @@ pub fn overlay<S: Source, K: Sink>(
 
     // What is written.
     ensures written { IsWritten result → OfInput (command_of words.now) (S.left source.old)
-        (λ command octets. Appends (K.taken sink.old) (K.taken sink.new) (answer_of command octets).text) }
+        (λ command octets. TookText command octets (K.taken sink.old) (K.taken sink.new)) }
     ensures front { result ≡ Status.WriteFault → OfInput (command_of words.now) (S.left source.old)
-        (λ command octets. (length octets ≤ LIMIT) × TookFront (K.taken sink.old) (K.taken sink.new) (answer_of command octets).text) }
+        (λ command octets. (length octets ≤ LIMIT) × TookFrontOf command octets (K.taken sink.old) (K.taken sink.new)) }
     ensures silent { IsSilent result → sink.new ≡ sink.old }
 
     // What is read.
@@ -86,7 +85,7 @@ pub fn overlay<S: Source, K: Sink>(
     // Nothing is refused without a cause.
     ensures complete { ¬ Rose (S.faults source.old) (S.faults source.new) → ¬ Rose (K.faults sink.old) (K.faults sink.new)
         → IfInput (command_of words.now) (S.left source.old) (λ command octets. length octets ≤ LIMIT
-        → (result ≡ status_of (answer_of command octets).verdict) ⊎ (result ≡ Status.NoMemory)) }
+        → (result ≡ status_of (verdict_of command octets)) ⊎ (result ≡ Status.NoMemory)) }
 {
     let Some(command) = command_from(words) else {
         return Status::Usage;

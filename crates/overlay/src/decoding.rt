@@ -1,0 +1,161 @@
+//! Messages that are spelled in hexadecimal digits.
+ghost use Rattle.std.specs.Prelude.{◌≡◌, ◌≢◌, ◌++◌, [], IfOk, OnOk, option_map};
+ghost use Rattle.bgp_wire.specs.Content.{Updates};
+ghost use Rattle.bgp_wire.specs.Messages.{content_of};
+ghost use Rattle.bgp_vpn.specs.Updates.{parts_of};
+ghost use Rattle.overlay.specs.Decoding.{change_line, change_lines, is_blank, spelled, without_blanks, IsReport};
+ghost use Rattle.overlay.specs.Reporting.{Progress, Tells};
+
+use bgp_vpn::{UpdateFault, read_update};
+use bgp_wire::{Message, UpdatePart, WireFault, read_message};
+use hex::FromHexError;
+use ov_io::TextOut;
+use ov_sync::Delta;
+use ov_types::{NoMemory, VpnKey, VpnRoute};
+use report::{
+    drop_lines, fault_lines, incomplete_lines, notification_lines, open_lines, put_lines,
+};
+use std::alloc::Global;
+
+fn is_blank(octet: u8) -> bool
+    ensures { result ≡ is_blank octet }
+{
+    octet == b' ' || octet == b'\t' || octet == b'\n' || octet == b'\r'
+}
+
+/// The digits of a text.
+fn digits_of(alloc: Global, text: &[u8]) -> Result<Vec<u8>, NoMemory>
+    ensures { IfOk result (λ digits. digits.items ≡ without_blanks text.now) }
+{
+    let mut digits = Vec::new(alloc);
+    for octet in text {
+        if !is_blank(*octet) {
+            digits.push(*octet)?;
+        }
+    }
+    Ok(digits)
+}
+
+/// The octets that a text spells.
+#[tactic(auto, unfolding(crate::specs::Decoding::spelled))]
+pub(crate) fn octets_of(alloc: Global, text: &[u8]) -> Result<Option<Vec<u8>>, NoMemory>
+    ensures { IfOk result (λ found. option_map (λ octets. octets.items) found ≡ spelled text.now) }
+{
+    let digits = digits_of(alloc, text)?;
+    match hex::decode(alloc, digits.as_slice()) {
+        Ok(octets) => Ok(Some(octets)),
+        Err(FromHexError::OutOfMemory) => Err(NoMemory),
+        Err(_) => Ok(None),
+    }
+}
+
+fn push_change(
+    alloc: Global,
+    change: &Delta<VpnKey, VpnRoute>,
+    out: &mut TextOut,
+) -> Result<(), NoMemory>
+    ensures { OnOk result (out.new ≡ out.old ++ change_line change.now) }
+{
+    match change {
+        Delta::Put(key, route) => put_lines(alloc, key, route, out),
+        Delta::Drop(key) => drop_lines(alloc, key, out),
+    }
+}
+
+fn push_changes(
+    alloc: Global,
+    changes: &[Delta<VpnKey, VpnRoute>],
+    out: &mut TextOut,
+) -> Result<(), NoMemory>
+    ensures { OnOk result (out.new ≡ out.old ++ change_lines changes.now) }
+{
+    for change in changes {
+        push_change(alloc, change, out)?;
+    }
+    Ok(())
+}
+
+/// What was told of a message.
+enum Told {
+    /// All that it says.
+    Whole,
+    /// That it has a fault.
+    Faulty,
+}
+
+fn push_update(
+    alloc: Global,
+    part: &UpdatePart<'_>,
+    out: &mut TextOut,
+) -> Result<Told, NoMemory>
+    ensures { IfOk result (λ told. Tells (Updates (parts_of part.now)) out.old out.new told) }
+{
+    match read_update(alloc, part) {
+        Ok(changes) => {
+            out.push(b"update\n")?;
+            push_changes(alloc, changes.as_slice(), out)?;
+            Ok(Told::Whole)
+        }
+        Err(UpdateFault::Wire(fault)) => {
+            fault_lines(alloc, fault.code, fault.subcode, out)?;
+            Ok(Told::Faulty)
+        }
+        Err(UpdateFault::NoMemory) => Err(NoMemory),
+    }
+}
+
+fn push_message(
+    alloc: Global,
+    message: &Message<'_>,
+    out: &mut TextOut,
+) -> Result<Told, NoMemory>
+    ensures { IfOk result (λ told. Tells (content_of message.now) out.old out.new told) }
+{
+    match message {
+        Message::Hello(part) => open_lines(alloc, part.asn(), part.hold(), part.id(), out)?,
+        Message::Update(part) => return push_update(alloc, part, out),
+        Message::Notification { code, subcode } => {
+            notification_lines(alloc, *code, *subcode, out)?;
+        }
+        Message::Keepalive => out.push(b"keepalive\n")?,
+    }
+    Ok(Told::Whole)
+}
+
+/// Tells the first message, and says how many octets it has. `None` where nothing is left to tell.
+#[tactic(auto, using(crate::proofs::Reports::faulty_ends, crate::proofs::Reports::prefix_ends, crate::proofs::Reports::fault_ends))]
+fn push_report(alloc: Global, octets: &[u8], out: &mut TextOut) -> Result<Option<usize>, NoMemory>
+    requires { octets.now ≢ [] }
+    ensures { IfOk result (λ found. Progress octets.now out.old out.new found) }
+{
+    match read_message(octets) {
+        Ok(Some((message, count))) => match push_message(alloc, &message, out)? {
+            Told::Whole => Ok(Some(count)),
+            Told::Faulty => Ok(None),
+        },
+        Ok(None) => {
+            incomplete_lines(alloc, octets.len(), out)?;
+            Ok(None)
+        }
+        Err(fault) => {
+            fault_lines(alloc, fault.code, fault.subcode, out)?;
+            Ok(None)
+        }
+    }
+}
+
+/// The report of messages that lie one after the other.
+#[tactic(auto, using(crate::proofs::Reports::leads_to_all, crate::proofs::Reports::fewer_left))]
+pub(crate) fn report_of(alloc: Global, octets: &[u8]) -> Result<TextOut, NoMemory>
+    ensures { IfOk result (λ text. IsReport octets.now text) }
+{
+    let mut out = TextOut::new(alloc);
+    let mut rest = octets;
+    while !rest.is_empty() {
+        let Some(count) = push_report(alloc, rest, &mut out)? else {
+            return Ok(out);
+        };
+        (_, rest) = rest.split_at(count);
+    }
+    Ok(out)
+}

@@ -1,0 +1,52 @@
+-- The lines that tell of messages and of what they change.
+use Rattle.std.specs.Prelude.{ℕ, List, [], ◌∷◌, ◌++◌, codes, decimal}
+use Rattle.ov_types.specs.Texts.{address_text, distinguisher_text, prefix_text, target_text}
+use Rattle.ov_types.specs.declared.prefix.Addr.{Addr}
+use Rattle.ov_types.specs.declared.targets.Target.{Target}
+use Rattle.ov_types.specs.declared.vpn.VpnKey.{VpnKey}
+use Rattle.ov_types.specs.declared.vpn.VpnRoute.{VpnRoute}
+
+-- targets after the first, each behind a comma
+abbrev pub more_targets : List Target → List ℕ
+more_targets [] = []
+more_targets (t ∷ ts) = (codes "," ++ target_text t.0) ++ more_targets ts
+
+-- targets joined by commas, and `-` where there are none
+abbrev pub targets_text : List Target → List ℕ
+targets_text [] = codes "-"
+targets_text (t ∷ ts) = target_text t.0 ++ more_targets ts
+
+-- an OPEN: the autonomous system, the Hold Time, the identifier
+unfoldable pub open_line : ℕ → ℕ → Addr → List ℕ
+open_line asn hold id =
+    codes "open as " ++ (decimal asn ++ (codes " hold " ++ (decimal hold ++ (codes " id " ++ (address_text id.0 ++ (10 ∷ []))))))
+
+-- the distinguisher and the prefix that name a route
+abbrev pub key_text : VpnKey → List ℕ
+key_text key = distinguisher_text key.rd.0 ++ (codes " " ++ prefix_text key.prefix)
+
+-- a route that is put, and where it leads
+unfoldable pub put_line : VpnKey → VpnRoute → List ℕ
+put_line key route =
+    codes "put " ++ (key_text key ++ (codes " next-hop " ++ (address_text route.next_hop.0 ++ (codes " label "
+    ++ (decimal route.label.0 ++ (codes " targets " ++ (targets_text route.targets ++ (10 ∷ []))))))))
+
+-- a route that is dropped
+unfoldable pub drop_line : VpnKey → List ℕ
+drop_line key = codes "drop " ++ (key_text key ++ (10 ∷ []))
+
+-- a code and a subcode, joined by `/`
+abbrev pub code_text : ℕ → ℕ → List ℕ
+code_text code subcode = decimal code ++ (codes "/" ++ (decimal subcode ++ (10 ∷ [])))
+
+-- a NOTIFICATION
+unfoldable pub notification_line : ℕ → ℕ → List ℕ
+notification_line code subcode = codes "notification " ++ code_text code subcode
+
+-- a fault, by the NOTIFICATION that would answer it
+unfoldable pub fault_line : ℕ → ℕ → List ℕ
+fault_line code subcode = codes "fault " ++ code_text code subcode
+
+-- so many octets that a message only begins with
+unfoldable pub incomplete_line : ℕ → List ℕ
+incomplete_line octets = codes "incomplete " ++ (decimal octets ++ (10 ∷ []))
