@@ -1,0 +1,5 @@
+pub mod Firsts
+pub mod Counts
+pub mod Names
+pub mod Places
+pub mod Chains
