@@ -90,3 +90,8 @@ pub met_twice : {A : Type 0} (meets : A → A → Bool) → ((a b : A) → meets
 met_twice {A} meets same xs m e =
     let h = met meets xs m e in
     subst (λ (a : A). StandsBefore xs a m.1) (same m.0 m.1 h.1) h.0
+
+pub before_later : {A : Type 0} (x : A) (xs : List A) (a b : A) → StandsBefore xs a b → StandsBefore (x ∷ xs) a b
+before_later x xs a b h =
+    let less : h.earlier < h.later = h.in_order in
+    record { earlier = suc h.earlier; later = suc h.later; in_order = omega arith; first_there = h.first_there; second_there = h.second_there }

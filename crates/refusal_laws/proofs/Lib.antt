@@ -3,3 +3,5 @@ pub mod Counts
 pub mod Names
 pub mod Places
 pub mod Chains
+pub mod Overlaps
+pub mod Law
