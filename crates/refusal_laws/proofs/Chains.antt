@@ -19,14 +19,15 @@ use Rattle.config_check.specs.declared.refusal.Refusal.TheVariants.{ChainNeedsNe
 use Rattle.config_check.specs.declared.related.NumberedRule.{NumberedRule}
 use Rattle.config_check.specs.Rules.{all_rules, is_chain_rule, is_any, lacks_network, broken_needs, same_end, turns_back, broken_same, broken_use, broken_loop, is_too_long, broken_long, twice_in, broken_twice, broken_chain}
 use Rattle.refusal_laws.specs.Breaks.{LeadsThrough, IsChainRule, HasAny, HasOneNetwork, ShareNumber, Breaks}
-use Rattle.refusal_laws.proofs.Firsts.{any_of, of_either, of_mapped, of_first, found, found_in, met}
+use Rattle.refusal_laws.proofs.LoopFree.{none_is, loop_free}
+use Rattle.refusal_laws.proofs.Firsts.{any_of, of_either, of_mapped, of_first, found, found_in, first_pair}
 
 -- chain rules
 
-through : (a : Action) → is_chain_rule a ≡ true → (chain : List ℕ) × LeadsThrough a chain
-through Pass h = cc
-through Deny h = cc
-through (Through chain use_no) h = (chain, (use_no, refl))
+chain_of : (a : Action) → is_chain_rule a ≡ true → (chain : List ℕ) × LeadsThrough a chain
+chain_of Pass h = cc
+chain_of Deny h = cc
+chain_of (Through chain use_no) h = (chain, (use_no, refl))
 
 some_any : (s d : End) → (is_any s || is_any d) ≡ true → (s ≡ Ends.Any) ⊎ (d ≡ Ends.Any)
 some_any Ends.Any d h = inl refl
@@ -48,7 +49,7 @@ needs_breaks t c =
     let parts = and_parts (is_chain_rule r.rule.action) (is_any r.rule.source || is_any r.rule.destination) f.passes in
     any_of (λ (x : NumberedRule). (x.number ≡ r.number) × IsChainRule x.rule × HasAny x.rule) (all_rules c) r
     (found_in (λ (r : NumberedRule). lacks_network r.rule) (all_rules c) r f)
-    (refl, through r.rule.action parts.0, some_any r.rule.source r.rule.destination parts.1))
+    (refl, chain_of r.rule.action parts.0, some_any r.rule.source r.rule.destination parts.1))
 
 same_breaks : (t : Topology) (c : Config) → IfSome (broken_same (all_rules c)) (Breaks t c)
 unfolding broken_same
@@ -59,7 +60,7 @@ same_breaks t c =
     let parts = and_parts (is_chain_rule r.rule.action) (same_end r.rule.source r.rule.destination) f.passes in
     any_of (λ (x : NumberedRule). (x.number ≡ r.number) × IsChainRule x.rule × HasOneNetwork x.rule) (all_rules c) r
     (found_in (λ (r : NumberedRule). turns_back r.rule) (all_rules c) r f)
-    (refl, through r.rule.action parts.0, one_network r.rule.source r.rule.destination parts.1))
+    (refl, chain_of r.rule.action parts.0, one_network r.rule.source r.rule.destination parts.1))
 
 pub use_breaks : (t : Topology) (c : Config) → IfSome (broken_use (all_rules c)) (Breaks t c)
 use_breaks t c = of_either (Breaks t c) (broken_needs (all_rules c)) (broken_same (all_rules c)) (needs_breaks t c) (same_breaks t c)
@@ -84,7 +85,7 @@ long_breaks t c =
     (λ d e.
     let f = found (is_too_long c) c.chains d e in
     let parts = and_parts (is_none (loop_of c d.name)) (ltb 15 (length (expansion c d.name))) f.passes in
-    (named c d (found_in (is_too_long c) c.chains d f), ltb-true 15 (length (expansion c d.name)) parts.1))
+    (named c d (found_in (is_too_long c) c.chains d f), loop_free c d.name (none_is (loop_of c d.name) parts.0), ltb-true 15 (length (expansion c d.name)) parts.1))
 
 if_test : (P : Refusal → Type 0) (b : Bool) (o : Option Refusal) → (b ≡ true → IfSome o P) → IfSome (cond b o None) P
 if_test P true o h = h refl
@@ -99,8 +100,8 @@ of_twice t c d inside =
     (λ straight.
     of_mapped (Breaks t c) says pair
     (λ m e.
-    let h = met same_number services m e in
-    (named c d inside, m.0, m.1, refl, record { places = h.0; number = eqb-true m.0.id.0 m.1.id.0 h.1 })))
+    let h = first_pair same_number services m e in
+    (named c d inside, loop_free c d.name (none_is (loop_of c d.name) straight), m.0, m.1, refl, record { places = h.0; number = eqb-true m.0.id.0 m.1.id.0 h.1 })))
 
 twice_breaks : (t : Topology) (c : Config) → IfSome (broken_twice c) (Breaks t c)
 unfolding broken_twice

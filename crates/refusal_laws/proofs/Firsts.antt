@@ -56,7 +56,7 @@ contains_at (y ∷ ys) (suc k) x h = contains_later x y ys (contains_at ys k x h
 pub found_in : {A : Type 0} (p : A → Bool) (xs : List A) (x : A) → IsFound p xs x → Contains xs x
 found_in p xs x f = contains_at xs f.place x f.there
 
--- what meets
+-- the first two that meet
 
 at_front : {A : Type 0} (xs ys : List A) (k : ℕ) (x : A) → slice_get xs k ≡ Some x → (k < length xs) × (slice_get (xs ++ ys) k ≡ Some x)
 at_front [] ys k x h = cc
@@ -67,28 +67,28 @@ at_seam : {A : Type 0} (xs ys : List A) (x : A) → slice_get (xs ++ x ∷ ys) (
 at_seam [] ys x = refl
 at_seam (y ∷ xs) ys x = at_seam xs ys x
 
-abbrev Met : {A : Type 0} → (A → A → Bool) → List A → A × A → Type 0
-Met meets xs m = StandsBefore xs m.0 m.1 × (meets m.0 m.1 ≡ true)
+abbrev IsPair : {A : Type 0} → (A → A → Bool) → List A → A × A → Type 0
+IsPair meets xs m = StandsBefore xs m.0 m.1 × (meets m.0 m.1 ≡ true)
 
-met_after : {A : Type 0} (meets : A → A → Bool) (before xs : List A) → IfSome (meeting_after meets before xs) (Met meets (before ++ xs))
-met_after meets before [] = tt
-met_after {A} meets before (x ∷ xs) =
+pair_after : {A : Type 0} (meets : A → A → Bool) (before xs : List A) → IfSome (meeting_after meets before xs) (IsPair meets (before ++ xs))
+pair_after meets before [] = tt
+pair_after {A} meets before (x ∷ xs) =
     let earlier : Option A = find (λ b. meets b x) before in
     let rest : Option (A × A) = meeting_after meets (before ++ x ∷ []) xs in
-    of_either (Met meets (before ++ x ∷ xs)) (option_map (λ (b : A). (b, x)) earlier) rest
-    (of_mapped (Met meets (before ++ x ∷ xs)) (λ (b : A). (b, x)) earlier
+    of_either (IsPair meets (before ++ x ∷ xs)) (option_map (λ (b : A). (b, x)) earlier) rest
+    (of_mapped (IsPair meets (before ++ x ∷ xs)) (λ (b : A). (b, x)) earlier
     (λ b e.
     let f = found (λ b. meets b x) before b e in
     let front = at_front before (x ∷ xs) f.place b f.there in
     (record { earlier = f.place; later = length before; in_order = front.0; first_there = front.1; second_there = at_seam before xs x }, f.passes)))
-    (subst (λ (ys : List A). IfSome rest (Met meets ys)) (append_assoc before (x ∷ []) xs) (met_after meets (before ++ x ∷ []) xs))
+    (subst (λ (ys : List A). IfSome rest (IsPair meets ys)) (append_assoc before (x ∷ []) xs) (pair_after meets (before ++ x ∷ []) xs))
 
-pub met : {A : Type 0} (meets : A → A → Bool) (xs : List A) (m : A × A) → first_meeting meets xs ≡ Some m → StandsBefore xs m.0 m.1 × (meets m.0 m.1 ≡ true)
-met meets xs m e = answered (Met meets xs) (first_meeting meets xs) (met_after meets [] xs) m e
+pub first_pair : {A : Type 0} (meets : A → A → Bool) (xs : List A) (m : A × A) → first_meeting meets xs ≡ Some m → StandsBefore xs m.0 m.1 × (meets m.0 m.1 ≡ true)
+first_pair meets xs m e = answered (IsPair meets xs) (first_meeting meets xs) (pair_after meets [] xs) m e
 
-pub met_twice : {A : Type 0} (meets : A → A → Bool) → ((a b : A) → meets a b ≡ true → a ≡ b) → (xs : List A) (m : A × A) → first_meeting meets xs ≡ Some m → StandsTwice xs m.1
-met_twice {A} meets same xs m e =
-    let h = met meets xs m e in
+pub pair_twice : {A : Type 0} (meets : A → A → Bool) → ((a b : A) → meets a b ≡ true → a ≡ b) → (xs : List A) (m : A × A) → first_meeting meets xs ≡ Some m → StandsTwice xs m.1
+pair_twice {A} meets same xs m e =
+    let h = first_pair meets xs m e in
     subst (λ (a : A). StandsBefore xs a m.1) (same m.0 m.1 h.1) h.0
 
 pub before_later : {A : Type 0} (x : A) (xs : List A) (a b : A) → StandsBefore xs a b → StandsBefore (x ∷ xs) a b

@@ -23,7 +23,7 @@ use Rattle.config_check.specs.declared.related.NumberedRule.{NumberedRule}
 use Rattle.config_check.specs.Rules.{all_rules, controller_names, node_names, network_names, port_names, policy_names, service_names, chain_names, repeated_name, repeated_controller, broken_name, repeated_id, use_numbers, broken_id, missing, missing_end, missing_chain, missing_in_node, missing_in_network, missing_in_port, missing_in_rule, missing_in_service, missing_in_chain, broken_reference}
 use Rattle.config_check.proofs.Meanings.{exists_iff}
 use Rattle.refusal_laws.specs.Breaks.{StandsTwice, namespaces, numbers_of, LeadsThrough, IsDangling, controller, policy, network_of_port, node_of_port, source, destination, chain_of_rule, node_of_service, hop, Breaks}
-use Rattle.refusal_laws.proofs.Firsts.{any_of, of_either, of_mapped, of_first, met_twice}
+use Rattle.refusal_laws.proofs.Firsts.{any_of, of_either, of_mapped, of_first, pair_twice}
 
 -- names
 
@@ -33,7 +33,7 @@ same_is a b e = same_text a b (sym e)
 repeated : (t : Topology) (c : Config) (names : List (List ℕ)) → ((name : List ℕ) → StandsTwice names name → Breaks t c (DuplicateName name)) → IfSome (repeated_name names) (Breaks t c)
 repeated t c names breaks =
     of_mapped (Breaks t c) (λ (m : List ℕ × List ℕ). DuplicateName m.1) (first_meeting same_name names)
-    (λ m e. breaks m.1 (met_twice same_name same_is names m e))
+    (λ m e. breaks m.1 (pair_twice same_name same_is names m e))
 
 repeated_in : (t : Topology) (c : Config) (k : ℕ) (names : List (List ℕ)) → k < 5 → get_or (namespaces t c) k names ≡ names → IfSome (repeated_name names) (Breaks t c)
 repeated_in t c k names lt at = repeated t c names (λ name twice. inl (k, names, lt, at, twice))
@@ -63,7 +63,7 @@ name_breaks t c =
 repeated_number : (t : Topology) (c : Config) (what : IdKind) → IfSome (repeated_id what (numbers_of t c what)) (Breaks t c)
 repeated_number t c what =
     of_mapped (Breaks t c) (λ (m : ℕ × ℕ). DuplicateId what m.1) (first_meeting (λ a b. a == b) (numbers_of t c what))
-    (λ m e. met_twice (λ a b. a == b) eqb-true (numbers_of t c what) m e)
+    (λ m e. pair_twice (λ a b. a == b) eqb-true (numbers_of t c what) m e)
 
 pub id_breaks : (t : Topology) (c : Config) → IfSome (broken_id t c) (Breaks t c)
 unfolding broken_id

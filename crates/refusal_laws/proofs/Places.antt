@@ -17,7 +17,7 @@ use Rattle.config_check.specs.declared.refusal.Refusal.TheVariants.{SubnetReserv
 use Rattle.config_check.specs.Rules.{overlap, circuit_addresses, reserved_in, broken_reserved, nested_in, broken_nested, network_named, holds_address, is_outside, broken_outside, share_address, broken_taken, broken_place}
 use Rattle.config_check.specs.Sentences.{Overlap}
 use Rattle.refusal_laws.specs.Breaks.{StandsBefore, LiesOutside, ShareAddress, Breaks}
-use Rattle.refusal_laws.proofs.Firsts.{any_of, of_either, of_mapped, of_first, found, found_in, met}
+use Rattle.refusal_laws.proofs.Firsts.{any_of, of_either, of_mapped, of_first, found, found_in, first_pair}
 
 -- subnets
 
@@ -44,7 +44,7 @@ of_nested : (t : Topology) (c : Config) (n : Network) → Contains c.networks n 
 of_nested t c n inside =
     of_mapped (Breaks t c) (λ (m : Block × Block). SubnetNested n.name m.0 m.1) (first_meeting overlap n.subnets)
     (λ m e.
-    let h = met overlap n.subnets m e in
+    let h = first_pair overlap n.subnets m e in
     any_of (λ (x : Network). (x.name ≡ n.name) × StandsBefore x.subnets m.0 m.1 × Overlap m.0 m.1) c.networks n inside (refl, h.0, overlaps m.0 m.1 h.1))
 
 nested_breaks : (t : Topology) (c : Config) → IfSome (broken_nested c) (Breaks t c)
@@ -79,7 +79,7 @@ taken_breaks : (t : Topology) (c : Config) → IfSome (broken_taken c) (Breaks t
 unfolding broken_taken
 taken_breaks t c =
     of_mapped (Breaks t c) (λ (m : Port × Port). AddressTaken m.0.name m.1.name) (first_meeting share_address c.ports)
-    (λ m e. let h = met share_address c.ports m e in (m.0, m.1, refl, refl, shares c m.0 m.1 h.0 h.1))
+    (λ m e. let h = first_pair share_address c.ports m e in (m.0, m.1, refl, refl, shares c m.0 m.1 h.0 h.1))
 
 pub place_breaks : (t : Topology) (c : Config) → IfSome (broken_place c) (Breaks t c)
 place_breaks t c =

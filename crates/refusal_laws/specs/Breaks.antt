@@ -13,7 +13,7 @@ use Rattle.config_model.specs.declared.config.Rule.{Rule}
 use Rattle.config_model.specs.declared.config.Service.{Service}
 use Rattle.config_model.specs.declared.topology.Topology.{Topology}
 use Rattle.chain_expand.specs.Expansion.{expansion}
-use Rattle.chain_expand.specs.Leading.{Leads}
+use Rattle.chain_expand.specs.Leading.{Leads, IsLoopFree}
 use Rattle.config_check.specs.declared.refusal.IdKind.{IdKind}
 use Rattle.config_check.specs.declared.refusal.IdKind.TheVariants as Id
 use Rattle.config_check.specs.declared.refusal.LimitKind.{LimitKind}
@@ -125,6 +125,6 @@ Breaks t c (AddressTaken first second) = (p : Port) × (q : Port) × (p.name ≡
 Breaks t c (ChainNeedsNetworks rule) = Any (λ r. (r.number ≡ rule) × IsChainRule r.rule × HasAny r.rule) (all_rules c)
 Breaks t c (ChainSameNetwork rule) = Any (λ r. (r.number ≡ rule) × IsChainRule r.rule × HasOneNetwork r.rule) (all_rules c)
 Breaks t c (ChainLoop chain) = Any (λ d. d.name ≡ chain) c.chains × Leads c chain chain
-Breaks t c (ChainTooLong chain) = Any (λ d. d.name ≡ chain) c.chains × (15 < length (expansion c chain))
-Breaks t c (ServiceTwice chain service) = Any (λ d. d.name ≡ chain) c.chains × (s : Service) × (u : Service) × (u.name ≡ service) × ShareNumber (expansion c chain) s u
+Breaks t c (ChainTooLong chain) = Any (λ d. d.name ≡ chain) c.chains × IsLoopFree c chain × (15 < length (expansion c chain))
+Breaks t c (ServiceTwice chain service) = Any (λ d. d.name ≡ chain) c.chains × IsLoopFree c chain × (s : Service) × (u : Service) × (u.name ≡ service) × ShareNumber (expansion c chain) s u
 Breaks t c (SubnetOverlap first second) = Any (λ n. (a : Network) × (b : Network) × (a.name ≡ first) × (b.name ≡ second) × OverlapAround c n a b) c.networks
