@@ -1,5 +1,5 @@
 -- Refusals of chain rules and of chains name what lacks a network, turns back, loops, is too long or has a service twice.
-use Rattle.std.proofs.Common.{◌≡◌, ◌⊎◌, inl, inr, ◌||◌, ◌&&◌, ◌==◌, ◌<◌, ltb, ℕ, Bool, true, false, cond, IsTrue, List, Option, Some, None, option_map, is_none, IfSome, find, length, refl, sym, ap, ◌∙◌}
+use Rattle.std.proofs.Common.{◌≡◌, ◌⊎◌, inl, inr, ◌||◌, ltb, ℕ, Bool, true, false, cond, List, Option, None, option_map, is_none, IfSome, find, length, refl, sym, ap}
 use Rattle.std.specs.Cmp.Lexicographic.{same_text}
 use Rattle.std.specs.List.{Any, Contains}
 use Rattle.std.proofs.lemmas.Bool.{and_parts, ltb-true, eqb-true}
@@ -11,14 +11,14 @@ use Rattle.config_model.specs.declared.config.End.{End}
 use Rattle.config_model.specs.declared.config.End.TheVariants as Ends
 use Rattle.config_model.specs.declared.config.Service.{Service}
 use Rattle.config_model.specs.declared.topology.Topology.{Topology}
-use Rattle.chain_expand.specs.First.{same_name, ◌<|>◌, first_of, first_meeting}
+use Rattle.chain_expand.specs.First.{◌<|>◌, first_meeting}
 use Rattle.chain_expand.specs.Expansion.{loops, loop_of, expansion, same_number}
 use Rattle.chain_expand.proofs.LeadsLaws.{Leads-from_leads}
 use Rattle.config_check.specs.declared.refusal.Refusal.{Refusal}
 use Rattle.config_check.specs.declared.refusal.Refusal.TheVariants.{ChainNeedsNetworks, ChainSameNetwork, ChainLoop, ChainTooLong, ServiceTwice}
 use Rattle.config_check.specs.declared.related.NumberedRule.{NumberedRule}
 use Rattle.config_check.specs.Rules.{all_rules, is_chain_rule, is_any, lacks_network, broken_needs, same_end, turns_back, broken_same, broken_use, broken_loop, is_too_long, broken_long, twice_in, broken_twice, broken_chain}
-use Rattle.refusal_laws.specs.Breaks.{LeadsThrough, IsChainRule, HasAny, HasOneNetwork, ShareNumber, Breaks}
+use Rattle.refusal_laws.specs.Breaks.{LeadsThrough, IsChainRule, HasAny, HasOneNetwork, Breaks}
 use Rattle.refusal_laws.proofs.LoopFree.{none_is, loop_free}
 use Rattle.refusal_laws.proofs.Firsts.{any_of, of_either, of_mapped, of_first, found, found_in, first_pair}
 

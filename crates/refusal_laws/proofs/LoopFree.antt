@@ -1,5 +1,5 @@
 -- Where no loop of a chain is found, no chain on its way leads back to itself.
-use Rattle.std.proofs.Common.{◌≡◌, ◌⊎◌, inl, inr, ◌||◌, ◌&&◌, ◌<◌, ℕ, Bool, true, false, List, [], ◌∷◌, Option, Some, None, is_none, find, length, get_or, refl, sym, ap, ◌∙◌, subst, arith}
+use Rattle.std.proofs.Common.{◌≡◌, inl, inr, ◌||◌, ◌&&◌, ◌<◌, ℕ, Bool, true, false, List, [], Option, Some, None, is_none, get_or, refl, sym, ap, ◌∙◌, subst, arith}
 use Rattle.std.specs.Cmp.Lexicographic.{same_text}
 use Rattle.std.specs.List.{Contains}
 use Rattle.std.specs.Option.{option_map_or}
@@ -7,7 +7,7 @@ use Rattle.config_model.specs.declared.config.Chain.{Chain}
 use Rattle.config_model.specs.declared.config.Config.{Config}
 use Rattle.chain_expand.specs.First.{same_name}
 use Rattle.chain_expand.specs.Expansion.{chain_named, hops_of, leads, loops, loop_of}
-use Rattle.chain_expand.specs.Leading.{Leads, HopsTo, direct, onward, IsAlong, IsLoopFree}
+use Rattle.chain_expand.specs.Leading.{Leads, direct, onward, IsAlong, IsLoopFree}
 use Rattle.chain_expand.proofs.LeadsLaws.{leads_from_Leads, same_name_self}
 use Rattle.config_check.proofs.Iffs.{find_none}
 use Rattle.refusal_laws.proofs.Firsts.{found, found_in}

@@ -1,14 +1,13 @@
 -- A refusal of networks' overlap names two around one network that have overlapping subnets.
-use Rattle.std.proofs.Common.{◌≡◌, ◌⊎◌, inl, inr, ◌||◌, ◌<◌, ℕ, zero, suc, Bool, true, false, cond, IsTrue, List, [], ◌∷◌, Option, Some, None, option_map, IfSome, filter, find, length, refl, sym, ap, ◌∙◌, arith}
+use Rattle.std.proofs.Common.{◌≡◌, inl, inr, ◌||◌, ◌<◌, ℕ, zero, suc, Bool, true, false, cond, List, [], ◌∷◌, Some, option_map, IfSome, filter, find, refl, sym, ap, ◌∙◌, arith}
 use Rattle.std.specs.Cmp.Lexicographic.{same_text}
 use Rattle.std.specs.List.{Any, Contains, list_any, slice_get}
 use Rattle.std.proofs.lemmas.Bool.{or_cases}
 use Rattle.std.proofs.lemmas.List.Folds.{Any-from_list_any}
-use Rattle.ov_types.specs.Prefix.{Block}
 use Rattle.config_model.specs.declared.config.Config.{Config}
 use Rattle.config_model.specs.declared.config.Network.{Network}
 use Rattle.config_model.specs.declared.topology.Topology.{Topology}
-use Rattle.chain_expand.specs.First.{same_name, ◌<|>◌, first_of}
+use Rattle.chain_expand.specs.First.{same_name}
 use Rattle.config_check.specs.declared.refusal.Refusal.{Refusal}
 use Rattle.config_check.specs.declared.refusal.Refusal.TheVariants.{SubnetOverlap}
 use Rattle.config_check.specs.Related.{are_related}
@@ -94,13 +93,18 @@ of_group t c n inside =
     of_overlapping (Breaks t c) (group_of c n)
     (λ a b places shared.
     let kept = kept_before around c.networks places.earlier places.later a b places.in_order places.first_there places.second_there in
-    any_of (λ (m : Network). (x : Network) × (y : Network) × (x.name ≡ a.name) × (y.name ≡ b.name) × OverlapAround c m x y) c.networks n inside
-    (a, b, refl, refl, record {
-      networks = kept.places;
-      first_around = is_around c n a kept.first;
-      second_around = is_around c n b kept.second;
-      subnets = some_overlap a b shared;
-    }))
+    any_of (λ (m : Network). (x : Network) × (y : Network) × (x.name ≡ a.name) × (y.name ≡ b.name) × OverlapAround c m x y) c.networks n inside (
+      a,
+      b,
+      refl,
+      refl,
+      record {
+        networks = kept.places;
+        first_around = is_around c n a kept.first;
+        second_around = is_around c n b kept.second;
+        subnets = some_overlap a b shared;
+      },
+    ))
 
 pub overlap_breaks : (t : Topology) (c : Config) → IfSome (broken_overlap c) (Breaks t c)
 unfolding broken_overlap

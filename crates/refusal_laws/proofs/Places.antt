@@ -1,5 +1,5 @@
 -- Refusals of subnets and of ports' addresses name what overlaps, lies outside or is taken.
-use Rattle.std.proofs.Common.{◌≡◌, ◌⊎◌, inl, inr, ◌||◌, ◌&&◌, ◌==◌, ℕ, Bool, true, false, not, IsTrue, List, Option, Some, None, option_map, IfSome, find, refl, sym, ◌∙◌}
+use Rattle.std.proofs.Common.{◌≡◌, inl, inr, ◌==◌, ℕ, Bool, true, false, not, IsTrue, Option, Some, None, IfSome, find, refl, sym}
 use Rattle.std.specs.Cmp.Lexicographic.{same_text}
 use Rattle.std.specs.List.{Any, Contains}
 use Rattle.std.specs.Option.{option_map_or, IsSomeAnd}
@@ -11,7 +11,7 @@ use Rattle.config_model.specs.declared.config.Config.{Config}
 use Rattle.config_model.specs.declared.config.Network.{Network}
 use Rattle.config_model.specs.declared.config.Port.{Port}
 use Rattle.config_model.specs.declared.topology.Topology.{Topology}
-use Rattle.chain_expand.specs.First.{same_name, ◌<|>◌, first_of, first_meeting}
+use Rattle.chain_expand.specs.First.{same_name, ◌<|>◌, first_meeting}
 use Rattle.config_check.specs.declared.refusal.Refusal.{Refusal}
 use Rattle.config_check.specs.declared.refusal.Refusal.TheVariants.{SubnetReserved, SubnetNested, AddressOutside, AddressTaken}
 use Rattle.config_check.specs.Rules.{overlap, circuit_addresses, reserved_in, broken_reserved, nested_in, broken_nested, network_named, holds_address, is_outside, broken_outside, share_address, broken_taken, broken_place}

@@ -1,5 +1,6 @@
 //! What refusals of configurations say: the objects that a refusal names break its rule.
 #![tactic(auto)]
+
 ghost use Rattle.std.specs.Prelude.{◌≡◌, Some};
 ghost use Rattle.config_model.specs.declared.config.Config.{Config};
 ghost use Rattle.config_model.specs.declared.topology.Topology.{Topology};
