@@ -6,3 +6,4 @@ pub mod LoopFree
 pub mod Chains
 pub mod Overlaps
 pub mod Law
+pub mod Invalid

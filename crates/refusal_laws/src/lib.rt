@@ -6,9 +6,15 @@ ghost use Rattle.config_model.specs.declared.config.Config.{Config};
 ghost use Rattle.config_model.specs.declared.topology.Topology.{Topology};
 ghost use Rattle.config_check.specs.declared.refusal.Refusal.{Refusal};
 ghost use Rattle.config_check.specs.Rules.{first_broken};
+ghost use Rattle.config_check.specs.Sentences.{IsValid};
 ghost use Rattle.refusal_laws.specs.Breaks.{Breaks};
 
 /// What the refusal of a configuration names breaks the rule that it speaks of.
 pub fn what_is_named_breaks_its_rule()
     ensures { (t : Topology) (c : Config) (r : Refusal) → first_broken t c ≡ Some r → Breaks t c r }
+{}
+
+/// What breaks a rule, whichever refusal says so, is not valid.
+pub fn what_breaks_a_rule_is_not_valid()
+    ensures { (t : Topology) (c : Config) (r : Refusal) → Breaks t c r → ¬ IsValid t c }
 {}
