@@ -29,7 +29,7 @@ faulty_ends octets before after content count told begins is tells =
     record {
       text = fault_line was.fault.code was.fault.subcode;
       report = of_a_fault was.fault (inr (record { parts = was.parts; count = count; begins = update; faulty = was.faulty })) refl;
-      appended = was.appended
+      appended = was.appended;
     }
 
 -- octets that are not yet a message end the report
@@ -59,9 +59,9 @@ leads_on octets rest behind told after count found is leads some progress more r
     let said = first.told.said in
     let left : IsReport (drop count rest) more = subst (λ (xs : List ℕ). IsReport xs more) is report in
     let whole : IsReport octets (told ++ (said ++ more)) =
-      leads (said ++ more) (of_a_message said more first.content count first.begins first.told.says left refl) in
+    leads (said ++ more) (of_a_message said more first.content count first.begins first.told.says left refl) in
     let joined : told ++ (said ++ more) ≡ after ++ more =
-      sym (append_assoc told said more) ∙ ap (λ (t : List ℕ). t ++ more) (sym first.told.appended) in
+    sym (append_assoc told said more) ∙ ap (λ (t : List ℕ). t ++ more) (sym first.told.appended) in
     subst (λ (t : List ℕ). IsReport octets t) joined whole
 
 -- the rest of the report makes it whole

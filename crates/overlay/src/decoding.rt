@@ -83,11 +83,7 @@ enum Told {
     Faulty,
 }
 
-fn push_update(
-    alloc: Global,
-    part: &UpdatePart<'_>,
-    out: &mut TextOut,
-) -> Result<Told, NoMemory>
+fn push_update(alloc: Global, part: &UpdatePart<'_>, out: &mut TextOut) -> Result<Told, NoMemory>
     ensures { IfOk result (λ told. Tells (Updates (parts_of part.now)) out.old out.new told) }
 {
     match read_update(alloc, part) {
@@ -104,11 +100,7 @@ fn push_update(
     }
 }
 
-fn push_message(
-    alloc: Global,
-    message: &Message<'_>,
-    out: &mut TextOut,
-) -> Result<Told, NoMemory>
+fn push_message(alloc: Global, message: &Message<'_>, out: &mut TextOut) -> Result<Told, NoMemory>
     ensures { IfOk result (λ told. Tells (content_of message.now) out.old out.new told) }
 {
     match message {
