@@ -1,6 +1,5 @@
 -- The checks on attributes, one after the other.
-use Rattle.std.proofs.Common.{◌≡◌, ◌≢◌, ◌<◌, ◌+◌, ◌==◌, ℕ, List, [], ◌∷◌, ◌++◌, length, get_or, replicate, refl, ap, sym, ◌∙◌, cond, Option, Some, None, Bool, true, false, not, ◌||◌, inl, inr, ◌⊎◌, subst, arith}
-use Rattle.std.specs.List.{list_any}
+use Rattle.std.proofs.Common.{◌≡◌, ◌≢◌, ◌<◌, ◌==◌, ℕ, List, [], ◌∷◌, ◌++◌, length, get_or, replicate, refl, ap, sym, ◌∙◌, Option, Some, None, Bool, true, false, not, ◌||◌, subst, arith}
 use Rattle.std.proofs.Math.ListN.{set, length-set}
 use Rattle.std.proofs.lemmas.List.{get_or-replicate, get_or-set_same, get_or-set_other, length-replicate}
 use Rattle.std.proofs.lemmas.List.Folds.{list_any-append}
@@ -8,7 +7,7 @@ use Rattle.std.proofs.lemmas.Bool.{eqb-true, eqb-false, ne_eqb}
 use Rattle.bgp_wire.specs.declared.fault.WireFault.{WireFault}
 use Rattle.bgp_wire.specs.Faults.{fault_if, ◌then_check◌, malformed_attributes}
 use Rattle.bgp_wire.specs.Attributes.{AttributeFields, AreAttributes, BeginsWithAttribute, IsCut}
-use Rattle.bgp_wire.proofs.Attributing.{Behind, behind, nothing_behind, cut_behind}
+use Rattle.bgp_wire.proofs.Attributing.{behind, nothing_behind, cut_behind}
 use Rattle.bgp_vpn.specs.Checks.{has_kind, own_fault, attribute_fault, attributes_fault}
 
 -- the types of these attributes are marked, and no others

@@ -1,12 +1,12 @@
 -- The attribute of a type, sought among attributes one after the other.
-use Rattle.std.proofs.Common.{◌≡◌, ◌≢◌, ◌==◌, ℕ, List, [], ◌∷◌, refl, ap, sym, ◌∙◌, cond, Option, Some, None, Result, Ok, Err, Bool, true, false, inl, subst, find}
+use Rattle.std.proofs.Common.{◌≡◌, ◌≢◌, ◌==◌, ℕ, List, [], ◌∷◌, refl, ap, sym, ◌∙◌, cond, Some, None, Result, Ok, Err, Bool, inl, subst, find}
 use Rattle.std.specs.Option.{option_map}
 use Rattle.std.proofs.lemmas.Bool.{eq-eqb, ne_eqb}
 use Rattle.bgp_wire.specs.Attributes.{AttributeFields, AreAttributes, BeginsWithAttribute, IsCut, NextAttribute, fields_of}
 use Rattle.bgp_wire.specs.declared.fault.WireFault.{WireFault}
 use Rattle.bgp_wire.specs.declared.attribute.Attribute.{Attribute}
 use Rattle.bgp_wire.specs.Faults.{malformed_attributes}
-use Rattle.bgp_wire.proofs.Attributing.{Behind, behind, nothing_behind, cut_behind}
+use Rattle.bgp_wire.proofs.Attributing.{behind, nothing_behind, cut_behind}
 use Rattle.bgp_vpn.specs.Values.{value_at}
 
 -- the attribute is not among those that were passed, so that it is sought among those that are left

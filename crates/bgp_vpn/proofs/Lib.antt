@@ -4,3 +4,6 @@ pub mod ValueLemmas
 pub mod FindLemmas
 pub mod CheckLemmas
 pub mod UpdateLemmas
+pub mod SpellingLemmas
+pub mod TargetLemmas
+pub mod GrammarLemmas

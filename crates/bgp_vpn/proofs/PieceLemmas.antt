@@ -1,8 +1,7 @@
 -- Octets that are pieces, taken one after the other.
-use Rattle.std.proofs.Common.{◌≡◌, ◌≤◌, ◌<◌, ◌+◌, ℕ, zero, suc, List, [], ◌∷◌, ◌++◌, length, take, drop, get_or, refl, ap, sym, ◌∙◌, arith, Bool, true, false, ◌&&◌, ◌-◌, subst}
-use Rattle.std.specs.List.{flat_map, AllByRecursion}
+use Rattle.std.proofs.Common.{◌≡◌, ◌≤◌, ◌<◌, ℕ, zero, suc, List, [], ◌∷◌, length, take, drop, get_or, refl, ap, sym, ◌∙◌, arith, Bool, true, false, ◌&&◌, ◌-◌, subst}
 use Rattle.bgp_wire.proofs.Octets.{range_from}
-use Rattle.bgp_vpn.specs.Pieces.{are_pieces_behind, octets_for, are_prefixes, are_segments}
+use Rattle.bgp_vpn.specs.Pieces.{are_pieces_behind}
 
 -- a piece that the octets hold whole
 pub skipped : (good : ℕ → List ℕ → Bool) (len : ℕ → List ℕ → ℕ) (n : ℕ) (xs : List ℕ) → n ≤ length xs

@@ -1,8 +1,7 @@
 -- Octets that are routes, taken one after the other.
-use Rattle.std.proofs.Common.{◌≡◌, ◌≤◌, ◌<◌, ◌+◌, ℕ, zero, suc, List, [], ◌∷◌, ◌++◌, length, take, drop, get_or, refl, ap, sym, ◌∙◌, arith, map, nat_le, Bool, true, false, ◌&&◌, subst}
-use Rattle.std.specs.List.{flat_map, AllByRecursion}
-use Rattle.std.proofs.lemmas.List.{append_assoc, append-nil, take-append-drop, length-take-le}
-use Rattle.std.proofs.lemmas.Bool.{and_parts, leb-true}
+use Rattle.std.proofs.Common.{◌≡◌, ℕ, List, [], ◌∷◌, ◌++◌, length, refl, ap, sym, ◌∙◌, map}
+use Rattle.std.specs.List.{flat_map}
+use Rattle.std.proofs.lemmas.List.{append_assoc, append-nil}
 use Rattle.bgp_wire.proofs.Splitting.{same_front}
 use Rattle.ov_types.specs.declared.prefix.Addr.{Addr}
 use Rattle.ov_types.specs.declared.numbers.Label.{Label}
@@ -11,9 +10,8 @@ use Rattle.ov_types.specs.declared.vpn.VpnKey.{VpnKey}
 use Rattle.ov_types.specs.declared.vpn.VpnRoute.{VpnRoute}
 use Rattle.ov_sync.specs.declared.Delta.{Delta}
 use Rattle.ov_sync.specs.declared.Delta.TheVariants.{Put, Drop}
-use Rattle.bgp_vpn.specs.Pieces.{are_pieces_behind, octets_for, are_prefixes}
+use Rattle.bgp_vpn.specs.Pieces.{octets_for}
 use Rattle.bgp_vpn.specs.Routes.{RouteFields, route_octets, IsRoute, AreRoutes, BeginsWithRoute, key_of, label_of, drop_of, put_of}
-use Rattle.bgp_vpn.specs.Values.{are_routes}
 
 abbrev route : ℕ → List ℕ → RouteFields
 route bits octets = record { bits = bits; octets = octets }
@@ -73,34 +71,6 @@ pending_none {D} f octets rest old done pending none routes are =
     let empty = none_behind rest now.0 now.1 none in
     sym (append-nil done) ∙ ap (λ (rs : List RouteFields). done ++ map f rs) (sym empty) ∙ now.2
 
--- octets that pass the test are routes
-routes_behind_skip : (n : ℕ) (xs : List ℕ) → are_pieces_behind (λ bits behind. nat_le 88 bits && nat_le bits 120) (λ bits behind. octets_for bits) n xs ≡ true
-    → (n ≤ length xs) × ((routes : List RouteFields) × AreRoutes (drop n xs) routes)
-routes_behind_skip zero [] h = (omega arith, ([], record { spelled = refl; each = tt }))
-routes_behind_skip (suc n) [] h = absurd cc
-routes_behind_skip (suc n) (x ∷ xs) h = let less = routes_behind_skip n xs h in (omega arith, less.1)
-routes_behind_skip zero (x ∷ xs) h =
-    let parts = and_parts _ _ h in
-    let bounds = and_parts _ _ parts.0 in
-    let low = leb-true 88 x bounds.0 in
-    let high = leb-true x 120 bounds.1 in
-    let less = routes_behind_skip (octets_for x) xs parts.1 in
-    let sized = length-take-le (octets_for x) xs less.0 in (
-      omega arith,
-      (
-        route x (take (octets_for x) xs) ∷ less.1.0,
-        record {
-          spelled =
-              ap (λ (r : List ℕ). x ∷ r) (sym (take-append-drop (octets_for x) xs))
-              ∙ ap (λ (r : List ℕ). x ∷ (take (octets_for x) xs ++ r)) less.1.1.spelled;
-          each = (record { least = low; greatest = high; whole = sized }, less.1.1.each);
-        },
-      ),
-    )
-
-pub some_routes : (octets : List ℕ) → are_routes octets ≡ true → (routes : List RouteFields) × AreRoutes octets routes
-some_routes octets h = (routes_behind_skip 0 octets h).1
-
 -- one change more
 abbrev route_to : Addr → Label → List Target → VpnRoute
 route_to next_hop label targets = record { next_hop = next_hop; label = label; targets = targets }
@@ -116,3 +86,13 @@ put_is next_hop targets found r key label done new is keys labels same =
     is ∙ ap (λ (k : VpnKey). done ++ Put k (route_to next_hop label found) ∷ []) keys
     ∙ ap (λ (l : Label). done ++ Put (key_of r) (route_to next_hop l found) ∷ []) labels
     ∙ ap (λ (ts : List Target). done ++ Put (key_of r) (route_to next_hop (label_of r) ts) ∷ []) same
+
+-- octets are routes in one way
+pub one_routes : (octets : List ℕ) (a b : List RouteFields) → AreRoutes octets a → AreRoutes octets b → a ≡ b
+one_routes octets [] [] x y = refl
+one_routes octets [] (r ∷ b) x y = let e = sym x.spelled ∙ y.spelled in absurd cc
+one_routes octets (r ∷ a) b x y =
+    let begins : BeginsWithRoute octets r (flat_map route_octets a) = record { spelled = x.spelled; is = x.each.0 } in
+    let less = behind octets (flat_map route_octets a) b r y begins in
+    let left : AreRoutes (flat_map route_octets a) a = record { spelled = refl; each = x.each.1 } in
+    ap (λ (rs : List RouteFields). r ∷ rs) (one_routes (flat_map route_octets a) a less.others left less.are) ∙ sym less.is

@@ -1,23 +1,24 @@
 -- What it means that an UPDATE passes all checks.
-use Rattle.std.proofs.Common.{◌≡◌, ◌==◌, ◌&&◌, ℕ, List, [], ◌∷◌, ◌++◌, length, drop, refl, ap, sym, ◌∙◌, subst, cond, not, Option, Some, None, Bool, true, false, find}
-use Rattle.std.specs.Option.{option_map, IfSome}
+use Rattle.bgp_wire.specs.Messages.{AreOctets}
+use Rattle.std.proofs.Common.{◌⊎◌, inl, inr, ◌≡◌, ◌==◌, ◌&&◌, ℕ, List, [], ◌∷◌, ◌++◌, length, drop, refl, ap, sym, ◌∙◌, subst, cond, not, Option, Some, None, Bool, true, false, find}
+use Rattle.std.specs.Option.{option_map}
 use Rattle.std.proofs.lemmas.Bool.{eqb-true, not-false}
 use Rattle.std.proofs.lemmas.List.{nil_from_length}
 use Rattle.bgp_wire.specs.declared.fault.WireFault.{WireFault}
 use Rattle.bgp_wire.specs.Content.{UpdateFields}
-use Rattle.bgp_wire.specs.Faults.{fault_if, ◌then_check◌}
 use Rattle.bgp_wire.specs.Attributes.{AttributeFields, AreAttributes}
 use Rattle.bgp_wire.proofs.Checking.{pass_both, fault_if-None}
-use Rattle.bgp_wire.proofs.Attributing.{SomeAttributes}
+use Rattle.bgp_wire.proofs.Attributing.{SomeAttributes, some_split, one_split}
 use Rattle.ov_types.specs.declared.vpn.VpnKey.{VpnKey}
 use Rattle.ov_types.specs.declared.vpn.VpnRoute.{VpnRoute}
 use Rattle.ov_sync.specs.declared.Delta.{Delta}
 use Rattle.bgp_vpn.specs.Profile.{row_of}
 use Rattle.bgp_vpn.specs.Routes.{RouteFields, AreRoutes}
-use Rattle.bgp_vpn.specs.Values.{value_at, is_vpn, are_routes, is_reach, routes_behind, withdrawn_octets, reached_octets}
-use Rattle.bgp_vpn.specs.Checks.{value_fault, known_fault, fault_in_row, own_fault, attribute_fault, attributes_fault, routes_follow_in, update_fault}
+use Rattle.bgp_vpn.specs.Values.{value_at, is_vpn, are_routes, routes_behind, withdrawn_octets, reached_octets}
+use Rattle.bgp_vpn.specs.Checks.{value_fault, known_fault, fault_in_row, own_fault, attributes_fault, routes_follow_in, update_fault}
 use Rattle.bgp_vpn.specs.Updates.{changes_of, Changes, HasUpdateFault}
-use Rattle.bgp_vpn.proofs.RouteLemmas.{some_routes}
+use Rattle.bgp_vpn.proofs.RouteLemmas.{one_routes}
+use Rattle.bgp_vpn.proofs.GrammarLemmas.{prefixes_found}
 
 -- the attribute of a type passes the checks on it alone
 pub record PassesAt (routes_follow : Bool) (kind : ℕ) (value : List ℕ) : Type 0 where
@@ -85,36 +86,100 @@ reached_good routes_follow all (Some value) passes is =
     let none = value_passes routes_follow 14 6 value refl (passes_at routes_follow 14 value [] all passes is) in
     good_reached value (is_vpn value) _ _ (are_routes (drop 17 value)) (fault_if-None _ _ none) refl refl
 
+-- the attributes of an UPDATE that passes, and their routes
+pub record Passing (all : List AttributeFields) (tail : List ℕ) : Type 0 where
+  pub whole : tail ≡ []
+  pub withdrawn : List RouteFields
+  pub reached : List RouteFields
+  pub withdrawn_are : AreRoutes (withdrawn_octets all) withdrawn
+  pub reached_are : AreRoutes (reached_octets all) reached
+
+passing : (parts : UpdateFields) (all : List AttributeFields) (tail : List ℕ) → update_fault parts all tail ≡ None → Passing all tail
+passing parts all tail none =
+    let first = pass_both _ _ none in
+    let second = pass_both _ _ first.1 in
+    let size = eqb-true (length tail) 0 (not-false _ (fault_if-None _ _ second.0)) in
+    let follow = routes_follow_in parts in
+    let withdrawn = prefixes_found 88 120 (withdrawn_octets all) (withdrawn_good follow all (value_at 15 all) first.0 refl) in
+    let reached = prefixes_found 88 120 (reached_octets all) (reached_good follow all (value_at 14 all) first.0 refl) in
+    record {
+      whole = nil_from_length tail size;
+      withdrawn = withdrawn.0;
+      reached = reached.0;
+      withdrawn_are = withdrawn.1;
+      reached_are = reached.1;
+    }
+
+abbrev Deltas : Type 0
+Deltas = List (Delta VpnKey VpnRoute)
+
 -- an UPDATE that passes makes the changes of its attributes
-pub makes : (parts : UpdateFields) (deltas : List (Delta VpnKey VpnRoute)) → SomeAttributes parts.attributes
+passed : (parts : UpdateFields) (deltas : Deltas) (all : List AttributeFields) (tail : List ℕ) → AreAttributes parts.attributes all tail
+    → update_fault parts all tail ≡ None → (p : Passing all tail)
+    → (AreAttributes parts.attributes all [] → deltas ≡ changes_of all p.withdrawn p.reached) → Changes parts deltas
+passed parts deltas all tail are none p made =
+    let whole : AreAttributes parts.attributes all [] = subst (AreAttributes parts.attributes all) p.whole are in
+    record {
+      attributes = all;
+      withdrawn = p.withdrawn;
+      reached = p.reached;
+      are = whole;
+      passes = ap (update_fault parts all) (sym p.whole) ∙ none;
+      withdrawn_are = p.withdrawn_are;
+      reached_are = p.reached_are;
+      made = made whole;
+    }
+
+pub makes : (parts : UpdateFields) (deltas : Deltas) → SomeAttributes parts.attributes
     → ((all : List AttributeFields) (tail : List ℕ) → AreAttributes parts.attributes all tail → update_fault parts all tail ≡ None)
     → ((all : List AttributeFields) (withdrawn reached : List RouteFields) → AreAttributes parts.attributes all []
     → AreRoutes (withdrawn_octets all) withdrawn → AreRoutes (reached_octets all) reached → deltas ≡ changes_of all withdrawn reached)
     → Changes parts deltas
 makes parts deltas split passes made =
-    let all = split.0 in
-    let tail = split.1 in
-    let none = passes all tail split.2 in
-    let first = pass_both _ _ none in
-    let second = pass_both _ _ first.1 in
-    let size = eqb-true (length tail) 0 (not-false _ (fault_if-None _ _ second.0)) in
-    let empty : tail ≡ [] = nil_from_length tail size in
-    let are : AreAttributes parts.attributes all [] = subst (AreAttributes parts.attributes all) empty split.2 in
-    let follow = routes_follow_in parts in
-    let withdrawn = some_routes (withdrawn_octets all) (withdrawn_good follow all (value_at 15 all) first.0 refl) in
-    let reached = some_routes (reached_octets all) (reached_good follow all (value_at 14 all) first.0 refl) in
-    record {
-      attributes = all;
-      withdrawn = withdrawn.0;
-      reached = reached.0;
-      are = are;
-      passes = passes all [] are;
-      withdrawn_are = withdrawn.1;
-      reached_are = reached.1;
-      made = made all withdrawn.0 reached.0 are withdrawn.1 reached.1;
-    }
+    let none = passes split.0 split.1 split.2 in
+    let p = passing parts split.0 split.1 none in
+    passed parts deltas split.0 split.1 split.2 none p (λ whole. made split.0 p.withdrawn p.reached whole p.withdrawn_are p.reached_are)
 
 pub fails : (parts : UpdateFields) (f : WireFault) → SomeAttributes parts.attributes
     → ((all : List AttributeFields) (tail : List ℕ) → AreAttributes parts.attributes all tail → update_fault parts all tail ≡ Some f)
     → HasUpdateFault parts f
 fails parts f split faults = record { attributes = split.0; tail = split.1; are = split.2; fails = faults split.0 split.1 split.2 }
+
+-- an UPDATE makes changes or has a fault
+says : (parts : UpdateFields) (split : SomeAttributes parts.attributes) (o : Option WireFault) → update_fault parts split.0 split.1 ≡ o
+    → ((deltas : Deltas) × Changes parts deltas) ⊎ ((f : WireFault) × HasUpdateFault parts f)
+says parts split None is =
+    let p = passing parts split.0 split.1 is in
+    let deltas = changes_of split.0 p.withdrawn p.reached in
+    inl (deltas, passed parts deltas split.0 split.1 split.2 is p (λ whole. refl))
+says parts split (Some f) is = inr (f, record { attributes = split.0; tail = split.1; are = split.2; fails = is })
+
+pub one_of_two : (parts : UpdateFields) → AreOctets parts.attributes
+    → ((deltas : Deltas) × Changes parts deltas) ⊎ ((f : WireFault) × HasUpdateFault parts f)
+one_of_two parts octets = let split = some_split parts.attributes octets in says parts split (update_fault parts split.0 split.1) refl
+
+-- the first check that fails on one list of attributes is that on another of the same octets
+same_fault : (parts : UpdateFields) (s t : List ℕ) (a b : List AttributeFields) → AreAttributes parts.attributes a s → AreAttributes parts.attributes b t
+    → update_fault parts a s ≡ update_fault parts b t
+same_fault parts s t a b x y =
+    let same = one_split parts.attributes s t a b x y in
+    ap (λ (c : List AttributeFields). update_fault parts c s) same.0 ∙ ap (update_fault parts b) same.1
+
+pub never_both : (parts : UpdateFields) (deltas : Deltas) (f : WireFault) → Changes parts deltas → HasUpdateFault parts f → ⊥
+never_both parts deltas f c h =
+    let e = sym c.passes ∙ same_fault parts [] h.tail c.attributes h.attributes c.are h.are ∙ h.fails in cc
+
+pub one_fault : (parts : UpdateFields) (f g : WireFault) → HasUpdateFault parts f → HasUpdateFault parts g → f ≡ g
+one_fault parts f g x y =
+    let e = sym x.fails ∙ same_fault parts x.tail y.tail x.attributes y.attributes x.are y.are ∙ y.fails in cc
+
+pub one_changes : (parts : UpdateFields) (d e : Deltas) → Changes parts d → Changes parts e → d ≡ e
+one_changes parts d e x y =
+    let same = (one_split parts.attributes [] [] x.attributes y.attributes x.are y.are).0 in
+    let withdrawn = one_routes (withdrawn_octets y.attributes) x.withdrawn y.withdrawn
+    (subst (λ (a : List AttributeFields). AreRoutes (withdrawn_octets a) x.withdrawn) same x.withdrawn_are) y.withdrawn_are in
+    let reached = one_routes (reached_octets y.attributes) x.reached y.reached
+    (subst (λ (a : List AttributeFields). AreRoutes (reached_octets a) x.reached) same x.reached_are) y.reached_are in
+    x.made ∙ ap (λ (a : List AttributeFields). changes_of a x.withdrawn x.reached) same
+    ∙ ap (λ (w : List RouteFields). changes_of y.attributes w x.reached) withdrawn
+    ∙ ap (changes_of y.attributes y.withdrawn) reached ∙ sym y.made

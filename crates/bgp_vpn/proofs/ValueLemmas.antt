@@ -1,12 +1,12 @@
 -- Extended communities, and the first bits of an address.
-use Rattle.std.proofs.Common.{◌≡◌, ◌≤◌, ◌<◌, ◌+◌, ◌*◌, ◌/◌, ◌%◌, ◌-◌, ◌^◌, ◌==◌, ◌&&◌, nat_lt, ℕ, zero, suc, List, [], ◌∷◌, ◌++◌, length, take, drop, get_or, refl, ap, sym, ◌∙◌, arith, Bool, true, false, cond, Some, None}
+use Rattle.std.proofs.Common.{◌≡◌, ◌≤◌, ◌<◌, ◌*◌, ◌/◌, ◌%◌, ◌-◌, ◌^◌, ◌==◌, ◌&&◌, nat_lt, ℕ, List, [], ◌∷◌, length, take, drop, refl, ap, sym, ◌∙◌, arith, Bool, true, cond, Some, None}
 use Rattle.std.specs.List.{fold}
 use Rattle.std.proofs.Math.Nat.{mul-mod_left, pow-le-pow_right}
 use Rattle.std.proofs.lemmas.Bool.{lt-ltb, eq-eqb}
 use Rattle.bgp_wire.proofs.Octets.{range_from}
 use Rattle.ov_types.specs.declared.targets.Target.{Target}
 use Rattle.byteorder.specs.Endian.{big_number}
-use Rattle.ov_types.specs.Prefix.{prefix_of, is_prefix, size_of}
+use Rattle.ov_types.specs.Prefix.{prefix_of}
 use Rattle.bgp_vpn.specs.Routes.{first_bits}
 use Rattle.bgp_vpn.specs.Values.{communities, with_community}
 

@@ -1,5 +1,5 @@
 -- The checks on an UPDATE (RFC 4271, section 6.3; RFC 4760, section 7), in the order in which they are made.
-use Rattle.std.specs.Prelude.{ℕ, ◌==◌, ◌&&◌, ◌||◌, ◌%◌, not, nat_lt, List, [], ◌∷◌, ◌++◌, length, slice_index, drop, Bool, true, false, Option, Some, None, if◌then◌else◌, is_some, bit_and}
+use Rattle.std.specs.Prelude.{ℕ, ◌==◌, ◌&&◌, ◌||◌, ◌%◌, not, nat_lt, List, [], ◌∷◌, ◌++◌, length, slice_index, drop, Bool, Option, Some, None, if◌then◌else◌, is_some, bit_and}
 use Rattle.std.specs.List.{list_any}
 use Rattle.byteorder.specs.Endian.{big_number}
 use Rattle.bgp_wire.specs.declared.fault.WireFault.{WireFault}

@@ -5,3 +5,5 @@ pub mod Values
 pub mod Checks
 pub mod Updates
 pub mod Spelled
+pub mod Spellings
+pub mod Segments

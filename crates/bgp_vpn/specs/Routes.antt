@@ -1,5 +1,5 @@
 -- VPN-IPv4 routes (RFC 4364, section 4.3.4; RFC 8277, section 2).
-use Rattle.std.specs.Prelude.{◌≡◌, ◌≤◌, ℕ, ◌+◌, ◌-◌, ◌*◌, ◌/◌, ◌^◌, List, [], ◌∷◌, ◌++◌, length, drop}
+use Rattle.std.specs.Prelude.{◌≡◌, ◌≤◌, ℕ, ◌-◌, ◌*◌, ◌/◌, ◌^◌, List, ◌∷◌, ◌++◌, length, drop}
 use Rattle.std.specs.List.{flat_map, AllByRecursion}
 use Rattle.byteorder.specs.Endian.{big_number}
 use Rattle.ov_types.specs.Prefix.{Block}
@@ -22,16 +22,23 @@ pub record RouteFields : Type 0 where
 abbrev pub route_octets : RouteFields → List ℕ
 route_octets r = r.bits ∷ r.octets
 
--- a label field and a distinguisher have 88 bits, and a prefix at most 32
-pub record IsRoute (r : RouteFields) : Type 0 where
-  pub least : 88 ≤ r.bits
-  pub greatest : r.bits ≤ 120
+-- a length in bits between these bounds, and as many octets as hold the bits (RFC 4271, section 4.3)
+pub record IsPrefix (least greatest : ℕ) (r : RouteFields) : Type 0 where
+  pub low : least ≤ r.bits
+  pub high : r.bits ≤ greatest
   pub whole : length r.octets ≡ octets_for r.bits
 
--- the octets are these routes, one after the other
-pub record AreRoutes (octets : List ℕ) (routes : List RouteFields) : Type 0 where
-  pub spelled : octets ≡ flat_map route_octets routes
-  pub each : AllByRecursion IsRoute routes
+-- the octets are these, one after the other
+pub record ArePrefixes (least greatest : ℕ) (octets : List ℕ) (prefixes : List RouteFields) : Type 0 where
+  pub spelled : octets ≡ flat_map route_octets prefixes
+  pub each : AllByRecursion (IsPrefix least greatest) prefixes
+
+-- a label field and a distinguisher have 88 bits, and a prefix at most 32
+abbrev pub IsRoute : RouteFields → Type 0
+IsRoute = IsPrefix 88 120
+
+abbrev pub AreRoutes : List ℕ → List RouteFields → Type 0
+AreRoutes = ArePrefixes 88 120
 
 -- the octets begin with this route, and these stand after it
 pub record BeginsWithRoute (octets : List ℕ) (r : RouteFields) (after : List ℕ) : Type 0 where

@@ -1,5 +1,5 @@
 -- What an UPDATE says of VPN-IPv4 routes, and what is wrong with one.
-use Rattle.std.specs.Prelude.{◌≡◌, ℕ, List, [], ◌++◌, map, Option, Some, None}
+use Rattle.std.specs.Prelude.{◌≡◌, ℕ, List, [], ◌++◌, map, Some, None}
 use Rattle.ov_types.specs.declared.vpn.VpnKey.{VpnKey}
 use Rattle.ov_types.specs.declared.vpn.VpnRoute.{VpnRoute}
 use Rattle.ov_sync.specs.declared.Delta.{Delta}

@@ -1,5 +1,5 @@
 -- What the values of attributes say.
-use Rattle.std.specs.Prelude.{ℕ, ◌+◌, ◌/◌, ◌%◌, ◌^◌, ◌==◌, ◌&&◌, nat_le, List, [], ◌∷◌, drop, length, slice_index, Bool, Option, Some, None, if◌then◌else◌, unwrap_or, map, filter, find}
+use Rattle.std.specs.Prelude.{ℕ, ◌/◌, ◌%◌, ◌^◌, ◌==◌, ◌&&◌, nat_le, List, [], ◌∷◌, drop, length, slice_index, Bool, Option, Some, None, if◌then◌else◌, unwrap_or, find}
 use Rattle.std.specs.Option.{option_map}
 use Rattle.std.specs.List.{fold}
 use Rattle.byteorder.specs.Endian.{big_number}

@@ -36,54 +36,39 @@ fn octets(alloc: Global, text: &str) -> Result<Vec<u8>, AllocError> {
 
 #[test]
 fn the_first_check_that_fails_is_the_fault(rt: HostRuntime) -> Result<(), Fail> {
-    for (withdrawn, attributes, routes, subcode) in [
-        ("", "40", "", 1),
-        ("", "40010200", "", 1),
-        ("", "500100", "", 1),
-        ("", "40010100 40010100", "", 1),
-        ("", "80ff00 80ff00", "", 1),
-        ("", "40ff00", "", 2),
-        ("", "80010100", "", 4),
-        ("", "c0050400000064", "", 4),
-        ("", "4001020000", "", 5),
-        ("", "400303010203", "", 5),
-        ("", "80040400000000 400503000000", "", 5),
-        ("", "40060100", "", 5),
-        ("", "c01007 00000000000000", "", 5),
-        ("", "800e04 00018000", "", 9),
-        ("", "800f02 0001", "", 9),
-        ("", "40010103", "", 6),
-        ("", "40010103 40", "", 6),
-        ("", "400204 03010001", "", 11),
-        ("", "400202 0200", "", 11),
-        ("", "400203 020100", "", 11),
-        ("", "400304 00ffffff", "00", 8),
-        ("", "400304 e0000000", "00", 8),
-        ("", "800e09 000180 04 c000020b 00", "", 9),
-        ("", "800e05 000180 0c 00", "", 9),
-        ("", "800f0f 000180 57 0000000000000000000000", "", 9),
-        (
-            "",
-            "800f14 000180 79 00000000000000000000000000000000",
-            "",
-            9,
-        ),
-        ("", "800f04 000180 78", "", 9),
-        ("21 0000000000", "", "", 10),
-        ("08", "", "", 10),
-        ("", "", "21 0000000000", 10),
-        ("", "", "08", 10),
-        ("", "800e05 0002010000", "", 3),
-        ("", "40010100", "00", 3),
-        ("", "40010100 400200", "00", 3),
+    for (attributes, subcode) in [
+        ("40", 1),
+        ("40010200", 1),
+        ("500100", 1),
+        ("40010100 40010100", 1),
+        ("80ff00 80ff00", 1),
+        ("40ff00", 2),
+        ("80010100", 4),
+        ("c0050400000064", 4),
+        ("4001020000", 5),
+        ("400303010203", 5),
+        ("80040400000000 400503000000", 5),
+        ("40060100", 5),
+        ("c01007 00000000000000", 5),
+        ("800e04 00018000", 9),
+        ("800f02 0001", 9),
+        ("40010103", 6),
+        ("40010103 40", 6),
+        ("400204 03010001", 11),
+        ("400202 0200", 11),
+        ("400203 020100", 11),
+        ("800e09 000180 04 c000020b 00", 9),
+        ("800e05 000180 0c 00", 9),
+        ("800f0f 000180 57 0000000000000000000000", 9),
+        ("800f14 000180 79 00000000000000000000000000000000", 9),
+        ("800f04 000180 78", 9),
+        ("800e05 0002010000", 3),
     ] {
-        let withdrawn = octets(rt.alloc(), withdrawn)?;
         let octets_of_attributes = octets(rt.alloc(), attributes)?;
-        let routes = octets(rt.alloc(), routes)?;
         let part = UpdatePart {
-            withdrawn: withdrawn.as_slice(),
+            withdrawn: &[],
             attributes: octets_of_attributes.as_slice(),
-            routes: routes.as_slice(),
+            routes: &[],
         };
         match read_update(rt.alloc(), &part) {
             Ok(_) => assert!(rt; false, "{attributes} has no fault"),
@@ -93,6 +78,63 @@ fn the_first_check_that_fails_is_the_fault(rt: HostRuntime) -> Result<(), Fail> 
                     UpdateFault::Wire(WireFault { code: 3, subcode }),
                     "at {attributes}"
                 );
+            }
+        }
+    }
+    Ok(())
+}
+
+#[test]
+fn plain_routes_are_checked(rt: HostRuntime) -> Result<(), Fail> {
+    for (withdrawn, attributes, routes, subcode) in [
+        (
+            [].as_slice(),
+            [0x40, 0x03, 0x04, 0x00, 0xff, 0xff, 0xff].as_slice(),
+            [0x00].as_slice(),
+            8,
+        ),
+        (
+            [].as_slice(),
+            [0x40, 0x03, 0x04, 0xe0, 0x00, 0x00, 0x00].as_slice(),
+            [0x00].as_slice(),
+            8,
+        ),
+        (
+            [0x21, 0x00, 0x00, 0x00, 0x00, 0x00].as_slice(),
+            [].as_slice(),
+            [].as_slice(),
+            10,
+        ),
+        ([0x08].as_slice(), [].as_slice(), [].as_slice(), 10),
+        (
+            [].as_slice(),
+            [].as_slice(),
+            [0x21, 0x00, 0x00, 0x00, 0x00, 0x00].as_slice(),
+            10,
+        ),
+        ([].as_slice(), [].as_slice(), [0x08].as_slice(), 10),
+        (
+            [].as_slice(),
+            [0x40, 0x01, 0x01, 0x00].as_slice(),
+            [0x00].as_slice(),
+            3,
+        ),
+        (
+            [].as_slice(),
+            [0x40, 0x01, 0x01, 0x00, 0x40, 0x02, 0x00].as_slice(),
+            [0x00].as_slice(),
+            3,
+        ),
+    ] {
+        let part = UpdatePart {
+            withdrawn,
+            attributes,
+            routes,
+        };
+        match read_update(rt.alloc(), &part) {
+            Ok(_) => assert!(rt; false, "{attributes:?} and {routes:?} have no fault"),
+            Err(fault) => {
+                assert_eq!(rt; fault, UpdateFault::Wire(WireFault { code: 3, subcode }));
             }
         }
     }
@@ -144,6 +186,12 @@ fn a_withdrawal_drops_whatever_its_label(rt: HostRuntime) -> Result<(), Fail> {
         };
         assert!(rt; is_key(key, 0x0001_c000_020b_0001, 0x0a01_0005, 32));
     }
+    an_update_says_one_thing();
+    spellings_of_a_route_are_one();
+    spellings_of_a_next_hop_are_one();
+    equal_routes_make_equal_changes();
+    targets_are_those_communities();
+    tests_hold_of_exactly_the_lists();
     Ok(())
 }
 

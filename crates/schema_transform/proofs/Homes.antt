@@ -1,4 +1,4 @@
--- The network of a row's port: its home. Two rows of one instance have distinct prefixes.
+-- Where a row comes from: the network of its port, which the instance's network imports.
 use Rattle.std.proofs.Common.{◌≡◌, ◌⊎◌, inl, inr, ◌||◌, ◌&&◌, ℕ, Bool, true, false, not, IsTrue, List, Option, Some, None, option_and_then, refl, sym, ap, subst}
 use Rattle.std.specs.List.{All, Any, Contains, list_any}
 use Rattle.ov_types.specs.Prefix.{Block, contains, host_prefix}

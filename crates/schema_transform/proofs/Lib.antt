@@ -3,3 +3,5 @@ pub mod Lists
 pub mod Nested
 pub mod Homes
 pub mod Prefixes
+pub mod Keys
+pub mod Kept

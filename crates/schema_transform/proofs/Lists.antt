@@ -1,9 +1,9 @@
 -- Items of one list, and what a function gives of them.
-use Rattle.std.proofs.Common.{◌≡◌, ◌⊎◌, inl, inr, ◌<◌, ◌||◌, ℕ, suc, Bool, true, false, cond, IsTrue, List, [], ◌∷◌, Option, Some, None, length, get_or, refl, sym, ap, ◌∙◌, subst, arith}
+use Rattle.std.proofs.Common.{◌≡◌, ◌⊎◌, inl, inr, ◌<◌, ◌||◌, ℕ, suc, Bool, true, false, cond, IsTrue, List, [], ◌∷◌, ◌++◌, map, flat_map, Option, Some, None, length, get_or, refl, sym, ap, ◌∙◌, subst, arith}
 use Rattle.std.specs.List.{All, AllPairs, Contains, find, filter_map, cons_option, list_any}
 use Rattle.std.proofs.lemmas.Bool.{cases_order}
-use Rattle.std.proofs.lemmas.List.{get_or_default}
-use Rattle.std.proofs.lemmas.List.Elements.{All-cons, All-head, All-tail}
+use Rattle.std.proofs.lemmas.List.{get_or_default, get_or-map, length-map}
+use Rattle.std.proofs.lemmas.List.Elements.{All-append, All-cons, All-head, All-tail}
 use Rattle.std.proofs.lemmas.List.Kept.{AllPairs-cons}
 use Rattle.config_check.proofs.Iffs.{pairs_head, pairs_tail}
 
@@ -64,3 +64,38 @@ module _ {A B : Type 0} (f : A → Option B) where
         | None ↦ λ e. rest
         | Some u ↦ λ e. AllPairs-cons R u (filter_map f xs) (all_given (R u) xs (λ k d lt v is. pairs_head S x xs h k d lt u v (sym e) is)) rest
       ] refl
+
+-- lists put together
+
+pub pairs_append : {A : Type 0} (R : A → A → Type 0) (xs ys : List A) → AllPairs R xs → AllPairs R ys → All (λ x. All (R x) ys) xs → AllPairs R (xs ++ ys)
+pairs_append R [] ys p q across = q
+pairs_append {A} R (x ∷ xs) ys p q across =
+    let S : A → Type 0 = λ z. All (R z) ys in
+    AllPairs-cons R x (xs ++ ys)
+    (All-append (R x) xs ys (pairs_head R x xs p) (All-head S x xs across))
+    (pairs_append R xs ys (pairs_tail R x xs p) q (All-tail S x xs across))
+
+module _ {A B : Type 0} (f : A → List B) where
+  all_flat : (P : B → Type 0) (xs : List A) → All (λ x. All P (f x)) xs → All P (flat_map f xs)
+  all_flat P [] h = λ k d lt. absurd (omega arith)
+  all_flat P (x ∷ xs) h =
+      let S : A → Type 0 = λ z. All P (f z) in
+      All-append P (f x) (flat_map f xs) (All-head S x xs h) (all_flat P xs (All-tail S x xs h))
+
+  -- of all pairs in the lists that f gives: those of one list, and those of two
+  pub pairs_flat : (R : B → B → Type 0) (xs : List A) → All (λ x. AllPairs R (f x)) xs
+      → AllPairs (λ x y. All (λ u. All (R u) (f y)) (f x)) xs → AllPairs R (flat_map f xs)
+  pairs_flat R [] one two = λ i j d lt within. absurd (omega arith)
+  pairs_flat R (x ∷ xs) one two =
+      let S : A → Type 0 = λ z. AllPairs R (f z) in
+      let T : A → A → Type 0 = λ y z. All (λ u. All (R u) (f z)) (f y) in
+      pairs_append R (f x) (flat_map f xs) (All-head S x xs one)
+      (pairs_flat R xs (All-tail S x xs one) (pairs_tail T x xs two))
+      (λ k d lt. all_flat (R (get_or (f x) k d)) xs (λ j e within. pairs_head T x xs two j e within k d lt))
+
+pub pairs_of_map : {A B : Type 0} (f : A → B) (R : B → B → Type 0) (xs : List A) → AllPairs R (map f xs) → AllPairs (λ x y. R (f x) (f y)) xs
+pairs_of_map f R [] h = λ i j d lt within. absurd (omega arith)
+pairs_of_map {A} f R (x ∷ xs) h =
+    AllPairs-cons (λ (y z : A). R (f y) (f z)) x xs
+    (λ k d lt. subst (λ y. R (f x) y) (get_or-map f xs k d (f d) lt) (pairs_head R (f x) (map f xs) h k (f d) (simp length-map lt)))
+    (pairs_of_map f R xs (pairs_tail R (f x) (map f xs) h))

@@ -1,4 +1,4 @@
-use Rattle.std.proofs.Common.{◌≡◌, List, [], ◌∷◌, ◌++◌, refl, sym, ◌∙◌, ap, true, false}
+use Rattle.std.proofs.Common.{◌≡◌, [], ◌∷◌, ◌++◌, refl, sym, ◌∙◌}
 use Rattle.std.proofs.lemmas.Result.{err_from_is_err_and}
 use Rattle.bgp_wire.specs.Attributes.{fields_of}
 use Rattle.bgp_vpn.proofs.CheckLemmas.{passed_none, passed_more, cut_ends, fault_ends, all_pass, twice_fails, own_fails}

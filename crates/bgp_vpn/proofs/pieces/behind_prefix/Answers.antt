@@ -1,4 +1,3 @@
-use Rattle.std.proofs.Common.{length, take, drop, ◌-◌, arith, refl, ap, sym, ◌∙◌}
 use Rattle.std.proofs.lemmas.Bool.{le-leb}
 use Rattle.bgp_wire.proofs.Octets.{range_from}
 use Rattle.bgp_vpn.proofs.PieceLemmas.{both, piece_cut, piece_whole}

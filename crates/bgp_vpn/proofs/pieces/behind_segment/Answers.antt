@@ -1,4 +1,4 @@
-use Rattle.std.proofs.Common.{length, take, drop, ◌-◌, ◌+◌, ◌*◌, arith, refl, ap, sym, ◌∙◌, ℕ}
+use Rattle.std.proofs.Common.{◌+◌, ◌*◌, ap, sym, ◌∙◌, ℕ}
 use Rattle.bgp_wire.proofs.Octets.{range_from}
 use Rattle.bgp_vpn.proofs.PieceLemmas.{piece_cut, piece_whole}
 use Rattle.bgp_vpn.proofs.pieces.behind_segment.Goals as goal

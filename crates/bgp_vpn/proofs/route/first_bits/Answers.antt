@@ -1,7 +1,5 @@
-use Rattle.std.proofs.Common.{ℕ, ◌*◌, ◌%◌, ◌≡◌, sym, ◌∙◌, subst, ap, ◌-◌, ◌^◌, ◌/◌, arith, refl, Some, Option}
+use Rattle.std.proofs.Common.{sym, ◌∙◌, subst, refl}
 use Rattle.std.specs.Option.{IsSome}
-use Rattle.ov_types.specs.Prefix.{Block, prefix_of}
-use Rattle.bgp_vpn.specs.Routes.{first_bits}
 use Rattle.bgp_vpn.proofs.ValueLemmas.{first_bits_are, small_power}
 use Rattle.bgp_vpn.proofs.route.first_bits.Goals as goal
 

@@ -1,4 +1,4 @@
-use Rattle.std.proofs.Common.{arith, length}
+use Rattle.std.proofs.Common.{arith}
 use Rattle.bgp_vpn.proofs.ValueLemmas.{next_target}
 use Rattle.bgp_vpn.proofs.targets.targets_among.Goals as goal
 

@@ -1,5 +1,5 @@
 use Rattle.std.proofs.Common.{length}
-use Rattle.bgp_vpn.specs.Routes.{drop_of, put_of}
+use Rattle.bgp_vpn.specs.Routes.{put_of}
 use Rattle.bgp_vpn.specs.Values.{targets_among}
 use Rattle.bgp_vpn.proofs.RouteLemmas.{Pending}
 use Rattle.bgp_vpn.proofs.update.push_puts.Given as goal
