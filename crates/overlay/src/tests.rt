@@ -323,7 +323,7 @@ struct Dribble {
 }
 
 impl Sink for Dribble {
-    ghost use Rattle.std.specs.Prelude.{None};
+    ghost use Rattle.std.specs.Prelude.{◌^◌, ◌-◌, None};
 
     ghost taken = { λ _. None };
 
