@@ -1,2 +1,3 @@
 pub mod JsonLaws
 pub mod Reports
+pub mod OneReport

@@ -4,6 +4,7 @@
 mod answer;
 mod command;
 mod decoding;
+mod laws;
 mod lines;
 mod outcomes;
 #[cfg(test)]
