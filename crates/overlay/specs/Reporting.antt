@@ -1,5 +1,5 @@
 -- How far a report has come.
-use Rattle.std.specs.Prelude.{◌≡◌, ℕ, List, ◌++◌, drop, Option, Some, None}
+use Rattle.std.specs.Prelude.{◌≡◌, ℕ, List, ◌++◌, Option, Some, None}
 use Rattle.bgp_wire.specs.declared.fault.WireFault.{WireFault}
 use Rattle.bgp_wire.specs.Content.{Content, Updates, UpdateFields}
 use Rattle.bgp_wire.specs.Messages.{BeginsWith}

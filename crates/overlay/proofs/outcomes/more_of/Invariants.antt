@@ -1,5 +1,5 @@
-use Rattle.std.proofs.Common.{◌≡◌, ◌++◌, take}
-use Rattle.std.specs.Prelude.{string_bytes, flat_map}
+use Rattle.std.proofs.Common.{◌≡◌, ◌++◌}
+use Rattle.std.specs.Prelude.{string_bytes}
 use Rattle.std.proofs.Common.{drop}
 use Rattle.overlay.specs.Outcomes.{more_services}
 use Rattle.overlay.proofs.outcomes.more_of.Given as goal
