@@ -8,3 +8,4 @@ pub mod Exclusion
 pub mod Bodies
 pub mod Readings
 pub mod Attributing
+pub mod Spelling

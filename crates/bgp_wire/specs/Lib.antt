@@ -6,3 +6,4 @@ pub mod Updates
 pub mod Attributes
 pub mod Frames
 pub mod Messages
+pub mod Spelling

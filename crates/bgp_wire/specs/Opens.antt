@@ -37,10 +37,15 @@ pub data IsFaultyParameter (rest : List ℕ) (f : WireFault) : Type 0 where
 abbrev pub HasFaultyParameter : List ℕ → WireFault → Type 0
 HasFaultyParameter octets f = PartsThen IsParameter (λ rest. IsFaultyParameter rest f) octets
 
+-- the version, which is 4, the autonomous system, the Hold Time, the identifier, and the parameters behind their length
+abbrev pub open_octets : OpenFields → List ℕ
+open_octets fields =
+    4 ∷ [] ++ big_bytes 2 fields.asn ++ big_bytes 2 fields.hold ++ big_bytes 4 fields.id
+    ++ length fields.parameters ∷ [] ++ fields.parameters
+
 -- the body of an OPEN, by its fields
 pub record IsOpen (body : List ℕ) (fields : OpenFields) : Type 0 where
-  pub spelled : body ≡ 4 ∷ [] ++ big_bytes 2 fields.asn ++ big_bytes 2 fields.hold ++ big_bytes 4 fields.id
-      ++ length fields.parameters ∷ [] ++ fields.parameters
+  pub spelled : body ≡ open_octets fields
   pub asn : fields.asn < 2 ^ 16
   pub hold : fields.hold < 2 ^ 16
   pub id : fields.id < 2 ^ 32

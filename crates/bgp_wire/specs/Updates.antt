@@ -5,10 +5,15 @@ use Rattle.bgp_wire.specs.declared.fault.WireFault.{WireFault}
 use Rattle.bgp_wire.specs.Content.{UpdateFields}
 use Rattle.bgp_wire.specs.Faults.{fault_if, ◌then_check◌, malformed_attributes}
 
+-- the withdrawn routes behind their length, the attributes behind theirs, and the routes
+abbrev pub update_octets : UpdateFields → List ℕ
+update_octets parts =
+    big_bytes 2 (length parts.withdrawn) ++ parts.withdrawn
+    ++ (big_bytes 2 (length parts.attributes) ++ parts.attributes ++ parts.routes)
+
 -- the body of an UPDATE, by its parts
 pub record IsUpdate (body : List ℕ) (parts : UpdateFields) : Type 0 where
-  pub spelled : body ≡ big_bytes 2 (length parts.withdrawn) ++ parts.withdrawn
-      ++ (big_bytes 2 (length parts.attributes) ++ parts.attributes ++ parts.routes)
+  pub spelled : body ≡ update_octets parts
   pub withdrawn_length : length parts.withdrawn < 2 ^ 16
   pub attributes_length : length parts.attributes < 2 ^ 16
 

@@ -1,5 +1,5 @@
 ghost use Rattle.std.specs.Prelude.{◌≡◌, ◌≤◌, ◌^◌, ◌<◌};
-ghost use Rattle.bgp_wire.specs.Frames.{kind_of, least, greatest};
+ghost use Rattle.bgp_wire.specs.Frames.{octet_of, kind_of, least, greatest};
 
 /// The types of messages (RFC 4271, section 4.1).
 #[derive(Clone, Copy, Debug, PartialEq, Eq)]
@@ -20,6 +20,17 @@ impl Kind {
             3 => Some(Kind::Notification),
             4 => Some(Kind::Keepalive),
             _ => None,
+        }
+    }
+
+    pub(crate) fn octet(self) -> u8
+        ensures { result ≡ octet_of self }
+    {
+        match self {
+            Kind::Open => 1,
+            Kind::Update => 2,
+            Kind::Notification => 3,
+            Kind::Keepalive => 4,
         }
     }
 

@@ -7,6 +7,7 @@ ghost use Rattle.std.specs.Prelude.{Option, Result, None, map};
 ghost use Rattle.std.specs.Iterator.{YieldsThen};
 ghost use Rattle.bgp_wire.specs.declared.attribute.Attribute.{Attribute};
 ghost use Rattle.bgp_wire.specs.Attributes.{AttributeFields, AreAttributes, NextAttribute, SaysAll};
+ghost use Rattle.bgp_wire.specs.Spelling.{spelling, IsReadAgain};
 ghost use Rattle.bgp_wire.specs.Messages.{AreOctets, IsMessage, BeginsWith, HasFault};
 
 /// Octets begin with a message, or are a proper prefix of a frame, or have a fault: always one of the three, and only one.
@@ -42,6 +43,13 @@ pub fn what_follows_changes_nothing()
 pub fn no_message_begins_another()
     ensures { (octets more : List ℕ) (a b : Content)
         → IsMessage octets a → IsMessage (octets ++ more) b → more ≡ [] }
+{}
+
+/// What octets say at all is said by its spelling, and read from it whatever follows.
+#[tactic(auto, using(crate::proofs::Spelling::said_again, crate::proofs::Spelling::read_again))]
+pub fn a_spelling_is_read_again()
+    ensures says { (octets : List ℕ) (content : Content) → IsMessage octets content → IsMessage (spelling content) content }
+    ensures reads { (octets : List ℕ) (content : Content) → IsMessage octets content → IsReadAgain content }
 {}
 
 /// Octets are always attributes and a tail, and in one way.

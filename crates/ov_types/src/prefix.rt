@@ -1,6 +1,6 @@
 //! IPv4 addresses and prefixes.
 ghost use Rattle.std.specs.Prelude.{◌≡◌, ◌+◌, ◌↔◌, ◌&&◌, nat_le, ℕ, IsTrue};
-ghost use Rattle.ov_types.specs.Prefix.{prefix_of, contains, size_of, is_inside, host_prefix};
+ghost use Rattle.ov_types.specs.Prefix.{is_prefix, prefix_of, contains, size_of, is_inside, host_prefix};
 
 use std::fmt;
 use std::marker::Model;
@@ -53,7 +53,8 @@ impl Prefix {
 
     /// The first address.
     pub fn addr(&self) -> Addr
-        ensures { result.0 ≡ self.now.addr }
+        ensures addr { result.0 ≡ self.now.addr }
+        ensures prefix { IsTrue (is_prefix self.now.addr self.now.len) }
     {
         self.addr
     }

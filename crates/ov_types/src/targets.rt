@@ -4,7 +4,7 @@ ghost use Rattle.ov_types.specs.Targets.{with_target, IsAscending, IsPlace};
 
 use crate::items::NoMemory;
 use crate::kinded::Kinded;
-use std::alloc::Global;
+use std::alloc::{AllocError, Global};
 use std::fmt;
 use std::marker::Model;
 
@@ -76,6 +76,16 @@ impl Targets {
     }
 }
 
+impl Clone for Targets {
+    ghost is_clone = { λ a b. a ≡ b };
+
+    fn clone(&self) -> Result<Targets, AllocError> {
+        Ok(Targets {
+            list: self.list.clone()?,
+        })
+    }
+}
+
 /// Where a target goes.
 enum Place {
     Held,
@@ -108,6 +118,7 @@ mod tests {
             assert_eq!(rt; targets.insert(Target(number)), Ok(()));
         }
         assert_eq!(rt; targets.items(), [Target(1), Target(3)].as_slice());
+        assert_eq!(rt; targets.clone()?.items(), [Target(1), Target(3)].as_slice());
         Ok(())
     }
 }

@@ -1,0 +1,43 @@
+-- The one spelling of what a message says, and what is written.
+use Rattle.std.specs.Prelude.{ℕ, List, [], ◌∷◌, ◌++◌, ◌+◌, length}
+use Rattle.bgp_wire.specs.declared.kind.Kind.{Kind}
+use Rattle.bgp_wire.specs.declared.kind.Kind.TheVariants.{Open, Update, Notification, Keepalive}
+use Rattle.bgp_wire.specs.declared.write.OpenOut.{OpenOut}
+use Rattle.bgp_wire.specs.Content.{OpenFields, UpdateFields, Content, Opens, Updates, Notifies, KeepsAlive}
+use Rattle.bgp_wire.specs.Frames.{head}
+use Rattle.bgp_wire.specs.Messages.{BeginsWith}
+use Rattle.bgp_wire.specs.Opens.{open_octets}
+use Rattle.bgp_wire.specs.Parts.{Part, octets_of}
+use Rattle.bgp_wire.specs.Updates.{update_octets}
+
+-- a body in its frame
+abbrev pub framed : Kind → List ℕ → List ℕ
+framed kind body = head (19 + length body) kind ++ body
+
+-- a NOTIFICATION has nothing behind its subcode
+abbrev pub spelling : Content → List ℕ
+spelling (Opens fields) = framed Open (open_octets fields)
+spelling (Updates parts) = framed Update (update_octets parts)
+spelling (Notifies code subcode) = framed Notification (code ∷ subcode ∷ [])
+spelling KeepsAlive = framed Keepalive []
+
+-- its spelling, whatever follows, is read as that message, and no octet more
+abbrev pub IsReadAgain : Content → Type 0
+IsReadAgain content = (more : List ℕ) → BeginsWith (spelling content ++ more) content (length (spelling content))
+
+-- the multiprotocol capability of VPN-IPv4 routes: AFI 1 in two octets, a reserved octet, and SAFI 128
+-- (RFC 4760, section 8; RFC 4364, section 4.3.4)
+abbrev pub vpn_capability : Part
+vpn_capability = record { kind = 1; value = 0 ∷ 1 ∷ 0 ∷ 128 ∷ [] }
+
+-- one parameter, capabilities, with that one (RFC 5492, section 4)
+abbrev pub vpn_parameter : Part
+vpn_parameter = record { kind = 2; value = octets_of vpn_capability }
+
+-- what a speaker without timers says of itself: its Hold Time is 0
+abbrev pub open_fields : OpenOut → OpenFields
+open_fields part = record { asn = part.asn; hold = 0; id = part.id.0; parameters = octets_of vpn_parameter }
+
+-- attributes, and no plain routes
+abbrev pub attributes_alone : List ℕ → UpdateFields
+attributes_alone attributes = record { withdrawn = []; attributes = attributes; routes = [] }
