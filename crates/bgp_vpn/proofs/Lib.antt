@@ -7,3 +7,6 @@ pub mod UpdateLemmas
 pub mod SpellingLemmas
 pub mod TargetLemmas
 pub mod GrammarLemmas
+pub mod WrittenKeys
+pub mod WrittenTargets
+pub mod WrittenUpdates

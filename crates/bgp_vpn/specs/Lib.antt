@@ -7,3 +7,4 @@ pub mod Updates
 pub mod Spelled
 pub mod Spellings
 pub mod Segments
+pub mod Written

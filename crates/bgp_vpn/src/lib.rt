@@ -12,6 +12,7 @@ mod profile;
 mod route;
 mod targets;
 mod update;
+mod write;
 
 pub use fault::UpdateFault;
 pub use laws::{
@@ -19,6 +20,7 @@ pub use laws::{
     spellings_of_a_route_are_one, targets_are_those_communities, tests_hold_of_exactly_the_lists,
 };
 pub use update::read_update;
+pub use write::write_update;
 
 #[cfg(test)]
 mod tests;

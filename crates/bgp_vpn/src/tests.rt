@@ -1,7 +1,9 @@
+ghost use Rattle.std.specs.Prelude.{◌≡◌};
+
 use super::*;
 use bgp_wire::{Message, UpdatePart, WireFault, read_message};
 use ov_sync::Delta;
-use ov_types::{Target, VpnKey, VpnRoute};
+use ov_types::{Addr, Label, Prefix, Rd, Target, Targets, VpnKey, VpnRoute};
 use std::alloc::{AllocError, Global};
 use std::test::Fail;
 
@@ -221,5 +223,55 @@ fn drops_come_first_and_what_is_passed_over_changes_nothing(rt: HostRuntime) -> 
         route.targets.items(),
         [Target(0x0002_0000_0000_0001), Target(0x0002_0000_0000_0002)].as_slice()
     );
+    Ok(())
+}
+
+fn key(prefix: Prefix) -> VpnKey {
+    VpnKey {
+        rd: Rd(0x0001_c000_020b_0001),
+        prefix,
+    }
+}
+
+fn route(targets: Targets) -> VpnRoute
+    ensures label { result.label.0 ≡ 23 }
+    ensures targets { result.targets ≡ targets }
+{
+    VpnRoute {
+        next_hop: Addr(0xc000_020b),
+        label: Label(23),
+        targets,
+    }
+}
+
+#[test]
+fn changes_are_written_whole(rt: HostRuntime) -> Result<(), Fail> {
+    let host = Prefix::host(Addr(0x0a01_0005));
+    let network = Prefix::new(Addr(0x0a01_0000), 16).ok_or("10.1.0.0/16")?;
+    let mut targets = Targets::new(rt.alloc());
+    targets.insert(Target(0x0002_fc00_007a_1201))?;
+    let put = Delta::Put(key(host), route(targets));
+    let put_without_targets = Delta::Put(key(network), route(Targets::new(rt.alloc())));
+    let mut out = octets(rt.alloc(), "aa")?;
+    assert_eq!(rt; write_update(rt.alloc(), &put, &mut out), Ok(()));
+    assert_eq!(rt;
+        write_update(rt.alloc(), &put_without_targets, &mut out),
+        Ok(())
+    );
+    assert_eq!(rt;
+        write_update(rt.alloc(), &Delta::Drop(key(host)), &mut out),
+        Ok(())
+    );
+    let wanted = octets(
+        rt.alloc(),
+        "aa
+        M 0054 02 0000 003d 40010100 400200 40050400000064
+            800e21 000180 0c 0000000000000000 c000020b 00 78 000171 0001c000020b0001 0a010005
+            c01008 0002fc00007a1201
+        M 0047 02 0000 0030 40010100 400200 40050400000064
+            800e1f 000180 0c 0000000000000000 c000020b 00 68 000171 0001c000020b0001 0a01
+        M 002d 02 0000 0016 800f13 000180 78 800000 0001c000020b0001 0a010005",
+    )?;
+    assert_eq!(rt; out.as_slice(), wanted.as_slice());
     Ok(())
 }

@@ -18,7 +18,7 @@ use crate::route::{key_of, label_of, split_route};
 use crate::targets::targets_among;
 use bgp_wire::UpdatePart;
 use ov_sync::Delta;
-use ov_types::{Addr, NoMemory, VpnKey, VpnRoute};
+use ov_types::{Addr, NoMemory, Targets, VpnKey, VpnRoute};
 use std::alloc::Global;
 
 /// The octets of VPN-IPv4 routes that stand behind so many of a value.
@@ -47,25 +47,24 @@ fn push_drops(octets: &[u8], deltas: &mut Vec<Delta<VpnKey, VpnRoute>>) -> Resul
 #[derive(Clone, Copy)]
 struct Announced<'a> {
     next_hop: Addr,
-    communities: &'a [u8],
+    targets: &'a Targets,
 }
 
 fn push_puts(
-    alloc: Global,
     octets: &[u8],
     announced: Announced<'_>,
     deltas: &mut Vec<Delta<VpnKey, VpnRoute>>,
 ) -> Result<(), NoMemory>
     ensures { (routes : List RouteFields) → AreRoutes octets.now routes
         → OnOk result (deltas.new.items
-        ≡ deltas.old.items ++ map (put_of announced.entry.next_hop (targets_among announced.entry.communities.now)) routes) }
+        ≡ deltas.old.items ++ map (put_of announced.entry.next_hop announced.entry.targets.now) routes) }
 {
     let mut rest = octets;
     while let Some((route, after)) = split_route(rest) {
         let value = VpnRoute {
             next_hop: announced.next_hop,
             label: label_of(&route),
-            targets: targets_among(alloc, announced.communities)?,
+            targets: announced.targets.clone()?,
         };
         deltas.push(Delta::Put(key_of(&route), value))?;
         rest = after;
@@ -83,11 +82,12 @@ fn changes(alloc: Global, part: &UpdatePart<'_>) -> Result<Vec<Delta<VpnKey, Vpn
     let mut deltas = Vec::new(alloc);
     push_drops(routes_behind(3, value_of(part, 15)), &mut deltas)?;
     let reach = value_of(part, 14);
+    let targets = targets_among(alloc, value_of(part, 16).unwrap_or(&[]))?;
     let announced = Announced {
         next_hop: next_hop_in(reach),
-        communities: value_of(part, 16).unwrap_or(&[]),
+        targets: &targets,
     };
-    push_puts(alloc, routes_behind(17, reach), announced, &mut deltas)?;
+    push_puts(routes_behind(17, reach), announced, &mut deltas)?;
     Ok(deltas)
 }
 

@@ -1,5 +1,5 @@
 //! IPv4 addresses and prefixes.
-ghost use Rattle.std.specs.Prelude.{◌≡◌, ◌+◌, ◌↔◌, ◌&&◌, nat_le, ℕ, IsTrue};
+ghost use Rattle.std.specs.Prelude.{◌≡◌, ◌≤◌, ◌+◌, ◌↔◌, ◌&&◌, nat_le, ℕ, IsTrue};
 ghost use Rattle.ov_types.specs.Prefix.{is_prefix, prefix_of, contains, size_of, is_inside, host_prefix};
 
 use std::fmt;
@@ -61,7 +61,8 @@ impl Prefix {
 
     /// How many bits its addresses share.
     pub fn len(&self) -> u8
-        ensures { result ≡ self.now.len }
+        ensures len { result ≡ self.now.len }
+        ensures at_most { result ≤ 32 }
     {
         self.len
     }
