@@ -1,9 +1,9 @@
 #!/usr/bin/env python3
 """What the commands cost.
 
-Makes inputs by formula, runs the built program on each, and prints a table in Markdown: seconds, peak memory and size of
-the output. Behind each figure stands its ratio to a baseline, which reads the same input in the same run: `jq -c .` for
-documents, `xxd -r -p` for hexadecimal digits.
+Makes inputs by formula, runs the built program on each, and prints a table in Markdown: seconds (the least of five runs),
+peak memory and size of the output. Behind each figure stands its ratio to a baseline, which reads the same input in the
+same run: `jq -c .` for documents, `xxd -r -p` for hexadecimal digits.
 
 usage: bench/bench.py PROGRAM [WORD]
 
@@ -17,6 +17,7 @@ import sys
 import tempfile
 import time
 
+RUNS = 5
 SECONDS = 600  # after which a run is stopped
 
 
@@ -116,7 +117,7 @@ def inputs():
             yield f"decode {millions} million octets, {routes} a message", "decode", updates(millions * 1_000_000, routes)
 
 
-def measured(command, path):
+def run(command, path):
     """Seconds, peak megabytes and megabytes of output of a command that reads a file, and its status."""
     with open(path, "rb") as source, tempfile.NamedTemporaryFile() as sink, tempfile.NamedTemporaryFile("r") as peak:
         begun = time.perf_counter()
@@ -124,6 +125,11 @@ def measured(command, path):
         status = subprocess.run(watched, stdin=source, stdout=sink).returncode
         seconds = time.perf_counter() - begun
         return (seconds, int(peak.read()) / 1024, os.path.getsize(sink.name) / 1e6), status
+
+
+def measured(command, path):
+    """The quickest of some runs."""
+    return min(run(command, path) for _ in range(RUNS))
 
 
 def row(name, program, word, text):
@@ -134,11 +140,14 @@ def row(name, program, word, text):
         figures, status = measured([program, word], file.name)
         baseline, _ = measured(["xxd", "-r", "-p"] if word == "decode" else ["jq", "-c", "."], file.name)
     told = name if status == 0 else f"{name} (status {status})"
-    cells = [f"{figure:.2f} ({figure / base:.1f})" for figure, base in zip(figures, baseline)]
+    digits = (3, 1, 2)
+    cells = [f"{figure:.{n}f} ({figure / base:.1f})" for figure, base, n in zip(figures, baseline, digits)]
     return f"| {told} | {len(text) / 1e6:.2f} | " + " | ".join(cells) + " |"
 
 
 def main():
+    if len(sys.argv) not in (2, 3):
+        sys.exit(__doc__)
     program = os.path.abspath(sys.argv[1])
     wanted = sys.argv[2] if len(sys.argv) > 2 else ""
     print("| Command and input | Input, MB | Time, s (ratio) | Peak memory, MB (ratio) | Output, MB (ratio) |")

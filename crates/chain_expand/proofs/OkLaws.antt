@@ -40,7 +40,7 @@ found_passes p (y ∷ xs) x e = by (p y) refl (found_passes p xs x)
     by false e' later = later (ap (λ b. cond b (Some y) (find p xs)) (sym e') ∙ e)
 
 -- no loop of a chain is found where no chain on the way loops
-loop_free : (c : Config) (name : List ℕ) → loop_of c name ≡ None → IsLoopFree c name
+pub loop_free : (c : Config) (name : List ℕ) → loop_of c name ≡ None → IsLoopFree c name
 loop_free c name e = λ chain along loop. at chain along loop (place_of c chain) refl
   where
     test : Chain → Bool

@@ -88,7 +88,7 @@ chain_exists_iff names (Through chain use_no) = exists_iff names chain
 
 -- subnets
 
-overlap_iff : (p q : Block) → IsTrue (overlap p q) ↔ Overlap p q
+pub overlap_iff : (p q : Block) → IsTrue (overlap p q) ↔ Overlap p q
 overlap_iff p q = or_iff (is_inside p q) (is_inside q p) (within_is p q (is_inside p q) refl) (within_is q p (is_inside q p) refl)
 
 pub apart_iff : (p q : Block) → (overlap p q ≡ false) ↔ (¬ Overlap p q)

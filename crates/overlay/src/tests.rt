@@ -2,6 +2,7 @@
 use crate::top::{Status, overlay};
 use ov_io::{MemSink, MemSource, Sink, SinkFault, Source, SourceFault};
 use std::alloc::Global;
+use std::process::Abort;
 use std::test::Fail;
 
 const ONE: &str =
@@ -52,6 +53,24 @@ fn ran(alloc: Global, word: &str, input: &[u8]) -> Result<(Status, MemSink), Fai
     Ok((status, sink))
 }
 
+/// An input, how its run is to end, and what it is to write.
+type Case = (&'static str, Status, &'static str);
+
+/// Runs a command on each input.
+fn each_is_answered(
+    rt: &impl Abort,
+    alloc: Global,
+    word: &str,
+    cases: &[Case],
+) -> Result<(), Fail> {
+    for (input, status, output) in cases {
+        let (ended, sink) = ran(alloc, word, input.as_bytes())?;
+        assert_eq!(rt; ended, *status, "{input}");
+        assert_eq!(rt; sink.taken(), output.as_bytes(), "{input}");
+    }
+    Ok(())
+}
+
 /// How a run of `compile` ended, and what it wrote.
 fn compiled(alloc: Global, input: &[u8]) -> Result<(Status, MemSink), Fail> {
     ran(alloc, "compile", input)
@@ -59,7 +78,7 @@ fn compiled(alloc: Global, input: &[u8]) -> Result<(Status, MemSink), Fail> {
 
 #[test]
 fn packets_are_answered(rt: HostRuntime) -> Result<(), Fail> {
-    for (input, status, output) in [
+    let cases: [Case; 4] = [
         (
             REACH,
             Status::Done,
@@ -80,12 +99,8 @@ fn packets_are_answered(rt: HostRuntime) -> Result<(), Fail> {
         ),
         (REACH_ONE_SIDED, Status::Done, "1 dropped no-destination\n"),
         (ONE, Status::BadDocument, "bad document packets Missing\n"),
-    ] {
-        let (ended, sink) = ran(rt.alloc(), "reach", input.as_bytes())?;
-        assert_eq!(rt; ended, status, "{input}");
-        assert_eq!(rt; sink.taken(), output.as_bytes(), "{input}");
-    }
-    Ok(())
+    ];
+    each_is_answered(&rt, rt.alloc(), "reach", &cases)
 }
 
 const UPDATE: &str = "\
@@ -96,8 +111,8 @@ c01008 0002fc00007a1201
 ";
 
 #[test]
-fn messages_are_decoded(rt: HostRuntime) -> Result<(), Fail> {
-    for (input, status, output) in [
+fn messages_are_told(rt: HostRuntime) -> Result<(), Fail> {
+    let cases: [Case; 5] = [
         (
             UPDATE,
             Status::Done,
@@ -126,6 +141,13 @@ put 192.0.2.11:1 10.1.0.5/32 next-hop 192.0.2.11 label 23 targets 64512:8000001
             Status::Done,
             "notification 6/0\nkeepalive\n",
         ),
+    ];
+    each_is_answered(&rt, rt.alloc(), "decode", &cases)
+}
+
+#[test]
+fn what_is_no_message_is_told(rt: HostRuntime) -> Result<(), Fail> {
+    let cases: [Case; 10] = [
         (
             "f fffffffffffffffffffffffffffffff\t00\r\n1\n2",
             Status::Done,
@@ -160,17 +182,13 @@ put 192.0.2.11:1 10.1.0.5/32 next-hop 192.0.2.11 label 23 targets 64512:8000001
         ("", Status::Done, ""),
         ("0", Status::NotJson, "not hex\n"),
         ("0x", Status::NotJson, "not hex\n"),
-    ] {
-        let (ended, sink) = ran(rt.alloc(), "decode", input.as_bytes())?;
-        assert_eq!(rt; ended, status, "{input}");
-        assert_eq!(rt; sink.taken(), output.as_bytes(), "{input}");
-    }
-    Ok(())
+    ];
+    each_is_answered(&rt, rt.alloc(), "decode", &cases)
 }
 
 #[test]
-fn documents_are_answered(rt: HostRuntime) -> Result<(), Fail> {
-    for (input, status, output) in [
+fn documents_are_compiled(rt: HostRuntime) -> Result<(), Fail> {
+    let cases: [Case; 5] = [
         (
             ONE,
             Status::Done,
@@ -182,26 +200,10 @@ fn documents_are_answered(rt: HostRuntime) -> Result<(), Fail> {
             "control c1 table 16383 10.1.0.5/32 192.0.2.11:16383 192.0.2.11 23\n",
         ),
         (
-            PAST_THE_LAST_NETWORK,
-            Status::BadDocument,
-            "bad document configuration.networks[0].id Range\n",
-        ),
-        ("{\"topology\":", Status::NotJson, "not json\n"),
-        ("[]", Status::BadDocument, "bad document Kind\n"),
-        ("{}", Status::BadDocument, "bad document topology Missing\n"),
-        (
-            OVERLAP,
-            Status::Refused,
-            "refused SubnetOverlap green blue\n",
-        ),
-        (
             FIFTEEN,
             Status::Done,
             "control c1 table 1 10.1.0.5/32 192.0.2.11:1 192.0.2.11 23\n",
         ),
-        (SIXTEEN, Status::Refused, "refused ChainTooLong long\n"),
-        (LOOP, Status::Refused, "refused ChainLoop c1\n"),
-        (TWICE, Status::Refused, "refused ServiceTwice outer fw\n"),
         (
             EQUAL_ADDRESSES,
             Status::Done,
@@ -226,12 +228,31 @@ control c2 table 2 10.1.0.1/32 192.0.2.11:1 192.0.2.11 17
 control c2 table 2 10.2.0.2/32 192.0.2.12:2 192.0.2.12 18
 ",
         ),
-    ] {
-        let (ended, sink) = compiled(rt.alloc(), input.as_bytes())?;
-        assert_eq!(rt; ended, status, "{input}");
-        assert_eq!(rt; sink.taken(), output.as_bytes(), "{input}");
-    }
-    Ok(())
+    ];
+    each_is_answered(&rt, rt.alloc(), "compile", &cases)
+}
+
+#[test]
+fn what_is_no_valid_document_is_answered(rt: HostRuntime) -> Result<(), Fail> {
+    let cases: [Case; 8] = [
+        (
+            PAST_THE_LAST_NETWORK,
+            Status::BadDocument,
+            "bad document configuration.networks[0].id Range\n",
+        ),
+        ("{\"topology\":", Status::NotJson, "not json\n"),
+        ("[]", Status::BadDocument, "bad document Kind\n"),
+        ("{}", Status::BadDocument, "bad document topology Missing\n"),
+        (
+            OVERLAP,
+            Status::Refused,
+            "refused SubnetOverlap green blue\n",
+        ),
+        (SIXTEEN, Status::Refused, "refused ChainTooLong long\n"),
+        (LOOP, Status::Refused, "refused ChainLoop c1\n"),
+        (TWICE, Status::Refused, "refused ServiceTwice outer fw\n"),
+    ];
+    each_is_answered(&rt, rt.alloc(), "compile", &cases)
 }
 
 #[test]

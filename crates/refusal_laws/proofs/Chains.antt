@@ -1,5 +1,5 @@
 -- Refusals of chain rules and of chains name what lacks a network, turns back, loops, is too long or has a service twice.
-use Rattle.std.proofs.Common.{◌≡◌, ◌⊎◌, inl, inr, ◌||◌, ltb, ℕ, Bool, true, false, cond, List, Option, None, option_map, is_none, IfSome, find, length, refl, sym, ap}
+use Rattle.std.proofs.Common.{◌≡◌, ◌⊎◌, inl, inr, ◌||◌, ltb, ℕ, Bool, true, false, cond, List, Option, Some, None, option_map, is_none, IfSome, find, length, refl, sym, ap}
 use Rattle.std.specs.Cmp.Lexicographic.{same_text}
 use Rattle.std.specs.List.{Any, Contains}
 use Rattle.std.proofs.lemmas.Bool.{and_parts, ltb-true, eqb-true}
@@ -19,8 +19,12 @@ use Rattle.config_check.specs.declared.refusal.Refusal.TheVariants.{ChainNeedsNe
 use Rattle.config_check.specs.declared.related.NumberedRule.{NumberedRule}
 use Rattle.config_check.specs.Rules.{all_rules, is_chain_rule, is_any, lacks_network, broken_needs, same_end, turns_back, broken_same, broken_use, broken_loop, is_too_long, broken_long, twice_in, broken_twice, broken_chain}
 use Rattle.refusal_laws.specs.Breaks.{LeadsThrough, IsChainRule, HasAny, HasOneNetwork, Breaks}
-use Rattle.refusal_laws.proofs.LoopFree.{none_is, loop_free}
+use Rattle.chain_expand.proofs.OkLaws.{loop_free}
 use Rattle.refusal_laws.proofs.Firsts.{any_of, of_either, of_mapped, of_first, found, found_in, first_pair}
+
+none_is : {A : Type 0} (o : Option A) → is_none o ≡ true → o ≡ None
+none_is None h = refl
+none_is (Some x) h = cc
 
 -- chain rules
 

@@ -5,14 +5,14 @@ use Rattle.std.specs.List.{Any, Contains}
 use Rattle.std.specs.Option.{option_map_or, IsSomeAnd}
 use Rattle.std.proofs.lemmas.Bool.{and_parts, or_cases, eqb-true}
 use Rattle.std.proofs.lemmas.List.Folds.{list_any-from_Any}
-use Rattle.ov_types.specs.Prefix.{Block, contains, is_inside}
-use Rattle.ov_types.proofs.Blocks.{within_is}
+use Rattle.ov_types.specs.Prefix.{Block, contains}
 use Rattle.config_model.specs.declared.config.Config.{Config}
 use Rattle.config_model.specs.declared.config.Network.{Network}
 use Rattle.config_model.specs.declared.config.Port.{Port}
 use Rattle.config_model.specs.declared.topology.Topology.{Topology}
 use Rattle.chain_expand.specs.First.{same_name, ◌<|>◌, first_meeting}
 use Rattle.config_check.specs.declared.refusal.Refusal.{Refusal}
+use Rattle.config_check.proofs.Meanings.{overlap_iff}
 use Rattle.config_check.specs.declared.refusal.Refusal.TheVariants.{SubnetReserved, SubnetNested, AddressOutside, AddressTaken}
 use Rattle.config_check.specs.Rules.{overlap, circuit_addresses, reserved_in, broken_reserved, nested_in, broken_nested, network_named, holds_address, is_outside, broken_outside, share_address, broken_taken, broken_place}
 use Rattle.config_check.specs.Sentences.{Overlap}
@@ -22,11 +22,7 @@ use Rattle.refusal_laws.proofs.Firsts.{any_of, of_either, of_mapped, of_first, f
 -- subnets
 
 pub overlaps : (p q : Block) → overlap p q ≡ true → Overlap p q
-overlaps p q h =
-    elim (or_cases (is_inside p q) (is_inside q p) h) [
-      | inl e ↦ inl ((within_is p q (is_inside p q) refl).0 e)
-      | inr e ↦ inr ((within_is q p (is_inside q p) refl).0 e)
-    ]
+overlaps p q h = (overlap_iff p q).0 h
 
 of_reserved : (t : Topology) (c : Config) (n : Network) → Contains c.networks n → IfSome (reserved_in n) (Breaks t c)
 of_reserved t c n inside =
