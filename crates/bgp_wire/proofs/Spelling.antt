@@ -1,16 +1,16 @@
 -- Spellings, read again.
-use Rattle.std.proofs.Common.{◌≡◌, ◌≢◌, ◌≤◌, ◌<◌, ◌^◌, ℕ, ◌+◌, List, [], ◌∷◌, ◌++◌, length, take, refl, sym, ap, ◌∙◌, subst, arith}
+use Rattle.std.proofs.Common.{◌≢◌, ◌≤◌, ◌<◌, ◌^◌, ℕ, ◌+◌, List, [], ◌∷◌, length, refl, sym, ap, subst, arith}
 use Rattle.std.proofs.lemmas.List.{length-append}
 use Rattle.std.proofs.Math.Seq.{take-append_seam}
 use Rattle.bgp_wire.specs.declared.kind.Kind.TheVariants.{Open, Update, Notification, Keepalive}
 use Rattle.bgp_wire.specs.declared.write.OpenOut.{OpenOut}
-use Rattle.bgp_wire.specs.Content.{OpenFields, UpdateFields, Content, Opens, Updates, Notifies, KeepsAlive}
-use Rattle.bgp_wire.specs.Frames.{head, least, greatest, IsFrame}
-use Rattle.bgp_wire.specs.Messages.{IsMessage, BeginsWith}
-use Rattle.bgp_wire.specs.Opens.{IsParameter, AreCapabilities, AreParameters, open_octets, IsOpen}
+use Rattle.bgp_wire.specs.Content.{Content, Opens, Updates, Notifies, KeepsAlive}
+use Rattle.bgp_wire.specs.Frames.{least, greatest}
+use Rattle.bgp_wire.specs.Messages.{IsMessage}
+use Rattle.bgp_wire.specs.Opens.{AreCapabilities, AreParameters, open_octets}
 use Rattle.bgp_wire.specs.Parts.{octets_of}
-use Rattle.bgp_wire.specs.Spelling.{framed, spelling, IsReadAgain, vpn_capability, vpn_parameter, open_fields, attributes_alone}
-use Rattle.bgp_wire.specs.Updates.{IsUpdate, update_octets}
+use Rattle.bgp_wire.specs.Spelling.{spelling, IsReadAgain, vpn_capability, vpn_parameter, open_fields, attributes_alone}
+use Rattle.bgp_wire.specs.Updates.{update_octets}
 
 pub notification_says : (code subcode : ℕ) → IsMessage (spelling (Notifies code subcode)) (Notifies code subcode)
 notification_says code subcode = record {

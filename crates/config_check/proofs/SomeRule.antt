@@ -4,8 +4,7 @@ use Rattle.std.specs.List.{list_any}
 use Rattle.config_model.specs.declared.config.Network.{Network}
 use Rattle.config_model.specs.declared.config.Config.{Config}
 use Rattle.config_model.specs.declared.config.Policy.{Policy}
-use Rattle.config_model.specs.declared.config.Rule.{Rule}
-use Rattle.config_check.specs.Related.{attaches, fits, lets_through, rules_between, are_related}
+use Rattle.config_check.specs.Related.{attaches, lets_through, rules_between, are_related}
 use Rattle.std.specs.Cmp.Lexicographic.{nat_list_eq_equiv}
 use Rattle.chain_expand.specs.First.{same_name}
 use Rattle.config_check.specs.Between.{leads_between, relates, also_leads, is_in_group}

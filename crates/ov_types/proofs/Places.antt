@@ -1,5 +1,5 @@
 -- A target in its place keeps the order.
-use Rattle.std.proofs.Common.{ℕ, ◌<◌, Bool, true, false, cond, ltb, eqb, List, [], ◌∷◌, inl, inr, arith}
+use Rattle.std.proofs.Common.{ℕ, ◌<◌, List, [], ◌∷◌, inl, inr, arith}
 use Rattle.std.proofs.lemmas.Bool.{cases_order, lt-ltb, le-ltb, eq-eqb, ne_eqb}
 use Rattle.ov_types.specs.declared.targets.Target.{Target}
 use Rattle.ov_types.specs.Targets.{with_target, AscendFrom, IsAscending}

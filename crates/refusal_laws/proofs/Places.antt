@@ -1,9 +1,9 @@
 -- Refusals of subnets and of ports' addresses name what overlaps, lies outside or is taken.
-use Rattle.std.proofs.Common.{◌≡◌, inl, inr, ◌==◌, ℕ, Bool, true, false, not, IsTrue, Option, Some, None, IfSome, find, refl, sym}
+use Rattle.std.proofs.Common.{◌≡◌, ◌==◌, ℕ, Bool, true, false, not, IsTrue, Option, Some, None, IfSome, find, refl, sym}
 use Rattle.std.specs.Cmp.Lexicographic.{same_text}
 use Rattle.std.specs.List.{Any, Contains}
 use Rattle.std.specs.Option.{option_map_or, IsSomeAnd}
-use Rattle.std.proofs.lemmas.Bool.{and_parts, or_cases, eqb-true}
+use Rattle.std.proofs.lemmas.Bool.{and_parts, eqb-true}
 use Rattle.std.proofs.lemmas.List.Folds.{list_any-from_Any}
 use Rattle.ov_types.specs.Prefix.{Block, contains}
 use Rattle.config_model.specs.declared.config.Config.{Config}

@@ -1,4 +1,4 @@
-use Rattle.std.proofs.Common.{sym, ◌∙◌}
+use Rattle.std.proofs.Common.{sym}
 use Rattle.ov_types.proofs.Names.{fields_hold}
 use Rattle.ov_types.proofs.name.Name.new.Goals as goal
 

@@ -1,4 +1,3 @@
-use Rattle.std.proofs.Common.{◌&&◌, leb, ap, ◌∙◌}
 use Rattle.ov_types.proofs.Blocks.{within_is}
 use Rattle.ov_types.proofs.prefix.Prefix.within.Goals as goal
 

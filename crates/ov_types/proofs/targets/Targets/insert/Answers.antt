@@ -1,5 +1,3 @@
-use Rattle.std.proofs.Common.{◌∙◌, sym, subst}
-use Rattle.ov_types.specs.Targets.{IsAscending}
 use Rattle.ov_types.proofs.Places.{IsAscending-with}
 use Rattle.ov_types.proofs.targets.Targets.insert.Goals as goal
 
