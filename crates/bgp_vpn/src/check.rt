@@ -8,28 +8,29 @@ ghost use Rattle.bgp_vpn.specs.Values.{value_at};
 ghost use Rattle.bgp_vpn.specs.Updates.{parts_of};
 
 use crate::check_value::check_value;
-use crate::fault::{
-    ATTRIBUTE_FLAGS, INVALID_NETWORK, MALFORMED_ATTRIBUTES, MISSING_WELL_KNOWN,
-    UNRECOGNIZED_WELL_KNOWN,
-};
+use crate::fault::{ATTRIBUTE_FLAGS, INVALID_NETWORK, MISSING_WELL_KNOWN, UNRECOGNIZED_WELL_KNOWN};
 use crate::find::value_of;
+use crate::known::{
+    AS_PATH, EXTENDED_COMMUNITIES, MP_REACH_NLRI, NEXT_HOP, OPTIONAL, OPTIONAL_AND_TRANSITIVE,
+    ORIGIN,
+};
 use crate::pieces::are_prefixes;
 use crate::profile::{flags_in, greatest_in, least_in, row_of, subcode_in};
-use bgp_wire::{Attribute, UpdatePart, WireFault, attributes};
+use bgp_wire::{Attribute, MALFORMED_ATTRIBUTES, UpdatePart, WireFault, attributes};
 use std::mem;
 
 fn is_wrong_length(row: usize, kind: u8, len: usize) -> bool
     requires { row < 9 }
     ensures { result ≡ is_wrong_length row kind len }
 {
-    len < least_in(row) || len > greatest_in(row) || (kind == 16 && len % 8 != 0)
+    len < least_in(row) || len > greatest_in(row) || (kind == EXTENDED_COMMUNITIES && len % 8 != 0)
 }
 
 fn check_known(routes_follow: bool, row: usize, attribute: &Attribute<'_>) -> Result<(), WireFault>
     requires { row < 9 }
     ensures { Checks result (known_fault routes_follow row (fields_of attribute.now)) }
 {
-    if u16::from(attribute.flags & 0xC0) != flags_in(row) {
+    if u16::from(attribute.flags & OPTIONAL_AND_TRANSITIVE) != flags_in(row) {
         return Err(ATTRIBUTE_FLAGS);
     }
     if is_wrong_length(row, attribute.kind, attribute.value.len()) {
@@ -48,7 +49,7 @@ fn check_attribute(routes_follow: bool, attribute: &Attribute<'_>) -> Result<(),
     match row_of(attribute.kind) {
         Some(row) => check_known(routes_follow, row, attribute),
         None => {
-            if attribute.flags & 0x80 == 0 {
+            if attribute.flags & OPTIONAL == 0 {
                 return Err(UNRECOGNIZED_WELL_KNOWN);
             }
             Ok(())
@@ -94,10 +95,12 @@ fn check_missing(routes_follow: bool, part: &UpdatePart<'_>) -> Result<(), WireF
     ensures { (all : List AttributeFields) (tail : List ℕ) → AreAttributes part.now.attributes.now all tail
         → Checks result (missing_fault routes_follow all) }
 {
-    if (has_kind(part, 14) || routes_follow) && !(has_kind(part, 1) && has_kind(part, 2)) {
+    if (has_kind(part, MP_REACH_NLRI) || routes_follow)
+        && !(has_kind(part, ORIGIN) && has_kind(part, AS_PATH))
+    {
         return Err(MISSING_WELL_KNOWN);
     }
-    if routes_follow && !has_kind(part, 3) {
+    if routes_follow && !has_kind(part, NEXT_HOP) {
         return Err(MISSING_WELL_KNOWN);
     }
     Ok(())

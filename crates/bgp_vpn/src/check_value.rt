@@ -5,6 +5,10 @@ ghost use Rattle.bgp_vpn.specs.Values.{is_vpn, is_reach, are_routes};
 ghost use Rattle.bgp_vpn.specs.Checks.{is_host, value_fault};
 
 use crate::fault::{INVALID_NEXT_HOP, INVALID_ORIGIN, MALFORMED_AS_PATH, OPTIONAL_ATTRIBUTE};
+use crate::known::{
+    AS_PATH, LEAST_BITS, MOST_BITS, MP_REACH_NLRI, MP_UNREACH_NLRI, NEXT_HOP, NEXT_HOP_SIZE,
+    ORIGIN, REACH_SIZE, UNREACH_SIZE,
+};
 use crate::octets::{address_in, octet_at};
 use crate::pieces::{are_prefixes, are_segments};
 use bgp_wire::WireFault;
@@ -20,14 +24,16 @@ pub(crate) fn is_vpn(value: &[u8]) -> bool
 fn are_routes(octets: &[u8]) -> bool
     ensures { result ≡ are_routes octets.now }
 {
-    are_prefixes(octets, 88, 120)
+    are_prefixes(octets, LEAST_BITS, MOST_BITS)
 }
 
 /// Whether a value of MP_REACH_NLRI has a next hop of twelve octets and then routes.
 fn is_reach(value: &[u8]) -> bool
     ensures { result ≡ is_reach value.now }
 {
-    octet_at(value, 3) == 12 && value.len() >= 17 && are_routes(&value[17..])
+    octet_at(value, 3) == NEXT_HOP_SIZE
+        && value.len() >= REACH_SIZE
+        && are_routes(&value[REACH_SIZE..])
 }
 
 /// Whether an address lies from 1.0.0.0 to 223.255.255.255.
@@ -55,7 +61,7 @@ fn is_bad_reach(value: &[u8]) -> bool
 fn is_bad_unreach(value: &[u8]) -> bool
     ensures { result ≡ (is_vpn value.now && not (are_routes (drop 3 value.now))) }
 {
-    is_vpn(value) && !are_routes(&value[3..])
+    is_vpn(value) && !are_routes(&value[UNREACH_SIZE..])
 }
 
 /// A NEXT_HOP is looked at only where plain routes follow the attributes.
@@ -63,14 +69,14 @@ pub(crate) fn check_value(routes_follow: bool, kind: u8, value: &[u8]) -> Result
     ensures { Checks result (value_fault routes_follow kind value.now) }
 {
     match kind {
-        1 => fail_if(octet_at(value, 0) > 2, INVALID_ORIGIN),
-        2 => fail_if(!are_segments(value), MALFORMED_AS_PATH),
-        3 => fail_if(
+        ORIGIN => fail_if(octet_at(value, 0) > 2, INVALID_ORIGIN),
+        AS_PATH => fail_if(!are_segments(value), MALFORMED_AS_PATH),
+        NEXT_HOP => fail_if(
             routes_follow && !is_host(address_in(value)),
             INVALID_NEXT_HOP,
         ),
-        14 => fail_if(is_bad_reach(value), OPTIONAL_ATTRIBUTE),
-        15 => fail_if(is_bad_unreach(value), OPTIONAL_ATTRIBUTE),
+        MP_REACH_NLRI => fail_if(is_bad_reach(value), OPTIONAL_ATTRIBUTE),
+        MP_UNREACH_NLRI => fail_if(is_bad_unreach(value), OPTIONAL_ATTRIBUTE),
         _ => Ok(()),
     }
 }

@@ -2,6 +2,10 @@
 ghost use Rattle.std.specs.Prelude.{◌≡◌, ◌<◌, IfSome};
 ghost use Rattle.bgp_vpn.specs.Profile.{attribute_table, row_of, flags_in, least_in, greatest_in, subcode_in};
 
+use crate::known::{
+    AS_PATH, ATOMIC_AGGREGATE, EXTENDED_COMMUNITIES, LOCAL_PREF, MP_REACH_NLRI, MP_UNREACH_NLRI,
+    MULTI_EXIT_DISC, NEXT_HOP, ORIGIN,
+};
 use ov_table::{CaseTable, case_table};
 
 /// For ORIGIN, AS_PATH, NEXT_HOP, MULTI_EXIT_DISC, LOCAL_PREF, ATOMIC_AGGREGATE, MP_REACH_NLRI, MP_UNREACH_NLRI and
@@ -29,15 +33,15 @@ pub(crate) fn row_of(kind: u8) -> Option<usize>
     ensures below { IfSome result (λ row. row < 9) }
 {
     match kind {
-        1 => Some(0),
-        2 => Some(1),
-        3 => Some(2),
-        4 => Some(3),
-        5 => Some(4),
-        6 => Some(5),
-        14 => Some(6),
-        15 => Some(7),
-        16 => Some(8),
+        ORIGIN => Some(0),
+        AS_PATH => Some(1),
+        NEXT_HOP => Some(2),
+        MULTI_EXIT_DISC => Some(3),
+        LOCAL_PREF => Some(4),
+        ATOMIC_AGGREGATE => Some(5),
+        MP_REACH_NLRI => Some(6),
+        MP_UNREACH_NLRI => Some(7),
+        EXTENDED_COMMUNITIES => Some(8),
         _ => None,
     }
 }

@@ -4,6 +4,7 @@ ghost use Rattle.byteorder.specs.Endian.{big_number};
 ghost use Rattle.bgp_vpn.specs.Routes.{RouteFields, IsRoute, BeginsWithRoute, first_bits, key_of, label_of};
 ghost use Rattle.bgp_vpn.specs.Spelled.{fields_of};
 
+use crate::known::{LEAST_BITS, MOST_BITS};
 use crate::octets::address_in;
 use crate::pieces::octets_for;
 use byteorder::{BigEndian, ByteOrder};
@@ -25,7 +26,7 @@ pub(crate) fn split_route(octets: &[u8]) -> Option<(Route<'_>, &[u8])>
         return None;
     }
     let bits = octets[0];
-    if bits < 88 || bits > 120 {
+    if bits < LEAST_BITS || bits > MOST_BITS {
         return None;
     }
     let behind = &octets[1..];
@@ -53,7 +54,7 @@ pub(crate) fn key_of(route: &Route<'_>) -> VpnKey
 {
     VpnKey {
         rd: Rd(BigEndian::read_u64(&route.octets[3..])),
-        prefix: first_bits(route.bits - 88, address_in(&route.octets[11..])),
+        prefix: first_bits(route.bits - LEAST_BITS, address_in(&route.octets[11..])),
     }
 }
 

@@ -1,6 +1,7 @@
 ghost use Rattle.std.specs.Prelude.{◌≡◌};
 
 use super::*;
+use crate::laws::*;
 use bgp_wire::{Message, UpdatePart, WireFault, read_message};
 use ov_sync::Delta;
 use ov_types::{Addr, Label, Prefix, Rd, Target, Targets, VpnKey, VpnRoute};

@@ -13,6 +13,9 @@ use crate::check::check_update;
 use crate::check_value::is_vpn;
 use crate::fault::UpdateFault;
 use crate::find::value_of;
+use crate::known::{
+    EXTENDED_COMMUNITIES, MP_REACH_NLRI, MP_UNREACH_NLRI, REACH_SIZE, UNREACH_SIZE,
+};
 use crate::octets::address_in;
 use crate::route::{key_of, label_of, split_route};
 use crate::targets::targets_among;
@@ -80,14 +83,15 @@ fn changes(alloc: Global, part: &UpdatePart<'_>) -> Result<Vec<Delta<VpnKey, Vpn
         → deltas.items ≡ changes_of all withdrawn reached) }
 {
     let mut deltas = Vec::new(alloc);
-    push_drops(routes_behind(3, value_of(part, 15)), &mut deltas)?;
-    let reach = value_of(part, 14);
-    let targets = targets_among(alloc, value_of(part, 16).unwrap_or(&[]))?;
+    let unreach = value_of(part, MP_UNREACH_NLRI);
+    push_drops(routes_behind(UNREACH_SIZE, unreach), &mut deltas)?;
+    let reach = value_of(part, MP_REACH_NLRI);
+    let targets = targets_among(alloc, value_of(part, EXTENDED_COMMUNITIES).unwrap_or(&[]))?;
     let announced = Announced {
         next_hop: next_hop_in(reach),
         targets: &targets,
     };
-    push_puts(routes_behind(17, reach), announced, &mut deltas)?;
+    push_puts(routes_behind(REACH_SIZE, reach), announced, &mut deltas)?;
     Ok(deltas)
 }
 

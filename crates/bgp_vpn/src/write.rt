@@ -10,6 +10,10 @@ ghost use Rattle.bgp_vpn.specs.Updates.{Changes};
 ghost use Rattle.bgp_vpn.specs.Values.{is_target};
 ghost use Rattle.bgp_vpn.specs.Written.{IfPut, FitsItsTypes, route_of, attribute, origin, as_path, local_preference, written_reach, written_unreach, target_octets, communities_of, attributes_of, written, written_parts};
 
+use crate::known::{
+    AS_PATH, EXTENDED_COMMUNITIES, LEAST_BITS, LOCAL_PREF, MP_REACH_NLRI, MP_UNREACH_NLRI,
+    OPTIONAL, OPTIONAL_AND_TRANSITIVE, ORIGIN, TRANSITIVE,
+};
 use crate::pieces::octets_for;
 use bgp_wire::write_attributes;
 use byteorder::{BigEndian, ByteOrder};
@@ -63,7 +67,7 @@ fn route_of(alloc: Global, key: &VpnKey, field: u32) -> Result<Vec<u8>, NoMemory
     ensures key { FitsItsTypes key.now }
 {
     let len = key.prefix.len();
-    let start = route_start(88 + len, field, key.rd.0);
+    let start = route_start(LEAST_BITS + len, field, key.rd.0);
     let address = address_octets(key.prefix.addr().0);
     let mut octets = Vec::new(alloc);
     octets.extend_from_slice(&start)?;
@@ -121,16 +125,21 @@ fn push_communities(alloc: Global, targets: &[Target], out: &mut Vec<u8>) -> Res
         return Ok(());
     }
     let value = target_octets(alloc, targets)?;
-    push_attribute(0xC0, 16, value.as_slice(), out)
+    push_attribute(
+        OPTIONAL_AND_TRANSITIVE,
+        EXTENDED_COMMUNITIES,
+        value.as_slice(),
+        out,
+    )
 }
 
 /// Appends the attributes that go with each route: ORIGIN, AS_PATH and LOCAL_PREF (RFC 4271, section 5.1).
 fn push_well_known(out: &mut Vec<u8>) -> Result<(), NoMemory>
     ensures { OnOk result (out.new.items ≡ out.old.items ++ flat_map attribute_octets (origin ∷ as_path ∷ local_preference ∷ [])) }
 {
-    push_attribute(0x40, 1, &[0], out)?;
-    push_attribute(0x40, 2, &[], out)?;
-    push_attribute(0x40, 5, &[0, 0, 0, 100], out)
+    push_attribute(TRANSITIVE, ORIGIN, &[0], out)?;
+    push_attribute(TRANSITIVE, AS_PATH, &[], out)?;
+    push_attribute(TRANSITIVE, LOCAL_PREF, &[0, 0, 0, 100], out)
 }
 
 /// The attributes of a route that is put.
@@ -147,7 +156,7 @@ fn put_attributes(alloc: Global, key: &VpnKey, route: &VpnRoute) -> Result<Vec<u
     let value = reach_value(alloc, key, route)?;
     let mut octets = Vec::new(alloc);
     push_well_known(&mut octets)?;
-    push_attribute(0x80, 14, value.as_slice(), &mut octets)?;
+    push_attribute(OPTIONAL, MP_REACH_NLRI, value.as_slice(), &mut octets)?;
     push_communities(alloc, targets, &mut octets)?;
     Ok(octets)
 }
@@ -161,7 +170,7 @@ fn drop_attributes(alloc: Global, key: &VpnKey) -> Result<Vec<u8>, NoMemory>
 {
     let value = unreach_value(alloc, key)?;
     let mut octets = Vec::new(alloc);
-    push_attribute(0x80, 15, value.as_slice(), &mut octets)?;
+    push_attribute(OPTIONAL, MP_UNREACH_NLRI, value.as_slice(), &mut octets)?;
     Ok(octets)
 }
 
@@ -202,5 +211,5 @@ pub fn write_update(
     ensures length { length (spelling (written delta.now)) ≤ 4096 }
 {
     let attributes = attributes_of(alloc, delta)?;
-    write_attributes(attributes.as_slice(), out)
+    write_attributes(alloc, attributes.as_slice(), out)
 }

@@ -6,6 +6,9 @@ use crate::fault::{MALFORMED_ATTRIBUTES, WireFault};
 use byteorder::{BigEndian, ByteOrder};
 use std::marker::Model;
 
+/// The flag of an attribute whose length has two octets.
+const EXTENDED_LENGTH: u8 = 0x10;
+
 /// A path attribute as it lies in the message: its flags, its type and its value (RFC 4271, section 4.3).
 #[derive(Clone, Copy, Debug)]
 pub struct Attribute<'a> {
@@ -84,7 +87,7 @@ fn split_value(flags: u8, octets: &[u8]) -> Option<(&[u8], &[u8])>
     ensures fits { IfSome result (λ front. length front.0.now < 256 ^ length_size flags) }
     ensures short { IfNone result (IsShort (length_size flags) octets.now) }
 {
-    if flags & 0x10 != 0 {
+    if flags & EXTENDED_LENGTH != 0 {
         split_long(octets)
     } else {
         split_short(octets)

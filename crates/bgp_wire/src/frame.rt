@@ -8,7 +8,18 @@ use crate::fault::{BAD_MESSAGE_LENGTH, BAD_MESSAGE_TYPE, NOT_SYNCHRONIZED, WireF
 use crate::kind::Kind;
 use byteorder::{BigEndian, ByteOrder};
 
-/// What the nineteen octets before a body say.
+/// How many octets a marker has, and how many all that stands before a body (RFC 4271, section 4.1).
+pub(crate) const MARKER_SIZE: usize = 16;
+
+pub(crate) const HEAD_SIZE: usize = 19;
+
+/// Where the type of a message stands.
+pub(crate) const KIND_AT: usize = 18;
+
+/// The most octets that a message has.
+pub(crate) const MAX_MESSAGE_SIZE: usize = 4096;
+
+/// What the octets before a body say.
 #[derive(Clone, Copy)]
 pub(crate) struct Head {
     pub(crate) kind: Kind,
@@ -19,10 +30,10 @@ pub(crate) struct Head {
 fn marker(octets: &[u8]) -> &[u8]
     ensures { result.now ≡ take 16 octets.now }
 {
-    if octets.len() < 16 {
+    if octets.len() < MARKER_SIZE {
         octets
     } else {
-        &octets[..16]
+        &octets[..MARKER_SIZE]
     }
 }
 
@@ -45,17 +56,17 @@ fn length_of(octets: &[u8]) -> usize
     requires { 18 ≤ length octets.now }
     ensures { result ≡ length_at octets.now }
 {
-    usize::from(BigEndian::read_u16(&octets[16..]))
+    usize::from(BigEndian::read_u16(&octets[MARKER_SIZE..]))
 }
 
 fn check_length(octets: &[u8]) -> Result<(), WireFault>
     ensures { Checks result (length_fault octets.now) }
 {
-    if octets.len() < 18 {
+    if octets.len() < KIND_AT {
         return Ok(());
     }
     let len = length_of(octets);
-    if len < 19 || len > 4096 {
+    if len < HEAD_SIZE || len > MAX_MESSAGE_SIZE {
         return Err(BAD_MESSAGE_LENGTH);
     }
     Ok(())
@@ -82,10 +93,10 @@ pub(crate) fn read_head(octets: &[u8]) -> Result<Option<Head>, WireFault>
 {
     check_marker(octets)?;
     check_length(octets)?;
-    if octets.len() < 19 {
+    if octets.len() < HEAD_SIZE {
         return Ok(None);
     }
     let len = length_of(octets);
-    let kind = read_kind(octets[18], len)?;
+    let kind = read_kind(octets[KIND_AT], len)?;
     Ok(Some(Head { kind, len }))
 }

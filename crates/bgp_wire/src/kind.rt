@@ -1,5 +1,8 @@
+//! The types of messages.
 ghost use Rattle.std.specs.Prelude.{◌≡◌, ◌≤◌, ◌^◌, ◌<◌};
 ghost use Rattle.bgp_wire.specs.Frames.{octet_of, kind_of, least, greatest};
+
+use crate::frame::{HEAD_SIZE, MAX_MESSAGE_SIZE};
 
 /// The types of messages (RFC 4271, section 4.1).
 #[derive(Clone, Copy, Debug, PartialEq, Eq)]
@@ -41,7 +44,7 @@ impl Kind {
             Kind::Open => 29,
             Kind::Update => 23,
             Kind::Notification => 21,
-            Kind::Keepalive => 19,
+            Kind::Keepalive => HEAD_SIZE,
         }
     }
 
@@ -49,8 +52,8 @@ impl Kind {
         ensures { result ≡ greatest self }
     {
         match self {
-            Kind::Open | Kind::Update | Kind::Notification => 4096,
-            Kind::Keepalive => 19,
+            Kind::Open | Kind::Update | Kind::Notification => MAX_MESSAGE_SIZE,
+            Kind::Keepalive => HEAD_SIZE,
         }
     }
 }

@@ -5,7 +5,7 @@ mod attribute;
 mod fault;
 mod frame;
 mod kind;
-mod laws;
+pub mod laws;
 mod message;
 mod open;
 mod part;
@@ -13,12 +13,7 @@ mod update;
 mod write;
 
 pub use attribute::{Attribute, Attributes};
-pub use fault::WireFault;
-pub use laws::{
-    a_spelling_is_read_again, each_attribute_comes_once, no_message_begins_another,
-    octets_are_attributes_in_one_way, octets_are_one_of_three, octets_say_one_thing,
-    what_follows_changes_nothing,
-};
+pub use fault::{MALFORMED_ATTRIBUTES, WireFault};
 pub use message::{Message, read_message};
 pub use open::OpenPart;
 pub use update::{UpdatePart, attributes};

@@ -46,6 +46,7 @@ impl<'a> OpenPart<'a> {
         self.hold
     }
 
+    /// The BGP Identifier (RFC 4271, section 4.2).
     pub fn id(&self) -> Addr
         ensures { result.0 ≡ self.now.id }
     {

@@ -1,4 +1,5 @@
 use super::*;
+use crate::laws::*;
 use ov_types::Addr;
 use std::alloc::{AllocError, Global};
 use std::test::Fail;
@@ -207,10 +208,13 @@ fn messages_are_written_whole(rt: HostRuntime) -> Result<(), Fail> {
         id: Addr(0xc000_0201),
     };
     let mut out = octets(rt.alloc(), "aa")?;
-    assert_eq!(rt; write_open(&part, &mut out), Ok(()));
-    assert_eq!(rt; write_keepalive(&mut out), Ok(()));
-    assert_eq!(rt; write_notification(5, 0, &mut out), Ok(()));
-    assert_eq!(rt; write_attributes(&[0x40, 1, 1, 0], &mut out), Ok(()));
+    assert_eq!(rt; write_open(rt.alloc(), &part, &mut out), Ok(()));
+    assert_eq!(rt; write_keepalive(rt.alloc(), &mut out), Ok(()));
+    assert_eq!(rt; write_notification(rt.alloc(), 5, 0, &mut out), Ok(()));
+    assert_eq!(rt;
+        write_attributes(rt.alloc(), &[0x40, 1, 1, 0], &mut out),
+        Ok(())
+    );
     let wanted = octets(
         rt.alloc(),
         "aa M 0025 01 04 fc00 0000 c0000201 08 0206 0104 00010080 M 0013 04 M 0015 03 0500 M 001b 02 0000 0004 40010100",

@@ -20,6 +20,7 @@ use Rattle.config_model.specs.declared.config.Service.{Service}
 use Rattle.config_model.specs.declared.topology.Topology.{Topology}
 use Rattle.chain_expand.specs.Expansion.{expansion}
 use Rattle.chain_expand.specs.First.{same_name}
+use Rattle.chain_expand.proofs.LeadsLaws.{same_name_self}
 use Rattle.config_check.specs.Related.{are_related}
 use Rattle.config_check.specs.Rules.{network_named, holds_address, first_broken}
 use Rattle.config_check.specs.Sentences.{IsAround}
@@ -45,31 +46,39 @@ arrived : (o : Option Port) (by : List ServiceNo) (number : PortNo) (services : 
 arrived None by number services h = cc
 arrived (Some q) by number services h = let port : q.id ≡ number = cc in let list : services ≡ by = cc in (q, refl, port, list)
 
+-- a packet arrives at a port, let through by a rule
+abbrev IsLed : Config → Network → Network → Packet → Option Port → PortNo → List ServiceNo → Type 0
+IsLed c a b p o number services = (q : Port) × (o ≡ Some q) × (q.id ≡ number) × IsLetThrough c a b p.tuple services
+
 -- the way of a packet to a port
 abbrev HasWay : Config → Network → Network → Packet → Option Port → PortNo → List ServiceNo → Type 0
-HasWay c a b p o number services = (q : Port) × (o ≡ Some q) × (q.id ≡ number) × (((b.name ≡ a.name) × (services ≡ [])) ⊎ IsLetThrough c a b p.tuple services)
+HasWay c a b p o number services =
+    (q : Port) × (o ≡ Some q) × (q.id ≡ number) × (((b.name ≡ a.name) × (services ≡ [])) ⊎ ((b.name ≢ a.name) × IsLetThrough c a b p.tuple services))
+
+apart : (x y : List ℕ) → same_name x y ≡ false → x ≢ y
+apart x y e = λ same. let never : true ≡ false = sym (same_name_self y) ∙ sym (ap (λ (n : List ℕ). same_name n y) same) ∙ e in absurd cc
 
 let_through : (c : Config) (a b : Network) (p : Packet) (o : Option Port) (number : PortNo) (services : List ServiceNo) (m : Match) (mirrored : Bool) (action : Action)
     → deciding c a b p.tuple ≡ Some m → m.mirrored ≡ mirrored → m.rule.rule.action ≡ action
-    → outcome_of c o m.rule.number mirrored action ≡ Delivered number services → HasWay c a b p o number services
+    → outcome_of c o m.rule.number mirrored action ≡ Delivered number services → IsLed c a b p o number services
 let_through c a b p o number services m mirrored Deny e f g h = cc
 let_through c a b p o number services m mirrored Pass e f g h =
     let (q, at, port, list) = arrived o [] number services h in
     let P : Action → Type 0 = λ x. LeadsThrough c m.mirrored x services in
-    (q, at, port, inr (record { decider = m; decides = e; leads = subst P (sym g) list }))
+    (q, at, port, record { decider = m; decides = e; leads = subst P (sym g) list })
 let_through c a b p o number services m false (Through chain use_no) e f g h =
     let (q, at, port, list) = arrived o (numbers_of c chain) number services h in
     let P : Action → Type 0 = λ x. LeadsThrough c m.mirrored x services in
     let Q : Bool → Type 0 = λ x. LeadsThrough c x (Through chain use_no) services in
-    (q, at, port, inr (record { decider = m; decides = e; leads = subst P (sym g) (subst Q (sym f) list) }))
+    (q, at, port, record { decider = m; decides = e; leads = subst P (sym g) (subst Q (sym f) list) })
 let_through c a b p o number services m true (Through chain use_no) e f g h =
     let (q, at, port, list) = arrived o (reverse (numbers_of c chain)) number services h in
     let P : Action → Type 0 = λ x. LeadsThrough c m.mirrored x services in
     let Q : Bool → Type 0 = λ x. LeadsThrough c x (Through chain use_no) services in
-    (q, at, port, inr (record { decider = m; decides = e; leads = subst P (sym g) (subst Q (sym f) list) }))
+    (q, at, port, record { decider = m; decides = e; leads = subst P (sym g) (subst Q (sym f) list) })
 
 by_rule : (c : Config) (a b : Network) (p : Packet) (o : Option Port) (number : PortNo) (services : List ServiceNo) (found : Option Match)
-    → deciding c a b p.tuple ≡ found → outcome_by c o found ≡ Delivered number services → HasWay c a b p o number services
+    → deciding c a b p.tuple ≡ found → outcome_by c o found ≡ Delivered number services → IsLed c a b p o number services
 by_rule c a b p o number services None e h = cc
 by_rule c a b p o number services (Some m) e h = let_through c a b p o number services m m.mirrored m.rule.rule.action e refl refl h
 
@@ -81,7 +90,9 @@ between c a b p number services h =
       | true ↦ λ e k.
           let (q, at, port, list) = arrived o [] number services k in
           (q, at, port, inl (same_text b.name a.name (sym e), list))
-      | false ↦ λ e k. by_rule c a b p o number services (deciding c a b p.tuple) refl k
+      | false ↦ λ e k.
+          let (q, at, port, led) = by_rule c a b p o number services (deciding c a b p.tuple) refl k in
+          (q, at, port, inr (apart b.name a.name e, led))
     ] refl h
 
 -- the networks and ports that are found
@@ -191,5 +202,5 @@ pub passed_once : (t : Topology) (c : Config) (p : Packet) (number : PortNo) (se
 passed_once t c p number services h e =
     elim (allowed c p number services e).way [
       | inl inside ↦ none_apart services inside.1
-      | inr by ↦ led_once t c by.decider.mirrored by.decider.rule.rule.action services h by.leads
+      | inr by ↦ led_once t c by.1.decider.mirrored by.1.decider.rule.rule.action services h by.1.leads
     ]

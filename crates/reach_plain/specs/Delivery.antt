@@ -1,5 +1,5 @@
 -- What a delivery says of the packet.
-use Rattle.std.specs.Prelude.{◌≡◌, ◌⊎◌, ℕ, Bool, true, false, IsTrue, List, [], map, reverse, Some}
+use Rattle.std.specs.Prelude.{◌≡◌, ◌≢◌, ◌⊎◌, ℕ, Bool, true, false, IsTrue, List, [], map, reverse, Some}
 use Rattle.std.specs.List.{Contains}
 use Rattle.ov_types.specs.declared.numbers.PortNo.{PortNo}
 use Rattle.ov_types.specs.declared.numbers.ServiceNo.{ServiceNo}
@@ -32,8 +32,8 @@ pub record IsLetThrough (c : Config) (a b : Network) (t : Tuple) (services : Lis
   pub decides : deciding c a b t ≡ Some decider
   pub leads : LeadsThrough c decider.mirrored decider.rule.rule.action services
 
--- a packet arrives: from a port of a network, at a port with its destination's address, of the same network or of a
--- related one, and there by a rule that lets it through
+-- a packet arrives: from a port of a network, at a port with its destination's address, of the same network, where no rule
+-- is asked, or of a related one, and there by a rule that lets it through
 pub record IsDelivered (c : Config) (p : Packet) (number : PortNo) (services : List ServiceNo) : Type 0 where
   pub source : Port
   pub own : Network
@@ -50,4 +50,4 @@ pub record IsDelivered (c : Config) (p : Packet) (number : PortNo) (services : L
   pub arrival_number : arrival.id ≡ number
   pub arrival_network : arrival.network ≡ target.name
   pub arrival_address : arrival.address ≡ p.destination
-  pub way : ((target.name ≡ own.name) × (services ≡ [])) ⊎ IsLetThrough c own target p.tuple services
+  pub way : ((target.name ≡ own.name) × (services ≡ [])) ⊎ ((target.name ≢ own.name) × IsLetThrough c own target p.tuple services)
