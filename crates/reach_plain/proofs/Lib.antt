@@ -1,4 +1,5 @@
 pub mod Answers
+pub mod Between
 pub mod Delivery
 pub mod Kept
 pub mod Members

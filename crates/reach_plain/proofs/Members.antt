@@ -33,16 +33,16 @@ module _ {A : Type 0} (P : A → Type 0) where
   all_second (x ∷ xs) ys h = all_second xs ys (all_tail P x (xs ++ ys) h)
 
   -- of the lists that the items of a list give
-  all_parts : {B : Type 0} (g : B → List A) (bs : List B) → All P (flat_map g bs) → All (λ b. All P (g b)) bs
+  pub all_parts : {B : Type 0} (g : B → List A) (bs : List B) → All P (flat_map g bs) → All (λ b. All P (g b)) bs
   all_parts g [] h = λ k d lt. absurd (omega arith)
   all_parts g (b ∷ bs) h = all_cons (λ x. All P (g x)) b bs (all_first (g b) (flat_map g bs) h) (all_parts g bs (all_second (g b) (flat_map g bs) h))
 
-  all_joined : {B : Type 0} (g : B → List A) (bs : List B) → All (λ b. All P (g b)) bs → All P (flat_map g bs)
+  pub all_joined : {B : Type 0} (g : B → List A) (bs : List B) → All (λ b. All P (g b)) bs → All P (flat_map g bs)
   all_joined g [] h = λ k d lt. absurd (omega arith)
   all_joined g (b ∷ bs) h = All-append P (g b) (flat_map g bs) (all_head (λ x. All P (g x)) b bs h) (all_joined g bs (all_tail (λ x. All P (g x)) b bs h))
 
 module _ (Q : Policy → Type 0) where
-  all_put : (p : Policy) (ps : List Policy) → Q p → All Q ps → All Q (put_by_sequence p ps)
+  pub all_put : (p : Policy) (ps : List Policy) → Q p → All Q ps → All Q (put_by_sequence p ps)
   all_put p [] here rest = all_cons Q p [] here rest
   all_put p (q ∷ qs) here rest =
       elim (leb q.sequence p.sequence) as (λ b. All Q (cond b (q ∷ put_by_sequence p qs) (p ∷ q ∷ qs))) [
@@ -50,7 +50,7 @@ module _ (Q : Policy → Type 0) where
         | false ↦ all_cons Q p (q ∷ qs) here rest
       ]
 
-  all_ordered : (ps : List Policy) → All Q ps → All Q (by_sequence ps)
+  pub all_ordered : (ps : List Policy) → All Q ps → All Q (by_sequence ps)
   all_ordered [] h = h
   all_ordered (p ∷ ps) h = all_put p (by_sequence ps) (all_head Q p ps h) (all_ordered ps (all_tail Q p ps h))
 

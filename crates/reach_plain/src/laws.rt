@@ -1,6 +1,6 @@
 //! What decisions and outcomes promise, as laws: each is the contract of a function that does nothing.
 ghost use Rattle.std.specs.Prelude.{◌≡◌, ◌≢◌, ◌↔◌, ℕ, List, false, not};
-ghost use Rattle.std.specs.List.{All, AllPairs};
+ghost use Rattle.std.specs.List.{All, AllPairs, Contains};
 ghost use Rattle.ov_types.specs.declared.numbers.PortNo.{PortNo};
 ghost use Rattle.ov_types.specs.declared.numbers.ServiceNo.{ServiceNo};
 ghost use Rattle.ov_types.specs.declared.packet.Outcome.TheVariants.{Delivered};
@@ -10,9 +10,11 @@ ghost use Rattle.config_model.specs.declared.config.Action.TheVariants.{Through}
 ghost use Rattle.config_model.specs.declared.config.Config.{Config};
 ghost use Rattle.config_model.specs.declared.config.Network.{Network};
 ghost use Rattle.config_model.specs.declared.topology.Topology.{Topology};
+ghost use Rattle.config_check.specs.declared.related.NumberedRule.{NumberedRule};
 ghost use Rattle.config_check.specs.Related.{rules_between};
 ghost use Rattle.config_check.specs.Rules.{first_broken};
 ghost use Rattle.reach_plain.specs.Matching.{Match, matches_forwards, matches_mirrored, deciding, decision};
+ghost use Rattle.reach_plain.specs.Between.{ComesBefore, IsBetween};
 ghost use Rattle.reach_plain.specs.Answering.{answering, SpeakBothWays, NamesTwoEnds, rule_of};
 ghost use Rattle.reach_plain.specs.Reachability.{reachability};
 ghost use Rattle.reach_plain.specs.Delivery.{IsDelivered};
@@ -20,6 +22,19 @@ ghost use Rattle.reach_plain.specs.Delivery.{IsDelivered};
 /// The rules between two networks do not depend on which of them comes first.
 pub fn rules_between_are_symmetric()
     ensures { (c : Config) (a b : Network) → rules_between c a b ≡ rules_between c b a }
+{}
+
+/// In a valid configuration the rules between two networks stand in the order of their numbers: by their policy's
+/// sequence, and then by position.
+pub fn rules_between_are_in_order()
+    ensures { (topology : Topology) (c : Config) (a b : Network) → first_broken topology c ≡ None
+        → AllPairs (λ r s. ComesBefore r.number s.number) (rules_between c a b) }
+{}
+
+/// The rules between two networks are just those of the policies that both attach which speak of packets either way,
+/// each numbered by its policy's sequence and by its place, counted from 1.
+pub fn rules_between_are_those_of_shared_policies()
+    ensures { (c : Config) (a b : Network) (r : NumberedRule) → Contains (rules_between c a b) r ↔ IsBetween c a b r }
 {}
 
 /// No rule decides on a packet exactly where none between the two networks matches it, forwards or mirrored.
