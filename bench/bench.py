@@ -2,8 +2,9 @@
 """What the commands cost.
 
 Makes inputs by formula, runs the built program on each, and prints a table in Markdown: seconds (the least of five runs),
-peak memory and size of the output. Behind each figure stands its ratio to a baseline, which reads the same input in the
-same run: `jq -c .` for documents, `xxd -r -p` for hexadecimal digits.
+peak memory and size of the output, both in millions of octets and of the quickest run. Behind each figure stands its
+ratio to a baseline, which reads the same input in the same run: `jq -c .` for documents, `xxd -r -p` for hexadecimal
+digits. Ends with a message where a baseline fails, or where the runs of one input end differently.
 
 usage: bench/bench.py PROGRAM [WORD]
 
@@ -46,7 +47,10 @@ def policy(rules):
 
 def document(networks, ports, related, controllers=1, rules=1):
     """Ports in turn on the networks, which all attach one policy, or none and have equal subnets."""
-    block = (lambda n: f"10.{n}.0") if related else (lambda n: "10.0.0")
+    def block(n):
+        """The first three octets of a network's addresses."""
+        return f"10.{n}.0" if related else "10.0.0"
+
     configuration = {
         "networks": [
             {"name": f"w{n}", "id": n, "subnets": [f"{block(n)}.0/24"], "policies": ["all"] if related else []}
@@ -65,9 +69,12 @@ def document(networks, ports, related, controllers=1, rules=1):
 
 
 def packets(count):
-    """Packets from each port in turn to ports of other networks."""
+    """Packets from each port in turn to ports of other networks: the source's is 1 + i % 128."""
     return [
-        {"port": i % 1024, "to": f"10.{1 + 7 * i % 128}.0.{1 + i % 8}", "protocol": 6, "sport": 50000, "dport": 80 + i % 3}
+        {
+            "port": i % 1024, "to": f"10.{1 + (i + 1 + i % 127) % 128}.0.{1 + i % 8}",
+            "protocol": 6, "sport": 50000, "dport": 80 + i % 3,
+        }
         for i in range(count)
     ]
 
@@ -121,15 +128,22 @@ def run(command, path):
     """Seconds, peak megabytes and megabytes of output of a command that reads a file, and its status."""
     with open(path, "rb") as source, tempfile.NamedTemporaryFile() as sink, tempfile.NamedTemporaryFile("r") as peak:
         begun = time.perf_counter()
-        watched = ["time", "--quiet", "--format=%M", f"--output={peak.name}", "timeout", str(SECONDS)] + command
+        watched = ["timeout", str(SECONDS), "time", "--quiet", "--format=%M", f"--output={peak.name}"] + command
         status = subprocess.run(watched, stdin=source, stdout=sink).returncode
         seconds = time.perf_counter() - begun
-        return (seconds, int(peak.read()) / 1024, os.path.getsize(sink.name) / 1e6), status
+        told = peak.read().split()
+        if not told:
+            sys.exit(f"{' '.join(command)}: no peak memory, and status {status}, which is 124 after {SECONDS} seconds")
+        return (seconds, int(told[-1]) * 1024 / 1e6, os.path.getsize(sink.name) / 1e6), status
 
 
 def measured(command, path):
-    """The quickest of some runs."""
-    return min(run(command, path) for _ in range(RUNS))
+    """The figures of the quickest of some runs, and the status of all."""
+    runs = [run(command, path) for _ in range(RUNS)]
+    statuses = {status for _, status in runs}
+    if len(statuses) > 1:
+        sys.exit(f"{' '.join(command)}: the runs of one input ended with different statuses: {sorted(statuses)}")
+    return min(runs)
 
 
 def row(name, program, word, text):
@@ -138,7 +152,10 @@ def row(name, program, word, text):
         file.write(text)
         file.flush()
         figures, status = measured([program, word], file.name)
-        baseline, _ = measured(["xxd", "-r", "-p"] if word == "decode" else ["jq", "-c", "."], file.name)
+        reader = ["xxd", "-r", "-p"] if word == "decode" else ["jq", "-c", "."]
+        baseline, read = measured(reader, file.name)
+    if read != 0:
+        sys.exit(f"{' '.join(reader)}: the baseline ended with status {read}")
     told = name if status == 0 else f"{name} (status {status})"
     digits = (3, 1, 2)
     cells = [f"{figure:.{n}f} ({figure / base:.1f})" for figure, base, n in zip(figures, baseline, digits)]

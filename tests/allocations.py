@@ -3,12 +3,12 @@
 
 Runs the built program on the shipped examples. A run in which an allocation fails has to end with status 9 and to write
 nothing, or else as the run in which none fails. The failing allocation is made by a library that is loaded before the C
-library; it is compiled by `cc` to a temporary folder.
+library; it is compiled by `cc` to a temporary folder. A run is stopped after 60 seconds, and has then ended otherwise.
 
 usage: tests/allocations.py PROGRAM
 
-PROGRAM is the built `overlay`. Needs Python 3.8, and a C compiler and the C library of GNU. Ends with status 1 where a run
-ended otherwise.
+PROGRAM is the built `overlay`. Needs Python 3.8, and a C compiler with the C library of GNU. Ends with status 1 where a run
+ended otherwise, or where a run had more allocations than were tried.
 """
 import os
 import subprocess
@@ -17,13 +17,16 @@ import tempfile
 
 EXAMPLES = os.path.join(os.path.dirname(os.path.dirname(os.path.abspath(__file__))), "examples")
 RUNS = [("compile", "one.json"), ("reach", "reach.json"), ("decode", "update.hex"), ("reach", "one.json"), ("decode", "one.json")]
-PAST_THE_LAST = 1000  # a run has fewer allocations
+LAST = 1000  # the last number tried: a run has fewer allocations
+SECONDS = 60  # after which a run is stopped
 
 LIBRARY = """
 #include <errno.h>
 #include <stdlib.h>
 extern void *__libc_malloc(size_t);
+extern void *__libc_calloc(size_t, size_t);
 extern void *__libc_realloc(void *, size_t);
+extern void *__libc_memalign(size_t, size_t);
 static long made;
 static int fails(void) {
     const char *number = getenv("FAILING");
@@ -33,9 +36,23 @@ void *malloc(size_t size) {
     if (fails()) { errno = ENOMEM; return NULL; }
     return __libc_malloc(size);
 }
+void *calloc(size_t count, size_t size) {
+    if (fails()) { errno = ENOMEM; return NULL; }
+    return __libc_calloc(count, size);
+}
 void *realloc(void *old, size_t size) {
     if (fails()) { errno = ENOMEM; return NULL; }
     return __libc_realloc(old, size);
+}
+void *aligned_alloc(size_t alignment, size_t size) {
+    if (fails()) { errno = ENOMEM; return NULL; }
+    return __libc_memalign(alignment, size);
+}
+int posix_memalign(void **place, size_t alignment, size_t size) {
+    void *block = fails() ? NULL : __libc_memalign(alignment, size);
+    if (!block) return ENOMEM;
+    *place = block;
+    return 0;
 }
 """
 
@@ -48,10 +65,13 @@ def compiled(folder):
 
 
 def ended(library, program, word, name, number):
-    """The status of a run whose allocation of this number fails, and what it wrote."""
+    """The status of a run whose allocation of this number fails, none where it was stopped, and what it wrote."""
     with open(os.path.join(EXAMPLES, name), "rb") as source:
         environment = {"LD_PRELOAD": library, "FAILING": str(number)}
-        run = subprocess.run([program, word], stdin=source, capture_output=True, env=environment)
+        try:
+            run = subprocess.run([program, word], stdin=source, capture_output=True, env=environment, timeout=SECONDS)
+        except subprocess.TimeoutExpired:
+            return None, b""
     return run.returncode, run.stdout
 
 
@@ -64,10 +84,14 @@ def main():
         library = compiled(folder)
         for word, name in RUNS:
             whole = ended(library, program, word, name, 0)
-            ends = [ended(library, program, word, name, number) for number in range(1, PAST_THE_LAST)]
+            if whole[0] is None:
+                sys.exit(f"{word} {name}: the run in which none fails was stopped after {SECONDS} seconds")
+            ends = [ended(library, program, word, name, number) for number in range(1, LAST + 1)]
             refused, others = ends.count((9, b"")), [end for end in ends if end not in ((9, b""), whole)]
-            print(f"{word} {name}: {refused} runs with status 9, {len(others)} with another than {whole[0]} and 9")
-            good = good and refused > 0 and not others
+            print(f"{word} {name}: {refused} runs with status 9, {len(others)} that ended otherwise")
+            if ends[-1] != whole:
+                print(f"{word} {name}: the run whose allocation {LAST} fails is not whole, so that not all may have been tried")
+            good = good and refused > 0 and not others and ends[-1] == whole
     sys.exit(0 if good else 1)
 
 
