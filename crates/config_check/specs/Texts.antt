@@ -1,7 +1,7 @@
 -- How refusals are printed: the rule, and the objects that break it.
 use Rattle.std.specs.Prelude.{ℕ, ◌++◌, List, codes, decimal}
+use Rattle.ov_types.specs.Rows.{rule_text}
 use Rattle.ov_types.specs.Texts.{address_text, prefix_text}
-use Rattle.ov_types.specs.declared.packet.RuleNo.{RuleNo}
 use Rattle.config_check.specs.declared.refusal.IdKind.{IdKind}
 use Rattle.config_check.specs.declared.refusal.IdKind.TheVariants.{Address, Network, Port, Sequence, Service, Use}
 use Rattle.config_check.specs.declared.refusal.LimitKind.{LimitKind}
@@ -36,10 +36,6 @@ id_word Use = codes "use"
 abbrev pub id_text : IdKind → ℕ → List ℕ
 id_text Address id = address_text id
 id_text _ id = decimal id
-
--- a rule by its policy's sequence and its position there
-abbrev pub rule_text : RuleNo → List ℕ
-rule_text r = decimal r.sequence ++ (codes "/" ++ decimal r.position)
 
 abbrev pub refusal_text : Refusal → List ℕ
 refusal_text (Limit what) = codes "Limit " ++ limit_word what

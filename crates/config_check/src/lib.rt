@@ -19,8 +19,9 @@ mod uses;
 mod valid;
 
 pub use passing::passes_between;
+pub use ports::{holds_address, network_named};
 pub use refusal::{CheckRefusal, IdKind, LimitKind, Refusal};
-pub use related::{NumberedRule, are_related, attaches, end_fits, fits, lets_through};
+pub use related::{NumberedRule, are_related, attaches, fits};
 pub use valid::{Valid, check};
 
 #[cfg(test)]

@@ -8,13 +8,15 @@ use crate::refusal::Refusal;
 use config_model::{Config, Network, Port};
 use ov_types::{Addr, Name};
 
-fn network_named<'a>(config: &'a Config, name: &Name) -> Option<&'a Network>
+/// The first network of a name.
+pub fn network_named<'a>(config: &'a Config, name: &Name) -> Option<&'a Network>
     ensures { option_copied result ≡ network_named config.now name.now }
 {
     config.networks.as_slice().iter().find(|n| n.name == *name)
 }
 
-fn holds_address(network: &Network, address: Addr) -> bool
+/// Whether a subnet of a network holds an address.
+pub fn holds_address(network: &Network, address: Addr) -> bool
     ensures { result ≡ holds_address network.now address.0 }
 {
     network

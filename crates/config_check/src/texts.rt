@@ -92,16 +92,8 @@ impl fmt::Display for Refusal {
             } => write!(f, "SubnetNested {network} {first} {second}"),
             Refusal::AddressOutside { port } => write!(f, "AddressOutside {port}"),
             Refusal::AddressTaken { first, second } => write!(f, "AddressTaken {first} {second}"),
-            Refusal::ChainNeedsNetworks { rule } => {
-                let sequence = rule.sequence;
-                let position = rule.position;
-                write!(f, "ChainNeedsNetworks {sequence}/{position}")
-            }
-            Refusal::ChainSameNetwork { rule } => {
-                let sequence = rule.sequence;
-                let position = rule.position;
-                write!(f, "ChainSameNetwork {sequence}/{position}")
-            }
+            Refusal::ChainNeedsNetworks { rule } => write!(f, "ChainNeedsNetworks {rule}"),
+            Refusal::ChainSameNetwork { rule } => write!(f, "ChainSameNetwork {rule}"),
             Refusal::ChainLoop { chain } => write!(f, "ChainLoop {chain}"),
             Refusal::ChainTooLong { chain } => write!(f, "ChainTooLong {chain}"),
             Refusal::ServiceTwice { chain, service } => {

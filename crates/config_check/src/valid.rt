@@ -131,7 +131,8 @@ fn first_broken(
 pub fn check(alloc: Global, topology: Topology, config: Config) -> Result<Valid, CheckRefusal>
     requires topology_form { IsTrue (has_topology_form topology) }
     requires config_form { IsTrue (has_config_form config) }
-    ensures ok { IfOk result (λ v. (v ≡ record { topology = topology; config = config }) × (first_broken topology config ≡ None)) }
+    ensures ok { IfOk result (λ v. v ≡ record { topology = topology; config = config }) }
+    ensures valid { IfOk result (λ v. first_broken topology config ≡ None) }
     ensures rule { IfErr result (λ e. Refuses e (first_broken topology config)) }
 {
     match first_broken(alloc, &topology, &config)? {

@@ -27,13 +27,10 @@ pub(crate) fn command_from(words: &[String]) -> Option<Command>
 fn named(word: &str) -> Option<Command>
     ensures { result ≡ command_named word.now }
 {
-    if word == "compile" {
-        Some(Command::Compile)
-    } else if word == "reach" {
-        Some(Command::Reach)
-    } else if word == "decode" {
-        Some(Command::Decode)
-    } else {
-        None
+    match word {
+        "compile" => Some(Command::Compile),
+        "reach" => Some(Command::Reach),
+        "decode" => Some(Command::Decode),
+        _ => None,
     }
 }

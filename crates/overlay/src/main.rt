@@ -1,4 +1,4 @@
-//! The program `overlay`: a cloud overlay controller, replayed over a schedule.
+//! The program `overlay`: the tables that a configuration asks for, what becomes of packets, and what BGP messages say.
 #![tactic(auto)]
 
 mod answer;
@@ -17,7 +17,8 @@ use std::process::ExitCode;
 use std::{env, io};
 use top::{Status, overlay};
 
-const USAGE: &str = "usage: overlay compile | reach < DOCUMENT
+const USAGE: &str = "usage: overlay compile < DOCUMENT
+       overlay reach < DOCUMENT
        overlay decode < DIGITS
        overlay --help | --version
 ";
@@ -64,16 +65,11 @@ fn printed(rt: &impl Print, text: &str) -> Status {
     }
 }
 
-/// Runs the top call over standard input and output. Where the words ask for nothing that there is, a short usage
-/// text goes to standard error.
-fn run(rt: HostRuntime, words: &[String]) -> Status {
+/// Runs the top call over standard input and output.
+fn run(rt: &HostRuntime, words: &[String]) -> Status {
     let mut source = StdSource::new(rt.stdin());
     let mut sink = StdSink::new(rt.stdout());
-    let status = overlay(rt.alloc(), words, &mut source, &mut sink);
-    if status == Status::Usage {
-        let _ = rt.eprint(USAGE);
-    }
-    status
+    overlay(rt.alloc(), words, &mut source, &mut sink)
 }
 
 fn main(rt: HostRuntime) -> ExitCode {
@@ -81,9 +77,12 @@ fn main(rt: HostRuntime) -> ExitCode {
         Ok(words) => match request_of(words.as_slice()) {
             Request::Help => printed(&rt, USAGE),
             Request::Version => printed(&rt, VERSION),
-            Request::Run => run(rt, words.as_slice()),
+            Request::Run => run(&rt, words.as_slice()),
         },
         Err(error) => status_without_words(&error),
     };
+    if status == Status::Usage {
+        let _ = rt.eprint(USAGE);
+    }
     ExitCode::from(status.number())
 }

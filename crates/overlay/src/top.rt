@@ -12,7 +12,7 @@ use ov_io::{InputRefusal, Sink, Source, read_all, write_all};
 use std::alloc::Global;
 
 /// The most octets that an input may have.
-pub const LIMIT: usize = 16_777_216;
+pub const MAX_INPUT_OCTETS: usize = 16_777_216;
 
 /// How a run ended. Its number is the exit status of the program.
 #[derive(Clone, Copy, Debug, PartialEq, Eq)]
@@ -59,22 +59,24 @@ pub fn overlay<S: Source, K: Sink>(
     ensures usage { (result ≡ Status.Usage) ↔ (command_of words.now ≡ None) }
     ensures read_fault { result ≡ Status.ReadFault → Rose (S.faults source.old) (S.faults source.new) }
     ensures too_long { result ≡ Status.TooLong
-        → OfInput (command_of words.now) (S.left source.old) (λ command octets. LIMIT < length octets) }
+        → OfInput (command_of words.now) (S.left source.old) (λ command octets. MAX_INPUT_OCTETS < length octets) }
     ensures not_json { result ≡ Status.NotJson
-        → OfInput (command_of words.now) (S.left source.old) (IsFound LIMIT Verdict.NotJson) }
+        → OfInput (command_of words.now) (S.left source.old) (IsFound MAX_INPUT_OCTETS Verdict.NotJson) }
     ensures bad_document { result ≡ Status.BadDocument
-        → OfInput (command_of words.now) (S.left source.old) (IsFound LIMIT Verdict.BadDocument) }
+        → OfInput (command_of words.now) (S.left source.old) (IsFound MAX_INPUT_OCTETS Verdict.BadDocument) }
     ensures refused { result ≡ Status.Refused
-        → OfInput (command_of words.now) (S.left source.old) (IsFound LIMIT Verdict.Refused) }
+        → OfInput (command_of words.now) (S.left source.old) (IsFound MAX_INPUT_OCTETS Verdict.Refused) }
     ensures write_fault { result ≡ Status.WriteFault → Rose (K.faults sink.old) (K.faults sink.new) }
+    ensures write_fault_within { result ≡ Status.WriteFault
+        → OfInput (command_of words.now) (S.left source.old) (λ command octets. length octets ≤ MAX_INPUT_OCTETS) }
     ensures done { result ≡ Status.Done
-        → OfInput (command_of words.now) (S.left source.old) (IsFound LIMIT Verdict.Good) }
+        → OfInput (command_of words.now) (S.left source.old) (IsFound MAX_INPUT_OCTETS Verdict.Good) }
 
     // What is written.
     ensures written { IsWritten result → OfInput (command_of words.now) (S.left source.old)
         (λ command octets. TookText command octets (K.taken sink.old) (K.taken sink.new)) }
     ensures front { result ≡ Status.WriteFault → OfInput (command_of words.now) (S.left source.old)
-        (λ command octets. (length octets ≤ LIMIT) × TookFrontOf command octets (K.taken sink.old) (K.taken sink.new)) }
+        (λ command octets. TookFrontOf command octets (K.taken sink.old) (K.taken sink.new)) }
     ensures silent { IsSilent result → sink.new ≡ sink.old }
 
     // What is read.
@@ -84,13 +86,13 @@ pub fn overlay<S: Source, K: Sink>(
 
     // Nothing is refused without a cause.
     ensures complete { ¬ Rose (S.faults source.old) (S.faults source.new) → ¬ Rose (K.faults sink.old) (K.faults sink.new)
-        → IfInput (command_of words.now) (S.left source.old) (λ command octets. length octets ≤ LIMIT
+        → IfInput (command_of words.now) (S.left source.old) (λ command octets. length octets ≤ MAX_INPUT_OCTETS
         → (result ≡ status_of (verdict_of command octets)) ⊎ (result ≡ Status.NoMemory)) }
 {
     let Some(command) = command_from(words) else {
         return Status::Usage;
     };
-    let octets = match read_all(alloc, source, LIMIT) {
+    let octets = match read_all(alloc, source, MAX_INPUT_OCTETS) {
         Ok(octets) => octets,
         Err(InputRefusal::Fault) => return Status::ReadFault,
         Err(InputRefusal::TooLong) => return Status::TooLong,

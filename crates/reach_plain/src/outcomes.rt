@@ -8,30 +8,14 @@ ghost use Rattle.reach_plain.specs.Reachability.{port_numbered, network_towards,
 use crate::deciding::deciding;
 use crate::matching::Match;
 use crate::services::services_through;
-use config_check::{Valid, are_related};
+use config_check::{Valid, are_related, holds_address, network_named};
 use config_model::{Action, Config, Network, Port};
-use ov_types::{Addr, Name, Outcome, Packet, PortNo, RuleNo, Services, Why};
+use ov_types::{Addr, Outcome, Packet, PortNo, RuleNo, Services, Why};
 
 fn port_numbered<'a>(config: &'a Config, number: PortNo) -> Option<&'a Port>
     ensures { option_copied result ≡ port_numbered config.now number.0 }
 {
     config.ports.as_slice().iter().find(|p| p.id.0 == number.0)
-}
-
-fn network_named<'a>(config: &'a Config, name: &Name) -> Option<&'a Network>
-    ensures { option_copied result ≡ network_named config.now name.now }
-{
-    config.networks.as_slice().iter().find(|n| n.name == *name)
-}
-
-fn holds_address(network: &Network, address: Addr) -> bool
-    ensures { result ≡ holds_address network.now address.0 }
-{
-    network
-        .subnets
-        .as_slice()
-        .iter()
-        .any(|p| p.contains(address))
 }
 
 /// Whether a packet from a network may be for another: for itself, or for a related one.

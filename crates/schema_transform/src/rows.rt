@@ -6,7 +6,7 @@ ghost use Rattle.config_check.specs.Rules.{network_named};
 ghost use Rattle.ov_types.specs.Numbers.{port_label_of, distinguisher_of};
 ghost use Rattle.schema_transform.specs.Tables.{imports, host_route, node_named, port_row, network_rows, with_rows, control_rows};
 
-use config_check::passes_between;
+use config_check::{network_named, passes_between};
 use config_model::{Config, Network, Node, Port, Topology};
 use ov_types::{
     Addr, ControlRows, InstanceId, Items, Label, Name, NoMemory, PortNo, Prefix, Rd, TableRow,
@@ -19,13 +19,6 @@ type Row = ((InstanceId, Prefix), TableRow);
 
 /// Rows by their keys.
 type Rows = BTreeMap<(InstanceId, Prefix), TableRow>;
-
-/// The first network of a name.
-fn network_of<'a>(config: &'a Config, name: &Name) -> Option<&'a Network>
-    ensures { option_copied result ≡ network_named config.now name.now }
-{
-    config.networks.as_slice().iter().find(|n| n.name == *name)
-}
 
 /// The first compute node of a name.
 fn node_of<'a>(topology: &'a Topology, name: &Name) -> Option<&'a Node>
@@ -76,7 +69,7 @@ fn row_of(topology: &Topology, config: &Config, network: &Network, port: &Port) 
     requires { IsTrue (has_port_form port.now) }
     ensures { result ≡ port_row topology.now config.now network.now port.now }
 {
-    let home = network_of(config, &port.network)?;
+    let home = network_named(config, &port.network)?;
     if !is_imported(config, network, home) {
         return None;
     }
