@@ -5,7 +5,7 @@ use Rattle.std.specs.Option.{IsSome, option_map_or, is_none}
 use Rattle.config_model.specs.declared.config.Chain.{Chain}
 use Rattle.config_model.specs.declared.config.Config.{Config}
 use Rattle.config_model.specs.declared.config.Service.{Service}
-use Rattle.chain_expand.specs.First.{same_name}
+use Rattle.ov_types.specs.First.{same_name}
 use Rattle.chain_expand.specs.Expansion.{service_named, chain_named, hops_of, leads, services_within, expansion}
 use Rattle.chain_expand.specs.Links.{place_of}
 use Rattle.chain_expand.specs.Leading.{HopsTo, Leads, Expands, IsAlong, IsLoopFree, NamesThings}

@@ -7,7 +7,7 @@ use Rattle.std.specs.Option.{option_map_or}
 use Rattle.config_model.specs.declared.config.Config.{Config}
 use Rattle.config_model.specs.declared.config.Service.{Service}
 use Rattle.std.proofs.lemmas.Bool.{le-ltb}
-use Rattle.chain_expand.specs.First.{first_meeting}
+use Rattle.ov_types.specs.First.{first_meeting}
 use Rattle.chain_expand.specs.Expansion.{service_named, hops_of, services_within, same_number, numbers_or_twice, numbers_or_fault}
 
 pub services_of_service : (n : ℕ) (c : Config) (hop : List ℕ) (s : Service) → service_named c hop ≡ Some s → services_within n c hop ≡ s ∷ []

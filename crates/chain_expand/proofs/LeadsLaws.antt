@@ -5,7 +5,7 @@ use Rattle.std.specs.Cmp.Lexicographic.{same_text, other_text}
 use Rattle.std.proofs.lemmas.Bool.{and_parts}
 use Rattle.std.proofs.lemmas.List.Folds.{Any-from_list_any, list_any-from_Any}
 use Rattle.config_model.specs.declared.config.Config.{Config}
-use Rattle.chain_expand.specs.First.{same_name}
+use Rattle.ov_types.specs.First.{same_name}
 use Rattle.chain_expand.specs.Expansion.{names_chain, hops_of, leads_within, leads}
 use Rattle.chain_expand.specs.Leading.{HopsTo, Leads}
 use Rattle.chain_expand.specs.Leading.Leads.{direct, onward}

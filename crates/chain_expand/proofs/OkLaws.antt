@@ -8,7 +8,7 @@ use Rattle.std.proofs.lemmas.List.{get_or_append_left}
 use Rattle.config_model.specs.declared.config.Chain.{Chain}
 use Rattle.config_model.specs.declared.config.Config.{Config}
 use Rattle.config_model.specs.declared.config.Service.{Service}
-use Rattle.chain_expand.specs.First.{same_name, meeting_after, first_meeting, ◌<|>◌}
+use Rattle.ov_types.specs.First.{same_name, meeting_after, first_meeting, ◌<|>◌}
 use Rattle.chain_expand.specs.Expansion.{leads, loops, loop_of, same_number, expansion, expansion_of, numbers_or_twice, unless_loop}
 use Rattle.chain_expand.specs.declared.fault.ChainFault.TheVariants.{TooLong}
 use Rattle.chain_expand.specs.Links.{place_of}

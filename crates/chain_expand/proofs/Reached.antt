@@ -10,7 +10,7 @@ use Rattle.std.proofs.lemmas.List.Folds.{find_at}
 use Rattle.std.proofs.lemmas.List.Quantifiers.{position-Some}
 use Rattle.config_model.specs.declared.config.Config.{Config}
 use Rattle.config_model.specs.declared.config.Chain.{Chain}
-use Rattle.chain_expand.specs.First.{same_name}
+use Rattle.ov_types.specs.First.{same_name}
 use Rattle.chain_expand.specs.Expansion.{names_chain, hops_of, leads_within, leads}
 use Rattle.chain_expand.specs.Links.{place_of, place_named, hops_at, is_marked, meets, IsLinked, IsReached, IsRound, leads_at}
 

@@ -4,7 +4,7 @@ use Rattle.std.specs.List.{list_any}
 use Rattle.std.proofs.lemmas.List.{get_or-map}
 use Rattle.config_model.specs.declared.config.Config.{Config}
 use Rattle.config_model.specs.declared.config.Chain.{Chain}
-use Rattle.chain_expand.specs.First.{same_name}
+use Rattle.ov_types.specs.First.{same_name}
 use Rattle.chain_expand.specs.Expansion.{names_chain, hops_of, leads_within, leads}
 use Rattle.chain_expand.specs.Links.{place_of}
 use Rattle.chain_expand.proofs.Reached.{leads_none, named_at, no_chain, list_any_same}

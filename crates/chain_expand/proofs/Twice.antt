@@ -3,7 +3,7 @@ use Rattle.std.proofs.Common.{◌≡◌, ℕ, ◌+◌, ◌<◌, List, [], ◌∷
 use Rattle.std.specs.List.{find}
 use Rattle.std.proofs.lemmas.List.{take_more, drop_more}
 use Rattle.config_model.specs.declared.config.Service.{Service}
-use Rattle.chain_expand.specs.First.{meeting_after, ◌<|>◌}
+use Rattle.ov_types.specs.First.{meeting_after, ◌<|>◌}
 use Rattle.chain_expand.specs.Expansion.{same_number}
 
 past : {A : Type 0} (meets : A → A → Bool) (before : List A) (x : A) (xs : List A) → find (λ b. meets b x) before ≡ None → meeting_after meets before (x ∷ xs) ≡ meeting_after meets (before ++ x ∷ []) xs

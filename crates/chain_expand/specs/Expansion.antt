@@ -8,7 +8,7 @@ use Rattle.config_model.specs.declared.config.Config.{Config}
 use Rattle.config_model.specs.declared.config.Service.{Service}
 use Rattle.chain_expand.specs.declared.fault.ChainFault.{ChainFault}
 use Rattle.chain_expand.specs.declared.fault.ChainFault.TheVariants.{Loop, TooLong, Twice}
-use Rattle.chain_expand.specs.First.{same_name, first_meeting}
+use Rattle.ov_types.specs.First.{same_name, first_meeting}
 
 -- what a hop names: the first service of the name, else the first chain
 abbrev pub service_named : Config → List ℕ → Option Service

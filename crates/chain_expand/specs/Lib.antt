@@ -1,4 +1,3 @@
-pub mod First
 pub mod Expansion
 pub mod Room
 pub mod Leading

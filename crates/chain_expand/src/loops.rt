@@ -1,6 +1,6 @@
 //! Loops of chains.
 ghost use Rattle.std.specs.Prelude.{◌≡◌, ℕ, List, ◌≤◌, ◌<◌, ◌-◌, ◌&&◌, ◌||◌, ◌==◌, length, find, option_map, option_copied, slice_index_or, Some, []};
-ghost use Rattle.chain_expand.specs.First.{same_name};
+ghost use Rattle.ov_types.specs.First.{same_name};
 ghost use Rattle.chain_expand.specs.Expansion.{leads, loops, loop_of};
 ghost use Rattle.chain_expand.specs.Links.{place_of, meets, IsLinked, IsReached, IsRound};
 

@@ -1,7 +1,7 @@
 //! The numbers of a chain's services, each once.
 ghost use Rattle.std.specs.Prelude.{◌≡◌, ◌≤◌, length, map, option_copied, option_map};
 ghost use Rattle.std.specs.List.{find};
-ghost use Rattle.chain_expand.specs.First.{first_meeting};
+ghost use Rattle.ov_types.specs.First.{first_meeting};
 ghost use Rattle.chain_expand.specs.Expansion.{same_number, numbers_or_twice};
 
 use crate::ChainFault;

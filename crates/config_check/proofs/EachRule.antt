@@ -12,7 +12,7 @@ use Rattle.config_model.specs.declared.config.Port.{Port}
 use Rattle.config_model.specs.declared.config.Service.{Service}
 use Rattle.config_model.specs.declared.topology.Node.{Node}
 use Rattle.config_model.specs.declared.topology.Topology.{Topology}
-use Rattle.chain_expand.specs.First.{◌<|>◌, first_of, first_meeting}
+use Rattle.ov_types.specs.First.{◌<|>◌, first_of, first_meeting}
 use Rattle.chain_expand.specs.Expansion.{loops, expansion, same_number}
 use Rattle.config_check.specs.declared.refusal.IdKind.TheVariants as Id
 use Rattle.config_check.specs.declared.refusal.Refusal.{Refusal}

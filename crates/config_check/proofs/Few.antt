@@ -2,7 +2,7 @@
 use Rattle.std.proofs.Common.{◌≡◌, ◌≤◌, leb, Bool, true, false, Option, Some, None, length, refl}
 use Rattle.std.specs.List.{list_all}
 use Rattle.std.proofs.lemmas.Bool.{leb-true}
-use Rattle.chain_expand.specs.First.{◌<|>◌}
+use Rattle.ov_types.specs.First.{◌<|>◌}
 use Rattle.config_model.specs.declared.config.Config.{Config}
 use Rattle.config_model.specs.declared.topology.Topology.{Topology}
 use Rattle.config_check.specs.declared.refusal.LimitKind.TheVariants as Counted

@@ -2,7 +2,7 @@
 use Rattle.std.proofs.Common.{◌≡◌, ◌↔◌, ◌<◌, ◌||◌, ◌&&◌, ℕ, zero, suc, Bool, true, false, cond, IsTrue, List, [], ◌∷◌, ◌++◌, Option, Some, None, option_map, length, get_or, refl, sym, ◌∙◌, arith}
 use Rattle.std.specs.List.{All, AllPairs, find, list_any, list_all, filter}
 use Rattle.std.proofs.lemmas.List.Kept.{AllPairs-cons}
-use Rattle.chain_expand.specs.First.{◌<|>◌, first_of, meeting_after, first_meeting}
+use Rattle.ov_types.specs.First.{◌<|>◌, first_of, meeting_after, first_meeting}
 
 -- chains of equivalences
 

@@ -16,7 +16,7 @@ use Rattle.config_model.specs.declared.config.End.{End}
 use Rattle.config_model.specs.declared.config.End.TheVariants as Ends
 use Rattle.config_model.specs.declared.config.Network.{Network}
 use Rattle.config_model.specs.declared.config.Port.{Port}
-use Rattle.chain_expand.specs.First.{same_name, first_meeting}
+use Rattle.ov_types.specs.First.{same_name, first_meeting}
 use Rattle.config_check.specs.declared.refusal.IdKind.{IdKind}
 use Rattle.config_check.specs.declared.refusal.Refusal.{Refusal}
 use Rattle.config_check.specs.declared.refusal.Refusal.TheVariants.{DuplicateName, DuplicateId, BadReference, SubnetOverlap}

@@ -6,7 +6,7 @@ use Rattle.config_model.specs.declared.config.Config.{Config}
 use Rattle.config_model.specs.declared.config.Policy.{Policy}
 use Rattle.config_check.specs.Related.{attaches, lets_through, rules_between, are_related}
 use Rattle.std.specs.Cmp.Lexicographic.{nat_list_eq_equiv}
-use Rattle.chain_expand.specs.First.{same_name}
+use Rattle.ov_types.specs.First.{same_name}
 use Rattle.config_check.specs.Between.{leads_between, relates, also_leads, is_in_group}
 use Rattle.config_check.specs.Rules.{group_of}
 use Rattle.config_check.proofs.AnyRule.{any_filter, any_same, any_between}

@@ -1,7 +1,7 @@
 -- Chains where none leads back to itself.
 use Rattle.std.proofs.Common.{◌≡◌, ℕ, ◌<◌, ◌&&◌, ◌||◌, ltb, Bool, true, false, cond, List, [], ◌∷◌, Option, Some, None, option_map, length, get_or, refl, sym, ◌∙◌}
 use Rattle.std.specs.List.{find}
-use Rattle.chain_expand.specs.First.{same_name, first_meeting}
+use Rattle.ov_types.specs.First.{same_name, first_meeting}
 use Rattle.chain_expand.specs.Expansion.{leads, loops, loop_of, expansion, same_number, numbers_or_twice, numbers_or_fault}
 use Rattle.config_model.specs.declared.config.Chain.{Chain}
 use Rattle.config_model.specs.declared.config.Config.{Config}

@@ -2,7 +2,7 @@
 use Rattle.std.proofs.Common.{◌≡◌, ◌↔◌, Option, None}
 use Rattle.config_model.specs.declared.config.Config.{Config}
 use Rattle.config_model.specs.declared.topology.Topology.{Topology}
-use Rattle.chain_expand.specs.First.{◌<|>◌}
+use Rattle.ov_types.specs.First.{◌<|>◌}
 use Rattle.config_check.specs.declared.refusal.Refusal.{Refusal}
 use Rattle.config_check.specs.Rules.{broken_limit, broken_name, broken_id, all_rules, broken_reference, broken_reserved, broken_nested, broken_outside, broken_taken, broken_place, broken_needs, broken_same, broken_use, broken_loop, broken_long, broken_twice, broken_chain, broken_overlap, first_broken}
 use Rattle.config_check.specs.Sentences.{IsValid}

@@ -4,7 +4,7 @@ use Rattle.std.specs.List.{list_any}
 use Rattle.config_model.specs.declared.config.Network.{Network}
 use Rattle.config_model.specs.declared.config.Policy.{Policy}
 use Rattle.config_model.specs.declared.config.Rule.{Rule}
-use Rattle.chain_expand.specs.First.{same_name}
+use Rattle.ov_types.specs.First.{same_name}
 use Rattle.config_check.specs.Related.{attaches, fits, lets_through}
 
 -- a rule speaks of packets between two networks, either way, and lets them through

@@ -9,7 +9,7 @@ use Rattle.config_model.specs.declared.config.End.TheVariants.{Any, Named}
 use Rattle.config_model.specs.declared.config.Network.{Network}
 use Rattle.config_model.specs.declared.config.Policy.{Policy}
 use Rattle.config_model.specs.declared.config.Rule.{Rule}
-use Rattle.chain_expand.specs.First.{same_name}
+use Rattle.ov_types.specs.First.{same_name}
 pub use Rattle.config_check.specs.declared.related.NumberedRule.{NumberedRule}
 
 -- the rules of a policy in order, the first at a position

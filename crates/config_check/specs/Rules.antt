@@ -15,7 +15,7 @@ use Rattle.config_model.specs.declared.config.Rule.{Rule}
 use Rattle.config_model.specs.declared.config.Service.{Service}
 use Rattle.config_model.specs.declared.topology.Node.{Node}
 use Rattle.config_model.specs.declared.topology.Topology.{Topology}
-use Rattle.chain_expand.specs.First.{same_name, ◌<|>◌, first_of, first_meeting}
+use Rattle.ov_types.specs.First.{same_name, ◌<|>◌, first_of, first_meeting}
 use Rattle.chain_expand.specs.Expansion.{loops, loop_of, expansion, same_number}
 use Rattle.config_check.specs.Related.{NumberedRule, numbered_rules, are_related}
 use Rattle.config_check.specs.declared.refusal.IdKind.{IdKind}

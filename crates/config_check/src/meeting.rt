@@ -1,6 +1,6 @@
 //! Objects that may not stand in one list.
 ghost use Rattle.std.specs.Prelude.{◌≡◌, Bool, find};
-ghost use Rattle.chain_expand.specs.First.{first_meeting};
+ghost use Rattle.ov_types.specs.First.{first_meeting};
 
 use ov_types::{Name, Prefix};
 
@@ -13,7 +13,7 @@ pub(crate) trait Meets: Copy {
 }
 
 impl Meets for Name {
-    ghost use Rattle.chain_expand.specs.First.{same_name};
+    ghost use Rattle.ov_types.specs.First.{same_name};
 
     ghost meets = { same_name };
 

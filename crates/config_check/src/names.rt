@@ -1,7 +1,7 @@
 //! The rule of names: no two of one namespace are equal, and no compute node lists a control node twice.
 ghost use Rattle.std.specs.Prelude.{◌≡◌, ◌++◌, map, IfOk};
 ghost use Rattle.config_check.specs.Rules.{controller_names, node_names, network_names, port_names, policy_names, service_names, chain_names, repeated_name, repeated_controller, broken_name};
-ghost use Rattle.chain_expand.specs.First.{first_of};
+ghost use Rattle.ov_types.specs.First.{first_of};
 
 use crate::meeting::first_meeting;
 use crate::refusal::Refusal;

@@ -1,6 +1,6 @@
 //! The rules of ports: each address lies in the port's network, and stands there once.
 ghost use Rattle.std.specs.Prelude.{◌≡◌, find, option_copied};
-ghost use Rattle.chain_expand.specs.First.{first_meeting};
+ghost use Rattle.ov_types.specs.First.{first_meeting};
 ghost use Rattle.config_check.specs.Rules.{network_named, holds_address, is_outside, share_address, broken_outside, broken_taken};
 
 use crate::meeting::{Meets, first_meeting};

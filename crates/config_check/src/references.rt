@@ -1,7 +1,7 @@
 //! The rule of references: each name that is referred to exists.
 ghost use Rattle.std.specs.Prelude.{◌≡◌, ◌++◌, IfOk};
 ghost use Rattle.std.specs.List.{list_any};
-ghost use Rattle.chain_expand.specs.First.{same_name, first_of};
+ghost use Rattle.ov_types.specs.First.{same_name, first_of};
 ghost use Rattle.config_check.specs.Rules.{all_rules, missing, missing_end, missing_chain, missing_in_node, missing_in_network, missing_in_port, missing_in_rule, missing_in_service, missing_in_chain, broken_reference};
 
 use crate::names::{

@@ -11,7 +11,7 @@ use Rattle.config_model.specs.declared.config.End.TheVariants.{Named}
 use Rattle.config_model.specs.declared.config.Network.{Network}
 use Rattle.config_model.specs.declared.config.Policy.{Policy}
 use Rattle.config_model.specs.declared.config.Rule.{Rule}
-use Rattle.chain_expand.specs.First.{◌<|>◌, first_of}
+use Rattle.ov_types.specs.First.{◌<|>◌, first_of}
 use Rattle.config_check.specs.declared.related.NumberedRule.{NumberedRule}
 use Rattle.config_check.specs.Related.{numbered_rules, attaches, by_sequence, end_fits, fits, rules_between}
 use Rattle.config_check.proofs.Iffs.{all_head, all_tail}

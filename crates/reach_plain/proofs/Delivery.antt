@@ -19,7 +19,7 @@ use Rattle.config_model.specs.declared.config.Port.{Port}
 use Rattle.config_model.specs.declared.config.Service.{Service}
 use Rattle.config_model.specs.declared.topology.Topology.{Topology}
 use Rattle.chain_expand.specs.Expansion.{expansion}
-use Rattle.chain_expand.specs.First.{same_name}
+use Rattle.ov_types.specs.First.{same_name}
 use Rattle.chain_expand.proofs.LeadsLaws.{same_name_self}
 use Rattle.config_check.specs.Related.{are_related}
 use Rattle.config_check.specs.Rules.{network_named, holds_address, first_broken}

@@ -8,7 +8,7 @@ use Rattle.config_model.specs.declared.config.Chain.{Chain}
 use Rattle.config_model.specs.declared.config.Config.{Config}
 use Rattle.config_model.specs.declared.config.Service.{Service}
 use Rattle.config_model.specs.declared.topology.Topology.{Topology}
-use Rattle.chain_expand.specs.First.{same_name, first_meeting}
+use Rattle.ov_types.specs.First.{same_name, first_meeting}
 use Rattle.chain_expand.specs.Expansion.{chain_named, expansion, same_number, numbers_or_fault}
 use Rattle.config_check.specs.Rules.{first_broken}
 use Rattle.config_check.specs.Sentences.{IsValid}

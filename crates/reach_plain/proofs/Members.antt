@@ -10,7 +10,7 @@ use Rattle.config_model.specs.declared.config.End.TheVariants.{Any, Named}
 use Rattle.config_model.specs.declared.config.Network.{Network}
 use Rattle.config_model.specs.declared.config.Policy.{Policy}
 use Rattle.config_model.specs.declared.topology.Topology.{Topology}
-use Rattle.chain_expand.specs.First.{◌<|>◌, first_of}
+use Rattle.ov_types.specs.First.{◌<|>◌, first_of}
 use Rattle.config_check.specs.declared.related.NumberedRule.{NumberedRule}
 use Rattle.config_check.specs.Related.{numbered_rules, attaches, put_by_sequence, by_sequence, fits, rules_between}
 use Rattle.config_check.specs.Rules.{all_rules, first_broken}

@@ -5,7 +5,7 @@ use Rattle.ov_types.specs.declared.packet.Tuple.{Tuple}
 use Rattle.config_model.specs.declared.config.Network.{Network}
 use Rattle.config_model.specs.declared.config.Policy.{Policy}
 use Rattle.config_model.specs.declared.config.Rule.{Rule}
-use Rattle.chain_expand.specs.First.{◌<|>◌, first_of}
+use Rattle.ov_types.specs.First.{◌<|>◌, first_of}
 use Rattle.config_check.specs.declared.related.NumberedRule.{NumberedRule}
 use Rattle.config_check.specs.Related.{numbered_from, numbered_rules, attaches, put_by_sequence, by_sequence, fits}
 use Rattle.reach_plain.specs.Matching.{Match, has_protocol, in_range, speaks_both_ways, match_by}

@@ -3,7 +3,7 @@ use Rattle.std.specs.Prelude.{◌&&◌, nat_le, Option, Some, None, if◌then◌
 use Rattle.ov_types.specs.declared.packet.Tuple.{Tuple}
 use Rattle.config_model.specs.declared.config.Network.{Network}
 use Rattle.config_model.specs.declared.config.Policy.{Policy}
-use Rattle.chain_expand.specs.First.{first_of}
+use Rattle.ov_types.specs.First.{first_of}
 use Rattle.config_check.specs.Related.{attaches, numbered_rules}
 use Rattle.reach_plain.specs.Matching.{Match, match_by}
 

@@ -11,7 +11,7 @@ use Rattle.config_model.specs.declared.config.Protocol.TheVariants.{Any, Number}
 use Rattle.config_model.specs.declared.config.Rule.{Rule}
 use Rattle.config_check.specs.declared.related.NumberedRule.{NumberedRule}
 use Rattle.config_check.specs.Related.{fits, rules_between}
-use Rattle.chain_expand.specs.First.{first_of}
+use Rattle.ov_types.specs.First.{first_of}
 use Rattle.reach_plain.specs.declared.decision.Decision.{Decision}
 pub use Rattle.reach_plain.specs.declared.matching.Match.{Match}
 

@@ -12,7 +12,7 @@ use Rattle.config_model.specs.declared.config.Config.{Config}
 use Rattle.config_model.specs.declared.config.Network.{Network}
 use Rattle.config_model.specs.declared.config.Port.{Port}
 use Rattle.chain_expand.specs.Expansion.{expansion}
-use Rattle.chain_expand.specs.First.{same_name}
+use Rattle.ov_types.specs.First.{same_name}
 use Rattle.config_check.specs.Related.{are_related}
 use Rattle.config_check.specs.Rules.{network_named, holds_address}
 use Rattle.reach_plain.specs.Matching.{Match, deciding}

@@ -2,7 +2,7 @@
 //! the least sequence is kept.
 ghost use Rattle.std.specs.Prelude.{◌≡◌, ◌≤◌, nat_le, length, IsTrue};
 ghost use Rattle.std.specs.List.{list_all};
-ghost use Rattle.chain_expand.specs.First.{first_of};
+ghost use Rattle.ov_types.specs.First.{first_of};
 ghost use Rattle.config_check.specs.Related.{numbered_rules};
 ghost use Rattle.reach_plain.specs.Matching.{match_by, deciding};
 ghost use Rattle.reach_plain.specs.Least.{match_in, least};

@@ -1,6 +1,6 @@
 //! What becomes of a packet.
 ghost use Rattle.std.specs.Prelude.{◌≡◌, ◌&&◌, ◌||◌, option_copied};
-ghost use Rattle.chain_expand.specs.First.{same_name};
+ghost use Rattle.ov_types.specs.First.{same_name};
 ghost use Rattle.config_check.specs.Related.{are_related};
 ghost use Rattle.config_check.specs.Rules.{network_named, holds_address};
 ghost use Rattle.reach_plain.specs.Reachability.{port_numbered, network_towards, port_at, arrival_at, outcome_of, outcome_by, outcome_between, outcome_towards, outcome_from, outcome_at, reachability};

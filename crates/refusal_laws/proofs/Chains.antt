@@ -11,7 +11,7 @@ use Rattle.config_model.specs.declared.config.End.{End}
 use Rattle.config_model.specs.declared.config.End.TheVariants as Ends
 use Rattle.config_model.specs.declared.config.Service.{Service}
 use Rattle.config_model.specs.declared.topology.Topology.{Topology}
-use Rattle.chain_expand.specs.First.{◌<|>◌, first_meeting}
+use Rattle.ov_types.specs.First.{◌<|>◌, first_meeting}
 use Rattle.chain_expand.specs.Expansion.{loops, loop_of, expansion, same_number}
 use Rattle.chain_expand.proofs.LeadsLaws.{Leads-from_leads}
 use Rattle.config_check.specs.declared.refusal.Refusal.{Refusal}

@@ -7,7 +7,7 @@ use Rattle.config_model.specs.declared.config.Config.{Config}
 use Rattle.config_model.specs.declared.config.Network.{Network}
 use Rattle.config_model.specs.declared.config.Policy.{Policy}
 use Rattle.config_model.specs.declared.topology.Topology.{Topology}
-use Rattle.chain_expand.specs.First.{◌<|>◌}
+use Rattle.ov_types.specs.First.{◌<|>◌}
 use Rattle.config_check.specs.declared.refusal.LimitKind.{LimitKind}
 use Rattle.config_check.specs.declared.refusal.LimitKind.TheVariants as Counted
 use Rattle.config_check.specs.declared.refusal.Refusal.{Refusal}

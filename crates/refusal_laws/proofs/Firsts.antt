@@ -1,7 +1,7 @@
 -- What is first found in a list: where it stands, and that it passes.
 use Rattle.std.proofs.Common.{◌≡◌, ◌<◌, ℕ, zero, suc, Bool, true, false, cond, List, [], ◌∷◌, ◌++◌, Option, Some, None, option_map, IfSome, length, refl, sym, ap, ◌∙◌, subst, append_assoc, arith}
 use Rattle.std.specs.List.{Any, Contains, find, slice_get}
-use Rattle.chain_expand.specs.First.{◌<|>◌, first_of, meeting_after, first_meeting}
+use Rattle.ov_types.specs.First.{◌<|>◌, first_of, meeting_after, first_meeting}
 use Rattle.refusal_laws.specs.Breaks.{StandsBefore, StandsTwice}
 
 -- members

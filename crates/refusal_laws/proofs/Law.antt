@@ -2,7 +2,7 @@
 use Rattle.std.proofs.Common.{◌≡◌, Option, Some, IfSome}
 use Rattle.config_model.specs.declared.config.Config.{Config}
 use Rattle.config_model.specs.declared.topology.Topology.{Topology}
-use Rattle.chain_expand.specs.First.{◌<|>◌}
+use Rattle.ov_types.specs.First.{◌<|>◌}
 use Rattle.config_check.specs.declared.refusal.Refusal.{Refusal}
 use Rattle.config_check.specs.Rules.{broken_limit, broken_name, broken_id, all_rules, broken_reference, broken_place, broken_use, broken_chain, broken_overlap, first_broken}
 use Rattle.refusal_laws.specs.Breaks.{Breaks}

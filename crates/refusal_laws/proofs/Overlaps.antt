@@ -7,7 +7,7 @@ use Rattle.std.proofs.lemmas.List.Folds.{Any-from_list_any}
 use Rattle.config_model.specs.declared.config.Config.{Config}
 use Rattle.config_model.specs.declared.config.Network.{Network}
 use Rattle.config_model.specs.declared.topology.Topology.{Topology}
-use Rattle.chain_expand.specs.First.{same_name}
+use Rattle.ov_types.specs.First.{same_name}
 use Rattle.config_check.specs.declared.refusal.Refusal.{Refusal}
 use Rattle.config_check.specs.declared.refusal.Refusal.TheVariants.{SubnetOverlap}
 use Rattle.config_check.specs.Related.{are_related}

@@ -1,5 +1,5 @@
 use Rattle.std.proofs.Common.{◌≡◌, Bool, true, false, ◌&&◌, ◌||◌, refl, sym, length}
-use Rattle.chain_expand.specs.First.{same_name}
+use Rattle.ov_types.specs.First.{same_name}
 use Rattle.chain_expand.specs.Expansion.{leads}
 use Rattle.chain_expand.proofs.Reached.{leads_none}
 use Rattle.chain_expand.proofs.loops.is_loop_of.Goals as goal

@@ -1,5 +1,5 @@
 use Rattle.std.proofs.Common.{◌≡◌, take, drop}
-use Rattle.chain_expand.specs.First.{first_meeting, meeting_after}
+use Rattle.ov_types.specs.First.{first_meeting, meeting_after}
 use Rattle.chain_expand.specs.Expansion.{same_number}
 use Rattle.chain_expand.proofs.numbers.first_twice.Given as goal
 

@@ -1,5 +1,5 @@
 use Rattle.std.proofs.Common.{◌≡◌, take, drop}
-use Rattle.chain_expand.specs.First.{meeting_after, first_meeting}
+use Rattle.ov_types.specs.First.{meeting_after, first_meeting}
 use Rattle.config_check.proofs.meeting.first_meeting.Given as goal
 
 abbrev pub invariant-loop-index : goal.invariant-loop-index

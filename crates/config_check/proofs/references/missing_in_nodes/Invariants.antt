@@ -1,5 +1,5 @@
 use Rattle.std.proofs.Common.{◌≡◌, drop}
-use Rattle.chain_expand.specs.First.{first_of}
+use Rattle.ov_types.specs.First.{first_of}
 use Rattle.config_check.specs.Rules.{missing_in_node}
 use Rattle.config_check.proofs.references.missing_in_nodes.Given as goal
 

@@ -1,5 +1,5 @@
 use Rattle.std.proofs.Common.{◌≡◌, drop}
-use Rattle.chain_expand.specs.First.{first_of}
+use Rattle.ov_types.specs.First.{first_of}
 use Rattle.config_check.specs.Rules.{nested_in, broken_nested}
 use Rattle.config_check.proofs.subnets.broken_nested.Given as goal
 

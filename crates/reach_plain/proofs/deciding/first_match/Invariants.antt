@@ -1,5 +1,5 @@
 use Rattle.std.proofs.Common.{◌≡◌, ◌+◌, drop}
-use Rattle.chain_expand.specs.First.{first_of}
+use Rattle.ov_types.specs.First.{first_of}
 use Rattle.config_check.specs.Related.{numbered_from, numbered_rules}
 use Rattle.reach_plain.specs.Matching.{match_by}
 use Rattle.reach_plain.proofs.deciding.first_match.Given as goal
