@@ -6,3 +6,4 @@ pub mod Counts
 pub mod HasJust
 pub mod OneText
 pub mod Missed
+pub mod Read

@@ -1,5 +1,5 @@
 -- What is said of the written form.
-use Rattle.std.specs.Prelude.{◌≡◌, ◌↔◌, ℕ, ◌<◌, ◌^◌, ◌∷◌, [], ◌++◌, List, Bool, IsTrue, is_some, nat_eq, codes, Some, None, Ok, Err}
+use Rattle.std.specs.Prelude.{◌≡◌, ◌↔◌, ℕ, ◌<◌, ◌^◌, ◌∷◌, [], ◌++◌, ◌&&◌, List, Bool, IsTrue, nat_lt, is_some, nat_eq, codes, Some, None, Ok, Err}
 use Rattle.std.specs.List.{list_any, list_all}
 use Rattle.std.specs.Cmp.Lexicographic.{pointwise}
 use Rattle.serde_json.specs.Data.{Data, Members, no_members, member}
@@ -7,8 +7,13 @@ use Rattle.serde_json.specs.Find.{get, as_object}
 use Rattle.ov_types.specs.Name.{is_name, name_of}
 use Rattle.ov_types.specs.Prefix.{Block, is_prefix}
 use Rattle.ov_types.specs.Texts.{address_text, prefix_text}
+use Rattle.config_model.specs.declared.config.Config.{Config}
+use Rattle.config_model.specs.declared.config.Network.{Network}
 use Rattle.config_model.specs.declared.config.Rule.{Rule}
 use Rattle.config_model.specs.declared.fault.DocKind.TheVariants.{Missing}
+use Rattle.config_model.specs.declared.input.CompileInput.{CompileInput}
+use Rattle.config_model.specs.declared.input.ReachInput.{ReachInput}
+use Rattle.config_model.specs.Form.{has_topology_form, has_network_form, has_config_form, has_packet_form}
 use Rattle.config_model.specs.Paths.{member_path}
 use Rattle.config_model.specs.Written.{address_of, block_of}
 use Rattle.config_model.specs.Fields.{Reads}
@@ -91,3 +96,23 @@ NameIsItsText = (text name : List ℕ) → (name_of text ≡ Some name) ↔ (IsT
 -- where this member of an object is absent, the fault is that it is missing, at its path
 abbrev pub FirstIsMissed : {A : Type 0} → Reads A → List ℕ → Type 0
 FirstIsMissed reads name = (path : List ℕ) (d : Data) (members : Members) → as_object d ≡ Some members → get name d ≡ None → reads path d ≡ Err (record { path = member_path path name; kind = Missing })
+
+-- each value of this form has a document, which reads as it wherever it stands
+abbrev pub IsRead : {A : Type 0} → Reads A → (A → Bool) → (A → Data) → Type 0
+IsRead {A} reads has_form document = (x : A) → IsTrue (has_form x) → (path : List ℕ) → reads path (document x) ≡ Ok x
+
+-- the addresses of a network's subnets are of 32 bits, as their type has them
+abbrev pub subnets_fit : Network → Bool
+subnets_fit n = list_all (λ b. nat_lt b.addr (2 ^ 32)) n.subnets
+
+abbrev pub network_form : Network → Bool
+network_form n = has_network_form n && subnets_fit n
+
+abbrev pub config_form : Config → Bool
+config_form c = has_config_form c && list_all subnets_fit c.networks
+
+abbrev pub compile_form : CompileInput → Bool
+compile_form i = has_topology_form i.topology && config_form i.config
+
+abbrev pub reach_form : ReachInput → Bool
+reach_form r = compile_form r.input && list_all has_packet_form r.packets

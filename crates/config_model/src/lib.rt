@@ -19,10 +19,11 @@ pub use config::{
 };
 pub use config_reader::read_config;
 pub use fault::{DocFault, DocKind, ReadRefusal};
-pub use input::{Plan, ReachInput, read_compile, read_packet, read_reach};
+pub use input::{CompileInput, ReachInput, read_compile, read_packet, read_reach};
 pub use laws::{
-    configurations_have_just_their_members, first_members_are_missed,
-    inputs_have_just_their_members, texts_are_one, topologies_have_just_their_members,
+    configurations_are_read, configurations_have_just_their_members, first_members_are_missed,
+    inputs_are_read, inputs_have_just_their_members, texts_are_one, topologies_are_read,
+    topologies_have_just_their_members,
 };
 pub use topology::{Node, Topology};
 pub use topology_reader::read_topology;
