@@ -6,3 +6,5 @@ pub mod Prefix
 pub mod Rows
 pub mod Targets
 pub mod Texts
+pub mod Access
+pub mod Routing
