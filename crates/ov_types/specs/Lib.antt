@@ -1,7 +1,6 @@
 pub mod First
 pub mod Keys
 pub mod Name
-pub mod Numbers
 pub mod Prefix
 pub mod Rows
 pub mod Targets
