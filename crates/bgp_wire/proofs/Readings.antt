@@ -1,5 +1,5 @@
 -- Octets begin with a message, or are a proper prefix, or have a fault: one of the three, in one way.
-use Rattle.std.proofs.Common.{◌≡◌, ◌≤◌, ◌-◌, ℕ, ◌+◌, List, [], ◌∷◌, ◌++◌, length, take, drop, refl, ap, sym, ◌∙◌, arith, subst, inl, inr, ◌⊎◌, Option, Some, None, Bool, false, cond, not, nat_le, nat_lt, ◌==◌, ◌&&◌, ◌||◌}
+use Rattle.std.proofs.Common.{◌≡◌, ◌≢◌, ◌≤◌, ◌-◌, ℕ, ◌+◌, List, [], ◌∷◌, ◌++◌, length, take, drop, refl, ap, sym, ◌∙◌, arith, subst, inl, inr, ◌⊎◌, Option, Some, None, Bool, false, cond, not, nat_le, nat_lt, ◌==◌, ◌&&◌, ◌||◌}
 use Rattle.std.specs.Option.{MatchOption}
 use Rattle.std.specs.List.{list_all}
 use Rattle.std.proofs.lemmas.List.Folds.{list_all-append}
@@ -353,3 +353,20 @@ fault_stays_of octets more f None is fault =
 -- a fault stays, whatever follows
 pub fault_stays : (octets more : List ℕ) (f : WireFault) → HasFault octets f → HasFault (octets ++ more) f
 fault_stays octets more f fault = fault_stays_of octets more f (frame_fault octets) refl fault
+
+-- what is cut off a message leaves a proper prefix
+pub front_is_proper : (octets more : List ℕ) (c : Content) → AreOctets octets → IsMessage (octets ++ more) c → more ≢ [] → IsProperPrefix octets
+front_is_proper octets more c are is some =
+    let whole = whole_message (octets ++ more) c is in
+    elim (read octets are) [
+      | inl begins ↦
+          let short = message_stays octets more begins.0 begins.1 begins.2 in
+          let same = one_message (octets ++ more) c begins.0 (length (octets ++ more)) begins.1 whole short in
+          let lengths = same.1 in
+          let within = begins.2.within in
+          absurd (some (nil_from_length more (omega (arith, lengths, within, length-append octets more))))
+      | inr rest ↦ elim rest [
+        | inl proper ↦ proper
+        | inr fault ↦ absurd (never_message_and_fault (octets ++ more) c (length (octets ++ more)) fault.0 whole (fault_stays octets more fault.0 fault.1))
+      ]
+    ]

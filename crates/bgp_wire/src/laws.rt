@@ -68,3 +68,9 @@ pub fn each_attribute_comes_once()
         → AreAttributes octets attributes tail → YieldsThen NextAttribute octets items None after
         → SaysAll items attributes tail }
 {}
+
+/// What is cut off a message leaves a proper prefix of a frame.
+pub fn the_front_of_a_message_is_a_proper_prefix()
+    ensures { (octets more : List ℕ) (content : Content) → AreOctets octets → IsMessage (octets ++ more) content
+        → (more ≡ [] → ⊥) → IsProperPrefix octets }
+{}
