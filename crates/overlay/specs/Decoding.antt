@@ -44,7 +44,7 @@ keepalive_line = codes "keepalive" ++ (10 ∷ [])
 
 -- what is said of a message without a fault
 abbrev pub Says : Content → List ℕ → Type 0
-Says (Opens fields) text = text ≡ open_line fields.asn fields.hold (record { 0 = fields.id })
+Says (Opens fields) text = text ≡ open_line (asn_of fields) fields.hold (record { 0 = fields.id })
 Says (Updates parts) text = (changes : List (Delta VpnKey VpnRoute)) × Changes parts changes × (text ≡ update_lines changes)
 Says (Notifies code subcode) text = text ≡ notification_line code subcode
 Says KeepsAlive text = text ≡ keepalive_line
