@@ -10,6 +10,7 @@ use Rattle.bgp_wire.specs.declared.fault.WireFault.{WireFault}
 use Rattle.bgp_wire.specs.Content.{Content, Opens, Updates, Notifies, KeepsAlive, UpdateFields}
 use Rattle.bgp_wire.specs.Frames.{IsProperPrefix}
 use Rattle.bgp_wire.specs.Messages.{BeginsWith, HasFault}
+use Rattle.bgp_wire.specs.Opens.{asn_of}
 use Rattle.bgp_vpn.specs.Updates.{Changes, HasUpdateFault}
 use Rattle.report.specs.Lines.{open_line, put_line, drop_line, notification_line, fault_line, incomplete_line}
 
