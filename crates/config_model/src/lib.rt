@@ -4,10 +4,15 @@
 mod bounds;
 mod config;
 mod config_reader;
+mod edit;
+mod edit_reader;
+mod event;
+mod event_reader;
 mod fault;
 mod fields;
 mod input;
 mod laws;
+mod one_member;
 mod rule_reader;
 mod topology;
 mod topology_reader;
@@ -18,6 +23,10 @@ pub use config::{
     Action, Chain, Config, Direction, End, Network, Policy, Port, Protocol, Rule, Service,
 };
 pub use config_reader::read_config;
+pub use edit::{Edit, Object, ObjectKind};
+pub use edit_reader::read_edit;
+pub use event::{Event, RunInput};
+pub use event_reader::{read_events, read_run};
 pub use fault::{DocFault, DocKind, ReadRefusal};
 pub use input::{Plan, ReachInput, read_compile, read_packet, read_reach};
 pub use laws::{
