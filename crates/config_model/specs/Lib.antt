@@ -7,7 +7,4 @@ pub mod Topology
 pub mod Rule
 pub mod Config
 pub mod Input
-pub mod OneMember
-pub mod Edit
-pub mod Event
-pub mod Laws
+pub mod Documents
