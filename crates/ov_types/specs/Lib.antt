@@ -1,4 +1,5 @@
 pub mod First
+pub mod Keys
 pub mod Name
 pub mod Numbers
 pub mod Prefix
