@@ -8,3 +8,4 @@ pub mod OneText
 pub mod Missed
 pub mod FaultKinds
 pub mod Read
+pub mod Three

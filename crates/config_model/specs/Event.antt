@@ -52,13 +52,13 @@ deliver_at path d = do
 -- the event that a member names, by what the member has
 unfoldable pub event_from : List ℕ → Reads Event
 event_from word path d =
-    if same_name word (codes "edit") then edit_at path d >>= λ x. Ok (Events.Edit x)
+    if same_name word (codes "edit") then (edit_at path d >>= λ x. Ok (Events.Edit x))
     else (if same_name word (codes "deliver") then deliver_at path d
-    else (if same_name word (codes "lose") then two_names_at path d >>= λ p. Ok (Events.Lose p.0 p.1)
-    else (if same_name word (codes "connect") then two_names_at path d >>= λ p. Ok (Events.Connect p.0 p.1)
-    else (if same_name word (codes "restart") then name_at path d >>= λ x. Ok (Events.Restart x)
-    else (if same_name word (codes "show") then name_at path d >>= λ x. Ok (Events.Show x)
-    else (if same_name word (codes "trace") then packet_at path d >>= λ x. Ok (Events.Trace x)
+    else (if same_name word (codes "lose") then (two_names_at path d >>= λ p. Ok (Events.Lose p.0 p.1))
+    else (if same_name word (codes "connect") then (two_names_at path d >>= λ p. Ok (Events.Connect p.0 p.1))
+    else (if same_name word (codes "restart") then (name_at path d >>= λ x. Ok (Events.Restart x))
+    else (if same_name word (codes "show") then (name_at path d >>= λ x. Ok (Events.Show x))
+    else (if same_name word (codes "trace") then (packet_at path d >>= λ x. Ok (Events.Trace x))
     else refused path Unknown))))))
 
 -- the event that a text is
@@ -91,7 +91,7 @@ run_at path d = do
   config ← in_member config_at path (codes "configuration") d
   events ← in_member events_at path (codes "events") d
   done ← only_at path (codes "topology" ∷ codes "configuration" ∷ codes "events" ∷ []) members
-  Ok (record { topology = topology; config = config; events = events })
+  Ok (record { input = record { topology = topology; config = config }; events = events })
 
 -- which events a document can write
 unfoldable pub has_event_form : Event → Bool

@@ -1,7 +1,6 @@
 //! Events of a schedule.
-use crate::config::Config;
 use crate::edit::Edit;
-use crate::topology::Topology;
+use crate::input::CompileInput;
 use ov_types::{Items, Name, Packet};
 
 /// What may happen in a run, in the order in which a schedule lists it.
@@ -27,10 +26,9 @@ pub enum Event {
     Trace(Packet),
 }
 
-/// What there is, what is configured, and what happens.
+/// What there is and what is configured, and what happens.
 #[derive(Clone, Debug, Drop, PartialEq, Eq)]
 pub struct RunInput {
-    pub topology: Topology,
-    pub config: Config,
+    pub input: CompileInput,
     pub events: Items<Event>,
 }

@@ -16,6 +16,7 @@ use crate::fault::{DocKind, Place, ReadRefusal};
 use crate::fields::{
     Count, FromDocument, check_others, list_member, object_of, read_list, read_member, whole_of,
 };
+use crate::input::CompileInput;
 use crate::one_member::one_member_of;
 use crate::topology::Topology;
 use ov_types::{Items, Name, Packet};
@@ -173,8 +174,8 @@ pub fn read_events(alloc: Global, value: &Value) -> Result<Items<Event>, ReadRef
 #[tactic(auto, unfolding(crate::specs::Event::run_at))]
 fn run_input_of(alloc: Global, path: &str, value: &Value) -> Result<RunInput, ReadRefusal>
     ensures reads { Gives (λ r. r) result (run_at path.now (view value.now)) }
-    ensures topology_form { IfOk result (λ r. IsTrue (has_topology_form r.topology)) }
-    ensures config_form { IfOk result (λ r. IsTrue (has_config_form r.config)) }
+    ensures topology_form { IfOk result (λ r. IsTrue (has_topology_form r.input.topology)) }
+    ensures config_form { IfOk result (λ r. IsTrue (has_config_form r.input.config)) }
     ensures events_form { IfOk result (λ r. IsTrue (list_all has_event_form r.events)) }
 {
     let members = object_of(alloc, Place::At(path), value)?;
@@ -188,8 +189,7 @@ fn run_input_of(alloc: Global, path: &str, value: &Value) -> Result<RunInput, Re
         members,
     )?;
     Ok(RunInput {
-        topology,
-        config,
+        input: CompileInput { topology, config },
         events,
     })
 }
@@ -197,8 +197,8 @@ fn run_input_of(alloc: Global, path: &str, value: &Value) -> Result<RunInput, Re
 /// The whole input of `run`: an object with `topology`, `configuration` and `events`, a list.
 pub fn read_run(alloc: Global, value: &Value) -> Result<RunInput, ReadRefusal>
     ensures reads { Gives (λ r. r) result (run_at [] (view value.now)) }
-    ensures topology_form { IfOk result (λ r. IsTrue (has_topology_form r.topology)) }
-    ensures config_form { IfOk result (λ r. IsTrue (has_config_form r.config)) }
+    ensures topology_form { IfOk result (λ r. IsTrue (has_topology_form r.input.topology)) }
+    ensures config_form { IfOk result (λ r. IsTrue (has_config_form r.input.config)) }
     ensures events_form { IfOk result (λ r. IsTrue (list_all has_event_form r.events)) }
 {
     run_input_of(alloc, "", value)
