@@ -11,4 +11,6 @@ pub mod OneMember
 pub mod Edit
 pub mod Event
 pub mod Documents
+pub mod EventDocuments
 pub mod Laws
+pub mod EventLaws
