@@ -8,7 +8,6 @@ pub mod OneText
 pub mod Missed
 pub mod FaultKinds
 pub mod Read
-pub mod Three
 pub mod EventsRead
 pub mod EventFaults
 pub mod EventsJust

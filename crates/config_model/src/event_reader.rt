@@ -46,9 +46,13 @@ fn two_names_of(
 fn three_of(items: &[Value]) -> Option<(&Value, &Value, &Value)>
     ensures { option_map (λ p. (view p.0.now, view p.1.now, view p.2.now)) result ≡ three_of (items_view items.now) }
 {
-    match items {
-        [a, b, c] => Some((a, b, c)),
-        _ => None,
+    let mut rest = items.iter();
+    let a = rest.next()?;
+    let b = rest.next()?;
+    let c = rest.next()?;
+    match rest.next() {
+        Some(_) => None,
+        None => Some((a, b, c)),
     }
 }
 
