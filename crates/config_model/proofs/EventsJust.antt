@@ -97,25 +97,25 @@ deliver_word path d e h =
     let b = bind_ok (name_at (item_path path 0) a.0.0) _ e a.2 in
     let c = bind_ok (name_at (item_path path 1) a.0.1) _ e b.2 in
     let n = bind_ok (whole_at 1 1000000 (item_path path 2) a.0.2) _ e c.2 in
-    ap event_word (ok_is (Events.Deliver b.0 c.0 n.0) e n.2)
+    ap event_word {x = Events.Deliver b.0 c.0 n.0} (ok_is (Events.Deliver b.0 c.0 n.0) e n.2)
 
 event_from_word : (word path : List ℕ) (d : Data) (e : Event) → event_from word path d ≡ Ok e → word ≡ event_word e
 unfolding event_from
 event_from_word word path d e h =
     elim (cases_Bool (pointwise nat_eq word (codes "edit"))) [
-      | inl p ↦ let a = bind_ok (edit_at path d) _ e (rw p at h) in same word (codes "edit") p ∙ ap event_word (ok_is (Events.Edit a.0) e a.2)
+      | inl p ↦ let a = bind_ok (edit_at path d) _ e (rw p at h) in same word (codes "edit") p ∙ ap event_word {x = Events.Edit a.0} (ok_is (Events.Edit a.0) e a.2)
       | inr p ↦ elim (cases_Bool (pointwise nat_eq word (codes "deliver"))) [
         | inl q ↦ same word (codes "deliver") q ∙ deliver_word path d e (rw (p, q) at h)
         | inr q ↦ elim (cases_Bool (pointwise nat_eq word (codes "lose"))) [
-          | inl r ↦ let a = bind_ok (two_names_at path d) _ e (rw (p, q, r) at h) in same word (codes "lose") r ∙ ap event_word (ok_is (Events.Lose a.0.0 a.0.1) e a.2)
+          | inl r ↦ let a = bind_ok (two_names_at path d) _ e (rw (p, q, r) at h) in same word (codes "lose") r ∙ ap event_word {x = Events.Lose a.0.0 a.0.1} (ok_is (Events.Lose a.0.0 a.0.1) e a.2)
           | inr r ↦ elim (cases_Bool (pointwise nat_eq word (codes "connect"))) [
-            | inl s ↦ let a = bind_ok (two_names_at path d) _ e (rw (p, q, r, s) at h) in same word (codes "connect") s ∙ ap event_word (ok_is (Events.Connect a.0.0 a.0.1) e a.2)
+            | inl s ↦ let a = bind_ok (two_names_at path d) _ e (rw (p, q, r, s) at h) in same word (codes "connect") s ∙ ap event_word {x = Events.Connect a.0.0 a.0.1} (ok_is (Events.Connect a.0.0 a.0.1) e a.2)
             | inr s ↦ elim (cases_Bool (pointwise nat_eq word (codes "restart"))) [
-              | inl t ↦ let a = bind_ok (name_at path d) _ e (rw (p, q, r, s, t) at h) in same word (codes "restart") t ∙ ap event_word (ok_is (Events.Restart a.0) e a.2)
+              | inl t ↦ let a = bind_ok (name_at path d) _ e (rw (p, q, r, s, t) at h) in same word (codes "restart") t ∙ ap event_word {x = Events.Restart a.0} (ok_is (Events.Restart a.0) e a.2)
               | inr t ↦ elim (cases_Bool (pointwise nat_eq word (codes "show"))) [
-                | inl u ↦ let a = bind_ok (name_at path d) _ e (rw (p, q, r, s, t, u) at h) in same word (codes "show") u ∙ ap event_word (ok_is (Events.Show a.0) e a.2)
+                | inl u ↦ let a = bind_ok (name_at path d) _ e (rw (p, q, r, s, t, u) at h) in same word (codes "show") u ∙ ap event_word {x = Events.Show a.0} (ok_is (Events.Show a.0) e a.2)
                 | inr u ↦ elim (cases_Bool (pointwise nat_eq word (codes "trace"))) [
-                  | inl v ↦ let a = bind_ok (packet_at path d) _ e (rw (p, q, r, s, t, u, v) at h) in same word (codes "trace") v ∙ ap event_word (ok_is (Events.Trace a.0) e a.2)
+                  | inl v ↦ let a = bind_ok (packet_at path d) _ e (rw (p, q, r, s, t, u, v) at h) in same word (codes "trace") v ∙ ap event_word {x = Events.Trace a.0} (ok_is (Events.Trace a.0) e a.2)
                   | inr v ↦ let never : Err _ ≡ Ok e = rw (p, q, r, s, t, u, v) at h in absurd (cc)
                 ]
               ]
