@@ -2,6 +2,7 @@
 #![tactic(auto)]
 
 mod chains;
+mod finding;
 mod ids;
 pub mod laws;
 mod limits;
@@ -19,7 +20,8 @@ mod uses;
 mod valid;
 
 pub use passing::passes_between;
-pub use ports::{holds_address, network_named};
+pub use finding::{network_named, network_numbered, node_named, port_at, port_numbered};
+pub use ports::holds_address;
 pub use refusal::{CheckRefusal, IdKind, LimitKind, Refusal};
 pub use related::{NumberedRule, are_related, attaches, fits};
 pub use valid::{Valid, check};
