@@ -181,7 +181,7 @@ references_iff t c =
 
 -- 5 to 8
 
-reserved_in_iff : (n : Network) → (reserved_in n ≡ None) ↔ All (λ p. ¬ Overlap circuit_addresses p) n.subnets
+pub reserved_in_iff : (n : Network) → (reserved_in n ≡ None) ↔ All (λ p. ¬ Overlap circuit_addresses p) n.subnets
 reserved_in_iff n =
     iff_then (mapped_none (λ (p : Block). SubnetReserved n.name p) (find (overlap circuit_addresses) n.subnets))
     (iff_then (find_none (overlap circuit_addresses) n.subnets)
@@ -191,7 +191,7 @@ pub reserved_iff : (c : Config) → (broken_reserved c ≡ None) ↔ ReservesCir
 unfolding broken_reserved
 reserved_iff c = each_iff reserved_in (λ n. All (λ p. ¬ Overlap circuit_addresses p) n.subnets) reserved_in_iff c.networks
 
-nested_in_iff : (n : Network) → (nested_in n ≡ None) ↔ AllPairs (λ p q. ¬ Overlap p q) n.subnets
+pub nested_in_iff : (n : Network) → (nested_in n ≡ None) ↔ AllPairs (λ p q. ¬ Overlap p q) n.subnets
 nested_in_iff n =
     iff_then (mapped_none (λ (m : Block × Block). SubnetNested n.name m.0 m.1) (first_meeting overlap n.subnets))
     (iff_then (first_meeting_none overlap n.subnets)

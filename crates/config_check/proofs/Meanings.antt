@@ -35,7 +35,7 @@ or_iff : {P Q : Type 0} (a b : Bool) → IsTrue a ↔ P → IsTrue b ↔ Q → I
 or_iff true b p q = (λ h. inl (p.0 refl), λ h. refl)
 or_iff false b p q = (λ h. inr (q.0 h), λ h. elim h [ inl x ↦ let t : false ≡ true = p.1 x in cc | inr y ↦ q.1 y ])
 
-and_iff : {P Q : Type 0} (a b : Bool) → IsTrue a ↔ P → IsTrue b ↔ Q → IsTrue (a && b) ↔ (P × Q)
+pub and_iff : {P Q : Type 0} (a b : Bool) → IsTrue a ↔ P → IsTrue b ↔ Q → IsTrue (a && b) ↔ (P × Q)
 and_iff true b p q = (λ h. (p.0 refl, q.0 h), λ h. q.1 h.1)
 and_iff false b p q = (λ h. cc, λ h. p.1 h.0)
 
@@ -47,7 +47,7 @@ same_name_iff a b = (
   λ e. ap (same_name a) (sym e) ∙ nat_list_eq_equiv.refl a,
 )
 
-number_iff : (a b : ℕ) → IsTrue (a == b) ↔ (a ≡ b)
+pub number_iff : (a b : ℕ) → IsTrue (a == b) ↔ (a ≡ b)
 number_iff a b = (eqb-true a b, eq-eqb a b)
 
 pub distinct_names : (names : List (List ℕ)) → (repeated_name names ≡ None) ↔ AreDistinct names
@@ -100,7 +100,7 @@ not_false_iff : (b : Bool) → (not b ≡ false) ↔ (b ≡ true)
 not_false_iff true = (λ h. refl, λ h. refl)
 not_false_iff false = (λ h. cc, λ h. cc)
 
-holds_iff : (n : Network) (a : ℕ) → (holds_address n a ≡ true) ↔ Any (λ s. contains s a ≡ true) n.subnets
+pub holds_iff : (n : Network) (a : ℕ) → (holds_address n a ≡ true) ↔ Any (λ s. contains s a ≡ true) n.subnets
 holds_iff n a = (Any-from_list_any (λ s. contains s a) n.subnets, list_any-from_Any (λ s. contains s a) n.subnets)
 
 inside_of : (o : Option Network) (a : ℕ) → (option_map_or (λ n. not (holds_address n a)) o false ≡ false) ↔ IfSome o (λ n. Any (λ s. contains s a ≡ true) n.subnets)

@@ -1,4 +1,5 @@
 pub mod Related
+pub mod Finding
 pub mod Rules
 pub mod Between
 pub mod Checked

@@ -17,6 +17,7 @@ use Rattle.config_model.specs.declared.topology.Node.{Node}
 use Rattle.config_model.specs.declared.topology.Topology.{Topology}
 use Rattle.ov_types.specs.First.{same_name, ◌<|>◌, first_of, first_meeting}
 use Rattle.chain_expand.specs.Expansion.{loops, loop_of, expansion, same_number}
+pub use Rattle.config_check.specs.Finding.{network_named}
 use Rattle.config_check.specs.Related.{NumberedRule, numbered_rules, are_related}
 use Rattle.config_check.specs.declared.refusal.IdKind.{IdKind}
 use Rattle.config_check.specs.declared.refusal.IdKind.TheVariants as Id
@@ -186,9 +187,6 @@ unfoldable pub broken_nested : Config → Option Refusal
 broken_nested c = first_of nested_in c.networks
 
 -- 7. A port's address is in a subnet of its network.
-
-abbrev pub network_named : Config → List ℕ → Option Network
-network_named c name = find (λ n. same_name n.name name) c.networks
 
 -- an address lies in a subnet of a network
 abbrev pub holds_address : Network → ℕ → Bool

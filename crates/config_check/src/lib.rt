@@ -3,6 +3,7 @@
 
 mod chains;
 mod edits;
+mod finding;
 mod ids;
 pub mod laws;
 mod limits;
@@ -22,7 +23,8 @@ mod valid;
 
 pub use edits::{EditFault, EditRefusal, apply_edit};
 pub use passing::passes_between;
-pub use ports::{holds_address, network_named};
+pub use finding::{network_named, network_numbered, node_named, port_at, port_numbered};
+pub use ports::holds_address;
 pub use refusal::{CheckRefusal, IdKind, LimitKind, Refusal};
 pub use related::{NumberedRule, are_related, attaches, fits};
 pub use valid::{Valid, check};

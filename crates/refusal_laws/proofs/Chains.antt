@@ -28,17 +28,17 @@ none_is (Some x) h = cc
 
 -- chain rules
 
-chain_of : (a : Action) → is_chain_rule a ≡ true → (chain : List ℕ) × LeadsThrough a chain
+pub chain_of : (a : Action) → is_chain_rule a ≡ true → (chain : List ℕ) × LeadsThrough a chain
 chain_of Pass h = cc
 chain_of Deny h = cc
 chain_of (Through chain use_no) h = (chain, (use_no, refl))
 
-some_any : (s d : End) → (is_any s || is_any d) ≡ true → (s ≡ Ends.Any) ⊎ (d ≡ Ends.Any)
+pub some_any : (s d : End) → (is_any s || is_any d) ≡ true → (s ≡ Ends.Any) ⊎ (d ≡ Ends.Any)
 some_any Ends.Any d h = inl refl
 some_any (Ends.Named name) Ends.Any h = inr refl
 some_any (Ends.Named name) (Ends.Named other) h = cc
 
-one_network : (s d : End) → same_end s d ≡ true → (network : List ℕ) × (s ≡ Ends.Named network) × (d ≡ Ends.Named network)
+pub one_network : (s d : End) → same_end s d ≡ true → (network : List ℕ) × (s ≡ Ends.Named network) × (d ≡ Ends.Named network)
 one_network Ends.Any Ends.Any h = cc
 one_network Ends.Any (Ends.Named other) h = cc
 one_network (Ends.Named name) Ends.Any h = cc

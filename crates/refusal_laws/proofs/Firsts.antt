@@ -9,10 +9,10 @@ use Rattle.refusal_laws.specs.Breaks.{StandsBefore, StandsTwice}
 pub any_of : {A : Type 0} (P : A → Type 0) (xs : List A) (x : A) → Contains xs x → P x → Any P xs
 any_of P xs x h p = (h.0, x, h.1, h.2, p)
 
-contains_here : {A : Type 0} (x : A) (xs : List A) → Contains (x ∷ xs) x
+pub contains_here : {A : Type 0} (x : A) (xs : List A) → Contains (x ∷ xs) x
 contains_here x xs = (0, omega arith, refl)
 
-contains_later : {A : Type 0} (x y : A) (xs : List A) → Contains xs x → Contains (y ∷ xs) x
+pub contains_later : {A : Type 0} (x y : A) (xs : List A) → Contains xs x → Contains (y ∷ xs) x
 contains_later x y xs h = let within : h.0 < length xs = h.1 in (suc h.0, omega arith, h.2)
 
 -- what holds of an answer, where there is one
@@ -58,12 +58,12 @@ found_in p xs x f = contains_at xs f.place x f.there
 
 -- the first two that meet
 
-at_front : {A : Type 0} (xs ys : List A) (k : ℕ) (x : A) → slice_get xs k ≡ Some x → (k < length xs) × (slice_get (xs ++ ys) k ≡ Some x)
+pub at_front : {A : Type 0} (xs ys : List A) (k : ℕ) (x : A) → slice_get xs k ≡ Some x → (k < length xs) × (slice_get (xs ++ ys) k ≡ Some x)
 at_front [] ys k x h = cc
 at_front (y ∷ xs) ys zero x h = (omega arith, h)
 at_front (y ∷ xs) ys (suc k) x h = let rest = at_front xs ys k x h in let within : k < length xs = rest.0 in (omega arith, rest.1)
 
-at_seam : {A : Type 0} (xs ys : List A) (x : A) → slice_get (xs ++ x ∷ ys) (length xs) ≡ Some x
+pub at_seam : {A : Type 0} (xs ys : List A) (x : A) → slice_get (xs ++ x ∷ ys) (length xs) ≡ Some x
 at_seam [] ys x = refl
 at_seam (y ∷ xs) ys x = at_seam xs ys x
 

@@ -53,7 +53,7 @@ not_held : (b : Bool) → not b ≡ true → ¬ (b ≡ true)
 not_held true h = λ e. cc
 not_held false h = λ e. cc
 
-outside_of : (o : Option Network) (a : ℕ) → option_map_or (λ n. not (holds_address n a)) o false ≡ true → IsSomeAnd o (λ n. ¬ Any (λ s. IsTrue (contains s a)) n.subnets)
+pub outside_of : (o : Option Network) (a : ℕ) → option_map_or (λ n. not (holds_address n a)) o false ≡ true → IsSomeAnd o (λ n. ¬ Any (λ s. IsTrue (contains s a)) n.subnets)
 outside_of None a h = cc
 outside_of (Some n) a h = λ some. not_held (holds_address n a) h (list_any-from_Any (λ s. contains s a) n.subnets some)
 
