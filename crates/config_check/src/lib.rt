@@ -8,20 +8,16 @@ mod limits;
 mod meeting;
 mod names;
 mod overlaps;
-mod passing;
 mod ports;
 mod references;
 mod refusal;
-mod related;
 mod subnets;
 mod texts;
 mod uses;
 mod valid;
 
-pub use passing::passes_between;
 pub use ports::{holds_address, network_named};
 pub use refusal::{CheckRefusal, IdKind, LimitKind, Refusal};
-pub use related::{NumberedRule, are_related, attaches, fits};
 pub use valid::{Valid, check};
 
 #[cfg(test)]

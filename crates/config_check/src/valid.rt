@@ -12,7 +12,7 @@ use crate::overlaps::broken_overlap;
 use crate::ports::{broken_outside, broken_taken};
 use crate::references::broken_reference;
 use crate::refusal::{CheckRefusal, Refusal};
-use crate::related::{NumberedRule, all_rules};
+use network_rules::{NumberedRule, all_rules};
 use crate::subnets::{broken_nested, broken_reserved};
 use crate::uses::{broken_needs, broken_same};
 use config_model::{Config, Topology};

@@ -13,9 +13,9 @@ use Rattle.config_model.specs.declared.config.Network.{Network}
 use Rattle.config_model.specs.declared.config.Port.{Port}
 use Rattle.chain_expand.specs.Expansion.{expansion}
 use Rattle.ov_types.specs.First.{same_name}
-use Rattle.config_check.specs.Related.{are_related}
+use Rattle.network_rules.specs.Related.{are_related}
 use Rattle.config_check.specs.Rules.{network_named, holds_address}
-use Rattle.reach_plain.specs.Matching.{Match, deciding}
+use Rattle.network_rules.specs.Matching.{Match, deciding}
 
 abbrev pub port_numbered : Config → ℕ → Option Port
 port_numbered c n = find (λ p. p.id.0 == n) c.ports

@@ -1,15 +1,14 @@
 //! What becomes of a packet.
 ghost use Rattle.std.specs.Prelude.{◌≡◌, ◌&&◌, ◌||◌, option_copied};
 ghost use Rattle.ov_types.specs.First.{same_name};
-ghost use Rattle.config_check.specs.Related.{are_related};
+ghost use Rattle.network_rules.specs.Related.{are_related};
 ghost use Rattle.config_check.specs.Rules.{network_named, holds_address};
 ghost use Rattle.reach_plain.specs.Reachability.{port_numbered, network_towards, port_at, arrival_at, outcome_of, outcome_by, outcome_between, outcome_towards, outcome_from, outcome_at, reachability};
 
-use crate::deciding::deciding;
-use crate::matching::Match;
 use crate::services::services_through;
-use config_check::{Valid, are_related, holds_address, network_named};
+use config_check::{Valid, holds_address, network_named};
 use config_model::{Action, Config, Network, Port};
+use network_rules::{Match, are_related, deciding};
 use ov_types::{Addr, Outcome, Packet, PortNo, RuleNo, Services, Why};
 
 fn port_numbered<'a>(config: &'a Config, number: PortNo) -> Option<&'a Port>

@@ -1,0 +1,5 @@
+pub mod AnyRule
+pub mod Answers
+pub mod Deciders
+pub mod Ordered
+pub mod Standing
