@@ -6,8 +6,8 @@ ghost use Rattle.network_rules.specs.Related.{all_rules};
 
 use crate::meeting::first_meeting;
 use crate::refusal::{IdKind, Refusal};
-use network_rules::NumberedRule;
 use config_model::{Action, Config, Topology};
+use network_rules::NumberedRule;
 use ov_types::NoMemory;
 use std::alloc::Global;
 

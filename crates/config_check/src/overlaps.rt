@@ -7,9 +7,9 @@ ghost use Rattle.config_check.specs.Between.{also_leads, is_in_group};
 ghost use Rattle.config_check.specs.Rules.{overlap, group_of, share_addresses, overlapping, overlapping_around, broken_overlap};
 
 use crate::refusal::Refusal;
-use network_rules::{attaches, some_rule_leads};
 use crate::subnets::overlap;
 use config_model::{Config, Network, Policy};
+use network_rules::{attaches, some_rule_leads};
 use ov_types::{NoMemory, Prefix};
 use std::alloc::Global;
 

@@ -9,8 +9,8 @@ use crate::names::{
     chain_names, controller_names, hop_names, network_names, node_names, policy_names,
 };
 use crate::refusal::Refusal;
-use network_rules::NumberedRule;
 use config_model::{Action, Chain, Config, End, Network, Node, Port, Service, Topology};
+use network_rules::NumberedRule;
 use ov_types::{Name, NoMemory};
 use std::alloc::Global;
 

@@ -9,8 +9,8 @@ use Rattle.config_model.specs.declared.config.Policy.{Policy}
 use Rattle.ov_types.specs.First.{◌<|>◌, first_of}
 use Rattle.network_rules.specs.declared.numbered.NumberedRule.{NumberedRule}
 use Rattle.network_rules.specs.Related.{numbered_rules, all_rules, attaches, put_by_sequence, by_sequence, fits, rules_between}
-use Rattle.ov_types.proofs.FirstLemmas.{mapped_none, first_of_none, all_head, all_tail, all_cons}
-use Rattle.network_rules.specs.Matching.{Match, matches_forwards, matches_mirrored, match_by, deciding, decision_by, decision}
+use Rattle.ov_types.proofs.FirstLemmas.{all_head, all_tail, all_cons}
+use Rattle.network_rules.specs.Matching.{Match, match_by, deciding}
 use Rattle.network_rules.proofs.Ordered.{matched_rule}
 
 module _ {A : Type 0} (P : A → Type 0) where
@@ -68,23 +68,3 @@ module _ (P : NumberedRule → Type 0) where
   pub of_decider : (c : Config) (a b : Network) (t : Tuple) (m : Match) → All P (all_rules c) → deciding c a b t ≡ Some m → P m.rule
   unfolding deciding
   of_decider c a b t m each h = of_first a b t (rules_between c a b) m (all_between c a b each) h
-
--- where no rule decides
-
-untried : (p q : Bool) (forwards mirrored : Match) → (cond p (Some forwards) (cond q (Some mirrored) None) ≡ None) ↔ ((p ≡ false) × (q ≡ false))
-untried true q forwards mirrored = (λ h. cc, λ h. let e : true ≡ false = h.0 in cc)
-untried false true forwards mirrored = (λ h. cc, λ h. let e : true ≡ false = h.1 in cc)
-untried false false forwards mirrored = (λ h. (refl, refl), λ h. refl)
-
-pub undecided : (c : Config) (a b : Network) (t : Tuple) → (decision c a b t ≡ None)
-    ↔ All (λ r. (matches_forwards a b t r.rule ≡ false) × (matches_mirrored a b t r.rule ≡ false)) (rules_between c a b)
-unfolding deciding
-undecided c a b t =
-    let rs : List NumberedRule = rules_between c a b in
-    let mapped = mapped_none decision_by (first_of (match_by a b t) rs) in
-    let none = first_of_none (match_by a b t) rs in
-    let each : (r : NumberedRule) → (match_by a b t r ≡ None) ↔ ((matches_forwards a b t r.rule ≡ false) × (matches_mirrored a b t r.rule ≡ false)) =
-    λ r. untried (matches_forwards a b t r.rule) (matches_mirrored a b t r.rule) (record { rule = r; mirrored = false }) (record { rule = r; mirrored = true }) in (
-      λ h k d lt. (each (get_or rs k d)).0 (none.0 (mapped.0 h) k d lt),
-      λ h. mapped.1 (none.1 (λ k d lt. (each (get_or rs k d)).1 (h k d lt))),
-    )

@@ -6,7 +6,7 @@ use Rattle.config_model.specs.declared.config.Network.{Network}
 use Rattle.config_model.specs.declared.config.Policy.{Policy}
 use Rattle.config_model.specs.declared.config.Rule.{Rule}
 use Rattle.ov_types.specs.First.{◌<|>◌, first_of}
-use Rattle.ov_types.proofs.FirstLemmas.{first_flat, first_kept, next_is}
+use Rattle.ov_types.proofs.FirstLemmas.{first_flat, first_kept, next_is, all_here}
 use Rattle.network_rules.specs.declared.numbered.NumberedRule.{NumberedRule}
 use Rattle.network_rules.specs.Related.{numbered_from, numbered_rules, attaches, put_by_sequence, by_sequence, fits}
 use Rattle.network_rules.specs.Matching.{Match, has_protocol, in_range, speaks_both_ways, match_by}
@@ -172,3 +172,6 @@ policy_here a b t ps i p best total lt at so_far =
     least_apart best (match_in a b t p) (among a b t (drop (i + 1) ps))
     ∙ ap (least best) (sym (among_more a b t p (drop (i + 1) ps)) ∙ ap (among a b t) (sym (next_is ps i p lt at)))
     ∙ so_far
+
+-- a policy more, which has few rules
+pub ruleset next_policy = (policy_here, all_here)

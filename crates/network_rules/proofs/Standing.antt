@@ -200,13 +200,6 @@ module _ {A : Type 0} (R : A → A → Type 0) where
       let from = joined_is f bs y in_y in
       across b from.0 x y (All-contains (S b) bs from.0 (pairs_head S b bs h) from.1) in_x from.2)
 
-pairs_of_map : {A B : Type 0} (f : A → B) (R : B → B → Type 0) (xs : List A) → AllPairs R (map f xs) → AllPairs (λ x y. R (f x) (f y)) xs
-pairs_of_map f R [] h = λ i j d lt within. absurd (omega arith)
-pairs_of_map {A} f R (x ∷ xs) h =
-    AllPairs-cons (λ (x y : A). R (f x) (f y)) x xs
-    (λ k d lt. subst (R (f x)) (get_or-map f xs k d (f d) lt) (pairs_head R (f x) (map f xs) h k (f d) (omega (arith, length-map xs f))))
-    (pairs_of_map f R xs (pairs_tail R (f x) (map f xs) h))
-
 -- the order of policies, and of a policy's rules
 
 abbrev Rises : Policy → Policy → Type 0

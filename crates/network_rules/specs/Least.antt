@@ -9,7 +9,8 @@ use Rattle.network_rules.specs.Matching.{Match, match_by}
 
 -- the first match among the rules of a policy, where both networks attach it
 abbrev pub match_in : Network → Network → Tuple → Policy → Option Match
-match_in from to t p = if attaches from p && attaches to p then first_of (match_by from to t) (numbered_rules p) else None
+match_in from to t p =
+    if attaches from p && attaches to p then first_of (match_by from to t) (numbered_rules p) else None
 
 -- of two matches the one with the lesser sequence, and of the same sequence the earlier
 abbrev pub least : Option Match → Option Match → Option Match

@@ -4,3 +4,4 @@ pub mod Matching
 pub mod Least
 pub mod Answering
 pub mod Standing
+pub mod Taking

@@ -28,12 +28,16 @@ speaks_both_ways BothWays = true
 
 -- a rule matches a packet from one network to another as it is written
 abbrev pub matches_forwards : Network → Network → Tuple → Rule → Bool
-matches_forwards from to t r = fits r from to && has_protocol r.protocol t.proto && in_range r.source_ports t.sport && in_range r.destination_ports t.dport
+matches_forwards from to t r =
+    fits r from to && has_protocol r.protocol t.proto
+    && in_range r.source_ports t.sport && in_range r.destination_ports t.dport
 
 -- a rule of both directions matches the packet that answers one that it matches forwards: with the networks and the
 -- ports exchanged
 abbrev pub matches_mirrored : Network → Network → Tuple → Rule → Bool
-matches_mirrored from to t r = speaks_both_ways r.direction && fits r to from && has_protocol r.protocol t.proto && in_range r.source_ports t.dport && in_range r.destination_ports t.sport
+matches_mirrored from to t r =
+    speaks_both_ways r.direction && fits r to from && has_protocol r.protocol t.proto
+    && in_range r.source_ports t.dport && in_range r.destination_ports t.sport
 
 -- how a rule matches: forwards is tried first
 abbrev pub match_by : Network → Network → Tuple → NumberedRule → Option Match

@@ -1,5 +1,6 @@
 -- The rules between two networks, which networks are related, and which a network imports.
-use Rattle.std.specs.Prelude.{ℕ, ◌+◌, ◌&&◌, ◌||◌, nat_lt, Bool, true, false, not, List, [], ◌∷◌, filter, flat_map, if◌then◌else◌}
+use Rattle.std.specs.Prelude.{ℕ, ◌+◌, ◌&&◌, ◌||◌, nat_lt, Bool, true, false, not, List, [], ◌∷◌, filter, flat_map}
+use Rattle.std.specs.Prelude.{if◌then◌else◌}
 use Rattle.std.specs.List.{list_any}
 use Rattle.config_model.specs.declared.config.Action.{Action}
 use Rattle.config_model.specs.declared.config.Action.TheVariants.{Pass, Deny, Through}
@@ -15,7 +16,9 @@ pub use Rattle.network_rules.specs.declared.numbered.NumberedRule.{NumberedRule}
 -- the rules of a policy in order, the first at a position
 abbrev pub numbered_from : ℕ → ℕ → List Rule → List NumberedRule
 numbered_from sequence position [] = []
-numbered_from sequence position (r ∷ rs) = record { number = record { sequence = sequence; position = position }; rule = r } ∷ numbered_from sequence (position + 1) rs
+numbered_from sequence position (r ∷ rs) =
+    record { number = record { sequence = sequence; position = position }; rule = r }
+    ∷ numbered_from sequence (position + 1) rs
 
 -- the rules of a policy: positions count from 1
 abbrev pub numbered_rules : Policy → List NumberedRule

@@ -1,7 +1,9 @@
 -- Which rules stand between two networks, and in which order.
-use Rattle.std.specs.Prelude.{◌≡◌, ◌⊎◌, ℕ, ◌+◌, ◌<◌, slice_get, Some}
+use Rattle.std.specs.Prelude.{◌≡◌, ◌≢◌, ◌⊎◌, ℕ, ◌+◌, ◌<◌, slice_get, Some}
 use Rattle.std.specs.List.{Contains}
 use Rattle.ov_types.specs.declared.packet.RuleNo.{RuleNo}
+use Rattle.config_model.specs.declared.config.Action.{Action}
+use Rattle.config_model.specs.declared.config.Action.TheVariants.{Pass, Deny, Through}
 use Rattle.config_model.specs.declared.config.Config.{Config}
 use Rattle.config_model.specs.declared.config.End.{End}
 use Rattle.config_model.specs.declared.config.End.TheVariants.{Any, Named}
@@ -35,3 +37,22 @@ pub record IsBetween (c : Config) (a b : Network) (r : NumberedRule) : Type 0 wh
   pub sequence : r.number.sequence ≡ policy.sequence
   pub position : r.number.position ≡ place + 1
   pub fits : Fits r.rule a b ⊎ Fits r.rule b a
+
+-- an action lets packets through: it passes them, or leads them through a chain
+abbrev pub LetsThrough : Action → Type 0
+LetsThrough Pass = Unit {0}
+LetsThrough Deny = ⊥
+LetsThrough (Through chain use_no) = Unit {0}
+
+-- two networks are related: they differ, and a rule that lets packets through stands between them
+pub record AreRelated (c : Config) (a b : Network) : Type 0 where
+  pub differ : a.name ≢ b.name
+  pub rule : NumberedRule
+  pub stands : IsBetween c a b rule
+  pub lets : LetsThrough rule.rule.action
+
+-- a pass rule stands between two networks
+pub record PassesBetween (c : Config) (a b : Network) : Type 0 where
+  pub rule : NumberedRule
+  pub stands : IsBetween c a b rule
+  pub pass : rule.rule.action ≡ Pass

@@ -68,13 +68,8 @@ fn least(earlier: Option<Match>, later: Option<Match>) -> Option<Match>
 }
 
 /// The first rule between two networks that matches, by sequence and then position.
-#[tactic(auto, using(crate::proofs::Ordered::policy_here, ov_types::proofs::FirstLemmas::all_here), unfolding(crate::specs::Matching::deciding))]
-pub fn deciding(
-    config: &Config,
-    from: &Network,
-    to: &Network,
-    tuple: &Tuple,
-) -> Option<Match>
+#[tactic(auto, using(crate::proofs::Ordered::next_policy), unfolding(crate::specs::Matching::deciding))]
+pub fn deciding(config: &Config, from: &Network, to: &Network, tuple: &Tuple) -> Option<Match>
     requires { IsTrue (list_all (λ p. nat_le (length p.rules) 16) config.now.policies) }
     ensures { result ≡ deciding config.now from.now to.now tuple.now }
 {

@@ -55,3 +55,6 @@ chain_expands t c name h =
     (λ i j d lt within. numbers_apart (get_or (expansion c name) i d) (get_or (expansion c name) j d) (chain_is_once t c name h i j d lt within))
     in
     rw (few, once) refl
+
+-- what lets a chain expand to a short list
+pub ruleset short_chains = (few_chains, chain_expands, chain_is_short)
