@@ -3,7 +3,7 @@ use Rattle.std.proofs.Common.{◌≡◌, ◌↔◌, ◌<◌, ◌||◌, ◌&&◌,
 use Rattle.std.specs.List.{All, AllPairs, list_any, list_all, filter}
 use Rattle.std.proofs.lemmas.List.Kept.{AllPairs-cons}
 use Rattle.ov_types.specs.First.{◌<|>◌}
-use Rattle.ov_types.proofs.FirstLemmas.{all_head, all_tail, all_cons, pairs_head, pairs_tail, both_none}
+pub use Rattle.ov_types.proofs.FirstLemmas.{all_head, all_tail, all_cons, pairs_head, pairs_tail, both_none, mapped_none, find_none, first_of_none, first_meeting_none}
 
 -- chains of equivalences
 

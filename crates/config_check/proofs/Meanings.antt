@@ -24,7 +24,8 @@ use Rattle.network_rules.specs.Related.{are_related}
 use Rattle.config_check.specs.Rules.{repeated_name, repeated_id, missing, missing_end, missing_chain, overlap, network_named, holds_address, is_outside, share_address, is_chain_rule, is_any, same_end, share_addresses, overlapping, overlapping_around}
 use Rattle.config_check.specs.Sentences.{AreDistinct, EndExists, ChainExists, Overlap, IsAround, AreApart}
 use Rattle.config_check.proofs.Iffs.{iff_then, all_iff, pairs_iff, list_any_false, pairs_kept}
-use Rattle.ov_types.proofs.FirstLemmas.{same_name_iff, both_none, mapped_none, find_none, first_meeting_none, pairs_head, pairs_tail}
+pub use Rattle.ov_types.proofs.FirstLemmas.{same_name_iff}
+use Rattle.ov_types.proofs.FirstLemmas.{both_none, mapped_none, find_none, first_meeting_none, pairs_head, pairs_tail}
 
 -- tests
 

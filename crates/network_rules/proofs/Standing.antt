@@ -138,7 +138,7 @@ end_iff : (e : End) (n : Network) → Decides (end_fits e n) (IsEnd e n)
 end_iff Any n = (λ h. tt, λ h. refl)
 end_iff (Named name) n = same_name_iff name n.name
 
-fits_iff : (r : Rule) (a b : Network) → Decides (fits r a b) (Fits r a b)
+pub fits_iff : (r : Rule) (a b : Network) → Decides (fits r a b) (Fits r a b)
 fits_iff r a b = Decides-and (end_fits r.source a) (end_fits r.destination b) (end_iff r.source a) (end_iff r.destination b)
 
 both_iff : (a b : Network) (p : Policy) → Decides (attaches a p && attaches b p) (Contains a.policies p.name × Contains b.policies p.name)

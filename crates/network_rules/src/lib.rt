@@ -3,14 +3,14 @@
 #![tactic(auto)]
 
 mod between;
-mod deciding;
+mod decisions;
 mod fitting;
 pub mod laws;
 mod matching;
 mod numbered;
 
 pub use between::{are_related, imports, passes_between, some_rule_leads};
-pub use deciding::{deciding, decision};
+pub use decisions::{deciding, decision};
 pub use fitting::{attaches, fits};
 pub use matching::{Decision, Match};
 pub use numbered::{NumberedRule, all_rules};

@@ -2,7 +2,7 @@ use Rattle.std.proofs.Common.{◌≡◌, ◌+◌, drop}
 use Rattle.ov_types.specs.First.{first_of}
 use Rattle.network_rules.specs.Related.{numbered_from, numbered_rules}
 use Rattle.network_rules.specs.Matching.{match_by}
-use Rattle.network_rules.proofs.deciding.first_match.Given as goal
+use Rattle.network_rules.proofs.decisions.first_match.Given as goal
 
 abbrev pub invariant-loop-rule : goal.invariant-loop-rule
 invariant-loop-rule l = record {
