@@ -4,7 +4,7 @@ ghost use Rattle.std.specs.List.{All, AllPairs};
 ghost use Rattle.config_model.specs.declared.config.Config.{Config};
 ghost use Rattle.config_model.specs.declared.topology.Topology.{Topology};
 ghost use Rattle.chain_expand.specs.Expansion.{loops, expansion};
-ghost use Rattle.network_rules.specs.Related.{NumberedRule};
+ghost use Rattle.network_rules.specs.declared.numbered.NumberedRule.{NumberedRule};
 ghost use Rattle.config_check.specs.Rules.{broken_limit, broken_name, broken_id, broken_reference, broken_reserved, broken_nested, broken_outside, broken_taken, broken_needs, broken_same, broken_loop, broken_long, broken_twice, broken_overlap, first_broken};
 ghost use Rattle.config_check.specs.Sentences.{KeepsLimits, HasDistinctNames, HasDistinctNumbers, HasReferents, ReservesCircuits, HasFlatSubnets, HoldsAddresses, HasDistinctAddresses, NamesEnds, NamesTwo, IsAround, AreApart, IsValid};
 

@@ -7,7 +7,8 @@ use Rattle.config_model.specs.declared.config.End.{End}
 use Rattle.config_model.specs.declared.config.End.TheVariants.{Any, Named}
 use Rattle.config_model.specs.declared.config.Network.{Network}
 use Rattle.config_model.specs.declared.topology.Topology.{Topology}
-use Rattle.network_rules.specs.Matching.{Match, deciding}
+use Rattle.network_rules.specs.Matching.{deciding}
+use Rattle.network_rules.specs.declared.matching.Match.{Match}
 use Rattle.network_rules.specs.Answering.{answering, SpeakBothWays}
 use Rattle.network_rules.proofs.Answers.{opposite}
 use Rattle.network_rules.proofs.Deciders.{of_decider}

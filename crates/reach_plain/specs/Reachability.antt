@@ -16,7 +16,8 @@ use Rattle.chain_expand.specs.Expansion.{expansion}
 use Rattle.ov_types.specs.First.{same_name}
 use Rattle.network_rules.specs.Related.{are_related}
 use Rattle.config_check.specs.Rules.{network_named, holds_address}
-use Rattle.network_rules.specs.Matching.{Match, deciding}
+use Rattle.network_rules.specs.Matching.{deciding}
+use Rattle.network_rules.specs.declared.matching.Match.{Match}
 
 abbrev pub port_numbered : Config → ℕ → Option Port
 port_numbered c n = find (λ p. p.id.0 == n) c.ports

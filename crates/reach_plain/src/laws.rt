@@ -10,7 +10,8 @@ ghost use Rattle.config_model.specs.declared.config.Action.TheVariants.{Through}
 ghost use Rattle.config_model.specs.declared.config.Config.{Config};
 ghost use Rattle.config_model.specs.declared.config.Network.{Network};
 ghost use Rattle.config_model.specs.declared.topology.Topology.{Topology};
-ghost use Rattle.network_rules.specs.Matching.{Match, deciding};
+ghost use Rattle.network_rules.specs.Matching.{deciding};
+ghost use Rattle.network_rules.specs.declared.matching.Match.{Match};
 ghost use Rattle.network_rules.specs.Answering.{answering, SpeakBothWays};
 ghost use Rattle.config_check.specs.Rules.{first_broken};
 ghost use Rattle.reach_plain.specs.Reachability.{reachability};
