@@ -13,7 +13,8 @@ use Rattle.config_check.specs.Finding.{Finds, network_named, network_numbered, p
 use Rattle.config_check.specs.Rules.{controller_names}
 use Rattle.config_check.specs.Sentences.{AreDistinct, IsValid}
 use Rattle.config_check.proofs.Iffs.{iff_then, all_iff, find_none, all_cons, all_head, all_tail, pairs_head, pairs_tail}
-use Rattle.config_check.proofs.Meanings.{fails_iff, and_iff, same_name_iff, number_iff}
+use Rattle.ov_types.proofs.FirstLemmas.{same_name_iff}
+use Rattle.config_check.proofs.Meanings.{fails_iff, and_iff, number_iff}
 
 -- what is found stands in the list and passes
 

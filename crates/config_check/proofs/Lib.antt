@@ -1,4 +1,3 @@
-pub mod AnyRule
 pub mod Blocks
 pub mod Circuits
 pub mod Lists

@@ -1,4 +1,3 @@
-pub mod Related
 pub mod Finding
 pub mod Rules
 pub mod Between

@@ -11,8 +11,8 @@ use Rattle.config_model.specs.declared.config.Network.{Network}
 use Rattle.config_model.specs.declared.config.Rule.{Rule}
 use Rattle.config_model.specs.declared.topology.Topology.{Topology}
 use Rattle.chain_expand.specs.Expansion.{loops, expansion}
-use Rattle.config_check.specs.Related.{are_related}
-use Rattle.config_check.specs.Rules.{all_rules, circuit_addresses, controller_names, node_names, network_names, port_names, policy_names, service_names, chain_names, network_named, use_numbers}
+use Rattle.network_rules.specs.Related.{are_related, all_rules}
+use Rattle.config_check.specs.Rules.{circuit_addresses, controller_names, node_names, network_names, port_names, policy_names, service_names, chain_names, network_named, use_numbers}
 
 -- no two of a list are equal
 abbrev pub AreDistinct : {A : Type 0} → List A → Type 0

@@ -8,7 +8,7 @@ ghost use Rattle.config_model.specs.declared.config.Network.{Network};
 ghost use Rattle.config_model.specs.declared.topology.Topology.{Topology};
 ghost use Rattle.chain_expand.specs.Expansion.{loops, expansion};
 ghost use Rattle.config_check.specs.Finding.{Finds, network_named, network_numbered, port_numbered, port_at, node_named};
-ghost use Rattle.config_check.specs.Related.{NumberedRule};
+ghost use Rattle.network_rules.specs.declared.numbered.NumberedRule.{NumberedRule};
 ghost use Rattle.config_check.specs.Rules.{circuit_addresses, holds_address, broken_limit, broken_name, broken_id, broken_reference, broken_reserved, broken_nested, broken_outside, broken_taken, broken_needs, broken_same, broken_loop, broken_long, broken_twice, broken_overlap, first_broken};
 ghost use Rattle.config_check.specs.Sentences.{dotted, KeepsLimits, HasDistinctNames, HasDistinctNumbers, HasReferents, ReservesCircuits, HasFlatSubnets, HoldsAddresses, HasDistinctAddresses, NamesEnds, NamesTwo, IsAround, AreApart, IsValid};
 

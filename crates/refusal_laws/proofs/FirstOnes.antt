@@ -4,7 +4,8 @@ use Rattle.std.specs.List.{Contains, slice_get}
 use Rattle.std.proofs.lemmas.Bool.{iff_false}
 use Rattle.ov_types.specs.First.{◌<|>◌, first_of, meeting_after, first_meeting}
 use Rattle.refusal_laws.specs.Named.{IsFirst, IsFirstPair}
-use Rattle.refusal_laws.proofs.Firsts.{answered, contains_here, contains_later, at_front, at_seam}
+use Rattle.ov_types.proofs.FirstLemmas.{answered, contains_here, contains_later}
+use Rattle.refusal_laws.proofs.Firsts.{at_front, at_seam}
 
 -- what holds of an answer
 

@@ -22,10 +22,11 @@ use Rattle.config_check.specs.declared.refusal.LimitKind.{LimitKind}
 use Rattle.config_check.specs.declared.refusal.LimitKind.TheVariants as Counted
 use Rattle.config_check.specs.declared.refusal.Refusal.{Refusal}
 use Rattle.config_check.specs.declared.refusal.Refusal.TheVariants.{Limit, DuplicateName, DuplicateId, BadReference, SubnetReserved, SubnetNested, AddressOutside, AddressTaken, ChainNeedsNetworks, ChainSameNetwork, ChainLoop, ChainTooLong, ServiceTwice, SubnetOverlap}
-use Rattle.config_check.specs.declared.related.NumberedRule.{NumberedRule}
-use Rattle.config_check.specs.Rules.{all_rules, circuit_addresses, controller_names, node_names, network_names, port_names, policy_names, service_names, chain_names, network_named}
+use Rattle.network_rules.specs.declared.numbered.NumberedRule.{NumberedRule}
+use Rattle.config_check.specs.Rules.{circuit_addresses, controller_names, node_names, network_names, port_names, policy_names, service_names, chain_names, network_named}
+use Rattle.network_rules.specs.Related.{all_rules}
 use Rattle.config_check.specs.Sentences.{AreDistinct, KeepsLimits, HasDistinctNames, HasDistinctNumbers, HasReferents, EndExists, ChainExists, Overlap, ReservesCircuits, HasFlatSubnets, HoldsAddresses, HasDistinctAddresses, NamesEnds, NamesTwo, IsAround, AreApart, IsValid}
-use Rattle.config_check.proofs.Iffs.{all_cons}
+use Rattle.ov_types.proofs.FirstLemmas.{all_cons}
 use Rattle.refusal_laws.specs.Breaks.{StandsBefore, StandsTwice, IsAboveLimit, namespaces, numbers_of, LeadsThrough, IsChainRule, IsDangling, controller, policy, network_of_port, node_of_port, source, destination, chain_of_rule, node_of_service, hop, LiesOutside, HasAny, HasOneNetwork, OverlapAround, Breaks}
 
 -- what holds of all holds of each

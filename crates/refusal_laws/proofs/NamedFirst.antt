@@ -16,18 +16,18 @@ use Rattle.chain_expand.specs.Leading.{Leads}
 use Rattle.chain_expand.proofs.LeadsLaws.{Leads-from_leads, leads_from_Leads}
 use Rattle.config_check.specs.declared.refusal.Refusal.{Refusal}
 use Rattle.config_check.specs.declared.refusal.Refusal.TheVariants.{Limit, DuplicateName, DuplicateId, BadReference, SubnetReserved, SubnetNested, AddressOutside, AddressTaken, ChainNeedsNetworks, ChainSameNetwork, ChainLoop, ChainTooLong, ServiceTwice, SubnetOverlap}
-use Rattle.config_check.specs.declared.related.NumberedRule.{NumberedRule}
-use Rattle.config_check.specs.Related.{are_related}
-use Rattle.config_check.specs.Rules.{broken_limit, broken_name, broken_id, all_rules, broken_reference, overlap, circuit_addresses, reserved_in, broken_reserved, nested_in, broken_nested, network_named, is_outside, broken_outside, share_address, broken_taken, broken_place, is_chain_rule, is_any, lacks_network, broken_needs, same_end, turns_back, broken_same, broken_use, broken_loop, is_too_long, broken_long, twice_in, broken_twice, broken_chain, share_addresses, overlapping, overlapping_around, broken_overlap, first_broken}
+use Rattle.network_rules.specs.declared.numbered.NumberedRule.{NumberedRule}
+use Rattle.network_rules.specs.Related.{all_rules, are_related}
+use Rattle.config_check.specs.Rules.{broken_limit, broken_name, broken_id, broken_reference, overlap, circuit_addresses, reserved_in, broken_reserved, nested_in, broken_nested, network_named, is_outside, broken_outside, share_address, broken_taken, broken_place, is_chain_rule, is_any, lacks_network, broken_needs, same_end, turns_back, broken_same, broken_use, broken_loop, is_too_long, broken_long, twice_in, broken_twice, broken_chain, share_addresses, overlapping, overlapping_around, broken_overlap, first_broken}
 use Rattle.config_check.specs.Sentences.{Overlap, NamesEnds, NamesTwo}
 use Rattle.config_check.proofs.EachRule.{reserved_in_iff, nested_in_iff}
 use Rattle.config_check.proofs.Iffs.{mapped_none, first_meeting_none}
-use Rattle.config_check.proofs.Meanings.{overlap_iff, inside_iff, and_iff, same_name_iff, number_iff, ends_iff, names_two_iff}
+use Rattle.config_check.proofs.Meanings.{overlap_iff, inside_iff, and_iff, number_iff, ends_iff, names_two_iff}
 use Rattle.config_check.proofs.Straight.{no_loop, too_long_is}
 use Rattle.refusal_laws.specs.Breaks.{IsChainRule, HasAny, HasOneNetwork, LiesOutside, StandsBefore}
 use Rattle.refusal_laws.specs.Order.{rule_number}
 use Rattle.refusal_laws.specs.Named.{IsFirst, IsFirstPair, HasPair, IsReserved, SharesAddress, LacksNetwork, TurnsBack, SharesNumber, NamesFirst}
-use Rattle.refusal_laws.proofs.Firsts.{any_of, answered, of_either, of_mapped, of_first, contains_at}
+use Rattle.ov_types.proofs.FirstLemmas.{any_of, answered, of_either, of_mapped, of_first, contains_at, same_name_iff}
 use Rattle.refusal_laws.proofs.FirstOnes.{some_case, then_some, found_first, AnswersFirst, answers_first, first_pair_is}
 use Rattle.refusal_laws.proofs.Invalid.{no_any, pair_of, held, against_any}
 use Rattle.refusal_laws.proofs.Order.{limits_by, names_by, numbers_by, references_by}

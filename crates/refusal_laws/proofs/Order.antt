@@ -21,13 +21,13 @@ use Rattle.config_check.specs.declared.refusal.LimitKind.{LimitKind}
 use Rattle.config_check.specs.declared.refusal.LimitKind.TheVariants as Counted
 use Rattle.config_check.specs.declared.refusal.Refusal.{Refusal}
 use Rattle.config_check.specs.declared.refusal.Refusal.TheVariants.{Limit, DuplicateName, DuplicateId, BadReference, SubnetReserved, SubnetNested, AddressOutside, AddressTaken, ChainNeedsNetworks, ChainSameNetwork, ChainLoop, ChainTooLong, ServiceTwice, SubnetOverlap}
-use Rattle.config_check.specs.declared.related.NumberedRule.{NumberedRule}
-use Rattle.config_check.specs.Related.{are_related}
-use Rattle.config_check.specs.Rules.{limit_unless, broken_count, broken_part, broken_limit, repeated_name, repeated_controller, broken_name, repeated_id, use_numbers, broken_id, all_rules, controller_names, node_names, network_names, port_names, policy_names, service_names, chain_names, missing, missing_end, missing_chain, missing_in_node, missing_in_network, missing_in_port, missing_in_rule, missing_in_service, missing_in_chain, broken_reference, overlap, circuit_addresses, reserved_in, broken_reserved, nested_in, broken_nested, is_outside, broken_outside, share_address, broken_taken, lacks_network, broken_needs, turns_back, broken_same, broken_loop, is_too_long, broken_long, twice_in, broken_twice, share_addresses, overlapping, overlapping_around, broken_overlap, broken_place, broken_use, broken_chain, first_broken}
+use Rattle.network_rules.specs.declared.numbered.NumberedRule.{NumberedRule}
+use Rattle.network_rules.specs.Related.{all_rules, are_related}
+use Rattle.config_check.specs.Rules.{limit_unless, broken_count, broken_part, broken_limit, repeated_name, repeated_controller, broken_name, repeated_id, use_numbers, broken_id, controller_names, node_names, network_names, port_names, policy_names, service_names, chain_names, missing, missing_end, missing_chain, missing_in_node, missing_in_network, missing_in_port, missing_in_rule, missing_in_service, missing_in_chain, broken_reference, overlap, circuit_addresses, reserved_in, broken_reserved, nested_in, broken_nested, is_outside, broken_outside, share_address, broken_taken, lacks_network, broken_needs, turns_back, broken_same, broken_loop, is_too_long, broken_long, twice_in, broken_twice, share_addresses, overlapping, overlapping_around, broken_overlap, broken_place, broken_use, broken_chain, first_broken}
 use Rattle.config_check.proofs.EachRule.{limits_iff, names_iff, numbers_iff, references_iff, reserved_iff, flat_iff, holds_iff, addresses_iff, ends_named_iff, two_named_iff, straight_iff, short_iff, once_iff, apart_around_iff}
 use Rattle.refusal_laws.specs.Breaks.{Breaks}
 use Rattle.refusal_laws.specs.Order.{rule_number, IsBrokenBy}
-use Rattle.refusal_laws.proofs.Firsts.{of_either, of_mapped, of_first}
+use Rattle.ov_types.proofs.FirstLemmas.{of_either, of_mapped, of_first}
 use Rattle.refusal_laws.proofs.Invalid.{against_limit, against_name, against_id, against_reference, against_reserved, against_nested, against_outside, against_taken, against_needs, against_same, against_loop, against_long, against_twice, against_overlaps}
 
 -- a refusal speaks of this rule or of an earlier one

@@ -17,7 +17,8 @@ use Rattle.config_check.specs.declared.refusal.Refusal.TheVariants.{SubnetReserv
 use Rattle.config_check.specs.Rules.{overlap, circuit_addresses, reserved_in, broken_reserved, nested_in, broken_nested, network_named, holds_address, is_outside, broken_outside, share_address, broken_taken, broken_place}
 use Rattle.config_check.specs.Sentences.{Overlap}
 use Rattle.refusal_laws.specs.Breaks.{StandsBefore, LiesOutside, ShareAddress, Breaks}
-use Rattle.refusal_laws.proofs.Firsts.{any_of, of_either, of_mapped, of_first, found, found_in, first_pair}
+use Rattle.refusal_laws.proofs.Firsts.{first_pair}
+use Rattle.ov_types.proofs.FirstLemmas.{any_of, of_either, of_mapped, of_first, found, found_in}
 
 -- subnets
 
