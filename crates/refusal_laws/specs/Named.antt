@@ -12,6 +12,7 @@ use Rattle.chain_expand.specs.Expansion.{expansion}
 use Rattle.chain_expand.specs.Leading.{Leads}
 use Rattle.config_check.specs.declared.refusal.Refusal.{Refusal}
 use Rattle.config_check.specs.declared.refusal.Refusal.TheVariants.{Limit, DuplicateName, DuplicateId, BadReference, SubnetReserved, SubnetNested, AddressOutside, AddressTaken, ChainNeedsNetworks, ChainSameNetwork, ChainLoop, ChainTooLong, ServiceTwice, SubnetOverlap}
+use Rattle.network_rules.specs.Related.{all_rules}
 use Rattle.network_rules.specs.declared.numbered.NumberedRule.{NumberedRule}
 use Rattle.config_check.specs.Rules.{circuit_addresses}
 use Rattle.config_check.specs.Sentences.{Overlap}
