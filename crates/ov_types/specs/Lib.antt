@@ -1,3 +1,4 @@
+pub mod Counts
 pub mod First
 pub mod Name
 pub mod Numbers
