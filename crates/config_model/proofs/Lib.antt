@@ -6,3 +6,5 @@ pub mod Counts
 pub mod HasJust
 pub mod OneText
 pub mod Missed
+pub mod FaultKinds
+pub mod Read

@@ -7,4 +7,5 @@ pub mod Topology
 pub mod Rule
 pub mod Config
 pub mod Input
+pub mod Documents
 pub mod Laws

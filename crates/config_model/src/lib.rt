@@ -19,10 +19,12 @@ pub use config::{
 };
 pub use config_reader::read_config;
 pub use fault::{DocFault, DocKind, ReadRefusal};
-pub use input::{Plan, ReachInput, read_compile, read_packet, read_reach};
+pub use input::{CompileInput, ReachInput, read_compile, read_packet, read_reach};
 pub use laws::{
-    configurations_have_just_their_members, first_members_are_missed,
-    inputs_have_just_their_members, texts_are_one, topologies_have_just_their_members,
+    configurations_are_read, configurations_have_just_their_members, first_members_are_missed,
+    inputs_are_read, inputs_have_just_their_members, lists_are_of_allowed_lengths,
+    numbers_are_whole_and_within_bounds, other_texts_are_out_of_range, texts_are_of_their_kind,
+    texts_are_one, topologies_are_read, topologies_have_just_their_members,
 };
 pub use topology::{Node, Topology};
 pub use topology_reader::read_topology;

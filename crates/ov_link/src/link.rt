@@ -7,11 +7,14 @@ ghost use Rattle.ov_link.specs.Sends.{HasCause, MeetsBreaks};
 
 use ov_types::{Items, NoMemory};
 use std::alloc::{AllocError, AllocFailed};
+use thiserror::Error;
 
 /// Why a message was not sent.
-#[derive(Clone, Copy, Debug, PartialEq, Eq)]
+#[derive(Clone, Copy, Debug, PartialEq, Eq, Error)]
 pub enum LinkFault {
+    #[error("a send failed")]
     Failed,
+    #[error("out of memory")]
     NoMemory,
 }
 

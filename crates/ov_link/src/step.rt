@@ -1,4 +1,5 @@
 //! What a node is given in a step, and what it answers.
+use thiserror::Error;
 
 /// What happened on a session.
 #[derive(Clone, Copy, Debug, PartialEq, Eq)]
@@ -20,9 +21,11 @@ pub enum Stepped<C> {
 }
 
 /// Why a step was cut short.
-#[derive(Clone, Copy, Debug, PartialEq, Eq)]
+#[derive(Clone, Copy, Debug, PartialEq, Eq, Error)]
 pub enum NodeFault {
     /// The session's link failed, and the session is closed. It is the lowest of those whose links failed.
+    #[error("the link of session {session} failed")]
     LinkFailed { session: u16 },
+    #[error("out of memory")]
     NoMemory,
 }

@@ -2,7 +2,7 @@ use Rattle.std.proofs.Common.{refl}
 use Rattle.std.proofs.lemmas.Result.{err_from_is_err_and}
 use Rattle.config_model.specs.Input.{compile_at}
 use Rattle.config_model.proofs.Counts.{fails_through}
-use Rattle.config_model.proofs.input.plan_of.Goals as goal
+use Rattle.config_model.proofs.input.compile_input_of.Goals as goal
 
 pub returns-in_err-check_others-clause-reads : goal.returns-in_err-check_others-clause-reads
 unfolding compile_at
