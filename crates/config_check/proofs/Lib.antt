@@ -8,3 +8,4 @@ pub mod Iffs
 pub mod Meanings
 pub mod EachRule
 pub mod Validity
+pub mod Edited

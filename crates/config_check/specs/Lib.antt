@@ -5,3 +5,4 @@ pub mod Checked
 pub mod Twice
 pub mod Texts
 pub mod Sentences
+pub mod Edits

@@ -2,10 +2,12 @@
 #![tactic(auto)]
 
 mod chains;
+mod edits;
 mod ids;
 pub mod laws;
 mod limits;
 mod meeting;
+mod named;
 mod names;
 mod overlaps;
 mod passing;
@@ -18,6 +20,7 @@ mod texts;
 mod uses;
 mod valid;
 
+pub use edits::{EditFault, EditRefusal, apply_edit};
 pub use passing::passes_between;
 pub use ports::{holds_address, network_named};
 pub use refusal::{CheckRefusal, IdKind, LimitKind, Refusal};

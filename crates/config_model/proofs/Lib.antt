@@ -8,3 +8,6 @@ pub mod OneText
 pub mod Missed
 pub mod FaultKinds
 pub mod Read
+pub mod EventsRead
+pub mod EventFaults
+pub mod EventsJust

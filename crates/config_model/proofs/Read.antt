@@ -42,7 +42,7 @@ not_false : (b : Bool) → not b ≡ true → b ≡ false
 not_false true h = sym h
 not_false false h = refl
 
-name_is_read : (name : List ℕ) → is_name name ≡ true → (path : List ℕ) → name_at path (string name) ≡ Ok name
+pub name_is_read : (name : List ℕ) → is_name name ≡ true → (path : List ℕ) → name_at path (string name) ≡ Ok name
 unfolding name_at text_at
 name_is_read name h path = rw h refl
 
@@ -52,7 +52,7 @@ name_but_is_read reserved name h path =
     let p = and_parts (is_name name) (not (pointwise nat_eq name reserved)) h in
     rw (name_is_read name p.0 path, p.1) refl
 
-whole_is_read : (low high n : ℕ) → is_from_to low high n ≡ true → (path : List ℕ) → whole_at low high path (number_document n) ≡ Ok n
+pub whole_is_read : (low high n : ℕ) → is_from_to low high n ≡ true → (path : List ℕ) → whole_at low high path (number_document n) ≡ Ok n
 unfolding whole_at
 whole_is_read low high n h path = rw h refl
 
@@ -95,7 +95,7 @@ items_counted document [] = refl
 items_counted document (x ∷ xs) = rw (items_counted document xs) refl
 
 -- a list reads as the values whose documents are its items
-list_is_read : {A : Type 0} (reads : Reads A) (form : A → Bool) (document : A → Data) → IsRead reads form document → (count : Count) (xs : List A)
+pub list_is_read : {A : Type 0} (reads : Reads A) (form : A → Bool) (document : A → Data) → IsRead reads form document → (count : Count) (xs : List A)
     → list_all form xs ≡ true → allows count (length xs) ≡ true → (path : List ℕ) → all_at reads count path (list_document document xs) ≡ Ok xs
 unfolding all_at list_at
 list_is_read reads form document each count xs h allowed path =

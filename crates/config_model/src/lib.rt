@@ -4,10 +4,16 @@
 mod bounds;
 mod config;
 mod config_reader;
+mod edit;
+mod edit_reader;
+mod event;
+mod event_laws;
+mod event_reader;
 mod fault;
 mod fields;
 mod input;
 mod laws;
+mod one_member;
 mod rule_reader;
 mod topology;
 mod topology_reader;
@@ -18,6 +24,14 @@ pub use config::{
     Action, Chain, Config, Direction, End, Network, Policy, Port, Protocol, Rule, Service,
 };
 pub use config_reader::read_config;
+pub use edit::{Edit, Object, ObjectKind};
+pub use edit_reader::read_edit;
+pub use event::{Event, RunInput};
+pub use event_laws::{
+    events_are_read, events_have_just_their_members, objects_have_one_member,
+    other_values_are_no_events, other_words_are_unknown,
+};
+pub use event_reader::{read_events, read_run};
 pub use fault::{DocFault, DocKind, ReadRefusal};
 pub use input::{CompileInput, ReachInput, read_compile, read_packet, read_reach};
 pub use laws::{
@@ -29,5 +43,7 @@ pub use laws::{
 pub use topology::{Node, Topology};
 pub use topology_reader::read_topology;
 
+#[cfg(test)]
+mod event_tests;
 #[cfg(test)]
 mod tests;

@@ -1,3 +1,4 @@
 pub mod Names
 pub mod Blocks
 pub mod Places
+pub mod Values
