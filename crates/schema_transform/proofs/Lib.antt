@@ -4,4 +4,6 @@ pub mod Nested
 pub mod Homes
 pub mod Prefixes
 pub mod Keys
+pub mod Joined
 pub mod Kept
+pub mod Found
