@@ -15,5 +15,7 @@ mod tests;
 
 pub use expansion::{expand, expand_straight};
 pub use fault::ChainFault;
-pub use laws::{expands_by_hops, expands_to_one, expands_where, leads_by_hops};
+pub use laws::{
+    expands_by_hops, expands_to_one, expands_where, leads_by_hops, twice_names_the_service,
+};
 pub use loops::first_loop;

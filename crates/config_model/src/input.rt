@@ -22,16 +22,15 @@ use std::alloc::Global;
 
 /// What there is, and what is configured.
 #[derive(Clone, Debug, Drop, PartialEq, Eq)]
-pub struct Plan {
+pub struct CompileInput {
     pub topology: Topology,
     pub config: Config,
 }
 
-/// What there is, what is configured, and packets to ask about.
+/// What there is and what is configured, and packets to ask about.
 #[derive(Clone, Debug, Drop, PartialEq, Eq)]
 pub struct ReachInput {
-    pub topology: Topology,
-    pub config: Config,
+    pub input: CompileInput,
     pub packets: Items<Packet>,
 }
 
@@ -78,7 +77,7 @@ pub fn read_packet(alloc: Global, value: &Value) -> Result<Packet, ReadRefusal>
 
 /// What `compile` takes: an object with `topology` and `configuration`.
 #[tactic(auto, unfolding(crate::specs::Input::compile_at))]
-fn plan_of(alloc: Global, path: &str, value: &Value) -> Result<Plan, ReadRefusal>
+fn compile_input_of(alloc: Global, path: &str, value: &Value) -> Result<CompileInput, ReadRefusal>
     ensures reads { Gives (λ p. p) result (compile_at path.now (view value.now)) }
     ensures topology_form { IfOk result (λ p. IsTrue (has_topology_form p.topology)) }
     ensures config_form { IfOk result (λ p. IsTrue (has_config_form p.config)) }
@@ -87,15 +86,15 @@ fn plan_of(alloc: Global, path: &str, value: &Value) -> Result<Plan, ReadRefusal
     let topology = read_member::<Topology>(alloc, path, "topology", value)?;
     let config = read_member::<Config>(alloc, path, "configuration", value)?;
     check_others(alloc, path, &["topology", "configuration"], members)?;
-    Ok(Plan { topology, config })
+    Ok(CompileInput { topology, config })
 }
 
 /// What `reach` takes: an object with `topology`, `configuration` and `packets`, a list.
 #[tactic(auto, unfolding(crate::specs::Input::reach_at))]
 fn reach_input_of(alloc: Global, path: &str, value: &Value) -> Result<ReachInput, ReadRefusal>
     ensures reads { Gives (λ r. r) result (reach_at path.now (view value.now)) }
-    ensures topology_form { IfOk result (λ r. IsTrue (has_topology_form r.topology)) }
-    ensures config_form { IfOk result (λ r. IsTrue (has_config_form r.config)) }
+    ensures topology_form { IfOk result (λ r. IsTrue (has_topology_form r.input.topology)) }
+    ensures config_form { IfOk result (λ r. IsTrue (has_config_form r.input.config)) }
     ensures packets_form { IfOk result (λ r. IsTrue (list_all has_packet_form r.packets)) }
 {
     let members = object_of(alloc, Place::At(path), value)?;
@@ -109,26 +108,25 @@ fn reach_input_of(alloc: Global, path: &str, value: &Value) -> Result<ReachInput
         members,
     )?;
     Ok(ReachInput {
-        topology,
-        config,
+        input: CompileInput { topology, config },
         packets,
     })
 }
 
 /// The whole input of `compile`: an object with `topology` and `configuration`.
-pub fn read_compile(alloc: Global, value: &Value) -> Result<Plan, ReadRefusal>
+pub fn read_compile(alloc: Global, value: &Value) -> Result<CompileInput, ReadRefusal>
     ensures reads { Gives (λ p. p) result (compile_at [] (view value.now)) }
     ensures topology_form { IfOk result (λ p. IsTrue (has_topology_form p.topology)) }
     ensures config_form { IfOk result (λ p. IsTrue (has_config_form p.config)) }
 {
-    plan_of(alloc, "", value)
+    compile_input_of(alloc, "", value)
 }
 
 /// The whole input of `reach`: an object with `topology`, `configuration` and `packets`, a list.
 pub fn read_reach(alloc: Global, value: &Value) -> Result<ReachInput, ReadRefusal>
     ensures reads { Gives (λ r. r) result (reach_at [] (view value.now)) }
-    ensures topology_form { IfOk result (λ r. IsTrue (has_topology_form r.topology)) }
-    ensures config_form { IfOk result (λ r. IsTrue (has_config_form r.config)) }
+    ensures topology_form { IfOk result (λ r. IsTrue (has_topology_form r.input.topology)) }
+    ensures config_form { IfOk result (λ r. IsTrue (has_config_form r.input.config)) }
     ensures packets_form { IfOk result (λ r. IsTrue (list_all has_packet_form r.packets)) }
 {
     reach_input_of(alloc, "", value)

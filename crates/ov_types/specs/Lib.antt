@@ -5,3 +5,5 @@ pub mod Prefix
 pub mod Rows
 pub mod Targets
 pub mod Texts
+pub mod Access
+pub mod Routing

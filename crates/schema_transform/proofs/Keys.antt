@@ -14,7 +14,7 @@ use Rattle.std.proofs.lemmas.List.Sorted.{IsPermutation-refl, IsPermutation-sym,
 use Rattle.std.proofs.lemmas.Map.Lookups.{exact_unsigned}
 use Rattle.ov_types.specs.Keys.{row_key_cmp}
 use Rattle.ov_types.specs.Prefix.{Block, block_cmp}
-use Rattle.config_check.proofs.Iffs.{pairs_head, pairs_tail}
+use Rattle.ov_types.proofs.FirstLemmas.{pairs_head, pairs_tail}
 use Rattle.schema_transform.specs.Tables.{Key, Row, with_rows}
 
 pub key_order : IsTotalOrder row_key_cmp

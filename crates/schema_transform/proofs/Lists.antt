@@ -1,20 +1,10 @@
 -- Items of one list, and what a function gives of them.
-use Rattle.std.proofs.Common.{◌≡◌, ◌⊎◌, inl, inr, ◌<◌, ◌||◌, ℕ, zero, suc, Bool, true, false, cond, IsTrue, List, [], ◌∷◌, ◌++◌, map, flat_map, Option, Some, None, length, get_or, refl, sym, ap, ◌∙◌, subst, arith}
-use Rattle.std.specs.List.{All, AllPairs, Contains, find, filter_map, cons_option, list_any}
-use Rattle.std.proofs.lemmas.Bool.{cases_order}
-use Rattle.std.proofs.lemmas.List.{get_or_default, get_or-map, length-map}
-use Rattle.std.proofs.lemmas.List.Elements.{All-append, All-cons, All-contains, All-head, All-tail}
+use Rattle.std.proofs.Common.{◌≡◌, ◌⊎◌, inl, inr, ◌||◌, ℕ, Bool, true, false, cond, IsTrue, List, [], ◌∷◌, ◌++◌, map, flat_map, Option, Some, None, length, get_or, refl, sym, ap, ◌∙◌, subst, arith}
+use Rattle.std.specs.List.{All, AllPairs, Contains, filter_map, cons_option, list_any}
+use Rattle.std.proofs.lemmas.List.{get_or-map, length-map}
+use Rattle.std.proofs.lemmas.List.Elements.{All-append, All-cons, All-head, All-tail}
 use Rattle.std.proofs.lemmas.List.Kept.{AllPairs-cons}
-use Rattle.config_check.proofs.Iffs.{find_none, pairs_head, pairs_tail}
-
--- what a search finds passes its test, and is in the list
-pub found : {A : Type 0} (p : A → Bool) (xs : List A) (a : A) → find p xs ≡ Some a → (p a ≡ true) × Contains xs a
-found p [] a h = cc
-found p (x ∷ xs) a h =
-    elim (p x) as (λ b. (b ≡ p x) → cond b (Some x) (find p xs) ≡ Some a → (p a ≡ true) × Contains (x ∷ xs) a) [
-      | true ↦ λ e is. let same : x ≡ a = cc in (ap p (sym same) ∙ sym e, (0, omega arith, same))
-      | false ↦ λ e is. let rest = found p xs a is in (rest.0, (suc rest.1.0, omega arith, rest.1.2))
-    ] refl h
+use Rattle.ov_types.proofs.FirstLemmas.{contains_cases, contains_here, contains_later, pairs_head, pairs_tail}
 
 pub any_weaker : {A : Type 0} (p q : A → Bool) → ((x : A) → IsTrue (p x) → IsTrue (q x)) → (xs : List A) → IsTrue (list_any p xs) → IsTrue (list_any q xs)
 any_weaker p q weaker [] h = h
@@ -24,77 +14,28 @@ any_weaker p q weaker (x ∷ xs) h =
       | false ↦ λ e t. elim (q x) as (λ b. IsTrue (b || list_any q xs)) [ true ↦ refl | false ↦ any_weaker p q weaker xs t ]
     ] refl h
 
-module _ {A : Type 0} (R : A → A → Type 0) (xs : List A) where
-  in_order : (i j : ℕ) (a b : A) → AllPairs R xs → i < j → j < length xs → get_or xs i a ≡ a → get_or xs j b ≡ b → R a b
-  in_order i j a b pairs lt within at_i at_j =
-      let h : R (get_or xs i a) (get_or xs j a) = pairs i j a lt within in
-      let first : R a (get_or xs j a) = subst (λ (x : A). R x (get_or xs j a)) at_i h in
-      subst (λ (y : A). R a y) (get_or_default xs j a b within ∙ at_j) first
-
-  -- two items of a list whose pairs are related are one item, or related one way or the other
-  pub two_among : (a b : A) → AllPairs R xs → Contains xs a → Contains xs b → (a ≡ b) ⊎ (R a b ⊎ R b a)
-  two_among a b pairs p q =
-      elim (cases_order p.0 q.0) [
-        | inl same ↦ inl (sym p.2 ∙ ap (λ (k : ℕ). get_or xs k a) same ∙ get_or_default xs q.0 a b q.1 ∙ q.2)
-        | inr other ↦ elim other [
-          | inl lt ↦ inr (inl (in_order p.0 q.0 a b pairs lt q.1 p.2 q.2))
-          | inr gt ↦ inr (inr (in_order q.0 p.0 b a pairs gt p.1 q.2 p.2))
-        ]
-      ]
-
--- an item of a list is its first, or one of the rest
-
-pub first_item : {A : Type 0} (x : A) (xs : List A) → Contains (x ∷ xs) x
-first_item x xs = (0, omega arith, refl)
-
-pub later_item : {A : Type 0} (x : A) (xs : List A) (y : A) → Contains xs y → Contains (x ∷ xs) y
-later_item x xs y h = (suc h.0, omega (arith, h.1), h.2)
-
-item_at : {A : Type 0} (x : A) (xs : List A) (y : A) (k : ℕ) → k < length (x ∷ xs) → get_or (x ∷ xs) k y ≡ y → (x ≡ y) ⊎ Contains xs y
-item_at x xs y zero lt is = inl is
-item_at x xs y (suc k) lt is = inr (k, omega (arith, lt), is)
-
-pub first_or_later : {A : Type 0} (x : A) (xs : List A) (y : A) → Contains (x ∷ xs) y → (x ≡ y) ⊎ Contains xs y
-first_or_later x xs y h = item_at x xs y h.0 h.1 h.2
-
--- a search for what one item alone passes finds that item
-pub find_only : {A : Type 0} (p : A → Bool) (xs : List A) (a : A) → Contains xs a → p a ≡ true
-    → AllPairs (λ x y. ¬ ((p x ≡ true) × (p y ≡ true))) xs → find p xs ≡ Some a
-find_only {A} p xs a within holds pairs =
-    elim (find p xs) as (λ o. (o ≡ find p xs) → o ≡ Some a) [
-      | None ↦ λ e.
-          let fails : p a ≡ false = All-contains (λ (x : A). p x ≡ false) xs a ((find_none p xs).0 (sym e)) within in
-          absurd cc
-      | Some b ↦ λ e.
-          let f = found p xs b (sym e) in
-          elim (two_among (λ (x y : A). ¬ ((p x ≡ true) × (p y ≡ true))) xs b a pairs f.1 within) [
-            | inl same ↦ ap (λ (x : A). Some x) same
-            | inr other ↦ elim other [ inl no ↦ absurd (no (f.0, holds)) | inr no ↦ absurd (no (holds, f.0)) ]
-          ]
-    ] refl
-
 module _ {A B : Type 0} (f : A → Option B) where
   -- what f gives of some item, where it gives something
   pub given : (xs : List A) (u : B) → Contains (filter_map f xs) u → (x : A) × Contains xs x × (f x ≡ Some u)
   given [] u h = absurd (omega (arith, h.1))
   given (x ∷ xs) u h =
       elim (f x) as (λ o. (o ≡ f x) → Contains (cons_option o (filter_map f xs)) u → (y : A) × Contains (x ∷ xs) y × (f y ≡ Some u)) [
-        | None ↦ λ e within. let g = given xs u within in (g.0, later_item x xs g.0 g.1, g.2)
-        | Some v ↦ λ e within. elim (first_or_later v (filter_map f xs) u within) [
-          | inl same ↦ (x, first_item x xs, sym e ∙ ap (λ (w : B). Some w) same)
-          | inr later ↦ let g = given xs u later in (g.0, later_item x xs g.0 g.1, g.2)
+        | None ↦ λ e within. let g = given xs u within in (g.0, contains_later g.0 x xs g.1, g.2)
+        | Some v ↦ λ e within. elim (contains_cases v (filter_map f xs) u within) [
+          | inl same ↦ (x, contains_here x xs, sym e ∙ ap (λ (w : B). Some w) same)
+          | inr later ↦ let g = given xs u later in (g.0, contains_later g.0 x xs g.1, g.2)
         ]
       ] refl h
 
   pub gives : (xs : List A) (x : A) (u : B) → Contains xs x → f x ≡ Some u → Contains (filter_map f xs) u
   gives [] x u within is = absurd (omega (arith, within.1))
   gives (y ∷ xs) x u within is =
-      elim (first_or_later y xs x within) [
+      elim (contains_cases y xs x within) [
         | inl same ↦
-          subst (λ (o : Option B). Contains (cons_option o (filter_map f xs)) u) (sym (ap f same ∙ is)) (first_item u (filter_map f xs))
+          subst (λ (o : Option B). Contains (cons_option o (filter_map f xs)) u) (sym (ap f same ∙ is)) (contains_here u (filter_map f xs))
         | inr later ↦
           let h = gives xs x u later is in
-          elim (f y) as (λ o. Contains (cons_option o (filter_map f xs)) u) [ None ↦ h | Some v ↦ later_item v (filter_map f xs) u h ]
+          elim (f y) as (λ o. Contains (cons_option o (filter_map f xs)) u) [ None ↦ h | Some v ↦ contains_later u v (filter_map f xs) h ]
       ]
 
   -- what f gives of all items, where it gives something
@@ -153,10 +94,6 @@ pairs_of_map {A} f R (x ∷ xs) h =
     AllPairs-cons (λ (y z : A). R (f y) (f z)) x xs
     (λ k d lt. subst (λ y. R (f x) y) (get_or-map f xs k d (f d) lt) (pairs_head R (f x) (map f xs) h k (f d) (simp length-map lt)))
     (pairs_of_map f R xs (pairs_tail R (f x) (map f xs) h))
-
-pub pairs_right : {A : Type 0} (R : A → A → Type 0) (xs ys : List A) → AllPairs R (xs ++ ys) → AllPairs R ys
-pairs_right R [] ys h = h
-pairs_right R (x ∷ xs) ys h = pairs_right R xs ys (pairs_tail R x (xs ++ ys) h)
 
 pub flat_map_map : {A B C : Type 0} (f : B → List C) (g : A → B) (h : A → List C) (xs : List A) → All (λ x. f (g x) ≡ h x) xs
     → flat_map f (map g xs) ≡ flat_map h xs
