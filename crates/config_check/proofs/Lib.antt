@@ -9,3 +9,4 @@ pub mod Meanings
 pub mod EachRule
 pub mod Validity
 pub mod Edited
+pub mod EditLaws

@@ -2,6 +2,7 @@
 #![tactic(auto)]
 
 mod chains;
+pub mod edit_laws;
 mod edits;
 mod ids;
 pub mod laws;
