@@ -13,6 +13,7 @@ mod prefix;
 mod rows;
 mod services;
 mod targets;
+mod verdict;
 mod vpn;
 
 pub use items::{Items, NoMemory};
@@ -25,4 +26,5 @@ pub use prefix::{Addr, Prefix};
 pub use rows::{AgentRows, Attached, ControlRows, Entry, NodeId, NodeRows, TableRow};
 pub use services::Services;
 pub use targets::{Target, Targets, is_target};
+pub use verdict::Verdict;
 pub use vpn::{VpnKey, VpnRoute};

@@ -4,7 +4,6 @@ use Rattle.std.specs.List.{All, AllPairs, Contains}
 use Rattle.std.specs.Cmp.Lexicographic.{same_text}
 use Rattle.std.proofs.lemmas.Bool.{eqb-true}
 use Rattle.std.proofs.lemmas.List.{get_or-reverse, length-reverse}
-use Rattle.std.proofs.lemmas.List.Elements.{All-contains_itself}
 use Rattle.std.proofs.lemmas.List.Kept.{AllPairs-cons}
 use Rattle.ov_types.specs.declared.numbers.PortNo.{PortNo}
 use Rattle.ov_types.specs.declared.numbers.ServiceNo.{ServiceNo}
@@ -20,15 +19,15 @@ use Rattle.config_model.specs.declared.config.Service.{Service}
 use Rattle.config_model.specs.declared.topology.Topology.{Topology}
 use Rattle.chain_expand.specs.Expansion.{expansion}
 use Rattle.ov_types.specs.First.{same_name}
-use Rattle.chain_expand.proofs.LeadsLaws.{same_name_self}
-use Rattle.config_check.specs.Related.{are_related}
+use Rattle.ov_types.proofs.FirstLemmas.{same_name_self, all_head, all_tail, all_cons, pairs_head, pairs_tail, found_is}
+use Rattle.network_rules.specs.Related.{are_related}
 use Rattle.config_check.specs.Rules.{network_named, holds_address, first_broken}
 use Rattle.config_check.specs.Sentences.{IsAround}
-use Rattle.config_check.proofs.Iffs.{all_head, all_tail, all_cons, pairs_head, pairs_tail}
-use Rattle.reach_plain.specs.Matching.{Match, deciding}
+use Rattle.network_rules.specs.Matching.{deciding}
+use Rattle.network_rules.specs.declared.matching.Match.{Match}
 use Rattle.reach_plain.specs.Reachability.{port_numbered, network_towards, port_at, arrival_at, outcome_of, outcome_by, outcome_between, outcome_towards, outcome_from, outcome_at, reachability}
 use Rattle.reach_plain.specs.Delivery.{numbers_of, LeadsThrough, IsLetThrough, IsDelivered}
-use Rattle.reach_plain.proofs.Kept.{found_in, chain_is_once}
+use Rattle.reach_plain.proofs.Kept.{chain_is_once}
 
 left : (a b : Bool) → (a && b) ≡ true → a ≡ true
 left true b h = refl
@@ -115,10 +114,10 @@ delivered : (c : Config) (p : Packet) (number : PortNo) (services : List Service
     → outcome_between c own target p ≡ Delivered number services → IsDelivered c p number services
 delivered c p number services source own target starts stands leads h =
     let (arrival, at, port, way) = between c own target p number services h in
-    let s = found_in (λ (x : Port). x.id.0 == p.source.0) (Contains c.ports) c.ports source starts (All-contains_itself c.ports) in
-    let n = found_in (λ (x : Network). same_name x.name source.network) (Contains c.networks) c.networks own stands (All-contains_itself c.networks) in
-    let t = found_in (λ (x : Network). (same_name x.name own.name || are_related c own x) && holds_address x p.destination.0) (Contains c.networks) c.networks target leads (All-contains_itself c.networks) in
-    let q = found_in (λ (x : Port). same_name x.network target.name && (x.address.0 == p.destination.0)) (Contains c.ports) c.ports arrival at (All-contains_itself c.ports) in
+    let s = found_is (λ (x : Port). x.id.0 == p.source.0) c.ports source starts in
+    let n = found_is (λ (x : Network). same_name x.name source.network) c.networks own stands in
+    let t = found_is (λ (x : Network). (same_name x.name own.name || are_related c own x) && holds_address x p.destination.0) c.networks target leads in
+    let q = found_is (λ (x : Port). same_name x.network target.name && (x.address.0 == p.destination.0)) c.ports arrival at in
     record {
       source = source;
       own = own;

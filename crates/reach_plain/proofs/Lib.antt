@@ -1,6 +1,3 @@
-pub mod Answers
-pub mod Between
+pub mod Chains
 pub mod Delivery
 pub mod Kept
-pub mod Members
-pub mod Ordered

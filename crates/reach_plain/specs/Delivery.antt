@@ -13,7 +13,8 @@ use Rattle.config_model.specs.declared.config.Port.{Port}
 use Rattle.chain_expand.specs.Expansion.{expansion}
 use Rattle.config_check.specs.Rules.{holds_address}
 use Rattle.config_check.specs.Sentences.{IsAround}
-use Rattle.reach_plain.specs.Matching.{Match, deciding}
+use Rattle.network_rules.specs.Matching.{deciding}
+use Rattle.network_rules.specs.declared.matching.Match.{Match}
 
 -- the numbers of a chain's services, in order
 abbrev pub numbers_of : Config → List ℕ → List ServiceNo

@@ -1,13 +1,11 @@
 //! Decisions between networks that are given by their numbers.
 ghost use Rattle.std.specs.Prelude.{◌≡◌, ◌↔◌, IsTrue, IsSome, IfSome, Some, option_copied};
-ghost use Rattle.reach_plain.specs.Matching.{decision};
+ghost use Rattle.network_rules.specs.Matching.{decision};
 ghost use Rattle.reach_plain.specs.Decided.{network_numbered};
 
-use crate::Decision;
-use crate::deciding::deciding;
-use crate::matching::decision_by;
 use config_check::Valid;
 use config_model::{Config, Network};
+use network_rules::{Decision, decision};
 use ov_types::{InstanceId, Tuple};
 
 fn network_numbered<'a>(config: &'a Config, number: InstanceId) -> Option<&'a Network>
@@ -38,18 +36,9 @@ fn numbered<'a>(config: &'a Config, number: InstanceId) -> &'a Network
     }
 }
 
-#[tactic(auto, using(crate::proofs::Kept::few_rules))]
-fn decision(valid: &Valid, from: &Network, to: &Network, tuple: &Tuple) -> Option<Decision>
-    ensures { result ≡ decision valid.now.config from.now to.now tuple.now }
-{
-    match deciding(valid.config(), from, to, tuple) {
-        Some(found) => Some(decision_by(&found)),
-        None => None,
-    }
-}
-
 /// The first rule between two networks that matches a packet from the one to the other, by sequence and then
 /// position, and whether it matches mirrored; there is none where no rule matches. It takes no memory.
+#[tactic(auto, using(crate::proofs::Kept::few_rules))]
 pub fn decide(valid: &Valid, from: InstanceId, to: InstanceId, tuple: Tuple) -> Option<Decision>
     requires source { IsSome (network_numbered valid.now.config from.0) }
     requires destination { IsSome (network_numbered valid.now.config to.0) }
@@ -59,5 +48,5 @@ pub fn decide(valid: &Valid, from: InstanceId, to: InstanceId, tuple: Tuple) -> 
     let config = valid.config();
     let from = numbered(config, from);
     let to = numbered(config, to);
-    decision(valid, from, to, &tuple)
+    decision(config, from, to, &tuple)
 }
