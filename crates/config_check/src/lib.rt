@@ -2,6 +2,7 @@
 #![tactic(auto)]
 
 mod chains;
+pub mod edit_laws;
 mod edits;
 mod finding;
 mod ids;
@@ -25,5 +26,7 @@ pub use ports::holds_address;
 pub use refusal::{CheckRefusal, IdKind, LimitKind, Refusal};
 pub use valid::{Valid, check};
 
+#[cfg(test)]
+mod edit_tests;
 #[cfg(test)]
 mod tests;

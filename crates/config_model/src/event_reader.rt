@@ -144,10 +144,10 @@ fn event_of_text(alloc: Global, place: &Place<'_>, text: &str) -> Result<Event, 
     ensures reads { Gives (λ x. x) result (event_of_text (place_text place.now) text.now) }
     ensures form { IfOk result (λ x. IsTrue (has_event_form x)) }
 {
-    match event_named(text) {
-        Some(event) => Ok(event),
-        None => Err(place.fault(alloc, DocKind::Range)),
-    }
+    let Some(event) = event_named(text) else {
+        return Err(place.fault(alloc, DocKind::Range));
+    };
+    Ok(event)
 }
 
 impl FromDocument for Event {
