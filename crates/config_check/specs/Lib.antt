@@ -1,4 +1,4 @@
-pub mod Related
+pub mod Finding
 pub mod Rules
 pub mod Between
 pub mod Checked

@@ -13,7 +13,12 @@ use std::test::Fail;
 /// The parts of documents that cases are of: the name, the reader, and what stands before and after a case's text.
 const PARTS: [(&str, &str, &str, &str); 21] = [
     ("topology", "topology", "", ""),
-    ("controller", "topology", r#"{"as":1,"controllers":[{"#, "}]}"),
+    (
+        "controller",
+        "topology",
+        r#"{"as":1,"controllers":[{"#,
+        "}]}",
+    ),
     (
         "node",
         "topology",
@@ -391,7 +396,13 @@ fn holds(rt: &impl Abort, alloc: Global, cases: &str) -> Result<(), Fail> {
         let (part, text) = asked.split_once(' ').ok_or("a case has no part")?;
         let (reader, document) = document_of(alloc, part, text)?;
         let found = answer(alloc, reader, document.as_str())?;
-        assert!(rt; found.as_str().split_whitespace().eq(want.split_whitespace()), "{case}: {found}");
+        assert!(rt;
+            found
+                .as_str()
+                .split_whitespace()
+                .eq(want.split_whitespace()),
+            "{case}: {found}"
+        );
     }
     Ok(())
 }

@@ -11,13 +11,13 @@ use Rattle.config_model.specs.declared.config.Port.{Port}
 use Rattle.config_model.specs.declared.topology.Node.{Node}
 use Rattle.config_model.specs.declared.topology.Topology.{Topology}
 use Rattle.ov_types.specs.First.{same_name}
-use Rattle.config_check.specs.declared.related.NumberedRule.{NumberedRule}
-use Rattle.config_check.specs.Related.{passes, lets_through, rules_between}
+use Rattle.network_rules.specs.declared.numbered.NumberedRule.{NumberedRule}
+use Rattle.network_rules.specs.Related.{passes, lets_through, rules_between, imports}
 use Rattle.config_check.specs.Rules.{network_named}
 use Rattle.config_check.specs.Sentences.{IsAround, AreApart, Overlap}
-use Rattle.config_check.proofs.Meanings.{same_name_iff}
-use Rattle.schema_transform.specs.Tables.{Row, imports, host_route, row_if, node_named, port_row}
-use Rattle.schema_transform.proofs.Lists.{found, any_weaker}
+use Rattle.ov_types.proofs.FirstLemmas.{same_name_iff, found_is as found}
+use Rattle.schema_transform.specs.Tables.{Row, host_route, row_if, node_named, port_row}
+use Rattle.schema_transform.proofs.Lists.{any_weaker}
 use Rattle.schema_transform.proofs.Nested.{overlap_at}
 
 -- where a row comes from

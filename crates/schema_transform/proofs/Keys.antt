@@ -13,7 +13,7 @@ use Rattle.std.proofs.lemmas.List.Kept.{AllPairs-cons}
 use Rattle.std.proofs.lemmas.List.Sorted.{IsPermutation-refl, IsPermutation-sym, IsPermutation-trans, IsPermutation-cons, IsPermutation-middle, IsPermutation-append_left, All-permutation}
 use Rattle.std.proofs.lemmas.Map.Lookups.{exact_unsigned}
 use Rattle.ov_types.specs.Prefix.{Block}
-use Rattle.config_check.proofs.Iffs.{pairs_head, pairs_tail}
+use Rattle.ov_types.proofs.FirstLemmas.{pairs_head, pairs_tail}
 use Rattle.schema_transform.specs.Tables.{Key, Row, block_cmp, key_cmp, with_rows}
 
 pub key_order : IsTotalOrder key_cmp

@@ -5,16 +5,7 @@ use Rattle.std.proofs.lemmas.Bool.{cases_order}
 use Rattle.std.proofs.lemmas.List.{get_or_default, get_or-map, length-map}
 use Rattle.std.proofs.lemmas.List.Elements.{All-append, All-cons, All-head, All-tail}
 use Rattle.std.proofs.lemmas.List.Kept.{AllPairs-cons}
-use Rattle.config_check.proofs.Iffs.{pairs_head, pairs_tail}
-
--- what a search finds passes its test, and is in the list
-pub found : {A : Type 0} (p : A → Bool) (xs : List A) (a : A) → find p xs ≡ Some a → (p a ≡ true) × Contains xs a
-found p [] a h = cc
-found p (x ∷ xs) a h =
-    elim (p x) as (λ b. (b ≡ p x) → cond b (Some x) (find p xs) ≡ Some a → (p a ≡ true) × Contains (x ∷ xs) a) [
-      | true ↦ λ e is. let same : x ≡ a = cc in (ap p (sym same) ∙ sym e, (0, omega arith, same))
-      | false ↦ λ e is. let rest = found p xs a is in (rest.0, (suc rest.1.0, omega arith, rest.1.2))
-    ] refl h
+use Rattle.ov_types.proofs.FirstLemmas.{pairs_head, pairs_tail}
 
 pub any_weaker : {A : Type 0} (p q : A → Bool) → ((x : A) → IsTrue (p x) → IsTrue (q x)) → (xs : List A) → IsTrue (list_any p xs) → IsTrue (list_any q xs)
 any_weaker p q weaker [] h = h

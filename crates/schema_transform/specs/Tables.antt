@@ -1,7 +1,7 @@
 -- The tables of instances, as the configuration alone describes them.
-use Rattle.std.specs.Prelude.{ℕ, ◌||◌, Bool, true, false, List, [], ◌∷◌, map, flat_map, find, Option, None, option_map, option_and_then}
+use Rattle.std.specs.Prelude.{ℕ, Bool, true, false, List, [], ◌∷◌, map, flat_map, find, Option, None, option_map, option_and_then}
 use Rattle.std.specs.BTreeMap.{insert_entry}
-use Rattle.std.specs.List.{list_any, filter_map}
+use Rattle.std.specs.List.{filter_map}
 use Rattle.std.specs.Ordering.{nat_cmp, ordering_then}
 use Rattle.std.specs.declared.cmp.Ordering.{Ordering}
 use Rattle.route_targets.specs.Numbers.{port_label_of, distinguisher_of}
@@ -15,7 +15,7 @@ use Rattle.config_model.specs.declared.config.Port.{Port}
 use Rattle.config_model.specs.declared.topology.Node.{Node}
 use Rattle.config_model.specs.declared.topology.Topology.{Topology}
 use Rattle.ov_types.specs.First.{same_name}
-use Rattle.config_check.specs.Related.{passes, rules_between}
+use Rattle.network_rules.specs.Related.{imports}
 use Rattle.config_check.specs.Rules.{network_named}
 use Rattle.config_check.specs.Checked.{Checked}
 use Rattle.schema_transform.specs.declared.tables.Compiled.{Compiled}
@@ -26,10 +26,6 @@ Key = InstanceId × Block
 
 abbrev pub Row : Type 0
 Row = Key × TableRow
-
--- a network imports itself, and each network with a pass rule between them
-abbrev pub imports : Config → Network → Network → Bool
-imports c a b = same_name a.name b.name || list_any (λ r. passes r.rule.action) (rules_between c a b)
 
 abbrev pub node_named : Topology → List ℕ → Option Node
 node_named t name = find (λ d. same_name d.name name) t.nodes

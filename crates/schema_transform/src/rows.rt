@@ -3,10 +3,11 @@ ghost use Rattle.std.specs.Prelude.{◌≡◌, ◌≤◌, [], IfOk, OnOk, IsTrue
 ghost use Rattle.std.specs.List.{list_all};
 ghost use Rattle.config_model.specs.Form.{has_config_form, has_port_form};
 ghost use Rattle.config_check.specs.Rules.{network_named};
-ghost use Rattle.schema_transform.specs.Tables.{imports, host_route, node_named, port_row, network_rows, with_rows, control_rows};
+ghost use Rattle.schema_transform.specs.Tables.{host_route, node_named, port_row, network_rows, with_rows, control_rows};
 
-use config_check::{network_named, passes_between};
+use config_check::network_named;
 use config_model::{Config, Network, Node, Port, Topology};
+use network_rules::imports;
 use ov_types::{ControlRows, InstanceId, Items, Name, NoMemory, Prefix, TableRow};
 use route_targets::{port_label, rd};
 use std::alloc::{AllocError, Global};
@@ -24,14 +25,6 @@ fn node_of<'a>(topology: &'a Topology, name: &Name) -> Option<&'a Node>
 {
     topology.nodes.as_slice().iter().find(|n| n.name == *name)
 }
-
-/// Whether a network imports another, or is it.
-fn is_imported(config: &Config, network: &Network, other: &Network) -> bool
-    ensures { result ≡ imports config.now network.now other.now }
-{
-    network.name == other.name || passes_between(config, network, other)
-}
-
 /// The route to a port, in the instance of a network that imports the port's.
 #[tactic(auto, unfolding(config_model::specs::Form::has_port_form))]
 fn route_to(network: &Network, home: &Network, node: &Node, port: &Port) -> Row
@@ -53,7 +46,7 @@ fn row_of(topology: &Topology, config: &Config, network: &Network, port: &Port) 
     ensures { result ≡ port_row topology.now config.now network.now port.now }
 {
     let home = network_named(config, &port.network)?;
-    if !is_imported(config, network, home) {
+    if !imports(config, network, home) {
         return None;
     }
     let node = node_of(topology, &port.node)?;
