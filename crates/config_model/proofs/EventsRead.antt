@@ -76,5 +76,8 @@ unfolding run_at in_member member_at object_at only_at
 run_is_read r h path =
     let o = and_parts (compile_form r.input) (list_all event_form r.events) h in
     let p = and_parts (has_topology_form r.input.topology) (config_form r.input.config) o.0 in
-    rw (topology_is_read r.input.topology p.0, config_is_read r.input.config p.1,
-        list_is_read event_at event_form event_document event_is_read AnyNumber r.events o.1 refl) refl
+    rw (
+      topology_is_read r.input.topology p.0,
+      config_is_read r.input.config p.1,
+      list_is_read event_at event_form event_document event_is_read AnyNumber r.events o.1 refl,
+    ) refl
