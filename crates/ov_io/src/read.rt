@@ -1,5 +1,5 @@
 //! Reading a source to its end.
-ghost use Rattle.std.specs.Prelude.{◌≡◌, ◌<◌, ◌≤◌, ◌^◌, length, IfOk, IfSome, vec_len};
+ghost use Rattle.std.specs.Prelude.{◌≡◌, ◌≢◌, ◌<◌, ◌≤◌, ◌^◌, length, IfOk, IfSome, vec_len};
 ghost use Rattle.ov_io.specs.Causes.{Rose};
 ghost use Rattle.ov_io.specs.Inputs.{WasReadWhole};
 ghost use Rattle.ov_io.specs.declared.read.InputRefusal.TheVariants.{NoMemory};
@@ -34,7 +34,7 @@ pub fn read_all<S: Source>(
     ensures short { IfOk result (λ v. vec_len v ≤ most) }
     ensures long { result ≡ Err InputRefusal.TooLong → IfSome (S.left source.old) (λ octets. most < length octets) }
     ensures fault { result ≡ Err InputRefusal.Fault → Rose (S.faults source.old) (S.faults source.new) }
-    ensures later { S.faults source.old ≤ S.faults source.new }
+    ensures kept { result ≢ Err InputRefusal.Fault → S.faults source.new ≡ S.faults source.old }
 {
     let mut octets = Vec::new(alloc);
     let mut buffer = [0u8; 4096];

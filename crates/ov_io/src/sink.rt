@@ -3,13 +3,16 @@ ghost use Rattle.std.specs.Prelude.{◌≡◌, [], ◌<◌, ◌++◌, List, ℕ,
 ghost use Rattle.std.specs.Io.{WritesAtMost};
 ghost use Rattle.std.specs.Io.KnownBytes.{WriteAppends, Appends};
 ghost use Rattle.ov_io.specs.Causes.{HasCause};
+ghost use Rattle.ov_io.specs.Fakes.{octets_taken, failed_writes, writes_made, failing_writes, call_after, IsListed};
 ghost use Rattle.ov_io.specs.Inputs.{TookFront};
 
 use std::alloc::Global;
+use thiserror::Error;
 
 /// A write failed.
-#[derive(Clone, Copy, Debug, PartialEq, Eq)]
+#[derive(Clone, Copy, Debug, PartialEq, Eq, Error)]
 pub enum SinkFault {
+    #[error("a write failed")]
     Failed,
 }
 
@@ -58,6 +61,8 @@ impl MemSink {
     pub fn new(alloc: Global, failing: Vec<u64>) -> MemSink
         ensures taken { ⟦<MemSink as Sink>⟧.taken result ≡ Some [] }
         ensures faults { ⟦<MemSink as Sink>⟧.faults result ≡ 0 }
+        ensures calls { writes_made result ≡ 0 }
+        ensures failing { failing_writes result ≡ failing.items }
     {
         MemSink {
             octets: Vec::new(alloc),
@@ -76,11 +81,19 @@ impl MemSink {
 }
 
 impl Sink for MemSink {
-    ghost taken = { λ s. Some s.octets.items };
+    ghost taken = { octets_taken };
 
-    ghost faults = { λ s. s.faults };
+    ghost faults = { failed_writes };
 
-    fn write(&mut self, from: &[u8]) -> Result<usize, SinkFault> {
+    /// A write whose number is listed fails; another takes all, or finds no memory and fails.
+    fn write(&mut self, from: &[u8]) -> Result<usize, SinkFault>
+        ensures failed { IsListed (failing_writes self.old) (writes_made self.old) → result ≡ Err SinkFault.Failed }
+        ensures whole { IfOk result (λ count. count ≡ length from.now) }
+        ensures bytes { WriteAppends (octets_taken self.old) (octets_taken self.new) result from.now }
+        ensures cause { HasCause (failed_writes self.old) (failed_writes self.new) result }
+        ensures counted { writes_made self.new ≡ call_after (writes_made self.old) }
+        ensures listed { failing_writes self.new ≡ failing_writes self.old }
+    {
         self.calls = self.calls.saturating_add(1);
         if self.failing.contains(&self.calls) {
             self.faults = self.faults.saturating_add(1);

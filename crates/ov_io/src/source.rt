@@ -1,14 +1,17 @@
 //! Where the program's octets come from.
-ghost use Rattle.std.specs.Prelude.{◌≡◌, ◌≤◌, ◌<◌, ◌+◌, [], length, take, List, ℕ, Option, Some, drop};
+ghost use Rattle.std.specs.Prelude.{◌≡◌, ◌↔◌, ◌≤◌, ◌<◌, ◌+◌, [], length, take, List, ℕ, Option, Some, drop};
 ghost use Rattle.std.specs.Io.{ReadsAtMost};
 ghost use Rattle.std.specs.Io.KnownBytes.{ReadConsumes};
 ghost use Rattle.ov_io.specs.Causes.{HasCause};
+ghost use Rattle.ov_io.specs.Fakes.{octets_left, failed_reads, reads_made, failing_reads, call_after, IsListed};
 
 use std::alloc::Global;
+use thiserror::Error;
 
 /// A read failed.
-#[derive(Clone, Copy, Debug, PartialEq, Eq)]
+#[derive(Clone, Copy, Debug, PartialEq, Eq, Error)]
 pub enum SourceFault {
+    #[error("a read failed")]
     Failed,
 }
 
@@ -42,6 +45,8 @@ impl MemSource {
     pub fn new(_alloc: Global, octets: Vec<u8>, failing: Vec<u64>) -> MemSource
         ensures left { ⟦<MemSource as Source>⟧.left result ≡ Some octets.items }
         ensures faults { ⟦<MemSource as Source>⟧.faults result ≡ 0 }
+        ensures calls { reads_made result ≡ 0 }
+        ensures failing { failing_reads result ≡ failing.items }
     {
         MemSource {
             octets,
@@ -54,11 +59,19 @@ impl MemSource {
 }
 
 impl Source for MemSource {
-    ghost left = { λ s. Some (drop s.at s.octets.items) };
+    ghost left = { octets_left };
 
-    ghost faults = { λ s. s.faults };
+    ghost faults = { failed_reads };
 
-    fn read(&mut self, into: &mut [u8]) -> Result<usize, SourceFault> {
+    /// A read fails exactly where its number is listed.
+    fn read(&mut self, into: &mut [u8]) -> Result<usize, SourceFault>
+        ensures failed { (result ≡ Err SourceFault.Failed) ↔ IsListed (failing_reads self.old) (reads_made self.old) }
+        ensures bound { ReadsAtMost result into.new }
+        ensures bytes { ReadConsumes (octets_left self.old) (octets_left self.new) result into.new }
+        ensures cause { HasCause (failed_reads self.old) (failed_reads self.new) result }
+        ensures counted { reads_made self.new ≡ call_after (reads_made self.old) }
+        ensures listed { failing_reads self.new ≡ failing_reads self.old }
+    {
         self.calls = self.calls.saturating_add(1);
         if self.failing.contains(&self.calls) {
             self.faults = self.faults.saturating_add(1);

@@ -38,7 +38,14 @@ impl TextOut {
         Ok(())
     }
 
-    /// All that was appended.
+    /// Takes all text out, and keeps the room that it had.
+    pub fn clear(&mut self)
+        ensures { self.new ≡ [] }
+    {
+        self.octets.clear();
+    }
+
+    /// All that was appended since it was last cleared.
     pub fn octets(&self) -> &[u8]
         ensures { result.now ≡ self.now }
     {
@@ -57,6 +64,9 @@ mod tests {
         assert_eq!(rt; text.push(b"ab"), Ok(()));
         assert_eq!(rt; text.push(b"c"), Ok(()));
         assert_eq!(rt; text.octets(), b"abc".as_slice());
+        text.clear();
+        assert_eq!(rt; text.push(b"d"), Ok(()));
+        assert_eq!(rt; text.octets(), b"d".as_slice());
         Ok(())
     }
 }

@@ -12,7 +12,9 @@ use crate::decoding::{octets_of, report_of};
 use crate::lines::compile_lines;
 use crate::outcomes::reach_lines;
 use config_check::{CheckRefusal, Refusal, check};
-use config_model::{DocFault, DocKind, Plan, ReachInput, ReadRefusal, read_compile, read_reach};
+use config_model::{
+    CompileInput, DocFault, DocKind, ReachInput, ReadRefusal, read_compile, read_reach,
+};
 use ov_io::TextOut;
 use ov_types::NoMemory;
 use serde_json::Value;
@@ -110,7 +112,7 @@ fn answer_refused(alloc: Global, refusal: &Refusal) -> Result<Answer, NoMemory>
 }
 
 /// What `compile` answers to a topology and a configuration.
-fn compile_plan(alloc: Global, plan: Plan) -> Result<Answer, NoMemory>
+fn compile_plan(alloc: Global, plan: CompileInput) -> Result<Answer, NoMemory>
     requires topology_form { IsTrue (has_topology_form plan.topology) }
     requires config_form { IsTrue (has_config_form plan.config) }
     ensures { IfOk result (λ a. a ≡ compile_reading (Ok plan)) }
@@ -142,11 +144,11 @@ fn compile_document(alloc: Global, value: &Value) -> Result<Answer, NoMemory>
 
 /// What `reach` answers to a topology, a configuration and packets.
 fn reach_input(alloc: Global, input: ReachInput) -> Result<Answer, NoMemory>
-    requires topology_form { IsTrue (has_topology_form input.topology) }
-    requires config_form { IsTrue (has_config_form input.config) }
+    requires topology_form { IsTrue (has_topology_form input.input.topology) }
+    requires config_form { IsTrue (has_config_form input.input.config) }
     ensures { IfOk result (λ a. a ≡ reach_reading (Ok input)) }
 {
-    match check(alloc, input.topology, input.config) {
+    match check(alloc, input.input.topology, input.input.config) {
         Ok(valid) => {
             let text = reach_lines(alloc, &valid, input.packets.as_slice())?;
             Ok(Answer {

@@ -1,4 +1,4 @@
-use Rattle.std.proofs.Common.{◌≤◌, vec_len}
+use Rattle.std.proofs.Common.{◌≡◌, ◌≤◌, vec_len}
 use Rattle.std.specs.Io.KnownBytes.{Consumes}
 use Rattle.ov_io.proofs.read.read_all.Given as goal
 
@@ -7,5 +7,5 @@ invariant-loop-turn g l = record {
   short : vec_len l.octets ≤ l.most;
   turns : l._turn ≤ vec_len l.octets;
   consumed : Consumes (g.S.Source.left l.fn.source) (g.S.Source.left l.source) l.octets.items;
-  later : g.S.Source.faults l.fn.source ≤ g.S.Source.faults l.source;
+  kept : g.S.Source.faults l.source ≡ g.S.Source.faults l.fn.source;
 }

@@ -1,4 +1,4 @@
-use Rattle.std.proofs.Common.{◌≡◌, ◌-◌, length, take, drop, length-drop, take-add, arith}
+use Rattle.std.proofs.Common.{◌≡◌, ◌-◌, length, take, drop, length-drop, take-add, arith, ◌∙◌}
 use Rattle.std.proofs.lemmas.List.{take_all}
 use Rattle.std.proofs.KnownBytes.{Appends-trans}
 use Rattle.ov_io.proofs.sink.write_all.Goals as goal
@@ -12,5 +12,5 @@ loop-done-preserved g c =
     record {
       fits = omega (arith, length-drop done text, c.in_ok-count.ensures.bound);
       taken = rw (take-add done count text, ← whole) (Appends-trans _ _ _ _ _ c.loop-done.invariant.taken c.in_ok-count.ensures.bytes);
-      later = omega (arith, c.in_ok-count.ensures.cause.later, c.loop-done.invariant.later);
+      same = c.in_ok-count.ensures.cause.kept ∙ c.loop-done.invariant.same;
     }
