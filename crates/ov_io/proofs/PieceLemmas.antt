@@ -1,0 +1,88 @@
+-- How pieces make the whole text.
+use Rattle.std.proofs.Common.{◌≡◌, ◌≤◌, ◌+◌, ℕ, List, [], ◌++◌, Option, length, take, drop, refl, ap, sym, ◌∙◌, subst, arith}
+use Rattle.std.proofs.lemmas.List.{append_assoc, append-nil, length-append, take-append-drop}
+use Rattle.std.proofs.Math.Seq.{take-append_seam}
+use Rattle.std.proofs.KnownBytes.{Appends-nil, Appends-trans}
+use Rattle.std.specs.Io.KnownBytes.{Appends}
+use Rattle.ov_io.specs.Inputs.{TookFront}
+use Rattle.ov_io.specs.Pieces.{IsOnItsWay}
+
+-- nothing was taken yet
+pub way_begins : (old : Option (List ℕ)) (gathered left : List ℕ) → IsOnItsWay old old gathered left (gathered ++ left)
+way_begins old gathered left = record { taken = []; appended = Appends-nil old; joined = refl }
+
+-- what is gathered stays so
+pub way_stays : (old : Option (List ℕ)) (gathered : List ℕ) → IsOnItsWay old old gathered [] gathered
+way_stays old gathered = record { taken = []; appended = Appends-nil old; joined = append-nil gathered }
+
+-- what was gathered was taken
+pub way_taken : (old new : Option (List ℕ)) (gathered after : List ℕ) → Appends old new gathered → after ≡ []
+    → IsOnItsWay old new after [] gathered
+way_taken old new gathered after taken none =
+    record {
+      taken = gathered;
+      appended = taken;
+      joined = ap (λ (t : List ℕ). gathered ++ (t ++ [])) none ∙ append-nil gathered;
+    }
+
+-- a text that was left is gathered
+pub way_gathers : (old new : Option (List ℕ)) (before after text left whole : List ℕ) → IsOnItsWay old new before (text ++ left) whole
+    → after ≡ before ++ text → IsOnItsWay old new after left whole
+way_gathers old new before after text left whole way e =
+    record {
+      taken = way.taken;
+      appended = way.appended;
+      joined = ap (λ (t : List ℕ). way.taken ++ (t ++ left)) e ∙ ap (λ (t : List ℕ). way.taken ++ t) (append_assoc before text left) ∙ way.joined;
+    }
+
+-- one way goes on where another ends
+pub way_goes_on : (old mid new : Option (List ℕ)) (before after text left whole : List ℕ) → IsOnItsWay old mid before (text ++ left) whole
+    → IsOnItsWay mid new after [] (before ++ text) → IsOnItsWay old new after left whole
+way_goes_on old mid new before after text left whole way on =
+    let said : on.taken ++ after ≡ before ++ text = ap (λ (t : List ℕ). on.taken ++ t) (sym (append-nil after)) ∙ on.joined in
+    let more : on.taken ++ (after ++ left) ≡ before ++ (text ++ left) =
+    sym (append_assoc on.taken after left) ∙ ap (λ (t : List ℕ). t ++ left) said ∙ append_assoc before text left in
+    record {
+      taken = way.taken ++ on.taken;
+      appended = Appends-trans old mid new way.taken on.taken way.appended on.appended;
+      joined = append_assoc way.taken on.taken (after ++ left) ∙ ap (λ (t : List ℕ). way.taken ++ t) more ∙ way.joined;
+    }
+
+-- all that was gathered was taken, and nothing is left
+pub way_ends : (old mid new : Option (List ℕ)) (gathered whole : List ℕ) → IsOnItsWay old mid gathered [] whole
+    → Appends mid new gathered → Appends old new whole
+way_ends old mid new gathered whole way last =
+    let joined : way.taken ++ gathered ≡ whole = ap (λ (t : List ℕ). way.taken ++ t) (sym (append-nil gathered)) ∙ way.joined in
+    subst (λ (t : List ℕ). Appends old new t) joined (Appends-trans old mid new way.taken gathered way.appended last)
+
+-- nothing is a front of every text
+pub took_nothing : (old : Option (List ℕ)) (whole : List ℕ) → TookFront old old whole
+took_nothing old whole = record { count = 0; fits = omega arith; front = Appends-nil old }
+
+-- a front of a text, after which more comes
+front_of : (old new : Option (List ℕ)) (front more : List ℕ) → Appends old new front → TookFront old new (front ++ more)
+front_of old new front more taken =
+    record {
+      count = length front;
+      fits = omega (arith, length-append front more);
+      front = subst (λ (t : List ℕ). Appends old new t) (sym (take-append_seam front more)) taken;
+    }
+
+-- what was taken on the way is a front of the whole
+pub way_stops : (old new : Option (List ℕ)) (gathered left whole : List ℕ) → IsOnItsWay old new gathered left whole → TookFront old new whole
+way_stops old new gathered left whole way =
+    subst (λ (t : List ℕ). TookFront old new t) way.joined (front_of old new way.taken (gathered ++ left) way.appended)
+
+-- and so it is where the next piece stops
+pub way_breaks : (old mid new : Option (List ℕ)) (before text left whole : List ℕ) → IsOnItsWay old mid before (text ++ left) whole
+    → TookFront mid new (before ++ text) → TookFront old new whole
+way_breaks old mid new before text left whole way stop =
+    let here = before ++ text in
+    let front = take stop.count here in
+    let more = drop stop.count here ++ left in
+    let joined : (way.taken ++ front) ++ more ≡ whole =
+    append_assoc way.taken front more ∙ ap (λ (t : List ℕ). way.taken ++ t)
+    (sym (append_assoc front (drop stop.count here) left) ∙ ap (λ (t : List ℕ). t ++ left) (take-append-drop stop.count here) ∙ append_assoc before text left)
+    ∙ way.joined in
+    subst (λ (t : List ℕ). TookFront old new t) joined
+    (front_of old new (way.taken ++ front) more (Appends-trans old mid new way.taken front way.appended stop.front))
