@@ -26,33 +26,54 @@ way_taken old new gathered after taken none =
     }
 
 -- a text that was left is gathered
-pub way_gathers : (old new : Option (List ℕ)) (before after text left whole : List ℕ) → IsOnItsWay old new before (text ++ left) whole
-    → after ≡ before ++ text → IsOnItsWay old new after left whole
-way_gathers old new before after text left whole way e =
+pub way_gathers : (old new : Option (List ℕ)) (before after text left more whole : List ℕ) → IsOnItsWay old new before left whole
+    → left ≡ text ++ more → after ≡ before ++ text → IsOnItsWay old new after more whole
+way_gathers old new before after text left more whole way split e =
+    let here : after ++ more ≡ before ++ left =
+    ap (λ (t : List ℕ). t ++ more) e ∙ append_assoc before text more ∙ ap (λ (t : List ℕ). before ++ t) (sym split) in
     record {
       taken = way.taken;
       appended = way.appended;
-      joined = ap (λ (t : List ℕ). way.taken ++ (t ++ left)) e ∙ ap (λ (t : List ℕ). way.taken ++ t) (append_assoc before text left) ∙ way.joined;
+      joined = ap (λ (t : List ℕ). way.taken ++ t) here ∙ way.joined;
     }
 
 -- one way goes on where another ends
-pub way_goes_on : (old mid new : Option (List ℕ)) (before after text left whole : List ℕ) → IsOnItsWay old mid before (text ++ left) whole
-    → IsOnItsWay mid new after [] (before ++ text) → IsOnItsWay old new after left whole
-way_goes_on old mid new before after text left whole way on =
+pub way_goes_on : (old mid new : Option (List ℕ)) (before after text left more whole : List ℕ) → IsOnItsWay old mid before left whole
+    → left ≡ text ++ more → IsOnItsWay mid new after [] (before ++ text) → IsOnItsWay old new after more whole
+way_goes_on old mid new before after text left more whole way split on =
     let said : on.taken ++ after ≡ before ++ text = ap (λ (t : List ℕ). on.taken ++ t) (sym (append-nil after)) ∙ on.joined in
-    let more : on.taken ++ (after ++ left) ≡ before ++ (text ++ left) =
-    sym (append_assoc on.taken after left) ∙ ap (λ (t : List ℕ). t ++ left) said ∙ append_assoc before text left in
+    let here : on.taken ++ (after ++ more) ≡ before ++ left =
+    sym (append_assoc on.taken after more) ∙ ap (λ (t : List ℕ). t ++ more) said ∙ append_assoc before text more
+    ∙ ap (λ (t : List ℕ). before ++ t) (sym split) in
     record {
       taken = way.taken ++ on.taken;
       appended = Appends-trans old mid new way.taken on.taken way.appended on.appended;
-      joined = append_assoc way.taken on.taken (after ++ left) ∙ ap (λ (t : List ℕ). way.taken ++ t) more ∙ way.joined;
+      joined = append_assoc way.taken on.taken (after ++ more) ∙ ap (λ (t : List ℕ). way.taken ++ t) here ∙ way.joined;
+    }
+
+-- nothing is left
+pub way_done : (old new : Option (List ℕ)) (gathered left whole : List ℕ) → IsOnItsWay old new gathered left whole → left ≡ []
+    → IsOnItsWay old new gathered [] whole
+way_done old new gathered left whole way none = subst (λ (t : List ℕ). IsOnItsWay old new gathered t whole) none way
+
+-- more is left than was said
+pub way_lengthens : (old new : Option (List ℕ)) (gathered left more whole : List ℕ) → IsOnItsWay old new gathered left whole
+    → IsOnItsWay old new gathered (left ++ more) (whole ++ more)
+way_lengthens old new gathered left more whole way =
+    record {
+      taken = way.taken;
+      appended = way.appended;
+      joined =
+          ap (λ (t : List ℕ). way.taken ++ t) (sym (append_assoc gathered left more)) ∙ sym (append_assoc way.taken (gathered ++ left) more)
+          ∙ ap (λ (t : List ℕ). t ++ more) way.joined;
     }
 
 -- all that was gathered was taken, and nothing is left
-pub way_ends : (old mid new : Option (List ℕ)) (gathered whole : List ℕ) → IsOnItsWay old mid gathered [] whole
+pub way_ends : (old mid new : Option (List ℕ)) (gathered left whole : List ℕ) → IsOnItsWay old mid gathered left whole → left ≡ []
     → Appends mid new gathered → Appends old new whole
-way_ends old mid new gathered whole way last =
-    let joined : way.taken ++ gathered ≡ whole = ap (λ (t : List ℕ). way.taken ++ t) (sym (append-nil gathered)) ∙ way.joined in
+way_ends old mid new gathered left whole way none last =
+    let here : gathered ++ left ≡ gathered = ap (λ (t : List ℕ). gathered ++ t) none ∙ append-nil gathered in
+    let joined : way.taken ++ gathered ≡ whole = ap (λ (t : List ℕ). way.taken ++ t) (sym here) ∙ way.joined in
     subst (λ (t : List ℕ). Appends old new t) joined (Appends-trans old mid new way.taken gathered way.appended last)
 
 -- nothing is a front of every text
@@ -74,15 +95,16 @@ way_stops old new gathered left whole way =
     subst (λ (t : List ℕ). TookFront old new t) way.joined (front_of old new way.taken (gathered ++ left) way.appended)
 
 -- and so it is where the next piece stops
-pub way_breaks : (old mid new : Option (List ℕ)) (before text left whole : List ℕ) → IsOnItsWay old mid before (text ++ left) whole
-    → TookFront mid new (before ++ text) → TookFront old new whole
-way_breaks old mid new before text left whole way stop =
+pub way_breaks : (old mid new : Option (List ℕ)) (before text left more whole : List ℕ) → IsOnItsWay old mid before left whole
+    → left ≡ text ++ more → TookFront mid new (before ++ text) → TookFront old new whole
+way_breaks old mid new before text left more whole way split stop =
     let here = before ++ text in
     let front = take stop.count here in
-    let more = drop stop.count here ++ left in
-    let joined : (way.taken ++ front) ++ more ≡ whole =
-    append_assoc way.taken front more ∙ ap (λ (t : List ℕ). way.taken ++ t)
-    (sym (append_assoc front (drop stop.count here) left) ∙ ap (λ (t : List ℕ). t ++ left) (take-append-drop stop.count here) ∙ append_assoc before text left)
-    ∙ way.joined in
+    let rest = drop stop.count here ++ more in
+    let there : front ++ rest ≡ before ++ left =
+    sym (append_assoc front (drop stop.count here) more) ∙ ap (λ (t : List ℕ). t ++ more) (take-append-drop stop.count here)
+    ∙ append_assoc before text more ∙ ap (λ (t : List ℕ). before ++ t) (sym split) in
+    let joined : (way.taken ++ front) ++ rest ≡ whole =
+    append_assoc way.taken front rest ∙ ap (λ (t : List ℕ). way.taken ++ t) there ∙ way.joined in
     subst (λ (t : List ℕ). TookFront old new t) joined
-    (front_of old new (way.taken ++ front) more (Appends-trans old mid new way.taken front way.appended stop.front))
+    (front_of old new (way.taken ++ front) rest (Appends-trans old mid new way.taken front way.appended stop.front))
