@@ -2,10 +2,12 @@
 use Rattle.std.proofs.Common.{◌≡◌, ◌≤◌, ◌+◌, ℕ, List, [], ◌++◌, Option, length, take, drop, refl, ap, sym, ◌∙◌, subst, arith}
 use Rattle.std.proofs.lemmas.List.{append_assoc, append-nil, length-append, take-append-drop}
 use Rattle.std.proofs.Math.Seq.{take-append_seam}
+use Rattle.std.specs.Prelude.{OnOk, OnErr, Result, Ok, Err}
 use Rattle.std.proofs.KnownBytes.{Appends-nil, Appends-trans}
 use Rattle.std.specs.Io.KnownBytes.{Appends}
 use Rattle.ov_io.specs.Inputs.{TookFront}
-use Rattle.ov_io.specs.Pieces.{IsOnItsWay}
+use Rattle.ov_io.specs.Pieces.{HasWriteCause, IsOnItsWay}
+use Rattle.ov_io.specs.declared.pieces.WriteRefusal.{WriteRefusal}
 
 -- nothing was taken yet
 pub way_begins : (old : Option (List ℕ)) (gathered left : List ℕ) → IsOnItsWay old old gathered left (gathered ++ left)
@@ -108,3 +110,30 @@ way_breaks old mid new before text left more whole way split stop =
     append_assoc way.taken front rest ∙ ap (λ (t : List ℕ). way.taken ++ t) there ∙ way.joined in
     subst (λ (t : List ℕ). TookFront old new t) joined
     (front_of old new (way.taken ++ front) rest (Appends-trans old mid new way.taken front way.appended stop.front))
+
+-- what holds in any case holds at an error
+pub on_err : {T E : Type 0} (r : Result T E) (P : Type 0) → P → OnErr r P
+on_err (Ok x) P p = tt
+on_err (Err e) P p = p
+
+-- a front of what is gathered is a front of the whole
+pub way_cut : (old mid new : Option (List ℕ)) (gathered left whole : List ℕ) → IsOnItsWay old mid gathered left whole
+    → TookFront mid new gathered → TookFront old new whole
+way_cut old mid new gathered left whole way stop =
+    way_breaks old mid new gathered [] left left whole way refl
+    (subst (λ (t : List ℕ). TookFront mid new t) (sym (append-nil gathered)) stop)
+
+-- what is gathered at the end is written, or a front of it
+pub ends_whole : {E : Type 0} (r : Result Unit E) (old mid new : Option (List ℕ)) (gathered left whole : List ℕ)
+    → IsOnItsWay old mid gathered left whole → left ≡ [] → OnOk r (Appends mid new gathered) → OnOk r (Appends old new whole)
+ends_whole (Ok x) old mid new gathered left whole way none last = way_ends old mid new gathered left whole way none last
+ends_whole (Err e) old mid new gathered left whole way none last = tt
+
+pub ends_cut : {E : Type 0} (r : Result Unit E) (old mid new : Option (List ℕ)) (gathered left whole : List ℕ)
+    → IsOnItsWay old mid gathered left whole → OnErr r (TookFront mid new gathered) → OnErr r (TookFront old new whole)
+ends_cut (Ok x) old mid new gathered left whole way stop = tt
+ends_cut (Err e) old mid new gathered left whole way stop = way_cut old mid new gathered left whole way stop
+
+-- the cause of a step is that of the whole, where nothing was counted before
+pub cause_from : {T : Type 0} (r : Result T WriteRefusal) (before mid now : ℕ) → mid ≡ before → HasWriteCause mid now r → HasWriteCause before now r
+cause_from r before mid now same cause = subst (λ (n : ℕ). HasWriteCause n now r) same cause

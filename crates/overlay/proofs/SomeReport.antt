@@ -33,12 +33,12 @@ attribute_octets octets parts count h begins =
     let body = begins.message.body in
     let taken : AreOctets (take count octets) = AreOctets-take count octets h in
     let whole : AreOctets (head (19 + length body) begins.message.kind ++ body) = subst AreOctets frame.spelled taken in
-    let within : AreOctets body = rest_octets _ body whole in
+    let within : AreOctets body = rest_octets (head (19 + length body) begins.message.kind) body whole in
     let spelled = begins.message.says.1.spelled in
     let parted : AreOctets (big_bytes 2 (length parts.withdrawn) ++ parts.withdrawn
         ++ (big_bytes 2 (length parts.attributes) ++ parts.attributes ++ parts.routes)) = subst AreOctets spelled within in
     let behind : AreOctets (big_bytes 2 (length parts.attributes) ++ parts.attributes ++ parts.routes) =
-    rest_octets (big_bytes 2 (length parts.withdrawn) ++ parts.withdrawn) _ parted in
+    rest_octets (big_bytes 2 (length parts.withdrawn) ++ parts.withdrawn) (big_bytes 2 (length parts.attributes) ++ parts.attributes ++ parts.routes) parted in
     rest_octets (big_bytes 2 (length parts.attributes)) parts.attributes
     (front_octets (big_bytes 2 (length parts.attributes) ++ parts.attributes) parts.routes behind)
 

@@ -1,6 +1,7 @@
 -- How a report is handed on, message by message.
 use Rattle.std.proofs.Common.{◌≡◌, ◌==◌, ◌<◌, true, ℕ, List, [], ◌∷◌, ◌++◌, length, drop, Option, Some, None, refl, ap, sym, ◌∙◌, subst, arith}
 use Rattle.std.proofs.lemmas.List.{append_assoc, append-nil}
+use Rattle.std.specs.Prelude.{OnOk, OnErr, Result, Ok, Err}
 use Rattle.std.specs.Io.KnownBytes.{Appends}
 use Rattle.ov_io.specs.Inputs.{TookFront}
 use Rattle.ov_io.specs.Pieces.{IsOnItsWay, TookText, TookFrontOf}
@@ -125,3 +126,23 @@ pub end_stops : (octets : List ℕ) (old mid new : Option (List ℕ)) (gathered 
 end_stops octets old mid new gathered all stop =
     let here : TookFront mid new (gathered ++ []) = subst (λ (t : List ℕ). TookFront mid new t) (sym (append-nil gathered)) stop in
     record { text = all.text; is = all.report; taken = way_breaks old mid new gathered [] [] [] all.text all.way refl here }
+
+-- what a step says of a message, or of all
+pub moved_on : (octets : List ℕ) (old new : Option (List ℕ)) (before after : List ℕ) (count : ℕ) (found : Option ℕ) → found ≡ Some count
+    → Moves octets old new before after found → MovesOn octets count old new before after
+moved_on octets old new before after count found is moves = subst (λ (o : Option ℕ). Moves octets old new before after o) is moves
+
+pub moved_all : (octets : List ℕ) (old new : Option (List ℕ)) (before after : List ℕ) (found : Option ℕ) → found ≡ None
+    → Moves octets old new before after found → MovesAll octets old new before after
+moved_all octets old new before after found is moves = subst (λ (o : Option ℕ). Moves octets old new before after o) is moves
+
+-- how the last write ends
+pub report_whole : {E : Type 0} (r : Result Unit E) (octets : List ℕ) (old mid new : Option (List ℕ)) (gathered : List ℕ)
+    → MovesAll octets old mid [] gathered → OnOk r (Appends mid new gathered) → OnOk r (TookText (IsReport octets) old new)
+report_whole (Ok x) octets old mid new gathered all last = end_written octets old mid new gathered all last
+report_whole (Err e) octets old mid new gathered all last = tt
+
+pub report_cut : {E : Type 0} (r : Result Unit E) (octets : List ℕ) (old mid new : Option (List ℕ)) (gathered : List ℕ)
+    → MovesAll octets old mid [] gathered → OnErr r (TookFront mid new gathered) → OnErr r (TookFrontOf (IsReport octets) old new)
+report_cut (Ok x) octets old mid new gathered all stop = tt
+report_cut (Err e) octets old mid new gathered all stop = end_stops octets old mid new gathered all stop

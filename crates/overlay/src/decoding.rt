@@ -138,7 +138,6 @@ fn push_report(alloc: Global, octets: &[u8], out: &mut TextOut) -> Result<Option
 }
 
 /// Hands on what is told of the first message, and says how many octets that has. `None` where nothing is left to tell.
-#[tactic(auto, using(crate::proofs::Telling::nothing_told, crate::proofs::Telling::first_told, crate::proofs::Telling::first_moves))]
 fn write_first<K: Sink>(
     alloc: Global,
     octets: &[u8],
