@@ -3,6 +3,7 @@
 
 ghost use Rattle.std.specs.Prelude.{◌≡◌, ◌≢◌, ◌↔◌, ◌⊎◌};
 ghost use Rattle.std.specs.IoError.{error_kind};
+ghost use Rattle.std.specs.declared.io.ErrorKind.TheVariants.{OutOfMemory};
 ghost use Rattle.std.specs.Process.{exit_status};
 ghost use Rattle.overlay.specs.Commands.{request_named, request_of};
 ghost use Rattle.overlay.specs.Runs.{number_of};
@@ -70,8 +71,8 @@ fn words_of<R: Env + AllocGlobal>(rt: &R) -> io::Result<Vec<String>> {
 
 /// The status where the words can't be had: there is no memory for them, or one is no UTF-8.
 fn status_without_words(error: &io::Error) -> Status
-    ensures no_memory { (result ≡ Status.NoMemory) ↔ (error_kind error.now ≡ ErrorKind.OutOfMemory) }
-    ensures usage { (result ≡ Status.Usage) ↔ (error_kind error.now ≢ ErrorKind.OutOfMemory) }
+    ensures no_memory { (result ≡ Status.NoMemory) ↔ (error_kind error.now ≡ OutOfMemory) }
+    ensures usage { (result ≡ Status.Usage) ↔ (error_kind error.now ≢ OutOfMemory) }
 {
     match error.kind() {
         io::ErrorKind::OutOfMemory => Status::NoMemory,
