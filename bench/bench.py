@@ -1,25 +1,28 @@
 #!/usr/bin/env python3
 """What the commands cost.
 
-Makes inputs by formula, runs the built program on each, and prints a table in Markdown: seconds (the least of five runs),
-peak memory and size of the output, both in millions of octets and of the quickest run. Behind each figure stands its
-ratio to a baseline, which reads the same input in the same run: `jq -c .` for documents, `xxd -r -p` for hexadecimal
-digits. Ends with a message where a baseline fails, or where the runs of one input end differently.
+Makes inputs by formula, runs the built program on each, and prints a table in Markdown: processor time in seconds (user and
+system, the least of five runs), peak memory and size of the output, both in millions of octets and of the quickest run.
+Behind each figure stands its ratio to a baseline on the same input: `jq -c .` for documents, and for hexadecimal digits the
+floor, a plain C program (floor.c) that tells the same messages by the same text. Ends with a message where a baseline
+fails, where the runs of one input end differently, or where the floor's text is another one.
 
 usage: bench/bench.py PROGRAM [WORD]
 
-PROGRAM is the built `overlay`. With WORD only the inputs whose name has it are run. Needs Python 3.8 and Debian's packages
-jq, time and xxd.
+PROGRAM is the built `overlay`. With WORD only the inputs whose name has it are run. Needs Python 3.8, a C compiler as `cc`,
+and Debian's packages jq and time.
 """
+import filecmp
 import json
 import os
+import resource
 import subprocess
 import sys
 import tempfile
-import time
 
 RUNS = 5
 SECONDS = 600  # after which a run is stopped
+FLOOR = os.path.join(os.path.dirname(os.path.abspath(__file__)), "floor.c")
 
 
 def topology(controllers):
@@ -86,20 +89,43 @@ def attribute(flags, kind, value):
     return bytes([flags, kind, len(value)]) + value
 
 
+def message(attributes):
+    """An UPDATE of these attributes."""
+    body = b"\0\0" + len(attributes).to_bytes(2, "big") + attributes
+    return b"\xff" * 16 + (19 + len(body)).to_bytes(2, "big") + b"\2" + body
+
+
+def announcement(routes):
+    """The attribute of VPN-IPv4 routes behind one next hop."""
+    return attribute(0x80, 14, bytes.fromhex("0001800c0000000000000000c000020b00") + b"".join(routes))
+
+
+LABEL = (23 * 16 + 1).to_bytes(3, "big")
+
+
 def update(first, routes):
     """An UPDATE of so many VPN-IPv4 host routes of one instance, with one route target."""
-    label, distinguisher = (23 * 16 + 1).to_bytes(3, "big"), bytes.fromhex("0001c000020b0001")
-    hosts = [bytes([120]) + label + distinguisher + (0x0A000000 + n).to_bytes(4, "big") for n in range(first, first + routes)]
-    next_hop = bytes.fromhex("0000000000000000c000020b")
-    attributes = b"".join([
+    distinguisher = bytes.fromhex("0001c000020b0001")
+    hosts = [bytes([120]) + LABEL + distinguisher + (0x0A000000 + n).to_bytes(4, "big") for n in range(first, first + routes)]
+    return message(b"".join([
         attribute(0x40, 1, b"\0"),
         attribute(0x40, 2, b""),
         attribute(0x40, 5, (100).to_bytes(4, "big")),
-        attribute(0x80, 14, bytes([0, 1, 128, 12]) + next_hop + b"\0" + b"".join(hosts)),
+        announcement(hosts),
         attribute(0xC0, 16, bytes.fromhex("0002fc00007a1201")),
-    ])
-    body = b"\0\0" + len(attributes).to_bytes(2, "big") + attributes
-    return b"\xff" * 16 + (19 + len(body)).to_bytes(2, "big") + b"\2" + body
+    ]))
+
+
+def hostile_update():
+    """An UPDATE of 165 default routes, each of an instance of its own, with 250 route targets: each line tells them all."""
+    routes = [bytes([88]) + LABEL + bytes.fromhex("0001c000020b") + n.to_bytes(2, "big") for n in range(1, 166)]
+    targets = [bytes.fromhex("0002fc00") + (8_000_000 + n).to_bytes(4, "big") for n in range(250)]
+    return message(b"".join([
+        attribute(0x40, 1, b"\0"),
+        attribute(0x40, 2, b""),
+        announcement(routes),
+        attribute(0xC0, 16, b"".join(targets)),
+    ]))
 
 
 def updates(octets, routes):
@@ -122,43 +148,54 @@ def inputs():
     for millions in (1, 4, 8):
         for routes in (1, 20):
             yield f"decode {millions} million octets, {routes} a message", "decode", updates(millions * 1_000_000, routes)
+    yield "decode 2077 UPDATEs of 165 routes with 250 targets", "decode", "\n".join([hostile_update().hex()] * 2_077)
 
 
-def run(command, path):
-    """Seconds, peak megabytes and megabytes of output of a command that reads a file, and its status."""
-    with open(path, "rb") as source, tempfile.NamedTemporaryFile() as sink, tempfile.NamedTemporaryFile("r") as peak:
-        begun = time.perf_counter()
+def processor_seconds():
+    """What processes that have ended took, of those that this one started."""
+    used = resource.getrusage(resource.RUSAGE_CHILDREN)
+    return used.ru_utime + used.ru_stime
+
+
+def run(command, path, output):
+    """Seconds of processors, peak megabytes and megabytes of output of a command that reads a file, and its status."""
+    with open(path, "rb") as source, open(output, "wb") as sink, tempfile.NamedTemporaryFile("r") as peak:
         watched = ["timeout", str(SECONDS), "time", "--quiet", "--format=%M", f"--output={peak.name}"] + command
+        begun = processor_seconds()
         status = subprocess.run(watched, stdin=source, stdout=sink).returncode
-        seconds = time.perf_counter() - begun
+        seconds = processor_seconds() - begun
         told = peak.read().split()
         if not told:
             sys.exit(f"{' '.join(command)}: no peak memory, and status {status}, which is 124 after {SECONDS} seconds")
-        return (seconds, int(told[-1]) * 1024 / 1e6, os.path.getsize(sink.name) / 1e6), status
+        return (seconds, int(told[-1]) * 1024 / 1e6, os.path.getsize(output) / 1e6), status
 
 
-def measured(command, path):
+def measured(command, path, output):
     """The figures of the quickest of some runs, and the status of all."""
-    runs = [run(command, path) for _ in range(RUNS)]
+    runs = [run(command, path, output) for _ in range(RUNS)]
     statuses = {status for _, status in runs}
     if len(statuses) > 1:
         sys.exit(f"{' '.join(command)}: the runs of one input ended with different statuses: {sorted(statuses)}")
     return min(runs)
 
 
-def row(name, program, word, text):
+def row(name, program, floor, word, text):
     """A line of the table."""
-    with tempfile.NamedTemporaryFile("w") as file:
-        file.write(text)
-        file.flush()
-        figures, status = measured([program, word], file.name)
-        reader = ["xxd", "-r", "-p"] if word == "decode" else ["jq", "-c", "."]
-        baseline, read = measured(reader, file.name)
-    if read != 0:
-        sys.exit(f"{' '.join(reader)}: the baseline ended with status {read}")
+    with tempfile.TemporaryDirectory() as folder:
+        path, output, other = (os.path.join(folder, file) for file in ("input", "output", "baseline"))
+        with open(path, "w") as file:
+            file.write(text)
+        reader = [floor] if word == "decode" else ["jq", "-c", "."]
+        figures, status = measured([program, word], path, output)
+        baseline, read = measured(reader, path, other)
+        if read != 0:
+            sys.exit(f"{' '.join(reader)}: the baseline ended with status {read}")
+        if word == "decode" and not filecmp.cmp(output, other, shallow=False):
+            sys.exit(f"{name}: the floor tells something else")
     told = name if status == 0 else f"{name} (status {status})"
     digits = (3, 1, 2)
-    cells = [f"{figure:.{n}f} ({figure / base:.1f})" for figure, base, n in zip(figures, baseline, digits)]
+    ratios = [f"{figure / base:.1f}" for figure, base in zip(figures, baseline)]
+    cells = [f"{figure:.{n}f} ({ratio})" for figure, ratio, n in zip(figures, ratios, digits)]
     return f"| {told} | {len(text) / 1e6:.2f} | " + " | ".join(cells) + " |"
 
 
@@ -167,11 +204,14 @@ def main():
         sys.exit(__doc__)
     program = os.path.abspath(sys.argv[1])
     wanted = sys.argv[2] if len(sys.argv) > 2 else ""
-    print("| Command and input | Input, MB | Time, s (ratio) | Peak memory, MB (ratio) | Output, MB (ratio) |")
+    print("| Command and input | Input, MB | Processor time, s (ratio) | Peak memory, MB (ratio) | Output, MB (ratio) |")
     print("|---|---|---|---|---|")
-    for name, word, text in inputs():
-        if wanted in name:
-            print(row(name, program, word, text), flush=True)
+    with tempfile.TemporaryDirectory() as folder:
+        floor = os.path.join(folder, "floor")
+        subprocess.run(["cc", "-O2", FLOOR, "-o", floor], check=True)
+        for name, word, text in inputs():
+            if wanted in name:
+                print(row(name, program, floor, word, text), flush=True)
 
 
 if __name__ == "__main__":

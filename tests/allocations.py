@@ -1,8 +1,8 @@
 #!/usr/bin/env python3
 """Makes each allocation of a run fail, one in each run, and says how the runs ended.
 
-Runs the built program on the shipped examples. A run in which an allocation fails has to end with status 9 and to write
-nothing, or else as the run in which none fails. The failing allocation is made by a library that is loaded before the C
+Runs the built program on the shipped examples, and on messages of which it tells in several pieces. A run in which an
+allocation fails has to end with status 9 and to write a front of the text, or else as the run in which none fails. The failing allocation is made by a library that is loaded before the C
 library; it is compiled by `cc` to a temporary folder. A run is stopped after 60 seconds, and has then ended otherwise.
 
 usage: tests/allocations.py PROGRAM
@@ -17,6 +17,8 @@ import tempfile
 
 EXAMPLES = os.path.join(os.path.dirname(os.path.dirname(os.path.abspath(__file__))), "examples")
 RUNS = [("compile", "one.json"), ("reach", "reach.json"), ("decode", "update.hex"), ("reach", "one.json"), ("decode", "one.json")]
+MESSAGES = "decode", "20,000 messages"  # the text of the second half is gathered when that of the first is written
+KEEPALIVE = b"ffffffffffffffffffffffffffffffff001304\n"
 LAST = 1000  # the last number tried: a run has fewer allocations
 SECONDS = 60  # after which a run is stopped
 
@@ -64,15 +66,27 @@ def compiled(folder):
     return path
 
 
-def ended(library, program, word, name, number):
+def text_of(name):
+    """The input of a run."""
+    if name == MESSAGES[1]:
+        return KEEPALIVE * 20_000
+    with open(os.path.join(EXAMPLES, name), "rb") as file:
+        return file.read()
+
+
+def ended(library, program, word, text, number):
     """The status of a run whose allocation of this number fails, none where it was stopped, and what it wrote."""
-    with open(os.path.join(EXAMPLES, name), "rb") as source:
-        environment = {"LD_PRELOAD": library, "FAILING": str(number)}
-        try:
-            run = subprocess.run([program, word], stdin=source, capture_output=True, env=environment, timeout=SECONDS)
-        except subprocess.TimeoutExpired:
-            return None, b""
+    environment = {"LD_PRELOAD": library, "FAILING": str(number)}
+    try:
+        run = subprocess.run([program, word], input=text, capture_output=True, env=environment, timeout=SECONDS)
+    except subprocess.TimeoutExpired:
+        return None, b""
     return run.returncode, run.stdout
+
+
+def is_cut(end, whole):
+    """Whether a run wanted memory and wrote a front of the text of the whole run."""
+    return end[0] == 9 and whole[1].startswith(end[1])
 
 
 def main():
@@ -82,12 +96,14 @@ def main():
     good = True
     with tempfile.TemporaryDirectory() as folder:
         library = compiled(folder)
-        for word, name in RUNS:
-            whole = ended(library, program, word, name, 0)
+        for word, name in RUNS + [MESSAGES]:
+            text = text_of(name)
+            whole = ended(library, program, word, text, 0)
             if whole[0] is None:
                 sys.exit(f"{word} {name}: the run in which none fails was stopped after {SECONDS} seconds")
-            ends = [ended(library, program, word, name, number) for number in range(1, LAST + 1)]
-            refused, others = ends.count((9, b"")), [end for end in ends if end not in ((9, b""), whole)]
+            ends = [ended(library, program, word, text, number) for number in range(1, LAST + 1)]
+            refused = sum(is_cut(end, whole) for end in ends)
+            others = [end for end in ends if end != whole and not is_cut(end, whole)]
             print(f"{word} {name}: {refused} runs with status 9, {len(others)} that ended otherwise")
             if ends[-1] != whole:
                 print(f"{word} {name}: the run whose allocation {LAST} fails is not whole, so that not all may have been tried")

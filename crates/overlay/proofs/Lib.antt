@@ -1,3 +1,7 @@
 pub mod JsonLaws
+pub mod LineLemmas
 pub mod Reports
 pub mod OneReport
+pub mod SomeReport
+pub mod Telling
+pub mod SomeText

@@ -9,8 +9,8 @@ use Rattle.bgp_wire.specs.Content.{Content}
 use Rattle.bgp_wire.specs.Frames.{IsProperPrefix, head}
 use Rattle.bgp_wire.specs.Messages.{content_of, BeginsWith, HasFault}
 use Rattle.report.specs.Lines.{fault_line, incomplete_line}
-use Rattle.overlay.specs.Decoding.{IsReport, of_nothing, of_a_prefix, of_a_fault, of_a_message}
-use Rattle.overlay.specs.Reporting.{Progress, Tells, WasFaulty, ToldFirst, ToldAll}
+use Rattle.overlay.specs.Decoding.{Says, IsReport, of_nothing, of_a_prefix, of_a_fault, of_a_message}
+use Rattle.overlay.specs.Reporting.{Tells, WasFaulty, ToldAll}
 use Rattle.overlay.specs.declared.decoding.Told.{Told}
 use Rattle.overlay.specs.declared.decoding.Told.TheVariants.{Faulty}
 
@@ -52,22 +52,12 @@ pub leads_first : (octets : List ℕ) → Leads octets octets []
 leads_first octets more report = report
 
 -- one message further
-pub leads_on : (octets rest behind told after : List ℕ) (count : ℕ) (found : Option ℕ) → behind ≡ drop count rest
-    → Leads octets rest told → found ≡ Some count → Progress rest told after found → Leads octets behind after
-leads_on octets rest behind told after count found is leads some progress more report =
-    let first : ToldFirst rest count told after = subst (λ (o : Option ℕ). Progress rest told after o) some progress in
-    let said = first.told.said in
+pub leads_on : (octets rest behind told said : List ℕ) (content : Content) (count : ℕ) → behind ≡ drop count rest
+    → Leads octets rest told → BeginsWith rest content count → Says content said → Leads octets behind (told ++ said)
+leads_on octets rest behind told said content count is leads begins says more report =
     let left : IsReport (drop count rest) more = subst (λ (xs : List ℕ). IsReport xs more) is report in
-    let whole : IsReport octets (told ++ (said ++ more)) =
-    leads (said ++ more) (of_a_message said more first.content count first.begins first.told.says left refl) in
-    let joined : told ++ (said ++ more) ≡ after ++ more =
-    sym (append_assoc told said more) ∙ ap (λ (t : List ℕ). t ++ more) (sym first.told.appended) in
-    subst (λ (t : List ℕ). IsReport octets t) joined whole
-
--- the rest of the report makes it whole
-pub leads_to_all : (octets rest told after : List ℕ) → Leads octets rest told → ToldAll rest told after → IsReport octets after
-leads_to_all octets rest told after leads all =
-    subst (λ (t : List ℕ). IsReport octets t) (sym all.appended) (leads all.text all.report)
+    let whole : IsReport octets (told ++ (said ++ more)) = leads (said ++ more) (of_a_message said more content count begins says left refl) in
+    subst (λ (t : List ℕ). IsReport octets t) (sym (append_assoc told said more)) whole
 
 -- where nothing is left the report is whole
 pub leads_to_end : (octets rest told : List ℕ) → Leads octets rest told → (length rest == 0) ≡ true → IsReport octets told

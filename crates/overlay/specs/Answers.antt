@@ -1,18 +1,20 @@
 -- What is answered to an input: what it is found to be, and the text that is written.
-use Rattle.std.specs.Prelude.{◌≡◌, ℕ, List, [], ◌∷◌, ◌++◌, ◌==◌, length, codes, Option, Some, None, Result, Ok, Err, if◌then◌else◌}
+use Rattle.std.specs.Prelude.{◌≡◌, ℕ, List, [], ◌∷◌, ◌++◌, ◌==◌, length, codes, Option, Some, None, Result, Ok, Err, if◌then◌else◌, ⊤}
+use Rattle.std.specs.Io.KnownBytes.{Appends}
 use Rattle.serde_json.specs.Data.{Data}
 use Rattle.config_model.specs.declared.fault.DocKind.{DocKind}
 use Rattle.config_model.specs.declared.fault.DocKind.TheVariants.{Missing, Kind, Range, Unknown}
 use Rattle.config_model.specs.declared.input.CompileInput.{CompileInput}
 use Rattle.config_model.specs.declared.input.ReachInput.{ReachInput}
-use Rattle.config_model.specs.Faults.{Fault}
+use Rattle.config_model.specs.Faults.{Fault, fault_of}
 use Rattle.config_model.specs.Input.{compile_at, reach_at}
 use Rattle.config_check.specs.declared.refusal.Refusal.{Refusal}
 use Rattle.config_check.specs.Rules.{first_broken}
 use Rattle.config_check.specs.Texts.{refusal_text}
 use Rattle.overlay.specs.declared.answer.Verdict.{Verdict}
 use Rattle.overlay.specs.declared.answer.Verdict.TheVariants.{Good, NotJson, BadDocument, Refused}
-use Rattle.overlay.specs.declared.answer.Answer.{Answer}
+use Rattle.overlay.specs.declared.answer.Unfit.{Unfit}
+use Rattle.overlay.specs.declared.answer.Unfit.TheVariants as unfit
 use Rattle.overlay.specs.declared.command.Command.{Command}
 use Rattle.overlay.specs.declared.command.Command.TheVariants.{Compile, Reach, Decode}
 use Rattle.overlay.specs.Decoding.{spelled, IsReport}
@@ -35,16 +37,39 @@ fault_line f = if length f.path == 0 then codes "bad document " ++ (kind_text f.
 unfoldable pub refused_line : Refusal → List ℕ
 refused_line r = codes "refused " ++ (refusal_text r ++ (10 ∷ []))
 
+-- what an input is found to be, and the text that is written of it
+pub record Answer : Type 0 where
+  pub verdict : Verdict
+  pub text : List ℕ
+
+abbrev pub answer_good : List ℕ → Answer
+answer_good text = record { verdict = Good; text = text }
+
 abbrev pub answer_not_json : Answer
 answer_not_json = record { verdict = NotJson; text = codes "not json" ++ (10 ∷ []) }
 
 abbrev pub answer_bad : Fault → Answer
 answer_bad f = record { verdict = BadDocument; text = fault_line f }
 
+abbrev pub answer_refused : Refusal → Answer
+answer_refused r = record { verdict = Refused; text = refused_line r }
+
 -- the answer where a configuration breaks a rule, or none
 abbrev pub answer_checked : Option Refusal → List ℕ → Answer
-answer_checked (Some r) text = record { verdict = Refused; text = refused_line r }
-answer_checked None text = record { verdict = Good; text = text }
+answer_checked (Some r) text = answer_refused r
+answer_checked None text = answer_good text
+
+-- what is not fit is answered with its one line, and nothing is said of want of memory
+abbrev pub IsAnswered : Unfit → Answer → Type 0
+IsAnswered unfit.NotJson answer = answer ≡ answer_not_json
+IsAnswered (unfit.BadDocument f) answer = answer ≡ answer_bad (fault_of f)
+IsAnswered (unfit.Refused r) answer = answer ≡ answer_refused r
+IsAnswered unfit.NoMemory answer = ⊤
+
+-- the verdict of an answer was given, and its text taken whole
+pub record WasGiven (answer : Answer) (verdict : Verdict) (old new : Option (List ℕ)) : Type 0 where
+  pub is : verdict ≡ answer.verdict
+  pub taken : Appends old new answer.text
 
 -- of a topology and a configuration that were read, or not, `compile` writes the tables
 abbrev pub compile_reading : Result CompileInput Fault → Answer

@@ -2,6 +2,8 @@
 use Rattle.std.specs.Prelude.{ℕ, List, [], ◌∷◌, codes, nat_eq, Option, Some, None, String, string_bytes, if◌then◌else◌}
 use Rattle.std.specs.declared.alloc.Global.{Global}
 use Rattle.std.specs.Cmp.Lexicographic.{pointwise}
+use Rattle.overlay.specs.declared.Request.{Request}
+use Rattle.overlay.specs.declared.Request.TheVariants.{Help, Version, Run}
 use Rattle.overlay.specs.declared.command.Command.{Command}
 use Rattle.overlay.specs.declared.command.Command.TheVariants.{Compile, Reach, Decode}
 
@@ -17,3 +19,15 @@ abbrev pub command_of : List (String Global) → Option Command
 command_of [] = None
 command_of (word ∷ []) = command_named (string_bytes word)
 command_of (word ∷ other ∷ words) = None
+
+-- what a word asks of the program itself, and not of a command
+abbrev pub request_named : List ℕ → Request
+request_named word =
+    if pointwise nat_eq word (codes "--help") then Help
+    else (if pointwise nat_eq word (codes "--version") then Version else Run)
+
+-- what words ask of the program itself: one word, alone
+abbrev pub request_of : List (String Global) → Request
+request_of [] = Run
+request_of (word ∷ []) = request_named (string_bytes word)
+request_of (word ∷ other ∷ words) = Run

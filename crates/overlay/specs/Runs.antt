@@ -1,13 +1,11 @@
 -- What a run is told by: its words, and the octets that its source held.
 use Rattle.std.specs.Prelude.{◌≡◌, ℕ, ◌≤◌, List, length, Option, Some, None, ⊤}
-use Rattle.std.specs.Io.KnownBytes.{Appends}
-use Rattle.ov_io.specs.Inputs.{TookFront}
 use Rattle.overlay.specs.declared.answer.Verdict.{Verdict}
 use Rattle.overlay.specs.declared.answer.Verdict.TheVariants as Found
 use Rattle.overlay.specs.declared.command.Command.{Command}
 use Rattle.overlay.specs.declared.top.Status.{Status}
 use Rattle.overlay.specs.declared.top.Status.TheVariants as Ended
-use Rattle.overlay.specs.Answers.{verdict_of, Writes}
+use Rattle.overlay.specs.Answers.{verdict_of}
 
 -- a fact of the command that was given and of the input; nothing is said of an input that the source does not tell
 abbrev pub OfInput : Option Command → Option (List ℕ) → (Command → List ℕ → Type 0) → Type 0
@@ -24,18 +22,6 @@ IfInput (Some command) (Some octets) Fact = Fact command octets
 -- the input is no longer than the limit, and is found to be this
 abbrev pub IsFound : ℕ → Verdict → Command → List ℕ → Type 0
 IsFound limit verdict command octets = (length octets ≤ limit) × (verdict_of command octets ≡ verdict)
-
--- a text of this command and input was taken whole
-pub record TookText (command : Command) (octets : List ℕ) (old new : Option (List ℕ)) : Type 0 where
-  pub text : List ℕ
-  pub is : Writes command octets text
-  pub taken : Appends old new text
-
--- a front of a text of this command and input was taken
-pub record TookFrontOf (command : Command) (octets : List ℕ) (old new : Option (List ℕ)) : Type 0 where
-  pub text : List ℕ
-  pub is : Writes command octets text
-  pub taken : TookFront old new text
 
 -- the status that tells a verdict
 abbrev pub status_of : Verdict → Status
@@ -64,10 +50,15 @@ IsWritten Ended.BadDocument = ⊤
 IsWritten Ended.Refused = ⊤
 IsWritten _ = ⊥
 
+-- the status is that of a run that may have written a front of its text
+abbrev pub IsCut : Status → Type 0
+IsCut Ended.WriteFault = ⊤
+IsCut Ended.NoMemory = ⊤
+IsCut _ = ⊥
+
 -- the status is that of a run that wrote nothing
 abbrev pub IsSilent : Status → Type 0
 IsSilent Ended.Usage = ⊤
 IsSilent Ended.ReadFault = ⊤
 IsSilent Ended.TooLong = ⊤
-IsSilent Ended.NoMemory = ⊤
 IsSilent _ = ⊥

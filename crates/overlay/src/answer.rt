@@ -1,22 +1,27 @@
 //! The answer to an input.
-ghost use Rattle.std.specs.Prelude.{◌≡◌, IfOk, IsTrue, option_map, string_bytes};
+ghost use Rattle.std.specs.Prelude.{◌≡◌, ℕ, List, None, IfOk, IfErr, OnOk, OnErr, IsTrue, option_map, string_bytes};
 ghost use Rattle.serde_json.specs.View.{view};
 ghost use Rattle.config_model.specs.Faults.{fault_of};
 ghost use Rattle.config_model.specs.Form.{has_topology_form, has_config_form};
+ghost use Rattle.config_check.specs.Rules.{first_broken};
+ghost use Rattle.ov_io.specs.Inputs.{TookFront};
+ghost use Rattle.ov_io.specs.Pieces.{HasWriteCause, TookFrontOf, TookText};
 ghost use Rattle.overlay.specs.Json.{json_of};
+ghost use Rattle.overlay.specs.Lines.{compile_text};
+ghost use Rattle.overlay.specs.Outcomes.{reach_text};
 ghost use Rattle.overlay.specs.Decoding.{spelled};
-ghost use Rattle.overlay.specs.Answers.{answer_bad, compile_answer, compile_reading, compile_value, decode_verdict, fault_line, kind_text, reach_answer, reach_reading, reach_value, refused_line, verdict_of, Writes, WritesSpelled};
+ghost use Rattle.overlay.specs.Answers.{Answer, IsAnswered, WasGiven, answer_checked, answer_good, compile_answer, compile_value, decode_verdict, fault_line, kind_text, reach_answer, reach_value, refused_line, verdict_of, Writes, WritesSpelled};
 
 use crate::command::Command;
-use crate::decoding::{octets_of, report_of};
-use crate::lines::compile_lines;
-use crate::outcomes::reach_lines;
-use config_check::{CheckRefusal, Refusal, check};
+use crate::decoding::{octets_of, write_report};
+use crate::lines::write_tables;
+use crate::outcomes::write_outcomes;
+use config_check::{CheckRefusal, Refusal, Valid, check};
 use config_model::{
     CompileInput, DocFault, DocKind, ReachInput, ReadRefusal, read_compile, read_reach,
 };
-use ov_io::TextOut;
-use ov_types::NoMemory;
+use ov_io::{Sink, WriteRefusal, write_all};
+use ov_types::{Items, NoMemory, Packet};
 use serde_json::Value;
 use std::alloc::{AllocError, Global};
 use std::str;
@@ -30,11 +35,13 @@ pub enum Verdict {
     Refused,
 }
 
-/// A verdict, and what is written.
+/// Why a document is not answered with lines of its own: what its one line tells, or want of memory.
 #[derive(Debug, Drop)]
-pub struct Answer {
-    pub verdict: Verdict,
-    pub text: TextOut,
+pub(crate) enum Unfit {
+    NotJson,
+    BadDocument(DocFault),
+    Refused(Refusal),
+    NoMemory,
 }
 
 /// The value that octets write as JSON.
@@ -87,137 +94,177 @@ fn line_of_refusal(alloc: Global, refusal: &Refusal) -> Result<String, AllocErro
     format!(in alloc; "refused {refusal}\n")
 }
 
-fn answer_with(alloc: Global, verdict: Verdict, text: &[u8]) -> Result<Answer, NoMemory>
-    ensures { IfOk result (λ a. a ≡ record { verdict = verdict; text = text.now }) }
+/// Writes the one line of what is not fit.
+#[tactic(auto, using(ov_io::proofs::PieceLemmas::took_nothing))]
+fn write_unfit<K: Sink>(alloc: Global, unfit: Unfit, sink: &mut K) -> Result<Verdict, WriteRefusal>
+    ensures given { (answer : Answer) → IsAnswered unfit answer
+        → IfOk result (λ verdict. WasGiven answer verdict (K.taken sink.old) (K.taken sink.new)) }
+    ensures front { (answer : Answer) → IsAnswered unfit answer
+        → OnErr result (TookFront (K.taken sink.old) (K.taken sink.new) answer.text) }
+    ensures cause { HasWriteCause (K.faults sink.old) (K.faults sink.new) result }
 {
-    let mut out = TextOut::new(alloc);
-    out.push(text)?;
-    Ok(Answer { verdict, text: out })
-}
-
-/// The answer where a document was not read.
-fn answer_unread(alloc: Global, fault: &DocFault) -> Result<Answer, NoMemory>
-    ensures { IfOk result (λ a. a ≡ answer_bad (fault_of fault.now)) }
-{
-    let line = line_of_fault(alloc, fault)?;
-    answer_with(alloc, Verdict::BadDocument, line.as_bytes())
-}
-
-/// The answer where a configuration breaks a rule.
-fn answer_refused(alloc: Global, refusal: &Refusal) -> Result<Answer, NoMemory>
-    ensures { IfOk result (λ a. a ≡ record { verdict = Verdict.Refused; text = refused_line refusal.now }) }
-{
-    let line = line_of_refusal(alloc, refusal)?;
-    answer_with(alloc, Verdict::Refused, line.as_bytes())
-}
-
-/// What `compile` answers to a topology and a configuration.
-fn compile_plan(alloc: Global, plan: CompileInput) -> Result<Answer, NoMemory>
-    requires topology_form { IsTrue (has_topology_form plan.topology) }
-    requires config_form { IsTrue (has_config_form plan.config) }
-    ensures { IfOk result (λ a. a ≡ compile_reading (Ok plan)) }
-{
-    match check(alloc, plan.topology, plan.config) {
-        Ok(valid) => {
-            let text = compile_lines(alloc, &valid)?;
-            Ok(Answer {
-                verdict: Verdict::Good,
-                text,
-            })
+    match unfit {
+        Unfit::NotJson => {
+            write_all(sink, b"not json\n")?;
+            Ok(Verdict::NotJson)
         }
-        Err(CheckRefusal::Rule(refusal)) => answer_refused(alloc, &refusal),
-        Err(CheckRefusal::NoMemory) => Err(NoMemory),
+        Unfit::BadDocument(fault) => {
+            let line = line_of_fault(alloc, &fault)?;
+            write_all(sink, line.as_bytes())?;
+            Ok(Verdict::BadDocument)
+        }
+        Unfit::Refused(refusal) => {
+            let line = line_of_refusal(alloc, &refusal)?;
+            write_all(sink, line.as_bytes())?;
+            Ok(Verdict::Refused)
+        }
+        Unfit::NoMemory => Err(WriteRefusal::NoMemory),
     }
 }
 
-/// What `compile` answers to a value.
+/// The valid configuration that a command takes, with its topology.
+fn valid_of(alloc: Global, input: CompileInput) -> Result<Valid, Unfit>
+    requires topology_form { IsTrue (has_topology_form input.topology) }
+    requires config_form { IsTrue (has_config_form input.config) }
+    ensures ok { IfOk result (λ valid. valid ≡ record { topology = input.topology; config = input.config }) }
+    ensures valid { OnOk result (first_broken input.topology input.config ≡ None) }
+    ensures unfit { IfErr result (λ unfit. (text : List ℕ)
+        → IsAnswered unfit (answer_checked (first_broken input.topology input.config) text)) }
+{
+    match check(alloc, input.topology, input.config) {
+        Ok(valid) => Ok(valid),
+        Err(CheckRefusal::Rule(refusal)) => Err(Unfit::Refused(refusal)),
+        Err(CheckRefusal::NoMemory) => Err(Unfit::NoMemory),
+    }
+}
+
+/// What `compile` takes from a value.
 #[tactic(auto, unfolding(crate::specs::Answers::compile_value))]
-fn compile_document(alloc: Global, value: &Value) -> Result<Answer, NoMemory>
-    ensures { IfOk result (λ a. a ≡ compile_value (view value.now)) }
+fn compile_taken(alloc: Global, value: &Value) -> Result<Valid, Unfit>
+    ensures fit { IfOk result (λ valid. compile_value (view value.now) ≡ answer_good (compile_text valid)) }
+    ensures unfit { IfErr result (λ unfit. IsAnswered unfit (compile_value (view value.now))) }
 {
     match read_compile(alloc, value) {
-        Ok(plan) => compile_plan(alloc, plan),
-        Err(ReadRefusal::Doc(fault)) => answer_unread(alloc, &fault),
-        Err(ReadRefusal::NoMemory) => Err(NoMemory),
+        Ok(input) => valid_of(alloc, input),
+        Err(ReadRefusal::Doc(fault)) => Err(Unfit::BadDocument(fault)),
+        Err(ReadRefusal::NoMemory) => Err(Unfit::NoMemory),
     }
 }
 
-/// What `reach` answers to a topology, a configuration and packets.
-fn reach_input(alloc: Global, input: ReachInput) -> Result<Answer, NoMemory>
-    requires topology_form { IsTrue (has_topology_form input.input.topology) }
-    requires config_form { IsTrue (has_config_form input.input.config) }
-    ensures { IfOk result (λ a. a ≡ reach_reading (Ok input)) }
+/// What `compile` takes from an input.
+#[tactic(auto, unfolding(crate::specs::Answers::compile_answer))]
+fn compile_asked(alloc: Global, octets: &[u8]) -> Result<Valid, Unfit>
+    ensures fit { IfOk result (λ valid. compile_answer octets.now ≡ answer_good (compile_text valid)) }
+    ensures unfit { IfErr result (λ unfit. IsAnswered unfit (compile_answer octets.now)) }
 {
-    match check(alloc, input.input.topology, input.input.config) {
-        Ok(valid) => {
-            let text = reach_lines(alloc, &valid, input.packets.as_slice())?;
-            Ok(Answer {
-                verdict: Verdict::Good,
-                text,
-            })
-        }
-        Err(CheckRefusal::Rule(refusal)) => answer_refused(alloc, &refusal),
-        Err(CheckRefusal::NoMemory) => Err(NoMemory),
+    match value_of(alloc, octets) {
+        Ok(Some(value)) => compile_taken(alloc, &value),
+        Ok(None) => Err(Unfit::NotJson),
+        Err(NoMemory) => Err(Unfit::NoMemory),
     }
 }
 
-/// What `reach` answers to a value.
+/// Packets, and the valid configuration that decides them.
+#[derive(Drop)]
+struct Question {
+    valid: Valid,
+    packets: Items<Packet>,
+}
+
+/// What `reach` takes from a value.
 #[tactic(auto, unfolding(crate::specs::Answers::reach_value))]
-fn reach_document(alloc: Global, value: &Value) -> Result<Answer, NoMemory>
-    ensures { IfOk result (λ a. a ≡ reach_value (view value.now)) }
+fn reach_taken(alloc: Global, value: &Value) -> Result<Question, Unfit>
+    ensures fit { IfOk result (λ asked. reach_value (view value.now) ≡ answer_good (reach_text asked.valid asked.packets)) }
+    ensures unfit { IfErr result (λ unfit. IsAnswered unfit (reach_value (view value.now))) }
 {
     match read_reach(alloc, value) {
-        Ok(input) => reach_input(alloc, input),
-        Err(ReadRefusal::Doc(fault)) => answer_unread(alloc, &fault),
-        Err(ReadRefusal::NoMemory) => Err(NoMemory),
+        Ok(ReachInput { input, packets }) => match valid_of(alloc, input) {
+            Ok(valid) => Ok(Question { valid, packets }),
+            Err(unfit) => Err(unfit),
+        },
+        Err(ReadRefusal::Doc(fault)) => Err(Unfit::BadDocument(fault)),
+        Err(ReadRefusal::NoMemory) => Err(Unfit::NoMemory),
     }
 }
 
-/// What `compile` answers to an input.
-#[tactic(auto, unfolding(crate::specs::Answers::compile_answer))]
-fn compile_answer(alloc: Global, octets: &[u8]) -> Result<Answer, NoMemory>
-    ensures { IfOk result (λ a. a ≡ compile_answer octets.now) }
-{
-    match value_of(alloc, octets)? {
-        None => answer_with(alloc, Verdict::NotJson, b"not json\n"),
-        Some(value) => compile_document(alloc, &value),
-    }
-}
-
-/// What `reach` answers to an input.
+/// What `reach` takes from an input.
 #[tactic(auto, unfolding(crate::specs::Answers::reach_answer))]
-fn reach_answer(alloc: Global, octets: &[u8]) -> Result<Answer, NoMemory>
-    ensures { IfOk result (λ a. a ≡ reach_answer octets.now) }
+fn reach_asked(alloc: Global, octets: &[u8]) -> Result<Question, Unfit>
+    ensures fit { IfOk result (λ asked. reach_answer octets.now ≡ answer_good (reach_text asked.valid asked.packets)) }
+    ensures unfit { IfErr result (λ unfit. IsAnswered unfit (reach_answer octets.now)) }
 {
-    match value_of(alloc, octets)? {
-        None => answer_with(alloc, Verdict::NotJson, b"not json\n"),
-        Some(value) => reach_document(alloc, &value),
+    match value_of(alloc, octets) {
+        Ok(Some(value)) => reach_taken(alloc, &value),
+        Ok(None) => Err(Unfit::NotJson),
+        Err(NoMemory) => Err(Unfit::NoMemory),
     }
 }
 
-/// What `decode` answers to an input.
-fn decode_answer(alloc: Global, text: &[u8]) -> Result<Answer, NoMemory>
-    ensures verdict { IfOk result (λ a. a.verdict ≡ decode_verdict (spelled text.now)) }
-    ensures text { IfOk result (λ a. WritesSpelled (spelled text.now) a.text) }
+/// Writes what `compile` answers to an input.
+fn answer_compile<K: Sink>(alloc: Global, octets: &[u8], sink: &mut K) -> Result<Verdict, WriteRefusal>
+    ensures given { IfOk result (λ verdict. WasGiven (compile_answer octets.now) verdict (K.taken sink.old) (K.taken sink.new)) }
+    ensures front { OnErr result (TookFront (K.taken sink.old) (K.taken sink.new) (compile_answer octets.now).text) }
+    ensures cause { HasWriteCause (K.faults sink.old) (K.faults sink.new) result }
+{
+    match compile_asked(alloc, octets) {
+        Ok(valid) => {
+            write_tables(alloc, &valid, sink)?;
+            Ok(Verdict::Good)
+        }
+        Err(unfit) => write_unfit(alloc, unfit, sink),
+    }
+}
+
+/// Writes what `reach` answers to an input.
+fn answer_reach<K: Sink>(alloc: Global, octets: &[u8], sink: &mut K) -> Result<Verdict, WriteRefusal>
+    ensures given { IfOk result (λ verdict. WasGiven (reach_answer octets.now) verdict (K.taken sink.old) (K.taken sink.new)) }
+    ensures front { OnErr result (TookFront (K.taken sink.old) (K.taken sink.new) (reach_answer octets.now).text) }
+    ensures cause { HasWriteCause (K.faults sink.old) (K.faults sink.new) result }
+{
+    match reach_asked(alloc, octets) {
+        Ok(asked) => {
+            write_outcomes(alloc, &asked.valid, asked.packets.as_slice(), sink)?;
+            Ok(Verdict::Good)
+        }
+        Err(unfit) => write_unfit(alloc, unfit, sink),
+    }
+}
+
+/// Writes what `decode` answers to an input.
+fn answer_decode<K: Sink>(alloc: Global, text: &[u8], sink: &mut K) -> Result<Verdict, WriteRefusal>
+    ensures verdict { IfOk result (λ verdict. verdict ≡ decode_verdict (spelled text.now)) }
+    ensures written { OnOk result (TookText (WritesSpelled (spelled text.now)) (K.taken sink.old) (K.taken sink.new)) }
+    ensures front { OnErr result (TookFrontOf (WritesSpelled (spelled text.now)) (K.taken sink.old) (K.taken sink.new)) }
+    ensures cause { HasWriteCause (K.faults sink.old) (K.faults sink.new) result }
 {
     match octets_of(alloc, text)? {
-        None => answer_with(alloc, Verdict::NotJson, b"not hex\n"),
-        Some(octets) => Ok(Answer {
-            verdict: Verdict::Good,
-            text: report_of(alloc, octets.as_slice())?,
-        }),
+        None => {
+            write_all(sink, b"not hex\n")?;
+            Ok(Verdict::NotJson)
+        }
+        Some(octets) => {
+            write_report(alloc, octets.as_slice(), sink)?;
+            Ok(Verdict::Good)
+        }
     }
 }
 
-/// What a command answers to an input.
+/// Writes what a command answers to an input, as it is made, and tells what the input is found to be.
 #[tactic(auto, unfolding(crate::specs::Answers::verdict_of, crate::specs::Answers::Writes))]
-pub(crate) fn answer_to(alloc: Global, command: Command, octets: &[u8]) -> Result<Answer, NoMemory>
-    ensures verdict { IfOk result (λ a. a.verdict ≡ verdict_of command octets.now) }
-    ensures text { IfOk result (λ a. Writes command octets.now a.text) }
+pub(crate) fn answer<K: Sink>(
+    alloc: Global,
+    command: Command,
+    octets: &[u8],
+    sink: &mut K,
+) -> Result<Verdict, WriteRefusal>
+    ensures verdict { IfOk result (λ verdict. verdict ≡ verdict_of command octets.now) }
+    ensures written { OnOk result (TookText (Writes command octets.now) (K.taken sink.old) (K.taken sink.new)) }
+    ensures front { OnErr result (TookFrontOf (Writes command octets.now) (K.taken sink.old) (K.taken sink.new)) }
+    ensures cause { HasWriteCause (K.faults sink.old) (K.faults sink.new) result }
 {
     match command {
-        Command::Compile => compile_answer(alloc, octets),
-        Command::Reach => reach_answer(alloc, octets),
-        Command::Decode => decode_answer(alloc, octets),
+        Command::Compile => answer_compile(alloc, octets, sink),
+        Command::Reach => answer_reach(alloc, octets, sink),
+        Command::Decode => answer_decode(alloc, octets, sink),
     }
 }

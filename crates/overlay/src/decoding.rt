@@ -1,15 +1,16 @@
 //! Messages that are spelled in hexadecimal digits.
-ghost use Rattle.std.specs.Prelude.{◌≡◌, ◌≢◌, ◌++◌, [], IfOk, OnOk, option_map};
+ghost use Rattle.std.specs.Prelude.{◌≡◌, ◌≢◌, ◌++◌, [], IfOk, OnOk, OnErr, option_map};
 ghost use Rattle.bgp_wire.specs.Content.{Updates};
 ghost use Rattle.bgp_wire.specs.Messages.{content_of};
 ghost use Rattle.bgp_vpn.specs.Updates.{parts_of};
 ghost use Rattle.overlay.specs.Decoding.{change_line, change_lines, is_blank, spelled, without_blanks, IsReport};
-ghost use Rattle.overlay.specs.Reporting.{Progress, Tells};
+ghost use Rattle.overlay.specs.Reporting.{IsReportBehind, Moves, Progress, Tells};
+ghost use Rattle.ov_io.specs.Pieces.{HasWriteCause, TookFrontOf, TookText};
 
 use bgp_vpn::{UpdateFault, read_update};
 use bgp_wire::{Message, UpdatePart, WireFault, read_message};
 use hex::FromHexError;
-use ov_io::TextOut;
+use ov_io::{Sink, TextOut, WriteRefusal, write_gathered, write_piece};
 use ov_sync::Delta;
 use ov_types::{NoMemory, VpnKey, VpnRoute};
 use report::{
@@ -136,18 +137,37 @@ fn push_report(alloc: Global, octets: &[u8], out: &mut TextOut) -> Result<Option
     }
 }
 
-/// The report of messages that lie one after the other.
-#[tactic(auto, using(crate::proofs::Reports::leads_to_all, crate::proofs::Reports::fewer_left))]
-pub(crate) fn report_of(alloc: Global, octets: &[u8]) -> Result<TextOut, NoMemory>
-    ensures { IfOk result (λ text. IsReport octets.now text) }
+/// Hands on what is told of the first message, and says how many octets that has. `None` where nothing is left to tell.
+fn write_first<K: Sink>(
+    alloc: Global,
+    octets: &[u8],
+    sink: &mut K,
+    gathered: &mut TextOut,
+) -> Result<Option<usize>, WriteRefusal>
+    requires { octets.now ≢ [] }
+    ensures told { IfOk result (λ found. Moves octets.now (K.taken sink.old) (K.taken sink.new) gathered.old gathered.new found) }
+    ensures front { OnErr result (TookFrontOf (IsReportBehind gathered.old octets.now) (K.taken sink.old) (K.taken sink.new)) }
+    ensures cause { HasWriteCause (K.faults sink.old) (K.faults sink.new) result }
 {
-    let mut out = TextOut::new(alloc);
+    let found = push_report(alloc, octets, gathered)?;
+    write_piece(sink, gathered)?;
+    Ok(found)
+}
+
+/// Writes the report of messages that lie one after the other.
+#[tactic(auto, using(crate::proofs::Reports::fewer_left))]
+pub(crate) fn write_report<K: Sink>(alloc: Global, octets: &[u8], sink: &mut K) -> Result<(), WriteRefusal>
+    ensures ok { OnOk result (TookText (IsReport octets.now) (K.taken sink.old) (K.taken sink.new)) }
+    ensures front { OnErr result (TookFrontOf (IsReport octets.now) (K.taken sink.old) (K.taken sink.new)) }
+    ensures cause { HasWriteCause (K.faults sink.old) (K.faults sink.new) result }
+{
+    let mut gathered = TextOut::new(alloc);
     let mut rest = octets;
     while !rest.is_empty() {
-        let Some(count) = push_report(alloc, rest, &mut out)? else {
-            return Ok(out);
+        let Some(count) = write_first(alloc, rest, sink, &mut gathered)? else {
+            return write_gathered(sink, &mut gathered);
         };
         (_, rest) = rest.split_at(count);
     }
-    Ok(out)
+    write_gathered(sink, &mut gathered)
 }

@@ -1,6 +1,13 @@
 //! The program `overlay`: the tables that a configuration asks for, what becomes of packets, and what BGP messages say.
 #![tactic(auto)]
 
+ghost use Rattle.std.specs.Prelude.{◌≡◌, ◌≢◌, ◌↔◌, ◌⊎◌};
+ghost use Rattle.std.specs.IoError.{error_kind};
+ghost use Rattle.std.specs.declared.io.ErrorKind.TheVariants.{OutOfMemory};
+ghost use Rattle.std.specs.Process.{exit_status};
+ghost use Rattle.overlay.specs.Commands.{request_named, request_of};
+ghost use Rattle.overlay.specs.Runs.{number_of};
+
 mod answer;
 mod command;
 mod decoding;
@@ -26,16 +33,29 @@ const USAGE: &str = "usage: overlay compile < DOCUMENT
 const VERSION: &str = "overlay 0.1.0\n";
 
 /// What is asked of `main` itself, before the top call.
+#[derive(Clone, Copy, Debug, PartialEq, Eq)]
 enum Request {
     Help,
     Version,
     Run,
 }
 
-fn request_of(words: &[String]) -> Request {
+/// What the words after the program's name ask of `main`.
+fn request_of(words: &[String]) -> Request
+    ensures { result ≡ request_of words.now }
+{
     match words {
-        [word] if word.as_str() == "--help" => Request::Help,
-        [word] if word.as_str() == "--version" => Request::Version,
+        [word] => request_named(word.as_str()),
+        _ => Request::Run,
+    }
+}
+
+fn request_named(word: &str) -> Request
+    ensures { result ≡ request_named word.now }
+{
+    match word {
+        "--help" => Request::Help,
+        "--version" => Request::Version,
         _ => Request::Run,
     }
 }
@@ -50,7 +70,10 @@ fn words_of<R: Env + AllocGlobal>(rt: &R) -> io::Result<Vec<String>> {
 }
 
 /// The status where the words can't be had: there is no memory for them, or one is no UTF-8.
-fn status_without_words(error: &io::Error) -> Status {
+fn status_without_words(error: &io::Error) -> Status
+    ensures no_memory { (result ≡ Status.NoMemory) ↔ (error_kind error.now ≡ OutOfMemory) }
+    ensures usage { (result ≡ Status.Usage) ↔ (error_kind error.now ≢ OutOfMemory) }
+{
     match error.kind() {
         io::ErrorKind::OutOfMemory => Status::NoMemory,
         _ => Status::Usage,
@@ -58,7 +81,9 @@ fn status_without_words(error: &io::Error) -> Status {
 }
 
 /// Prints to standard output, and says how that ended.
-fn printed(rt: &impl Print, text: &str) -> Status {
+fn printed(rt: &impl Print, text: &str) -> Status
+    ensures { (result ≡ Status.Done) ⊎ (result ≡ Status.WriteFault) }
+{
     match rt.print(text) {
         Ok(()) => Status::Done,
         Err(_) => Status::WriteFault,
@@ -70,6 +95,13 @@ fn run(rt: &HostRuntime, words: &[String]) -> Status {
     let mut source = StdSource::new(rt.stdin());
     let mut sink = StdSink::new(rt.stdout());
     overlay(rt.alloc(), words, &mut source, &mut sink)
+}
+
+/// The exit status that tells how the run ended.
+fn code_of(status: Status) -> ExitCode
+    ensures { exit_status result ≡ number_of status }
+{
+    ExitCode::from(status.number())
 }
 
 fn main(rt: HostRuntime) -> ExitCode {
@@ -84,5 +116,5 @@ fn main(rt: HostRuntime) -> ExitCode {
     if status == Status::Usage {
         let _ = rt.eprint(USAGE);
     }
-    ExitCode::from(status.number())
+    code_of(status)
 }

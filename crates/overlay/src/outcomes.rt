@@ -1,10 +1,13 @@
 //! The lines of outcomes.
-ghost use Rattle.std.specs.Prelude.{◌≡◌, ◌++◌, IfOk, OnOk, string_bytes};
+ghost use Rattle.std.specs.Prelude.{◌≡◌, ◌++◌, [], IfOk, OnOk, OnErr, string_bytes};
+ghost use Rattle.std.specs.Io.KnownBytes.{Appends};
+ghost use Rattle.ov_io.specs.Inputs.{TookFront};
+ghost use Rattle.ov_io.specs.Pieces.{HasWriteCause, IsOnItsWay};
 ghost use Rattle.overlay.specs.Outcomes.{delivered_text, more_services, outcome_line, reach_text, services_text, why_text};
 
 use config_check::Valid;
-use ov_io::TextOut;
-use ov_types::{NoMemory, Outcome, Packet, PortNo, ServiceNo, Why};
+use ov_io::{Sink, TextOut, WriteRefusal, gather, write_gathered};
+use ov_types::{Outcome, Packet, PortNo, ServiceNo, Why};
 use reach_plain::reach;
 use std::alloc::{AllocError, Global};
 
@@ -70,20 +73,39 @@ fn line_of(alloc: Global, number: usize, outcome: &Outcome) -> Result<String, Al
     }
 }
 
-/// What `reach` writes of a valid configuration and of packets.
+/// Hands on the line of one packet.
+#[tactic(auto, using(ov_io::proofs::PieceLemmas::took_nothing))]
+fn write_outcome<K: Sink>(
+    alloc: Global,
+    number: usize,
+    outcome: &Outcome,
+    sink: &mut K,
+    gathered: &mut TextOut,
+) -> Result<(), WriteRefusal>
+    ensures ok { OnOk result (IsOnItsWay (K.taken sink.old) (K.taken sink.new) gathered.new [] (gathered.old ++ outcome_line number outcome.now)) }
+    ensures front { OnErr result (TookFront (K.taken sink.old) (K.taken sink.new) (gathered.old ++ outcome_line number outcome.now)) }
+    ensures cause { HasWriteCause (K.faults sink.old) (K.faults sink.new) result }
+{
+    let line = line_of(alloc, number, outcome)?;
+    gather(sink, gathered, line.as_bytes())
+}
+
+/// Writes what `reach` writes of a valid configuration and of packets.
 #[tactic(auto, unfolding(crate::specs::Outcomes::reach_text))]
-pub(crate) fn reach_lines(
+pub(crate) fn write_outcomes<K: Sink>(
     alloc: Global,
     valid: &Valid,
     packets: &[Packet],
-) -> Result<TextOut, NoMemory>
-    ensures { IfOk result (λ text. text ≡ reach_text valid.now packets.now) }
+    sink: &mut K,
+) -> Result<(), WriteRefusal>
+    ensures ok { OnOk result (Appends (K.taken sink.old) (K.taken sink.new) (reach_text valid.now packets.now)) }
+    ensures front { OnErr result (TookFront (K.taken sink.old) (K.taken sink.new) (reach_text valid.now packets.now)) }
+    ensures cause { HasWriteCause (K.faults sink.old) (K.faults sink.new) result }
 {
-    let mut out = TextOut::new(alloc);
+    let mut gathered = TextOut::new(alloc);
     for (index, packet) in packets.iter().enumerate() {
         let outcome = reach(valid, *packet);
-        let line = line_of(alloc, index + 1, &outcome)?;
-        out.push(line.as_bytes())?;
+        write_outcome(alloc, index + 1, &outcome, sink, &mut gathered)?;
     }
-    Ok(out)
+    write_gathered(sink, &mut gathered)
 }

@@ -313,6 +313,35 @@ fn a_fault_of_an_end_is_told(rt: HostRuntime) -> Result<(), Fail> {
     Ok(())
 }
 
+/// Enough messages that what is told of them is written in pieces.
+fn many_messages(alloc: Global) -> Result<String, Fail> {
+    let mut digits = String::new(alloc);
+    for _message in 0..16_384 {
+        digits.push_str("ffffffffffffffffffffffffffffffff001304\n")?;
+    }
+    Ok(digits)
+}
+
+#[test]
+fn each_failed_write_leaves_a_front(rt: HostRuntime) -> Result<(), Fail> {
+    let alloc = rt.alloc();
+    let digits = many_messages(alloc)?;
+    let (ended, whole) = ran(alloc, "decode", digits.as_bytes())?;
+    assert_eq!(rt; ended, Status::Done);
+    assert_eq!(rt; whole.taken().len(), 163_840);
+    for failing in 1..=3u64 {
+        let words = vec![in alloc; String::from_str(alloc, "decode")?]?;
+        let mut source = MemSource::new(alloc, digits.as_bytes().to_vec(alloc)?, Vec::new(alloc));
+        let mut sink = MemSink::new(alloc, vec![in alloc; failing]?);
+        let status = overlay(alloc, words.as_slice(), &mut source, &mut sink);
+        assert_eq!(rt; status, Status::WriteFault);
+        let taken = sink.taken();
+        assert_eq!(rt; taken.len(), 65_540 * (failing as usize - 1));
+        assert!(rt; whole.taken().starts_with(taken));
+    }
+    Ok(())
+}
+
 /// A source that gives at most so many octets a call.
 #[derive(Drop)]
 struct Trickle {

@@ -1,14 +1,15 @@
 //! The top call.
-ghost use Rattle.std.specs.Prelude.{◌≡◌, ◌↔◌, ◌<◌, ◌≤◌, ◌⊎◌, None, length};
+ghost use Rattle.std.specs.Prelude.{◌≡◌, ◌≢◌, ◌↔◌, ◌<◌, ◌≤◌, ◌⊎◌, None, length};
 ghost use Rattle.ov_io.specs.Causes.{Rose};
 ghost use Rattle.ov_io.specs.Inputs.{WasReadWhole};
-ghost use Rattle.overlay.specs.Answers.{verdict_of};
+ghost use Rattle.ov_io.specs.Pieces.{TookFrontOf, TookText};
+ghost use Rattle.overlay.specs.Answers.{verdict_of, Writes};
 ghost use Rattle.overlay.specs.Commands.{command_of};
-ghost use Rattle.overlay.specs.Runs.{OfInput, IfInput, IsFound, IsSilent, IsWritten, TookFrontOf, TookText, number_of, status_of};
+ghost use Rattle.overlay.specs.Runs.{OfInput, IfInput, IsCut, IsFound, IsSilent, IsWritten, number_of, status_of};
 
-use crate::answer::{Verdict, answer_to};
+use crate::answer::{Verdict, answer};
 use crate::command::command_from;
-use ov_io::{InputRefusal, Sink, Source, read_all, write_all};
+use ov_io::{InputRefusal, Sink, Source, WriteRefusal, read_all};
 use std::alloc::Global;
 
 /// The most octets that an input may have.
@@ -47,8 +48,8 @@ impl Status {
     }
 }
 
-/// All that the program does: what its words ask for, from a source to a sink. The answer is made whole before
-/// any of it is written.
+/// All that the program does: what its words ask for, from a source to a sink. The answer is written as it is made, once
+/// the source is read and what it holds is found good.
 pub fn overlay<S: Source, K: Sink>(
     alloc: Global,
     words: &[String],
@@ -74,9 +75,9 @@ pub fn overlay<S: Source, K: Sink>(
 
     // What is written.
     ensures written { IsWritten result → OfInput (command_of words.now) (S.left source.old)
-        (λ command octets. TookText command octets (K.taken sink.old) (K.taken sink.new)) }
-    ensures front { result ≡ Status.WriteFault → OfInput (command_of words.now) (S.left source.old)
-        (λ command octets. TookFrontOf command octets (K.taken sink.old) (K.taken sink.new)) }
+        (λ command octets. TookText (Writes command octets) (K.taken sink.old) (K.taken sink.new)) }
+    ensures front { IsCut result → OfInput (command_of words.now) (S.left source.old)
+        (λ command octets. TookFrontOf (Writes command octets) (K.taken sink.old) (K.taken sink.new)) }
     ensures silent { IsSilent result → sink.new ≡ sink.old }
 
     // What is read.
@@ -84,10 +85,12 @@ pub fn overlay<S: Source, K: Sink>(
         (λ command octets. WasReadWhole (S.left source.old) (S.left source.new) octets) }
     ensures unread { result ≡ Status.Usage → source.new ≡ source.old }
 
-    // Nothing is refused without a cause.
+    // Nothing is refused without a cause, and only a fault is counted.
     ensures complete { ¬ Rose (S.faults source.old) (S.faults source.new) → ¬ Rose (K.faults sink.old) (K.faults sink.new)
         → IfInput (command_of words.now) (S.left source.old) (λ command octets. length octets ≤ MAX_INPUT_OCTETS
         → (result ≡ status_of (verdict_of command octets)) ⊎ (result ≡ Status.NoMemory)) }
+    ensures reads_kept { result ≢ Status.ReadFault → S.faults source.new ≡ S.faults source.old }
+    ensures writes_kept { result ≢ Status.WriteFault → K.faults sink.new ≡ K.faults sink.old }
 {
     let Some(command) = command_from(words) else {
         return Status::Usage;
@@ -98,13 +101,10 @@ pub fn overlay<S: Source, K: Sink>(
         Err(InputRefusal::TooLong) => return Status::TooLong,
         Err(InputRefusal::NoMemory) => return Status::NoMemory,
     };
-    let answer = match answer_to(alloc, command, octets.as_slice()) {
-        Ok(answer) => answer,
-        Err(_) => return Status::NoMemory,
-    };
-    match write_all(sink, answer.text.octets()) {
-        Ok(()) => status_from(answer.verdict),
-        Err(_) => Status::WriteFault,
+    match answer(alloc, command, octets.as_slice(), sink) {
+        Ok(verdict) => status_from(verdict),
+        Err(WriteRefusal::Fault) => Status::WriteFault,
+        Err(WriteRefusal::NoMemory) => Status::NoMemory,
     }
 }
 
