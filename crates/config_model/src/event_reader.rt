@@ -28,11 +28,7 @@ const MOST_MESSAGES: u64 = 1_000_000;
 
 /// A list of two names.
 #[tactic(auto, unfolding(crate::specs::Event::two_names_at))]
-fn two_names_of(
-    alloc: Global,
-    place: Place<'_>,
-    value: &Value,
-) -> Result<(Name, Name), ReadRefusal>
+fn two_names_of(alloc: Global, place: Place<'_>, value: &Value) -> Result<(Name, Name), ReadRefusal>
     ensures reads { Gives (λ p. (p.0, p.1)) result (two_names_at (place_text place.entry) (view value.now)) }
     ensures form { IfOk result (λ p. IsTrue (is_name p.0 && is_name p.1)) }
 {
