@@ -165,7 +165,7 @@ none_overlaps (a ∷ bs) h =
       none_overlaps bs (pairs_tail R a bs h),
     )
 
-around_test : (c : Config) (n a : Network) → IsTrue (same_name a.name n.name || are_related c n a) ↔ IsAround c n a
+pub around_test : (c : Config) (n a : Network) → IsTrue (same_name a.name n.name || are_related c n a) ↔ IsAround c n a
 around_test c n a = or_iff (same_name a.name n.name) (are_related c n a) (same_name_iff a.name n.name) (λ h. h, λ h. h)
 
 pub around_iff : (c : Config) (n : Network)

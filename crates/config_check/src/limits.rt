@@ -18,7 +18,7 @@ const POLICIES: usize = 128;
 
 const SERVICES: usize = 128;
 
-const CHAINS: usize = 128;
+pub(crate) const CHAINS: usize = 128;
 
 const SUBNETS: usize = 4;
 

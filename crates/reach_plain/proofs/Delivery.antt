@@ -21,11 +21,12 @@ use Rattle.chain_expand.specs.Expansion.{expansion}
 use Rattle.ov_types.specs.First.{same_name}
 use Rattle.ov_types.proofs.FirstLemmas.{same_name_self, all_head, all_tail, all_cons, pairs_head, pairs_tail, found_is}
 use Rattle.network_rules.specs.Related.{are_related}
-use Rattle.config_check.specs.Rules.{network_named, holds_address, first_broken}
+use Rattle.config_check.specs.Finding.{network_named, port_at, port_numbered}
+use Rattle.config_check.specs.Rules.{holds_address, first_broken}
 use Rattle.config_check.specs.Sentences.{IsAround}
 use Rattle.network_rules.specs.Matching.{deciding}
 use Rattle.network_rules.specs.declared.matching.Match.{Match}
-use Rattle.reach_plain.specs.Reachability.{port_numbered, network_towards, port_at, arrival_at, outcome_of, outcome_by, outcome_between, outcome_towards, outcome_from, outcome_at, reachability}
+use Rattle.reach_plain.specs.Reachability.{network_towards, arrival_at, outcome_of, outcome_by, outcome_between, outcome_towards, outcome_from, outcome_at, reachability}
 use Rattle.reach_plain.specs.Delivery.{numbers_of, LeadsThrough, IsLetThrough, IsDelivered}
 use Rattle.reach_plain.proofs.Kept.{chain_is_once}
 

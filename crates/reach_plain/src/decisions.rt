@@ -1,22 +1,12 @@
 //! Decisions between networks that are given by their numbers.
-ghost use Rattle.std.specs.Prelude.{◌≡◌, ◌↔◌, IsTrue, IsSome, IfSome, Some, option_copied};
+ghost use Rattle.std.specs.Prelude.{◌≡◌, ◌↔◌, IsTrue, IsSome, IfSome, Some};
 ghost use Rattle.network_rules.specs.Matching.{decision};
-ghost use Rattle.reach_plain.specs.Decided.{network_numbered};
+ghost use Rattle.config_check.specs.Finding.{network_numbered};
 
-use config_check::Valid;
+use config_check::{Valid, network_numbered};
 use config_model::{Config, Network};
 use network_rules::{Decision, decision};
 use ov_types::{InstanceId, Tuple};
-
-fn network_numbered<'a>(config: &'a Config, number: InstanceId) -> Option<&'a Network>
-    ensures { option_copied result ≡ network_numbered config.now number.0 }
-{
-    config
-        .networks
-        .as_slice()
-        .iter()
-        .find(|n| n.id.0 == number.0)
-}
 
 /// Whether a number is a network's. It takes no memory.
 pub fn is_network(valid: &Valid, number: InstanceId) -> bool

@@ -2,21 +2,15 @@
 ghost use Rattle.std.specs.Prelude.{◌≡◌, ◌&&◌, ◌||◌, option_copied};
 ghost use Rattle.ov_types.specs.First.{same_name};
 ghost use Rattle.network_rules.specs.Related.{are_related};
-ghost use Rattle.config_check.specs.Rules.{network_named, holds_address};
-ghost use Rattle.reach_plain.specs.Reachability.{port_numbered, network_towards, port_at, arrival_at, outcome_by};
-ghost use Rattle.reach_plain.specs.Reachability.{reachability};
+ghost use Rattle.config_check.specs.Finding.{network_named, port_at, port_numbered};
+ghost use Rattle.config_check.specs.Rules.{holds_address};
+ghost use Rattle.reach_plain.specs.Reachability.{network_towards, arrival_at, outcome_by, reachability};
 
 use crate::services::services_through;
-use config_check::{Valid, holds_address, network_named};
+use config_check::{Valid, holds_address, network_named, port_at, port_numbered};
 use config_model::{Action, Config, Network, Port};
 use network_rules::{Match, are_related, deciding};
-use ov_types::{Addr, Outcome, Packet, PortNo, Services, Why};
-
-fn port_numbered<'a>(config: &'a Config, number: PortNo) -> Option<&'a Port>
-    ensures { option_copied result ≡ port_numbered config.now number.0 }
-{
-    config.ports.as_slice().iter().find(|p| p.id.0 == number.0)
-}
+use ov_types::{Addr, Outcome, Packet, Services, Why};
 
 /// Whether a packet from a network may be for another: for itself, or for a related one.
 fn is_near(config: &Config, from: &Network, other: &Network) -> bool
@@ -41,16 +35,6 @@ fn network_towards<'a>(config: &'a Config, from: &Network, address: Addr) -> Opt
         .as_slice()
         .iter()
         .find(|n| is_towards(config, from, n, address))
-}
-
-fn port_at<'a>(config: &'a Config, network: &Network, address: Addr) -> Option<&'a Port>
-    ensures { option_copied result ≡ port_at config.now network.now address.0 }
-{
-    config
-        .ports
-        .as_slice()
-        .iter()
-        .find(|p| p.network == network.name && p.address.0 == address.0)
 }
 
 /// A packet that may enter a network arrives at the port that has the address.

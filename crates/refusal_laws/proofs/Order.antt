@@ -36,7 +36,7 @@ IsBy n r = rule_number r ≤ n
 
 -- each rule answers refusals of its own number
 
-six : (P : Refusal → Type 0) (a b c d e f : Option Refusal) → IfSome a P → IfSome b P → IfSome c P → IfSome d P → IfSome e P → IfSome f P
+pub six : (P : Refusal → Type 0) (a b c d e f : Option Refusal) → IfSome a P → IfSome b P → IfSome c P → IfSome d P → IfSome e P → IfSome f P
     → IfSome (a <|> (b <|> (c <|> (d <|> (e <|> f))))) P
 six P a b c d e f ha hb hc hd he hf =
     of_either P a (b <|> (c <|> (d <|> (e <|> f)))) ha
@@ -90,7 +90,7 @@ limits_by n le t c =
 name_by : (n : ℕ) → 2 ≤ n → (names : List (List ℕ)) → IfSome (repeated_name names) (IsBy n)
 name_by n le names = of_mapped (IsBy n) (λ (m : List ℕ × List ℕ). DuplicateName m.1) (first_meeting same_name names) (λ m e. le)
 
-pub names_by : (n : ℕ) → 2 ≤ n → (t : Topology) (c : Config) → IfSome (broken_name t c) (IsBy n)
+names_by : (n : ℕ) → 2 ≤ n → (t : Topology) (c : Config) → IfSome (broken_name t c) (IsBy n)
 unfolding broken_name
 names_by n le t c =
     six (IsBy n) (repeated_name (controller_names t ++ node_names t)) (repeated_name (network_names c)) (repeated_name (port_names c))
@@ -102,7 +102,7 @@ names_by n le t c =
 number_by : (n : ℕ) → 3 ≤ n → (what : IdKind) (ids : List ℕ) → IfSome (repeated_id what ids) (IsBy n)
 number_by n le what ids = of_mapped (IsBy n) (λ (m : ℕ × ℕ). DuplicateId what m.1) (first_meeting (λ a b. a == b) ids) (λ m e. le)
 
-pub numbers_by : (n : ℕ) → 3 ≤ n → (t : Topology) (c : Config) → IfSome (broken_id t c) (IsBy n)
+numbers_by : (n : ℕ) → 3 ≤ n → (t : Topology) (c : Config) → IfSome (broken_id t c) (IsBy n)
 unfolding broken_id
 numbers_by n le t c =
     let addresses : List ℕ = map (λ n. n.address.0) t.controllers ++ map (λ n. n.address.0) t.nodes in
@@ -144,7 +144,7 @@ rule_by n le networks chains r =
     of_either (IsBy n) (missing_end networks r.rule.source) (second <|> third) (end_by n le networks r.rule.source)
     (of_either (IsBy n) second third (end_by n le networks r.rule.destination) (chain_by n le chains r.rule.action))
 
-pub references_by : (n : ℕ) → 4 ≤ n → (t : Topology) (c : Config) → IfSome (broken_reference t c) (IsBy n)
+references_by : (n : ℕ) → 4 ≤ n → (t : Topology) (c : Config) → IfSome (broken_reference t c) (IsBy n)
 unfolding broken_reference
 references_by n le t c =
     let hops : List (List ℕ) = service_names c ++ chain_names c in

@@ -1,8 +1,7 @@
 -- Where a row comes from: the network of its port, which the instance's network imports.
-use Rattle.std.proofs.Common.{◌≡◌, ◌⊎◌, inl, inr, ◌||◌, ◌&&◌, ℕ, Bool, true, false, not, IsTrue, List, Option, Some, None, option_and_then, refl, sym, ap, subst}
-use Rattle.std.specs.List.{All, Any, Contains, list_any}
-use Rattle.ov_types.specs.Prefix.{Block, contains, host_prefix}
-use Rattle.config_model.specs.Form.{is_block}
+use Rattle.std.proofs.Common.{◌≡◌, ◌⊎◌, inl, inr, ◌||◌, ◌&&◌, ℕ, Bool, true, false, not, IsTrue, List, Option, Some, None, option_and_then, refl, sym, ap}
+use Rattle.std.specs.List.{Contains, list_any}
+use Rattle.ov_types.specs.Prefix.{host_prefix}
 use Rattle.config_model.specs.declared.config.Action.{Action}
 use Rattle.config_model.specs.declared.config.Action.TheVariants.{Pass, Deny, Through}
 use Rattle.config_model.specs.declared.config.Config.{Config}
@@ -13,12 +12,11 @@ use Rattle.config_model.specs.declared.topology.Topology.{Topology}
 use Rattle.ov_types.specs.First.{same_name}
 use Rattle.network_rules.specs.declared.numbered.NumberedRule.{NumberedRule}
 use Rattle.network_rules.specs.Related.{passes, lets_through, rules_between, imports}
-use Rattle.config_check.specs.Rules.{network_named}
-use Rattle.config_check.specs.Sentences.{IsAround, AreApart, Overlap}
-use Rattle.ov_types.proofs.FirstLemmas.{same_name_iff, found_is as found}
-use Rattle.schema_transform.specs.Tables.{Row, host_route, row_if, node_named, port_row}
+use Rattle.config_check.specs.Finding.{network_named, node_named}
+use Rattle.config_check.specs.Sentences.{IsAround}
+use Rattle.ov_types.proofs.FirstLemmas.{same_name_iff}
+use Rattle.schema_transform.specs.Tables.{Row, host_route, row_if, port_row}
 use Rattle.schema_transform.proofs.Lists.{any_weaker}
-use Rattle.schema_transform.proofs.Nested.{overlap_at}
 
 -- where a row comes from
 pub record ComesFrom (c : Config) (n : Network) (p : Port) (r : Row) : Type 0 where
@@ -71,15 +69,3 @@ pub named : (c : Config) (name : List ℕ) (a : Network) → network_named c nam
 named c name a h =
     let f = found (λ (x : Network). same_name x.name name) c.networks a h in
     ((same_name_iff a.name name).0 f.0, f.1)
-
--- two networks that have one address have subnets that overlap
-
-pub meet : (a b : Network) (address : ℕ) → All (λ s. IsTrue (is_block s)) a.subnets → All (λ s. IsTrue (is_block s)) b.subnets
-    → Any (λ s. contains s address ≡ true) a.subnets → Any (λ s. contains s address ≡ true) b.subnets → ¬ AreApart a b
-meet a b address blocks_a blocks_b p q apart =
-    let x : Block = p.1 in
-    let y : Block = q.1 in
-    let x_is : IsTrue (is_block x) = subst (λ (s : Block). IsTrue (is_block s)) p.3 (blocks_a p.0 x p.2) in
-    let y_is : IsTrue (is_block y) = subst (λ (s : Block). IsTrue (is_block s)) q.3 (blocks_b q.0 y q.2) in
-    let far : ¬ Overlap x y = subst (λ (s : Block). ¬ Overlap x s) q.3 (subst (λ (s : Block). All (λ u. ¬ Overlap s u) b.subnets) p.3 (apart p.0 x p.2) q.0 y q.2) in
-    far (overlap_at x y address x_is y_is p.4 q.4)

@@ -1,6 +1,5 @@
 pub mod Putting
 pub mod Lists
-pub mod Nested
 pub mod Homes
 pub mod Prefixes
 pub mod Keys

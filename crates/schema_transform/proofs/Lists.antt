@@ -1,8 +1,7 @@
 -- Items of one list, and what a function gives of them.
-use Rattle.std.proofs.Common.{◌≡◌, ◌⊎◌, inl, inr, ◌<◌, ◌||◌, ℕ, suc, Bool, true, false, cond, IsTrue, List, [], ◌∷◌, ◌++◌, map, flat_map, Option, Some, None, length, get_or, refl, sym, ap, ◌∙◌, subst, arith}
-use Rattle.std.specs.List.{All, AllPairs, Contains, find, filter_map, cons_option, list_any}
-use Rattle.std.proofs.lemmas.Bool.{cases_order}
-use Rattle.std.proofs.lemmas.List.{get_or_default, get_or-map, length-map}
+use Rattle.std.proofs.Common.{◌≡◌, ◌||◌, Bool, true, false, IsTrue, List, [], ◌∷◌, ◌++◌, map, flat_map, Option, Some, None, length, get_or, refl, sym, subst, arith}
+use Rattle.std.specs.List.{All, AllPairs, filter_map, cons_option, list_any}
+use Rattle.std.proofs.lemmas.List.{get_or-map, length-map}
 use Rattle.std.proofs.lemmas.List.Elements.{All-append, All-cons, All-head, All-tail}
 use Rattle.std.proofs.lemmas.List.Kept.{AllPairs-cons}
 use Rattle.ov_types.proofs.FirstLemmas.{pairs_head, pairs_tail}
@@ -14,24 +13,6 @@ any_weaker p q weaker (x ∷ xs) h =
       | true ↦ λ e t. rw (weaker x (sym e)) refl
       | false ↦ λ e t. elim (q x) as (λ b. IsTrue (b || list_any q xs)) [ true ↦ refl | false ↦ any_weaker p q weaker xs t ]
     ] refl h
-
-module _ {A : Type 0} (R : A → A → Type 0) (xs : List A) where
-  in_order : (i j : ℕ) (a b : A) → AllPairs R xs → i < j → j < length xs → get_or xs i a ≡ a → get_or xs j b ≡ b → R a b
-  in_order i j a b pairs lt within at_i at_j =
-      let h : R (get_or xs i a) (get_or xs j a) = pairs i j a lt within in
-      let first : R a (get_or xs j a) = subst (λ (x : A). R x (get_or xs j a)) at_i h in
-      subst (λ (y : A). R a y) (get_or_default xs j a b within ∙ at_j) first
-
-  -- two items of a list whose pairs are related are one item, or related one way or the other
-  pub two_among : (a b : A) → AllPairs R xs → Contains xs a → Contains xs b → (a ≡ b) ⊎ (R a b ⊎ R b a)
-  two_among a b pairs p q =
-      elim (cases_order p.0 q.0) [
-        | inl same ↦ inl (sym p.2 ∙ ap (λ (k : ℕ). get_or xs k a) same ∙ get_or_default xs q.0 a b q.1 ∙ q.2)
-        | inr other ↦ elim other [
-          | inl lt ↦ inr (inl (in_order p.0 q.0 a b pairs lt q.1 p.2 q.2))
-          | inr gt ↦ inr (inr (in_order q.0 p.0 b a pairs gt p.1 q.2 p.2))
-        ]
-      ]
 
 module _ {A B : Type 0} (f : A → Option B) where
   -- what f gives of all items, where it gives something

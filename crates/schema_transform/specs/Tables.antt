@@ -1,5 +1,5 @@
 -- The tables of instances, as the configuration alone describes them.
-use Rattle.std.specs.Prelude.{ℕ, Bool, true, false, List, [], ◌∷◌, map, flat_map, find, Option, None, option_map, option_and_then}
+use Rattle.std.specs.Prelude.{ℕ, Bool, true, false, List, [], ◌∷◌, map, flat_map, Option, None, option_map, option_and_then}
 use Rattle.std.specs.BTreeMap.{insert_entry}
 use Rattle.std.specs.List.{filter_map}
 use Rattle.std.specs.Ordering.{nat_cmp, ordering_then}
@@ -14,9 +14,8 @@ use Rattle.config_model.specs.declared.config.Network.{Network}
 use Rattle.config_model.specs.declared.config.Port.{Port}
 use Rattle.config_model.specs.declared.topology.Node.{Node}
 use Rattle.config_model.specs.declared.topology.Topology.{Topology}
-use Rattle.ov_types.specs.First.{same_name}
 use Rattle.network_rules.specs.Related.{imports}
-use Rattle.config_check.specs.Rules.{network_named}
+use Rattle.config_check.specs.Finding.{network_named, node_named}
 use Rattle.config_check.specs.Checked.{Checked}
 use Rattle.schema_transform.specs.declared.tables.Compiled.{Compiled}
 
@@ -26,9 +25,6 @@ Key = InstanceId × Block
 
 abbrev pub Row : Type 0
 Row = Key × TableRow
-
-abbrev pub node_named : Topology → List ℕ → Option Node
-node_named t name = find (λ d. same_name d.name name) t.nodes
 
 -- in the instance of a network, the route to a port of a network at a node: the node's address and the port's label,
 -- and the distinguisher of the port's own network there

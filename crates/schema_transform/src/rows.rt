@@ -1,14 +1,14 @@
 //! The rows of networks' instances.
-ghost use Rattle.std.specs.Prelude.{◌≡◌, ◌≤◌, [], IfOk, OnOk, IsTrue, flat_map, option_copied};
+ghost use Rattle.std.specs.Prelude.{◌≡◌, ◌≤◌, [], IfOk, OnOk, IsTrue, flat_map};
 ghost use Rattle.std.specs.List.{list_all};
 ghost use Rattle.config_model.specs.Form.{has_config_form, has_port_form};
-ghost use Rattle.config_check.specs.Rules.{network_named};
-ghost use Rattle.schema_transform.specs.Tables.{host_route, node_named, port_row, network_rows, with_rows, control_rows};
+ghost use Rattle.config_check.specs.Finding.{network_named, node_named};
+ghost use Rattle.schema_transform.specs.Tables.{host_route, port_row, network_rows, with_rows, control_rows};
 
-use config_check::network_named;
+use config_check::{network_named, node_named};
 use config_model::{Config, Network, Node, Port, Topology};
 use network_rules::imports;
-use ov_types::{ControlRows, InstanceId, Items, Name, NoMemory, Prefix, TableRow};
+use ov_types::{ControlRows, InstanceId, Items, NoMemory, Prefix, TableRow};
 use route_targets::{port_label, rd};
 use std::alloc::{AllocError, Global};
 use std::collections::BTreeMap;
@@ -19,12 +19,6 @@ type Row = ((InstanceId, Prefix), TableRow);
 /// Rows by their keys.
 type Rows = BTreeMap<(InstanceId, Prefix), TableRow>;
 
-/// The first compute node of a name.
-fn node_of<'a>(topology: &'a Topology, name: &Name) -> Option<&'a Node>
-    ensures { option_copied result ≡ node_named topology.now name.now }
-{
-    topology.nodes.as_slice().iter().find(|n| n.name == *name)
-}
 /// The route to a port, in the instance of a network that imports the port's.
 #[tactic(auto, unfolding(config_model::specs::Form::has_port_form))]
 fn route_to(network: &Network, home: &Network, node: &Node, port: &Port) -> Row
@@ -49,7 +43,7 @@ fn row_of(topology: &Topology, config: &Config, network: &Network, port: &Port) 
     if !imports(config, network, home) {
         return None;
     }
-    let node = node_of(topology, &port.node)?;
+    let node = node_named(topology, &port.node)?;
     Some(route_to(network, home, node, port))
 }
 
