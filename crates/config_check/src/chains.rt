@@ -39,11 +39,7 @@ fn is_too_long(config: &Config, chain: &Chain) -> bool
 }
 
 /// The first chain that gives more than 15 services, where none leads back to itself.
-#[tactic(
-    auto,
-    using(crate::proofs::Lists::found_here, crate::proofs::Lists::not_found_here),
-    unfolding(crate::specs::Rules::broken_long)
-)]
+#[tactic(auto, using(crate::proofs::Lists::sought), unfolding(crate::specs::Rules::broken_long))]
 pub(crate) fn broken_long(config: &Config) -> Option<Refusal>
     requires few { length config.now.chains ≤ CHAINS }
     requires straight { broken_loop config.now ≡ None }
@@ -79,11 +75,7 @@ fn twice_in(config: &Config, chain: &Chain) -> Option<Refusal>
 }
 
 /// The first chain that gives a service twice, where none leads back to itself or is too long.
-#[tactic(
-    auto,
-    using(crate::proofs::Lists::none_here, crate::proofs::Lists::some_here),
-    unfolding(crate::specs::Rules::broken_twice)
-)]
+#[tactic(auto, using(crate::proofs::Lists::asked), unfolding(crate::specs::Rules::broken_twice))]
 pub(crate) fn broken_twice(config: &Config) -> Option<Refusal>
     requires few { length config.now.chains ≤ CHAINS }
     requires straight { broken_loop config.now ≡ None }

@@ -53,7 +53,11 @@ fn port_ids(alloc: Global, config: &Config) -> Result<Vec<u32>, NoMemory>
 fn sequences(alloc: Global, config: &Config) -> Result<Vec<u32>, NoMemory>
     ensures { IfOk result (λ v. v.items ≡ map (λ p. p.sequence) config.now.policies) }
 {
-    let numbers = config.policies.as_slice().iter().map(|p| u32::from(p.sequence));
+    let numbers = config
+        .policies
+        .as_slice()
+        .iter()
+        .map(|p| u32::from(p.sequence));
     Ok(numbers.collect(alloc)?)
 }
 

@@ -138,11 +138,7 @@ fn overlapping_around(
 }
 
 /// The first two networks that share addresses in a group, for the first network whose group has such.
-#[tactic(
-    auto,
-    using(crate::proofs::Lists::none_here, crate::proofs::Lists::some_here),
-    unfolding(crate::specs::Rules::broken_overlap)
-)]
+#[tactic(auto, using(crate::proofs::Lists::asked), unfolding(crate::specs::Rules::broken_overlap))]
 pub(crate) fn broken_overlap(alloc: Global, config: &Config) -> Result<Option<Refusal>, NoMemory>
     ensures { IfOk result (λ found. found ≡ broken_overlap config.now) }
 {

@@ -77,13 +77,19 @@ fn missing_in_rule(networks: &[Name], chains: &[Name], numbered: &NumberedRule) 
 fn missing_in_nodes(controllers: &[Name], nodes: &[Node]) -> Option<Refusal>
     ensures { result ≡ first_of (missing_in_node controllers.now) nodes.now }
 {
-    first_of(nodes, |node| first_missing(controllers, node.controllers.as_slice()))
+    first_of(
+        nodes,
+        |node| first_missing(controllers, node.controllers.as_slice()),
+    )
 }
 
 fn missing_in_networks(policies: &[Name], networks: &[Network]) -> Option<Refusal>
     ensures { result ≡ first_of (missing_in_network policies.now) networks.now }
 {
-    first_of(networks, |network| first_missing(policies, network.policies.as_slice()))
+    first_of(
+        networks,
+        |network| first_missing(policies, network.policies.as_slice()),
+    )
 }
 
 fn missing_in_ports(networks: &[Name], nodes: &[Name], ports: &[Port]) -> Option<Refusal>

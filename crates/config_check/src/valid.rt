@@ -6,12 +6,11 @@ ghost use Rattle.config_check.specs.Checked.{Checked, Refuses};
 
 use crate::chains::{broken_long, broken_loop, broken_twice};
 use crate::ids::broken_id;
-use crate::limits::broken_limit;
+use crate::limits::{CHAINS, broken_limit};
 use crate::names::broken_name;
 use crate::overlaps::broken_overlap;
 use crate::ports::{broken_outside, broken_taken};
 use crate::references::broken_reference;
-use crate::limits::CHAINS;
 use crate::refusal::{CheckRefusal, Refusal};
 use crate::subnets::{broken_nested, broken_reserved};
 use crate::uses::{broken_needs, broken_same};
@@ -96,11 +95,7 @@ fn broken_chain(config: &Config) -> Option<Refusal>
     broken_twice(config)
 }
 
-#[tactic(
-    auto,
-    using(crate::proofs::Few::few_rules, crate::proofs::Few::few_chains),
-    unfolding(crate::specs::Rules::first_broken)
-)]
+#[tactic(auto, using(crate::proofs::Few::few), unfolding(crate::specs::Rules::first_broken))]
 fn first_broken(
     alloc: Global,
     topology: &Topology,

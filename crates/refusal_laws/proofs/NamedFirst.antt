@@ -156,9 +156,12 @@ loop_first : (t : Topology) (c : Config) → IfSome (broken_loop c) (NamesFirst 
 unfolding broken_loop
 loop_first t c =
     of_mapped (NamesFirst t c) (λ (d : Chain). ChainLoop d.name) (find (λ d. loops c d.name) c.chains)
-    (λ d e.
-    (d, refl, found_first (λ (x : Chain). loops c x.name) (λ x. Leads c x.name x.name)
-    (λ x. (Leads-from_leads c x.name x.name, leads_from_Leads c x.name x.name)) c.chains d e))
+    (λ d e. (
+      d,
+      refl,
+      found_first (λ (x : Chain). loops c x.name) (λ x. Leads c x.name x.name)
+          (λ x. (Leads-from_leads c x.name x.name, leads_from_Leads c x.name x.name)) c.chains d e,
+    ))
 
 long_iff : (c : Config) → broken_loop c ≡ None → (d : Chain) → IsTrue (is_too_long c d) ↔ (15 < length (expansion c d.name))
 long_iff c straight d = (

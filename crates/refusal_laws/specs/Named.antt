@@ -22,7 +22,8 @@ use Rattle.config_check.specs.declared.refusal.Refusal.TheVariants.{ServiceTwice
 use Rattle.network_rules.specs.declared.numbered.NumberedRule.{NumberedRule}
 use Rattle.config_check.specs.Rules.{circuit_addresses}
 use Rattle.config_check.specs.Sentences.{Overlap, IsAround}
-use Rattle.refusal_laws.specs.Breaks.{IsChainRule, HasAny, HasOneNetwork, LiesOutside, StandsBefore, namespaces, numbers_of}
+use Rattle.refusal_laws.specs.Breaks.{IsChainRule, HasAny, HasOneNetwork, LiesOutside, StandsBefore, namespaces}
+use Rattle.refusal_laws.specs.Breaks.{numbers_of}
 
 -- an item of a list has a fault, and none before it has
 pub record IsFirst {A : Type 0} (HasFault : A → Type 0) (xs : List A) (x : A) : Type 0 where
@@ -115,6 +116,6 @@ NamesFirst t c (DuplicateId what id) =
 NamesFirst t c (DuplicateName name) =
     ((names : List (List ℕ)) × IsFirst (HasPair IsSame) (namespaces t c) names × IsFirstPair IsSame names name name)
     ⊎ (All (λ names. ¬ HasPair IsSame names) (namespaces t c)
-      × (n : Node) × IsFirst (λ m. HasPair IsSame m.controllers) t.nodes n
-      × IsFirstPair IsSame n.controllers name name)
+    × (n : Node) × IsFirst (λ m. HasPair IsSame m.controllers) t.nodes n
+    × IsFirstPair IsSame n.controllers name name)
 NamesFirst t c _ = Unit {0}
