@@ -1,5 +1,5 @@
 -- What is first found, answered or met in a list, as against all that stands before.
-use Rattle.std.proofs.Common.{◌≡◌, ◌↔◌, ◌⊎◌, inl, inr, ◌&&◌, ◌<◌, ℕ, zero, suc, Bool, true, false, cond, IsTrue, List, [], ◌∷◌, ◌++◌, Option, Some, None, option_map, IfSome, filter, find, length, refl, sym, ap, ◌∙◌, subst, append_assoc, arith}
+use Rattle.std.proofs.Common.{◌≡◌, ◌↔◌, ◌⊎◌, inl, inr, ◌&&◌, ◌<◌, ℕ, zero, suc, Bool, true, false, cond, IsTrue, List, [], ◌∷◌, ◌++◌, Option, Some, None, option_map, IfSome, filter, flat_map, map, find, length, refl, sym, ap, ◌∙◌, subst, append_assoc, arith}
 use Rattle.std.specs.List.{Contains, slice_get}
 use Rattle.std.proofs.lemmas.Bool.{iff_false}
 use Rattle.ov_types.specs.First.{◌<|>◌, first_of, meeting_after, first_meeting}
@@ -16,6 +16,35 @@ some_case P (Some r) h = h r refl
 pub then_some : {A : Type 0} (P : A → Type 0) (a b : Option A) → IfSome a P → (a ≡ None → IfSome b P) → IfSome (a <|> b) P
 then_some P None b h k = k refl
 then_some P (Some r) b h k = h
+
+-- answers in a row
+
+pub or_none : {A : Type 0} (o : Option A) → (o <|> None) ≡ o
+or_none None = refl
+or_none (Some x) = refl
+
+pub or_assoc : {A : Type 0} (a b c : Option A) → ((a <|> b) <|> c) ≡ (a <|> (b <|> c))
+or_assoc None b c = refl
+or_assoc (Some x) b c = refl
+
+pub first_of-append : {A B : Type 0} (f : A → Option B) (xs ys : List A) → first_of f (xs ++ ys) ≡ (first_of f xs <|> first_of f ys)
+first_of-append f [] ys = refl
+first_of-append {A} {B} f (x ∷ xs) ys =
+    ap (λ (o : Option B). f x <|> o) (first_of-append f xs ys) ∙ sym (or_assoc (f x) (first_of f xs) (first_of f ys))
+
+pub first_of-map : {A B C : Type 0} (f : B → Option C) (g : A → B) (xs : List A) → first_of f (map g xs) ≡ first_of (λ x. f (g x)) xs
+first_of-map f g [] = refl
+first_of-map {A} {B} {C} f g (x ∷ xs) = ap (λ (o : Option C). f (g x) <|> o) (first_of-map f g xs)
+
+pub first_of-flat_map : {A B C : Type 0} (f : B → Option C) (g : A → List B) (xs : List A) → first_of f (flat_map g xs) ≡ first_of (λ x. first_of f (g x)) xs
+first_of-flat_map f g [] = refl
+first_of-flat_map {A} {B} {C} f g (x ∷ xs) =
+    first_of-append f (g x) (flat_map g xs) ∙ ap (λ (o : Option C). first_of f (g x) <|> o) (first_of-flat_map f g xs)
+
+pub first_of-same : {A B : Type 0} (f g : A → Option B) → ((x : A) → f x ≡ g x) → (xs : List A) → first_of f xs ≡ first_of g xs
+first_of-same f g same [] = refl
+first_of-same {A} {B} f g same (x ∷ xs) =
+    ap (λ (o : Option B). o <|> first_of f xs) (same x) ∙ ap (λ (o : Option B). g x <|> o) (first_of-same f g same xs)
 
 -- what is found
 

@@ -1,42 +1,39 @@
--- What a refusal names is the first that breaks its rule; of limits and references nothing is said.
-use Rattle.std.proofs.Common.{◌≡◌, ◌≢◌, ◌↔◌, inl, inr, ◌||◌, ◌&&◌, ◌==◌, ◌<◌, ◌≤◌, ◌++◌, ltb, ℕ, Bool, true, false, cond, IsTrue, List, [], ◌∷◌, Option, Some, None, option_map, is_none, IfSome, filter, find, length, get_or, refl, sym, ap, ◌∙◌, subst, arith}
-use Rattle.std.specs.List.{All, Any, Contains, slice_get, list_any}
+-- What a refusal names is the first that breaks its rule.
+use Rattle.std.proofs.Common.{◌≡◌, ◌≢◌, ◌↔◌, inl, inr, ◌||◌, ◌&&◌, ◌==◌, ◌<◌, ◌++◌, ℕ, Bool, true, false, IsTrue, List, Option, Some, None, option_map, IfSome, find, length, get_or, refl, sym, ap, ◌∙◌, subst}
+use Rattle.std.specs.List.{All, Any}
 use Rattle.std.proofs.lemmas.Bool.{and_parts, and_from, ltb-true, lt-ltb}
 use Rattle.ov_types.specs.Prefix.{Block, contains}
 use Rattle.ov_types.specs.First.{same_name, ◌<|>◌, first_of, first_meeting}
-use Rattle.config_model.specs.declared.config.Action.{Action}
-use Rattle.config_model.specs.declared.config.Action.TheVariants.{Pass, Deny, Through}
 use Rattle.config_model.specs.declared.config.Chain.{Chain}
 use Rattle.config_model.specs.declared.config.Config.{Config}
-use Rattle.config_model.specs.declared.config.End.{End}
 use Rattle.config_model.specs.declared.config.End.TheVariants as Ends
 use Rattle.config_model.specs.declared.config.Network.{Network}
 use Rattle.config_model.specs.declared.config.Port.{Port}
 use Rattle.config_model.specs.declared.config.Service.{Service}
 use Rattle.config_model.specs.declared.topology.Node.{Node}
 use Rattle.config_model.specs.declared.topology.Topology.{Topology}
-use Rattle.chain_expand.specs.Expansion.{loops, loop_of, expansion, same_number}
+use Rattle.chain_expand.specs.Expansion.{loops, expansion, same_number}
 use Rattle.chain_expand.specs.Leading.{Leads}
 use Rattle.chain_expand.proofs.LeadsLaws.{Leads-from_leads, leads_from_Leads}
 use Rattle.config_check.specs.declared.refusal.IdKind.{IdKind}
 use Rattle.config_check.specs.declared.refusal.IdKind.TheVariants as Id
 use Rattle.config_check.specs.declared.refusal.Refusal.{Refusal}
-use Rattle.config_check.specs.declared.refusal.Refusal.TheVariants.{Limit, DuplicateName, DuplicateId, BadReference, SubnetReserved, SubnetNested, AddressOutside, AddressTaken, ChainNeedsNetworks, ChainSameNetwork, ChainLoop, ChainTooLong, ServiceTwice, SubnetOverlap}
+use Rattle.config_check.specs.declared.refusal.Refusal.TheVariants.{DuplicateName, DuplicateId, SubnetReserved, SubnetNested, AddressOutside, AddressTaken, ChainNeedsNetworks, ChainSameNetwork, ChainLoop, ChainTooLong, ServiceTwice, SubnetOverlap}
 use Rattle.network_rules.specs.declared.numbered.NumberedRule.{NumberedRule}
 use Rattle.network_rules.specs.Related.{all_rules, are_related}
-use Rattle.config_check.specs.Rules.{broken_limit, controller_names, node_names, network_names, port_names, policy_names, service_names, chain_names, repeated_name, repeated_controller, broken_name, repeated_id, broken_id, missing, missing_end, missing_chain, missing_in_node, missing_in_network, missing_in_port, missing_in_rule, missing_in_service, missing_in_chain, broken_reference, overlap, circuit_addresses, reserved_in, broken_reserved, nested_in, broken_nested, network_named, is_outside, broken_outside, share_address, broken_taken, broken_place, is_chain_rule, is_any, lacks_network, broken_needs, same_end, turns_back, broken_same, broken_use, broken_loop, is_too_long, broken_long, twice_in, broken_twice, broken_chain, share_addresses, overlapping, overlapping_around, broken_overlap, first_broken}
+use Rattle.config_check.specs.Rules.{broken_limit, controller_names, node_names, network_names, port_names, policy_names, service_names, chain_names, repeated_name, repeated_controller, broken_name, repeated_id, broken_id, broken_reference, overlap, circuit_addresses, reserved_in, broken_reserved, nested_in, broken_nested, network_named, is_outside, broken_outside, share_address, broken_taken, broken_place, is_chain_rule, is_any, lacks_network, broken_needs, same_end, turns_back, broken_same, broken_use, broken_loop, is_too_long, broken_long, twice_in, broken_twice, broken_chain, share_addresses, overlapping, overlapping_around, broken_overlap, first_broken}
 use Rattle.config_check.specs.Sentences.{Overlap, IsAround, AreApart}
 use Rattle.config_check.proofs.EachRule.{reserved_in_iff, nested_in_iff}
 use Rattle.config_check.proofs.Iffs.{mapped_none, first_of_none, first_meeting_none}
 use Rattle.config_check.proofs.Meanings.{distinct_names, distinct_ids, networks_apart_iff, around_test, around_iff, overlap_iff, inside_iff, and_iff, number_iff, ends_iff, names_two_iff}
 use Rattle.config_check.proofs.Straight.{no_loop, too_long_is}
 use Rattle.refusal_laws.specs.Breaks.{LiesOutside, namespaces, numbers_of}
-use Rattle.refusal_laws.specs.Order.{rule_number}
 use Rattle.refusal_laws.specs.Named.{IsFirst, IsFirstPair, IsFirstByFirst, HasPair, IsSame, id_kinds, OverlapsAround, IsReserved, SharesAddress, LacksNetwork, TurnsBack, SharesNumber, NamesFirst}
-use Rattle.ov_types.proofs.FirstLemmas.{any_of, answered, of_either, of_mapped, of_first, contains_at, same_name_iff}
-use Rattle.refusal_laws.proofs.FirstOnes.{some_case, then_some, found_first, answers_first, first_pair_is, by_first}
+use Rattle.ov_types.proofs.FirstLemmas.{any_of, answered, of_either, of_mapped, contains_at, same_name_iff}
+use Rattle.refusal_laws.proofs.FirstOnes.{some_case, then_some, found_first, answers_first, first_pair_is, by_first, or_none, or_assoc}
+use Rattle.refusal_laws.proofs.FirstLimits.{first_above}
+use Rattle.refusal_laws.proofs.FirstReferences.{first_dangling}
 use Rattle.refusal_laws.proofs.Invalid.{no_any, pair_of, held, against_any}
-use Rattle.refusal_laws.proofs.Order.{six, limits_by}
 use Rattle.refusal_laws.proofs.Overlaps.{some_overlap}
 use Rattle.refusal_laws.proofs.Places.{outside_of}
 use Rattle.refusal_laws.proofs.Chains.{chain_of, some_any, one_network}
@@ -210,76 +207,17 @@ chain_first t c =
 
 -- limits and references
 
-nothing_said : (t : Topology) (c : Config) (r : Refusal) → rule_number r ≤ 1 → NamesFirst t c r
-nothing_said t c (Limit what) h = tt
-nothing_said t c (DuplicateName name) h = let two : 2 ≤ 1 = h in absurd (omega arith)
-nothing_said t c (DuplicateId what id) h = let three : 3 ≤ 1 = h in absurd (omega arith)
-nothing_said t c (BadReference name) h = tt
-nothing_said t c (SubnetReserved network prefix) h = let five : 5 ≤ 1 = h in absurd (omega arith)
-nothing_said t c (SubnetNested network first second) h = let six : 6 ≤ 1 = h in absurd (omega arith)
-nothing_said t c (AddressOutside port) h = let seven : 7 ≤ 1 = h in absurd (omega arith)
-nothing_said t c (AddressTaken first second) h = let eight : 8 ≤ 1 = h in absurd (omega arith)
-nothing_said t c (ChainNeedsNetworks rule) h = let nine : 9 ≤ 1 = h in absurd (omega arith)
-nothing_said t c (ChainSameNetwork rule) h = let ten : 10 ≤ 1 = h in absurd (omega arith)
-nothing_said t c (ChainLoop chain) h = let eleven : 11 ≤ 1 = h in absurd (omega arith)
-nothing_said t c (ChainTooLong chain) h = let twelve : 12 ≤ 1 = h in absurd (omega arith)
-nothing_said t c (ServiceTwice chain service) h = let thirteen : 13 ≤ 1 = h in absurd (omega arith)
-nothing_said t c (SubnetOverlap first second) h = let fourteen : 14 ≤ 1 = h in absurd (omega arith)
-
 limit_first : (t : Topology) (c : Config) → IfSome (broken_limit t c) (NamesFirst t c)
-limit_first t c = some_case (NamesFirst t c) (broken_limit t c) (λ r e. nothing_said t c r (answered (λ (x : Refusal). rule_number x ≤ 1) (broken_limit t c) (limits_by 1 (omega arith) t c) r e))
-
-unless_first : (t : Topology) (c : Config) (b : Bool) (name : List ℕ) → IfSome (cond b None (Some (BadReference name))) (NamesFirst t c)
-unless_first t c true name = tt
-unless_first t c false name = tt
-
-missing_first : (t : Topology) (c : Config) (names : List (List ℕ)) (name : List ℕ) → IfSome (missing names name) (NamesFirst t c)
-missing_first t c names name = unless_first t c (list_any (same_name name) names) name
-
-end_first : (t : Topology) (c : Config) (names : List (List ℕ)) (e : End) → IfSome (missing_end names e) (NamesFirst t c)
-end_first t c names Ends.Any = tt
-end_first t c names (Ends.Named name) = missing_first t c names name
-
-action_first : (t : Topology) (c : Config) (names : List (List ℕ)) (a : Action) → IfSome (missing_chain names a) (NamesFirst t c)
-action_first t c names Pass = tt
-action_first t c names Deny = tt
-action_first t c names (Through name use_no) = missing_first t c names name
-
-some_first : (t : Topology) (c : Config) (names wanted : List (List ℕ)) → IfSome (first_of (missing names) wanted) (NamesFirst t c)
-some_first t c names wanted = of_first (NamesFirst t c) (missing names) wanted (λ name inside. missing_first t c names name)
-
-rule_first : (t : Topology) (c : Config) (networks chains : List (List ℕ)) (r : NumberedRule) → IfSome (missing_in_rule networks chains r) (NamesFirst t c)
-rule_first t c networks chains r =
-    let second : Option Refusal = missing_end networks r.rule.destination in
-    let third : Option Refusal = missing_chain chains r.rule.action in
-    of_either (NamesFirst t c) (missing_end networks r.rule.source) (second <|> third) (end_first t c networks r.rule.source)
-    (of_either (NamesFirst t c) second third (end_first t c networks r.rule.destination) (action_first t c chains r.rule.action))
+limit_first t c =
+    some_case (NamesFirst t c) (broken_limit t c)
+    (λ r e. let a = first_above t c r e in subst (NamesFirst t c) a.is_said a.first)
 
 reference_first : (t : Topology) (c : Config) → IfSome (broken_reference t c) (NamesFirst t c)
-unfolding broken_reference
 reference_first t c =
-    let N : Refusal → Type 0 = NamesFirst t c in
-    let hops : List (List ℕ) = service_names c ++ chain_names c in
-    six N (first_of (missing_in_node (controller_names t)) t.nodes) (first_of (missing_in_network (policy_names c)) c.networks)
-    (first_of (missing_in_port (network_names c) (node_names t)) c.ports) (first_of (missing_in_rule (network_names c) (chain_names c)) (all_rules c))
-    (first_of (missing_in_service (node_names t)) c.services) (first_of (missing_in_chain hops) c.chains)
-    (of_first N (missing_in_node (controller_names t)) t.nodes (λ d inside. some_first t c (controller_names t) d.controllers))
-    (of_first N (missing_in_network (policy_names c)) c.networks (λ d inside. some_first t c (policy_names c) d.policies))
-    (of_first N (missing_in_port (network_names c) (node_names t)) c.ports (λ p inside.
-    of_either N (missing (network_names c) p.network) (missing (node_names t) p.node) (missing_first t c (network_names c) p.network) (missing_first t c (node_names t) p.node)))
-    (of_first N (missing_in_rule (network_names c) (chain_names c)) (all_rules c) (λ r inside. rule_first t c (network_names c) (chain_names c) r))
-    (of_first N (missing_in_service (node_names t)) c.services (λ s inside. missing_first t c (node_names t) s.node))
-    (of_first N (missing_in_chain hops) c.chains (λ d inside. some_first t c hops d.hops))
+    some_case (NamesFirst t c) (broken_reference t c)
+    (λ r e. let a = first_dangling t c r e in subst (NamesFirst t c) a.is_said (a.names, a.first))
 
 -- names and numbers
-
-or_none : {A : Type 0} (o : Option A) → (o <|> None) ≡ o
-or_none None = refl
-or_none (Some x) = refl
-
-or_assoc : {A : Type 0} (a b c : Option A) → ((a <|> b) <|> c) ≡ (a <|> (b <|> c))
-or_assoc None b c = refl
-or_assoc (Some x) b c = refl
 
 kind_answer : (t : Topology) (c : Config) → IdKind → Option Refusal
 kind_answer t c kind = repeated_id kind (numbers_of t c kind)

@@ -36,7 +36,7 @@ IsBy n r = rule_number r ≤ n
 
 -- each rule answers refusals of its own number
 
-pub six : (P : Refusal → Type 0) (a b c d e f : Option Refusal) → IfSome a P → IfSome b P → IfSome c P → IfSome d P → IfSome e P → IfSome f P
+six : (P : Refusal → Type 0) (a b c d e f : Option Refusal) → IfSome a P → IfSome b P → IfSome c P → IfSome d P → IfSome e P → IfSome f P
     → IfSome (a <|> (b <|> (c <|> (d <|> (e <|> f))))) P
 six P a b c d e f ha hb hc hd he hf =
     of_either P a (b <|> (c <|> (d <|> (e <|> f)))) ha
@@ -78,7 +78,7 @@ four_by n le b1 b2 b3 b4 =
     (limit_by n le Counted.Attachments b2 r3
     (limit_by n le Counted.Rules b3 (limit_unless Counted.Hops b4) (last_by n le Counted.Hops b4)))
 
-pub limits_by : (n : ℕ) → 1 ≤ n → (t : Topology) (c : Config) → IfSome (broken_limit t c) (IsBy n)
+limits_by : (n : ℕ) → 1 ≤ n → (t : Topology) (c : Config) → IfSome (broken_limit t c) (IsBy n)
 unfolding broken_limit
 limits_by n le t c =
     of_either (IsBy n) (broken_count t c) (broken_part c)

@@ -1,8 +1,12 @@
 -- Which objects a refusal names: the first, in the document's order, that break its rule.
-use Rattle.std.specs.Prelude.{◌≡◌, ◌⊎◌, ◌<◌, ℕ, List, [], ◌∷◌, slice_get, Some, length}
-use Rattle.std.specs.List.{All, Any}
+use Rattle.std.specs.Prelude.{◌≡◌, ◌⊎◌, ◌<◌, ◌++◌, ℕ, List, [], ◌∷◌, map, flat_map, slice_get, Some, length}
+use Rattle.std.specs.List.{All, Any, Contains}
+use Rattle.config_model.specs.declared.config.Action.{Action}
+use Rattle.config_model.specs.declared.config.Action.TheVariants.{Pass, Deny, Through}
 use Rattle.config_model.specs.declared.config.Chain.{Chain}
 use Rattle.config_model.specs.declared.config.Config.{Config}
+use Rattle.config_model.specs.declared.config.End.{End}
+use Rattle.config_model.specs.declared.config.End.TheVariants as Ends
 use Rattle.config_model.specs.declared.config.Network.{Network}
 use Rattle.config_model.specs.declared.config.Port.{Port}
 use Rattle.config_model.specs.declared.config.Service.{Service}
@@ -13,6 +17,8 @@ use Rattle.chain_expand.specs.Expansion.{expansion}
 use Rattle.chain_expand.specs.Leading.{Leads}
 use Rattle.config_check.specs.declared.refusal.IdKind.{IdKind}
 use Rattle.config_check.specs.declared.refusal.IdKind.TheVariants as Id
+use Rattle.config_check.specs.declared.refusal.LimitKind.{LimitKind}
+use Rattle.config_check.specs.declared.refusal.LimitKind.TheVariants as Counted
 use Rattle.config_check.specs.declared.refusal.Refusal.{Refusal}
 use Rattle.config_check.specs.declared.refusal.Refusal.TheVariants.{Limit, DuplicateName, DuplicateId, BadReference}
 use Rattle.config_check.specs.declared.refusal.Refusal.TheVariants.{SubnetReserved, SubnetNested, AddressOutside}
@@ -20,10 +26,12 @@ use Rattle.config_check.specs.declared.refusal.Refusal.TheVariants.{AddressTaken
 use Rattle.config_check.specs.declared.refusal.Refusal.TheVariants.{ChainSameNetwork, ChainLoop, ChainTooLong}
 use Rattle.config_check.specs.declared.refusal.Refusal.TheVariants.{ServiceTwice, SubnetOverlap}
 use Rattle.network_rules.specs.declared.numbered.NumberedRule.{NumberedRule}
-use Rattle.config_check.specs.Rules.{circuit_addresses}
+use Rattle.network_rules.specs.Related.{all_rules}
+use Rattle.config_check.specs.Rules.{circuit_addresses, controller_names, node_names, network_names}
+use Rattle.config_check.specs.Rules.{policy_names, service_names, chain_names}
 use Rattle.config_check.specs.Sentences.{Overlap, IsAround}
 use Rattle.refusal_laws.specs.Breaks.{IsChainRule, HasAny, HasOneNetwork, LiesOutside, StandsBefore, namespaces}
-use Rattle.refusal_laws.specs.Breaks.{numbers_of}
+use Rattle.refusal_laws.specs.Breaks.{numbers_of, IsAboveLimit}
 
 -- an item of a list has a fault, and none before it has
 pub record IsFirst {A : Type 0} (HasFault : A → Type 0) (xs : List A) (x : A) : Type 0 where
@@ -86,7 +94,58 @@ id_kinds = Id.Address ∷ Id.Network ∷ Id.Port ∷ Id.Sequence ∷ Id.Service 
 abbrev pub OverlapsAround : Config → Network → Network → Network → Type 0
 OverlapsAround c n a b = IsAround c n a × IsAround c n b × Any (λ p. Any (Overlap p) b.subnets) a.subnets
 
--- what a refusal names is the first that breaks its rule (of references and of limits this says nothing)
+-- what is counted, in the order in which it is
+abbrev pub limit_kinds : List LimitKind
+limit_kinds =
+    Counted.Controllers ∷ Counted.Nodes ∷ Counted.Networks ∷ Counted.Ports ∷ Counted.Policies ∷ Counted.Services
+    ∷ Counted.Chains ∷ Counted.Subnets ∷ Counted.Attachments ∷ Counted.Rules ∷ Counted.Hops ∷ []
+
+-- a name, with the names that it may be
+abbrev pub Reference : Type 0
+Reference = List (List ℕ) × List ℕ
+
+-- nothing has the name
+abbrev pub Dangles : Reference → Type 0
+Dangles r = ¬ Contains r.0 r.1
+
+abbrev pub end_references : List (List ℕ) → End → List Reference
+end_references names Ends.Any = []
+end_references names (Ends.Named name) = (names, name) ∷ []
+
+abbrev pub action_references : List (List ℕ) → Action → List Reference
+action_references names Pass = []
+action_references names Deny = []
+action_references names (Through chain use_no) = (names, chain) ∷ []
+
+-- the references of each object
+abbrev pub node_references : Topology → Node → List Reference
+node_references t n = map (λ name. (controller_names t, name)) n.controllers
+
+abbrev pub network_references : Config → Network → List Reference
+network_references c n = map (λ name. (policy_names c, name)) n.policies
+
+abbrev pub port_references : Topology → Config → Port → List Reference
+port_references t c p = (network_names c, p.network) ∷ (node_names t, p.node) ∷ []
+
+abbrev pub rule_references : Config → NumberedRule → List Reference
+rule_references c r =
+    end_references (network_names c) r.rule.source
+    ++ (end_references (network_names c) r.rule.destination ++ action_references (chain_names c) r.rule.action)
+
+abbrev pub chain_references : Config → Chain → List Reference
+chain_references c d = map (λ name. (service_names c ++ chain_names c, name)) d.hops
+
+-- all references, in the order in which they are looked up
+abbrev pub references : Topology → Config → List Reference
+references t c =
+    flat_map (node_references t) t.nodes
+    ++ (flat_map (network_references c) c.networks
+    ++ (flat_map (port_references t c) c.ports
+    ++ (flat_map (rule_references c) (all_rules c)
+    ++ (map (λ s. (node_names t, s.node)) c.services
+    ++ flat_map (chain_references c) c.chains))))
+
+-- what a refusal names is the first that breaks its rule
 abbrev pub NamesFirst : Topology → Config → Refusal → Type 0
 NamesFirst t c (SubnetReserved network prefix) =
     (n : Network) × (n.name ≡ network) × IsFirst IsReserved c.networks n
@@ -118,4 +177,5 @@ NamesFirst t c (DuplicateName name) =
     ⊎ (All (λ names. ¬ HasPair IsSame names) (namespaces t c)
     × (n : Node) × IsFirst (λ m. HasPair IsSame m.controllers) t.nodes n
     × IsFirstPair IsSame n.controllers name name)
-NamesFirst t c _ = Unit {0}
+NamesFirst t c (BadReference name) = (names : List (List ℕ)) × IsFirst Dangles (references t c) (names, name)
+NamesFirst t c (Limit what) = IsFirst (IsAboveLimit t c) limit_kinds what

@@ -27,7 +27,7 @@ pub fn what_breaks_a_rule_is_refused_by_it_or_earlier()
         → IsBrokenBy (rule_number r) (first_broken t c) }
 {}
 
-/// What a refusal names is the first in the document that breaks its rule; of limits and references this says nothing.
+/// What a refusal names is the first in the document that breaks its rule.
 pub fn what_is_named_comes_first()
     ensures { (t : Topology) (c : Config) (r : Refusal) → first_broken t c ≡ Some r → NamesFirst t c r }
 {}
