@@ -18,4 +18,5 @@ pub record StandsAgain (services : List Service) (name : List ℕ) : Type 0 wher
 
 -- the fault of a chain that has a service twice names that chain, and the service where it stands again
 abbrev pub TwiceNamesTheService : Type 0
-TwiceNamesTheService = (c : Config) (name chain service : List ℕ) → expansion_of c name ≡ Err (Twice chain service) → (chain ≡ name) × StandsAgain (expansion c name) service
+TwiceNamesTheService = (c : Config) (name chain service : List ℕ) → expansion_of c name ≡ Err (Twice chain service)
+    → (chain ≡ name) × StandsAgain (expansion c name) service

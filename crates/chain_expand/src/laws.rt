@@ -19,7 +19,8 @@ pub fn expands_by_hops()
 
 /// Hops expand to one list of services only.
 pub fn expands_to_one()
-    ensures { (c : Configuration) (hops : List (List ℕ)) (xs ys : List Instance) → Expands c hops xs → Expands c hops ys → xs ≡ ys }
+    ensures { (c : Configuration) (hops : List (List ℕ)) (xs ys : List Instance) → Expands c hops xs
+        → Expands c hops ys → xs ≡ ys }
 {}
 
 /// A chain has its numbers exactly where no chain on the way loops, it has at most 15 services, and none of them has

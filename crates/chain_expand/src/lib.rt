@@ -2,6 +2,7 @@
 #![tactic(auto)]
 
 mod append;
+mod bounds;
 mod expansion;
 mod fault;
 mod found;
@@ -13,6 +14,7 @@ mod numbers;
 #[cfg(test)]
 mod tests;
 
+pub use bounds::{MOST_CHAINS, MOST_SERVICES};
 pub use expansion::{expand, expand_straight};
 pub use fault::ChainFault;
 pub use laws::{

@@ -12,3 +12,4 @@ pub mod Nested
 pub mod OneHome
 pub mod Validity
 pub mod Edited
+pub mod EditLaws

@@ -6,3 +6,4 @@ pub mod Twice
 pub mod Texts
 pub mod Sentences
 pub mod Edits
+pub mod EditLaws

@@ -3,6 +3,7 @@
 
 mod asking;
 mod chains;
+pub mod edit_laws;
 mod edits;
 mod finding;
 mod ids;
@@ -26,5 +27,7 @@ pub use ports::holds_address;
 pub use refusal::{CheckRefusal, IdKind, LimitKind, Refusal};
 pub use valid::{Valid, check};
 
+#[cfg(test)]
+mod edit_tests;
 #[cfg(test)]
 mod tests;

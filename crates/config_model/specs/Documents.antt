@@ -1,6 +1,7 @@
 -- The document of each value: an object with each member under its own name, in the order of the names.
 use Rattle.std.specs.Prelude.{ℕ, List, [], ◌∷◌, codes}
-use Rattle.serde_json.specs.Data.{Data, number, string, array, object, unsigned, Items, no_items, item, Members, no_members, member}
+use Rattle.serde_json.specs.Data.{Data, number, string, array, object, unsigned, Items, no_items, item, Members}
+use Rattle.serde_json.specs.Data.{no_members, member}
 use Rattle.ov_types.specs.Prefix.{Block}
 use Rattle.ov_types.specs.Texts.{address_text, prefix_text}
 use Rattle.ov_types.specs.declared.packet.Packet.{Packet}
@@ -41,7 +42,8 @@ abbrev pub prefix_document : Block → Data
 prefix_document b = string (prefix_text b)
 
 abbrev pub controller_document : NodeId → Data
-controller_document n = object (member (codes "address") (string (address_text n.address.0)) (member (codes "name") (string n.name) no_members))
+controller_document n = object (member (codes "address") (string (address_text n.address.0))
+    (member (codes "name") (string n.name) no_members))
 
 abbrev pub node_document : Node → Data
 node_document n = object (member (codes "address") (string (address_text n.address.0))
@@ -94,7 +96,8 @@ rule_members_with r after = member (codes "destination") (end_document r.destina
 abbrev pub rule_members_for : Rule → Action → Members
 rule_members_for r Pass = member (codes "action") (string (codes "pass")) (rule_members_with r no_members)
 rule_members_for r Deny = member (codes "action") (string (codes "deny")) (rule_members_with r no_members)
-rule_members_for r (Through chain use_no) = member (codes "action") (string (codes "chain")) (member (codes "chain") (string chain)
+rule_members_for r (Through chain use_no) = member (codes "action") (string (codes "chain"))
+    (member (codes "chain") (string chain)
     (rule_members_with r (member (codes "use") (number_document use_no) no_members)))
 
 abbrev pub rule_document : Rule → Data
@@ -111,7 +114,8 @@ service_document s = object (member (codes "id") (number_document s.id.0)
     (member (codes "node") (string s.node) no_members)))
 
 abbrev pub chain_document : Chain → Data
-chain_document c = object (member (codes "hops") (list_document string c.hops) (member (codes "name") (string c.name) no_members))
+chain_document c = object (member (codes "hops") (list_document string c.hops)
+    (member (codes "name") (string c.name) no_members))
 
 abbrev pub config_document : Config → Data
 config_document c = object (member (codes "chains") (list_document chain_document c.chains)
@@ -128,7 +132,8 @@ packet_document p = object (member (codes "dport") (number_document p.tuple.dpor
     (member (codes "to") (string (address_text p.destination.0)) no_members)))))
 
 abbrev pub compile_document : CompileInput → Data
-compile_document i = object (member (codes "configuration") (config_document i.config) (member (codes "topology") (topology_document i.topology) no_members))
+compile_document i = object (member (codes "configuration") (config_document i.config)
+    (member (codes "topology") (topology_document i.topology) no_members))
 
 abbrev pub reach_document : ReachInput → Data
 reach_document r = object (member (codes "configuration") (config_document r.input.config)

@@ -10,7 +10,9 @@ use Rattle.config_model.specs.declared.edit.ObjectKind.TheVariants as Kinds
 use Rattle.config_model.specs.declared.event.Event.{Event}
 use Rattle.config_model.specs.declared.event.Event.TheVariants as Events
 use Rattle.config_model.specs.declared.event.RunInput.{RunInput}
-use Rattle.config_model.specs.Documents.{list_document, number_document, topology_document, network_document, port_document, policy_document, service_document, chain_document, config_document, packet_document}
+use Rattle.config_model.specs.Documents.{list_document, number_document, topology_document, network_document}
+use Rattle.config_model.specs.Documents.{port_document, policy_document, service_document, chain_document}
+use Rattle.config_model.specs.Documents.{config_document, packet_document}
 
 -- an object with one member
 abbrev pub one_document : List ℕ → Data → Data

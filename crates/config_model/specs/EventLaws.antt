@@ -46,19 +46,23 @@ EditHasJust = (path : List ℕ) (d : Data) (e : Edit) → edit_at path d ≡ Ok 
 
 -- what reads as an event is the text of its word, or an object with just the member of its word
 abbrev pub EventHasJust : Type 0
-EventHasJust = (path : List ℕ) (d : Data) (e : Event) → event_at path d ≡ Ok e → (d ≡ string (event_word e)) ⊎ HasJust (event_word e ∷ []) [] d
+EventHasJust = (path : List ℕ) (d : Data) (e : Event) → event_at path d ≡ Ok e
+    → (d ≡ string (event_word e)) ⊎ HasJust (event_word e ∷ []) [] d
 
 abbrev pub RunHasJust : Type 0
 RunHasJust = ReadHasJust run_at (codes "topology" ∷ codes "configuration" ∷ codes "events" ∷ []) []
 
 -- an object with no member, or with more than one, is out of range, whatever its members are
 abbrev pub NotOneIsRange : {A : Type 0} → Reads A → Type 0
-NotOneIsRange reads = (path : List ℕ) (d : Data) (ms : Members) → as_object d ≡ Some ms → (members_len ms == 1) ≡ false → reads path d ≡ Err (fault_at path Range)
+NotOneIsRange reads = (path : List ℕ) (d : Data) (ms : Members) → as_object d ≡ Some ms
+    → (members_len ms == 1) ≡ false → reads path d ≡ Err (fault_at path Range)
 
 -- one member of another name than these is unknown, at its own path
 abbrev pub OtherIsUnknown : {A : Type 0} → Reads A → List (List ℕ) → Type 0
-OtherIsUnknown reads words = (path word : List ℕ) (d : Data) → is_among words word ≡ false → reads path (one_document word d) ≡ Err (fault_at (member_path path word) Unknown)
+OtherIsUnknown reads words = (path word : List ℕ) (d : Data) → is_among words word ≡ false
+    → reads path (one_document word d) ≡ Err (fault_at (member_path path word) Unknown)
 
 -- what is no object, and for an event no text either, is of another kind
 abbrev pub NoObjectIsKind : {A : Type 0} → Reads A → Type 0
-NoObjectIsKind reads = (path : List ℕ) (d : Data) → as_object d ≡ None → as_str d ≡ None → reads path d ≡ Err (fault_at path Kind)
+NoObjectIsKind reads = (path : List ℕ) (d : Data) → as_object d ≡ None → as_str d ≡ None
+    → reads path d ≡ Err (fault_at path Kind)

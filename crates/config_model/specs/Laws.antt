@@ -1,5 +1,6 @@
 -- What is said of the written form.
-use Rattle.std.specs.Prelude.{◌≡◌, ◌↔◌, ℕ, ◌<◌, ◌^◌, ◌∷◌, [], ◌++◌, ◌&&◌, List, Bool, false, IsTrue, nat_lt, ℤ, Float, is_some, nat_eq, codes, Some, None, Ok, Err}
+use Rattle.std.specs.Prelude.{◌≡◌, ◌↔◌, ℕ, ◌<◌, ◌^◌, ◌∷◌, [], ◌++◌, ◌&&◌, List, Bool, false, IsTrue, nat_lt, ℤ, Float}
+use Rattle.std.specs.Prelude.{is_some, nat_eq, codes, Some, None, Ok, Err}
 use Rattle.std.specs.List.{list_any, list_all}
 use Rattle.std.specs.Cmp.Lexicographic.{pointwise}
 use Rattle.serde_json.specs.Data.{Num, unsigned, negative, float, Data, string, Items, Members, no_members, member}
@@ -43,7 +44,8 @@ pub record HasJust (required optional : List (List ℕ)) (d : Data) : Type 0 whe
 
 -- what is read so has just these members
 abbrev pub ReadHasJust : {A : Type 0} → Reads A → List (List ℕ) → List (List ℕ) → Type 0
-ReadHasJust {A} reads required optional = (path : List ℕ) (d : Data) (x : A) → reads path d ≡ Ok x → HasJust required optional d
+ReadHasJust {A} reads required optional = (path : List ℕ) (d : Data) (x : A) → reads path d ≡ Ok x
+    → HasJust required optional d
 
 abbrev pub ControllerHasJust : Type 0
 ControllerHasJust = ReadHasJust controller_at (codes "name" ∷ codes "address" ∷ []) []
@@ -65,7 +67,8 @@ PolicyHasJust = ReadHasJust policy_at (codes "name" ∷ codes "sequence" ∷ cod
 
 -- a rule has `chain` and `use` just where its action is `chain`
 abbrev pub RuleHasJust : Type 0
-RuleHasJust = (path : List ℕ) (d : Data) (rule : Rule) → rule_at path d ≡ Ok rule → HasJust (members_with rule.action) [] d
+RuleHasJust = (path : List ℕ) (d : Data) (rule : Rule) → rule_at path d ≡ Ok rule
+    → HasJust (members_with rule.action) [] d
 
 abbrev pub ServiceHasJust : Type 0
 ServiceHasJust = ReadHasJust service_at (codes "name" ∷ codes "id" ∷ codes "node" ∷ []) []
@@ -74,10 +77,12 @@ abbrev pub ChainHasJust : Type 0
 ChainHasJust = ReadHasJust chain_at (codes "name" ∷ codes "hops" ∷ []) []
 
 abbrev pub ConfigHasJust : Type 0
-ConfigHasJust = ReadHasJust config_at [] (codes "networks" ∷ codes "ports" ∷ codes "policies" ∷ codes "services" ∷ codes "chains" ∷ [])
+ConfigHasJust = ReadHasJust config_at []
+    (codes "networks" ∷ codes "ports" ∷ codes "policies" ∷ codes "services" ∷ codes "chains" ∷ [])
 
 abbrev pub PacketHasJust : Type 0
-PacketHasJust = ReadHasJust packet_at (codes "port" ∷ codes "to" ∷ codes "protocol" ∷ codes "sport" ∷ codes "dport" ∷ []) []
+PacketHasJust = ReadHasJust packet_at
+    (codes "port" ∷ codes "to" ∷ codes "protocol" ∷ codes "sport" ∷ codes "dport" ∷ []) []
 
 abbrev pub CompileHasJust : Type 0
 CompileHasJust = ReadHasJust compile_at (codes "topology" ∷ codes "configuration" ∷ []) []
@@ -91,7 +96,8 @@ AddressHasOneText = (text : List ℕ) (n : ℕ) → (address_of text ≡ Some n)
 
 -- each prefix has one text, which reads as it, and no other text does
 abbrev pub PrefixHasOneText : Type 0
-PrefixHasOneText = (text : List ℕ) (b : Block) → (block_of text ≡ Some b) ↔ ((b.addr < 2 ^ 32) × IsTrue (is_prefix b.addr b.len) × (text ≡ prefix_text b))
+PrefixHasOneText = (text : List ℕ) (b : Block) → (block_of text ≡ Some b)
+    ↔ ((b.addr < 2 ^ 32) × IsTrue (is_prefix b.addr b.len) × (text ≡ prefix_text b))
 
 -- each name is its own text
 abbrev pub NameIsItsText : Type 0
@@ -99,7 +105,8 @@ NameIsItsText = (text name : List ℕ) → (name_of text ≡ Some name) ↔ (IsT
 
 -- where this member of an object is absent, the fault is that it is missing, at its path
 abbrev pub FirstIsMissed : {A : Type 0} → Reads A → List ℕ → Type 0
-FirstIsMissed reads name = (path : List ℕ) (d : Data) (members : Members) → as_object d ≡ Some members → get name d ≡ None → reads path d ≡ Err (record { path = member_path path name; kind = Missing })
+FirstIsMissed reads name = (path : List ℕ) (d : Data) (members : Members) → as_object d ≡ Some members
+    → get name d ≡ None → reads path d ≡ Err (record { path = member_path path name; kind = Missing })
 
 -- each value of this form has a document, which reads as it wherever it stands
 abbrev pub IsRead : {A : Type 0} → Reads A → (A → Bool) → (A → Data) → Type 0
@@ -130,7 +137,8 @@ is_among texts text = list_any (λ x. pointwise nat_eq text x) texts
 
 -- another text than these is out of range, at its own path
 abbrev pub OtherTextIsRange : {A : Type 0} → Reads A → (List ℕ → Bool) → Type 0
-OtherTextIsRange reads is_one = (path text : List ℕ) → is_one text ≡ false → reads path (string text) ≡ Err (fault_at path Range)
+OtherTextIsRange reads is_one = (path text : List ℕ) → is_one text ≡ false
+    → reads path (string text) ≡ Err (fault_at path Range)
 
 -- what is no text is of another kind, at its own path
 abbrev pub OtherValueIsKind : {A : Type 0} → Reads A → Type 0
@@ -144,7 +152,8 @@ OtherActionIsRange = (path text : List ℕ) (d : Data) → get (codes "action") 
 
 -- a whole number outside its bounds is out of range, as one below 0 is
 abbrev pub OtherNumberIsRange : Type 0
-OtherNumberIsRange = (low high : ℕ) (path : List ℕ) (d : Data) (n : ℕ) → as_number d ≡ Some (unsigned n) → is_from_to low high n ≡ false
+OtherNumberIsRange = (low high : ℕ) (path : List ℕ) (d : Data) (n : ℕ) → as_number d ≡ Some (unsigned n)
+    → is_from_to low high n ≡ false
     → whole_at low high path d ≡ Err (fault_at path Range)
 
 abbrev pub NegativeIsRange : Type 0
@@ -157,11 +166,14 @@ FractionIsKind = (low high : ℕ) (path : List ℕ) (d : Data) (x : Float) → a
     → whole_at low high path d ≡ Err (fault_at path Kind)
 
 abbrev pub NoNumberIsKind : Type 0
-NoNumberIsKind = (low high : ℕ) (path : List ℕ) (d : Data) → as_number d ≡ None → whole_at low high path d ≡ Err (fault_at path Kind)
+NoNumberIsKind = (low high : ℕ) (path : List ℕ) (d : Data) → as_number d ≡ None
+    → whole_at low high path d ≡ Err (fault_at path Kind)
 
--- what is no list is of another kind, and a list of a number of items that is not allowed is out of range, whatever its items are
+-- what is no list is of another kind, and a list of a number of items that is not allowed is out of range, whatever its
+-- items are
 abbrev pub NoListIsKind : {A : Type 0} → Reads A → Type 0
-NoListIsKind {A} reads = (count : Count) (path : List ℕ) (d : Data) → as_array d ≡ None → all_at reads count path d ≡ Err (fault_at path Kind)
+NoListIsKind {A} reads = (count : Count) (path : List ℕ) (d : Data) → as_array d ≡ None
+    → all_at reads count path d ≡ Err (fault_at path Kind)
 
 abbrev pub OtherCountIsRange : {A : Type 0} → Reads A → Type 0
 OtherCountIsRange {A} reads = (count : Count) (path : List ℕ) (d : Data) (items : Items) → as_array d ≡ Some items

@@ -5,7 +5,8 @@ ghost use Rattle.serde_json.specs.View.{view};
 ghost use Rattle.ov_types.specs.Name.{is_name};
 ghost use Rattle.config_model.specs.Paths.{place_text};
 ghost use Rattle.config_model.specs.Faults.{Gives, Fault};
-ghost use Rattle.config_model.specs.Edit.{kind_named, kind_at, object_of_kind_at, put_at, delete_at, edit_at, has_object_form, has_edit_form};
+ghost use Rattle.config_model.specs.Edit.{kind_named, kind_at, object_of_kind_at, put_at, delete_at, edit_at};
+ghost use Rattle.config_model.specs.Edit.{has_object_form, has_edit_form};
 
 use crate::config::{Chain, Network, Policy, Port, Service};
 use crate::edit::{Edit, Object, ObjectKind};
@@ -30,8 +31,8 @@ fn kind_named(word: &str) -> Option<ObjectKind>
 }
 
 /// The kind that a member's name is.
-fn kind_of(alloc: Global, place: Place<'_>, word: &str) -> Result<ObjectKind, ReadRefusal>
-    ensures { Gives (λ x. x) result (kind_at (place_text place.entry) word.now) }
+fn kind_of(alloc: Global, place: &Place<'_>, word: &str) -> Result<ObjectKind, ReadRefusal>
+    ensures { Gives (λ x. x) result (kind_at (place_text place.now) word.now) }
 {
     match kind_named(word) {
         Some(kind) => Ok(kind),
@@ -42,11 +43,11 @@ fn kind_of(alloc: Global, place: Place<'_>, word: &str) -> Result<ObjectKind, Re
 #[tactic(auto, unfolding(crate::specs::Edit::object_of_kind_at))]
 fn object_of_kind(
     alloc: Global,
-    place: Place<'_>,
+    place: &Place<'_>,
     kind: ObjectKind,
     value: &Value,
 ) -> Result<Object, ReadRefusal>
-    ensures reads { Gives (λ x. x) result (object_of_kind_at kind (place_text place.entry) (view value.now)) }
+    ensures reads { Gives (λ x. x) result (object_of_kind_at kind (place_text place.now) (view value.now)) }
     ensures form { IfOk result (λ x. IsTrue (has_object_form x)) }
 {
     match kind {
@@ -59,28 +60,26 @@ fn object_of_kind(
 }
 
 #[tactic(auto, unfolding(crate::specs::Edit::put_at, crate::specs::Edit::has_edit_form))]
-fn put_of(alloc: Global, place: Place<'_>, value: &Value) -> Result<Edit, ReadRefusal>
-    ensures reads { Gives (λ x. x) result (put_at (place_text place.entry) (view value.now)) }
+fn put_of(alloc: Global, place: &Place<'_>, value: &Value) -> Result<Edit, ReadRefusal>
+    ensures reads { Gives (λ x. x) result (put_at (place_text place.now) (view value.now)) }
     ensures form { IfOk result (λ x. IsTrue (has_edit_form x)) }
 {
     let (word, described) = one_member_of(alloc, place, value)?;
-    let path = place.text(alloc)?;
-    let place = Place::Member(path.as_str(), word);
-    let kind = kind_of(alloc, place, word)?;
-    let object = object_of_kind(alloc, place, kind, described)?;
+    let member = Place::Member(place, word);
+    let kind = kind_of(alloc, &member, word)?;
+    let object = object_of_kind(alloc, &member, kind, described)?;
     Ok(Edit::Put(object))
 }
 
 #[tactic(auto, unfolding(crate::specs::Edit::delete_at, crate::specs::Edit::has_edit_form))]
-fn delete_of(alloc: Global, place: Place<'_>, value: &Value) -> Result<Edit, ReadRefusal>
-    ensures reads { Gives (λ x. x) result (delete_at (place_text place.entry) (view value.now)) }
+fn delete_of(alloc: Global, place: &Place<'_>, value: &Value) -> Result<Edit, ReadRefusal>
+    ensures reads { Gives (λ x. x) result (delete_at (place_text place.now) (view value.now)) }
     ensures form { IfOk result (λ x. IsTrue (has_edit_form x)) }
 {
     let (word, named) = one_member_of(alloc, place, value)?;
-    let path = place.text(alloc)?;
-    let place = Place::Member(path.as_str(), word);
-    let kind = kind_of(alloc, place, word)?;
-    let name = Name::read(alloc, place, named)?;
+    let member = Place::Member(place, word);
+    let kind = kind_of(alloc, &member, word)?;
+    let name = Name::read(alloc, &member, named)?;
     Ok(Edit::Delete(kind, name))
 }
 
@@ -90,14 +89,13 @@ impl FromDocument for Edit {
     ghost has_form = { has_edit_form };
 
     #[tactic(auto, unfolding(crate::specs::Edit::edit_at))]
-    fn read(alloc: Global, place: Place<'_>, value: &Value) -> Result<Self, ReadRefusal> {
+    fn read(alloc: Global, place: &Place<'_>, value: &Value) -> Result<Self, ReadRefusal> {
         let (word, changed) = one_member_of(alloc, place, value)?;
-        let path = place.text(alloc)?;
-        let place = Place::Member(path.as_str(), word);
+        let member = Place::Member(place, word);
         match word {
-            "put" => put_of(alloc, place, changed),
-            "delete" => delete_of(alloc, place, changed),
-            _ => Err(place.fault(alloc, DocKind::Unknown)),
+            "put" => put_of(alloc, &member, changed),
+            "delete" => delete_of(alloc, &member, changed),
+            _ => Err(member.fault(alloc, DocKind::Unknown)),
         }
     }
 }
@@ -107,5 +105,5 @@ pub fn read_edit(alloc: Global, value: &Value) -> Result<Edit, ReadRefusal>
     ensures reads { Gives (λ x. x) result (edit_at [] (view value.now)) }
     ensures form { IfOk result (λ x. IsTrue (has_edit_form x)) }
 {
-    Edit::read(alloc, Place::At(""), value)
+    Edit::read(alloc, &Place::Whole, value)
 }

@@ -3,7 +3,8 @@ ghost use Rattle.std.specs.Prelude.{codes, ◌∷◌, []};
 ghost use Rattle.config_model.specs.Edit.{put_at, delete_at, edit_at};
 ghost use Rattle.config_model.specs.Event.{event_at, run_at};
 ghost use Rattle.config_model.specs.EventDocuments.{edit_document, event_document, run_document};
-ghost use Rattle.config_model.specs.EventLaws.{edit_form, event_form, run_form, EditHasJust, EventHasJust, RunHasJust, NotOneIsRange, OtherIsUnknown, NoObjectIsKind};
+ghost use Rattle.config_model.specs.EventLaws.{edit_form, event_form, run_form, EditHasJust, EventHasJust, RunHasJust};
+ghost use Rattle.config_model.specs.EventLaws.{NotOneIsRange, OtherIsUnknown, NoObjectIsKind};
 ghost use Rattle.config_model.specs.Laws.{IsRead, FirstIsMissed, OtherTextIsRange, is_among};
 
 /// Each edit and event, and what `run` takes, if of the written form, has a document, which reads as it.
@@ -31,10 +32,13 @@ pub fn objects_have_one_member()
 
 /// One member is unknown where its name is none of those that are told apart.
 pub fn other_words_are_unknown()
-    ensures event { OtherIsUnknown event_at (codes "edit" ∷ codes "deliver" ∷ codes "lose" ∷ codes "connect" ∷ codes "restart" ∷ codes "show" ∷ codes "trace" ∷ []) }
+    ensures event { OtherIsUnknown event_at
+        (codes "edit" ∷ codes "deliver" ∷ codes "lose" ∷ codes "connect" ∷ codes "restart" ∷ codes "show" ∷ codes "trace" ∷ []) }
     ensures edit { OtherIsUnknown edit_at (codes "put" ∷ codes "delete" ∷ []) }
-    ensures put { OtherIsUnknown put_at (codes "network" ∷ codes "port" ∷ codes "policy" ∷ codes "service" ∷ codes "chain" ∷ []) }
-    ensures delete { OtherIsUnknown delete_at (codes "network" ∷ codes "port" ∷ codes "policy" ∷ codes "service" ∷ codes "chain" ∷ []) }
+    ensures put { OtherIsUnknown put_at
+        (codes "network" ∷ codes "port" ∷ codes "policy" ∷ codes "service" ∷ codes "chain" ∷ []) }
+    ensures delete { OtherIsUnknown delete_at
+        (codes "network" ∷ codes "port" ∷ codes "policy" ∷ codes "service" ∷ codes "chain" ∷ []) }
 {}
 
 /// Another text than an event's is out of range; what is neither text nor object is of another kind.

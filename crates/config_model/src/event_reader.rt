@@ -7,7 +7,8 @@ ghost use Rattle.ov_types.specs.Name.{is_name};
 ghost use Rattle.config_model.specs.Paths.{place_text};
 ghost use Rattle.config_model.specs.Faults.{Gives, Fault};
 ghost use Rattle.config_model.specs.Form.{has_topology_form, has_config_form};
-ghost use Rattle.config_model.specs.Event.{two_names_at, three_of, three_at, deliver_at, event_from, event_named, event_of_text, event_at, events_at, run_at, has_event_form};
+ghost use Rattle.config_model.specs.Event.{two_names_at, three_of, three_at, deliver_at, event_from, event_named};
+ghost use Rattle.config_model.specs.Event.{event_of_text, event_at, events_at, run_at, has_event_form};
 
 use crate::config::Config;
 use crate::edit::Edit;
@@ -30,10 +31,10 @@ const MOST_MESSAGES: u64 = 1_000_000;
 #[tactic(auto, unfolding(crate::specs::Event::two_names_at))]
 fn two_names_of(
     alloc: Global,
-    place: Place<'_>,
+    place: &Place<'_>,
     value: &Value,
 ) -> Result<(Name, Name), ReadRefusal>
-    ensures reads { Gives (λ p. (p.0, p.1)) result (two_names_at (place_text place.entry) (view value.now)) }
+    ensures reads { Gives (λ p. (p.0, p.1)) result (two_names_at (place_text place.now) (view value.now)) }
     ensures form { IfOk result (λ p. IsTrue (is_name p.0 && is_name p.1)) }
 {
     let names = read_list::<Name>(alloc, place, Count::Two, value)?;
@@ -60,10 +61,11 @@ fn three_of(items: &[Value]) -> Option<(&Value, &Value, &Value)>
 #[tactic(auto, unfolding(crate::specs::Event::three_at))]
 fn three_items_of<'v>(
     alloc: Global,
-    place: Place<'_>,
+    place: &Place<'_>,
     value: &'v Value,
 ) -> Result<(&'v Value, &'v Value, &'v Value), ReadRefusal>
-    ensures { Gives (λ p. (view p.0.now, view p.1.now, view p.2.now)) result (three_at (place_text place.entry) (view value.now)) }
+    ensures { Gives (λ p. (view p.0.now, view p.1.now, view p.2.now)) result
+        (three_at (place_text place.now) (view value.now)) }
 {
     match value.as_array() {
         None => Err(place.fault(alloc, DocKind::Kind)),
@@ -76,16 +78,14 @@ fn three_items_of<'v>(
 
 /// A delivery: from, to, and a number of messages.
 #[tactic(auto, unfolding(crate::specs::Event::deliver_at, crate::specs::Event::has_event_form))]
-fn deliver_of(alloc: Global, place: Place<'_>, value: &Value) -> Result<Event, ReadRefusal>
-    ensures reads { Gives (λ x. x) result (deliver_at (place_text place.entry) (view value.now)) }
+fn deliver_of(alloc: Global, place: &Place<'_>, value: &Value) -> Result<Event, ReadRefusal>
+    ensures reads { Gives (λ x. x) result (deliver_at (place_text place.now) (view value.now)) }
     ensures form { IfOk result (λ x. IsTrue (has_event_form x)) }
 {
     let (from, to, n) = three_items_of(alloc, place, value)?;
-    let path = place.text(alloc)?;
-    let path = path.as_str();
-    let from = Name::read(alloc, Place::Item(path, 0), from)?;
-    let to = Name::read(alloc, Place::Item(path, 1), to)?;
-    let n = whole_of(alloc, Place::Item(path, 2), 1, MOST_MESSAGES, n)?;
+    let from = Name::read(alloc, &Place::Item(place, 0), from)?;
+    let to = Name::read(alloc, &Place::Item(place, 1), to)?;
+    let n = whole_of(alloc, &Place::Item(place, 2), 1, MOST_MESSAGES, n)?;
     Ok(Event::Deliver {
         from,
         to,
@@ -97,11 +97,11 @@ fn deliver_of(alloc: Global, place: Place<'_>, value: &Value) -> Result<Event, R
 #[tactic(auto, unfolding(crate::specs::Event::event_from, crate::specs::Event::has_event_form))]
 fn event_from(
     alloc: Global,
-    place: Place<'_>,
+    place: &Place<'_>,
     word: &str,
     value: &Value,
 ) -> Result<Event, ReadRefusal>
-    ensures reads { Gives (λ x. x) result (event_from word.now (place_text place.entry) (view value.now)) }
+    ensures reads { Gives (λ x. x) result (event_from word.now (place_text place.now) (view value.now)) }
     ensures form { IfOk result (λ x. IsTrue (has_event_form x)) }
 {
     match word {
@@ -140,14 +140,14 @@ fn event_named(text: &str) -> Option<Event>
 
 /// The event that a text is.
 #[tactic(auto, unfolding(crate::specs::Event::has_event_form))]
-fn event_of_text(alloc: Global, place: Place<'_>, text: &str) -> Result<Event, ReadRefusal>
-    ensures reads { Gives (λ x. x) result (event_of_text (place_text place.entry) text.now) }
+fn event_of_text(alloc: Global, place: &Place<'_>, text: &str) -> Result<Event, ReadRefusal>
+    ensures reads { Gives (λ x. x) result (event_of_text (place_text place.now) text.now) }
     ensures form { IfOk result (λ x. IsTrue (has_event_form x)) }
 {
-    match event_named(text) {
-        Some(event) => Ok(event),
-        None => Err(place.fault(alloc, DocKind::Range)),
-    }
+    let Some(event) = event_named(text) else {
+        return Err(place.fault(alloc, DocKind::Range));
+    };
+    Ok(event)
 }
 
 impl FromDocument for Event {
@@ -156,13 +156,12 @@ impl FromDocument for Event {
     ghost has_form = { has_event_form };
 
     #[tactic(auto, unfolding(crate::specs::Event::event_at))]
-    fn read(alloc: Global, place: Place<'_>, value: &Value) -> Result<Self, ReadRefusal> {
+    fn read(alloc: Global, place: &Place<'_>, value: &Value) -> Result<Self, ReadRefusal> {
         if let Some(text) = value.as_str() {
             return event_of_text(alloc, place, text);
         }
         let (word, described) = one_member_of(alloc, place, value)?;
-        let path = place.text(alloc)?;
-        event_from(alloc, Place::Member(path.as_str(), word), word, described)
+        event_from(alloc, &Place::Member(place, word), word, described)
     }
 }
 
@@ -171,24 +170,24 @@ pub fn read_events(alloc: Global, value: &Value) -> Result<Items<Event>, ReadRef
     ensures reads { Gives (λ xs. xs) result (events_at [] (view value.now)) }
     ensures form { IfOk result (λ xs. IsTrue (list_all has_event_form xs)) }
 {
-    read_list(alloc, Place::At(""), Count::AnyNumber, value)
+    read_list(alloc, &Place::Whole, Count::AnyNumber, value)
 }
 
 /// What `run` takes: an object with `topology`, `configuration` and `events`, a list.
 #[tactic(auto, unfolding(crate::specs::Event::run_at))]
-fn run_input_of(alloc: Global, path: &str, value: &Value) -> Result<RunInput, ReadRefusal>
-    ensures reads { Gives (λ r. r) result (run_at path.now (view value.now)) }
+fn run_input_of(alloc: Global, place: &Place<'_>, value: &Value) -> Result<RunInput, ReadRefusal>
+    ensures reads { Gives (λ r. r) result (run_at (place_text place.now) (view value.now)) }
     ensures topology_form { IfOk result (λ r. IsTrue (has_topology_form r.input.topology)) }
     ensures config_form { IfOk result (λ r. IsTrue (has_config_form r.input.config)) }
     ensures events_form { IfOk result (λ r. IsTrue (list_all has_event_form r.events)) }
 {
-    let members = object_of(alloc, Place::At(path), value)?;
-    let topology = read_member::<Topology>(alloc, path, "topology", value)?;
-    let config = read_member::<Config>(alloc, path, "configuration", value)?;
-    let events = list_member::<Event>(alloc, path, "events", Count::AnyNumber, value)?;
+    let members = object_of(alloc, place, value)?;
+    let topology = read_member::<Topology>(alloc, place, "topology", value)?;
+    let config = read_member::<Config>(alloc, place, "configuration", value)?;
+    let events = list_member::<Event>(alloc, place, "events", Count::AnyNumber, value)?;
     check_others(
         alloc,
-        path,
+        place,
         &["topology", "configuration", "events"],
         members,
     )?;
@@ -205,5 +204,5 @@ pub fn read_run(alloc: Global, value: &Value) -> Result<RunInput, ReadRefusal>
     ensures config_form { IfOk result (λ r. IsTrue (has_config_form r.input.config)) }
     ensures events_form { IfOk result (λ r. IsTrue (list_all has_event_form r.events)) }
 {
-    run_input_of(alloc, "", value)
+    run_input_of(alloc, &Place::Whole, value)
 }

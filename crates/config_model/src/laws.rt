@@ -1,13 +1,23 @@
 //! What is true of every document that is read, in the words of its subject.
-ghost use Rattle.config_model.specs.Laws.{ControllerHasJust, NodeHasJust, TopologyHasJust, NetworkHasJust, PortHasJust, PolicyHasJust, RuleHasJust, ServiceHasJust, ChainHasJust, ConfigHasJust, PacketHasJust, CompileHasJust, ReachHasJust, FirstIsMissed, AddressHasOneText, PrefixHasOneText, NameIsItsText};
+ghost use Rattle.config_model.specs.Laws.{ControllerHasJust, NodeHasJust, TopologyHasJust, NetworkHasJust, PortHasJust};
+ghost use Rattle.config_model.specs.Laws.{PolicyHasJust, RuleHasJust, ServiceHasJust, ChainHasJust, ConfigHasJust};
+ghost use Rattle.config_model.specs.Laws.{PacketHasJust, CompileHasJust, ReachHasJust, FirstIsMissed};
+ghost use Rattle.config_model.specs.Laws.{AddressHasOneText, PrefixHasOneText, NameIsItsText};
 ghost use Rattle.config_model.specs.Laws.{IsRead, network_form, config_form, compile_form, reach_form};
-ghost use Rattle.config_model.specs.Form.{has_controller_form, has_node_form, has_topology_form, has_port_form, has_policy_form, has_rule_form, has_service_form, has_chain_form, has_packet_form};
-ghost use Rattle.config_model.specs.Documents.{controller_document, node_document, topology_document, network_document, port_document, policy_document, rule_document, service_document, chain_document, config_document, packet_document, compile_document, reach_document};
+ghost use Rattle.config_model.specs.Form.{has_controller_form, has_node_form, has_topology_form, has_port_form};
+ghost use Rattle.config_model.specs.Form.{has_policy_form, has_rule_form, has_service_form, has_chain_form};
+ghost use Rattle.config_model.specs.Form.{has_packet_form};
+ghost use Rattle.config_model.specs.Documents.{controller_document, node_document, topology_document, network_document};
+ghost use Rattle.config_model.specs.Documents.{port_document, policy_document, rule_document, service_document};
+ghost use Rattle.config_model.specs.Documents.{chain_document, config_document, packet_document, compile_document};
+ghost use Rattle.config_model.specs.Documents.{reach_document};
 ghost use Rattle.std.specs.Prelude.{ℕ, codes, ◌∷◌, [], is_some};
 ghost use Rattle.ov_types.specs.Name.{is_name};
 ghost use Rattle.config_model.specs.Written.{address_of, block_of};
 ghost use Rattle.config_model.specs.Fields.{name_at, address_at, prefix_at};
-ghost use Rattle.config_model.specs.Laws.{is_among, OtherTextIsRange, OtherValueIsKind, OtherActionIsRange, OtherNumberIsRange, NegativeIsRange, FractionIsKind, NoNumberIsKind, NoListIsKind, OtherCountIsRange};
+ghost use Rattle.config_model.specs.Laws.{is_among, OtherTextIsRange, OtherValueIsKind, OtherActionIsRange};
+ghost use Rattle.config_model.specs.Laws.{OtherNumberIsRange, NegativeIsRange, FractionIsKind, NoNumberIsKind};
+ghost use Rattle.config_model.specs.Laws.{NoListIsKind, OtherCountIsRange};
 ghost use Rattle.config_model.specs.Topology.{controller_at, node_at, topology_at};
 ghost use Rattle.config_model.specs.Rule.{rule_at, direction_at, end_at, protocol_at};
 ghost use Rattle.config_model.specs.Config.{network_at, port_at, policy_at, service_at, chain_at, config_at};

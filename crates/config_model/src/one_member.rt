@@ -26,10 +26,10 @@ fn only_member<'v>(members: &'v Map<String, Value>) -> Option<(&'v str, &'v Valu
 #[tactic(auto, unfolding(crate::specs::OneMember::one_member_at))]
 pub(crate) fn one_member_of<'v>(
     alloc: Global,
-    place: Place<'_>,
+    place: &Place<'_>,
     value: &'v Value,
 ) -> Result<(&'v str, &'v Value), ReadRefusal>
-    ensures { Gives (λ m. (m.0.now, view m.1.now)) result (one_member_at (place_text place.entry) (view value.now)) }
+    ensures { Gives (λ m. (m.0.now, view m.1.now)) result (one_member_at (place_text place.now) (view value.now)) }
 {
     let members = object_of(alloc, place, value)?;
     match only_member(members) {

@@ -178,8 +178,8 @@ match_none_iff a b t r =
     let f = forwards_iff a b t r.rule in
     let g = mirrored_iff a b t r.rule in (
       λ h.
-          let no = untried r (matches_forwards a b t r.rule) (matches_mirrored a b t r.rule) f g h in
-          record { not_forwards = no.0; not_mirrored = no.1 },
+          let neither = untried r (matches_forwards a b t r.rule) (matches_mirrored a b t r.rule) f g h in
+          record { not_forwards = neither.0; not_mirrored = neither.1 },
       λ k. try_none r (matches_forwards a b t r.rule) (matches_mirrored a b t r.rule) f g k.not_forwards k.not_mirrored,
     )
 

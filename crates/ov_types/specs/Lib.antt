@@ -1,3 +1,4 @@
+pub mod Counts
 pub mod First
 pub mod Keys
 pub mod Name

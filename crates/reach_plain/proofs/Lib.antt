@@ -1,3 +1,5 @@
+pub mod Becoming
 pub mod Chains
-pub mod Delivery
+pub mod Found
 pub mod Kept
+pub mod Once

@@ -1,2 +1,2 @@
 pub mod Reachability
-pub mod Delivery
+pub mod Outcomes

@@ -1,5 +1,5 @@
 -- What becomes of a packet.
-use Rattle.std.specs.Prelude.{ℕ, ◌&&◌, ◌||◌, Bool, true, false, List, [], map, reverse, find, Option, Some, None}
+use Rattle.std.specs.Prelude.{ℕ, ◌==◌, ◌&&◌, ◌||◌, Bool, true, false, List, [], map, reverse, find, Option, Some, None}
 use Rattle.std.specs.Prelude.{if◌then◌else◌}
 use Rattle.ov_types.specs.declared.numbers.ServiceNo.{ServiceNo}
 use Rattle.ov_types.specs.declared.packet.Outcome.{Outcome}
@@ -15,7 +15,7 @@ use Rattle.config_model.specs.declared.config.Port.{Port}
 use Rattle.chain_expand.specs.Expansion.{expansion}
 use Rattle.ov_types.specs.First.{same_name}
 use Rattle.network_rules.specs.Related.{are_related}
-use Rattle.config_check.specs.Finding.{network_named, port_at, port_numbered}
+use Rattle.config_check.specs.Finding.{network_named, port_numbered, port_at}
 use Rattle.config_check.specs.Rules.{holds_address}
 use Rattle.network_rules.specs.Matching.{deciding}
 use Rattle.network_rules.specs.declared.matching.Match.{Match}

@@ -2,7 +2,6 @@
 ghost use Rattle.std.specs.Prelude.{◌≡◌, ◌&&◌, ◌||◌, option_copied};
 ghost use Rattle.ov_types.specs.First.{same_name};
 ghost use Rattle.network_rules.specs.Related.{are_related};
-ghost use Rattle.config_check.specs.Finding.{network_named, port_at, port_numbered};
 ghost use Rattle.config_check.specs.Rules.{holds_address};
 ghost use Rattle.reach_plain.specs.Reachability.{network_towards, arrival_at, outcome_by, reachability};
 

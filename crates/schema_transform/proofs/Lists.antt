@@ -1,10 +1,10 @@
 -- Items of one list, and what a function gives of them.
-use Rattle.std.proofs.Common.{◌≡◌, ◌||◌, Bool, true, false, IsTrue, List, [], ◌∷◌, ◌++◌, map, flat_map, Option, Some, None, length, get_or, refl, sym, subst, arith}
-use Rattle.std.specs.List.{All, AllPairs, filter_map, cons_option, list_any}
+use Rattle.std.proofs.Common.{◌≡◌, ◌⊎◌, inl, inr, ◌||◌, ℕ, Bool, true, false, cond, IsTrue, List, [], ◌∷◌, ◌++◌, map, flat_map, Option, Some, None, length, get_or, refl, sym, ap, ◌∙◌, subst, arith}
+use Rattle.std.specs.List.{All, AllPairs, Contains, filter_map, cons_option, list_any}
 use Rattle.std.proofs.lemmas.List.{get_or-map, length-map}
 use Rattle.std.proofs.lemmas.List.Elements.{All-append, All-cons, All-head, All-tail}
 use Rattle.std.proofs.lemmas.List.Kept.{AllPairs-cons}
-use Rattle.ov_types.proofs.FirstLemmas.{pairs_head, pairs_tail}
+use Rattle.ov_types.proofs.FirstLemmas.{contains_cases, contains_here, contains_later, pairs_head, pairs_tail}
 
 pub any_weaker : {A : Type 0} (p q : A → Bool) → ((x : A) → IsTrue (p x) → IsTrue (q x)) → (xs : List A) → IsTrue (list_any p xs) → IsTrue (list_any q xs)
 any_weaker p q weaker [] h = h
@@ -15,6 +15,29 @@ any_weaker p q weaker (x ∷ xs) h =
     ] refl h
 
 module _ {A B : Type 0} (f : A → Option B) where
+  -- what f gives of some item, where it gives something
+  pub given : (xs : List A) (u : B) → Contains (filter_map f xs) u → (x : A) × Contains xs x × (f x ≡ Some u)
+  given [] u h = absurd (omega (arith, h.1))
+  given (x ∷ xs) u h =
+      elim (f x) as (λ o. (o ≡ f x) → Contains (cons_option o (filter_map f xs)) u → (y : A) × Contains (x ∷ xs) y × (f y ≡ Some u)) [
+        | None ↦ λ e within. let g = given xs u within in (g.0, contains_later g.0 x xs g.1, g.2)
+        | Some v ↦ λ e within. elim (contains_cases v (filter_map f xs) u within) [
+          | inl same ↦ (x, contains_here x xs, sym e ∙ ap (λ (w : B). Some w) same)
+          | inr later ↦ let g = given xs u later in (g.0, contains_later g.0 x xs g.1, g.2)
+        ]
+      ] refl h
+
+  pub gives : (xs : List A) (x : A) (u : B) → Contains xs x → f x ≡ Some u → Contains (filter_map f xs) u
+  gives [] x u within is = absurd (omega (arith, within.1))
+  gives (y ∷ xs) x u within is =
+      elim (contains_cases y xs x within) [
+        | inl same ↦
+          subst (λ (o : Option B). Contains (cons_option o (filter_map f xs)) u) (sym (ap f same ∙ is)) (contains_here u (filter_map f xs))
+        | inr later ↦
+          let h = gives xs x u later is in
+          elim (f y) as (λ o. Contains (cons_option o (filter_map f xs)) u) [ None ↦ h | Some v ↦ contains_later u v (filter_map f xs) h ]
+      ]
+
   -- what f gives of all items, where it gives something
   pub all_given : (P : B → Type 0) (xs : List A) → All (λ x. (u : B) → f x ≡ Some u → P u) xs → All P (filter_map f xs)
   all_given P [] h = λ k d lt. absurd (omega arith)
@@ -71,3 +94,12 @@ pairs_of_map {A} f R (x ∷ xs) h =
     AllPairs-cons (λ (y z : A). R (f y) (f z)) x xs
     (λ k d lt. subst (λ y. R (f x) y) (get_or-map f xs k d (f d) lt) (pairs_head R (f x) (map f xs) h k (f d) (simp length-map lt)))
     (pairs_of_map f R xs (pairs_tail R (f x) (map f xs) h))
+
+pub flat_map_map : {A B C : Type 0} (f : B → List C) (g : A → B) (h : A → List C) (xs : List A) → All (λ x. f (g x) ≡ h x) xs
+    → flat_map f (map g xs) ≡ flat_map h xs
+flat_map_map f g h [] all = refl
+flat_map_map {A} f g h (x ∷ xs) all =
+    let S : A → Type 0 = λ y. f (g y) ≡ h y in
+    let first = All-head S x xs all in
+    let rest = flat_map_map f g h xs (All-tail S x xs all) in
+    λ i. first i ++ rest i

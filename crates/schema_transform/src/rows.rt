@@ -2,7 +2,7 @@
 ghost use Rattle.std.specs.Prelude.{◌≡◌, ◌≤◌, [], IfOk, OnOk, IsTrue, flat_map};
 ghost use Rattle.std.specs.List.{list_all};
 ghost use Rattle.config_model.specs.Form.{has_config_form, has_port_form};
-ghost use Rattle.config_check.specs.Finding.{network_named, node_named};
+ghost use Rattle.config_check.specs.Rules.{first_broken};
 ghost use Rattle.schema_transform.specs.Tables.{host_route, port_row, network_rows, with_rows, control_rows};
 
 use config_check::{network_named, node_named};
@@ -67,10 +67,9 @@ fn put_network_rows(
 }
 
 /// The rows of every network's instance, by their keys.
-#[tactic(auto, unfolding(crate::specs::Tables::control_rows))]
 fn rows_of_networks(alloc: Global, topology: &Topology, config: &Config) -> Result<Rows, NoMemory>
     requires { IsTrue (list_all has_port_form config.now.ports) }
-    ensures { IfOk result (λ m. m.entries ≡ control_rows topology.now config.now) }
+    ensures { IfOk result (λ m. m.entries ≡ with_rows [] (flat_map (network_rows topology.now config.now) config.now.networks)) }
 {
     let mut rows = BTreeMap::new(alloc);
     for network in config.networks.as_slice() {
@@ -88,13 +87,14 @@ fn entries_of(alloc: Global, rows: &Rows) -> Result<ControlRows, NoMemory>
 }
 
 /// The tables of every instance, which each control node has.
-#[tactic(auto, unfolding(config_model::specs::Form::has_config_form))]
+#[tactic(auto, using(crate::proofs::Joined::control_rows_are), unfolding(config_model::specs::Form::has_config_form))]
 pub(crate) fn rows_of_controls(
     alloc: Global,
     topology: &Topology,
     config: &Config,
 ) -> Result<ControlRows, NoMemory>
-    requires { IsTrue (has_config_form config.now) }
+    requires form { IsTrue (has_config_form config.now) }
+    requires valid { first_broken topology.now config.now ≡ None }
     ensures { IfOk result (λ list. list ≡ control_rows topology.now config.now) }
 {
     let rows = rows_of_networks(alloc, topology, config)?;
