@@ -6,7 +6,7 @@ ghost use Rattle.config_check.specs.Checked.{Checked, Refuses};
 
 use crate::chains::{broken_long, broken_loop, broken_twice};
 use crate::ids::broken_id;
-use crate::limits::{CHAINS, broken_limit};
+use crate::limits::broken_limit;
 use crate::names::broken_name;
 use crate::overlaps::broken_overlap;
 use crate::ports::{broken_outside, broken_taken};
@@ -14,6 +14,7 @@ use crate::references::broken_reference;
 use crate::refusal::{CheckRefusal, Refusal};
 use crate::subnets::{broken_nested, broken_reserved};
 use crate::uses::{broken_needs, broken_same};
+use chain_expand::MOST_CHAINS;
 use config_model::{Config, Topology};
 use network_rules::{NumberedRule, all_rules};
 use ov_types::NoMemory;
@@ -83,7 +84,7 @@ fn broken_use(rules: &[NumberedRule]) -> Option<Refusal>
 
 /// The first of the rules of chains that is broken.
 fn broken_chain(config: &Config) -> Option<Refusal>
-    requires { length config.now.chains ≤ CHAINS }
+    requires { length config.now.chains ≤ MOST_CHAINS }
     ensures { result ≡ broken_chain config.now }
 {
     if let Some(refusal) = broken_loop(config) {

@@ -1,5 +1,5 @@
 -- The first count that is above its limit, of all in the order in which they are tried.
-use Rattle.std.proofs.Common.{◌≡◌, ◌<◌, ◌≤◌, leb, ℕ, Bool, true, false, List, [], ◌∷◌, Option, Some, None, length, refl, sym, ap, ◌∙◌, arith}
+use Rattle.std.proofs.Common.{◌≡◌, ◌<◌, leb, ℕ, Bool, true, false, List, Option, Some, None, length, refl, sym, ap, ◌∙◌, arith}
 use Rattle.std.specs.List.{Any, list_all}
 use Rattle.std.proofs.lemmas.Bool.{leb-true, leb-false}
 use Rattle.config_model.specs.declared.config.Chain.{Chain}
@@ -12,7 +12,7 @@ use Rattle.config_check.specs.declared.refusal.LimitKind.{LimitKind}
 use Rattle.config_check.specs.declared.refusal.LimitKind.TheVariants as Counted
 use Rattle.config_check.specs.declared.refusal.Refusal.{Refusal}
 use Rattle.config_check.specs.declared.refusal.Refusal.TheVariants.{Limit}
-use Rattle.config_check.specs.Rules.{limit_unless, broken_count, broken_part, broken_limit}
+use Rattle.config_check.specs.Rules.{limit_unless, broken_count, broken_limit}
 use Rattle.config_check.proofs.Iffs.{list_all_true}
 use Rattle.refusal_laws.specs.Breaks.{IsAboveLimit}
 use Rattle.refusal_laws.specs.Named.{IsFirst, limit_kinds}

@@ -1,6 +1,6 @@
 -- What breaks a rule is refused by that rule, or by an earlier one.
 use Rattle.std.proofs.Common.{◌≡◌, ◌==◌, ◌||◌, ◌≤◌, ◌++◌, ℕ, Bool, true, false, cond, leb, List, [], ◌∷◌, Option, Some, None, option_map, is_none, IfSome, find, filter, length, map, refl, arith}
-use Rattle.std.specs.List.{All, list_any, list_all}
+use Rattle.std.specs.List.{list_any, list_all}
 use Rattle.ov_types.specs.Prefix.{Block}
 use Rattle.ov_types.specs.First.{same_name, ◌<|>◌, first_of, first_meeting}
 use Rattle.config_model.specs.declared.config.Action.{Action}
@@ -12,7 +12,6 @@ use Rattle.config_model.specs.declared.config.End.TheVariants as Ends
 use Rattle.config_model.specs.declared.config.Network.{Network}
 use Rattle.config_model.specs.declared.config.Port.{Port}
 use Rattle.config_model.specs.declared.config.Service.{Service}
-use Rattle.config_model.specs.declared.topology.Node.{Node}
 use Rattle.config_model.specs.declared.topology.Topology.{Topology}
 use Rattle.chain_expand.specs.Expansion.{loops, loop_of, expansion, same_number}
 use Rattle.config_check.specs.declared.refusal.IdKind.{IdKind}

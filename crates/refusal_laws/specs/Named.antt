@@ -12,7 +12,6 @@ use Rattle.config_model.specs.declared.config.Port.{Port}
 use Rattle.config_model.specs.declared.config.Service.{Service}
 use Rattle.config_model.specs.declared.topology.Node.{Node}
 use Rattle.config_model.specs.declared.topology.Topology.{Topology}
-use Rattle.ov_types.specs.Prefix.{Block}
 use Rattle.chain_expand.specs.Expansion.{expansion}
 use Rattle.chain_expand.specs.Leading.{Leads}
 use Rattle.config_check.specs.declared.refusal.IdKind.{IdKind}
