@@ -1,5 +1,5 @@
 -- The addresses of circuits are those from the first to the last of the reserved block.
-use Rattle.std.proofs.Common.{◌≡◌, ℕ, ◌↔◌, ◌≤◌, leb, ltb, true, IsTrue, arith}
+use Rattle.std.proofs.Common.{ℕ, ◌↔◌, ◌≤◌, leb, ltb, IsTrue, arith}
 use Rattle.std.proofs.lemmas.Bool.{and_parts, and_from, leb-true, ltb-true, le-leb, lt-ltb}
 use Rattle.ov_types.specs.Prefix.{contains}
 use Rattle.config_check.specs.Rules.{circuit_addresses}

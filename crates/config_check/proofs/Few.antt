@@ -68,3 +68,5 @@ few_rules t c h = (each_kept _ _ _ _ (parts_kept t c h)).rules_kept
 
 pub few_chains : (t : Topology) (c : Config) → broken_limit t c ≡ None → length c.chains ≤ 128
 few_chains t c h = leb-true (length c.chains) 128 (all_kept _ _ _ _ _ _ _ (counts_kept t c h)).chains_kept
+
+pub ruleset few = (few_rules, few_chains)

@@ -50,3 +50,9 @@ none_found {A} p (y ∷ ys) zero x lt at h =
     ap p at ∙ elim (p y) as (λ b. cond b (Some y) (find p ys) ≡ None → b ≡ false) [ true ↦ λ e. cc | false ↦ λ e. refl ] h
 none_found {A} p (y ∷ ys) (suc i) x lt at h =
     none_found p ys i x (omega arith) at (elim (p y) as (λ b. cond b (Some y) (find p ys) ≡ None → find p ys ≡ None) [ true ↦ λ e. cc | false ↦ λ e. e ] h)
+
+-- a step of a loop that asks each item, and of one that seeks an item
+
+pub ruleset asked = (none_here, some_here)
+
+pub ruleset sought = (found_here, not_found_here)

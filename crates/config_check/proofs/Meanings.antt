@@ -1,5 +1,5 @@
 -- What the tests of the rules mean.
-use Rattle.std.proofs.Common.{◌≡◌, ◌≢◌, ◌↔◌, ◌⊎◌, inl, inr, ◌||◌, ◌&&◌, ◌==◌, ℕ, Bool, true, false, not, cond, IsTrue, List, [], ◌∷◌, Option, Some, None, option_map, IfSome, filter, find, refl, sym, ap, ◌∙◌, arith}
+use Rattle.std.proofs.Common.{◌≡◌, ◌≢◌, ◌↔◌, ◌⊎◌, inl, inr, ◌||◌, ◌&&◌, ◌==◌, ℕ, Bool, true, false, not, cond, IsTrue, List, [], ◌∷◌, Option, Some, None, option_map, IfSome, filter, find, refl, sym, ap, arith}
 use Rattle.std.specs.Cmp.Lexicographic.{same_text, nat_list_eq_equiv}
 use Rattle.std.specs.List.{All, AllPairs, Any, Contains, list_any}
 use Rattle.std.specs.Option.{option_map_or}
@@ -165,7 +165,7 @@ none_overlaps (a ∷ bs) h =
       none_overlaps bs (pairs_tail R a bs h),
     )
 
-around_test : (c : Config) (n a : Network) → IsTrue (same_name a.name n.name || are_related c n a) ↔ IsAround c n a
+pub around_test : (c : Config) (n a : Network) → IsTrue (same_name a.name n.name || are_related c n a) ↔ IsAround c n a
 around_test c n a = or_iff (same_name a.name n.name) (are_related c n a) (same_name_iff a.name n.name) (λ h. h, λ h. h)
 
 pub around_iff : (c : Config) (n : Network)

@@ -1,5 +1,6 @@
 -- The fourteen rules of valid configurations, each by the first object that breaks it, in order.
-use Rattle.std.specs.Prelude.{ℕ, ◌==◌, ◌&&◌, ◌||◌, nat_le, nat_lt, nat_eq, Bool, true, false, not, List, [], ◌∷◌, ◌++◌, length, map, filter, find, Option, Some, None, option_map, is_none, if◌then◌else◌}
+use Rattle.std.specs.Prelude.{ℕ, ◌==◌, ◌&&◌, ◌||◌, nat_le, nat_lt, nat_eq, Bool, true, false, not, List, [], ◌∷◌}
+use Rattle.std.specs.Prelude.{◌++◌, length, map, filter, find, Option, Some, None, option_map, is_none, if◌then◌else◌}
 use Rattle.std.specs.List.{list_any, list_all, filter_map}
 use Rattle.std.specs.Option.{option_map_or}
 use Rattle.ov_types.specs.Prefix.{Block, contains, is_inside}
@@ -25,7 +26,11 @@ use Rattle.config_check.specs.declared.refusal.IdKind.TheVariants as Id
 use Rattle.config_check.specs.declared.refusal.LimitKind.{LimitKind}
 use Rattle.config_check.specs.declared.refusal.LimitKind.TheVariants as Counted
 use Rattle.config_check.specs.declared.refusal.Refusal.{Refusal}
-use Rattle.config_check.specs.declared.refusal.Refusal.TheVariants.{Limit, DuplicateName, DuplicateId, BadReference, SubnetReserved, SubnetNested, AddressOutside, AddressTaken, ChainNeedsNetworks, ChainSameNetwork, ChainLoop, ChainTooLong, ServiceTwice, SubnetOverlap}
+use Rattle.config_check.specs.declared.refusal.Refusal.TheVariants.{Limit, DuplicateName, DuplicateId, BadReference}
+use Rattle.config_check.specs.declared.refusal.Refusal.TheVariants.{SubnetReserved, SubnetNested, AddressOutside}
+use Rattle.config_check.specs.declared.refusal.Refusal.TheVariants.{AddressTaken, ChainNeedsNetworks}
+use Rattle.config_check.specs.declared.refusal.Refusal.TheVariants.{ChainSameNetwork, ChainLoop, ChainTooLong}
+use Rattle.config_check.specs.declared.refusal.Refusal.TheVariants.{ServiceTwice, SubnetOverlap}
 
 -- 1. No count is above its limit.
 
@@ -143,7 +148,8 @@ missing_in_port networks nodes p = missing networks p.network <|> missing nodes 
 
 abbrev pub missing_in_rule : List (List ℕ) → List (List ℕ) → NumberedRule → Option Refusal
 missing_in_rule networks chains r =
-    missing_end networks r.rule.source <|> (missing_end networks r.rule.destination <|> missing_chain chains r.rule.action)
+    missing_end networks r.rule.source
+    <|> (missing_end networks r.rule.destination <|> missing_chain chains r.rule.action)
 
 abbrev pub missing_in_service : List (List ℕ) → Service → Option Refusal
 missing_in_service nodes s = missing nodes s.node
@@ -251,7 +257,9 @@ broken_long c = option_map (λ d. ChainTooLong d.name) (find (is_too_long c) c.c
 -- 13. No expansion has a service twice.
 
 abbrev pub twice_in : Config → Chain → Option Refusal
-twice_in c d = if is_none (loop_of c d.name) then option_map (λ m. ServiceTwice d.name m.1.name) (first_meeting same_number (expansion c d.name)) else None
+twice_in c d =
+    if is_none (loop_of c d.name)
+    then option_map (λ m. ServiceTwice d.name m.1.name) (first_meeting same_number (expansion c d.name)) else None
 
 unfoldable pub broken_twice : Config → Option Refusal
 broken_twice c = first_of (twice_in c) c.chains

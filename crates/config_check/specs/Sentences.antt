@@ -12,7 +12,8 @@ use Rattle.config_model.specs.declared.config.Rule.{Rule}
 use Rattle.config_model.specs.declared.topology.Topology.{Topology}
 use Rattle.chain_expand.specs.Expansion.{loops, expansion}
 use Rattle.network_rules.specs.Related.{are_related, all_rules}
-use Rattle.config_check.specs.Rules.{circuit_addresses, controller_names, node_names, network_names, port_names, policy_names, service_names, chain_names, network_named, use_numbers}
+use Rattle.config_check.specs.Rules.{circuit_addresses, controller_names, node_names, network_names, port_names}
+use Rattle.config_check.specs.Rules.{policy_names, service_names, chain_names, network_named, use_numbers}
 
 -- no two of a list are equal
 abbrev pub AreDistinct : {A : Type 0} → List A → Type 0
@@ -66,7 +67,8 @@ pub record HasReferents (t : Topology) (c : Config) : Type 0 where
   pub controllers : All (λ n. All (Contains (controller_names t)) n.controllers) t.nodes
   pub policies : All (λ n. All (Contains (policy_names c)) n.policies) c.networks
   pub ports : All (λ p. Contains (network_names c) p.network × Contains (node_names t) p.node) c.ports
-  pub rules : All (λ r. EndExists (network_names c) r.rule.source × EndExists (network_names c) r.rule.destination × ChainExists (chain_names c) r.rule.action) (all_rules c)
+  pub rules : All (λ r. EndExists (network_names c) r.rule.source × EndExists (network_names c) r.rule.destination
+      × ChainExists (chain_names c) r.rule.action) (all_rules c)
   pub services : All (λ s. Contains (node_names t) s.node) c.services
   pub hops : All (λ d. All (Contains (service_names c ++ chain_names c)) d.hops) c.chains
 
@@ -92,7 +94,8 @@ HasFlatSubnets c = All (λ n. AllPairs (λ p q. ¬ Overlap p q) n.subnets) c.net
 
 -- a port's address is in a subnet of its network
 abbrev pub HoldsAddresses : Config → Type 0
-HoldsAddresses c = All (λ p. IfSome (network_named c p.network) (λ n. Any (λ s. contains s p.address.0 ≡ true) n.subnets)) c.ports
+HoldsAddresses c =
+    All (λ p. IfSome (network_named c p.network) (λ n. Any (λ s. contains s p.address.0 ≡ true) n.subnets)) c.ports
 
 -- no two ports of a network have one address
 abbrev pub HasDistinctAddresses : Config → Type 0
@@ -100,11 +103,15 @@ HasDistinctAddresses c = AllPairs (λ p q. ¬ ((p.network ≡ q.network) × (p.a
 
 -- neither end of a chain rule is `any`
 abbrev pub NamesEnds : Rule → Type 0
-NamesEnds r = (chain : List ℕ) (use_no : ℕ) → r.action ≡ Does.Through chain use_no → (r.source ≢ Ends.Any) × (r.destination ≢ Ends.Any)
+NamesEnds r =
+    (chain : List ℕ) (use_no : ℕ) → r.action ≡ Does.Through chain use_no
+    → (r.source ≢ Ends.Any) × (r.destination ≢ Ends.Any)
 
 -- a chain rule names no network twice
 abbrev pub NamesTwo : Rule → Type 0
-NamesTwo r = (chain name : List ℕ) (use_no : ℕ) → r.action ≡ Does.Through chain use_no → r.source ≡ Ends.Named name → r.destination ≢ Ends.Named name
+NamesTwo r =
+    (chain name : List ℕ) (use_no : ℕ) → r.action ≡ Does.Through chain use_no
+    → r.source ≡ Ends.Named name → r.destination ≢ Ends.Named name
 
 -- a network is another, or related to it
 abbrev pub IsAround : Config → Network → Network → Type 0

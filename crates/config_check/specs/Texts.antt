@@ -5,9 +5,15 @@ use Rattle.ov_types.specs.Texts.{address_text, prefix_text}
 use Rattle.config_check.specs.declared.refusal.IdKind.{IdKind}
 use Rattle.config_check.specs.declared.refusal.IdKind.TheVariants.{Address, Network, Port, Sequence, Service, Use}
 use Rattle.config_check.specs.declared.refusal.LimitKind.{LimitKind}
-use Rattle.config_check.specs.declared.refusal.LimitKind.TheVariants.{Controllers, Nodes, Networks, Ports, Policies, Services, Chains, Subnets, Attachments, Rules, Hops}
+use Rattle.config_check.specs.declared.refusal.LimitKind.TheVariants.{Controllers, Nodes, Networks, Ports, Policies}
+use Rattle.config_check.specs.declared.refusal.LimitKind.TheVariants.{Services, Chains, Subnets, Attachments, Rules}
+use Rattle.config_check.specs.declared.refusal.LimitKind.TheVariants.{Hops}
 use Rattle.config_check.specs.declared.refusal.Refusal.{Refusal}
-use Rattle.config_check.specs.declared.refusal.Refusal.TheVariants.{Limit, DuplicateName, DuplicateId, BadReference, SubnetReserved, SubnetNested, AddressOutside, AddressTaken, ChainNeedsNetworks, ChainSameNetwork, ChainLoop, ChainTooLong, ServiceTwice, SubnetOverlap}
+use Rattle.config_check.specs.declared.refusal.Refusal.TheVariants.{Limit, DuplicateName, DuplicateId, BadReference}
+use Rattle.config_check.specs.declared.refusal.Refusal.TheVariants.{SubnetReserved, SubnetNested, AddressOutside}
+use Rattle.config_check.specs.declared.refusal.Refusal.TheVariants.{AddressTaken, ChainNeedsNetworks}
+use Rattle.config_check.specs.declared.refusal.Refusal.TheVariants.{ChainSameNetwork, ChainLoop, ChainTooLong}
+use Rattle.config_check.specs.declared.refusal.Refusal.TheVariants.{ServiceTwice, SubnetOverlap}
 
 -- what is counted
 abbrev pub limit_word : LimitKind → List ℕ
@@ -43,7 +49,8 @@ refusal_text (DuplicateName name) = codes "DuplicateName " ++ name
 refusal_text (DuplicateId what id) = codes "DuplicateId " ++ (id_word what ++ (codes " " ++ id_text what id))
 refusal_text (BadReference name) = codes "BadReference " ++ name
 refusal_text (SubnetReserved network prefix) = codes "SubnetReserved " ++ (network ++ (codes " " ++ prefix_text prefix))
-refusal_text (SubnetNested network first second) = codes "SubnetNested " ++ (network ++ (codes " " ++ (prefix_text first ++ (codes " " ++ prefix_text second))))
+refusal_text (SubnetNested network first second) =
+    codes "SubnetNested " ++ (network ++ (codes " " ++ (prefix_text first ++ (codes " " ++ prefix_text second))))
 refusal_text (AddressOutside port) = codes "AddressOutside " ++ port
 refusal_text (AddressTaken first second) = codes "AddressTaken " ++ (first ++ (codes " " ++ second))
 refusal_text (ChainNeedsNetworks rule) = codes "ChainNeedsNetworks " ++ rule_text rule

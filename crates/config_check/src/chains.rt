@@ -5,14 +5,14 @@ ghost use Rattle.config_check.specs.Twice.{twice_of};
 ghost use Rattle.config_check.specs.Rules.{is_too_long, twice_in, broken_loop, broken_long, broken_twice};
 
 use crate::refusal::Refusal;
-use chain_expand::{ChainFault, expand_straight, first_loop};
+use chain_expand::{ChainFault, MOST_CHAINS, MOST_SERVICES, expand_straight, first_loop};
 use config_model::{Chain, Config};
 use ov_types::{Name, Services};
 
 /// The first chain that leads back to itself.
 #[tactic(auto, unfolding(crate::specs::Rules::broken_loop))]
 pub(crate) fn broken_loop(config: &Config) -> Option<Refusal>
-    requires { length config.now.chains ≤ 128 }
+    requires { length config.now.chains ≤ MOST_CHAINS }
     ensures { result ≡ broken_loop config.now }
 {
     let chain = first_loop(config)?;
@@ -20,8 +20,8 @@ pub(crate) fn broken_loop(config: &Config) -> Option<Refusal>
 }
 
 fn gives_too_many(config: &Config, chain: &Chain) -> bool
-    requires { length config.now.chains ≤ 128 }
-    ensures { result ≡ nat_lt 15 (length (expansion config.now chain.now.name)) }
+    requires { length config.now.chains ≤ MOST_CHAINS }
+    ensures { result ≡ nat_lt MOST_SERVICES (length (expansion config.now chain.now.name)) }
 {
     match expand_straight(config, &chain.name) {
         Err(ChainFault::TooLong { .. }) => true,
@@ -30,7 +30,7 @@ fn gives_too_many(config: &Config, chain: &Chain) -> bool
 }
 
 fn is_too_long(config: &Config, chain: &Chain) -> bool
-    requires few { length config.now.chains ≤ 128 }
+    requires few { length config.now.chains ≤ MOST_CHAINS }
     requires straight { broken_loop config.now ≡ None }
     ensures { result ≡ is_too_long config.now chain.now }
 {
@@ -38,9 +38,9 @@ fn is_too_long(config: &Config, chain: &Chain) -> bool
 }
 
 /// The first chain that gives more than 15 services, where none leads back to itself.
-#[tactic(auto, using(crate::proofs::Lists::found_here, crate::proofs::Lists::not_found_here), unfolding(crate::specs::Rules::broken_long))]
+#[tactic(auto, using(crate::proofs::Lists::sought), unfolding(crate::specs::Rules::broken_long))]
 pub(crate) fn broken_long(config: &Config) -> Option<Refusal>
-    requires few { length config.now.chains ≤ 128 }
+    requires few { length config.now.chains ≤ MOST_CHAINS }
     requires straight { broken_loop config.now ≡ None }
     ensures { result ≡ broken_long config.now }
 {
@@ -52,7 +52,7 @@ pub(crate) fn broken_long(config: &Config) -> Option<Refusal>
     None
 }
 
-fn twice_of(chain: &Name, expanded: &Result<Services<15>, ChainFault>) -> Option<Refusal>
+fn twice_of(chain: &Name, expanded: &Result<Services<MOST_SERVICES>, ChainFault>) -> Option<Refusal>
     ensures { result ≡ twice_of chain.now expanded.now }
 {
     match expanded {
@@ -65,7 +65,7 @@ fn twice_of(chain: &Name, expanded: &Result<Services<15>, ChainFault>) -> Option
 }
 
 fn twice_in(config: &Config, chain: &Chain) -> Option<Refusal>
-    requires few { length config.now.chains ≤ 128 }
+    requires few { length config.now.chains ≤ MOST_CHAINS }
     requires straight { broken_loop config.now ≡ None }
     requires short { is_too_long config.now chain.now ≡ false }
     ensures { result ≡ twice_in config.now chain.now }
@@ -74,9 +74,9 @@ fn twice_in(config: &Config, chain: &Chain) -> Option<Refusal>
 }
 
 /// The first chain that gives a service twice, where none leads back to itself or is too long.
-#[tactic(auto, using(crate::proofs::Lists::none_here, crate::proofs::Lists::some_here), unfolding(crate::specs::Rules::broken_twice))]
+#[tactic(auto, using(crate::proofs::Lists::asked), unfolding(crate::specs::Rules::broken_twice))]
 pub(crate) fn broken_twice(config: &Config) -> Option<Refusal>
-    requires few { length config.now.chains ≤ 128 }
+    requires few { length config.now.chains ≤ MOST_CHAINS }
     requires straight { broken_loop config.now ≡ None }
     requires short { broken_long config.now ≡ None }
     ensures { result ≡ broken_twice config.now }

@@ -16,7 +16,11 @@ pub fn network_named<'a>(config: &'a Config, name: &Name) -> Option<&'a Network>
 pub fn network_numbered<'a>(config: &'a Config, number: InstanceId) -> Option<&'a Network>
     ensures { option_copied result ≡ network_numbered config.now number.0 }
 {
-    config.networks.as_slice().iter().find(|n| n.id.0 == number.0)
+    config
+        .networks
+        .as_slice()
+        .iter()
+        .find(|n| n.id.0 == number.0)
 }
 
 /// The first port of a number.

@@ -14,32 +14,21 @@ use std::alloc::Global;
 fn controller_addresses(alloc: Global, topology: &Topology) -> Result<Vec<u32>, NoMemory>
     ensures { IfOk result (λ v. v.items ≡ map (λ n. n.address.0) topology.now.controllers) }
 {
-    Ok(
-        topology
-            .controllers
-            .as_slice()
-            .iter()
-            .map(|n| n.address.0)
-            .collect(alloc)?,
-    )
+    let addresses = topology.controllers.as_slice().iter().map(|n| n.address.0);
+    Ok(addresses.collect(alloc)?)
 }
 
 fn node_addresses(alloc: Global, topology: &Topology) -> Result<Vec<u32>, NoMemory>
     ensures { IfOk result (λ v. v.items ≡ map (λ n. n.address.0) topology.now.nodes) }
 {
-    Ok(
-        topology
-            .nodes
-            .as_slice()
-            .iter()
-            .map(|n| n.address.0)
-            .collect(alloc)?,
-    )
+    let addresses = topology.nodes.as_slice().iter().map(|n| n.address.0);
+    Ok(addresses.collect(alloc)?)
 }
 
 /// The addresses of control nodes and of compute nodes.
 fn addresses(alloc: Global, topology: &Topology) -> Result<Vec<u32>, NoMemory>
-    ensures { IfOk result (λ v. v.items ≡ map (λ n. n.address.0) topology.now.controllers ++ map (λ n. n.address.0) topology.now.nodes) }
+    ensures { IfOk result (λ v. v.items
+        ≡ map (λ n. n.address.0) topology.now.controllers ++ map (λ n. n.address.0) topology.now.nodes) }
 {
     let mut addresses = controller_addresses(alloc, topology)?;
     let of_nodes = node_addresses(alloc, topology)?;
@@ -50,53 +39,33 @@ fn addresses(alloc: Global, topology: &Topology) -> Result<Vec<u32>, NoMemory>
 fn network_ids(alloc: Global, config: &Config) -> Result<Vec<u32>, NoMemory>
     ensures { IfOk result (λ v. v.items ≡ map (λ n. n.id.0) config.now.networks) }
 {
-    Ok(
-        config
-            .networks
-            .as_slice()
-            .iter()
-            .map(|n| u32::from(n.id.0))
-            .collect(alloc)?,
-    )
+    let numbers = config.networks.as_slice().iter().map(|n| u32::from(n.id.0));
+    Ok(numbers.collect(alloc)?)
 }
 
 fn port_ids(alloc: Global, config: &Config) -> Result<Vec<u32>, NoMemory>
     ensures { IfOk result (λ v. v.items ≡ map (λ p. p.id.0) config.now.ports) }
 {
-    Ok(
-        config
-            .ports
-            .as_slice()
-            .iter()
-            .map(|p| p.id.0)
-            .collect(alloc)?,
-    )
+    let numbers = config.ports.as_slice().iter().map(|p| p.id.0);
+    Ok(numbers.collect(alloc)?)
 }
 
 fn sequences(alloc: Global, config: &Config) -> Result<Vec<u32>, NoMemory>
     ensures { IfOk result (λ v. v.items ≡ map (λ p. p.sequence) config.now.policies) }
 {
-    Ok(
-        config
-            .policies
-            .as_slice()
-            .iter()
-            .map(|p| u32::from(p.sequence))
-            .collect(alloc)?,
-    )
+    let numbers = config
+        .policies
+        .as_slice()
+        .iter()
+        .map(|p| u32::from(p.sequence));
+    Ok(numbers.collect(alloc)?)
 }
 
 fn service_ids(alloc: Global, config: &Config) -> Result<Vec<u32>, NoMemory>
     ensures { IfOk result (λ v. v.items ≡ map (λ s. s.id.0) config.now.services) }
 {
-    Ok(
-        config
-            .services
-            .as_slice()
-            .iter()
-            .map(|s| u32::from(s.id.0))
-            .collect(alloc)?,
-    )
+    let numbers = config.services.as_slice().iter().map(|s| u32::from(s.id.0));
+    Ok(numbers.collect(alloc)?)
 }
 
 fn use_of(action: &Action) -> Option<u32>

@@ -7,10 +7,17 @@ ghost use Rattle.config_model.specs.declared.config.Config.{Config};
 ghost use Rattle.config_model.specs.declared.config.Network.{Network};
 ghost use Rattle.config_model.specs.declared.topology.Topology.{Topology};
 ghost use Rattle.chain_expand.specs.Expansion.{loops, expansion};
-ghost use Rattle.config_check.specs.Finding.{Finds, network_named, network_numbered, port_numbered, port_at, node_named};
+ghost use Rattle.config_check.specs.Finding.{Finds, network_named, network_numbered, port_numbered, port_at};
+ghost use Rattle.config_check.specs.Finding.{node_named};
 ghost use Rattle.network_rules.specs.declared.numbered.NumberedRule.{NumberedRule};
-ghost use Rattle.config_check.specs.Rules.{circuit_addresses, holds_address, broken_limit, broken_name, broken_id, broken_reference, broken_reserved, broken_nested, broken_outside, broken_taken, broken_needs, broken_same, broken_loop, broken_long, broken_twice, broken_overlap, first_broken};
-ghost use Rattle.config_check.specs.Sentences.{dotted, KeepsLimits, HasDistinctNames, HasDistinctNumbers, HasReferents, ReservesCircuits, HasFlatSubnets, HoldsAddresses, HasDistinctAddresses, NamesEnds, NamesTwo, IsAround, AreApart, IsValid};
+ghost use Rattle.config_check.specs.Rules.{circuit_addresses, holds_address, broken_limit, broken_name, broken_id};
+ghost use Rattle.config_check.specs.Rules.{broken_reference, broken_reserved, broken_nested, broken_outside};
+ghost use Rattle.config_check.specs.Rules.{broken_taken, broken_needs, broken_same, broken_loop, broken_long};
+ghost use Rattle.config_check.specs.Rules.{broken_twice, broken_overlap, first_broken};
+ghost use Rattle.config_check.specs.Sentences.{dotted, KeepsLimits, HasDistinctNames, HasDistinctNumbers};
+ghost use Rattle.config_check.specs.Sentences.{HasReferents, ReservesCircuits, HasFlatSubnets, HoldsAddresses};
+ghost use Rattle.config_check.specs.Sentences.{HasDistinctAddresses, NamesEnds, NamesTwo, IsAround, AreApart};
+ghost use Rattle.config_check.specs.Sentences.{IsValid};
 
 /// The first rule is kept exactly where no count is above its limit.
 pub fn limits_are_kept()
@@ -74,17 +81,20 @@ pub fn chains_are_straight()
 
 /// Where no chain loops, the twelfth rule is kept exactly where no expansion has more than 15 services.
 pub fn chains_are_short()
-    ensures { (c : Config) → broken_loop c ≡ None → (broken_long c ≡ None) ↔ All (λ d. length (expansion c d.name) ≤ 15) c.chains }
+    ensures { (c : Config) → broken_loop c ≡ None
+        → (broken_long c ≡ None) ↔ All (λ d. length (expansion c d.name) ≤ 15) c.chains }
 {}
 
 /// Where no chain loops, the thirteenth rule is kept exactly where no expansion has a service twice.
 pub fn services_stand_once()
-    ensures { (c : Config) → broken_loop c ≡ None → (broken_twice c ≡ None) ↔ All (λ d. AllPairs (λ s u. s.id.0 ≢ u.id.0) (expansion c d.name)) c.chains }
+    ensures { (c : Config) → broken_loop c ≡ None
+        → (broken_twice c ≡ None) ↔ All (λ d. AllPairs (λ s u. s.id.0 ≢ u.id.0) (expansion c d.name)) c.chains }
 {}
 
 /// The last rule is kept exactly where no two networks, each a third one or related to it, have overlapping subnets.
 pub fn related_networks_are_apart()
-    ensures { (c : Config) → (broken_overlap c ≡ None) ↔ All (λ n. AllPairs (λ a b. IsAround c n a → IsAround c n b → AreApart a b) c.networks) c.networks }
+    ensures { (c : Config) → (broken_overlap c ≡ None)
+        ↔ All (λ n. AllPairs (λ a b. IsAround c n a → IsAround c n b → AreApart a b) c.networks) c.networks }
 {}
 
 /// In a valid configuration a name finds exactly the network that has it.

@@ -1,6 +1,7 @@
 //! Valid configurations: the fourteen rules, and the first that is broken.
 #![tactic(auto)]
 
+mod asking;
 mod chains;
 pub mod edit_laws;
 mod edits;

@@ -4,6 +4,7 @@ ghost use Rattle.std.specs.List.{list_all};
 ghost use Rattle.config_check.specs.Rules.{limit_unless, broken_count, broken_part, broken_limit};
 
 use crate::refusal::{LimitKind, Refusal};
+use chain_expand::MOST_CHAINS;
 use config_model::{Chain, Config, Network, Policy, Topology};
 
 const CONTROLLERS: usize = 8;
@@ -17,8 +18,6 @@ const PORTS: usize = 1024;
 const POLICIES: usize = 128;
 
 const SERVICES: usize = 128;
-
-const CHAINS: usize = 128;
 
 const SUBNETS: usize = 4;
 
@@ -50,7 +49,7 @@ fn broken_count(topology: &Topology, config: &Config) -> Option<Refusal>
     let ports = limit_unless(LimitKind::Ports, config.ports.len() <= PORTS);
     let policies = limit_unless(LimitKind::Policies, config.policies.len() <= POLICIES);
     let services = limit_unless(LimitKind::Services, config.services.len() <= SERVICES);
-    let chains = limit_unless(LimitKind::Chains, config.chains.len() <= CHAINS);
+    let chains = limit_unless(LimitKind::Chains, config.chains.len() <= MOST_CHAINS);
     controllers.or(nodes.or(networks.or(ports.or(policies.or(services.or(chains))))))
 }
 

@@ -1,8 +1,11 @@
 //! The rule of names: no two of one namespace are equal, and no compute node lists a control node twice.
 ghost use Rattle.std.specs.Prelude.{◌≡◌, ◌++◌, map, IfOk};
-ghost use Rattle.config_check.specs.Rules.{controller_names, node_names, network_names, port_names, policy_names, service_names, chain_names, repeated_name, repeated_controller, broken_name};
+ghost use Rattle.config_check.specs.Rules.{controller_names, node_names, network_names, port_names, policy_names};
+ghost use Rattle.config_check.specs.Rules.{service_names, chain_names, repeated_name, repeated_controller};
+ghost use Rattle.config_check.specs.Rules.{broken_name};
 ghost use Rattle.ov_types.specs.First.{first_of};
 
+use crate::asking::first_of;
 use crate::meeting::first_meeting;
 use crate::refusal::Refusal;
 use config_model::{Config, Node, Topology};
@@ -12,92 +15,50 @@ use std::alloc::Global;
 pub(crate) fn controller_names(alloc: Global, topology: &Topology) -> Result<Vec<Name>, NoMemory>
     ensures { IfOk result (λ v. v.items ≡ controller_names topology.now) }
 {
-    Ok(
-        topology
-            .controllers
-            .as_slice()
-            .iter()
-            .map(|n| n.name)
-            .collect(alloc)?,
-    )
+    let names = topology.controllers.as_slice().iter().map(|n| n.name);
+    Ok(names.collect(alloc)?)
 }
 
 pub(crate) fn node_names(alloc: Global, topology: &Topology) -> Result<Vec<Name>, NoMemory>
     ensures { IfOk result (λ v. v.items ≡ node_names topology.now) }
 {
-    Ok(
-        topology
-            .nodes
-            .as_slice()
-            .iter()
-            .map(|n| n.name)
-            .collect(alloc)?,
-    )
+    let names = topology.nodes.as_slice().iter().map(|n| n.name);
+    Ok(names.collect(alloc)?)
 }
 
 pub(crate) fn network_names(alloc: Global, config: &Config) -> Result<Vec<Name>, NoMemory>
     ensures { IfOk result (λ v. v.items ≡ network_names config.now) }
 {
-    Ok(
-        config
-            .networks
-            .as_slice()
-            .iter()
-            .map(|n| n.name)
-            .collect(alloc)?,
-    )
+    let names = config.networks.as_slice().iter().map(|n| n.name);
+    Ok(names.collect(alloc)?)
 }
 
 pub(crate) fn port_names(alloc: Global, config: &Config) -> Result<Vec<Name>, NoMemory>
     ensures { IfOk result (λ v. v.items ≡ port_names config.now) }
 {
-    Ok(
-        config
-            .ports
-            .as_slice()
-            .iter()
-            .map(|p| p.name)
-            .collect(alloc)?,
-    )
+    let names = config.ports.as_slice().iter().map(|p| p.name);
+    Ok(names.collect(alloc)?)
 }
 
 pub(crate) fn policy_names(alloc: Global, config: &Config) -> Result<Vec<Name>, NoMemory>
     ensures { IfOk result (λ v. v.items ≡ policy_names config.now) }
 {
-    Ok(
-        config
-            .policies
-            .as_slice()
-            .iter()
-            .map(|p| p.name)
-            .collect(alloc)?,
-    )
+    let names = config.policies.as_slice().iter().map(|p| p.name);
+    Ok(names.collect(alloc)?)
 }
 
 fn service_names(alloc: Global, config: &Config) -> Result<Vec<Name>, NoMemory>
     ensures { IfOk result (λ v. v.items ≡ service_names config.now) }
 {
-    Ok(
-        config
-            .services
-            .as_slice()
-            .iter()
-            .map(|s| s.name)
-            .collect(alloc)?,
-    )
+    let names = config.services.as_slice().iter().map(|s| s.name);
+    Ok(names.collect(alloc)?)
 }
 
 pub(crate) fn chain_names(alloc: Global, config: &Config) -> Result<Vec<Name>, NoMemory>
     ensures { IfOk result (λ v. v.items ≡ chain_names config.now) }
 {
-    Ok(
-        config
-            .chains
-            .as_slice()
-            .iter()
-            .map(|d| d.name)
-            .collect(alloc)?,
-    )
+    let names = config.chains.as_slice().iter().map(|d| d.name);
+    Ok(names.collect(alloc)?)
 }
 
 /// The names of control nodes and of compute nodes, which share a namespace.
@@ -133,16 +94,10 @@ fn repeated_controller(node: &Node) -> Option<Refusal>
     repeated_name(node.controllers.as_slice())
 }
 
-#[tactic(auto, using(crate::proofs::Lists::none_here, crate::proofs::Lists::some_here))]
 fn first_repeated_controller(nodes: &[Node]) -> Option<Refusal>
     ensures { result ≡ first_of repeated_controller nodes.now }
 {
-    for node in nodes {
-        if let Some(refusal) = repeated_controller(node) {
-            return Some(refusal);
-        }
-    }
-    None
+    first_of(nodes, |node| repeated_controller(node))
 }
 
 /// The first name that stands twice in its namespace.

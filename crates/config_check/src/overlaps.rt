@@ -4,7 +4,8 @@ ghost use Rattle.std.specs.List.{list_any};
 ghost use Rattle.ov_types.specs.Prefix.{Block};
 ghost use Rattle.network_rules.specs.Related.{attaches};
 ghost use Rattle.config_check.specs.Between.{also_leads, is_in_group};
-ghost use Rattle.config_check.specs.Rules.{overlap, group_of, share_addresses, overlapping, overlapping_around, broken_overlap};
+ghost use Rattle.config_check.specs.Rules.{overlap, group_of, share_addresses, overlapping, overlapping_around};
+ghost use Rattle.config_check.specs.Rules.{broken_overlap};
 
 use crate::refusal::Refusal;
 use crate::subnets::overlap;
@@ -75,7 +76,8 @@ fn group_by<'a>(
     config: &'a Config,
     network: &Network,
 ) -> Result<Vec<&'a Network>, NoMemory>
-    ensures { IfOk result (λ v. map (λ n. n.now) v.items ≡ filter (is_in_group (map (λ p. p.now) policies.now) network.now) config.now.networks) }
+    ensures { IfOk result (λ v. map (λ n. n.now) v.items
+        ≡ filter (is_in_group (map (λ p. p.now) policies.now) network.now) config.now.networks) }
 {
     let mut group = Vec::new(alloc);
     for other in config.networks.as_slice() {
@@ -136,7 +138,7 @@ fn overlapping_around(
 }
 
 /// The first two networks that share addresses in a group, for the first network whose group has such.
-#[tactic(auto, using(crate::proofs::Lists::none_here, crate::proofs::Lists::some_here), unfolding(crate::specs::Rules::broken_overlap))]
+#[tactic(auto, using(crate::proofs::Lists::asked), unfolding(crate::specs::Rules::broken_overlap))]
 pub(crate) fn broken_overlap(alloc: Global, config: &Config) -> Result<Option<Refusal>, NoMemory>
     ensures { IfOk result (λ found. found ≡ broken_overlap config.now) }
 {

@@ -2,9 +2,12 @@
 ghost use Rattle.std.specs.Prelude.{◌≡◌, ◌++◌, IfOk};
 ghost use Rattle.std.specs.List.{list_any};
 ghost use Rattle.ov_types.specs.First.{same_name, first_of};
-ghost use Rattle.config_check.specs.Rules.{missing, missing_end, missing_chain, missing_in_node, missing_in_network, missing_in_port, missing_in_rule, missing_in_service, missing_in_chain, broken_reference};
+ghost use Rattle.config_check.specs.Rules.{missing, missing_end, missing_chain, missing_in_node, missing_in_network};
+ghost use Rattle.config_check.specs.Rules.{missing_in_port, missing_in_rule, missing_in_service, missing_in_chain};
+ghost use Rattle.config_check.specs.Rules.{broken_reference};
 ghost use Rattle.network_rules.specs.Related.{all_rules};
 
+use crate::asking::first_of;
 use crate::names::{
     chain_names, controller_names, hop_names, network_names, node_names, policy_names,
 };
@@ -31,16 +34,10 @@ fn missing(names: &[Name], name: &Name) -> Option<Refusal>
     }
 }
 
-#[tactic(auto, using(crate::proofs::Lists::none_here, crate::proofs::Lists::some_here))]
 fn first_missing(names: &[Name], references: &[Name]) -> Option<Refusal>
     ensures { result ≡ first_of (missing names.now) references.now }
 {
-    for name in references {
-        if let Some(refusal) = missing(names, name) {
-            return Some(refusal);
-        }
-    }
-    None
+    first_of(references, |name| missing(names, name))
 }
 
 fn missing_end(networks: &[Name], end: &End) -> Option<Refusal>
@@ -77,76 +74,46 @@ fn missing_in_rule(networks: &[Name], chains: &[Name], numbered: &NumberedRule) 
     source.or(destination.or(chain))
 }
 
-#[tactic(auto, using(crate::proofs::Lists::none_here, crate::proofs::Lists::some_here))]
 fn missing_in_nodes(controllers: &[Name], nodes: &[Node]) -> Option<Refusal>
     ensures { result ≡ first_of (missing_in_node controllers.now) nodes.now }
 {
-    for node in nodes {
-        if let Some(refusal) = first_missing(controllers, node.controllers.as_slice()) {
-            return Some(refusal);
-        }
-    }
-    None
+    first_of(
+        nodes,
+        |node| first_missing(controllers, node.controllers.as_slice()),
+    )
 }
 
-#[tactic(auto, using(crate::proofs::Lists::none_here, crate::proofs::Lists::some_here))]
 fn missing_in_networks(policies: &[Name], networks: &[Network]) -> Option<Refusal>
     ensures { result ≡ first_of (missing_in_network policies.now) networks.now }
 {
-    for network in networks {
-        if let Some(refusal) = first_missing(policies, network.policies.as_slice()) {
-            return Some(refusal);
-        }
-    }
-    None
+    first_of(
+        networks,
+        |network| first_missing(policies, network.policies.as_slice()),
+    )
 }
 
-#[tactic(auto, using(crate::proofs::Lists::none_here, crate::proofs::Lists::some_here))]
 fn missing_in_ports(networks: &[Name], nodes: &[Name], ports: &[Port]) -> Option<Refusal>
     ensures { result ≡ first_of (missing_in_port networks.now nodes.now) ports.now }
 {
-    for port in ports {
-        if let Some(refusal) = missing_in_port(networks, nodes, port) {
-            return Some(refusal);
-        }
-    }
-    None
+    first_of(ports, |port| missing_in_port(networks, nodes, port))
 }
 
-#[tactic(auto, using(crate::proofs::Lists::none_here, crate::proofs::Lists::some_here))]
 fn missing_in_rules(networks: &[Name], chains: &[Name], rules: &[NumberedRule]) -> Option<Refusal>
     ensures { result ≡ first_of (missing_in_rule networks.now chains.now) rules.now }
 {
-    for rule in rules {
-        if let Some(refusal) = missing_in_rule(networks, chains, rule) {
-            return Some(refusal);
-        }
-    }
-    None
+    first_of(rules, |rule| missing_in_rule(networks, chains, rule))
 }
 
-#[tactic(auto, using(crate::proofs::Lists::none_here, crate::proofs::Lists::some_here))]
 fn missing_in_services(nodes: &[Name], services: &[Service]) -> Option<Refusal>
     ensures { result ≡ first_of (missing_in_service nodes.now) services.now }
 {
-    for service in services {
-        if let Some(refusal) = missing(nodes, &service.node) {
-            return Some(refusal);
-        }
-    }
-    None
+    first_of(services, |service| missing(nodes, &service.node))
 }
 
-#[tactic(auto, using(crate::proofs::Lists::none_here, crate::proofs::Lists::some_here))]
 fn missing_in_chains(hops: &[Name], chains: &[Chain]) -> Option<Refusal>
     ensures { result ≡ first_of (missing_in_chain hops.now) chains.now }
 {
-    for chain in chains {
-        if let Some(refusal) = first_missing(hops, chain.hops.as_slice()) {
-            return Some(refusal);
-        }
-    }
-    None
+    first_of(chains, |chain| first_missing(hops, chain.hops.as_slice()))
 }
 
 /// The first reference to a name that nothing has.

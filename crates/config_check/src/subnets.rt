@@ -1,8 +1,10 @@
 //! The rules of subnets: none is reserved, and none of one network overlaps another of it.
 ghost use Rattle.std.specs.Prelude.{◌≡◌};
 ghost use Rattle.ov_types.specs.Prefix.{is_inside};
-ghost use Rattle.config_check.specs.Rules.{overlap, circuit_addresses, reserved_in, broken_reserved, nested_in, broken_nested};
+ghost use Rattle.config_check.specs.Rules.{overlap, circuit_addresses, reserved_in, broken_reserved, nested_in};
+ghost use Rattle.config_check.specs.Rules.{broken_nested};
 
+use crate::asking::first_of;
 use crate::meeting::{Meets, first_meeting};
 use crate::refusal::Refusal;
 use config_model::{Config, Network};
@@ -57,16 +59,10 @@ fn reserved_in(network: &Network) -> Option<Refusal>
 }
 
 /// The first subnet that overlaps the addresses of circuits.
-#[tactic(auto, using(crate::proofs::Lists::none_here, crate::proofs::Lists::some_here), unfolding(crate::specs::Rules::broken_reserved))]
 pub(crate) fn broken_reserved(config: &Config) -> Option<Refusal>
     ensures { result ≡ broken_reserved config.now }
 {
-    for network in config.networks.as_slice() {
-        if let Some(refusal) = reserved_in(network) {
-            return Some(refusal);
-        }
-    }
-    None
+    first_of(config.networks.as_slice(), |network| reserved_in(network))
 }
 
 fn nested_in(network: &Network) -> Option<Refusal>
@@ -81,14 +77,8 @@ fn nested_in(network: &Network) -> Option<Refusal>
 }
 
 /// The first subnet that overlaps an earlier one of its network.
-#[tactic(auto, using(crate::proofs::Lists::none_here, crate::proofs::Lists::some_here), unfolding(crate::specs::Rules::broken_nested))]
 pub(crate) fn broken_nested(config: &Config) -> Option<Refusal>
     ensures { result ≡ broken_nested config.now }
 {
-    for network in config.networks.as_slice() {
-        if let Some(refusal) = nested_in(network) {
-            return Some(refusal);
-        }
-    }
-    None
+    first_of(config.networks.as_slice(), |network| nested_in(network))
 }

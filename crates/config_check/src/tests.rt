@@ -5,15 +5,18 @@ use serde_json::Value;
 use std::alloc::{AllocError, Global};
 
 const TOPOLOGY: &str =
-    r#"{"as":64512,"controllers":[{"name":"c1","address":"192.0.2.1"}],"nodes":[{"name":"n1","address":"192.0.2.11","controllers":["c1"]}]}"#;
+    r#"{"as":64512,"controllers":[{"name":"c1","address":"192.0.2.1"}],"nodes":[{"name":"n1",
+        "address":"192.0.2.11","controllers":["c1"]}]}"#;
 
 const NETWORKS: &str =
-    r#"{"name":"red","id":1,"subnets":["10.1.0.0/24"],"policies":["p1"]},{"name":"blue","id":2,"subnets":["10.2.0.0/24"],"policies":["p1"]}"#;
+    r#"{"name":"red","id":1,"subnets":["10.1.0.0/24"],"policies":["p1"]},{"name":"blue","id":2,
+        "subnets":["10.2.0.0/24"],"policies":["p1"]}"#;
 
 const PORTS: &str = r#"{"name":"vm1","id":1,"network":"red","address":"10.1.0.5","node":"n1"}"#;
 
 const POLICIES: &str =
-    r#"{"name":"p1","sequence":10,"rules":[{"direction":"<>","source":"any","destination":"any","protocol":"any","source_ports":[0,65535],"destination_ports":[0,65535],"action":"pass"}]}"#;
+    r#"{"name":"p1","sequence":10,"rules":[{"direction":"<>","source":"any","destination":"any","protocol":"any",
+        "source_ports":[0,65535],"destination_ports":[0,65535],"action":"pass"}]}"#;
 
 const SERVICES: &str = r#"{"name":"fw","id":1,"node":"n1"}"#;
 
@@ -63,12 +66,16 @@ const FAULTS: [(&str, &str, &str); 14] = [
     ),
     (
         "policies",
-        r#"{"name":"p9","sequence":20,"rules":[{"direction":">","source":"any","destination":"red","protocol":6,"source_ports":[0,65535],"destination_ports":[80,80],"action":"chain","chain":"safe","use":0}]}"#,
+        r#"{"name":"p9","sequence":20,"rules":[{"direction":">","source":"any","destination":"red","protocol":6,
+            "source_ports":[0,65535],"destination_ports":[80,80],"action":"chain","chain":"safe","use":0}]}"#,
         "ChainNeedsNetworks 20/1",
     ),
     (
         "policies",
-        r#"{"name":"p10","sequence":30,"rules":[{"direction":">","source":"red","destination":"red","protocol":6,"source_ports":[0,65535],"destination_ports":[80,80],"action":"deny"},{"direction":">","source":"red","destination":"red","protocol":6,"source_ports":[0,65535],"destination_ports":[80,80],"action":"chain","chain":"safe","use":1}]}"#,
+        r#"{"name":"p10","sequence":30,"rules":[{"direction":">","source":"red","destination":"red","protocol":6,
+            "source_ports":[0,65535],"destination_ports":[80,80],"action":"deny"},{"direction":">","source":"red",
+            "destination":"red","protocol":6,"source_ports":[0,65535],"destination_ports":[80,80],"action":"chain",
+            "chain":"safe","use":1}]}"#,
         "ChainSameNetwork 30/2",
     ),
     (
@@ -123,7 +130,8 @@ const MORE: [(&str, &str, &str); 7] = [
     ),
     (
         "networks",
-        r#"{"name":"left","id":26,"subnets":["10.2.0.0/24"],"policies":["p1"]},{"name":"right","id":27,"subnets":["10.2.0.0/24"],"policies":["p1"]}"#,
+        r#"{"name":"left","id":26,"subnets":["10.2.0.0/24"],"policies":["p1"]},{"name":"right","id":27,
+            "subnets":["10.2.0.0/24"],"policies":["p1"]}"#,
         "SubnetOverlap blue left",
     ),
 ];
@@ -131,21 +139,27 @@ const MORE: [(&str, &str, &str); 7] = [
 /// Two policies that pass all.
 const TWO_POLICIES: (&str, &str, &str) = (
     "policies",
-    r#"{"name":"p2","sequence":20,"rules":[{"direction":"<>","source":"any","destination":"any","protocol":"any","source_ports":[0,65535],"destination_ports":[0,65535],"action":"pass"}]},{"name":"p3","sequence":30,"rules":[{"direction":"<>","source":"any","destination":"any","protocol":"any","source_ports":[0,65535],"destination_ports":[0,65535],"action":"pass"}]}"#,
+    r#"{"name":"p2","sequence":20,"rules":[{"direction":"<>","source":"any","destination":"any","protocol":"any",
+        "source_ports":[0,65535],"destination_ports":[0,65535],"action":"pass"}]},{"name":"p3","sequence":30,
+        "rules":[{"direction":"<>","source":"any","destination":"any","protocol":"any","source_ports":[0,65535],
+        "destination_ports":[0,65535],"action":"pass"}]}"#,
     "valid",
 );
 
 /// Two networks with the same addresses, one at each of these policies.
 const APART: (&str, &str, &str) = (
     "networks",
-    r#"{"name":"left","id":26,"subnets":["10.4.0.0/24"],"policies":["p2"]},{"name":"right","id":27,"subnets":["10.4.0.0/24"],"policies":["p3"]}"#,
+    r#"{"name":"left","id":26,"subnets":["10.4.0.0/24"],"policies":["p2"]},{"name":"right","id":27,
+        "subnets":["10.4.0.0/24"],"policies":["p3"]}"#,
     "valid",
 );
 
 /// The same, and a third network to which both are related.
 const BETWEEN: (&str, &str, &str) = (
     "networks",
-    r#"{"name":"middle","id":28,"subnets":["10.5.0.0/24"],"policies":["p2","p3"]},{"name":"left","id":26,"subnets":["10.4.0.0/24"],"policies":["p2"]},{"name":"right","id":27,"subnets":["10.4.0.0/24"],"policies":["p3"]}"#,
+    r#"{"name":"middle","id":28,"subnets":["10.5.0.0/24"],"policies":["p2","p3"]},{"name":"left","id":26,
+        "subnets":["10.4.0.0/24"],"policies":["p2"]},{"name":"right","id":27,"subnets":["10.4.0.0/24"],
+        "policies":["p3"]}"#,
     "SubnetOverlap left right",
 );
 

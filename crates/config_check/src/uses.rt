@@ -1,6 +1,7 @@
 //! The rules of chain rules: each names two networks, and they differ.
 ghost use Rattle.std.specs.Prelude.{◌≡◌, find};
-ghost use Rattle.config_check.specs.Rules.{is_chain_rule, is_any, same_end, lacks_network, turns_back, broken_needs, broken_same};
+ghost use Rattle.config_check.specs.Rules.{is_chain_rule, is_any, same_end, lacks_network, turns_back, broken_needs};
+ghost use Rattle.config_check.specs.Rules.{broken_same};
 
 use crate::refusal::Refusal;
 use config_model::{Action, End, Rule};

@@ -14,6 +14,7 @@ use crate::references::broken_reference;
 use crate::refusal::{CheckRefusal, Refusal};
 use crate::subnets::{broken_nested, broken_reserved};
 use crate::uses::{broken_needs, broken_same};
+use chain_expand::MOST_CHAINS;
 use config_model::{Config, Topology};
 use network_rules::{NumberedRule, all_rules};
 use ov_types::NoMemory;
@@ -37,7 +38,8 @@ impl Model for Valid {
 
     ghost view = { λ v. record { topology = v.topology; config = v.config } };
 
-    ghost invariant = { λ v. IsTrue (has_topology_form v.topology) × IsTrue (has_config_form v.config) × (first_broken v.topology v.config ≡ None) };
+    ghost invariant = { λ v. IsTrue (has_topology_form v.topology) × IsTrue (has_config_form v.config)
+        × (first_broken v.topology v.config ≡ None) };
 }
 
 impl Valid {
@@ -82,7 +84,7 @@ fn broken_use(rules: &[NumberedRule]) -> Option<Refusal>
 
 /// The first of the rules of chains that is broken.
 fn broken_chain(config: &Config) -> Option<Refusal>
-    requires { length config.now.chains ≤ 128 }
+    requires { length config.now.chains ≤ MOST_CHAINS }
     ensures { result ≡ broken_chain config.now }
 {
     if let Some(refusal) = broken_loop(config) {
@@ -94,7 +96,7 @@ fn broken_chain(config: &Config) -> Option<Refusal>
     broken_twice(config)
 }
 
-#[tactic(auto, using(crate::proofs::Few::few_rules, crate::proofs::Few::few_chains), unfolding(crate::specs::Rules::first_broken))]
+#[tactic(auto, using(crate::proofs::Few::few), unfolding(crate::specs::Rules::first_broken))]
 fn first_broken(
     alloc: Global,
     topology: &Topology,

@@ -23,7 +23,7 @@ too_many : (t : Topology) (c : Config) (what : LimitKind) (n most : ℕ) → (mo
 too_many t c what n most h = above t c what (leb n most) (λ e. h (leb-false n most e))
 
 -- one object has more
-more_in : {A : Type 0} (size : A → ℕ) (most : ℕ) (xs : List A) → list_all (λ x. leb (size x) most) xs ≡ false → Any (λ x. most < size x) xs
+pub more_in : {A : Type 0} (size : A → ℕ) (most : ℕ) (xs : List A) → list_all (λ x. leb (size x) most) xs ≡ false → Any (λ x. most < size x) xs
 more_in size most [] h = cc
 more_in {A} size most (x ∷ xs) h =
     elim (leb (size x) most) as (λ b. (leb (size x) most ≡ b) → (b && list_all (λ y. leb (size y) most) xs) ≡ false → Any (λ y. most < size y) (x ∷ xs)) [

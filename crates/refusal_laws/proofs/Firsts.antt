@@ -1,5 +1,5 @@
 -- The first two that meet in a list: where they stand.
-use Rattle.std.proofs.Common.{◌≡◌, ◌<◌, ℕ, zero, suc, Bool, true, false, cond, List, [], ◌∷◌, ◌++◌, Option, Some, None, option_map, IfSome, length, refl, sym, ap, ◌∙◌, subst, append_assoc, arith}
+use Rattle.std.proofs.Common.{◌≡◌, ◌<◌, ℕ, zero, suc, Bool, true, List, [], ◌∷◌, ◌++◌, Option, Some, option_map, IfSome, length, refl, subst, append_assoc, arith}
 use Rattle.std.specs.List.{find, slice_get}
 use Rattle.ov_types.specs.First.{meeting_after, first_meeting}
 use Rattle.ov_types.proofs.FirstLemmas.{answered, of_either, of_mapped, found}

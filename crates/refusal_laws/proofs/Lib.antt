@@ -8,4 +8,6 @@ pub mod Law
 pub mod Invalid
 pub mod FirstOnes
 pub mod Order
+pub mod FirstLimits
+pub mod FirstReferences
 pub mod NamedFirst

@@ -1,6 +1,6 @@
 -- What breaks a rule is refused by that rule, or by an earlier one.
 use Rattle.std.proofs.Common.{◌≡◌, ◌==◌, ◌||◌, ◌≤◌, ◌++◌, ℕ, Bool, true, false, cond, leb, List, [], ◌∷◌, Option, Some, None, option_map, is_none, IfSome, find, filter, length, map, refl, arith}
-use Rattle.std.specs.List.{All, list_any, list_all}
+use Rattle.std.specs.List.{list_any, list_all}
 use Rattle.ov_types.specs.Prefix.{Block}
 use Rattle.ov_types.specs.First.{same_name, ◌<|>◌, first_of, first_meeting}
 use Rattle.config_model.specs.declared.config.Action.{Action}
@@ -12,7 +12,6 @@ use Rattle.config_model.specs.declared.config.End.TheVariants as Ends
 use Rattle.config_model.specs.declared.config.Network.{Network}
 use Rattle.config_model.specs.declared.config.Port.{Port}
 use Rattle.config_model.specs.declared.config.Service.{Service}
-use Rattle.config_model.specs.declared.topology.Node.{Node}
 use Rattle.config_model.specs.declared.topology.Topology.{Topology}
 use Rattle.chain_expand.specs.Expansion.{loops, loop_of, expansion, same_number}
 use Rattle.config_check.specs.declared.refusal.IdKind.{IdKind}
@@ -78,7 +77,7 @@ four_by n le b1 b2 b3 b4 =
     (limit_by n le Counted.Attachments b2 r3
     (limit_by n le Counted.Rules b3 (limit_unless Counted.Hops b4) (last_by n le Counted.Hops b4)))
 
-pub limits_by : (n : ℕ) → 1 ≤ n → (t : Topology) (c : Config) → IfSome (broken_limit t c) (IsBy n)
+limits_by : (n : ℕ) → 1 ≤ n → (t : Topology) (c : Config) → IfSome (broken_limit t c) (IsBy n)
 unfolding broken_limit
 limits_by n le t c =
     of_either (IsBy n) (broken_count t c) (broken_part c)
@@ -90,7 +89,7 @@ limits_by n le t c =
 name_by : (n : ℕ) → 2 ≤ n → (names : List (List ℕ)) → IfSome (repeated_name names) (IsBy n)
 name_by n le names = of_mapped (IsBy n) (λ (m : List ℕ × List ℕ). DuplicateName m.1) (first_meeting same_name names) (λ m e. le)
 
-pub names_by : (n : ℕ) → 2 ≤ n → (t : Topology) (c : Config) → IfSome (broken_name t c) (IsBy n)
+names_by : (n : ℕ) → 2 ≤ n → (t : Topology) (c : Config) → IfSome (broken_name t c) (IsBy n)
 unfolding broken_name
 names_by n le t c =
     six (IsBy n) (repeated_name (controller_names t ++ node_names t)) (repeated_name (network_names c)) (repeated_name (port_names c))
@@ -102,7 +101,7 @@ names_by n le t c =
 number_by : (n : ℕ) → 3 ≤ n → (what : IdKind) (ids : List ℕ) → IfSome (repeated_id what ids) (IsBy n)
 number_by n le what ids = of_mapped (IsBy n) (λ (m : ℕ × ℕ). DuplicateId what m.1) (first_meeting (λ a b. a == b) ids) (λ m e. le)
 
-pub numbers_by : (n : ℕ) → 3 ≤ n → (t : Topology) (c : Config) → IfSome (broken_id t c) (IsBy n)
+numbers_by : (n : ℕ) → 3 ≤ n → (t : Topology) (c : Config) → IfSome (broken_id t c) (IsBy n)
 unfolding broken_id
 numbers_by n le t c =
     let addresses : List ℕ = map (λ n. n.address.0) t.controllers ++ map (λ n. n.address.0) t.nodes in
@@ -144,7 +143,7 @@ rule_by n le networks chains r =
     of_either (IsBy n) (missing_end networks r.rule.source) (second <|> third) (end_by n le networks r.rule.source)
     (of_either (IsBy n) second third (end_by n le networks r.rule.destination) (chain_by n le chains r.rule.action))
 
-pub references_by : (n : ℕ) → 4 ≤ n → (t : Topology) (c : Config) → IfSome (broken_reference t c) (IsBy n)
+references_by : (n : ℕ) → 4 ≤ n → (t : Topology) (c : Config) → IfSome (broken_reference t c) (IsBy n)
 unfolding broken_reference
 references_by n le t c =
     let hops : List (List ℕ) = service_names c ++ chain_names c in

@@ -75,7 +75,7 @@ of_overlapping P (a ∷ bs) h =
     h a b (record { earlier = 0; later = suc f.place; in_order = omega arith; first_there = refl; second_there = f.there }) f.passes))
     (of_overlapping P bs (λ x y places shared. h x y (before_later a bs x y places) shared))
 
-some_overlap : (a b : Network) → share_addresses a b ≡ true → Any (λ p. Any (Overlap p) b.subnets) a.subnets
+pub some_overlap : (a b : Network) → share_addresses a b ≡ true → Any (λ p. Any (Overlap p) b.subnets) a.subnets
 some_overlap a b h =
     let outer = Any-from_list_any (λ p. list_any (overlap p) b.subnets) a.subnets h in
     let inner = Any-from_list_any (overlap outer.1) b.subnets outer.4 in

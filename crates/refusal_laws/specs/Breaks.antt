@@ -19,8 +19,13 @@ use Rattle.config_check.specs.declared.refusal.IdKind.TheVariants as Id
 use Rattle.config_check.specs.declared.refusal.LimitKind.{LimitKind}
 use Rattle.config_check.specs.declared.refusal.LimitKind.TheVariants as Counted
 use Rattle.config_check.specs.declared.refusal.Refusal.{Refusal}
-use Rattle.config_check.specs.declared.refusal.Refusal.TheVariants.{Limit, DuplicateName, DuplicateId, BadReference, SubnetReserved, SubnetNested, AddressOutside, AddressTaken, ChainNeedsNetworks, ChainSameNetwork, ChainLoop, ChainTooLong, ServiceTwice, SubnetOverlap}
-use Rattle.config_check.specs.Rules.{circuit_addresses, controller_names, node_names, network_names, port_names, policy_names, service_names, chain_names, network_named, use_numbers}
+use Rattle.config_check.specs.declared.refusal.Refusal.TheVariants.{Limit, DuplicateName, DuplicateId, BadReference}
+use Rattle.config_check.specs.declared.refusal.Refusal.TheVariants.{SubnetReserved, SubnetNested, AddressOutside}
+use Rattle.config_check.specs.declared.refusal.Refusal.TheVariants.{AddressTaken, ChainNeedsNetworks}
+use Rattle.config_check.specs.declared.refusal.Refusal.TheVariants.{ChainSameNetwork, ChainLoop, ChainTooLong}
+use Rattle.config_check.specs.declared.refusal.Refusal.TheVariants.{ServiceTwice, SubnetOverlap}
+use Rattle.config_check.specs.Rules.{circuit_addresses, controller_names, node_names, network_names, port_names}
+use Rattle.config_check.specs.Rules.{policy_names, service_names, chain_names, network_named, use_numbers}
 use Rattle.network_rules.specs.Related.{all_rules}
 use Rattle.config_check.specs.Sentences.{Overlap, IsAround}
 
@@ -52,7 +57,9 @@ IsAboveLimit t c Counted.Hops = Any (λ d. 64 < length d.hops) c.chains
 
 -- the names of each namespace: nodes of both kinds share one, and so do services and chains
 abbrev pub namespaces : Topology → Config → List (List (List ℕ))
-namespaces t c = (controller_names t ++ node_names t) ∷ network_names c ∷ port_names c ∷ policy_names c ∷ (service_names c ++ chain_names c) ∷ []
+namespaces t c =
+    (controller_names t ++ node_names t) ∷ network_names c ∷ port_names c ∷ policy_names c
+    ∷ (service_names c ++ chain_names c) ∷ []
 
 -- the numbers of the objects of a kind
 abbrev pub numbers_of : Topology → Config → IdKind → List ℕ
@@ -73,15 +80,20 @@ IsChainRule r = (chain : List ℕ) × LeadsThrough r.action chain
 
 -- an object refers to a name in a place where nothing of the kind has it
 pub data IsDangling (t : Topology) (c : Config) (name : List ℕ) : Type 0 where
-  controller : Any (λ n. Contains n.controllers name) t.nodes → ¬ Contains (controller_names t) name → IsDangling t c name
+  controller : Any (λ n. Contains n.controllers name) t.nodes
+      → ¬ Contains (controller_names t) name → IsDangling t c name
   policy : Any (λ n. Contains n.policies name) c.networks → ¬ Contains (policy_names c) name → IsDangling t c name
   network_of_port : Any (λ p. p.network ≡ name) c.ports → ¬ Contains (network_names c) name → IsDangling t c name
   node_of_port : Any (λ p. p.node ≡ name) c.ports → ¬ Contains (node_names t) name → IsDangling t c name
-  source : Any (λ r. r.rule.source ≡ Ends.Named name) (all_rules c) → ¬ Contains (network_names c) name → IsDangling t c name
-  destination : Any (λ r. r.rule.destination ≡ Ends.Named name) (all_rules c) → ¬ Contains (network_names c) name → IsDangling t c name
-  chain_of_rule : Any (λ r. LeadsThrough r.rule.action name) (all_rules c) → ¬ Contains (chain_names c) name → IsDangling t c name
+  source : Any (λ r. r.rule.source ≡ Ends.Named name) (all_rules c)
+      → ¬ Contains (network_names c) name → IsDangling t c name
+  destination : Any (λ r. r.rule.destination ≡ Ends.Named name) (all_rules c)
+      → ¬ Contains (network_names c) name → IsDangling t c name
+  chain_of_rule : Any (λ r. LeadsThrough r.rule.action name) (all_rules c)
+      → ¬ Contains (chain_names c) name → IsDangling t c name
   node_of_service : Any (λ s. s.node ≡ name) c.services → ¬ Contains (node_names t) name → IsDangling t c name
-  hop : Any (λ d. Contains d.hops name) c.chains → ¬ Contains (service_names c ++ chain_names c) name → IsDangling t c name
+  hop : Any (λ d. Contains d.hops name) c.chains
+      → ¬ Contains (service_names c ++ chain_names c) name → IsDangling t c name
 
 -- no subnet of a port's network holds its address
 abbrev pub LiesOutside : Config → Port → Type 0
@@ -116,16 +128,25 @@ pub record OverlapAround (c : Config) (n first second : Network) : Type 0 where
 -- what a refusal names breaks its rule
 abbrev pub Breaks : Topology → Config → Refusal → Type 0
 Breaks t c (Limit what) = IsAboveLimit t c what
-Breaks t c (DuplicateName name) = Any (λ names. StandsTwice names name) (namespaces t c) ⊎ Any (λ n. StandsTwice n.controllers name) t.nodes
+Breaks t c (DuplicateName name) =
+    Any (λ names. StandsTwice names name) (namespaces t c) ⊎ Any (λ n. StandsTwice n.controllers name) t.nodes
 Breaks t c (DuplicateId what id) = StandsTwice (numbers_of t c what) id
 Breaks t c (BadReference name) = IsDangling t c name
-Breaks t c (SubnetReserved network prefix) = Any (λ n. (n.name ≡ network) × Contains n.subnets prefix × Overlap circuit_addresses prefix) c.networks
-Breaks t c (SubnetNested network first second) = Any (λ n. (n.name ≡ network) × StandsBefore n.subnets first second × Overlap first second) c.networks
+Breaks t c (SubnetReserved network prefix) =
+    Any (λ n. (n.name ≡ network) × Contains n.subnets prefix × Overlap circuit_addresses prefix) c.networks
+Breaks t c (SubnetNested network first second) =
+    Any (λ n. (n.name ≡ network) × StandsBefore n.subnets first second × Overlap first second) c.networks
 Breaks t c (AddressOutside port) = Any (λ p. (p.name ≡ port) × LiesOutside c p) c.ports
-Breaks t c (AddressTaken first second) = (p : Port) × (q : Port) × (p.name ≡ first) × (q.name ≡ second) × ShareAddress c p q
+Breaks t c (AddressTaken first second) =
+    (p : Port) × (q : Port) × (p.name ≡ first) × (q.name ≡ second) × ShareAddress c p q
 Breaks t c (ChainNeedsNetworks rule) = Any (λ r. (r.number ≡ rule) × IsChainRule r.rule × HasAny r.rule) (all_rules c)
-Breaks t c (ChainSameNetwork rule) = Any (λ r. (r.number ≡ rule) × IsChainRule r.rule × HasOneNetwork r.rule) (all_rules c)
+Breaks t c (ChainSameNetwork rule) =
+    Any (λ r. (r.number ≡ rule) × IsChainRule r.rule × HasOneNetwork r.rule) (all_rules c)
 Breaks t c (ChainLoop chain) = Any (λ d. d.name ≡ chain) c.chains × Leads c chain chain
-Breaks t c (ChainTooLong chain) = Any (λ d. d.name ≡ chain) c.chains × IsLoopFree c chain × (15 < length (expansion c chain))
-Breaks t c (ServiceTwice chain service) = Any (λ d. d.name ≡ chain) c.chains × IsLoopFree c chain × (s : Service) × (u : Service) × (u.name ≡ service) × ShareNumber (expansion c chain) s u
-Breaks t c (SubnetOverlap first second) = Any (λ n. (a : Network) × (b : Network) × (a.name ≡ first) × (b.name ≡ second) × OverlapAround c n a b) c.networks
+Breaks t c (ChainTooLong chain) =
+    Any (λ d. d.name ≡ chain) c.chains × IsLoopFree c chain × (15 < length (expansion c chain))
+Breaks t c (ServiceTwice chain service) =
+    Any (λ d. d.name ≡ chain) c.chains × IsLoopFree c chain × (s : Service) × (u : Service) × (u.name ≡ service)
+    × ShareNumber (expansion c chain) s u
+Breaks t c (SubnetOverlap first second) =
+    Any (λ n. (a : Network) × (b : Network) × (a.name ≡ first) × (b.name ≡ second) × OverlapAround c n a b) c.networks

@@ -23,10 +23,11 @@ pub fn what_breaks_a_rule_is_not_valid()
 
 /// What breaks a rule is refused by that rule or by an earlier one, in the written order.
 pub fn what_breaks_a_rule_is_refused_by_it_or_earlier()
-    ensures { (t : Topology) (c : Config) (r : Refusal) → Breaks t c r → IsBrokenBy (rule_number r) (first_broken t c) }
+    ensures { (t : Topology) (c : Config) (r : Refusal) → Breaks t c r
+        → IsBrokenBy (rule_number r) (first_broken t c) }
 {}
 
-/// What a refusal of subnets, ports, chain rules or chains names is the first in the document that breaks its rule.
+/// What a refusal names is the first in the document that breaks its rule.
 pub fn what_is_named_comes_first()
-    ensures { (t : Topology) (c : Config) (r : Refusal) → first_broken t c ≡ Some r → NamesFirst c r }
+    ensures { (t : Topology) (c : Config) (r : Refusal) → first_broken t c ≡ Some r → NamesFirst t c r }
 {}

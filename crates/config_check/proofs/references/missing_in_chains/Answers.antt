@@ -1,0 +1,6 @@
+use Rattle.std.proofs.Common.{rules, ap}
+use Rattle.config_check.specs.Rules.{missing_in_chain}
+use Rattle.config_check.proofs.references.missing_in_chains.Goals as goal
+
+pub returns : goal.returns
+returns c = c.first_of.ensures (missing_in_chain c.args.hops.now) (λ x r h. search (rules, h.says.met, h.shows, ap))
