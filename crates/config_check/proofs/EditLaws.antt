@@ -134,6 +134,7 @@ missing_iff {A} name_of name xs = (by (place_of name_of name xs) refl, λ all no
     by : (o : Option ℕ) → place_of name_of name xs ≡ o → ((if is_some o then None else Some name) ≢ None) → All (λ y. name_of y ≢ name) xs
     by None at h = none_named name_of name xs at
     by (Some i) at h = absurd (h refl)
+
     never : place_of name_of name xs ≡ None → missing_in name_of name xs ≡ None → ⊥
     never at none = let one : Some name ≡ None = rw at at none in cc
 

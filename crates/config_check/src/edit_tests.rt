@@ -41,10 +41,7 @@ const CASES: [(&str, &str); 15] = [
         r#"{"put":{"service":{"name":"ids","id":2,"node":"n1"}}}"#,
         "red,blue, vm1@10.1.0.1,vm2@10.1.0.2,vm3@10.2.0.3, web, fw,ids, safe,",
     ),
-    (
-        r#"{"put":{"chain":{"name":"safe","hops":["fw"]}}}"#,
-        BEFORE,
-    ),
+    (r#"{"put":{"chain":{"name":"safe","hops":["fw"]}}}"#, BEFORE),
     (
         r#"{"delete":{"port":"vm1"}}"#,
         "red,blue, vm2@10.1.0.2,vm3@10.2.0.3, web, fw, safe,",

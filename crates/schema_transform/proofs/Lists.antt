@@ -32,10 +32,10 @@ module _ {A B : Type 0} (f : A → Option B) where
   gives (y ∷ xs) x u within is =
       elim (contains_cases y xs x within) [
         | inl same ↦
-          subst (λ (o : Option B). Contains (cons_option o (filter_map f xs)) u) (sym (ap f same ∙ is)) (contains_here u (filter_map f xs))
+            subst (λ (o : Option B). Contains (cons_option o (filter_map f xs)) u) (sym (ap f same ∙ is)) (contains_here u (filter_map f xs))
         | inr later ↦
-          let h = gives xs x u later is in
-          elim (f y) as (λ o. Contains (cons_option o (filter_map f xs)) u) [ None ↦ h | Some v ↦ contains_later u v (filter_map f xs) h ]
+            let h = gives xs x u later is in
+            elim (f y) as (λ o. Contains (cons_option o (filter_map f xs)) u) [ None ↦ h | Some v ↦ contains_later u v (filter_map f xs) h ]
       ]
 
   -- what f gives of all items, where it gives something

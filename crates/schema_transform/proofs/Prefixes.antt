@@ -34,7 +34,7 @@ prefixes_differ t c n p q r s blocks pairs in_p in_q differ from_p from_q same =
     let a = named c p.network x.home x.is in
     let b = named c q.network y.home y.is in
     let address : p.address.0 ≡ q.address.0 =
-      ap (λ (k : Block). k.addr) (sym (ap (λ (u : Row). u.0.1) x.route) ∙ same ∙ ap (λ (u : Row). u.0.1) y.route) in
+    ap (λ (k : Block). k.addr) (sym (ap (λ (u : Row). u.0.1) x.route) ∙ same ∙ ap (λ (u : Row). u.0.1) y.route) in
     let here = inside_home c p x.home x.is in_p in
     let there = subst (λ (k : ℕ). Any (λ u. contains u k ≡ true) y.home.subnets) (sym address) (inside_home c q y.home y.is in_q) in
     let one : x.home ≡ y.home = one_home c n x.home y.home p.address.0 blocks pairs a.1 b.1 (is_around c n x.home x.imported) (is_around c n y.home y.imported) here there in
