@@ -6,7 +6,6 @@ use Rattle.ov_types.specs.Prefix.{Block, contains}
 use Rattle.ov_types.specs.First.{same_name, ◌<|>◌, first_of, first_meeting}
 use Rattle.config_model.specs.declared.config.Chain.{Chain}
 use Rattle.config_model.specs.declared.config.Config.{Config}
-use Rattle.config_model.specs.declared.config.End.TheVariants as Ends
 use Rattle.config_model.specs.declared.config.Network.{Network}
 use Rattle.config_model.specs.declared.config.Port.{Port}
 use Rattle.config_model.specs.declared.config.Service.{Service}
