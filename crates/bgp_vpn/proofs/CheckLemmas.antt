@@ -1,7 +1,7 @@
 -- The checks on attributes, one after the other.
 use Rattle.std.proofs.Common.{◌≡◌, ◌≢◌, ◌<◌, ◌==◌, ℕ, List, [], ◌∷◌, ◌++◌, length, get_or, replicate, refl, ap, sym, ◌∙◌, Option, Some, None, Bool, true, false, not, ◌||◌, subst, arith}
 use Rattle.std.proofs.Math.ListN.{set, length-set}
-use Rattle.std.proofs.lemmas.List.{get_or-replicate, get_or-set_same, get_or-set_other, length-replicate}
+use Rattle.std.proofs.lemmas.List.{append_assoc, append-nil, get_or-replicate, get_or-set_same, get_or-set_other, length-replicate}
 use Rattle.std.proofs.lemmas.List.Folds.{list_any-append}
 use Rattle.std.proofs.lemmas.Bool.{eqb-true, eqb-false, ne_eqb}
 use Rattle.bgp_wire.specs.declared.fault.WireFault.{WireFault}
@@ -19,6 +19,7 @@ pub record Marks (marked : List Bool) (others : List AttributeFields) : Type 0 w
 abbrev pub FaultsLeft : Bool → List ℕ → List ℕ → List AttributeFields → Type 0
 FaultsLeft routes_follow octets rest others = (all : List AttributeFields) (tail : List ℕ) → AreAttributes octets all tail
     → (left : List AttributeFields) × AreAttributes rest left tail × (attributes_fault routes_follow [] all ≡ attributes_fault routes_follow others left)
+    × (all ≡ others ++ left)
 
 pub record Passed (routes_follow : Bool) (octets rest : List ℕ) (others : List AttributeFields) (marked : List Bool) : Type 0 where
   pub marks : Marks marked others
@@ -30,7 +31,7 @@ passed_none routes_follow octets rest marked is same = record {
     size = ap length is ∙ length-replicate 256 false;
     each = λ k below. ap (λ (m : List Bool). get_or m k false) is ∙ get_or-replicate 256 k false false below;
   };
-  faults = λ all tail are. (all, subst (λ (o : List ℕ). AreAttributes o all tail) same are, refl);
+  faults = λ all tail are. (all, subst (λ (o : List ℕ). AreAttributes o all tail) same are, refl, refl);
 }
 
 or_true : (a : Bool) → (a || true) ≡ true
@@ -109,6 +110,14 @@ all_pass routes_follow octets rest others faults end all tail are =
     none_first _ _ (now.2 ∙ ap (attributes_fault routes_follow others) none.0)
     ∙ ap (λ (t : List ℕ). fault_if (not (length t == 0)) malformed_attributes) none.1
 
+-- and these are all
+pub all_passed : (routes_follow : Bool) (octets rest : List ℕ) (others : List AttributeFields) → FaultsLeft routes_follow octets rest others → rest ≡ []
+    → (all : List AttributeFields) (tail : List ℕ) → AreAttributes octets all tail → others ≡ all
+all_passed routes_follow octets rest others faults end all tail are =
+    let now = faults all tail are in
+    let none = nothing_behind rest tail now.0 now.1 end in
+    sym (now.3 ∙ ap (λ (xs : List AttributeFields). others ++ xs) none.0 ∙ append-nil others)
+
 pub twice_fails : (routes_follow : Bool) (others : List AttributeFields) (a : AttributeFields) → has_kind others a.kind ≡ true
     → attribute_fault routes_follow others a ≡ Some malformed_attributes
 twice_fails routes_follow others a twice =
@@ -131,5 +140,6 @@ passed_more routes_follow octets rest after others marked a small passed begins 
         less.are,
         now.2 ∙ ap (attributes_fault routes_follow others) less.is
             ∙ none_first _ _ (own_fails routes_follow others a once ∙ passes),
+        now.3 ∙ ap (λ (xs : List AttributeFields). others ++ xs) less.is ∙ sym (append_assoc others (a ∷ []) less.others),
       );
 }

@@ -1,7 +1,7 @@
 pub mod PieceLemmas
 pub mod RouteLemmas
 pub mod ValueLemmas
-pub mod FindLemmas
+pub mod FoundLemmas
 pub mod CheckLemmas
 pub mod UpdateLemmas
 pub mod SpellingLemmas

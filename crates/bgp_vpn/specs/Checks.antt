@@ -90,11 +90,18 @@ attributes_fault routes_follow others (a ∷ attributes) =
 abbrev pub routes_follow_in : UpdateFields → Bool
 routes_follow_in parts = not (length parts.routes == 0)
 
--- an attribute that the message lacks: ORIGIN and AS_PATH go with each route, and NEXT_HOP with each plain one
+-- an attribute that is lacking, by whether plain routes follow and by which attributes are there: ORIGIN and AS_PATH go with each
+-- route, and NEXT_HOP with each plain one
+abbrev pub lacking_fault : (routes_follow reach origin as_path next_hop : Bool) → Option WireFault
+lacking_fault routes_follow reach origin as_path next_hop =
+    fault_if ((reach || routes_follow) && not (origin && as_path)) missing_well_known
+    then_check fault_if (routes_follow && not next_hop) missing_well_known
+
+-- an attribute that the message lacks
 abbrev pub missing_fault : Bool → List AttributeFields → Option WireFault
 missing_fault routes_follow attributes =
-    fault_if ((is_some (value_at 14 attributes) || routes_follow) && not (is_some (value_at 1 attributes) && is_some (value_at 2 attributes))) missing_well_known
-    then_check fault_if (routes_follow && not (is_some (value_at 3 attributes))) missing_well_known
+    lacking_fault routes_follow (is_some (value_at 14 attributes)) (is_some (value_at 1 attributes))
+    (is_some (value_at 2 attributes)) (is_some (value_at 3 attributes))
 
 -- the first check that fails on an UPDATE whose attributes are these and then a tail, which is nothing or a cut attribute
 abbrev pub update_fault : UpdateFields → List AttributeFields → List ℕ → Option WireFault

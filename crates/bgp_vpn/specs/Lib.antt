@@ -2,6 +2,7 @@ pub mod Pieces
 pub mod Profile
 pub mod Routes
 pub mod Values
+pub mod Found
 pub mod Checks
 pub mod Updates
 pub mod Spelled

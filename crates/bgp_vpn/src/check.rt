@@ -1,19 +1,16 @@
 //! The checks on an UPDATE, in order.
-ghost use Rattle.std.specs.Prelude.{◌≡◌, ◌<◌, ℕ, List, [], slice_index_or, slice_set, length, not, ◌==◌, false, true, is_some};
+ghost use Rattle.std.specs.Prelude.{◌≡◌, ◌<◌, ℕ, List, [], slice_index_or, slice_set, length, not, ◌==◌, false, true, is_some, option_copied, IfOk};
 ghost use Rattle.bgp_wire.specs.Faults.{Checks, fault_if, ◌then_check◌, malformed_attributes};
 ghost use Rattle.bgp_wire.specs.Attributes.{AttributeFields, AreAttributes, fields_of};
 ghost use Rattle.bgp_wire.specs.Messages.{AreOctets};
-ghost use Rattle.bgp_vpn.specs.Checks.{is_wrong_length, known_fault, own_fault, attributes_fault, missing_fault, update_fault};
-ghost use Rattle.bgp_vpn.specs.Values.{value_at};
+ghost use Rattle.bgp_vpn.specs.Checks.{is_wrong_length, known_fault, own_fault, attributes_fault, lacking_fault, missing_fault, update_fault};
+ghost use Rattle.bgp_vpn.specs.Found.{IsFound};
 ghost use Rattle.bgp_vpn.specs.Updates.{parts_of};
 
 use crate::check_value::check_value;
 use crate::fault::{ATTRIBUTE_FLAGS, INVALID_NETWORK, MISSING_WELL_KNOWN, UNRECOGNIZED_WELL_KNOWN};
-use crate::find::value_of;
-use crate::known::{
-    AS_PATH, EXTENDED_COMMUNITIES, MP_REACH_NLRI, NEXT_HOP, OPTIONAL, OPTIONAL_AND_TRANSITIVE,
-    ORIGIN,
-};
+use crate::found::Found;
+use crate::known::{EXTENDED_COMMUNITIES, OPTIONAL, OPTIONAL_AND_TRANSITIVE};
 use crate::pieces::are_prefixes;
 use crate::profile::{flags_in, greatest_in, least_in, row_of, subcode_in};
 use bgp_wire::{Attribute, MALFORMED_ATTRIBUTES, UpdatePart, WireFault, attributes};
@@ -67,58 +64,70 @@ fn mark(marked: &mut [bool; 256], kind: u8) -> bool
 }
 
 /// The attributes one after the other, each wholly before the next.
-fn check_attributes(routes_follow: bool, part: &UpdatePart<'_>) -> Result<(), WireFault>
+fn check_attributes<'a>(routes_follow: bool, part: &UpdatePart<'a>) -> Result<Found<'a>, WireFault>
     ensures octets { AreOctets part.now.attributes.now }
     ensures checks { (all : List AttributeFields) (tail : List ℕ) → AreAttributes part.now.attributes.now all tail
         → Checks result (attributes_fault routes_follow [] all then_check fault_if (not (length tail == 0)) malformed_attributes) }
+    ensures found { IfOk result (λ found. (all : List AttributeFields) (tail : List ℕ)
+        → AreAttributes part.now.attributes.now all tail → IsFound found all) }
 {
     let mut marked = [false; 256];
+    let mut found = Found::nothing();
     for item in attributes(part) {
         let attribute = item?;
         if mark(&mut marked, attribute.kind) {
             return Err(MALFORMED_ATTRIBUTES);
         }
         check_attribute(routes_follow, &attribute)?;
+        found.add(&attribute);
     }
-    Ok(())
+    Ok(found)
 }
 
-fn has_kind(part: &UpdatePart<'_>, kind: u8) -> bool
-    ensures { (all : List AttributeFields) (tail : List ℕ) → AreAttributes part.now.attributes.now all tail
-        → result ≡ is_some (value_at kind all) }
+fn is_there(value: Option<&[u8]>) -> bool
+    ensures { result ≡ is_some (option_copied value.entry) }
 {
-    value_of(part, kind).is_some()
+    value.is_some()
 }
 
 /// An attribute that has to be there with the routes that are there.
-fn check_missing(routes_follow: bool, part: &UpdatePart<'_>) -> Result<(), WireFault>
-    ensures { (all : List AttributeFields) (tail : List ℕ) → AreAttributes part.now.attributes.now all tail
-        → Checks result (missing_fault routes_follow all) }
+fn check_lacking(routes_follow: bool, found: &Found<'_>) -> Result<(), WireFault>
+    ensures { Checks result (lacking_fault routes_follow (is_some (option_copied found.now.reach))
+        (is_some (option_copied found.now.origin)) (is_some (option_copied found.now.as_path))
+        (is_some (option_copied found.now.next_hop))) }
 {
-    if (has_kind(part, MP_REACH_NLRI) || routes_follow)
-        && !(has_kind(part, ORIGIN) && has_kind(part, AS_PATH))
-    {
+    let whole = is_there(found.origin) && is_there(found.as_path);
+    if (is_there(found.reach) || routes_follow) && !whole {
         return Err(MISSING_WELL_KNOWN);
     }
-    if routes_follow && !has_kind(part, NEXT_HOP) {
+    if routes_follow && !is_there(found.next_hop) {
         return Err(MISSING_WELL_KNOWN);
     }
     Ok(())
 }
 
-/// All checks, in order.
-pub(crate) fn check_update(part: &UpdatePart<'_>) -> Result<(), WireFault>
+fn check_missing(routes_follow: bool, found: &Found<'_>) -> Result<(), WireFault>
+    ensures { (all : List AttributeFields) → IsFound found.now all → Checks result (missing_fault routes_follow all) }
+{
+    check_lacking(routes_follow, found)
+}
+
+/// All checks, in order, and the attributes that were found on the way.
+pub(crate) fn check_update<'a>(part: &UpdatePart<'a>) -> Result<Found<'a>, WireFault>
     ensures octets { AreOctets part.now.attributes.now }
     ensures checks { (all : List AttributeFields) (tail : List ℕ) → AreAttributes part.now.attributes.now all tail
         → Checks result (update_fault (parts_of part.now) all tail) }
+    ensures found { IfOk result (λ found. (all : List AttributeFields) (tail : List ℕ)
+        → AreAttributes part.now.attributes.now all tail → IsFound found all) }
 {
     let routes_follow = !part.routes.is_empty();
-    check_attributes(routes_follow, part)?;
+    let found = check_attributes(routes_follow, part)?;
     if !are_prefixes(part.withdrawn, 0, 32) {
         return Err(INVALID_NETWORK);
     }
     if !are_prefixes(part.routes, 0, 32) {
         return Err(INVALID_NETWORK);
     }
-    check_missing(routes_follow, part)
+    check_missing(routes_follow, &found)?;
+    Ok(found)
 }

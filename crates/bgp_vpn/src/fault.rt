@@ -2,12 +2,15 @@
 
 use bgp_wire::WireFault;
 use ov_types::NoMemory;
+use thiserror::Error;
 
 /// Why an UPDATE is not read.
-#[derive(Clone, Copy, Debug, PartialEq, Eq)]
+#[derive(Clone, Copy, Debug, PartialEq, Eq, Error)]
 pub enum UpdateFault {
     /// What is wrong with the message.
+    #[error(transparent)]
     Wire(WireFault),
+    #[error("want of memory")]
     NoMemory,
 }
 

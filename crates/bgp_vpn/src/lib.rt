@@ -4,7 +4,7 @@
 mod check;
 mod check_value;
 mod fault;
-mod find;
+mod found;
 mod known;
 pub mod laws;
 mod octets;

@@ -6,6 +6,7 @@ use bgp_wire::{Message, UpdatePart, WireFault, read_message};
 use ov_sync::Delta;
 use ov_types::{Addr, Label, Prefix, Rd, Target, Targets, VpnKey, VpnRoute};
 use std::alloc::{AllocError, Global};
+use std::process::Abort;
 use std::test::Fail;
 
 fn nibble(digit: u8) -> u8 {
@@ -37,6 +38,76 @@ fn octets(alloc: Global, text: &str) -> Result<Vec<u8>, AllocError> {
     Ok(octets)
 }
 
+// The octets of an UPDATE's attributes, of its plain routes and of its withdrawn routes.
+fn read_parts(
+    alloc: Global,
+    attributes: &str,
+    routes: &str,
+    withdrawn: &str,
+) -> Result<Result<Vec<Delta<VpnKey, VpnRoute>>, UpdateFault>, AllocError> {
+    let attributes = octets(alloc, attributes)?;
+    let routes = octets(alloc, routes)?;
+    let withdrawn = octets(alloc, withdrawn)?;
+    let part = UpdatePart {
+        withdrawn: withdrawn.as_slice(),
+        attributes: attributes.as_slice(),
+        routes: routes.as_slice(),
+    };
+    Ok(read_update(alloc, &part))
+}
+
+fn check_refused(
+    rt: &impl Abort,
+    alloc: Global,
+    attributes: &str,
+    routes: &str,
+    withdrawn: &str,
+    subcode: u8,
+) -> Result<(), AllocError> {
+    match read_parts(alloc, attributes, routes, withdrawn)? {
+        Ok(_) => assert!(rt; false, "{attributes} has no fault"),
+        Err(fault) => {
+            let wanted = UpdateFault::Wire(WireFault { code: 3, subcode });
+            assert_eq!(rt; fault, wanted, "at {attributes}");
+        }
+    }
+    Ok(())
+}
+
+#[test]
+fn flags_and_lengths_are_those_of_the_table(rt: HostRuntime) -> Result<(), Fail> {
+    for (attributes, subcode) in [
+        ("80010100", 4),
+        ("00010100", 4),
+        ("c0010100", 4),
+        ("800200", 4),
+        ("800304 01000000", 4),
+        ("400404 00000000", 4),
+        ("c0050400000064", 4),
+        ("800600", 4),
+        ("c00e05 0002010000", 4),
+        ("400f03 000201", 4),
+        ("801000", 4),
+        ("401000", 4),
+        ("400100", 5),
+        ("4001020000", 5),
+        ("400303010203", 5),
+        ("4003050102030405", 5),
+        ("800403000000", 5),
+        ("8004050000000000", 5),
+        ("400503000000", 5),
+        ("4005050000000000", 5),
+        ("40060100", 5),
+        ("c01007 00000000000000", 5),
+        ("c01009 000000000000000000", 5),
+        ("800e04 00020100", 9),
+        ("800f02 0002", 9),
+    ] {
+        check_refused(&rt, rt.alloc(), attributes, "", "", subcode)?;
+    }
+    Ok(())
+}
+
 #[test]
 fn the_first_check_that_fails_is_the_fault(rt: HostRuntime) -> Result<(), Fail> {
     for (attributes, subcode) in [
@@ -46,101 +117,119 @@ fn the_first_check_that_fails_is_the_fault(rt: HostRuntime) -> Result<(), Fail> 
         ("40010100 40010100", 1),
         ("80ff00 80ff00", 1),
         ("40ff00", 2),
-        ("80010100", 4),
-        ("c0050400000064", 4),
-        ("4001020000", 5),
-        ("400303010203", 5),
-        ("80040400000000 400503000000", 5),
-        ("40060100", 5),
-        ("c01007 00000000000000", 5),
-        ("800e04 00018000", 9),
-        ("800f02 0001", 9),
+        ("8001020303", 4),
+        ("4001020303", 5),
         ("40010103", 6),
         ("40010103 40", 6),
         ("400204 03010001", 11),
+        ("400204 00010001", 11),
         ("400202 0200", 11),
         ("400203 020100", 11),
+        ("400203 0101fc", 11),
         ("800e09 000180 04 c000020b 00", 9),
         ("800e05 000180 0c 00", 9),
         ("800f0f 000180 57 0000000000000000000000", 9),
         ("800f14 000180 79 00000000000000000000000000000000", 9),
         ("800f04 000180 78", 9),
         ("800e05 0002010000", 3),
+        ("800e05 0002010000 40010100", 3),
+        ("800e05 0002010000 400200", 3),
     ] {
-        let octets_of_attributes = octets(rt.alloc(), attributes)?;
-        let part = UpdatePart {
-            withdrawn: &[],
-            attributes: octets_of_attributes.as_slice(),
-            routes: &[],
-        };
-        match read_update(rt.alloc(), &part) {
-            Ok(_) => assert!(rt; false, "{attributes} has no fault"),
-            Err(fault) => {
-                assert_eq!(rt;
-                    fault,
-                    UpdateFault::Wire(WireFault { code: 3, subcode }),
-                    "at {attributes}"
-                );
-            }
-        }
+        check_refused(&rt, rt.alloc(), attributes, "", "", subcode)?;
     }
     Ok(())
 }
 
 #[test]
 fn plain_routes_are_checked(rt: HostRuntime) -> Result<(), Fail> {
-    for (withdrawn, attributes, routes, subcode) in [
-        (
-            [].as_slice(),
-            [0x40, 0x03, 0x04, 0x00, 0xff, 0xff, 0xff].as_slice(),
-            [0x00].as_slice(),
-            8,
-        ),
-        (
-            [].as_slice(),
-            [0x40, 0x03, 0x04, 0xe0, 0x00, 0x00, 0x00].as_slice(),
-            [0x00].as_slice(),
-            8,
-        ),
-        (
-            [0x21, 0x00, 0x00, 0x00, 0x00, 0x00].as_slice(),
-            [].as_slice(),
-            [].as_slice(),
-            10,
-        ),
-        ([0x08].as_slice(), [].as_slice(), [].as_slice(), 10),
-        (
-            [].as_slice(),
-            [].as_slice(),
-            [0x21, 0x00, 0x00, 0x00, 0x00, 0x00].as_slice(),
-            10,
-        ),
-        ([].as_slice(), [].as_slice(), [0x08].as_slice(), 10),
-        (
-            [].as_slice(),
-            [0x40, 0x01, 0x01, 0x00].as_slice(),
-            [0x00].as_slice(),
-            3,
-        ),
-        (
-            [].as_slice(),
-            [0x40, 0x01, 0x01, 0x00, 0x40, 0x02, 0x00].as_slice(),
-            [0x00].as_slice(),
-            3,
-        ),
+    for (attributes, routes, withdrawn, subcode) in [
+        ("40030400ffffff", "00", "", 8),
+        ("400304e0000000", "00", "", 8),
+        ("40010103", "21", "21", 6),
+        ("", "", "210000000000", 10),
+        ("", "", "08", 10),
+        ("", "210000000000", "", 10),
+        ("", "08", "", 10),
+        ("40010100", "00", "", 3),
+        ("40010100 400200", "00", "", 3),
+        ("400200 40030401000000", "00", "", 3),
     ] {
-        let part = UpdatePart {
-            withdrawn,
-            attributes,
-            routes,
-        };
-        match read_update(rt.alloc(), &part) {
-            Ok(_) => assert!(rt; false, "{attributes:?} and {routes:?} have no fault"),
-            Err(fault) => {
-                assert_eq!(rt; fault, UpdateFault::Wire(WireFault { code: 3, subcode }));
-            }
+        check_refused(&rt, rt.alloc(), attributes, routes, withdrawn, subcode)?;
+    }
+    Ok(())
+}
+
+#[test]
+fn what_is_passed_over_is_accepted(rt: HostRuntime) -> Result<(), Fail> {
+    for (attributes, routes, withdrawn) in [
+        ("", "", ""),
+        ("40010100", "", ""),
+        ("40010101", "", ""),
+        ("6f010102", "", ""),
+        ("400206 0101fc00 0201fc01", "", ""),
+        ("400206 0102fc00fc01", "", ""),
+        ("400304e0000000", "", ""),
+        ("40030400000000", "", ""),
+        ("800404ffffffff", "", ""),
+        ("400504ffffffff", "", ""),
+        ("400600", "", ""),
+        ("a00e05 0002010000 40010100 400200", "", ""),
+        ("800e05 0101800c00 40010100 400200", "", ""),
+        ("800e07 000280ffffffff 40010100 400200", "", ""),
+        ("800e07 000101ffffffff 40010100 400200", "", ""),
+        ("800f05 0101800101", "", ""),
+        ("800f05 0002800101", "", ""),
+        ("a00f03 000180", "", ""),
+        ("c01000", "", ""),
+        ("e01008 0002fc0000000001", "", ""),
+        ("80ff01aa", "", ""),
+        ("400600", "", "00 20ffffffff"),
+        ("40010100 400200 40030401000000", "00 20ffffffff", ""),
+        ("40010100 400200 400304dfffffff", "00", ""),
+    ] {
+        match read_parts(rt.alloc(), attributes, routes, withdrawn)? {
+            Ok(deltas) => assert_eq!(rt; deltas.len(), 0, "at {attributes}"),
+            Err(fault) => assert!(rt; false, "{attributes} has the fault {fault}"),
         }
     }
+    Ok(())
+}
+
+#[test]
+fn communities_of_types_0_to_2_are_targets(rt: HostRuntime) -> Result<(), Fail> {
+    let read = read_parts(
+        rt.alloc(),
+        "40010100 400200
+        800e20 0001 80 0c 0000000000000000c000020b 00 70 000171 0001c000020b0001 0a0100
+        c01030 0302fc0000000001 0202fc0000000002 4002fc0000000003
+            0102fc0000000004 0002fc0000000005 0003fc0000000006",
+        "",
+        "",
+    )?;
+    let deltas = read?;
+    let [Delta::Put(_, route)] = deltas.as_slice() else {
+        return Err("one put".into());
+    };
+    assert_eq!(rt;
+        route.targets.items(),
+        [
+            Target(0x0002_fc00_0000_0005),
+            Target(0x0102_fc00_0000_0004),
+            Target(0x0202_fc00_0000_0002)
+        ]
+        .as_slice()
+    );
+    Ok(())
+}
+
+#[test]
+fn faults_are_written_as_their_numbers(rt: HostRuntime) -> Result<(), Fail> {
+    let wire = UpdateFault::Wire(WireFault {
+        code: 3,
+        subcode: 9,
+    });
+    let text = format!(in rt.alloc(); "{wire}; {}", UpdateFault::NoMemory)?;
+    assert_eq!(rt; text.as_str(), "a BGP message error, 3/9; want of memory");
     Ok(())
 }
 

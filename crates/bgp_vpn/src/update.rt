@@ -7,15 +7,14 @@ ghost use Rattle.bgp_wire.specs.declared.fault.WireFault.{WireFault};
 ghost use Rattle.bgp_wire.specs.Attributes.{AttributeFields, AreAttributes};
 ghost use Rattle.bgp_vpn.specs.Routes.{RouteFields, AreRoutes, drop_of, put_of};
 ghost use Rattle.bgp_vpn.specs.Values.{routes_behind, targets_among, reached_octets, withdrawn_octets, next_hop_of};
+ghost use Rattle.bgp_vpn.specs.Found.{IsFound};
 ghost use Rattle.bgp_vpn.specs.Updates.{parts_of, changes_of, Changes, HasUpdateFault, IfWire};
 
 use crate::check::check_update;
 use crate::check_value::is_vpn;
 use crate::fault::UpdateFault;
-use crate::find::value_of;
-use crate::known::{
-    EXTENDED_COMMUNITIES, MP_REACH_NLRI, MP_UNREACH_NLRI, REACH_SIZE, UNREACH_SIZE,
-};
+use crate::found::Found;
+use crate::known::{REACH_SIZE, UNREACH_SIZE};
 use crate::octets::address_in;
 use crate::route::{key_of, label_of, split_route};
 use crate::targets::targets_among;
@@ -76,22 +75,20 @@ fn push_puts(
 }
 
 /// The changes that the attributes make.
-fn changes(alloc: Global, part: &UpdatePart<'_>) -> Result<Vec<Delta<VpnKey, VpnRoute>>, NoMemory>
+fn changes(alloc: Global, found: &Found<'_>) -> Result<Vec<Delta<VpnKey, VpnRoute>>, NoMemory>
     ensures { IfOk result (λ deltas. (all : List AttributeFields) (withdrawn reached : List RouteFields)
-        → AreAttributes part.now.attributes.now all []
+        → IsFound found.now all
         → AreRoutes (withdrawn_octets all) withdrawn → AreRoutes (reached_octets all) reached
         → deltas.items ≡ changes_of all withdrawn reached) }
 {
     let mut deltas = Vec::new(alloc);
-    let unreach = value_of(part, MP_UNREACH_NLRI);
-    push_drops(routes_behind(UNREACH_SIZE, unreach), &mut deltas)?;
-    let reach = value_of(part, MP_REACH_NLRI);
-    let targets = targets_among(alloc, value_of(part, EXTENDED_COMMUNITIES).unwrap_or(&[]))?;
+    push_drops(routes_behind(UNREACH_SIZE, found.unreach), &mut deltas)?;
+    let targets = targets_among(alloc, found.communities.unwrap_or(&[]))?;
     let announced = Announced {
-        next_hop: next_hop_in(reach),
+        next_hop: next_hop_in(found.reach),
         targets: &targets,
     };
-    push_puts(routes_behind(REACH_SIZE, reach), announced, &mut deltas)?;
+    push_puts(routes_behind(REACH_SIZE, found.reach), announced, &mut deltas)?;
     Ok(deltas)
 }
 
@@ -121,6 +118,6 @@ pub fn read_update(
         → MatchResult result (λ found. found.items ≡ deltas) (λ e. e ≡ UpdateFault.NoMemory) }
     ensures every_fault { (f : WireFault) → HasUpdateFault (parts_of part.now) f → result ≡ Err (UpdateFault.Wire f) }
 {
-    check_update(part)?;
-    Ok(changes(alloc, part)?)
+    let found = check_update(part)?;
+    Ok(changes(alloc, &found)?)
 }

@@ -9,7 +9,7 @@ use Rattle.bgp_wire.specs.declared.fault.WireFault.{WireFault}
 use Rattle.bgp_wire.specs.declared.kind.Kind.{Kind}
 use Rattle.bgp_wire.specs.declared.kind.Kind.TheVariants.{Open, Update, Notification, Keepalive}
 use Rattle.bgp_wire.specs.Content.{OpenFields, UpdateFields, Content, Opens, Updates, Notifies, KeepsAlive}
-use Rattle.bgp_wire.specs.Opens.{HasFaultyParameter, IsOpen, open_fault, version_at, asn_at, hold_at, id_at, parameters_length_at, HasOpenFault}
+use Rattle.bgp_wire.specs.Opens.{HasFaultyParameter, IsOpen, open_fault, version_at, my_as_at, hold_at, id_at, parameters_length_at, HasOpenFault}
 use Rattle.bgp_wire.specs.Updates.{IsUpdate, update_fault, withdrawn_length_at, attributes_length_at}
 use Rattle.bgp_wire.specs.Frames.{least, greatest}
 use Rattle.bgp_wire.specs.Messages.{AreOctets, IsBody, HasBodyFault}
@@ -20,10 +20,10 @@ use Rattle.bgp_wire.proofs.Exclusion.{never_both_parameters, one_faulty_paramete
 
 -- the octets of an OPEN's body with these fields
 abbrev spelled_open : OpenFields → List ℕ
-spelled_open p = shape 4 (big_bytes 2 p.asn) (big_bytes 2 p.hold) (big_bytes 4 p.id) (length p.parameters) p.parameters
+spelled_open p = shape 4 (big_bytes 2 p.my_as) (big_bytes 2 p.hold) (big_bytes 4 p.id) (length p.parameters) p.parameters
 
-asn_back : (p : OpenFields) → p.asn < 2 ^ 16 → asn_at (spelled_open p) ≡ p.asn
-asn_back p small = big_number-reads_back 2 p.asn (drop 3 (spelled_open p)) small
+asn_back : (p : OpenFields) → p.my_as < 2 ^ 16 → my_as_at (spelled_open p) ≡ p.my_as
+asn_back p small = big_number-reads_back 2 p.my_as (drop 3 (spelled_open p)) small
 
 hold_back : (p : OpenFields) → p.hold < 2 ^ 16 → hold_at (spelled_open p) ≡ p.hold
 hold_back p small = big_number-reads_back 2 p.hold (drop 5 (spelled_open p)) small
@@ -34,7 +34,7 @@ id_back p small = big_number-reads_back 4 p.id (drop 9 (spelled_open p)) small
 -- an OPEN's body passes its checks, and has its fields at their places
 record OpenBack (body : List ℕ) (p : OpenFields) : Type 0 where
   none : open_fault body ≡ None
-  asn : asn_at body ≡ p.asn
+  my_as : my_as_at body ≡ p.my_as
   hold : hold_at body ≡ p.hold
   id : id_at body ≡ p.id
   parameters : drop 10 body ≡ p.parameters
@@ -48,7 +48,7 @@ open_none body passes =
 
 spelled_back : (body : List ℕ) (p : OpenFields) → IsOpen body p → OpenBack (spelled_open p) p
 spelled_back body p is =
-    let asn = asn_back p is.asn in
+    let asn = asn_back p is.my_as in
     let hold = hold_back p is.hold in
     let id = id_back p is.id in
     record {
@@ -59,7 +59,7 @@ spelled_back body p is =
         identifier = λ e. is.identifier (sym id ∙ e);
         fills = omega arith;
       });
-      asn = asn;
+      my_as = asn;
       hold = hold;
       id = id;
       parameters = refl;
@@ -69,16 +69,16 @@ open_back : (body : List ℕ) (p : OpenFields) → IsOpen body p → OpenBack bo
 open_back body p is = subst (λ (b : List ℕ). OpenBack b p) (sym is.spelled) (spelled_back body p is)
 
 abbrev fields_of : ℕ → ℕ → ℕ → List ℕ → OpenFields
-fields_of asn hold id parameters = record { asn = asn; hold = hold; id = id; parameters = parameters }
+fields_of asn hold id parameters = record { my_as = asn; hold = hold; id = id; parameters = parameters }
 
 one_open : (body : List ℕ) (p q : OpenFields) → IsOpen body p → IsOpen body q → p ≡ q
 one_open body p q a b =
     let x = open_back body p a in
     let y = open_back body q b in
-    ap (λ (n : ℕ). fields_of n p.hold p.id p.parameters) (sym x.asn ∙ y.asn)
-    ∙ ap (λ (n : ℕ). fields_of q.asn n p.id p.parameters) (sym x.hold ∙ y.hold)
-    ∙ ap (λ (n : ℕ). fields_of q.asn q.hold n p.parameters) (sym x.id ∙ y.id)
-    ∙ ap (fields_of q.asn q.hold q.id) (sym x.parameters ∙ y.parameters)
+    ap (λ (n : ℕ). fields_of n p.hold p.id p.parameters) (sym x.my_as ∙ y.my_as)
+    ∙ ap (λ (n : ℕ). fields_of q.my_as n p.id p.parameters) (sym x.hold ∙ y.hold)
+    ∙ ap (λ (n : ℕ). fields_of q.my_as q.hold n p.parameters) (sym x.id ∙ y.id)
+    ∙ ap (fields_of q.my_as q.hold q.id) (sym x.parameters ∙ y.parameters)
 
 -- where no check fails, a fault is one of the parameters
 faulty_parameters : (body : List ℕ) (f : WireFault) → open_fault body ≡ None → HasOpenFault body f → HasFaultyParameter (drop 10 body) f
@@ -108,7 +108,7 @@ open_or_fault_of body (Some f) octets ten is =
     inr (f, subst P (sym is) refl)
 open_or_fault_of body None octets ten is = elim (parameters_or_fault (drop 10 body)) [
   | inl whole ↦
-      let p = fields_of (asn_at body) (hold_at body) (id_at body) (drop 10 body) in
+      let p = fields_of (my_as_at body) (hold_at body) (id_at body) (drop 10 body) in
       inl (p, open_is body p octets ten is whole refl refl refl refl)
   | inr faulty ↦
       let P : Option WireFault → Type 0 = λ o. MatchOption o (HasFaultyParameter (drop 10 body) faulty.0) (λ first. first ≡ faulty.0) in

@@ -1,6 +1,7 @@
 pub mod Octets
 pub mod Checking
 pub mod Splitting
+pub mod WholeParts
 pub mod OpenBodies
 pub mod UpdateBodies
 pub mod Framing

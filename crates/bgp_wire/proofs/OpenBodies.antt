@@ -5,7 +5,7 @@ use Rattle.byteorder.specs.Endian.{big_bytes, big_number}
 use Rattle.bgp_wire.specs.Content.{OpenFields}
 use Rattle.bgp_wire.specs.Faults.{unspecific_open, unsupported_parameter}
 use Rattle.bgp_wire.specs.Parts.{Part, octets_of, IsOverrun, BeginsWithPart}
-use Rattle.bgp_wire.specs.Opens.{IsCapability, IsMalformedCapability, AreBrokenCapabilities, IsParameter, AreParameters, IsFaultyParameter, has_another_type, has_broken_capabilities, HasFaultyParameter, IsOpen, open_fault, version_at, asn_at, hold_at, id_at, parameters_length_at}
+use Rattle.bgp_wire.specs.Opens.{IsCapability, IsMalformedCapability, AreBrokenCapabilities, IsParameter, AreParameters, IsFaultyParameter, has_another_type, has_broken_capabilities, HasFaultyParameter, IsOpen, open_fault, version_at, my_as_at, hold_at, id_at, parameters_length_at}
 use Rattle.bgp_wire.specs.Messages.{AreOctets}
 use Rattle.bgp_wire.proofs.Octets.{bytes_of_two, bytes_of_four, number_below_two, number_below_four, AreOctets-drop}
 use Rattle.bgp_wire.proofs.Checking.{pass_both, fault_if-None}
@@ -75,7 +75,7 @@ spelled_cells v a b c d e f g h l rest octets version len =
     ∙ ap (λ (n : ℕ). shape 4 (big_bytes 2 (big_number 2 (a ∷ b ∷ []))) (big_bytes 2 (big_number 2 (c ∷ d ∷ []))) (big_bytes 4 (big_number 4 (e ∷ f ∷ g ∷ h ∷ []))) n rest) len
 
 pub spelled_open : (body : List ℕ) → AreOctets body → 10 ≤ length body → Passes body → body ≡
-    4 ∷ [] ++ big_bytes 2 (asn_at body) ++ big_bytes 2 (hold_at body) ++ big_bytes 4 (id_at body)
+    4 ∷ [] ++ big_bytes 2 (my_as_at body) ++ big_bytes 2 (hold_at body) ++ big_bytes 4 (id_at body)
     ++ length (drop 10 body) ∷ [] ++ drop 10 body
 spelled_open (v ∷ a ∷ b ∷ c ∷ d ∷ e ∷ f ∷ g ∷ h ∷ l ∷ rest) octets ten passes =
     spelled_cells v a b c d e f g h l rest octets passes.version (let fills = passes.fills in omega arith)
@@ -83,7 +83,7 @@ spelled_open _ octets ten passes = absurd (omega arith)
 
 -- the fields of a body that passes
 pub open_is : (body : List ℕ) (fields : OpenFields) → AreOctets body → 10 ≤ length body → open_fault body ≡ None
-    → AreParameters (drop 10 body) → fields.asn ≡ asn_at body → fields.hold ≡ hold_at body → fields.id ≡ id_at body
+    → AreParameters (drop 10 body) → fields.my_as ≡ my_as_at body → fields.hold ≡ hold_at body → fields.id ≡ id_at body
     → fields.parameters ≡ drop 10 body → IsOpen body fields
 open_is body fields octets ten none parameters asn hold id rest =
     let passes = open_passes body none in
@@ -92,7 +92,7 @@ open_is body fields octets ten none parameters asn hold id rest =
     let five = number_below_four (drop 5 body) (AreOctets-drop 5 body octets) in
     record {
       spelled = rw (asn, hold, id, rest) (spelled_open body octets ten passes);
-      asn = omega arith;
+      my_as = omega arith;
       hold = omega arith;
       id = omega arith;
       hold_time = ((λ e. passes.no_one (sym hold ∙ e)), (λ e. passes.no_two (sym hold ∙ e)));

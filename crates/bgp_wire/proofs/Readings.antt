@@ -1,9 +1,9 @@
 -- Octets begin with a message, or are a proper prefix, or have a fault: one of the three, in one way.
-use Rattle.std.proofs.Common.{◌≡◌, ◌≤◌, ◌-◌, ℕ, ◌+◌, List, [], ◌∷◌, ◌++◌, length, take, drop, refl, ap, sym, ◌∙◌, arith, subst, inl, inr, ◌⊎◌, Option, Some, None, Bool, false, cond, not, nat_le, nat_lt, ◌==◌, ◌&&◌, ◌||◌}
+use Rattle.std.proofs.Common.{◌≡◌, ◌≢◌, ◌<◌, ◌≤◌, ◌-◌, ℕ, ◌+◌, List, [], ◌∷◌, ◌++◌, length, take, drop, refl, ap, sym, ◌∙◌, arith, subst, inl, inr, ◌⊎◌, Option, Some, None, Bool, true, false, cond, not, nat_le, nat_lt, ◌==◌, ◌&&◌, ◌||◌}
 use Rattle.std.specs.Option.{MatchOption}
 use Rattle.std.specs.List.{list_all}
 use Rattle.std.proofs.lemmas.List.Folds.{list_all-append}
-use Rattle.std.proofs.lemmas.Bool.{cases_lt, le-ltb, or_from, and_right, cond_both, le-leb, lt-leb, cond-true, cond-false, not-true, and_left, and_parts, leb-true}
+use Rattle.std.proofs.lemmas.Bool.{cases_lt, le-ltb, ltb-false, or_parts, or_from, and_right, cond_both, le-leb, lt-leb, cond-true, cond-false, not-true, and_left, and_parts, leb-true}
 use Rattle.std.proofs.lemmas.List.{append_assoc, take_all, take_at, take-append-drop, take-append-le, drop-append-le, get_or_append_left, length-append, length-take-le, length-drop, nil_from_length}
 use Rattle.std.proofs.Math.Seq.{take-append-add}
 use Rattle.byteorder.specs.Endian.{big_number}
@@ -16,7 +16,7 @@ use Rattle.bgp_wire.specs.Faults.{fault_if, ◌then_check◌, not_synchronized, 
 use Rattle.bgp_wire.specs.Frames.{octet_of, kind_of, least, greatest, head, IsFrame, length_at, kind_at, marker_fault, length_fault, kind_fault, type_fault, frame_fault, IsHeadOf, IsProperPrefix}
 use Rattle.bgp_wire.specs.Messages.{AreOctets, IsBody, HasBodyFault, IsMessage, BeginsWith, HasFault, HasFaultyBody}
 use Rattle.bgp_wire.proofs.Octets.{AreOctets-drop, AreOctets-take}
-use Rattle.bgp_wire.proofs.Checking.{pass_both, both_pass, fault_if-false, fault_if-Some}
+use Rattle.bgp_wire.proofs.Checking.{pass_both, both_pass, fault_if-None, fault_if-false, fault_if-Some}
 use Rattle.bgp_wire.proofs.Framing.{frame_is, least_is, begins_with, has_fault, body_fault}
 use Rattle.bgp_wire.proofs.Bodies.{one_content, never_content_and_fault, one_body_fault, content_or_fault}
 
@@ -353,3 +353,34 @@ fault_stays_of octets more f None is fault =
 -- a fault stays, whatever follows
 pub fault_stays : (octets more : List ℕ) (f : WireFault) → HasFault octets f → HasFault (octets ++ more) f
 fault_stays octets more f fault = fault_stays_of octets more f (frame_fault octets) refl fault
+
+-- a proper prefix is shorter than the longest message
+pub proper_prefix_is_short : (octets : List ℕ) → IsProperPrefix octets → length octets < 4096
+proper_prefix_is_short octets proper = elim (cases_lt (length octets) 18) [
+  | inl few ↦ omega arith
+  | inr many ↦
+      let second = pass_both _ _ (pass_both _ _ proper.passes).1 in
+      let long : nat_le 18 (length octets) ≡ true = le-leb _ _ many in
+      let test : (nat_le 18 (length octets) && (nat_lt (length_at octets) 19 || nat_lt 4096 (length_at octets))) ≡ false = fault_if-None _ _ second.0 in
+      let no_length : (nat_lt (length_at octets) 19 || nat_lt 4096 (length_at octets)) ≡ false =
+      ap (λ (b : Bool). b && (nat_lt (length_at octets) 19 || nat_lt 4096 (length_at octets))) (sym long) ∙ test in
+      let most : length_at octets ≤ 4096 = ltb-false 4096 (length_at octets) (or_parts _ _ no_length).1 in
+      elim proper.short [ inl few ↦ omega arith | inr cut ↦ omega arith ]
+]
+
+-- what is cut off a message leaves a proper prefix
+pub front_is_proper : (octets more : List ℕ) (c : Content) → AreOctets octets → IsMessage (octets ++ more) c → more ≢ [] → IsProperPrefix octets
+front_is_proper octets more c are is some =
+    let whole = whole_message (octets ++ more) c is in
+    elim (read octets are) [
+      | inl begins ↦
+          let short = message_stays octets more begins.0 begins.1 begins.2 in
+          let same = one_message (octets ++ more) c begins.0 (length (octets ++ more)) begins.1 whole short in
+          let lengths = same.1 in
+          let within = begins.2.within in
+          absurd (some (nil_from_length more (omega (arith, lengths, within, length-append octets more))))
+      | inr rest ↦ elim rest [
+        | inl proper ↦ proper
+        | inr fault ↦ absurd (never_message_and_fault (octets ++ more) c (length (octets ++ more)) fault.0 whole (fault_stays octets more fault.0 fault.1))
+      ]
+    ]

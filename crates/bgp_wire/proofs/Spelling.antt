@@ -38,7 +38,7 @@ said_again octets (Opens fields) m =
       kind = Open;
       body = open_octets fields;
       frame = record { spelled = refl; least_length = omega (arith, m.frame.least_length, lengths, least); greatest_length = omega (arith, m.frame.greatest_length, lengths, greatest) };
-      says = (refl, record { spelled = refl; asn = m.says.1.asn; hold = m.says.1.hold; id = m.says.1.id; hold_time = m.says.1.hold_time; identifier = m.says.1.identifier; parameters = m.says.1.parameters });
+      says = (refl, record { spelled = refl; my_as = m.says.1.my_as; hold = m.says.1.hold; id = m.says.1.id; hold_time = m.says.1.hold_time; identifier = m.says.1.identifier; parameters = m.says.1.parameters });
     }
 said_again octets (Updates parts) m =
     let lengths = ap length m.says.1.spelled in
@@ -70,7 +70,7 @@ open_says part asn id some = record {
   kind = Open;
   body = open_octets (open_fields part);
   frame = record { spelled = refl; least_length = omega arith; greatest_length = omega arith };
-  says = (refl, record { spelled = refl; asn = asn; hold = omega arith; id = id; hold_time = (λ e. absurd (omega (arith, e)), λ e. absurd (omega (arith, e))); identifier = some; parameters = parameters });
+  says = (refl, record { spelled = refl; my_as = asn; hold = omega arith; id = id; hold_time = (λ e. absurd (omega (arith, e)), λ e. absurd (omega (arith, e))); identifier = some; parameters = parameters });
 }
 
 pub attributes_say : (attributes : List ℕ) → 23 + length attributes ≤ 4096 → IsMessage (spelling (Updates (attributes_alone attributes))) (Updates (attributes_alone attributes))

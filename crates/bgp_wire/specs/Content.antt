@@ -3,7 +3,7 @@ use Rattle.std.specs.Prelude.{ℕ, List}
 
 -- the fields of an OPEN
 pub record OpenFields : Type 0 where
-  pub asn : ℕ
+  pub my_as : ℕ
   pub hold : ℕ
   pub id : ℕ
   pub parameters : List ℕ

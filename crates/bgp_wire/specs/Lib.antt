@@ -2,6 +2,7 @@ pub mod Content
 pub mod Faults
 pub mod Parts
 pub mod Opens
+pub mod Capabilities
 pub mod Updates
 pub mod Attributes
 pub mod Frames

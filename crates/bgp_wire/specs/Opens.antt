@@ -37,16 +37,20 @@ pub data IsFaultyParameter (rest : List ℕ) (f : WireFault) : Type 0 where
 abbrev pub HasFaultyParameter : List ℕ → WireFault → Type 0
 HasFaultyParameter octets f = PartsThen IsParameter (λ rest. IsFaultyParameter rest f) octets
 
--- the version, which is 4, the autonomous system, the Hold Time, the identifier, and the parameters behind their length
+-- the version, which is 4, My Autonomous System, the Hold Time, the identifier, and the parameters behind their length
 abbrev pub open_octets : OpenFields → List ℕ
 open_octets fields =
-    4 ∷ [] ++ big_bytes 2 fields.asn ++ big_bytes 2 fields.hold ++ big_bytes 4 fields.id
+    4 ∷ [] ++ big_bytes 2 fields.my_as ++ big_bytes 2 fields.hold ++ big_bytes 4 fields.id
     ++ length fields.parameters ∷ [] ++ fields.parameters
+
+-- the number of the autonomous system that a session goes by: that of My Autonomous System
+abbrev pub asn_of : OpenFields → ℕ
+asn_of fields = fields.my_as
 
 -- the body of an OPEN, by its fields
 pub record IsOpen (body : List ℕ) (fields : OpenFields) : Type 0 where
   pub spelled : body ≡ open_octets fields
-  pub asn : fields.asn < 2 ^ 16
+  pub my_as : fields.my_as < 2 ^ 16
   pub hold : fields.hold < 2 ^ 16
   pub id : fields.id < 2 ^ 32
   pub hold_time : (fields.hold ≢ 1) × (fields.hold ≢ 2)
@@ -57,8 +61,8 @@ pub record IsOpen (body : List ℕ) (fields : OpenFields) : Type 0 where
 abbrev pub version_at : List ℕ → ℕ
 version_at body = slice_index body 0
 
-abbrev pub asn_at : List ℕ → ℕ
-asn_at body = big_number 2 (drop 1 body)
+abbrev pub my_as_at : List ℕ → ℕ
+my_as_at body = big_number 2 (drop 1 body)
 
 abbrev pub hold_at : List ℕ → ℕ
 hold_at body = big_number 2 (drop 3 body)

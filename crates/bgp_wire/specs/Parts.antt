@@ -1,6 +1,6 @@
 -- The parameters of an OPEN and the capabilities in them lie one after the other, each a type, the length of a value in one
 -- octet, and the value (RFC 4271, section 4.2; RFC 5492, section 4).
-use Rattle.std.specs.Prelude.{◌≡◌, ◌<◌, ℕ, List, [], ◌∷◌, ◌++◌, length}
+use Rattle.std.specs.Prelude.{◌≡◌, ◌<◌, ℕ, zero, suc, List, [], ◌∷◌, ◌++◌, length, take, drop, nat_le, if◌then◌else◌}
 use Rattle.std.specs.List.{flat_map, AllByRecursion}
 
 -- a parameter or a capability
@@ -35,3 +35,15 @@ pub record PartsThen (P : Part → Type 0) (Q : List ℕ → Type 0) (octets : L
 -- octets that are whole parts of which P holds, and nothing else
 abbrev pub AreParts : (Part → Type 0) → List ℕ → Type 0
 AreParts P = PartsThen P (λ rest. rest ≡ [])
+
+-- the first whole parts that octets hold, no more than so many
+abbrev pub parts_below : ℕ → List ℕ → List Part
+parts_below zero octets = []
+parts_below (suc most) [] = []
+parts_below (suc most) (kind ∷ []) = []
+parts_below (suc most) (kind ∷ len ∷ rest) =
+    if nat_le len (length rest) then record { kind = kind; value = take len rest } ∷ parts_below most (drop len rest) else []
+
+-- the whole parts that octets hold, as a list; it ends before a part that overruns
+unfoldable pub parts_in : List ℕ → List Part
+parts_in octets = parts_below (length octets) octets

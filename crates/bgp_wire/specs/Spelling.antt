@@ -36,7 +36,7 @@ vpn_parameter = record { kind = 2; value = octets_of vpn_capability }
 
 -- what a speaker without timers says of itself: its Hold Time is 0
 abbrev pub open_fields : OpenOut → OpenFields
-open_fields part = record { asn = part.asn; hold = 0; id = part.id.0; parameters = octets_of vpn_parameter }
+open_fields part = record { my_as = part.asn; hold = 0; id = part.id.0; parameters = octets_of vpn_parameter }
 
 -- attributes, and no plain routes
 abbrev pub attributes_alone : List ℕ → UpdateFields

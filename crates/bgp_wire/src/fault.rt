@@ -1,7 +1,10 @@
 //! What is wrong with messages.
 
+use thiserror::Error;
+
 /// What is wrong with a message: the code and subcode of the NOTIFICATION that answers it (RFC 4271, section 4.5).
-#[derive(Clone, Copy, Debug, PartialEq, Eq)]
+#[derive(Clone, Copy, Debug, PartialEq, Eq, Error)]
+#[error("a BGP message error, {code}/{subcode}")]
 pub struct WireFault {
     pub code: u8,
     pub subcode: u8,

@@ -1,12 +1,16 @@
 //! What the grammar of messages promises.
-ghost use Rattle.std.specs.Prelude.{◌≡◌, ◌++◌, ◌⊎◌, ℕ, List, []};
+ghost use Rattle.std.specs.Prelude.{◌≡◌, ◌≢◌, ◌<◌, ◌++◌, ◌⊎◌, ℕ, List, [], length};
 ghost use Rattle.bgp_wire.specs.declared.fault.WireFault.{WireFault};
 ghost use Rattle.bgp_wire.specs.Content.{Content};
 ghost use Rattle.bgp_wire.specs.Frames.{IsProperPrefix};
 ghost use Rattle.std.specs.Prelude.{Option, Result, None, map};
+ghost use Rattle.std.specs.List.{flat_map};
 ghost use Rattle.std.specs.Iterator.{YieldsThen};
 ghost use Rattle.bgp_wire.specs.declared.attribute.Attribute.{Attribute};
 ghost use Rattle.bgp_wire.specs.Attributes.{AttributeFields, AreAttributes, NextAttribute, SaysAll};
+ghost use Rattle.bgp_wire.specs.Parts.{Part};
+ghost use Rattle.bgp_wire.specs.Opens.{AreParameters};
+ghost use Rattle.bgp_wire.specs.Capabilities.{capabilities_in, HoldCapabilities};
 ghost use Rattle.bgp_wire.specs.Spelling.{spelling, IsReadAgain};
 ghost use Rattle.bgp_wire.specs.Messages.{AreOctets, IsMessage, BeginsWith, HasFault};
 
@@ -67,4 +71,21 @@ pub fn each_attribute_comes_once()
     ensures { (octets tail after : List ℕ) (attributes : List AttributeFields) (items : List (Result Attribute WireFault))
         → AreAttributes octets attributes tail → YieldsThen NextAttribute octets items None after
         → SaysAll items attributes tail }
+{}
+
+/// What is cut off a message, wherever it is cut, leaves a proper prefix of a frame, and a proper prefix has fewer octets
+/// than the longest message.
+pub fn the_front_of_a_message_is_a_proper_prefix()
+    ensures front { (octets more : List ℕ) (content : Content) → AreOctets octets → IsMessage (octets ++ more) content
+        → more ≢ [] → IsProperPrefix octets }
+    ensures short { (octets : List ℕ) → IsProperPrefix octets → length octets < 4096 }
+{}
+
+/// The parameters of an OPEN hold well-formed capabilities, and these are its capabilities, in order.
+#[tactic(auto, using(crate::proofs::WholeParts::some_held, crate::proofs::WholeParts::all_held))]
+pub fn capabilities_are_those_of_the_parameters()
+    ensures some { (parameters : List ℕ) → AreParameters parameters
+        → (each : List (List Part)) × HoldCapabilities parameters each }
+    ensures all { (parameters : List ℕ) (each : List (List Part)) → HoldCapabilities parameters each
+        → capabilities_in parameters ≡ flat_map (λ capabilities. capabilities) each }
 {}

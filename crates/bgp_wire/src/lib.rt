@@ -2,6 +2,7 @@
 #![tactic(auto)]
 
 mod attribute;
+mod capability;
 mod fault;
 mod frame;
 mod kind;
@@ -13,6 +14,7 @@ mod update;
 mod write;
 
 pub use attribute::{Attribute, Attributes};
+pub use capability::{Capabilities, Capability};
 pub use fault::{MALFORMED_ATTRIBUTES, WireFault};
 pub use message::{Message, read_message};
 pub use open::OpenPart;

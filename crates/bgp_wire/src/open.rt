@@ -3,6 +3,7 @@ ghost use Rattle.std.specs.Prelude.{◌≡◌, ◌≤◌, ◌<◌, ◌+◌, ◌=
 ghost use Rattle.bgp_wire.specs.Faults.{Checks};
 ghost use Rattle.bgp_wire.specs.Opens.{IsCapability, IsMalformedCapability, AreCapabilities, AreBrokenCapabilities, AreParameters, HasFaultyParameter, open_fault};
 
+use crate::capability::Capabilities;
 use crate::fault::{
     BAD_IDENTIFIER, UNACCEPTABLE_HOLD_TIME, UNSPECIFIC_OPEN, UNSUPPORTED_PARAMETER,
     UNSUPPORTED_VERSION, WireFault,
@@ -15,7 +16,7 @@ use std::marker::Model;
 /// What an OPEN says (RFC 4271, section 4.2).
 #[derive(Drop)]
 pub struct OpenPart<'a> {
-    asn: u32,
+    my_as: u16,
     hold: u16,
     id: Addr,
     parameters: &'a [u8],
@@ -23,20 +24,31 @@ pub struct OpenPart<'a> {
 
 impl<'a> Model for OpenPart<'a> {
     ghost use Rattle.bgp_wire.specs.Content.{OpenFields};
+    ghost use Rattle.bgp_wire.specs.Opens.{AreParameters};
 
     ghost Value = { OpenFields };
 
-    ghost view = { λ p. record { asn = p.asn; hold = p.hold; id = p.id.0; parameters = p.parameters.now } };
+    ghost view = { λ p. record { my_as = p.my_as; hold = p.hold; id = p.id.0; parameters = p.parameters.now } };
+
+    ghost invariant = { λ p. ∥ AreParameters p.parameters.now ∥₁ };
 }
 
 impl<'a> OpenPart<'a> {
-    ghost use Rattle.bgp_wire.specs.Opens.{IsOpen, HasOpenFault};
+    ghost use Rattle.bgp_wire.specs.Opens.{asn_of, IsOpen, HasOpenFault};
+    ghost use Rattle.bgp_wire.specs.Capabilities.{capabilities_in};
 
-    /// The number of the autonomous system.
-    pub fn asn(&self) -> u32
-        ensures { result ≡ self.now.asn }
+    /// My Autonomous System, as it is spelled.
+    pub fn my_as(&self) -> u16
+        ensures { result ≡ self.now.my_as }
     {
-        self.asn
+        self.my_as
+    }
+
+    /// The number of the autonomous system that the session goes by.
+    pub fn asn(&self) -> u32
+        ensures { result ≡ asn_of self.now }
+    {
+        u32::from(self.my_as)
     }
 
     /// The Hold Time in seconds.
@@ -60,6 +72,14 @@ impl<'a> OpenPart<'a> {
         self.parameters
     }
 
+    /// The capabilities in the parameters, in order.
+    pub fn capabilities(&self) -> Capabilities<'a>
+        ensures all { result ≡ capabilities_in self.now.parameters }
+        ensures well_formed { ∥ AreParameters self.now.parameters ∥₁ }
+    {
+        Capabilities::new(self.parameters)
+    }
+
     pub(crate) fn read(body: &'a [u8]) -> Result<OpenPart<'a>, WireFault>
         requires { 10 ≤ length body.now }
         ensures open { IfOk result (λ fields. IsOpen body.now fields) }
@@ -69,7 +89,7 @@ impl<'a> OpenPart<'a> {
         let parameters = &body[10..];
         check_parameters(parameters)?;
         Ok(OpenPart {
-            asn: u32::from(BigEndian::read_u16(&body[1..])),
+            my_as: BigEndian::read_u16(&body[1..]),
             hold: BigEndian::read_u16(&body[3..]),
             id: Addr(BigEndian::read_u32(&body[5..])),
             parameters,

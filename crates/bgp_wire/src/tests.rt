@@ -120,12 +120,50 @@ fn opens_are_read(rt: HostRuntime) -> Result<(), Fail> {
         let Message::Hello(open) = message else {
             return Err("the message is an OPEN".into());
         };
+        assert_eq!(rt; u32::from(open.my_as()), asn);
         assert_eq!(rt; open.asn(), asn);
         assert_eq!(rt; open.hold(), hold);
         assert_eq!(rt; open.id().0, id);
         assert_eq!(rt; 29 + open.parameters().len(), len);
         assert_eq!(rt; n, len);
     }
+    Ok(())
+}
+
+#[test]
+fn capabilities_are_given_in_order(rt: HostRuntime) -> Result<(), Fail> {
+    let text =
+        "M 0033 01 04 fc00 0000 c0000202 16 0208 0104 00010080 0200 0200 0208 4104 0000fc00 0600";
+    let bytes = octets(rt.alloc(), text)?;
+    let Ok(Some((Message::Hello(open), 51))) = read_message(bytes.as_slice()) else {
+        return Err("the octets are an OPEN".into());
+    };
+    let mut given = open.capabilities();
+    for (kind, value) in [
+        (1, [0, 1, 0, 128].as_slice()),
+        (2, [].as_slice()),
+        (65, [0, 0, 0xfc, 0].as_slice()),
+        (6, [].as_slice()),
+    ] {
+        let Some(capability) = given.next() else {
+            return Err("a capability".into());
+        };
+        assert_eq!(rt; capability.kind, kind);
+        assert_eq!(rt; capability.value, value);
+    }
+    assert!(rt; given.next().is_none());
+    capabilities_are_those_of_the_parameters();
+    Ok(())
+}
+
+#[test]
+fn a_fault_is_written_as_its_numbers(rt: HostRuntime) -> Result<(), Fail> {
+    let fault = WireFault {
+        code: 3,
+        subcode: 11,
+    };
+    let text = format!(in rt.alloc(); "{fault}")?;
+    assert_eq!(rt; text.as_str(), "a BGP message error, 3/11");
     Ok(())
 }
 
@@ -167,6 +205,7 @@ fn other_messages_are_read(rt: HostRuntime) -> Result<(), Fail> {
     octets_are_attributes_in_one_way();
     each_attribute_comes_once();
     no_message_begins_another();
+    the_front_of_a_message_is_a_proper_prefix();
     Ok(())
 }
 

@@ -2,7 +2,7 @@
 ghost use Rattle.std.specs.Prelude.{◌≡◌, ◌≢◌, ◌≤◌, ◌<◌, ◌+◌, ◌^◌, ◌++◌, length, IfOk, OnOk, OnErr};
 ghost use Rattle.bgp_wire.specs.Content.{Opens, Updates, Notifies, KeepsAlive};
 ghost use Rattle.bgp_wire.specs.Frames.{head};
-ghost use Rattle.bgp_wire.specs.Opens.{open_octets};
+ghost use Rattle.bgp_wire.specs.Opens.{asn_of, open_octets};
 ghost use Rattle.bgp_wire.specs.Parts.{octets_of};
 ghost use Rattle.bgp_wire.specs.Spelling.{framed, spelling, IsReadAgain, vpn_parameter, open_fields, attributes_alone};
 
@@ -80,6 +80,7 @@ pub fn write_open(alloc: Global, part: &OpenOut, out: &mut Vec<u8>) -> Result<()
     ensures ok { OnOk result (out.new.items ≡ out.old.items ++ spelling (Opens (open_fields part.now))) }
     ensures err { OnErr result (out.new.items ≡ out.old.items) }
     ensures read_again { IsReadAgain (Opens (open_fields part.now)) }
+    ensures autonomous_system { asn_of (open_fields part.now) ≡ part.now.asn }
     ensures length { length (spelling (Opens (open_fields part.now))) ≤ 4096 }
 {
     let start = open_start(part.asn as u16, part.id.0);

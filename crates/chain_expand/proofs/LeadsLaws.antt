@@ -1,22 +1,16 @@
 -- Leading within a number of steps, and by hops.
 use Rattle.std.proofs.Common.{◌≡◌, ℕ, zero, suc, ◌+◌, ◌⊎◌, inl, inr, ◌&&◌, ◌||◌, Bool, true, false, List, length, refl, sym, ap, ◌∙◌, arith, subst}
 use Rattle.std.specs.List.{Any}
-use Rattle.std.specs.Cmp.Lexicographic.{same_text, other_text}
+use Rattle.std.specs.Cmp.Lexicographic.{same_text}
 use Rattle.std.proofs.lemmas.Bool.{and_parts}
 use Rattle.std.proofs.lemmas.List.Folds.{Any-from_list_any, list_any-from_Any}
 use Rattle.config_model.specs.declared.config.Config.{Config}
 use Rattle.ov_types.specs.First.{same_name}
+use Rattle.ov_types.proofs.FirstLemmas.{same_name_self}
 use Rattle.chain_expand.specs.Expansion.{names_chain, hops_of, leads_within, leads}
 use Rattle.chain_expand.specs.Leading.{HopsTo, Leads}
 use Rattle.chain_expand.specs.Leading.Leads.{direct, onward}
 use Rattle.chain_expand.proofs.Settled.{hop_on, leads_more, settled}
-
-pub same_name_self : (name : List ℕ) → same_name name name ≡ true
-same_name_self name = by (same_name name name) refl
-  where
-    by : (b : Bool) → same_name name name ≡ b → same_name name name ≡ true
-    by true e = e
-    by false e = absurd (other_text name name (sym e) refl)
 
 or_cases : (a b : Bool) → (a || b) ≡ true → (a ≡ true) ⊎ (b ≡ true)
 or_cases true b e = inl refl

@@ -7,3 +7,4 @@ pub mod Reached
 pub mod Rows
 pub mod Settled
 pub mod Twice
+pub mod TwiceLaw

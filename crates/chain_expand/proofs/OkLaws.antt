@@ -14,7 +14,8 @@ use Rattle.chain_expand.specs.declared.fault.ChainFault.TheVariants.{TooLong}
 use Rattle.chain_expand.specs.Links.{place_of}
 use Rattle.chain_expand.specs.Leading.{Leads, IsAlong, IsLoopFree}
 use Rattle.chain_expand.proofs.Reached.{named_at, no_chain, leads_none}
-use Rattle.chain_expand.proofs.LeadsLaws.{leads_from_Leads, Leads-from_leads, same_name_self}
+use Rattle.chain_expand.proofs.LeadsLaws.{leads_from_Leads, Leads-from_leads}
+use Rattle.ov_types.proofs.FirstLemmas.{same_name_self}
 
 find_none : {X : Type 0} (p : X → Bool) (xs : List X) → find p xs ≡ None → (i : ℕ) (d : X) → i < length xs → p (get_or xs i d) ≡ false
 find_none p [] e i d lt = absurd (omega (arith, lt))

@@ -1,5 +1,6 @@
 -- What chains lead to, and their expansions.
-use Rattle.std.specs.Prelude.{ℕ, zero, suc, ◌==◌, ◌&&◌, ◌||◌, nat_lt, Bool, false, List, [], ◌∷◌, length, map, flat_map, find, Option, Some, None, is_none, Result, Ok, Err, if◌then◌else◌}
+use Rattle.std.specs.Prelude.{ℕ, zero, suc, ◌==◌, ◌&&◌, ◌||◌, nat_lt, Bool, false, List, [], ◌∷◌, length, map, flat_map}
+use Rattle.std.specs.Prelude.{find, Option, Some, None, is_none, Result, Ok, Err, if◌then◌else◌}
 use Rattle.std.specs.List.{list_any}
 use Rattle.std.specs.Option.{option_map_or}
 use Rattle.ov_types.specs.declared.numbers.ServiceNo.{ServiceNo}
@@ -27,7 +28,8 @@ hops_of c name = option_map_or (λ d. d.hops) (chain_named c name) []
 -- one chain leads to another over at most n named chains
 unfoldable pub leads_within : ℕ → Config → List ℕ → List ℕ → Bool
 leads_within zero c from to = false
-leads_within (suc n) c from to = list_any (λ hop. names_chain c hop && (same_name hop to || leads_within n c hop to)) (hops_of c from)
+leads_within (suc n) c from to =
+    list_any (λ hop. names_chain c hop && (same_name hop to || leads_within n c hop to)) (hops_of c from)
 
 -- one chain leads to another: no way needs more steps than there are chains
 abbrev pub leads : Config → List ℕ → List ℕ → Bool
@@ -44,7 +46,8 @@ loop_of c name = find (λ d. (same_name d.name name || leads c name d.name) && l
 -- the services of a hop: a service gives itself, and a chain its hops' services in place, at most n deep
 unfoldable pub services_within : ℕ → Config → List ℕ → List Service
 services_within zero c hop = option_map_or (λ s. s ∷ []) (service_named c hop) []
-services_within (suc n) c hop = option_map_or (λ s. s ∷ []) (service_named c hop) (flat_map (services_within n c) (hops_of c hop))
+services_within (suc n) c hop =
+    option_map_or (λ s. s ∷ []) (service_named c hop) (flat_map (services_within n c) (hops_of c hop))
 
 -- the expansion of a chain: where it does not loop it is no deeper than there are chains
 abbrev pub expansion : Config → List ℕ → List Service
@@ -58,7 +61,8 @@ numbers_or_twice name services (Some pair) = Err (Twice name pair.1.name)
 numbers_or_twice name services None = Ok (map (λ s. s.id) services)
 
 abbrev pub numbers_or_fault : List ℕ → List Service → Result (List ServiceNo) ChainFault
-numbers_or_fault name services = if nat_lt 15 (length services) then Err (TooLong name) else numbers_or_twice name services (first_meeting same_number services)
+numbers_or_fault name services = if nat_lt 15 (length services) then Err (TooLong name)
+    else numbers_or_twice name services (first_meeting same_number services)
 
 abbrev pub unless_loop : Option Chain → Result (List ServiceNo) ChainFault → Result (List ServiceNo) ChainFault
 unless_loop (Some d) other = Err (Loop d.name)

@@ -14,11 +14,14 @@ pub data Leads (c : Config) : List ℕ → List ℕ → Type 0 where
   direct : {from to : List ℕ} → HopsTo c from to → Leads c from to
   onward : {from hop to : List ℕ} → HopsTo c from hop → Leads c hop to → Leads c from to
 
--- hops expand to services: one that names a service to it, and one that names a chain to what the chain's hops expand to
+-- hops expand to services: one that names a service to it, and one that names a chain to what that one's hops expand to
 pub data Expands (c : Config) : List (List ℕ) → List Service → Type 0 where
   of_nothing : {services : List Service} → services ≡ [] → Expands c [] services
-  of_service : {hop : List ℕ} {hops : List (List ℕ)} {s : Service} {rest services : List Service} → service_named c hop ≡ Some s → Expands c hops rest → services ≡ s ∷ rest → Expands c (hop ∷ hops) services
-  of_chain : {hop : List ℕ} {hops : List (List ℕ)} {d : Chain} {inner rest services : List Service} → service_named c hop ≡ None → chain_named c hop ≡ Some d → Expands c d.hops inner → Expands c hops rest → services ≡ inner ++ rest → Expands c (hop ∷ hops) services
+  of_service : {hop : List ℕ} {hops : List (List ℕ)} {s : Service} {rest services : List Service}
+      → service_named c hop ≡ Some s → Expands c hops rest → services ≡ s ∷ rest → Expands c (hop ∷ hops) services
+  of_chain : {hop : List ℕ} {hops : List (List ℕ)} {d : Chain} {inner rest services : List Service}
+      → service_named c hop ≡ None → chain_named c hop ≡ Some d → Expands c d.hops inner → Expands c hops rest
+      → services ≡ inner ++ rest → Expands c (hop ∷ hops) services
 
 -- a chain is one, or is led to by it
 abbrev pub IsAlong : Config → List ℕ → List ℕ → Type 0
@@ -30,4 +33,5 @@ IsLoopFree c name = (chain : List ℕ) → IsAlong c name chain → ¬ (Leads c 
 
 -- each hop of a chain, and of those that it leads to, names a service or a chain
 abbrev pub NamesThings : Config → List ℕ → Type 0
-NamesThings c name = (chain hop : List ℕ) → IsAlong c name chain → Contains (hops_of c chain) hop → IsSome (service_named c hop) ⊎ IsSome (chain_named c hop)
+NamesThings c name = (chain hop : List ℕ) → IsAlong c name chain → Contains (hops_of c chain) hop
+    → IsSome (service_named c hop) ⊎ IsSome (chain_named c hop)

@@ -15,4 +15,5 @@ IsAppended services before after Full = 15 < length (before ++ services)
 
 -- each chain has no service at the depths below its number
 abbrev pub AreBarren : Config → List ℕ → Type 0
-AreBarren c depths = (place depth : ℕ) → place < 128 → depth < slice_index depths place → flat_map (services_within depth c) (hops_at c place) ≡ []
+AreBarren c depths = (place depth : ℕ) → place < 128 → depth < slice_index depths place
+    → flat_map (services_within depth c) (hops_at c place) ≡ []

@@ -5,16 +5,17 @@ ghost use Rattle.chain_expand.specs.Expansion.{services_within};
 ghost use Rattle.chain_expand.specs.Links.{hops_at};
 ghost use Rattle.std.specs.List.{flat_map};
 
+use crate::bounds::MOST_CHAINS;
 use crate::found::Found;
 use crate::{hops, links};
 use config_model::{Config, Service};
 use ov_types::Name;
 
 /// For the place of each chain a number of depths, below which the chain is known to have no service.
-pub type Depths = [usize; 128];
+pub(crate) type Depths = [usize; MOST_CHAINS];
 
 /// Whether what was to be appended had room.
-pub enum Room {
+pub(crate) enum Room {
     Fits,
     Full,
 }
@@ -71,7 +72,8 @@ fn append_chain(
     requires deep { depth ≤ 128 }
     requires place { place < length config.now.chains }
     requires barren { AreBarren config.now barren.old }
-    ensures appended { IsAppended (flat_map (services_within depth config.now) (hops_at config.now place)) found.old found.new result }
+    ensures appended { IsAppended (flat_map (services_within depth config.now) (hops_at config.now place))
+        found.old found.new result }
     ensures barren { AreBarren config.now barren.new }
 {
     if depth < barren[place] {
@@ -91,7 +93,7 @@ fn append_chain(
 
 /// Appends the services of hops.
 #[cycle(append)]
-pub fn append_hops(
+pub(crate) fn append_hops(
     config: &Config,
     depth: usize,
     hops: &[Name],

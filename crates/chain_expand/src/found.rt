@@ -1,16 +1,15 @@
 //! The services of a chain, as many as a use can have.
 ghost use Rattle.std.specs.Prelude.{◌≡◌, ◌==◌, ◌<◌, ◌≤◌, [], ◌∷◌, ◌++◌, length};
 
+use crate::bounds::MOST_SERVICES;
 use config_model::Service;
 use ov_types::{Name, ServiceNo};
 use std::marker::Model;
 
-const MOST: usize = 15;
-
 /// At most 15 services, in place.
 #[derive(Drop)]
-pub struct Found {
-    places: [Service; 15],
+pub(crate) struct Found {
+    places: [Service; MOST_SERVICES],
     len: usize,
 }
 
@@ -27,7 +26,7 @@ impl Model for Found {
 
 impl Found {
     /// No services; the places hold a blank one of the given name.
-    pub fn new(blank: Name) -> Found
+    pub(crate) fn new(blank: Name) -> Found
         ensures { result ≡ [] }
     {
         let blank = Service {
@@ -36,26 +35,26 @@ impl Found {
             node: blank,
         };
         Found {
-            places: [blank; 15],
+            places: [blank; MOST_SERVICES],
             len: 0,
         }
     }
 
-    pub fn is_full(&self) -> bool
+    pub(crate) fn is_full(&self) -> bool
         ensures full { result ≡ (length self.now == 15) }
         ensures most { length self.now ≤ 15 }
     {
-        self.len == MOST
+        self.len == MOST_SERVICES
     }
 
-    pub fn len(&self) -> usize
+    pub(crate) fn len(&self) -> usize
         ensures { result ≡ length self.now }
     {
         self.len
     }
 
     /// Appends a service.
-    pub fn push(&mut self, service: Service)
+    pub(crate) fn push(&mut self, service: Service)
         requires { length self.old < 15 }
         ensures { self.new ≡ self.old ++ service ∷ [] }
     {
@@ -63,7 +62,7 @@ impl Found {
         self.len += 1;
     }
 
-    pub fn as_slice(&self) -> &[Service]
+    pub(crate) fn as_slice(&self) -> &[Service]
         ensures services { result.now ≡ self.now }
         ensures most { length self.now ≤ 15 }
     {

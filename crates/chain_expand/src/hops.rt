@@ -8,21 +8,21 @@ use config_model::{Chain, Config, Service};
 use ov_types::Name;
 
 /// The first service of a name.
-pub fn service_named<'a>(config: &'a Config, name: &Name) -> Option<&'a Service>
+pub(crate) fn service_named<'a>(config: &'a Config, name: &Name) -> Option<&'a Service>
     ensures { option_copied result ≡ service_named config.now name.now }
 {
     config.services.as_slice().iter().find(|s| s.name == *name)
 }
 
 /// The first chain of a name.
-pub fn chain_named<'a>(config: &'a Config, name: &Name) -> Option<&'a Chain>
+pub(crate) fn chain_named<'a>(config: &'a Config, name: &Name) -> Option<&'a Chain>
     ensures { option_copied result ≡ chain_named config.now name.now }
 {
     config.chains.as_slice().iter().find(|d| d.name == *name)
 }
 
 /// The hops of the chain of a name.
-pub fn hops_of<'a>(config: &'a Config, name: &Name) -> &'a [Name]
+pub(crate) fn hops_of<'a>(config: &'a Config, name: &Name) -> &'a [Name]
     ensures { result.now ≡ hops_of config.now name.now }
 {
     match chain_named(config, name) {
@@ -32,7 +32,7 @@ pub fn hops_of<'a>(config: &'a Config, name: &Name) -> &'a [Name]
 }
 
 /// The hops of the chain at a place.
-pub fn hops_at(config: &Config, place: usize) -> &[Name]
+pub(crate) fn hops_at(config: &Config, place: usize) -> &[Name]
     requires { place < length config.now.chains }
     ensures { result.now ≡ hops_at config.now place }
 {

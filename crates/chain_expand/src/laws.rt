@@ -4,6 +4,7 @@ ghost use Rattle.config_model.specs.declared.config.Config.{Config as Configurat
 ghost use Rattle.config_model.specs.declared.config.Service.{Service as Instance};
 ghost use Rattle.chain_expand.specs.Expansion.{leads, hops_of, expansion, expansion_of};
 ghost use Rattle.chain_expand.specs.Leading.{Leads, Expands, IsLoopFree, NamesThings};
+ghost use Rattle.chain_expand.specs.Laws.{TwiceNamesTheService};
 
 /// A chain leads to another by its hops: no way needs more steps than there are chains.
 pub fn leads_by_hops()
@@ -18,7 +19,8 @@ pub fn expands_by_hops()
 
 /// Hops expand to one list of services only.
 pub fn expands_to_one()
-    ensures { (c : Configuration) (hops : List (List ℕ)) (xs ys : List Instance) → Expands c hops xs → Expands c hops ys → xs ≡ ys }
+    ensures { (c : Configuration) (hops : List (List ℕ)) (xs ys : List Instance) → Expands c hops xs
+        → Expands c hops ys → xs ≡ ys }
 {}
 
 /// A chain has its numbers exactly where no chain on the way loops, it has at most 15 services, and none of them has
@@ -27,4 +29,9 @@ pub fn expands_where()
     ensures { (c : Configuration) (name : List ℕ) → IsOk (expansion_of c name)
         ↔ (IsLoopFree c name × (length (expansion c name) ≤ 15)
         × AllPairs (λ a b. a.id.0 ≢ b.id.0) (expansion c name)) }
+{}
+
+/// The fault of a chain that has a service twice names that chain, and the service where it stands again.
+pub fn twice_names_the_service()
+    ensures { TwiceNamesTheService }
 {}

@@ -3,18 +3,19 @@ ghost use Rattle.std.specs.Prelude.{◌≡◌, ◌≤◌, ◌<◌, length, IfSom
 ghost use Rattle.std.specs.Option.{ForSome};
 ghost use Rattle.chain_expand.specs.Links.{place_of, place_named, with_mark, meets, HasNamed, IsLinked};
 
+use crate::bounds::MOST_CHAINS;
 use crate::hops;
 use config_model::Config;
 use ov_types::Name;
 
 /// A mark for the place of each chain.
-pub type Marks = [bool; 128];
+pub(crate) type Marks = [bool; MOST_CHAINS];
 
 /// For the place of each chain the places that its hops name.
-pub type Rows = [Marks; 128];
+pub(crate) type Rows = [Marks; MOST_CHAINS];
 
 /// The place of the first chain of a name.
-pub fn place_of(config: &Config, name: &Name) -> Option<usize>
+pub(crate) fn place_of(config: &Config, name: &Name) -> Option<usize>
     ensures place { result ≡ place_of config.now name.now }
     ensures within { IfSome result (λ p. p < length config.now.chains) }
 {
@@ -51,7 +52,7 @@ fn row_of(config: &Config, hops: &[Name]) -> Marks
     requires { length config.now.chains ≤ 128 }
     ensures { HasNamed config.now hops.now result }
 {
-    let mut row = [false; 128];
+    let mut row = [false; MOST_CHAINS];
     for hop in hops {
         mark(&mut row, place_named(config, hop));
     }
@@ -59,11 +60,11 @@ fn row_of(config: &Config, hops: &[Name]) -> Marks
 }
 
 /// The places that the hops of each chain name.
-pub fn links_of(config: &Config) -> Rows
+pub(crate) fn links_of(config: &Config) -> Rows
     requires { length config.now.chains ≤ 128 }
     ensures { IsLinked config.now result }
 {
-    let mut rows = [[false; 128]; 128];
+    let mut rows = [[false; MOST_CHAINS]; MOST_CHAINS];
     for (index, chain) in config.chains.as_slice().iter().enumerate() {
         rows[index] = row_of(config, chain.hops.as_slice());
     }
@@ -71,7 +72,7 @@ pub fn links_of(config: &Config) -> Rows
 }
 
 /// Whether some place is marked in both.
-pub fn do_meet(row: &Marks, marks: &Marks) -> bool
+pub(crate) fn do_meet(row: &Marks, marks: &Marks) -> bool
     ensures { result ≡ meets row.now marks.now }
 {
     row.iter().zip(marks).any(|(a, b)| *a && *b)

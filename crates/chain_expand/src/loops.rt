@@ -1,9 +1,11 @@
 //! Loops of chains.
-ghost use Rattle.std.specs.Prelude.{◌≡◌, ℕ, List, ◌≤◌, ◌<◌, ◌-◌, ◌&&◌, ◌||◌, ◌==◌, length, find, option_map, option_copied, slice_index_or, Some, []};
+ghost use Rattle.std.specs.Prelude.{◌≡◌, ℕ, List, ◌≤◌, ◌<◌, ◌-◌, ◌&&◌, ◌||◌, ◌==◌, length, find, option_map};
+ghost use Rattle.std.specs.Prelude.{option_copied, slice_index_or, Some, []};
 ghost use Rattle.ov_types.specs.First.{same_name};
 ghost use Rattle.chain_expand.specs.Expansion.{leads, loops, loop_of};
 ghost use Rattle.chain_expand.specs.Links.{place_of, meets, IsLinked, IsReached, IsRound};
 
+use crate::bounds::MOST_CHAINS;
 use crate::links::{Marks, Rows, do_meet, links_of, place_of};
 use config_model::Config;
 use ov_types::Name;
@@ -23,7 +25,7 @@ fn is_next(rows: &Rows, target: usize, place: usize, marks: &Marks) -> bool
 fn round(rows: &Rows, target: usize, marks: &Marks) -> Marks
     ensures { IsRound target rows.now marks.now result }
 {
-    let mut next = [false; 128];
+    let mut next = [false; MOST_CHAINS];
     for (place, mark) in next.iter_mut().enumerate() {
         *mark = is_next(rows, target, place, marks);
     }
@@ -37,7 +39,7 @@ fn reached(config: &Config, rows: &Rows, target: usize) -> Marks
     requires within { target < length config.now.chains }
     ensures { IsReached config.now target (length config.now.chains - 1) result }
 {
-    let mut marks = [false; 128];
+    let mut marks = [false; MOST_CHAINS];
     marks[target] = true;
     for _ in 1..config.chains.len() {
         let next = round(rows, target, &marks);
@@ -104,7 +106,8 @@ fn is_along(
 fn is_loop_of(config: &Config, rows: &Rows, name: &Name, chain: &Name) -> bool
     requires few { length config.now.chains ≤ 128 }
     requires linked { IsLinked config.now rows.now }
-    ensures { result ≡ ((same_name chain.now name.now || leads config.now name.now chain.now) && loops config.now chain.now) }
+    ensures { result ≡ ((same_name chain.now name.now || leads config.now name.now chain.now)
+        && loops config.now chain.now) }
 {
     match place_of(config, chain) {
         None => false,
@@ -131,7 +134,7 @@ pub fn first_loop(config: &Config) -> Option<Name>
 }
 
 /// The name of the first chain in order that loops, of the one of a name and those that it leads to.
-pub fn first_loop_of(config: &Config, name: &Name) -> Option<Name>
+pub(crate) fn first_loop_of(config: &Config, name: &Name) -> Option<Name>
     requires { length config.now.chains ≤ 128 }
     ensures { result ≡ option_map (λ d. d.name) (loop_of config.now name.now) }
 {

@@ -4,6 +4,7 @@ ghost use Rattle.std.specs.List.{find};
 ghost use Rattle.ov_types.specs.First.{first_meeting};
 ghost use Rattle.chain_expand.specs.Expansion.{same_number, numbers_or_twice};
 
+use crate::bounds::MOST_SERVICES;
 use crate::ChainFault;
 use config_model::Service;
 use ov_types::{Name, Services};
@@ -29,7 +30,7 @@ fn first_twice(services: &[Service]) -> Option<Service>
 }
 
 /// The services' numbers.
-fn numbers(services: &[Service]) -> Services<15>
+fn numbers(services: &[Service]) -> Services<MOST_SERVICES>
     requires { length services.now ≤ 15 }
     ensures { result ≡ map (λ s. s.id) services.now }
 {
@@ -41,7 +42,7 @@ fn numbers(services: &[Service]) -> Services<15>
 }
 
 /// The services' numbers, or the service that stands twice.
-pub fn numbers_or_twice(chain: &Name, services: &[Service]) -> Result<Services<15>, ChainFault>
+pub(crate) fn numbers_or_twice(chain: &Name, services: &[Service]) -> Result<Services<MOST_SERVICES>, ChainFault>
     requires { length services.now ≤ 15 }
     ensures { result ≡ numbers_or_twice chain.now services.now (first_meeting same_number services.now) }
 {

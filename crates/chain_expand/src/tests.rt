@@ -66,15 +66,19 @@ fn config_of(alloc: Global, services: &[&str], chains: &[&str]) -> Result<Config
     Ok(config)
 }
 
-/// The numbers or the fault.
+/// The numbers, or the fault as it is shown.
 fn answer(rt: &impl Abort, alloc: Global, config: &Config, asked: &str) -> Result<String, Fail> {
     assert!(rt; config.chains.len() <= 128);
     match expand(config, &name_of(asked)?) {
         Ok(services) => {
-            let numbers = services.as_slice();
-            Ok(format!(in alloc; "{numbers:?}")?)
+            let mut numbers = String::new(alloc);
+            for service in services.as_slice() {
+                let number = service.0;
+                numbers = format!(in alloc; "{numbers} {number}")?;
+            }
+            Ok(numbers)
         }
-        Err(fault) => Ok(format!(in alloc; "{fault:?}")?),
+        Err(fault) => Ok(format!(in alloc; "{fault}")?),
     }
 }
 
@@ -82,20 +86,20 @@ fn answer(rt: &impl Abort, alloc: Global, config: &Config, asked: &str) -> Resul
 fn expands_chains(rt: HostRuntime) -> Result<(), Fail> {
     let config = config_of(rt.alloc(), &SERVICES, &CHAINS)?;
     for (asked, want) in [
-        ("c1", r#"Loop { chain: "c1" }"#),
-        ("c2", r#"Loop { chain: "c1" }"#),
-        ("before", r#"Loop { chain: "c1" }"#),
-        ("a", "[ServiceNo(1)]"),
-        ("outer", r#"Twice { chain: "outer", service: "fw" }"#),
+        ("c1", "the chain c1 leads back to itself"),
+        ("c2", "the chain c1 leads back to itself"),
+        ("before", "the chain c1 leads back to itself"),
+        ("a", "1"),
+        ("outer", "the chain outer has the service fw twice"),
         (
             "most",
-            "[ServiceNo(3), ServiceNo(2), ServiceNo(4), ServiceNo(5), ServiceNo(6), ServiceNo(7), ServiceNo(8), ServiceNo(9), ServiceNo(10), ServiceNo(11), ServiceNo(12), ServiceNo(13), ServiceNo(14), ServiceNo(17), ServiceNo(1)]",
+            "3 2 4 5 6 7 8 9 10 11 12 13 14 17 1",
         ),
-        ("over", r#"TooLong { chain: "over" }"#),
-        ("none", "[]"),
+        ("over", "the chain over has more than 15 services"),
+        ("none", ""),
     ] {
         let found = answer(&rt, rt.alloc(), &config, asked)?;
-        assert_eq!(rt; found.as_str(), want, "{asked}");
+        assert_eq!(rt; found.as_str().trim_start(), want, "{asked}");
     }
     Ok(())
 }
@@ -129,7 +133,7 @@ fn ends_at_once_where_chains_are_deep(rt: HostRuntime) -> Result<(), Fail> {
     assert!(rt; config.chains.len() <= 128);
     assert_eq!(rt; first_loop(&config), None);
     let found = answer(&rt, rt.alloc(), &config, "c1")?;
-    assert_eq!(rt; found.as_str(), r#"TooLong { chain: "c1" }"#);
+    assert_eq!(rt; found.as_str(), "the chain c1 has more than 15 services");
     Ok(())
 }
 

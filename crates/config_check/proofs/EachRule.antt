@@ -17,11 +17,13 @@ use Rattle.chain_expand.specs.Expansion.{loops, expansion, same_number}
 use Rattle.config_check.specs.declared.refusal.IdKind.TheVariants as Id
 use Rattle.config_check.specs.declared.refusal.Refusal.{Refusal}
 use Rattle.config_check.specs.declared.refusal.Refusal.TheVariants.{SubnetReserved, SubnetNested, AddressOutside, AddressTaken, ChainNeedsNetworks, ChainSameNetwork, ChainLoop, ChainTooLong, ServiceTwice}
-use Rattle.config_check.specs.Related.{NumberedRule}
-use Rattle.config_check.specs.Rules.{broken_count, broken_part, broken_limit, repeated_name, repeated_controller, broken_name, repeated_id, use_numbers, broken_id, all_rules, controller_names, node_names, network_names, port_names, policy_names, service_names, chain_names, missing, missing_end, missing_chain, missing_in_node, missing_in_network, missing_in_port, missing_in_rule, missing_in_service, missing_in_chain, broken_reference, overlap, circuit_addresses, reserved_in, broken_reserved, nested_in, broken_nested, network_named, is_outside, broken_outside, share_address, broken_taken, lacks_network, broken_needs, turns_back, broken_same, broken_loop, is_too_long, broken_long, twice_in, broken_twice, overlapping_around, broken_overlap}
+use Rattle.network_rules.specs.Related.{all_rules}
+use Rattle.network_rules.specs.declared.numbered.NumberedRule.{NumberedRule}
+use Rattle.config_check.specs.Rules.{broken_count, broken_part, broken_limit, repeated_name, repeated_controller, broken_name, repeated_id, use_numbers, broken_id, controller_names, node_names, network_names, port_names, policy_names, service_names, chain_names, missing, missing_end, missing_chain, missing_in_node, missing_in_network, missing_in_port, missing_in_rule, missing_in_service, missing_in_chain, broken_reference, overlap, circuit_addresses, reserved_in, broken_reserved, nested_in, broken_nested, network_named, is_outside, broken_outside, share_address, broken_taken, lacks_network, broken_needs, turns_back, broken_same, broken_loop, is_too_long, broken_long, twice_in, broken_twice, overlapping_around, broken_overlap}
 use Rattle.config_check.specs.Sentences.{AreDistinct, KeepsLimits, HasDistinctNames, HasDistinctNumbers, HasReferents, EndExists, ChainExists, Overlap, ReservesCircuits, HasFlatSubnets, HoldsAddresses, HasDistinctAddresses, NamesEnds, NamesTwo, IsAround, AreApart}
 use Rattle.config_check.proofs.Few.{all_kept, each_kept, counts_kept, parts_kept}
-use Rattle.config_check.proofs.Iffs.{iff_then, iff_both, all_iff, pairs_iff, both_none, mapped_none, find_none, first_of_none, first_meeting_none, list_all_true, six_none}
+use Rattle.config_check.proofs.Iffs.{iff_then, iff_both, all_iff, pairs_iff, list_all_true, six_none}
+use Rattle.ov_types.proofs.FirstLemmas.{both_none, mapped_none, find_none, first_of_none, first_meeting_none}
 use Rattle.config_check.proofs.Meanings.{distinct_names, distinct_ids, exists_iff, end_exists_iff, chain_exists_iff, apart_iff, inside_iff, shares_iff, ends_iff, names_two_iff, around_iff}
 use Rattle.config_check.proofs.Straight.{no_loop, too_long_is}
 
@@ -181,7 +183,7 @@ references_iff t c =
 
 -- 5 to 8
 
-reserved_in_iff : (n : Network) → (reserved_in n ≡ None) ↔ All (λ p. ¬ Overlap circuit_addresses p) n.subnets
+pub reserved_in_iff : (n : Network) → (reserved_in n ≡ None) ↔ All (λ p. ¬ Overlap circuit_addresses p) n.subnets
 reserved_in_iff n =
     iff_then (mapped_none (λ (p : Block). SubnetReserved n.name p) (find (overlap circuit_addresses) n.subnets))
     (iff_then (find_none (overlap circuit_addresses) n.subnets)
@@ -191,7 +193,7 @@ pub reserved_iff : (c : Config) → (broken_reserved c ≡ None) ↔ ReservesCir
 unfolding broken_reserved
 reserved_iff c = each_iff reserved_in (λ n. All (λ p. ¬ Overlap circuit_addresses p) n.subnets) reserved_in_iff c.networks
 
-nested_in_iff : (n : Network) → (nested_in n ≡ None) ↔ AllPairs (λ p q. ¬ Overlap p q) n.subnets
+pub nested_in_iff : (n : Network) → (nested_in n ≡ None) ↔ AllPairs (λ p q. ¬ Overlap p q) n.subnets
 nested_in_iff n =
     iff_then (mapped_none (λ (m : Block × Block). SubnetNested n.name m.0 m.1) (first_meeting overlap n.subnets))
     (iff_then (first_meeting_none overlap n.subnets)

@@ -1,8 +1,9 @@
--- That nothing is found, as a fact on all items or on all pairs of them.
+-- That tests fail or pass, as a fact on all items or on all pairs of them.
 use Rattle.std.proofs.Common.{◌≡◌, ◌↔◌, ◌<◌, ◌||◌, ◌&&◌, ℕ, zero, suc, Bool, true, false, cond, IsTrue, List, [], ◌∷◌, ◌++◌, Option, Some, None, option_map, length, get_or, refl, sym, ◌∙◌, arith}
-use Rattle.std.specs.List.{All, AllPairs, find, list_any, list_all, filter}
+use Rattle.std.specs.List.{All, AllPairs, list_any, list_all, filter}
 use Rattle.std.proofs.lemmas.List.Kept.{AllPairs-cons}
-use Rattle.ov_types.specs.First.{◌<|>◌, first_of, meeting_after, first_meeting}
+use Rattle.ov_types.specs.First.{◌<|>◌}
+pub use Rattle.ov_types.proofs.FirstLemmas.{all_head, all_tail, all_cons, pairs_head, pairs_tail, both_none, mapped_none, find_none, first_of_none, first_meeting_none}
 
 -- chains of equivalences
 
@@ -23,114 +24,6 @@ pairs_iff {A} P Q same xs = (
   λ h i j d lt within. (same (get_or xs i d) (get_or xs j d)).0 (h i j d lt within),
   λ h i j d lt within. (same (get_or xs i d) (get_or xs j d)).1 (h i j d lt within),
 )
-
--- all items of longer lists
-
-pub all_head : {A : Type 0} (P : A → Type 0) (x : A) (xs : List A) → All P (x ∷ xs) → P x
-all_head P x xs h = h 0 x (omega arith)
-
-pub all_tail : {A : Type 0} (P : A → Type 0) (x : A) (xs : List A) → All P (x ∷ xs) → All P xs
-all_tail P x xs h = λ k d lt. h (suc k) d (omega arith)
-
-pub all_cons : {A : Type 0} (P : A → Type 0) (x : A) (xs : List A) → P x → All P xs → (k : ℕ) (d : A) → k < length (x ∷ xs) → P (get_or (x ∷ xs) k d)
-all_cons P x xs here rest zero d lt = here
-all_cons P x xs here rest (suc k) d lt = rest k d (omega arith)
-
-all_front : {A : Type 0} (P : A → Type 0) (xs : List A) (y : A) → All P (xs ++ y ∷ []) → All P xs
-all_front P [] y h = λ k d lt. absurd (omega arith)
-all_front P (x ∷ xs) y h = all_cons P x xs (all_head P x (xs ++ y ∷ []) h) (all_front P xs y (all_tail P x (xs ++ y ∷ []) h))
-
-all_last : {A : Type 0} (P : A → Type 0) (xs : List A) (y : A) → All P (xs ++ y ∷ []) → P y
-all_last P [] y h = all_head P y [] h
-all_last P (x ∷ xs) y h = all_last P xs y (all_tail P x (xs ++ y ∷ []) h)
-
-all_snoc : {A : Type 0} (P : A → Type 0) (xs : List A) (y : A) → All P xs → P y → All P (xs ++ y ∷ [])
-all_snoc P [] y h here = all_cons P y [] here (λ k d lt. absurd (omega arith))
-all_snoc P (x ∷ xs) y h here = all_cons P x (xs ++ y ∷ []) (all_head P x xs h) (all_snoc P xs y (all_tail P x xs h) here)
-
-pub pairs_head : {A : Type 0} (R : A → A → Type 0) (x : A) (xs : List A) → AllPairs R (x ∷ xs) → All (R x) xs
-pairs_head R x xs h = λ k d lt. h 0 (suc k) d (omega arith) (omega arith)
-
-pub pairs_tail : {A : Type 0} (R : A → A → Type 0) (x : A) (xs : List A) → AllPairs R (x ∷ xs) → AllPairs R xs
-pairs_tail R x xs h = λ i j d lt within. h (suc i) (suc j) d (omega arith) (omega arith)
-
--- no answer
-
-pub both_none : {A : Type 0} (a b : Option A) → ((a <|> b) ≡ None) ↔ ((a ≡ None) × (b ≡ None))
-both_none None b = (λ h. (refl, h), λ h. h.1)
-both_none (Some x) b = (λ h. cc, λ h. h.0)
-
-pub mapped_none : {A B : Type 0} (f : A → B) (o : Option A) → (option_map f o ≡ None) ↔ (o ≡ None)
-mapped_none f None = (λ h. refl, λ h. refl)
-mapped_none f (Some x) = (λ h. cc, λ h. cc)
-
-all_fail : {A : Type 0} (p : A → Bool) (xs : List A) → find p xs ≡ None → All (λ x. p x ≡ false) xs
-all_fail p [] h = λ k d lt. absurd (omega arith)
-all_fail {A} p (x ∷ xs) h =
-    let parts : (p x ≡ false) × (find p xs ≡ None) =
-    elim (p x) as (λ b. cond b (Some x) (find p xs) ≡ None → (b ≡ false) × (find p xs ≡ None)) [ true ↦ λ e. cc | false ↦ λ e. (refl, e) ] h
-    in all_cons (λ y. p y ≡ false) x xs parts.0 (all_fail p xs parts.1)
-
-none_passes : {A : Type 0} (p : A → Bool) (xs : List A) → All (λ x. p x ≡ false) xs → find p xs ≡ None
-none_passes p [] h = refl
-none_passes {A} p (x ∷ xs) h =
-    let P : A → Type 0 = λ y. p y ≡ false in
-    let here : p x ≡ false = all_head P x xs h in
-    rw here (none_passes p xs (all_tail P x xs h))
-
-pub find_none : {A : Type 0} (p : A → Bool) (xs : List A) → (find p xs ≡ None) ↔ All (λ x. p x ≡ false) xs
-find_none p xs = (all_fail p xs, none_passes p xs)
-
-all_silent : {A B : Type 0} (f : A → Option B) (xs : List A) → first_of f xs ≡ None → All (λ x. f x ≡ None) xs
-all_silent f [] h = λ k d lt. absurd (omega arith)
-all_silent f (x ∷ xs) h =
-    let parts : (f x ≡ None) × (first_of f xs ≡ None) = (both_none (f x) (first_of f xs)).0 h in
-    all_cons (λ y. f y ≡ None) x xs parts.0 (all_silent f xs parts.1)
-
-none_answers : {A B : Type 0} (f : A → Option B) (xs : List A) → All (λ x. f x ≡ None) xs → first_of f xs ≡ None
-none_answers f [] h = refl
-none_answers {A} f (x ∷ xs) h =
-    let P : A → Type 0 = λ y. f y ≡ None in
-    (both_none (f x) (first_of f xs)).1 (all_head P x xs h, none_answers f xs (all_tail P x xs h))
-
-pub first_of_none : {A B : Type 0} (f : A → Option B) (xs : List A) → (first_of f xs ≡ None) ↔ All (λ x. f x ≡ None) xs
-first_of_none f xs = (all_silent f xs, none_answers f xs)
-
-module _ {A : Type 0} (meets : A → A → Bool) where
-  abbrev apart : A → A → Type 0
-  apart a b = meets a b ≡ false
-
-  abbrev apart_from : List A → A → Type 0
-  apart_from before x = All (λ b. apart b x) before
-
-  no_meeting : (before xs : List A) → meeting_after meets before xs ≡ None → AllPairs apart xs × All (apart_from before) xs
-  no_meeting before [] h = (λ i j d lt within. absurd (omega arith), λ k d lt. absurd (omega arith))
-  no_meeting before (x ∷ xs) h =
-      let earlier : Option A = find (λ b. meets b x) before in
-      let rest : Option (A × A) = meeting_after meets (before ++ x ∷ []) xs in
-      let parts : (option_map (λ b. (b, x)) earlier ≡ None) × (rest ≡ None) = (both_none (option_map (λ (b : A). (b, x)) earlier) rest).0 h in
-      let here : apart_from before x = all_fail (λ b. meets b x) before ((mapped_none (λ (b : A). (b, x)) earlier).0 parts.0) in
-      let later = no_meeting (before ++ x ∷ []) xs parts.1 in (
-        AllPairs-cons apart x xs (λ k d lt. all_last (λ b. apart b (get_or xs k d)) before x (later.1 k d lt)) later.0,
-        all_cons (apart_from before) x xs here (λ k d lt. all_front (λ b. apart b (get_or xs k d)) before x (later.1 k d lt)),
-      )
-
-  no_two_meet : (before xs : List A) → AllPairs apart xs → All (apart_from before) xs → meeting_after meets before xs ≡ None
-  no_two_meet before [] pairs others = refl
-  no_two_meet before (x ∷ xs) pairs others =
-      let earlier : Option A = find (λ b. meets b x) before in
-      let rest : Option (A × A) = meeting_after meets (before ++ x ∷ []) xs in
-      (both_none (option_map (λ (b : A). (b, x)) earlier) rest).1 (
-        (mapped_none (λ (b : A). (b, x)) earlier).1 (none_passes (λ b. meets b x) before (all_head (apart_from before) x xs others)),
-        no_two_meet (before ++ x ∷ []) xs (pairs_tail apart x xs pairs)
-            (λ k d lt. all_snoc (λ b. apart b (get_or xs k d)) before x (all_tail (apart_from before) x xs others k d lt) (pairs_head apart x xs pairs k d lt)),
-      )
-
-  pub first_meeting_none : (xs : List A) → (first_meeting meets xs ≡ None) ↔ AllPairs (λ a b. meets a b ≡ false) xs
-  first_meeting_none xs = (
-    λ h. (no_meeting [] xs h).0,
-    λ h. no_two_meet [] xs h (λ k d lt i e below. absurd (omega arith)),
-  )
 
 -- tests that fail
 

@@ -1,5 +1,5 @@
-pub mod AnyRule
 pub mod Blocks
+pub mod Circuits
 pub mod Lists
 pub mod SomeRule
 pub mod Straight
@@ -7,4 +7,9 @@ pub mod Few
 pub mod Iffs
 pub mod Meanings
 pub mod EachRule
+pub mod Finders
+pub mod Nested
+pub mod OneHome
 pub mod Validity
+pub mod Edited
+pub mod EditLaws

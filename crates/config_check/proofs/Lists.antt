@@ -1,13 +1,9 @@
 -- First things in what is left of a list.
-use Rattle.std.proofs.Common.{◌≡◌, ℕ, zero, suc, arith, ◌+◌, ◌<◌, Bool, true, false, cond, List, [], ◌∷◌, ◌++◌, Option, Some, None, length, take, drop, get_or, refl, sym, ap, ◌∙◌, add-one, drop-cons}
-use Rattle.std.specs.List.{find, list_all}
-use Rattle.std.proofs.lemmas.List.Folds.{list_all_at}
+use Rattle.std.proofs.Common.{◌≡◌, ℕ, zero, suc, arith, ◌+◌, ◌<◌, Bool, true, false, cond, List, [], ◌∷◌, ◌++◌, Option, Some, None, length, take, drop, get_or, refl, sym, ap, ◌∙◌}
+use Rattle.std.specs.List.{find}
 use Rattle.std.proofs.lemmas.List.{take_more}
 use Rattle.ov_types.specs.First.{first_of, meeting_after}
-
--- the item at a place is the first of what is left there
-next_is : {A : Type 0} (xs : List A) (i : ℕ) (x : A) → i < length xs → x ≡ get_or xs i x → drop i xs ≡ x ∷ drop (i + 1) xs
-next_is xs i x lt at = rw add-one (drop-cons xs i x lt ∙ ap (λ y. y ∷ drop (suc i) xs) (sym at))
+use Rattle.ov_types.proofs.FirstLemmas.{next_is}
 
 pub none_here : {A B : Type 0} (f : A → Option B) (xs : List A) (i : ℕ) (x : A) (total : Option B) → i < length xs → x ≡ get_or xs i x
     → f x ≡ None → first_of f (drop i xs) ≡ total → first_of f (drop (i + 1) xs) ≡ total
@@ -47,13 +43,6 @@ pub not_found_here : {A : Type 0} (p : A → Bool) (xs : List A) (i : ℕ) (x : 
 not_found_here {A} p xs i x total lt at missed so_far =
     let step : find p (x ∷ drop (i + 1) xs) ≡ find p (drop (i + 1) xs) = rw missed refl in
     sym step ∙ ap (find p) (sym (next_is xs i x lt at)) ∙ so_far
-
-pub all_here : {A : Type 0} (p : A → Bool) (xs : List A) (i : ℕ) (x : A) → i < length xs → x ≡ get_or xs i x → list_all p xs ≡ true → p x ≡ true
-all_here {A} p xs i x lt at all =
-    elim (p x) as (λ b. p x ≡ b → b ≡ true) [
-      | true ↦ λ e. refl
-      | false ↦ λ e. sym (list_all_at p xs i x lt (ap p (sym at) ∙ e)) ∙ all
-    ] refl
 
 pub none_found : {A : Type 0} (p : A → Bool) (xs : List A) (i : ℕ) (x : A) → i < length xs → x ≡ get_or xs i x → find p xs ≡ None → p x ≡ false
 none_found {A} p [] i x lt at h = absurd (omega arith)

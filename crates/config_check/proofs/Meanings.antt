@@ -20,10 +20,12 @@ use Rattle.ov_types.specs.First.{same_name, first_meeting}
 use Rattle.config_check.specs.declared.refusal.IdKind.{IdKind}
 use Rattle.config_check.specs.declared.refusal.Refusal.{Refusal}
 use Rattle.config_check.specs.declared.refusal.Refusal.TheVariants.{DuplicateName, DuplicateId, BadReference, SubnetOverlap}
-use Rattle.config_check.specs.Related.{are_related}
+use Rattle.network_rules.specs.Related.{are_related}
 use Rattle.config_check.specs.Rules.{repeated_name, repeated_id, missing, missing_end, missing_chain, overlap, network_named, holds_address, is_outside, share_address, is_chain_rule, is_any, same_end, share_addresses, overlapping, overlapping_around}
 use Rattle.config_check.specs.Sentences.{AreDistinct, EndExists, ChainExists, Overlap, IsAround, AreApart}
-use Rattle.config_check.proofs.Iffs.{iff_then, all_iff, pairs_iff, both_none, mapped_none, find_none, first_meeting_none, list_any_false, pairs_head, pairs_tail, pairs_kept}
+use Rattle.config_check.proofs.Iffs.{iff_then, all_iff, pairs_iff, list_any_false, pairs_kept}
+pub use Rattle.ov_types.proofs.FirstLemmas.{same_name_iff}
+use Rattle.ov_types.proofs.FirstLemmas.{both_none, mapped_none, find_none, first_meeting_none, pairs_head, pairs_tail}
 
 -- tests
 
@@ -35,19 +37,13 @@ or_iff : {P Q : Type 0} (a b : Bool) → IsTrue a ↔ P → IsTrue b ↔ Q → I
 or_iff true b p q = (λ h. inl (p.0 refl), λ h. refl)
 or_iff false b p q = (λ h. inr (q.0 h), λ h. elim h [ inl x ↦ let t : false ≡ true = p.1 x in cc | inr y ↦ q.1 y ])
 
-and_iff : {P Q : Type 0} (a b : Bool) → IsTrue a ↔ P → IsTrue b ↔ Q → IsTrue (a && b) ↔ (P × Q)
+pub and_iff : {P Q : Type 0} (a b : Bool) → IsTrue a ↔ P → IsTrue b ↔ Q → IsTrue (a && b) ↔ (P × Q)
 and_iff true b p q = (λ h. (p.0 refl, q.0 h), λ h. q.1 h.1)
 and_iff false b p q = (λ h. cc, λ h. p.1 h.0)
 
 -- texts and numbers
 
-pub same_name_iff : (a b : List ℕ) → IsTrue (same_name a b) ↔ (a ≡ b)
-same_name_iff a b = (
-  λ h. same_text a b (sym h),
-  λ e. ap (same_name a) (sym e) ∙ nat_list_eq_equiv.refl a,
-)
-
-number_iff : (a b : ℕ) → IsTrue (a == b) ↔ (a ≡ b)
+pub number_iff : (a b : ℕ) → IsTrue (a == b) ↔ (a ≡ b)
 number_iff a b = (eqb-true a b, eq-eqb a b)
 
 pub distinct_names : (names : List (List ℕ)) → (repeated_name names ≡ None) ↔ AreDistinct names
@@ -100,7 +96,7 @@ not_false_iff : (b : Bool) → (not b ≡ false) ↔ (b ≡ true)
 not_false_iff true = (λ h. refl, λ h. refl)
 not_false_iff false = (λ h. cc, λ h. cc)
 
-holds_iff : (n : Network) (a : ℕ) → (holds_address n a ≡ true) ↔ Any (λ s. contains s a ≡ true) n.subnets
+pub holds_iff : (n : Network) (a : ℕ) → (holds_address n a ≡ true) ↔ Any (λ s. contains s a ≡ true) n.subnets
 holds_iff n a = (Any-from_list_any (λ s. contains s a) n.subnets, list_any-from_Any (λ s. contains s a) n.subnets)
 
 inside_of : (o : Option Network) (a : ℕ) → (option_map_or (λ n. not (holds_address n a)) o false ≡ false) ↔ IfSome o (λ n. Any (λ s. contains s a ≡ true) n.subnets)

@@ -4,15 +4,13 @@ use Rattle.std.specs.List.{list_any}
 use Rattle.config_model.specs.declared.config.Network.{Network}
 use Rattle.config_model.specs.declared.config.Config.{Config}
 use Rattle.config_model.specs.declared.config.Policy.{Policy}
-use Rattle.config_check.specs.Related.{attaches, lets_through, rules_between, are_related}
+use Rattle.network_rules.specs.Related.{attaches, lets_through, rules_between, are_related}
 use Rattle.std.specs.Cmp.Lexicographic.{nat_list_eq_equiv}
 use Rattle.ov_types.specs.First.{same_name}
-use Rattle.config_check.specs.Between.{leads_between, relates, also_leads, is_in_group}
+use Rattle.config_check.specs.Between.{also_leads, is_in_group}
+use Rattle.network_rules.specs.Wanted.{leads_between}
 use Rattle.config_check.specs.Rules.{group_of}
-use Rattle.config_check.proofs.AnyRule.{any_filter, any_same, any_between}
-
-pub some_between : (c : Config) (a b : Network) → list_any (relates a b) c.policies ≡ list_any (λ r. lets_through r.rule.action) (rules_between c a b)
-some_between c a b = sym (any_between (λ r. lets_through r.action) c a b)
+use Rattle.network_rules.proofs.AnyRule.{any_filter, any_same, any_between}
 
 and_apart : (a b c : Bool) → (a && (b && c)) ≡ ((a && b) && c)
 and_apart true b c = refl
@@ -21,8 +19,8 @@ and_apart false b c = refl
 some_attached : (c : Config) (a b : Network) → list_any (also_leads a b) (filter (attaches a) c.policies) ≡ list_any (λ r. lets_through r.rule.action) (rules_between c a b)
 some_attached c a b =
     any_filter (also_leads a b) (attaches a) c.policies
-    ∙ any_same (λ (p : Policy). attaches a p && also_leads a b p) (relates a b) (λ p. and_apart (attaches a p) (attaches b p) (list_any (leads_between a b) p.rules)) c.policies
-    ∙ some_between c a b
+    ∙ any_same (λ (p : Policy). attaches a p && also_leads a b p) (λ p. (attaches a p && attaches b p) && list_any (leads_between a b) p.rules) (λ p. and_apart (attaches a p) (attaches b p) (list_any (leads_between a b) p.rules)) c.policies
+    ∙ sym (any_between (λ r. lets_through r.action) c a b)
 
 filter_same : {A : Type 0} (f g : A → Bool) → ((x : A) → f x ≡ g x) → (xs : List A) → filter f xs ≡ filter g xs
 filter_same f g same [] = refl

@@ -1,7 +1,9 @@
-pub mod Related
+pub mod Finding
 pub mod Rules
 pub mod Between
 pub mod Checked
 pub mod Twice
 pub mod Texts
 pub mod Sentences
+pub mod Edits
+pub mod EditLaws

@@ -1,5 +1,5 @@
 -- The fourteen rules of valid configurations, each by the first object that breaks it, in order.
-use Rattle.std.specs.Prelude.{ℕ, ◌==◌, ◌&&◌, ◌||◌, nat_le, nat_lt, nat_eq, Bool, true, false, not, List, [], ◌∷◌, ◌++◌, length, map, flat_map, filter, find, Option, Some, None, option_map, is_none, if◌then◌else◌}
+use Rattle.std.specs.Prelude.{ℕ, ◌==◌, ◌&&◌, ◌||◌, nat_le, nat_lt, nat_eq, Bool, true, false, not, List, [], ◌∷◌, ◌++◌, length, map, filter, find, Option, Some, None, option_map, is_none, if◌then◌else◌}
 use Rattle.std.specs.List.{list_any, list_all, filter_map}
 use Rattle.std.specs.Option.{option_map_or}
 use Rattle.ov_types.specs.Prefix.{Block, contains, is_inside}
@@ -17,7 +17,9 @@ use Rattle.config_model.specs.declared.topology.Node.{Node}
 use Rattle.config_model.specs.declared.topology.Topology.{Topology}
 use Rattle.ov_types.specs.First.{same_name, ◌<|>◌, first_of, first_meeting}
 use Rattle.chain_expand.specs.Expansion.{loops, loop_of, expansion, same_number}
-use Rattle.config_check.specs.Related.{NumberedRule, numbered_rules, are_related}
+pub use Rattle.config_check.specs.Finding.{network_named}
+use Rattle.network_rules.specs.Related.{all_rules, are_related}
+use Rattle.network_rules.specs.declared.numbered.NumberedRule.{NumberedRule}
 use Rattle.config_check.specs.declared.refusal.IdKind.{IdKind}
 use Rattle.config_check.specs.declared.refusal.IdKind.TheVariants as Id
 use Rattle.config_check.specs.declared.refusal.LimitKind.{LimitKind}
@@ -95,10 +97,6 @@ broken_name t c =
 
 abbrev pub repeated_id : IdKind → List ℕ → Option Refusal
 repeated_id what ids = option_map (λ m. DuplicateId what m.1) (first_meeting nat_eq ids)
-
--- the rules of all policies, in the document's order
-abbrev pub all_rules : Config → List NumberedRule
-all_rules c = flat_map numbered_rules c.policies
 
 -- the use number of a chain rule
 abbrev pub use_of : Action → Option ℕ
@@ -186,9 +184,6 @@ unfoldable pub broken_nested : Config → Option Refusal
 broken_nested c = first_of nested_in c.networks
 
 -- 7. A port's address is in a subnet of its network.
-
-abbrev pub network_named : Config → List ℕ → Option Network
-network_named c name = find (λ n. same_name n.name name) c.networks
 
 -- an address lies in a subnet of a network
 abbrev pub holds_address : Network → ℕ → Bool

@@ -1,5 +1,5 @@
 -- What it is to be valid, as sentences on objects and on pairs of objects.
-use Rattle.std.specs.Prelude.{◌≡◌, ◌≢◌, ℕ, ◌≤◌, ◌⊎◌, ◌++◌, true, false, IsTrue, List, length, map, IfSome}
+use Rattle.std.specs.Prelude.{◌≡◌, ◌≢◌, ℕ, ◌+◌, ◌*◌, ◌≤◌, ◌⊎◌, ◌++◌, true, false, IsTrue, List, length, map, IfSome}
 use Rattle.std.specs.List.{All, AllPairs, Any, Contains}
 use Rattle.ov_types.specs.Prefix.{Block, contains}
 use Rattle.config_model.specs.declared.config.Action.{Action}
@@ -11,8 +11,8 @@ use Rattle.config_model.specs.declared.config.Network.{Network}
 use Rattle.config_model.specs.declared.config.Rule.{Rule}
 use Rattle.config_model.specs.declared.topology.Topology.{Topology}
 use Rattle.chain_expand.specs.Expansion.{loops, expansion}
-use Rattle.config_check.specs.Related.{are_related}
-use Rattle.config_check.specs.Rules.{all_rules, circuit_addresses, controller_names, node_names, network_names, port_names, policy_names, service_names, chain_names, network_named, use_numbers}
+use Rattle.network_rules.specs.Related.{are_related, all_rules}
+use Rattle.config_check.specs.Rules.{circuit_addresses, controller_names, node_names, network_names, port_names, policy_names, service_names, chain_names, network_named, use_numbers}
 
 -- no two of a list are equal
 abbrev pub AreDistinct : {A : Type 0} → List A → Type 0
@@ -77,6 +77,10 @@ IsWithin p q = (a : ℕ) → IsTrue (contains p a) → IsTrue (contains q a)
 -- one of two blocks contains the other
 abbrev pub Overlap : Block → Block → Type 0
 Overlap p q = IsWithin p q ⊎ IsWithin q p
+
+-- the address that is written as four numbers joined by points
+abbrev pub dotted : ℕ → ℕ → ℕ → ℕ → ℕ
+dotted a b c d = ((a * 256 + b) * 256 + c) * 256 + d
 
 -- no subnet overlaps the addresses of circuits
 abbrev pub ReservesCircuits : Config → Type 0

@@ -1,12 +1,13 @@
 //! The rule of numbers: no two of one kind are equal.
 ghost use Rattle.std.specs.Prelude.{◌≡◌, ◌++◌, map, IfOk};
 ghost use Rattle.std.specs.List.{filter_map};
-ghost use Rattle.config_check.specs.Rules.{all_rules, repeated_id, use_of, use_numbers, broken_id};
+ghost use Rattle.config_check.specs.Rules.{repeated_id, use_of, use_numbers, broken_id};
+ghost use Rattle.network_rules.specs.Related.{all_rules};
 
 use crate::meeting::first_meeting;
 use crate::refusal::{IdKind, Refusal};
-use crate::related::NumberedRule;
 use config_model::{Action, Config, Topology};
+use network_rules::NumberedRule;
 use ov_types::NoMemory;
 use std::alloc::Global;
 

@@ -1,12 +1,16 @@
 //! What the rules mean, as laws: each is the contract of a function that does nothing.
-ghost use Rattle.std.specs.Prelude.{◌≡◌, ◌≢◌, ◌↔◌, ◌≤◌, List, length, false};
-ghost use Rattle.std.specs.List.{All, AllPairs};
+ghost use Rattle.std.specs.Prelude.{◌≡◌, ◌≢◌, ◌↔◌, ◌≤◌, ℕ, IsTrue, List, length, false};
+ghost use Rattle.std.specs.List.{All, AllPairs, Contains};
+ghost use Rattle.ov_types.specs.Prefix.{contains};
+ghost use Rattle.config_model.specs.Form.{has_config_form};
 ghost use Rattle.config_model.specs.declared.config.Config.{Config};
+ghost use Rattle.config_model.specs.declared.config.Network.{Network};
 ghost use Rattle.config_model.specs.declared.topology.Topology.{Topology};
 ghost use Rattle.chain_expand.specs.Expansion.{loops, expansion};
-ghost use Rattle.config_check.specs.Related.{NumberedRule};
-ghost use Rattle.config_check.specs.Rules.{broken_limit, broken_name, broken_id, broken_reference, broken_reserved, broken_nested, broken_outside, broken_taken, broken_needs, broken_same, broken_loop, broken_long, broken_twice, broken_overlap, first_broken};
-ghost use Rattle.config_check.specs.Sentences.{KeepsLimits, HasDistinctNames, HasDistinctNumbers, HasReferents, ReservesCircuits, HasFlatSubnets, HoldsAddresses, HasDistinctAddresses, NamesEnds, NamesTwo, IsAround, AreApart, IsValid};
+ghost use Rattle.config_check.specs.Finding.{Finds, network_named, network_numbered, port_numbered, port_at, node_named};
+ghost use Rattle.network_rules.specs.declared.numbered.NumberedRule.{NumberedRule};
+ghost use Rattle.config_check.specs.Rules.{circuit_addresses, holds_address, broken_limit, broken_name, broken_id, broken_reference, broken_reserved, broken_nested, broken_outside, broken_taken, broken_needs, broken_same, broken_loop, broken_long, broken_twice, broken_overlap, first_broken};
+ghost use Rattle.config_check.specs.Sentences.{dotted, KeepsLimits, HasDistinctNames, HasDistinctNumbers, HasReferents, ReservesCircuits, HasFlatSubnets, HoldsAddresses, HasDistinctAddresses, NamesEnds, NamesTwo, IsAround, AreApart, IsValid};
 
 /// The first rule is kept exactly where no count is above its limit.
 pub fn limits_are_kept()
@@ -31,6 +35,11 @@ pub fn references_exist()
 /// The fifth rule is kept exactly where no subnet overlaps the addresses of circuits.
 pub fn circuits_are_reserved()
     ensures { (c : Config) → (broken_reserved c ≡ None) ↔ ReservesCircuits c }
+{}
+
+/// The addresses of circuits are exactly 250.0.0.0 to 250.1.255.255.
+pub fn circuits_take_two_blocks()
+    ensures { (a : ℕ) → IsTrue (contains circuit_addresses a) ↔ ((dotted 250 0 0 0 ≤ a) × (a ≤ dotted 250 1 255 255)) }
 {}
 
 /// The sixth rule is kept exactly where no two subnets of a network overlap.
@@ -76,6 +85,43 @@ pub fn services_stand_once()
 /// The last rule is kept exactly where no two networks, each a third one or related to it, have overlapping subnets.
 pub fn related_networks_are_apart()
     ensures { (c : Config) → (broken_overlap c ≡ None) ↔ All (λ n. AllPairs (λ a b. IsAround c n a → IsAround c n b → AreApart a b) c.networks) c.networks }
+{}
+
+/// In a valid configuration a name finds exactly the network that has it.
+pub fn names_find_networks()
+    ensures { (t : Topology) (c : Config) (name : List ℕ) → IsValid t c
+        → Finds (network_named c name) (λ n. n.name ≡ name) c.networks }
+{}
+
+/// In a valid configuration a number finds exactly the network that has it.
+pub fn numbers_find_networks()
+    ensures { (t : Topology) (c : Config) (number : ℕ) → IsValid t c
+        → Finds (network_numbered c number) (λ n. n.id.0 ≡ number) c.networks }
+{}
+
+/// In a valid configuration a number finds exactly the port that has it.
+pub fn numbers_find_ports()
+    ensures { (t : Topology) (c : Config) (number : ℕ) → IsValid t c
+        → Finds (port_numbered c number) (λ p. p.id.0 ≡ number) c.ports }
+{}
+
+/// In a valid configuration an address finds exactly the port of a network that has it.
+pub fn addresses_find_ports()
+    ensures { (t : Topology) (c : Config) (n : Network) (address : ℕ) → IsValid t c
+        → Finds (port_at c n address) (λ p. (p.network ≡ n.name) × (p.address.0 ≡ address)) c.ports }
+{}
+
+/// In a valid configuration a name finds exactly the compute node that has it.
+pub fn names_find_nodes()
+    ensures { (t : Topology) (c : Config) (name : List ℕ) → IsValid t c
+        → Finds (node_named t name) (λ n. n.name ≡ name) t.nodes }
+{}
+
+/// In a valid configuration of the written form no address has two networks among a network and those related to it.
+pub fn addresses_have_one_network()
+    ensures { (t : Topology) (c : Config) (n a b : Network) (address : ℕ) → IsTrue (has_config_form c) → IsValid t c
+        → Contains c.networks n → Contains c.networks a → Contains c.networks b → IsAround c n a → IsAround c n b
+        → IsTrue (holds_address a address) → IsTrue (holds_address b address) → a ≡ b }
 {}
 
 /// No rule is broken exactly where the fourteen sentences hold.

@@ -2,27 +2,31 @@
 #![tactic(auto)]
 
 mod chains;
+pub mod edit_laws;
+mod edits;
+mod finding;
 mod ids;
 pub mod laws;
 mod limits;
 mod meeting;
+mod named;
 mod names;
 mod overlaps;
-mod passing;
 mod ports;
 mod references;
 mod refusal;
-mod related;
 mod subnets;
 mod texts;
 mod uses;
 mod valid;
 
-pub use passing::passes_between;
-pub use ports::{holds_address, network_named};
+pub use edits::{EditFault, EditRefusal, apply_edit};
+pub use finding::{network_named, network_numbered, node_named, port_at, port_numbered};
+pub use ports::holds_address;
 pub use refusal::{CheckRefusal, IdKind, LimitKind, Refusal};
-pub use related::{NumberedRule, are_related, attaches, fits};
 pub use valid::{Valid, check};
 
+#[cfg(test)]
+mod edit_tests;
 #[cfg(test)]
 mod tests;

@@ -2,14 +2,14 @@
 ghost use Rattle.std.specs.Prelude.{◌≡◌, filter, find, map, option_copied, option_map, IfOk};
 ghost use Rattle.std.specs.List.{list_any};
 ghost use Rattle.ov_types.specs.Prefix.{Block};
-ghost use Rattle.config_check.specs.Related.{attaches};
+ghost use Rattle.network_rules.specs.Related.{attaches};
 ghost use Rattle.config_check.specs.Between.{also_leads, is_in_group};
 ghost use Rattle.config_check.specs.Rules.{overlap, group_of, share_addresses, overlapping, overlapping_around, broken_overlap};
 
 use crate::refusal::Refusal;
-use crate::related::{attaches, some_rule_leads};
 use crate::subnets::overlap;
 use config_model::{Config, Network, Policy};
+use network_rules::{attaches, some_rule_leads};
 use ov_types::{NoMemory, Prefix};
 use std::alloc::Global;
 

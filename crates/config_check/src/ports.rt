@@ -1,19 +1,13 @@
 //! The rules of ports: each address lies in the port's network, and stands there once.
-ghost use Rattle.std.specs.Prelude.{◌≡◌, find, option_copied};
+ghost use Rattle.std.specs.Prelude.{◌≡◌, find};
 ghost use Rattle.ov_types.specs.First.{first_meeting};
-ghost use Rattle.config_check.specs.Rules.{network_named, holds_address, is_outside, share_address, broken_outside, broken_taken};
+ghost use Rattle.config_check.specs.Rules.{holds_address, is_outside, share_address, broken_outside, broken_taken};
 
+use crate::finding::network_named;
 use crate::meeting::{Meets, first_meeting};
 use crate::refusal::Refusal;
 use config_model::{Config, Network, Port};
-use ov_types::{Addr, Name};
-
-/// The first network of a name.
-pub fn network_named<'a>(config: &'a Config, name: &Name) -> Option<&'a Network>
-    ensures { option_copied result ≡ network_named config.now name.now }
-{
-    config.networks.as_slice().iter().find(|n| n.name == *name)
-}
+use ov_types::Addr;
 
 /// Whether a subnet of a network holds an address.
 pub fn holds_address(network: &Network, address: Addr) -> bool

@@ -2,14 +2,15 @@
 ghost use Rattle.std.specs.Prelude.{◌≡◌, ◌++◌, IfOk};
 ghost use Rattle.std.specs.List.{list_any};
 ghost use Rattle.ov_types.specs.First.{same_name, first_of};
-ghost use Rattle.config_check.specs.Rules.{all_rules, missing, missing_end, missing_chain, missing_in_node, missing_in_network, missing_in_port, missing_in_rule, missing_in_service, missing_in_chain, broken_reference};
+ghost use Rattle.config_check.specs.Rules.{missing, missing_end, missing_chain, missing_in_node, missing_in_network, missing_in_port, missing_in_rule, missing_in_service, missing_in_chain, broken_reference};
+ghost use Rattle.network_rules.specs.Related.{all_rules};
 
 use crate::names::{
     chain_names, controller_names, hop_names, network_names, node_names, policy_names,
 };
 use crate::refusal::Refusal;
-use crate::related::NumberedRule;
 use config_model::{Action, Chain, Config, End, Network, Node, Port, Service, Topology};
+use network_rules::NumberedRule;
 use ov_types::{Name, NoMemory};
 use std::alloc::Global;
 

@@ -94,13 +94,28 @@ const FAULTS: [(&str, &str, &str); 14] = [
 ];
 
 /// Further objects of a list, and the line.
-const MORE: [(&str, &str, &str); 4] = [
+const MORE: [(&str, &str, &str); 7] = [
     (
         "chains",
         r#"{"name":"fw","hops":["safe"]}"#,
         "DuplicateName fw",
     ),
     ("chains", r#"{"name":"red","hops":["fw"]}"#, "valid"),
+    (
+        "networks",
+        r#"{"name":"last","id":29,"subnets":["250.1.255.0/24"]}"#,
+        "SubnetReserved last 250.1.255.0/24",
+    ),
+    (
+        "networks",
+        r#"{"name":"past","id":30,"subnets":["250.2.0.0/16","249.0.0.0/8"]}"#,
+        "valid",
+    ),
+    (
+        "networks",
+        r#"{"name":"over","id":31,"subnets":["248.0.0.0/6"]}"#,
+        "SubnetReserved over 248.0.0.0/6",
+    ),
     (
         "networks",
         r#"{"name":"far","id":25,"subnets":["10.2.0.0/25"]}"#,

@@ -3,8 +3,8 @@ ghost use Rattle.std.specs.Prelude.{◌≡◌, find};
 ghost use Rattle.config_check.specs.Rules.{is_chain_rule, is_any, same_end, lacks_network, turns_back, broken_needs, broken_same};
 
 use crate::refusal::Refusal;
-use crate::related::NumberedRule;
 use config_model::{Action, End, Rule};
+use network_rules::NumberedRule;
 
 fn is_chain_rule(action: &Action) -> bool
     ensures { result ≡ is_chain_rule action.now }

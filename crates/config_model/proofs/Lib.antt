@@ -6,3 +6,8 @@ pub mod Counts
 pub mod HasJust
 pub mod OneText
 pub mod Missed
+pub mod FaultKinds
+pub mod Read
+pub mod EventsRead
+pub mod EventFaults
+pub mod EventsJust

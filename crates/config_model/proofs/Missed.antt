@@ -11,11 +11,11 @@ use Rattle.config_model.specs.Config.{network_at, port_at, policy_at, service_at
 use Rattle.config_model.specs.Rule.{rule_at, direction_at}
 use Rattle.config_model.specs.Input.{packet_at, compile_at, reach_at}
 
-object_there : (path : List ℕ) (d : Data) (members : Members) → as_object d ≡ Some members → object_at path d ≡ Ok members
+pub object_there : (path : List ℕ) (d : Data) (members : Members) → as_object d ≡ Some members → object_at path d ≡ Ok members
 unfolding object_at
 object_there path d ms e = rw e refl
 
-absent : {A : Type 0} (reads : Reads A) (path name : List ℕ) (d : Data) → get name d ≡ None → in_member reads path name d ≡ Err (record { path = member_path path name; kind = Missing })
+pub absent : {A : Type 0} (reads : Reads A) (path name : List ℕ) (d : Data) → get name d ≡ None → in_member reads path name d ≡ Err (record { path = member_path path name; kind = Missing })
 unfolding in_member member_at
 absent reads path name d e = rw e refl
 

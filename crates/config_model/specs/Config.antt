@@ -9,7 +9,8 @@ use Rattle.config_model.specs.declared.config.Service.{Service}
 use Rattle.config_model.specs.declared.config.Chain.{Chain}
 use Rattle.config_model.specs.declared.config.Config.{Config}
 use Rattle.config_model.specs.Faults.{Fault, ◌>>=◌}
-use Rattle.config_model.specs.Fields.{object_at, in_member, whole_at, name_at, name_but_at, address_at, prefix_at, only_at, all_at, optional_all}
+use Rattle.config_model.specs.Fields.{object_at, in_member, whole_at, name_at, name_but_at, address_at, prefix_at}
+use Rattle.config_model.specs.Fields.{only_at, all_at, optional_all}
 use Rattle.config_model.specs.Rule.{rule_at}
 
 -- the name of a network: rules say `any` for all networks
@@ -71,5 +72,6 @@ config_at path d = do
   policies ← optional_all policy_at path (codes "policies") d
   services ← optional_all service_at path (codes "services") d
   chains ← optional_all chain_at path (codes "chains") d
-  done ← only_at path (codes "networks" ∷ codes "ports" ∷ codes "policies" ∷ codes "services" ∷ codes "chains" ∷ []) members
+  done ← only_at path
+      (codes "networks" ∷ codes "ports" ∷ codes "policies" ∷ codes "services" ∷ codes "chains" ∷ []) members
   Ok (record { networks = networks; ports = ports; policies = policies; services = services; chains = chains })

@@ -1,8 +1,10 @@
 -- Members of objects and items of lists.
-use Rattle.std.specs.Prelude.{ℕ, ◌+◌, ◌∷◌, [], List, ⊤, Bool, true, not, nat_le, ◌==◌, nat_eq, Option, Some, None, Result, Ok, if◌then◌else◌}
+use Rattle.std.specs.Prelude.{ℕ, ◌+◌, ◌∷◌, [], List, ⊤, Bool, true, not, nat_le, ◌==◌, nat_eq, Option, Some, None}
+use Rattle.std.specs.Prelude.{Result, Ok, if◌then◌else◌}
 use Rattle.std.specs.List.{list_any}
 use Rattle.std.specs.Cmp.Lexicographic.{pointwise}
-use Rattle.serde_json.specs.Data.{Num, unsigned, negative, float, Data, Items, no_items, item, Members, no_members, member}
+use Rattle.serde_json.specs.Data.{Num, unsigned, negative, float, Data, Items, no_items, item, Members, no_members}
+use Rattle.serde_json.specs.Data.{member}
 use Rattle.serde_json.specs.Events.{items_len}
 use Rattle.serde_json.specs.Find.{get, as_number, as_str, as_array, as_object}
 use Rattle.ov_types.specs.Name.{name_of}

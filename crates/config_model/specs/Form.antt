@@ -53,7 +53,8 @@ unfoldable pub has_controller_form : NodeId → Bool
 has_controller_form n = is_node_name n.name && is_node_address n.address.0
 
 unfoldable pub has_node_form : Node → Bool
-has_node_form n = is_node_name n.name && is_node_address n.address.0 && list_all is_name n.controllers && is_from_to 1 2 (length n.controllers)
+has_node_form n = is_node_name n.name && is_node_address n.address.0 && list_all is_name n.controllers
+    && is_from_to 1 2 (length n.controllers)
 
 unfoldable pub has_topology_form : Topology → Bool
 has_topology_form t =
@@ -62,10 +63,12 @@ has_topology_form t =
     && list_all has_node_form t.nodes && nat_le 1 (length t.nodes)
 
 unfoldable pub has_network_form : Network → Bool
-has_network_form n = is_network_name n.name && is_from_to 1 16383 n.id.0 && list_all is_block n.subnets && list_all is_name n.policies
+has_network_form n = is_network_name n.name && is_from_to 1 16383 n.id.0 && list_all is_block n.subnets
+    && list_all is_name n.policies
 
 unfoldable pub has_port_form : Port → Bool
-has_port_form p = is_name p.name && nat_le p.id.0 524271 && is_name p.network && nat_le p.address.0 0xffff_ffff && is_name p.node
+has_port_form p = is_name p.name && nat_le p.id.0 524271 && is_name p.network && nat_le p.address.0 0xffff_ffff
+    && is_name p.node
 
 abbrev pub has_end_form : End → Bool
 has_end_form Any = true
@@ -81,7 +84,8 @@ has_action_form Deny = true
 has_action_form (Through chain use_no) = is_name chain && nat_le use_no 3071
 
 unfoldable pub has_rule_form : Rule → Bool
-has_rule_form r = has_end_form r.source && has_end_form r.destination && has_protocol_form r.protocol && is_range r.source_ports && is_range r.destination_ports && has_action_form r.action
+has_rule_form r = has_end_form r.source && has_end_form r.destination && has_protocol_form r.protocol
+    && is_range r.source_ports && is_range r.destination_ports && has_action_form r.action
 
 unfoldable pub has_policy_form : Policy → Bool
 has_policy_form p = is_name p.name && nat_le p.sequence 65535 && list_all has_rule_form p.rules

@@ -7,4 +7,10 @@ pub mod Topology
 pub mod Rule
 pub mod Config
 pub mod Input
+pub mod OneMember
+pub mod Edit
+pub mod Event
+pub mod Documents
+pub mod EventDocuments
 pub mod Laws
+pub mod EventLaws

@@ -1,7 +1,6 @@
 -- Paths in a document.
-use Rattle.std.specs.Prelude.{ℕ, List, ◌++◌, length, ◌==◌, if◌then◌else◌, codes, decimal}
-use Rattle.config_model.specs.declared.fault.Place.{Place}
-use Rattle.config_model.specs.declared.fault.Place.TheVariants.{At, Member, Item}
+use Rattle.std.specs.Prelude.{ℕ, List, [], ◌++◌, length, ◌==◌, if◌then◌else◌, codes, decimal}
+use Rattle.config_model.specs.declared.fault.Place.{Place, Whole, Member', Item'}
 
 -- the path of a member of the object at a path
 abbrev pub member_path : List ℕ → List ℕ → List ℕ
@@ -12,6 +11,6 @@ abbrev pub item_path : List ℕ → ℕ → List ℕ
 item_path path index = path ++ (codes "[" ++ (decimal index ++ codes "]"))
 
 abbrev pub place_text : Place → List ℕ
-place_text (At path) = path.now
-place_text (Member path name) = member_path path.now name.now
-place_text (Item path index) = item_path path.now index
+place_text Whole = []
+place_text (Member' pointer outer name) = member_path (place_text outer) name.now
+place_text (Item' pointer outer index) = item_path (place_text outer) index

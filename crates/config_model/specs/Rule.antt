@@ -1,5 +1,6 @@
 -- The written form of a rule.
-use Rattle.std.specs.Prelude.{ℕ, ◌∷◌, [], ◌++◌, List, nat_eq, nat_le, codes, Option, Some, None, Result, Ok, if◌then◌else◌}
+use Rattle.std.specs.Prelude.{ℕ, ◌∷◌, [], ◌++◌, List, nat_eq, nat_le, codes, Option, Some, None, Result, Ok}
+use Rattle.std.specs.Prelude.{if◌then◌else◌}
 use Rattle.std.specs.Cmp.Lexicographic.{pointwise}
 use Rattle.serde_json.specs.Data.{Data}
 use Rattle.serde_json.specs.Find.{as_str}
@@ -20,7 +21,8 @@ use Rattle.config_model.specs.Faults.{Fault, ◌>>=◌, refused, wanted, kept}
 use Rattle.config_model.specs.Fields.{object_at, in_member, text_at, whole_at, name_at, only_at, all_at}
 
 abbrev pub direction_of : List ℕ → Option Direction
-direction_of text = if pointwise nat_eq text (codes ">") then Some OneWay else (if pointwise nat_eq text (codes "<>") then Some BothWays else None)
+direction_of text = if pointwise nat_eq text (codes ">") then Some OneWay
+    else (if pointwise nat_eq text (codes "<>") then Some BothWays else None)
 
 unfoldable pub direction_at : List ℕ → Data → Result Direction Fault
 direction_at path d = do
@@ -79,7 +81,8 @@ action_at path d = do
 
 -- the members of every rule
 abbrev pub rule_members : List (List ℕ)
-rule_members = codes "direction" ∷ codes "source" ∷ codes "destination" ∷ codes "protocol" ∷ codes "source_ports" ∷ codes "destination_ports" ∷ codes "action" ∷ []
+rule_members = codes "direction" ∷ codes "source" ∷ codes "destination" ∷ codes "protocol" ∷ codes "source_ports"
+    ∷ codes "destination_ports" ∷ codes "action" ∷ []
 
 -- those that only a rule with the action `chain` has
 abbrev pub chain_members : List (List ℕ)
@@ -101,4 +104,5 @@ rule_at path d = do
   destination_ports ← in_member range_at path (codes "destination_ports") d
   action ← action_at path d
   done ← only_at path (members_with action) members
-  Ok (record { direction = direction; source = source; destination = destination; protocol = protocol; source_ports = source_ports; destination_ports = destination_ports; action = action })
+  Ok (record { direction = direction; source = source; destination = destination; protocol = protocol;
+      source_ports = source_ports; destination_ports = destination_ports; action = action })

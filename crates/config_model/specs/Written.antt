@@ -1,5 +1,6 @@
 -- What the texts of addresses and prefixes write.
-use Rattle.std.specs.Prelude.{ℕ, ◌+◌, ◌-◌, ◌*◌, ◌==◌, ◌&&◌, nat_le, Bool, false, List, [], ◌∷◌, bytes_eq, decimal, Option, Some, None, if◌then◌else◌}
+use Rattle.std.specs.Prelude.{ℕ, ◌+◌, ◌-◌, ◌*◌, ◌==◌, ◌&&◌, nat_le, Bool, false, List, [], ◌∷◌, bytes_eq, decimal}
+use Rattle.std.specs.Prelude.{Option, Some, None, if◌then◌else◌}
 use Rattle.std.specs.List.{before_first, after_first}
 use Rattle.std.specs.Str.Parse.{digits_value}
 use Rattle.ov_types.specs.Prefix.{Block, prefix_of}
@@ -8,7 +9,8 @@ use Rattle.ov_types.specs.Texts.{address_text}
 -- parts to base 256 whatever they are, where n is read and part is of the part that goes on
 abbrev pub parts_value : ℕ → ℕ → List ℕ → ℕ
 parts_value n part [] = n * 256 + part
-parts_value n part (c ∷ cs) = if c == 46 then parts_value (n * 256 + part) 0 cs else parts_value n (part * 10 + (c - 48)) cs
+parts_value n part (c ∷ cs) = if c == 46 then parts_value (n * 256 + part) 0 cs
+    else parts_value n (part * 10 + (c - 48)) cs
 
 -- the address of which this is the text: there is one spelling of each
 unfoldable pub address_of : List ℕ → Option ℕ
@@ -22,7 +24,8 @@ begins_plainly (c ∷ d ∷ cs) = nat_le 49 c && nat_le c 57
 
 -- the number 0 to 32 of which this is the decimal text
 unfoldable pub length_of : List ℕ → Option ℕ
-length_of text = if bytes_eq (decimal (digits_value 10 text)) text && nat_le (digits_value 10 text) 32 then Some (digits_value 10 text) else None
+length_of text = if bytes_eq (decimal (digits_value 10 text)) text && nat_le (digits_value 10 text) 32
+    then Some (digits_value 10 text) else None
 
 abbrev pub is_slash : ℕ → Bool
 is_slash c = c == 47

@@ -4,7 +4,8 @@ ghost use Rattle.serde_json.specs.Data.{Data};
 ghost use Rattle.serde_json.specs.View.{view};
 ghost use Rattle.config_model.specs.Paths.{place_text};
 ghost use Rattle.config_model.specs.Faults.{Gives, Fault};
-ghost use Rattle.config_model.specs.Form.{has_network_form, has_port_form, has_policy_form, has_service_form, has_chain_form, has_config_form};
+ghost use Rattle.config_model.specs.Form.{has_network_form, has_port_form, has_policy_form, has_service_form};
+ghost use Rattle.config_model.specs.Form.{has_chain_form, has_config_form};
 ghost use Rattle.config_model.specs.Config.{network_at, port_at, policy_at, service_at, chain_at, config_at};
 
 use crate::bounds::{LAST_NETWORK, LAST_PORT, LAST_SEQUENCE, LAST_SERVICE};
@@ -25,15 +26,13 @@ impl FromDocument for Network {
     ghost has_form = { has_network_form };
 
     #[tactic(auto, unfolding(crate::specs::Config::network_at, crate::specs::Form::has_network_form))]
-    fn read(alloc: Global, place: Place<'_>, value: &Value) -> Result<Self, ReadRefusal> {
+    fn read(alloc: Global, place: &Place<'_>, value: &Value) -> Result<Self, ReadRefusal> {
         let members = object_of(alloc, place, value)?;
-        let path = place.text(alloc)?;
-        let path = path.as_str();
-        let name = name_but_member(alloc, path, "name", "any", value)?;
-        let id = whole_member(alloc, path, "id", 1, LAST_NETWORK, value)?;
-        let subnets = list_member::<Prefix>(alloc, path, "subnets", Count::AnyNumber, value)?;
-        let policies = optional_list_member::<Name>(alloc, path, "policies", value)?;
-        check_others(alloc, path, &["name", "id", "subnets", "policies"], members)?;
+        let name = name_but_member(alloc, place, "name", "any", value)?;
+        let id = whole_member(alloc, place, "id", 1, LAST_NETWORK, value)?;
+        let subnets = list_member::<Prefix>(alloc, place, "subnets", Count::AnyNumber, value)?;
+        let policies = optional_list_member::<Name>(alloc, place, "policies", value)?;
+        check_others(alloc, place, &["name", "id", "subnets", "policies"], members)?;
         Ok(Network {
             name,
             id: InstanceId(id as u16),
@@ -49,18 +48,16 @@ impl FromDocument for Port {
     ghost has_form = { has_port_form };
 
     #[tactic(auto, unfolding(crate::specs::Config::port_at, crate::specs::Form::has_port_form))]
-    fn read(alloc: Global, place: Place<'_>, value: &Value) -> Result<Self, ReadRefusal> {
+    fn read(alloc: Global, place: &Place<'_>, value: &Value) -> Result<Self, ReadRefusal> {
         let members = object_of(alloc, place, value)?;
-        let path = place.text(alloc)?;
-        let path = path.as_str();
-        let name = read_member::<Name>(alloc, path, "name", value)?;
-        let id = whole_member(alloc, path, "id", 0, LAST_PORT, value)?;
-        let network = read_member::<Name>(alloc, path, "network", value)?;
-        let address = address_member(alloc, path, "address", 0, u32::MAX, value)?;
-        let node = read_member::<Name>(alloc, path, "node", value)?;
+        let name = read_member::<Name>(alloc, place, "name", value)?;
+        let id = whole_member(alloc, place, "id", 0, LAST_PORT, value)?;
+        let network = read_member::<Name>(alloc, place, "network", value)?;
+        let address = address_member(alloc, place, "address", 0, u32::MAX, value)?;
+        let node = read_member::<Name>(alloc, place, "node", value)?;
         check_others(
             alloc,
-            path,
+            place,
             &["name", "id", "network", "address", "node"],
             members,
         )?;
@@ -80,14 +77,12 @@ impl FromDocument for Policy {
     ghost has_form = { has_policy_form };
 
     #[tactic(auto, unfolding(crate::specs::Config::policy_at, crate::specs::Form::has_policy_form))]
-    fn read(alloc: Global, place: Place<'_>, value: &Value) -> Result<Self, ReadRefusal> {
+    fn read(alloc: Global, place: &Place<'_>, value: &Value) -> Result<Self, ReadRefusal> {
         let members = object_of(alloc, place, value)?;
-        let path = place.text(alloc)?;
-        let path = path.as_str();
-        let name = read_member::<Name>(alloc, path, "name", value)?;
-        let sequence = whole_member(alloc, path, "sequence", 0, LAST_SEQUENCE, value)?;
-        let rules = list_member::<Rule>(alloc, path, "rules", Count::AnyNumber, value)?;
-        check_others(alloc, path, &["name", "sequence", "rules"], members)?;
+        let name = read_member::<Name>(alloc, place, "name", value)?;
+        let sequence = whole_member(alloc, place, "sequence", 0, LAST_SEQUENCE, value)?;
+        let rules = list_member::<Rule>(alloc, place, "rules", Count::AnyNumber, value)?;
+        check_others(alloc, place, &["name", "sequence", "rules"], members)?;
         Ok(Policy {
             name,
             sequence: sequence as u16,
@@ -102,14 +97,12 @@ impl FromDocument for Service {
     ghost has_form = { has_service_form };
 
     #[tactic(auto, unfolding(crate::specs::Config::service_at, crate::specs::Form::has_service_form))]
-    fn read(alloc: Global, place: Place<'_>, value: &Value) -> Result<Self, ReadRefusal> {
+    fn read(alloc: Global, place: &Place<'_>, value: &Value) -> Result<Self, ReadRefusal> {
         let members = object_of(alloc, place, value)?;
-        let path = place.text(alloc)?;
-        let path = path.as_str();
-        let name = read_member::<Name>(alloc, path, "name", value)?;
-        let id = whole_member(alloc, path, "id", 0, LAST_SERVICE, value)?;
-        let node = read_member::<Name>(alloc, path, "node", value)?;
-        check_others(alloc, path, &["name", "id", "node"], members)?;
+        let name = read_member::<Name>(alloc, place, "name", value)?;
+        let id = whole_member(alloc, place, "id", 0, LAST_SERVICE, value)?;
+        let node = read_member::<Name>(alloc, place, "node", value)?;
+        check_others(alloc, place, &["name", "id", "node"], members)?;
         Ok(Service {
             name,
             id: ServiceNo(id as u16),
@@ -124,13 +117,11 @@ impl FromDocument for Chain {
     ghost has_form = { has_chain_form };
 
     #[tactic(auto, unfolding(crate::specs::Config::chain_at, crate::specs::Form::has_chain_form))]
-    fn read(alloc: Global, place: Place<'_>, value: &Value) -> Result<Self, ReadRefusal> {
+    fn read(alloc: Global, place: &Place<'_>, value: &Value) -> Result<Self, ReadRefusal> {
         let members = object_of(alloc, place, value)?;
-        let path = place.text(alloc)?;
-        let path = path.as_str();
-        let name = read_member::<Name>(alloc, path, "name", value)?;
-        let hops = list_member::<Name>(alloc, path, "hops", Count::AtLeastOne, value)?;
-        check_others(alloc, path, &["name", "hops"], members)?;
+        let name = read_member::<Name>(alloc, place, "name", value)?;
+        let hops = list_member::<Name>(alloc, place, "hops", Count::AtLeastOne, value)?;
+        check_others(alloc, place, &["name", "hops"], members)?;
         Ok(Chain { name, hops })
     }
 }
@@ -141,18 +132,16 @@ impl FromDocument for Config {
     ghost has_form = { has_config_form };
 
     #[tactic(auto, unfolding(crate::specs::Config::config_at, crate::specs::Form::has_config_form))]
-    fn read(alloc: Global, place: Place<'_>, value: &Value) -> Result<Self, ReadRefusal> {
+    fn read(alloc: Global, place: &Place<'_>, value: &Value) -> Result<Self, ReadRefusal> {
         let members = object_of(alloc, place, value)?;
-        let path = place.text(alloc)?;
-        let path = path.as_str();
-        let networks = optional_list_member::<Network>(alloc, path, "networks", value)?;
-        let ports = optional_list_member::<Port>(alloc, path, "ports", value)?;
-        let policies = optional_list_member::<Policy>(alloc, path, "policies", value)?;
-        let services = optional_list_member::<Service>(alloc, path, "services", value)?;
-        let chains = optional_list_member::<Chain>(alloc, path, "chains", value)?;
+        let networks = optional_list_member::<Network>(alloc, place, "networks", value)?;
+        let ports = optional_list_member::<Port>(alloc, place, "ports", value)?;
+        let policies = optional_list_member::<Policy>(alloc, place, "policies", value)?;
+        let services = optional_list_member::<Service>(alloc, place, "services", value)?;
+        let chains = optional_list_member::<Chain>(alloc, place, "chains", value)?;
         check_others(
             alloc,
-            path,
+            place,
             &["networks", "ports", "policies", "services", "chains"],
             members,
         )?;
@@ -172,5 +161,5 @@ pub fn read_config(alloc: Global, value: &Value) -> Result<Config, ReadRefusal>
     ensures reads { Gives (λ c. c) result (config_at [] (view value.now)) }
     ensures form { IfOk result (λ c. IsTrue (has_config_form c)) }
 {
-    Config::read(alloc, Place::At(""), value)
+    Config::read(alloc, &Place::Whole, value)
 }

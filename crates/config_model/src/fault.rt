@@ -6,31 +6,39 @@ ghost use Rattle.config_model.specs.Faults.{IsFault};
 
 use ov_types::NoMemory;
 use std::alloc::{AllocError, AllocFailed, Global};
+use thiserror::Error;
 
 /// How a document breaks its form.
-#[derive(Clone, Copy, Debug, PartialEq, Eq)]
+#[derive(Clone, Copy, Debug, PartialEq, Eq, Error)]
 pub enum DocKind {
     /// A required member is absent.
+    #[error("Missing")]
     Missing,
     /// A value is of another JSON kind. A number with a fraction or an exponent is no whole number.
+    #[error("Kind")]
     Kind,
     /// A value of the right kind is outside its form.
+    #[error("Range")]
     Range,
     /// A member is none of its object's.
+    #[error("Unknown")]
     Unknown,
 }
 
 /// The first fault of a document: the path of the value, such as `configuration.networks[0].id`, and the kind.
-#[derive(Debug, Drop)]
+#[derive(Debug, Drop, Error)]
+#[error("{kind} at `{path}`")]
 pub struct DocFault {
     pub path: String,
     pub kind: DocKind,
 }
 
 /// Why a document was not read.
-#[derive(Debug, Drop)]
+#[derive(Debug, Drop, Error)]
 pub enum ReadRefusal {
+    #[error(transparent)]
     Doc(DocFault),
+    #[error("no memory")]
     NoMemory,
 }
 
@@ -58,30 +66,35 @@ impl<T: Drop> From<AllocFailed<T>> for ReadRefusal {
     }
 }
 
-/// Where a value stands: at a path, or as a member of the object or an item of the list at a path. The whole value is
-/// at the empty path.
+/// Where a value stands: the whole value, a member of the object at a place, or an item of the list at a place.
 #[derive(Clone, Copy)]
 pub(crate) enum Place<'a> {
-    At(&'a str),
-    Member(&'a str, &'a str),
-    Item(&'a str, usize),
+    Whole,
+    Member(&'a Place<'a>, &'a str),
+    Item(&'a Place<'a>, usize),
 }
 
 impl Place<'_> {
     /// The path.
-    pub(crate) fn text(self, alloc: Global) -> Result<String, AllocError>
-        ensures { IfOk result (λ s. string_bytes s ≡ place_text self.entry) }
+    fn text(&self, alloc: Global) -> Result<String, AllocError>
+        ensures { IfOk result (λ s. string_bytes s ≡ place_text self.now) }
     {
         match self {
-            Place::At(path) => String::from_str(alloc, path),
-            Place::Member(path, name) => member_text(alloc, path, name),
-            Place::Item(path, index) => item_text(alloc, path, index),
+            Place::Whole => Ok(String::new(alloc)),
+            Place::Member(outer, name) => {
+                let path = outer.text(alloc)?;
+                member_text(alloc, path.as_str(), name)
+            }
+            Place::Item(outer, index) => {
+                let path = outer.text(alloc)?;
+                item_text(alloc, path.as_str(), *index)
+            }
         }
     }
 
-    /// The refusal of what stands here.
-    pub(crate) fn fault(self, alloc: Global, kind: DocKind) -> ReadRefusal
-        ensures { IsFault result (record { path = place_text self.entry; kind = kind }) }
+    /// The refusal of what stands here. Only now is the path made.
+    pub(crate) fn fault(&self, alloc: Global, kind: DocKind) -> ReadRefusal
+        ensures { IsFault result (record { path = place_text self.now; kind = kind }) }
     {
         match self.text(alloc) {
             Ok(path) => ReadRefusal::Doc(DocFault { path, kind }),

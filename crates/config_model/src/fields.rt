@@ -1,5 +1,6 @@
 //! Members of objects and items of lists.
-ghost use Rattle.std.specs.Prelude.{◌≡◌, ◌&&◌, not, ⊤, ◌∷◌, [], List, ℕ, Bool, IsTrue, length, map, string_bytes, option_map, nat_eq, Result, IfOk, ◌≤◌};
+ghost use Rattle.std.specs.Prelude.{◌≡◌, ◌&&◌, not, ⊤, ◌∷◌, [], List, ℕ, Bool, IsTrue, length, map, string_bytes};
+ghost use Rattle.std.specs.Prelude.{option_map, nat_eq, Result, IfOk, ◌≤◌};
 ghost use Rattle.std.specs.Cmp.Lexicographic.{pointwise};
 ghost use Rattle.std.specs.List.{list_any, list_all};
 ghost use Rattle.serde_json.specs.Data.{Data};
@@ -7,7 +8,8 @@ ghost use Rattle.serde_json.specs.View.{view, members_view, items_view};
 ghost use Rattle.config_model.specs.Paths.{place_text, member_path, item_path};
 ghost use Rattle.config_model.specs.Faults.{Gives, Fault};
 ghost use Rattle.config_model.specs.Form.{is_from_to};
-ghost use Rattle.config_model.specs.Fields.{member_at, in_member, object_at, text_at, list_at, whole_at, only_at, first_other, items_at, all_at, optional_all, allows};
+ghost use Rattle.config_model.specs.Fields.{member_at, in_member, object_at, text_at, list_at, whole_at, only_at};
+ghost use Rattle.config_model.specs.Fields.{first_other, items_at, all_at, optional_all, allows};
 
 use crate::fault::{DocKind, Place, ReadRefusal};
 use ov_types::Items;
@@ -22,8 +24,8 @@ pub(crate) trait FromDocument: Drop {
     /// The written form of what is read.
     ghost has_form: { Self → Bool };
 
-    fn read(alloc: Global, place: Place<'_>, value: &Value) -> Result<Self, ReadRefusal>
-        ensures reads { Gives (λ x. x) result (reads (place_text place.entry) (view value.now)) }
+    fn read(alloc: Global, place: &Place<'_>, value: &Value) -> Result<Self, ReadRefusal>
+        ensures reads { Gives (λ x. x) result (reads (place_text place.now) (view value.now)) }
         ensures form { IfOk result (λ x. IsTrue (has_form x)) };
 }
 
@@ -53,15 +55,15 @@ impl Count {
 #[tactic(auto, unfolding(crate::specs::Fields::member_at))]
 pub(crate) fn member_of<'v>(
     alloc: Global,
-    path: &str,
+    place: &Place<'_>,
     name: &str,
     value: &'v Value,
 ) -> Result<&'v Value, ReadRefusal>
-    ensures { Gives (λ v. view v.now) result (member_at path.now name.now (view value.now)) }
+    ensures { Gives (λ v. view v.now) result (member_at (place_text place.now) name.now (view value.now)) }
 {
     match value.get(name) {
         Some(found) => Ok(found),
-        None => Err(Place::Member(path, name).fault(alloc, DocKind::Missing)),
+        None => Err(Place::Member(place, name).fault(alloc, DocKind::Missing)),
     }
 }
 
@@ -69,24 +71,24 @@ pub(crate) fn member_of<'v>(
 #[tactic(auto, unfolding(crate::specs::Fields::in_member))]
 pub(crate) fn read_member<T: FromDocument>(
     alloc: Global,
-    path: &str,
+    place: &Place<'_>,
     name: &str,
     value: &Value,
 ) -> Result<T, ReadRefusal>
-    ensures reads { Gives (λ x. x) result (in_member T.reads path.now name.now (view value.now)) }
+    ensures reads { Gives (λ x. x) result (in_member T.reads (place_text place.now) name.now (view value.now)) }
     ensures form { IfOk result (λ x. IsTrue (T.has_form x)) }
 {
-    let found = member_of(alloc, path, name, value)?;
-    T::read(alloc, Place::Member(path, name), found)
+    let found = member_of(alloc, place, name, value)?;
+    T::read(alloc, &Place::Member(place, name), found)
 }
 
 #[tactic(auto, unfolding(crate::specs::Fields::object_at))]
 pub(crate) fn object_of<'v>(
     alloc: Global,
-    place: Place<'_>,
+    place: &Place<'_>,
     value: &'v Value,
 ) -> Result<&'v Map<String, Value>, ReadRefusal>
-    ensures { Gives (λ m. members_view m.now.entries) result (object_at (place_text place.entry) (view value.now)) }
+    ensures { Gives (λ m. members_view m.now.entries) result (object_at (place_text place.now) (view value.now)) }
 {
     match value.as_object() {
         Some(members) => Ok(members),
@@ -97,10 +99,10 @@ pub(crate) fn object_of<'v>(
 #[tactic(auto, unfolding(crate::specs::Fields::text_at))]
 pub(crate) fn text_of<'v>(
     alloc: Global,
-    place: Place<'_>,
+    place: &Place<'_>,
     value: &'v Value,
 ) -> Result<&'v str, ReadRefusal>
-    ensures { Gives (λ s. s.now) result (text_at (place_text place.entry) (view value.now)) }
+    ensures { Gives (λ s. s.now) result (text_at (place_text place.now) (view value.now)) }
 {
     match value.as_str() {
         Some(text) => Ok(text),
@@ -112,12 +114,12 @@ pub(crate) fn text_of<'v>(
 #[tactic(auto, unfolding(crate::specs::Fields::whole_at))]
 pub(crate) fn whole_of(
     alloc: Global,
-    place: Place<'_>,
+    place: &Place<'_>,
     low: u64,
     high: u64,
     value: &Value,
 ) -> Result<u64, ReadRefusal>
-    ensures reads { Gives (λ n. n) result (whole_at low high (place_text place.entry) (view value.now)) }
+    ensures reads { Gives (λ n. n) result (whole_at low high (place_text place.now) (view value.now)) }
     ensures form { IfOk result (λ n. IsTrue (is_from_to low high n)) }
     ensures bound { IfOk result (λ n. n ≤ high) }
 {
@@ -145,38 +147,41 @@ pub(crate) fn whole_of(
 #[tactic(auto, unfolding(crate::specs::Fields::in_member))]
 pub(crate) fn whole_member(
     alloc: Global,
-    path: &str,
+    place: &Place<'_>,
     name: &str,
     low: u64,
     high: u64,
     value: &Value,
 ) -> Result<u64, ReadRefusal>
-    ensures reads { Gives (λ n. n) result (in_member (whole_at low high) path.now name.now (view value.now)) }
+    ensures reads { Gives (λ n. n) result
+        (in_member (whole_at low high) (place_text place.now) name.now (view value.now)) }
     ensures form { IfOk result (λ n. IsTrue (is_from_to low high n)) }
     ensures bound { IfOk result (λ n. n ≤ high) }
 {
-    let found = member_of(alloc, path, name, value)?;
-    whole_of(alloc, Place::Member(path, name), low, high, found)
+    let found = member_of(alloc, place, name, value)?;
+    whole_of(alloc, &Place::Member(place, name), low, high, found)
 }
 
 /// The first member that is none of these is a fault.
 #[tactic(auto, unfolding(crate::specs::Fields::only_at))]
 pub(crate) fn check_others(
     alloc: Global,
-    path: &str,
+    place: &Place<'_>,
     known: &[&str],
     members: &Map<String, Value>,
 ) -> Result<(), ReadRefusal>
-    ensures { Gives (λ x. x) result (only_at path.now (map (λ k. k.now) known.now) (members_view members.now.entries)) }
+    ensures { Gives (λ x. x) result
+        (only_at (place_text place.now) (map (λ k. k.now) known.now) (members_view members.now.entries)) }
 {
     match other_of(known, members) {
-        Some(name) => Err(Place::Member(path, name).fault(alloc, DocKind::Unknown)),
+        Some(name) => Err(Place::Member(place, name).fault(alloc, DocKind::Unknown)),
         None => Ok(()),
     }
 }
 
 fn other_of<'v>(known: &[&str], members: &'v Map<String, Value>) -> Option<&'v str>
-    ensures { option_map (λ s. s.now) result ≡ first_other (map (λ k. k.now) known.now) (members_view members.now.entries) }
+    ensures { option_map (λ s. s.now) result
+        ≡ first_other (map (λ k. k.now) known.now) (members_view members.now.entries) }
 {
     for (name, _) in members.iter() {
         if !is_among(known, name.as_str()) {
@@ -196,11 +201,11 @@ fn is_among(known: &[&str], name: &str) -> bool
 #[tactic(auto, unfolding(crate::specs::Fields::list_at))]
 fn list_of<'v>(
     alloc: Global,
-    place: Place<'_>,
+    place: &Place<'_>,
     count: Count,
     value: &'v Value,
 ) -> Result<&'v [Value], ReadRefusal>
-    ensures reads { Gives (λ v. items_view v.now) result (list_at count (place_text place.entry) (view value.now)) }
+    ensures reads { Gives (λ v. items_view v.now) result (list_at count (place_text place.now) (view value.now)) }
     ensures count { IfOk result (λ v. IsTrue (allows count (length v.now))) }
 {
     match value.as_array() {
@@ -220,64 +225,64 @@ fn list_of<'v>(
 #[tactic(auto, unfolding(crate::specs::Fields::all_at))]
 pub(crate) fn read_list<T: FromDocument>(
     alloc: Global,
-    place: Place<'_>,
+    place: &Place<'_>,
     count: Count,
     value: &Value,
 ) -> Result<Items<T>, ReadRefusal>
-    ensures reads { Gives (λ xs. xs) result (all_at T.reads count (place_text place.entry) (view value.now)) }
+    ensures reads { Gives (λ xs. xs) result (all_at T.reads count (place_text place.now) (view value.now)) }
     ensures form { IfOk result (λ xs. IsTrue (list_all T.has_form xs)) }
     ensures count { IfOk result (λ xs. IsTrue (allows count (length xs))) }
 {
     let values = list_of(alloc, place, count, value)?;
-    let path = place.text(alloc)?;
-    items_of(alloc, path.as_str(), values)
+    items_of(alloc, place, values)
 }
 
 #[tactic(auto, unfolding(crate::specs::Fields::in_member))]
 pub(crate) fn list_member<T: FromDocument>(
     alloc: Global,
-    path: &str,
+    place: &Place<'_>,
     name: &str,
     count: Count,
     value: &Value,
 ) -> Result<Items<T>, ReadRefusal>
-    ensures reads { Gives (λ xs. xs) result (in_member (all_at T.reads count) path.now name.now (view value.now)) }
+    ensures reads { Gives (λ xs. xs) result
+        (in_member (all_at T.reads count) (place_text place.now) name.now (view value.now)) }
     ensures form { IfOk result (λ xs. IsTrue (list_all T.has_form xs)) }
     ensures count { IfOk result (λ xs. IsTrue (allows count (length xs))) }
 {
-    let found = member_of(alloc, path, name, value)?;
-    read_list(alloc, Place::Member(path, name), count, found)
+    let found = member_of(alloc, place, name, value)?;
+    read_list(alloc, &Place::Member(place, name), count, found)
 }
 
 /// A list that may be absent, which is read as empty.
 #[tactic(auto, unfolding(crate::specs::Fields::optional_all))]
 pub(crate) fn optional_list_member<T: FromDocument>(
     alloc: Global,
-    path: &str,
+    place: &Place<'_>,
     name: &str,
     value: &Value,
 ) -> Result<Items<T>, ReadRefusal>
-    ensures reads { Gives (λ xs. xs) result (optional_all T.reads path.now name.now (view value.now)) }
+    ensures reads { Gives (λ xs. xs) result (optional_all T.reads (place_text place.now) name.now (view value.now)) }
     ensures form { IfOk result (λ xs. IsTrue (list_all T.has_form xs)) }
 {
     match value.get(name) {
-        Some(found) => read_list(alloc, Place::Member(path, name), Count::AnyNumber, found),
+        Some(found) => read_list(alloc, &Place::Member(place, name), Count::AnyNumber, found),
         None => Ok(Items::new(alloc)),
     }
 }
 
 fn items_of<T: FromDocument>(
     alloc: Global,
-    path: &str,
+    place: &Place<'_>,
     values: &[Value],
 ) -> Result<Items<T>, ReadRefusal>
-    ensures reads { Gives (λ xs. xs) result (items_at T.reads path.now 0 (items_view values.now)) }
+    ensures reads { Gives (λ xs. xs) result (items_at T.reads (place_text place.now) 0 (items_view values.now)) }
     ensures form { IfOk result (λ xs. IsTrue (list_all T.has_form xs)) }
     ensures count { IfOk result (λ xs. length xs ≡ length values.now) }
 {
     let mut items = Items::new(alloc);
     for (index, value) in values.iter().enumerate() {
-        items.push(T::read(alloc, Place::Item(path, index), value)?)?;
+        items.push(T::read(alloc, &Place::Item(place, index), value)?)?;
     }
     Ok(items)
 }

@@ -22,16 +22,15 @@ use std::alloc::Global;
 
 /// What there is, and what is configured.
 #[derive(Clone, Debug, Drop, PartialEq, Eq)]
-pub struct Plan {
+pub struct CompileInput {
     pub topology: Topology,
     pub config: Config,
 }
 
-/// What there is, what is configured, and packets to ask about.
+/// What there is and what is configured, and packets to ask about.
 #[derive(Clone, Debug, Drop, PartialEq, Eq)]
 pub struct ReachInput {
-    pub topology: Topology,
-    pub config: Config,
+    pub input: CompileInput,
     pub packets: Items<Packet>,
 }
 
@@ -41,18 +40,16 @@ impl FromDocument for Packet {
     ghost has_form = { has_packet_form };
 
     #[tactic(auto, unfolding(crate::specs::Input::packet_at, crate::specs::Form::has_packet_form))]
-    fn read(alloc: Global, place: Place<'_>, value: &Value) -> Result<Self, ReadRefusal> {
+    fn read(alloc: Global, place: &Place<'_>, value: &Value) -> Result<Self, ReadRefusal> {
         let members = object_of(alloc, place, value)?;
-        let path = place.text(alloc)?;
-        let path = path.as_str();
-        let port = whole_member(alloc, path, "port", 0, LAST_PORT, value)?;
-        let destination = address_member(alloc, path, "to", 0, u32::MAX, value)?;
-        let protocol = whole_member(alloc, path, "protocol", 0, LAST_PROTOCOL, value)?;
-        let sport = whole_member(alloc, path, "sport", 0, LAST_PORT_NUMBER, value)?;
-        let dport = whole_member(alloc, path, "dport", 0, LAST_PORT_NUMBER, value)?;
+        let port = whole_member(alloc, place, "port", 0, LAST_PORT, value)?;
+        let destination = address_member(alloc, place, "to", 0, u32::MAX, value)?;
+        let protocol = whole_member(alloc, place, "protocol", 0, LAST_PROTOCOL, value)?;
+        let sport = whole_member(alloc, place, "sport", 0, LAST_PORT_NUMBER, value)?;
+        let dport = whole_member(alloc, place, "dport", 0, LAST_PORT_NUMBER, value)?;
         check_others(
             alloc,
-            path,
+            place,
             &["port", "to", "protocol", "sport", "dport"],
             members,
         )?;
@@ -73,63 +70,62 @@ pub fn read_packet(alloc: Global, value: &Value) -> Result<Packet, ReadRefusal>
     ensures reads { Gives (λ p. p) result (packet_at [] (view value.now)) }
     ensures form { IfOk result (λ p. IsTrue (has_packet_form p)) }
 {
-    Packet::read(alloc, Place::At(""), value)
+    Packet::read(alloc, &Place::Whole, value)
 }
 
 /// What `compile` takes: an object with `topology` and `configuration`.
 #[tactic(auto, unfolding(crate::specs::Input::compile_at))]
-fn plan_of(alloc: Global, path: &str, value: &Value) -> Result<Plan, ReadRefusal>
-    ensures reads { Gives (λ p. p) result (compile_at path.now (view value.now)) }
+fn compile_input_of(alloc: Global, place: &Place<'_>, value: &Value) -> Result<CompileInput, ReadRefusal>
+    ensures reads { Gives (λ p. p) result (compile_at (place_text place.now) (view value.now)) }
     ensures topology_form { IfOk result (λ p. IsTrue (has_topology_form p.topology)) }
     ensures config_form { IfOk result (λ p. IsTrue (has_config_form p.config)) }
 {
-    let members = object_of(alloc, Place::At(path), value)?;
-    let topology = read_member::<Topology>(alloc, path, "topology", value)?;
-    let config = read_member::<Config>(alloc, path, "configuration", value)?;
-    check_others(alloc, path, &["topology", "configuration"], members)?;
-    Ok(Plan { topology, config })
+    let members = object_of(alloc, place, value)?;
+    let topology = read_member::<Topology>(alloc, place, "topology", value)?;
+    let config = read_member::<Config>(alloc, place, "configuration", value)?;
+    check_others(alloc, place, &["topology", "configuration"], members)?;
+    Ok(CompileInput { topology, config })
 }
 
 /// What `reach` takes: an object with `topology`, `configuration` and `packets`, a list.
 #[tactic(auto, unfolding(crate::specs::Input::reach_at))]
-fn reach_input_of(alloc: Global, path: &str, value: &Value) -> Result<ReachInput, ReadRefusal>
-    ensures reads { Gives (λ r. r) result (reach_at path.now (view value.now)) }
-    ensures topology_form { IfOk result (λ r. IsTrue (has_topology_form r.topology)) }
-    ensures config_form { IfOk result (λ r. IsTrue (has_config_form r.config)) }
+fn reach_input_of(alloc: Global, place: &Place<'_>, value: &Value) -> Result<ReachInput, ReadRefusal>
+    ensures reads { Gives (λ r. r) result (reach_at (place_text place.now) (view value.now)) }
+    ensures topology_form { IfOk result (λ r. IsTrue (has_topology_form r.input.topology)) }
+    ensures config_form { IfOk result (λ r. IsTrue (has_config_form r.input.config)) }
     ensures packets_form { IfOk result (λ r. IsTrue (list_all has_packet_form r.packets)) }
 {
-    let members = object_of(alloc, Place::At(path), value)?;
-    let topology = read_member::<Topology>(alloc, path, "topology", value)?;
-    let config = read_member::<Config>(alloc, path, "configuration", value)?;
-    let packets = list_member::<Packet>(alloc, path, "packets", Count::AnyNumber, value)?;
+    let members = object_of(alloc, place, value)?;
+    let topology = read_member::<Topology>(alloc, place, "topology", value)?;
+    let config = read_member::<Config>(alloc, place, "configuration", value)?;
+    let packets = list_member::<Packet>(alloc, place, "packets", Count::AnyNumber, value)?;
     check_others(
         alloc,
-        path,
+        place,
         &["topology", "configuration", "packets"],
         members,
     )?;
     Ok(ReachInput {
-        topology,
-        config,
+        input: CompileInput { topology, config },
         packets,
     })
 }
 
 /// The whole input of `compile`: an object with `topology` and `configuration`.
-pub fn read_compile(alloc: Global, value: &Value) -> Result<Plan, ReadRefusal>
+pub fn read_compile(alloc: Global, value: &Value) -> Result<CompileInput, ReadRefusal>
     ensures reads { Gives (λ p. p) result (compile_at [] (view value.now)) }
     ensures topology_form { IfOk result (λ p. IsTrue (has_topology_form p.topology)) }
     ensures config_form { IfOk result (λ p. IsTrue (has_config_form p.config)) }
 {
-    plan_of(alloc, "", value)
+    compile_input_of(alloc, &Place::Whole, value)
 }
 
 /// The whole input of `reach`: an object with `topology`, `configuration` and `packets`, a list.
 pub fn read_reach(alloc: Global, value: &Value) -> Result<ReachInput, ReadRefusal>
     ensures reads { Gives (λ r. r) result (reach_at [] (view value.now)) }
-    ensures topology_form { IfOk result (λ r. IsTrue (has_topology_form r.topology)) }
-    ensures config_form { IfOk result (λ r. IsTrue (has_config_form r.config)) }
+    ensures topology_form { IfOk result (λ r. IsTrue (has_topology_form r.input.topology)) }
+    ensures config_form { IfOk result (λ r. IsTrue (has_config_form r.input.config)) }
     ensures packets_form { IfOk result (λ r. IsTrue (list_all has_packet_form r.packets)) }
 {
-    reach_input_of(alloc, "", value)
+    reach_input_of(alloc, &Place::Whole, value)
 }

@@ -6,7 +6,8 @@ ghost use Rattle.config_model.specs.Paths.{place_text};
 ghost use Rattle.config_model.specs.Faults.{Gives, Fault};
 ghost use Rattle.config_model.specs.Form.{is_range, has_end_form, has_protocol_form, has_action_form, has_rule_form};
 ghost use Rattle.config_model.specs.Fields.{in_member, text_at, only_at};
-ghost use Rattle.config_model.specs.Rule.{direction_of, direction_at, end_at, protocol_at, port_number_at, range_at, through_at, action_at, members_with, rule_at};
+ghost use Rattle.config_model.specs.Rule.{direction_of, direction_at, end_at, protocol_at, port_number_at, range_at};
+ghost use Rattle.config_model.specs.Rule.{through_at, action_at, members_with, rule_at};
 
 use crate::bounds::{LAST_PORT_NUMBER, LAST_PROTOCOL, LAST_USE};
 use crate::config::{Action, Direction, End, Protocol, Rule};
@@ -35,7 +36,7 @@ impl FromDocument for Direction {
     ghost has_form = { λ direction. true };
 
     #[tactic(auto, unfolding(crate::specs::Rule::direction_at))]
-    fn read(alloc: Global, place: Place<'_>, value: &Value) -> Result<Self, ReadRefusal> {
+    fn read(alloc: Global, place: &Place<'_>, value: &Value) -> Result<Self, ReadRefusal> {
         let text = text_of(alloc, place, value)?;
         match direction_from(text) {
             Some(direction) => Ok(direction),
@@ -50,7 +51,7 @@ impl FromDocument for End {
     ghost has_form = { has_end_form };
 
     #[tactic(auto, unfolding(crate::specs::Rule::end_at))]
-    fn read(alloc: Global, place: Place<'_>, value: &Value) -> Result<Self, ReadRefusal> {
+    fn read(alloc: Global, place: &Place<'_>, value: &Value) -> Result<Self, ReadRefusal> {
         let name = Name::read(alloc, place, value)?;
         if name.text() == "any" {
             return Ok(End::Any);
@@ -65,7 +66,7 @@ impl FromDocument for Protocol {
     ghost has_form = { has_protocol_form };
 
     #[tactic(auto, unfolding(crate::specs::Rule::protocol_at))]
-    fn read(alloc: Global, place: Place<'_>, value: &Value) -> Result<Self, ReadRefusal> {
+    fn read(alloc: Global, place: &Place<'_>, value: &Value) -> Result<Self, ReadRefusal> {
         match value.as_str() {
             Some("any") => Ok(Protocol::Any),
             Some(_) => Err(place.fault(alloc, DocKind::Range)),
@@ -83,7 +84,7 @@ impl FromDocument for u16 {
 
     ghost has_form = { λ n. nat_le n 65535 };
 
-    fn read(alloc: Global, place: Place<'_>, value: &Value) -> Result<Self, ReadRefusal> {
+    fn read(alloc: Global, place: &Place<'_>, value: &Value) -> Result<Self, ReadRefusal> {
         let number = whole_of(alloc, place, 0, LAST_PORT_NUMBER, value)?;
         Ok(number as u16)
     }
@@ -95,7 +96,7 @@ impl FromDocument for Range16 {
     ghost has_form = { is_range };
 
     #[tactic(auto, unfolding(crate::specs::Rule::range_at))]
-    fn read(alloc: Global, place: Place<'_>, value: &Value) -> Result<Self, ReadRefusal> {
+    fn read(alloc: Global, place: &Place<'_>, value: &Value) -> Result<Self, ReadRefusal> {
         let ports = read_list::<u16>(alloc, place, Count::Two, value)?;
         match ports.as_slice() {
             [lo, hi] if lo <= hi => Ok(Range16 { lo: *lo, hi: *hi }),
@@ -106,12 +107,12 @@ impl FromDocument for Range16 {
 
 /// The members `chain` and `use`.
 #[tactic(auto, unfolding(crate::specs::Rule::through_at))]
-fn through_of(alloc: Global, path: &str, value: &Value) -> Result<Action, ReadRefusal>
-    ensures reads { Gives (λ x. x) result (through_at path.now (view value.now)) }
+fn through_of(alloc: Global, place: &Place<'_>, value: &Value) -> Result<Action, ReadRefusal>
+    ensures reads { Gives (λ x. x) result (through_at (place_text place.now) (view value.now)) }
     ensures form { IfOk result (λ action. IsTrue (has_action_form action)) }
 {
-    let chain = read_member::<Name>(alloc, path, "chain", value)?;
-    let use_no = whole_member(alloc, path, "use", 0, LAST_USE, value)?;
+    let chain = read_member::<Name>(alloc, place, "chain", value)?;
+    let use_no = whole_member(alloc, place, "use", 0, LAST_USE, value)?;
     Ok(Action::Through {
         chain,
         use_no: use_no as u16,
@@ -121,44 +122,45 @@ fn through_of(alloc: Global, path: &str, value: &Value) -> Result<Action, ReadRe
 #[tactic(auto, unfolding(crate::specs::Fields::in_member))]
 fn text_member<'v>(
     alloc: Global,
-    path: &str,
+    place: &Place<'_>,
     name: &str,
     value: &'v Value,
 ) -> Result<&'v str, ReadRefusal>
-    ensures { Gives (λ s. s.now) result (in_member text_at path.now name.now (view value.now)) }
+    ensures { Gives (λ s. s.now) result (in_member text_at (place_text place.now) name.now (view value.now)) }
 {
-    let found = member_of(alloc, path, name, value)?;
-    text_of(alloc, Place::Member(path, name), found)
+    let found = member_of(alloc, place, name, value)?;
+    text_of(alloc, &Place::Member(place, name), found)
 }
 
 /// The member `action`, and with `chain` two more.
 #[tactic(auto, unfolding(crate::specs::Rule::action_at))]
-fn action_of(alloc: Global, path: &str, value: &Value) -> Result<Action, ReadRefusal>
-    ensures reads { Gives (λ x. x) result (action_at path.now (view value.now)) }
+fn action_of(alloc: Global, place: &Place<'_>, value: &Value) -> Result<Action, ReadRefusal>
+    ensures reads { Gives (λ x. x) result (action_at (place_text place.now) (view value.now)) }
     ensures form { IfOk result (λ action. IsTrue (has_action_form action)) }
 {
-    let text = text_member(alloc, path, "action", value)?;
+    let text = text_member(alloc, place, "action", value)?;
     match text {
         "pass" => Ok(Action::Pass),
         "deny" => Ok(Action::Deny),
-        "chain" => through_of(alloc, path, value),
-        _ => Err(Place::Member(path, "action").fault(alloc, DocKind::Range)),
+        "chain" => through_of(alloc, place, value),
+        _ => Err(Place::Member(place, "action").fault(alloc, DocKind::Range)),
     }
 }
 
 /// No member but those of a rule with this action.
 fn check_other_members(
     alloc: Global,
-    path: &str,
+    place: &Place<'_>,
     action: &Action,
     members: &Map<String, Value>,
 ) -> Result<(), ReadRefusal>
-    ensures { Gives (λ x. x) result (only_at path.now (members_with action.now) (members_view members.now.entries)) }
+    ensures { Gives (λ x. x) result
+        (only_at (place_text place.now) (members_with action.now) (members_view members.now.entries)) }
 {
     match action {
         Action::Pass | Action::Deny => check_others(
             alloc,
-            path,
+            place,
             &[
                 "direction",
                 "source",
@@ -172,7 +174,7 @@ fn check_other_members(
         ),
         Action::Through { .. } => check_others(
             alloc,
-            path,
+            place,
             &[
                 "direction",
                 "source",
@@ -191,19 +193,19 @@ fn check_other_members(
 
 /// The rule at a path.
 #[tactic(auto, unfolding(crate::specs::Rule::rule_at, crate::specs::Form::has_rule_form))]
-fn rule_of(alloc: Global, path: &str, value: &Value) -> Result<Rule, ReadRefusal>
-    ensures reads { Gives (λ x. x) result (rule_at path.now (view value.now)) }
+fn rule_of(alloc: Global, place: &Place<'_>, value: &Value) -> Result<Rule, ReadRefusal>
+    ensures reads { Gives (λ x. x) result (rule_at (place_text place.now) (view value.now)) }
     ensures form { IfOk result (λ rule. IsTrue (has_rule_form rule)) }
 {
-    let members = object_of(alloc, Place::At(path), value)?;
-    let direction = read_member::<Direction>(alloc, path, "direction", value)?;
-    let source = read_member::<End>(alloc, path, "source", value)?;
-    let destination = read_member::<End>(alloc, path, "destination", value)?;
-    let protocol = read_member::<Protocol>(alloc, path, "protocol", value)?;
-    let source_ports = read_member::<Range16>(alloc, path, "source_ports", value)?;
-    let destination_ports = read_member::<Range16>(alloc, path, "destination_ports", value)?;
-    let action = action_of(alloc, path, value)?;
-    check_other_members(alloc, path, &action, members)?;
+    let members = object_of(alloc, place, value)?;
+    let direction = read_member::<Direction>(alloc, place, "direction", value)?;
+    let source = read_member::<End>(alloc, place, "source", value)?;
+    let destination = read_member::<End>(alloc, place, "destination", value)?;
+    let protocol = read_member::<Protocol>(alloc, place, "protocol", value)?;
+    let source_ports = read_member::<Range16>(alloc, place, "source_ports", value)?;
+    let destination_ports = read_member::<Range16>(alloc, place, "destination_ports", value)?;
+    let action = action_of(alloc, place, value)?;
+    check_other_members(alloc, place, &action, members)?;
     Ok(Rule {
         direction,
         source,
@@ -220,8 +222,7 @@ impl FromDocument for Rule {
 
     ghost has_form = { has_rule_form };
 
-    fn read(alloc: Global, place: Place<'_>, value: &Value) -> Result<Self, ReadRefusal> {
-        let path = place.text(alloc)?;
-        rule_of(alloc, path.as_str(), value)
+    fn read(alloc: Global, place: &Place<'_>, value: &Value) -> Result<Self, ReadRefusal> {
+        rule_of(alloc, place, value)
     }
 }

@@ -21,8 +21,8 @@ use std::alloc::Global;
 
 /// The number of an autonomous system.
 #[tactic(auto, unfolding(crate::specs::Topology::as_at))]
-fn as_of(alloc: Global, place: Place<'_>, value: &Value) -> Result<u32, ReadRefusal>
-    ensures reads { Gives (λ n. n) result (as_at (place_text place.entry) (view value.now)) }
+fn as_of(alloc: Global, place: &Place<'_>, value: &Value) -> Result<u32, ReadRefusal>
+    ensures reads { Gives (λ n. n) result (as_at (place_text place.now) (view value.now)) }
     ensures form { IfOk result (λ n. IsTrue (is_as_number n)) }
 {
     let number = whole_of(alloc, place, 1, LAST_AS, value)?;
@@ -33,12 +33,12 @@ fn as_of(alloc: Global, place: Place<'_>, value: &Value) -> Result<u32, ReadRefu
 }
 
 #[tactic(auto, unfolding(crate::specs::Fields::in_member))]
-fn as_member(alloc: Global, path: &str, name: &str, value: &Value) -> Result<u32, ReadRefusal>
-    ensures reads { Gives (λ n. n) result (in_member as_at path.now name.now (view value.now)) }
+fn as_member(alloc: Global, place: &Place<'_>, name: &str, value: &Value) -> Result<u32, ReadRefusal>
+    ensures reads { Gives (λ n. n) result (in_member as_at (place_text place.now) name.now (view value.now)) }
     ensures form { IfOk result (λ n. IsTrue (is_as_number n)) }
 {
-    let found = member_of(alloc, path, name, value)?;
-    as_of(alloc, Place::Member(path, name), found)
+    let found = member_of(alloc, place, name, value)?;
+    as_of(alloc, &Place::Member(place, name), found)
 }
 
 impl FromDocument for NodeId {
@@ -47,20 +47,18 @@ impl FromDocument for NodeId {
     ghost has_form = { has_controller_form };
 
     #[tactic(auto, unfolding(crate::specs::Topology::controller_at, crate::specs::Form::has_controller_form))]
-    fn read(alloc: Global, place: Place<'_>, value: &Value) -> Result<Self, ReadRefusal> {
+    fn read(alloc: Global, place: &Place<'_>, value: &Value) -> Result<Self, ReadRefusal> {
         let members = object_of(alloc, place, value)?;
-        let path = place.text(alloc)?;
-        let path = path.as_str();
-        let name = name_but_member(alloc, path, "name", "config", value)?;
+        let name = name_but_member(alloc, place, "name", "config", value)?;
         let address = address_member(
             alloc,
-            path,
+            place,
             "address",
             FIRST_NODE_ADDRESS,
             LAST_NODE_ADDRESS,
             value,
         )?;
-        check_others(alloc, path, &["name", "address"], members)?;
+        check_others(alloc, place, &["name", "address"], members)?;
         Ok(NodeId { name, address })
     }
 }
@@ -71,21 +69,19 @@ impl FromDocument for Node {
     ghost has_form = { has_node_form };
 
     #[tactic(auto, unfolding(crate::specs::Topology::node_at, crate::specs::Form::has_node_form))]
-    fn read(alloc: Global, place: Place<'_>, value: &Value) -> Result<Self, ReadRefusal> {
+    fn read(alloc: Global, place: &Place<'_>, value: &Value) -> Result<Self, ReadRefusal> {
         let members = object_of(alloc, place, value)?;
-        let path = place.text(alloc)?;
-        let path = path.as_str();
-        let name = name_but_member(alloc, path, "name", "config", value)?;
+        let name = name_but_member(alloc, place, "name", "config", value)?;
         let address = address_member(
             alloc,
-            path,
+            place,
             "address",
             FIRST_NODE_ADDRESS,
             LAST_NODE_ADDRESS,
             value,
         )?;
-        let controllers = list_member::<Name>(alloc, path, "controllers", Count::OneOrTwo, value)?;
-        check_others(alloc, path, &["name", "address", "controllers"], members)?;
+        let controllers = list_member::<Name>(alloc, place, "controllers", Count::OneOrTwo, value)?;
+        check_others(alloc, place, &["name", "address", "controllers"], members)?;
         Ok(Node {
             name,
             address,
@@ -100,20 +96,18 @@ impl FromDocument for Topology {
     ghost has_form = { has_topology_form };
 
     #[tactic(auto, unfolding(crate::specs::Topology::topology_at, crate::specs::Form::has_topology_form))]
-    fn read(alloc: Global, place: Place<'_>, value: &Value) -> Result<Self, ReadRefusal> {
+    fn read(alloc: Global, place: &Place<'_>, value: &Value) -> Result<Self, ReadRefusal> {
         let members = object_of(alloc, place, value)?;
-        let path = place.text(alloc)?;
-        let path = path.as_str();
-        let asn = as_member(alloc, path, "as", value)?;
+        let asn = as_member(alloc, place, "as", value)?;
         let controllers = list_member::<NodeId>(
             alloc,
-            path,
+            place,
             "controllers",
             Count::AtLeastOne,
             value,
         )?;
-        let nodes = list_member::<Node>(alloc, path, "nodes", Count::AtLeastOne, value)?;
-        check_others(alloc, path, &["as", "controllers", "nodes"], members)?;
+        let nodes = list_member::<Node>(alloc, place, "nodes", Count::AtLeastOne, value)?;
+        check_others(alloc, place, &["as", "controllers", "nodes"], members)?;
         Ok(Topology {
             asn,
             controllers,
@@ -127,5 +121,5 @@ pub fn read_topology(alloc: Global, value: &Value) -> Result<Topology, ReadRefus
     ensures reads { Gives (λ t. t) result (topology_at [] (view value.now)) }
     ensures form { IfOk result (λ t. IsTrue (has_topology_form t)) }
 {
-    Topology::read(alloc, Place::At(""), value)
+    Topology::read(alloc, &Place::Whole, value)
 }

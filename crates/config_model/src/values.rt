@@ -22,7 +22,7 @@ impl FromDocument for Name {
     ghost has_form = { is_name };
 
     #[tactic(auto, unfolding(crate::specs::Fields::name_at))]
-    fn read(alloc: Global, place: Place<'_>, value: &Value) -> Result<Self, ReadRefusal> {
+    fn read(alloc: Global, place: &Place<'_>, value: &Value) -> Result<Self, ReadRefusal> {
         let text = text_of(alloc, place, value)?;
         match Name::new(text) {
             Some(name) => Ok(name),
@@ -35,11 +35,11 @@ impl FromDocument for Name {
 #[tactic(auto, unfolding(crate::specs::Fields::name_but_at))]
 fn name_but_of(
     alloc: Global,
-    place: Place<'_>,
+    place: &Place<'_>,
     reserved: &str,
     value: &Value,
 ) -> Result<Name, ReadRefusal>
-    ensures reads { Gives (λ x. x) result (name_but_at reserved.now (place_text place.entry) (view value.now)) }
+    ensures reads { Gives (λ x. x) result (name_but_at reserved.now (place_text place.now) (view value.now)) }
     ensures form { IfOk result (λ name. IsTrue (is_name name && not (pointwise nat_eq name reserved.now))) }
 {
     let name = Name::read(alloc, place, value)?;
@@ -52,28 +52,29 @@ fn name_but_of(
 #[tactic(auto, unfolding(crate::specs::Fields::in_member))]
 pub(crate) fn name_but_member(
     alloc: Global,
-    path: &str,
+    place: &Place<'_>,
     name: &str,
     reserved: &str,
     value: &Value,
 ) -> Result<Name, ReadRefusal>
-    ensures reads { Gives (λ x. x) result (in_member (name_but_at reserved.now) path.now name.now (view value.now)) }
+    ensures reads { Gives (λ x. x) result
+        (in_member (name_but_at reserved.now) (place_text place.now) name.now (view value.now)) }
     ensures form { IfOk result (λ name. IsTrue (is_name name && not (pointwise nat_eq name reserved.now))) }
 {
-    let found = member_of(alloc, path, name, value)?;
-    name_but_of(alloc, Place::Member(path, name), reserved, found)
+    let found = member_of(alloc, place, name, value)?;
+    name_but_of(alloc, &Place::Member(place, name), reserved, found)
 }
 
 /// An address from low to high.
 #[tactic(auto, unfolding(crate::specs::Fields::address_at))]
 fn address_of(
     alloc: Global,
-    place: Place<'_>,
+    place: &Place<'_>,
     low: u32,
     high: u32,
     value: &Value,
 ) -> Result<Addr, ReadRefusal>
-    ensures reads { Gives (λ x. x) result (address_at low high (place_text place.entry) (view value.now)) }
+    ensures reads { Gives (λ x. x) result (address_at low high (place_text place.now) (view value.now)) }
     ensures form { IfOk result (λ a. IsTrue (is_from_to low high a.0)) }
 {
     let text = text_of(alloc, place, value)?;
@@ -86,17 +87,18 @@ fn address_of(
 #[tactic(auto, unfolding(crate::specs::Fields::in_member))]
 pub(crate) fn address_member(
     alloc: Global,
-    path: &str,
+    place: &Place<'_>,
     name: &str,
     low: u32,
     high: u32,
     value: &Value,
 ) -> Result<Addr, ReadRefusal>
-    ensures reads { Gives (λ x. x) result (in_member (address_at low high) path.now name.now (view value.now)) }
+    ensures reads { Gives (λ x. x) result
+        (in_member (address_at low high) (place_text place.now) name.now (view value.now)) }
     ensures form { IfOk result (λ a. IsTrue (is_from_to low high a.0)) }
 {
-    let found = member_of(alloc, path, name, value)?;
-    address_of(alloc, Place::Member(path, name), low, high, found)
+    let found = member_of(alloc, place, name, value)?;
+    address_of(alloc, &Place::Member(place, name), low, high, found)
 }
 
 impl FromDocument for Prefix {
@@ -105,7 +107,7 @@ impl FromDocument for Prefix {
     ghost has_form = { is_block };
 
     #[tactic(auto, unfolding(crate::specs::Fields::prefix_at))]
-    fn read(alloc: Global, place: Place<'_>, value: &Value) -> Result<Self, ReadRefusal> {
+    fn read(alloc: Global, place: &Place<'_>, value: &Value) -> Result<Self, ReadRefusal> {
         let text = text_of(alloc, place, value)?;
         match prefix_from(text) {
             Some(prefix) => Ok(prefix),

@@ -1,0 +1,6 @@
+-- Lemmas, in the order in which they stand on each other.
+pub mod Ascending
+pub mod Walking
+pub mod Turns
+pub mod KeyedLaws
+pub mod EmbedLaws

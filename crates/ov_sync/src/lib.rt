@@ -1,6 +1,15 @@
 //! Keyed tables that are kept alike at two ends by sending the changes.
 #![tactic(auto)]
 
+pub mod laws;
+mod receiving;
+mod sending;
+#[cfg(test)]
+mod tests;
+
+pub use receiving::SyncIn;
+pub use sending::SyncOut;
+
 /// One change of a keyed table.
 #[derive(Clone, Debug, PartialEq, Eq, Drop)]
 pub enum Delta<K, V> {

@@ -1,3 +1,5 @@
 pub mod Names
 pub mod Blocks
 pub mod Places
+pub mod Values
+pub mod FirstLemmas

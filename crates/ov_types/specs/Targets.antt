@@ -1,8 +1,13 @@
 -- Ascending lists of targets.
-use Rattle.std.specs.Prelude.{◌≡◌, ◌≤◌, insert, length, ℕ, ◌<◌, ◌==◌, nat_lt, List, [], ◌∷◌, if◌then◌else◌}
+use Rattle.std.specs.Prelude.{◌≡◌, ◌≤◌, insert, length, ℕ, ◌<◌, ◌/◌, ◌%◌, ◌^◌, ◌==◌, ◌&&◌, nat_lt, nat_le, Bool, List, [], ◌∷◌, if◌then◌else◌}
 use Rattle.ov_types.specs.declared.targets.Target.{Target}
 use Rattle.ov_types.specs.declared.targets.Place.{Place}
 use Rattle.ov_types.specs.declared.targets.Place.TheVariants.{Held, Before}
+
+-- eight octets of an extended community are a route target: type 0x00, 0x01 or 0x02, and subtype 0x02 (RFC 4360,
+-- section 4; RFC 5668)
+abbrev pub is_target : ℕ → Bool
+is_target community = nat_le (community / 2 ^ 56) 2 && community / 2 ^ 48 % 256 == 2
 
 -- ascending and distinct, and all above a number
 abbrev pub AscendFrom : ℕ → List Target → Type 0

@@ -18,11 +18,11 @@ impl fmt::Display for Kinded {
     #[tactic(auto, unfolding(crate::specs::Texts::kinded_text))]
     fn fmt<W: fmt::Write>(&self, f: &mut fmt::Formatter<W>) -> fmt::Result {
         let octets = self.octets;
-        let high = octets / 4_294_967_296 % 65_536;
-        let low = octets % 4_294_967_296;
-        let middle = (octets / 65_536 % 4_294_967_296) as u32;
+        let high = octets >> 32 & 0xffff;
+        let low = octets & 0xffff_ffff;
+        let middle = (octets >> 16 & 0xffff_ffff) as u32;
         let address = Addr(middle);
-        let last = octets % 65_536;
+        let last = octets & 0xffff;
         match self.kind {
             0 => write!(f, "{high}:{low}"),
             1 => write!(f, "{address}:{last}"),

@@ -74,7 +74,7 @@ impl fmt::Display for Rd {
 
     fn fmt<W: fmt::Write>(&self, f: &mut fmt::Formatter<W>) -> fmt::Result {
         let octets = self.0;
-        let kind = octets / 281_474_976_710_656;
+        let kind = octets >> 48;
         let text = Kinded { kind, octets };
         write!(f, "{text}")
     }

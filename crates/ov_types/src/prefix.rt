@@ -109,10 +109,10 @@ impl fmt::Display for Addr {
     ghost output = { λ a. Some (address_text a.0) };
 
     fn fmt<W: fmt::Write>(&self, f: &mut fmt::Formatter<W>) -> fmt::Result {
-        let a = self.0 / 16_777_216 % 256;
-        let b = self.0 / 65_536 % 256;
-        let c = self.0 / 256 % 256;
-        let d = self.0 % 256;
+        let a = self.0 >> 24;
+        let b = self.0 >> 16 & 0xff;
+        let c = self.0 >> 8 & 0xff;
+        let d = self.0 & 0xff;
         write!(f, "{a}.{b}.{c}.{d}")
     }
 }
@@ -143,6 +143,17 @@ mod tests {
         assert!(rt; !net.contains(Addr(0x0a02_0000)));
         assert!(rt; Prefix::host(Addr(0x0a01_0005)).within(&net));
         assert_eq!(rt; Prefix::new(Addr(0x0a01_0001), 16), None);
+        Ok(())
+    }
+
+    #[test]
+    fn prefixes_ascend_by_address_and_then_length(rt: HostRuntime) -> Result<(), Fail> {
+        let wide = Prefix::new(Addr(0x0a00_0000), 8).ok_or("10.0.0.0/8")?;
+        let narrow = Prefix::new(Addr(0x0a00_0000), 24).ok_or("10.0.0.0/24")?;
+        let next = Prefix::new(Addr(0x0a01_0000), 16).ok_or("10.1.0.0/16")?;
+        assert!(rt; wide < narrow);
+        assert!(rt; narrow < Prefix::host(Addr(0x0a00_0005)));
+        assert!(rt; Prefix::host(Addr(0x0a00_0005)) < next);
         Ok(())
     }
 }

@@ -1,7 +1,8 @@
 //! Nodes, and the rows of their tables.
 use crate::items::Items;
 use crate::name::Name;
-use crate::numbers::{InstanceId, Label, Rd};
+use crate::numbers::{InstanceId, Label, PortNo, Rd, ServiceNo};
+use crate::objects::Low;
 use crate::prefix::{Addr, Prefix};
 use std::fmt;
 
@@ -35,5 +36,34 @@ impl fmt::Display for TableRow {
     }
 }
 
+/// Where an agent's table leads for one prefix.
+#[derive(Clone, Copy, Debug, PartialEq, Eq)]
+pub struct Entry {
+    pub next_hop: Addr,
+    pub label: Label,
+}
+
+/// What a label leads to at an agent.
+#[derive(Clone, Copy, Debug, PartialEq, Eq)]
+pub enum Attached {
+    Port { port: PortNo, instance: InstanceId },
+    Circuit { circuit: u32, service: ServiceNo },
+}
+
 /// The rows of a control node's instances, in the order of their keys.
 pub type ControlRows = Items<((InstanceId, Prefix), TableRow)>;
+
+/// The rows of an agent, each list in the order of its keys: what its labels lead to, its access lists, and its routes.
+#[derive(Clone, Debug, Drop, PartialEq, Eq)]
+pub struct AgentRows {
+    pub labels: Items<(Label, Attached)>,
+    pub acls: Low,
+    pub routes: Items<((InstanceId, Prefix), Entry)>,
+}
+
+/// The rows of a node.
+#[derive(Clone, Debug, Drop, PartialEq, Eq)]
+pub enum NodeRows {
+    Control(ControlRows),
+    Agent(AgentRows),
+}

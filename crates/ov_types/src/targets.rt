@@ -1,6 +1,6 @@
 //! Route targets.
 ghost use Rattle.std.specs.Prelude.{◌≡◌, [], OnOk, OnErr};
-ghost use Rattle.ov_types.specs.Targets.{with_target, IsAscending, IsPlace};
+ghost use Rattle.ov_types.specs.Targets.{with_target, is_target, IsAscending, IsPlace};
 
 use crate::items::NoMemory;
 use crate::kinded::Kinded;
@@ -20,10 +20,18 @@ impl fmt::Display for Target {
 
     fn fmt<W: fmt::Write>(&self, f: &mut fmt::Formatter<W>) -> fmt::Result {
         let octets = self.0;
-        let kind = octets / 72_057_594_037_927_936;
+        let kind = octets >> 56;
         let text = Kinded { kind, octets };
         write!(f, "{text}")
     }
+}
+
+/// Whether eight octets of an extended community are a route target: of type 0x00, 0x01 or 0x02, whose second octet is
+/// 0x02 (RFC 4360, section 4; RFC 5668).
+pub fn is_target(community: u64) -> bool
+    ensures { result ≡ is_target community }
+{
+    community >> 56 <= 2 && community >> 48 & 0xff == 2
 }
 
 /// Targets, ascending and distinct.
@@ -76,6 +84,26 @@ impl Targets {
     }
 }
 
+impl PartialEq for Targets {
+    ghost use Rattle.std.specs.Cmp.{nat_eq_equiv, on_equiv, partial_equiv_from_equiv};
+    ghost use Rattle.std.specs.Cmp.Lexicographic.{pointwise, lists_per};
+
+    ghost eq = { pointwise ⟦<Target as PartialEq>⟧.eq };
+
+    ghost laws = { lists_per (partial_equiv_from_equiv (on_equiv (λ t. t.0) nat_eq_equiv)) };
+
+    fn eq(&self, other: &Self) -> bool {
+        self.list == other.list
+    }
+}
+
+impl Eq for Targets {
+    ghost use Rattle.std.specs.Cmp.{nat_eq_equiv, on_equiv};
+    ghost use Rattle.std.specs.Cmp.Lexicographic.{lists_equiv};
+
+    ghost laws = { lists_equiv (on_equiv (λ t. t.0) nat_eq_equiv) };
+}
+
 impl Clone for Targets {
     ghost is_clone = { λ a b. a ≡ b };
 
@@ -110,6 +138,20 @@ fn place_of(list: &[Target], target: Target) -> Place
 mod tests {
     use super::*;
     use std::test::Fail;
+
+    #[test]
+    fn targets_are_told_from_other_communities(rt: HostRuntime) {
+        for (community, want) in [
+            (0x0002_fc00_007a_1201, true),
+            (0x0102_c000_020b_0001, true),
+            (0x0202_0001_0000_0007, true),
+            (0x0302_fc00_007a_1201, false),
+            (0x0003_fc00_007a_1201, false),
+            (0x4002_fc00_007a_1201, false),
+        ] {
+            assert_eq!(rt; is_target(community), want, "{community:016x}");
+        }
+    }
 
     #[test]
     fn targets_stand_in_order_once(rt: HostRuntime) -> Result<(), Fail> {

@@ -11,7 +11,7 @@ pub struct VpnKey {
 }
 
 /// Where a VPN-IPv4 route leads, and into which instances it is imported.
-#[derive(Debug, Drop)]
+#[derive(Clone, Debug, Drop, PartialEq, Eq)]
 pub struct VpnRoute {
     pub next_hop: Addr,
     pub label: Label,

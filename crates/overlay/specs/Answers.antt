@@ -4,7 +4,7 @@ use Rattle.std.specs.Io.KnownBytes.{Appends}
 use Rattle.serde_json.specs.Data.{Data}
 use Rattle.config_model.specs.declared.fault.DocKind.{DocKind}
 use Rattle.config_model.specs.declared.fault.DocKind.TheVariants.{Missing, Kind, Range, Unknown}
-use Rattle.config_model.specs.declared.input.Plan.{Plan}
+use Rattle.config_model.specs.declared.input.CompileInput.{CompileInput}
 use Rattle.config_model.specs.declared.input.ReachInput.{ReachInput}
 use Rattle.config_model.specs.Faults.{Fault, fault_of}
 use Rattle.config_model.specs.Input.{compile_at, reach_at}
@@ -72,14 +72,14 @@ pub record WasGiven (answer : Answer) (verdict : Verdict) (old new : Option (Lis
   pub taken : Appends old new answer.text
 
 -- of a topology and a configuration that were read, or not, `compile` writes the tables
-abbrev pub compile_reading : Result Plan Fault → Answer
+abbrev pub compile_reading : Result CompileInput Fault → Answer
 compile_reading (Err f) = answer_bad f
 compile_reading (Ok p) = answer_checked (first_broken p.topology p.config) (compile_text (record { topology = p.topology; config = p.config }))
 
 -- of what was read for `reach`, or not, it writes the outcomes
 abbrev pub reach_reading : Result ReachInput Fault → Answer
 reach_reading (Err f) = answer_bad f
-reach_reading (Ok r) = answer_checked (first_broken r.topology r.config) (reach_text (record { topology = r.topology; config = r.config }) r.packets)
+reach_reading (Ok r) = answer_checked (first_broken r.input.topology r.input.config) (reach_text (record { topology = r.input.topology; config = r.input.config }) r.packets)
 
 -- of a value `compile` reads a topology and a configuration
 unfoldable pub compile_value : Data → Answer

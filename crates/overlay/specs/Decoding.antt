@@ -10,6 +10,7 @@ use Rattle.bgp_wire.specs.declared.fault.WireFault.{WireFault}
 use Rattle.bgp_wire.specs.Content.{Content, Opens, Updates, Notifies, KeepsAlive, UpdateFields}
 use Rattle.bgp_wire.specs.Frames.{IsProperPrefix}
 use Rattle.bgp_wire.specs.Messages.{BeginsWith, HasFault}
+use Rattle.bgp_wire.specs.Opens.{asn_of}
 use Rattle.bgp_vpn.specs.Updates.{Changes, HasUpdateFault}
 use Rattle.report.specs.Lines.{open_line, put_line, drop_line, notification_line, fault_line, incomplete_line}
 
@@ -44,7 +45,7 @@ keepalive_line = codes "keepalive" ++ (10 ∷ [])
 
 -- what is said of a message without a fault
 abbrev pub Says : Content → List ℕ → Type 0
-Says (Opens fields) text = text ≡ open_line fields.asn fields.hold (record { 0 = fields.id })
+Says (Opens fields) text = text ≡ open_line (asn_of fields) fields.hold (record { 0 = fields.id })
 Says (Updates parts) text = (changes : List (Delta VpnKey VpnRoute)) × Changes parts changes × (text ≡ update_lines changes)
 Says (Notifies code subcode) text = text ≡ notification_line code subcode
 Says KeepsAlive text = text ≡ keepalive_line

@@ -18,7 +18,7 @@ use crate::lines::write_tables;
 use crate::outcomes::write_outcomes;
 use config_check::{CheckRefusal, Refusal, Valid, check};
 use config_model::{
-    Plan, DocFault, DocKind, ReachInput, ReadRefusal, read_compile, read_reach,
+    CompileInput, DocFault, DocKind, ReachInput, ReadRefusal, read_compile, read_reach,
 };
 use ov_io::{Sink, WriteRefusal, write_all};
 use ov_types::{Items, NoMemory, Packet};
@@ -123,7 +123,7 @@ fn write_unfit<K: Sink>(alloc: Global, unfit: Unfit, sink: &mut K) -> Result<Ver
 }
 
 /// The valid configuration that a command takes, with its topology.
-fn valid_of(alloc: Global, input: Plan) -> Result<Valid, Unfit>
+fn valid_of(alloc: Global, input: CompileInput) -> Result<Valid, Unfit>
     requires topology_form { IsTrue (has_topology_form input.topology) }
     requires config_form { IsTrue (has_config_form input.config) }
     ensures ok { IfOk result (λ valid. valid ≡ record { topology = input.topology; config = input.config }) }
@@ -178,7 +178,7 @@ fn reach_taken(alloc: Global, value: &Value) -> Result<Question, Unfit>
     ensures unfit { IfErr result (λ unfit. IsAnswered unfit (reach_value (view value.now))) }
 {
     match read_reach(alloc, value) {
-        Ok(ReachInput { topology, config, packets }) => match valid_of(alloc, Plan { topology, config }) {
+        Ok(ReachInput { input, packets }) => match valid_of(alloc, input) {
             Ok(valid) => Ok(Question { valid, packets }),
             Err(unfit) => Err(unfit),
         },

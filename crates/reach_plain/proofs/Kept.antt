@@ -12,7 +12,8 @@ use Rattle.ov_types.specs.First.{same_name, first_meeting}
 use Rattle.chain_expand.specs.Expansion.{chain_named, expansion, same_number, numbers_or_fault}
 use Rattle.config_check.specs.Rules.{first_broken}
 use Rattle.config_check.specs.Sentences.{IsValid}
-use Rattle.config_check.proofs.Iffs.{all_head, all_tail, first_meeting_none}
+use Rattle.ov_types.proofs.FirstLemmas.{found_is, first_meeting_none}
+use Rattle.std.proofs.lemmas.List.Elements.{All-contains}
 use Rattle.config_check.proofs.Few.{few_rules as rules_are_few, first_none}
 use Rattle.config_check.proofs.Validity.{valid_iff}
 
@@ -26,24 +27,15 @@ few_rules t c h = rules_are_few t c (first_none _ _ h)
 pub few_chains : (t : Topology) (c : Config) → first_broken t c ≡ None → length c.chains ≤ 128
 few_chains t c h = (valid t c h).limits.chains
 
--- what is found passes the test, and is as all items are
-pub found_in : {A : Type 0} (p : A → Bool) (Q : A → Type 0) (xs : List A) (x : A) → find p xs ≡ Some x → All Q xs → (p x ≡ true) × Q x
-found_in p Q [] x h each = cc
-found_in {A} p Q (y ∷ ys) x h each =
-    elim (p y) as (λ b. p y ≡ b → cond b (Some y) (find p ys) ≡ Some x → (p x ≡ true) × Q x) [
-      | true ↦ λ e h'. let same : y ≡ x = cc in (ap p (sym same) ∙ e, subst Q same (all_head Q y ys each))
-      | false ↦ λ e h'. found_in p Q ys x h' (all_tail Q y ys each)
-    ] refl h
-
 -- what holds of the expansion of each chain holds of that of each name: where there is no such chain it is empty
 of_each_name : (P : List Service → Type 0) (c : Config) (name : List ℕ) → P [] → All (λ d. P (expansion c d.name)) c.chains → P (expansion c name)
 of_each_name P c name none each =
     elim (chain_named c name) as (λ o. chain_named c name ≡ o → P (expansion c name)) [
       | None ↦ λ e. let empty : expansion c name ≡ [] = rw e refl in subst P (sym empty) none
       | Some d ↦ λ e.
-          let named = found_in (λ (x : Chain). same_name x.name name) (λ (x : Chain). P (expansion c x.name)) c.chains d e each in
+          let named = found_is (λ (x : Chain). same_name x.name name) c.chains d e in
           let Q : List ℕ → Type 0 = λ n. P (expansion c n) in
-          subst Q (same_text d.name name (sym named.0)) named.1
+          subst Q (same_text d.name name (sym named.0)) (All-contains (λ (x : Chain). P (expansion c x.name)) c.chains d each named.1)
     ] refl
 
 pub chain_is_short : (t : Topology) (c : Config) (name : List ℕ) → first_broken t c ≡ None → length (expansion c name) ≤ 15
@@ -63,3 +55,6 @@ chain_expands t c name h =
     (λ i j d lt within. numbers_apart (get_or (expansion c name) i d) (get_or (expansion c name) j d) (chain_is_once t c name h i j d lt within))
     in
     rw (few, once) refl
+
+-- what lets a chain expand to a short list
+pub ruleset short_chains = (few_chains, chain_expands, chain_is_short)

@@ -1,6 +1,5 @@
-pub mod Answers
-pub mod Between
-pub mod Delivery
+pub mod Becoming
+pub mod Chains
+pub mod Found
 pub mod Kept
-pub mod Members
-pub mod Ordered
+pub mod Once

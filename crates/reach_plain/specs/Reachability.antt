@@ -1,5 +1,6 @@
 -- What becomes of a packet.
-use Rattle.std.specs.Prelude.{ℕ, ◌==◌, ◌&&◌, ◌||◌, Bool, true, false, List, [], map, reverse, find, Option, Some, None, if◌then◌else◌}
+use Rattle.std.specs.Prelude.{ℕ, ◌==◌, ◌&&◌, ◌||◌, Bool, true, false, List, [], map, reverse, find, Option, Some, None}
+use Rattle.std.specs.Prelude.{if◌then◌else◌}
 use Rattle.ov_types.specs.declared.numbers.ServiceNo.{ServiceNo}
 use Rattle.ov_types.specs.declared.packet.Outcome.{Outcome}
 use Rattle.ov_types.specs.declared.packet.Outcome.TheVariants.{Delivered, Dropped}
@@ -13,19 +14,16 @@ use Rattle.config_model.specs.declared.config.Network.{Network}
 use Rattle.config_model.specs.declared.config.Port.{Port}
 use Rattle.chain_expand.specs.Expansion.{expansion}
 use Rattle.ov_types.specs.First.{same_name}
-use Rattle.config_check.specs.Related.{are_related}
-use Rattle.config_check.specs.Rules.{network_named, holds_address}
-use Rattle.reach_plain.specs.Matching.{Match, deciding}
-
-abbrev pub port_numbered : Config → ℕ → Option Port
-port_numbered c n = find (λ p. p.id.0 == n) c.ports
+use Rattle.network_rules.specs.Related.{are_related}
+use Rattle.config_check.specs.Finding.{network_named, port_numbered, port_at}
+use Rattle.config_check.specs.Rules.{holds_address}
+use Rattle.network_rules.specs.Matching.{deciding}
+use Rattle.network_rules.specs.declared.matching.Match.{Match}
 
 -- the network that a packet is for: the source's own, or one related to it, whose subnet holds the address
 abbrev pub network_towards : Config → Network → ℕ → Option Network
-network_towards c a address = find (λ b. (same_name b.name a.name || are_related c a b) && holds_address b address) c.networks
-
-abbrev pub port_at : Config → Network → ℕ → Option Port
-port_at c b address = find (λ p. same_name p.network b.name && (p.address.0 == address)) c.ports
+network_towards c a address =
+    find (λ b. (same_name b.name a.name || are_related c a b) && holds_address b address) c.networks
 
 -- the services of a chain, in order where its rule was matched forwards, and reversed where mirrored
 abbrev pub services_through : Config → List ℕ → Bool → List ServiceNo

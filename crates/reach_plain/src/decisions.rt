@@ -1,24 +1,12 @@
 //! Decisions between networks that are given by their numbers.
-ghost use Rattle.std.specs.Prelude.{◌≡◌, ◌↔◌, IsTrue, IsSome, IfSome, Some, option_copied};
-ghost use Rattle.reach_plain.specs.Matching.{decision};
-ghost use Rattle.reach_plain.specs.Decided.{network_numbered};
+ghost use Rattle.std.specs.Prelude.{◌≡◌, ◌↔◌, IsTrue, IsSome, IfSome, Some};
+ghost use Rattle.network_rules.specs.Matching.{decision};
+ghost use Rattle.config_check.specs.Finding.{network_numbered};
 
-use crate::Decision;
-use crate::deciding::deciding;
-use crate::matching::decision_by;
-use config_check::Valid;
+use config_check::{Valid, network_numbered};
 use config_model::{Config, Network};
+use network_rules::{Decision, decision};
 use ov_types::{InstanceId, Tuple};
-
-fn network_numbered<'a>(config: &'a Config, number: InstanceId) -> Option<&'a Network>
-    ensures { option_copied result ≡ network_numbered config.now number.0 }
-{
-    config
-        .networks
-        .as_slice()
-        .iter()
-        .find(|n| n.id.0 == number.0)
-}
 
 /// Whether a number is a network's. It takes no memory.
 pub fn is_network(valid: &Valid, number: InstanceId) -> bool
@@ -38,18 +26,9 @@ fn numbered<'a>(config: &'a Config, number: InstanceId) -> &'a Network
     }
 }
 
-#[tactic(auto, using(crate::proofs::Kept::few_rules))]
-fn decision(valid: &Valid, from: &Network, to: &Network, tuple: &Tuple) -> Option<Decision>
-    ensures { result ≡ decision valid.now.config from.now to.now tuple.now }
-{
-    match deciding(valid.config(), from, to, tuple) {
-        Some(found) => Some(decision_by(&found)),
-        None => None,
-    }
-}
-
 /// The first rule between two networks that matches a packet from the one to the other, by sequence and then
 /// position, and whether it matches mirrored; there is none where no rule matches. It takes no memory.
+#[tactic(auto, using(crate::proofs::Kept::few_rules))]
 pub fn decide(valid: &Valid, from: InstanceId, to: InstanceId, tuple: Tuple) -> Option<Decision>
     requires source { IsSome (network_numbered valid.now.config from.0) }
     requires destination { IsSome (network_numbered valid.now.config to.0) }
@@ -59,5 +38,5 @@ pub fn decide(valid: &Valid, from: InstanceId, to: InstanceId, tuple: Tuple) -> 
     let config = valid.config();
     let from = numbered(config, from);
     let to = numbered(config, to);
-    decision(valid, from, to, &tuple)
+    decision(config, from, to, &tuple)
 }

@@ -1,22 +1,15 @@
 //! What becomes of a packet.
 ghost use Rattle.std.specs.Prelude.{◌≡◌, ◌&&◌, ◌||◌, option_copied};
 ghost use Rattle.ov_types.specs.First.{same_name};
-ghost use Rattle.config_check.specs.Related.{are_related};
-ghost use Rattle.config_check.specs.Rules.{network_named, holds_address};
-ghost use Rattle.reach_plain.specs.Reachability.{port_numbered, network_towards, port_at, arrival_at, outcome_of, outcome_by, outcome_between, outcome_towards, outcome_from, outcome_at, reachability};
+ghost use Rattle.network_rules.specs.Related.{are_related};
+ghost use Rattle.config_check.specs.Rules.{holds_address};
+ghost use Rattle.reach_plain.specs.Reachability.{network_towards, arrival_at, outcome_by, reachability};
 
-use crate::deciding::deciding;
-use crate::matching::Match;
 use crate::services::services_through;
-use config_check::{Valid, are_related, holds_address, network_named};
+use config_check::{Valid, holds_address, network_named, port_at, port_numbered};
 use config_model::{Action, Config, Network, Port};
-use ov_types::{Addr, Outcome, Packet, PortNo, RuleNo, Services, Why};
-
-fn port_numbered<'a>(config: &'a Config, number: PortNo) -> Option<&'a Port>
-    ensures { option_copied result ≡ port_numbered config.now number.0 }
-{
-    config.ports.as_slice().iter().find(|p| p.id.0 == number.0)
-}
+use network_rules::{Match, are_related, deciding};
+use ov_types::{Addr, Outcome, Packet, Services, Why};
 
 /// Whether a packet from a network may be for another: for itself, or for a related one.
 fn is_near(config: &Config, from: &Network, other: &Network) -> bool
@@ -26,7 +19,8 @@ fn is_near(config: &Config, from: &Network, other: &Network) -> bool
 }
 
 fn is_towards(config: &Config, from: &Network, other: &Network, address: Addr) -> bool
-    ensures { result ≡ ((same_name other.now.name from.now.name || are_related config.now from.now other.now) && holds_address other.now address.0) }
+    ensures { result ≡ ((same_name other.now.name from.now.name || are_related config.now from.now other.now)
+        && holds_address other.now address.0) }
 {
     is_near(config, from, other) && holds_address(other, address)
 }
@@ -42,16 +36,6 @@ fn network_towards<'a>(config: &'a Config, from: &Network, address: Addr) -> Opt
         .find(|n| is_towards(config, from, n, address))
 }
 
-fn port_at<'a>(config: &'a Config, network: &Network, address: Addr) -> Option<&'a Port>
-    ensures { option_copied result ≡ port_at config.now network.now address.0 }
-{
-    config
-        .ports
-        .as_slice()
-        .iter()
-        .find(|p| p.network == network.name && p.address.0 == address.0)
-}
-
 /// A packet that may enter a network arrives at the port that has the address.
 fn arrival_at(port: Option<&Port>, services: Services<64>) -> Outcome
     ensures { result ≡ arrival_at (option_copied port.entry) services }
@@ -61,25 +45,7 @@ fn arrival_at(port: Option<&Port>, services: Services<64>) -> Outcome
             port: port.id,
             services,
         },
-        None => Outcome::Dropped { why: Why::NoRoute },
-    }
-}
-
-fn outcome_of(
-    valid: &Valid,
-    port: Option<&Port>,
-    number: RuleNo,
-    mirrored: bool,
-    action: &Action,
-) -> Outcome
-    ensures { result ≡ outcome_of valid.now.config (option_copied port.entry) number mirrored action.now }
-{
-    match action {
-        Action::Pass => arrival_at(port, Services::new()),
-        Action::Deny => Outcome::Dropped {
-            why: Why::Denied { rule: Some(number) },
-        },
-        Action::Through { chain, .. } => arrival_at(port, services_through(valid, chain, mirrored)),
+        None => dropped(Why::NoRoute),
     }
 }
 
@@ -87,79 +53,45 @@ fn outcome_of(
 fn outcome_by(valid: &Valid, port: Option<&Port>, found: Option<Match>) -> Outcome
     ensures { result ≡ outcome_by valid.now.config (option_copied port.entry) found }
 {
-    match found {
-        Some(found) => outcome_of(
-            valid,
-            port,
-            found.rule.number,
-            found.mirrored,
-            &found.rule.rule.action,
-        ),
-        None => Outcome::Dropped {
-            why: Why::Denied { rule: None },
-        },
+    let Some(found) = found else {
+        return dropped(Why::Denied { rule: None });
+    };
+    match &found.rule.rule.action {
+        Action::Pass => arrival_at(port, Services::new()),
+        Action::Deny => dropped(Why::Denied {
+            rule: Some(found.rule.number),
+        }),
+        Action::Through { chain, .. } => {
+            arrival_at(port, services_through(valid, chain, found.mirrored))
+        }
     }
 }
 
-#[tactic(auto, using(crate::proofs::Kept::few_rules))]
-fn outcome_between(valid: &Valid, from: &Network, to: &Network, packet: &Packet) -> Outcome
-    ensures { result ≡ outcome_between valid.now.config from.now to.now packet.now }
+fn dropped(why: Why) -> Outcome
+    ensures { result ≡ Outcome.Dropped why }
+{
+    Outcome::Dropped { why }
+}
+
+/// What becomes of a packet: it is dropped, or delivered to a port through services. It takes no memory, and
+/// never gives `NoLabel` or `TtlExpired`.
+#[tactic(auto, using(crate::proofs::Kept::few_rules), unfolding(crate::specs::Reachability::reachability))]
+pub fn reach(valid: &Valid, packet: Packet) -> Outcome
+    ensures { result ≡ reachability valid.now.config packet }
 {
     let config = valid.config();
+    let Some(source) = port_numbered(config, packet.source) else {
+        return dropped(Why::NoSourcePort);
+    };
+    let Some(from) = network_named(config, &source.network) else {
+        return dropped(Why::NoDestination);
+    };
+    let Some(to) = network_towards(config, from, packet.destination) else {
+        return dropped(Why::NoDestination);
+    };
     let port = port_at(config, to, packet.destination);
     if to.name == from.name {
         return arrival_at(port, Services::new());
     }
     outcome_by(valid, port, deciding(config, from, to, &packet.tuple))
-}
-
-fn outcome_towards(valid: &Valid, from: &Network, packet: &Packet, to: Option<&Network>) -> Outcome
-    ensures { result ≡ outcome_towards valid.now.config from.now packet.now (option_copied to.entry) }
-{
-    match to {
-        Some(to) => outcome_between(valid, from, to, packet),
-        None => Outcome::Dropped {
-            why: Why::NoDestination,
-        },
-    }
-}
-
-fn outcome_from(valid: &Valid, packet: &Packet, from: Option<&Network>) -> Outcome
-    ensures { result ≡ outcome_from valid.now.config packet.now (option_copied from.entry) }
-{
-    match from {
-        Some(from) => outcome_towards(
-            valid,
-            from,
-            packet,
-            network_towards(valid.config(), from, packet.destination),
-        ),
-        None => Outcome::Dropped {
-            why: Why::NoDestination,
-        },
-    }
-}
-
-fn outcome_at(valid: &Valid, packet: &Packet, source: Option<&Port>) -> Outcome
-    ensures { result ≡ outcome_at valid.now.config packet.now (option_copied source.entry) }
-{
-    match source {
-        Some(source) => outcome_from(
-            valid,
-            packet,
-            network_named(valid.config(), &source.network),
-        ),
-        None => Outcome::Dropped {
-            why: Why::NoSourcePort,
-        },
-    }
-}
-
-/// What becomes of a packet: it is dropped, or delivered to a port through services. It takes no memory, and
-/// never gives `NoLabel` or `TtlExpired`.
-#[tactic(auto, unfolding(crate::specs::Reachability::reachability))]
-pub fn reach(valid: &Valid, packet: Packet) -> Outcome
-    ensures { result ≡ reachability valid.now.config packet }
-{
-    outcome_at(valid, &packet, port_numbered(valid.config(), packet.source))
 }

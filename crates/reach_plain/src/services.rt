@@ -8,7 +8,7 @@ use config_check::Valid;
 use ov_types::{Name, ServiceNo, Services};
 
 /// The numbers of a chain's services, of which a valid configuration has at most 15.
-#[tactic(auto, using(crate::proofs::Kept::few_chains, crate::proofs::Kept::chain_expands, crate::proofs::Kept::chain_is_short))]
+#[tactic(auto, using(crate::proofs::Kept::short_chains))]
 fn expanded(valid: &Valid, chain: &Name) -> Services<15>
     ensures numbers { result ≡ map (λ s. s.id) (expansion valid.now.config chain.now) }
     ensures short { length result ≤ 15 }

@@ -7,17 +7,64 @@ use serde_json::Value;
 use std::alloc::{AllocError, Global};
 
 /// Red and blue attach `web`, which denies tcp to port 22 and passes the rest.
-const WEB: &str =
-    r#"{"topology":{"as":64512,"controllers":[{"name":"c1","address":"192.0.2.1"}],"nodes":[{"name":"n1","address":"192.0.2.11","controllers":["c1"]}]},"configuration":{"networks":[{"name":"red","id":1,"subnets":["10.1.0.0/24"],"policies":["web"]},{"name":"blue","id":2,"subnets":["10.2.0.0/24"],"policies":["web"]}],"ports":[{"name":"vm1","id":1,"network":"red","address":"10.1.0.1","node":"n1"},{"name":"vm2","id":2,"network":"blue","address":"10.2.0.2","node":"n1"}],"policies":[{"name":"web","sequence":10,"rules":[{"direction":"<>","source":"any","destination":"any","protocol":6,"source_ports":[0,65535],"destination_ports":[22,22],"action":"deny"},{"direction":"<>","source":"any","destination":"any","protocol":"any","source_ports":[0,65535],"destination_ports":[0,65535],"action":"pass"}]}]}}"#;
+const WEB: &str = r#"{"topology":{"as":64512,
+"controllers":[{"name":"c1","address":"192.0.2.1"}],
+"nodes":[{"name":"n1","address":"192.0.2.11","controllers":["c1"]}]},
+"configuration":{
+"networks":[{"name":"red","id":1,"subnets":["10.1.0.0/24"],"policies":["web"]},
+{"name":"blue","id":2,"subnets":["10.2.0.0/24"],"policies":["web"]}],
+"ports":[{"name":"vm1","id":1,"network":"red","address":"10.1.0.1","node":"n1"},
+{"name":"vm2","id":2,"network":"blue","address":"10.2.0.2","node":"n1"}],
+"policies":[{"name":"web","sequence":10,"rules":[
+{"direction":"<>","source":"any","destination":"any","protocol":6,
+"source_ports":[0,65535],"destination_ports":[22,22],"action":"deny"},
+{"direction":"<>","source":"any","destination":"any","protocol":"any",
+"source_ports":[0,65535],"destination_ports":[0,65535],"action":"pass"}]}]}}"#;
 
 /// The same, but blue attaches nothing.
-const ALONE: &str =
-    r#"{"topology":{"as":64512,"controllers":[{"name":"c1","address":"192.0.2.1"}],"nodes":[{"name":"n1","address":"192.0.2.11","controllers":["c1"]}]},"configuration":{"networks":[{"name":"red","id":1,"subnets":["10.1.0.0/24"],"policies":["web"]},{"name":"blue","id":2,"subnets":["10.2.0.0/24"]}],"ports":[{"name":"vm1","id":1,"network":"red","address":"10.1.0.1","node":"n1"},{"name":"vm2","id":2,"network":"blue","address":"10.2.0.2","node":"n1"}],"policies":[{"name":"web","sequence":10,"rules":[{"direction":"<>","source":"any","destination":"any","protocol":"any","source_ports":[0,65535],"destination_ports":[0,65535],"action":"pass"}]}]}}"#;
+const ALONE: &str = r#"{"topology":{"as":64512,
+"controllers":[{"name":"c1","address":"192.0.2.1"}],
+"nodes":[{"name":"n1","address":"192.0.2.11","controllers":["c1"]}]},
+"configuration":{
+"networks":[{"name":"red","id":1,"subnets":["10.1.0.0/24"],"policies":["web"]},
+{"name":"blue","id":2,"subnets":["10.2.0.0/24"]}],
+"ports":[{"name":"vm1","id":1,"network":"red","address":"10.1.0.1","node":"n1"},
+{"name":"vm2","id":2,"network":"blue","address":"10.2.0.2","node":"n1"}],
+"policies":[{"name":"web","sequence":10,"rules":[
+{"direction":"<>","source":"any","destination":"any","protocol":"any",
+"source_ports":[0,65535],"destination_ports":[0,65535],"action":"pass"}]}]}}"#;
+
+/// Both attach `shop`, which passes tcp from red's ports 1024 to 2000 to blue's ports 80 to 90, and not the answers.
+const SHOP: &str = r#"{"topology":{"as":64512,
+"controllers":[{"name":"c1","address":"192.0.2.1"}],
+"nodes":[{"name":"n1","address":"192.0.2.11","controllers":["c1"]}]},
+"configuration":{
+"networks":[{"name":"red","id":1,"subnets":["10.1.0.0/24"],"policies":["shop"]},
+{"name":"blue","id":2,"subnets":["10.2.0.0/24"],"policies":["shop"]}],
+"ports":[{"name":"vm1","id":1,"network":"red","address":"10.1.0.1","node":"n1"},
+{"name":"vm2","id":2,"network":"blue","address":"10.2.0.2","node":"n1"}],
+"policies":[{"name":"shop","sequence":10,"rules":[
+{"direction":">","source":"red","destination":"blue","protocol":6,
+"source_ports":[1024,2000],"destination_ports":[80,90],"action":"pass"}]}]}}"#;
 
 /// Both attach `sec`, which leads packets between them through two services, and before it by sequence, but after it
 /// in the document, `ssh`, which denies tcp to port 22 from red to blue.
-const SECURE: &str =
-    r#"{"topology":{"as":64512,"controllers":[{"name":"c1","address":"192.0.2.1"}],"nodes":[{"name":"n1","address":"192.0.2.11","controllers":["c1"]}]},"configuration":{"networks":[{"name":"red","id":1,"subnets":["10.1.0.0/24"],"policies":["sec","ssh"]},{"name":"blue","id":2,"subnets":["10.2.0.0/24"],"policies":["ssh","sec"]}],"ports":[{"name":"vm1","id":1,"network":"red","address":"10.1.0.1","node":"n1"},{"name":"vm2","id":2,"network":"blue","address":"10.2.0.2","node":"n1"}],"policies":[{"name":"sec","sequence":20,"rules":[{"direction":"<>","source":"red","destination":"blue","protocol":"any","source_ports":[0,65535],"destination_ports":[0,1023],"action":"chain","chain":"pair","use":0}]},{"name":"ssh","sequence":10,"rules":[{"direction":">","source":"red","destination":"blue","protocol":6,"source_ports":[0,65535],"destination_ports":[22,22],"action":"deny"}]}],"services":[{"name":"s1","id":1,"node":"n1"},{"name":"s2","id":2,"node":"n1"}],"chains":[{"name":"pair","hops":["s1","s2"]}]}}"#;
+const SECURE: &str = r#"{"topology":{"as":64512,
+"controllers":[{"name":"c1","address":"192.0.2.1"}],
+"nodes":[{"name":"n1","address":"192.0.2.11","controllers":["c1"]}]},
+"configuration":{
+"networks":[{"name":"red","id":1,"subnets":["10.1.0.0/24"],"policies":["sec","ssh"]},
+{"name":"blue","id":2,"subnets":["10.2.0.0/24"],"policies":["ssh","sec"]}],
+"ports":[{"name":"vm1","id":1,"network":"red","address":"10.1.0.1","node":"n1"},
+{"name":"vm2","id":2,"network":"blue","address":"10.2.0.2","node":"n1"}],
+"policies":[{"name":"sec","sequence":20,"rules":[
+{"direction":"<>","source":"red","destination":"blue","protocol":"any",
+"source_ports":[0,65535],"destination_ports":[0,1023],"action":"chain","chain":"pair","use":0}]},
+{"name":"ssh","sequence":10,"rules":[
+{"direction":">","source":"red","destination":"blue","protocol":6,
+"source_ports":[0,65535],"destination_ports":[22,22],"action":"deny"}]}],
+"services":[{"name":"s1","id":1,"node":"n1"},{"name":"s2","id":2,"node":"n1"}],
+"chains":[{"name":"pair","hops":["s1","s2"]}]}}"#;
 
 const RED: u32 = 0x0a01_0001;
 
@@ -26,7 +73,7 @@ const BLUE: u32 = 0x0a02_0002;
 const NOBODY: u32 = 0x0a02_0009;
 
 /// The document, the source port, the destination, the source and destination ports of tcp, and the outcome.
-const CASES: [(&str, u32, u32, u16, u16, &str); 14] = [
+const CASES: [(&str, u32, u32, u16, u16, &str); 20] = [
     (WEB, 1, BLUE, 40000, 22, "denied by 10/1"),
     (WEB, 1, BLUE, 40000, 80, "to 2"),
     (WEB, 1, BLUE, 22, 40000, "denied by 10/1"),
@@ -41,6 +88,12 @@ const CASES: [(&str, u32, u32, u16, u16, &str); 14] = [
     (SECURE, 2, RED, 22, 40000, "to 1 by 2 by 1"),
     (SECURE, 1, BLUE, 80, 40000, "denied"),
     (SECURE, 2, RED, 40000, 80, "denied"),
+    (SHOP, 1, BLUE, 1024, 90, "to 2"),
+    (SHOP, 1, BLUE, 2000, 80, "to 2"),
+    (SHOP, 1, BLUE, 2001, 80, "denied"),
+    (SHOP, 1, BLUE, 1024, 79, "denied"),
+    (SHOP, 1, BLUE, 80, 1024, "denied"),
+    (SHOP, 2, RED, 80, 1024, "denied"),
 ];
 
 fn valid_of(alloc: Global, document: &str) -> Option<Valid> {
@@ -93,16 +146,31 @@ fn is_outcome(alloc: Global, document: &str, packet: Packet, want: &str) -> bool
     }
 }
 
-/// The decision on a packet from red to blue.
-fn decision_in(alloc: Global, document: &str, tuple: Tuple) -> Option<Decision> {
+/// The decision on a packet from one network to another, of the networks 1 and 2.
+fn decision_in(
+    alloc: Global,
+    document: &str,
+    from: u16,
+    to: u16,
+    tuple: Tuple,
+) -> Option<Decision> {
     let valid = valid_of(alloc, document)?;
-    if !is_network(&valid, InstanceId(1)) {
+    if !is_network(&valid, InstanceId(from)) {
         return None;
     }
-    if !is_network(&valid, InstanceId(2)) {
+    if !is_network(&valid, InstanceId(to)) {
         return None;
     }
-    decide(&valid, InstanceId(1), InstanceId(2), tuple)
+    decide(&valid, InstanceId(from), InstanceId(to), tuple)
+}
+
+/// A decision by a rule of the policy of sequence 10.
+fn by_rule(position: u16, mirrored: bool) -> Option<Decision> {
+    let rule = RuleNo {
+        sequence: 10,
+        position,
+    };
+    Some(Decision { rule, mirrored })
 }
 
 #[test]
@@ -119,16 +187,22 @@ fn packets_have_their_outcomes(rt: HostRuntime) {
 
 #[test]
 fn decides_by_the_first_rule(rt: HostRuntime) {
-    let denied = decision_in(rt.alloc(), WEB, tuple_of(22, 40000));
-    let rule = RuleNo {
-        sequence: 10,
-        position: 1,
-    };
-    assert_eq!(rt;
-        denied,
-        Some(Decision {
-            rule,
-            mirrored: true
-        })
-    );
+    let denied = decision_in(rt.alloc(), WEB, 1, 2, tuple_of(22, 40000));
+    assert_eq!(rt; denied, by_rule(1, true));
+}
+
+#[test]
+fn takes_a_rule_that_matches_both_ways_forwards(rt: HostRuntime) {
+    let passed = decision_in(rt.alloc(), WEB, 1, 2, tuple_of(40000, 80));
+    assert_eq!(rt; passed, by_rule(2, false));
+}
+
+#[test]
+fn one_way_rules_decide_on_no_answers(rt: HostRuntime) {
+    let asked = decision_in(rt.alloc(), SHOP, 1, 2, tuple_of(1024, 80));
+    assert_eq!(rt; asked, by_rule(1, false));
+    let answered = decision_in(rt.alloc(), SHOP, 2, 1, tuple_of(80, 1024));
+    assert_eq!(rt; answered, None);
+    let exchanged = decision_in(rt.alloc(), SHOP, 1, 2, tuple_of(80, 1024));
+    assert_eq!(rt; exchanged, None);
 }

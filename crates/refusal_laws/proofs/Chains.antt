@@ -16,11 +16,13 @@ use Rattle.chain_expand.specs.Expansion.{loops, loop_of, expansion, same_number}
 use Rattle.chain_expand.proofs.LeadsLaws.{Leads-from_leads}
 use Rattle.config_check.specs.declared.refusal.Refusal.{Refusal}
 use Rattle.config_check.specs.declared.refusal.Refusal.TheVariants.{ChainNeedsNetworks, ChainSameNetwork, ChainLoop, ChainTooLong, ServiceTwice}
-use Rattle.config_check.specs.declared.related.NumberedRule.{NumberedRule}
-use Rattle.config_check.specs.Rules.{all_rules, is_chain_rule, is_any, lacks_network, broken_needs, same_end, turns_back, broken_same, broken_use, broken_loop, is_too_long, broken_long, twice_in, broken_twice, broken_chain}
+use Rattle.network_rules.specs.declared.numbered.NumberedRule.{NumberedRule}
+use Rattle.config_check.specs.Rules.{is_chain_rule, is_any, lacks_network, broken_needs, same_end, turns_back, broken_same, broken_use, broken_loop, is_too_long, broken_long, twice_in, broken_twice, broken_chain}
+use Rattle.network_rules.specs.Related.{all_rules}
 use Rattle.refusal_laws.specs.Breaks.{LeadsThrough, IsChainRule, HasAny, HasOneNetwork, Breaks}
 use Rattle.chain_expand.proofs.OkLaws.{loop_free}
-use Rattle.refusal_laws.proofs.Firsts.{any_of, of_either, of_mapped, of_first, found, found_in, first_pair}
+use Rattle.refusal_laws.proofs.Firsts.{first_pair}
+use Rattle.ov_types.proofs.FirstLemmas.{any_of, of_either, of_mapped, of_first, found, found_in}
 
 none_is : {A : Type 0} (o : Option A) → is_none o ≡ true → o ≡ None
 none_is None h = refl
@@ -28,17 +30,17 @@ none_is (Some x) h = cc
 
 -- chain rules
 
-chain_of : (a : Action) → is_chain_rule a ≡ true → (chain : List ℕ) × LeadsThrough a chain
+pub chain_of : (a : Action) → is_chain_rule a ≡ true → (chain : List ℕ) × LeadsThrough a chain
 chain_of Pass h = cc
 chain_of Deny h = cc
 chain_of (Through chain use_no) h = (chain, (use_no, refl))
 
-some_any : (s d : End) → (is_any s || is_any d) ≡ true → (s ≡ Ends.Any) ⊎ (d ≡ Ends.Any)
+pub some_any : (s d : End) → (is_any s || is_any d) ≡ true → (s ≡ Ends.Any) ⊎ (d ≡ Ends.Any)
 some_any Ends.Any d h = inl refl
 some_any (Ends.Named name) Ends.Any h = inr refl
 some_any (Ends.Named name) (Ends.Named other) h = cc
 
-one_network : (s d : End) → same_end s d ≡ true → (network : List ℕ) × (s ≡ Ends.Named network) × (d ≡ Ends.Named network)
+pub one_network : (s d : End) → same_end s d ≡ true → (network : List ℕ) × (s ≡ Ends.Named network) × (d ≡ Ends.Named network)
 one_network Ends.Any Ends.Any h = cc
 one_network Ends.Any (Ends.Named other) h = cc
 one_network (Ends.Named name) Ends.Any h = cc

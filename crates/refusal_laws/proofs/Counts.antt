@@ -13,7 +13,7 @@ use Rattle.config_check.specs.declared.refusal.LimitKind.TheVariants as Counted
 use Rattle.config_check.specs.declared.refusal.Refusal.{Refusal}
 use Rattle.config_check.specs.Rules.{limit_unless, broken_count, broken_part, broken_limit}
 use Rattle.refusal_laws.specs.Breaks.{IsAboveLimit, Breaks}
-use Rattle.refusal_laws.proofs.Firsts.{of_either}
+use Rattle.ov_types.proofs.FirstLemmas.{of_either}
 
 above : (t : Topology) (c : Config) (what : LimitKind) (b : Bool) → (b ≡ false → IsAboveLimit t c what) → IfSome (limit_unless what b) (Breaks t c)
 above t c what true h = tt

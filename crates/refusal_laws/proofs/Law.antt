@@ -4,9 +4,10 @@ use Rattle.config_model.specs.declared.config.Config.{Config}
 use Rattle.config_model.specs.declared.topology.Topology.{Topology}
 use Rattle.ov_types.specs.First.{◌<|>◌}
 use Rattle.config_check.specs.declared.refusal.Refusal.{Refusal}
-use Rattle.config_check.specs.Rules.{broken_limit, broken_name, broken_id, all_rules, broken_reference, broken_place, broken_use, broken_chain, broken_overlap, first_broken}
+use Rattle.config_check.specs.Rules.{broken_limit, broken_name, broken_id, broken_reference, broken_place, broken_use, broken_chain, broken_overlap, first_broken}
+use Rattle.network_rules.specs.Related.{all_rules}
 use Rattle.refusal_laws.specs.Breaks.{Breaks}
-use Rattle.refusal_laws.proofs.Firsts.{answered, of_either}
+use Rattle.ov_types.proofs.FirstLemmas.{answered, of_either}
 use Rattle.refusal_laws.proofs.Counts.{limit_breaks}
 use Rattle.refusal_laws.proofs.Names.{name_breaks, id_breaks, reference_breaks}
 use Rattle.refusal_laws.proofs.Places.{place_breaks}

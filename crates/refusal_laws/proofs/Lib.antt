@@ -6,3 +6,6 @@ pub mod Chains
 pub mod Overlaps
 pub mod Law
 pub mod Invalid
+pub mod FirstOnes
+pub mod Order
+pub mod NamedFirst

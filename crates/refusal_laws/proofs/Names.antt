@@ -19,11 +19,13 @@ use Rattle.config_check.specs.declared.refusal.IdKind.{IdKind}
 use Rattle.config_check.specs.declared.refusal.IdKind.TheVariants as Id
 use Rattle.config_check.specs.declared.refusal.Refusal.{Refusal}
 use Rattle.config_check.specs.declared.refusal.Refusal.TheVariants.{DuplicateName, DuplicateId, BadReference}
-use Rattle.config_check.specs.declared.related.NumberedRule.{NumberedRule}
-use Rattle.config_check.specs.Rules.{all_rules, controller_names, node_names, network_names, port_names, policy_names, service_names, chain_names, repeated_name, repeated_controller, broken_name, repeated_id, broken_id, missing, missing_end, missing_chain, missing_in_node, missing_in_network, missing_in_port, missing_in_rule, missing_in_service, missing_in_chain, broken_reference}
+use Rattle.network_rules.specs.declared.numbered.NumberedRule.{NumberedRule}
+use Rattle.config_check.specs.Rules.{controller_names, node_names, network_names, port_names, policy_names, service_names, chain_names, repeated_name, repeated_controller, broken_name, repeated_id, broken_id, missing, missing_end, missing_chain, missing_in_node, missing_in_network, missing_in_port, missing_in_rule, missing_in_service, missing_in_chain, broken_reference}
+use Rattle.network_rules.specs.Related.{all_rules}
 use Rattle.config_check.proofs.Meanings.{exists_iff}
 use Rattle.refusal_laws.specs.Breaks.{StandsTwice, namespaces, numbers_of, LeadsThrough, IsDangling, controller, policy, network_of_port, node_of_port, source, destination, chain_of_rule, node_of_service, hop, Breaks}
-use Rattle.refusal_laws.proofs.Firsts.{any_of, of_either, of_mapped, of_first, pair_twice}
+use Rattle.refusal_laws.proofs.Firsts.{pair_twice}
+use Rattle.ov_types.proofs.FirstLemmas.{any_of, of_either, of_mapped, of_first}
 
 -- names
 

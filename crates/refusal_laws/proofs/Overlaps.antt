@@ -10,11 +10,12 @@ use Rattle.config_model.specs.declared.topology.Topology.{Topology}
 use Rattle.ov_types.specs.First.{same_name}
 use Rattle.config_check.specs.declared.refusal.Refusal.{Refusal}
 use Rattle.config_check.specs.declared.refusal.Refusal.TheVariants.{SubnetOverlap}
-use Rattle.config_check.specs.Related.{are_related}
+use Rattle.network_rules.specs.Related.{are_related}
 use Rattle.config_check.specs.Rules.{overlap, group_of, share_addresses, overlapping, overlapping_around, broken_overlap}
 use Rattle.config_check.specs.Sentences.{Overlap, IsAround}
 use Rattle.refusal_laws.specs.Breaks.{StandsBefore, OverlapAround, Breaks}
-use Rattle.refusal_laws.proofs.Firsts.{any_of, of_either, of_mapped, of_first, found, IsFound, before_later}
+use Rattle.refusal_laws.proofs.Firsts.{before_later}
+use Rattle.ov_types.proofs.FirstLemmas.{any_of, of_either, of_mapped, of_first, found, IsFound}
 use Rattle.refusal_laws.proofs.Places.{overlaps}
 
 -- what is kept of a list stands in it, in the same order

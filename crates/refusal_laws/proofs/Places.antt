@@ -17,7 +17,8 @@ use Rattle.config_check.specs.declared.refusal.Refusal.TheVariants.{SubnetReserv
 use Rattle.config_check.specs.Rules.{overlap, circuit_addresses, reserved_in, broken_reserved, nested_in, broken_nested, network_named, holds_address, is_outside, broken_outside, share_address, broken_taken, broken_place}
 use Rattle.config_check.specs.Sentences.{Overlap}
 use Rattle.refusal_laws.specs.Breaks.{StandsBefore, LiesOutside, ShareAddress, Breaks}
-use Rattle.refusal_laws.proofs.Firsts.{any_of, of_either, of_mapped, of_first, found, found_in, first_pair}
+use Rattle.refusal_laws.proofs.Firsts.{first_pair}
+use Rattle.ov_types.proofs.FirstLemmas.{any_of, of_either, of_mapped, of_first, found, found_in}
 
 -- subnets
 
@@ -53,7 +54,7 @@ not_held : (b : Bool) → not b ≡ true → ¬ (b ≡ true)
 not_held true h = λ e. cc
 not_held false h = λ e. cc
 
-outside_of : (o : Option Network) (a : ℕ) → option_map_or (λ n. not (holds_address n a)) o false ≡ true → IsSomeAnd o (λ n. ¬ Any (λ s. IsTrue (contains s a)) n.subnets)
+pub outside_of : (o : Option Network) (a : ℕ) → option_map_or (λ n. not (holds_address n a)) o false ≡ true → IsSomeAnd o (λ n. ¬ Any (λ s. IsTrue (contains s a)) n.subnets)
 outside_of None a h = cc
 outside_of (Some n) a h = λ some. not_held (holds_address n a) h (list_any-from_Any (λ s. contains s a) n.subnets some)
 

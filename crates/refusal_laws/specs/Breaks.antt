@@ -20,7 +20,8 @@ use Rattle.config_check.specs.declared.refusal.LimitKind.{LimitKind}
 use Rattle.config_check.specs.declared.refusal.LimitKind.TheVariants as Counted
 use Rattle.config_check.specs.declared.refusal.Refusal.{Refusal}
 use Rattle.config_check.specs.declared.refusal.Refusal.TheVariants.{Limit, DuplicateName, DuplicateId, BadReference, SubnetReserved, SubnetNested, AddressOutside, AddressTaken, ChainNeedsNetworks, ChainSameNetwork, ChainLoop, ChainTooLong, ServiceTwice, SubnetOverlap}
-use Rattle.config_check.specs.Rules.{all_rules, circuit_addresses, controller_names, node_names, network_names, port_names, policy_names, service_names, chain_names, network_named, use_numbers}
+use Rattle.config_check.specs.Rules.{circuit_addresses, controller_names, node_names, network_names, port_names, policy_names, service_names, chain_names, network_named, use_numbers}
+use Rattle.network_rules.specs.Related.{all_rules}
 use Rattle.config_check.specs.Sentences.{Overlap, IsAround}
 
 -- two places of a list, one before the other, have these items

@@ -1,1 +1,3 @@
 pub mod Breaks
+pub mod Order
+pub mod Named

@@ -1,8 +1,6 @@
 -- Where a row comes from: the network of its port, which the instance's network imports.
 use Rattle.std.proofs.Common.{◌≡◌, ◌⊎◌, inl, inr, ◌||◌, ◌&&◌, ℕ, Bool, true, false, not, IsTrue, List, Option, Some, None, option_and_then, refl, sym, ap, subst}
-use Rattle.std.specs.List.{All, Any, Contains, list_any}
-use Rattle.ov_types.specs.Prefix.{Block, contains, host_prefix}
-use Rattle.config_model.specs.Form.{is_block}
+use Rattle.std.specs.List.{Contains, list_any}
 use Rattle.config_model.specs.declared.config.Action.{Action}
 use Rattle.config_model.specs.declared.config.Action.TheVariants.{Pass, Deny, Through}
 use Rattle.config_model.specs.declared.config.Config.{Config}
@@ -11,39 +9,38 @@ use Rattle.config_model.specs.declared.config.Port.{Port}
 use Rattle.config_model.specs.declared.topology.Node.{Node}
 use Rattle.config_model.specs.declared.topology.Topology.{Topology}
 use Rattle.ov_types.specs.First.{same_name}
-use Rattle.config_check.specs.declared.related.NumberedRule.{NumberedRule}
-use Rattle.config_check.specs.Related.{passes, lets_through, rules_between}
-use Rattle.config_check.specs.Rules.{network_named}
-use Rattle.config_check.specs.Sentences.{IsAround, AreApart, Overlap}
-use Rattle.config_check.proofs.Meanings.{same_name_iff}
-use Rattle.schema_transform.specs.Tables.{Row, imports, host_route, row_if, node_named, port_row}
-use Rattle.schema_transform.proofs.Lists.{found, any_weaker}
-use Rattle.schema_transform.proofs.Nested.{overlap_at}
+use Rattle.network_rules.specs.declared.numbered.NumberedRule.{NumberedRule}
+use Rattle.network_rules.specs.Related.{passes, lets_through, rules_between, imports}
+use Rattle.config_check.specs.Finding.{network_named, node_named}
+use Rattle.config_check.specs.Sentences.{IsAround}
+use Rattle.ov_types.proofs.FirstLemmas.{same_name_iff, found_is as found}
+use Rattle.schema_transform.specs.Tables.{Row, host_route, row_if, port_row}
+use Rattle.schema_transform.proofs.Lists.{any_weaker}
 
 -- where a row comes from
-pub record ComesFrom (c : Config) (n : Network) (p : Port) (r : Row) : Type 0 where
+pub record ComesFrom (t : Topology) (c : Config) (n : Network) (p : Port) (r : Row) : Type 0 where
   pub home : Network
   pub is : network_named c p.network ≡ Some home
   pub imported : IsTrue (imports c n home)
-  pub instance : r.0.0 ≡ n.id
-  pub prefix : r.0.1 ≡ host_prefix p.address.0
+  pub node : Node
+  pub placed : node_named t p.node ≡ Some node
+  pub route : r ≡ host_route n home node p
 
-routed : (n b : Network) (p : Port) (r : Row) (i : Bool) (d : Option Node) → row_if i n b p d ≡ Some r → IsTrue i × (r.0.0 ≡ n.id) × (r.0.1 ≡ host_prefix p.address.0)
-routed n b p r false d h = cc
+routed : (n b : Network) (p : Port) (r : Row) (i : Bool) (o : Option Node) → row_if i n b p o ≡ Some r
+    → (d : Node) × IsTrue i × (o ≡ Some d) × (r ≡ host_route n b d p)
+routed n b p r false o h = cc
 routed n b p r true None h = cc
-routed n b p r true (Some d) h =
-    let same : r ≡ host_route n b d p = cc in
-    (refl, ap (λ (x : Row). x.0.0) same, ap (λ (x : Row). x.0.1) same)
+routed n b p r true (Some d) h = (d, refl, refl, cc)
 
-comes : (c : Config) (n : Network) (p : Port) (r : Row) (d : Option Node) (o : Option Network) → network_named c p.network ≡ o
-    → option_and_then (λ b. row_if (imports c n b) n b p d) o ≡ Some r → ComesFrom c n p r
-comes c n p r d None e h = cc
-comes c n p r d (Some b) e h =
-    let q = routed n b p r (imports c n b) d h in
-    record { home = b; is = e; imported = q.0; instance = q.1; prefix = q.2 }
+comes : (t : Topology) (c : Config) (n : Network) (p : Port) (r : Row) (o : Option Network) → network_named c p.network ≡ o
+    → option_and_then (λ b. row_if (imports c n b) n b p (node_named t p.node)) o ≡ Some r → ComesFrom t c n p r
+comes t c n p r None e h = cc
+comes t c n p r (Some b) e h =
+    let q = routed n b p r (imports c n b) (node_named t p.node) h in
+    record { home = b; is = e; imported = q.1; node = q.0; placed = q.2; route = q.3 }
 
-pub comes_from : (t : Topology) (c : Config) (n : Network) (p : Port) (r : Row) → port_row t c n p ≡ Some r → ComesFrom c n p r
-comes_from t c n p r h = comes c n p r (node_named t p.node) (network_named c p.network) refl h
+pub comes_from : (t : Topology) (c : Config) (n : Network) (p : Port) (r : Row) → port_row t c n p ≡ Some r → ComesFrom t c n p r
+comes_from t c n p r h = comes t c n p r (network_named c p.network) refl h
 
 -- a network that is imported is the network itself, or related to it
 
@@ -71,15 +68,3 @@ pub named : (c : Config) (name : List ℕ) (a : Network) → network_named c nam
 named c name a h =
     let f = found (λ (x : Network). same_name x.name name) c.networks a h in
     ((same_name_iff a.name name).0 f.0, f.1)
-
--- two networks that have one address have subnets that overlap
-
-pub meet : (a b : Network) (address : ℕ) → All (λ s. IsTrue (is_block s)) a.subnets → All (λ s. IsTrue (is_block s)) b.subnets
-    → Any (λ s. contains s address ≡ true) a.subnets → Any (λ s. contains s address ≡ true) b.subnets → ¬ AreApart a b
-meet a b address blocks_a blocks_b p q apart =
-    let x : Block = p.1 in
-    let y : Block = q.1 in
-    let x_is : IsTrue (is_block x) = subst (λ (s : Block). IsTrue (is_block s)) p.3 (blocks_a p.0 x p.2) in
-    let y_is : IsTrue (is_block y) = subst (λ (s : Block). IsTrue (is_block s)) q.3 (blocks_b q.0 y q.2) in
-    let far : ¬ Overlap x y = subst (λ (s : Block). ¬ Overlap x s) q.3 (subst (λ (s : Block). All (λ u. ¬ Overlap s u) b.subnets) p.3 (apart p.0 x p.2) q.0 y q.2) in
-    far (overlap_at x y address x_is y_is p.4 q.4)

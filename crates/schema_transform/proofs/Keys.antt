@@ -12,11 +12,12 @@ use Rattle.std.proofs.lemmas.List.Elements.{All-cons, All-head, All-tail}
 use Rattle.std.proofs.lemmas.List.Kept.{AllPairs-cons}
 use Rattle.std.proofs.lemmas.List.Sorted.{IsPermutation-refl, IsPermutation-sym, IsPermutation-trans, IsPermutation-cons, IsPermutation-middle, IsPermutation-append_left, All-permutation}
 use Rattle.std.proofs.lemmas.Map.Lookups.{exact_unsigned}
-use Rattle.ov_types.specs.Prefix.{Block}
-use Rattle.config_check.proofs.Iffs.{pairs_head, pairs_tail}
-use Rattle.schema_transform.specs.Tables.{Key, Row, block_cmp, key_cmp, with_rows}
+use Rattle.ov_types.specs.Keys.{row_key_cmp}
+use Rattle.ov_types.specs.Prefix.{Block, block_cmp}
+use Rattle.ov_types.proofs.FirstLemmas.{pairs_head, pairs_tail}
+use Rattle.schema_transform.specs.Tables.{Key, Row, with_rows}
 
-pub key_order : IsTotalOrder key_cmp
+pub key_order : IsTotalOrder row_key_cmp
 key_order =
     then_total (on_total (λ (k : Key). k.0.0) nat_cmp_total)
     (then_total (on_total (λ (k : Key). k.1.addr) nat_cmp_total) (on_total (λ (k : Key). k.1.len) nat_cmp_total))
@@ -31,7 +32,7 @@ both_equal Greater p h = cc
 same_block : (p q : Block) → p.addr ≡ q.addr → p.len ≡ q.len → p ≡ q
 same_block p q e f = λ i. record { addr = e i; len = f i }
 
-pub same_key : (a b : Key) → key_cmp a b ≡ Equal → (a.0.0 ≡ b.0.0) × (a.1 ≡ b.1)
+pub same_key : (a b : Key) → row_key_cmp a b ≡ Equal → (a.0.0 ≡ b.0.0) × (a.1 ≡ b.1)
 same_key a b h =
     let parts = both_equal (nat_cmp a.0.0 b.0.0) (block_cmp a.1 b.1) h in
     let block = both_equal (nat_cmp a.1.addr b.1.addr) (nat_cmp a.1.len b.1.len) parts.1 in
@@ -88,22 +89,22 @@ module _ {K X : Type 0} (cmp : K → K → Ordering) (k : K) (v : X) where
 -- rows put into a map one after the other
 
 abbrev pub IsBelow : Row → Row → Type 0
-IsBelow r s = key_cmp r.0 s.0 ≡ Less
+IsBelow r s = row_key_cmp r.0 s.0 ≡ Less
 
 -- a later row has another key
 abbrev pub Differ : Row → Row → Type 0
-Differ r s = key_cmp s.0 r.0 ≢ Equal
+Differ r s = row_key_cmp s.0 r.0 ≢ Equal
 
 pub rows_in_order : (rs es : List Row) → AllPairs IsBelow es → AllPairs IsBelow (with_rows es rs)
 rows_in_order [] es sorted = sorted
-rows_in_order (r ∷ rs) es sorted = rows_in_order rs (insert_entry key_cmp es r.0 r.1) (put_in_order key_cmp r.0 r.1 key_order es sorted)
+rows_in_order (r ∷ rs) es sorted = rows_in_order rs (insert_entry row_key_cmp es r.0 r.1) (put_in_order row_key_cmp r.0 r.1 key_order es sorted)
 
 pub rows_added : (rs es : List Row) → AllPairs Differ rs → All (λ s. All (λ e. Differ e s) es) rs → IsPermutation (es ++ rs) (with_rows es rs)
 rows_added [] es pairs new = rw append-nil (IsPermutation-refl es)
 rows_added (r ∷ rs) es pairs new =
     let N : Row → Type 0 = λ s. All (λ e. Differ e s) es in
-    let put : List Row = insert_entry key_cmp es r.0 r.1 in
-    let added : IsPermutation (r ∷ es) put = put_new key_cmp r.0 r.1 es (All-head N r rs new) in
+    let put : List Row = insert_entry row_key_cmp es r.0 r.1 in
+    let added : IsPermutation (r ∷ es) put = put_new row_key_cmp r.0 r.1 es (All-head N r rs new) in
     let others : All (λ s. All (λ e. Differ e s) put) rs = λ k d lt.
     All-permutation (λ (e : Row). Differ e (get_or rs k d)) (r ∷ es) put added
     (All-cons (λ (e : Row). Differ e (get_or rs k d)) r es (pairs_head Differ r rs pairs k d lt) (All-tail N r rs new k d lt)) in

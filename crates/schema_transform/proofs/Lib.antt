@@ -1,7 +1,8 @@
 pub mod Putting
 pub mod Lists
-pub mod Nested
 pub mod Homes
 pub mod Prefixes
 pub mod Keys
+pub mod Joined
 pub mod Kept
+pub mod Found

@@ -1,20 +1,10 @@
 -- Items of one list, and what a function gives of them.
-use Rattle.std.proofs.Common.{◌≡◌, ◌⊎◌, inl, inr, ◌<◌, ◌||◌, ℕ, suc, Bool, true, false, cond, IsTrue, List, [], ◌∷◌, ◌++◌, map, flat_map, Option, Some, None, length, get_or, refl, sym, ap, ◌∙◌, subst, arith}
-use Rattle.std.specs.List.{All, AllPairs, Contains, find, filter_map, cons_option, list_any}
-use Rattle.std.proofs.lemmas.Bool.{cases_order}
-use Rattle.std.proofs.lemmas.List.{get_or_default, get_or-map, length-map}
+use Rattle.std.proofs.Common.{◌≡◌, ◌⊎◌, inl, inr, ◌||◌, ℕ, Bool, true, false, cond, IsTrue, List, [], ◌∷◌, ◌++◌, map, flat_map, Option, Some, None, length, get_or, refl, sym, ap, ◌∙◌, subst, arith}
+use Rattle.std.specs.List.{All, AllPairs, Contains, filter_map, cons_option, list_any}
+use Rattle.std.proofs.lemmas.List.{get_or-map, length-map}
 use Rattle.std.proofs.lemmas.List.Elements.{All-append, All-cons, All-head, All-tail}
 use Rattle.std.proofs.lemmas.List.Kept.{AllPairs-cons}
-use Rattle.config_check.proofs.Iffs.{pairs_head, pairs_tail}
-
--- what a search finds passes its test, and is in the list
-pub found : {A : Type 0} (p : A → Bool) (xs : List A) (a : A) → find p xs ≡ Some a → (p a ≡ true) × Contains xs a
-found p [] a h = cc
-found p (x ∷ xs) a h =
-    elim (p x) as (λ b. (b ≡ p x) → cond b (Some x) (find p xs) ≡ Some a → (p a ≡ true) × Contains (x ∷ xs) a) [
-      | true ↦ λ e is. let same : x ≡ a = cc in (ap p (sym same) ∙ sym e, (0, omega arith, same))
-      | false ↦ λ e is. let rest = found p xs a is in (rest.0, (suc rest.1.0, omega arith, rest.1.2))
-    ] refl h
+use Rattle.ov_types.proofs.FirstLemmas.{contains_cases, contains_here, contains_later, pairs_head, pairs_tail}
 
 pub any_weaker : {A : Type 0} (p q : A → Bool) → ((x : A) → IsTrue (p x) → IsTrue (q x)) → (xs : List A) → IsTrue (list_any p xs) → IsTrue (list_any q xs)
 any_weaker p q weaker [] h = h
@@ -24,25 +14,30 @@ any_weaker p q weaker (x ∷ xs) h =
       | false ↦ λ e t. elim (q x) as (λ b. IsTrue (b || list_any q xs)) [ true ↦ refl | false ↦ any_weaker p q weaker xs t ]
     ] refl h
 
-module _ {A : Type 0} (R : A → A → Type 0) (xs : List A) where
-  in_order : (i j : ℕ) (a b : A) → AllPairs R xs → i < j → j < length xs → get_or xs i a ≡ a → get_or xs j b ≡ b → R a b
-  in_order i j a b pairs lt within at_i at_j =
-      let h : R (get_or xs i a) (get_or xs j a) = pairs i j a lt within in
-      let first : R a (get_or xs j a) = subst (λ (x : A). R x (get_or xs j a)) at_i h in
-      subst (λ (y : A). R a y) (get_or_default xs j a b within ∙ at_j) first
-
-  -- two items of a list whose pairs are related are one item, or related one way or the other
-  pub two_among : (a b : A) → AllPairs R xs → Contains xs a → Contains xs b → (a ≡ b) ⊎ (R a b ⊎ R b a)
-  two_among a b pairs p q =
-      elim (cases_order p.0 q.0) [
-        | inl same ↦ inl (sym p.2 ∙ ap (λ (k : ℕ). get_or xs k a) same ∙ get_or_default xs q.0 a b q.1 ∙ q.2)
-        | inr other ↦ elim other [
-          | inl lt ↦ inr (inl (in_order p.0 q.0 a b pairs lt q.1 p.2 q.2))
-          | inr gt ↦ inr (inr (in_order q.0 p.0 b a pairs gt p.1 q.2 p.2))
+module _ {A B : Type 0} (f : A → Option B) where
+  -- what f gives of some item, where it gives something
+  pub given : (xs : List A) (u : B) → Contains (filter_map f xs) u → (x : A) × Contains xs x × (f x ≡ Some u)
+  given [] u h = absurd (omega (arith, h.1))
+  given (x ∷ xs) u h =
+      elim (f x) as (λ o. (o ≡ f x) → Contains (cons_option o (filter_map f xs)) u → (y : A) × Contains (x ∷ xs) y × (f y ≡ Some u)) [
+        | None ↦ λ e within. let g = given xs u within in (g.0, contains_later g.0 x xs g.1, g.2)
+        | Some v ↦ λ e within. elim (contains_cases v (filter_map f xs) u within) [
+          | inl same ↦ (x, contains_here x xs, sym e ∙ ap (λ (w : B). Some w) same)
+          | inr later ↦ let g = given xs u later in (g.0, contains_later g.0 x xs g.1, g.2)
         ]
+      ] refl h
+
+  pub gives : (xs : List A) (x : A) (u : B) → Contains xs x → f x ≡ Some u → Contains (filter_map f xs) u
+  gives [] x u within is = absurd (omega (arith, within.1))
+  gives (y ∷ xs) x u within is =
+      elim (contains_cases y xs x within) [
+        | inl same ↦
+          subst (λ (o : Option B). Contains (cons_option o (filter_map f xs)) u) (sym (ap f same ∙ is)) (contains_here u (filter_map f xs))
+        | inr later ↦
+          let h = gives xs x u later is in
+          elim (f y) as (λ o. Contains (cons_option o (filter_map f xs)) u) [ None ↦ h | Some v ↦ contains_later u v (filter_map f xs) h ]
       ]
 
-module _ {A B : Type 0} (f : A → Option B) where
   -- what f gives of all items, where it gives something
   pub all_given : (P : B → Type 0) (xs : List A) → All (λ x. (u : B) → f x ≡ Some u → P u) xs → All P (filter_map f xs)
   all_given P [] h = λ k d lt. absurd (omega arith)
@@ -99,3 +94,12 @@ pairs_of_map {A} f R (x ∷ xs) h =
     AllPairs-cons (λ (y z : A). R (f y) (f z)) x xs
     (λ k d lt. subst (λ y. R (f x) y) (get_or-map f xs k d (f d) lt) (pairs_head R (f x) (map f xs) h k (f d) (simp length-map lt)))
     (pairs_of_map f R xs (pairs_tail R (f x) (map f xs) h))
+
+pub flat_map_map : {A B C : Type 0} (f : B → List C) (g : A → B) (h : A → List C) (xs : List A) → All (λ x. f (g x) ≡ h x) xs
+    → flat_map f (map g xs) ≡ flat_map h xs
+flat_map_map f g h [] all = refl
+flat_map_map {A} f g h (x ∷ xs) all =
+    let S : A → Type 0 = λ y. f (g y) ≡ h y in
+    let first = All-head S x xs all in
+    let rest = flat_map_map f g h xs (All-tail S x xs all) in
+    λ i. first i ++ rest i

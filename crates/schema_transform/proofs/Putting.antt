@@ -2,11 +2,12 @@
 use Rattle.std.proofs.Common.{◌≡◌, ℕ, suc, ◌+◌, ◌<◌, List, [], ◌∷◌, ◌++◌, length, drop, get_or, refl, sym, ap, ◌∙◌, add-one, drop-cons}
 use Rattle.std.specs.Prelude.{flat_map}
 use Rattle.std.specs.BTreeMap.{insert_entry}
-use Rattle.schema_transform.specs.Tables.{Row, key_cmp, with_rows}
+use Rattle.ov_types.specs.Keys.{row_key_cmp}
+use Rattle.schema_transform.specs.Tables.{Row, with_rows}
 
 with_rows-append : (xs ys entries : List Row) → with_rows entries (xs ++ ys) ≡ with_rows (with_rows entries xs) ys
 with_rows-append [] ys entries = refl
-with_rows-append (x ∷ xs) ys entries = with_rows-append xs ys (insert_entry key_cmp entries x.0 x.1)
+with_rows-append (x ∷ xs) ys entries = with_rows-append xs ys (insert_entry row_key_cmp entries x.0 x.1)
 
 -- the rows of the item at i are put next
 pub goes_on : {A : Type 0} (rows : A → List Row) (items : List A) (i : ℕ) (item : A) (before after total : List Row)

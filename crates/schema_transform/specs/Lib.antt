@@ -1,1 +1,2 @@
+pub mod IsRow
 pub mod Tables

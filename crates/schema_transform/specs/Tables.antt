@@ -1,10 +1,9 @@
 -- The tables of instances, as the configuration alone describes them.
-use Rattle.std.specs.Prelude.{ℕ, ◌||◌, Bool, true, false, List, [], ◌∷◌, map, flat_map, find, Option, None, option_map, option_and_then}
+use Rattle.std.specs.Prelude.{Bool, true, false, List, [], ◌∷◌, map, flat_map, Option, Some, None, option_map, option_and_then}
 use Rattle.std.specs.BTreeMap.{insert_entry}
-use Rattle.std.specs.List.{list_any, filter_map}
-use Rattle.std.specs.Ordering.{nat_cmp, ordering_then}
-use Rattle.std.specs.declared.cmp.Ordering.{Ordering}
-use Rattle.ov_types.specs.Numbers.{port_label_of, distinguisher_of}
+use Rattle.std.specs.List.{filter_map}
+use Rattle.route_targets.specs.Numbers.{port_label_of, distinguisher_of}
+use Rattle.ov_types.specs.Keys.{row_key_cmp}
 use Rattle.ov_types.specs.Prefix.{Block, host_prefix}
 use Rattle.ov_types.specs.declared.numbers.InstanceId.{InstanceId}
 use Rattle.ov_types.specs.declared.rows.NodeId.{NodeId}
@@ -14,9 +13,8 @@ use Rattle.config_model.specs.declared.config.Network.{Network}
 use Rattle.config_model.specs.declared.config.Port.{Port}
 use Rattle.config_model.specs.declared.topology.Node.{Node}
 use Rattle.config_model.specs.declared.topology.Topology.{Topology}
-use Rattle.ov_types.specs.First.{same_name}
-use Rattle.config_check.specs.Related.{passes, rules_between}
-use Rattle.config_check.specs.Rules.{network_named}
+use Rattle.network_rules.specs.Related.{imports}
+use Rattle.config_check.specs.Finding.{network_named, network_numbered, node_named}
 use Rattle.config_check.specs.Checked.{Checked}
 use Rattle.schema_transform.specs.declared.tables.Compiled.{Compiled}
 
@@ -26,13 +24,6 @@ Key = InstanceId × Block
 
 abbrev pub Row : Type 0
 Row = Key × TableRow
-
--- a network imports itself, and each network with a pass rule between them
-abbrev pub imports : Config → Network → Network → Bool
-imports c a b = same_name a.name b.name || list_any (λ r. passes r.rule.action) (rules_between c a b)
-
-abbrev pub node_named : Topology → List ℕ → Option Node
-node_named t name = find (λ d. same_name d.name name) t.nodes
 
 -- in the instance of a network, the route to a port of a network at a node: the node's address and the port's label,
 -- and the distinguisher of the port's own network there
@@ -54,21 +45,26 @@ port_row t c n p = option_and_then (λ b. row_if (imports c n b) n b p (node_nam
 unfoldable pub network_rows : Topology → Config → Network → List Row
 network_rows t c n = filter_map (port_row t c n) c.ports
 
--- keys go by instance, then by address, then by length
-abbrev pub block_cmp : Block → Block → Ordering
-block_cmp p q = ordering_then (nat_cmp p.addr q.addr) (nat_cmp p.len q.len)
+abbrev pub rows_of : Topology → Config → Option Network → List Row
+rows_of t c None = []
+rows_of t c (Some n) = network_rows t c n
 
-abbrev pub key_cmp : Key → Key → Ordering
-key_cmp a b = ordering_then (nat_cmp a.0.0 b.0.0) (block_cmp a.1 b.1)
+-- the table of an instance: the rows of the network with its number, and none where no network has it
+abbrev pub instance_table : Topology → Config → InstanceId → List Row
+instance_table t c i = rows_of t c (network_numbered c i.0)
+
+-- the instances of a configuration: those of its networks
+abbrev pub instances : Config → List InstanceId
+instances c = map (λ n. n.id) c.networks
 
 -- a map in key order, with the rows of a list put into it one after the other
 abbrev pub with_rows : List Row → List Row → List Row
 with_rows entries [] = entries
-with_rows entries (r ∷ rs) = with_rows (insert_entry key_cmp entries r.0 r.1) rs
+with_rows entries (r ∷ rs) = with_rows (insert_entry row_key_cmp entries r.0 r.1) rs
 
--- the table of every instance, in key order: what each control node has
+-- the tables of all instances in one map, in key order: what each control node has
 unfoldable pub control_rows : Topology → Config → List Row
-control_rows t c = with_rows [] (flat_map (network_rows t c) c.networks)
+control_rows t c = with_rows [] (flat_map (instance_table t c) (instances c))
 
 -- every control node's tables, in the topology's order
 unfoldable pub compiled_tables : Checked → Compiled

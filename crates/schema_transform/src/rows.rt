@@ -1,16 +1,15 @@
 //! The rows of networks' instances.
-ghost use Rattle.std.specs.Prelude.{◌≡◌, ◌≤◌, [], IfOk, OnOk, IsTrue, flat_map, option_copied};
+ghost use Rattle.std.specs.Prelude.{◌≡◌, ◌≤◌, [], IfOk, OnOk, IsTrue, flat_map};
 ghost use Rattle.std.specs.List.{list_all};
 ghost use Rattle.config_model.specs.Form.{has_config_form, has_port_form};
-ghost use Rattle.config_check.specs.Rules.{network_named};
-ghost use Rattle.ov_types.specs.Numbers.{port_label_of, distinguisher_of};
-ghost use Rattle.schema_transform.specs.Tables.{imports, host_route, node_named, port_row, network_rows, with_rows, control_rows};
+ghost use Rattle.config_check.specs.Rules.{first_broken};
+ghost use Rattle.schema_transform.specs.Tables.{host_route, port_row, network_rows, with_rows, control_rows};
 
-use config_check::{network_named, passes_between};
+use config_check::{network_named, node_named};
 use config_model::{Config, Network, Node, Port, Topology};
-use ov_types::{
-    Addr, ControlRows, InstanceId, Items, Label, Name, NoMemory, PortNo, Prefix, Rd, TableRow,
-};
+use network_rules::imports;
+use ov_types::{ControlRows, InstanceId, Items, NoMemory, Prefix, TableRow};
+use route_targets::{port_label, rd};
 use std::alloc::{AllocError, Global};
 use std::collections::BTreeMap;
 
@@ -20,35 +19,6 @@ type Row = ((InstanceId, Prefix), TableRow);
 /// Rows by their keys.
 type Rows = BTreeMap<(InstanceId, Prefix), TableRow>;
 
-/// The first compute node of a name.
-fn node_of<'a>(topology: &'a Topology, name: &Name) -> Option<&'a Node>
-    ensures { option_copied result ≡ node_named topology.now name.now }
-{
-    topology.nodes.as_slice().iter().find(|n| n.name == *name)
-}
-
-/// Whether a network imports another, or is it.
-fn is_imported(config: &Config, network: &Network, other: &Network) -> bool
-    ensures { result ≡ imports config.now network.now other.now }
-{
-    network.name == other.name || passes_between(config, network, other)
-}
-
-/// The distinguisher of an instance's routes at a node: type 1 of RFC 4364, section 4.2.
-fn distinguisher(node: Addr, instance: InstanceId) -> Rd
-    ensures { result ≡ distinguisher_of node instance }
-{
-    Rd(0x0001_0000_0000_0000 + u64::from(node.0) * 0x1_0000 + u64::from(instance.0))
-}
-
-/// The label of a port, past the reserved ones.
-fn port_label(port: PortNo) -> Label
-    requires { port.0 ≤ 524271 }
-    ensures { result ≡ port_label_of port }
-{
-    Label(16 + port.0)
-}
-
 /// The route to a port, in the instance of a network that imports the port's.
 #[tactic(auto, unfolding(config_model::specs::Form::has_port_form))]
 fn route_to(network: &Network, home: &Network, node: &Node, port: &Port) -> Row
@@ -57,7 +27,7 @@ fn route_to(network: &Network, home: &Network, node: &Node, port: &Port) -> Row
 {
     let key = (network.id, Prefix::host(port.address));
     let row = TableRow {
-        rd: distinguisher(node.address, home.id),
+        rd: rd(node.address, home.id),
         next_hop: node.address,
         label: port_label(port.id),
     };
@@ -70,10 +40,10 @@ fn row_of(topology: &Topology, config: &Config, network: &Network, port: &Port) 
     ensures { result ≡ port_row topology.now config.now network.now port.now }
 {
     let home = network_named(config, &port.network)?;
-    if !is_imported(config, network, home) {
+    if !imports(config, network, home) {
         return None;
     }
-    let node = node_of(topology, &port.node)?;
+    let node = node_named(topology, &port.node)?;
     Some(route_to(network, home, node, port))
 }
 
@@ -97,10 +67,9 @@ fn put_network_rows(
 }
 
 /// The rows of every network's instance, by their keys.
-#[tactic(auto, unfolding(crate::specs::Tables::control_rows))]
 fn rows_of_networks(alloc: Global, topology: &Topology, config: &Config) -> Result<Rows, NoMemory>
     requires { IsTrue (list_all has_port_form config.now.ports) }
-    ensures { IfOk result (λ m. m.entries ≡ control_rows topology.now config.now) }
+    ensures { IfOk result (λ m. m.entries ≡ with_rows [] (flat_map (network_rows topology.now config.now) config.now.networks)) }
 {
     let mut rows = BTreeMap::new(alloc);
     for network in config.networks.as_slice() {
@@ -118,13 +87,14 @@ fn entries_of(alloc: Global, rows: &Rows) -> Result<ControlRows, NoMemory>
 }
 
 /// The tables of every instance, which each control node has.
-#[tactic(auto, unfolding(config_model::specs::Form::has_config_form))]
+#[tactic(auto, using(crate::proofs::Joined::control_rows_are), unfolding(config_model::specs::Form::has_config_form))]
 pub(crate) fn rows_of_controls(
     alloc: Global,
     topology: &Topology,
     config: &Config,
 ) -> Result<ControlRows, NoMemory>
-    requires { IsTrue (has_config_form config.now) }
+    requires form { IsTrue (has_config_form config.now) }
+    requires valid { first_broken topology.now config.now ≡ None }
     ensures { IfOk result (λ list. list ≡ control_rows topology.now config.now) }
 {
     let rows = rows_of_networks(alloc, topology, config)?;

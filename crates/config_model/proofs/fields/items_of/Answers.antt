@@ -1,23 +1,24 @@
 use Rattle.std.proofs.Common.{arith}
 use Rattle.std.proofs.lemmas.Result.{err_from_is_err_and}
 use Rattle.std.proofs.lemmas.Grind.{common_steps}
+use Rattle.config_model.specs.Paths.{place_text}
 use Rattle.config_model.proofs.Lists.{goes_on, stops, is_done, form_goes_on}
 use Rattle.config_model.proofs.fields.items_of.Goals as goal
 
 pub returns-in_err-read-clause-reads : goal.returns-in_err-read-clause-reads
 returns-in_err-read-clause-reads g c =
     let p = err_from_is_err_and c.from_residual.result c.from_residual.ensures.1 in
-    rw (p.1, p.2) (stops c.in_err-read.field-0.0 g.T.FromDocument.reads c.args.path.now c.loop-index.items c.args.values.now c.loop-index.index c.index-values-index.result _
+    rw (p.1, p.2) (stops c.in_err-read.field-0.0 g.T.FromDocument.reads (place_text c.args.place.now) c.loop-index.items c.args.values.now c.loop-index.index c.index-values-index.result _
     c.loop-index-test.true c.index-values-index.is c.in_err-read.ensures.reads c.loop-index.invariant.so_far)
 
 pub loop-index-preserved : goal.loop-index-preserved
 loop-index-preserved g c =
     rw c.in_ok-push.ensures.ok (record {
-      so_far = goes_on g.T.FromDocument.reads c.args.path.now c.loop-index.items c.args.values.now c.loop-index.index c.index-values-index.result c.in_ok-read.field-0 _
+      so_far = goes_on g.T.FromDocument.reads (place_text c.args.place.now) c.loop-index.items c.args.values.now c.loop-index.index c.index-values-index.result c.in_ok-read.field-0 _
           c.loop-index-test.true c.index-values-index.is c.in_ok-read.ensures.reads c.loop-index.invariant.so_far;
       form = form_goes_on g.T.FromDocument.has_form c.loop-index.items c.in_ok-read.field-0 c.loop-index.invariant.form c.in_ok-read.ensures.form;
       size = grind (arith, common_steps, c.loop-index.invariant.size);
     })
 
 pub returns-clause-reads : goal.returns-clause-reads
-returns-clause-reads g c = is_done g.T.FromDocument.reads c.args.path.now c.loop-index.items c.args.values.now c.loop-index.index _ c.loop-index-test.false c.loop-index.invariant.so_far
+returns-clause-reads g c = is_done g.T.FromDocument.reads (place_text c.args.place.now) c.loop-index.items c.args.values.now c.loop-index.index _ c.loop-index-test.false c.loop-index.invariant.so_far

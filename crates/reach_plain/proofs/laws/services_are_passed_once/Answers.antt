@@ -1,4 +1,4 @@
-use Rattle.reach_plain.proofs.Delivery.{passed_once}
+use Rattle.reach_plain.proofs.Once.{passed_once}
 use Rattle.reach_plain.proofs.laws.services_are_passed_once.Goals as goal
 
 pub returns : goal.returns

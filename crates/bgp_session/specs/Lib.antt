@@ -1,0 +1,4 @@
+pub mod Inputs
+pub mod Table
+pub mod Happenings
+pub mod Words

@@ -1,0 +1,14 @@
+//! One end of a BGP session: a profile of the finite state machine of RFC 4271, section 8.2.2.
+#![tactic(auto)]
+
+mod event;
+mod input;
+pub mod laws;
+mod session;
+mod table;
+
+pub use event::{Cause, Event, Reply, State};
+pub use session::Session;
+
+#[cfg(test)]
+mod tests;

@@ -1,7 +1,0 @@
-use Rattle.std.proofs.Common.{◌≡◌, ◌++◌, drop, flat_map}
-use Rattle.config_check.specs.Related.{numbered_rules}
-use Rattle.config_check.specs.Rules.{all_rules}
-use Rattle.config_check.proofs.related.all_rules.Given as goal
-
-abbrev pub invariant-loop-policy : goal.invariant-loop-policy
-invariant-loop-policy l = l.rules.items ++ flat_map numbered_rules (drop l.policy-index l.policy-items) ≡ all_rules l.config

@@ -1,0 +1,166 @@
+//! Edits of a valid configuration.
+ghost use Rattle.std.specs.Prelude.{◌≡◌, None, IfOk, IfErr, IsTrue};
+ghost use Rattle.config_model.specs.Edit.{has_edit_form};
+ghost use Rattle.config_check.specs.Edits.{has_object, with_object, without_object, edited, missing_name, edit_fault, RefusesEdit};
+
+use crate::named::{place_of, with_put, without};
+use crate::refusal::{CheckRefusal, Refusal};
+use crate::valid::{Valid, check};
+use config_model::{Config, Edit, Object, ObjectKind};
+use ov_types::{Name, NoMemory};
+use std::alloc::{AllocError, Global};
+
+/// Why an edit is not made.
+#[derive(Clone, Copy, Debug, PartialEq, Eq)]
+pub enum EditFault {
+    /// No object of the kind has the deleted name.
+    Missing { name: Name },
+    /// The edited configuration would break a rule.
+    Rule(Refusal),
+}
+
+/// Why an edited configuration was not answered.
+#[derive(Clone, Copy, Debug, PartialEq, Eq)]
+pub enum EditRefusal {
+    Edit(EditFault),
+    NoMemory,
+}
+
+impl From<NoMemory> for EditRefusal {
+    ghost use Rattle.std.specs.Prelude.{◌≡◌};
+    ghost use Rattle.config_check.specs.declared.edits.EditRefusal.TheVariants.{NoMemory as WantsMemory};
+
+    ghost from_gives = { λ _ e. e ≡ WantsMemory };
+
+    fn from(_e: NoMemory) -> EditRefusal {
+        EditRefusal::NoMemory
+    }
+}
+
+impl From<AllocError> for EditRefusal {
+    ghost use Rattle.std.specs.Prelude.{◌≡◌};
+    ghost use Rattle.config_check.specs.declared.edits.EditRefusal.TheVariants.{NoMemory as WantsMemory};
+
+    ghost from_gives = { λ _ e. e ≡ WantsMemory };
+
+    fn from(_e: AllocError) -> EditRefusal {
+        EditRefusal::NoMemory
+    }
+}
+
+/// Whether an object of a kind has a name.
+fn has_object(config: &Config, kind: ObjectKind, name: Name) -> bool
+    ensures { result ≡ has_object kind name config.now }
+{
+    match kind {
+        ObjectKind::Network => place_of(config.networks.as_slice(), name).is_some(),
+        ObjectKind::Port => place_of(config.ports.as_slice(), name).is_some(),
+        ObjectKind::Policy => place_of(config.policies.as_slice(), name).is_some(),
+        ObjectKind::Service => place_of(config.services.as_slice(), name).is_some(),
+        ObjectKind::Chain => place_of(config.chains.as_slice(), name).is_some(),
+    }
+}
+
+/// The name that an edit deletes, where no object of its kind has it.
+#[tactic(auto, unfolding(crate::specs::Edits::missing_name))]
+fn missing_name(config: &Config, edit: &Edit) -> Option<Name>
+    ensures { result ≡ missing_name edit.now config.now }
+{
+    match edit {
+        Edit::Put(_) => None,
+        Edit::Delete(kind, name) => {
+            if has_object(config, *kind, *name) {
+                None
+            } else {
+                Some(*name)
+            }
+        }
+    }
+}
+
+fn with_object(config: Config, object: Object) -> Result<Config, NoMemory>
+    ensures { IfOk result (λ c. c ≡ with_object object config) }
+{
+    match object {
+        Object::Network(network) => Ok(Config {
+            networks: with_put(config.networks, network)?,
+            ..config
+        }),
+        Object::Port(port) => Ok(Config {
+            ports: with_put(config.ports, port)?,
+            ..config
+        }),
+        Object::Policy(policy) => Ok(Config {
+            policies: with_put(config.policies, policy)?,
+            ..config
+        }),
+        Object::Service(service) => Ok(Config {
+            services: with_put(config.services, service)?,
+            ..config
+        }),
+        Object::Chain(chain) => Ok(Config {
+            chains: with_put(config.chains, chain)?,
+            ..config
+        }),
+    }
+}
+
+fn without_object(config: Config, kind: ObjectKind, name: Name) -> Config
+    ensures { result ≡ without_object kind name config }
+{
+    match kind {
+        ObjectKind::Network => Config {
+            networks: without(config.networks, name),
+            ..config
+        },
+        ObjectKind::Port => Config {
+            ports: without(config.ports, name),
+            ..config
+        },
+        ObjectKind::Policy => Config {
+            policies: without(config.policies, name),
+            ..config
+        },
+        ObjectKind::Service => Config {
+            services: without(config.services, name),
+            ..config
+        },
+        ObjectKind::Chain => Config {
+            chains: without(config.chains, name),
+            ..config
+        },
+    }
+}
+
+/// What an edit makes of a configuration.
+#[tactic(auto, unfolding(crate::specs::Edits::edited))]
+fn edited(config: &Config, edit: &Edit) -> Result<Config, NoMemory>
+    ensures { IfOk result (λ c. c ≡ edited edit.now config.now) }
+{
+    let config = config.clone()?;
+    match edit {
+        Edit::Put(object) => with_object(config, object.clone()?),
+        Edit::Delete(kind, name) => Ok(without_object(config, *kind, *name)),
+    }
+}
+
+/// Answers the edited configuration where it is valid. A put replaces the object of the same kind and name in its
+/// place, or is appended; a delete removes it. An error leaves all as it was.
+#[tactic(auto, using(crate::proofs::Edited::form_is_kept), unfolding(crate::specs::Edits::edit_fault))]
+pub fn apply_edit(alloc: Global, valid: &Valid, edit: &Edit) -> Result<Valid, EditRefusal>
+    requires { IsTrue (has_edit_form edit.now) }
+    ensures ok { IfOk result (λ v. v ≡ record { topology = valid.now.topology; config = edited edit.now valid.now.config }) }
+    ensures accepted { IfOk result (λ v. edit_fault valid.now edit.now ≡ None) }
+    ensures refused { IfErr result (λ e. RefusesEdit e (edit_fault valid.now edit.now)) }
+{
+    if let Some(name) = missing_name(valid.config(), edit) {
+        return Err(EditRefusal::Edit(EditFault::Missing { name }));
+    }
+    let topology = valid.topology().clone()?;
+    let config = edited(valid.config(), edit)?;
+    match check(alloc, topology, config) {
+        Ok(valid) => Ok(valid),
+        Err(CheckRefusal::Rule(refusal)) => Err(EditRefusal::Edit(EditFault::Rule(refusal))),
+        Err(CheckRefusal::NoMemory) => Err(EditRefusal::NoMemory),
+    }
+}

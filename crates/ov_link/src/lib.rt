@@ -1,0 +1,17 @@
+//! Links, on which nodes send their messages to each other.
+#![tactic(auto)]
+
+mod failing;
+pub mod laws;
+mod link;
+mod links;
+mod queue;
+mod step;
+#[cfg(test)]
+mod tests;
+
+pub use failing::FailingLink;
+pub use link::{Link, LinkFault, send_all};
+pub use links::Links;
+pub use queue::QueueLink;
+pub use step::{Input, NodeFault, Stepped};
