@@ -29,6 +29,12 @@ text_spelled : (text : List ℕ) (o : Option (List ℕ)) → spelled text ≡ o 
 text_spelled text None e = (codes "not hex" ++ (10 ∷ []), refl)
 text_spelled text (Some octets) e = some_report octets (octets_spelled text octets e)
 
+-- nothing is a front of what `decode` writes
+pub nothing_spelled : (text : List ℕ) (old : Option (List ℕ)) → TookFrontOf (WritesSpelled (spelled text)) old old
+nothing_spelled text old =
+    let some = text_spelled text (spelled text) refl in
+    record { text = some.0; is = some.1; taken = took_nothing old some.0 }
+
 -- there is a text that a command writes of an input
 pub some_text : (command : Command) (octets : List ℕ) → (text : List ℕ) × Writes command octets text
 unfolding Writes

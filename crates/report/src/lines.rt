@@ -1,10 +1,11 @@
 //! The lines, each appended whole or not at all.
-ghost use Rattle.std.specs.Prelude.{◌≡◌, ◌++◌, Some, IfOk, OnOk, OnErr, string_bytes};
-ghost use Rattle.report.specs.Lines.{drop_line, fault_line, incomplete_line, key_text, more_targets, notification_line, open_line, put_line, route_line, targets_text};
+ghost use Rattle.std.specs.Prelude.{◌≡◌, ◌++◌, Some, OnOk, OnErr};
+ghost use Rattle.report.specs.Lines.{drop_line, fault_line, incomplete_line, key_text, notification_line, open_line, put_line, route_line};
 
+use crate::targets::targets_of;
 use ov_io::TextOut;
-use ov_types::{Addr, Label, NoMemory, Target, VpnKey, VpnRoute};
-use std::alloc::{AllocError, Global};
+use ov_types::{Addr, Label, NoMemory, VpnKey, VpnRoute};
+use std::alloc::Global;
 use std::fmt;
 
 /// Appends the line of an OPEN: its autonomous system, its Hold Time in seconds and its identifier (RFC 4271, section 4.2).
@@ -20,27 +21,6 @@ pub fn open_lines(
     ensures err { OnErr result (out.new ≡ out.old) }
 {
     write!(out, "open as {asn} hold {hold} id {id}\n")
-}
-
-fn more_of(alloc: Global, first: String, targets: &[Target]) -> Result<String, AllocError>
-    ensures { IfOk result (λ s. string_bytes s ≡ string_bytes first ++ more_targets targets.now) }
-{
-    let mut text = first;
-    for target in targets {
-        let more = format!(in alloc; ",{target}")?;
-        text.push_str(more.as_str())?;
-    }
-    Ok(text)
-}
-
-/// The targets joined by commas, and `-` where there are none.
-fn targets_of(alloc: Global, targets: &[Target]) -> Result<String, AllocError>
-    ensures { IfOk result (λ s. string_bytes s ≡ targets_text targets.now) }
-{
-    match targets {
-        [] => String::from_str(alloc, "-"),
-        [first, others @ ..] => more_of(alloc, format!(in alloc; "{first}")?, others),
-    }
 }
 
 /// What names a route, as it is printed.

@@ -1,10 +1,7 @@
-use Rattle.std.proofs.Common.{◌≡◌, ◌+◌, ◌++◌, List, [], drop, ap, sym, ◌∙◌, arith}
+use Rattle.std.proofs.Common.{◌≡◌, ◌+◌, ◌++◌, drop, ◌∙◌, arith}
 use Rattle.std.proofs.lemmas.Grind.{common_steps}
 use Rattle.ov_io.proofs.PieceLemmas.{cause_from, ends_cut, ends_whole, on_err, way_breaks, way_goes_on}
-use Rattle.ov_types.specs.declared.packet.Outcome.{Outcome}
-use Rattle.ov_types.specs.declared.packet.Packet.{Packet}
 use Rattle.overlay.specs.Outcomes.{outcome_line, outcomes_from, reach_text}
-use Rattle.overlay.proofs.LineLemmas.{drop_at}
 use Rattle.overlay.proofs.outcomes.write_outcomes.Goals as goal
 
 pub returns-in_err-write_outcome-clause-front : goal.returns-in_err-write_outcome-clause-front
@@ -12,22 +9,18 @@ unfolding reach_text
 returns-in_err-write_outcome-clause-front g c =
     let i = c.loop-index.index in
     let config = c.args.valid.now.config in
-    let left = drop_at c.args.packets.now i c.index-packets-index.result c.loop-index-test.true c.index-packets-index.is in
     let split : outcomes_from config (i + 1) (drop i c.args.packets.now)
         ≡ outcome_line (i + 1) c.reach-outcome.result ++ outcomes_from config (i + 1 + 1) (drop (i + 1) c.args.packets.now) =
-    ap (λ (t : List Packet). outcomes_from config (i + 1) t) left
-    ∙ ap (λ (o : Outcome). outcome_line (i + 1) o ++ outcomes_from config (i + 1 + 1) (drop (i + 1) c.args.packets.now)) (sym c.reach-outcome.ensures) in
+    grind (arith, common_steps) in
     on_err c.from_residual.result _ (way_breaks _ _ _ _ _ _ _ _ c.loop-index.invariant.way split c.in_err-write_outcome.ensures.front)
 
 pub loop-index-preserved : goal.loop-index-preserved
 loop-index-preserved g c =
     let i = c.loop-index.index in
     let config = c.args.valid.now.config in
-    let left = drop_at c.args.packets.now i c.index-packets-index.result c.loop-index-test.true c.index-packets-index.is in
     let split : outcomes_from config (i + 1) (drop i c.args.packets.now)
         ≡ outcome_line (i + 1) c.reach-outcome.result ++ outcomes_from config (i + 1 + 1) (drop (i + 1) c.args.packets.now) =
-    ap (λ (t : List Packet). outcomes_from config (i + 1) t) left
-    ∙ ap (λ (o : Outcome). outcome_line (i + 1) o ++ outcomes_from config (i + 1 + 1) (drop (i + 1) c.args.packets.now)) (sym c.reach-outcome.ensures) in
+    grind (arith, common_steps) in
     record {
       way = way_goes_on _ _ _ _ _ _ _ _ _ c.loop-index.invariant.way split c.in_ok-write_outcome.ensures.ok;
       kept = c.in_ok-write_outcome.ensures.cause ∙ c.loop-index.invariant.kept;
