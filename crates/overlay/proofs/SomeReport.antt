@@ -36,7 +36,7 @@ attribute_octets octets parts count h begins =
     let within : AreOctets body = rest_octets (head (19 + length body) begins.message.kind) body whole in
     let spelled = begins.message.says.1.spelled in
     let parted : AreOctets (big_bytes 2 (length parts.withdrawn) ++ parts.withdrawn
-        ++ (big_bytes 2 (length parts.attributes) ++ parts.attributes ++ parts.routes)) = subst AreOctets spelled within in
+    ++ (big_bytes 2 (length parts.attributes) ++ parts.attributes ++ parts.routes)) = subst AreOctets spelled within in
     let behind : AreOctets (big_bytes 2 (length parts.attributes) ++ parts.attributes ++ parts.routes) =
     rest_octets (big_bytes 2 (length parts.withdrawn) ++ parts.withdrawn) (big_bytes 2 (length parts.attributes) ++ parts.attributes ++ parts.routes) parted in
     rest_octets (big_bytes 2 (length parts.attributes)) parts.attributes
@@ -53,9 +53,10 @@ report_of_update : (octets : List ℕ) (parts : UpdateFields) (count : ℕ) → 
 report_of_update octets parts count begins (inl made) rest =
     said_first octets (update_lines made.0) (Updates parts) count begins (made.0, made.1, refl) rest
 report_of_update octets parts count begins (inr faulty) rest =
-    let f = faulty.0 in
-    (fault_line f.code f.subcode,
-        of_a_fault f (inr (record { parts = parts; count = count; begins = begins; faulty = faulty.1 })) refl)
+    let f = faulty.0 in (
+      fault_line f.code f.subcode,
+      of_a_fault f (inr (record { parts = parts; count = count; begins = begins; faulty = faulty.1 })) refl,
+    )
 
 report_of_content : (octets : List ℕ) (content : Content) (count : ℕ) → AreOctets octets → BeginsWith octets content count
     → HasReport (drop count octets) → HasReport octets

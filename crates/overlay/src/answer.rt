@@ -201,7 +201,11 @@ fn reach_asked(alloc: Global, octets: &[u8]) -> Result<Question, Unfit>
 }
 
 /// Writes what `compile` answers to an input.
-fn answer_compile<K: Sink>(alloc: Global, octets: &[u8], sink: &mut K) -> Result<Verdict, WriteRefusal>
+fn answer_compile<K: Sink>(
+    alloc: Global,
+    octets: &[u8],
+    sink: &mut K,
+) -> Result<Verdict, WriteRefusal>
     ensures given { IfOk result (λ verdict. WasGiven (compile_answer octets.now) verdict (K.taken sink.old) (K.taken sink.new)) }
     ensures front { OnErr result (TookFront (K.taken sink.old) (K.taken sink.new) (compile_answer octets.now).text) }
     ensures cause { HasWriteCause (K.faults sink.old) (K.faults sink.new) result }
@@ -216,7 +220,11 @@ fn answer_compile<K: Sink>(alloc: Global, octets: &[u8], sink: &mut K) -> Result
 }
 
 /// Writes what `reach` answers to an input.
-fn answer_reach<K: Sink>(alloc: Global, octets: &[u8], sink: &mut K) -> Result<Verdict, WriteRefusal>
+fn answer_reach<K: Sink>(
+    alloc: Global,
+    octets: &[u8],
+    sink: &mut K,
+) -> Result<Verdict, WriteRefusal>
     ensures given { IfOk result (λ verdict. WasGiven (reach_answer octets.now) verdict (K.taken sink.old) (K.taken sink.new)) }
     ensures front { OnErr result (TookFront (K.taken sink.old) (K.taken sink.new) (reach_answer octets.now).text) }
     ensures cause { HasWriteCause (K.faults sink.old) (K.faults sink.new) result }

@@ -175,7 +175,11 @@ fn write_first<K: Sink>(
 
 /// Writes the report of messages that lie one after the other.
 #[tactic(auto, using(crate::proofs::Reports::fewer_left))]
-pub(crate) fn write_report<K: Sink>(alloc: Global, octets: &[u8], sink: &mut K) -> Result<(), WriteRefusal>
+pub(crate) fn write_report<K: Sink>(
+    alloc: Global,
+    octets: &[u8],
+    sink: &mut K,
+) -> Result<(), WriteRefusal>
     ensures ok { OnOk result (TookText (IsReport octets.now) (K.taken sink.old) (K.taken sink.new)) }
     ensures front { OnErr result (TookFrontOf (IsReport octets.now) (K.taken sink.old) (K.taken sink.new)) }
     ensures cause { HasWriteCause (K.faults sink.old) (K.faults sink.new) result }

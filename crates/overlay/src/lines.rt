@@ -86,7 +86,11 @@ fn write_controls<K: Sink>(
 
 /// Writes what `compile` writes of a valid configuration.
 #[tactic(auto, unfolding(crate::specs::Lines::compile_text))]
-pub(crate) fn write_tables<K: Sink>(alloc: Global, valid: &Valid, sink: &mut K) -> Result<(), WriteRefusal>
+pub(crate) fn write_tables<K: Sink>(
+    alloc: Global,
+    valid: &Valid,
+    sink: &mut K,
+) -> Result<(), WriteRefusal>
     ensures ok { OnOk result (Appends (K.taken sink.old) (K.taken sink.new) (compile_text valid.now)) }
     ensures front { OnErr result (TookFront (K.taken sink.old) (K.taken sink.new) (compile_text valid.now)) }
     ensures cause { HasWriteCause (K.faults sink.old) (K.faults sink.new) result }
@@ -94,6 +98,12 @@ pub(crate) fn write_tables<K: Sink>(alloc: Global, valid: &Valid, sink: &mut K) 
     let tables = compiled(alloc, valid)?;
     let mut gathered = TextOut::new(alloc);
     let controllers = valid.topology().controllers.as_slice();
-    write_controls(alloc, controllers, tables.controls.as_slice(), sink, &mut gathered)?;
+    write_controls(
+        alloc,
+        controllers,
+        tables.controls.as_slice(),
+        sink,
+        &mut gathered,
+    )?;
     write_gathered(sink, &mut gathered)
 }

@@ -49,7 +49,14 @@ pub fn put_lines(
     ensures err { OnErr result (out.new ≡ out.old) }
 {
     let targets = targets_of(alloc, route.targets.items())?;
-    route_lines(alloc, key, route.next_hop, route.label, targets.as_str(), out)
+    route_lines(
+        alloc,
+        key,
+        route.next_hop,
+        route.label,
+        targets.as_str(),
+        out,
+    )
 }
 
 /// Appends the line of a VPN-IPv4 route that is put, by the text of its targets.
@@ -66,7 +73,10 @@ pub fn route_lines(
     ensures err { OnErr result (out.new ≡ out.old) }
 {
     let key = KeyText(*key);
-    write!(out, "put {key} next-hop {next_hop} label {label} targets {targets}\n")
+    write!(
+        out,
+        "put {key} next-hop {next_hop} label {label} targets {targets}\n"
+    )
 }
 
 /// Appends the line of a VPN-IPv4 route that is dropped.
@@ -95,9 +105,7 @@ pub fn notification_lines(
 
 /// Appends the line of a fault: the code and the subcode of the NOTIFICATION that answers it (RFC 4271, section 6).
 #[tactic(auto, unfolding(crate::specs::Lines::fault_line))]
-pub fn fault_lines(
-    _alloc: Global,
-    code: u8, subcode: u8, out: &mut TextOut) -> Result<(), NoMemory>
+pub fn fault_lines(_alloc: Global, code: u8, subcode: u8, out: &mut TextOut) -> Result<(), NoMemory>
     ensures ok { OnOk result (out.new ≡ out.old ++ fault_line code subcode) }
     ensures err { OnErr result (out.new ≡ out.old) }
 {
@@ -106,9 +114,7 @@ pub fn fault_lines(
 
 /// Appends the line of octets that are not yet a whole message: how many they are.
 #[tactic(auto, unfolding(crate::specs::Lines::incomplete_line))]
-pub fn incomplete_lines(
-    _alloc: Global,
-    octets: usize, out: &mut TextOut) -> Result<(), NoMemory>
+pub fn incomplete_lines(_alloc: Global, octets: usize, out: &mut TextOut) -> Result<(), NoMemory>
     ensures ok { OnOk result (out.new ≡ out.old ++ incomplete_line octets) }
     ensures err { OnErr result (out.new ≡ out.old) }
 {

@@ -79,5 +79,12 @@ pub fn put_lines_after(
     ensures err { OnErr result (out.new ≡ out.old) }
 {
     know(alloc, &route.targets, known)?;
-    route_lines(alloc, key, route.next_hop, route.label, known.text.as_str(), out)
+    route_lines(
+        alloc,
+        key,
+        route.next_hop,
+        route.label,
+        known.text.as_str(),
+        out,
+    )
 }

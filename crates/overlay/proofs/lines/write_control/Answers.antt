@@ -8,7 +8,7 @@ pub returns-in_err-write_row-clause-front : goal.returns-in_err-write_row-clause
 returns-in_err-write_row-clause-front g c =
     let left = drop_at c.args.rows.now c.loop-row.row-index c.row-item.result c.loop-row-test.true c.row-item.is in
     on_err c.from_residual.result _ (way_breaks _ _ _ _ _ _ _ _ c.loop-row.invariant.way
-        (ap (control_lines c.args.node.now) left) c.in_err-write_row.ensures.front)
+    (ap (control_lines c.args.node.now) left) c.in_err-write_row.ensures.front)
 
 pub loop-row-preserved : goal.loop-row-preserved
 loop-row-preserved g c =

@@ -8,16 +8,16 @@ pub returns-in_err-write_control-clause-front : goal.returns-in_err-write_contro
 returns-in_err-write_control-clause-front g c =
     let i = c.loop-index.index in
     let split : controls_text (drop i c.args.controllers.now) (drop i c.args.tables.now)
-        ≡ control_lines c.index-controllers-index.result.name c.as_slice.result.now
-        ++ controls_text (drop (i + 1) c.args.controllers.now) (drop (i + 1) c.args.tables.now) = grind (arith, common_steps) in
+    ≡ control_lines c.index-controllers-index.result.name c.as_slice.result.now
+    ++ controls_text (drop (i + 1) c.args.controllers.now) (drop (i + 1) c.args.tables.now) = grind (arith, common_steps) in
     on_err c.from_residual.result _ (way_breaks _ _ _ _ _ _ _ _ c.loop-index.invariant.way split c.in_err-write_control.ensures.front)
 
 pub loop-index-preserved : goal.loop-index-preserved
 loop-index-preserved g c =
     let i = c.loop-index.index in
     let split : controls_text (drop i c.args.controllers.now) (drop i c.args.tables.now)
-        ≡ control_lines c.index-controllers-index.result.name c.as_slice.result.now
-        ++ controls_text (drop (i + 1) c.args.controllers.now) (drop (i + 1) c.args.tables.now) = grind (arith, common_steps) in
+    ≡ control_lines c.index-controllers-index.result.name c.as_slice.result.now
+    ++ controls_text (drop (i + 1) c.args.controllers.now) (drop (i + 1) c.args.tables.now) = grind (arith, common_steps) in
     record {
       way = way_goes_on _ _ _ _ _ _ _ _ _ c.loop-index.invariant.way split c.in_ok-write_control.ensures.ok;
       kept = c.in_ok-write_control.ensures.cause ∙ c.loop-index.invariant.kept;

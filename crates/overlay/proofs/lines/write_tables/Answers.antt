@@ -11,5 +11,5 @@ returns-clause-front g c =
     let whole : c.new-gathered.result ++ controls_text c.as_slice-controllers.result.now c.as_slice.result.now ≡ compile_text c.args.valid.now =
     grind (arith, common_steps) in
     let way = subst (λ (t : List ℕ). IsOnItsWay (g.K.Sink.taken c.args.sink.now) (g.K.Sink.taken c.write_controls.new.sink)
-        c.write_controls.new.gathered [] t) whole c.in_ok-write_controls.ensures.ok in
+    c.write_controls.new.gathered [] t) whole c.in_ok-write_controls.ensures.ok in
     ends_cut c.write_gathered.result _ _ _ _ _ _ way c.write_gathered.ensures.front

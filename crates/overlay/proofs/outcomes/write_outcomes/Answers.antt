@@ -10,7 +10,7 @@ returns-in_err-write_outcome-clause-front g c =
     let i = c.loop-index.index in
     let config = c.args.valid.now.config in
     let split : outcomes_from config (i + 1) (drop i c.args.packets.now)
-        ≡ outcome_line (i + 1) c.reach-outcome.result ++ outcomes_from config (i + 1 + 1) (drop (i + 1) c.args.packets.now) =
+    ≡ outcome_line (i + 1) c.reach-outcome.result ++ outcomes_from config (i + 1 + 1) (drop (i + 1) c.args.packets.now) =
     grind (arith, common_steps) in
     on_err c.from_residual.result _ (way_breaks _ _ _ _ _ _ _ _ c.loop-index.invariant.way split c.in_err-write_outcome.ensures.front)
 
@@ -19,7 +19,7 @@ loop-index-preserved g c =
     let i = c.loop-index.index in
     let config = c.args.valid.now.config in
     let split : outcomes_from config (i + 1) (drop i c.args.packets.now)
-        ≡ outcome_line (i + 1) c.reach-outcome.result ++ outcomes_from config (i + 1 + 1) (drop (i + 1) c.args.packets.now) =
+    ≡ outcome_line (i + 1) c.reach-outcome.result ++ outcomes_from config (i + 1 + 1) (drop (i + 1) c.args.packets.now) =
     grind (arith, common_steps) in
     record {
       way = way_goes_on _ _ _ _ _ _ _ _ _ c.loop-index.invariant.way split c.in_ok-write_outcome.ensures.ok;
