@@ -17,6 +17,9 @@ subcode_in : Option WireFault → ℕ
 subcode_in None = 0
 subcode_in (Some f) = f.subcode
 
+apart : (m n : ℕ) → m ≡ n → m ≡ 3 → n ≡ 2 → ⊥
+apart m n same three two = omega arith
+
 both : (a b : Bool) → refusal_by a b ≡ None → (a ≡ true) × (b ≡ true)
 both true true h = (refl, refl)
 both true false h = absurd cc
@@ -26,13 +29,13 @@ first : (a b : Bool) → refusal_by a b ≡ Some bad_peer_as → a ≡ false
 unfolding subcode_in
 first false b h = refl
 first true true h = absurd cc
-first true false h = let e : 3 ≡ 2 = ap subcode_in h in absurd (omega arith)
+first true false h = absurd (apart 3 2 (ap subcode_in h) refl refl)
 
 second : (a b : Bool) → refusal_by a b ≡ Some bad_identifier → (a ≡ true) × (b ≡ false)
 unfolding subcode_in
 second true false h = (refl, refl)
 second true true h = absurd cc
-second false b h = let e : 2 ≡ 3 = ap subcode_in h in absurd (omega arith)
+second false b h = absurd (apart 3 2 (sym (ap subcode_in h)) refl refl)
 
 pub right_open : (asn : ℕ) (peer : Addr) (fields : OpenFields)
     → (open_refusal asn peer fields ≡ None) ↔ ((asn_of fields ≡ asn) × (fields.id ≡ peer.0))

@@ -10,3 +10,4 @@ pub mod GrammarLemmas
 pub mod WrittenKeys
 pub mod WrittenTargets
 pub mod WrittenUpdates
+pub mod SaidLemmas

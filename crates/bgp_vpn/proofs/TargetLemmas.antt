@@ -4,9 +4,9 @@ use Rattle.std.specs.List.{fold}
 use Rattle.std.proofs.lemmas.List.Elements.{Contains-append_left, Contains-append_right, Contains-push, Contains-push_cases, Contains-append_cases}
 use Rattle.std.proofs.lemmas.Bool.{eqb-true}
 use Rattle.ov_types.specs.declared.targets.Target.{Target}
-use Rattle.ov_types.specs.Targets.{with_target, IsAscending}
+use Rattle.ov_types.specs.Targets.{is_target, with_target, IsAscending}
 use Rattle.ov_types.proofs.Places.{IsAscending-with}
-use Rattle.bgp_vpn.specs.Values.{is_target, with_community, communities, targets_among}
+use Rattle.bgp_vpn.specs.Values.{with_community, communities, targets_among}
 
 here : {X : Type 0} (x : X) (xs : List X) → Contains (x ∷ xs) x
 here x xs = Contains-append_left (x ∷ []) xs x (Contains-push [] x)

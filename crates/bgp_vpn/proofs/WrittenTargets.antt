@@ -5,8 +5,8 @@ use Rattle.std.proofs.lemmas.Bool.{and_parts, leb-true, le-ltb, ne_eqb}
 use Rattle.std.proofs.lemmas.List.{append_assoc, append-nil}
 use Rattle.byteorder.specs.Numbers.{big_number-reads_back}
 use Rattle.ov_types.specs.declared.targets.Target.{Target}
-use Rattle.ov_types.specs.Targets.{with_target, AscendFrom, IsAscending}
-use Rattle.bgp_vpn.specs.Values.{is_target, with_community, communities, targets_among}
+use Rattle.ov_types.specs.Targets.{is_target, with_target, AscendFrom, IsAscending}
+use Rattle.bgp_vpn.specs.Values.{with_community, communities, targets_among}
 use Rattle.bgp_vpn.specs.Written.{target_octets}
 
 abbrev pub AreTargets : List Target → Type 0

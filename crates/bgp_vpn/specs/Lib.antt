@@ -4,6 +4,7 @@ pub mod Routes
 pub mod Values
 pub mod Found
 pub mod Checks
+pub mod Said
 pub mod Updates
 pub mod Spelled
 pub mod Spellings

@@ -1,5 +1,5 @@
 -- VPN-IPv4 routes (RFC 4364, section 4.3.4; RFC 8277, section 2).
-use Rattle.std.specs.Prelude.{◌≡◌, ◌≤◌, ℕ, ◌-◌, ◌*◌, ◌/◌, ◌^◌, List, ◌∷◌, ◌++◌, length, drop}
+use Rattle.std.specs.Prelude.{◌≡◌, ◌≤◌, nat_le, ◌&&◌, ℕ, zero, suc, ◌-◌, ◌*◌, ◌/◌, ◌^◌, List, [], ◌∷◌, ◌++◌, length, take, drop, Bool, if◌then◌else◌}
 use Rattle.std.specs.List.{flat_map, AllByRecursion}
 use Rattle.byteorder.specs.Endian.{big_number}
 use Rattle.ov_types.specs.Prefix.{Block}
@@ -44,6 +44,23 @@ AreRoutes = ArePrefixes 88 120
 pub record BeginsWithRoute (octets : List ℕ) (r : RouteFields) (after : List ℕ) : Type 0 where
   pub spelled : octets ≡ route_octets r ++ after
   pub is : IsRoute r
+
+-- behind its length a route is whole
+abbrev pub is_whole_route : ℕ → List ℕ → Bool
+is_whole_route bits rest = nat_le 88 bits && (nat_le bits 120 && nat_le (octets_for bits) (length rest))
+
+-- the first whole routes that octets hold, no more than so many
+abbrev pub routes_below : ℕ → List ℕ → List RouteFields
+routes_below zero octets = []
+routes_below (suc most) [] = []
+routes_below (suc most) (bits ∷ rest) =
+    if is_whole_route bits rest
+    then record { bits = bits; octets = take (octets_for bits) rest } ∷ routes_below most (drop (octets_for bits) rest)
+    else []
+
+-- the whole routes that octets hold, as a list; it ends before octets that begin with none
+unfoldable pub routes_in : List ℕ → List RouteFields
+routes_in octets = routes_below (length octets) octets
 
 -- the first bits of an address: the others are 0
 abbrev pub first_bits : ℕ → ℕ → Block

@@ -1,11 +1,11 @@
 -- What the values of attributes say.
-use Rattle.std.specs.Prelude.{ℕ, ◌/◌, ◌%◌, ◌^◌, ◌==◌, ◌&&◌, nat_le, List, [], ◌∷◌, drop, length, slice_index, Bool, Option, Some, None, if◌then◌else◌, unwrap_or, find}
+use Rattle.std.specs.Prelude.{ℕ, ◌==◌, ◌&&◌, nat_le, List, [], ◌∷◌, drop, length, slice_index, Bool, Option, Some, None, if◌then◌else◌, unwrap_or, find}
 use Rattle.std.specs.Option.{option_map}
 use Rattle.std.specs.List.{fold}
 use Rattle.byteorder.specs.Endian.{big_number}
 use Rattle.ov_types.specs.declared.prefix.Addr.{Addr}
 use Rattle.ov_types.specs.declared.targets.Target.{Target}
-use Rattle.ov_types.specs.Targets.{with_target}
+use Rattle.ov_types.specs.Targets.{with_target, is_target}
 use Rattle.bgp_wire.specs.Attributes.{AttributeFields}
 use Rattle.bgp_vpn.specs.Pieces.{are_prefixes}
 
@@ -51,10 +51,7 @@ abbrev pub communities : List ℕ → List ℕ
 communities (a ∷ b ∷ c ∷ d ∷ e ∷ f ∷ g ∷ h ∷ rest) = big_number 8 (a ∷ b ∷ c ∷ d ∷ e ∷ f ∷ g ∷ h ∷ []) ∷ communities rest
 communities _ = []
 
--- a route target: type 0x00, 0x01 or 0x02, and subtype 0x02 (RFC 4360, section 4; RFC 5668)
-abbrev pub is_target : ℕ → Bool
-is_target community = nat_le (community / 2 ^ 56) 2 && community / 2 ^ 48 % 256 == 2
-
+-- a community among these targets, where it is one
 abbrev pub with_community : List Target → ℕ → List Target
 with_community targets community = if is_target community then with_target (record { 0 = community }) targets else targets
 

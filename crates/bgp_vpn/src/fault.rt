@@ -10,7 +10,7 @@ pub enum UpdateFault {
     /// What is wrong with the message.
     #[error(transparent)]
     Wire(WireFault),
-    #[error("want of memory")]
+    #[error("out of memory")]
     NoMemory,
 }
 

@@ -20,11 +20,7 @@ pub(crate) struct Found<'a> {
 }
 
 /// The value of an attribute that has this type, or what was found before.
-fn value_or<'a>(
-    kind: u8,
-    attribute: &Attribute<'a>,
-    before: Option<&'a [u8]>,
-) -> Option<&'a [u8]>
+fn value_or<'a>(kind: u8, attribute: &Attribute<'a>, before: Option<&'a [u8]>) -> Option<&'a [u8]>
     ensures { option_copied result ≡ value_or kind (fields_of attribute.now) (option_copied before.entry) }
 {
     if attribute.kind == kind {

@@ -5,14 +5,14 @@ ghost use Rattle.ov_types.specs.declared.vpn.VpnRoute.{VpnRoute};
 ghost use Rattle.ov_sync.specs.declared.Delta.{Delta};
 ghost use Rattle.bgp_wire.specs.declared.fault.WireFault.{WireFault};
 ghost use Rattle.ov_types.specs.declared.targets.Target.{Target};
-ghost use Rattle.ov_types.specs.Targets.{IsAscending};
+ghost use Rattle.ov_types.specs.Targets.{is_target, IsAscending};
 ghost use Rattle.bgp_wire.specs.Attributes.{AttributeFields};
 ghost use Rattle.bgp_wire.specs.Content.{UpdateFields};
 ghost use Rattle.bgp_wire.specs.Messages.{AreOctets};
 ghost use Rattle.bgp_vpn.specs.Pieces.{are_prefixes, are_segments};
 ghost use Rattle.bgp_vpn.specs.Segments.{SegmentFields, AreSegments};
 ghost use Rattle.bgp_vpn.specs.Routes.{RouteFields, ArePrefixes, label_of, distinguisher_of, key_of, drop_of};
-ghost use Rattle.bgp_vpn.specs.Values.{next_hop_of, routes_behind, next_hop_in, targets_in, communities, is_target, targets_among};
+ghost use Rattle.bgp_vpn.specs.Values.{next_hop_of, routes_behind, next_hop_in, targets_in, communities, targets_among};
 ghost use Rattle.bgp_vpn.specs.Spellings.{spelled_route, AgreeIn, reach_value};
 ghost use Rattle.bgp_vpn.specs.Updates.{changes_of, Changes, HasUpdateFault};
 

@@ -11,12 +11,14 @@ mod octets;
 mod pieces;
 mod profile;
 mod route;
+mod routes;
 mod targets;
 mod update;
 mod write;
 
 pub use fault::UpdateFault;
-pub use update::read_update;
+pub use routes::{Labeled, Routes};
+pub use update::{VpnUpdate, read_routes, read_update};
 pub use write::write_update;
 
 #[cfg(test)]

@@ -1,16 +1,10 @@
 //! The route targets among extended communities (RFC 4360, section 4).
 ghost use Rattle.std.specs.Prelude.{◌≡◌, IfOk, OnOk};
-ghost use Rattle.bgp_vpn.specs.Values.{is_target, with_community, targets_among};
+ghost use Rattle.bgp_vpn.specs.Values.{with_community, targets_among};
 
 use byteorder::{BigEndian, ByteOrder};
-use ov_types::{NoMemory, Target, Targets};
+use ov_types::{NoMemory, Target, Targets, is_target};
 use std::alloc::Global;
-
-fn is_target(community: u64) -> bool
-    ensures { result ≡ is_target community }
-{
-    community / 0x0100_0000_0000_0000 <= 2 && community / 0x0001_0000_0000_0000 % 256 == 2
-}
 
 fn insert_community(targets: &mut Targets, community: u64) -> Result<(), NoMemory>
     ensures { OnOk result (targets.new ≡ with_community targets.old community) }

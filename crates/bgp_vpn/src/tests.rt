@@ -229,7 +229,7 @@ fn faults_are_written_as_their_numbers(rt: HostRuntime) -> Result<(), Fail> {
         subcode: 9,
     });
     let text = format!(in rt.alloc(); "{wire}; {}", UpdateFault::NoMemory)?;
-    assert_eq!(rt; text.as_str(), "a BGP message error, 3/9; want of memory");
+    assert_eq!(rt; text.as_str(), "a BGP message error, 3/9; out of memory");
     Ok(())
 }
 

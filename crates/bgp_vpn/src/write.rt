@@ -2,12 +2,11 @@
 ghost use Rattle.std.specs.Prelude.{◌≡◌, ◌≤◌, ◌<◌, ◌^◌, ◌++◌, [], ◌∷◌, length, false, IsTrue, OnOk, OnErr, IfOk};
 ghost use Rattle.std.specs.List.{flat_map, AllByRecursion};
 ghost use Rattle.byteorder.specs.Endian.{big_bytes};
-ghost use Rattle.ov_types.specs.Targets.{IsAscending};
+ghost use Rattle.ov_types.specs.Targets.{is_target, IsAscending};
 ghost use Rattle.bgp_wire.specs.Attributes.{is_extended, attribute_octets};
 ghost use Rattle.bgp_wire.specs.Spelling.{spelling, IsReadAgain};
 ghost use Rattle.bgp_vpn.specs.Routes.{route_octets};
 ghost use Rattle.bgp_vpn.specs.Updates.{Changes};
-ghost use Rattle.bgp_vpn.specs.Values.{is_target};
 ghost use Rattle.bgp_vpn.specs.Written.{IfPut, FitsItsTypes, route_of, attribute, origin, as_path, local_preference, written_reach, written_unreach, target_octets, communities_of, attributes_of, written, written_parts};
 
 use crate::known::{

@@ -41,7 +41,7 @@ again_after {A = A} meets before (x ∷ xs) m e = by (find (λ b. meets b x) bef
         let same : (b, x) ≡ m = cc in
         let found = found_in (λ b. meets b x) before b e' in
         subst (λ (n : A × A). Again meets (before ++ x ∷ xs) n.0 n.1) same
-            (record { front = before; rest = xs; stands = refl; is_before = found.0; they_meet = found.1 })
+        (record { front = before; rest = xs; stands = refl; is_before = found.0; they_meet = found.1 })
     by None e' later =
         let rest : meeting_after meets (before ++ x ∷ []) xs ≡ Some m = ap (λ o. option_map (λ b. (b, x)) o <|> meeting_after meets (before ++ x ∷ []) xs) (sym e') ∙ e in
         subst (λ (ys : List A). Again meets ys m.0 m.1) (append_assoc before (x ∷ []) xs) (later rest)
@@ -60,14 +60,16 @@ unfolding expansion_of
 twice_names_the_service c name chain service h =
     let services : List Service = expansion c name in
     let parts = twice_parts name chain service (loop_of c name) services (ltb 15 (length services)) (first_meeting same_number services) h in
-    let again = again_after same_number [] services parts.0 parts.1 in
-    (parts.2, record {
-      earlier = parts.0.0;
-      later = parts.0.1;
-      front = again.front;
-      rest = again.rest;
-      stands = again.stands;
-      is_before = again.is_before;
-      one_number = eqb-true _ _ again.they_meet;
-      has_name = parts.3;
-    })
+    let again = again_after same_number [] services parts.0 parts.1 in (
+      parts.2,
+      record {
+        earlier = parts.0.0;
+        later = parts.0.1;
+        front = again.front;
+        rest = again.rest;
+        stands = again.stands;
+        is_before = again.is_before;
+        one_number = eqb-true _ _ again.they_meet;
+        has_name = parts.3;
+      },
+    )

@@ -2,8 +2,8 @@
 ghost use Rattle.std.specs.Prelude.{◌≡◌, ◌≤◌, length};
 ghost use Rattle.chain_expand.specs.Expansion.{expansion, expansion_of, numbers_or_fault};
 
-use crate::bounds::{MOST_CHAINS, MOST_SERVICES};
 use crate::append::{Room, append_hops};
+use crate::bounds::{MOST_CHAINS, MOST_SERVICES};
 use crate::found::Found;
 use crate::loops::first_loop_of;
 use crate::numbers::numbers_or_twice;

@@ -4,8 +4,8 @@ ghost use Rattle.std.specs.List.{find};
 ghost use Rattle.ov_types.specs.First.{first_meeting};
 ghost use Rattle.chain_expand.specs.Expansion.{same_number, numbers_or_twice};
 
-use crate::bounds::MOST_SERVICES;
 use crate::ChainFault;
+use crate::bounds::MOST_SERVICES;
 use config_model::Service;
 use ov_types::{Name, Services};
 
@@ -42,7 +42,10 @@ fn numbers(services: &[Service]) -> Services<MOST_SERVICES>
 }
 
 /// The services' numbers, or the service that stands twice.
-pub(crate) fn numbers_or_twice(chain: &Name, services: &[Service]) -> Result<Services<MOST_SERVICES>, ChainFault>
+pub(crate) fn numbers_or_twice(
+    chain: &Name,
+    services: &[Service],
+) -> Result<Services<MOST_SERVICES>, ChainFault>
     requires { length services.now ≤ 15 }
     ensures { result ≡ numbers_or_twice chain.now services.now (first_meeting same_number services.now) }
 {

@@ -91,10 +91,7 @@ fn expands_chains(rt: HostRuntime) -> Result<(), Fail> {
         ("before", "the chain c1 leads back to itself"),
         ("a", "1"),
         ("outer", "the chain outer has the service fw twice"),
-        (
-            "most",
-            "3 2 4 5 6 7 8 9 10 11 12 13 14 17 1",
-        ),
+        ("most", "3 2 4 5 6 7 8 9 10 11 12 13 14 17 1"),
         ("over", "the chain over has more than 15 services"),
         ("none", ""),
     ] {

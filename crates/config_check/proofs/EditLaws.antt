@@ -1,5 +1,5 @@
 -- What an edit does to the list of its kind.
-use Rattle.std.proofs.Common.{◌≡◌, ◌≢◌, ℕ, suc, ◌+◌, ◌<◌, ◌≤◌, Bool, true, false, ltb, List, [], ◌∷◌, ◌++◌, length, take, drop, set, get_or, Option, Some, None, is_some, refl, sym, subst, ap, ◌∙◌, arith, add-one, drop-cons, length-take-le, inl, inr}
+use Rattle.std.proofs.Common.{◌≡◌, ◌≢◌, ℕ, suc, ◌+◌, ◌<◌, ◌≤◌, Bool, true, false, ltb, List, [], ◌∷◌, ◌++◌, length, map, take, drop, set, get_or, Option, Some, None, is_some, refl, sym, subst, ap, ◌∙◌, arith, add-one, drop-cons, length-take-le, inl, inr}
 use Rattle.std.specs.Prelude.{◌⊎◌, ◌↔◌, position, if◌then◌else◌}
 use Rattle.std.specs.List.{All, remove, position_or_len}
 use Rattle.std.specs.Option.{option_map_or}
@@ -8,11 +8,14 @@ use Rattle.std.proofs.lemmas.Bool.{cases_Bool, ltb-false}
 use Rattle.std.proofs.lemmas.List.{take-append-drop, take-set, drop-set, get_or-take}
 use Rattle.std.proofs.lemmas.List.Sums.{fails_before_first}
 use Rattle.std.proofs.lemmas.List.Quantifiers.{position-Some}
+use Rattle.std.proofs.lemmas.List.Elements.{All-append}
 use Rattle.ov_types.specs.First.{same_name}
+use Rattle.ov_types.proofs.FirstLemmas.{all_head, all_tail, all_cons, pairs_head, pairs_tail}
 use Rattle.config_model.specs.declared.config.Config.{Config}
 use Rattle.config_model.specs.declared.edit.Edit.TheVariants.{Put, Delete}
 use Rattle.config_model.specs.declared.edit.Object.TheVariants as Objects
 use Rattle.config_model.specs.declared.edit.ObjectKind.TheVariants as Kinds
+use Rattle.config_check.specs.Sentences.{AreDistinct}
 use Rattle.config_check.specs.Edits.{place_of, with_put, without, network_name, port_name, policy_name, service_name, chain_name, has_object, edited, missing_name}
 use Rattle.config_check.specs.EditLaws.{Replaces, Appends, Removes, PutIs, DeleteIs, MissingIs, networks_of, ports_of, policies_of, services_of, chains_of, with_networks, with_ports, with_policies, with_services, with_chains}
 
@@ -50,6 +53,23 @@ found {A} name_of name xs i d at =
           subst (λ (y : A). name_of y ≢ name) (sym (get_or-take i xs k e below)) (unnamed name_of name (get_or xs k e) ((position-Some (is_named name_of name) xs i e at).2 k below));
     }
 
+-- those after one of a name have other names, where names are distinct
+others_after : {A : Type 0} (name_of : A → List ℕ) (before : List A) (z : A) (after : List A) → AreDistinct (map name_of (before ++ z ∷ after)) → All (λ y. name_of y ≢ name_of z) after
+others_after {A} name_of [] z after h = by after (pairs_head (λ a b. a ≢ b) (name_of z) (map name_of after) h)
+  where
+    by : (ys : List A) → All (λ n. name_of z ≢ n) (map name_of ys) → All (λ y. name_of y ≢ name_of z) ys
+    by [] all = λ k d lt. absurd (omega arith)
+    by (y ∷ ys) all = all_cons (λ u. name_of u ≢ name_of z) y ys (λ e. all_head (λ n. name_of z ≢ n) (name_of y) (map name_of ys) all (sym e)) (by ys (all_tail (λ n. name_of z ≢ n) (name_of y) (map name_of ys) all))
+others_after {A} name_of (b ∷ bs) z after h = others_after name_of bs z after (pairs_tail (λ a b'. a ≢ b') (name_of b) (map name_of (bs ++ z ∷ after)) h)
+
+-- all but one of a name have other names, where names are distinct
+others_are : {A : Type 0} (name_of : A → List ℕ) (name : List ℕ) (xs : List A) (i : ℕ) (d : A) → Found name_of name xs i d
+    → AreDistinct (map name_of xs) → All (λ y. name_of y ≢ name) (take i xs ++ drop (suc i) xs)
+others_are {A} name_of name xs i d f distinct =
+    let apart : AreDistinct (map name_of (take i xs ++ get_or xs i d ∷ drop (suc i) xs)) = subst (λ (ys : List A). AreDistinct (map name_of ys)) (splits xs i d f.within) distinct in
+    let later : All (λ y. name_of y ≢ name) (drop (suc i) xs) = subst (λ (n : List ℕ). All (λ y. name_of y ≢ n) (drop (suc i) xs)) f.named (others_after name_of (take i xs) (get_or xs i d) (drop (suc i) xs) apart) in
+    All-append (λ y. name_of y ≢ name) (take i xs) (drop (suc i) xs) f.first later
+
 -- none has a name that has no place
 none_named : {A : Type 0} (name_of : A → List ℕ) (name : List ℕ) (xs : List A) → place_of name_of name xs ≡ None → All (λ y. name_of y ≢ name) xs
 none_named {A} name_of name xs at = λ k d lt.
@@ -83,7 +103,7 @@ puts {A} name_of x xs = by (place_of name_of (name_of x) xs) refl
           was = splits xs i x f.within;
           is = set_splits xs i x f.within;
           named = f.named;
-          first = f.first;
+          others = others_are name_of (name_of x) xs i x f;
         })
 
 abbrev missing_in : {A : Type 0} → (A → List ℕ) → List ℕ → List A → Option (List ℕ)
@@ -105,7 +125,7 @@ removes {A} name_of name (y ∷ ys) h = by (place_of name_of name (y ∷ ys)) re
           was = splits (y ∷ ys) i y f.within;
           is = refl;
           named = f.named;
-          first = f.first;
+          others = others_are name_of name (y ∷ ys) i y f;
         }
 
 missing_iff : {A : Type 0} (name_of : A → List ℕ) (name : List ℕ) (xs : List A) → (missing_in name_of name xs ≢ None) ↔ All (λ y. name_of y ≢ name) xs

@@ -1,5 +1,5 @@
 -- What an edit does to the list of its kind, and what it leaves.
-use Rattle.std.specs.Prelude.{◌≡◌, ◌≢◌, ◌↔◌, ℕ, ◌⊎◌, List, [], ◌∷◌, ◌++◌, None}
+use Rattle.std.specs.Prelude.{◌≡◌, ◌≢◌, ◌↔◌, ℕ, ◌⊎◌, List, [], ◌∷◌, ◌++◌, map, None}
 use Rattle.std.specs.List.{All}
 use Rattle.config_model.specs.declared.config.Chain.{Chain}
 use Rattle.config_model.specs.declared.config.Config.{Config}
@@ -12,9 +12,10 @@ use Rattle.config_model.specs.declared.edit.Object.{Object}
 use Rattle.config_model.specs.declared.edit.Object.TheVariants as Objects
 use Rattle.config_model.specs.declared.edit.ObjectKind.{ObjectKind}
 use Rattle.config_model.specs.declared.edit.ObjectKind.TheVariants as Kinds
+use Rattle.config_check.specs.Sentences.{AreDistinct}
 use Rattle.config_check.specs.Edits.{edited, missing_name, network_name, port_name, policy_name, service_name, chain_name}
 
--- a list has x in the place of the first of its name, and each other object as it was
+-- a list has x in the place of one of its name, and each other object as it was; where names were distinct, none of these has the name
 pub record Replaces {A : Type 0} (name_of : A → List ℕ) (x : A) (old new : List A) : Type 0 where
   pub before : List A
   pub replaced : A
@@ -22,14 +23,14 @@ pub record Replaces {A : Type 0} (name_of : A → List ℕ) (x : A) (old new : L
   pub was : old ≡ before ++ replaced ∷ after
   pub is : new ≡ before ++ x ∷ after
   pub named : name_of replaced ≡ name_of x
-  pub first : All (λ y. name_of y ≢ name_of x) before
+  pub others : AreDistinct (map name_of old) → All (λ y. name_of y ≢ name_of x) (before ++ after)
 
 -- a list has x after all that it had, none of which has its name
 pub record Appends {A : Type 0} (name_of : A → List ℕ) (x : A) (old new : List A) : Type 0 where
   pub is : new ≡ old ++ x ∷ []
   pub fresh : All (λ y. name_of y ≢ name_of x) old
 
--- a list has all but the first object of a name
+-- a list has all but one object of a name; where names were distinct, none that it has has the name
 pub record Removes {A : Type 0} (name_of : A → List ℕ) (name : List ℕ) (old new : List A) : Type 0 where
   pub before : List A
   pub removed : A
@@ -37,7 +38,7 @@ pub record Removes {A : Type 0} (name_of : A → List ℕ) (name : List ℕ) (ol
   pub was : old ≡ before ++ removed ∷ after
   pub is : new ≡ before ++ after
   pub named : name_of removed ≡ name
-  pub first : All (λ y. name_of y ≢ name) before
+  pub others : AreDistinct (map name_of old) → All (λ y. name_of y ≢ name) new
 
 -- a put of an object of this kind replaces or appends it in the list of its kind, and leaves the other lists
 abbrev pub PutIs : {A : Type 0} → (A → List ℕ) → (A → Object) → (Config → List A) → (Config → List A → Config) → Type 0

@@ -6,7 +6,7 @@ ghost use Rattle.config_check.specs.Edits.{has_object, with_object, without_obje
 use crate::named::{place_of, with_put, without};
 use crate::refusal::{CheckRefusal, Refusal};
 use crate::valid::{Valid, check};
-use config_model::{Config, Edit, Object, ObjectKind};
+use config_model::{Config, Edit, Object, ObjectKind, Topology};
 use ov_types::{Name, NoMemory};
 use std::alloc::{AllocError, Global};
 
@@ -132,14 +132,32 @@ fn without_object(config: Config, kind: ObjectKind, name: Name) -> Config
     }
 }
 
+fn copied_topology(topology: &Topology) -> Result<Topology, AllocError>
+    ensures { IfOk result (λ t. t ≡ topology.now) }
+{
+    topology.clone()
+}
+
+fn copied_config(config: &Config) -> Result<Config, AllocError>
+    ensures { IfOk result (λ c. c ≡ config.now) }
+{
+    config.clone()
+}
+
+fn copied_object(object: &Object) -> Result<Object, AllocError>
+    ensures { IfOk result (λ x. x ≡ object.now) }
+{
+    object.clone()
+}
+
 /// What an edit makes of a configuration.
 #[tactic(auto, unfolding(crate::specs::Edits::edited))]
 fn edited(config: &Config, edit: &Edit) -> Result<Config, NoMemory>
     ensures { IfOk result (λ c. c ≡ edited edit.now config.now) }
 {
-    let config = config.clone()?;
+    let config = copied_config(config)?;
     match edit {
-        Edit::Put(object) => with_object(config, object.clone()?),
+        Edit::Put(object) => with_object(config, copied_object(object)?),
         Edit::Delete(kind, name) => Ok(without_object(config, *kind, *name)),
     }
 }
@@ -156,7 +174,7 @@ pub fn apply_edit(alloc: Global, valid: &Valid, edit: &Edit) -> Result<Valid, Ed
     if let Some(name) = missing_name(valid.config(), edit) {
         return Err(EditRefusal::Edit(EditFault::Missing { name }));
     }
-    let topology = valid.topology().clone()?;
+    let topology = copied_topology(valid.topology())?;
     let config = edited(valid.config(), edit)?;
     match check(alloc, topology, config) {
         Ok(valid) => Ok(valid),

@@ -1,12 +1,11 @@
 -- Which fault a value is that does not read as an edit or an event.
-use Rattle.std.proofs.Common.{◌≡◌, ℕ, suc, ◌==◌, ◌||◌, Bool, true, false, nat_eq, List, [], ◌∷◌, Option, Some, None, Ok, Err, refl, ap, ◌∙◌, codes, arith}
+use Rattle.std.proofs.Common.{◌≡◌, ℕ, ◌==◌, Bool, false, nat_eq, List, [], ◌∷◌, Some, None, Err, refl, codes}
 use Rattle.std.specs.Cmp.Lexicographic.{pointwise}
 use Rattle.std.proofs.lemmas.Bool.{or_parts}
 use Rattle.serde_json.specs.Data.{Data, Members, no_members, member, null, boolean, number, string, array, object}
 use Rattle.serde_json.specs.Events.{members_len}
 use Rattle.serde_json.specs.Find.{as_str, as_object}
-use Rattle.config_model.specs.declared.fault.DocKind.TheVariants.{Kind, Range, Unknown}
-use Rattle.config_model.specs.Paths.{member_path}
+use Rattle.config_model.specs.declared.fault.DocKind.TheVariants.{Range}
 use Rattle.config_model.specs.Fields.{object_at}
 use Rattle.config_model.specs.OneMember.{only_member, one_member_at}
 use Rattle.config_model.specs.Edit.{put_at, delete_at, edit_at}

@@ -1,21 +1,21 @@
 -- What reads as an edit or an event has the one member of its word.
-use Rattle.std.proofs.Common.{◌≡◌, ℕ, Bool, true, false, nat_eq, List, [], ◌∷◌, Option, Some, None, is_some, Ok, Err, refl, sym, subst, ap, ◌∙◌, codes, inl, inr}
-use Rattle.std.specs.Prelude.{Result, ◌⊎◌}
+use Rattle.std.proofs.Common.{◌≡◌, ℕ, true, nat_eq, List, [], ◌∷◌, None, is_some, Ok, Err, refl, sym, subst, ap, ◌∙◌, codes, inl, inr}
+use Rattle.std.specs.Prelude.{Result}
 use Rattle.std.specs.Cmp.Lexicographic.{pointwise, same_text}
 use Rattle.std.proofs.lemmas.Bool.{cases_Bool}
-use Rattle.serde_json.specs.Data.{Data, Members, no_members, member, null, boolean, number, string, array, object}
-use Rattle.serde_json.specs.Find.{get, as_str}
+use Rattle.serde_json.specs.Data.{Data, no_members, member, null, boolean, number, string, array, object}
+use Rattle.serde_json.specs.Find.{get}
 use Rattle.config_model.specs.declared.edit.Edit.{Edit}
 use Rattle.config_model.specs.declared.edit.Edit.TheVariants.{Put, Delete}
 use Rattle.config_model.specs.declared.event.Event.{Event}
 use Rattle.config_model.specs.declared.event.Event.TheVariants as Events
 use Rattle.config_model.specs.Paths.{member_path, item_path}
-use Rattle.config_model.specs.Faults.{Fault, ◌>>=◌}
-use Rattle.config_model.specs.OneMember.{only_member, one_member_at}
+use Rattle.config_model.specs.Faults.{Fault}
+use Rattle.config_model.specs.OneMember.{one_member_at}
 use Rattle.config_model.specs.Fields.{object_at, name_at, whole_at}
 use Rattle.config_model.specs.Edit.{kind_at, object_of_kind_at, put_at, delete_at, edit_from, edit_at}
 use Rattle.config_model.specs.Input.{packet_at}
-use Rattle.config_model.specs.Event.{two_names_at, three_at, deliver_at, event_from, event_named, event_of_text, event_of, event_at, run_at}
+use Rattle.config_model.specs.Event.{two_names_at, three_at, deliver_at, event_from, event_of_text, event_of, event_at, run_at}
 use Rattle.config_model.specs.EventDocuments.{one_document, edit_word, event_word}
 use Rattle.config_model.specs.EventLaws.{EditHasJust, EventHasJust, RunHasJust}
 use Rattle.config_model.specs.Laws.{HasJust, FirstIsMissed}

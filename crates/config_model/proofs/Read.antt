@@ -135,9 +135,11 @@ topology_is_read t h path =
     let q = and_parts (is_as_number t.asn && list_all has_controller_form t.controllers && nat_le 1 (length t.controllers)) (list_all has_node_form t.nodes) p.0 in
     let r = and_parts (is_as_number t.asn && list_all has_controller_form t.controllers) (nat_le 1 (length t.controllers)) q.0 in
     let s = and_parts (is_as_number t.asn) (list_all has_controller_form t.controllers) r.0 in
-    rw (as_is_read t.asn s.0,
-        list_is_read controller_at has_controller_form controller_document controller_is_read AtLeastOne t.controllers s.1 r.1,
-        list_is_read node_at has_node_form node_document node_is_read AtLeastOne t.nodes q.1 p.1) refl
+    rw (
+      as_is_read t.asn s.0,
+      list_is_read controller_at has_controller_form controller_document controller_is_read AtLeastOne t.controllers s.1 r.1,
+      list_is_read node_at has_node_form node_document node_is_read AtLeastOne t.nodes q.1 p.1,
+    ) refl
 
 pub network_is_read : IsRead network_at network_form network_document
 unfolding network_at in_member member_at object_at only_at optional_all has_network_form
@@ -146,9 +148,12 @@ network_is_read n h path =
     let p = and_parts (is_network_name n.name && is_from_to 1 16383 n.id.0 && list_all is_block n.subnets) (list_all is_name n.policies) o.0 in
     let q = and_parts (is_network_name n.name && is_from_to 1 16383 n.id.0) (list_all is_block n.subnets) p.0 in
     let r = and_parts (is_network_name n.name) (is_from_to 1 16383 n.id.0) q.0 in
-    rw (name_but_is_read (codes "any") n.name r.0, whole_is_read 1 16383 n.id.0 r.1,
-        list_is_read prefix_at block_fits prefix_document prefix_is_read AnyNumber n.subnets (both_hold is_block (λ b. nat_lt b.addr (2 ^ 32)) n.subnets q.1 o.1) refl,
-        list_is_read name_at is_name string name_is_read AnyNumber n.policies p.1 refl) refl
+    rw (
+      name_but_is_read (codes "any") n.name r.0,
+      whole_is_read 1 16383 n.id.0 r.1,
+      list_is_read prefix_at block_fits prefix_document prefix_is_read AnyNumber n.subnets (both_hold is_block (λ b. nat_lt b.addr (2 ^ 32)) n.subnets q.1 o.1) refl,
+      list_is_read name_at is_name string name_is_read AnyNumber n.policies p.1 refl,
+    ) refl
 
 pub port_is_read : IsRead port_at has_port_form port_document
 unfolding port_at in_member member_at object_at only_at has_port_form
@@ -207,18 +212,38 @@ rule_reads : (direction : Direction) (source destination : End) (protocol : Prot
     → HasForm (record { direction = direction; source = source; destination = destination; protocol = protocol; source_ports = source_ports; destination_ports = destination_ports; action = action })
     → (path : List ℕ)
     → rule_at path (rule_document (record { direction = direction; source = source; destination = destination; protocol = protocol; source_ports = source_ports; destination_ports = destination_ports; action = action }))
-        ≡ Ok (record { direction = direction; source = source; destination = destination; protocol = protocol; source_ports = source_ports; destination_ports = destination_ports; action = action })
+    ≡ Ok (record { direction = direction; source = source; destination = destination; protocol = protocol; source_ports = source_ports; destination_ports = destination_ports; action = action })
 unfolding rule_at in_member member_at object_at only_at action_at through_at text_at
 rule_reads direction source destination protocol source_ports destination_ports Pass f path =
-    rw (direction_is_read direction, end_is_read source f.source, end_is_read destination f.destination, protocol_is_read protocol f.protocol,
-        range_is_read source_ports f.source_ports, range_is_read destination_ports f.destination_ports) refl
+    rw (
+      direction_is_read direction,
+      end_is_read source f.source,
+      end_is_read destination f.destination,
+      protocol_is_read protocol f.protocol,
+      range_is_read source_ports f.source_ports,
+      range_is_read destination_ports f.destination_ports,
+    ) refl
 rule_reads direction source destination protocol source_ports destination_ports Deny f path =
-    rw (direction_is_read direction, end_is_read source f.source, end_is_read destination f.destination, protocol_is_read protocol f.protocol,
-        range_is_read source_ports f.source_ports, range_is_read destination_ports f.destination_ports) refl
+    rw (
+      direction_is_read direction,
+      end_is_read source f.source,
+      end_is_read destination f.destination,
+      protocol_is_read protocol f.protocol,
+      range_is_read source_ports f.source_ports,
+      range_is_read destination_ports f.destination_ports,
+    ) refl
 rule_reads direction source destination protocol source_ports destination_ports (Through chain number) f path =
     let p = and_parts (is_name chain) (nat_le number 3071) f.action in
-    rw (direction_is_read direction, end_is_read source f.source, end_is_read destination f.destination, protocol_is_read protocol f.protocol,
-        range_is_read source_ports f.source_ports, range_is_read destination_ports f.destination_ports, name_is_read chain p.0, whole_to_is_read 3071 number p.1) refl
+    rw (
+      direction_is_read direction,
+      end_is_read source f.source,
+      end_is_read destination f.destination,
+      protocol_is_read protocol f.protocol,
+      range_is_read source_ports f.source_ports,
+      range_is_read destination_ports f.destination_ports,
+      name_is_read chain p.0,
+      whole_to_is_read 3071 number p.1,
+    ) refl
 
 pub rule_is_read : IsRead rule_at has_rule_form rule_document
 rule_is_read r h path = rule_reads r.direction r.source r.destination r.protocol r.source_ports r.destination_ports r.action (form_of r h) path
@@ -252,11 +277,13 @@ config_is_read c h path =
     let q = and_parts (list_all has_network_form c.networks && list_all has_port_form c.ports && list_all has_policy_form c.policies) (list_all has_service_form c.services) p.0 in
     let r = and_parts (list_all has_network_form c.networks && list_all has_port_form c.ports) (list_all has_policy_form c.policies) q.0 in
     let s = and_parts (list_all has_network_form c.networks) (list_all has_port_form c.ports) r.0 in
-    rw (list_is_read network_at network_form network_document network_is_read AnyNumber c.networks (both_hold has_network_form subnets_fit c.networks s.0 o.1) refl,
-        list_is_read port_at has_port_form port_document port_is_read AnyNumber c.ports s.1 refl,
-        list_is_read policy_at has_policy_form policy_document policy_is_read AnyNumber c.policies r.1 refl,
-        list_is_read service_at has_service_form service_document service_is_read AnyNumber c.services q.1 refl,
-        list_is_read chain_at has_chain_form chain_document chain_is_read AnyNumber c.chains p.1 refl) refl
+    rw (
+      list_is_read network_at network_form network_document network_is_read AnyNumber c.networks (both_hold has_network_form subnets_fit c.networks s.0 o.1) refl,
+      list_is_read port_at has_port_form port_document port_is_read AnyNumber c.ports s.1 refl,
+      list_is_read policy_at has_policy_form policy_document policy_is_read AnyNumber c.policies r.1 refl,
+      list_is_read service_at has_service_form service_document service_is_read AnyNumber c.services q.1 refl,
+      list_is_read chain_at has_chain_form chain_document chain_is_read AnyNumber c.chains p.1 refl,
+    ) refl
 
 pub packet_is_read : IsRead packet_at has_packet_form packet_document
 unfolding packet_at in_member member_at object_at only_at has_packet_form
@@ -265,8 +292,13 @@ packet_is_read n h path =
     let q = and_parts (nat_le n.source.0 524271 && nat_le n.destination.0 0xffff_ffff && nat_le n.tuple.proto 255) (nat_le n.tuple.sport 65535) p.0 in
     let r = and_parts (nat_le n.source.0 524271 && nat_le n.destination.0 0xffff_ffff) (nat_le n.tuple.proto 255) q.0 in
     let s = and_parts (nat_le n.source.0 524271) (nat_le n.destination.0 0xffff_ffff) r.0 in
-    rw (whole_to_is_read 524271 n.source.0 s.0, any_address_is_read n.destination s.1, whole_to_is_read 255 n.tuple.proto r.1,
-        whole_to_is_read 65535 n.tuple.sport q.1, whole_to_is_read 65535 n.tuple.dport p.1) refl
+    rw (
+      whole_to_is_read 524271 n.source.0 s.0,
+      any_address_is_read n.destination s.1,
+      whole_to_is_read 255 n.tuple.proto r.1,
+      whole_to_is_read 65535 n.tuple.sport q.1,
+      whole_to_is_read 65535 n.tuple.dport p.1,
+    ) refl
 
 pub compile_is_read : IsRead compile_at compile_form compile_document
 unfolding compile_at in_member member_at object_at only_at
@@ -279,5 +311,8 @@ unfolding reach_at in_member member_at object_at only_at
 reach_is_read r h path =
     let o = and_parts (compile_form r.input) (list_all has_packet_form r.packets) h in
     let p = and_parts (has_topology_form r.input.topology) (config_form r.input.config) o.0 in
-    rw (topology_is_read r.input.topology p.0, config_is_read r.input.config p.1,
-        list_is_read packet_at has_packet_form packet_document packet_is_read AnyNumber r.packets o.1 refl) refl
+    rw (
+      topology_is_read r.input.topology p.0,
+      config_is_read r.input.config p.1,
+      list_is_read packet_at has_packet_form packet_document packet_is_read AnyNumber r.packets o.1 refl,
+    ) refl

@@ -1,6 +1,6 @@
 -- The documents of edits and events: a text, or an object with the one member that its word names.
 use Rattle.std.specs.Prelude.{ℕ, List, codes}
-use Rattle.serde_json.specs.Data.{Data, string, array, object, Items, no_items, item, no_members, member}
+use Rattle.serde_json.specs.Data.{Data, string, array, object, no_items, item, no_members, member}
 use Rattle.config_model.specs.declared.edit.Edit.{Edit}
 use Rattle.config_model.specs.declared.edit.Edit.TheVariants.{Put, Delete}
 use Rattle.config_model.specs.declared.edit.Object.{Object}

@@ -19,8 +19,11 @@ packet_at path d = do
   sport ← in_member (whole_at 0 65535) path (codes "sport") d
   dport ← in_member (whole_at 0 65535) path (codes "dport") d
   done ← only_at path (codes "port" ∷ codes "to" ∷ codes "protocol" ∷ codes "sport" ∷ codes "dport" ∷ []) members
-  Ok (record { source = record { 0 = port }; destination = to;
-      tuple = record { proto = protocol; sport = sport; dport = dport } })
+  Ok (record {
+    source = record { 0 = port };
+    destination = to;
+    tuple = record { proto = protocol; sport = sport; dport = dport };
+  })
 
 -- what `compile` takes
 unfoldable pub compile_at : List ℕ → Data → Result CompileInput Fault

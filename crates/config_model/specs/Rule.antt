@@ -104,5 +104,12 @@ rule_at path d = do
   destination_ports ← in_member range_at path (codes "destination_ports") d
   action ← action_at path d
   done ← only_at path (members_with action) members
-  Ok (record { direction = direction; source = source; destination = destination; protocol = protocol;
-      source_ports = source_ports; destination_ports = destination_ports; action = action })
+  Ok (record {
+    direction = direction;
+    source = source;
+    destination = destination;
+    protocol = protocol;
+    source_ports = source_ports;
+    destination_ports = destination_ports;
+    action = action;
+  })

@@ -32,7 +32,12 @@ impl FromDocument for Network {
         let id = whole_member(alloc, place, "id", 1, LAST_NETWORK, value)?;
         let subnets = list_member::<Prefix>(alloc, place, "subnets", Count::AnyNumber, value)?;
         let policies = optional_list_member::<Name>(alloc, place, "policies", value)?;
-        check_others(alloc, place, &["name", "id", "subnets", "policies"], members)?;
+        check_others(
+            alloc,
+            place,
+            &["name", "id", "subnets", "policies"],
+            members,
+        )?;
         Ok(Network {
             name,
             id: InstanceId(id as u16),

@@ -75,7 +75,11 @@ pub fn read_packet(alloc: Global, value: &Value) -> Result<Packet, ReadRefusal>
 
 /// What `compile` takes: an object with `topology` and `configuration`.
 #[tactic(auto, unfolding(crate::specs::Input::compile_at))]
-fn compile_input_of(alloc: Global, place: &Place<'_>, value: &Value) -> Result<CompileInput, ReadRefusal>
+fn compile_input_of(
+    alloc: Global,
+    place: &Place<'_>,
+    value: &Value,
+) -> Result<CompileInput, ReadRefusal>
     ensures reads { Gives (λ p. p) result (compile_at (place_text place.now) (view value.now)) }
     ensures topology_form { IfOk result (λ p. IsTrue (has_topology_form p.topology)) }
     ensures config_form { IfOk result (λ p. IsTrue (has_config_form p.config)) }
@@ -89,7 +93,11 @@ fn compile_input_of(alloc: Global, place: &Place<'_>, value: &Value) -> Result<C
 
 /// What `reach` takes: an object with `topology`, `configuration` and `packets`, a list.
 #[tactic(auto, unfolding(crate::specs::Input::reach_at))]
-fn reach_input_of(alloc: Global, place: &Place<'_>, value: &Value) -> Result<ReachInput, ReadRefusal>
+fn reach_input_of(
+    alloc: Global,
+    place: &Place<'_>,
+    value: &Value,
+) -> Result<ReachInput, ReadRefusal>
     ensures reads { Gives (λ r. r) result (reach_at (place_text place.now) (view value.now)) }
     ensures topology_form { IfOk result (λ r. IsTrue (has_topology_form r.input.topology)) }
     ensures config_form { IfOk result (λ r. IsTrue (has_config_form r.input.config)) }

@@ -1,14 +1,24 @@
 //! Faults and values of documents, written by hand.
-use crate::{ReadRefusal, read_compile, read_config, read_packet, read_reach, read_topology};
+use crate::event_tests::EVENT_CASES;
+use crate::{
+    ReadRefusal, read_compile, read_config, read_edit, read_events, read_packet, read_reach,
+    read_run, read_topology,
+};
 use serde_json::Value;
 use std::alloc::Global;
 use std::fmt::Debug;
+use std::process::Abort;
 use std::test::Fail;
 
 /// The parts of documents that cases are of: the name, the reader, and what stands before and after a case's text.
-const PARTS: [(&str, &str, &str, &str); 17] = [
+const PARTS: [(&str, &str, &str, &str); 21] = [
     ("topology", "topology", "", ""),
-    ("controller", "topology", r#"{"as":1,"controllers":[{"#, "}]}"),
+    (
+        "controller",
+        "topology",
+        r#"{"as":1,"controllers":[{"#,
+        "}]}",
+    ),
     (
         "node",
         "topology",
@@ -43,6 +53,16 @@ const PARTS: [(&str, &str, &str, &str); 17] = [
     ("packet", "packet", "", ""),
     ("compile", "compile", "", ""),
     ("reach", "reach", "", ""),
+    ("run", "run", "", ""),
+    ("edit", "edit", "", ""),
+    ("events", "events", "", ""),
+    (
+        "runs",
+        "run",
+        r#"{"topology":{"as":1,"controllers":[{"name":"c1","address":"1.0.0.0"}],
+            "nodes":[{"name":"n1","address":"1.0.0.1","controllers":["c1"]}]},"#,
+        "}",
+    ),
     (
         "plan",
         "compile",
@@ -362,18 +382,33 @@ fn answer(alloc: Global, reader: &str, document: &str) -> Result<String, Fail> {
         "config" => told(alloc, read_config(alloc, &value)),
         "packet" => told(alloc, read_packet(alloc, &value)),
         "compile" => told(alloc, read_compile(alloc, &value)),
+        "edit" => told(alloc, read_edit(alloc, &value)),
+        "events" => told(alloc, read_events(alloc, &value)),
+        "run" => told(alloc, read_run(alloc, &value)),
         _ => told(alloc, read_reach(alloc, &value)),
     }
 }
 
-#[test]
-fn reads_values_and_finds_the_first_fault(rt: HostRuntime) -> Result<(), Fail> {
-    for case in CASES.split(";\n") {
-        let (asked, want) = case.split_once("=>").ok_or(case)?;
-        let (part, text) = asked.split_once(' ').ok_or(case)?;
-        let (reader, document) = document_of(rt.alloc(), part, text)?;
-        let found = answer(rt.alloc(), reader, document.as_str())?;
-        assert!(rt; found.as_str().split_whitespace().eq(want.split_whitespace()), "{case}: {found}");
+/// Each case of a table is answered as it says.
+fn holds(rt: &impl Abort, alloc: Global, cases: &str) -> Result<(), Fail> {
+    for case in cases.split(";\n") {
+        let (asked, want) = case.split_once("=>").ok_or("a case has no answer")?;
+        let (part, text) = asked.split_once(' ').ok_or("a case has no part")?;
+        let (reader, document) = document_of(alloc, part, text)?;
+        let found = answer(alloc, reader, document.as_str())?;
+        assert!(rt;
+            found
+                .as_str()
+                .split_whitespace()
+                .eq(want.split_whitespace()),
+            "{case}: {found}"
+        );
     }
     Ok(())
+}
+
+#[test]
+fn reads_values_and_finds_the_first_fault(rt: HostRuntime) -> Result<(), Fail> {
+    holds(&rt, rt.alloc(), CASES)?;
+    holds(&rt, rt.alloc(), EVENT_CASES)
 }

@@ -33,7 +33,12 @@ fn as_of(alloc: Global, place: &Place<'_>, value: &Value) -> Result<u32, ReadRef
 }
 
 #[tactic(auto, unfolding(crate::specs::Fields::in_member))]
-fn as_member(alloc: Global, place: &Place<'_>, name: &str, value: &Value) -> Result<u32, ReadRefusal>
+fn as_member(
+    alloc: Global,
+    place: &Place<'_>,
+    name: &str,
+    value: &Value,
+) -> Result<u32, ReadRefusal>
     ensures reads { Gives (λ n. n) result (in_member as_at (place_text place.now) name.now (view value.now)) }
     ensures form { IfOk result (λ n. IsTrue (is_as_number n)) }
 {

@@ -1,5 +1,5 @@
 -- The rule that decides is the first that matches either way.
-use Rattle.std.proofs.Common.{◌≡◌, ◌↔◌, ℕ, zero, suc, ◌<◌, ◌≤◌, ◌&&◌, leb, Bool, true, false, cond, IsTrue, List, [], ◌∷◌, Option, Some, None, option_map, get_or, refl, sym, ap, ◌∙◌, subst, arith}
+use Rattle.std.proofs.Common.{◌≡◌, ◌↔◌, ℕ, zero, suc, ◌<◌, ◌&&◌, leb, Bool, true, false, cond, List, [], ◌∷◌, Option, Some, None, get_or, refl, sym, ap, ◌∙◌, subst, arith}
 use Rattle.std.specs.Bool.{Decides}
 use Rattle.std.specs.List.{All, slice_get}
 use Rattle.std.proofs.lemmas.Bool.{leb-true, le-leb, and_parts, eqb-true, eq-eqb}
@@ -16,7 +16,6 @@ use Rattle.ov_types.specs.First.{◌<|>◌, first_of}
 use Rattle.ov_types.proofs.FirstLemmas.{mapped_none, first_of_none}
 use Rattle.network_rules.specs.Related.{NumberedRule, fits, rules_between}
 use Rattle.network_rules.specs.Matching.{Match, in_range, has_protocol, speaks_both_ways, matches_forwards, matches_mirrored, match_by, deciding, decision_by, decision}
-use Rattle.network_rules.specs.Standing.{Fits}
 use Rattle.network_rules.specs.Taking.{IsInRange, IsProtocol, MatchesForwards, MatchesMirrored, MatchesNot, IsTaken, IsDeciding}
 use Rattle.network_rules.proofs.Standing.{fits_iff}
 

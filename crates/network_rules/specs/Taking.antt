@@ -1,5 +1,5 @@
 -- Which rule decides on a packet, as relations.
-use Rattle.std.specs.Prelude.{◌≡◌, ◌⊎◌, ℕ, ◌<◌, ◌≤◌, Bool, true, false, slice_get, Some}
+use Rattle.std.specs.Prelude.{◌≡◌, ℕ, ◌<◌, ◌≤◌, Bool, true, false, slice_get, Some}
 use Rattle.ov_types.specs.declared.packet.Range16.{Range16}
 use Rattle.ov_types.specs.declared.packet.Tuple.{Tuple}
 use Rattle.config_model.specs.declared.config.Config.{Config}

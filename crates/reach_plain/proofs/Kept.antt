@@ -1,6 +1,6 @@
 -- What a valid configuration keeps that decisions and outcomes rest on.
-use Rattle.std.proofs.Common.{◌≡◌, ◌≢◌, ℕ, ◌≤◌, leb, ltb, Bool, true, false, cond, List, [], ◌∷◌, Some, None, Ok, map, length, get_or, refl, sym, ap, subst, ◌∙◌, arith}
-use Rattle.std.specs.List.{All, AllPairs, find, list_all}
+use Rattle.std.proofs.Common.{◌≡◌, ◌≢◌, ℕ, ◌≤◌, leb, ltb, true, false, List, [], Some, None, Ok, map, length, get_or, refl, sym, subst, arith}
+use Rattle.std.specs.List.{All, AllPairs, list_all}
 use Rattle.std.specs.Cmp.Lexicographic.{same_text}
 use Rattle.std.proofs.lemmas.Bool.{le-ltb}
 use Rattle.std.proofs.lemmas.Bool.Decides.{nat_tests}

@@ -1,5 +1,5 @@
 -- In a valid configuration no packet passes a service twice.
-use Rattle.std.proofs.Common.{◌≡◌, ◌≢◌, inl, inr, ℕ, ◌<◌, ◌-◌, Bool, true, false, List, [], ◌∷◌, None, map, reverse, length, get_or, refl, sym, ap, ◌∙◌, subst, arith}
+use Rattle.std.proofs.Common.{◌≡◌, ◌≢◌, inl, inr, ℕ, ◌<◌, ◌-◌, Bool, true, false, List, [], ◌∷◌, None, map, reverse, length, get_or, sym, ap, ◌∙◌, subst, arith}
 use Rattle.std.specs.List.{All, AllPairs}
 use Rattle.std.proofs.lemmas.List.{get_or-reverse, length-reverse}
 use Rattle.std.proofs.lemmas.List.Kept.{AllPairs-cons}

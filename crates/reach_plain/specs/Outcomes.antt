@@ -1,5 +1,5 @@
 -- What becomes of a packet, as relations.
-use Rattle.std.specs.Prelude.{◌≡◌, ◌≢◌, ◌⊎◌, ℕ, Bool, true, false, IsTrue, List, [], map, reverse, Option, Some, None}
+use Rattle.std.specs.Prelude.{◌≡◌, ◌≢◌, ◌⊎◌, ℕ, Bool, true, false, IsTrue, List, [], map, reverse, Some, None}
 use Rattle.std.specs.List.{All, Any, Contains}
 use Rattle.ov_types.specs.Prefix.{contains}
 use Rattle.ov_types.specs.declared.numbers.PortNo.{PortNo}

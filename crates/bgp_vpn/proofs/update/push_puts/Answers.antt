@@ -1,16 +1,15 @@
-use Rattle.std.proofs.Common.{sym}
-use Rattle.bgp_vpn.specs.Routes.{put_of}
-use Rattle.bgp_vpn.specs.Spelled.{fields_of}
-use Rattle.bgp_vpn.proofs.RouteLemmas.{pending_less, pending_none, put_is}
+use Rattle.bgp_vpn.specs.Said.{put_to}
+use Rattle.bgp_vpn.proofs.SaidLemmas.{one_more, all_done}
 use Rattle.bgp_vpn.proofs.update.push_puts.Goals as goal
 
 pub loop-route-preserved : goal.loop-route-preserved
-loop-route-preserved c =
-    let put = put_of c.args.announced.next_hop c.args.announced.targets.now in
-    pending_less put _ _ c.in-Some.after.now _ _ _ (fields_of c.in-Some.route) c.loop-route.invariant c.in-Some.ensures.found
-    (put_is _ _ _ (fields_of c.in-Some.route) _ _ _ _ c.in_ok-push.ensures.items c.key_of.ensures c.label_of.ensures (sym c.in_ok-clone.ensures.cases))
+loop-route-preserved c = (
+  tt,
+  tt,
+  one_more (put_to c.args.update.now.next_hop c.args.update.now.targets) _ _ _ _ _ _ c.in-Some.route _ c.loop-route.invariant.2
+      c.in-Some.ensures.steps c.in_ok-put_to.ensures c.in_ok-push.ensures.items,
+)
 
 pub returns : goal.returns
 returns c =
-    pending_none (put_of c.args.announced.next_hop c.args.announced.targets.now) _ c.loop-route.rest.now _ _
-    c.loop-route.invariant c.in_default.ensures.none
+    all_done (put_to c.args.update.now.next_hop c.args.update.now.targets) _ _ _ _ c.loop-route.invariant.2 c.in-None.ensures.steps.0

@@ -1,10 +1,9 @@
-use Rattle.std.proofs.Common.{length}
-use Rattle.bgp_vpn.specs.Routes.{put_of}
-use Rattle.bgp_vpn.proofs.RouteLemmas.{Pending}
+use Rattle.std.proofs.Common.{◌≡◌, ◌++◌, map}
+use Rattle.bgp_vpn.specs.Said.{put_to}
 use Rattle.bgp_vpn.proofs.update.push_puts.Given as goal
 
 abbrev pub invariant-loop-route : goal.invariant-loop-route
-invariant-loop-route l = Pending (put_of l.announced.next_hop l.announced.targets.now) l.octets l.rest l.fn.deltas.items l.deltas.items
-
-abbrev pub decreases-loop-route : goal.decreases-loop-route
-decreases-loop-route l = length l.rest
+invariant-loop-route l =
+    (goal.iterator-loop-route).can_next l.route-iterator ×
+    (goal.iterator-loop-route).is_finite l.route-iterator ×
+    (l.deltas.items ++ map (put_to l.update.next_hop l.update.targets) l.route-iterator ≡ l.fn.deltas.items ++ map (put_to l.update.next_hop l.update.targets) l.update.announced)

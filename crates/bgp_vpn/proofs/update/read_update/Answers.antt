@@ -1,15 +1,15 @@
-use Rattle.std.proofs.Common.{[]}
-use Rattle.std.proofs.lemmas.Result.{err_from_is_err_and}
-use Rattle.bgp_wire.proofs.Attributing.{some_split}
-use Rattle.bgp_vpn.proofs.UpdateLemmas.{makes, fails}
+use Rattle.std.proofs.Common.{◌∙◌}
 use Rattle.bgp_vpn.proofs.update.read_update.Goals as goal
 
-pub returns-in_err-found-clause-fault : goal.returns-in_err-found-clause-fault
-returns-in_err-found-clause-fault c =
-    let p = err_from_is_err_and c.from_residual.result c.from_residual.ensures.1 in
-    rw (p.1, p.2) (fails _ _ (some_split c.args.part.now.attributes.now c.in_err-found.ensures.octets) c.in_err-found.ensures.checks)
+pub returns-in_err-changes-in-Ok-clause-every_fault : goal.returns-in_err-changes-in-Ok-clause-every_fault
+returns-in_err-changes-in-Ok-clause-every_fault c = λ f has. let e = c.in-Ok.ensures.every_fault f has in absurd cc
 
-pub returns-clause-changes : goal.returns-clause-changes
-returns-clause-changes c =
-    makes _ _ (some_split c.args.part.now.attributes.now c.in_ok-found.ensures.octets) c.in_ok-found.ensures.checks
-    (λ all withdrawn reached are. c.in_ok-changes.ensures all withdrawn reached (c.in_ok-found.ensures.found all [] are))
+pub returns-in_ok-changes-in-Ok-clause-every_change : goal.returns-in_ok-changes-in-Ok-clause-every_change
+returns-in_ok-changes-in-Ok-clause-every_change c = λ deltas makes.
+    c.in_ok-changes-in-Ok.ensures ∙ c.in-Ok.ensures.every_change deltas makes
+
+pub returns-in_ok-changes-in-Ok-clause-every_fault : goal.returns-in_ok-changes-in-Ok-clause-every_fault
+returns-in_ok-changes-in-Ok-clause-every_fault c = λ f has. let e = c.in-Ok.ensures.every_fault f has in absurd cc
+
+pub returns-in-Err-clause-every_fault : goal.returns-in-Err-clause-every_fault
+returns-in-Err-clause-every_fault c = λ f has. let e = c.in-Err.ensures.every_fault f has in cc
