@@ -164,8 +164,10 @@ fn write_first<K: Sink>(
     gathered: &mut TextOut,
 ) -> Result<Option<usize>, WriteRefusal>
     requires { octets.now ≢ [] }
-    ensures told { IfOk result (λ found. Moves octets.now (K.taken sink.old) (K.taken sink.new) gathered.old gathered.new found) }
-    ensures front { OnErr result (TookFrontOf (IsReportBehind gathered.old octets.now) (K.taken sink.old) (K.taken sink.new)) }
+    ensures told { IfOk result (λ found. Moves octets.now
+        (K.taken sink.old) (K.taken sink.new) gathered.old gathered.new found) }
+    ensures front { OnErr result (TookFrontOf (IsReportBehind gathered.old octets.now)
+        (K.taken sink.old) (K.taken sink.new)) }
     ensures cause { HasWriteCause (K.faults sink.old) (K.faults sink.new) result }
 {
     let found = push_report(alloc, octets, known, gathered)?;

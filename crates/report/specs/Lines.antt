@@ -20,7 +20,8 @@ targets_text (t ∷ ts) = target_text t.0 ++ more_targets ts
 -- an OPEN: the autonomous system, the Hold Time, the identifier
 unfoldable pub open_line : ℕ → ℕ → Addr → List ℕ
 open_line asn hold id =
-    codes "open as " ++ (decimal asn ++ (codes " hold " ++ (decimal hold ++ (codes " id " ++ (address_text id.0 ++ (10 ∷ []))))))
+    codes "open as " ++ (decimal asn ++ (codes " hold " ++ (decimal hold ++ (codes " id "
+    ++ (address_text id.0 ++ (10 ∷ []))))))
 
 -- the distinguisher and the prefix that name a route
 abbrev pub key_text : VpnKey → List ℕ

@@ -1,6 +1,7 @@
 //! The lines, each appended whole or not at all.
 ghost use Rattle.std.specs.Prelude.{◌≡◌, ◌++◌, Some, OnOk, OnErr};
-ghost use Rattle.report.specs.Lines.{drop_line, fault_line, incomplete_line, key_text, notification_line, open_line, put_line, route_line};
+ghost use Rattle.report.specs.Lines.{drop_line, fault_line, incomplete_line, key_text, notification_line, open_line};
+ghost use Rattle.report.specs.Lines.{put_line, route_line};
 
 use crate::targets::targets_of;
 use ov_io::TextOut;
@@ -8,7 +9,8 @@ use ov_types::{Addr, Label, NoMemory, VpnKey, VpnRoute};
 use std::alloc::Global;
 use std::fmt;
 
-/// Appends the line of an OPEN: its autonomous system, its Hold Time in seconds and its identifier (RFC 4271, section 4.2).
+/// Appends the line of an OPEN: its autonomous system, its Hold Time in seconds and its identifier (RFC 4271,
+/// section 4.2).
 #[tactic(auto, unfolding(crate::specs::Lines::open_line))]
 pub fn open_lines(
     _alloc: Global,

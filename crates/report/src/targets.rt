@@ -65,8 +65,8 @@ fn know(alloc: Global, targets: &Targets, known: &mut TargetsText) -> Result<(),
     Ok(())
 }
 
-/// Appends the line of a VPN-IPv4 route that is put, as `put_lines` does. The text of its targets is made only where they are
-/// others than those that were told last.
+/// Appends the line of a VPN-IPv4 route that is put, as `put_lines` does. The text of its targets is made only where
+/// they are others than those that were told last.
 #[tactic(auto, unfolding(crate::specs::Lines::put_line))]
 pub fn put_lines_after(
     alloc: Global,
