@@ -76,7 +76,8 @@ pub record WasGiven (answer : Answer) (verdict : Verdict) (old new : Option (Lis
 abbrev pub compile_reading : Result CompileInput Fault → Answer
 compile_reading (Err f) = answer_bad f
 compile_reading (Ok p) =
-    answer_checked (first_broken p.topology p.config) (compile_text (record { topology = p.topology; config = p.config }))
+    answer_checked (first_broken p.topology p.config)
+    (compile_text (record { topology = p.topology; config = p.config }))
 
 -- of what was read for `reach`, or not, it writes the outcomes
 abbrev pub reach_reading : Result ReachInput Fault → Answer

@@ -59,7 +59,8 @@ pub record BeginsWithFaultyUpdate (octets : List ℕ) (f : WireFault) : Type 0 w
   pub begins : BeginsWith octets (Updates parts) count
   pub faulty : HasUpdateFault parts f
 
--- the text tells of each message that the octets are, in order, up to the first fault or to octets that are not yet a message
+-- the text tells of each message that the octets are, in order, up to the first fault or to octets that are not yet a
+-- message
 pub data IsReport : List ℕ → List ℕ → Type 0 where
   of_nothing : {octets text : List ℕ} → octets ≡ [] → text ≡ [] → IsReport octets text
   of_a_prefix : {octets text : List ℕ} → octets ≢ [] → IsProperPrefix octets
