@@ -29,7 +29,7 @@ fn is_blank(octet: u8) -> bool
 fn digits_of(alloc: Global, text: &[u8]) -> Result<Vec<u8>, NoMemory>
     ensures { IfOk result (λ digits. digits.items ≡ without_blanks text.now) }
 {
-    let mut digits = Vec::new(alloc);
+    let mut digits = Vec::with_capacity(alloc, text.len())?;
     for octet in text {
         if !is_blank(*octet) {
             digits.push(*octet)?;
