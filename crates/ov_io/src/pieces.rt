@@ -51,7 +51,8 @@ pub fn gather<K: Sink>(
     gathered: &mut TextOut,
     text: &[u8],
 ) -> Result<(), WriteRefusal>
-    ensures ok { OnOk result (IsOnItsWay (K.taken sink.old) (K.taken sink.new) gathered.new [] (gathered.old ++ text.now)) }
+    ensures ok { OnOk result (IsOnItsWay (K.taken sink.old) (K.taken sink.new) gathered.new []
+        (gathered.old ++ text.now)) }
     ensures front { OnErr result (TookFront (K.taken sink.old) (K.taken sink.new) (gathered.old ++ text.now)) }
     ensures cause { HasWriteCause (K.faults sink.old) (K.faults sink.new) result }
 {

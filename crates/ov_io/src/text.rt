@@ -1,14 +1,17 @@
 //! Building text.
 ghost use Rattle.std.specs.Prelude.{◌≡◌, ◌++◌, [], OnOk, OnErr};
+ghost use Rattle.std.specs.Fmt.{AppendsText};
 
 use ov_types::NoMemory;
 use std::alloc::Global;
+use std::fmt::Display;
 use std::marker::Model;
 
 /// A builder of text.
 #[derive(Debug, Drop)]
 pub struct TextOut {
     octets: Vec<u8>,
+    line: String,
 }
 
 impl Model for TextOut {
@@ -26,6 +29,7 @@ impl TextOut {
     {
         TextOut {
             octets: Vec::new(alloc),
+            line: String::new(alloc),
         }
     }
 
@@ -35,6 +39,17 @@ impl TextOut {
         ensures err { OnErr result (self.new ≡ self.old) }
     {
         self.octets.extend_from_slice(text)?;
+        Ok(())
+    }
+
+    /// Appends what a format makes, whole: this is what `write!` calls. The room that one text took serves the next.
+    pub fn write_fmt<D: Display + Drop>(&mut self, value: D) -> Result<(), NoMemory>
+        ensures ok { OnOk result (AppendsText self.old self.new (D.output value)) }
+        ensures err { OnErr result (self.new ≡ self.old) }
+    {
+        self.line.clear();
+        self.line.write(value)?;
+        self.octets.extend_from_slice(self.line.as_bytes())?;
         Ok(())
     }
 

@@ -146,3 +146,9 @@ pub report_cut : {E : Type 0} (r : Result Unit E) (octets : List ℕ) (old mid n
     → MovesAll octets old mid [] gathered → OnErr r (TookFront mid new gathered) → OnErr r (TookFrontOf (IsReport octets) old new)
 report_cut (Ok x) octets old mid new gathered all stop = tt
 report_cut (Err e) octets old mid new gathered all stop = end_stops octets old mid new gathered all stop
+
+-- nothing was taken, and there is a report
+pub nothing_reported : (old : Option (List ℕ)) (octets : List ℕ) → AreOctets octets → TookFrontOf (IsReport octets) old old
+nothing_reported old octets h =
+    let some = some_report octets h in
+    record { text = some.0; is = some.1; taken = took_nothing old some.0 }

@@ -1,5 +1,6 @@
 -- What is answered to an input: what it is found to be, and the text that is written.
-use Rattle.std.specs.Prelude.{◌≡◌, ℕ, List, [], ◌∷◌, ◌++◌, ◌==◌, length, codes, Option, Some, None, Result, Ok, Err, if◌then◌else◌, ⊤}
+use Rattle.std.specs.Prelude.{◌≡◌, ℕ, List, [], ◌∷◌, ◌++◌, ◌==◌, length, codes, Option, Some, None, Result, Ok, Err}
+use Rattle.std.specs.Prelude.{if◌then◌else◌, ⊤}
 use Rattle.std.specs.Io.KnownBytes.{Appends}
 use Rattle.serde_json.specs.Data.{Data}
 use Rattle.config_model.specs.declared.fault.DocKind.{DocKind}
@@ -74,12 +75,16 @@ pub record WasGiven (answer : Answer) (verdict : Verdict) (old new : Option (Lis
 -- of a topology and a configuration that were read, or not, `compile` writes the tables
 abbrev pub compile_reading : Result CompileInput Fault → Answer
 compile_reading (Err f) = answer_bad f
-compile_reading (Ok p) = answer_checked (first_broken p.topology p.config) (compile_text (record { topology = p.topology; config = p.config }))
+compile_reading (Ok p) =
+    answer_checked (first_broken p.topology p.config)
+    (compile_text (record { topology = p.topology; config = p.config }))
 
 -- of what was read for `reach`, or not, it writes the outcomes
 abbrev pub reach_reading : Result ReachInput Fault → Answer
 reach_reading (Err f) = answer_bad f
-reach_reading (Ok r) = answer_checked (first_broken r.input.topology r.input.config) (reach_text (record { topology = r.input.topology; config = r.input.config }) r.packets)
+reach_reading (Ok r) =
+    answer_checked (first_broken r.input.topology r.input.config)
+    (reach_text (record { topology = r.input.topology; config = r.input.config }) r.packets)
 
 -- of a value `compile` reads a topology and a configuration
 unfoldable pub compile_value : Data → Answer

@@ -1,5 +1,6 @@
 -- What `decode` says of hexadecimal digits.
-use Rattle.std.specs.Prelude.{◌≡◌, ◌≢◌, ◌==◌, ◌||◌, not, ℕ, Bool, List, [], ◌∷◌, ◌++◌, length, drop, filter, codes, Option, ◌⊎◌}
+use Rattle.std.specs.Prelude.{◌≡◌, ◌≢◌, ◌==◌, ◌||◌, not, ℕ, Bool, List, [], ◌∷◌, ◌++◌, length, drop, filter, codes}
+use Rattle.std.specs.Prelude.{Option, ◌⊎◌}
 use Rattle.std.specs.Result.{result_ok}
 use Rattle.hex.specs.Hex.{decode_of}
 use Rattle.ov_types.specs.declared.vpn.VpnKey.{VpnKey}
@@ -46,7 +47,8 @@ keepalive_line = codes "keepalive" ++ (10 ∷ [])
 -- what is said of a message without a fault
 abbrev pub Says : Content → List ℕ → Type 0
 Says (Opens fields) text = text ≡ open_line (asn_of fields) fields.hold (record { 0 = fields.id })
-Says (Updates parts) text = (changes : List (Delta VpnKey VpnRoute)) × Changes parts changes × (text ≡ update_lines changes)
+Says (Updates parts) text =
+    (changes : List (Delta VpnKey VpnRoute)) × Changes parts changes × (text ≡ update_lines changes)
 Says (Notifies code subcode) text = text ≡ notification_line code subcode
 Says KeepsAlive text = text ≡ keepalive_line
 
@@ -57,9 +59,14 @@ pub record BeginsWithFaultyUpdate (octets : List ℕ) (f : WireFault) : Type 0 w
   pub begins : BeginsWith octets (Updates parts) count
   pub faulty : HasUpdateFault parts f
 
--- the text tells of each message that the octets are, in order, up to the first fault or to octets that are not yet a message
+-- the text tells of each message that the octets are, in order, up to the first fault or to octets that are not yet a
+-- message
 pub data IsReport : List ℕ → List ℕ → Type 0 where
   of_nothing : {octets text : List ℕ} → octets ≡ [] → text ≡ [] → IsReport octets text
-  of_a_prefix : {octets text : List ℕ} → octets ≢ [] → IsProperPrefix octets → text ≡ incomplete_line (length octets) → IsReport octets text
-  of_a_fault : {octets text : List ℕ} (f : WireFault) → HasFault octets f ⊎ BeginsWithFaultyUpdate octets f → text ≡ fault_line f.code f.subcode → IsReport octets text
-  of_a_message : {octets text : List ℕ} (said more : List ℕ) (content : Content) (count : ℕ) → BeginsWith octets content count → Says content said → IsReport (drop count octets) more → text ≡ said ++ more → IsReport octets text
+  of_a_prefix : {octets text : List ℕ} → octets ≢ [] → IsProperPrefix octets
+      → text ≡ incomplete_line (length octets) → IsReport octets text
+  of_a_fault : {octets text : List ℕ} (f : WireFault) → HasFault octets f ⊎ BeginsWithFaultyUpdate octets f
+      → text ≡ fault_line f.code f.subcode → IsReport octets text
+  of_a_message : {octets text : List ℕ} (said more : List ℕ) (content : Content) (count : ℕ)
+      → BeginsWith octets content count → Says content said → IsReport (drop count octets) more
+      → text ≡ said ++ more → IsReport octets text

@@ -7,7 +7,8 @@ use Rattle.ov_types.specs.declared.packet.Outcome.{Outcome}
 use Rattle.ov_types.specs.declared.packet.Outcome.TheVariants.{Delivered, Dropped}
 use Rattle.ov_types.specs.declared.packet.Packet.{Packet}
 use Rattle.ov_types.specs.declared.packet.Why.{Why}
-use Rattle.ov_types.specs.declared.packet.Why.TheVariants.{NoSourcePort, NoDestination, NoRoute, Denied, NoLabel, TtlExpired}
+use Rattle.ov_types.specs.declared.packet.Why.TheVariants.{NoSourcePort, NoDestination, NoRoute, Denied, NoLabel}
+use Rattle.ov_types.specs.declared.packet.Why.TheVariants.{TtlExpired}
 use Rattle.config_check.specs.Checked.{Checked}
 use Rattle.config_model.specs.declared.config.Config.{Config}
 use Rattle.reach_plain.specs.Reachability.{reachability}
@@ -32,7 +33,8 @@ why_text NoLabel = codes "no-label"
 why_text TtlExpired = codes "ttl-expired"
 
 abbrev pub delivered_text : ℕ → PortNo → List ℕ → List ℕ
-delivered_text n port services = decimal n ++ (codes " delivered port " ++ (decimal port.0 ++ (codes " services " ++ (services ++ (10 ∷ [])))))
+delivered_text n port services =
+    decimal n ++ (codes " delivered port " ++ (decimal port.0 ++ (codes " services " ++ (services ++ (10 ∷ [])))))
 
 -- the number of a packet, and its outcome
 unfoldable pub outcome_line : ℕ → Outcome → List ℕ

@@ -10,7 +10,9 @@ ghost use Rattle.overlay.specs.Json.{json_of};
 ghost use Rattle.overlay.specs.Lines.{compile_text};
 ghost use Rattle.overlay.specs.Outcomes.{reach_text};
 ghost use Rattle.overlay.specs.Decoding.{spelled};
-ghost use Rattle.overlay.specs.Answers.{Answer, IsAnswered, WasGiven, answer_checked, answer_good, compile_answer, compile_value, decode_verdict, fault_line, kind_text, reach_answer, reach_value, refused_line, verdict_of, Writes, WritesSpelled};
+ghost use Rattle.overlay.specs.Answers.{Answer, IsAnswered, WasGiven, answer_checked, answer_good, compile_answer};
+ghost use Rattle.overlay.specs.Answers.{compile_value, decode_verdict, fault_line, kind_text, reach_answer};
+ghost use Rattle.overlay.specs.Answers.{reach_value, refused_line, verdict_of, Writes, WritesSpelled};
 
 use crate::command::Command;
 use crate::decoding::{octets_of, write_report};
@@ -174,7 +176,8 @@ struct Question {
 /// What `reach` takes from a value.
 #[tactic(auto, unfolding(crate::specs::Answers::reach_value))]
 fn reach_taken(alloc: Global, value: &Value) -> Result<Question, Unfit>
-    ensures fit { IfOk result (λ asked. reach_value (view value.now) ≡ answer_good (reach_text asked.valid asked.packets)) }
+    ensures fit { IfOk result (λ asked. reach_value (view value.now)
+        ≡ answer_good (reach_text asked.valid asked.packets)) }
     ensures unfit { IfErr result (λ unfit. IsAnswered unfit (reach_value (view value.now))) }
 {
     match read_reach(alloc, value) {
@@ -206,7 +209,8 @@ fn answer_compile<K: Sink>(
     octets: &[u8],
     sink: &mut K,
 ) -> Result<Verdict, WriteRefusal>
-    ensures given { IfOk result (λ verdict. WasGiven (compile_answer octets.now) verdict (K.taken sink.old) (K.taken sink.new)) }
+    ensures given { IfOk result (λ verdict. WasGiven (compile_answer octets.now) verdict
+        (K.taken sink.old) (K.taken sink.new)) }
     ensures front { OnErr result (TookFront (K.taken sink.old) (K.taken sink.new) (compile_answer octets.now).text) }
     ensures cause { HasWriteCause (K.faults sink.old) (K.faults sink.new) result }
 {
@@ -225,7 +229,8 @@ fn answer_reach<K: Sink>(
     octets: &[u8],
     sink: &mut K,
 ) -> Result<Verdict, WriteRefusal>
-    ensures given { IfOk result (λ verdict. WasGiven (reach_answer octets.now) verdict (K.taken sink.old) (K.taken sink.new)) }
+    ensures given { IfOk result (λ verdict. WasGiven (reach_answer octets.now) verdict
+        (K.taken sink.old) (K.taken sink.new)) }
     ensures front { OnErr result (TookFront (K.taken sink.old) (K.taken sink.new) (reach_answer octets.now).text) }
     ensures cause { HasWriteCause (K.faults sink.old) (K.faults sink.new) result }
 {
@@ -242,7 +247,8 @@ fn answer_reach<K: Sink>(
 fn answer_decode<K: Sink>(alloc: Global, text: &[u8], sink: &mut K) -> Result<Verdict, WriteRefusal>
     ensures verdict { IfOk result (λ verdict. verdict ≡ decode_verdict (spelled text.now)) }
     ensures written { OnOk result (TookText (WritesSpelled (spelled text.now)) (K.taken sink.old) (K.taken sink.new)) }
-    ensures front { OnErr result (TookFrontOf (WritesSpelled (spelled text.now)) (K.taken sink.old) (K.taken sink.new)) }
+    ensures front { OnErr result (TookFrontOf (WritesSpelled (spelled text.now))
+        (K.taken sink.old) (K.taken sink.new)) }
     ensures cause { HasWriteCause (K.faults sink.old) (K.faults sink.new) result }
 {
     match octets_of(alloc, text)? {

@@ -14,7 +14,8 @@ use ov_io::{Sink, TextOut, WriteRefusal, write_gathered, write_piece};
 use ov_sync::Delta;
 use ov_types::{NoMemory, VpnKey, VpnRoute};
 use report::{
-    drop_lines, fault_lines, incomplete_lines, notification_lines, open_lines, put_lines,
+    TargetsText, drop_lines, fault_lines, incomplete_lines, notification_lines, open_lines,
+    put_lines_after,
 };
 use std::alloc::Global;
 
@@ -28,7 +29,7 @@ fn is_blank(octet: u8) -> bool
 fn digits_of(alloc: Global, text: &[u8]) -> Result<Vec<u8>, NoMemory>
     ensures { IfOk result (λ digits. digits.items ≡ without_blanks text.now) }
 {
-    let mut digits = Vec::new(alloc);
+    let mut digits = Vec::with_capacity(alloc, text.len())?;
     for octet in text {
         if !is_blank(*octet) {
             digits.push(*octet)?;
@@ -53,12 +54,13 @@ pub(crate) fn octets_of(alloc: Global, text: &[u8]) -> Result<Option<Vec<u8>>, N
 fn push_change(
     alloc: Global,
     change: &Delta<VpnKey, VpnRoute>,
+    known: &mut TargetsText,
     out: &mut TextOut,
 ) -> Result<(), NoMemory>
     ensures { OnOk result (out.new ≡ out.old ++ change_line change.now) }
 {
     match change {
-        Delta::Put(key, route) => put_lines(alloc, key, route, out),
+        Delta::Put(key, route) => put_lines_after(alloc, key, route, known, out),
         Delta::Drop(key) => drop_lines(alloc, key, out),
     }
 }
@@ -66,12 +68,13 @@ fn push_change(
 fn push_changes(
     alloc: Global,
     changes: &[Delta<VpnKey, VpnRoute>],
+    known: &mut TargetsText,
     out: &mut TextOut,
 ) -> Result<(), NoMemory>
     ensures { OnOk result (out.new ≡ out.old ++ change_lines changes.now) }
 {
     for change in changes {
-        push_change(alloc, change, out)?;
+        push_change(alloc, change, known, out)?;
     }
     Ok(())
 }
@@ -84,13 +87,18 @@ enum Told {
     Faulty,
 }
 
-fn push_update(alloc: Global, part: &UpdatePart<'_>, out: &mut TextOut) -> Result<Told, NoMemory>
+fn push_update(
+    alloc: Global,
+    part: &UpdatePart<'_>,
+    known: &mut TargetsText,
+    out: &mut TextOut,
+) -> Result<Told, NoMemory>
     ensures { IfOk result (λ told. Tells (Updates (parts_of part.now)) out.old out.new told) }
 {
     match read_update(alloc, part) {
         Ok(changes) => {
             out.push(b"update\n")?;
-            push_changes(alloc, changes.as_slice(), out)?;
+            push_changes(alloc, changes.as_slice(), known, out)?;
             Ok(Told::Whole)
         }
         Err(UpdateFault::Wire(fault)) => {
@@ -101,12 +109,17 @@ fn push_update(alloc: Global, part: &UpdatePart<'_>, out: &mut TextOut) -> Resul
     }
 }
 
-fn push_message(alloc: Global, message: &Message<'_>, out: &mut TextOut) -> Result<Told, NoMemory>
+fn push_message(
+    alloc: Global,
+    message: &Message<'_>,
+    known: &mut TargetsText,
+    out: &mut TextOut,
+) -> Result<Told, NoMemory>
     ensures { IfOk result (λ told. Tells (content_of message.now) out.old out.new told) }
 {
     match message {
         Message::Hello(part) => open_lines(alloc, part.asn(), part.hold(), part.id(), out)?,
-        Message::Update(part) => return push_update(alloc, part, out),
+        Message::Update(part) => return push_update(alloc, part, known, out),
         Message::Notification { code, subcode } => {
             notification_lines(alloc, *code, *subcode, out)?;
         }
@@ -117,12 +130,17 @@ fn push_message(alloc: Global, message: &Message<'_>, out: &mut TextOut) -> Resu
 
 /// Tells the first message, and says how many octets it has. `None` where nothing is left to tell.
 #[tactic(auto, using(crate::proofs::Reports::faulty_ends, crate::proofs::Reports::prefix_ends, crate::proofs::Reports::fault_ends))]
-fn push_report(alloc: Global, octets: &[u8], out: &mut TextOut) -> Result<Option<usize>, NoMemory>
+fn push_report(
+    alloc: Global,
+    octets: &[u8],
+    known: &mut TargetsText,
+    out: &mut TextOut,
+) -> Result<Option<usize>, NoMemory>
     requires { octets.now ≢ [] }
     ensures { IfOk result (λ found. Progress octets.now out.old out.new found) }
 {
     match read_message(octets) {
-        Ok(Some((message, count))) => match push_message(alloc, &message, out)? {
+        Ok(Some((message, count))) => match push_message(alloc, &message, known, out)? {
             Told::Whole => Ok(Some(count)),
             Told::Faulty => Ok(None),
         },
@@ -142,14 +160,17 @@ fn write_first<K: Sink>(
     alloc: Global,
     octets: &[u8],
     sink: &mut K,
+    known: &mut TargetsText,
     gathered: &mut TextOut,
 ) -> Result<Option<usize>, WriteRefusal>
     requires { octets.now ≢ [] }
-    ensures told { IfOk result (λ found. Moves octets.now (K.taken sink.old) (K.taken sink.new) gathered.old gathered.new found) }
-    ensures front { OnErr result (TookFrontOf (IsReportBehind gathered.old octets.now) (K.taken sink.old) (K.taken sink.new)) }
+    ensures told { IfOk result (λ found. Moves octets.now
+        (K.taken sink.old) (K.taken sink.new) gathered.old gathered.new found) }
+    ensures front { OnErr result (TookFrontOf (IsReportBehind gathered.old octets.now)
+        (K.taken sink.old) (K.taken sink.new)) }
     ensures cause { HasWriteCause (K.faults sink.old) (K.faults sink.new) result }
 {
-    let found = push_report(alloc, octets, gathered)?;
+    let found = push_report(alloc, octets, known, gathered)?;
     write_piece(sink, gathered)?;
     Ok(found)
 }
@@ -166,9 +187,10 @@ pub(crate) fn write_report<K: Sink>(
     ensures cause { HasWriteCause (K.faults sink.old) (K.faults sink.new) result }
 {
     let mut gathered = TextOut::new(alloc);
+    let mut known = TargetsText::new(alloc)?;
     let mut rest = octets;
     while !rest.is_empty() {
-        let Some(count) = write_first(alloc, rest, sink, &mut gathered)? else {
+        let Some(count) = write_first(alloc, rest, sink, &mut known, &mut gathered)? else {
             return write_gathered(sink, &mut gathered);
         };
         (_, rest) = rest.split_at(count);

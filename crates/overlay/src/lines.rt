@@ -35,8 +35,10 @@ fn write_row<K: Sink>(
     sink: &mut K,
     gathered: &mut TextOut,
 ) -> Result<(), WriteRefusal>
-    ensures ok { OnOk result (IsOnItsWay (K.taken sink.old) (K.taken sink.new) gathered.new [] (gathered.old ++ row_line node.now row.now)) }
-    ensures front { OnErr result (TookFront (K.taken sink.old) (K.taken sink.new) (gathered.old ++ row_line node.now row.now)) }
+    ensures ok { OnOk result (IsOnItsWay (K.taken sink.old) (K.taken sink.new) gathered.new []
+        (gathered.old ++ row_line node.now row.now)) }
+    ensures front { OnErr result (TookFront (K.taken sink.old) (K.taken sink.new)
+        (gathered.old ++ row_line node.now row.now)) }
     ensures cause { HasWriteCause (K.faults sink.old) (K.faults sink.new) result }
 {
     let line = line_of(alloc, node, &row.0, &row.1)?;
@@ -51,8 +53,10 @@ fn write_control<K: Sink>(
     sink: &mut K,
     gathered: &mut TextOut,
 ) -> Result<(), WriteRefusal>
-    ensures ok { OnOk result (IsOnItsWay (K.taken sink.old) (K.taken sink.new) gathered.new [] (gathered.old ++ control_lines node.now rows.now)) }
-    ensures front { OnErr result (TookFront (K.taken sink.old) (K.taken sink.new) (gathered.old ++ control_lines node.now rows.now)) }
+    ensures ok { OnOk result (IsOnItsWay (K.taken sink.old) (K.taken sink.new) gathered.new []
+        (gathered.old ++ control_lines node.now rows.now)) }
+    ensures front { OnErr result (TookFront (K.taken sink.old) (K.taken sink.new)
+        (gathered.old ++ control_lines node.now rows.now)) }
     ensures cause { HasWriteCause (K.faults sink.old) (K.faults sink.new) result }
 {
     for row in rows {

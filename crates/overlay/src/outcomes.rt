@@ -3,7 +3,8 @@ ghost use Rattle.std.specs.Prelude.{◌≡◌, ◌++◌, [], IfOk, OnOk, OnErr, 
 ghost use Rattle.std.specs.Io.KnownBytes.{Appends};
 ghost use Rattle.ov_io.specs.Inputs.{TookFront};
 ghost use Rattle.ov_io.specs.Pieces.{HasWriteCause, IsOnItsWay};
-ghost use Rattle.overlay.specs.Outcomes.{delivered_text, more_services, outcome_line, reach_text, services_text, why_text};
+ghost use Rattle.overlay.specs.Outcomes.{delivered_text, more_services, outcome_line, reach_text, services_text};
+ghost use Rattle.overlay.specs.Outcomes.{why_text};
 
 use config_check::Valid;
 use ov_io::{Sink, TextOut, WriteRefusal, gather, write_gathered};
@@ -82,8 +83,10 @@ fn write_outcome<K: Sink>(
     sink: &mut K,
     gathered: &mut TextOut,
 ) -> Result<(), WriteRefusal>
-    ensures ok { OnOk result (IsOnItsWay (K.taken sink.old) (K.taken sink.new) gathered.new [] (gathered.old ++ outcome_line number outcome.now)) }
-    ensures front { OnErr result (TookFront (K.taken sink.old) (K.taken sink.new) (gathered.old ++ outcome_line number outcome.now)) }
+    ensures ok { OnOk result (IsOnItsWay (K.taken sink.old) (K.taken sink.new) gathered.new []
+        (gathered.old ++ outcome_line number outcome.now)) }
+    ensures front { OnErr result (TookFront (K.taken sink.old) (K.taken sink.new)
+        (gathered.old ++ outcome_line number outcome.now)) }
     ensures cause { HasWriteCause (K.faults sink.old) (K.faults sink.new) result }
 {
     let line = line_of(alloc, number, outcome)?;

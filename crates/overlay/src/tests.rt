@@ -44,6 +44,15 @@ const REACH_THROUGH_A_CHAIN: &str =
 const REACH_ONE_SIDED: &str =
     r#"{"topology":{"as":64512,"controllers":[{"name":"c1","address":"192.0.2.1"},{"name":"c2","address":"192.0.2.2"}],"nodes":[{"name":"n1","address":"192.0.2.11","controllers":["c1"]},{"name":"n2","address":"192.0.2.12","controllers":["c2"]}]},"configuration":{"networks":[{"name":"red","id":1,"subnets":["10.1.0.0/24"],"policies":["web"]},{"name":"blue","id":2,"subnets":["10.2.0.0/24"],"policies":[]}],"ports":[{"name":"vm1","id":1,"network":"red","address":"10.1.0.1","node":"n1"},{"name":"vm2","id":2,"network":"blue","address":"10.2.0.2","node":"n2"}],"policies":[{"name":"web","sequence":10,"rules":[{"direction":"<>","source":"any","destination":"any","protocol":6,"source_ports":[0,65535],"destination_ports":[22,22],"action":"deny"},{"direction":"<>","source":"any","destination":"any","protocol":"any","source_ports":[0,65535],"destination_ports":[0,65535],"action":"pass"}]}]},"packets":[{"port":1,"to":"10.2.0.2","protocol":6,"sport":50000,"dport":80}]}"#;
 
+/// One rule of one direction, with ranges of ports that differ; a packet, its answer, one with its ports exchanged, and
+/// the ends of the range.
+const REACH_ONE_WAY: &str =
+    r#"{"topology":{"as":64512,"controllers":[{"name":"c1","address":"192.0.2.1"},{"name":"c2","address":"192.0.2.2"}],"nodes":[{"name":"n1","address":"192.0.2.11","controllers":["c1"]},{"name":"n2","address":"192.0.2.12","controllers":["c2"]}]},"configuration":{"networks":[{"name":"red","id":1,"subnets":["10.1.0.0/24"],"policies":["web"]},{"name":"blue","id":2,"subnets":["10.2.0.0/24"],"policies":["web"]}],"ports":[{"name":"vm1","id":1,"network":"red","address":"10.1.0.1","node":"n1"},{"name":"vm2","id":2,"network":"blue","address":"10.2.0.2","node":"n2"}],"policies":[{"name":"web","sequence":10,"rules":[{"direction":">","source":"red","destination":"blue","protocol":6,"source_ports":[1000,1999],"destination_ports":[80,80],"action":"pass"}]}]},"packets":[{"port":1,"to":"10.2.0.2","protocol":6,"sport":1500,"dport":80},{"port":2,"to":"10.1.0.1","protocol":6,"sport":80,"dport":1500},{"port":1,"to":"10.2.0.2","protocol":6,"sport":80,"dport":1500},{"port":1,"to":"10.2.0.2","protocol":6,"sport":1999,"dport":80},{"port":1,"to":"10.2.0.2","protocol":6,"sport":2000,"dport":80},{"port":1,"to":"10.2.0.2","protocol":6,"sport":1000,"dport":80},{"port":1,"to":"10.2.0.2","protocol":6,"sport":999,"dport":80}]}"#;
+
+/// Two networks whose one rule leads through a chain.
+const CHAIN: &str =
+    r#"{"topology":{"as":64512,"controllers":[{"name":"c1","address":"192.0.2.1"},{"name":"c2","address":"192.0.2.2"}],"nodes":[{"name":"n1","address":"192.0.2.11","controllers":["c1"]},{"name":"n2","address":"192.0.2.12","controllers":["c2"]}]},"configuration":{"networks":[{"name":"red","id":1,"subnets":["10.1.0.0/24"],"policies":["sec"]},{"name":"blue","id":2,"subnets":["10.2.0.0/24"],"policies":["sec"]}],"ports":[{"name":"vm1","id":1,"network":"red","address":"10.1.0.1","node":"n1"},{"name":"vm2","id":2,"network":"blue","address":"10.2.0.2","node":"n2"}],"services":[{"name":"s1","id":1,"node":"n1"}],"chains":[{"name":"one","hops":["s1"]}],"policies":[{"name":"sec","sequence":20,"rules":[{"direction":"<>","source":"red","destination":"blue","protocol":"any","source_ports":[0,65535],"destination_ports":[0,65535],"action":"chain","chain":"one","use":0}]}]}}"#;
+
 /// How a run of a command ended, and what it wrote.
 fn ran(alloc: Global, word: &str, input: &[u8]) -> Result<(Status, MemSink), Fail> {
     let words = vec![in alloc; String::from_str(alloc, word)?]?;
@@ -78,7 +87,20 @@ fn compiled(alloc: Global, input: &[u8]) -> Result<(Status, MemSink), Fail> {
 
 #[test]
 fn packets_are_answered(rt: HostRuntime) -> Result<(), Fail> {
-    let cases: [Case; 4] = [
+    let cases: [Case; 5] = [
+        (
+            REACH_ONE_WAY,
+            Status::Done,
+            "\
+1 delivered port 2 services -
+2 dropped denied -
+3 dropped denied -
+4 delivered port 2 services -
+5 dropped denied -
+6 delivered port 2 services -
+7 dropped denied -
+",
+        ),
         (
             REACH,
             Status::Done,
@@ -188,7 +210,17 @@ fn what_is_no_message_is_told(rt: HostRuntime) -> Result<(), Fail> {
 
 #[test]
 fn documents_are_compiled(rt: HostRuntime) -> Result<(), Fail> {
-    let cases: [Case; 5] = [
+    let cases: [Case; 6] = [
+        (
+            CHAIN,
+            Status::Done,
+            "\
+control c1 table 1 10.1.0.1/32 192.0.2.11:1 192.0.2.11 17
+control c1 table 2 10.2.0.2/32 192.0.2.12:2 192.0.2.12 18
+control c2 table 1 10.1.0.1/32 192.0.2.11:1 192.0.2.11 17
+control c2 table 2 10.2.0.2/32 192.0.2.12:2 192.0.2.12 18
+",
+        ),
         (
             ONE,
             Status::Done,

@@ -48,8 +48,8 @@ impl Status {
     }
 }
 
-/// All that the program does: what its words ask for, from a source to a sink. The answer is written as it is made, once
-/// the source is read and what it holds is found good.
+/// All that the program does: what its words ask for, from a source to a sink. The answer is written as it is made,
+/// once the source is read and what it holds is found good.
 pub fn overlay<S: Source, K: Sink>(
     alloc: Global,
     words: &[String],
@@ -81,12 +81,14 @@ pub fn overlay<S: Source, K: Sink>(
     ensures silent { IsSilent result → sink.new ≡ sink.old }
 
     // What is read.
-    ensures read_whole { IsWritten result ⊎ (result ≡ Status.WriteFault) → OfInput (command_of words.now) (S.left source.old)
+    ensures read_whole { IsWritten result ⊎ (result ≡ Status.WriteFault)
+        → OfInput (command_of words.now) (S.left source.old)
         (λ command octets. WasReadWhole (S.left source.old) (S.left source.new) octets) }
     ensures unread { result ≡ Status.Usage → source.new ≡ source.old }
 
     // Nothing is refused without a cause, and only a fault is counted.
-    ensures complete { ¬ Rose (S.faults source.old) (S.faults source.new) → ¬ Rose (K.faults sink.old) (K.faults sink.new)
+    ensures complete { ¬ Rose (S.faults source.old) (S.faults source.new)
+        → ¬ Rose (K.faults sink.old) (K.faults sink.new)
         → IfInput (command_of words.now) (S.left source.old) (λ command octets. length octets ≤ MAX_INPUT_OCTETS
         → (result ≡ status_of (verdict_of command octets)) ⊎ (result ≡ Status.NoMemory)) }
     ensures reads_kept { result ≢ Status.ReadFault → S.faults source.new ≡ S.faults source.old }

@@ -2,6 +2,7 @@
 use Rattle.std.specs.Prelude.{ℕ, List, [], ◌∷◌, ◌++◌, codes, decimal}
 use Rattle.ov_types.specs.Texts.{address_text, distinguisher_text, prefix_text, target_text}
 use Rattle.ov_types.specs.declared.prefix.Addr.{Addr}
+use Rattle.ov_types.specs.declared.numbers.Label.{Label}
 use Rattle.ov_types.specs.declared.targets.Target.{Target}
 use Rattle.ov_types.specs.declared.vpn.VpnKey.{VpnKey}
 use Rattle.ov_types.specs.declared.vpn.VpnRoute.{VpnRoute}
@@ -19,17 +20,22 @@ targets_text (t ∷ ts) = target_text t.0 ++ more_targets ts
 -- an OPEN: the autonomous system, the Hold Time, the identifier
 unfoldable pub open_line : ℕ → ℕ → Addr → List ℕ
 open_line asn hold id =
-    codes "open as " ++ (decimal asn ++ (codes " hold " ++ (decimal hold ++ (codes " id " ++ (address_text id.0 ++ (10 ∷ []))))))
+    codes "open as " ++ (decimal asn ++ (codes " hold " ++ (decimal hold ++ (codes " id "
+    ++ (address_text id.0 ++ (10 ∷ []))))))
 
 -- the distinguisher and the prefix that name a route
 abbrev pub key_text : VpnKey → List ℕ
 key_text key = distinguisher_text key.rd.0 ++ (codes " " ++ prefix_text key.prefix)
 
+-- a route that is put, and where it leads, by the text of its targets
+unfoldable pub route_line : VpnKey → Addr → Label → List ℕ → List ℕ
+route_line key next_hop label targets =
+    codes "put " ++ (key_text key ++ (codes " next-hop " ++ (address_text next_hop.0 ++ (codes " label "
+    ++ (decimal label.0 ++ (codes " targets " ++ (targets ++ (10 ∷ []))))))))
+
 -- a route that is put, and where it leads
 unfoldable pub put_line : VpnKey → VpnRoute → List ℕ
-put_line key route =
-    codes "put " ++ (key_text key ++ (codes " next-hop " ++ (address_text route.next_hop.0 ++ (codes " label "
-    ++ (decimal route.label.0 ++ (codes " targets " ++ (targets_text route.targets ++ (10 ∷ []))))))))
+put_line key route = route_line key route.next_hop route.label (targets_text route.targets)
 
 -- a route that is dropped
 unfoldable pub drop_line : VpnKey → List ℕ

@@ -1,11 +1,15 @@
-use Rattle.std.proofs.Common.{sym, ◌∙◌}
+use Rattle.std.proofs.Common.{sym, ◌∙◌, arith}
 use Rattle.ov_io.proofs.PieceLemmas.{on_err}
-use Rattle.overlay.proofs.Telling.{moved_all, moved_on, report_cut, report_whole, told_all, told_end, told_on, told_stops}
+use Rattle.overlay.proofs.Telling.{moved_all, moved_on, nothing_reported, report_cut, report_whole, told_all, told_end, told_on, told_stops}
 use Rattle.overlay.proofs.decoding.write_report.Goals as goal
+
+pub returns-in_err-known-clause-front : goal.returns-in_err-known-clause-front
+returns-in_err-known-clause-front g c =
+    on_err _ _ (nothing_reported _ c.args.octets.now (λ k. omega (arith, c.type_inv.octets k)))
 
 pub returns-in_err-count-clause-front : goal.returns-in_err-count-clause-front
 returns-in_err-count-clause-front g c =
-    on_err c.from_residual.result _ (told_stops _ c.loop-rest.rest.now _ _ _ _ c.loop-rest.invariant.so c.in_err-count.ensures.front)
+    on_err _ _ (told_stops _ c.loop-rest.rest.now _ _ _ _ c.loop-rest.invariant.so c.in_err-count.ensures.front)
 
 pub returns-in_default-clause-ok : goal.returns-in_default-clause-ok
 returns-in_default-clause-ok g c =

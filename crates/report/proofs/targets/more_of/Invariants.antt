@@ -1,7 +1,7 @@
 use Rattle.std.proofs.Common.{◌≡◌, ◌++◌, drop}
 use Rattle.std.specs.Prelude.{string_bytes}
 use Rattle.report.specs.Lines.{more_targets}
-use Rattle.report.proofs.lines.more_of.Given as goal
+use Rattle.report.proofs.targets.more_of.Given as goal
 
 abbrev pub invariant-loop-target : goal.invariant-loop-target
 invariant-loop-target l =
