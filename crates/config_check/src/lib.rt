@@ -28,6 +28,4 @@ pub use refusal::{CheckRefusal, IdKind, LimitKind, Refusal};
 pub use valid::{Valid, check};
 
 #[cfg(test)]
-mod edit_tests;
-#[cfg(test)]
 mod tests;
