@@ -17,7 +17,8 @@ use Rattle.bgp_session.specs.declared.event.Cause.TheVariants.{Wire}
 use Rattle.bgp_session.specs.declared.event.Event.{Event}
 use Rattle.bgp_session.specs.declared.event.Event.TheVariants as events
 use Rattle.bgp_session.specs.declared.table.Act.{Act}
-use Rattle.bgp_session.specs.declared.table.Act.TheVariants.{Nothing, SendOpen, SendKeepalive, ComeUp, HandOut, AnswerFault, AnswerOrder, GoDown}
+use Rattle.bgp_session.specs.declared.table.Act.TheVariants.{Nothing, SendOpen, SendKeepalive, ComeUp, HandOut}
+use Rattle.bgp_session.specs.declared.table.Act.TheVariants.{AnswerFault, AnswerOrder, GoDown}
 use Rattle.bgp_session.specs.Inputs.{Came, RightUpdate, fault_of, cause_of, Brings}
 use Rattle.bgp_session.specs.Table.{cell_at, state_in, act_in}
 

@@ -14,8 +14,8 @@ use Rattle.bgp_session.specs.declared.event.Cause.TheVariants.{Notified, Ended}
 use Rattle.bgp_session.specs.declared.input.Input.{Input}
 use Rattle.bgp_session.specs.declared.input.Input.TheVariants as inputs
 
--- the inputs of a session: its connection is opened or closed, a message comes, or octets that are none. An OPEN is right where
--- it is of the session's autonomous system and of its peer, and an UPDATE where it passes all checks
+-- the inputs of a session: its connection is opened or closed, a message comes, or octets that are none. An OPEN is
+-- right where it is of the session's autonomous system and of its peer, and an UPDATE where it passes all checks
 pub data Came : Type 0 where
   Opened : Came
   RightOpen : Came
@@ -69,7 +69,8 @@ came_by_open (Some f) = WrongOpen f
 
 -- an UPDATE that passes all checks brings its changes, and else its fault
 pub data BringsUpdate (parts : UpdateFields) (came : Came) : Type 0 where
-  right : (deltas : List (Delta VpnKey VpnRoute)) → Changes parts deltas → came ≡ RightUpdate deltas → BringsUpdate parts came
+  right : (deltas : List (Delta VpnKey VpnRoute)) → Changes parts deltas → came ≡ RightUpdate deltas
+      → BringsUpdate parts came
   wrong : (f : WireFault) → HasUpdateFault parts f → came ≡ WrongUpdate f → BringsUpdate parts came
 
 -- what a message brings to a session of this autonomous system with the peer of this address

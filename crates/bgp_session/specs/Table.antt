@@ -4,11 +4,13 @@ use Rattle.ov_table.specs.Table.{cell_of}
 use Rattle.bgp_session.specs.declared.event.State.{State}
 use Rattle.bgp_session.specs.declared.event.State.TheVariants.{Idle, OpenSent, OpenConfirm, Established}
 use Rattle.bgp_session.specs.declared.table.Act.{Act}
-use Rattle.bgp_session.specs.declared.table.Act.TheVariants.{Nothing, SendOpen, SendKeepalive, ComeUp, HandOut, AnswerFault, AnswerOrder, GoDown}
-use Rattle.bgp_session.specs.Inputs.{Came, Opened, RightOpen, WrongOpen, KeepaliveCame, RightUpdate, WrongUpdate, NotificationCame, BadFrame, Closed}
+use Rattle.bgp_session.specs.declared.table.Act.TheVariants.{Nothing, SendOpen, SendKeepalive, ComeUp, HandOut}
+use Rattle.bgp_session.specs.declared.table.Act.TheVariants.{AnswerFault, AnswerOrder, GoDown}
+use Rattle.bgp_session.specs.Inputs.{Came, Opened, RightOpen, WrongOpen, KeepaliveCame, RightUpdate, WrongUpdate}
+use Rattle.bgp_session.specs.Inputs.{NotificationCame, BadFrame, Closed}
 
--- Idle, OpenSent, OpenConfirm, Established; each by opened, a right OPEN, a wrong OPEN, a KEEPALIVE, a right UPDATE, a wrong
--- UPDATE, a NOTIFICATION, a bad frame, closed: 16 times the next state and the act
+-- Idle, OpenSent, OpenConfirm, Established; each by opened, a right OPEN, a wrong OPEN, a KEEPALIVE, a right UPDATE, a
+-- wrong UPDATE, a NOTIFICATION, a bad frame, closed: 16 times the next state and the act
 abbrev pub session_table : List (List ℕ)
 session_table =
     (17 ∷ 0 ∷ 0 ∷ 0 ∷ 0 ∷ 0 ∷ 0 ∷ 0 ∷ 0 ∷ [])

@@ -4,7 +4,8 @@ use Rattle.bgp_session.specs.declared.event.State.{State}
 use Rattle.bgp_session.specs.declared.event.State.TheVariants.{Idle, OpenSent, OpenConfirm, Established}
 use Rattle.bgp_session.specs.declared.event.Reply.TheVariants.{Hello, Keepalive}
 use Rattle.bgp_session.specs.declared.event.Cause.TheVariants.{Notified, Ended}
-use Rattle.bgp_session.specs.Inputs.{Came, Opened, RightOpen, WrongOpen, KeepaliveCame, RightUpdate, WrongUpdate, NotificationCame, BadFrame, Closed}
+use Rattle.bgp_session.specs.Inputs.{Came, Opened, RightOpen, WrongOpen, KeepaliveCame, RightUpdate, WrongUpdate}
+use Rattle.bgp_session.specs.Inputs.{NotificationCame, BadFrame, Closed}
 use Rattle.bgp_session.specs.Happenings.{Happening, Passes, Sends, ComesUp, HandsOut, GoesDown, refusal, out_of_order}
 
 -- the next state, and what happens

@@ -4,7 +4,8 @@ use bgp_wire::WireFault;
 use ov_sync::Delta;
 use ov_types::{VpnKey, VpnRoute};
 
-/// The states of a session (RFC 4271, section 8.2.2). The transport is none of its cares, so Connect and Active are not there.
+/// The states of a session (RFC 4271, section 8.2.2). The transport is none of its cares, so Connect and Active are not
+/// there.
 #[derive(Clone, Copy, Debug, PartialEq, Eq)]
 pub enum State {
     Idle,
@@ -42,7 +43,8 @@ pub enum Event {
     Up,
     /// The routes that the peer announces and withdraws.
     Deltas(Vec<Delta<VpnKey, VpnRoute>>),
-    /// The session is over; before the connection is closed, a NOTIFICATION of this code and subcode is to be sent, if any.
+    /// The session is over; before the connection is closed, a NOTIFICATION of this code and subcode is to be sent, if
+    /// any.
     Down {
         cause: Cause,
         reply: Option<(u8, u8)>,

@@ -13,8 +13,8 @@ pub fn each_cell_says_its_words()
     ensures { (state : State) (came : Came) → (next_state state came, next_happening state came) ≡ step_of state came }
 {}
 
-/// An OPEN is right exactly where its autonomous system is this one and its identifier is the peer's address; another autonomous
-/// system is refused first.
+/// An OPEN is right exactly where its autonomous system is this one and its identifier is the peer's address; another
+/// autonomous system is refused first.
 pub fn opens_are_judged_by_their_speaker()
     ensures right { (asn : ℕ) (peer : Addr) (fields : OpenFields)
         → (open_refusal asn peer fields ≡ None) ↔ ((asn_of fields ≡ asn) × (fields.id ≡ peer.0)) }

@@ -1,5 +1,6 @@
 -- The checks on an UPDATE (RFC 4271, section 6.3; RFC 4760, section 7), in the order in which they are made.
-use Rattle.std.specs.Prelude.{ℕ, ◌==◌, ◌&&◌, ◌||◌, ◌%◌, not, nat_lt, List, [], ◌∷◌, ◌++◌, length, slice_index, drop, Bool, Option, Some, None, if◌then◌else◌, is_some, bit_and}
+use Rattle.std.specs.Prelude.{ℕ, ◌==◌, ◌&&◌, ◌||◌, ◌%◌, not, nat_lt, List, [], ◌∷◌, ◌++◌, length, slice_index, drop}
+use Rattle.std.specs.Prelude.{Bool, Option, Some, None, if◌then◌else◌, is_some, bit_and}
 use Rattle.std.specs.List.{list_any}
 use Rattle.byteorder.specs.Endian.{big_number}
 use Rattle.bgp_wire.specs.declared.fault.WireFault.{WireFault}
@@ -51,7 +52,8 @@ value_fault routes_follow kind value =
 
 -- a length that the attribute's row does not have; extended communities have eight octets each
 abbrev pub is_wrong_length : ℕ → ℕ → ℕ → Bool
-is_wrong_length row kind len = nat_lt len (least_in row) || (nat_lt (greatest_in row) len || (kind == 16 && not (len % 8 == 0)))
+is_wrong_length row kind len =
+    nat_lt len (least_in row) || (nat_lt (greatest_in row) len || (kind == 16 && not (len % 8 == 0)))
 
 -- the checks on an attribute of a row: the flags Optional and Transitive, the length, the value
 abbrev pub known_fault : Bool → ℕ → AttributeFields → Option WireFault
@@ -78,7 +80,8 @@ has_kind attributes kind = list_any (λ a. a.kind == kind) attributes
 
 -- the checks on an attribute that stands behind others
 abbrev pub attribute_fault : Bool → List AttributeFields → AttributeFields → Option WireFault
-attribute_fault routes_follow others a = fault_if (has_kind others a.kind) malformed_attributes then_check own_fault routes_follow a
+attribute_fault routes_follow others a =
+    fault_if (has_kind others a.kind) malformed_attributes then_check own_fault routes_follow a
 
 -- the first check that fails on attributes that stand behind others
 abbrev pub attributes_fault : Bool → List AttributeFields → List AttributeFields → Option WireFault
@@ -90,8 +93,8 @@ attributes_fault routes_follow others (a ∷ attributes) =
 abbrev pub routes_follow_in : UpdateFields → Bool
 routes_follow_in parts = not (length parts.routes == 0)
 
--- an attribute that is lacking, by whether plain routes follow and by which attributes are there: ORIGIN and AS_PATH go with each
--- route, and NEXT_HOP with each plain one
+-- an attribute that is lacking, by whether plain routes follow and by which attributes are there: ORIGIN and AS_PATH go
+-- with each route, and NEXT_HOP with each plain one
 abbrev pub lacking_fault : (routes_follow reach origin as_path next_hop : Bool) → Option WireFault
 lacking_fault routes_follow reach origin as_path next_hop =
     fault_if ((reach || routes_follow) && not (origin && as_path)) missing_well_known
@@ -103,7 +106,8 @@ missing_fault routes_follow attributes =
     lacking_fault routes_follow (is_some (value_at 14 attributes)) (is_some (value_at 1 attributes))
     (is_some (value_at 2 attributes)) (is_some (value_at 3 attributes))
 
--- the first check that fails on an UPDATE whose attributes are these and then a tail, which is nothing or a cut attribute
+-- the first check that fails on an UPDATE whose attributes are these and then a tail, which is nothing or a cut
+-- attribute
 abbrev pub update_fault : UpdateFields → List AttributeFields → List ℕ → Option WireFault
 update_fault parts attributes tail =
     attributes_fault (routes_follow_in parts) [] attributes

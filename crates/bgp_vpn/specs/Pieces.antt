@@ -1,5 +1,6 @@
 -- Octets that are pieces, one after the other, each of which says by its first octets how long it is.
-use Rattle.std.specs.Prelude.{ℕ, zero, suc, ◌+◌, ◌*◌, ◌/◌, ◌==◌, ◌&&◌, ◌||◌, nat_lt, nat_le, List, [], ◌∷◌, slice_index, Bool, true, false}
+use Rattle.std.specs.Prelude.{ℕ, zero, suc, ◌+◌, ◌*◌, ◌/◌, ◌==◌, ◌&&◌, ◌||◌, nat_lt, nat_le, List, [], ◌∷◌, slice_index}
+use Rattle.std.specs.Prelude.{Bool, true, false}
 
 -- octets that are n octets of a piece and then pieces: good says whether a piece may begin with an octet and those
 -- behind it, and len how many octets it has behind its first
@@ -18,8 +19,8 @@ abbrev pub are_prefixes : ℕ → ℕ → List ℕ → Bool
 are_prefixes least greatest =
     are_pieces_behind (λ bits behind. nat_le least bits && nat_le bits greatest) (λ bits behind. octets_for bits) 0
 
--- segments of an AS_PATH: each a type, AS_SET or AS_SEQUENCE, a count of at least one, and as many numbers of two octets
--- (RFC 4271, section 4.3)
+-- segments of an AS_PATH: each a type, AS_SET or AS_SEQUENCE, a count of at least one, and as many numbers of two
+-- octets (RFC 4271, section 4.3)
 abbrev pub are_segments : List ℕ → Bool
 are_segments =
     are_pieces_behind (λ kind behind. (kind == 1 || kind == 2) && nat_lt 0 (slice_index behind 0))

@@ -1,4 +1,5 @@
--- The attributes that are known, each with its flags, the lengths that its value may have, and the fault of another length.
+-- The attributes that are known, each with its flags, the lengths that its value may have, and the fault of another
+-- length.
 use Rattle.std.specs.Prelude.{ℕ, List, [], ◌∷◌, ◌==◌, Option, Some, None, if◌then◌else◌}
 use Rattle.ov_table.specs.Table.{cell_of}
 

@@ -1,5 +1,6 @@
 -- VPN-IPv4 routes (RFC 4364, section 4.3.4; RFC 8277, section 2).
-use Rattle.std.specs.Prelude.{◌≡◌, ◌≤◌, nat_le, ◌&&◌, ℕ, zero, suc, ◌-◌, ◌*◌, ◌/◌, ◌^◌, List, [], ◌∷◌, ◌++◌, length, take, drop, Bool, if◌then◌else◌}
+use Rattle.std.specs.Prelude.{◌≡◌, ◌≤◌, nat_le, ◌&&◌, ℕ, zero, suc, ◌-◌, ◌*◌, ◌/◌, ◌^◌, List, [], ◌∷◌, ◌++◌, length}
+use Rattle.std.specs.Prelude.{take, drop, Bool, if◌then◌else◌}
 use Rattle.std.specs.List.{flat_map, AllByRecursion}
 use Rattle.byteorder.specs.Endian.{big_number}
 use Rattle.ov_types.specs.Prefix.{Block}
@@ -13,8 +14,8 @@ use Rattle.ov_sync.specs.declared.Delta.{Delta}
 use Rattle.ov_sync.specs.declared.Delta.TheVariants.{Put, Drop}
 use Rattle.bgp_vpn.specs.Pieces.{octets_for}
 
--- a route as it is spelled: its length in bits, and its octets, which are a label field of three octets, a distinguisher of
--- eight, and the prefix
+-- a route as it is spelled: its length in bits, and its octets, which are a label field of three octets, a
+-- distinguisher of eight, and the prefix
 pub record RouteFields : Type 0 where
   pub bits : ℕ
   pub octets : List ℕ

@@ -61,7 +61,8 @@ local_preference = attribute 0x40 5 (big_bytes 4 100)
 
 -- the value of MP_REACH_NLRI: the distinguisher of the next hop and the reserved octet are 0
 abbrev pub written_reach : VpnKey → VpnRoute → List ℕ
-written_reach key route = reach_value (replicate 8 0) route.next_hop.0 0 (route_octets (route_of key (label_field route.label)))
+written_reach key route =
+    reach_value (replicate 8 0) route.next_hop.0 0 (route_octets (route_of key (label_field route.label)))
 
 -- the value of MP_UNREACH_NLRI
 abbrev pub written_unreach : VpnKey → List ℕ
@@ -77,7 +78,8 @@ communities_of (t ∷ targets) = attribute 0xC0 16 (flat_map target_octets (t �
 
 -- the attributes of a change, each with the flags of its type
 abbrev pub attributes_of : Delta VpnKey VpnRoute → List AttributeFields
-attributes_of (Put key route) = origin ∷ as_path ∷ local_preference ∷ attribute 0x80 14 (written_reach key route) ∷ communities_of route.targets
+attributes_of (Put key route) =
+    origin ∷ as_path ∷ local_preference ∷ attribute 0x80 14 (written_reach key route) ∷ communities_of route.targets
 attributes_of (Drop key) = attribute 0x80 15 (written_unreach key) ∷ []
 
 -- the parts of the UPDATE of a change

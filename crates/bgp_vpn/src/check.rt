@@ -1,9 +1,11 @@
 //! The checks on an UPDATE, in order.
-ghost use Rattle.std.specs.Prelude.{◌≡◌, ◌<◌, ℕ, List, [], slice_index_or, slice_set, length, not, ◌==◌, false, true, is_some, option_copied, IfOk};
+ghost use Rattle.std.specs.Prelude.{◌≡◌, ◌<◌, ℕ, List, [], slice_index_or, slice_set, length, not, ◌==◌, false, true};
+ghost use Rattle.std.specs.Prelude.{is_some, option_copied, IfOk};
 ghost use Rattle.bgp_wire.specs.Faults.{Checks, fault_if, ◌then_check◌, malformed_attributes};
 ghost use Rattle.bgp_wire.specs.Attributes.{AttributeFields, AreAttributes, fields_of};
 ghost use Rattle.bgp_wire.specs.Messages.{AreOctets};
-ghost use Rattle.bgp_vpn.specs.Checks.{is_wrong_length, known_fault, own_fault, attributes_fault, lacking_fault, missing_fault, update_fault};
+ghost use Rattle.bgp_vpn.specs.Checks.{is_wrong_length, known_fault, own_fault, attributes_fault, lacking_fault};
+ghost use Rattle.bgp_vpn.specs.Checks.{missing_fault, update_fault};
 ghost use Rattle.bgp_vpn.specs.Found.{IsFound};
 ghost use Rattle.bgp_vpn.specs.Updates.{parts_of};
 
@@ -67,7 +69,8 @@ fn mark(marked: &mut [bool; 256], kind: u8) -> bool
 fn check_attributes<'a>(routes_follow: bool, part: &UpdatePart<'a>) -> Result<Found<'a>, WireFault>
     ensures octets { AreOctets part.now.attributes.now }
     ensures checks { (all : List AttributeFields) (tail : List ℕ) → AreAttributes part.now.attributes.now all tail
-        → Checks result (attributes_fault routes_follow [] all then_check fault_if (not (length tail == 0)) malformed_attributes) }
+        → Checks result (attributes_fault routes_follow [] all
+        then_check fault_if (not (length tail == 0)) malformed_attributes) }
     ensures found { IfOk result (λ found. (all : List AttributeFields) (tail : List ℕ)
         → AreAttributes part.now.attributes.now all tail → IsFound found all) }
 {

@@ -28,8 +28,8 @@ pub(crate) const TRANSITIVE: u8 = 0x40;
 
 pub(crate) const OPTIONAL_AND_TRANSITIVE: u8 = 0xC0;
 
-/// The bits of a route before its prefix, which are those of a label field and a distinguisher, and the most bits that it
-/// has (RFC 8277, section 2; RFC 4364, section 4.1).
+/// The bits of a route before its prefix, which are those of a label field and a distinguisher, and the most bits that
+/// it has (RFC 8277, section 2; RFC 4364, section 4.1).
 pub(crate) const LEAST_BITS: u8 = 88;
 
 pub(crate) const MOST_BITS: u8 = 120;

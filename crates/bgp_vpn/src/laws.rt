@@ -1,5 +1,6 @@
 //! What the grammar of UPDATEs promises.
-ghost use Rattle.std.specs.Prelude.{◌≡◌, ◌<◌, ◌+◌, ◌*◌, ◌-◌, ◌^◌, ◌⊎◌, ◌↔◌, ℕ, List, Some, length, map, Contains, IsTrue};
+ghost use Rattle.std.specs.Prelude.{◌≡◌, ◌<◌, ◌+◌, ◌*◌, ◌-◌, ◌^◌, ◌⊎◌, ◌↔◌, ℕ, List, Some, length, map, Contains};
+ghost use Rattle.std.specs.Prelude.{IsTrue};
 ghost use Rattle.ov_types.specs.declared.vpn.VpnKey.{VpnKey};
 ghost use Rattle.ov_types.specs.declared.vpn.VpnRoute.{VpnRoute};
 ghost use Rattle.ov_sync.specs.declared.Delta.{Delta};
@@ -19,10 +20,12 @@ ghost use Rattle.bgp_vpn.specs.Updates.{changes_of, Changes, HasUpdateFault};
 /// An UPDATE makes changes or has a fault: always one of the two, only one, and in one way.
 pub fn an_update_says_one_thing()
     ensures some { (parts : UpdateFields) → AreOctets parts.attributes
-        → ((deltas : List (Delta VpnKey VpnRoute)) × Changes parts deltas) ⊎ ((f : WireFault) × HasUpdateFault parts f) }
+        → ((deltas : List (Delta VpnKey VpnRoute)) × Changes parts deltas)
+        ⊎ ((f : WireFault) × HasUpdateFault parts f) }
     ensures never_both { (parts : UpdateFields) (deltas : List (Delta VpnKey VpnRoute)) (f : WireFault)
         → Changes parts deltas → HasUpdateFault parts f → ⊥ }
-    ensures changes { (parts : UpdateFields) (a b : List (Delta VpnKey VpnRoute)) → Changes parts a → Changes parts b → a ≡ b }
+    ensures changes { (parts : UpdateFields) (a b : List (Delta VpnKey VpnRoute)) → Changes parts a → Changes parts b
+        → a ≡ b }
     ensures fault { (parts : UpdateFields) (f g : WireFault) → HasUpdateFault parts f → HasUpdateFault parts g → f ≡ g }
 {}
 
@@ -53,7 +56,8 @@ pub fn spellings_of_a_next_hop_are_one()
 pub fn equal_routes_make_equal_changes()
     ensures { (a b : List AttributeFields) (withdrawn gone reached found : List RouteFields)
         → next_hop_in a ≡ next_hop_in b → targets_in a ≡ targets_in b
-        → map key_of withdrawn ≡ map key_of gone → map key_of reached ≡ map key_of found → map label_of reached ≡ map label_of found
+        → map key_of withdrawn ≡ map key_of gone → map key_of reached ≡ map key_of found
+        → map label_of reached ≡ map label_of found
         → changes_of a withdrawn reached ≡ changes_of b gone found }
 {}
 
@@ -70,6 +74,8 @@ pub fn tests_hold_of_exactly_the_lists()
         → (prefixes : List RouteFields) × ArePrefixes least greatest octets prefixes }
     ensures no_other_prefixes { (least greatest : ℕ) (octets : List ℕ) (prefixes : List RouteFields)
         → ArePrefixes least greatest octets prefixes → IsTrue (are_prefixes least greatest octets) }
-    ensures segments { (octets : List ℕ) → IsTrue (are_segments octets) → (segments : List SegmentFields) × AreSegments octets segments }
-    ensures no_other_segments { (octets : List ℕ) (segments : List SegmentFields) → AreSegments octets segments → IsTrue (are_segments octets) }
+    ensures segments { (octets : List ℕ) → IsTrue (are_segments octets)
+        → (segments : List SegmentFields) × AreSegments octets segments }
+    ensures no_other_segments { (octets : List ℕ) (segments : List SegmentFields) → AreSegments octets segments
+        → IsTrue (are_segments octets) }
 {}

@@ -14,7 +14,8 @@ pub(crate) fn octets_for(bits: u8) -> usize
 /// The octets behind the first route. None where there is none whole, or its length is not between these bounds.
 fn behind_prefix(octets: &[u8], least: u8, greatest: u8) -> Option<&[u8]>
     requires { 0 < length octets.now }
-    ensures same { IfSome result (λ after. are_prefixes least greatest octets.now ≡ are_prefixes least greatest after.now) }
+    ensures same { IfSome result (λ after. are_prefixes least greatest octets.now
+        ≡ are_prefixes least greatest after.now) }
     ensures shorter { IfSome result (λ after. length after.now < length octets.now) }
     ensures none { IfNone result (are_prefixes least greatest octets.now ≡ false) }
 {

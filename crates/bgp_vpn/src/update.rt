@@ -152,8 +152,8 @@ fn said_in<'a>(alloc: Global, found: &Found<'a>) -> Result<VpnUpdate<'a>, NoMemo
 
 /// What an UPDATE says of VPN-IPv4 routes, read where it lies.
 ///
-/// Plain routes, other address families, unknown optional attributes and extended communities that are no route targets are
-/// passed over. The first check that fails is the fault (RFC 4271, section 6.3; RFC 4760, section 7).
+/// Plain routes, other address families, unknown optional attributes and extended communities that are no route targets
+/// are passed over. The first check that fails is the fault (RFC 4271, section 6.3; RFC 4760, section 7).
 pub fn read_routes<'a>(alloc: Global, part: &UpdatePart<'a>) -> Result<VpnUpdate<'a>, UpdateFault>
     ensures said { IfOk result (λ said. Changes (parts_of part.now) (changes_said said)) }
     ensures fault { IfErr result (λ e. IfWire e (λ f. HasUpdateFault (parts_of part.now) f)) }

@@ -7,7 +7,9 @@ ghost use Rattle.bgp_wire.specs.Attributes.{is_extended, attribute_octets};
 ghost use Rattle.bgp_wire.specs.Spelling.{spelling, IsReadAgain};
 ghost use Rattle.bgp_vpn.specs.Routes.{route_octets};
 ghost use Rattle.bgp_vpn.specs.Updates.{Changes};
-ghost use Rattle.bgp_vpn.specs.Written.{IfPut, FitsItsTypes, route_of, attribute, origin, as_path, local_preference, written_reach, written_unreach, target_octets, communities_of, attributes_of, written, written_parts};
+ghost use Rattle.bgp_vpn.specs.Written.{IfPut, FitsItsTypes, route_of, attribute, origin, as_path, local_preference};
+ghost use Rattle.bgp_vpn.specs.Written.{written_reach, written_unreach, target_octets, communities_of, attributes_of};
+ghost use Rattle.bgp_vpn.specs.Written.{written, written_parts};
 
 use crate::known::{
     AS_PATH, EXTENDED_COMMUNITIES, LEAST_BITS, LOCAL_PREF, MP_REACH_NLRI, MP_UNREACH_NLRI,
@@ -134,7 +136,8 @@ fn push_communities(alloc: Global, targets: &[Target], out: &mut Vec<u8>) -> Res
 
 /// Appends the attributes that go with each route: ORIGIN, AS_PATH and LOCAL_PREF (RFC 4271, section 5.1).
 fn push_well_known(out: &mut Vec<u8>) -> Result<(), NoMemory>
-    ensures { OnOk result (out.new.items ≡ out.old.items ++ flat_map attribute_octets (origin ∷ as_path ∷ local_preference ∷ [])) }
+    ensures { OnOk result (out.new.items ≡ out.old.items
+        ++ flat_map attribute_octets (origin ∷ as_path ∷ local_preference ∷ [])) }
 {
     push_attribute(TRANSITIVE, ORIGIN, &[0], out)?;
     push_attribute(TRANSITIVE, AS_PATH, &[], out)?;
@@ -147,7 +150,8 @@ fn put_attributes(alloc: Global, key: &VpnKey, route: &VpnRoute) -> Result<Vec<u
     requires few_targets { length route.now.targets ≤ 31 }
     requires route_targets { AllByRecursion (λ t. IsTrue (is_target t.0)) route.now.targets }
     requires label { route.now.label.0 < 2 ^ 20 }
-    ensures octets { IfOk result (λ octets. octets.items ≡ flat_map attribute_octets (attributes_of (Delta.Put key.now route.now))) }
+    ensures octets { IfOk result (λ octets. octets.items
+        ≡ flat_map attribute_octets (attributes_of (Delta.Put key.now route.now))) }
     ensures change { Changes (written_parts (Delta.Put key.now route.now)) (Delta.Put key.now route.now ∷ []) }
     ensures length { length (flat_map attribute_octets (attributes_of (Delta.Put key.now route.now))) ≤ 512 }
 {
@@ -163,7 +167,8 @@ fn put_attributes(alloc: Global, key: &VpnKey, route: &VpnRoute) -> Result<Vec<u
 /// The attributes of a route that is dropped.
 #[tactic(auto, using(crate::proofs::WrittenUpdates::drop_changes, crate::proofs::WrittenUpdates::drop_length))]
 fn drop_attributes(alloc: Global, key: &VpnKey) -> Result<Vec<u8>, NoMemory>
-    ensures octets { IfOk result (λ octets. octets.items ≡ flat_map attribute_octets (attributes_of (Delta.Drop key.now))) }
+    ensures octets { IfOk result (λ octets. octets.items
+        ≡ flat_map attribute_octets (attributes_of (Delta.Drop key.now))) }
     ensures change { Changes (written_parts (Delta.Drop key.now)) (Delta.Drop key.now ∷ []) }
     ensures length { length (flat_map attribute_octets (attributes_of (Delta.Drop key.now))) ≤ 512 }
 {

@@ -1,6 +1,7 @@
 -- The path attributes of an UPDATE lie one after the other, each flags, a type, the length of a value, and the value
 -- (RFC 4271, section 4.3).
-use Rattle.std.specs.Prelude.{◌≡◌, ◌<◌, ◌+◌, ◌^◌, ◌==◌, not, ℕ, List, [], ◌∷◌, ◌++◌, length, Bool, if◌then◌else◌, bit_and, Option, Some, None, Ok, Err, Result, ◌⊎◌}
+use Rattle.std.specs.Prelude.{◌≡◌, ◌<◌, ◌+◌, ◌^◌, ◌==◌, not, ℕ, List, [], ◌∷◌, ◌++◌, length, Bool, if◌then◌else◌}
+use Rattle.std.specs.Prelude.{bit_and, Option, Some, None, Ok, Err, Result, ◌⊎◌}
 use Rattle.std.specs.List.{flat_map, AllByRecursion}
 use Rattle.byteorder.specs.Endian.{big_bytes, big_number}
 use Rattle.bgp_wire.specs.declared.fault.WireFault.{WireFault}
@@ -65,5 +66,6 @@ NextAttribute octets (Some (Err f)) after = IsCut octets × (f ≡ malformed_att
 -- items say these attributes, each once and in order, and then one fault exactly where the tail is a cut attribute
 abbrev pub SaysAll : List (Result Attribute WireFault) → List AttributeFields → List ℕ → Type 0
 SaysAll [] attributes tail = (attributes ≡ []) × (tail ≡ [])
-SaysAll ((Ok item) ∷ items) attributes tail = (others : List AttributeFields) × (attributes ≡ fields_of item ∷ others) × SaysAll items others tail
+SaysAll ((Ok item) ∷ items) attributes tail =
+    (others : List AttributeFields) × (attributes ≡ fields_of item ∷ others) × SaysAll items others tail
 SaysAll ((Err f) ∷ items) attributes tail = (attributes ≡ []) × IsCut tail × (f ≡ malformed_attributes) × (items ≡ [])

@@ -1,5 +1,6 @@
 -- The frame of a message (RFC 4271, sections 4.1 and 6.1).
-use Rattle.std.specs.Prelude.{◌≡◌, ◌≤◌, ◌<◌, ◌+◌, ◌==◌, ◌&&◌, ◌||◌, not, nat_lt, nat_le, ℕ, List, [], ◌∷◌, ◌++◌, length, take, drop, replicate, slice_index, Option, Some, None, if◌then◌else◌, ◌⊎◌}
+use Rattle.std.specs.Prelude.{◌≡◌, ◌≤◌, ◌<◌, ◌+◌, ◌==◌, ◌&&◌, ◌||◌, not, nat_lt, nat_le, ℕ, List, [], ◌∷◌, ◌++◌, length}
+use Rattle.std.specs.Prelude.{take, drop, replicate, slice_index, Option, Some, None, if◌then◌else◌, ◌⊎◌}
 use Rattle.std.specs.List.{list_all}
 use Rattle.byteorder.specs.Endian.{big_bytes, big_number}
 use Rattle.bgp_wire.specs.declared.fault.WireFault.{WireFault}
@@ -59,7 +60,8 @@ marker_fault octets = fault_if (not (list_all (λ octet. octet == 255) (take 16 
 
 abbrev pub length_fault : List ℕ → Option WireFault
 length_fault octets =
-    fault_if (nat_le 18 (length octets) && (nat_lt (length_at octets) 19 || nat_lt 4096 (length_at octets))) bad_message_length
+    fault_if
+    (nat_le 18 (length octets) && (nat_lt (length_at octets) 19 || nat_lt 4096 (length_at octets))) bad_message_length
 
 -- a type that is none, or of which no message has this length
 abbrev pub kind_fault : Option Kind → ℕ → Option WireFault

@@ -13,7 +13,8 @@ use Rattle.bgp_wire.specs.Frames.{IsFrame, frame_fault}
 -- what a message says
 abbrev pub content_of : Message → Content
 content_of (messages.Hello fields) = Opens fields
-content_of (messages.Update parts) = Updates (record { withdrawn = parts.withdrawn.now; attributes = parts.attributes.now; routes = parts.routes.now })
+content_of (messages.Update parts) =
+    Updates (record { withdrawn = parts.withdrawn.now; attributes = parts.attributes.now; routes = parts.routes.now })
 content_of (messages.Notification code subcode) = Notifies code subcode
 content_of messages.Keepalive = KeepsAlive
 

@@ -1,9 +1,11 @@
 -- The body of an OPEN (RFC 4271, sections 4.2 and 6.2).
-use Rattle.std.specs.Prelude.{◌≡◌, ◌≢◌, ◌<◌, ◌^◌, ◌+◌, ◌==◌, ◌||◌, not, ℕ, List, [], ◌∷◌, ◌++◌, length, drop, slice_index, Option, MatchOption, ◌⊎◌}
+use Rattle.std.specs.Prelude.{◌≡◌, ◌≢◌, ◌<◌, ◌^◌, ◌+◌, ◌==◌, ◌||◌, not, ℕ, List, [], ◌∷◌, ◌++◌, length, drop}
+use Rattle.std.specs.Prelude.{slice_index, Option, MatchOption, ◌⊎◌}
 use Rattle.byteorder.specs.Endian.{big_bytes, big_number}
 use Rattle.bgp_wire.specs.declared.fault.WireFault.{WireFault}
 use Rattle.bgp_wire.specs.Content.{OpenFields}
-use Rattle.bgp_wire.specs.Faults.{fault_if, ◌then_check◌, unspecific_open, unsupported_version, bad_identifier, unsupported_parameter, unacceptable_hold_time}
+use Rattle.bgp_wire.specs.Faults.{fault_if, ◌then_check◌, unspecific_open, unsupported_version, bad_identifier}
+use Rattle.bgp_wire.specs.Faults.{unsupported_parameter, unacceptable_hold_time}
 use Rattle.bgp_wire.specs.Parts.{Part, IsOverrun, BeginsWithPart, PartsThen, AreParts}
 
 -- capability 1, of an address family, has four octets; others are passed over
@@ -31,7 +33,8 @@ AreParameters = AreParts IsParameter
 pub data IsFaultyParameter (rest : List ℕ) (f : WireFault) : Type 0 where
   overruns : IsOverrun rest → f ≡ unspecific_open → IsFaultyParameter rest f
   has_another_type : BeginsWithPart (λ p. p.kind ≢ 2) rest → f ≡ unsupported_parameter → IsFaultyParameter rest f
-  has_broken_capabilities : BeginsWithPart (λ p. (p.kind ≡ 2) × AreBrokenCapabilities p.value) rest → f ≡ unspecific_open → IsFaultyParameter rest f
+  has_broken_capabilities : BeginsWithPart (λ p. (p.kind ≡ 2) × AreBrokenCapabilities p.value) rest
+      → f ≡ unspecific_open → IsFaultyParameter rest f
 
 -- the first parameter that is no good has this fault
 abbrev pub HasFaultyParameter : List ℕ → WireFault → Type 0

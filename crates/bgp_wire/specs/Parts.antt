@@ -1,5 +1,5 @@
--- The parameters of an OPEN and the capabilities in them lie one after the other, each a type, the length of a value in one
--- octet, and the value (RFC 4271, section 4.2; RFC 5492, section 4).
+-- The parameters of an OPEN and the capabilities in them lie one after the other, each a type, the length of a value in
+-- one octet, and the value (RFC 4271, section 4.2; RFC 5492, section 4).
 use Rattle.std.specs.Prelude.{◌≡◌, ◌<◌, ℕ, zero, suc, List, [], ◌∷◌, ◌++◌, length, take, drop, nat_le, if◌then◌else◌}
 use Rattle.std.specs.List.{flat_map, AllByRecursion}
 
@@ -42,7 +42,8 @@ parts_below zero octets = []
 parts_below (suc most) [] = []
 parts_below (suc most) (kind ∷ []) = []
 parts_below (suc most) (kind ∷ len ∷ rest) =
-    if nat_le len (length rest) then record { kind = kind; value = take len rest } ∷ parts_below most (drop len rest) else []
+    if nat_le len (length rest)
+    then record { kind = kind; value = take len rest } ∷ parts_below most (drop len rest) else []
 
 -- the whole parts that octets hold, as a list; it ends before a part that overruns
 unfoldable pub parts_in : List ℕ → List Part

@@ -28,4 +28,5 @@ attributes_length_at body = big_number 2 (drop (2 + withdrawn_length_at body) bo
 abbrev pub update_fault : List ℕ → Option WireFault
 update_fault body =
     fault_if (nat_lt (length body) (4 + withdrawn_length_at body)) malformed_attributes
-    then_check fault_if (nat_lt (length body) (4 + withdrawn_length_at body + attributes_length_at body)) malformed_attributes
+    then_check
+    fault_if (nat_lt (length body) (4 + withdrawn_length_at body + attributes_length_at body)) malformed_attributes

@@ -2,7 +2,8 @@
 ghost use Rattle.std.specs.Prelude.{◌≡◌, ◌≤◌, ◌<◌, ◌==◌, length, take, IfOk, IfSome};
 ghost use Rattle.std.specs.List.{list_all};
 ghost use Rattle.bgp_wire.specs.Faults.{Checks};
-ghost use Rattle.bgp_wire.specs.Frames.{marker_fault, length_fault, kind_fault, frame_fault, length_at, kind_of, IsHeadOf};
+ghost use Rattle.bgp_wire.specs.Frames.{marker_fault, length_fault, kind_fault, frame_fault, length_at, kind_of};
+ghost use Rattle.bgp_wire.specs.Frames.{IsHeadOf};
 
 use crate::fault::{BAD_MESSAGE_LENGTH, BAD_MESSAGE_TYPE, NOT_SYNCHRONIZED, WireFault};
 use crate::kind::Kind;

@@ -14,7 +14,8 @@ ghost use Rattle.bgp_wire.specs.Capabilities.{capabilities_in, HoldCapabilities}
 ghost use Rattle.bgp_wire.specs.Spelling.{spelling, IsReadAgain};
 ghost use Rattle.bgp_wire.specs.Messages.{AreOctets, IsMessage, BeginsWith, HasFault};
 
-/// Octets begin with a message, or are a proper prefix of a frame, or have a fault: always one of the three, and only one.
+/// Octets begin with a message, or are a proper prefix of a frame, or have a fault: always one of the three, and only
+/// one.
 pub fn octets_are_one_of_three()
     ensures one { (octets : List ℕ) → AreOctets octets
         → ((content : Content) × (n : ℕ) × BeginsWith octets content n)
@@ -52,7 +53,8 @@ pub fn no_message_begins_another()
 /// What octets say at all is said by its spelling, and read from it whatever follows.
 #[tactic(auto, using(crate::proofs::Spelling::said_again, crate::proofs::Spelling::read_again))]
 pub fn a_spelling_is_read_again()
-    ensures says { (octets : List ℕ) (content : Content) → IsMessage octets content → IsMessage (spelling content) content }
+    ensures says { (octets : List ℕ) (content : Content) → IsMessage octets content
+        → IsMessage (spelling content) content }
     ensures reads { (octets : List ℕ) (content : Content) → IsMessage octets content → IsReadAgain content }
 {}
 
@@ -68,13 +70,14 @@ pub fn octets_are_attributes_in_one_way()
 
 /// What the iterator gives until it ends is each attribute, and then one fault exactly where the tail is a cut one.
 pub fn each_attribute_comes_once()
-    ensures { (octets tail after : List ℕ) (attributes : List AttributeFields) (items : List (Result Attribute WireFault))
+    ensures { (octets tail after : List ℕ) (attributes : List AttributeFields)
+        (items : List (Result Attribute WireFault))
         → AreAttributes octets attributes tail → YieldsThen NextAttribute octets items None after
         → SaysAll items attributes tail }
 {}
 
-/// What is cut off a message, wherever it is cut, leaves a proper prefix of a frame, and a proper prefix has fewer octets
-/// than the longest message.
+/// What is cut off a message, wherever it is cut, leaves a proper prefix of a frame, and a proper prefix has fewer
+/// octets than the longest message.
 pub fn the_front_of_a_message_is_a_proper_prefix()
     ensures front { (octets more : List ℕ) (content : Content) → AreOctets octets → IsMessage (octets ++ more) content
         → more ≢ [] → IsProperPrefix octets }

@@ -1,7 +1,8 @@
 //! The body of an OPEN.
 ghost use Rattle.std.specs.Prelude.{◌≡◌, ◌≤◌, ◌<◌, ◌+◌, ◌==◌, length, drop, IfOk, MatchBool, MatchResult, IfErr, Ok};
 ghost use Rattle.bgp_wire.specs.Faults.{Checks};
-ghost use Rattle.bgp_wire.specs.Opens.{IsCapability, IsMalformedCapability, AreCapabilities, AreBrokenCapabilities, AreParameters, HasFaultyParameter, open_fault};
+ghost use Rattle.bgp_wire.specs.Opens.{IsCapability, IsMalformedCapability, AreCapabilities, AreBrokenCapabilities};
+ghost use Rattle.bgp_wire.specs.Opens.{AreParameters, HasFaultyParameter, open_fault};
 
 use crate::capability::Capabilities;
 use crate::fault::{

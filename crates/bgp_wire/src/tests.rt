@@ -256,7 +256,8 @@ fn messages_are_written_whole(rt: HostRuntime) -> Result<(), Fail> {
     );
     let wanted = octets(
         rt.alloc(),
-        "aa M 0025 01 04 fc00 0000 c0000201 08 0206 0104 00010080 M 0013 04 M 0015 03 0500 M 001b 02 0000 0004 40010100",
+        "aa M 0025 01 04 fc00 0000 c0000201 08 0206 0104 00010080 M 0013 04 M 0015 03 0500 \
+         M 001b 02 0000 0004 40010100",
     )?;
     assert_eq!(rt; out.as_slice(), wanted.as_slice());
     a_spelling_is_read_again();

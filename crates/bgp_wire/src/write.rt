@@ -64,7 +64,8 @@ fn write_frame(
 
 /// The fields of an OPEN before its parameters (RFC 4271, section 4.2).
 fn open_start(asn: u16, id: u32) -> [u8; 10]
-    ensures octets { result ++ octets_of vpn_parameter ≡ open_octets (open_fields (record { asn = asn; id = record { 0 = id } })) }
+    ensures octets { result ++ octets_of vpn_parameter
+        ≡ open_octets (open_fields (record { asn = asn; id = record { 0 = id } })) }
     ensures identifier { id < 2 ^ 32 }
 {
     let mut octets = [4, 0, 0, 0, 0, 0, 0, 0, 0, 8];

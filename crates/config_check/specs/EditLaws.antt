@@ -13,9 +13,11 @@ use Rattle.config_model.specs.declared.edit.Object.TheVariants as Objects
 use Rattle.config_model.specs.declared.edit.ObjectKind.{ObjectKind}
 use Rattle.config_model.specs.declared.edit.ObjectKind.TheVariants as Kinds
 use Rattle.config_check.specs.Sentences.{AreDistinct}
-use Rattle.config_check.specs.Edits.{edited, missing_name, network_name, port_name, policy_name, service_name, chain_name}
+use Rattle.config_check.specs.Edits.{edited, missing_name, network_name, port_name, policy_name, service_name}
+use Rattle.config_check.specs.Edits.{chain_name}
 
--- a list has x in the place of one of its name, and each other object as it was; where names were distinct, none of these has the name
+-- a list has x in the place of one of its name, and each other object as it was; where names were distinct, none of
+-- these has the name
 pub record Replaces {A : Type 0} (name_of : A → List ℕ) (x : A) (old new : List A) : Type 0 where
   pub before : List A
   pub replaced : A
@@ -43,16 +45,20 @@ pub record Removes {A : Type 0} (name_of : A → List ℕ) (name : List ℕ) (ol
 -- a put of an object of this kind replaces or appends it in the list of its kind, and leaves the other lists
 abbrev pub PutIs : {A : Type 0} → (A → List ℕ) → (A → Object) → (Config → List A) → (Config → List A → Config) → Type 0
 PutIs {A} name_of object list with_list =
-    (x : A) (c : Config) → (new : List A) × (Replaces name_of x (list c) new ⊎ Appends name_of x (list c) new) × (edited (Put (object x)) c ≡ with_list c new)
+    (x : A) (c : Config)
+    → (new : List A) × (Replaces name_of x (list c) new ⊎ Appends name_of x (list c) new)
+    × (edited (Put (object x)) c ≡ with_list c new)
 
 -- a delete of a name that is not missing removes it from the list of its kind, and leaves the other lists
 abbrev pub DeleteIs : {A : Type 0} → (A → List ℕ) → ObjectKind → (Config → List A) → (Config → List A → Config) → Type 0
 DeleteIs {A} name_of kind list with_list =
-    (name : List ℕ) (c : Config) → missing_name (Delete kind name) c ≡ None → (new : List A) × Removes name_of name (list c) new × (edited (Delete kind name) c ≡ with_list c new)
+    (name : List ℕ) (c : Config) → missing_name (Delete kind name) c ≡ None
+    → (new : List A) × Removes name_of name (list c) new × (edited (Delete kind name) c ≡ with_list c new)
 
 -- a name is missing exactly where no object of the kind has it
 abbrev pub MissingIs : {A : Type 0} → (A → List ℕ) → ObjectKind → (Config → List A) → Type 0
-MissingIs {A} name_of kind list = (name : List ℕ) (c : Config) → (missing_name (Delete kind name) c ≢ None) ↔ All (λ y. name_of y ≢ name) (list c)
+MissingIs {A} name_of kind list =
+    (name : List ℕ) (c : Config) → (missing_name (Delete kind name) c ≢ None) ↔ All (λ y. name_of y ≢ name) (list c)
 
 abbrev pub networks_of : Config → List Network
 networks_of c = c.networks

@@ -1,5 +1,6 @@
 -- What an edit makes of a configuration, and when it is refused.
-use Rattle.std.specs.Prelude.{◌≡◌, ℕ, List, [], ◌∷◌, ◌++◌, Bool, Option, Some, None, option_map, is_some, position, remove, slice_set, if◌then◌else◌}
+use Rattle.std.specs.Prelude.{◌≡◌, ℕ, List, [], ◌∷◌, ◌++◌, Bool, Option, Some, None, option_map, is_some, position}
+use Rattle.std.specs.Prelude.{remove, slice_set, if◌then◌else◌}
 use Rattle.std.specs.Option.{option_map_or}
 use Rattle.ov_types.specs.First.{same_name, ◌<|>◌}
 use Rattle.config_model.specs.declared.config.Chain.{Chain}
@@ -82,7 +83,9 @@ missing_name (Delete kind name) c = if has_object kind name c then None else Som
 
 -- the fault of an edit, if it has one: what it deletes is missing, or what it makes breaks a rule
 unfoldable pub edit_fault : Checked → Edit → Option EditFault
-edit_fault v e = option_map (λ name. Missing name) (missing_name e v.config) <|> option_map (λ r. Rule r) (first_broken v.topology (edited e v.config))
+edit_fault v e =
+    option_map (λ name. Missing name) (missing_name e v.config)
+    <|> option_map (λ r. Rule r) (first_broken v.topology (edited e v.config))
 
 -- a refusal names the fault that was found; want of memory says nothing
 abbrev pub RefusesEdit : EditRefusal → Option EditFault → Type 0

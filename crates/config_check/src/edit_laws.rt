@@ -2,7 +2,9 @@
 ghost use Rattle.config_model.specs.declared.edit.Object.TheVariants as Objects;
 ghost use Rattle.config_model.specs.declared.edit.ObjectKind.TheVariants as Kinds;
 ghost use Rattle.config_check.specs.Edits.{network_name, port_name, policy_name, service_name, chain_name};
-ghost use Rattle.config_check.specs.EditLaws.{PutIs, DeleteIs, MissingIs, networks_of, ports_of, policies_of, services_of, chains_of, with_networks, with_ports, with_policies, with_services, with_chains};
+ghost use Rattle.config_check.specs.EditLaws.{PutIs, DeleteIs, MissingIs, networks_of, ports_of, policies_of};
+ghost use Rattle.config_check.specs.EditLaws.{services_of, chains_of, with_networks, with_ports, with_policies};
+ghost use Rattle.config_check.specs.EditLaws.{with_services, with_chains};
 
 /// A put takes the place of the object of its kind and name, or is appended where there is none, and each other object
 /// stays in its place.

@@ -1,7 +1,8 @@
 //! Edits of a valid configuration.
 ghost use Rattle.std.specs.Prelude.{◌≡◌, None, IfOk, IfErr, IsTrue};
 ghost use Rattle.config_model.specs.Edit.{has_edit_form};
-ghost use Rattle.config_check.specs.Edits.{has_object, with_object, without_object, edited, missing_name, edit_fault, RefusesEdit};
+ghost use Rattle.config_check.specs.Edits.{has_object, with_object, without_object, edited, missing_name, edit_fault};
+ghost use Rattle.config_check.specs.Edits.{RefusesEdit};
 
 use crate::named::{place_of, with_put, without};
 use crate::refusal::{CheckRefusal, Refusal};
@@ -167,7 +168,8 @@ fn edited(config: &Config, edit: &Edit) -> Result<Config, NoMemory>
 #[tactic(auto, using(crate::proofs::Edited::form_is_kept), unfolding(crate::specs::Edits::edit_fault))]
 pub fn apply_edit(alloc: Global, valid: &Valid, edit: &Edit) -> Result<Valid, EditRefusal>
     requires { IsTrue (has_edit_form edit.now) }
-    ensures ok { IfOk result (λ v. v ≡ record { topology = valid.now.topology; config = edited edit.now valid.now.config }) }
+    ensures ok { IfOk result (λ v. v
+        ≡ record { topology = valid.now.topology; config = edited edit.now valid.now.config }) }
     ensures accepted { IfOk result (λ v. edit_fault valid.now edit.now ≡ None) }
     ensures refused { IfErr result (λ e. RefusesEdit e (edit_fault valid.now edit.now)) }
 {

@@ -1,6 +1,7 @@
 //! Lists of objects that have names.
 ghost use Rattle.std.specs.Prelude.{◌≡◌, List, ℕ, IfOk};
-ghost use Rattle.config_check.specs.Edits.{place_of, with_put, without, network_name, port_name, policy_name, service_name, chain_name};
+ghost use Rattle.config_check.specs.Edits.{place_of, with_put, without, network_name, port_name, policy_name};
+ghost use Rattle.config_check.specs.Edits.{service_name, chain_name};
 
 use config_model::{Chain, Network, Policy, Port, Service};
 use ov_types::{Items, Name, NoMemory};

@@ -15,7 +15,8 @@ use Rattle.config_model.specs.declared.config.Rule.{Rule}
 use Rattle.ov_types.specs.First.{◌<|>◌, first_of}
 use Rattle.ov_types.proofs.FirstLemmas.{mapped_none, first_of_none}
 use Rattle.network_rules.specs.Related.{NumberedRule, fits, rules_between}
-use Rattle.network_rules.specs.Matching.{Match, in_range, has_protocol, speaks_both_ways, matches_forwards, matches_mirrored, match_by, deciding, decision_by, decision}
+use Rattle.ov_types.specs.Access.{in_range}
+use Rattle.network_rules.specs.Matching.{Match, has_protocol, speaks_both_ways, matches_forwards, matches_mirrored, match_by, deciding, decision_by, decision}
 use Rattle.network_rules.specs.Taking.{IsInRange, IsProtocol, MatchesForwards, MatchesMirrored, MatchesNot, IsTaken, IsDeciding}
 use Rattle.network_rules.proofs.Standing.{fits_iff}
 

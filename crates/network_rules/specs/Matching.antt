@@ -1,6 +1,5 @@
 -- Which rule decides on a packet between two networks.
-use Rattle.std.specs.Prelude.{ℕ, ◌==◌, ◌&&◌, nat_le, Bool, true, false, Option, Some, None, option_map, if◌then◌else◌}
-use Rattle.ov_types.specs.declared.packet.Range16.{Range16}
+use Rattle.std.specs.Prelude.{ℕ, ◌==◌, ◌&&◌, Bool, true, false, Option, Some, None, option_map, if◌then◌else◌}
 use Rattle.ov_types.specs.declared.packet.Tuple.{Tuple}
 use Rattle.config_model.specs.declared.config.Config.{Config}
 use Rattle.config_model.specs.declared.config.Direction.{Direction}
@@ -11,12 +10,10 @@ use Rattle.config_model.specs.declared.config.Protocol.TheVariants.{Any, Number}
 use Rattle.config_model.specs.declared.config.Rule.{Rule}
 use Rattle.network_rules.specs.declared.numbered.NumberedRule.{NumberedRule}
 use Rattle.network_rules.specs.Related.{fits, rules_between}
+use Rattle.ov_types.specs.Access.{in_range}
 use Rattle.ov_types.specs.First.{first_of}
 use Rattle.network_rules.specs.declared.matching.Decision.{Decision}
 pub use Rattle.network_rules.specs.declared.matching.Match.{Match}
-
-abbrev pub in_range : Range16 → ℕ → Bool
-in_range r n = nat_le r.lo n && nat_le n r.hi
 
 abbrev pub has_protocol : Protocol → ℕ → Bool
 has_protocol Any n = true

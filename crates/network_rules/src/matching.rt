@@ -1,6 +1,7 @@
 //! How a rule matches a packet between two networks, and what is said of the one that decides.
 ghost use Rattle.std.specs.Prelude.{◌≡◌};
-ghost use Rattle.network_rules.specs.Matching.{in_range, has_protocol, speaks_both_ways, matches_forwards};
+ghost use Rattle.ov_types.specs.Access.{in_range};
+ghost use Rattle.network_rules.specs.Matching.{has_protocol, speaks_both_ways, matches_forwards};
 ghost use Rattle.network_rules.specs.Matching.{matches_mirrored, match_by, decision_by};
 
 use crate::fitting::fits;

@@ -45,7 +45,8 @@ abbrev pub publication : LowKey → LowValue → List (Key × Value)
 publication (key.Attach label) (low.AttachPort port instance address node) =
     (Publish instance (host_prefix address.0), Label (record { 0 = label })) ∷ []
 publication (key.Attach label) (low.AttachCircuit circuit service node) =
-    (Publish (circuit_instance_of circuit) (host_prefix (circuit_address_of circuit).0), Label (record { 0 = label })) ∷ []
+    (Publish (circuit_instance_of circuit) (host_prefix (circuit_address_of circuit).0), Label (record { 0 = label }))
+    ∷ []
 publication _ _ = []
 
 abbrev pub entered_by : AclAction → Option InstanceId
@@ -69,11 +70,12 @@ needed h = needed_by (slice_in_use h)
 abbrev pub is_needed : Holdings → InstanceId → Bool
 is_needed h i = list_any (λ n. n.0 == i.0) (needed h)
 
--- the publications and subscriptions of a slice. The slice is in the order of labels, so that of two attachments with one
--- instance and prefix the lower label counts
+-- the publications and subscriptions of a slice. The slice is in the order of labels, so that of two attachments with
+-- one instance and prefix the lower label counts
 abbrev pub told_of : List (LowKey × LowValue) → Map
 told_of slice =
-    from_entries (flat_map (λ e. publication e.0 e.1) slice ++ map (λ i. (Subscribe i, Label (record { 0 = 0 }))) (needed_by slice))
+    from_entries (flat_map (λ e. publication e.0 e.1) slice
+    ++ map (λ i. (Subscribe i, Label (record { 0 = 0 }))) (needed_by slice))
 
 -- what it wants each control node to have been told
 abbrev pub wanted : Holdings → Map
@@ -93,8 +95,10 @@ abbrev pub routes : Holdings → List ((InstanceId × Block) × Hop)
 routes h = filter (λ r. is_needed h r.0.0) (entries (from_entries {R = row_key_cmp} (rows_heard h)))
 
 abbrev pub attached : LowKey → LowValue → Option (LabelNo × Attached)
-attached (key.Attach label) (low.AttachPort port instance address node) = Some (record { 0 = label }, Port port instance)
-attached (key.Attach label) (low.AttachCircuit circuit service node) = Some (record { 0 = label }, Circuit circuit service)
+attached (key.Attach label) (low.AttachPort port instance address node) =
+    Some (record { 0 = label }, Port port instance)
+attached (key.Attach label) (low.AttachCircuit circuit service node) =
+    Some (record { 0 = label }, Circuit circuit service)
 attached _ _ = None
 
 abbrev pub acl_entry : LowKey → LowValue → Option (LowKey × LowValue)
@@ -125,7 +129,8 @@ first_some None b = b
 
 abbrev pub route_from : Holdings → InstanceId → Block → Option Hop
 route_from [] i prefix = None
-route_from (s ∷ h) i prefix = if s.is_up then first_some (as_hop (get s.map (Row i prefix))) (route_from h i prefix) else route_from h i prefix
+route_from (s ∷ h) i prefix =
+    if s.is_up then first_some (as_hop (get s.map (Row i prefix))) (route_from h i prefix) else route_from h i prefix
 
 -- an object makes an agent need an instance: a port its own, a circuit its own, an access list each that a rule enters
 abbrev pub IsNeededFor : InstanceId → LowValue → Type 0

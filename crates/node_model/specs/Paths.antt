@@ -59,7 +59,14 @@ own_paths h = flat_map (λ a. filter_map (λ e. own_path h a e.0 e.1) (entries a
 
 abbrev pub peer_path : ℕ → Key → Value → Option Path
 peer_path session (Vpn k) (Route r) =
-    Some (record { prefix = k.prefix; rd = k.rd; next_hop = r.next_hop; label = r.label; targets = r.targets; session = session })
+    Some (record {
+      prefix = k.prefix;
+      rd = k.rd;
+      next_hop = r.next_hop;
+      label = r.label;
+      targets = r.targets;
+      session = session;
+    })
 peer_path session _ _ = None
 
 abbrev pub peer_paths : Holdings → List Path

@@ -1,5 +1,6 @@
 -- The rank of each key: what a node wants at a key depends on what it holds at keys of lower rank alone.
---     the feed 1; slices 2; publications and subscriptions 3; rows of agents 5 more than the services of the longest chain
+--     the feed 1; slices 2; publications and subscriptions 3; rows of agents 5 more than the services of the longest
+--     chain
 --     between control nodes 4 and, of a re-originated subnet, how far its place stands from the end of its side
 use Rattle.std.specs.Prelude.{◌≡◌, ℕ, ◌+◌, ◌-◌, ◌%◌, ◌<◌, ◌≤◌, [], ◌∷◌, false, if◌then◌else◌, nat_le}
 use Rattle.std.specs.declared.option.Option.{Option}
@@ -51,12 +52,15 @@ pub record AreOrdered (feed : Map) : Type 0 where
   pub short : (u : Use) → Member u (uses feed) → u.services ≤ 15
   pub lefts : (u : Use) → Member u (uses feed) → u.left.0 < 16384
   pub rights : (u : Use) → Member u (uses feed) → u.right.0 < 16384
-  pub right_in_left : (u : Use) (l r : Block) → Member u (uses feed) → Member l u.left_subnets → Member r u.right_subnets → is_inside r l ≡ false
-  pub left_in_right : (u : Use) (l r : Block) → Member u (uses feed) → Member l u.left_subnets → Member r u.right_subnets → is_inside l r ≡ false
+  pub right_in_left : (u : Use) (l r : Block) → Member u (uses feed) → Member l u.left_subnets
+      → Member r u.right_subnets → is_inside r l ≡ false
+  pub left_in_right : (u : Use) (l r : Block) → Member u (uses feed) → Member l u.left_subnets
+      → Member r u.right_subnets → is_inside l r ≡ false
 
 -- each route has exactly the target of its distinguisher's instance
 abbrev pub IsTargeted : ℕ → Map → Type 0
-IsTargeted asn m = (k : VpnKey) (r : VpnRoute) → get m (Vpn k) ≡ Some (Route r) → r.targets ≡ target_of asn (instance_in k.rd) ∷ []
+IsTargeted asn m =
+    (k : VpnKey) (r : VpnRoute) → get m (Vpn k) ≡ Some (Route r) → r.targets ≡ target_of asn (instance_in k.rd) ∷ []
 
 -- ---- two holdings that agree at the keys of some ranks
 abbrev pub AgreeBelow : Map → ℕ → Map → Map → Type 0

@@ -1,5 +1,6 @@
 -- Which subnets are reachable along a chain, and the routes that lead them on.
-use Rattle.std.specs.Prelude.{◌≡◌, ℕ, zero, suc, ◌+◌, ◌-◌, ◌<◌, ◌≤◌, List, [], ◌∷◌, ◌++◌, Bool, true, false, ◌&&◌, ◌||◌, if◌then◌else◌, is_some}
+use Rattle.std.specs.Prelude.{◌≡◌, ℕ, zero, suc, ◌+◌, ◌-◌, ◌<◌, ◌≤◌, List, [], ◌∷◌, ◌++◌, Bool, true, false, ◌&&◌, ◌||◌}
+use Rattle.std.specs.Prelude.{if◌then◌else◌, is_some}
 use Rattle.std.specs.declared.option.Option.{Option}
 use Rattle.std.specs.declared.option.Option.TheVariants.{Some, None}
 use Rattle.std.specs.List.{flat_map, list_any}
@@ -8,7 +9,8 @@ use Rattle.ov_types.specs.Prefix.{Block, host_prefix, is_inside}
 use Rattle.ov_types.specs.declared.numbers.InstanceId.{InstanceId}
 use Rattle.ov_types.specs.declared.numbers.Label.{Label as LabelNo}
 use Rattle.ov_types.specs.declared.prefix.Addr.{Addr}
-use Rattle.route_targets.specs.Numbers.{target_of, distinguisher_of, left_circuit_of, right_circuit_of, circuit_instance_of, circuit_address_of}
+use Rattle.route_targets.specs.Numbers.{target_of, distinguisher_of, left_circuit_of, right_circuit_of}
+use Rattle.route_targets.specs.Numbers.{circuit_instance_of, circuit_address_of}
 use Rattle.node_model.specs.Members.{Member}
 use Rattle.node_model.specs.Keys.{Publish}
 use Rattle.node_model.specs.Maps.{Map, as_label}
@@ -18,12 +20,14 @@ use Rattle.node_model.specs.Paths.{Holdings, Told, Path, received}
 -- ---- circuits that are published here
 -- an agent publishes a circuit under the circuit's instance and host address
 abbrev pub published_by : Told → ℕ → Option LabelNo
-published_by a circuit = as_label (get a.map (Publish (circuit_instance_of circuit) (host_prefix (circuit_address_of circuit).0)))
+published_by a circuit =
+    as_label (get a.map (Publish (circuit_instance_of circuit) (host_prefix (circuit_address_of circuit).0)))
 
 -- the address and the label of a circuit. Where two agents publish it, the lower session counts
 abbrev pub published_in : List Told → ℕ → Option (Addr × LabelNo)
 published_in [] circuit = None
-published_in (a ∷ agents) circuit = elim (published_by a circuit) [ Some label ↦ Some (a.address, label) | None ↦ published_in agents circuit ]
+published_in (a ∷ agents) circuit =
+    elim (published_by a circuit) [ Some label ↦ Some (a.address, label) | None ↦ published_in agents circuit ]
 
 abbrev pub publisher : Holdings → ℕ → Option (Addr × LabelNo)
 publisher h circuit = published_in h.agents circuit
@@ -44,8 +48,8 @@ subnets s = if s.is_right then s.chain.right_subnets else s.chain.left_subnets
 abbrev pub hop_at : Side → ℕ → InstanceId
 hop_at s d = hop s.chain (if s.is_right then s.chain.services - d else d)
 
--- the circuit there that leads towards the side's end: the left one of the service to its right, or the right one of that
--- to its left
+-- the circuit there that leads towards the side's end: the left one of the service to its right, or the right one of
+-- that to its left
 abbrev pub circuit_at : Side → ℕ → ℕ
 circuit_at s d =
     if s.is_right then left_circuit_of s.chain.number (s.chain.services - d + 1)
@@ -62,8 +66,8 @@ sides feed = flat_map sides_of (uses feed)
 abbrev pub has_path_within : Holdings → InstanceId → Block → Bool
 has_path_within h i subnet = list_any (λ p. is_inside p.prefix subnet) (received h i)
 
--- a subnet of a side is up, d places from its end: a path within it was received there, or the circuit towards the end is
--- published here, and it is up one place nearer
+-- a subnet of a side is up, d places from its end: a path within it was received there, or the circuit towards the end
+-- is published here, and it is up one place nearer
 abbrev pub is_up : Holdings → Side → Block → ℕ → Bool
 is_up h s subnet zero = has_path_within h (hop_at s zero) subnet
 is_up h s subnet (suc d) =
@@ -111,8 +115,8 @@ pub record IsReached (h : Holdings) (s : Side) (subnet : Block) (d : ℕ) : Type
   pub received : has_path_within h (hop_at s place) subnet ≡ true
   pub published : (e : ℕ) → place < e → e ≤ d → is_some (publisher h (circuit_at s e)) ≡ true
 
--- a path leads a subnet of a side on, into a place of the use: towards the circuit there, which is published here, and the
--- subnet is up one place nearer to its end
+-- a path leads a subnet of a side on, into a place of the use: towards the circuit there, which is published here, and
+-- the subnet is up one place nearer to its end
 pub record IsReoriginated (h : Holdings) (p : Path) : Type 0 where
   pub side : Side
   pub depth : ℕ

@@ -1,5 +1,6 @@
 -- One step of a node over links that may fail, for every kind of node.
-use Rattle.std.specs.Prelude.{◌≡◌, ◌≢◌, ℕ, ◌<◌, ◌≤◌, List, [], ◌++◌, map, length, Bool, true, false, nat_lt, ◌==◌, if◌then◌else◌}
+use Rattle.std.specs.Prelude.{◌≡◌, ◌≢◌, ℕ, ◌<◌, ◌≤◌, List, [], ◌++◌, map, length, Bool, true, false, nat_lt, ◌==◌}
+use Rattle.std.specs.Prelude.{if◌then◌else◌}
 use Rattle.std.specs.declared.option.Option.{Option}
 use Rattle.std.specs.declared.option.Option.TheVariants.{Some, None}
 use Rattle.std.specs.Option.{IfSome}
@@ -8,8 +9,8 @@ use Rattle.std.specs.FinMap.{empty}
 use Rattle.ov_link.specs.Delivery.{Delivers}
 use Rattle.node_model.specs.Maps.{Map, Change, difference}
 
--- the state of an end. A session between control nodes goes through OpenSent, OpenConfirm and Established; another through
--- Opened and Up alone
+-- the state of an end. A session between control nodes goes through OpenSent, OpenConfirm and Established; another
+-- through Opened and Up alone
 pub data Phase : Type 0 where
   Idle : Phase
   Opened : Phase
@@ -60,11 +61,13 @@ module _ (k : Kind) where
   -- the changes that a session is still to be told
   abbrev pub changes : List Post → ℕ → List (List ℕ)
   changes posts i =
-      if k.may_send i (post posts i).phase then map (k.spelled i) (difference (post posts i).sent (k.wanted posts i)) else []
+      if k.may_send i (post posts i).phase
+      then map (k.spelled i) (difference (post posts i).sent (k.wanted posts i)) else []
 
   -- the end once it was told all that was wanted
   abbrev pub told_all : List Post → ℕ → Post
-  told_all posts i = if k.may_send i (post posts i).phase then record (post posts i) { sent = k.wanted posts i } else post posts i
+  told_all posts i =
+      if k.may_send i (post posts i).phase then record (post posts i) { sent = k.wanted posts i } else post posts i
 
   abbrev pub replies : List Post → ℕ → Event → ℕ → List (List ℕ)
   replies posts session event i = if i == session then (k.begins session (post posts session) event).replies else []
@@ -80,7 +83,8 @@ module _ (k : Kind) where
 
   module _ {L : Type 0} (accepted : L → Option (List (List ℕ))) (breaks : L → Option (List ℕ)) (faults : L → ℕ) where
     -- one session in a step: its link took as many of its messages as it chose. Where it failed, the end is closed
-    pub record StepAt (posts posts' : List Post) (session : ℕ) (event : Event) (fails : Bool) (links links' : List L) (lowest : Option ℕ) (i : ℕ) : Type 0 where
+    pub record StepAt (posts posts' : List Post) (session : ℕ) (event : Event) (fails : Bool) (links links' : List L)
+        (lowest : Option ℕ) (i : ℕ) : Type 0 where
       pub link : L
       pub link' : L
       pub failed : Bool
@@ -93,7 +97,8 @@ module _ (k : Kind) where
       pub unnamed : failed ≡ false → lowest ≢ Some i
 
     -- one step, session by session. The lowest session whose link failed is named
-    pub record Steps (posts posts' : List Post) (session : ℕ) (event : Event) (links links' : List L) (lowest : Option ℕ) : Type 0 where
+    pub record Steps (posts posts' : List Post) (session : ℕ) (event : Event) (links links' : List L)
+        (lowest : Option ℕ) : Type 0 where
       pub fails : Bool
       pub each : (i : ℕ) → i < length posts → StepAt posts posts' session event fails links links' lowest i
       pub low : IfSome lowest (λ s. s < length posts)

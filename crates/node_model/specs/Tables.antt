@@ -70,8 +70,8 @@ pub record IsLeast (prefix : Block) (paths : List Path) (p : Path) : Type 0 wher
   pub prefix_is : p.prefix ≡ prefix
   pub least_of : (q : Path) → Member q paths → q.prefix ≡ prefix → is_better q p ≡ false
 
--- the lesser next hop; of one next hop the lesser label; of one label the lesser distinguisher; of one distinguisher the
--- lesser session
+-- the lesser next hop; of one next hop the lesser label; of one label the lesser distinguisher; of one distinguisher
+-- the lesser session
 abbrev pub IsBetter : Path → Path → Type 0
 IsBetter a b =
     (a.next_hop.0 < b.next_hop.0)

@@ -1,5 +1,6 @@
 -- Uses of chains as they are held, the instances of their hops, and what is imported where.
-use Rattle.std.specs.Prelude.{◌≡◌, ◌⊎◌, ℕ, ◌-◌, ◌/◌, ◌%◌, List, [], ◌∷◌, ◌++◌, Bool, false, ◌==◌, if◌then◌else◌, nat_lt, nat_le, length, is_some}
+use Rattle.std.specs.Prelude.{◌≡◌, ◌⊎◌, ℕ, ◌-◌, ◌/◌, ◌%◌, List, [], ◌∷◌, ◌++◌, Bool, false, ◌==◌, if◌then◌else◌, nat_lt}
+use Rattle.std.specs.Prelude.{nat_le, length, is_some}
 use Rattle.std.specs.declared.option.Option.{Option}
 use Rattle.std.specs.declared.option.Option.TheVariants.{Some, None}
 use Rattle.std.specs.List.{filter_map}
@@ -23,7 +24,14 @@ pub record Use : Type 0 where
 
 abbrev pub as_use : LowKey → LowValue → Option Use
 as_use (key.ChainUse u) (low.ChainUse left right left_subnets right_subnets hops) =
-    Some (record { number = u; left = left; right = right; left_subnets = left_subnets; right_subnets = right_subnets; services = length hops })
+    Some (record {
+      number = u;
+      left = left;
+      right = right;
+      left_subnets = left_subnets;
+      right_subnets = right_subnets;
+      services = length hops;
+    })
 as_use _ _ = None
 
 abbrev pub use_from : ℕ → Option LowValue → Option Use

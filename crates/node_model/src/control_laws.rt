@@ -22,7 +22,8 @@ ghost use Rattle.node_model.specs.Wants.{BelongsTo, IsSubscribedRow, slice, want
 /// An instance that is not known has no imports and, where no use has more than 15 services, an empty table.
 pub fn unknown_instances_have_nothing()
     ensures imports { (feed : Map) (i : InstanceId) → is_known feed i ≡ false → imports feed i ≡ [] }
-    ensures table { (h : Holdings) (i : InstanceId) → AreShort h.feed → is_known h.feed i ≡ false → entries (table h i) ≡ [] }
+    ensures table { (h : Holdings) (i : InstanceId) → AreShort h.feed → is_known h.feed i ≡ false
+        → entries (table h i) ≡ [] }
 {}
 
 /// Place j of a held use imports itself, the left network exactly at the left end, and the right network exactly at the
@@ -40,7 +41,8 @@ pub fn own_routes_are_publications()
 /// A subnet is up at a place exactly where some place from there to its end has a path within it, and every circuit on
 /// the way is published here.
 pub fn up_is_reached()
-    ensures { (h : Holdings) (s : Side) (subnet : Block) (d : ℕ) → IsTrue (is_up h s subnet d) ↔ IsReached h s subnet d }
+    ensures { (h : Holdings) (s : Side) (subnet : Block) (d : ℕ)
+        → IsTrue (is_up h s subnet d) ↔ IsReached h s subnet d }
 {}
 
 /// The re-originated routes are exactly those that lead a subnet on which is up one place nearer to its end, towards a
@@ -59,7 +61,8 @@ pub fn the_order_of_paths()
 pub fn rows_are_least_paths()
     ensures least { (h : Holdings) (i : InstanceId) (prefix : Block) (p : Path) → get (table h i) prefix ≡ Some p
         → IsLeast prefix (paths_of h i) p }
-    ensures each { (h : Holdings) (i : InstanceId) (p : Path) → Member p (paths_of h i) → IsTrue (is_some (get (table h i) p.prefix)) }
+    ensures each { (h : Holdings) (i : InstanceId) (p : Path) → Member p (paths_of h i)
+        → IsTrue (is_some (get (table h i) p.prefix)) }
 {}
 
 /// The next hop and the label of each route that is wanted towards peers are those of a publication of an agent here.

@@ -47,7 +47,8 @@ pub fn a_map_is_told_as_its_image<K: Ord, V: Eq>()
     requires { IsAntisymmetric K.cmp }
     ensures told { (f : K → Key) (g : V → Value) → ((x y : K) → key_cmp (f x) (f y) ≡ K.cmp x y)
         → ((v w : V) → same_value (g v) (g w) ≡ V.eq v w)
-        → (a b : FinMap K.cmp V) → difference (embedded f g a) (embedded f g b) ≡ map (moved_delta f g) (keyed.difference V.eq a b) }
+        → (a b : FinMap K.cmp V)
+        → difference (embedded f g a) (embedded f g b) ≡ map (moved_delta f g) (keyed.difference V.eq a b) }
     ensures changed { (f : K → Key) (g : V → Value) → ((x y : K) → key_cmp (f x) (f y) ≡ K.cmp x y)
         → (m : FinMap K.cmp V) (d : Delta K V)
         → keyed.changed {R = key_cmp} (embedded f g m) (moved_delta f g d) ≡ embedded f g (keyed.changed m d) }

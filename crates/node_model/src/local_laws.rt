@@ -1,5 +1,5 @@
-//! Laws of ranks: what a node wants at a key depends on what it holds at keys of lower rank alone. Each is the contract of
-//! a function that does nothing.
+//! Laws of ranks: what a node wants at a key depends on what it holds at keys of lower rank alone. Each is the contract
+//! of a function that does nothing.
 ghost use Rattle.std.specs.Prelude.{◌≡◌, ◌≤◌, ◌+◌, ℕ};
 ghost use Rattle.std.specs.List.{AllByRecursion, AllZip};
 ghost use Rattle.std.specs.FinMap.{get};
@@ -26,8 +26,8 @@ pub fn wants_towards_peers_are_local()
         → get (wanted_by_peers h) k ≡ get (wanted_by_peers g) k }
 {}
 
-/// Towards an agent: the slice depends on the feed and the agent's address alone, and everything on the keys of ranks up
-/// to 4 more than the services of the longest chain.
+/// Towards an agent: the slice depends on the feed and the agent's address alone, and everything on the keys of ranks
+/// up to 4 more than the services of the longest chain.
 pub fn wants_towards_agents_are_local()
     ensures slices { (h g : Holdings) (a b : Told) → h.feed ≡ g.feed → a.address ≡ b.address
         → (k : LowKey) → get (wanted_by_agent h a) (Low k) ≡ get (wanted_by_agent g b) (Low k) }

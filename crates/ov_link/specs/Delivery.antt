@@ -1,5 +1,6 @@
 -- What a link took of a list of messages.
-use Rattle.std.specs.Prelude.{◌≡◌, ℕ, zero, suc, ◌≤◌, List, ◌++◌, length, take, Bool, true, false, ◌&&◌, IsTrue, not, nat_lt, if◌then◌else◌}
+use Rattle.std.specs.Prelude.{◌≡◌, ℕ, zero, suc, ◌≤◌, List, ◌++◌, length, take, Bool, true, false, ◌&&◌, IsTrue, not}
+use Rattle.std.specs.Prelude.{nat_lt, if◌then◌else◌}
 use Rattle.std.specs.declared.option.Option.{Option}
 use Rattle.std.specs.Option.{IfSome, option_map}
 use Rattle.ov_types.specs.Counts.{Rose}

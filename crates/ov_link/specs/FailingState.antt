@@ -12,5 +12,7 @@ pub record FailingState : Type 0 where
 
 abbrev pub coded_failing : Coded FailingState
 coded_failing =
-    code_by (List (List ℕ) × (List ℕ × ℕ)) (coded× (coded_list (coded_list coded_ℕ)) (coded× (coded_list coded_ℕ) coded_ℕ))
-    (λ s. (s.accepted, (s.breaks, s.faults))) (λ c. record { accepted = c.0; breaks = c.1.0; faults = c.1.1 }) (λ _. refl)
+    code_by (List (List ℕ)
+    × (List ℕ × ℕ)) (coded× (coded_list (coded_list coded_ℕ)) (coded× (coded_list coded_ℕ) coded_ℕ))
+    (λ s. (s.accepted, (s.breaks, s.faults)))
+    (λ c. record { accepted = c.0; breaks = c.1.0; faults = c.1.1 }) (λ _. refl)

@@ -18,6 +18,8 @@ HasCause before now (Ok _) = now ≡ before
 -- where the breaks are told, a send fails exactly where it meets one, unless it finds no memory; and it counts for each
 -- of them, unless it finds no memory
 abbrev pub MeetsBreaks : {T : Type 0} → Option (List ℕ) → Option (List ℕ) → Result T LinkFault → Type 0
-MeetsBreaks before now (Err Failed) = IfSome before (λ breaks. IsTrue (is_break breaks 1)) × (now ≡ option_map counted before)
+MeetsBreaks before now (Err Failed) =
+    IfSome before (λ breaks. IsTrue (is_break breaks 1)) × (now ≡ option_map counted before)
 MeetsBreaks before now (Err NoMemory) = now ≡ before
-MeetsBreaks before now (Ok _) = IfSome before (λ breaks. IsTrue (not (is_break breaks 1))) × (now ≡ option_map counted before)
+MeetsBreaks before now (Ok _) =
+    IfSome before (λ breaks. IsTrue (not (is_break breaks 1))) × (now ≡ option_map counted before)

@@ -21,8 +21,10 @@ pub fn a_failing_link_tells_all()
     ensures faults { (link : FailingState) → ⟦<FailingLink as Link>⟧.faults link ≡ link.faults }
 {}
 
-/// Once a send was made, each send that was to fail is one nearer. A break that is added is one more send that is to fail.
+/// Once a send was made, each send that was to fail is one nearer. A break that is added is one more send that is to
+/// fail.
 pub fn each_send_brings_the_breaks_nearer()
     ensures counted { (breaks : List ℕ) (n : ℕ) → 1 ≤ n → is_break (counted breaks) n ≡ is_break breaks (n + 1) }
-    ensures added { (breaks : List ℕ) (n later : ℕ) → is_break (with_break n breaks) later ≡ (is_break breaks later || n == later) }
+    ensures added { (breaks : List ℕ) (n later : ℕ)
+        → is_break (with_break n breaks) later ≡ (is_break breaks later || n == later) }
 {}

@@ -60,7 +60,8 @@ pub trait Link {
     ghost faults: { Self → ℕ };
 
     fn send(&mut self, message: &[u8]) -> Result<(), LinkFault>
-        ensures ok { OnOk result (accepted self.new ≡ option_map (λ sent. sent ++ message.now ∷ []) (accepted self.old)) }
+        ensures ok { OnOk result (accepted self.new
+            ≡ option_map (λ sent. sent ++ message.now ∷ []) (accepted self.old)) }
         ensures err { OnErr result (accepted self.new ≡ accepted self.old) }
         ensures cause { HasCause (faults self.old) (faults self.new) result }
         ensures met { MeetsBreaks (breaks self.old) (breaks self.new) result };
@@ -68,7 +69,8 @@ pub trait Link {
 
 /// Sends the messages in order, until one fails.
 pub fn send_all<L: Link>(link: &mut L, messages: &[Items<u8>]) -> Result<(), LinkFault>
-    ensures { result ≢ Err LinkFault.NoMemory → Delivers L.accepted L.breaks L.faults messages.now (is_err result) link.old link.new }
+    ensures { result ≢ Err LinkFault.NoMemory
+        → Delivers L.accepted L.breaks L.faults messages.now (is_err result) link.old link.new }
 {
     for message in messages {
         link.send(message.as_slice())?;

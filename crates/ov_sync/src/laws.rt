@@ -19,7 +19,8 @@ pub fn a_difference_leads<K: Ord, V: Eq>()
 pub fn each_changed_key_is_told_once<K: Ord, V: Eq>()
     requires keys { IsAntisymmetric K.cmp }
     requires values { (a b : V) → Decides (V.eq a b) (a ≡ b) }
-    ensures exactly { (a b : FinMap K.cmp V) (k : K) → IsTrue (is_changed K.cmp (difference V.eq a b) k) ↔ (get a k ≢ get b k) }
+    ensures exactly { (a b : FinMap K.cmp V) (k : K)
+        → IsTrue (is_changed K.cmp (difference V.eq a b) k) ↔ (get a k ≢ get b k) }
     ensures ascending { (a b : FinMap K.cmp V) → IsStrictlySortedBy K.cmp (map key_of (difference V.eq a b)) }
 {}
 
@@ -36,16 +37,21 @@ pub fn the_ends_stay_in_step<K: Ord, V: Eq>()
     requires values { (a b : V) → Decides (V.eq a b) (a ≡ b) }
     ensures sender { (held sent wanted : FinMap K.cmp V) (queue : List (Delta K V)) → IsInStep held queue sent
         → IsInStep held (queue ++ difference V.eq sent wanted) wanted }
-    ensures delivery { (held sent : FinMap K.cmp V) (first : Delta K V) (queue : List (Delta K V)) → IsInStep held (first ∷ queue) sent
+    ensures delivery { (held sent : FinMap K.cmp V) (first : Delta K V) (queue : List (Delta K V))
+        → IsInStep held (first ∷ queue) sent
         → IsInStep (changed held first) queue sent }
 {}
 
-/// A map under other keys that lie in the same order is told by the same changes under those keys, and changes as it does.
+/// A map under other keys that lie in the same order is told by the same changes under those keys, and changes as it
+/// does.
 pub fn a_difference_embeds<K: Ord, V: Eq, L: Ord, W: Eq>()
     requires keys { IsAntisymmetric K.cmp }
     requires images { IsAntisymmetric L.cmp }
-    ensures told { (f : K → L) (g : V → W) → ((x y : K) → L.cmp (f x) (f y) ≡ K.cmp x y) → ((v w : V) → W.eq (g v) (g w) ≡ V.eq v w)
-        → (a b : FinMap K.cmp V) → difference {R = L.cmp} W.eq (embedded f g a) (embedded f g b) ≡ map (moved_delta f g) (difference V.eq a b) }
+    ensures told { (f : K → L) (g : V → W) → ((x y : K) → L.cmp (f x) (f y) ≡ K.cmp x y)
+        → ((v w : V) → W.eq (g v) (g w) ≡ V.eq v w)
+        → (a b : FinMap K.cmp V)
+        → difference {R = L.cmp} W.eq (embedded f g a) (embedded f g b) ≡ map (moved_delta f g) (difference V.eq a b) }
     ensures changed { (f : K → L) (g : V → W) → ((x y : K) → L.cmp (f x) (f y) ≡ K.cmp x y)
-        → (m : FinMap K.cmp V) (d : Delta K V) → changed {R = L.cmp} (embedded f g m) (moved_delta f g d) ≡ embedded f g (changed m d) }
+        → (m : FinMap K.cmp V) (d : Delta K V)
+        → changed {R = L.cmp} (embedded f g m) (moved_delta f g d) ≡ embedded f g (changed m d) }
 {}

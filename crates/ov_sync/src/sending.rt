@@ -40,7 +40,8 @@ impl<K: Ord + Clone + Drop, V: PartialEq + Clone + Drop> SyncOut<K, V> {
     pub fn replace(&mut self, desired: &BTreeMap<K, V>) -> Result<Vec<Delta<K, V>>, NoMemory>
         requires keys { (k : K) (c : K) → K.is_clone k c → c ≡ k }
         requires values { (v : V) (c : V) → V.is_clone v c → c ≡ v }
-        ensures changes { IfOk result (λ deltas. deltas.items ≡ difference V.eq (map_of K.cmp self.old) (map_of K.cmp desired.now.entries)) }
+        ensures changes { IfOk result (λ deltas. deltas.items
+            ≡ difference V.eq (map_of K.cmp self.old) (map_of K.cmp desired.now.entries)) }
         ensures ok { OnOk result (self.new ≡ desired.now.entries) }
         ensures err { OnErr result (self.new ≡ self.old) }
     {
@@ -66,7 +67,8 @@ fn changes<K: Ord + Clone + Drop, V: PartialEq + Clone + Drop>(
 ) -> Result<Vec<Delta<K, V>>, NoMemory>
     requires keys { (k : K) (c : K) → K.is_clone k c → c ≡ k }
     requires values { (v : V) (c : V) → V.is_clone v c → c ≡ v }
-    ensures { IfOk result (λ deltas. deltas.items ≡ difference V.eq (map_of K.cmp sent.now.entries) (map_of K.cmp desired.now.entries)) }
+    ensures { IfOk result (λ deltas. deltas.items
+        ≡ difference V.eq (map_of K.cmp sent.now.entries) (map_of K.cmp desired.now.entries)) }
 {
     let mut deltas = Vec::new(alloc);
     let mut olds = sent.iter();
@@ -136,7 +138,8 @@ fn push_change<K: Clone + Drop, V: PartialEq + Clone + Drop>(
 ) -> Result<(), NoMemory>
     requires keys { (k : K) (c : K) → K.is_clone k c → c ≡ k }
     requires values { (v : V) (c : V) → V.is_clone v c → c ≡ v }
-    ensures { OnOk result (deltas.new.items ≡ deltas.old.items ++ (if V.eq old.now value.now then [] else Put key.now value.now ∷ [])) }
+    ensures { OnOk result (deltas.new.items ≡ deltas.old.items
+        ++ (if V.eq old.now value.now then [] else Put key.now value.now ∷ [])) }
 {
     if old == value {
         return Ok(());

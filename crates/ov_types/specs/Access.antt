@@ -36,7 +36,9 @@ pub record Access : Type 0 where
 
 -- an object as the access list of a network, where its subnets hold an address
 abbrev pub access_by : ℕ → ℕ → LowKey → LowValue → Option Access
-access_by network address (Key.Acl from to) (Value.Acl subnets rules) = if (from == network) && list_any (λ p. contains p address) subnets then Some (record { to = to; rules = rules }) else None
+access_by network address (Key.Acl from to) (Value.Acl subnets rules) =
+    if (from == network) && list_any (λ p. contains p address) subnets
+    then Some (record { to = to; rules = rules }) else None
 access_by network address _ _ = None
 
 -- of two the one that leads to the lesser network

@@ -20,7 +20,8 @@ first_of answer (x ∷ xs) = answer x <|> first_of answer xs
 -- the first item that meets one before it, after the first one that it meets; the list follows others
 abbrev pub meeting_after : {A : Type 0} → (A → A → Bool) → List A → List A → Option (A × A)
 meeting_after meets before [] = None
-meeting_after meets before (x ∷ xs) = option_map (λ b. (b, x)) (find (λ b. meets b x) before) <|> meeting_after meets (before ++ x ∷ []) xs
+meeting_after meets before (x ∷ xs) =
+    option_map (λ b. (b, x)) (find (λ b. meets b x) before) <|> meeting_after meets (before ++ x ∷ []) xs
 
 -- the same in a whole list: the earlier item, and the later
 abbrev pub first_meeting : {A : Type 0} → (A → A → Bool) → List A → Option (A × A)

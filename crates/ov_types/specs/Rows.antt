@@ -6,7 +6,8 @@ use Rattle.ov_types.specs.declared.rows.TableRow.{TableRow}
 
 -- the distinguisher, the next hop and the label
 unfoldable pub table_row_text : TableRow → List ℕ
-table_row_text r = distinguisher_text r.rd.0 ++ (codes " " ++ (address_text r.next_hop.0 ++ (codes " " ++ decimal r.label.0)))
+table_row_text r =
+    distinguisher_text r.rd.0 ++ (codes " " ++ (address_text r.next_hop.0 ++ (codes " " ++ decimal r.label.0)))
 
 -- the number of a rule: the sequence of its policy, `/` and its position
 abbrev pub rule_text : RuleNo → List ℕ

@@ -1,5 +1,6 @@
 -- Ascending lists of targets.
-use Rattle.std.specs.Prelude.{◌≡◌, ◌≤◌, insert, length, ℕ, ◌<◌, ◌/◌, ◌%◌, ◌^◌, ◌==◌, ◌&&◌, nat_lt, nat_le, Bool, List, [], ◌∷◌, if◌then◌else◌}
+use Rattle.std.specs.Prelude.{◌≡◌, ◌≤◌, insert, length, ℕ, ◌<◌, ◌/◌, ◌%◌, ◌^◌, ◌==◌, ◌&&◌, nat_lt, nat_le, Bool, List}
+use Rattle.std.specs.Prelude.{[], ◌∷◌, if◌then◌else◌}
 use Rattle.ov_types.specs.declared.targets.Target.{Target}
 use Rattle.ov_types.specs.declared.targets.Place.{Place}
 use Rattle.ov_types.specs.declared.targets.Place.TheVariants.{Held, Before}

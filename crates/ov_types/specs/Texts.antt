@@ -5,7 +5,9 @@ use Rattle.ov_types.specs.Prefix.{Block}
 
 -- four decimal numbers, most significant first, joined by points
 abbrev pub address_text : ℕ → List ℕ
-address_text n = decimal (n / 16777216 % 256) ++ (codes "." ++ (decimal (n / 65536 % 256) ++ (codes "." ++ (decimal (n / 256 % 256) ++ (codes "." ++ decimal (n % 256))))))
+address_text n =
+    decimal (n / 16777216 % 256) ++ (codes "." ++ (decimal (n / 65536 % 256) ++ (codes "."
+    ++ (decimal (n / 256 % 256) ++ (codes "." ++ decimal (n % 256))))))
 
 -- an address, `/` and the length
 abbrev pub prefix_text : Block → List ℕ

@@ -2,7 +2,8 @@
 ghost use Rattle.std.specs.Prelude.{◌≡◌, ◌&&◌, ℕ, List, Some, nat_eq, IsTrue, refl};
 ghost use Rattle.std.specs.Ordering.{nat_cmp};
 ghost use Rattle.std.specs.Cmp.{partial_equiv_from_equiv};
-ghost use Rattle.std.specs.Cmp.Lexicographic.{pointwise, slice_cmp, nat_list_eq_equiv, nat_list_cmp_total, texts_po, texts_ties};
+ghost use Rattle.std.specs.Cmp.Lexicographic.{pointwise, slice_cmp, nat_list_eq_equiv, nat_list_cmp_total, texts_po};
+ghost use Rattle.std.specs.Cmp.Lexicographic.{texts_ties};
 ghost use Rattle.std.specs.List.{list_all};
 ghost use Rattle.ov_types.specs.Name.{is_name, is_name_octet_of, name_of};
 
@@ -21,7 +22,7 @@ pub struct Name {
 
 impl Model for Name {
     ghost use Rattle.std.specs.Prelude.{List, ℕ, ◌++◌, ◌-◌, take, replicate, length};
-    ghost use Rattle.ov_types.specs.Name.{Holds, padded_again, len_again};
+    ghost use Rattle.ov_types.specs.Name.{Holds, padded, len_again};
 
     ghost Value = { List ℕ };
 
@@ -31,7 +32,7 @@ impl Model for Name {
 
     ghost inverse = { λ text. record { octets = text ++ replicate (32 - length text) 0; len = length text } };
 
-    ghost inverse_ok = { λ a h i. record { octets = padded_again a.octets a.len h i; len = len_again a.octets a.len h i } };
+    ghost inverse_ok = { λ a h i. record { octets = padded a.octets a.len h i; len = len_again a.octets a.len h i } };
 }
 
 fn is_name_octet(b: u8) -> bool

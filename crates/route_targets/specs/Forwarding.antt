@@ -1,5 +1,6 @@
 -- The walk of a packet over the rows of agents, each of its six reasons to be dropped in a line of its own.
-use Rattle.std.specs.Prelude.{ℕ, zero, suc, ◌==◌, List, [], ◌∷◌, ◌++◌, find, Option, Some, None, option_map, if◌then◌else◌}
+use Rattle.std.specs.Prelude.{ℕ, zero, suc, ◌==◌, List, [], ◌∷◌, ◌++◌, find, Option, Some, None, option_map}
+use Rattle.std.specs.Prelude.{if◌then◌else◌}
 use Rattle.std.specs.List.{filter_map}
 use Rattle.ov_types.specs.Access.{verdict}
 use Rattle.ov_types.specs.First.{first_of}
@@ -42,26 +43,30 @@ attached rows label = option_map (λ e. e.1) (find (λ e. e.0.0 == label.0) rows
 abbrev pub agent_at : List Forwarder → Addr → Option Forwarder
 agent_at agents address = find (λ g. g.address.0 == address.0) agents
 
--- what is under a label: a port is delivered to, and a circuit's service is visited, behind which the packet is looked up in
--- the instance of the circuit's other side. `again` is the walk from there on
+-- what is under a label: a port is delivered to, and a circuit's service is visited, behind which the packet is looked
+-- up in the instance of the circuit's other side. `again` is the walk from there on
 abbrev pub visited : (List ServiceNo → InstanceId → Outcome) → List ServiceNo → Option Attached → Outcome
 visited again services None = Dropped Why.NoLabel
 visited again services (Some (Port port instance)) = Delivered port services
-visited again services (Some (Circuit circuit service)) = again (services ++ service ∷ []) (circuit_instance_of (other_side_of circuit))
+visited again services (Some (Circuit circuit service)) =
+    again (services ++ service ∷ []) (circuit_instance_of (other_side_of circuit))
 
 -- the packet goes to the agent of the next hop, under the label
-abbrev pub handed : (Forwarder → List ServiceNo → InstanceId → Outcome) → List ServiceNo → Label → Option Forwarder → Outcome
+abbrev pub handed : (Forwarder → List ServiceNo → InstanceId → Outcome) → List ServiceNo → Label → Option Forwarder
+    → Outcome
 handed again services label None = Dropped Why.NoLabel
 handed again services label (Some g) = visited (again g) services (attached g.rows label)
 
-abbrev pub followed : (Forwarder → List ServiceNo → InstanceId → Outcome) → List Forwarder → List ServiceNo → Option Entry → Outcome
+abbrev pub followed : (Forwarder → List ServiceNo → InstanceId → Outcome) → List Forwarder → List ServiceNo
+    → Option Entry → Outcome
 followed again agents services None = Dropped Why.NoRoute
 followed again agents services (Some e) = handed again services e.label (agent_at agents e.next_hop)
 
 -- the walk to an address with so many lookups left, from an agent, in an instance, behind these services
 abbrev pub walk : List Forwarder → ℕ → ℕ → Forwarder → List ServiceNo → InstanceId → Outcome
 walk agents address zero f services i = Dropped Why.TtlExpired
-walk agents address (suc left) f services i = followed (walk agents address left) agents services (looked_up f.rows i address)
+walk agents address (suc left) f services i =
+    followed (walk agents address left) agents services (looked_up f.rows i address)
 
 -- what the access lists of the first agent say is done
 abbrev pub admitted : List Forwarder → ℕ → Forwarder → InstanceId → Verdict → Outcome

@@ -12,8 +12,8 @@ use Rattle.config_model.specs.declared.topology.Topology.{Topology}
 use Rattle.network_rules.specs.Standing.{PassesBetween}
 use Rattle.schema_transform.specs.Tables.{Row}
 
--- the row of a port in the instance of a network that imports the port's, as its own or by a pass rule: the port's address leads to the port's node
--- by the port's label, and is distinguished by that node and the port's network
+-- the row of a port in the instance of a network that imports the port's, as its own or by a pass rule: the port's
+-- address leads to the port's node by the port's label, and is distinguished by that node and the port's network
 pub record IsRow (t : Topology) (c : Config) (i : InstanceId) (r : Row) : Type 0 where
   pub network : Network
   pub port : Port

@@ -56,7 +56,8 @@ fn put_network_rows(
     rows: &mut Rows,
 ) -> Result<(), NoMemory>
     requires { IsTrue (list_all has_port_form config.now.ports) }
-    ensures { OnOk result (rows.new.entries ≡ with_rows rows.old.entries (network_rows topology.now config.now network.now)) }
+    ensures { OnOk result (rows.new.entries
+        ≡ with_rows rows.old.entries (network_rows topology.now config.now network.now)) }
 {
     for port in config.ports.as_slice() {
         if let Some((key, row)) = row_of(topology, config, network, port) {
@@ -69,7 +70,8 @@ fn put_network_rows(
 /// The rows of every network's instance, by their keys.
 fn rows_of_networks(alloc: Global, topology: &Topology, config: &Config) -> Result<Rows, NoMemory>
     requires { IsTrue (list_all has_port_form config.now.ports) }
-    ensures { IfOk result (λ m. m.entries ≡ with_rows [] (flat_map (network_rows topology.now config.now) config.now.networks)) }
+    ensures { IfOk result (λ m. m.entries
+        ≡ with_rows [] (flat_map (network_rows topology.now config.now) config.now.networks)) }
 {
     let mut rows = BTreeMap::new(alloc);
     for network in config.networks.as_slice() {
