@@ -2,14 +2,12 @@
 use Rattle.std.proofs.Common.{◌≡◌, ◌≢◌, ◌↔◌, ℕ, ◌+◌, ◌*◌, ◌/◌, ◌-◌, ◌&&◌, Bool, true, false, cond, List, [], ◌∷◌, ◌++◌, find, flat_map, length, Option, Some, None, option_map, refl, sym, ap, ◌∙◌, subst, arith}
 use Rattle.ov_types.specs.Access.{in_range, is_of_protocol, holds}
 use Rattle.ov_types.specs.First.{◌<|>◌, first_of, same_name}
-use Rattle.ov_types.proofs.FirstLemmas.{same_name_iff, same_name_self}
+use Rattle.ov_types.proofs.FirstLemmas.{same_name_iff}
 use Rattle.ov_types.specs.declared.objects.AclAction.{AclAction}
 use Rattle.ov_types.specs.declared.objects.AclAction.TheVariants as Does
 use Rattle.ov_types.specs.declared.objects.AclRule.{AclRule}
 use Rattle.ov_types.specs.declared.packet.RuleNo.{RuleNo}
 use Rattle.ov_types.specs.declared.packet.Tuple.{Tuple}
-use Rattle.ov_types.specs.declared.numbers.InstanceId.{InstanceId}
-use Rattle.route_targets.specs.Numbers.{hop_instance_of, left_circuit_of, right_circuit_of, circuit_instance_of}
 use Rattle.config_model.specs.declared.config.Action.{Action}
 use Rattle.config_model.specs.declared.config.Action.TheVariants.{Pass, Deny, Through}
 use Rattle.config_model.specs.declared.config.Config.{Config}

@@ -1,5 +1,5 @@
 -- What the bounds that access lists rest on give.
-use Rattle.std.proofs.Common.{◌≡◌, ◌≢◌, ℕ, ◌<◌, ◌≤◌, ◌◌≤◌, ◌&&◌, leb◌≤◌, ◌&&◌, leb◌, leb, ltb, Bool, true, false, cond, IsTrue, List, [], ◌∷◌, Some, None, Ok, map, filter, length, get_or, refl, sym, ap, ◌∙◌, subst, arith, Bor}
+use Rattle.std.proofs.Common.{◌≡◌, ◌≢◌, ℕ, ◌<◌, ◌≤◌, ◌&&◌, leb, ltb, Bool, true, false, cond, IsTrue, List, [], ◌∷◌, Some, None, Ok, map, filter, length, get_or, refl, sym, ap, ◌∙◌, subst, arith, Bor}
 use Rattle.std.specs.List.{All, AllPairs, list_all}
 use Rattle.std.specs.Cmp.Lexicographic.{same_text}
 use Rattle.std.proofs.lemmas.Bool.{and_parts, le-ltb, leb-true}

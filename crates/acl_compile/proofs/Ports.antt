@@ -1,11 +1,10 @@
 -- No port of a valid configuration has the address of a circuit.
-use Rattle.std.proofs.Common.{◌≡◌, ◌≢◌, ◌⊎◌, inl, inr, ℕ, ◌+◌, ◌≤◌, true, IsTrue, List, [], ◌∷◌, map, Some, None, Option, get_or, refl, sym, ap, ◌∙◌, subst, arith}
+use Rattle.std.proofs.Common.{◌≡◌, ◌≢◌, inl, inr, ℕ, ◌+◌, ◌≤◌, true, IsTrue, List, [], ◌∷◌, map, Some, Option, get_or, refl, ap, subst, arith}
 use Rattle.std.specs.Option.{IfSome}
 use Rattle.std.specs.List.{All, Any, Contains}
 use Rattle.std.proofs.lemmas.List.Elements.{All-contains}
-use Rattle.ov_types.specs.First.{same_name}
 use Rattle.ov_types.specs.Prefix.{Block, contains}
-use Rattle.ov_types.proofs.FirstLemmas.{found_is, contains_here, contains_later, contains_cases}
+use Rattle.ov_types.proofs.FirstLemmas.{contains_here, contains_later, contains_cases}
 use Rattle.ov_types.specs.declared.prefix.Addr.{Addr}
 use Rattle.route_targets.specs.Numbers.{circuit_address_of}
 use Rattle.config_model.specs.Form.{is_block, has_config_form}

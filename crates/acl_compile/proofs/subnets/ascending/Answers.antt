@@ -1,4 +1,4 @@
-use Rattle.std.proofs.Common.{◌≡◌, ap, ◌∙◌}
+use Rattle.std.proofs.Common.{ap, ◌∙◌}
 use Rattle.acl_compile.specs.Oriented.{ascending}
 use Rattle.acl_compile.proofs.Orders.{sorted_ascend}
 use Rattle.acl_compile.proofs.subnets.ascending.Goals as goal
