@@ -11,6 +11,7 @@ mod subnets;
 
 pub use access::acl_between;
 pub use numbered::acl;
+pub use subnets::ascending;
 
 #[cfg(test)]
 mod tests;

@@ -6,7 +6,7 @@ use ov_types::{Items, NoMemory, Prefix};
 use std::alloc::Global;
 
 /// Prefixes by address, and then by length.
-pub(crate) fn ascending(alloc: Global, prefixes: &[Prefix]) -> Result<Items<Prefix>, NoMemory>
+pub fn ascending(alloc: Global, prefixes: &[Prefix]) -> Result<Items<Prefix>, NoMemory>
     ensures { IfOk result (λ list. list ≡ ascending prefixes.now) }
 {
     let mut prefixes = Vec::from_slice(alloc, prefixes)?;
