@@ -1,5 +1,5 @@
 -- The rows of every node.
-use Rattle.std.specs.Prelude.{ℕ, ◌==◌, Bool, false, List, map, filter}
+use Rattle.std.specs.Prelude.{ℕ, ◌==◌, Bool, false, List, [], ◌∷◌, map, filter}
 use Rattle.std.specs.List.{filter_map, list_any}
 use Rattle.ov_types.specs.Prefix.{Block}
 use Rattle.ov_types.specs.declared.numbers.InstanceId.{InstanceId}
@@ -10,6 +10,7 @@ use Rattle.ov_types.specs.declared.prefix.Addr.{Addr}
 use Rattle.ov_types.specs.declared.rows.AgentRows.{AgentRows}
 use Rattle.ov_types.specs.declared.rows.Entry.{Entry}
 use Rattle.ov_types.specs.declared.rows.NodeId.{NodeId}
+use Rattle.route_targets.specs.Forwarding.{Forwarder}
 use Rattle.config_model.specs.declared.config.Config.{Config}
 use Rattle.config_model.specs.declared.topology.Node.{Node}
 use Rattle.config_model.specs.declared.topology.Topology.{Topology}
@@ -55,3 +56,9 @@ compiled_tables x = record {
   controls = map (λ (n : NodeId). control_rows x.topology x.config) x.topology.controllers;
   agents = map (λ (n : Node). agent_rows x.topology x.config n.address) x.topology.nodes;
 }
+
+-- agents with their rows, as packets meet them
+abbrev pub forwarders : List Node → List AgentRows → List Forwarder
+forwarders [] rows = []
+forwarders (n ∷ ns) [] = []
+forwarders (n ∷ ns) (r ∷ rs) = record { address = n.address; rows = r } ∷ forwarders ns rs
