@@ -5,3 +5,4 @@ pub mod Compiled
 pub mod IsUse
 pub mod IsRow
 pub mod IsObject
+pub mod IsLabel
