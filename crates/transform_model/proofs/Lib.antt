@@ -9,3 +9,6 @@ pub mod Ascending
 pub mod Instances
 pub mod Objects
 pub mod LowKeys
+pub mod Kept
+pub mod Needed
+pub mod Labels
