@@ -1,15 +1,14 @@
 -- The circuits of a use are those of its services, each once.
-use Rattle.std.proofs.Common.{◌≡◌, ◌≢◌, ◌↔◌, ◌⊎◌, inl, inr, ◌+◌, ◌-◌, ◌*◌, ◌/◌, ◌≤◌, ◌<◌, ℕ, zero, suc, List, [], ◌∷◌, ◌++◌, length, Some, get_or, refl, sym, ap, ◌∙◌, subst, arith}
-use Rattle.std.specs.List.{All, AllPairs, Contains, slice_get}
+use Rattle.std.proofs.Common.{◌≡◌, ◌≢◌, ◌↔◌, inl, inr, ◌+◌, ◌-◌, ◌*◌, ◌/◌, ◌≤◌, ◌<◌, ℕ, zero, suc, List, [], ◌∷◌, ◌++◌, Some, get_or, refl, sym, ap, ◌∙◌, subst, arith}
+use Rattle.std.specs.List.{AllPairs, Contains, slice_get}
 use Rattle.std.proofs.lemmas.List.Elements.{Contains-get_or}
 use Rattle.std.proofs.lemmas.List.Kept.{AllPairs-cons}
-use Rattle.ov_types.specs.declared.numbers.InstanceId.{InstanceId}
 use Rattle.ov_types.proofs.FirstLemmas.{contains_here, contains_later, contains_cases}
 use Rattle.route_targets.specs.Numbers.{hop_instance_of, left_circuit_of, right_circuit_of, circuit_instance_of}
 use Rattle.config_model.specs.declared.config.Service.{Service}
 use Rattle.transform_model.specs.IsUse.{IsLeftCircuit, IsRightCircuit}
 use Rattle.transform_model.specs.Uses.{Use, Circuit, left_circuits_from, right_circuits_from, left_circuits, right_circuits}
-use Rattle.transform_model.proofs.Lists.{no_pairs, pairs_append_by, pairs_weaker, place_within}
+use Rattle.transform_model.proofs.Lists.{no_pairs, pairs_append_by}
 
 -- circuits with the numbers that a function gives services, which count from the first
 abbrev circuits_by : (ℕ → ℕ) → ℕ → List Service → List Circuit
@@ -113,7 +112,6 @@ pub right_circuits_iff : (u : Use) (k : Circuit) → Contains (right_circuits u)
 right_circuits_iff u k = (right_is u k, λ h. is_right u h.0 k h.1)
 
 -- ---- their numbers
-
 
 pub left_number : (u : Use) (place : ℕ) (k : Circuit) → IsLeftCircuit u place k → k.number ≡ 2 * (16384 + 16 * u.number + place) + 1
 left_number u place k h =

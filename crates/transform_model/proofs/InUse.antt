@@ -1,14 +1,14 @@
 -- The uses of a configuration are those in effect, each of its own number.
-use Rattle.std.proofs.Common.{◌≡◌, ◌≢◌, ◌↔◌, ◌⊎◌, inl, inr, ◌&&◌, ◌+◌, ◌≤◌, ◌<◌, ℕ, zero, suc, Bool, true, false, cond, IsTrue, List, [], ◌∷◌, length, map, Option, Some, None, get_or, refl, sym, ap, ◌∙◌, subst, arith}
+use Rattle.std.proofs.Common.{◌≡◌, ◌≢◌, ◌↔◌, inl, inr, ◌&&◌, ◌+◌, ◌≤◌, ℕ, zero, suc, IsTrue, List, [], ◌∷◌, length, map, Option, Some, None, get_or, refl, sym, ap, ◌∙◌, subst, arith}
 use Rattle.std.specs.Bool.{Decides}
 use Rattle.std.specs.Cmp.Lexicographic.{same_text, nat_list_eq_equiv}
-use Rattle.std.specs.List.{All, AllPairs, Contains, flat_map, filter_map, slice_get}
+use Rattle.std.specs.List.{AllPairs, Contains, flat_map}
 use Rattle.std.specs.Option.{option_map_or}
 use Rattle.std.proofs.lemmas.Bool.{and_parts, and_from}
 use Rattle.std.proofs.lemmas.List.Elements.{All-contains}
 use Rattle.std.proofs.lemmas.Map.Views.{list_any-from_Contains, Contains-from_any}
 use Rattle.ov_types.specs.First.{same_name}
-use Rattle.ov_types.proofs.FirstLemmas.{same_name_iff, found_is, contains_here}
+use Rattle.ov_types.proofs.FirstLemmas.{same_name_iff, found_is}
 use Rattle.config_model.specs.declared.config.Action.{Action}
 use Rattle.config_model.specs.declared.config.Action.TheVariants.{Pass, Deny, Through}
 use Rattle.config_model.specs.declared.config.Chain.{Chain}
@@ -22,17 +22,17 @@ use Rattle.config_model.specs.declared.config.Service.{Service}
 use Rattle.config_model.specs.declared.topology.Topology.{Topology}
 use Rattle.chain_expand.specs.Expansion.{expansion, services_within, service_named, hops_of}
 use Rattle.network_rules.specs.declared.numbered.NumberedRule.{NumberedRule}
-use Rattle.network_rules.specs.Related.{all_rules, attaches, are_related, numbered_from, numbered_rules}
+use Rattle.network_rules.specs.Related.{all_rules, attaches, numbered_from, numbered_rules}
 use Rattle.network_rules.specs.Standing.{IsEnd, AreRelated, LetsThrough}
 use Rattle.network_rules.proofs.Relations.{related_iff}
 use Rattle.config_check.specs.Finding.{network_named}
-use Rattle.config_check.specs.Rules.{use_of, use_numbers, chain_names, network_names}
+use Rattle.config_check.specs.Rules.{use_of, chain_names, network_names}
 use Rattle.config_check.specs.Sentences.{IsValid, IsAround, NamesTwo, EndExists, ChainExists}
 use Rattle.config_check.proofs.Finders.{finds_network_named}
 use Rattle.config_check.proofs.OneHome.{two_among}
 use Rattle.transform_model.specs.IsUse.{IsUse}
 use Rattle.transform_model.specs.Uses.{Use, network_at, use_between, use_by, uses_of, uses}
-use Rattle.transform_model.proofs.Lists.{given, gives, is_joined, joined_is, mapped_is, some_if, is_some, at_place, pairs_joined_by, pairs_given_by, pairs_in_part, pairs_of_parts, pairs_mapped, pairs_ungiven, Across, Gives}
+use Rattle.transform_model.proofs.Lists.{given, gives, is_joined, joined_is, mapped_is, some_if, is_some, at_place, pairs_joined_by, pairs_given_by, pairs_in_part, pairs_of_parts, pairs_mapped, pairs_ungiven, Across}
 
 -- the network of a name
 pub named : (c : Config) (name : List ℕ) (a : Network) → network_named c name ≡ Some a → (a.name ≡ name) × Contains c.networks a
@@ -216,7 +216,7 @@ pub few_services : (t : Topology) (c : Config) (u : Use) → IsValid t c → IsU
 few_services t c u v h =
     let x = rule_of c u h in
     let referents = All-contains (λ (r : NumberedRule). EndExists (network_names c) r.rule.source × EndExists (network_names c) r.rule.destination
-        × ChainExists (chain_names c) r.rule.action) (all_rules c) x.rule v.references.rules x.there in
+    × ChainExists (chain_names c) r.rule.action) (all_rules c) x.rule v.references.rules x.there in
     let leads : x.rule.rule.action ≡ Through h.chain u.number = ap (λ (r : Rule). r.action) x.is ∙ h.leads in
     let chain : Contains (chain_names c) h.chain = subst (ChainExists (chain_names c)) leads referents.2 in
     let d = mapped_is (λ (d : Chain). d.name) c.chains h.chain chain in

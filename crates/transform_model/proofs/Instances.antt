@@ -1,7 +1,7 @@
 -- In a valid configuration the instances are those of its networks and of the hops of its uses, each once.
-use Rattle.std.proofs.Common.{◌≡◌, ◌≢◌, ◌↔◌, ◌⊎◌, inl, inr, ◌+◌, ◌*◌, ◌≤◌, ◌<◌, ℕ, zero, suc, IsTrue, List, [], ◌∷◌, ◌++◌, length, map, get_or, refl, sym, ap, ◌∙◌, subst, arith}
+use Rattle.std.proofs.Common.{◌≡◌, ◌≢◌, ◌↔◌, inl, inr, ◌+◌, ◌*◌, ◌≤◌, ℕ, zero, suc, IsTrue, List, [], ◌∷◌, length, map, get_or, sym, ap, ◌∙◌, subst, arith}
 use Rattle.std.specs.Prelude.{flat_map}
-use Rattle.std.specs.List.{All, AllPairs, Contains}
+use Rattle.std.specs.List.{AllPairs, Contains}
 use Rattle.std.proofs.lemmas.List.Elements.{Contains-get_or, Contains-append_left, Contains-append_right, Contains-append_cases}
 use Rattle.std.proofs.lemmas.List.Kept.{AllPairs-cons}
 use Rattle.ov_types.specs.declared.numbers.InstanceId.{InstanceId}
@@ -12,7 +12,7 @@ use Rattle.config_model.specs.declared.config.Config.{Config}
 use Rattle.config_model.specs.declared.config.Network.{Network}
 use Rattle.config_model.specs.declared.topology.Topology.{Topology}
 use Rattle.config_check.specs.Sentences.{IsValid}
-use Rattle.transform_model.specs.IsUse.{IsUse, IsInstance, of_network, of_hop}
+use Rattle.transform_model.specs.IsUse.{IsInstance, of_network, of_hop}
 use Rattle.transform_model.specs.Tables.{instances}
 use Rattle.transform_model.specs.Uses.{Use, uses, hops_from, hops}
 use Rattle.transform_model.proofs.InUse.{use_is, is_use, uses_differ, few_services}

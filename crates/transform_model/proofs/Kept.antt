@@ -1,5 +1,5 @@
 -- In a valid configuration the rows of distinct instances have distinct keys, so that one map keeps them all.
-use Rattle.std.proofs.Common.{◌≡◌, ◌≢◌, ℕ, IsTrue, List, refl, sym, ap, ◌∙◌}
+use Rattle.std.proofs.Common.{◌≡◌, ◌≢◌, IsTrue, List, sym, ap, ◌∙◌}
 use Rattle.std.specs.Prelude.{flat_map}
 use Rattle.std.specs.List.{AllPairs, Contains}
 use Rattle.std.specs.List.Sorted.{IsPermutation}

@@ -12,3 +12,4 @@ pub mod LowKeys
 pub mod Kept
 pub mod Needed
 pub mod Labels
+pub mod Lemmas

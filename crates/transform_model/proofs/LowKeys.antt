@@ -1,7 +1,6 @@
 -- In a valid configuration no two objects have one key, so that none is lost.
-use Rattle.std.proofs.Common.{◌≡◌, ◌≢◌, ◌↔◌, ◌⊎◌, inl, inr, ◌||◌, ◌+◌, ◌*◌, ◌^◌, ◌≤◌, ◌<◌, ℕ, IsTrue, List, [], ◌∷◌, ◌++◌, Some, length, map, refl, sym, ap, ◌∙◌, subst, arith}
-use Rattle.std.specs.Prelude.{flat_map}
-use Rattle.std.specs.List.{AllPairs, Contains, filter, filter_map}
+use Rattle.std.proofs.Common.{◌≡◌, ◌≢◌, ◌↔◌, ◌⊎◌, inl, inr, ◌||◌, ◌+◌, ◌*◌, ◌^◌, ◌≤◌, ℕ, IsTrue, List, ◌++◌, Some, length, sym, ap, ◌∙◌, arith}
+use Rattle.std.specs.List.{AllPairs, Contains}
 use Rattle.std.specs.List.Sorted.{IsPermutation}
 use Rattle.std.specs.declared.cmp.Ordering.TheVariants.{Less}
 use Rattle.std.proofs.lemmas.List.Elements.{Contains-append_cases}
@@ -9,7 +8,6 @@ use Rattle.std.proofs.lemmas.List.Kept.{AllPairs-filter}
 use Rattle.std.proofs.lemmas.List.Sorted.{IsPermutation-sym, Contains-permutation}
 use Rattle.ov_types.specs.First.{same_name}
 use Rattle.ov_types.specs.Keys.{kind_of, low_key_cmp}
-use Rattle.ov_types.specs.declared.objects.LowKey.{LowKey}
 use Rattle.ov_types.specs.declared.objects.LowKey.TheVariants as Key
 use Rattle.config_model.specs.Form.{has_config_form}
 use Rattle.config_model.specs.declared.config.Config.{Config}
@@ -20,15 +18,14 @@ use Rattle.network_rules.specs.Related.{are_related}
 use Rattle.config_check.specs.Rules.{group_of}
 use Rattle.config_check.specs.Sentences.{IsValid}
 use Rattle.transform_model.specs.IsObject.{IsObject}
-use Rattle.transform_model.specs.IsUse.{IsUse}
-use Rattle.transform_model.specs.Objects.{Object, instance_object, port_object, circuit_object, circuit_objects, acl_object, acl_objects, use_object, objects, with_objects, low_objects}
+use Rattle.transform_model.specs.Objects.{Object, instance_object, port_object, circuit_object, circuit_objects, acl_object, acl_objects, use_object, objects, low_objects}
 use Rattle.transform_model.specs.Uses.{Use, Circuit, uses, left_circuits, right_circuits}
 use Rattle.transform_model.proofs.Circuits.{left_is, right_is, left_number, right_number, circuits_differ}
 use Rattle.transform_model.proofs.Circuits as circuit
 use Rattle.transform_model.proofs.InUse.{use_is, uses_differ, few_services}
 use Rattle.transform_model.proofs.InUse as in_use
 use Rattle.transform_model.proofs.Keys.{objects_in_order, objects_added}
-use Rattle.transform_model.proofs.Lists.{given, mapped_is, joined_is, no_pairs, pairs_append_by, pairs_given_by, pairs_joined_by, pairs_mapped, pairs_of_map, pairs_weaker, place_within}
+use Rattle.transform_model.proofs.Lists.{given, mapped_is, joined_is, pairs_append_by, pairs_given_by, pairs_joined_by, pairs_mapped, pairs_of_map, pairs_weaker, place_within}
 use Rattle.transform_model.proofs.Objects.{from_port, from_circuit, instance_part, port_part, circuit_part, acl_part, use_part, object_is, is_object}
 use Rattle.transform_model.proofs.Prefixes.{port_number}
 

@@ -1,5 +1,5 @@
 -- In a valid configuration each instance that an agent needs is a network's or a hop's of a use in effect.
-use Rattle.std.proofs.Common.{◌≡◌, ◌≢◌, ◌⊎◌, inl, inr, ◌&&◌, ◌++◌, ◌+◌, ◌≤◌, ◌<◌, ℕ, Bool, true, false, cond, IsTrue, List, [], ◌∷◌, length, Option, Some, None, refl, sym, ap, ◌∙◌, subst, arith}
+use Rattle.std.proofs.Common.{◌≡◌, ◌≢◌, inl, inr, ◌&&◌, ◌+◌, ◌≤◌, ℕ, Bool, true, false, cond, IsTrue, List, [], ◌∷◌, length, Some, refl, sym, ap, ◌∙◌, subst, arith}
 use Rattle.std.specs.List.{Contains, filter_map}
 use Rattle.std.proofs.lemmas.Bool.{and_parts}
 use Rattle.std.proofs.lemmas.List.Elements.{All-contains, Contains-append_cases}
@@ -24,7 +24,7 @@ use Rattle.config_model.specs.declared.topology.Topology.{Topology}
 use Rattle.chain_expand.specs.Expansion.{expansion}
 use Rattle.network_rules.specs.declared.numbered.NumberedRule.{NumberedRule}
 use Rattle.network_rules.specs.Matching.{speaks_both_ways}
-use Rattle.network_rules.specs.Related.{all_rules, fits, numbered_rules, rules_between}
+use Rattle.network_rules.specs.Related.{all_rules, fits, rules_between}
 use Rattle.network_rules.specs.Standing.{IsBetween, IsEnd, Fits}
 use Rattle.network_rules.proofs.Standing.{between_iff, fits_iff}
 use Rattle.config_check.specs.Sentences.{IsValid, NamesEnds}

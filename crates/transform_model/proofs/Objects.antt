@@ -1,7 +1,7 @@
 -- In a valid configuration the objects are exactly those that networks, ports and uses in effect give.
-use Rattle.std.proofs.Common.{◌≡◌, ◌↔◌, ◌⊎◌, inl, inr, ◌||◌, ◌<◌, ℕ, Bool, true, false, IsTrue, List, [], ◌∷◌, ◌++◌, length, map, Option, Some, None, option_map, refl, sym, ap, ◌∙◌, subst, arith}
+use Rattle.std.proofs.Common.{◌≡◌, ◌⊎◌, inl, inr, ◌||◌, IsTrue, List, [], ◌∷◌, ◌++◌, map, Option, Some, None, option_map, refl, sym, ap, ◌∙◌, subst}
 use Rattle.std.specs.Prelude.{option_and_then, flat_map}
-use Rattle.std.specs.List.{AllPairs, AllZip, Contains, cons_option, filter, filter_map}
+use Rattle.std.specs.List.{AllZip, Contains, cons_option, filter, filter_map}
 use Rattle.std.proofs.lemmas.List.Elements.{All-contains, Contains-append_left, Contains-append_right, Contains-append_cases}
 use Rattle.ov_types.specs.First.{same_name}
 use Rattle.ov_types.specs.declared.numbers.InstanceId.{InstanceId}
@@ -17,20 +17,20 @@ use Rattle.config_model.specs.declared.config.Service.{Service}
 use Rattle.config_model.specs.declared.topology.Node.{Node}
 use Rattle.config_model.specs.declared.topology.Topology.{Topology}
 use Rattle.network_rules.specs.Related.{imports, are_related}
-use Rattle.network_rules.specs.Standing.{AreRelated, PassesBetween}
+use Rattle.network_rules.specs.Standing.{AreRelated}
 use Rattle.network_rules.proofs.Relations.{imports_iff, related_iff}
 use Rattle.config_check.specs.Finding.{network_named, network_numbered, node_named}
 use Rattle.config_check.specs.Rules.{group_of, node_names}
 use Rattle.config_check.specs.Sentences.{IsValid, IsAround}
 use Rattle.config_check.proofs.Finders.{finds_network_named, finds_network_numbered}
 use Rattle.config_check.proofs.Meanings.{around_test}
-use Rattle.acl_compile.specs.Oriented.{acl_value, ascending}
+use Rattle.acl_compile.specs.Oriented.{ascending}
 use Rattle.transform_model.specs.IsObject.{IsObject, of_network, of_port, of_left_circuit, of_right_circuit, of_networks, of_use, AreImports, IsHop}
 use Rattle.transform_model.specs.IsRow.{IsPort, IsCircuitAt}
-use Rattle.transform_model.specs.IsUse.{IsUse, IsLeftCircuit, IsRightCircuit}
-use Rattle.transform_model.specs.Objects.{Object, imports_of, ascending_instances, instance_object, attached_port, port_object, attached_circuit, circuit_object, circuit_objects, acl_object, acl_objects, hop_of, use_object, objects}
+use Rattle.transform_model.specs.IsUse.{IsUse}
+use Rattle.transform_model.specs.Objects.{Object, imports_of, instance_object, attached_port, port_object, attached_circuit, circuit_object, circuit_objects, acl_object, acl_objects, hop_of, use_object, objects}
 use Rattle.transform_model.specs.Uses.{Use, Circuit, uses, left_circuits, right_circuits}
-use Rattle.transform_model.proofs.Ascending.{Rises, ascending_is, is_ascending, ascending_rises, one_list}
+use Rattle.transform_model.proofs.Ascending.{ascending_is, is_ascending, ascending_rises, one_list}
 use Rattle.transform_model.proofs.Circuits.{left_is, is_left, right_is, is_right}
 use Rattle.transform_model.proofs.InUse.{named, use_is, is_use, services_are}
 use Rattle.transform_model.proofs.Lists.{given, gives, kept_is, is_kept, mapped_is, is_mapped, joined_is, is_joined, mapped_some}

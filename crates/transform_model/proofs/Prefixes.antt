@@ -1,5 +1,5 @@
 -- In a valid configuration the rows of one instance have distinct prefixes.
-use Rattle.std.proofs.Common.{◌≡◌, ◌≢◌, ◌⊎◌, inl, inr, ◌&&◌, ◌+◌, ◌*◌, ◌^◌, ◌≤◌, ◌<◌, ◌-◌, ℕ, Bool, true, false, cond, IsTrue, List, [], ◌++◌, length, Option, None, Some, IfSome, get_or, refl, sym, ap, ◌∙◌, subst, arith}
+use Rattle.std.proofs.Common.{◌≡◌, ◌≢◌, ◌⊎◌, inl, inr, ◌&&◌, ◌+◌, ◌*◌, ◌^◌, ◌≤◌, ◌<◌, ◌-◌, ℕ, Bool, true, false, cond, IsTrue, List, [], ◌++◌, length, Option, None, Some, IfSome, refl, sym, ap, ◌∙◌, subst, arith}
 use Rattle.std.specs.Prelude.{nat_eq, nat_le, flat_map}
 use Rattle.std.specs.List.{All, AllPairs, Any, Contains, filter_map, list_all}
 use Rattle.std.proofs.lemmas.Bool.{and_parts, leb-true, eqb-true}
@@ -21,10 +21,7 @@ use Rattle.config_model.specs.declared.config.Network.{Network}
 use Rattle.config_model.specs.declared.config.Policy.{Policy}
 use Rattle.config_model.specs.declared.config.Port.{Port}
 use Rattle.config_model.specs.declared.config.Rule.{Rule}
-use Rattle.config_model.specs.declared.topology.Node.{Node}
 use Rattle.config_model.specs.declared.topology.Topology.{Topology}
-use Rattle.network_rules.specs.Related.{imports}
-use Rattle.network_rules.proofs.Relations.{imports_iff}
 use Rattle.config_check.specs.Finding.{network_named, network_numbered}
 use Rattle.config_check.specs.Rules.{circuit_addresses}
 use Rattle.config_check.specs.Sentences.{IsValid, IsAround, AreApart, Overlap}
@@ -33,8 +30,7 @@ use Rattle.config_check.proofs.Finders.{finds_network_named}
 use Rattle.config_check.proofs.Iffs.{list_all_true}
 use Rattle.config_check.proofs.Nested.{overlap_at}
 use Rattle.config_check.proofs.OneHome.{HasBlocks, blocks_of, meet, one_home, two_among}
-use Rattle.transform_model.specs.IsRow.{HoldsPort}
-use Rattle.transform_model.specs.IsUse.{IsUse, IsLeftCircuit, IsRightCircuit}
+use Rattle.transform_model.specs.IsUse.{IsUse}
 use Rattle.transform_model.specs.Tables.{Row, port_row, network_rows, rows_of, row_towards, circuits_in, circuit_row, holds_port, held_subnets, subnet_rows, end_row, end_rows, hop_rows, instance_table}
 use Rattle.transform_model.specs.Uses.{Use, Circuit, uses, first_hop, last_hop, left_circuits, right_circuits}
 use Rattle.transform_model.proofs.Circuits as circuit
@@ -43,7 +39,7 @@ use Rattle.transform_model.proofs.InUse.{named, few_services, ends_differ, aroun
 use Rattle.transform_model.proofs.InUse as in_use
 use Rattle.transform_model.proofs.Lists.{given, no_pairs, pairs_append_by, pairs_given_by, pairs_joined_by, place_within, joined_is}
 use Rattle.transform_model.proofs.Related.{is_around}
-use Rattle.transform_model.proofs.Rows.{FromPort, from_port, FromNetwork, from_network, Towards, towards, LeftIn, RightIn, left_in, right_in, either_in, held_is, AtEnd, at_end, TowardsSubnet, towards_subnet, circuit_part, right_part, left_part, first_part, last_part, is_in}
+use Rattle.transform_model.proofs.Rows.{from_port, from_network, towards, LeftIn, RightIn, left_in, right_in, either_in, AtEnd, at_end, TowardsSubnet, towards_subnet, circuit_part, right_part, left_part, first_part, last_part, is_in}
 
 abbrev pub Apart : Row → Row → Type 0
 Apart r s = r.0.1 ≢ s.0.1

@@ -1,5 +1,5 @@
 -- A network that is imported is the network itself, or related to it.
-use Rattle.std.proofs.Common.{◌≡◌, ◌⊎◌, inl, inr, ◌||◌, ◌&&◌, Bool, true, false, not, IsTrue, List, refl, sym}
+use Rattle.std.proofs.Common.{◌⊎◌, inl, inr, ◌||◌, ◌&&◌, Bool, true, false, not, IsTrue, List, refl, sym}
 use Rattle.std.specs.List.{list_any}
 use Rattle.config_model.specs.declared.config.Action.{Action}
 use Rattle.config_model.specs.declared.config.Action.TheVariants.{Pass, Deny, Through}
