@@ -6,3 +6,5 @@ pub mod IsUse
 pub mod IsRow
 pub mod IsObject
 pub mod IsLabel
+pub mod IsNeeded
+pub mod Leads
