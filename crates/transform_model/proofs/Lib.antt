@@ -12,4 +12,5 @@ pub mod LowKeys
 pub mod Kept
 pub mod Needed
 pub mod Labels
+pub mod AgentRows
 pub mod Lemmas

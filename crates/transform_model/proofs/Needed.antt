@@ -1,6 +1,6 @@
 -- In a valid configuration an agent needs the instances of its ports and circuits, and those by which packets of its
 -- ports enter chains; each is a network's or a hop's of a use in effect.
-use Rattle.std.proofs.Common.{◌≡◌, ◌≢◌, ◌↔◌, ◌⊎◌, inl, inr, ◌==◌, ◌&&◌, ◌++◌, ◌+◌, ◌≤◌, ◌<◌, ℕ, Bool, true, false, cond, IsTrue, List, [], ◌∷◌, length, Option, Some, None, refl, sym, ap, ◌∙◌, subst, arith}
+use Rattle.std.proofs.Common.{◌≡◌, ◌≢◌, ◌↔◌, inl, inr, ◌==◌, ◌&&◌, ◌+◌, ℕ, Bool, true, false, cond, IsTrue, List, [], ◌∷◌, length, Option, Some, None, refl, sym, ap, ◌∙◌, subst, arith}
 use Rattle.std.specs.List.{Any, Contains, filter_map, list_any}
 use Rattle.std.proofs.lemmas.Bool.{and_parts, and_from, eqb-true, eq-eqb}
 use Rattle.std.proofs.lemmas.List.Elements.{All-contains, Contains-append_left, Contains-append_right, Contains-append_cases}
@@ -149,6 +149,9 @@ both_ways : (d : Direction) → IsTrue (speaks_both_ways d) → d ≡ BothWays
 both_ways OneWay h = cc
 both_ways BothWays h = refl
 
+both_by : (q r : Rule) → q ≡ r → IsTrue (speaks_both_ways r.direction) → q.direction ≡ BothWays
+both_by q r same h = ap (λ (x : Rule). x.direction) same ∙ both_ways r.direction h
+
 entered : (t : Topology) (c : Config) (at : Addr) (a b : Network) (r : AclRule) (i : InstanceId) → IsValid t c → Contains c.networks a → Contains c.networks b
     → HasPortAt t c at a → Contains (acl_rules c a b) r → entered_by r.action ≡ Some i → IsNeeded t c at i
 entered t c at a b r i v in_a in_b port h enters =
@@ -165,7 +168,7 @@ entered t c at a b r i v in_a in_b port h enters =
           let l = leads_is c true q.0.rule.action i (ap (λ (x : AclRule). entered_by x.action) k.1 ∙ enters) in
           let parts = and_parts (speaks_both_ways q.0.rule.direction) (fits q.0.rule b a) k.0 in
           let u = in_effect t c b a q.0 l.chain l.number v in_b in_a (turned c a b q.0 stands) ((fits_iff q.0.rule b a).0 parts.1) l.leads in
-          let both : u.used.rule.direction ≡ BothWays = ap (λ (x : Rule). x.direction) u.rule ∙ both_ways q.0.rule.direction parts.0 in
+          let both : u.used.rule.direction ≡ BothWays = both_by u.used.rule q.0.rule u.rule parts.0 in
           by_last_hop (use_by_rule c b a l.chain l.number) u.used both port l.at
     ]
 

@@ -1,25 +1,33 @@
 //! What a configuration is transformed into, as laws: each is the contract of a function that does nothing.
-ghost use Rattle.std.specs.Prelude.{◌≡◌, ◌≢◌, ◌↔◌, ℕ, IsTrue, List, flat_map};
+ghost use Rattle.std.specs.Prelude.{◌≡◌, ◌≢◌, ◌↔◌, ◌<◌, ℕ, IsTrue, List, flat_map};
 ghost use Rattle.std.specs.List.{AllPairs, Contains};
 ghost use Rattle.std.specs.List.Sorted.{IsPermutation};
 ghost use Rattle.std.specs.declared.cmp.Ordering.TheVariants.{Less};
 ghost use Rattle.ov_types.specs.Keys.{low_key_cmp, row_key_cmp};
+ghost use Rattle.ov_types.specs.Prefix.{Block};
 ghost use Rattle.ov_types.specs.declared.numbers.InstanceId.{InstanceId};
 ghost use Rattle.ov_types.specs.declared.numbers.Label.{Label};
 ghost use Rattle.ov_types.specs.declared.prefix.Addr.{Addr};
 ghost use Rattle.ov_types.specs.declared.rows.Attached.{Attached};
+ghost use Rattle.ov_types.specs.declared.rows.Entry.{Entry};
 ghost use Rattle.config_model.specs.Form.{has_config_form};
 ghost use Rattle.config_model.specs.declared.config.Config.{Config};
+ghost use Rattle.config_model.specs.declared.config.Network.{Network};
+ghost use Rattle.config_model.specs.declared.config.Port.{Port};
+ghost use Rattle.config_model.specs.declared.topology.Node.{Node};
 ghost use Rattle.config_model.specs.declared.topology.Topology.{Topology};
 ghost use Rattle.config_check.specs.Rules.{first_broken};
 ghost use Rattle.node_model.specs.Agent.{needed_by};
 ghost use Rattle.transform_model.specs.Compiled.{agent_rows, slice_of};
 ghost use Rattle.transform_model.specs.IsLabel.{IsLabel, instance_of};
+ghost use Rattle.transform_model.specs.IsNeeded.{IsAccessList, IsNeeded, IsRoute};
 ghost use Rattle.transform_model.specs.IsObject.{IsObject};
 ghost use Rattle.transform_model.specs.IsRow.{IsRow};
 ghost use Rattle.transform_model.specs.IsUse.{IsInstance, IsLeftCircuit, IsRightCircuit, IsUse};
+ghost use Rattle.transform_model.specs.Leads.{LeadsToCircuit, LeadsToPort};
 ghost use Rattle.transform_model.specs.Objects.{Object, low_objects, objects};
-ghost use Rattle.transform_model.specs.Tables.{Row, control_rows, instance_table, instances, tables_of};
+ghost use Rattle.transform_model.specs.Tables.{Row, circuit_route, control_rows, host_route, instance_table};
+ghost use Rattle.transform_model.specs.Tables.{instances, tables_of};
 ghost use Rattle.transform_model.specs.Uses.{Circuit, Use, left_circuits, right_circuits, uses};
 
 /// In a valid configuration the uses are those of chain rules whose networks both attach the rule's policy, and no two
@@ -49,6 +57,15 @@ pub fn instances_are_of_networks_and_hops()
 pub fn tables_have_exactly_these_rows()
     ensures { (t : Topology) (c : Config) (i : InstanceId) (r : Row) → first_broken t c ≡ None
         → Contains (instance_table t c i) r ↔ IsRow t c i r }
+{}
+
+/// A row leads to the node of its port or circuit by the label there, and has the distinguisher of that node with the
+/// port's network, or with the circuit row's instance.
+pub fn rows_lead_to_nodes()
+    ensures ports { (i : InstanceId) (home : Network) (node : Node) (port : Port)
+        → LeadsToPort i home node port (host_route i home node port) }
+    ensures circuits { (i : InstanceId) (prefix : Block) (k : Circuit) (node : Node)
+        → LeadsToCircuit i prefix k node (circuit_route i prefix k node) }
 {}
 
 /// In a valid configuration no two rows of an instance's table have one prefix.
@@ -92,6 +109,13 @@ pub fn rows_are_kept()
         → IsPermutation (flat_map (instance_table t c) (instances c)) (control_rows t c) }
 {}
 
+/// In a valid configuration an agent needs exactly the instances of its ports and circuits, and those by which packets
+/// of its ports enter chains.
+pub fn needed_instances_are_exactly_these()
+    ensures { (t : Topology) (c : Config) (a : Addr) (i : InstanceId) → IsTrue (has_config_form c)
+        → first_broken t c ≡ None → Contains (needed_by (slice_of (low_objects t c) a)) i ↔ IsNeeded t c a i }
+{}
+
 /// In a valid configuration every instance that an agent needs is that of a network or of a hop of a use in effect.
 pub fn needed_instances_exist()
     ensures { (t : Topology) (c : Config) (a : Addr) (i : InstanceId) → IsTrue (has_config_form c)
@@ -102,6 +126,29 @@ pub fn needed_instances_exist()
 pub fn labels_are_exactly_these()
     ensures { (t : Topology) (c : Config) (a : Addr) (l : Label × Attached) → IsTrue (has_config_form c)
         → first_broken t c ≡ None → Contains (agent_rows t c a).labels l ↔ IsLabel t c a l }
+{}
+
+/// In a valid configuration an agent has exactly the access lists of the networks that have a port at its node.
+pub fn access_lists_are_exactly_these()
+    ensures { (t : Topology) (c : Config) (a : Addr) (o : Object) → IsTrue (has_config_form c)
+        → first_broken t c ≡ None → Contains (agent_rows t c a).acls o ↔ IsAccessList t c a o }
+{}
+
+/// In a valid configuration an agent has exactly the rows of the instances that it needs, without their distinguishers.
+pub fn routes_are_exactly_these()
+    ensures { (t : Topology) (c : Config) (a : Addr) (q : (InstanceId × Block) × Entry) → IsTrue (has_config_form c)
+        → first_broken t c ≡ None → Contains (agent_rows t c a).routes q ↔ IsRoute t c a q }
+{}
+
+/// An agent's labels, access lists and routes are each in strictly ascending order of their keys, whatever the
+/// configuration.
+pub fn lists_of_agents_ascend()
+    ensures labels { (t : Topology) (c : Config) (a : Addr)
+        → AllPairs (λ l m. l.0.0 < m.0.0) (agent_rows t c a).labels }
+    ensures acls { (t : Topology) (c : Config) (a : Addr)
+        → AllPairs (λ d e. low_key_cmp d.0 e.0 ≡ Less) (agent_rows t c a).acls }
+    ensures routes { (t : Topology) (c : Config) (a : Addr)
+        → AllPairs (λ q r. row_key_cmp q.0 r.0 ≡ Less) (agent_rows t c a).routes }
 {}
 
 /// In a valid configuration each row of a table has a label of the agent at its next hop, and each label of an agent is
