@@ -243,11 +243,15 @@ within (suc n) c hop s h =
     service_of c (service_named c hop) hop (flat_map (services_within n c) (hops_of c hop)) s refl
     (λ later. let q = joined_is (services_within n c) (hops_of c hop) s later in within n c q.0 s q.2) h
 
--- they are services of the configuration
-pub services_are : (c : Config) (u : Use) (s : Service) → IsUse c u → Contains u.services s → Contains c.services s
-services_are c u s h inside =
-    let q = joined_is (services_within (length c.chains) c) (hops_of c h.chain) s (subst (λ (ss : List Service). Contains ss s) h.services inside) in
+-- the services of a chain are services of the configuration
+pub of_services : (c : Config) (chain : List ℕ) (s : Service) → Contains (expansion c chain) s → Contains c.services s
+of_services c chain s inside =
+    let q = joined_is (services_within (length c.chains) c) (hops_of c chain) s inside in
     within (length c.chains) c q.0 s q.2
+
+-- and so are those of a use
+pub services_are : (c : Config) (u : Use) (s : Service) → IsUse c u → Contains u.services s → Contains c.services s
+services_are c u s h inside = of_services c h.chain s (subst (λ (ss : List Service). Contains ss s) h.services inside)
 
 -- its two networks differ, and are related
 pub ends_differ : (t : Topology) (c : Config) (u : Use) → IsValid t c → IsUse c u → u.left.name ≢ u.right.name
