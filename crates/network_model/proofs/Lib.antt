@@ -1,0 +1,10 @@
+-- Lemmas, in the order in which they stand on each other.
+pub mod SessionFact
+pub mod Opening
+pub mod WorldFact
+pub mod NodesFact
+pub mod ToldFact
+pub mod ToldNext
+pub mod Start
+pub mod AtRest
+pub mod EveryMoment

@@ -5,3 +5,4 @@ pub mod Network
 pub mod Steps
 pub mod Events
 pub mod Rounds
+pub mod Moments

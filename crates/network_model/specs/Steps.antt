@@ -7,7 +7,8 @@ use Rattle.std.specs.declared.option.Option.TheVariants.{Some, None}
 use Rattle.std.specs.Option.{unwrap_or, option_map}
 use Rattle.std.specs.List.{flat_map, list_all}
 use Rattle.network_model.specs.Setup.{Name, longest}
-use Rattle.network_model.specs.Session.{Session, Message, turned, is_up, opened, arrived, octets_arrived, passed, waiting}
+use Rattle.network_model.specs.Session.{Session, Message, turned, is_up, opened, arrived, octets_arrived, passed}
+use Rattle.network_model.specs.Session.{waiting}
 use Rattle.network_model.specs.Network.{Network, is_at, view, views_of, wanted}
 
 -- ---- steps of nodes

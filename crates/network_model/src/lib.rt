@@ -1,2 +1,5 @@
-//! The network as a machine: its states, what may happen, what is answered, and rounds, as definitions.
+//! The network as a machine: its states, what may happen, what is answered, and rounds, as definitions with the laws of
+//! every moment.
 #![tactic(auto)]
+
+pub mod moment_laws;
