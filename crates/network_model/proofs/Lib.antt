@@ -8,3 +8,9 @@ pub mod ToldNext
 pub mod Start
 pub mod AtRest
 pub mod EveryMoment
+pub mod Twins
+pub mod Apart
+pub mod Calm
+pub mod RoundFact
+pub mod CalmOf
+pub mod Turns

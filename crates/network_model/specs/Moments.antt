@@ -11,7 +11,7 @@ use Rattle.node_model.specs.Step.{Phase, Idle, Opened, Confirmed, Up}
 use Rattle.network_model.specs.Setup.{Name}
 use Rattle.network_model.specs.Session.{Role, End, Session, Message, Open, Keepalive, Hello, Carries, is_live, is_peering}
 use Rattle.network_model.specs.Session.{may_send, may_send_at}
-use Rattle.network_model.specs.Network.{Network, View, start, view, views_of, sessions_of, wanted}
+use Rattle.network_model.specs.Network.{Network, View, AreNamed, start, view, views_of, sessions_of, wanted}
 use Rattle.network_model.specs.Events.{Event, after}
 
 -- ---- lists of sessions
@@ -125,6 +125,12 @@ abbrev pub AtEveryMoment : ((Name → Message → ℕ) → Network → Type 0) �
 AtEveryMoment P =
     (size : Name → Message → ℕ) → ArePositive size
     → (x : Checked) (es : List Event) → P size (after size (start x) es)
+
+-- the same, where names tell nodes apart
+abbrev pub WhereNamed : ((Name → Message → ℕ) → Network → Type 0) → Type 0
+WhereNamed P =
+    (size : Name → Message → ℕ) → ArePositive size
+    → (x : Checked) → AreNamed x.topology → (es : List Event) → P size (after size (start x) es)
 
 -- ---- at rest
 -- as the near node sees it: in each direction what is held is what was sent and what the sender's holdings want

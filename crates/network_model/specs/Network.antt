@@ -9,8 +9,11 @@ use Rattle.ov_types.specs.First.{same_name}
 use Rattle.ov_types.specs.declared.prefix.Addr.{Addr}
 use Rattle.ov_types.specs.declared.rows.NodeId.{NodeId}
 use Rattle.config_model.specs.declared.topology.Node.{Node}
+use Rattle.config_model.specs.declared.topology.Topology.{Topology}
 use Rattle.config_check.specs.Checked.{Checked}
 use Rattle.config_check.specs.Finding.{node_named}
+use Rattle.config_check.specs.Rules.{controller_names, node_names}
+use Rattle.config_check.specs.Sentences.{AreDistinct}
 use Rattle.node_model.specs.Maps.{Map}
 use Rattle.node_model.specs.Paths as control
 use Rattle.node_model.specs.Wants.{wanted_by_peers, wanted_by_agent}
@@ -70,6 +73,10 @@ start x = record {
       ++ peerings x.topology.controllers
       ++ accesses x.topology.controllers x.topology.nodes;
 }
+
+-- no two nodes have one name, and none has the configuration node's
+abbrev pub AreNamed : Topology → Type 0
+AreNamed t = AreDistinct (config ∷ controller_names t ++ node_names t)
 
 -- ---- nodes
 abbrev pub is_at : Name → End → Bool

@@ -151,9 +151,11 @@ rounds_from (suc n) done w = if is_quiet w then (done, w) else rounds_from n (do
 abbrev pub reconnected : Network → Network
 reconnected w = connect_all w.sessions w
 
--- breaks that were not met are removed, one round is done, every session that is down is connected, and then rounds are
--- done until nothing is in flight, at most 6 more in all than the longest chain in effect has services
+-- how settling begins: breaks that were not met are removed, one round is done, and every session that is down is
+-- connected, in the order of a round
+abbrev pub resumed : Network → Network
+resumed w = reconnected (round (record { setup = w.setup; sessions = map without_breaks w.sessions }))
+
+-- then rounds are done until nothing is in flight, at most 6 more in all than the longest chain in effect has services
 unfoldable pub settle : Network → ℕ × Network
-settle w =
-    rounds_from (longest w.setup + 5) 1
-    (reconnected (round (record { setup = w.setup; sessions = map without_breaks w.sessions })))
+settle w = rounds_from (longest w.setup + 5) 1 (resumed w)

@@ -3,3 +3,4 @@
 #![tactic(auto)]
 
 pub mod moment_laws;
+pub mod round_laws;
