@@ -6,3 +6,4 @@ pub mod Ranks
 pub mod SettleFact
 pub mod Settling
 pub mod RanksSettle
+pub mod Small

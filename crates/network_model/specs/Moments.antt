@@ -9,8 +9,8 @@ use Rattle.config_check.specs.Checked.{Checked}
 use Rattle.node_model.specs.Maps.{Change}
 use Rattle.node_model.specs.Step.{Phase, Idle, Opened, Confirmed, Up}
 use Rattle.network_model.specs.Setup.{Name}
-use Rattle.network_model.specs.Session.{Role, End, Session, Message, Open, Keepalive, Hello, Carries, is_live, is_peering}
-use Rattle.network_model.specs.Session.{may_send, may_send_at}
+use Rattle.network_model.specs.Session.{Role, End, Session, Message, Open, Keepalive, Hello, Carries, is_live}
+use Rattle.network_model.specs.Session.{is_peering, may_send, may_send_at}
 use Rattle.network_model.specs.Network.{Network, View, AreNamed, start, view, views_of, sessions_of, wanted}
 use Rattle.network_model.specs.Events.{Event, after}
 

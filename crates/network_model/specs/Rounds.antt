@@ -64,8 +64,8 @@ module _ (size : Name → Message → ℕ) where
   after_rounds w (es ∷ rounds) = after_rounds (after size w es) rounds
 
 -- ---- the event `Round`
--- the turn of a direction in it: where no notice stands that did not when the round began, and none is gone, as many are
--- taken as were in flight then; else nothing is
+-- the turn of a direction in it. Where a notice stands exactly if one stood when the round began, as many are taken as
+-- were in flight then; else nothing is
 abbrev pub IsTurn : (Name → Message → ℕ) → Due → Network → Network → Type 0
 IsTurn size d w v =
     (notice_stands w d ≡ d.is_notice → v ≡ next size w (Deliver d.from d.to d.count))

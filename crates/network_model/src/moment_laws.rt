@@ -5,10 +5,11 @@ ghost use Rattle.node_model.specs.Step.{Phase};
 ghost use Rattle.network_model.specs.Setup.{Name};
 ghost use Rattle.network_model.specs.Session.{Message, Session, is_peering, shut, took};
 ghost use Rattle.network_model.specs.Steps.{is_settled};
-ghost use Rattle.network_model.specs.Moments.{AtEveryMoment, Each, IsAtRest, IsJoined, IsLost, IsProperEnd, NodeHasTold};
-ghost use Rattle.network_model.specs.Moments.{cell};
+ghost use Rattle.network_model.specs.Moments.{AtEveryMoment, Each, IsAtRest, IsJoined, IsLost, IsProperEnd};
+ghost use Rattle.network_model.specs.Moments.{NodeHasTold, cell};
 
-/// A message whose cell goes down closes the end; another leads to the state of its cell, unless a break closes the end.
+/// A message whose cell goes down closes the end; another leads to the state of its cell, unless a break closes the
+/// end.
 pub fn cells_tell_what_messages_do()
     ensures down { (m : Message) (s : Session) → cell (is_peering s) s.near.phase m ≡ None → took m s ≡ shut s }
     ensures leads { (m : Message) (s : Session) (next : Phase) → cell (is_peering s) s.near.phase m ≡ Some next
@@ -23,8 +24,8 @@ pub fn ends_are_proper()
 
 /// On a session that is not down both ends are live and no notice is pending. In each direction what is held, with the
 /// changes in flight applied, is what was sent; greetings are in flight ahead of all changes, and are those that the
-/// sender's state says were sent and the receiver's state does not say were taken; and no message in flight meets a cell
-/// that goes down.
+/// sender's state says were sent and the receiver's state does not say were taken; and no message in flight meets a
+/// cell that goes down.
 pub fn sessions_that_are_not_down_are_joined()
     ensures { AtEveryMoment (λ size w. Each (λ s. s.is_down ≡ false → IsJoined s) w.sessions) }
 {}
