@@ -14,6 +14,8 @@ use Rattle.network_model.specs.Session.{Message, Carries, End, Session, turned, 
 use Rattle.network_model.specs.Network.{Network, view, views_of, wanted}
 use Rattle.network_model.specs.Steps.{change_session, pass, session_in, session_of, in_flight, repeat, deliver, Due, due_at, dues, notice_stands, deliver_due, deliver_all, round, is_broken, around, connect, may_connect, connect_found, connect_if, connect_all, reconnected, resumed, without_breaks}
 use Rattle.network_model.proofs.SessionFact.{sends, Joined, Down, Fact, Fact-turned, passed_keeps, arrived_keeps}
+use Rattle.config_check.specs.Checked.{Checked}
+use Rattle.network_model.proofs.Walk.{Takes, Connects, due_walk, dues_walk, all_walk, connect_walk, connections_walk, resumed_walk}
 use Rattle.network_model.proofs.WorldFact.{Each, Nodes, nodes, passed_nodes, opened_nodes, with_session_keeps, nodes_keep, found, each_map, breaks_apart, round_sound, connect_all_sound}
 use Rattle.network_model.proofs.NodesFact.{arrived_nodes, turned_nodes, map_nodes, round_nodes, connect_if_nodes, connect_all_nodes}
 use Rattle.network_model.proofs.ToldNext.{is_among, found_among}
@@ -115,19 +117,17 @@ module _ (size : Name → Message → ℕ) (positive : (n : Name) (m : Message) 
   fit_pass : (n : Name) (w : Network) → AreFit w → AreFit (pass n w)
   fit_pass n w c = nodes_keep IsFit fit_turned (λ s. passed (wanted w.setup (views_of n w.sessions) (view s)) s) (λ s d. fit_passed (wanted w.setup (views_of n w.sessions) (view s)) s d) n w.sessions c
 
-  fit_deliver : (from to : Name) (w : Network) → AreFit w → AreFit (deliver from to w)
-  fit_deliver from to w c = elim (in_flight w from to == 0) as (λ b. AreFit (cond b w (pass to (change_session to from arrived w)))) [ true ↦ c | false ↦ fit_pass to (change_session to from arrived w) (fit_change to from w c) ]
+  fit_takes : Takes AreFit
+  fit_takes from to w c = fit_pass to (change_session to from arrived w) (fit_change to from w c)
 
   fit_due : (d : Due) (w : Network) → AreFit w → AreFit (deliver_due d w)
-  fit_due d w c = elim (beq (notice_stands w d) d.is_notice) as (λ b. AreFit (cond b (deliver d.from d.to w) w)) [ true ↦ fit_deliver d.from d.to w c | false ↦ c ]
+  fit_due = due_walk AreFit fit_takes
 
   fit_repeat : (n : ℕ) (d : Due) (w : Network) → AreFit w → AreFit (repeat n (deliver_due d) w)
-  fit_repeat zero d w c = c
-  fit_repeat (suc n) d w c = fit_repeat n d (deliver_due d w) (fit_due d w c)
+  fit_repeat = dues_walk AreFit fit_takes
 
   fit_all : (ds : List Due) (w : Network) → AreFit w → AreFit (deliver_all ds w)
-  fit_all [] w c = c
-  fit_all (d ∷ ds) w c = fit_all ds (repeat d.count (deliver_due d) w) (fit_repeat d.count d w c)
+  fit_all = all_walk AreFit fit_takes
 
   -- no notice comes
   abbrev Hushed : Session → Session → Type 0
@@ -160,25 +160,21 @@ module _ (size : Name → Message → ℕ) (positive : (n : Name) (m : Message) 
       let W = λ (s : Session). wanted w.setup (views_of n w.sessions) (view s) in
       still a b w (pass n w) (pairs_node Hushed hushed_both hushed_same IsFit fit_turned (λ s. passed (W s) s) (λ s. passed_nodes (W s) s) n (λ s f. hushed_passed (W s) s f.1) w.sessions c) e
 
-  still_deliver : (from to a b : Name) (w : Network) → AreFit w → notice_at w a b ≡ false → notice_at (deliver from to w) a b ≡ false
-  still_deliver from to a b w c e =
-      elim (in_flight w from to == 0) as (λ x. notice_at (cond x w (pass to (change_session to from arrived w))) a b ≡ false) [
-        | true ↦ e
-        | false ↦
-            let v = change_session to from arrived w in
-            still_pass to a b v (fit_change to from w c) (still a b w v (pairs_session Hushed hushed_both hushed_same IsFit fit_turned arrived arrived_nodes to from (λ s _ f. hushed_arrived s f) w.sessions c) e)
-      ]
+  abbrev Still : Name → Name → Network → Type 0
+  Still a b w = AreFit w × (notice_at w a b ≡ false)
 
-  still_due : (d : Due) (a b : Name) (w : Network) → AreFit w → notice_at w a b ≡ false → notice_at (deliver_due d w) a b ≡ false
-  still_due d a b w c e = elim (beq (notice_stands w d) d.is_notice) as (λ x. notice_at (cond x (deliver d.from d.to w) w) a b ≡ false) [ true ↦ still_deliver d.from d.to a b w c e | false ↦ e ]
+  still_takes : (a b : Name) → Takes (Still a b)
+  still_takes a b from to w q =
+      let v = change_session to from arrived w in (
+        fit_takes from to w q.0,
+        still_pass to a b v (fit_change to from w q.0) (still a b w v (pairs_session Hushed hushed_both hushed_same IsFit fit_turned arrived arrived_nodes to from (λ s _ f. hushed_arrived s f) w.sessions q.0) q.1),
+      )
 
   still_repeat : (n : ℕ) (d : Due) (a b : Name) (w : Network) → AreFit w → notice_at w a b ≡ false → notice_at (repeat n (deliver_due d) w) a b ≡ false
-  still_repeat zero d a b w c e = e
-  still_repeat (suc n) d a b w c e = still_repeat n d a b (deliver_due d w) (fit_due d w c) (still_due d a b w c e)
+  still_repeat n d a b w c e = (dues_walk (Still a b) (still_takes a b) n d w (c, e)).1
 
   still_all : (ds : List Due) (a b : Name) (w : Network) → AreFit w → notice_at w a b ≡ false → notice_at (deliver_all ds w) a b ≡ false
-  still_all [] a b w c e = e
-  still_all (d ∷ ds) a b w c e = still_all ds a b (repeat d.count (deliver_due d) w) (fit_repeat d.count d w c) (still_repeat d.count d a b w c e)
+  still_all ds a b w c e = (all_walk (Still a b) (still_takes a b) ds w (c, e)).1
 
   -- and a delivery leaves none where it is made
   no_wait : (o : Option Session) → (unwrap_or (option_map waiting o) 0 == 0) ≡ true → notice_in o ≡ false
@@ -361,18 +357,18 @@ module _ (size : Name → Message → ℕ) (positive : (n : Name) (m : Message) 
         | false ↦ pass_lasts b c d (change_session a b (around opened) u) (hush_open_far a b u hu) (open_far_lasts a b c d u hu e)
       ]
 
-  connect_if_hush : (a b : Name) (w : Network) → AreHush w → AreHush (connect_if a b w)
-  connect_if_hush a b w h = elim (session_of w a b) as (λ o. AreHush (connect_found o a b w)) [ None ↦ h | Some s ↦ elim (may_connect s) as (λ c. AreHush (cond c (connect a b w) w)) [ true ↦ connect_hush a b w h | false ↦ h ] ]
+  hush_connects : Connects AreHush
+  hush_connects a b w may some h = connect_hush a b w h
 
-  connect_if_lasts : (a b c d : Name) (w : Network) → AreHush w → is_broken w c d ≡ false → is_broken (connect_if a b w) c d ≡ false
-  connect_if_lasts a b c d w h e =
-      elim (session_of w a b) as (λ o. is_broken (connect_found o a b w) c d ≡ false) [
-        | None ↦ e
-        | Some s ↦ elim (may_connect s) as (λ x. is_broken (cond x (connect a b w) w) c d ≡ false) [
-          | true ↦ connect_lasts a b c d w h (pass_lasts a c d (change_session a b opened w) (hush_open a b w h) (open_lasts a b c d w h e))
-          | false ↦ e
-        ]
-      ]
+  connect_if_hush : (a b : Name) (w : Network) → AreHush w → AreHush (connect_if a b w)
+  connect_if_hush = connect_walk AreHush hush_connects
+
+  abbrev Whole : Name → Name → Network → Type 0
+  Whole c d w = AreHush w × (is_broken w c d ≡ false)
+
+  whole_connects : (c d : Name) → Connects (Whole c d)
+  whole_connects c d a b w may some q =
+      (connect_hush a b w q.0, connect_lasts a b c d w q.0 (pass_lasts a c d (change_session a b opened w) (hush_open a b w q.0) (open_lasts a b c d w q.0 q.1)))
 
   -- the session that is connected
   first_opens : (a b : Name) (w : Network) (s : Session) → AreHush w → session_in w.sessions a b ≡ Some s → is_broken (pass a (change_session a b opened w)) a b ≡ false
@@ -399,12 +395,10 @@ module _ (size : Name → Message → ℕ) (positive : (n : Name) (m : Message) 
       and_true false = refl
 
   connect_all_hush : (ss : List Session) (w : Network) → AreHush w → AreHush (connect_all ss w)
-  connect_all_hush [] w h = h
-  connect_all_hush (s ∷ ss) w h = connect_all_hush ss (connect_if s.near.name s.far.name w) (connect_if_hush s.near.name s.far.name w h)
+  connect_all_hush = connections_walk AreHush hush_connects
 
   connect_all_lasts : (ss : List Session) (c d : Name) (w : Network) → AreHush w → is_broken w c d ≡ false → is_broken (connect_all ss w) c d ≡ false
-  connect_all_lasts [] c d w h e = e
-  connect_all_lasts (s ∷ ss) c d w h e = connect_all_lasts ss c d (connect_if s.near.name s.far.name w) (connect_if_hush s.near.name s.far.name w h) (connect_if_lasts s.near.name s.far.name c d w h e)
+  connect_all_lasts ss c d w h e = (connections_walk (Whole c d) (whole_connects c d) ss w (h, e)).1
 
   abbrev Among : Network → Session → Type 0
   Among w s = is_some (session_in w.sessions s.near.name s.far.name) ≡ true
@@ -453,34 +447,13 @@ module _ (size : Name → Message → ℕ) (positive : (n : Name) (m : Message) 
       reconnected_calm v (subst NoTwins (sym nodes_v) t) (round_sound size positive u (each_weaker IsFit (Fact size) (λ s f. f.0) u.sessions fit)) (round_hush u (subst NoTwins (sym nodes_u) t) fit)
 
 -- ---- the configuration stays
-deliver_setup : (from to : Name) (w : Network) → (deliver from to w).setup ≡ w.setup
-deliver_setup from to w = elim (in_flight w from to == 0) as (λ b. (cond b w (pass to (change_session to from arrived w))).setup ≡ w.setup) [ true ↦ refl | false ↦ refl ]
+abbrev HasSetup : Checked → Network → Type 0
+HasSetup x w = w.setup ≡ x
 
-due_setup : (d : Due) (w : Network) → (deliver_due d w).setup ≡ w.setup
-due_setup d w = elim (beq (notice_stands w d) d.is_notice) as (λ b. (cond b (deliver d.from d.to w) w).setup ≡ w.setup) [ true ↦ deliver_setup d.from d.to w | false ↦ refl ]
+setup_connects : (x : Checked) → Connects (HasSetup x)
+setup_connects x a b w may some e =
+    let u = pass a (change_session a b opened w) in
+    elim (is_broken u a b) as (λ c. (cond c u (pass b (change_session a b (around opened) u))).setup ≡ x) [ true ↦ e | false ↦ e ]
 
-repeat_setup : (n : ℕ) (d : Due) (w : Network) → (repeat n (deliver_due d) w).setup ≡ w.setup
-repeat_setup zero d w = refl
-repeat_setup (suc n) d w = repeat_setup n d (deliver_due d w) ∙ due_setup d w
-
-dues_setup : (ds : List Due) (w : Network) → (deliver_all ds w).setup ≡ w.setup
-dues_setup [] w = refl
-dues_setup (d ∷ ds) w = dues_setup ds (repeat d.count (deliver_due d) w) ∙ repeat_setup d.count d w
-
-pub round_setup : (w : Network) → (round w).setup ≡ w.setup
-unfolding round
-round_setup w = dues_setup (dues w) w
-
-connect_setup : (a b : Name) (w : Network) → (connect_if a b w).setup ≡ w.setup
-connect_setup a b w =
-    elim (session_of w a b) as (λ o. (connect_found o a b w).setup ≡ w.setup) [
-      | None ↦ refl
-      | Some s ↦ elim (may_connect s) as (λ c. (cond c (connect a b w) w).setup ≡ w.setup) [
-        | true ↦ elim (is_broken (pass a (change_session a b opened w)) a b) as (λ c. (cond c (pass a (change_session a b opened w)) (pass b (change_session a b (around opened) (pass a (change_session a b opened w))))).setup ≡ w.setup) [ true ↦ refl | false ↦ refl ]
-        | false ↦ refl
-      ]
-    ]
-
-pub connect_all_setup : (ss : List Session) (w : Network) → (connect_all ss w).setup ≡ w.setup
-connect_all_setup [] w = refl
-connect_all_setup (s ∷ ss) w = connect_all_setup ss (connect_if s.near.name s.far.name w) ∙ connect_setup s.near.name s.far.name w
+pub resumed_setup : (w : Network) → (resumed w).setup ≡ w.setup
+resumed_setup w = resumed_walk (HasSetup w.setup) (λ from to w e. e) (setup_connects w.setup) (λ w e. e) w refl

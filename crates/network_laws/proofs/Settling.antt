@@ -29,10 +29,10 @@ use Rattle.network_model.proofs.ToldNext.{AllHaveTold, octets_touches, round_tol
 use Rattle.network_laws.specs.Settling.{back, Rank, RanksFit, Right}
 use Rattle.network_model.proofs.Twins.{IsProper, NoTwins, swap_and, each_and, each_weaker, all_to_own, own_to_all, with_session_each, found_changed, found_node, same_name_sym, Found, found_each}
 use Rattle.network_laws.proofs.AtNode.{each_at_node}
-use Rattle.network_laws.proofs.EachFact.{Keeps, pass_keeps, on_session, round_keeps, connect_all_keeps, unbroken_keeps}
+use Rattle.network_laws.proofs.EachFact.{Keeps, pass_keeps, on_session, resumed_keeps}
 use Rattle.network_model.proofs.Calm.{telling, passed_easy}
 use Rattle.network_model.proofs.RoundFact.{IsCalm, AreCalm, as_event, as_deliveries, as_round, round_same}
-use Rattle.network_laws.proofs.SettleFact.{resumed_calm, round_setup, connect_all_setup}
+use Rattle.network_laws.proofs.SettleFact.{resumed_calm, resumed_setup}
 use Rattle.network_model.proofs.AtRest.{no_messages}
 use Rattle.network_laws.proofs.Ranks.{Later, Due, SentRight, later_le, ends_up, right_zero, right_next, Core, core_turned, core_more, core_passed, Known, known_turned, Taken, arrived_taken, octets_arrived_taken}
 use Rattle.network_laws.specs.Settling as bound
@@ -595,9 +595,9 @@ module _ (size : Name → Message → ℕ) (positive : (n : Name) (m : Message) 
         let v = round u in
         let nodes_v : map nodes v.sessions ≡ places = round_nodes u ∙ map_nodes without_breaks (λ s. refl) w.sessions ∙ h.1 in
         let ready : IsReady (resumed w) = (
-          connect_all_setup v.sessions v ∙ round_setup u ∙ h.0,
+          resumed_setup w ∙ h.0,
           connect_all_nodes v.sessions v ∙ nodes_v,
-          (connect_all_keeps size Valid P MayTell keeps v.sessions v (round_keeps size Valid P MayTell keeps u (subst Valid (sym h.0) valid, unbroken_keeps size Valid P MayTell keeps w.sessions h.2))).1,
+          (resumed_keeps size Valid P MayTell keeps w (subst Valid (sym h.0) valid, h.2)).1,
           connect_all_told v.sessions v (round_told u (unbroken_told w h.3)),
         ) in
         rounds_rest (longest w.setup + 5) greatest 1 (resumed w) ready (resumed_calm size positive w (subst NoTwins (sym h.1) apart) sound) l two b

@@ -1,6 +1,7 @@
 -- Lemmas, in the order in which they stand on each other.
 pub mod SessionFact
 pub mod Opening
+pub mod Walk
 pub mod WorldFact
 pub mod NodesFact
 pub mod ToldFact
@@ -14,3 +15,4 @@ pub mod Calm
 pub mod RoundFact
 pub mod CalmOf
 pub mod Turns
+pub mod Idle

@@ -1,5 +1,6 @@
 -- The sessions and their nodes stay.
 use Rattle.std.specs.Prelude.{◌≡◌, ℕ, zero, suc, ◌+◌, ◌-◌, List, [], ◌∷◌, map, true, false, cond, ◌==◌, nat_lt}
+use Rattle.std.specs.declared.option.Option.{Option}
 use Rattle.std.specs.declared.option.Option.TheVariants.{Some, None}
 use mathlib.Core.Bool.{beq}
 use Rattle.std.proofs.Common.{refl, ◌∙◌, ap}
@@ -9,6 +10,8 @@ use Rattle.network_model.specs.Session.{Message, Open, Keepalive, Hello, Carries
 use Rattle.network_model.specs.Network.{Network, wanted, view, views_of, config}
 use Rattle.network_model.specs.Events.{Event, Edits, Deliver, DeliverOctets, Lose, Connect, Restart, Round, Settle, Show, Trace, Break, edits, lose, is_earlier, add_break, is_node, next, after}
 use Rattle.network_model.specs.Steps.{at_node, joins, with_session, change_session, change_node, pass, session_of, in_flight, repeat, deliver, Due, dues, deliver_due, deliver_all, notice_stands, round, is_broken, around, open_second, connect, may_connect, connect_found, connect_if, connect_all, rounds_from, reconnected, is_quiet, settle, without_breaks}
+use Rattle.config_check.specs.Checked.{Checked}
+use Rattle.network_model.proofs.Walk.{Takes, Connects, Steps, round_walk, connect_walk, connections_walk, next_walk, after_walk}
 use Rattle.network_model.proofs.WorldFact.{Nodes, nodes, KeepsNodes, told_nodes, passed_nodes, opened_nodes, at_node_nodes}
 
 -- ---- the steps of one end
@@ -66,50 +69,27 @@ pass_nodes n w = map_nodes (at_node n (λ s. passed (wanted w.setup (views_of n 
 pub step_nodes : (n a b : Name) (f : Session → Session) → KeepsNodes f → (w : Network) → SameNodes w (pass n (change_session a b f w))
 step_nodes n a b f k w = pass_nodes n (change_session a b f w) ∙ session_nodes a b f k w.sessions
 
-deliver_nodes : (from to : Name) (w : Network) → SameNodes w (deliver from to w)
-deliver_nodes from to w = elim (in_flight w from to == 0) as (λ b. SameNodes w (cond b w (pass to (change_session to from arrived w)))) [ true ↦ refl | false ↦ step_nodes to to from arrived arrived_nodes w ]
+-- ---- the nodes of all sessions
+abbrev HaveNodes : List Nodes → Network → Type 0
+HaveNodes ps w = map nodes w.sessions ≡ ps
 
-repeat_nodes : (f : Network → Network) → ((w : Network) → SameNodes w (f w)) → (n : ℕ) (w : Network) → SameNodes w (repeat n f w)
-repeat_nodes f h zero w = refl
-repeat_nodes f h (suc n) w = repeat_nodes f h n (f w) ∙ h w
-
-due_nodes : (d : Due) (w : Network) → SameNodes w (deliver_due d w)
-due_nodes d w = elim (beq (notice_stands w d) d.is_notice) as (λ b. SameNodes w (cond b (deliver d.from d.to w) w)) [ true ↦ deliver_nodes d.from d.to w | false ↦ refl ]
-
-dues_nodes : (ds : List Due) (w : Network) → SameNodes w (deliver_all ds w)
-dues_nodes [] w = refl
-dues_nodes (d ∷ ds) w = dues_nodes ds (repeat d.count (deliver_due d) w) ∙ repeat_nodes (deliver_due d) (due_nodes d) d.count w
-
-pub round_nodes : (w : Network) → SameNodes w (round w)
-unfolding round
-round_nodes w = dues_nodes (dues w) w
+takes_nodes : (ps : List Nodes) → Takes (HaveNodes ps)
+takes_nodes ps from to w e = step_nodes to to from arrived arrived_nodes w ∙ e
 
 second_nodes : (a b : Name) (w : Network) → SameNodes w (open_second a b w)
 second_nodes a b w = elim (is_broken w a b) as (λ c. SameNodes w (cond c w (pass b (change_session a b (around opened) w)))) [ true ↦ refl | false ↦ step_nodes b a b (around opened) (turned_nodes opened opened_nodes) w ]
 
-connect_nodes : (a b : Name) (w : Network) → SameNodes w (connect a b w)
-connect_nodes a b w = second_nodes a b (pass a (change_session a b opened w)) ∙ step_nodes a a b opened opened_nodes w
+connects_nodes : (ps : List Nodes) → Connects (HaveNodes ps)
+connects_nodes ps a b w may some e = second_nodes a b (pass a (change_session a b opened w)) ∙ step_nodes a a b opened opened_nodes w ∙ e
+
+pub round_nodes : (w : Network) → SameNodes w (round w)
+round_nodes w = round_walk (HaveNodes (map nodes w.sessions)) (takes_nodes (map nodes w.sessions)) w refl
 
 pub connect_if_nodes : (a b : Name) (w : Network) → SameNodes w (connect_if a b w)
-connect_if_nodes a b w =
-    elim (session_of w a b) as (λ o. SameNodes w (connect_found o a b w)) [
-      | None ↦ refl
-      | Some s ↦ elim (may_connect s) as (λ c. SameNodes w (cond c (connect a b w) w)) [ true ↦ connect_nodes a b w | false ↦ refl ]
-    ]
+connect_if_nodes a b w = connect_walk (HaveNodes (map nodes w.sessions)) (connects_nodes (map nodes w.sessions)) a b w refl
 
 pub connect_all_nodes : (ss : List Session) (w : Network) → SameNodes w (connect_all ss w)
-connect_all_nodes [] w = refl
-connect_all_nodes (s ∷ ss) w = connect_all_nodes ss (connect_if s.near.name s.far.name w) ∙ connect_if_nodes s.near.name s.far.name w
-
-rounds_nodes : (n done : ℕ) (w : Network) → SameNodes w (rounds_from n done w).1
-rounds_nodes zero done w = refl
-rounds_nodes (suc n) done w = elim (is_quiet w) as (λ b. SameNodes w (cond b (done, w) (rounds_from n (done + 1) (round w))).1) [ true ↦ refl | false ↦ rounds_nodes n (done + 1) (round w) ∙ round_nodes w ]
-
-settle_nodes : (w : Network) → SameNodes w (settle w).1
-unfolding settle
-settle_nodes w =
-    let u : Network = record { setup = w.setup; sessions = map without_breaks w.sessions } in
-    rounds_nodes (longest w.setup + 5) 1 (reconnected (round u)) ∙ connect_all_nodes (round u).sessions (round u) ∙ round_nodes u ∙ map_nodes without_breaks (λ s. refl) w.sessions
+connect_all_nodes ss w = connections_walk (HaveNodes (map nodes w.sessions)) (connects_nodes (map nodes w.sessions)) ss w refl
 
 module _ (size : Name → Message → ℕ) where
   took_octets_nodes : (f : List Message) (n : ℕ) → KeepsNodes (took_octets size n f)
@@ -127,20 +107,23 @@ module _ (size : Name → Message → ℕ) where
   unfolding octets_arrived
   octets_nodes n s = elim s.near.notice as (λ b. nodes (cond b (record s { near = closed s.near }) (took_octets size n s.far.flight s)) ≡ nodes s) [ true ↦ refl | false ↦ took_octets_nodes s.far.flight n s ]
 
+  nodes_steps : (ps : List Nodes) → Steps size (HaveNodes ps)
+  nodes_steps ps = record {
+    takes = takes_nodes ps;
+    octets = λ from to n w e. step_nodes to to from (octets_arrived size n) (octets_nodes n) w ∙ e;
+    loses = λ a b w e. session_nodes a b lost (λ s. refl) w.sessions ∙ e;
+    connects = connects_nodes ps;
+    restarts = λ n w e. map_nodes (at_node n shut) (at_node_nodes n shut (λ s. refl)) w.sessions ∙ e;
+    clears = λ w e. map_nodes without_breaks (λ s. refl) w.sessions ∙ e;
+    breaks = λ a b n w e. session_nodes a b (add_break n) (λ s. refl) w.sessions ∙ e;
+  }
+
+  edits_nodes : (ps : List Nodes) (o : Option Checked) (w : Network) → HaveNodes ps w → HaveNodes ps (edits o w)
+  edits_nodes ps None w e = e
+  edits_nodes ps (Some x) w e = pass_nodes config (record { setup = x; sessions = w.sessions }) ∙ e
+
   pub next_nodes : (w : Network) (e : Event) → SameNodes w (next size w e)
-  unfolding next
-  next_nodes w (Edits e) = elim (edited w.setup e) as (λ o. SameNodes w (edits o w)) [ None ↦ refl | Some x ↦ pass_nodes config (record { setup = x; sessions = w.sessions }) ]
-  next_nodes w (Deliver from to n) = repeat_nodes (deliver from to) (deliver_nodes from to) n w
-  next_nodes w (DeliverOctets from to n) = elim (in_flight w from to == 0) as (λ b. SameNodes w (cond b w (pass to (change_session to from (octets_arrived size n) w)))) [ true ↦ refl | false ↦ step_nodes to to from (octets_arrived size n) (octets_nodes n) w ]
-  next_nodes w (Lose a b) = elim (session_of w a b) as (λ o. SameNodes w (lose o a b w)) [ None ↦ refl | Some s ↦ elim s.is_down as (λ c. SameNodes w (cond c w (change_session a b lost w))) [ true ↦ refl | false ↦ session_nodes a b lost (λ s. refl) w.sessions ] ]
-  next_nodes w (Connect a b) = elim (is_earlier w.sessions a b) as (λ c. SameNodes w (cond c (connect_if a b w) (connect_if b a w))) [ true ↦ connect_if_nodes a b w | false ↦ connect_if_nodes b a w ]
-  next_nodes w (Restart n) = elim (is_node w n) as (λ c. SameNodes w (cond c (change_node n shut w) w)) [ true ↦ map_nodes (at_node n shut) (at_node_nodes n shut (λ s. refl)) w.sessions | false ↦ refl ]
-  next_nodes w Round = round_nodes w
-  next_nodes w Settle = settle_nodes w
-  next_nodes w (Show n) = refl
-  next_nodes w (Trace p) = refl
-  next_nodes w (Break a b n) = session_nodes a b (add_break n) (λ s. refl) w.sessions
+  next_nodes w e = let ps = map nodes w.sessions in next_walk size (HaveNodes ps) (nodes_steps ps) w e (λ d _. edits_nodes ps (edited w.setup d) w) refl
 
   pub after_nodes : (w : Network) (es : List Event) → SameNodes w (after size w es)
-  after_nodes w [] = refl
-  after_nodes w (e ∷ es) = after_nodes (next size w e) es ∙ next_nodes w e
+  after_nodes w es = let ps = map nodes w.sessions in after_walk size (HaveNodes ps) (nodes_steps ps) (λ d w. edits_nodes ps (edited w.setup d) w) w es refl

@@ -18,6 +18,7 @@ use Rattle.network_model.specs.Events.{Event, Deliver, next, after}
 use Rattle.network_model.specs.Steps.{joins, with_session, change_session, pass, session_in, in_flight, repeat, deliver, Due, due_at, dues, notice_stands, deliver_due, deliver_all, round}
 use Rattle.network_model.specs.Rounds.{is_delivery, taken_of, IsRound}
 use Rattle.network_model.proofs.SessionFact.{Joined, Fact, Fact-turned, passed_keeps, arrived_keeps}
+use Rattle.network_model.proofs.Walk.{Takes, deliver_walk, delivers_walk}
 use Rattle.network_model.proofs.WorldFact.{Each, passed_nodes, with_session_keeps, nodes_keep, found}
 use Rattle.network_model.proofs.NodesFact.{arrived_nodes}
 use Rattle.network_model.proofs.Calm.{telling, passed_easy, ArrivalOf, arrives}
@@ -66,12 +67,14 @@ module _ (size : Name → Message → ℕ) (positive : (n : Name) (m : Message) 
   calm_pass : (n : Name) (w : Network) → AreCalm w → AreCalm (pass n w)
   calm_pass n w c = nodes_keep IsCalm calm_turned (λ s. passed (wanted w.setup (views_of n w.sessions) (view s)) s) (λ s d. calm_passed (wanted w.setup (views_of n w.sessions) (view s)) s d) n w.sessions c
 
+  calm_takes : Takes AreCalm
+  calm_takes from to w c = calm_pass to (change_session to from arrived w) (calm_change to from w c)
+
   calm_deliver : (from to : Name) (w : Network) → AreCalm w → AreCalm (deliver from to w)
-  calm_deliver from to w c = elim (in_flight w from to == 0) as (λ b. AreCalm (cond b w (pass to (change_session to from arrived w)))) [ true ↦ c | false ↦ calm_pass to (change_session to from arrived w) (calm_change to from w c) ]
+  calm_deliver = deliver_walk AreCalm calm_takes
 
   pub calm_delivers : (n : ℕ) (from to : Name) (w : Network) → AreCalm w → AreCalm (repeat n (deliver from to) w)
-  calm_delivers zero from to w c = c
-  calm_delivers (suc n) from to w c = calm_delivers n from to (deliver from to w) (calm_deliver from to w c)
+  calm_delivers = delivers_walk AreCalm calm_takes
 
   -- ---- what one delivery takes
   calm_waiting : (s : Session) → IsCalm s → waiting s ≡ length s.far.flight

@@ -20,6 +20,7 @@ use Rattle.node_model.specs.Step.{Opened}
 use Rattle.network_model.specs.Network.{Network, View, view, views_of, sessions_of, seen_by, wanted, wanted_from, wanted_from_control, is_at, config}
 use Rattle.network_model.specs.Events.{Event, Edits, Deliver, DeliverOctets, Lose, Connect, Restart, Round, Settle, Show, Trace, Break, edits, lose, is_earlier, add_break, is_node, next, after}
 use Rattle.network_model.specs.Steps.{at_node, joins, with_session, change_session, change_node, pass, session_in, session_of, in_flight, repeat, deliver, Due, dues, deliver_due, deliver_all, notice_stands, round, is_broken, around, connect, may_connect, connect_found, connect_if, connect_all, rounds_from, reconnected, is_quiet, settle, without_breaks}
+use Rattle.network_model.proofs.Walk.{Takes, Connects, Steps, round_walk, connections_walk, next_walk}
 use Rattle.network_model.proofs.WorldFact.{Each, Nodes, nodes, KeepsNodes, joins_kept, opened_nodes}
 use Rattle.network_model.proofs.NodesFact.{next_nodes, pass_nodes, session_nodes}
 use Rattle.network_model.specs.Moments.{AreWhole, TellsWanted, HasTold, NodeHasTold}
@@ -69,37 +70,17 @@ module _ (f : Session → Session) (near : (s : Session) → Alike s (f s)) (far
   map_alike m [] = tt
   map_alike m (s ∷ ss) = alike_cons (seen_by m s) (seen_by m (f s)) (sessions_of m ss) (sessions_of m (map f ss)) (seen_alike m s) (map_alike m ss)
 
--- ---- deliveries, rounds
-deliver_told : (from to : Name) (w : Network) → AllHaveTold w → AllHaveTold (deliver from to w)
-deliver_told from to w h m =
-    elim (in_flight w from to == 0) as (λ b. NodeHasTold (cond b w (pass to (change_session to from arrived w))) m) [
-      | true ↦ h m
-      | false ↦ step_tells to from m arrived arrived_touches w (h m)
-    ]
-
-repeat_told : (f : Network → Network) → ((w : Network) → AllHaveTold w → AllHaveTold (f w)) → (n : ℕ) (w : Network) → AllHaveTold w → AllHaveTold (repeat n f w)
-repeat_told f h zero w e = e
-repeat_told f h (suc n) w e = repeat_told f h n (f w) (h w e)
-
-due_told : (d : Due) (w : Network) → AllHaveTold w → AllHaveTold (deliver_due d w)
-due_told d w e = elim (beq (notice_stands w d) d.is_notice) as (λ b. AllHaveTold (cond b (deliver d.from d.to w) w)) [ true ↦ deliver_told d.from d.to w e | false ↦ e ]
-
-dues_told : (ds : List Due) (w : Network) → AllHaveTold w → AllHaveTold (deliver_all ds w)
-dues_told [] w e = e
-dues_told (d ∷ ds) w e = dues_told ds (repeat d.count (deliver_due d) w) (repeat_told (deliver_due d) (due_told d) d.count w e)
+-- ---- losses and breaks
+takes_told : Takes AllHaveTold
+takes_told from to w h m = step_tells to from m arrived arrived_touches w (h m)
 
 pub round_told : (w : Network) → AllHaveTold w → AllHaveTold (round w)
-unfolding round
-round_told w e = dues_told (dues w) w e
+round_told = round_walk AllHaveTold takes_told
 
-lose_told : (o : Option Session) (a b : Name) (w : Network) → AllHaveTold w → AllHaveTold (lose o a b w)
-lose_told None a b w e m = e m
-lose_told (Some s) a b w e m =
-    elim s.is_down as (λ c. NodeHasTold (cond c w (change_session a b lost w)) m) [
-      | true ↦ e m
-      | false ↦ told_alike w.setup (sessions_of m w.sessions) (sessions_of m (with_session a b lost w.sessions))
-          (session_alike lost (λ s. record { view = refl; sent = refl; down = λ e. absurd (true≢false e) }) (λ s. record { view = refl; sent = refl; down = λ e. absurd (true≢false e) }) m a b w.sessions) (e m)
-    ]
+loses_told : (a b : Name) (w : Network) → AllHaveTold w → AllHaveTold (change_session a b lost w)
+loses_told a b w e m =
+    told_alike w.setup (sessions_of m w.sessions) (sessions_of m (with_session a b lost w.sessions))
+    (session_alike lost (λ s. record { view = refl; sent = refl; down = λ e. absurd (true≢false e) }) (λ s. record { view = refl; sent = refl; down = λ e. absurd (true≢false e) }) m a b w.sessions) (e m)
 
 break_told : (a b : Name) (n : ℕ) (w : Network) → AllHaveTold w → AllHaveTold (change_session a b (add_break n) w)
 break_told a b n w e m =
@@ -312,46 +293,25 @@ connect_told a b w h found m =
           (by_name (NodeHasTold u) a m (pass_tells a v) (λ apart_a. third apart_a apart_b))))
     ] refl
 
-connect_if_told : (a b : Name) (w : Network) → AllHaveTold w → AllHaveTold (connect_if a b w)
-connect_if_told a b w h m =
-    elim (session_of w a b) as (λ o. session_of w a b ≡ o → NodeHasTold (connect_found o a b w) m) [
-      | None ↦ λ _. h m
-      | Some s ↦ λ is. elim (may_connect s) as (λ c. NodeHasTold (cond c (connect a b w) w) m) [ true ↦ connect_told a b w h (ap is_some is) m | false ↦ h m ]
-    ] refl
+connects_told : Connects AllHaveTold
+connects_told a b w may found h = connect_told a b w h found
 
 pub connect_all_told : (ss : List Session) (w : Network) → AllHaveTold w → AllHaveTold (connect_all ss w)
-connect_all_told [] w h = h
-connect_all_told (s ∷ ss) w h = connect_all_told ss (connect_if s.near.name s.far.name w) (connect_if_told s.near.name s.far.name w h)
-
-rounds_told : (n done : ℕ) (w : Network) → AllHaveTold w → AllHaveTold (rounds_from n done w).1
-rounds_told zero done w h m = h m
-rounds_told (suc n) done w h m = elim (is_quiet w) as (λ b. NodeHasTold (cond b (done, w) (rounds_from n (done + 1) (round w))).1 m) [ true ↦ h m | false ↦ rounds_told n (done + 1) (round w) (round_told w h) m ]
-
-settle_told : (w : Network) → AllHaveTold w → AllHaveTold (settle w).1
-unfolding settle
-settle_told w h =
-    let u : Network = record { setup = w.setup; sessions = map without_breaks w.sessions } in
-    rounds_told (longest w.setup + 5) 1 (reconnected (round u)) (connect_all_told (round u).sessions (round u) (round_told u (unbroken_told w h)))
+connect_all_told = connections_walk AllHaveTold connects_told
 
 module _ (size : Name → Message → ℕ) where
-  next_told : (w : Network) (e : Event) → RolesFit (map nodes w.sessions) → AllHaveTold w → AllHaveTold (next size w e)
-  unfolding next
-  next_told w (Edits e) r h m = edits_told e w r h m
-  next_told w (Deliver from to n) r h m = repeat_told (deliver from to) (deliver_told from to) n w h m
-  next_told w (DeliverOctets from to n) r h m =
-      elim (in_flight w from to == 0) as (λ b. NodeHasTold (cond b w (pass to (change_session to from (octets_arrived size n) w))) m) [
-        | true ↦ h m
-        | false ↦ step_tells to from m (octets_arrived size n) (octets_touches size n) w (h m)
-      ]
-  next_told w (Lose a b) r h m = lose_told (session_of w a b) a b w h m
-  next_told w (Connect a b) r h m = elim (is_earlier w.sessions a b) as (λ c. NodeHasTold (cond c (connect_if a b w) (connect_if b a w)) m) [ true ↦ connect_if_told a b w h m | false ↦ connect_if_told b a w h m ]
-  next_told w (Restart n) r h m = elim (is_node w n) as (λ c. NodeHasTold (cond c (change_node n shut w) w) m) [ true ↦ restart_told n w h m | false ↦ h m ]
-  next_told w Round r h m = round_told w h m
-  next_told w Settle r h m = settle_told w h m
-  next_told w (Show n) r h m = h m
-  next_told w (Trace p) r h m = h m
-  next_told w (Break a b n) r h m = break_told a b n w h m
+  told_steps : Steps size AllHaveTold
+  told_steps = record {
+    takes = takes_told;
+    octets = λ from to n w h m. step_tells to from m (octets_arrived size n) (octets_touches size n) w (h m);
+    loses = loses_told;
+    connects = connects_told;
+    restarts = restart_told;
+    clears = unbroken_told;
+    breaks = break_told;
+  }
 
   pub after_told : (w : Network) (es : List Event) → RolesFit (map nodes w.sessions) → AllHaveTold w → AllHaveTold (after size w es)
   after_told w [] r h = h
-  after_told w (e ∷ es) r h = after_told (next size w e) es (subst RolesFit (sym (next_nodes size w e)) r) (next_told w e r h)
+  after_told w (e ∷ es) r h =
+      after_told (next size w e) es (subst RolesFit (sym (next_nodes size w e)) r) (next_walk size AllHaveTold told_steps w e (λ d _ h. edits_told d w r h) h)

@@ -18,6 +18,7 @@ use Rattle.network_model.specs.Events.{Event, Edits, Deliver, DeliverOctets, Los
 use Rattle.network_model.specs.Steps.{at_node, joins, with_session, change_session, change_node, pass, session_in, session_of, in_flight, repeat, deliver, deliver_octets, Due, dues, deliver_due, deliver_all, notice_stands, round, is_broken, around, open_second, connect, may_connect, connect_found, connect_if, connect_all, rounds_from, reconnected, is_quiet, settle, without_breaks}
 pub use Rattle.network_model.specs.Moments.{Each, Nodes, nodes}
 use Rattle.network_model.proofs.SessionFact.{sends, told_cases, Down, Fact, Fact-turned, shut_down, lost_down, tidy_near, tidy_far, passed_keeps, arrived_keeps, octets_arrived_keeps}
+use Rattle.network_model.proofs.Walk.{Steps, round_walk, connections_walk, after_walk}
 use Rattle.network_model.proofs.Opening.{Opening, opened_half, opening_passed, opening_passed_far, opened_far}
 
 -- ---- lists of sessions
@@ -59,45 +60,8 @@ module _ (size : Name → Message → ℕ) (positive : (n : Name) (m : Message) 
   pass_sound : (n : Name) (w : Network) → IsSound w → IsSound (pass n w)
   pass_sound n w e = nodes_keep (Fact size) (Fact-turned size) (λ s. passed (wanted w.setup (views_of n w.sessions) (view s)) s) (λ s f. passed_keeps size positive (wanted w.setup (views_of n w.sessions) (view s)) s f) n w.sessions e
 
-  deliver_sound : (from to : Name) (w : Network) → IsSound w → IsSound (deliver from to w)
-  deliver_sound from to w e =
-      elim (in_flight w from to == 0) as (λ b. IsSound (cond b w (pass to (change_session to from arrived w)))) [
-        | true ↦ e
-        | false ↦ pass_sound to (change_session to from arrived w) (with_session_keeps (Fact size) (Fact-turned size) arrived (arrived_keeps size positive) to from w.sessions e)
-      ]
-
-  octets_sound : (from to : Name) (n : ℕ) (w : Network) → IsSound w → IsSound (deliver_octets size from to n w)
-  octets_sound from to n w e =
-      elim (in_flight w from to == 0) as (λ b. IsSound (cond b w (pass to (change_session to from (octets_arrived size n) w)))) [
-        | true ↦ e
-        | false ↦ pass_sound to (change_session to from (octets_arrived size n) w) (with_session_keeps (Fact size) (Fact-turned size) (octets_arrived size n) (octets_arrived_keeps size positive n) to from w.sessions e)
-      ]
-
-  repeat_sound : (f : Network → Network) → ((w : Network) → IsSound w → IsSound (f w)) → (n : ℕ) (w : Network) → IsSound w → IsSound (repeat n f w)
-  repeat_sound f h zero w e = e
-  repeat_sound f h (suc n) w e = repeat_sound f h n (f w) (h w e)
-
-  due_sound : (d : Due) (w : Network) → IsSound w → IsSound (deliver_due d w)
-  due_sound d w e = elim (beq (notice_stands w d) d.is_notice) as (λ b. IsSound (cond b (deliver d.from d.to w) w)) [ true ↦ deliver_sound d.from d.to w e | false ↦ e ]
-
-  dues_sound : (ds : List Due) (w : Network) → IsSound w → IsSound (deliver_all ds w)
-  dues_sound [] w e = e
-  dues_sound (d ∷ ds) w e = dues_sound ds (repeat d.count (deliver_due d) w) (repeat_sound (deliver_due d) (due_sound d) d.count w e)
-
-  pub round_sound : (w : Network) → IsSound w → IsSound (round w)
-  unfolding round
-  round_sound w e = dues_sound (dues w) w e
-
-  lose_sound : (o : Option Session) (a b : Name) (w : Network) → IsSound w → IsSound (lose o a b w)
-  lose_sound None a b w e = e
-  lose_sound (Some s) a b w e =
-      elim s.is_down as (λ c. IsSound (cond c w (change_session a b lost w))) [
-        | true ↦ e
-        | false ↦ with_session_keeps (Fact size) (Fact-turned size) lost (λ s f. inr (lost_down s (tidy_near size s f) (tidy_far size s f))) a b w.sessions e
-      ]
-
-  restart_sound : (n : Name) (w : Network) → IsSound w → IsSound (change_node n shut w)
-  restart_sound n w e = nodes_keep (Fact size) (Fact-turned size) shut (λ s f. inr (shut_down s (tidy_far size s f))) n w.sessions e
+  take_sound : (to from : Name) (f : Session → Session) → ((s : Session) → Fact size s → Fact size (f s)) → (w : Network) → IsSound w → IsSound (pass to (change_session to from f w))
+  take_sound to from f h w e = pass_sound to (change_session to from f w) (with_session_keeps (Fact size) (Fact-turned size) f h to from w.sessions e)
 
   edits_sound : (o : Option Checked) (w : Network) → IsSound w → IsSound (edits o w)
   edits_sound None w e = e
@@ -117,9 +81,6 @@ module _ (size : Name → Message → ℕ) (positive : (n : Name) (m : Message) 
     near = record { notice = d.near.notice; flight = d.near.flight; taken = d.near.taken; tidy = d.near.tidy };
     far = record { notice = d.far.notice; flight = d.far.flight; taken = d.far.taken; tidy = d.far.tidy };
   })
-
-  break_sound : (a b : Name) (n : ℕ) (w : Network) → IsSound w → IsSound (change_session a b (add_break n) w)
-  break_sound a b n w e = with_session_keeps (Fact size) (Fact-turned size) (add_break n) (λ s f. breaks_apart (n ∷ s.near.breaks) s.far.breaks s f) a b w.sessions e
 
 -- ---- what keeps the two nodes of a session
 abbrev pub KeepsNodes : (Session → Session) → Type 0
@@ -295,50 +256,23 @@ module _ (size : Name → Message → ℕ) (positive : (n : Name) (m : Message) 
       second_sound a b (pass a v) (at_mapped (Opening size) (Fact size) (Opening size) (Fact size) a b (at_node a (λ s. passed (W s) s)) (at_node_nodes a (λ s. passed (W s) s) (λ s. passed_nodes (W s) s))
       (node_opening a W) (node_opening_far a W) (at_node_keeps (Fact size) (Fact-turned size) (λ s. passed (W s) s) (λ s f. passed_keeps size positive (W s) s f) a) v.sessions second)
 
-  connect_if_sound : (a b : Name) (w : Network) → IsSound size positive w → IsSound size positive (connect_if a b w)
-  connect_if_sound a b w e =
-      elim (session_of w a b) as (λ o. session_of w a b ≡ o → IsSound size positive (connect_found o a b w)) [
-        | None ↦ λ _. e
-        | Some s ↦ λ is. elim (may_connect s) as (λ c. may_connect s ≡ c → IsSound size positive (cond c (connect a b w) w)) [
-          | true ↦ λ may. connect_sound a b w e (λ t is'. subst (λ (s : Session). may_connect s ≡ true) (same_Some s t (sym is ∙ is')) may)
-          | false ↦ λ _. e
-        ] refl
-      ] refl
+  -- ---- every event keeps it
+  sound_steps : Steps size (IsSound size positive)
+  sound_steps = record {
+    takes = λ from to. take_sound size positive to from arrived (arrived_keeps size positive);
+    octets = λ from to n. take_sound size positive to from (octets_arrived size n) (octets_arrived_keeps size positive n);
+    loses = λ a b w e. with_session_keeps (Fact size) (Fact-turned size) lost (λ s f. inr (lost_down s (tidy_near size s f) (tidy_far size s f))) a b w.sessions e;
+    connects = λ a b w may some e. connect_sound a b w e may;
+    restarts = λ n w e. nodes_keep (Fact size) (Fact-turned size) shut (λ s f. inr (shut_down s (tidy_far size s f))) n w.sessions e;
+    clears = λ w e. each_map (Fact size) (Fact size) without_breaks (λ s f. breaks_apart size positive [] [] s f) w.sessions e;
+    breaks = λ a b n w e. with_session_keeps (Fact size) (Fact-turned size) (add_break n) (λ s f. breaks_apart size positive (n ∷ s.near.breaks) s.far.breaks s f) a b w.sessions e;
+  }
+
+  pub round_sound : (w : Network) → IsSound size positive w → IsSound size positive (round w)
+  round_sound = round_walk (IsSound size positive) sound_steps.takes
 
   pub connect_all_sound : (ss : List Session) (w : Network) → IsSound size positive w → IsSound size positive (connect_all ss w)
-  connect_all_sound [] w e = e
-  connect_all_sound (s ∷ ss) w e = connect_all_sound ss (connect_if s.near.name s.far.name w) (connect_if_sound s.near.name s.far.name w e)
-
-  rounds_sound : (n done : ℕ) (w : Network) → IsSound size positive w → IsSound size positive (rounds_from n done w).1
-  rounds_sound zero done w e = e
-  rounds_sound (suc n) done w e =
-      elim (is_quiet w) as (λ b. IsSound size positive (cond b (done, w) (rounds_from n (done + 1) (round w))).1) [
-        | true ↦ e
-        | false ↦ rounds_sound n (done + 1) (round w) (round_sound size positive w e)
-      ]
-
-  settle_sound : (w : Network) → IsSound size positive w → IsSound size positive (settle w).1
-  unfolding settle
-  settle_sound w e =
-      let v = round (record { setup = w.setup; sessions = map without_breaks w.sessions }) in
-      rounds_sound (longest w.setup + 5) 1 (reconnected v) (connect_all_sound v.sessions v (round_sound size positive (record { setup = w.setup; sessions = map without_breaks w.sessions })
-      (each_map (Fact size) (Fact size) without_breaks (λ s f. breaks_apart size positive [] [] s f) w.sessions e)))
-
-  -- ---- every event keeps it
-  next_sound : (w : Network) (e : Event) → IsSound size positive w → IsSound size positive (next size w e)
-  unfolding next
-  next_sound w (Edits e) h = edits_sound size positive (edited w.setup e) w h
-  next_sound w (Deliver from to n) h = repeat_sound size positive (deliver from to) (deliver_sound size positive from to) n w h
-  next_sound w (DeliverOctets from to n) h = octets_sound size positive from to n w h
-  next_sound w (Lose a b) h = lose_sound size positive (session_of w a b) a b w h
-  next_sound w (Connect a b) h = elim (is_earlier w.sessions a b) as (λ c. IsSound size positive (cond c (connect_if a b w) (connect_if b a w))) [ true ↦ connect_if_sound a b w h | false ↦ connect_if_sound b a w h ]
-  next_sound w (Restart n) h = elim (is_node w n) as (λ c. IsSound size positive (cond c (change_node n shut w) w)) [ true ↦ restart_sound size positive n w h | false ↦ h ]
-  next_sound w Round h = round_sound size positive w h
-  next_sound w Settle h = settle_sound w h
-  next_sound w (Show n) h = h
-  next_sound w (Trace p) h = h
-  next_sound w (Break a b n) h = break_sound size positive a b n w h
+  connect_all_sound = connections_walk (IsSound size positive) sound_steps.connects
 
   pub after_sound : (w : Network) (es : List Event) → IsSound size positive w → IsSound size positive (after size w es)
-  after_sound w [] h = h
-  after_sound w (e ∷ es) h = after_sound (next size w e) es (next_sound w e h)
+  after_sound = after_walk size (IsSound size positive) sound_steps (λ d w. edits_sound size positive (edited w.setup d) w)

@@ -2,5 +2,6 @@
 //! every moment.
 #![tactic(auto)]
 
+pub mod event_laws;
 pub mod moment_laws;
 pub mod round_laws;
