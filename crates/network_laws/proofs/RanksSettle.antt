@@ -27,7 +27,7 @@ use Rattle.network_laws.proofs.SettleFact.{resumed_calm}
 use Rattle.network_laws.specs.Settling.{IsCalmed, EditsAreValid, FairMap, Fair, WantsFair, Ranked, SettlesIn, SettleSettlesIn, WhereRanked}
 use Rattle.network_laws.proofs.EachFact.{Keeps, after_keeps, edits_valid_on}
 use Rattle.network_laws.proofs.FairFact.{fair_keeps}
-use Rattle.network_laws.proofs.Settling.{settles, settle_settles}
+use Rattle.network_laws.proofs.Settling.{settled_at_once, settles, settle_settles}
 
 module _ (size : Name → Message → ℕ) (positive : (n : Name) (m : Message) → 0 < size n m) where
   module _ (x : Checked) (Valid : Checked → Type 0) (fair : Name × Role → Name × Role → Key → Value → Type 0) (wants : WantsFair fair Valid) where
@@ -54,22 +54,23 @@ module _ (size : Name → Message → ℕ) (positive : (n : Name) (m : Message) 
 
       module _ (greatest : ℕ) (apart : NoTwins (map nodes (start x).sessions)) (r : Ranked greatest (Fair fair) (map nodes (start x).sessions) now.setup) where
         pub rounds_settle : SettlesIn greatest size now
-        rounds_settle [] whole unbroken many two a = absurd (omega (arith, many, two))
-        rounds_settle (first ∷ rounds) whole unbroken many two a =
+        rounds_settle [] whole unbroken many a =
+            settled_at_once size positive r.rank r.goal now.setup (map nodes (start x).sessions) Valid (Fair fair) MayTell r.steps r.fits apart keeps kept.0 now (after_nodes size (start x) es) (λ from to k. none (r.rank from to k) many (r.below from to k))
+          where
+            none : (m : ℕ) → greatest ≤ 0 → m ≤ greatest → m ≤ 0
+            none m e h = omega (arith, e, h)
+        rounds_settle (first ∷ rounds) whole unbroken many a =
             settles size positive r.rank r.goal now.setup (map nodes (start x).sessions) Valid (Fair fair) MayTell r.steps r.fits apart keeps kept.0 first rounds now refl (after_nodes size (start x) es) kept.1
             (after_told size (start x) es (start_fits x) (start_told x)) (calm_of size positive now.sessions (after_sound size positive (start x) es (start_sound size positive x)) whole unbroken) a
-            (one (length rounds) many two) (λ from to k. below (r.rank from to k) (length rounds) many (r.below from to k))
+            (λ from to k. below (r.rank from to k) (length rounds) many (r.below from to k))
           where
-            one : (n : ℕ) → suc n ≡ greatest → 2 ≤ greatest → 1 ≤ n
-            one n e h = omega (arith, e, h)
-
-            below : (m n : ℕ) → suc n ≡ greatest → m ≤ greatest → m ≤ suc n
+            below : (m n : ℕ) → greatest ≤ suc n → m ≤ greatest → m ≤ suc n
             below m n e h = omega (arith, e, h)
 
         pub settle_ends : SettleSettlesIn greatest now
-        settle_ends two within =
+        settle_ends within =
             settle_settles size positive r.rank r.goal now.setup (map nodes (start x).sessions) Valid (Fair fair) MayTell r.steps r.fits apart keeps kept.0 greatest now
-            (refl, after_nodes size (start x) es, kept.1, after_told size (start x) es (start_fits x) (start_told x)) (after_sound size positive (start x) es (start_sound size positive x)) two within r.below
+            (refl, after_nodes size (start x) es, kept.1, after_told size (start x) es (start_fits x) (start_told x)) (after_sound size positive (start x) es (start_sound size positive x)) within r.below
 
 -- THE THEOREMS, with what is valid and what is fair as tests
 pub ranks_settle : WhereRanked SettlesIn

@@ -1,5 +1,5 @@
 -- Rounds of deliveries settle the network.
-use Rattle.std.specs.Prelude.{◌≡◌, ℕ, zero, suc, ◌+◌, ◌-◌, ◌<◌, ◌≤◌, List, [], ◌∷◌, ◌++◌, map, length, Bool, true, false, cond, ◌&&◌, ◌==◌}
+use Rattle.std.specs.Prelude.{◌≡◌, ◌⊎◌, ℕ, zero, suc, ◌+◌, ◌-◌, ◌<◌, ◌≤◌, List, [], ◌∷◌, ◌++◌, map, length, Bool, true, false, cond, ◌&&◌, ◌==◌}
 use Rattle.std.specs.declared.option.Option.{Option}
 use Rattle.std.specs.declared.option.Option.TheVariants.{Some}
 use Rattle.std.specs.Option.{unwrap_or, option_map}
@@ -7,20 +7,21 @@ use Rattle.std.specs.List.{AllByRecursion, list_all}
 use Rattle.std.specs.FinMap.{get}
 use Rattle.std.specs.Cmp.Lexicographic.{bytes_decides}
 use Rattle.std.proofs.lemmas.Bool.{true≢false, and_parts, and_left, and_from, eqb-true, eq-eqb}
-use Rattle.std.proofs.Common.{refl, sym, ◌∙◌, ap, subst, arith}
+use Rattle.std.proofs.Common.{refl, sym, ◌∙◌, ap, subst, inl, inr, arith}
 use Rattle.ov_sync.specs.Keyed.{key_of}
-use Rattle.node_model.specs.Keys.{Key}
+use Rattle.node_model.specs.Keys.{Key, Subscribe}
+use Rattle.node_model.specs.Step.{Phase, Idle, Opened, Confirmed, Up}
 use Rattle.node_model.specs.Values.{Value}
-use Rattle.node_model.specs.Maps.{Map}
+use Rattle.node_model.specs.Maps.{Map, Change}
 use Rattle.config_check.specs.Checked.{Checked}
 use Rattle.network_model.specs.Setup.{Name, longest}
 use Rattle.ov_types.specs.First.{same_name}
-use Rattle.network_model.specs.Session.{Message, Open, Keepalive, Hello, Carries, Session, turned, is_up, is_up_phase, may_send, passed, arrived, octets_arrived, waiting}
+use Rattle.network_model.specs.Session.{is_peering, Message, Open, Keepalive, Hello, Carries, Session, turned, is_up, is_up_phase, may_send, passed, arrived, octets_arrived, waiting}
 use Rattle.network_model.specs.Network.{Network, is_at, sessions_of, view, views_of, wanted}
 use Rattle.network_model.specs.Events.{Event, Edits, Deliver, DeliverOctets, Lose, Connect, Restart, Round, Settle, Show, Trace, Break, next, after}
 use Rattle.network_model.specs.Steps.{at_node, joins, with_session, change_session, pass, session_in, in_flight, repeat, deliver, Due as Waiting, dues, round, is_rested, is_settled, is_quiet, reconnected, resumed, rounds_from, settle, without_breaks}
 use Rattle.network_model.specs.Rounds.{goes, is_delivery, taken_by, taken_of, IsRound, AreRounds, after_rounds}
-use Rattle.network_model.proofs.SessionFact.{append_nil, Joined, Fact}
+use Rattle.network_model.proofs.SessionFact.{append_nil, greetings, Joined, Fact, Fact-turned}
 use Rattle.network_model.proofs.WorldFact.{IsSound, round_sound, Each, Nodes, nodes, KeepsNodes, passed_nodes}
 use Rattle.network_model.proofs.NodesFact.{arrived_nodes, octets_nodes, session_nodes, step_nodes, map_nodes, round_nodes, connect_all_nodes}
 use Rattle.network_model.proofs.ToldFact.{Touches, arrived_touches, step_tells}
@@ -31,7 +32,7 @@ use Rattle.network_model.proofs.Twins.{IsProper, NoTwins, swap_and, each_and, ea
 use Rattle.network_laws.proofs.AtNode.{each_at_node}
 use Rattle.network_laws.proofs.EachFact.{Keeps, pass_keeps, on_session, resumed_keeps}
 use Rattle.network_model.proofs.Calm.{telling, passed_easy}
-use Rattle.network_model.proofs.RoundFact.{IsCalm, AreCalm, as_event, as_deliveries, as_round, round_same}
+use Rattle.network_model.proofs.RoundFact.{fact_joined, IsCalm, AreCalm, as_event, as_deliveries, as_round, round_same}
 use Rattle.network_laws.proofs.SettleFact.{resumed_calm, resumed_setup}
 use Rattle.network_model.proofs.AtRest.{no_messages}
 use Rattle.network_laws.proofs.Ranks.{Later, Due, SentRight, later_le, ends_up, right_zero, right_next, Core, core_turned, core_more, core_passed, Known, known_turned, Taken, arrived_taken, octets_arrived_taken}
@@ -413,31 +414,87 @@ module _ (size : Name → Message → ℕ) (positive : (n : Name) (m : Message) 
         plus_one r n = omega arith
 
     -- ---- the last rank
-    none_later : (n : ℕ) (from to : Name) (f : List Message) → 2 ≤ n → ((k : Key) → rank from to k ≤ n) → Later rank n from to f → f ≡ []
-    none_later n from to [] h b l = refl
-    none_later n from to (Open ∷ f) h b l = absurd (omega (arith, h, l.0))
-    none_later n from to (Hello ∷ f) h b l = absurd (omega (arith, h, l.0))
-    none_later n from to (Keepalive ∷ f) h b l = absurd (omega (arith, h, l.0))
-    none_later n from to (Carries d ∷ f) h b l = absurd (beyond (rank from to (key_of d)) n (b (key_of d)) l.0)
+    -- where both ends wait for nothing they are up
+    quiet_rested : (s : Session) → Joined size s → s.far.flight ≡ [] → s.near.flight ≡ [] → is_rested s ≡ true
+    quiet_rested s j near far =
+        let up = ends_up size positive rank goal s 2 (omega arith) j (subst (Later rank 2 s.far.name s.near.name) (sym near) tt) (subst (Later rank 2 s.near.name s.far.name) (sym far) tt) in
+        and_from (is_up s.near && is_up s.far && (waiting s == 0)) (waiting (turned s) == 0)
+        (and_from (is_up s.near && is_up s.far) (waiting s == 0) (and_from (is_up s.near) (is_up s.far) (ap is_up_phase up.0) (ap is_up_phase up.1))
+        (eq-eqb (waiting s) 0 (ap (λ b. cond b 1 (length s.far.flight)) j.near_notice ∙ ap length near)))
+        (eq-eqb (waiting (turned s)) 0 (ap (λ b. cond b 1 (length s.near.flight)) j.far_notice ∙ ap length far))
+
+    abbrev NoKeepalive : List Message → Type 0
+    NoKeepalive [] = Unit {0}
+    NoKeepalive (Keepalive ∷ f) = ⊥
+    NoKeepalive (m ∷ f) = NoKeepalive f
+
+    no_changes_keep : (cs : List Change) → NoKeepalive (map Carries cs)
+    no_changes_keep [] = tt
+    no_changes_keep (c ∷ cs) = no_changes_keep cs
+
+    -- a KEEPALIVE is sent between control nodes alone
+    no_keepalive : (p q : Phase) (cs : List Change) → NoKeepalive (greetings false p q ++ map Carries cs)
+    no_keepalive Opened Opened cs = no_changes_keep cs
+    no_keepalive Opened Up cs = no_changes_keep cs
+    no_keepalive Opened Idle cs = no_changes_keep cs
+    no_keepalive Opened Confirmed cs = no_changes_keep cs
+    no_keepalive Up Opened cs = no_changes_keep cs
+    no_keepalive Up Up cs = no_changes_keep cs
+    no_keepalive Up Idle cs = no_changes_keep cs
+    no_keepalive Up Confirmed cs = no_changes_keep cs
+    no_keepalive Idle q cs = no_changes_keep cs
+    no_keepalive Confirmed q cs = no_changes_keep cs
+
+    none_later : (n : ℕ) (from to : Name) (f : List Message) → 1 ≤ n → (2 ≤ n) ⊎ NoKeepalive f → ((k : Key) → rank from to k ≤ n) → Later rank n from to f → f ≡ []
+    none_later n from to [] h g b l = refl
+    none_later n from to (Open ∷ f) h g b l = absurd (omega (arith, h, l.0))
+    none_later n from to (Hello ∷ f) h g b l = absurd (omega (arith, h, l.0))
+    none_later n from to (Keepalive ∷ f) h (inl two) b l = absurd (omega (arith, two, l.0))
+    none_later n from to (Keepalive ∷ f) h (inr g) b l = absurd g
+    none_later n from to (Carries d ∷ f) h g b l = absurd (beyond (rank from to (key_of d)) n (b (key_of d)) l.0)
       where
         beyond : (a n : ℕ) → a ≤ n → n < a → ⊥
         beyond a n p q = omega arith
 
-    rested : (n : ℕ) (s : Session) → 2 ≤ n → ((from to : Name) (k : Key) → rank from to k ≤ n) → Joined size s → Later rank n s.far.name s.near.name s.far.flight → Later rank n s.near.name s.far.name s.near.flight → is_rested s ≡ true
-    rested n s h b j c d =
-        let up = ends_up size positive rank goal s n h j c d in
-        and_from (is_up s.near && is_up s.far && (waiting s == 0)) (waiting (turned s) == 0)
-        (and_from (is_up s.near && is_up s.far) (waiting s == 0)
-        (and_from (is_up s.near) (is_up s.far) (ap is_up_phase up.0) (ap is_up_phase up.1))
-        (eq-eqb (waiting s) 0 (ap (λ b. cond b 1 (length s.far.flight)) j.near_notice ∙ ap length (none_later n s.far.name s.near.name s.far.flight h (b s.far.name s.near.name) c))))
-        (eq-eqb (waiting (turned s)) 0 (ap (λ b. cond b 1 (length s.near.flight)) j.far_notice ∙ ap length (none_later n s.near.name s.far.name s.near.flight h (b s.near.name s.far.name) d)))
+    some_key : Key
+    some_key = Subscribe (record { 0 = 0 })
 
-    all_rested : (r : ℕ) (ss : List Session) → 2 ≤ suc r → ((from to : Name) (k : Key) → rank from to k ≤ suc r) → Each (CoreAt r nothing_left) ss → list_all is_rested ss ≡ true
-    all_rested r [] h b c = refl
-    all_rested r (s ∷ ss) h b c =
+    -- what is in flight towards the near end
+    none_flies : (n : ℕ) (s : Session) → RanksFit rank (nodes s) → ((from to : Name) (k : Key) → rank from to k ≤ n) → Joined size s → Later rank n s.far.name s.near.name s.far.flight → s.far.flight ≡ []
+    none_flies n s fit b j c =
+        none_later n s.far.name s.near.name s.far.flight (one (rank s.far.name s.near.name some_key) (fit.0 some_key) (b s.far.name s.near.name some_key))
+        (elim (is_peering s) as (λ p. is_peering s ≡ p → (2 ≤ n) ⊎ NoKeepalive s.far.flight) [
+          | true ↦ λ is. inl (two (rank s.far.name s.near.name some_key) (fit.1 is some_key) (b s.far.name s.near.name some_key))
+          | false ↦ λ is. inr (subst NoKeepalive (sym j.inward.flight) (subst (λ p. NoKeepalive (greetings p s.near.phase s.far.phase ++ map Carries j.inward.changes)) (sym is) (no_keepalive s.near.phase s.far.phase j.inward.changes)))
+        ] refl)
+        (b s.far.name s.near.name) c
+      where
+        one : (m : ℕ) → 1 ≤ m → m ≤ n → 1 ≤ n
+        one m h k = omega (arith, h, k)
+
+        two : (m : ℕ) → 3 ≤ m → m ≤ n → 2 ≤ n
+        two m h k = omega (arith, h, k)
+
+    rested : (n : ℕ) (s : Session) → FitsAt s → ((from to : Name) (k : Key) → rank from to k ≤ n) → Joined size s → Later rank n s.far.name s.near.name s.far.flight → Later rank n s.near.name s.far.name s.near.flight → is_rested s ≡ true
+    rested n s fit b j c d = quiet_rested s j (none_flies n s fit.0 b j c) (none_flies n (turned s) fit.1 b (fact_joined size positive (turned s) (Fact-turned size s (inl j)) j.whole) d)
+
+    all_rested : (r : ℕ) (ss : List Session) → Each FitsAt ss → ((from to : Name) (k : Key) → rank from to k ≤ suc r) → Each (CoreAt r nothing_left) ss → list_all is_rested ss ≡ true
+    all_rested r [] f b c = refl
+    all_rested r (s ∷ ss) f b c =
         and_from (is_rested s) (list_all is_rested ss)
-        (rested (suc r) s h b c.0.joined (over r s.far.name s.near.name s.far.flight c.0.due) (over r s.near.name s.far.name s.near.flight c.0.due_back))
-        (all_rested r ss h b c.1)
+        (rested (suc r) s f.0 b c.0.joined (over r s.far.name s.near.name s.far.flight c.0.due) (over r s.near.name s.far.name s.near.flight c.0.due_back))
+        (all_rested r ss f.1 b c.1)
+
+    -- where no rank is above 0 there is no session
+    no_session : (ss : List Session) → Each FitsAt ss → ((from to : Name) (k : Key) → rank from to k ≤ 0) → list_all is_rested ss ≡ true
+    no_session [] f b = refl
+    no_session (s ∷ ss) f b = absurd (none (rank s.far.name s.near.name some_key) (f.0.0.0 some_key) (b s.far.name s.near.name some_key))
+      where
+        none : (m : ℕ) → 1 ≤ m → m ≤ 0 → ⊥
+        none m h k = omega (arith, h, k)
+
+    pub settled_at_once : (w : Network) → map nodes w.sessions ≡ places → ((from to : Name) (k : Key) → rank from to k ≤ 0) → is_settled w ≡ true
+    settled_at_once w e b = no_session w.sessions (fits_each w.sessions places e fits) b
 
     -- a state before its first round: nothing is known of it but the fact of every moment
     later_zero : (from to : Name) (f : List Message) → ((k : Key) → 1 ≤ rank from to k) → Later rank 0 from to f
@@ -474,28 +531,16 @@ module _ (size : Name → Message → ℕ) (positive : (n : Name) (m : Message) 
 
     -- THE BOUND: as many rounds as the greatest rank settle the network
     pub settles : (es : List Event) (rounds : List (List Event)) (w : Network) → w.setup ≡ x → map nodes w.sessions ≡ places → Each P w.sessions → AllHaveTold w → AreCalm size positive w
-        → AreRounds size w (es ∷ rounds) → 1 ≤ length rounds → ((from to : Name) (k : Key) → rank from to k ≤ suc (length rounds)) → is_settled (after_rounds size w (es ∷ rounds)) ≡ true
-    settles es rounds w same e fair told o a h b =
+        → AreRounds size w (es ∷ rounds) → ((from to : Name) (k : Key) → rank from to k ≤ suc (length rounds)) → is_settled (after_rounds size w (es ∷ rounds)) ≡ true
+    settles es rounds w same e fair told o a b =
         let g = rounds_end 0 rounds (after size w es) (round_ends 0 es w a.0.deliveries (first_round es w same e fair told o a.0)) a.1 in
-        all_rested (0 + length rounds) (after_rounds size (after size w es) rounds).sessions (two (length rounds) h) (λ from to k. subst (λ n. rank from to k ≤ suc n) (none_more (length rounds)) (b from to k)) g.1.cores
+        all_rested (0 + length rounds) (after_rounds size (after size w es) rounds).sessions (fits_each (after_rounds size (after size w es) rounds).sessions places g.1.nodes_same fits) (λ from to k. subst (λ n. rank from to k ≤ suc n) (none_more (length rounds)) (b from to k)) g.1.cores
       where
-        two : (n : ℕ) → 1 ≤ n → 2 ≤ suc (0 + n)
-        two n h = omega arith
-
         none_more : (n : ℕ) → n ≡ 0 + n
         none_more n = omega arith
 
     -- ---- THE EVENT `settle`
     -- where nothing is in flight and no session is down, all is settled
-    quiet_rested : (s : Session) → IsCalm size positive s → (waiting s ≡ 0) → (waiting (turned s) ≡ 0) → is_rested s ≡ true
-    quiet_rested s c e f =
-        let near : s.far.flight ≡ [] = no_messages s.far.flight (sym (ap (λ b. cond b 1 (length s.far.flight)) c.0.near_notice) ∙ e) in
-        let far : s.near.flight ≡ [] = no_messages s.near.flight (sym (ap (λ b. cond b 1 (length s.near.flight)) c.0.far_notice) ∙ f) in
-        let up = ends_up size positive rank goal s 2 (omega arith) c.0 (subst (Later rank 2 s.far.name s.near.name) (sym near) tt) (subst (Later rank 2 s.near.name s.far.name) (sym far) tt) in
-        and_from (is_up s.near && is_up s.far && (waiting s == 0)) (waiting (turned s) == 0)
-        (and_from (is_up s.near && is_up s.far) (waiting s == 0) (and_from (is_up s.near) (is_up s.far) (ap is_up_phase up.0) (ap is_up_phase up.1)) (eq-eqb (waiting s) 0 e))
-        (eq-eqb (waiting (turned s)) 0 f)
-
     settled_quiet : (ss : List Session) → list_all is_rested ss ≡ true → list_all (λ s. (waiting s == 0) && (waiting (turned s) == 0)) ss ≡ true
     settled_quiet [] e = refl
     settled_quiet (s ∷ ss) e =
@@ -522,12 +567,15 @@ module _ (size : Name → Message → ℕ) (positive : (n : Name) (m : Message) 
     stops zero done w e = (e, omega arith)
     stops (suc n) done w e = subst (λ q. SettledBy 0 done (cond q (done, w) (rounds_from n (done + 1) (round w)))) (sym (settled_quiet w.sessions e)) (e, omega arith)
 
+    none_waits : (f : List Message) (notice : Bool) → notice ≡ false → cond notice 1 (length f) ≡ 0 → f ≡ []
+    none_waits f notice e w = no_messages f (sym (ap (λ b. cond b 1 (length f)) e) ∙ w)
+
     quiet_settled : (ss : List Session) → Each (IsCalm size positive) ss → list_all (λ s. (waiting s == 0) && (waiting (turned s) == 0)) ss ≡ true → list_all is_rested ss ≡ true
     quiet_settled [] c e = refl
     quiet_settled (s ∷ ss) c e =
         let p = and_parts ((waiting s == 0) && (waiting (turned s) == 0)) (list_all (λ s. (waiting s == 0) && (waiting (turned s) == 0)) ss) e in
         let q = and_parts (waiting s == 0) (waiting (turned s) == 0) p.0 in
-        and_from (is_rested s) (list_all is_rested ss) (quiet_rested s c.0 (eqb-true (waiting s) 0 q.0) (eqb-true (waiting (turned s)) 0 q.1)) (quiet_settled ss c.1 p.1)
+        and_from (is_rested s) (list_all is_rested ss) (quiet_rested s c.0.0 (none_waits s.far.flight s.near.notice c.0.0.near_notice (eqb-true (waiting s) 0 q.0)) (none_waits s.near.flight s.far.notice c.0.0.far_notice (eqb-true (waiting (turned s)) 0 q.1))) (quiet_settled ss c.1 p.1)
 
     -- a round from a state of which something is known
     round_goes_on : (r : ℕ) (w : Network) → GoingOn r nothing_left w → GoingOn (suc r) nothing_left (round w)
@@ -537,21 +585,17 @@ module _ (size : Name → Message → ℕ) (positive : (n : Name) (m : Message) 
         subst (GoingOn (suc r) nothing_left) (sym (round_same size positive w c)) (round_ends (suc r) (as_deliveries size positive w) w a.deliveries (round_begins r (as_deliveries size positive w) w g a))
 
     -- at most m more rounds settle it
-    rounds_settle : (n m done r : ℕ) (w : Network) → GoingOn r nothing_left w → m ≤ n → 1 ≤ r + m → ((from to : Name) (k : Key) → rank from to k ≤ suc (r + m)) → SettledBy m done (rounds_from n done w)
-    rounds_settle n zero done r w g l h b =
-        let settled = all_rested r w.sessions (two r h) (λ from to k. none (rank from to k) (b from to k)) g.1.cores in
-        stops n done w settled
+    rounds_settle : (n m done r : ℕ) (w : Network) → GoingOn r nothing_left w → m ≤ n → ((from to : Name) (k : Key) → rank from to k ≤ suc (r + m)) → SettledBy m done (rounds_from n done w)
+    rounds_settle n zero done r w g l b =
+        stops n done w (all_rested r w.sessions (fits_each w.sessions places g.1.nodes_same fits) (λ from to k. none (rank from to k) (b from to k)) g.1.cores)
       where
-        two : (r : ℕ) → 1 ≤ r + 0 → 2 ≤ suc r
-        two r h = omega (arith, h)
-
         none : (m : ℕ) → m ≤ suc (r + 0) → m ≤ suc r
         none m h = omega (arith, h)
-    rounds_settle zero (suc m) done r w g l h b = absurd (omega (arith, l))
-    rounds_settle (suc n) (suc m) done r w g l h b =
+    rounds_settle zero (suc m) done r w g l b = absurd (omega (arith, l))
+    rounds_settle (suc n) (suc m) done r w g l b =
         elim (is_quiet w) as (λ q. is_quiet w ≡ q → SettledBy (suc m) done (cond q (done, w) (rounds_from n (done + 1) (round w)))) [
           | true ↦ λ q. (quiet_settled w.sessions (calm_on r nothing_left w g) q, some m done)
-          | false ↦ λ _. later m done (rounds_from n (done + 1) (round w)) (rounds_settle n m (done + 1) (suc r) (round w) (round_goes_on r w g) (fewer l) (omega arith) (λ from to k. more (rank from to k) (b from to k)))
+          | false ↦ λ _. later m done (rounds_from n (done + 1) (round w)) (rounds_settle n m (done + 1) (suc r) (round w) (round_goes_on r w g) (fewer l) (λ from to k. more (rank from to k) (b from to k)))
         ] refl
       where
         more : (i : ℕ) → i ≤ suc (r + suc m) → i ≤ suc (suc r + m)
@@ -569,28 +613,25 @@ module _ (size : Name → Message → ℕ) (positive : (n : Name) (m : Message) 
         subst (GoingOn 0 nothing_left) (sym (round_same size positive w c)) (round_ends 0 (as_deliveries size positive w) w a.deliveries (first_round (as_deliveries size positive w) w h.0 h.1 h.2 h.3 c a))
 
     -- rounds of the event `round`, until nothing is in flight
-    rounds_rest : (n m done : ℕ) (w : Network) → IsReady w → AreCalm size positive w → m ≤ n → 2 ≤ m → ((from to : Name) (k : Key) → rank from to k ≤ m) → SettledBy m done (rounds_from n done w)
-    rounds_rest n zero done w h c l two b = absurd (omega (arith, two))
-    rounds_rest zero (suc m) done w h c l two b = absurd (omega (arith, l))
-    rounds_rest (suc n) (suc m) done w h c l two b =
+    rounds_rest : (n m done : ℕ) (w : Network) → IsReady w → AreCalm size positive w → m ≤ n → ((from to : Name) (k : Key) → rank from to k ≤ m) → SettledBy m done (rounds_from n done w)
+    rounds_rest n zero done w h c l b = stops n done w (settled_at_once w h.1 b)
+    rounds_rest zero (suc m) done w h c l b = absurd (omega (arith, l))
+    rounds_rest (suc n) (suc m) done w h c l b =
         elim (is_quiet w) as (λ q. is_quiet w ≡ q → SettledBy (suc m) done (cond q (done, w) (rounds_from n (done + 1) (round w)))) [
           | true ↦ λ q. (quiet_settled w.sessions c q, some m done)
-          | false ↦ λ _. later m done (rounds_from n (done + 1) (round w)) (rounds_settle n m (done + 1) 0 (round w) (first_goes_on w h c) (fewer l) (one two) (λ from to k. more (rank from to k) (b from to k)))
+          | false ↦ λ _. later m done (rounds_from n (done + 1) (round w)) (rounds_settle n m (done + 1) 0 (round w) (first_goes_on w h c) (fewer l) (λ from to k. more (rank from to k) (b from to k)))
         ] refl
       where
         fewer : suc m ≤ suc n → m ≤ n
         fewer l = omega (arith, l)
 
-        one : 2 ≤ suc m → 1 ≤ 0 + m
-        one h = omega (arith, h)
-
         more : (i : ℕ) → i ≤ suc m → i ≤ suc (0 + m)
         more i h = omega (arith, h)
 
     -- SETTLE ends settled, with at most one round more than the greatest rank
-    pub settle_settles : (greatest : ℕ) (w : Network) → IsReady w → IsSound size positive w → 2 ≤ greatest → greatest ≤ longest w.setup + 5 → ((from to : Name) (k : Key) → rank from to k ≤ greatest) → (is_settled (settle w).1 ≡ true) × ((settle w).0 ≤ greatest + 1)
+    pub settle_settles : (greatest : ℕ) (w : Network) → IsReady w → IsSound size positive w → greatest ≤ longest w.setup + 5 → ((from to : Name) (k : Key) → rank from to k ≤ greatest) → (is_settled (settle w).1 ≡ true) × ((settle w).0 ≤ greatest + 1)
     unfolding settle
-    settle_settles greatest w h sound two l b =
+    settle_settles greatest w h sound l b =
         let u : Network = record { setup = w.setup; sessions = map without_breaks w.sessions } in
         let v = round u in
         let nodes_v : map nodes v.sessions ≡ places = round_nodes u ∙ map_nodes without_breaks (λ s. refl) w.sessions ∙ h.1 in
@@ -600,4 +641,4 @@ module _ (size : Name → Message → ℕ) (positive : (n : Name) (m : Message) 
           (resumed_keeps size Valid P MayTell keeps w (subst Valid (sym h.0) valid, h.2)).1,
           connect_all_told v.sessions v (round_told u (unbroken_told w h.3)),
         ) in
-        rounds_rest (longest w.setup + 5) greatest 1 (resumed w) ready (resumed_calm size positive w (subst NoTwins (sym h.1) apart) sound) l two b
+        rounds_rest (longest w.setup + 5) greatest 1 (resumed w) ready (resumed_calm size positive w (subst NoTwins (sym h.1) apart) sound) l b

@@ -108,11 +108,11 @@ pub record Ranked (greatest : ℕ) (P : Session → Type 0) (places : List Nodes
   pub below : (from to : Name) (k : Key) → rank from to k ≤ greatest
 
 -- ---- settling
--- where no session is down and no break is pending, so many rounds of deliveries, at least two, end settled
+-- where no session is down and no break is pending, so many rounds of deliveries, or more, end settled
 abbrev pub SettlesIn : ℕ → (Name → Message → ℕ) → Network → Type 0
 SettlesIn greatest size w =
     (rounds : List (List Event)) → is_whole w ≡ true → is_unbroken w ≡ true
-    → length rounds ≡ greatest → 2 ≤ greatest → AreRounds size w rounds
+    → greatest ≤ length rounds → AreRounds size w rounds
     → is_settled (after_rounds size w rounds) ≡ true
 
 -- no session is down, no notice is pending and no break is left
@@ -126,7 +126,7 @@ pub record IsCalmed (s : Session) : Type 0 where
 -- `settle` ends settled, with at most one round more, where it has as many rounds
 abbrev pub SettleSettlesIn : ℕ → Network → Type 0
 SettleSettlesIn greatest w =
-    2 ≤ greatest → greatest ≤ longest w.setup + 5
+    greatest ≤ longest w.setup + 5
     → (is_settled (settle w).1 ≡ true) × ((settle w).0 ≤ greatest + 1)
 
 -- from each moment of each schedule whose configuration has such ranks. Which configurations are valid, and what is

@@ -13,8 +13,8 @@ ghost use Rattle.network_laws.specs.Small.{small};
 
 /// Where names tell nodes apart, the configuration is of a kind that edits keep, all that is told is of a kind that
 /// wants keep, and all that is wanted is right up to the next rank wherever all that is held is right up to a rank: from
-/// a state in which no session is down and no break is pending, as many rounds as the greatest rank, which is at least
-/// 2, end settled. Every rank is at least 1, between control nodes at least 3.
+/// a state in which no session is down and no break is pending, as many rounds as the greatest rank end settled, and so
+/// do more. Every rank is at least 1, between control nodes at least 3.
 pub fn rounds_settle()
     ensures { WhereRanked SettlesIn }
 {}
