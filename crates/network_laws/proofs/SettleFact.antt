@@ -15,6 +15,7 @@ use Rattle.network_model.specs.Network.{Network, view, views_of, wanted}
 use Rattle.network_model.specs.Steps.{change_session, pass, session_in, session_of, in_flight, repeat, deliver, Due, due_at, dues, notice_stands, deliver_due, deliver_all, round, is_broken, around, connect, may_connect, connect_found, connect_if, connect_all, reconnected, resumed, without_breaks}
 use Rattle.network_model.proofs.SessionFact.{sends, Joined, Down, Fact, Fact-turned, passed_keeps, arrived_keeps}
 use Rattle.config_check.specs.Checked.{Checked}
+use Rattle.network_model.proofs.Deeds.{HasSetup, setup_connects}
 use Rattle.network_model.proofs.Walk.{Takes, Connects, due_walk, dues_walk, all_walk, connect_walk, connections_walk, resumed_walk}
 use Rattle.network_model.proofs.WorldFact.{Each, Nodes, nodes, passed_nodes, opened_nodes, with_session_keeps, nodes_keep, found, each_map, breaks_apart, round_sound, connect_all_sound}
 use Rattle.network_model.proofs.NodesFact.{arrived_nodes, turned_nodes, map_nodes, round_nodes, connect_if_nodes, connect_all_nodes}
@@ -447,13 +448,5 @@ module _ (size : Name → Message → ℕ) (positive : (n : Name) (m : Message) 
       reconnected_calm v (subst NoTwins (sym nodes_v) t) (round_sound size positive u (each_weaker IsFit (Fact size) (λ s f. f.0) u.sessions fit)) (round_hush u (subst NoTwins (sym nodes_u) t) fit)
 
 -- ---- the configuration stays
-abbrev HasSetup : Checked → Network → Type 0
-HasSetup x w = w.setup ≡ x
-
-setup_connects : (x : Checked) → Connects (HasSetup x)
-setup_connects x a b w may some e =
-    let u = pass a (change_session a b opened w) in
-    elim (is_broken u a b) as (λ c. (cond c u (pass b (change_session a b (around opened) u))).setup ≡ x) [ true ↦ e | false ↦ e ]
-
 pub resumed_setup : (w : Network) → (resumed w).setup ≡ w.setup
 resumed_setup w = resumed_walk (HasSetup w.setup) (λ from to w e. e) (setup_connects w.setup) (λ w e. e) w refl

@@ -16,3 +16,4 @@ pub mod RoundFact
 pub mod CalmOf
 pub mod Turns
 pub mod Idle
+pub mod Deeds

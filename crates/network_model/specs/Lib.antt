@@ -6,3 +6,4 @@ pub mod Steps
 pub mod Events
 pub mod Rounds
 pub mod Moments
+pub mod Deeds
