@@ -1,17 +1,16 @@
 -- What every step of an end keeps of a session, every event keeps of each session.
-use Rattle.std.specs.Prelude.{◌≡◌, ℕ, zero, suc, ◌+◌, List, [], ◌∷◌, map, true, false, cond, ◌==◌}
+use Rattle.std.specs.Prelude.{◌≡◌, ℕ, List, [], ◌∷◌, map, true, false, cond}
 use Rattle.std.specs.declared.option.Option.TheVariants.{Some, None}
-use mathlib.Core.Bool.{beq}
 use Rattle.std.specs.declared.option.Option.{Option}
 use Rattle.std.proofs.Common.{refl, subst}
 use Rattle.node_model.specs.Maps.{Map}
 use Rattle.config_check.specs.Checked.{Checked}
 use Rattle.config_model.specs.declared.edit.Edit.{Edit}
-use Rattle.network_model.specs.Setup.{Name, edited, longest}
+use Rattle.network_model.specs.Setup.{Name, edited}
 use Rattle.network_model.specs.Session.{Message, Session, turned, shut, lost, passed, opened, arrived, octets_arrived}
 use Rattle.network_model.specs.Network.{Network, wanted, view, views_of, sessions_of, config}
-use Rattle.network_model.specs.Events.{Event, Edits, Deliver, DeliverOctets, Lose, Connect, Restart, Round, Settle, Show, Trace, Break, edits, lose, is_earlier, add_break, is_node, next, after}
-use Rattle.network_model.specs.Steps.{at_node, joins, with_session, change_session, change_node, pass, session_of, in_flight, repeat, deliver, Due, dues, deliver_due, deliver_all, notice_stands, round, is_broken, around, connect, may_connect, connect_found, connect_if, connect_all, rounds_from, reconnected, resumed, is_quiet, settle, without_breaks}
+use Rattle.network_model.specs.Events.{Event, Edits, Deliver, DeliverOctets, Lose, Connect, Restart, Round, Settle, Show, Trace, Break, edits, add_break, next, after}
+use Rattle.network_model.specs.Steps.{at_node, with_session, change_session, pass, is_broken, around, connect, resumed, without_breaks}
 use Rattle.network_laws.specs.Settling.{EditIsValid, EditsAreValid}
 use Rattle.network_model.proofs.Walk.{Takes, Steps, resumed_walk, next_walk}
 use Rattle.network_model.proofs.WorldFact.{Each, with_session_keeps}

@@ -1,5 +1,5 @@
 -- The bound, from any moment of any schedule.
-use Rattle.std.specs.Prelude.{◌≡◌, ℕ, suc, ◌+◌, ◌<◌, ◌≤◌, List, [], ◌∷◌, map, length, true}
+use Rattle.std.specs.Prelude.{◌≡◌, ℕ, suc, ◌<◌, ◌≤◌, List, [], ◌∷◌, map, length, true}
 use Rattle.std.specs.declared.option.Option.TheVariants.{Some}
 use Rattle.std.proofs.Common.{refl, arith}
 use Rattle.ov_sync.proofs.KeyedLaws.{empty_values}
@@ -8,10 +8,10 @@ use Rattle.node_model.specs.Values.{Value}
 use Rattle.node_model.specs.Maps.{Map}
 use Rattle.config_check.specs.Checked.{Checked}
 use Rattle.config_model.specs.declared.edit.Edit.{Edit}
-use Rattle.network_model.specs.Setup.{Name, edited, longest}
+use Rattle.network_model.specs.Setup.{Name, edited}
 use Rattle.network_model.specs.Session.{Role, Message, Session}
 use Rattle.network_model.specs.Network.{Network, start}
-use Rattle.network_model.specs.Steps.{settle, resumed, is_settled}
+use Rattle.network_model.specs.Steps.{resumed}
 use Rattle.network_model.specs.Events.{Event, after}
 use Rattle.network_model.specs.Moments.{Each, nodes, WhereNamed}
 use Rattle.network_model.proofs.Twins.{NoTwins}

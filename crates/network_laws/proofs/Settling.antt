@@ -19,10 +19,10 @@ use Rattle.ov_types.specs.First.{same_name}
 use Rattle.network_model.specs.Session.{is_peering, Message, Open, Keepalive, Hello, Carries, Session, turned, is_up, is_up_phase, may_send, passed, arrived, octets_arrived, waiting}
 use Rattle.network_model.specs.Network.{Network, is_at, sessions_of, view, views_of, wanted}
 use Rattle.network_model.specs.Events.{Event, Edits, Deliver, DeliverOctets, Lose, Connect, Restart, Round, Settle, Show, Trace, Break, next, after}
-use Rattle.network_model.specs.Steps.{at_node, joins, with_session, change_session, pass, session_in, in_flight, repeat, deliver, Due as Waiting, dues, round, is_rested, is_settled, is_quiet, reconnected, resumed, rounds_from, settle, without_breaks}
+use Rattle.network_model.specs.Steps.{at_node, joins, with_session, change_session, pass, session_in, in_flight, repeat, deliver, Due as Waiting, dues, round, is_rested, is_settled, is_quiet, resumed, rounds_from, settle, without_breaks}
 use Rattle.network_model.specs.Rounds.{goes, is_delivery, taken_by, taken_of, IsRound, AreRounds, after_rounds}
-use Rattle.network_model.proofs.SessionFact.{append_nil, greetings, Joined, Fact, Fact-turned}
-use Rattle.network_model.proofs.WorldFact.{IsSound, round_sound, Each, Nodes, nodes, KeepsNodes, passed_nodes}
+use Rattle.network_model.proofs.SessionFact.{append_nil, greetings, Joined, Fact-turned}
+use Rattle.network_model.proofs.WorldFact.{IsSound, Each, Nodes, nodes, KeepsNodes, passed_nodes}
 use Rattle.network_model.proofs.NodesFact.{arrived_nodes, octets_nodes, session_nodes, step_nodes, map_nodes, round_nodes, connect_all_nodes}
 use Rattle.network_model.proofs.ToldFact.{Touches, arrived_touches, step_tells}
 use Rattle.network_model.specs.Moments.{AreWhole, TellsWanted}

@@ -1,5 +1,5 @@
 -- The premises of the bound are met by the least network, whatever its configuration.
-use Rattle.std.specs.Prelude.{◌≡◌, ◌≢◌, ℕ, zero, suc, ◌+◌, ◌<◌, ◌≤◌, List, [], ◌∷◌, map, length, Bool, true, false, cond, slice_index_or}
+use Rattle.std.specs.Prelude.{◌≡◌, ◌≢◌, ℕ, zero, suc, ◌≤◌, List, [], ◌∷◌, map, Bool, true, false, cond}
 use Rattle.std.specs.declared.option.Option.{Option}
 use Rattle.std.specs.declared.option.Option.TheVariants.{Some, None}
 use Rattle.std.specs.Option.{unwrap_or, option_map}
@@ -19,20 +19,18 @@ use Rattle.config_check.specs.Checked.{Checked}
 use Rattle.config_check.specs.Edits.{edit_fault}
 use Rattle.config_check.specs.Finding.{node_named}
 use Rattle.node_model.specs.Keys.{Key, Low, Vpn, Row, Publish, Subscribe, key_cmp}
-use Rattle.node_model.specs.Values.{Value}
 use Rattle.node_model.specs.Maps.{Map}
 use Rattle.node_model.specs.Paths as control
 use Rattle.node_model.specs.Wants.{wanted_by_agent}
 use Rattle.node_model.specs.Agent as agent
-use Rattle.node_model.specs.Ranks.{SameSlice}
 use Rattle.node_model.proofs.Orders.{key_total, key_exact}
 use Rattle.node_model.proofs.Local.{local_slices, local_of_agents}
 use Rattle.network_model.specs.Setup.{Name, low, edited, edited_without}
-use Rattle.network_model.specs.Session.{Role, Configuration, Controller, Agent, Message, Session, turned, is_up_phase}
-use Rattle.network_model.specs.Network.{Network, AreNamed, config, start, is_at, view, views_of, sessions_of, seen_by, wanted, address_of, heard_from}
+use Rattle.network_model.specs.Session.{Configuration, Controller, Agent, Message, Session, turned, is_up_phase}
+use Rattle.network_model.specs.Network.{Network, AreNamed, config, start, view, views_of, sessions_of, seen_by, wanted, address_of, heard_from}
 use Rattle.network_model.specs.Events.{Event, Edits, Deliver, DeliverOctets, Lose, Connect, Restart, Round, Settle, Show, Trace, Break, next, after}
 use Rattle.network_model.specs.Moments.{ArePositive, Each, Nodes, nodes}
-use Rattle.network_laws.specs.Settling.{EditIsValid, EditsAreValid, FairMap, Fair, WantsFair, Rank, Goal, back, RanksFit, Right, RightAt, WantAt, Steps, Ranked, SettlesIn, SettleSettlesIn}
+use Rattle.network_laws.specs.Settling.{EditIsValid, EditsAreValid, FairMap, Fair, WantsFair, Rank, Goal, back, RanksFit, RightAt, WantAt, Steps, Ranked, SettlesIn, SettleSettlesIn}
 use Rattle.network_laws.specs.Small.{control_node, compute_node, small}
 use Rattle.node_model.proofs.Members.{none_some}
 use Rattle.network_laws.proofs.RanksSettle.{stay_valid, kept, ranks_settle, settle_settles_ranked}

@@ -1,7 +1,7 @@
 -- At a settled moment each end holds what the other end wants.
 use Rattle.std.specs.Prelude.{◌≡◌, ℕ, suc, List, [], ◌∷◌, ◌++◌, map, length, Bool, true, false, not, cond, ◌&&◌, ◌==◌}
 use Rattle.std.specs.declared.option.Option.TheVariants.{Some, None}
-use Rattle.std.specs.List.{AllByRecursion, list_all, cons_option}
+use Rattle.std.specs.List.{list_all, cons_option}
 use Rattle.std.proofs.lemmas.Bool.{true≢false, and_parts, eqb-true}
 use Rattle.std.proofs.Common.{refl, sym, ◌∙◌, ap, subst, inl, inr}
 use Rattle.ov_sync.specs.Keyed.{after as changed_by}
@@ -10,7 +10,7 @@ use Rattle.config_check.specs.Checked.{Checked}
 use Rattle.network_model.specs.Setup.{Name}
 use Rattle.node_model.specs.Step.{Phase, Idle, Opened, Confirmed, Up}
 use Rattle.network_model.specs.Session.{Message, Carries, End, Session, turned, is_idle, is_up, is_up_phase, is_peering, may_send_at, waiting}
-use Rattle.network_model.specs.Network.{Network, start, sessions_of, is_at, View, view, views_of, wanted}
+use Rattle.network_model.specs.Network.{Network, start, sessions_of, is_at, View, views_of, wanted}
 use Rattle.network_model.specs.Events.{Event, after}
 use Rattle.network_model.specs.Steps.{is_rested, is_settled}
 use Rattle.network_model.specs.Moments.{ArePositive, IsAtRest, IsAtRestWith}

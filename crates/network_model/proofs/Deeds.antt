@@ -1,26 +1,24 @@
 -- What events do to sessions, and what they leave.
-use Rattle.std.specs.Prelude.{◌≡◌, ◌≢◌, ◌↔◌, ◌⊎◌, ℕ, zero, suc, pred, ◌≤◌, ◌<◌, List, [], ◌∷◌, ◌++◌, map, length, Bool, true, false, cond, ◌&&◌, ◌==◌, nat_lt, IsTrue}
-use Rattle.std.specs.List.{filter, list_any}
+use Rattle.std.specs.Prelude.{◌≡◌, ◌≢◌, ◌↔◌, ℕ, zero, suc, pred, ◌≤◌, ◌<◌, List, [], ◌∷◌, ◌++◌, map, length, true, false, cond, ◌==◌, nat_lt}
+use Rattle.std.specs.List.{filter}
 use Rattle.std.specs.declared.option.Option.{Option}
 use Rattle.std.specs.declared.option.Option.TheVariants.{Some, None}
 use Rattle.std.specs.Option.{option_map}
 use Rattle.std.specs.Cmp.Lexicographic.{bytes_decides}
 use Rattle.std.proofs.lemmas.Bool.{true≢false, and_parts, false_from_ne_true, eqb-true, eq-eqb, ltb-true}
-use Rattle.std.proofs.Common.{refl, sym, ◌∙◌, ap, subst, inl, inr, arith}
+use Rattle.std.proofs.Common.{refl, sym, ◌∙◌, ap, subst, arith}
 use Rattle.ov_types.specs.First.{same_name}
-use Rattle.config_model.specs.declared.config.Config.{Config}
 use Rattle.config_model.specs.declared.edit.Edit.{Edit}
 use Rattle.config_check.specs.Checked.{Checked}
 use Rattle.config_check.specs.declared.edits.EditFault.{EditFault}
 use Rattle.config_check.specs.Edits.{edit_fault, edited as config_edited}
-use Rattle.node_model.specs.Members.{Member}
 use Rattle.node_model.proofs.Members.{in_map, from_map, in_filter, from_filter, any_in, from_any}
-use Rattle.network_model.specs.Setup.{Name, edited, edited_without}
-use Rattle.network_model.specs.Session.{Message, Session, turned, is_live, shut, lost, told, left, meets_break, counted, with_breaks, opened, arrived}
-use Rattle.network_model.specs.Network.{Network, is_at, sessions_of, view, views_of, wanted}
-use Rattle.network_model.specs.Steps.{at_node, joins, with_session, change_session, change_node, pass, session_in, session_of, in_flight, deliver, is_broken, around, connect}
+use Rattle.network_model.specs.Setup.{Name, edited_without}
+use Rattle.network_model.specs.Session.{Message, Session, turned, shut, lost, told, left, meets_break, counted, with_breaks, opened, arrived}
+use Rattle.network_model.specs.Network.{Network, is_at, sessions_of}
+use Rattle.network_model.specs.Steps.{at_node, joins, with_session, change_session, change_node, pass, session_in, session_of, in_flight, is_broken, around}
 use Rattle.network_model.specs.Events.{Event, Edits, Deliver, Lose, Restart, Break, edits, lose, add_break, is_node, next}
-use Rattle.network_model.specs.Moments.{Nodes, nodes, IsLost, NodeHasTold}
+use Rattle.network_model.specs.Moments.{nodes, IsLost, NodeHasTold}
 use Rattle.network_model.specs.Deeds.{AreOthers, IsClosed, MeetsOne}
 use Rattle.network_model.proofs.Walk.{Connects, Steps, next_walk}
 use Rattle.network_model.proofs.WorldFact.{KeepsNodes, joins_kept, at_node_nodes}

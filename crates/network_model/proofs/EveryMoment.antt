@@ -1,6 +1,5 @@
 -- What holds at every moment, in the words of the laws.
-use Rattle.std.specs.Prelude.{◌≡◌, ◌≢◌, ◌⊎◌, ◌↔◌, ℕ, ◌<◌, List, [], ◌∷◌, ◌++◌, map, Bool, true, false, not, cond, is_some, IsTrue}
-use Rattle.std.specs.declared.option.Option.{Option}
+use Rattle.std.specs.Prelude.{◌≡◌, ◌≢◌, ℕ, List, [], ◌∷◌, ◌++◌, map, Bool, true, false, not, cond}
 use Rattle.std.specs.declared.option.Option.TheVariants.{Some, None}
 use Rattle.std.proofs.lemmas.Bool.{true≢false}
 use Rattle.std.proofs.lemmas.Option.{same_Some}
@@ -9,11 +8,11 @@ use Rattle.config_check.specs.Checked.{Checked}
 use Rattle.node_model.specs.Maps.{Change}
 use Rattle.node_model.specs.Step.{Phase, Idle, Opened, Confirmed, Up}
 use Rattle.network_model.specs.Setup.{Name}
-use Rattle.network_model.specs.Session.{End, Session, Message, Open, Keepalive, Hello, Carries, turned, is_idle, is_live, are_peers, is_peering, may_send_at, meets_break, counted, with_breaks, with_phase, shut, told, peer_took, item_took, took}
+use Rattle.network_model.specs.Session.{End, Session, Message, Open, Keepalive, Hello, Carries, turned, is_idle, is_live, is_peering, may_send_at, with_phase, shut, told, peer_took, item_took, took}
 use Rattle.network_model.specs.Network.{Network, start}
 use Rattle.network_model.specs.Events.{Event, after}
 use Rattle.network_model.specs.Moments.{Each, greeted, heard, cell, NoneGoesDown, IsPartly, IsProperEnd, IsFlowing, IsJoined, IsLost, NodeHasTold, ArePositive}
-use Rattle.network_model.proofs.SessionFact.{sends, told_cases, greetings, meets, Flows, IsTidy, DownEnd, Joined, Down, Fact, Fact-turned, are_peers-turned, live_receiver, tidy_near}
+use Rattle.network_model.proofs.SessionFact.{sends, told_cases, greetings, meets, Flows, Fact, Fact-turned, live_receiver, tidy_near}
 use Rattle.network_model.proofs.WorldFact.{after_sound}
 use Rattle.network_model.proofs.ToldNext.{after_told}
 use Rattle.network_model.proofs.Start.{start_sound, start_told, start_fits}

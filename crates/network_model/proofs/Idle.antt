@@ -4,16 +4,16 @@ use Rattle.std.specs.declared.option.Option.{Option}
 use Rattle.std.specs.declared.option.Option.TheVariants.{Some, None}
 use Rattle.std.specs.Option.{unwrap_or, option_map}
 use Rattle.std.proofs.lemmas.Bool.{true≢false}
-use Rattle.std.proofs.Common.{refl, sym, ◌∙◌, ap, subst}
+use Rattle.std.proofs.Common.{refl, sym, ◌∙◌, ap}
 use Rattle.config_check.specs.Edits.{edit_fault}
 use Rattle.config_check.specs.declared.edits.EditFault.{EditFault}
 use Rattle.schedule_script.specs.declared.answer.Answer.{Answer}
-use Rattle.schedule_script.specs.declared.answer.Answer.TheVariants.{Did, Idle, EditRefused, Rounds, Shown, Traced}
-use Rattle.network_model.specs.Setup.{Name, edited, edited_without}
+use Rattle.schedule_script.specs.declared.answer.Answer.TheVariants.{Idle, EditRefused}
+use Rattle.network_model.specs.Setup.{Name, edited_without}
 use Rattle.network_model.specs.Session.{Message, Session, turned, lost, shut, octets_arrived, arrived}
 use Rattle.network_model.specs.Network.{Network}
-use Rattle.network_model.specs.Steps.{joins, with_session, change_session, change_node, pass, session_in, session_of, in_flight, repeat, deliver, is_broken, connect, may_connect, connect_found, connect_if, is_settled, settle}
-use Rattle.network_model.specs.Events.{Event, Edits, Deliver, DeliverOctets, Lose, Connect, Restart, Round, Settle, Show, Trace, Break, edits, lose, is_earlier, add_break, is_node, next, shown, unless, edit_answer, answer_to}
+use Rattle.network_model.specs.Steps.{joins, with_session, change_session, change_node, pass, session_in, session_of, in_flight, repeat, deliver, is_broken, connect, may_connect, connect_found, connect_if}
+use Rattle.network_model.specs.Events.{Event, Edits, Deliver, DeliverOctets, Lose, Connect, Restart, Round, Settle, Show, Trace, Break, edits, lose, is_earlier, add_break, is_node, next, unless, edit_answer, answer_to}
 
 -- ---- answers
 abbrev was_idle : Answer → Bool

@@ -1,15 +1,14 @@
 -- The sessions and their nodes stay.
-use Rattle.std.specs.Prelude.{◌≡◌, ℕ, zero, suc, ◌+◌, ◌-◌, List, [], ◌∷◌, map, true, false, cond, ◌==◌, nat_lt}
+use Rattle.std.specs.Prelude.{◌≡◌, ℕ, ◌+◌, ◌-◌, List, [], ◌∷◌, map, true, false, cond, nat_lt}
 use Rattle.std.specs.declared.option.Option.{Option}
 use Rattle.std.specs.declared.option.Option.TheVariants.{Some, None}
-use mathlib.Core.Bool.{beq}
 use Rattle.std.proofs.Common.{refl, ◌∙◌, ap}
-use Rattle.network_model.specs.Setup.{Name, edited, longest}
+use Rattle.network_model.specs.Setup.{Name, edited}
 use Rattle.node_model.specs.Step.{Phase, Idle, Opened, Confirmed, Up}
 use Rattle.network_model.specs.Session.{Message, Open, Keepalive, Hello, Carries, Session, turned, closed, is_peering, shut, lost, passed, opened, with_phase, peer_took, item_took, took, without_first, took_first, arrived, took_octets, octets_arrived}
 use Rattle.network_model.specs.Network.{Network, wanted, view, views_of, config}
-use Rattle.network_model.specs.Events.{Event, Edits, Deliver, DeliverOctets, Lose, Connect, Restart, Round, Settle, Show, Trace, Break, edits, lose, is_earlier, add_break, is_node, next, after}
-use Rattle.network_model.specs.Steps.{at_node, joins, with_session, change_session, change_node, pass, session_of, in_flight, repeat, deliver, Due, dues, deliver_due, deliver_all, notice_stands, round, is_broken, around, open_second, connect, may_connect, connect_found, connect_if, connect_all, rounds_from, reconnected, is_quiet, settle, without_breaks}
+use Rattle.network_model.specs.Events.{Event, edits, add_break, next, after}
+use Rattle.network_model.specs.Steps.{at_node, joins, with_session, change_session, pass, round, is_broken, around, open_second, connect_if, connect_all, without_breaks}
 use Rattle.config_check.specs.Checked.{Checked}
 use Rattle.network_model.proofs.Walk.{Takes, Connects, Steps, round_walk, connect_walk, connections_walk, next_walk, after_walk}
 use Rattle.network_model.proofs.WorldFact.{Nodes, nodes, KeepsNodes, told_nodes, passed_nodes, opened_nodes, at_node_nodes}

@@ -1,11 +1,10 @@
 -- Every event keeps it that a node with no session down has told what it wants.
-use Rattle.std.specs.Prelude.{◌≡◌, ◌≢◌, ℕ, zero, suc, ◌+◌, ◌-◌, List, [], ◌∷◌, map, Bool, true, false, cond, ◌&&◌, ◌==◌, nat_lt, is_some}
+use Rattle.std.specs.Prelude.{◌≡◌, ◌≢◌, ℕ, ◌+◌, ◌-◌, List, [], ◌∷◌, map, Bool, true, false, cond, ◌&&◌, nat_lt, is_some}
 use Rattle.std.specs.declared.option.Option.{Option}
 use Rattle.std.specs.declared.option.Option.TheVariants.{Some, None}
 use Rattle.std.specs.Option.{option_map, unwrap_or}
 use Rattle.std.specs.List.{AllByRecursion, cons_option}
 use Rattle.std.specs.Cmp.Lexicographic.{bytes_decides}
-use mathlib.Core.Bool.{beq}
 use Rattle.std.proofs.lemmas.Bool.{true≢false, and_parts}
 use Rattle.std.proofs.lemmas.Option.{same_Some}
 use Rattle.std.proofs.Common.{refl, sym, ◌∙◌, ap, subst}
@@ -13,13 +12,13 @@ use Rattle.config_check.specs.Checked.{Checked}
 use Rattle.config_model.specs.declared.edit.Edit.{Edit}
 use Rattle.config_model.specs.declared.config.Config.{Config}
 use Rattle.config_check.specs.Edits.{edit_fault, edited as config_edited}
-use Rattle.network_model.specs.Setup.{Name, edited, edited_without, longest}
+use Rattle.network_model.specs.Setup.{Name, edited, edited_without}
 use Rattle.ov_types.specs.First.{same_name}
 use Rattle.network_model.specs.Session.{Role, Configuration, Controller, Agent, Message, Session, turned, closed, shut, lost, greeting, opened, took, without_first, took_octets, octets_arrived, arrived}
 use Rattle.node_model.specs.Step.{Opened}
 use Rattle.network_model.specs.Network.{Network, View, view, views_of, sessions_of, seen_by, wanted, wanted_from, wanted_from_control, is_at, config}
-use Rattle.network_model.specs.Events.{Event, Edits, Deliver, DeliverOctets, Lose, Connect, Restart, Round, Settle, Show, Trace, Break, edits, lose, is_earlier, add_break, is_node, next, after}
-use Rattle.network_model.specs.Steps.{at_node, joins, with_session, change_session, change_node, pass, session_in, session_of, in_flight, repeat, deliver, Due, dues, deliver_due, deliver_all, notice_stands, round, is_broken, around, connect, may_connect, connect_found, connect_if, connect_all, rounds_from, reconnected, is_quiet, settle, without_breaks}
+use Rattle.network_model.specs.Events.{Event, edits, add_break, next, after}
+use Rattle.network_model.specs.Steps.{at_node, joins, with_session, change_session, change_node, pass, session_in, round, is_broken, around, connect, connect_all, without_breaks}
 use Rattle.network_model.proofs.Walk.{Takes, Connects, Steps, round_walk, connections_walk, next_walk}
 use Rattle.network_model.proofs.WorldFact.{Each, Nodes, nodes, KeepsNodes, joins_kept, opened_nodes}
 use Rattle.network_model.proofs.NodesFact.{next_nodes, pass_nodes, session_nodes}

@@ -1,10 +1,10 @@
 -- The event `Round` takes each direction in its turn.
-use Rattle.std.specs.Prelude.{◌≡◌, ◌≢◌, ◌⊎◌, ℕ, zero, suc, ◌+◌, ◌-◌, ◌<◌, ◌≤◌, List, [], ◌∷◌, ◌++◌, map, length, Bool, true, false, cond, ◌&&◌, ◌==◌}
+use Rattle.std.specs.Prelude.{◌≡◌, ◌≢◌, ℕ, zero, suc, ◌+◌, ◌-◌, ◌<◌, ◌≤◌, List, [], ◌∷◌, map, length, Bool, true, false, cond, ◌&&◌, ◌==◌}
 use mathlib.Core.Bool.{beq}
 use Rattle.std.specs.declared.option.Option.{Option}
 use Rattle.std.specs.declared.option.Option.TheVariants.{Some, None}
 use Rattle.std.specs.Option.{unwrap_or, option_map}
-use Rattle.std.specs.List.{AllByRecursion, list_all, flat_map}
+use Rattle.std.specs.List.{AllByRecursion, flat_map}
 use Rattle.std.specs.Cmp.Lexicographic.{bytes_decides}
 use Rattle.std.proofs.lemmas.Bool.{true≢false, and_parts}
 use Rattle.std.proofs.Common.{refl, sym, ◌∙◌, ap, subst, inl, inr, arith}
@@ -12,20 +12,20 @@ use Rattle.ov_types.specs.First.{same_name}
 use Rattle.node_model.specs.Maps.{Map, difference}
 use Rattle.node_model.specs.Step.{Phase, Idle, Opened, Confirmed, Up}
 use Rattle.network_model.specs.Setup.{Name}
-use Rattle.network_model.specs.Session.{Message, Open, Keepalive, Hello, Carries, Session, turned, closed, is_peering, may_send, shut, with_breaks, told, passed, with_phase, peer_took, item_took, took, without_first, took_first, arrived, waiting}
+use Rattle.network_model.specs.Session.{Message, Open, Keepalive, Hello, Carries, Session, turned, closed, is_peering, may_send, told, passed, with_phase, peer_took, item_took, took, without_first, took_first, arrived, waiting}
 use Rattle.config_check.specs.Checked.{Checked}
 use Rattle.network_model.specs.Network.{Network, AreNamed, start, is_at, view, views_of, wanted}
 use Rattle.network_model.specs.Steps.{joins, with_session, change_session, pass, session_in, in_flight, repeat, deliver, Due, due_at, dues, notice_stands, deliver_due, deliver_all, round}
-use Rattle.network_model.specs.Events.{Event, Deliver, Round, next, after}
-use Rattle.network_model.specs.Rounds.{is_delivery, is_unbroken, is_whole, taken_of, IsRound, IsTurn, AreTurns, IsTakenInTurns, IsOfDeliveries}
-use Rattle.network_model.specs.Moments.{Nodes, nodes, ArePositive, WhereNamed}
+use Rattle.network_model.specs.Events.{Event, next, after}
+use Rattle.network_model.specs.Rounds.{is_unbroken, is_whole, taken_of, AreTurns, IsTakenInTurns, IsOfDeliveries}
+use Rattle.network_model.specs.Moments.{Nodes, nodes, WhereNamed}
 use Rattle.network_model.proofs.SessionFact.{sends, told_cases}
 use Rattle.network_model.proofs.WorldFact.{passed_nodes, after_sound}
 use Rattle.network_model.proofs.Start.{start_sound}
 use Rattle.network_model.proofs.Apart.{no_twins}
 use Rattle.network_model.proofs.CalmOf.{calm_of}
 use Rattle.network_model.proofs.NodesFact.{arrived_nodes, after_nodes}
-use Rattle.network_model.proofs.Twins.{IsProper, IsOther, NoTwins, swap_and, Found, found_each, found_changed, found_node}
+use Rattle.network_model.proofs.Twins.{IsOther, NoTwins, swap_and, found_each, found_changed, found_node}
 use Rattle.network_model.proofs.RoundFact.{AreCalm, as_event, as_deliveries, as_round, round_same, some_taken, calm_delivers}
 
 -- ---- no notice comes to the end that takes

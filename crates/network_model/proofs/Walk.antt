@@ -1,5 +1,5 @@
 -- What the steps of a network keep, every delivery, round, connection, settling and event keeps.
-use Rattle.std.specs.Prelude.{◌≡◌, ℕ, zero, suc, ◌+◌, List, [], ◌∷◌, map, Bool, true, false, cond, ◌==◌, is_some}
+use Rattle.std.specs.Prelude.{◌≡◌, ℕ, zero, suc, ◌+◌, List, [], ◌∷◌, map, true, false, cond, ◌==◌, is_some}
 use Rattle.std.specs.declared.option.Option.{Option}
 use Rattle.std.specs.declared.option.Option.TheVariants.{Some, None}
 use mathlib.Core.Bool.{beq}
@@ -9,7 +9,7 @@ use Rattle.config_model.specs.declared.edit.Edit.{Edit}
 use Rattle.network_model.specs.Setup.{Name, edited, longest}
 use Rattle.network_model.specs.Session.{Message, Session, shut, lost, arrived, octets_arrived}
 use Rattle.network_model.specs.Network.{Network}
-use Rattle.network_model.specs.Steps.{change_session, change_node, pass, session_in, session_of, in_flight, repeat, deliver, Due, dues, notice_stands, deliver_due, deliver_all, round, connect, may_connect, connect_found, connect_if, connect_all, is_quiet, without_breaks, rounds_from, reconnected, resumed, settle}
+use Rattle.network_model.specs.Steps.{change_session, change_node, pass, session_in, session_of, in_flight, repeat, deliver, Due, dues, notice_stands, deliver_due, deliver_all, round, connect, may_connect, connect_found, connect_if, connect_all, is_quiet, without_breaks, rounds_from, resumed, settle}
 use Rattle.network_model.specs.Events.{Event, Edits, Deliver, DeliverOctets, Lose, Connect, Restart, Round, Settle, Show, Trace, Break, edits, lose, is_earlier, add_break, is_node, next, after}
 
 module _ (Q : Network → Type 0) where

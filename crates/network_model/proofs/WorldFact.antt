@@ -1,21 +1,20 @@
 -- Each session has its fact in every state that a schedule leads to.
-use Rattle.std.specs.Prelude.{◌≡◌, ℕ, zero, suc, ◌+◌, ◌<◌, List, [], ◌∷◌, map, Bool, true, false, not, cond, ◌&&◌, ◌==◌}
+use Rattle.std.specs.Prelude.{◌≡◌, ℕ, ◌<◌, List, [], ◌∷◌, map, Bool, true, false, not, cond, ◌&&◌}
 use Rattle.std.specs.declared.option.Option.{Option}
 use Rattle.std.specs.declared.option.Option.TheVariants.{Some, None}
 use Rattle.std.specs.Option.{unwrap_or, option_map}
 use Rattle.std.specs.Bool.{MatchBool}
-use mathlib.Core.Bool.{beq}
 use Rattle.std.proofs.lemmas.Option.{same_Some}
 use Rattle.std.proofs.lemmas.Bool.{true≢false, and_parts, not-true}
 use Rattle.std.proofs.Common.{refl, sym, ◌∙◌, ap, subst, inl, inr}
 use Rattle.node_model.specs.Maps.{Map, difference}
 use Rattle.config_check.specs.Checked.{Checked}
-use Rattle.network_model.specs.Setup.{Name, edited, longest}
+use Rattle.network_model.specs.Setup.{Name, edited}
 use Rattle.ov_types.specs.First.{same_name}
 use Rattle.network_model.specs.Session.{Message, Carries, Session, turned, may_send, shut, lost, told, passed, opened, arrived, octets_arrived}
 use Rattle.network_model.specs.Network.{Network, is_at, wanted, view, views_of, config}
-use Rattle.network_model.specs.Events.{Event, Edits, Deliver, DeliverOctets, Lose, Connect, Restart, Round, Settle, Show, Trace, Break, edits, lose, is_earlier, add_break, is_node, next, after}
-use Rattle.network_model.specs.Steps.{at_node, joins, with_session, change_session, change_node, pass, session_in, session_of, in_flight, repeat, deliver, deliver_octets, Due, dues, deliver_due, deliver_all, notice_stands, round, is_broken, around, open_second, connect, may_connect, connect_found, connect_if, connect_all, rounds_from, reconnected, is_quiet, settle, without_breaks}
+use Rattle.network_model.specs.Events.{Event, edits, add_break, after}
+use Rattle.network_model.specs.Steps.{at_node, joins, with_session, change_session, pass, session_in, round, is_broken, around, open_second, connect, may_connect, connect_all, without_breaks}
 pub use Rattle.network_model.specs.Moments.{Each, Nodes, nodes}
 use Rattle.network_model.proofs.SessionFact.{sends, told_cases, Down, Fact, Fact-turned, shut_down, lost_down, tidy_near, tidy_far, passed_keeps, arrived_keeps, octets_arrived_keeps}
 use Rattle.network_model.proofs.Walk.{Steps, round_walk, connections_walk, after_walk}
