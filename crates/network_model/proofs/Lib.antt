@@ -17,3 +17,4 @@ pub mod CalmOf
 pub mod Turns
 pub mod Idle
 pub mod Deeds
+pub mod Feed

@@ -5,3 +5,4 @@
 pub mod event_laws;
 pub mod moment_laws;
 pub mod round_laws;
+pub mod setup_laws;
