@@ -12,9 +12,9 @@ ghost use Rattle.network_laws.specs.Settling.{IsCalmed, SettleSettlesIn, Settles
 ghost use Rattle.network_laws.specs.Small.{small};
 
 /// Where names tell nodes apart, the configuration is of a kind that edits keep, all that is told is of a kind that
-/// wants keep, and all that is wanted is right up to the next rank wherever all that is held is right up to a rank: from
-/// a state in which no session is down and no break is pending, as many rounds as the greatest rank end settled, and so
-/// do more. Every rank is at least 1, between control nodes at least 3.
+/// wants keep, and all that is wanted is right up to the next rank wherever all that is held is right up to a rank:
+/// from a state in which no session is down and no break is pending, as many rounds as the greatest rank end settled,
+/// and so do more. Every rank is at least 1, between control nodes at least 3.
 pub fn rounds_settle()
     ensures { WhereRanked SettlesIn }
 {}
@@ -32,8 +32,10 @@ pub fn settle_settles()
 /// These premises are met: the network of one control node and one agent settles in four rounds, whatever its
 /// configuration is and whatever came before.
 pub fn the_least_network_settles()
-    ensures rounds { (size : Name → Message → ℕ) → ArePositive size → (asn : ℕ) (control compute : Addr) (config : Config)
-        → (es : List Event) → SettlesIn 4 size (after size (start (small asn control compute config)) es) }
-    ensures settle { (size : Name → Message → ℕ) → ArePositive size → (asn : ℕ) (control compute : Addr) (config : Config)
-        → (es : List Event) → SettleSettlesIn 4 (after size (start (small asn control compute config)) es) }
+    ensures rounds { (size : Name → Message → ℕ) → ArePositive size
+        → (asn : ℕ) (control compute : Addr) (config : Config) (es : List Event)
+        → SettlesIn 4 size (after size (start (small asn control compute config)) es) }
+    ensures settle { (size : Name → Message → ℕ) → ArePositive size
+        → (asn : ℕ) (control compute : Addr) (config : Config) (es : List Event)
+        → SettleSettlesIn 4 (after size (start (small asn control compute config)) es) }
 {}

@@ -16,7 +16,7 @@ use Rattle.network_model.specs.Steps.{joins, with_session, change_session, chang
 use Rattle.network_model.specs.Events.{Event, Edits, Deliver, DeliverOctets, Lose, Connect, Restart, Round, Settle, Show, Trace, Break, edits, lose, is_earlier, add_break, is_node, next, unless, edit_answer, answer_to}
 
 -- ---- answers
-abbrev was_idle : Answer → Bool
+abbrev pub was_idle : Answer → Bool
 was_idle Idle = true
 was_idle _ = false
 
@@ -25,7 +25,7 @@ was_refused (EditRefused f) = true
 was_refused _ = false
 
 -- what is answered where a test says so
-idle_where : (b : Bool) → was_idle (unless b) ≡ true → b ≡ true
+pub idle_where : (b : Bool) → was_idle (unless b) ≡ true → b ≡ true
 idle_where true e = refl
 idle_where false e = absurd (true≢false (sym e))
 

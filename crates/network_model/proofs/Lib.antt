@@ -18,3 +18,5 @@ pub mod Turns
 pub mod Idle
 pub mod Deeds
 pub mod Feed
+pub mod IdleWhere
+pub mod Stops

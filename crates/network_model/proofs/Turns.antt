@@ -16,9 +16,9 @@ use Rattle.network_model.specs.Session.{Message, Open, Keepalive, Hello, Carries
 use Rattle.config_check.specs.Checked.{Checked}
 use Rattle.network_model.specs.Network.{Network, AreNamed, start, is_at, view, views_of, wanted}
 use Rattle.network_model.specs.Steps.{joins, with_session, change_session, pass, session_in, in_flight, repeat, deliver, Due, due_at, dues, notice_stands, deliver_due, deliver_all, round}
-use Rattle.network_model.specs.Events.{Event, next, after}
+use Rattle.network_model.specs.Events.{Deliver, Event, next, after}
 use Rattle.network_model.specs.Rounds.{is_unbroken, is_whole, taken_of, AreTurns, IsTakenInTurns, IsOfDeliveries}
-use Rattle.network_model.specs.Moments.{Nodes, nodes, WhereNamed}
+use Rattle.network_model.specs.Moments.{Nodes, nodes, AtEveryMoment, WhereNamed}
 use Rattle.network_model.proofs.SessionFact.{sends, told_cases}
 use Rattle.network_model.proofs.WorldFact.{passed_nodes, after_sound}
 use Rattle.network_model.proofs.Start.{start_sound}
@@ -267,3 +267,9 @@ pub rounds_are_of_deliveries : WhereNamed (λ size w. is_whole w ≡ true → is
 rounds_are_of_deliveries size positive x named es whole unbroken =
     let now = after size (start x) es in
     of_deliveries size positive now (named_apart size x named es) (calm_of size positive now.sessions (after_sound size positive (start x) es (start_sound size positive x)) whole unbroken)
+
+pub deliveries_take : AtEveryMoment (λ size w. is_whole w ≡ true → is_unbroken w ≡ true → (from to : Name) (n : ℕ) → in_flight (next size w (Deliver from to n)) from to ≡ in_flight w from to - n)
+unfolding next
+deliveries_take size positive x es whole unbroken from to n =
+    let now = after size (start x) es in
+    some_taken size positive n from to now (calm_of size positive now.sessions (after_sound size positive (start x) es (start_sound size positive x)) whole unbroken)

@@ -9,10 +9,18 @@ ghost use Rattle.network_model.specs.Setup.{Name};
 ghost use Rattle.network_model.specs.Session.{Message, Session, lost, shut, told};
 ghost use Rattle.network_model.specs.Network.{Network, sessions_of};
 ghost use Rattle.network_model.specs.Steps.{in_flight, session_of};
-ghost use Rattle.network_model.specs.Events.{Event, Break, Deliver, Edits, Lose, Restart, add_break, answer_to, is_node};
-ghost use Rattle.network_model.specs.Events.{next};
+ghost use Rattle.network_model.specs.Events.{Event, Break, Deliver, Edits, Lose, Restart, add_break, answer_to};
+ghost use Rattle.network_model.specs.Events.{is_node, next};
 ghost use Rattle.network_model.specs.Moments.{IsLost, NodeHasTold};
-ghost use Rattle.network_model.specs.Deeds.{AreOthers, IsClosed, MeetsOne};
+ghost use Rattle.network_model.specs.Deeds.{AreOthers, HasNothingToDo, IsClosed, MeetsOne};
+
+/// An event is answered by Idle exactly where there is nothing to do, and an edit by a refusal exactly where it has
+/// that fault.
+pub fn idle_and_refused_are_where_they_are_said()
+    ensures idle { (w : Network) (e : Event) → (answer_to w e ≡ Idle) ↔ HasNothingToDo w e }
+    ensures refused { (w : Network) (d : Edit) (f : EditFault)
+        → (answer_to w (Edits d) ≡ EditRefused f) ↔ (edits.edit_fault w.setup d ≡ Some f) }
+{}
 
 /// An event that is answered by Idle changes nothing, and so does an edit that is refused.
 pub fn what_is_not_done_changes_nothing()
