@@ -2,26 +2,25 @@
 use Rattle.std.specs.Prelude.{◌≡◌, ◌⊎◌, ℕ, zero, suc, ◌≤◌, max, List, [], ◌∷◌, map, length}
 use Rattle.std.specs.declared.option.Option.{Option}
 use Rattle.std.specs.declared.option.Option.TheVariants.{Some, None}
-use Rattle.std.specs.List.{filter_map, cons_option}
+use Rattle.std.specs.List.{filter_map}
 use Rattle.std.specs.Cmp.{IsTotalOrder, on_total}
 use Rattle.std.specs.Cmp.Lexicographic.{nat_list_cmp_total}
-use Rattle.std.specs.FinMap.{FinMap, IsAntisymmetric, entries, from_entries, empty, insert, put, entries-insert}
+use Rattle.std.specs.FinMap.{FinMap, IsAntisymmetric, entries, from_entries, empty, insert, entries-insert}
 use Rattle.std.specs.BTreeMap.{insert_entry}
 use Rattle.std.proofs.lemmas.Option.{same_Some}
 use Rattle.std.proofs.Common.{refl, sym, ◌∙◌, ap, subst, inl, inr, arith}
 use Rattle.ov_types.specs.Keys.{low_key_cmp}
 use Rattle.ov_types.specs.declared.objects.LowKey.{LowKey}
 use Rattle.ov_types.specs.declared.objects.LowValue.{LowValue}
-use Rattle.ov_sync.specs.Embed.{moved_entry, embedded}
 use Rattle.ov_sync.proofs.Ascending.{entries-empty, put-insert_entry}
 use Rattle.ov_sync.proofs.EmbedLaws.{entries-embedded}
 use Rattle.config_check.specs.Checked.{Checked}
 use Rattle.transform_model.specs.Objects.{Object, objects as made, with_objects, low_objects}
 use Rattle.transform_model.specs.Uses.{Use, uses}
 use Rattle.node_model.specs.Members.{Member}
-use Rattle.node_model.specs.Keys.{Key, Low, Vpn, Row, Publish, Subscribe, key_cmp, numbers}
+use Rattle.node_model.specs.Keys.{Key, Low, key_cmp, numbers}
 use Rattle.node_model.specs.Values.{Value, Object as ObjectOf}
-use Rattle.node_model.specs.Maps.{Map, low_entry, objects}
+use Rattle.node_model.specs.Maps.{low_entry, objects}
 use Rattle.node_model.specs.Wants.{slice_entry}
 use Rattle.node_model.proofs.Images.{low_keeps}
 use Rattle.node_model.proofs.Orders.{key_total, key_exact}

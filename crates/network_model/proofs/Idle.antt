@@ -44,7 +44,7 @@ lose_same None a b w e = refl
 lose_same (Some s) a b w e = ap (λ c. cond c w (change_session a b lost w)) e
 
 -- ---- connections
-abbrev may : Option Session → Bool
+abbrev pub may : Option Session → Bool
 may o = unwrap_or (option_map may_connect o) false
 
 swapped : (b c d : Bool) → (b && (not c && not d)) ≡ (b && (not d && not c))
@@ -54,7 +54,7 @@ swapped true false true = refl
 swapped true false false = refl
 swapped false c d = refl
 
-may_turned : (s : Session) → may_connect (turned s) ≡ may_connect s
+pub may_turned : (s : Session) → may_connect (turned s) ≡ may_connect s
 may_turned s = swapped s.is_down s.far.notice s.near.notice
 
 may_either : (a b : Name) (ss : List Session) → may (session_in ss b a) ≡ may (session_in ss a b)

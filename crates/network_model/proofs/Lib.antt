@@ -20,3 +20,4 @@ pub mod Deeds
 pub mod Feed
 pub mod IdleWhere
 pub mod Stops
+pub mod Connecting

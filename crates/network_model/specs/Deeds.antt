@@ -7,7 +7,7 @@ use Rattle.ov_types.specs.declared.rows.NodeId.{NodeId}
 use Rattle.config_model.specs.declared.topology.Node.{Node}
 use Rattle.config_model.specs.declared.topology.Topology.{Topology}
 use Rattle.node_model.specs.Members.{Member}
-use Rattle.node_model.specs.Step.{Idle}
+use Rattle.node_model.specs.Step.{Idle, Opened}
 use Rattle.network_model.specs.Setup.{Name}
 use Rattle.network_model.specs.Session.{End, Session}
 use Rattle.network_model.specs.Network.{Network}
@@ -17,6 +17,14 @@ use Rattle.network_model.specs.Events.{Event, Deliver, DeliverOctets, Lose, Conn
 -- two nodes are not these two, either way round
 abbrev pub AreOthers : Name → Name → Name → Name → Type 0
 AreOthers a b c d = (a ≡ c → b ≡ d → ⊥) × (a ≡ d → b ≡ c → ⊥)
+
+-- both ends of the session are opened
+pub record IsOpenedAt (o : Option Session) : Type 0 where
+  pub session : Session
+  pub found : o ≡ Some session
+  pub whole : session.is_down ≡ false
+  pub near : session.near.phase ≡ Opened
+  pub far : session.far.phase ≡ Opened
 
 -- an end that has nothing
 pub record IsClosed (e : End) : Type 0 where

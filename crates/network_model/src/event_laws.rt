@@ -1,5 +1,5 @@
 //! Laws of events and their answers: each is the contract of a function that does nothing.
-ghost use Rattle.std.specs.Prelude.{◌≡◌, ◌≢◌, ◌↔◌, ◌==◌, ℕ, List, Some, None, map, length, false, true};
+ghost use Rattle.std.specs.Prelude.{◌≡◌, ◌≢◌, ◌↔◌, ◌==◌, ℕ, List, Some, None, [], map, length, false, true};
 ghost use Rattle.std.specs.Option.{option_map};
 ghost use Rattle.config_model.specs.declared.edit.Edit.{Edit};
 ghost use Rattle.config_check.specs.Edits as edits;
@@ -8,11 +8,11 @@ ghost use Rattle.schedule_script.specs.declared.answer.Answer.TheVariants.{Idle,
 ghost use Rattle.network_model.specs.Setup.{Name};
 ghost use Rattle.network_model.specs.Session.{Message, Session, lost, shut, told};
 ghost use Rattle.network_model.specs.Network.{Network, sessions_of};
-ghost use Rattle.network_model.specs.Steps.{in_flight, session_of};
-ghost use Rattle.network_model.specs.Events.{Event, Break, Deliver, Edits, Lose, Restart, add_break, answer_to};
-ghost use Rattle.network_model.specs.Events.{is_node, next};
+ghost use Rattle.network_model.specs.Steps.{in_flight, may_connect, session_of};
+ghost use Rattle.network_model.specs.Events.{Event, Break, Connect, Deliver, Edits, Lose, Restart};
+ghost use Rattle.network_model.specs.Events.{add_break, answer_to, is_node, next};
 ghost use Rattle.network_model.specs.Moments.{IsLost, NodeHasTold};
-ghost use Rattle.network_model.specs.Deeds.{AreOthers, HasNothingToDo, IsClosed, MeetsOne};
+ghost use Rattle.network_model.specs.Deeds.{AreOthers, HasNothingToDo, IsClosed, IsOpenedAt, MeetsOne};
 
 /// An event is answered by Idle exactly where there is nothing to do, and an edit by a refusal exactly where it has
 /// that fault.
@@ -51,6 +51,14 @@ pub fn losses_leave_notices()
     ensures notices { (s : Session) → IsLost (lost s) }
     ensures others { (size : Name → Message → ℕ) (w : Network) (a b c d : Name) → AreOthers a b c d
         → session_of (next size w (Lose a b)) c d ≡ session_of w c d }
+{}
+
+/// Where a session may connect and no break is pending on it, it is not down after that, and both of its ends are
+/// opened.
+pub fn connections_open_both_ends()
+    ensures { (size : Name → Message → ℕ) (w : Network) (a b : Name) (s : Session) → a ≢ b → session_of w a b ≡ Some s
+        → may_connect s ≡ true → s.near.breaks ≡ [] → s.far.breaks ≡ []
+        → IsOpenedAt (session_of (next size w (Connect a b)) a b) }
 {}
 
 /// A restart leaves a node nothing: each of its ends is closed, and the other end is left as by a loss. The sessions of

@@ -1,5 +1,5 @@
-//! Laws of deliveries and of the events `Round` and `Settle`, at every moment of every schedule: each is the contract of
-//! a function that does nothing.
+//! Laws of deliveries and of the events `Round` and `Settle`, at every moment of every schedule: each is the contract
+//! of a function that does nothing.
 ghost use Rattle.std.specs.Prelude.{◌≡◌, ◌⊎◌, ◌≤◌, ◌+◌, ◌-◌, ℕ, true};
 ghost use Rattle.network_model.specs.Setup.{Name, longest};
 ghost use Rattle.network_model.specs.Network.{Network};
