@@ -6,7 +6,7 @@ use Rattle.network_model.specs.Setup.{Name}
 use Rattle.network_model.specs.Session.{Session, turned}
 use Rattle.network_model.specs.Network.{is_at, sessions_of}
 use Rattle.network_model.specs.Steps.{at_node}
-use Rattle.network_model.proofs.WorldFact.{Each}
+use Rattle.network_model.proofs.NetworkFact.{Each}
 
 -- a change of all sessions of a node
 pub each_at_node : (P Q P' : Session → Type 0) (n : Name) (f : Session → Session) → ((s : Session) → P s → Q s → P' (f s)) → ((s : Session) → P s → Q (turned s) → P' (turned (f (turned s)))) → ((s : Session) → P s → P' s)

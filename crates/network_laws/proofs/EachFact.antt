@@ -13,7 +13,7 @@ use Rattle.network_model.specs.Events.{Event, Edits, Deliver, DeliverOctets, Los
 use Rattle.network_model.specs.Steps.{at_node, with_session, change_session, pass, is_broken, around, connect, resumed, without_breaks}
 use Rattle.network_laws.specs.Settling.{EditIsValid, EditsAreValid}
 use Rattle.network_model.proofs.Walk.{Takes, Steps, resumed_walk, next_walk}
-use Rattle.network_model.proofs.WorldFact.{Each, with_session_keeps}
+use Rattle.network_model.proofs.NetworkFact.{Each, with_session_keeps}
 use Rattle.network_laws.proofs.AtNode.{each_at_node}
 
 -- a fact of a session that does not mind which end is near, and that every step of the near end keeps, where it tells what it may tell

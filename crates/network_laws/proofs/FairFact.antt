@@ -15,7 +15,7 @@ use Rattle.network_model.specs.Session.{Role, Message, Open, Keepalive, Hello, C
 use Rattle.node_model.specs.Step.{Phase, Idle, Opened, Confirmed, Up}
 use Rattle.network_laws.specs.Settling.{FairMap, FairMessage, FairMessages, FairAt, Fair, WantsFair}
 use Rattle.network_model.proofs.SessionFact.{sends, told_cases}
-use Rattle.network_model.proofs.WorldFact.{Nodes, nodes, passed_nodes, opened_nodes}
+use Rattle.network_model.proofs.NetworkFact.{Nodes, nodes, passed_nodes, opened_nodes}
 use Rattle.network_model.proofs.NodesFact.{arrived_nodes, octets_nodes}
 use Rattle.network_laws.proofs.EachFact.{Keeps}
 

@@ -18,7 +18,7 @@ use Rattle.network_model.specs.Session.{Message, Open, Keepalive, Hello, Carries
 use Rattle.network_laws.specs.Settling.{back, Rank, RanksFit, Right}
 use Rattle.network_model.specs.Moments.{IsPartly}
 use Rattle.network_model.proofs.SessionFact.{took_keeps, more_taken, append_nil, Joined, Fact, Fact-turned, greetings, meets, passed_keeps, arrived_keeps, are_peers-turned, live_receiver}
-use Rattle.network_model.proofs.WorldFact.{Nodes, nodes}
+use Rattle.network_model.proofs.NetworkFact.{Nodes, nodes}
 use Rattle.network_model.proofs.NodesFact.{arrived_nodes, took_nodes}
 use Rattle.network_model.proofs.Calm.{telling, passed_easy, Arrival, ArrivalOf, arrives}
 

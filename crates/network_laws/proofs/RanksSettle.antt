@@ -16,7 +16,7 @@ use Rattle.network_model.specs.Events.{Event, after}
 use Rattle.network_model.specs.Moments.{Each, nodes, WhereNamed}
 use Rattle.network_model.proofs.Twins.{NoTwins}
 use Rattle.network_model.proofs.Apart.{no_twins}
-use Rattle.network_model.proofs.WorldFact.{after_sound}
+use Rattle.network_model.proofs.NetworkFact.{after_sound}
 use Rattle.network_model.proofs.NodesFact.{after_nodes}
 use Rattle.network_model.proofs.ToldNext.{after_told}
 use Rattle.network_model.proofs.Start.{start_sound, start_told, start_fits, start_each}
@@ -72,7 +72,7 @@ module _ (size : Name → Message → ℕ) (positive : (n : Name) (m : Message) 
             settle_settles size positive r.rank r.goal now.setup (map nodes (start x).sessions) Valid (Fair fair) MayTell r.steps r.fits apart keeps kept.0 greatest now
             (refl, after_nodes size (start x) es, kept.1, after_told size (start x) es (start_fits x) (start_told x)) (after_sound size positive (start x) es (start_sound size positive x)) within r.below
 
--- THE THEOREMS, with what is valid and what is fair as tests
+-- the theorems, with what is valid and what is fair as tests
 pub ranks_settle : WhereRanked SettlesIn
 ranks_settle size positive x named valid valid_x fair wants es edits greatest ranked = rounds_settle size positive x (λ y. valid y ≡ true) (λ p q k v. fair p q k v ≡ true) wants valid_x es edits greatest (no_twins x named) ranked
 

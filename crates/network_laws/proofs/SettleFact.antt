@@ -16,7 +16,7 @@ use Rattle.network_model.specs.Steps.{change_session, pass, session_in, in_fligh
 use Rattle.network_model.proofs.SessionFact.{sends, Joined, Down, Fact, Fact-turned, passed_keeps, arrived_keeps}
 use Rattle.network_model.proofs.Deeds.{HasSetup, setup_connects}
 use Rattle.network_model.proofs.Walk.{Takes, Connects, due_walk, dues_walk, all_walk, connect_walk, connections_walk, resumed_walk}
-use Rattle.network_model.proofs.WorldFact.{Each, Nodes, nodes, passed_nodes, opened_nodes, with_session_keeps, nodes_keep, found, each_map, breaks_apart, round_sound, connect_all_sound}
+use Rattle.network_model.proofs.NetworkFact.{Each, Nodes, nodes, passed_nodes, opened_nodes, with_session_keeps, nodes_keep, found, each_map, breaks_apart, round_sound, connect_all_sound}
 use Rattle.network_model.proofs.NodesFact.{arrived_nodes, turned_nodes, map_nodes, round_nodes, connect_if_nodes, connect_all_nodes}
 use Rattle.network_model.proofs.ToldNext.{is_among, found_among}
 use Rattle.network_model.proofs.Calm.{told_easy, ArrivalOf, arrives}
@@ -263,7 +263,7 @@ module _ (size : Name → Message → ℕ) (positive : (n : Name) (m : Message) 
     all_hush w ss f.1 c.1 h.1,
   )
 
-  -- AFTER A ROUND without breaks no notice is pending
+  -- after a round without breaks no notice is pending
   pub round_hush : (w : Network) → NoTwins (map nodes w.sessions) → AreFit w → Each Hush (round w).sessions
   unfolding round
   round_hush w t c =
@@ -275,7 +275,7 @@ module _ (size : Name → Message → ℕ) (positive : (n : Name) (m : Message) 
   pub unbroken_fit : (ss : List Session) → Each (Fact size) ss → Each IsFit (map without_breaks ss)
   unbroken_fit ss e = each_map (Fact size) IsFit without_breaks (λ s f. (breaks_apart size positive [] [] s f, refl, refl)) ss e
 
-  -- ---- CONNECTING
+  -- ---- connecting
   hush_turned : (s : Session) → Hush s → Hush (turned s)
   hush_turned s h = record { near_notice = h.far_notice; far_notice = h.near_notice; near_breaks = h.far_breaks; far_breaks = h.near_breaks }
 
@@ -415,7 +415,7 @@ module _ (size : Name → Message → ℕ) (positive : (n : Name) (m : Message) 
         all_connected ss v hv (each_weaker (Among w) (Among v) (among_kept w v (connect_if_nodes s.near.name s.far.name w)) ss m.1),
       )
 
-  -- ALL ARE CONNECTED
+  -- all are connected
   to_places : (Q : Nodes → Type 0) (ss : List Session) → Each (λ s. Q (nodes s)) ss → AllByRecursion Q (map nodes ss)
   to_places Q [] e = tt
   to_places Q (s ∷ ss) e = (e.0, to_places Q ss e.1)
@@ -436,7 +436,7 @@ module _ (size : Name → Message → ℕ) (positive : (n : Name) (m : Message) 
       (each_and (λ s. is_broken v s.near.name s.far.name ≡ false) (Found v.sessions) v.sessions whole (found_each v.sessions (subst NoTwins (sym same) t)))
       (each_and (Fact size) Hush v.sessions (connect_all_sound size positive w.sessions w f) (connect_all_hush w.sessions w h)))
 
-  -- SETTLING BEGINS: after the first round and the connections
+  -- settling begins: after the first round and the connections
   pub resumed_calm : (w : Network) → NoTwins (map nodes w.sessions) → Each (Fact size) w.sessions → AreCalm size positive (resumed w)
   resumed_calm w t sound =
       let u : Network = record { setup = w.setup; sessions = map without_breaks w.sessions } in

@@ -22,7 +22,7 @@ use Rattle.network_model.specs.Events.{Event, Edits, Deliver, DeliverOctets, Los
 use Rattle.network_model.specs.Steps.{at_node, joins, with_session, change_session, pass, session_in, in_flight, repeat, deliver, Due as Waiting, dues, round, is_rested, is_settled, is_quiet, resumed, rounds_from, settle, without_breaks}
 use Rattle.network_model.specs.Rounds.{goes, is_delivery, taken_by, taken_of, IsRound, AreRounds, after_rounds}
 use Rattle.network_model.proofs.SessionFact.{append_nil, greetings, Joined, Fact-turned}
-use Rattle.network_model.proofs.WorldFact.{IsSound, Each, Nodes, nodes, KeepsNodes, passed_nodes}
+use Rattle.network_model.proofs.NetworkFact.{IsSound, Each, Nodes, nodes, KeepsNodes, passed_nodes}
 use Rattle.network_model.proofs.NodesFact.{arrived_nodes, octets_nodes, session_nodes, step_nodes, map_nodes, round_nodes, connect_all_nodes}
 use Rattle.network_model.proofs.ToldFact.{Touches, arrived_touches, step_tells}
 use Rattle.network_model.specs.Moments.{AreWhole, TellsWanted}
@@ -529,7 +529,7 @@ module _ (size : Name → Message → ℕ) (positive : (n : Name) (m : Message) 
           },
         )
 
-    -- THE BOUND: as many rounds as the greatest rank settle the network
+    -- the bound: as many rounds as the greatest rank settle the network
     pub settles : (es : List Event) (rounds : List (List Event)) (w : Network) → w.setup ≡ x → map nodes w.sessions ≡ places → Each P w.sessions → AllHaveTold w → AreCalm size positive w
         → AreRounds size w (es ∷ rounds) → ((from to : Name) (k : Key) → rank from to k ≤ suc (length rounds)) → is_settled (after_rounds size w (es ∷ rounds)) ≡ true
     settles es rounds w same e fair told o a b =
@@ -539,7 +539,7 @@ module _ (size : Name → Message → ℕ) (positive : (n : Name) (m : Message) 
         none_more : (n : ℕ) → n ≡ 0 + n
         none_more n = omega arith
 
-    -- ---- THE EVENT `settle`
+    -- ---- the event `settle`
     -- where nothing is in flight and no session is down, all is settled
     settled_quiet : (ss : List Session) → list_all is_rested ss ≡ true → list_all (λ s. (waiting s == 0) && (waiting (turned s) == 0)) ss ≡ true
     settled_quiet [] e = refl
@@ -628,7 +628,7 @@ module _ (size : Name → Message → ℕ) (positive : (n : Name) (m : Message) 
         more : (i : ℕ) → i ≤ suc m → i ≤ suc (0 + m)
         more i h = omega (arith, h)
 
-    -- SETTLE ends settled, with at most one round more than the greatest rank
+    -- `settle` ends settled, with at most one round more than the greatest rank
     pub settle_settles : (greatest : ℕ) (w : Network) → IsReady w → IsSound size positive w → greatest ≤ longest w.setup + 5 → ((from to : Name) (k : Key) → rank from to k ≤ greatest) → (is_settled (settle w).1 ≡ true) × ((settle w).0 ≤ greatest + 1)
     unfolding settle
     settle_settles greatest w h sound l b =

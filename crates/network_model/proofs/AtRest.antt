@@ -15,7 +15,7 @@ use Rattle.network_model.specs.Events.{Event, after}
 use Rattle.network_model.specs.Steps.{is_rested, is_settled}
 use Rattle.network_model.specs.Moments.{ArePositive, IsAtRest, IsAtRestWith}
 use Rattle.network_model.proofs.SessionFact.{Flows, Fact, greetings}
-use Rattle.network_model.proofs.WorldFact.{Each, after_sound}
+use Rattle.network_model.proofs.NetworkFact.{Each, after_sound}
 use Rattle.network_model.specs.Moments.{AreWhole, TellsWanted}
 use Rattle.network_model.proofs.ToldNext.{AllHaveTold, after_told}
 use Rattle.network_model.proofs.Start.{start_sound, start_told, start_fits}

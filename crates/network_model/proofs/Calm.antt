@@ -63,7 +63,7 @@ abbrev pub ArrivalOf : List Message → Session → Session → Type 0
 ArrivalOf [] s t = t ≡ s
 ArrivalOf (m ∷ ms) s t = Arrival m ms s t
 
--- THE CASES
+-- the cases
 abbrev met : Bool → Phase → Phase → End → End → List Change → Session
 met b p q near far ds = record { is_down = false; near = record near { phase = p; notice = false }; far = record far { phase = q; notice = false; flight = greetings b p q ++ map Carries ds } }
 

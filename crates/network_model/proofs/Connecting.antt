@@ -14,7 +14,7 @@ use Rattle.network_model.specs.Network.{Network, is_at, view, views_of, wanted}
 use Rattle.network_model.specs.Steps.{at_node, joins, change_session, pass, session_in, session_of, is_broken, around, connect, may_connect, connect_found, connect_if}
 use Rattle.network_model.specs.Events.{Connect, is_earlier, next}
 use Rattle.network_model.specs.Deeds.{IsOpenedAt}
-use Rattle.network_model.proofs.WorldFact.{KeepsNodes, passed_nodes, opened_nodes}
+use Rattle.network_model.proofs.NetworkFact.{KeepsNodes, passed_nodes, opened_nodes}
 use Rattle.network_model.proofs.NodesFact.{turned_nodes}
 use Rattle.network_model.proofs.Twins.{found_changed, found_node}
 use Rattle.network_model.proofs.Calm.{telling, told_easy, passed_easy}

@@ -21,7 +21,7 @@ use Rattle.network_model.specs.Events.{Event, Edits, Deliver, Lose, Restart, Bre
 use Rattle.network_model.specs.Moments.{nodes, IsLost, NodeHasTold}
 use Rattle.network_model.specs.Deeds.{AreOthers, IsClosed, MeetsOne}
 use Rattle.network_model.proofs.Walk.{Connects, Steps, next_walk}
-use Rattle.network_model.proofs.WorldFact.{KeepsNodes, joins_kept, at_node_nodes}
+use Rattle.network_model.proofs.NetworkFact.{KeepsNodes, joins_kept, at_node_nodes}
 use Rattle.network_model.proofs.NodesFact.{turned_nodes}
 use Rattle.network_model.proofs.ToldFact.{own_after, pass_tells}
 use Rattle.network_model.proofs.Twins.{found_changed}

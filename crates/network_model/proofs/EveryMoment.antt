@@ -13,7 +13,7 @@ use Rattle.network_model.specs.Network.{Network, start}
 use Rattle.network_model.specs.Events.{Event, after}
 use Rattle.network_model.specs.Moments.{Each, greeted, heard, cell, NoneGoesDown, IsPartly, IsProperEnd, IsFlowing, IsJoined, IsLost, NodeHasTold, ArePositive}
 use Rattle.network_model.proofs.SessionFact.{sends, told_cases, greetings, meets, Flows, Fact, Fact-turned, live_receiver, tidy_near}
-use Rattle.network_model.proofs.WorldFact.{after_sound}
+use Rattle.network_model.proofs.NetworkFact.{after_sound}
 use Rattle.network_model.proofs.ToldNext.{after_told}
 use Rattle.network_model.proofs.Start.{start_sound, start_told, start_fits}
 

@@ -2,7 +2,7 @@
 pub mod SessionFact
 pub mod Opening
 pub mod Walk
-pub mod WorldFact
+pub mod NetworkFact
 pub mod NodesFact
 pub mod ToldFact
 pub mod ToldNext

@@ -11,7 +11,7 @@ use Rattle.network_model.specs.Events.{Event, edits, add_break, next, after}
 use Rattle.network_model.specs.Steps.{at_node, joins, with_session, change_session, pass, round, is_broken, around, open_second, connect_if, connect_all, without_breaks}
 use Rattle.config_check.specs.Checked.{Checked}
 use Rattle.network_model.proofs.Walk.{Takes, Connects, Steps, round_walk, connect_walk, connections_walk, next_walk, after_walk}
-use Rattle.network_model.proofs.WorldFact.{Nodes, nodes, KeepsNodes, told_nodes, passed_nodes, opened_nodes, at_node_nodes}
+use Rattle.network_model.proofs.NetworkFact.{Nodes, nodes, KeepsNodes, told_nodes, passed_nodes, opened_nodes, at_node_nodes}
 
 -- ---- the steps of one end
 peer_took_nodes : (p : Phase) (m : Message) → KeepsNodes (peer_took p m)

@@ -19,7 +19,7 @@ use Rattle.network_model.specs.Steps.{joins, with_session, change_session, pass,
 use Rattle.network_model.specs.Rounds.{is_delivery, taken_of, IsRound}
 use Rattle.network_model.proofs.SessionFact.{Joined, Fact, Fact-turned, passed_keeps, arrived_keeps}
 use Rattle.network_model.proofs.Walk.{Takes, deliver_walk, delivers_walk}
-use Rattle.network_model.proofs.WorldFact.{Each, passed_nodes, with_session_keeps, nodes_keep, found}
+use Rattle.network_model.proofs.NetworkFact.{Each, passed_nodes, with_session_keeps, nodes_keep, found}
 use Rattle.network_model.proofs.NodesFact.{arrived_nodes}
 use Rattle.network_model.proofs.Calm.{telling, passed_easy, ArrivalOf, arrives}
 use Rattle.network_model.proofs.Twins.{found_changed, found_node, same_name_sym, swap_and, Pairs, MaybeBoth, pairs_found, pairs_session, pairs_node}
@@ -210,7 +210,7 @@ module _ (size : Name → Message → ℕ) (positive : (n : Name) (m : Message) 
       both : (a b c : ℕ) → a ≤ b → b ≤ c → a ≤ c
       both a b c h k = omega (arith, h, k)
 
-  -- ---- THE ROUND
+  -- ---- the round
   abbrev pub as_event : Due → Event
   as_event d = Deliver d.from d.to d.count
 

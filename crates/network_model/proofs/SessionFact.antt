@@ -258,7 +258,7 @@ module _ (size : List ℕ → Message → ℕ) (positive : (n : List ℕ) (m : M
       → Flows size b (record far { phase = q; notice = false; flight = f; taken = t }) (record near { phase = p; notice = false })
   other_way b p q near far f t o = record { changes = o.changes; phases = o.phases; flight = o.flight; early = o.early; tells = o.tells; partly = o.partly }
 
--- THE CASES
+-- the cases
 abbrev pub first_as : Bool → Phase → List Message → Session → Session
 first_as b p [] s = s
 first_as b p (m ∷ ms) s = cond b (peer_took p m (without_first ms s)) (item_took p m (without_first ms s))
@@ -317,7 +317,7 @@ module _ (size : List ℕ → Message → ℕ) (positive : (n : List ℕ) (m : M
       build size positive false _ _ kind refl refl (record { changes = ds; phases = refl; flight = refl; early = λ e. absurd (true≢false e); tells = tells; partly = partly_zero size positive far.name (map Carries ds) }) (record { changes = o.changes; phases = o.phases; flight = o.flight; early = o.early; tells = o.tells; partly = o.partly })
   first_keeps _ _ _ near far ds kind phases early tells partly o = absurd (true≢false (sym phases))
 
-  -- ALL ARRIVALS
+  -- all arrivals
   pub arrived_keeps : (s : Session) → Fact size s → Fact size (arrived s)
   unfolding arrived
   arrived_keeps s (inl j) =
@@ -338,7 +338,7 @@ module _ (size : List ℕ → Message → ℕ) (positive : (n : List ℕ) (m : M
         | false ↦ subst (λ (f : List Message). Fact size (took_first f s)) (sym d.far.flight) (inr d)
       ]
 
-  -- OCTETS
+  -- octets
   pub took_keeps : (s : Session) (m : Message) (ms : List Message) → Joined size s → s.far.flight ≡ m ∷ ms → Fact size (took m (without_first ms s))
   unfolding arrived
   took_keeps s m ms j e =

@@ -11,7 +11,7 @@ use Rattle.config_model.specs.declared.topology.Node.{Node}
 use Rattle.network_model.specs.Session.{Role, Configuration, Controller, Agent, Message, Session, turned}
 use Rattle.network_model.specs.Network.{start, peerings, accesses, fresh, lists, config, sessions_of, is_at}
 use Rattle.network_model.proofs.SessionFact.{DownEnd, Down, Fact}
-use Rattle.network_model.proofs.WorldFact.{Each, IsSound, nodes}
+use Rattle.network_model.proofs.NetworkFact.{Each, IsSound, nodes}
 use Rattle.network_model.specs.Moments.{HasTold}
 use Rattle.network_model.proofs.ToldNext.{AllHaveTold, RolesFit, Fits}
 

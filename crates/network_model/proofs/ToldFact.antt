@@ -17,7 +17,7 @@ use Rattle.network_model.specs.Network.{Network, View, view, views_of, sessions_
 use Rattle.network_model.specs.Steps.{at_node, joins, with_session, change_session, pass}
 use Rattle.network_model.proofs.SessionFact.{sends, told_cases}
 use Rattle.network_model.specs.Moments.{AreWhole, TellsWanted, HasTold, NodeHasTold}
-use Rattle.network_model.proofs.WorldFact.{Nodes, nodes, passed_nodes}
+use Rattle.network_model.proofs.NetworkFact.{Nodes, nodes, passed_nodes}
 
 -- t may stand for s, as the near node goes by it
 pub record Alike (s t : Session) : Type 0 where

@@ -20,7 +20,7 @@ use Rattle.network_model.specs.Network.{Network, View, view, views_of, sessions_
 use Rattle.network_model.specs.Events.{Event, edits, add_break, next, after}
 use Rattle.network_model.specs.Steps.{at_node, joins, with_session, change_session, change_node, pass, session_in, round, is_broken, around, connect, connect_all, without_breaks}
 use Rattle.network_model.proofs.Walk.{Takes, Connects, Steps, round_walk, connections_walk, next_walk}
-use Rattle.network_model.proofs.WorldFact.{Each, Nodes, nodes, KeepsNodes, joins_kept, opened_nodes}
+use Rattle.network_model.proofs.NetworkFact.{Each, Nodes, nodes, KeepsNodes, joins_kept, opened_nodes}
 use Rattle.network_model.proofs.NodesFact.{next_nodes, pass_nodes, session_nodes}
 use Rattle.network_model.specs.Moments.{AreWhole, TellsWanted, HasTold, NodeHasTold}
 use Rattle.network_model.proofs.ToldFact.{Alike, Touches, alike_refl, alike_trans, told_from, shut_touches, took_next_touches, arrived_touches, AllAlike, MaybeAlike, alike_cons, maybe_refl, all_refl, not_at, near_acts, far_acts, others_of_node, told_alike, own_after, pass_tells, pass_others, step_tells}
@@ -169,7 +169,7 @@ edit_tells x c m vs (s ∷ own) apart f h =
     let other : s.near.role ≢ Configuration = λ is. absurd (true≢false (sym ((bytes_decides config m).1 (sym ((bytes_decides s.near.name config).0 (f.0.1 is)) ∙ (bytes_decides s.near.name m).0 f.0.0)) ∙ apart)) in
     ((λ may. h.0 may ∙ sym (same_wanted x c vs (view s) s.near.role other)), edit_tells x c m vs own apart f.1 h.1)
 
--- EDITED
+-- edited
 edits_told : (e : Edit) (w : Network) → RolesFit (map nodes w.sessions) → AllHaveTold w → AllHaveTold (edits (edited w.setup e) w)
 edits_told e w r h m =
     elim (edit_fault w.setup e) as (λ o. NodeHasTold (edits (edited_without o w.setup e) w) m) [
@@ -227,7 +227,7 @@ opened_touches : (s : Session) → s.is_down ≡ false → Touches s (opened s)
 unfolding opened
 opened_touches s e = told_from (greeting s ∷ []) s (record { is_down = false; near = record s.near { phase = Opened }; far = s.far }) (record { view = refl; sent = refl; down = λ _. e })
 
--- CONNECTED
+-- connected
 abbrev pub is_among : List Nodes → Name → Name → Bool
 is_among [] a b = false
 is_among (p ∷ ps) a b = cond (same_name p.0.0 a && same_name p.1.0 b) true (cond (same_name p.0.0 b && same_name p.1.0 a) true (is_among ps a b))

@@ -20,7 +20,7 @@ use Rattle.network_model.specs.Events.{Deliver, Event, next, after}
 use Rattle.network_model.specs.Rounds.{is_unbroken, is_whole, taken_of, AreTurns, IsTakenInTurns, IsOfDeliveries}
 use Rattle.network_model.specs.Moments.{Nodes, nodes, AtEveryMoment, WhereNamed}
 use Rattle.network_model.proofs.SessionFact.{sends, told_cases}
-use Rattle.network_model.proofs.WorldFact.{passed_nodes, after_sound}
+use Rattle.network_model.proofs.NetworkFact.{passed_nodes, after_sound}
 use Rattle.network_model.proofs.Start.{start_sound}
 use Rattle.network_model.proofs.Apart.{no_twins}
 use Rattle.network_model.proofs.CalmOf.{calm_of}

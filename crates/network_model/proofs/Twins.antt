@@ -12,7 +12,7 @@ use Rattle.ov_types.specs.First.{same_name}
 use Rattle.network_model.specs.Session.{Session, turned}
 use Rattle.network_model.specs.Network.{is_at, seen_by, sessions_of}
 use Rattle.network_model.specs.Steps.{at_node, joins, with_session, session_in}
-use Rattle.network_model.proofs.WorldFact.{Each, Nodes, nodes, KeepsNodes, joins_kept, at_node_nodes}
+use Rattle.network_model.proofs.NetworkFact.{Each, Nodes, nodes, KeepsNodes, joins_kept, at_node_nodes}
 use Rattle.network_model.proofs.NodesFact.{turned_nodes}
 
 -- ---- no session joins a node to itself, and no two join the same nodes

@@ -189,7 +189,7 @@ module _ (P Q P' Q' : Session → Type 0) (a b : Name) where
         ]
       ] e)
 
--- CONNECTING
+-- connecting
 pub found : (Q : Session → Type 0) → ((s : Session) → Q s → Q (turned s)) → (ss : List Session) (a b : Name) → Each Q ss → (t : Session) → session_in ss a b ≡ Some t → Q t
 found Q both [] a b e t is = cc
 found Q both (s ∷ ss) a b e t is =
