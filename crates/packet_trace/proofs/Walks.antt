@@ -1,7 +1,8 @@
 -- A lookup of the walk, and those behind it.
-use Rattle.std.proofs.Common.{Bool, ◌==◌, length, ◌<◌, subst, append-nil, ◌≡◌, ℕ, zero, suc, ◌++◌, List, [], ◌∷◌, Option, Some, None, option_map, map, refl, sym, ap, ◌∙◌, append_assoc}
+use Rattle.std.proofs.Common.{leb, ◌≤◌, Bool, ◌==◌, length, ◌<◌, subst, append-nil, ◌≡◌, ℕ, zero, suc, ◌++◌, List, [], ◌∷◌, Option, Some, None, option_map, map, refl, sym, ap, ◌∙◌, append_assoc}
 use Rattle.std.specs.List.{All, Contains, find}
 use Rattle.std.specs.List.{slice_get}
+use Rattle.std.proofs.lemmas.Bool.{and_parts, leb-true}
 use Rattle.ov_types.specs.declared.numbers.InstanceId.{InstanceId}
 use Rattle.ov_types.specs.declared.numbers.ServiceNo.{ServiceNo}
 use Rattle.ov_types.specs.declared.packet.Outcome.{Outcome}
@@ -173,3 +174,8 @@ pub source_is : (p : Packet) (f : Forwarder) (label : Label) (o : Option Instanc
 source_is p f label o same is =
     let by : Label → Option (Forwarder × InstanceId) = λ l. option_map (λ (network : InstanceId). (f, network)) (as_port (attached f.rows l)) in
     ap by (sym same) ∙ sym (ap (option_map (λ (network : InstanceId). (f, network))) is)
+
+pub in_range : (circuit : ℕ) (service : ServiceNo) → IsOfAUse (Circuit circuit service) → (32769 ≤ circuit) × (circuit ≤ 131070)
+in_range circuit service h =
+    let parts = and_parts (leb 32769 circuit) (leb circuit 131070) h in
+    (leb-true 32769 circuit parts.0, leb-true circuit 131070 parts.1)

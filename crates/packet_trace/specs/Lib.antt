@@ -2,3 +2,5 @@
 pub mod Circuits
 pub mod Lookups
 pub mod Steps
+pub mod Ports
+pub mod Tables

@@ -3,20 +3,22 @@ use Rattle.ov_types.specs.declared.rows.Attached.{Attached}
 use Rattle.ov_types.specs.declared.rows.Attached.TheVariants.{Port, Circuit}
 use Rattle.packet_trace.specs.Circuits.{IsOfAUse}
 use Rattle.packet_trace.proofs.Places.{mapped_at}
-use Rattle.packet_trace.proofs.Walks.{leads, leads_on, of_a_use}
+use Rattle.packet_trace.proofs.Walks.{in_range, leads, leads_on, of_a_use}
 use Rattle.packet_trace.proofs.step.look_up.Goals as goal
 
 pub behind-requires-clause-first : goal.behind-requires-clause-first
 behind-requires-clause-first g c =
     let F = g.V.Vrouter.forwarder in
-    (subst IsOfAUse c.in-Some-Circuit.field-0-is (of_a_use (F c.index-agents-agent.result).rows c.in-Some.entry.label c.in-Some-Circuit.field-0
-    c.find.ensures.circuits (sym c.find.ensures.found ∙ c.in-Some-Circuit.is))).0
+    (in_range c.in-Some-Circuit.circuit c.in-Some-Circuit.service (subst IsOfAUse c.in-Some-Circuit.field-0-is
+    (of_a_use (F c.index-agents-agent.result).rows c.in-Some.entry.label c.in-Some-Circuit.field-0
+    c.find.ensures.circuits (sym c.find.ensures.found ∙ c.in-Some-Circuit.is)))).0
 
 pub behind-requires-clause-last : goal.behind-requires-clause-last
 behind-requires-clause-last g c =
     let F = g.V.Vrouter.forwarder in
-    (subst IsOfAUse c.in-Some-Circuit.field-0-is (of_a_use (F c.index-agents-agent.result).rows c.in-Some.entry.label c.in-Some-Circuit.field-0
-    c.find.ensures.circuits (sym c.find.ensures.found ∙ c.in-Some-Circuit.is))).1
+    (in_range c.in-Some-Circuit.circuit c.in-Some-Circuit.service (subst IsOfAUse c.in-Some-Circuit.field-0-is
+    (of_a_use (F c.index-agents-agent.result).rows c.in-Some.entry.label c.in-Some-Circuit.field-0
+    c.find.ensures.circuits (sym c.find.ensures.found ∙ c.in-Some-Circuit.is)))).1
 
 pub returns-in-None-clause-leading : goal.returns-in-None-clause-leading
 returns-in-None-clause-leading g c =
