@@ -1,6 +1,9 @@
 -- The tables of instances, and entries put among others.
 use Rattle.std.proofs.Common.{◌≡◌, ◌==◌, ℕ, zero, suc, ◌<◌, ◌≤◌, ◌+◌, ◌++◌, Bool, true, false, cond, not, List, [], ◌∷◌, Option, Some, None, option_map, map, filter, length, drop, get_or, refl, sym, ap, ◌∙◌, subst, eq-eqb, append-nil, add-one, drop-cons, arith}
 use Rattle.std.specs.List.{All, filter_map, cons_option}
+use Rattle.std.specs.Prelude.{OnOk, OnErr}
+use Rattle.std.specs.declared.result.Result.{Result}
+use Rattle.std.specs.declared.result.Result.TheVariants.{Ok, Err}
 use Rattle.std.specs.BTreeMap.{insert_entry}
 use Rattle.std.specs.Ordering.{match_ordering}
 use Rattle.std.specs.declared.cmp.Ordering.{Ordering}
@@ -12,6 +15,7 @@ use Rattle.ov_types.specs.declared.numbers.InstanceId.{InstanceId}
 use Rattle.ov_types.specs.declared.rows.Entry.{Entry}
 use Rattle.ov_types.proofs.FirstLemmas.{all_cons, all_head, all_tail}
 use Rattle.route_targets.specs.Forwarding.{route_in}
+use Rattle.packet_trace.proofs.Places.{drop_all}
 use Rattle.packet_trace.specs.Tables.{others, rows_in, rows_of, table_of}
 
 pub all_inserted : {K V : Type 0} (P : V → Type 0) (R : K → K → Ordering) (k : K) (v : V) (es : List (K × V)) → All (λ e. P e.1) es → P v → All (λ e. P e.1) (insert_entry R es k v)
@@ -25,6 +29,13 @@ all_inserted {K} {V} P R k v (e ∷ es) all here =
       | Equal ↦ all_cons Q (e.0, v) es here rest
       | Greater ↦ all_cons Q e (insert_entry R es k v) first (all_inserted P R k v es rest here)
     ]
+
+pub all_kept : {K V E T : Type 0} (P : V → Type 0) (R : K → K → Ordering) (k : K) (v : V) (es later : List (K × V)) (r : Result T E)
+    → OnOk r (later ≡ insert_entry R es k v) → OnErr r (later ≡ es) → All (λ e. P e.1) es → P v → All (λ e. P e.1) later
+all_kept {K} {V} P R k v es later (Ok u) ok err all here =
+    let Q : List (K × V) → Type 0 = λ l. All (λ (e : K × V). P e.1) l in subst Q (sym ok) (all_inserted P R k v es all here)
+all_kept {K} {V} P R k v es later (Err e) ok err all here =
+    let Q : List (K × V) → Type 0 = λ l. All (λ (e : K × V). P e.1) l in subst Q (sym err) all
 
 kept_append : {A B : Type 0} (f : A → Option B) (xs ys : List A) → filter_map f (xs ++ ys) ≡ filter_map f xs ++ filter_map f ys
 kept_append f [] ys = refl
@@ -83,3 +94,22 @@ here_is i ts k t lt at e = rw (drop-cons ts k t lt, sym at, e) refl
 
 pub not_here : (i : InstanceId) (ts : List (InstanceId × List (Block × Entry))) (k : ℕ) (t : InstanceId × List (Block × Entry)) → k < length ts → t ≡ get_or ts k t → (t.0.0 == i.0) ≡ false → table_of (drop k ts) i ≡ table_of (drop (k + 1) ts) i
 not_here i ts k t lt at e = rw (add-one, drop-cons ts k t lt, sym at, e) refl
+
+-- a walk over the tables
+
+module _ (a : ℕ) (i : InstanceId) (ts items : List (InstanceId × List (Block × Entry))) (k : ℕ) (same : items ≡ ts) (so_far : table_of ts i ≡ table_of (drop k ts) i) where
+  abbrev led_by : List (Block × Entry) → Option Entry
+  led_by l = option_map (λ (r : Block × Entry). r.1) (longest a l)
+
+  pub found_in_table : (t : InstanceId × List (Block × Entry)) (o : Option Entry) → k < length items → t ≡ get_or items k t → (t.0.0 == i.0) ≡ true
+      → o ≡ option_map (λ r. r.1) (longest a t.1) → o ≡ option_map (λ r. r.1) (longest a (filter_map (route_in i) (rows_of ts)))
+  found_in_table t o lt at e h =
+      let lt' : k < length ts = subst (λ (l : List (InstanceId × List (Block × Entry))). k < length l) same lt in
+      let at' : t ≡ get_or ts k t = subst (λ (l : List (InstanceId × List (Block × Entry))). t ≡ get_or l k t) same at in
+      h ∙ sym (ap led_by (so_far ∙ here_is i ts k t lt' at' e)) ∙ sym (by_table a i ts)
+
+  pub in_no_table : length items ≤ k → None ≡ option_map (λ r. r.1) (longest a (filter_map (route_in i) (rows_of ts)))
+  in_no_table past =
+      let past' : length ts ≤ k = subst (λ (l : List (InstanceId × List (Block × Entry))). length l ≤ k) same past in
+      let none : drop k ts ≡ [] = drop_all ts k past' in
+      sym (ap led_by (so_far ∙ ap (λ (l : List (InstanceId × List (Block × Entry))). table_of l i) none)) ∙ sym (by_table a i ts)

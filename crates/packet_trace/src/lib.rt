@@ -4,6 +4,8 @@
 mod hops;
 pub mod laws;
 mod step;
+#[cfg(test)]
+mod tests;
 mod tracing;
 mod vrouter;
 
