@@ -1,2 +1,2 @@
-pub mod IsRow
-pub mod Tables
+pub mod Sound
+pub mod Held
