@@ -1,1 +1,3 @@
 pub mod Oriented
+pub mod Bounds
+pub mod Laws

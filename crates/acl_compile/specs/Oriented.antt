@@ -26,13 +26,17 @@ abbrev pub protocol_of : Protocol → Option ℕ
 protocol_of Any = None
 protocol_of (Number n) = Some n
 
--- what an entry does, of the rule as it is written or mirrored: by a chain packets enter the instance of its first hop
--- where they go as it is written, and the instance of its last where they go the other way
+-- the hop of a chain that packets enter: the first where they go as the rule is written, the last where they go the
+-- other way
+abbrev pub hop_entered : Config → List ℕ → Bool → ℕ
+hop_entered c chain false = 0
+hop_entered c chain true = length (expansion c chain)
+
+-- what an entry does, of the rule as it is written or mirrored
 abbrev pub does : Config → Bool → Action → AclAction
 does c mirrored Pass = Does.Pass
 does c mirrored Deny = Does.Deny
-does c false (Through chain use_no) = Does.Enter (hop_instance_of use_no 0)
-does c true (Through chain use_no) = Does.Enter (hop_instance_of use_no (length (expansion c chain)))
+does c mirrored (Through chain use_no) = Does.Enter (hop_instance_of use_no (hop_entered c chain mirrored))
 
 -- the entry for packets that go as the rule is written
 abbrev pub forward_entry : Config → NumberedRule → AclRule

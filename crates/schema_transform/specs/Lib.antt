@@ -1,2 +1,4 @@
 pub mod Sound
 pub mod Held
+pub mod HeldUses
+pub mod Concerning

@@ -1,21 +1,20 @@
 //! The rows of agents.
-ghost use Rattle.std.specs.Prelude.{◌≡◌, List, map, IfOk, OnOk, IsTrue};
-ghost use Rattle.ov_types.specs.declared.objects.LowKey.{LowKey as TheKey};
-ghost use Rattle.ov_types.specs.declared.objects.LowValue.{LowValue as TheValue};
-ghost use Rattle.std.specs.List.{All, filter_map, list_all};
+ghost use Rattle.std.specs.Prelude.{◌≡◌, ◌==◌, map, IfOk, OnOk, IsTrue};
+ghost use Rattle.std.specs.List.{All, filter_map, list_all, list_any};
 ghost use Rattle.config_model.specs.Form.{has_port_form};
 ghost use Rattle.node_model.specs.Agent.{acl_entry, attached, entered_by, needed_by, needed_for};
 ghost use Rattle.node_model.specs.Wants.{is_at, port_at};
-ghost use Rattle.transform_model.specs.Compiled.{agent_rows, agent_rows_by, concerns, networks_at, route_of, slice_of};
+ghost use Rattle.transform_model.specs.Compiled.{agent_rows, agent_rows_by, networks_at, route_of, slice_of};
+ghost use Rattle.schema_transform.specs.Concerning.{concerns_among};
 ghost use Rattle.transform_model.specs.Objects.{ascending_instances, low_objects, with_instances};
 ghost use Rattle.transform_model.specs.Tables.{tables_of};
 ghost use Rattle.transform_model.specs.Uses.{uses};
-ghost use Rattle.schema_transform.specs.Held.{use_of};
+ghost use Rattle.schema_transform.specs.HeldUses.{use_of};
 ghost use Rattle.schema_transform.specs.Sound.{IsSmall, IsSound};
 
+use crate::chain_use::ChainUse;
 use crate::objects::instances_of;
-use crate::rows::{Rows, put_table};
-use crate::uses::ChainUse;
+use crate::rows::{Row, Rows, entries_of, put_table};
 use config_model::{Config, Topology};
 use ov_types::{
     AclAction, AclRule, Addr, AgentRows, Attached, Entry, InstanceId, Items, Label, Low, LowKey,
@@ -68,27 +67,40 @@ fn networks_at(
     Ok(networks)
 }
 
-/// Whether an object concerns the agent at an address, where the ports of these networks are.
-fn concerns(networks: &[InstanceId], address: Addr, key: &LowKey, value: &LowValue) -> bool
-    ensures { (low : List (TheKey × TheValue)) → networks.now ≡ networks_at low address
-        → result ≡ concerns low address key.now value.now }
+/// Whether a network of this number is among these.
+fn has_number(networks: &[InstanceId], number: u16) -> bool
+    ensures { result ≡ list_any (λ n. n.0 == number) networks.now }
 {
-    match key {
+    networks.iter().any(|network| network.0 == number)
+}
+
+/// Whether an object concerns the agent at an address, where the ports of these networks are.
+fn concerns_among(networks: &[InstanceId], address: Addr, key: &LowKey, value: &LowValue) -> bool
+    ensures { result ≡ concerns_among networks.now address key.now value.now }
+{
+    match *key {
         LowKey::Attach(_) => is_at(address, value),
-        LowKey::Acl { from, .. } => networks.iter().any(|network| network.0 == *from),
+        LowKey::Acl { from, .. } => has_number(networks, from),
         _ => false,
     }
 }
 
+fn copy_of(object: &(LowKey, LowValue)) -> Result<(LowKey, LowValue), NoMemory>
+    ensures { IfOk result (λ copy. copy ≡ object.now) }
+{
+    Ok((object.0, object.1.clone()?))
+}
+
 /// What concerns the agent at an address.
+#[tactic(auto, using(crate::proofs::Slices::slice_is))]
 fn slice_of(alloc: Global, low: &[(LowKey, LowValue)], address: Addr) -> Result<Low, NoMemory>
     ensures { IfOk result (λ list. list ≡ slice_of low.now address) }
 {
     let networks = networks_at(alloc, low, address)?;
     let mut slice = Items::new(alloc);
     for object in low {
-        if concerns(networks.as_slice(), address, &object.0, &object.1) {
-            slice.push((object.0, object.1.clone()?))?;
+        if concerns_among(networks.as_slice(), address, &object.0, &object.1) {
+            slice.push(copy_of(object)?)?;
         }
     }
     Ok(slice)
@@ -140,14 +152,24 @@ fn labels_of(
     Ok(labels)
 }
 
+/// An access list.
+fn acl_entry(object: &(LowKey, LowValue)) -> Result<Option<(LowKey, LowValue)>, NoMemory>
+    ensures { IfOk result (λ entry. entry ≡ acl_entry object.now.0 object.now.1) }
+{
+    if matches!(object.0, LowKey::Acl { .. }) {
+        return Ok(Some(copy_of(object)?));
+    }
+    Ok(None)
+}
+
 /// The access lists of a slice.
 fn acls_of(alloc: Global, slice: &[(LowKey, LowValue)]) -> Result<Low, NoMemory>
     ensures { IfOk result (λ list. list ≡ filter_map (λ e. acl_entry e.0 e.1) slice.now) }
 {
     let mut acls = Items::new(alloc);
     for object in slice {
-        if matches!(object.0, LowKey::Acl { .. }) {
-            acls.push((object.0, object.1.clone()?))?;
+        if let Some(entry) = acl_entry(object)? {
+            acls.push(entry)?;
         }
     }
     Ok(acls)
@@ -202,40 +224,40 @@ pub(crate) fn tables_of(
     alloc: Global,
     topology: &Topology,
     config: &Config,
-    uses: &[ChainUse],
+    chain_uses: &[ChainUse],
     instances: &[InstanceId],
 ) -> Result<Rows, NoMemory>
     requires form { IsTrue (list_all has_port_form config.now.ports) }
-    requires uses { map use_of uses.now ≡ uses config.now }
+    requires uses { map use_of chain_uses.now ≡ uses config.now }
     ensures { IfOk result (λ rows. rows.entries ≡ tables_of topology.now config.now instances.now) }
 {
     let mut rows = BTreeMap::new(alloc);
     for instance in instances {
-        put_table(topology, config, uses, *instance, &mut rows)?;
+        put_table(topology, config, chain_uses, *instance, &mut rows)?;
     }
     Ok(rows)
 }
 
 /// A row without its distinguisher.
-fn route_of(key: &(InstanceId, Prefix), row: &TableRow) -> ((InstanceId, Prefix), Entry)
-    ensures { result ≡ route_of (key.now, row.now) }
+fn route_of(row: &Row) -> ((InstanceId, Prefix), Entry)
+    ensures { result ≡ route_of row.now }
 {
     let entry = Entry {
-        next_hop: row.next_hop,
-        label: row.label,
+        next_hop: row.1.next_hop,
+        label: row.1.label,
     };
-    (*key, entry)
+    (row.0, entry)
 }
 
 /// Rows without their distinguishers.
-fn routes_of(alloc: Global, rows: &Rows) -> Result<Items<((InstanceId, Prefix), Entry)>, NoMemory>
-    ensures { IfOk result (λ list. list ≡ map route_of rows.now.entries) }
+fn routes_of(alloc: Global, rows: &[Row]) -> Result<Items<((InstanceId, Prefix), Entry)>, NoMemory>
+    ensures { IfOk result (λ list. list ≡ map route_of rows.now) }
 {
-    let routes = rows
-        .iter()
-        .map(|(key, row)| route_of(key, row))
-        .collect(alloc)?;
-    Ok(Items::from_vec(routes))
+    let mut routes = Items::new(alloc);
+    for row in rows {
+        routes.push(route_of(row))?;
+    }
+    Ok(routes)
 }
 
 /// The rows of an agent by what concerns it.
@@ -243,20 +265,20 @@ fn rows_by(
     alloc: Global,
     topology: &Topology,
     config: &Config,
-    uses: &[ChainUse],
+    chain_uses: &[ChainUse],
     slice: &[(LowKey, LowValue)],
 ) -> Result<AgentRows, NoMemory>
     requires form { IsTrue (list_all has_port_form config.now.ports) }
-    requires uses { map use_of uses.now ≡ uses config.now }
+    requires uses { map use_of chain_uses.now ≡ uses config.now }
     requires small { All (λ e. IsSmall e.1) slice.now }
     ensures { IfOk result (λ rows. rows ≡ agent_rows_by topology.now config.now slice.now) }
 {
     let needed = needed_by(alloc, slice)?;
-    let tables = tables_of(alloc, topology, config, uses, needed.as_slice())?;
+    let tables = tables_of(alloc, topology, config, chain_uses, needed.as_slice())?;
     Ok(AgentRows {
         labels: labels_of(alloc, slice)?,
         acls: acls_of(alloc, slice)?,
-        routes: routes_of(alloc, &tables)?,
+        routes: routes_of(alloc, entries_of(alloc, &tables)?.as_slice())?,
     })
 }
 
@@ -265,15 +287,15 @@ pub(crate) fn agent_rows(
     alloc: Global,
     topology: &Topology,
     config: &Config,
-    uses: &[ChainUse],
+    chain_uses: &[ChainUse],
     low: &[(LowKey, LowValue)],
     address: Addr,
 ) -> Result<AgentRows, NoMemory>
     requires sound { IsSound config.now }
-    requires uses { map use_of uses.now ≡ uses config.now }
+    requires uses { map use_of chain_uses.now ≡ uses config.now }
     requires low { low.now ≡ low_objects topology.now config.now }
     ensures { IfOk result (λ rows. rows ≡ agent_rows topology.now config.now address) }
 {
     let slice = slice_of(alloc, low, address)?;
-    rows_by(alloc, topology, config, uses, slice.as_slice())
+    rows_by(alloc, topology, config, chain_uses, slice.as_slice())
 }

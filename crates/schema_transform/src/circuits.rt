@@ -4,18 +4,11 @@ ghost use Rattle.route_targets.specs.Numbers.{left_circuit_of, right_circuit_of}
 ghost use Rattle.transform_model.specs.Uses.{left_circuits_from, right_circuits_from};
 ghost use Rattle.schema_transform.specs.Held.{circuit_of};
 
+use crate::attachment::Attachment;
 use config_model::Service;
 use ov_types::{Items, NoMemory};
 use route_targets::hop_instance;
 use std::alloc::Global;
-
-/// What attaches one side of a service to the instance there: a circuit's number, and the service.
-#[derive(Clone, Copy, Debug, PartialEq, Eq)]
-pub(crate) struct Attachment {
-    pub(crate) number: u32,
-    pub(crate) service: Service,
-    ghost last_circuit: { number ≤ 131070 },
-}
 
 /// The left circuit of a service of a use, by the service's place, which counts from 1.
 fn left_circuit(number: u16, place: u8) -> u32

@@ -1,9 +1,9 @@
 //! The instances of a use of a chain.
 ghost use Rattle.std.specs.Prelude.{◌≡◌};
 ghost use Rattle.transform_model.specs.Uses.{first_hop, last_hop};
-ghost use Rattle.schema_transform.specs.Held.{use_of};
+ghost use Rattle.schema_transform.specs.HeldUses.{use_of};
 
-use crate::uses::ChainUse;
+use crate::chain_use::ChainUse;
 use ov_types::InstanceId;
 use route_targets::hop_instance;
 

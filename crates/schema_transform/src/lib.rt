@@ -2,6 +2,8 @@
 #![tactic(auto)]
 
 mod agents;
+mod attachment;
+mod chain_use;
 mod circuits;
 mod hops;
 mod objects;

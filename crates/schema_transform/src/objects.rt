@@ -1,6 +1,8 @@
 //! Low-level objects.
-ghost use Rattle.std.specs.Prelude.{◌≡◌, ◌≤◌, ◌++◌, [], filter, flat_map, map, option_map, IfOk, OnOk, IsTrue};
+ghost use Rattle.std.specs.Prelude.{◌≡◌, ◌||◌, ◌≤◌, ◌++◌, [], filter, flat_map, map, option_map, IfOk, OnOk, IsTrue};
+ghost use Rattle.std.specs.BTreeMap.{insert_entry};
 ghost use Rattle.std.specs.List.{filter_map, list_all};
+ghost use Rattle.ov_types.specs.Keys.{low_key_cmp};
 ghost use Rattle.config_model.specs.Form.{has_port_form};
 ghost use Rattle.network_rules.specs.Related.{imports};
 ghost use Rattle.config_check.specs.Rules.{group_of};
@@ -11,11 +13,12 @@ ghost use Rattle.transform_model.specs.Objects.{low_objects, port_object, use_ob
 ghost use Rattle.transform_model.specs.Uses.{uses};
 ghost use Rattle.network_rules.specs.Related.{are_related};
 ghost use Rattle.ov_types.specs.First.{same_name};
-ghost use Rattle.schema_transform.specs.Held.{circuit_of, use_of};
+ghost use Rattle.schema_transform.specs.Held.{circuit_of};
+ghost use Rattle.schema_transform.specs.HeldUses.{use_of};
 ghost use Rattle.schema_transform.specs.Sound.{IsSound};
 
-use crate::circuits::Attachment;
-use crate::uses::ChainUse;
+use crate::attachment::Attachment;
+use crate::chain_use::ChainUse;
 use acl_compile::{acl_between, ascending};
 use config_check::{network_named, node_named};
 use config_model::{Config, Network, Port, Service, Topology};
@@ -59,6 +62,14 @@ fn imports_of(
     instances_of(alloc, &set)
 }
 
+/// Puts an object.
+fn put_object(object: Object, low: &mut Objects) -> Result<(), NoMemory>
+    ensures { OnOk result (low.new.entries ≡ insert_entry low_key_cmp low.old.entries object.0 object.1) }
+{
+    low.insert(object.0, object.1)?;
+    Ok(())
+}
+
 /// Puts the instance of each network.
 fn put_instances(alloc: Global, config: &Config, low: &mut Objects) -> Result<(), NoMemory>
     ensures { OnOk result (low.new.entries
@@ -75,6 +86,7 @@ fn put_instances(alloc: Global, config: &Config, low: &mut Objects) -> Result<()
 }
 
 /// A port, in the instance of its network and at its node.
+#[tactic(auto, unfolding(config_model::specs::Form::has_port_form))]
 fn port_object(topology: &Topology, config: &Config, port: &Port) -> Option<Object>
     requires { IsTrue (has_port_form port.now) }
     ensures { result ≡ port_object topology.now config.now port.now }
@@ -98,8 +110,8 @@ fn put_ports(topology: &Topology, config: &Config, low: &mut Objects) -> Result<
         ≡ with_objects low.old.entries (filter_map (port_object topology.now config.now) config.now.ports)) }
 {
     for port in config.ports.as_slice() {
-        if let Some((key, value)) = port_object(topology, config, port) {
-            low.insert(key, value)?;
+        if let Some(object) = port_object(topology, config, port) {
+            put_object(object, low)?;
         }
     }
     Ok(())
@@ -129,8 +141,8 @@ fn put_circuits(
         ≡ with_objects low.old.entries (filter_map (circuit_object topology.now) (map circuit_of circuits.now))) }
 {
     for circuit in circuits {
-        if let Some((key, value)) = circuit_object(topology, circuit) {
-            low.insert(key, value)?;
+        if let Some(object) = circuit_object(topology, circuit) {
+            put_object(object, low)?;
         }
     }
     Ok(())
@@ -152,13 +164,13 @@ fn put_use_circuits(
 /// Puts the attachments of the circuits of each use.
 fn put_all_circuits(
     topology: &Topology,
-    uses: &[ChainUse],
+    chain_uses: &[ChainUse],
     low: &mut Objects,
 ) -> Result<(), NoMemory>
     ensures { OnOk result (low.new.entries
-        ≡ with_objects low.old.entries (flat_map (circuit_objects topology.now) (map use_of uses.now))) }
+        ≡ with_objects low.old.entries (flat_map (circuit_objects topology.now) (map use_of chain_uses.now))) }
 {
-    for found in uses {
+    for found in chain_uses {
         put_use_circuits(topology, found, low)?;
     }
     Ok(())
@@ -248,13 +260,13 @@ fn use_value(alloc: Global, topology: &Topology, found: &ChainUse) -> Result<Low
 fn put_uses(
     alloc: Global,
     topology: &Topology,
-    uses: &[ChainUse],
+    chain_uses: &[ChainUse],
     low: &mut Objects,
 ) -> Result<(), NoMemory>
     ensures { OnOk result (low.new.entries
-        ≡ with_objects low.old.entries (map (use_object topology.now) (map use_of uses.now))) }
+        ≡ with_objects low.old.entries (map (use_object topology.now) (map use_of chain_uses.now))) }
 {
-    for found in uses {
+    for found in chain_uses {
         let value = use_value(alloc, topology, found)?;
         low.insert(LowKey::ChainUse(found.number), value)?;
     }
@@ -266,17 +278,17 @@ pub(crate) fn objects_of(
     alloc: Global,
     topology: &Topology,
     config: &Config,
-    uses: &[ChainUse],
+    chain_uses: &[ChainUse],
 ) -> Result<Objects, NoMemory>
     requires sound { IsSound config.now }
-    requires uses { map use_of uses.now ≡ uses config.now }
+    requires uses { map use_of chain_uses.now ≡ uses config.now }
     ensures { IfOk result (λ low. low.entries ≡ low_objects topology.now config.now) }
 {
     let mut low = BTreeMap::new(alloc);
     put_instances(alloc, config, &mut low)?;
     put_ports(topology, config, &mut low)?;
-    put_all_circuits(topology, uses, &mut low)?;
+    put_all_circuits(topology, chain_uses, &mut low)?;
     put_all_acls(alloc, config, &mut low)?;
-    put_uses(alloc, topology, uses, &mut low)?;
+    put_uses(alloc, topology, chain_uses, &mut low)?;
     Ok(low)
 }

@@ -8,16 +8,18 @@ ghost use Rattle.transform_model.specs.Tables.{row_towards, rows_of, subnet_rows
 ghost use Rattle.config_check.specs.Finding.{network_numbered};
 ghost use Rattle.route_targets.specs.Numbers.{circuit_instance_of};
 ghost use Rattle.transform_model.specs.Uses.{uses};
-ghost use Rattle.schema_transform.specs.Held.{circuit_of, use_of};
+ghost use Rattle.schema_transform.specs.Held.{circuit_of};
+ghost use Rattle.schema_transform.specs.HeldUses.{use_of};
 
-use crate::circuits::Attachment;
+use crate::attachment::Attachment;
+use crate::chain_use::ChainUse;
 use crate::hops::{first_hop, last_hop};
-use crate::uses::ChainUse;
 use config_check::{network_named, network_numbered, node_named};
 use config_model::{Config, Network, Node, Port, Topology};
 use network_rules::imports;
-use ov_types::{InstanceId, NoMemory, Prefix, TableRow};
+use ov_types::{ControlRows, InstanceId, Items, NoMemory, Prefix, TableRow};
 use route_targets::{circuit_address, circuit_label, port_label, rd};
+use std::alloc::Global;
 use std::collections::BTreeMap;
 
 /// A row with its key: the instance and the prefix.
@@ -255,14 +257,14 @@ fn put_all_hop_rows(
     topology: &Topology,
     config: &Config,
     instance: InstanceId,
-    uses: &[ChainUse],
+    chain_uses: &[ChainUse],
     rows: &mut Rows,
 ) -> Result<(), NoMemory>
     requires { IsTrue (list_all has_port_form config.now.ports) }
     ensures { OnOk result (rows.new.entries ≡ with_rows rows.old.entries
-        (flat_map (hop_rows topology.now config.now instance) (map use_of uses.now))) }
+        (flat_map (hop_rows topology.now config.now instance) (map use_of chain_uses.now))) }
 {
-    for found in uses {
+    for found in chain_uses {
         put_hop_rows(topology, config, instance, found, rows)?;
     }
     Ok(())
@@ -286,18 +288,27 @@ fn put_numbered_rows(
 }
 
 /// Puts the table of an instance.
+#[tactic(auto, using(crate::proofs::Putting::rows_append))]
 pub(crate) fn put_table(
     topology: &Topology,
     config: &Config,
-    uses: &[ChainUse],
+    chain_uses: &[ChainUse],
     instance: InstanceId,
     rows: &mut Rows,
 ) -> Result<(), NoMemory>
     requires form { IsTrue (list_all has_port_form config.now.ports) }
-    requires uses { map use_of uses.now ≡ uses config.now }
+    requires uses { map use_of chain_uses.now ≡ uses config.now }
     ensures { OnOk result (rows.new.entries ≡ with_rows rows.old.entries
         (instance_table topology.now config.now instance)) }
 {
     put_numbered_rows(topology, config, instance, rows)?;
-    put_all_hop_rows(topology, config, instance, uses, rows)
+    put_all_hop_rows(topology, config, instance, chain_uses, rows)
+}
+
+/// The entries of a map, in the order of their keys.
+pub(crate) fn entries_of(alloc: Global, rows: &Rows) -> Result<ControlRows, NoMemory>
+    ensures { IfOk result (λ list. list ≡ rows.now.entries) }
+{
+    let entries = rows.iter().map(|(key, row)| (*key, *row)).collect(alloc)?;
+    Ok(Items::from_vec(entries))
 }

@@ -4,15 +4,16 @@ ghost use Rattle.transform_model.specs.Compiled.{agent_rows, compiled_tables};
 ghost use Rattle.transform_model.specs.Objects.{low_objects};
 ghost use Rattle.transform_model.specs.Tables.{control_rows, instances};
 ghost use Rattle.transform_model.specs.Uses.{hops, uses};
-ghost use Rattle.schema_transform.specs.Held.{use_of};
+ghost use Rattle.schema_transform.specs.HeldUses.{use_of};
 ghost use Rattle.schema_transform.specs.Sound.{IsSound};
 
 use crate::agents::{agent_rows, tables_of};
+use crate::chain_use::ChainUse;
 use crate::objects::objects_of;
-use crate::rows::Rows;
-use crate::uses::{ChainUse, uses_in_effect};
+use crate::rows::entries_of;
+use crate::uses::uses_in_effect;
 use config_check::Valid;
-use config_model::{Config, Node, Topology};
+use config_model::{Config, Network, Topology};
 use ov_types::{
     AgentRows, ControlRows, InstanceId, Items, Low, LowKey, LowValue, NoMemory, NodeId,
 };
@@ -25,13 +26,13 @@ fn low_of(
     alloc: Global,
     topology: &Topology,
     config: &Config,
-    uses: &[ChainUse],
+    chain_uses: &[ChainUse],
 ) -> Result<Low, NoMemory>
     requires sound { IsSound config.now }
-    requires uses { map use_of uses.now ≡ uses config.now }
+    requires uses { map use_of chain_uses.now ≡ uses config.now }
     ensures { IfOk result (λ low. low ≡ low_objects topology.now config.now) }
 {
-    let objects = objects_of(alloc, topology, config, uses)?;
+    let objects = objects_of(alloc, topology, config, chain_uses)?;
     Ok(Items::from_vec(objects.into_iter().collect(alloc)?))
 }
 
@@ -40,45 +41,52 @@ pub fn low(alloc: Global, valid: &Valid) -> Result<Low, NoMemory>
     ensures { IfOk result (λ low. low ≡ low_objects valid.now.topology valid.now.config) }
 {
     let config = valid.config();
-    let uses = uses_in_effect(alloc, config)?;
-    low_of(alloc, valid.topology(), config, uses.as_slice())
+    let chain_uses = uses_in_effect(alloc, config)?;
+    low_of(alloc, valid.topology(), config, chain_uses.as_slice())
 }
 
 /// Appends the instances of the hops of a use.
+#[tactic(auto, using(crate::proofs::Ends::one_more))]
 fn push_hops(found: &ChainUse, instances: &mut Vec<InstanceId>) -> Result<(), NoMemory>
     ensures { OnOk result (instances.new.items ≡ instances.old.items ++ hops (use_of found.now)) }
 {
-    for hop in 0..=found.services.len() as u8 {
-        instances.push(hop_instance(found.number, hop))?;
+    instances.push(hop_instance(found.number, 0))?;
+    for place in 0..found.services.len() as u8 {
+        instances.push(hop_instance(found.number, place + 1))?;
     }
     Ok(())
+}
+
+/// Appends the instances of the hops of each use.
+fn push_all_hops(chain_uses: &[ChainUse], instances: &mut Vec<InstanceId>) -> Result<(), NoMemory>
+    ensures { OnOk result (instances.new.items
+        ≡ instances.old.items ++ flat_map hops (map use_of chain_uses.now)) }
+{
+    for found in chain_uses {
+        push_hops(found, instances)?;
+    }
+    Ok(())
+}
+
+/// The instances of the networks.
+fn network_instances(alloc: Global, networks: &[Network]) -> Result<Vec<InstanceId>, NoMemory>
+    ensures { IfOk result (λ list. list.items ≡ map (λ n. n.id) networks.now) }
+{
+    Ok(networks.iter().map(|network| network.id).collect(alloc)?)
 }
 
 /// The instances of a configuration: those of its networks, and those of its uses in effect.
 fn instances_of(
     alloc: Global,
     config: &Config,
-    uses: &[ChainUse],
+    chain_uses: &[ChainUse],
 ) -> Result<Vec<InstanceId>, NoMemory>
-    requires { map use_of uses.now ≡ uses config.now }
+    requires { map use_of chain_uses.now ≡ uses config.now }
     ensures { IfOk result (λ list. list.items ≡ instances config.now) }
 {
-    let mut instances = Vec::new(alloc);
-    for network in config.networks.as_slice() {
-        instances.push(network.id)?;
-    }
-    for found in uses {
-        push_hops(found, &mut instances)?;
-    }
+    let mut instances = network_instances(alloc, config.networks.as_slice())?;
+    push_all_hops(chain_uses, &mut instances)?;
     Ok(instances)
-}
-
-/// The entries of a map, in the order of their keys.
-fn entries_of(alloc: Global, rows: &Rows) -> Result<ControlRows, NoMemory>
-    ensures { IfOk result (λ list. list ≡ rows.now.entries) }
-{
-    let entries = rows.iter().map(|(key, row)| (*key, *row)).collect(alloc)?;
-    Ok(Items::from_vec(entries))
 }
 
 /// The tables of all instances.
@@ -86,14 +94,14 @@ fn control_rows(
     alloc: Global,
     topology: &Topology,
     config: &Config,
-    uses: &[ChainUse],
+    chain_uses: &[ChainUse],
 ) -> Result<ControlRows, NoMemory>
     requires sound { IsSound config.now }
-    requires uses { map use_of uses.now ≡ uses config.now }
+    requires uses { map use_of chain_uses.now ≡ uses config.now }
     ensures { IfOk result (λ list. list ≡ control_rows topology.now config.now) }
 {
-    let instances = instances_of(alloc, config, uses)?;
-    let rows = tables_of(alloc, topology, config, uses, instances.as_slice())?;
+    let instances = instances_of(alloc, config, chain_uses)?;
+    let rows = tables_of(alloc, topology, config, chain_uses, instances.as_slice())?;
     entries_of(alloc, &rows)
 }
 
@@ -123,18 +131,18 @@ fn agents_of(
     alloc: Global,
     topology: &Topology,
     config: &Config,
-    uses: &[ChainUse],
+    chain_uses: &[ChainUse],
     low: &[(LowKey, LowValue)],
 ) -> Result<Items<AgentRows>, NoMemory>
     requires sound { IsSound config.now }
-    requires uses { map use_of uses.now ≡ uses config.now }
+    requires uses { map use_of chain_uses.now ≡ uses config.now }
     requires low { low.now ≡ low_objects topology.now config.now }
     ensures { IfOk result (λ list. list
         ≡ map (λ n. agent_rows topology.now config.now n.address) topology.now.nodes) }
 {
     let mut agents = Items::new(alloc);
     for node in topology.nodes.as_slice() {
-        agents.push(agent_rows(alloc, topology, config, uses, low, node.address)?)?;
+        agents.push(agent_rows(alloc, topology, config, chain_uses, low, node.address)?)?;
     }
     Ok(agents)
 }
@@ -146,11 +154,17 @@ pub fn compiled(alloc: Global, valid: &Valid) -> Result<Compiled, NoMemory>
 {
     let topology = valid.topology();
     let config = valid.config();
-    let uses = uses_in_effect(alloc, config)?;
-    let low = low_of(alloc, topology, config, uses.as_slice())?;
-    let rows = control_rows(alloc, topology, config, uses.as_slice())?;
+    let chain_uses = uses_in_effect(alloc, config)?;
+    let low = low_of(alloc, topology, config, chain_uses.as_slice())?;
+    let rows = control_rows(alloc, topology, config, chain_uses.as_slice())?;
     Ok(Compiled {
         controls: copies(alloc, &rows, topology.controllers.as_slice())?,
-        agents: agents_of(alloc, topology, config, uses.as_slice(), low.as_slice())?,
+        agents: agents_of(
+            alloc,
+            topology,
+            config,
+            chain_uses.as_slice(),
+            low.as_slice(),
+        )?,
     })
 }

@@ -1,36 +1,23 @@
 //! The uses of chains that are in effect.
 ghost use Rattle.std.specs.Prelude.{◌≡◌, ◌≤◌, ◌++◌, ◌==◌, length, map, find, option_copied, option_map, IfOk, OnOk};
 ghost use Rattle.std.specs.Prelude.{IsTrue};
+ghost use Rattle.std.specs.List.{filter_map};
 ghost use Rattle.config_model.specs.Form.{has_rule_form, has_policy_form};
 ghost use Rattle.chain_expand.specs.Expansion.{expansion};
 ghost use Rattle.transform_model.specs.Uses.{left_circuits_from, network_at, right_circuits_from, use_between, use_by};
 ghost use Rattle.transform_model.specs.Uses.{uses, uses_of};
-ghost use Rattle.schema_transform.specs.Held.{circuit_of, use_of};
+ghost use Rattle.schema_transform.specs.Held.{circuit_of};
+ghost use Rattle.schema_transform.specs.HeldUses.{use_of};
 ghost use Rattle.schema_transform.specs.Sound.{IsSound};
 
-use crate::circuits::{Attachment, left_circuits, right_circuits};
+use crate::chain_use::ChainUse;
+use crate::circuits::{left_circuits, right_circuits};
 use chain_expand::expand_straight;
 use config_check::network_named;
 use config_model::{Action, Config, End, Network, Policy, Rule, Service};
 use network_rules::attaches;
 use ov_types::{Items, Name, NoMemory, ServiceNo};
 use std::alloc::Global;
-
-/// A use of a chain that is in effect: its number, the networks that its rule names, the services of its chain, and
-/// their circuits.
-#[derive(Debug, Drop)]
-pub(crate) struct ChainUse {
-    pub(crate) number: u16,
-    pub(crate) left: Network,
-    pub(crate) right: Network,
-    pub(crate) services: Items<Service>,
-    pub(crate) left_circuits: Items<Attachment>,
-    pub(crate) right_circuits: Items<Attachment>,
-    ghost last_use: { number ≤ 3071 },
-    ghost few: { length services ≤ 15 },
-    ghost lefts: { map circuit_of left_circuits ≡ left_circuits_from number 1 services },
-    ghost rights: { map circuit_of right_circuits ≡ right_circuits_from number 1 services },
-}
 
 /// The first service of a number.
 fn service_numbered<'a>(config: &'a Config, number: ServiceNo) -> Option<&'a Service>

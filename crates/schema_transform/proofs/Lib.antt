@@ -1,0 +1,3 @@
+pub mod Putting
+pub mod Slices
+pub mod Ends
