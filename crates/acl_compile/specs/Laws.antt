@@ -1,5 +1,5 @@
 -- What access lists say, in terms of the rules that decide.
-use Rattle.std.specs.Prelude.{◌≡◌, ℕ, ◌<◌, ◌≤◌, ◌⊎◌, Bool, true, false, find, Option, List, length}
+use Rattle.std.specs.Prelude.{◌≡◌, ◌<◌, ◌≤◌, ◌⊎◌, Bool, true, false, find, Option, length}
 use Rattle.std.specs.Prelude.{if◌then◌else◌}
 use Rattle.ov_types.specs.Access.{holds}
 use Rattle.ov_types.specs.Prefix.{Block}

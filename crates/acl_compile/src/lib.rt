@@ -1,27 +1,17 @@
-//! The access list from one network to another.
+//! Access lists: where packets of a network may go, and what decides on them, as entries for one direction each.
 #![tactic(auto)]
-ghost use Rattle.std.specs.Prelude.{◌≡◌, IfOk};
-ghost use Rattle.acl_compile.specs.Bounds.{KeepsBounds};
-ghost use Rattle.acl_compile.specs.Oriented.{acl_value, ascending};
 
-use config_model::{Config, Network};
-use ov_types::{Items, LowValue, NoMemory, Prefix};
-use std::alloc::Global;
+mod access;
+mod chains;
+mod entries;
+pub mod laws;
+mod numbered;
+mod policies;
+mod subnets;
 
-pub fn acl_between(
-    _alloc: Global,
-    _config: &Config,
-    _from: &Network,
-    _to: &Network,
-) -> Result<LowValue, NoMemory>
-    requires { KeepsBounds _config.now }
-    ensures { IfOk result (λ list. list ≡ acl_value _config.now _from.now _to.now) }
-{
-    Err(NoMemory)
-}
+pub use access::acl_between;
+pub use numbered::acl;
+pub use subnets::ascending;
 
-pub fn ascending(_alloc: Global, _subnets: &[Prefix]) -> Result<Items<Prefix>, NoMemory>
-    ensures { IfOk result (λ list. list ≡ ascending _subnets.now) }
-{
-    Err(NoMemory)
-}
+#[cfg(test)]
+mod tests;

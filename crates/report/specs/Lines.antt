@@ -6,16 +6,11 @@ use Rattle.ov_types.specs.declared.numbers.Label.{Label}
 use Rattle.ov_types.specs.declared.targets.Target.{Target}
 use Rattle.ov_types.specs.declared.vpn.VpnKey.{VpnKey}
 use Rattle.ov_types.specs.declared.vpn.VpnRoute.{VpnRoute}
+use Rattle.report.specs.Lists.{list_text}
 
--- targets after the first, each behind a comma
-abbrev pub more_targets : List Target → List ℕ
-more_targets [] = []
-more_targets (t ∷ ts) = (codes "," ++ target_text t.0) ++ more_targets ts
-
--- targets joined by commas, and `-` where there are none
+-- targets joined by commas
 abbrev pub targets_text : List Target → List ℕ
-targets_text [] = codes "-"
-targets_text (t ∷ ts) = target_text t.0 ++ more_targets ts
+targets_text targets = list_text (λ t. target_text t.0) targets
 
 -- an OPEN: the autonomous system, the Hold Time, the identifier
 unfoldable pub open_line : ℕ → ℕ → Addr → List ℕ

@@ -1,13 +1,30 @@
-//! The lines that tell of messages and of what they change.
+//! Every text that the program writes: low-level objects, the rows of nodes, outcomes, refusals, answers, and what
+//! messages say.
 #![tactic(auto)]
 
+mod answers;
+#[cfg(test)]
+mod chain_tests;
 mod lines;
+mod lists;
+mod objects;
+mod outcomes;
+mod refusals;
+mod rows;
 mod targets;
 #[cfg(test)]
 mod tests;
 
+pub use answers::answer_lines;
 pub use lines::{
     drop_lines, fault_lines, incomplete_lines, notification_lines, open_lines, put_lines,
     route_lines,
+};
+pub use objects::{low_lines, object_lines};
+pub use outcomes::outcome_lines;
+pub use refusals::{doc_fault_lines, refusal_lines};
+pub use rows::{
+    agent_acl_lines, agent_label_line, agent_lines, agent_row_line, control_lines,
+    control_row_line, node_lines,
 };
 pub use targets::{TargetsText, put_lines_after};

@@ -3,7 +3,7 @@ ghost use Rattle.std.specs.Prelude.{◌≡◌, ◌++◌, Some, OnOk, OnErr};
 ghost use Rattle.report.specs.Lines.{drop_line, fault_line, incomplete_line, key_text, notification_line, open_line};
 ghost use Rattle.report.specs.Lines.{put_line, route_line};
 
-use crate::targets::targets_of;
+use crate::lists::joined;
 use ov_io::TextOut;
 use ov_types::{Addr, Label, NoMemory, VpnKey, VpnRoute};
 use std::alloc::Global;
@@ -50,7 +50,7 @@ pub fn put_lines(
     ensures ok { OnOk result (out.new ≡ out.old ++ put_line key.now route.now) }
     ensures err { OnErr result (out.new ≡ out.old) }
 {
-    let targets = targets_of(alloc, route.targets.items())?;
+    let targets = joined(alloc, route.targets.items())?;
     route_lines(
         alloc,
         key,

@@ -1,11 +1,12 @@
 //! The text of targets.
-ghost use Rattle.std.specs.Prelude.{◌≡◌, ◌↔◌, ◌++◌, IfOk, IsTrue, OnOk, OnErr, string_bytes};
-ghost use Rattle.report.specs.Lines.{more_targets, put_line, targets_text};
+ghost use Rattle.std.specs.Prelude.{◌≡◌, ◌↔◌, ◌++◌, IsTrue, OnOk, OnErr, string_bytes};
+ghost use Rattle.report.specs.Lines.{put_line, targets_text};
 
 use crate::lines::route_lines;
+use crate::lists::joined;
 use ov_io::TextOut;
-use ov_types::{NoMemory, Target, Targets, VpnKey, VpnRoute};
-use std::alloc::{AllocError, Global};
+use ov_types::{NoMemory, Targets, VpnKey, VpnRoute};
+use std::alloc::Global;
 
 /// Targets and their text, which is made once for routes that have the same.
 #[derive(Debug, Drop)]
@@ -20,28 +21,8 @@ impl TargetsText {
     pub fn new(alloc: Global) -> Result<TargetsText, NoMemory> {
         Ok(TargetsText {
             targets: Targets::new(alloc),
-            text: targets_of(alloc, &[])?,
+            text: String::from_str(alloc, "-")?,
         })
-    }
-}
-
-fn more_of(alloc: Global, first: String, targets: &[Target]) -> Result<String, AllocError>
-    ensures { IfOk result (λ s. string_bytes s ≡ string_bytes first ++ more_targets targets.now) }
-{
-    let mut text = first;
-    for target in targets {
-        write!(text, ",{target}")?;
-    }
-    Ok(text)
-}
-
-/// The targets joined by commas, and `-` where there are none.
-pub(crate) fn targets_of(alloc: Global, targets: &[Target]) -> Result<String, AllocError>
-    ensures { IfOk result (λ s. string_bytes s ≡ targets_text targets.now) }
-{
-    match targets {
-        [] => String::from_str(alloc, "-"),
-        [first, others @ ..] => more_of(alloc, format!(in alloc; "{first}")?, others),
     }
 }
 
@@ -60,7 +41,7 @@ fn know(alloc: Global, targets: &Targets, known: &mut TargetsText) -> Result<(),
     }
     *known = TargetsText {
         targets: targets.clone()?,
-        text: targets_of(alloc, targets.items())?,
+        text: joined(alloc, targets.items())?,
     };
     Ok(())
 }

@@ -1,6 +1,15 @@
+//! The lines of messages, of refusals and of answers.
 use super::*;
+use config_check::{EditFault, Refusal};
+use config_model::{DocFault, DocKind};
 use ov_io::TextOut;
-use ov_types::{Addr, Label, Prefix, Rd, Target, Targets, VpnKey, VpnRoute};
+use ov_types::{
+    AclAction, AclRule, Addr, InstanceId, Items, Label, LowKey, LowValue, Name, NoMemory, NodeRows,
+    Outcome, PortNo, Prefix, Range16, Rd, RuleNo, ServiceNo, Services, TableRow, Target, Targets,
+    VpnKey, VpnRoute, Why,
+};
+use schedule_script::{Answer, Event};
+use std::alloc::Global;
 use std::test::Fail;
 
 #[test]
@@ -41,6 +50,172 @@ fault 3/11
 incomplete 18
 "
             .as_bytes()
+    );
+    Ok(())
+}
+
+/// An entry for one protocol and one destination port.
+fn entry(protocol: Option<u8>, port: u16, action: AclAction, position: u16) -> AclRule {
+    AclRule {
+        protocol,
+        sports: Range16 { lo: 1, hi: 65535 },
+        dports: Range16 { lo: port, hi: port },
+        action,
+        rule: RuleNo {
+            sequence: 10,
+            position,
+        },
+    }
+}
+
+fn two_entries(alloc: Global) -> Result<(LowKey, LowValue), NoMemory> {
+    let rules = vec![in alloc;
+        entry(Some(6), 22, AclAction::Deny, 1),
+        entry(None, 80, AclAction::Pass, 2),
+    ]?;
+    let value = LowValue::Acl {
+        subnets: Items::new(alloc),
+        rules: Items::from_vec(rules),
+    };
+    Ok((LowKey::Acl { from: 1, to: 2 }, value))
+}
+
+#[test]
+fn entries_and_empty_lists_are_printed(rt: HostRuntime) -> Result<(), Fail> {
+    let alloc = rt.alloc();
+    let mut out = TextOut::new(alloc);
+    object_lines(alloc, &two_entries(alloc)?, &mut out)?;
+    assert_eq!(rt;
+        out.octets(),
+        "\
+acl 1 2 subnets -
+acl 1 2 rule 10/1 6 1-65535 22-22 deny
+acl 1 2 rule 10/2 any 1-65535 80-80 pass
+"
+            .as_bytes()
+    );
+    Ok(())
+}
+
+fn fault_at(alloc: Global, path: &str, kind: DocKind) -> Result<DocFault, NoMemory> {
+    Ok(DocFault {
+        path: String::from_str(alloc, path)?,
+        kind,
+    })
+}
+
+#[test]
+fn refusals_are_told(rt: HostRuntime) -> Result<(), Fail> {
+    let alloc = rt.alloc();
+    let port = Name::new("vm2").ok_or("vm2")?;
+    let mut out = TextOut::new(alloc);
+    let inner = fault_at(alloc, "configuration.networks[0].id", DocKind::Range)?;
+    doc_fault_lines(alloc, &inner, &mut out)?;
+    doc_fault_lines(alloc, &fault_at(alloc, "", DocKind::Kind)?, &mut out)?;
+    refusal_lines(alloc, &Refusal::AddressOutside { port }, &mut out)?;
+    assert_eq!(rt;
+        out.octets(),
+        "\
+bad document configuration.networks[0].id Range
+bad document Kind
+refused AddressOutside vm2
+"
+            .as_bytes()
+    );
+    Ok(())
+}
+
+fn delivered() -> Outcome {
+    let mut services = Services::new();
+    services.push(ServiceNo(1));
+    services.push(ServiceNo(2));
+    Outcome::Delivered {
+        port: PortNo(2),
+        services,
+    }
+}
+
+/// Answers and the lines of each, all with one number.
+fn answers(name: Name) -> [(Answer, &'static str); 9] {
+    let rule = RuleNo {
+        sequence: 10,
+        position: 1,
+    };
+    let denied = Why::Denied { rule: Some(rule) };
+    let outside = Refusal::AddressOutside { port: name };
+    [
+        (Answer::Did, "3 did\n"),
+        (Answer::Idle, "3 idle\n"),
+        (
+            Answer::EditRefused(EditFault::Missing { name }),
+            "3 refused Missing vm9\n",
+        ),
+        (
+            Answer::EditRefused(EditFault::Rule(outside)),
+            "3 refused AddressOutside vm9\n",
+        ),
+        (
+            Answer::Rounds {
+                rounds: 6,
+                settled: true,
+            },
+            "3 settled rounds 6\n",
+        ),
+        (
+            Answer::Rounds {
+                rounds: 8,
+                settled: false,
+            },
+            "3 unsettled rounds 8\n",
+        ),
+        (
+            Answer::Traced(delivered()),
+            "3 delivered port 2 services 1,2\n",
+        ),
+        (
+            Answer::Traced(Outcome::Dropped { why: denied }),
+            "3 dropped denied 10/1\n",
+        ),
+        (
+            Answer::Traced(Outcome::Dropped { why: Why::NoRoute }),
+            "3 dropped no-route\n",
+        ),
+    ]
+}
+
+#[test]
+fn answers_are_told(rt: HostRuntime) -> Result<(), Fail> {
+    let alloc = rt.alloc();
+    let name = Name::new("vm9").ok_or("vm9")?;
+    let event = Event::Show { node: name };
+    for (answer, line) in &answers(name) {
+        let mut out = TextOut::new(alloc);
+        answer_lines(alloc, 3, &event, answer, &mut out)?;
+        assert_eq!(rt; out.octets(), line.as_bytes());
+    }
+    Ok(())
+}
+
+fn one_row(alloc: Global) -> Result<NodeRows, NoMemory> {
+    let leads = TableRow {
+        rd: Rd(0x0001_c000_020b_0001),
+        next_hop: Addr(0xc000_020b),
+        label: Label(23),
+    };
+    let key = (InstanceId(1), Prefix::host(Addr(0x0a01_0005)));
+    Ok(NodeRows::Control(Items::from_vec(vec![in alloc; (key, leads)]?)))
+}
+
+#[test]
+fn a_node_is_shown(rt: HostRuntime) -> Result<(), Fail> {
+    let alloc = rt.alloc();
+    let node = Name::new("c1").ok_or("c1")?;
+    let answer = Answer::Shown(one_row(alloc)?);
+    let mut out = TextOut::new(alloc);
+    answer_lines(alloc, 2, &Event::Show { node }, &answer, &mut out)?;
+    assert_eq!(rt;
+        out.octets(),
+        b"2 show c1\ncontrol c1 table 1 10.1.0.5/32 192.0.2.11:1 192.0.2.11 23\n".as_slice()
     );
     Ok(())
 }

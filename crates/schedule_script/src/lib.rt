@@ -2,6 +2,8 @@
 #![tactic(auto)]
 
 mod answer;
+#[cfg(test)]
+mod tests;
 
 pub use answer::Answer;
 pub use config_model::{Event, RunInput, read_events, read_run};

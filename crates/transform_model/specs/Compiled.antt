@@ -1,5 +1,5 @@
 -- The rows of every node.
-use Rattle.std.specs.Prelude.{ℕ, ◌==◌, Bool, false, List, [], ◌∷◌, map, filter}
+use Rattle.std.specs.Prelude.{◌==◌, Bool, false, List, [], ◌∷◌, map, filter}
 use Rattle.std.specs.List.{filter_map, list_any}
 use Rattle.ov_types.specs.Prefix.{Block}
 use Rattle.ov_types.specs.declared.numbers.InstanceId.{InstanceId}

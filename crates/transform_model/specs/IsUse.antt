@@ -1,10 +1,12 @@
 -- What the uses of chains in effect and their circuits are.
-use Rattle.std.specs.Prelude.{◌≡◌, ℕ, ◌+◌, slice_get, List, Some}
+use Rattle.std.specs.Prelude.{◌≡◌, ℕ, ◌+◌, ◌≤◌, slice_get, List, length, Some}
 use Rattle.std.specs.List.{Contains}
-use Rattle.route_targets.specs.Numbers.{left_circuit_of, right_circuit_of}
+use Rattle.ov_types.specs.declared.numbers.InstanceId.{InstanceId}
+use Rattle.route_targets.specs.Numbers.{hop_instance_of, left_circuit_of, right_circuit_of}
 use Rattle.config_model.specs.declared.config.Action.TheVariants.{Through}
 use Rattle.config_model.specs.declared.config.Config.{Config}
 use Rattle.config_model.specs.declared.config.End.TheVariants.{Named}
+use Rattle.config_model.specs.declared.config.Network.{Network}
 use Rattle.config_model.specs.declared.config.Policy.{Policy}
 use Rattle.config_model.specs.declared.config.Rule.{Rule}
 use Rattle.chain_expand.specs.Expansion.{expansion}
@@ -36,3 +38,9 @@ pub record IsLeftCircuit (u : Use) (place : ℕ) (k : Circuit) : Type 0 where
 pub record IsRightCircuit (u : Use) (place : ℕ) (k : Circuit) : Type 0 where
   pub service : slice_get u.services place ≡ Some k.service
   pub number : k.number ≡ right_circuit_of u.number (place + 1)
+
+-- an instance of a configuration: that of a network, or of a hop of a use in effect, before its first service or behind
+-- one of them
+pub data IsInstance (c : Config) (i : InstanceId) : Type 0 where
+  of_network : (n : Network) → Contains c.networks n → i ≡ n.id → IsInstance c i
+  of_hop : (u : Use) (j : ℕ) → IsUse c u → j ≤ length u.services → i ≡ hop_instance_of u.number j → IsInstance c i

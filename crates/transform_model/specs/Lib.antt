@@ -5,3 +5,6 @@ pub mod Compiled
 pub mod IsUse
 pub mod IsRow
 pub mod IsObject
+pub mod IsLabel
+pub mod IsNeeded
+pub mod Leads

@@ -2,6 +2,7 @@
 //! rows of every node.
 #![tactic(auto)]
 
+pub mod laws;
 mod tables;
 
 pub use tables::Compiled;

@@ -1,0 +1,3 @@
+pub mod Towards
+pub mod Least
+pub mod Decisions

@@ -1,0 +1,11 @@
+//! The access lists of an agent, and what they say of packets.
+#![tactic(auto)]
+
+mod acls;
+pub mod laws;
+#[cfg(test)]
+mod tests;
+mod verdicts;
+
+pub use acls::Acls;
+pub use verdicts::evaluate;

@@ -1,0 +1,16 @@
+pub mod Lists
+pub mod Circuits
+pub mod InUse
+pub mod Keys
+pub mod Rows
+pub mod Related
+pub mod Prefixes
+pub mod Ascending
+pub mod Instances
+pub mod Objects
+pub mod LowKeys
+pub mod Kept
+pub mod Needed
+pub mod Labels
+pub mod AgentRows
+pub mod Lemmas

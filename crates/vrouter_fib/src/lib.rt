@@ -1,0 +1,11 @@
+//! What an agent forwards by: its routes, and what its labels lead to.
+#![tactic(auto)]
+
+mod fib;
+mod labels;
+pub mod laws;
+#[cfg(test)]
+mod tests;
+
+pub use fib::Fib;
+pub use labels::Labels;
