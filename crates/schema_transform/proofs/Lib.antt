@@ -1,3 +1,7 @@
 pub mod Putting
+pub mod Towards
 pub mod Slices
 pub mod Ends
+pub mod Services
+pub mod Formed
+pub mod Small

@@ -1,13 +1,22 @@
 -- Rows, objects and instances put into a map one list after the other.
-use Rattle.std.proofs.Common.{◌≡◌, ℕ, suc, ◌+◌, ◌<◌, List, [], ◌∷◌, ◌++◌, length, map, drop, get_or, refl, sym, ap, ◌∙◌}
+use Rattle.std.proofs.Common.{◌≡◌, ℕ, suc, ◌+◌, ◌<◌, List, [], ◌∷◌, ◌++◌, ◌==◌, length, map, drop, get_or, refl, sym, ap, ◌∙◌}
 use Rattle.std.proofs.Common.{add-one, drop-cons}
 use Rattle.std.specs.Prelude.{flat_map}
 use Rattle.std.specs.BTreeMap.{insert_entry}
 use Rattle.std.specs.BTreeSet.{insert_key}
 use Rattle.ov_types.specs.Keys.{low_key_cmp, row_key_cmp}
 use Rattle.ov_types.specs.declared.numbers.InstanceId.{InstanceId}
-use Rattle.transform_model.specs.Objects.{Object, instance_cmp, with_instances, with_objects}
-use Rattle.transform_model.specs.Tables.{Row, with_rows}
+use Rattle.route_targets.specs.Numbers.{circuit_instance_of}
+use Rattle.std.specs.Prelude.{filter}
+use Rattle.std.specs.List.{filter_map, cons_option}
+use Rattle.config_model.specs.declared.config.Config.{Config}
+use Rattle.config_model.specs.declared.topology.Topology.{Topology}
+use Rattle.std.proofs.Common.{Bool, true, false, cond, Option, Some, None}
+use Rattle.transform_model.specs.Objects.{Object, acl_objects, circuit_object, circuit_objects, instance_cmp}
+use Rattle.transform_model.specs.Objects.{instance_object, low_objects, port_object, use_object, with_instances}
+use Rattle.transform_model.specs.Objects.{with_objects}
+use Rattle.transform_model.specs.Tables.{Row, circuit_row, circuits_in, end_rows, hop_rows, subnet_rows, with_rows}
+use Rattle.transform_model.specs.Uses.{Circuit, Use, first_hop, last_hop, left_circuits, right_circuits, uses}
 
 pub rows_append : (xs ys entries : List Row) → with_rows entries (xs ++ ys) ≡ with_rows (with_rows entries xs) ys
 rows_append [] ys entries = refl
@@ -85,3 +94,97 @@ needs_go_on needs items i item before after total lt at put so_far =
     ∙ sym (instances_append (needs item) (flat_map needs (drop (i + 1) items)) before)
     ∙ ap (λ (xs : List _). with_instances before (flat_map needs xs)) (sym (comes_next items i item lt at))
     ∙ so_far
+
+-- ---- several lists
+given_append : {A B : Type 0} (f : A → Option B) (xs ys : List A)
+    → filter_map f (xs ++ ys) ≡ filter_map f xs ++ filter_map f ys
+given_append f [] ys = refl
+given_append f (x ∷ xs) ys =
+    elim (f x) as (λ o. cons_option o (filter_map f (xs ++ ys)) ≡ cons_option o (filter_map f xs) ++ filter_map f ys) [
+      | None ↦ given_append f xs ys
+      | Some y ↦ ap (λ zs. y ∷ zs) (given_append f xs ys)
+    ]
+
+kept_append : {A : Type 0} (p : A → Bool) (xs ys : List A) → filter p (xs ++ ys) ≡ filter p xs ++ filter p ys
+kept_append p [] ys = refl
+kept_append p (x ∷ xs) ys =
+    elim (p x) as (λ b. cond b (x ∷ filter p (xs ++ ys)) (filter p (xs ++ ys))
+    ≡ cond b (x ∷ filter p xs) (filter p xs) ++ filter p ys) [
+      | true ↦ ap (λ zs. x ∷ zs) (kept_append p xs ys)
+      | false ↦ kept_append p xs ys
+    ]
+
+-- the left circuits of a use and then the right ones
+pub circuits_put : (t : Topology) (u : Use) (lefts rights : List Circuit) (before : List Object)
+    → lefts ≡ left_circuits u → rights ≡ right_circuits u
+    → with_objects (with_objects before (filter_map (circuit_object t) lefts)) (filter_map (circuit_object t) rights)
+    ≡ with_objects before (circuit_objects t u)
+circuits_put t u lefts rights before left right =
+    sym (objects_append (filter_map (circuit_object t) lefts) (filter_map (circuit_object t) rights) before)
+    ∙ ap (with_objects before) (sym (given_append (circuit_object t) lefts rights)
+    ∙ ap (λ (ks : List Circuit). filter_map (circuit_object t) (ks ++ rights)) left
+    ∙ ap (λ (ks : List Circuit). filter_map (circuit_object t) (left_circuits u ++ ks)) right)
+
+-- the five kinds of objects one after the other
+pub all_put : (t : Topology) (c : Config) (us : List Use) (a b d e f : List Object) → us ≡ uses c
+    → a ≡ with_objects [] (map (instance_object c) c.networks)
+    → b ≡ with_objects a (filter_map (port_object t c) c.ports)
+    → d ≡ with_objects b (flat_map (circuit_objects t) us)
+    → e ≡ with_objects d (flat_map (acl_objects c) c.networks)
+    → f ≡ with_objects e (map (use_object t) us)
+    → f ≡ low_objects t c
+unfolding low_objects
+all_put t c us a b d e f same ha hb hd he hf =
+    let o1 : List Object = map (instance_object c) c.networks in
+    let o2 : List Object = filter_map (port_object t c) c.ports in
+    let o3 : List Object = flat_map (circuit_objects t) us in
+    let o4 : List Object = flat_map (acl_objects c) c.networks in
+    let o5 : List Object = map (use_object t) us in
+    hf ∙ ap (λ (x : List Object). with_objects x o5) (he
+    ∙ ap (λ (x : List Object). with_objects x o4) (hd
+    ∙ ap (λ (x : List Object). with_objects x o3) (hb
+    ∙ ap (λ (x : List Object). with_objects x o2) ha)))
+    ∙ sym (objects_append o4 o5 (with_objects (with_objects (with_objects [] o1) o2) o3))
+    ∙ sym (objects_append o3 (o4 ++ o5) (with_objects (with_objects [] o1) o2))
+    ∙ sym (objects_append o2 (o3 ++ (o4 ++ o5)) (with_objects [] o1))
+    ∙ sym (objects_append o1 (o2 ++ (o3 ++ (o4 ++ o5))) [])
+    ∙ ap (λ (vs : List Use). with_objects [] (o1 ++ (o2 ++ (flat_map (circuit_objects t) vs ++ (o4
+    ++ map (use_object t) vs))))) same
+
+-- what a use gives an instance, one kind after the other
+pub hop_put : (t : Topology) (c : Config) (i : InstanceId) (u : Use) (lefts rights : List Circuit)
+    (o a b d e f g : List Row) → lefts ≡ left_circuits u → rights ≡ right_circuits u
+    → a ≡ with_rows o (filter_map (circuit_row t i) (circuits_in i lefts))
+    → b ≡ with_rows a (filter_map (circuit_row t i) (circuits_in i rights))
+    → d ≡ with_rows b (flat_map (subnet_rows t c i u.right) (circuits_in i lefts))
+    → e ≡ with_rows d (flat_map (subnet_rows t c i u.left) (circuits_in i rights))
+    → f ≡ with_rows e (end_rows t c i (first_hop u) u.left)
+    → g ≡ with_rows f (end_rows t c i (last_hop u) u.right)
+    → g ≡ with_rows o (hop_rows t c i u)
+hop_put t c i u lefts rights o a b d e f g left right ha hb hd he hf hg =
+    let r1 : List Row = filter_map (circuit_row t i) (circuits_in i lefts) in
+    let r2 : List Row = filter_map (circuit_row t i) (circuits_in i rights) in
+    let r3 : List Row = flat_map (subnet_rows t c i u.right) (circuits_in i lefts) in
+    let r4 : List Row = flat_map (subnet_rows t c i u.left) (circuits_in i rights) in
+    let r5 : List Row = end_rows t c i (first_hop u) u.left in
+    let r6 : List Row = end_rows t c i (last_hop u) u.right in
+    let both : filter_map (circuit_row t i) (circuits_in i (lefts ++ rights)) ≡ r1 ++ r2 =
+    ap (filter_map (circuit_row t i)) (kept_append (λ (k : Circuit). (circuit_instance_of k.number).0 == i.0) lefts rights)
+    ∙ given_append (circuit_row t i) (circuits_in i lefts) (circuits_in i rights)
+    in
+    hg ∙ ap (λ (x : List Row). with_rows x r6) (hf
+    ∙ ap (λ (x : List Row). with_rows x r5) (he
+    ∙ ap (λ (x : List Row). with_rows x r4) (hd
+    ∙ ap (λ (x : List Row). with_rows x r3) (hb
+    ∙ ap (λ (x : List Row). with_rows x r2) ha))))
+    ∙ sym (rows_append r5 r6 (with_rows (with_rows (with_rows (with_rows o r1) r2) r3) r4))
+    ∙ sym (rows_append r4 (r5 ++ r6) (with_rows (with_rows (with_rows o r1) r2) r3))
+    ∙ sym (rows_append r3 (r4 ++ (r5 ++ r6)) (with_rows (with_rows o r1) r2))
+    ∙ ap (λ (x : List Row). with_rows x (r3 ++ (r4 ++ (r5 ++ r6))))
+    (sym (rows_append r1 r2 o) ∙ ap (with_rows o) (sym both))
+    ∙ sym (rows_append (filter_map (circuit_row t i) (circuits_in i (lefts ++ rights))) (r3 ++ (r4 ++ (r5 ++ r6))) o)
+    ∙ ap (λ (ks : List Circuit). with_rows o (filter_map (circuit_row t i) (circuits_in i (ks ++ rights))
+    ++ (flat_map (subnet_rows t c i u.right) (circuits_in i ks) ++ (r4 ++ (r5 ++ r6))))) left
+    ∙ ap (λ (ks : List Circuit). with_rows o (filter_map (circuit_row t i) (circuits_in i (left_circuits u ++ ks))
+    ++ (flat_map (subnet_rows t c i u.right) (circuits_in i (left_circuits u))
+    ++ (flat_map (subnet_rows t c i u.left) (circuits_in i ks) ++ (r5 ++ r6))))) right

@@ -2,3 +2,4 @@ pub mod Sound
 pub mod Held
 pub mod HeldUses
 pub mod Concerning
+pub mod Towards

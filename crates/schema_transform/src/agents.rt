@@ -232,8 +232,8 @@ pub(crate) fn tables_of(
     ensures { IfOk result (λ rows. rows.entries ≡ tables_of topology.now config.now instances.now) }
 {
     let mut rows = BTreeMap::new(alloc);
-    for instance in instances {
-        put_table(topology, config, chain_uses, *instance, &mut rows)?;
+    for &instance in instances {
+        put_table(topology, config, chain_uses, instance, &mut rows)?;
     }
     Ok(rows)
 }
@@ -283,6 +283,7 @@ fn rows_by(
 }
 
 /// The rows of the agent at an address.
+#[tactic(auto, using(crate::proofs::Formed::ports_formed, crate::proofs::Small::slices_are_small), unfolding(transform_model::specs::Compiled::agent_rows))]
 pub(crate) fn agent_rows(
     alloc: Global,
     topology: &Topology,
@@ -294,6 +295,7 @@ pub(crate) fn agent_rows(
     requires sound { IsSound config.now }
     requires uses { map use_of chain_uses.now ≡ uses config.now }
     requires low { low.now ≡ low_objects topology.now config.now }
+    requires small { All (λ e. IsSmall e.1) low.now }
     ensures { IfOk result (λ rows. rows ≡ agent_rows topology.now config.now address) }
 {
     let slice = slice_of(alloc, low, address)?;

@@ -16,6 +16,7 @@ ghost use Rattle.ov_types.specs.First.{same_name};
 ghost use Rattle.schema_transform.specs.Held.{circuit_of};
 ghost use Rattle.schema_transform.specs.HeldUses.{use_of};
 ghost use Rattle.schema_transform.specs.Sound.{IsSound};
+ghost use Rattle.schema_transform.specs.Towards.{acl_towards};
 
 use crate::attachment::Attachment;
 use crate::chain_use::ChainUse;
@@ -149,6 +150,7 @@ fn put_circuits(
 }
 
 /// Puts the attachments of the circuits of a use.
+#[tactic(auto, using(crate::proofs::Putting::circuits_put))]
 fn put_use_circuits(
     topology: &Topology,
     found: &ChainUse,
@@ -183,7 +185,31 @@ fn is_around(config: &Config, network: &Network, other: &Network) -> bool
     other.name == network.name || are_related(config, network, other)
 }
 
+/// Puts the access list of a network towards another, where that is the same or related to it.
+fn put_acl(
+    alloc: Global,
+    config: &Config,
+    from: &Network,
+    to: &Network,
+    low: &mut Objects,
+) -> Result<(), NoMemory>
+    requires { IsSound config.now }
+    ensures { OnOk result (low.new.entries
+        ≡ with_objects low.old.entries (acl_towards config.now from.now to.now)) }
+{
+    if !is_around(config, from, to) {
+        return Ok(());
+    }
+    let key = LowKey::Acl {
+        from: from.id.0,
+        to: to.id.0,
+    };
+    let value = acl_between(alloc, config, from, to)?;
+    put_object((key, value), low)
+}
+
 /// Puts the access lists of a network: towards itself, and towards each that is related to it.
+#[tactic(auto, using(crate::proofs::Towards::acls_are))]
 fn put_acls(
     alloc: Global,
     config: &Config,
@@ -195,13 +221,7 @@ fn put_acls(
         ≡ with_objects low.old.entries (acl_objects config.now from.now)) }
 {
     for to in config.networks.as_slice() {
-        if is_around(config, from, to) {
-            let key = LowKey::Acl {
-                from: from.id.0,
-                to: to.id.0,
-            };
-            low.insert(key, acl_between(alloc, config, from, to)?)?;
-        }
+        put_acl(alloc, config, from, to, low)?;
     }
     Ok(())
 }
@@ -274,6 +294,7 @@ fn put_uses(
 }
 
 /// The low-level objects of a configuration, by their keys.
+#[tactic(auto, using(crate::proofs::Formed::ports_formed))]
 pub(crate) fn objects_of(
     alloc: Global,
     topology: &Topology,

@@ -9,6 +9,7 @@ ghost use Rattle.config_check.specs.Finding.{network_numbered};
 ghost use Rattle.route_targets.specs.Numbers.{circuit_instance_of};
 ghost use Rattle.transform_model.specs.Uses.{uses};
 ghost use Rattle.schema_transform.specs.Held.{circuit_of};
+ghost use Rattle.schema_transform.specs.Towards.{rows_if_in};
 ghost use Rattle.schema_transform.specs.HeldUses.{use_of};
 
 use crate::attachment::Attachment;
@@ -159,7 +160,26 @@ fn put_subnet_rows(
     Ok(())
 }
 
+/// Puts the same towards a circuit, where it is in the instance.
+fn put_rows_if_in(
+    topology: &Topology,
+    config: &Config,
+    instance: InstanceId,
+    network: &Network,
+    circuit: &Attachment,
+    rows: &mut Rows,
+) -> Result<(), NoMemory>
+    ensures { OnOk result (rows.new.entries ≡ with_rows rows.old.entries
+        (rows_if_in topology.now config.now instance network.now (circuit_of circuit.now))) }
+{
+    if !is_in(circuit, instance) {
+        return Ok(());
+    }
+    put_subnet_rows(topology, config, instance, network, circuit, rows)
+}
+
 /// Puts the same towards each of the circuits that are in the instance.
+#[tactic(auto, using(crate::proofs::Towards::rows_are))]
 fn put_rows_towards(
     topology: &Topology,
     config: &Config,
@@ -173,9 +193,7 @@ fn put_rows_towards(
         (circuits_in instance (map circuit_of circuits.now)))) }
 {
     for circuit in circuits {
-        if is_in(circuit, instance) {
-            put_subnet_rows(topology, config, instance, network, circuit, rows)?;
-        }
+        put_rows_if_in(topology, config, instance, network, circuit, rows)?;
     }
     Ok(())
 }

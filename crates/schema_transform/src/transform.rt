@@ -1,11 +1,12 @@
 //! From a configuration to its low-level objects and to the rows of every node.
 ghost use Rattle.std.specs.Prelude.{◌≡◌, ◌++◌, map, flat_map, IfOk, OnOk};
+ghost use Rattle.std.specs.List.{All};
 ghost use Rattle.transform_model.specs.Compiled.{agent_rows, compiled_tables};
 ghost use Rattle.transform_model.specs.Objects.{low_objects};
 ghost use Rattle.transform_model.specs.Tables.{control_rows, instances};
 ghost use Rattle.transform_model.specs.Uses.{hops, uses};
 ghost use Rattle.schema_transform.specs.HeldUses.{use_of};
-ghost use Rattle.schema_transform.specs.Sound.{IsSound};
+ghost use Rattle.schema_transform.specs.Sound.{IsSmall, IsSound};
 
 use crate::agents::{agent_rows, tables_of};
 use crate::chain_use::ChainUse;
@@ -37,6 +38,7 @@ fn low_of(
 }
 
 /// The low-level objects of a valid configuration, in the order of their keys.
+#[tactic(auto, using(crate::proofs::Formed::is_sound))]
 pub fn low(alloc: Global, valid: &Valid) -> Result<Low, NoMemory>
     ensures { IfOk result (λ low. low ≡ low_objects valid.now.topology valid.now.config) }
 {
@@ -90,6 +92,7 @@ fn instances_of(
 }
 
 /// The tables of all instances.
+#[tactic(auto, using(crate::proofs::Formed::ports_formed), unfolding(transform_model::specs::Tables::control_rows))]
 fn control_rows(
     alloc: Global,
     topology: &Topology,
@@ -137,6 +140,7 @@ fn agents_of(
     requires sound { IsSound config.now }
     requires uses { map use_of chain_uses.now ≡ uses config.now }
     requires low { low.now ≡ low_objects topology.now config.now }
+    requires small { All (λ e. IsSmall e.1) low.now }
     ensures { IfOk result (λ list. list
         ≡ map (λ n. agent_rows topology.now config.now n.address) topology.now.nodes) }
 {
@@ -148,7 +152,7 @@ fn agents_of(
 }
 
 /// The rows that a valid configuration asks for, of every node.
-#[tactic(auto, unfolding(transform_model::specs::Compiled::compiled_tables))]
+#[tactic(auto, using(crate::proofs::Formed::is_sound, crate::proofs::Small::low_is_small), unfolding(transform_model::specs::Compiled::compiled_tables))]
 pub fn compiled(alloc: Global, valid: &Valid) -> Result<Compiled, NoMemory>
     ensures { IfOk result (λ c. c ≡ compiled_tables valid.now) }
 {

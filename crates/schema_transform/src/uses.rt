@@ -49,6 +49,7 @@ fn services_numbered(
 }
 
 /// The services of a chain, in order.
+#[tactic(auto, using(crate::proofs::Services::chain_gives, crate::proofs::Services::found_again, crate::proofs::Services::is_short))]
 fn services_of(alloc: Global, config: &Config, chain: &Name) -> Result<Items<Service>, NoMemory>
     requires { IsSound config.now }
     ensures services { IfOk result (λ list. list ≡ expansion config.now chain.now) }
