@@ -2,9 +2,9 @@
 use crate::acl;
 use config_check::{Valid, check, network_numbered};
 use config_model::read_compile;
-use ov_types::{AclAction, AclRule, Addr, InstanceId, LowValue, Prefix, Range16, RuleNo};
+use ov_types::{AclAction, AclRule, InstanceId, LowValue, Prefix, Range16};
 use serde_json::Value;
-use std::alloc::Global;
+use std::alloc::{AllocError, Global};
 
 /// Red and blue, two nodes with a service each, and a chain of both.
 const CHAIN: &str = r#"{"topology":{"as":64512,
@@ -65,6 +65,38 @@ const MIXED: &str = r#"{"topology":{"as":64512,
 {"direction":"<>","source":"red","destination":"blue","protocol":"any",
 "source_ports":[0,65535],"destination_ports":[443,443],"action":"chain","chain":"one","use":3071}]}]}}"#;
 
+/// The entries of the sixteen rules from red to blue, and back.
+const THERE: [&str; 14] = [
+    "20/1 any 0-65535 443-443 enter 65520",
+    "30/1 6 1-2 3-4 pass",
+    "30/2 any 1-2 5-6 deny",
+    "30/3 17 7-7 8-9 enter 16384",
+    "30/4 6 10-11 12-13 pass",
+    "30/5 any 14-15 16-17 deny",
+    "30/6 17 18-19 20-21 enter 16400",
+    "30/8 1 25-26 23-24 enter 16417",
+    "30/9 any 27-27 28-28 deny",
+    "30/10 any 29-30 31-32 pass",
+    "30/10 any 31-32 29-30 pass",
+    "30/11 255 33-33 34-34 deny",
+    "30/12 any 35-35 36-36 deny",
+    "30/14 0 39-40 37-38 pass",
+];
+
+const BACK: [&str; 11] = [
+    "20/1 any 443-443 0-65535 enter 65521",
+    "30/4 6 12-13 10-11 pass",
+    "30/5 any 16-17 14-15 deny",
+    "30/6 17 20-21 18-19 enter 16402",
+    "30/7 any 0-65535 22-22 pass",
+    "30/8 1 23-24 25-26 enter 16416",
+    "30/10 any 29-30 31-32 pass",
+    "30/10 any 31-32 29-30 pass",
+    "30/11 255 33-33 34-34 deny",
+    "30/12 any 36-36 35-35 deny",
+    "30/14 0 37-38 39-40 pass",
+];
+
 fn valid_of(alloc: Global, document: &str) -> Option<Valid> {
     let value = Value::from_str(alloc, document).ok()?;
     let plan = read_compile(alloc, &value).ok()?;
@@ -84,104 +116,113 @@ fn list_of(alloc: Global, document: &str, from: u16, to: u16) -> Option<LowValue
     acl(alloc, &valid, from, to).ok()
 }
 
-fn entry(
-    number: (u16, u16),
-    protocol: Option<u8>,
-    sports: (u16, u16),
-    dports: (u16, u16),
-    action: AclAction,
-) -> AclRule {
-    AclRule {
-        protocol,
-        sports: Range16 {
-            lo: sports.0,
-            hi: sports.1,
-        },
-        dports: Range16 {
-            lo: dports.0,
-            hi: dports.1,
-        },
-        action,
-        rule: RuleNo {
-            sequence: number.0,
-            position: number.1,
-        },
+fn protocol_text(alloc: Global, protocol: Option<u8>) -> Result<String, AllocError> {
+    match protocol {
+        Some(number) => format!(in alloc; "{number}"),
+        None => String::from_str(alloc, "any"),
     }
 }
 
-fn enter(instance: u16) -> AclAction {
-    AclAction::Enter(InstanceId(instance))
+fn range_text(alloc: Global, range: Range16) -> Result<String, AllocError> {
+    let lo = range.lo;
+    let hi = range.hi;
+    format!(in alloc; "{lo}-{hi}")
 }
 
-/// Whether the list from one network to another has these subnets, all of length 24, and these entries.
-fn is_list(
-    alloc: Global,
-    document: &str,
-    from: u16,
-    to: u16,
-    addresses: &[u32],
-    entries: &[AclRule],
-) -> bool {
-    let Some(LowValue::Acl { subnets, rules }) = list_of(alloc, document, from, to) else {
-        return false;
-    };
-    are_subnets(subnets.as_slice(), addresses) && rules.as_slice() == entries
-}
-
-fn are_subnets(subnets: &[Prefix], addresses: &[u32]) -> bool {
-    if subnets.len() != addresses.len() {
-        return false;
+fn action_text(alloc: Global, action: AclAction) -> Result<String, AllocError> {
+    match action {
+        AclAction::Pass => String::from_str(alloc, "pass"),
+        AclAction::Deny => String::from_str(alloc, "deny"),
+        AclAction::Enter(instance) => format!(in alloc; "enter {instance}"),
     }
-    subnets
-        .iter()
-        .zip(addresses)
-        .all(|(p, a)| Prefix::new(Addr(*a), 24) == Some(*p))
+}
+
+fn line_of(alloc: Global, entry: &AclRule) -> Result<String, AllocError> {
+    let number = entry.rule;
+    let protocol = protocol_text(alloc, entry.protocol)?;
+    let sports = range_text(alloc, entry.sports)?;
+    let dports = range_text(alloc, entry.dports)?;
+    let action = action_text(alloc, entry.action)?;
+    format!(in alloc; "{number} {protocol} {sports} {dports} {action}")
+}
+
+fn is_entry(alloc: Global, entry: &AclRule, want: &str) -> bool {
+    match line_of(alloc, entry) {
+        Ok(line) => line.as_str() == want,
+        Err(_) => false,
+    }
+}
+
+fn are_entries(alloc: Global, entries: &[AclRule], wants: &[&str]) -> bool {
+    for (entry, want) in entries.iter().zip(wants) {
+        if !is_entry(alloc, entry, want) {
+            return false;
+        }
+    }
+    entries.len() == wants.len()
+}
+
+fn is_subnet(alloc: Global, subnet: &Prefix, want: &str) -> bool {
+    match format!(in alloc; "{subnet}") {
+        Ok(text) => text.as_str() == want,
+        Err(_) => false,
+    }
+}
+
+fn are_subnets(alloc: Global, subnets: &[Prefix], wants: &[&str]) -> bool {
+    for (subnet, want) in subnets.iter().zip(wants) {
+        if !is_subnet(alloc, subnet, want) {
+            return false;
+        }
+    }
+    subnets.len() == wants.len()
+}
+
+/// Whether a list has these subnets and these entries.
+fn has(alloc: Global, list: Option<LowValue>, subnets: &[&str], entries: &[&str]) -> bool {
+    match list {
+        Some(
+            LowValue::Acl {
+                subnets: prefixes,
+                rules,
+            },
+        ) => {
+            are_subnets(alloc, prefixes.as_slice(), subnets)
+                && are_entries(alloc, rules.as_slice(), entries)
+        }
+        _ => false,
+    }
 }
 
 #[test]
 fn packets_enter_a_chain_at_either_end(rt: HostRuntime) {
-    let all = (0, 65535);
-    let there = [entry((20, 1), None, all, all, enter(16384))];
-    let back = [entry((20, 1), None, all, all, enter(16386))];
-    assert!(rt; is_list(rt.alloc(), CHAIN, 1, 2, &[0x0a02_0000], &there));
-    assert!(rt; is_list(rt.alloc(), CHAIN, 2, 1, &[0x0a01_0000], &back));
-    assert!(rt; is_list(rt.alloc(), CHAIN, 1, 1, &[0x0a01_0000], &[]));
+    let alloc = rt.alloc();
+    let there = list_of(alloc, CHAIN, 1, 2);
+    assert!(rt;
+        has(
+            alloc,
+            there,
+            &["10.2.0.0/24"],
+            &["20/1 any 0-65535 0-65535 enter 16384"]
+        )
+    );
+    let back = list_of(alloc, CHAIN, 2, 1);
+    assert!(rt;
+        has(
+            alloc,
+            back,
+            &["10.1.0.0/24"],
+            &["20/1 any 0-65535 0-65535 enter 16386"]
+        )
+    );
 }
 
 #[test]
 fn rules_are_oriented(rt: HostRuntime) {
-    let (pass, deny) = (AclAction::Pass, AclAction::Deny);
-    let there = [
-        entry((20, 1), None, (0, 65535), (443, 443), enter(65520)),
-        entry((30, 1), Some(6), (1, 2), (3, 4), pass),
-        entry((30, 2), None, (1, 2), (5, 6), deny),
-        entry((30, 3), Some(17), (7, 7), (8, 9), enter(16384)),
-        entry((30, 4), Some(6), (10, 11), (12, 13), pass),
-        entry((30, 5), None, (14, 15), (16, 17), deny),
-        entry((30, 6), Some(17), (18, 19), (20, 21), enter(16400)),
-        entry((30, 8), Some(1), (25, 26), (23, 24), enter(16417)),
-        entry((30, 9), None, (27, 27), (28, 28), deny),
-        entry((30, 10), None, (29, 30), (31, 32), pass),
-        entry((30, 10), None, (31, 32), (29, 30), pass),
-        entry((30, 11), Some(255), (33, 33), (34, 34), deny),
-        entry((30, 12), None, (35, 35), (36, 36), deny),
-        entry((30, 14), Some(0), (39, 40), (37, 38), pass),
-    ];
-    let back = [
-        entry((20, 1), None, (443, 443), (0, 65535), enter(65521)),
-        entry((30, 4), Some(6), (12, 13), (10, 11), pass),
-        entry((30, 5), None, (16, 17), (14, 15), deny),
-        entry((30, 6), Some(17), (20, 21), (18, 19), enter(16402)),
-        entry((30, 7), None, (0, 65535), (22, 22), pass),
-        entry((30, 8), Some(1), (23, 24), (25, 26), enter(16416)),
-        entry((30, 10), None, (29, 30), (31, 32), pass),
-        entry((30, 10), None, (31, 32), (29, 30), pass),
-        entry((30, 11), Some(255), (33, 33), (34, 34), deny),
-        entry((30, 12), None, (36, 36), (35, 35), deny),
-        entry((30, 14), Some(0), (37, 38), (39, 40), pass),
-    ];
-    let (red, blue) = ([0x0a01_0000, 0x0a01_0400], [0x0a02_0000, 0x0a02_0100]);
-    assert!(rt; is_list(rt.alloc(), MIXED, 1, 2, &blue, &there));
-    assert!(rt; is_list(rt.alloc(), MIXED, 2, 1, &red, &back));
-    assert!(rt; is_list(rt.alloc(), MIXED, 1, 1, &red, &[]));
+    let alloc = rt.alloc();
+    let red = ["10.1.0.0/24", "10.1.4.0/24"];
+    let blue = ["10.2.0.0/24", "10.2.1.0/24"];
+    assert!(rt; has(alloc, list_of(alloc, MIXED, 1, 2), &blue, &THERE));
+    assert!(rt; has(alloc, list_of(alloc, MIXED, 2, 1), &red, &BACK));
+    assert!(rt; has(alloc, list_of(alloc, MIXED, 1, 1), &red, &[]));
 }

@@ -1,5 +1,5 @@
-pub mod Putting
 pub mod Towards
+pub mod Putting
 pub mod Slices
 pub mod Ends
 pub mod Services

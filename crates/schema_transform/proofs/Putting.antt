@@ -7,7 +7,10 @@ use Rattle.std.specs.BTreeSet.{insert_key}
 use Rattle.ov_types.specs.Keys.{low_key_cmp, row_key_cmp}
 use Rattle.ov_types.specs.declared.numbers.InstanceId.{InstanceId}
 use Rattle.route_targets.specs.Numbers.{circuit_instance_of}
-use Rattle.std.specs.Prelude.{filter}
+use Rattle.std.specs.Prelude.{filter, option_to_list}
+use Rattle.std.proofs.lemmas.List.{append-assoc}
+use Rattle.schema_transform.specs.Towards.{rows_if_in}
+use Rattle.schema_transform.proofs.Towards.{rows_are}
 use Rattle.std.specs.List.{filter_map, cons_option}
 use Rattle.config_model.specs.declared.config.Config.{Config}
 use Rattle.config_model.specs.declared.topology.Topology.{Topology}
@@ -96,6 +99,10 @@ needs_go_on needs items i item before after total lt at put so_far =
     ∙ so_far
 
 -- ---- several lists
+one_first : (o : Option Use) (us : List Use) → option_to_list o ++ us ≡ cons_option o us
+one_first None us = refl
+one_first (Some u) us = refl
+
 given_append : {A B : Type 0} (f : A → Option B) (xs ys : List A)
     → filter_map f (xs ++ ys) ≡ filter_map f xs ++ filter_map f ys
 given_append f [] ys = refl
@@ -152,39 +159,60 @@ all_put t c us a b d e f same ha hb hd he hf =
     ++ map (use_object t) vs))))) same
 
 -- what a use gives an instance, one kind after the other
-pub hop_put : (t : Topology) (c : Config) (i : InstanceId) (u : Use) (lefts rights : List Circuit)
+pub hop_put : (t : Topology) (c : Config) (i : InstanceId) (u : Use) (lefts rights : List Circuit) (first last : InstanceId)
     (o a b d e f g : List Row) → lefts ≡ left_circuits u → rights ≡ right_circuits u
+    → first ≡ first_hop u → last ≡ last_hop u
     → a ≡ with_rows o (filter_map (circuit_row t i) (circuits_in i lefts))
     → b ≡ with_rows a (filter_map (circuit_row t i) (circuits_in i rights))
-    → d ≡ with_rows b (flat_map (subnet_rows t c i u.right) (circuits_in i lefts))
-    → e ≡ with_rows d (flat_map (subnet_rows t c i u.left) (circuits_in i rights))
-    → f ≡ with_rows e (end_rows t c i (first_hop u) u.left)
-    → g ≡ with_rows f (end_rows t c i (last_hop u) u.right)
+    → d ≡ with_rows b (flat_map (rows_if_in t c i u.right) lefts)
+    → e ≡ with_rows d (flat_map (rows_if_in t c i u.left) rights)
+    → f ≡ with_rows e (end_rows t c i first u.left)
+    → g ≡ with_rows f (end_rows t c i last u.right)
     → g ≡ with_rows o (hop_rows t c i u)
-hop_put t c i u lefts rights o a b d e f g left right ha hb hd he hf hg =
+hop_put t c i u lefts rights first last o a b d e f g left right at_first at_last ha hb hd he hf hg =
     let r1 : List Row = filter_map (circuit_row t i) (circuits_in i lefts) in
     let r2 : List Row = filter_map (circuit_row t i) (circuits_in i rights) in
-    let r3 : List Row = flat_map (subnet_rows t c i u.right) (circuits_in i lefts) in
-    let r4 : List Row = flat_map (subnet_rows t c i u.left) (circuits_in i rights) in
-    let r5 : List Row = end_rows t c i (first_hop u) u.left in
-    let r6 : List Row = end_rows t c i (last_hop u) u.right in
-    let both : filter_map (circuit_row t i) (circuits_in i (lefts ++ rights)) ≡ r1 ++ r2 =
-    ap (filter_map (circuit_row t i)) (kept_append (λ (k : Circuit). (circuit_instance_of k.number).0 == i.0) lefts rights)
-    ∙ given_append (circuit_row t i) (circuits_in i lefts) (circuits_in i rights)
+    let r3 : List Row = flat_map (rows_if_in t c i u.right) lefts in
+    let r4 : List Row = flat_map (rows_if_in t c i u.left) rights in
+    let r5 : List Row = end_rows t c i first u.left in
+    let r6 : List Row = end_rows t c i last u.right in
+    let s1 : List Row = filter_map (circuit_row t i) (circuits_in i (left_circuits u ++ right_circuits u)) in
+    let s3 : List Row = flat_map (subnet_rows t c i u.right) (circuits_in i (left_circuits u)) in
+    let s4 : List Row = flat_map (subnet_rows t c i u.left) (circuits_in i (right_circuits u)) in
+    let same1 : r1 ++ r2 ≡ s1 =
+    sym (given_append (circuit_row t i) (circuits_in i lefts) (circuits_in i rights))
+    ∙ ap (filter_map (circuit_row t i)) (sym (kept_append (λ (k : Circuit). (circuit_instance_of k.number).0 == i.0) lefts rights))
+    ∙ ap (λ (ks : List Circuit). filter_map (circuit_row t i) (circuits_in i (ks ++ rights))) left
+    ∙ ap (λ (ks : List Circuit). filter_map (circuit_row t i) (circuits_in i (left_circuits u ++ ks))) right
     in
+    let same3 : r3 ≡ s3 = ap (flat_map (rows_if_in t c i u.right)) left ∙ sym (rows_are t c i u.right (left_circuits u)) in
+    let same4 : r4 ≡ s4 = ap (flat_map (rows_if_in t c i u.left)) right ∙ sym (rows_are t c i u.left (right_circuits u)) in
+    let same5 : r5 ≡ end_rows t c i (first_hop u) u.left = ap (λ (h : InstanceId). end_rows t c i h u.left) at_first in
+    let same6 : r6 ≡ end_rows t c i (last_hop u) u.right = ap (λ (h : InstanceId). end_rows t c i h u.right) at_last in
     hg ∙ ap (λ (x : List Row). with_rows x r6) (hf
     ∙ ap (λ (x : List Row). with_rows x r5) (he
     ∙ ap (λ (x : List Row). with_rows x r4) (hd
     ∙ ap (λ (x : List Row). with_rows x r3) (hb
-    ∙ ap (λ (x : List Row). with_rows x r2) ha))))
-    ∙ sym (rows_append r5 r6 (with_rows (with_rows (with_rows (with_rows o r1) r2) r3) r4))
-    ∙ sym (rows_append r4 (r5 ++ r6) (with_rows (with_rows (with_rows o r1) r2) r3))
-    ∙ sym (rows_append r3 (r4 ++ (r5 ++ r6)) (with_rows (with_rows o r1) r2))
-    ∙ ap (λ (x : List Row). with_rows x (r3 ++ (r4 ++ (r5 ++ r6))))
-    (sym (rows_append r1 r2 o) ∙ ap (with_rows o) (sym both))
-    ∙ sym (rows_append (filter_map (circuit_row t i) (circuits_in i (lefts ++ rights))) (r3 ++ (r4 ++ (r5 ++ r6))) o)
-    ∙ ap (λ (ks : List Circuit). with_rows o (filter_map (circuit_row t i) (circuits_in i (ks ++ rights))
-    ++ (flat_map (subnet_rows t c i u.right) (circuits_in i ks) ++ (r4 ++ (r5 ++ r6))))) left
-    ∙ ap (λ (ks : List Circuit). with_rows o (filter_map (circuit_row t i) (circuits_in i (left_circuits u ++ ks))
-    ++ (flat_map (subnet_rows t c i u.right) (circuits_in i (left_circuits u))
-    ++ (flat_map (subnet_rows t c i u.left) (circuits_in i ks) ++ (r5 ++ r6))))) right
+    ∙ ap (λ (x : List Row). with_rows x r2) ha
+    ∙ sym (rows_append r1 r2 o)))))
+    ∙ sym (rows_append r5 r6 (with_rows (with_rows (with_rows o (r1 ++ r2)) r3) r4))
+    ∙ sym (rows_append r4 (r5 ++ r6) (with_rows (with_rows o (r1 ++ r2)) r3))
+    ∙ sym (rows_append r3 (r4 ++ (r5 ++ r6)) (with_rows o (r1 ++ r2)))
+    ∙ sym (rows_append (r1 ++ r2) (r3 ++ (r4 ++ (r5 ++ r6))) o)
+    ∙ ap (with_rows o) (ap (λ (x : List Row). x ++ (r3 ++ (r4 ++ (r5 ++ r6)))) same1
+    ∙ ap (λ (x : List Row). s1 ++ (x ++ (r4 ++ (r5 ++ r6)))) same3
+    ∙ ap (λ (x : List Row). s1 ++ (s3 ++ (x ++ (r5 ++ r6)))) same4
+    ∙ ap (λ (x : List Row). s1 ++ (s3 ++ (s4 ++ (x ++ r6)))) same5
+    ∙ ap (λ (x : List Row). s1 ++ (s3 ++ (s4 ++ (end_rows t c i (first_hop u) u.left ++ x)))) same6)
+
+-- the uses that the item at i gives come next
+pub uses_go_on : {A : Type 0} (give : A → Option Use) (items : List A) (i : ℕ) (item : A) (before after total : List Use)
+    → i < length items → item ≡ get_or items i item → after ≡ before ++ option_to_list (give item)
+    → before ++ filter_map give (drop i items) ≡ total → after ++ filter_map give (drop (i + 1) items) ≡ total
+uses_go_on give items i item before after total lt at put so_far =
+    let rest : List Use = filter_map give (drop (i + 1) items) in
+    ap (λ (us : List Use). us ++ rest) put
+    ∙ append-assoc before (option_to_list (give item)) rest
+    ∙ ap (λ (us : List Use). before ++ us) (one_first (give item) rest)
+    ∙ ap (λ xs. before ++ filter_map give xs) (sym (comes_next items i item lt at))
+    ∙ so_far

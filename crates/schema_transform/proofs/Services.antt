@@ -28,7 +28,7 @@ found_one ss s apart inside =
       | None ↦ λ e.
           let no = All-contains (λ (u : Service). (u.id.0 == s.id.0) ≡ false) ss s
           ((find_none (λ (u : Service). u.id.0 == s.id.0) ss).0 e) inside in
-          absurd (grind (is_itself s, no))
+          absurd (grind (arith, is_itself s, no))
       | Some u ↦ λ e.
           let f = found_is (λ (u : Service). u.id.0 == s.id.0) ss u e in
           let same : u.id.0 ≡ s.id.0 = same_number u s f.0 in

@@ -9,7 +9,7 @@ use Rattle.config_model.specs.declared.config.Config.{Config}
 use Rattle.config_model.specs.declared.topology.Topology.{Topology}
 use Rattle.config_check.specs.Rules.{first_broken}
 use Rattle.config_check.specs.Sentences.{IsValid}
-use Rattle.config_check.proofs.Meanings.{valid_iff}
+use Rattle.config_check.proofs.Validity.{valid_iff}
 use Rattle.transform_model.specs.Compiled.{concerns, slice_of}
 use Rattle.transform_model.specs.IsObject.{IsObject, of_left_circuit, of_network, of_networks, of_port, of_right_circuit}
 use Rattle.transform_model.specs.IsObject.{of_use}

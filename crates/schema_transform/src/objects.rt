@@ -150,7 +150,6 @@ fn put_circuits(
 }
 
 /// Puts the attachments of the circuits of a use.
-#[tactic(auto, using(crate::proofs::Putting::circuits_put))]
 fn put_use_circuits(
     topology: &Topology,
     found: &ChainUse,
@@ -160,7 +159,8 @@ fn put_use_circuits(
         ≡ with_objects low.old.entries (circuit_objects topology.now (use_of found.now))) }
 {
     put_circuits(topology, found.left_circuits.as_slice(), low)?;
-    put_circuits(topology, found.right_circuits.as_slice(), low)
+    put_circuits(topology, found.right_circuits.as_slice(), low)?;
+    Ok(())
 }
 
 /// Puts the attachments of the circuits of each use.
@@ -209,7 +209,6 @@ fn put_acl(
 }
 
 /// Puts the access lists of a network: towards itself, and towards each that is related to it.
-#[tactic(auto, using(crate::proofs::Towards::acls_are))]
 fn put_acls(
     alloc: Global,
     config: &Config,
@@ -218,7 +217,7 @@ fn put_acls(
 ) -> Result<(), NoMemory>
     requires { IsSound config.now }
     ensures { OnOk result (low.new.entries
-        ≡ with_objects low.old.entries (acl_objects config.now from.now)) }
+        ≡ with_objects low.old.entries (flat_map (acl_towards config.now from.now) config.now.networks)) }
 {
     for to in config.networks.as_slice() {
         put_acl(alloc, config, from, to, low)?;

@@ -179,7 +179,6 @@ fn put_rows_if_in(
 }
 
 /// Puts the same towards each of the circuits that are in the instance.
-#[tactic(auto, using(crate::proofs::Towards::rows_are))]
 fn put_rows_towards(
     topology: &Topology,
     config: &Config,
@@ -189,8 +188,7 @@ fn put_rows_towards(
     rows: &mut Rows,
 ) -> Result<(), NoMemory>
     ensures { OnOk result (rows.new.entries ≡ with_rows rows.old.entries
-        (flat_map (subnet_rows topology.now config.now instance network.now)
-        (circuits_in instance (map circuit_of circuits.now)))) }
+        (flat_map (rows_if_in topology.now config.now instance network.now) (map circuit_of circuits.now))) }
 {
     for circuit in circuits {
         put_rows_if_in(topology, config, instance, network, circuit, rows)?;
@@ -267,7 +265,8 @@ fn put_hop_rows(
         last_hop(found),
         &found.right,
         rows,
-    )
+    )?;
+    Ok(())
 }
 
 /// Puts what the uses give an instance.

@@ -1,5 +1,6 @@
 //! From a configuration to its low-level objects and to the rows of every node.
-ghost use Rattle.std.specs.Prelude.{◌≡◌, ◌++◌, map, flat_map, IfOk, OnOk};
+ghost use Rattle.std.specs.Prelude.{◌≡◌, ◌≤◌, ◌++◌, ◌∷◌, [], map, flat_map, IfOk, OnOk};
+ghost use Rattle.route_targets.specs.Numbers.{hop_instance_of};
 ghost use Rattle.std.specs.List.{All};
 ghost use Rattle.transform_model.specs.Compiled.{agent_rows, compiled_tables};
 ghost use Rattle.transform_model.specs.Objects.{low_objects};
@@ -10,6 +11,7 @@ ghost use Rattle.schema_transform.specs.Sound.{IsSmall, IsSound};
 
 use crate::agents::{agent_rows, tables_of};
 use crate::chain_use::ChainUse;
+use crate::hops::first_hop;
 use crate::objects::objects_of;
 use crate::rows::entries_of;
 use crate::uses::uses_in_effect;
@@ -47,14 +49,22 @@ pub fn low(alloc: Global, valid: &Valid) -> Result<Low, NoMemory>
     low_of(alloc, valid.topology(), config, chain_uses.as_slice())
 }
 
+fn push_hop(number: u16, place: u8, instances: &mut Vec<InstanceId>) -> Result<(), NoMemory>
+    requires last_use { number ≤ 3071 }
+    requires last_place { place ≤ 15 }
+    ensures { OnOk result (instances.new.items ≡ instances.old.items ++ hop_instance_of number place ∷ []) }
+{
+    instances.push(hop_instance(number, place))?;
+    Ok(())
+}
+
 /// Appends the instances of the hops of a use.
-#[tactic(auto, using(crate::proofs::Ends::one_more))]
 fn push_hops(found: &ChainUse, instances: &mut Vec<InstanceId>) -> Result<(), NoMemory>
     ensures { OnOk result (instances.new.items ≡ instances.old.items ++ hops (use_of found.now)) }
 {
-    instances.push(hop_instance(found.number, 0))?;
+    instances.push(first_hop(found))?;
     for place in 0..found.services.len() as u8 {
-        instances.push(hop_instance(found.number, place + 1))?;
+        push_hop(found.number, place + 1, instances)?;
     }
     Ok(())
 }

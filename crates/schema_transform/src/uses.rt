@@ -1,8 +1,8 @@
 //! The uses of chains that are in effect.
 ghost use Rattle.std.specs.Prelude.{◌≡◌, ◌≤◌, ◌++◌, ◌==◌, length, map, find, option_copied, option_map, IfOk, OnOk};
-ghost use Rattle.std.specs.Prelude.{IsTrue};
-ghost use Rattle.std.specs.List.{filter_map};
-ghost use Rattle.config_model.specs.Form.{has_rule_form, has_policy_form};
+ghost use Rattle.std.specs.Prelude.{IsTrue, option_to_list};
+ghost use Rattle.std.specs.List.{filter_map, list_all};
+ghost use Rattle.config_model.specs.Form.{has_action_form, has_rule_form};
 ghost use Rattle.chain_expand.specs.Expansion.{expansion};
 ghost use Rattle.transform_model.specs.Uses.{left_circuits_from, network_at, right_circuits_from, use_between, use_by};
 ghost use Rattle.transform_model.specs.Uses.{uses, uses_of};
@@ -125,24 +125,36 @@ fn use_between(
     Ok(None)
 }
 
-/// The use of a chain by a rule of a policy, where it is in effect.
+/// The use of a chain by the action of a rule of a policy, where it is in effect.
 fn use_by(
     alloc: Global,
     config: &Config,
     policy: &Policy,
     rule: &Rule,
+    action: &Action,
 ) -> Result<Option<ChainUse>, NoMemory>
     requires sound { IsSound config.now }
-    requires form { IsTrue (has_rule_form rule.now) }
-    ensures { IfOk result (λ u. option_map use_of u ≡ use_by config.now policy.now rule.now rule.now.action) }
+    requires form { IsTrue (has_action_form action.now) }
+    ensures { IfOk result (λ u. option_map use_of u ≡ use_by config.now policy.now rule.now action.now) }
 {
-    match &rule.action {
+    match action {
         Action::Pass => Ok(None),
         Action::Deny => Ok(None),
         Action::Through { chain, use_no } => {
             use_between(alloc, config, policy, rule, chain, *use_no)
         }
     }
+}
+
+/// Appends a use, where there is one.
+fn push_use(found: Option<ChainUse>, uses: &mut Vec<ChainUse>) -> Result<(), NoMemory>
+    ensures { OnOk result (map use_of uses.new.items
+        ≡ map use_of uses.old.items ++ option_to_list (option_map use_of found)) }
+{
+    if let Some(found) = found {
+        uses.push(found)?;
+    }
+    Ok(())
 }
 
 /// Appends the uses of chains by the rules of a policy.
@@ -153,13 +165,12 @@ fn push_uses(
     uses: &mut Vec<ChainUse>,
 ) -> Result<(), NoMemory>
     requires sound { IsSound config.now }
-    requires form { IsTrue (has_policy_form policy.now) }
+    requires form { IsTrue (list_all has_rule_form policy.now.rules) }
     ensures { OnOk result (map use_of uses.new.items ≡ map use_of uses.old.items ++ uses_of config.now policy.now) }
 {
     for rule in policy.rules.as_slice() {
-        if let Some(found) = use_by(alloc, config, policy, rule)? {
-            uses.push(found)?;
-        }
+        let found = use_by(alloc, config, policy, rule, &rule.action)?;
+        push_use(found, uses)?;
     }
     Ok(())
 }

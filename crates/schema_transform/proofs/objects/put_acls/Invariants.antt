@@ -6,5 +6,5 @@ use Rattle.schema_transform.proofs.objects.put_acls.Given as goal
 
 abbrev pub invariant-loop-to : goal.invariant-loop-to
 invariant-loop-to l =
-    with_objects l.low.entries (flat_map (acl_towards l.config l.from) (drop l.to-index l.config.networks))
+    with_objects l.low.entries (flat_map (acl_towards l.config l.from) (drop l.to-index l.to-items))
     ≡ with_objects l.fn.low.entries (flat_map (acl_towards l.config l.from) l.config.networks)

@@ -1,0 +1,11 @@
+pub mod Lists
+pub mod Held
+pub mod Valid
+pub mod Agents
+pub mod Blocks
+pub mod Ways
+pub mod Hops
+pub mod Chains
+pub mod Verdicts
+pub mod Sources
+pub mod Law
