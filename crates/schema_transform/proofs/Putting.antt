@@ -8,7 +8,7 @@ use Rattle.ov_types.specs.Keys.{low_key_cmp, row_key_cmp}
 use Rattle.ov_types.specs.declared.numbers.InstanceId.{InstanceId}
 use Rattle.route_targets.specs.Numbers.{circuit_instance_of}
 use Rattle.std.specs.Prelude.{filter, option_to_list}
-use Rattle.std.proofs.lemmas.List.{append-assoc}
+use Rattle.std.proofs.lemmas.List.{append_assoc}
 use Rattle.schema_transform.specs.Towards.{rows_if_in}
 use Rattle.schema_transform.proofs.Towards.{rows_are}
 use Rattle.std.specs.List.{filter_map, cons_option}
@@ -212,7 +212,7 @@ pub uses_go_on : {A : Type 0} (give : A → Option Use) (items : List A) (i : �
 uses_go_on give items i item before after total lt at put so_far =
     let rest : List Use = filter_map give (drop (i + 1) items) in
     ap (λ (us : List Use). us ++ rest) put
-    ∙ append-assoc before (option_to_list (give item)) rest
+    ∙ append_assoc before (option_to_list (give item)) rest
     ∙ ap (λ (us : List Use). before ++ us) (one_first (give item) rest)
     ∙ ap (λ xs. before ++ filter_map give xs) (sym (comes_next items i item lt at))
     ∙ so_far

@@ -2,6 +2,7 @@
 use Rattle.std.proofs.Common.{◌≡◌, ◌≤◌, ◌+◌, ℕ, IsTrue, List, None, length, get_or, refl, sym, subst, arith}
 use Rattle.std.specs.Prelude.{filter}
 use Rattle.std.specs.List.{All, Contains}
+use Rattle.std.proofs.lemmas.List.{get_or_default}
 use Rattle.std.proofs.lemmas.List.Elements.{All-filter}
 use Rattle.ov_types.specs.declared.prefix.Addr.{Addr}
 use Rattle.config_model.specs.Form.{has_config_form}
@@ -45,7 +46,7 @@ pub low_is_small : (t : Topology) (c : Config) → IsTrue (has_config_form c) �
 low_is_small t c form h = λ k d lt.
     let v : IsValid t c = (valid_iff t c).0 h in
     let o : Object = get_or (low_objects t c) k d in
-    is_small t c o form v (low_is t c o v form (k, lt, refl))
+    is_small t c o form v (low_is t c o v form (k, lt, sym (get_or_default (low_objects t c) k d o lt)))
 
 pub slices_are_small : (low : List Object) (a : Addr) → All (λ e. IsSmall e.1) low → All (λ e. IsSmall e.1) (slice_of low a)
 slices_are_small low a h = All-filter (λ (e : Object). concerns low a e.0 e.1) (λ (e : Object). IsSmall e.1) low h

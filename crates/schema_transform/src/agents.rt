@@ -7,7 +7,7 @@ ghost use Rattle.node_model.specs.Wants.{is_at, port_at};
 ghost use Rattle.transform_model.specs.Compiled.{agent_rows, agent_rows_by, networks_at, route_of, slice_of};
 ghost use Rattle.schema_transform.specs.Concerning.{concerns_among};
 ghost use Rattle.transform_model.specs.Objects.{ascending_instances, low_objects, with_instances};
-ghost use Rattle.transform_model.specs.Tables.{instance_table, tables_of, with_rows};
+ghost use Rattle.transform_model.specs.Tables.{tables_of};
 ghost use Rattle.transform_model.specs.Uses.{uses};
 ghost use Rattle.schema_transform.specs.HeldUses.{use_of};
 ghost use Rattle.schema_transform.specs.Sound.{IsSmall, IsSound};
@@ -219,21 +219,6 @@ fn needed_by(alloc: Global, slice: &[(LowKey, LowValue)]) -> Result<Items<Instan
     instances_of(alloc, &needed)
 }
 
-fn put_table_of(
-    topology: &Topology,
-    config: &Config,
-    chain_uses: &[ChainUse],
-    instance: &InstanceId,
-    rows: &mut Rows,
-) -> Result<(), NoMemory>
-    requires form { IsTrue (list_all has_port_form config.now.ports) }
-    requires uses { map use_of chain_uses.now ≡ uses config.now }
-    ensures { OnOk result (rows.new.entries ≡ with_rows rows.old.entries
-        (instance_table topology.now config.now instance.now)) }
-{
-    put_table(topology, config, chain_uses, *instance, rows)
-}
-
 /// The rows of the tables of instances, by their keys.
 pub(crate) fn tables_of(
     alloc: Global,
@@ -248,7 +233,7 @@ pub(crate) fn tables_of(
 {
     let mut rows = BTreeMap::new(alloc);
     for instance in instances {
-        put_table_of(topology, config, chain_uses, instance, &mut rows)?;
+        put_table(topology, config, chain_uses, *instance, &mut rows)?;
     }
     Ok(rows)
 }
