@@ -1,0 +1,8 @@
+use Rattle.network_laws.proofs.Small.{small_settles, small_settle_settles}
+use Rattle.network_laws.proofs.settling_laws.the_least_network_settles.Goals as goal
+
+pub returns-clause-rounds : goal.returns-clause-rounds
+returns-clause-rounds c = small_settles
+
+pub returns-clause-settle : goal.returns-clause-settle
+returns-clause-settle c = small_settle_settles

@@ -1,0 +1,4 @@
+//! How a network settles: laws alone.
+#![tactic(auto)]
+
+pub mod settling_laws;

@@ -1,0 +1,5 @@
+use Rattle.network_model.proofs.EveryMoment.{nodes_have_told}
+use Rattle.network_model.proofs.moment_laws.nodes_have_told_what_they_want.Goals as goal
+
+pub returns : goal.returns
+returns c = nodes_have_told

@@ -1,0 +1,70 @@
+-- What events do, in words that their definitions do not use.
+use Rattle.std.specs.Prelude.{◌≡◌, ◌≢◌, ◌⊎◌, ◌≤◌, ℕ, List, [], true, false}
+use Rattle.std.specs.declared.option.Option.{Option}
+use Rattle.std.specs.declared.option.Option.TheVariants.{Some, None}
+use Rattle.std.specs.FinMap.{empty}
+use Rattle.ov_types.specs.declared.rows.NodeId.{NodeId}
+use Rattle.config_model.specs.declared.topology.Node.{Node}
+use Rattle.config_model.specs.declared.topology.Topology.{Topology}
+use Rattle.node_model.specs.Members.{Member}
+use Rattle.node_model.specs.Step.{Idle, Opened}
+use Rattle.network_model.specs.Setup.{Name}
+use Rattle.network_model.specs.Session.{End, Session}
+use Rattle.network_model.specs.Network.{Network}
+use Rattle.network_model.specs.Steps.{session_of}
+use Rattle.network_model.specs.Events.{Event, Deliver, DeliverOctets, Lose, Connect, Restart, Show, Break}
+
+-- two nodes are not these two, either way round
+abbrev pub AreOthers : Name → Name → Name → Name → Type 0
+AreOthers a b c d = (a ≡ c → b ≡ d → ⊥) × (a ≡ d → b ≡ c → ⊥)
+
+-- both ends of the session are opened
+pub record IsOpenedAt (o : Option Session) : Type 0 where
+  pub session : Session
+  pub found : o ≡ Some session
+  pub whole : session.is_down ≡ false
+  pub near : session.near.phase ≡ Opened
+  pub far : session.far.phase ≡ Opened
+
+-- an end that has nothing
+pub record IsClosed (e : End) : Type 0 where
+  pub phase : e.phase ≡ Idle
+  pub notice : e.notice ≡ false
+  pub sent : e.sent ≡ empty
+  pub held : e.held ≡ empty
+  pub flight : e.flight ≡ []
+
+-- ---- events for which there is nothing to do
+-- there is no session of the two nodes, or one that is so
+abbrev pub NoneOr : (Session → Type 0) → Option Session → Type 0
+NoneOr P o = (o ≡ None) ⊎ ((s : Session) × (o ≡ Some s) × P s)
+
+-- nothing is in flight towards the near end
+abbrev pub WaitsForNothing : Session → Type 0
+WaitsForNothing s = (s.near.notice ≡ false) × (s.far.flight ≡ [])
+
+-- it is not down, or a notice is pending at an end
+abbrev pub MayNotConnect : Session → Type 0
+MayNotConnect s = (s.is_down ≡ false) ⊎ ((s.near.notice ≡ true) ⊎ (s.far.notice ≡ true))
+
+-- no control node and no compute node has the name
+abbrev pub IsNoNode : Topology → Name → Type 0
+IsNoNode t name =
+    ((c : NodeId) → Member c t.controllers → c.name ≢ name) × ((n : Node) → Member n t.nodes → n.name ≢ name)
+
+abbrev pub HasNothingToDo : Network → Event → Type 0
+HasNothingToDo w (Deliver from to n) = NoneOr WaitsForNothing (session_of w to from)
+HasNothingToDo w (DeliverOctets from to n) = NoneOr WaitsForNothing (session_of w to from)
+HasNothingToDo w (Lose a b) = NoneOr (λ s. s.is_down ≡ true) (session_of w a b)
+HasNothingToDo w (Connect a b) = NoneOr MayNotConnect (session_of w a b)
+HasNothingToDo w (Restart name) = IsNoNode w.setup.topology name
+HasNothingToDo w (Show name) = IsNoNode w.setup.topology name
+HasNothingToDo w (Break from to n) = session_of w from to ≡ None
+HasNothingToDo w _ = ⊥
+
+-- one of the next so many sends meets a break
+pub record MeetsOne (sends : ℕ) (breaks : List ℕ) : Type 0 where
+  pub number : ℕ
+  pub pending : Member number breaks
+  pub comes : 1 ≤ number
+  pub within : number ≤ sends
