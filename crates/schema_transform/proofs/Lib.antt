@@ -5,3 +5,4 @@ pub mod Ends
 pub mod Services
 pub mod Formed
 pub mod Small
+pub mod Forwarding

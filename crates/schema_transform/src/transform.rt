@@ -1,8 +1,15 @@
 //! From a configuration to its low-level objects and to the rows of every node.
-ghost use Rattle.std.specs.Prelude.{◌≡◌, ◌≤◌, ◌++◌, ◌∷◌, [], map, flat_map, IfOk, OnOk};
+ghost use Rattle.std.specs.Prelude.{◌≡◌, ◌≢◌, ◌≤◌, ◌++◌, ◌∷◌, [], map, flat_map, IfOk, IsTrue, OnOk};
 ghost use Rattle.route_targets.specs.Numbers.{hop_instance_of};
 ghost use Rattle.std.specs.List.{All};
-ghost use Rattle.transform_model.specs.Compiled.{agent_rows, compiled_tables};
+ghost use Rattle.ov_types.specs.declared.packet.Outcome.TheVariants.{Dropped};
+ghost use Rattle.ov_types.specs.declared.packet.Packet.{Packet};
+ghost use Rattle.ov_types.specs.declared.packet.Why.TheVariants.{NoLabel, TtlExpired};
+ghost use Rattle.route_targets.specs.Forwarding.{forwarding};
+ghost use Rattle.config_model.specs.Form.{has_config_form};
+ghost use Rattle.config_check.specs.Rules.{first_broken};
+ghost use Rattle.reach_plain.specs.Reachability.{reachability};
+ghost use Rattle.transform_model.specs.Compiled.{agent_rows, compiled_tables, forwarders};
 ghost use Rattle.transform_model.specs.Objects.{low_objects};
 ghost use Rattle.transform_model.specs.Tables.{control_rows, instances};
 ghost use Rattle.transform_model.specs.Uses.{hops, uses};
@@ -161,13 +168,13 @@ fn agents_of(
     Ok(agents)
 }
 
-/// The rows that a valid configuration asks for, of every node.
-#[tactic(auto, using(crate::proofs::Formed::is_sound, crate::proofs::Small::low_is_small), unfolding(transform_model::specs::Compiled::compiled_tables))]
-pub fn compiled(alloc: Global, valid: &Valid) -> Result<Compiled, NoMemory>
-    ensures { IfOk result (λ c. c ≡ compiled_tables valid.now) }
+/// The rows of every node.
+#[tactic(auto, using(crate::proofs::Formed::is_sound), unfolding(transform_model::specs::Compiled::compiled_tables))]
+fn rows_of_nodes(alloc: Global, topology: &Topology, config: &Config) -> Result<Compiled, NoMemory>
+    requires form { IsTrue (has_config_form config.now) }
+    requires valid { first_broken topology.now config.now ≡ None }
+    ensures { IfOk result (λ c. c ≡ compiled_tables (record { topology = topology.now; config = config.now })) }
 {
-    let topology = valid.topology();
-    let config = valid.config();
     let chain_uses = uses_in_effect(alloc, config)?;
     let low = low_of(alloc, topology, config, chain_uses.as_slice())?;
     let rows = control_rows(alloc, topology, config, chain_uses.as_slice())?;
@@ -181,4 +188,22 @@ pub fn compiled(alloc: Global, valid: &Valid) -> Result<Compiled, NoMemory>
             low.as_slice(),
         )?,
     })
+}
+
+/// The rows that a valid configuration asks for, of every node. What the rows of its agents do with a packet is what
+/// policies alone say becomes of it; each label leads on, and no packet is under way for too long.
+#[tactic(auto, using(crate::proofs::Forwarding::as_reached, crate::proofs::Forwarding::has_labels, crate::proofs::Forwarding::ends_in_time))]
+pub fn compiled(alloc: Global, valid: &Valid) -> Result<Compiled, NoMemory>
+    ensures tables { IfOk result (λ c. c ≡ compiled_tables valid.now) }
+    ensures forwarding { (p : Packet) → IfOk result (λ c.
+        forwarding (forwarders valid.now.topology.nodes c.agents) p ≡ reachability valid.now.config p) }
+    ensures labelled { (p : Packet) → IfOk result (λ c.
+        forwarding (forwarders valid.now.topology.nodes c.agents) p ≢ Dropped NoLabel) }
+    ensures in_time { (p : Packet) → IfOk result (λ c.
+        forwarding (forwarders valid.now.topology.nodes c.agents) p ≢ Dropped TtlExpired) }
+{
+    let topology = valid.topology();
+    let config = valid.config();
+    let rows = rows_of_nodes(alloc, topology, config)?;
+    Ok(rows)
 }
