@@ -13,3 +13,6 @@ mod uses;
 
 pub use transform::{compiled, low};
 pub use transform_model::Compiled;
+
+#[cfg(test)]
+mod tests;
