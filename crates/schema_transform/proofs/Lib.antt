@@ -1,8 +1,8 @@
+pub mod Towards
 pub mod Putting
-pub mod Lists
-pub mod Homes
-pub mod Prefixes
-pub mod Keys
-pub mod Joined
-pub mod Kept
-pub mod Found
+pub mod Slices
+pub mod Ends
+pub mod Services
+pub mod Formed
+pub mod Small
+pub mod Forwarding

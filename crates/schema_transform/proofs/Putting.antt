@@ -1,22 +1,218 @@
--- Rows put into a map one list after the other.
-use Rattle.std.proofs.Common.{◌≡◌, ℕ, suc, ◌+◌, ◌<◌, List, [], ◌∷◌, ◌++◌, length, drop, get_or, refl, sym, ap, ◌∙◌, add-one, drop-cons}
+-- Rows, objects and instances put into a map one list after the other.
+use Rattle.std.proofs.Common.{◌≡◌, ℕ, suc, ◌+◌, ◌<◌, List, [], ◌∷◌, ◌++◌, ◌==◌, length, map, drop, get_or, refl, sym, ap, ◌∙◌}
+use Rattle.std.proofs.Common.{add-one, drop-cons}
 use Rattle.std.specs.Prelude.{flat_map}
 use Rattle.std.specs.BTreeMap.{insert_entry}
-use Rattle.ov_types.specs.Keys.{row_key_cmp}
-use Rattle.schema_transform.specs.Tables.{Row, with_rows}
+use Rattle.std.specs.BTreeSet.{insert_key}
+use Rattle.ov_types.specs.Keys.{low_key_cmp, row_key_cmp}
+use Rattle.ov_types.specs.declared.numbers.InstanceId.{InstanceId}
+use Rattle.route_targets.specs.Numbers.{circuit_instance_of}
+use Rattle.std.specs.Prelude.{filter, option_to_list}
+use Rattle.std.proofs.lemmas.List.{append_assoc}
+use Rattle.schema_transform.specs.Towards.{rows_if_in}
+use Rattle.schema_transform.proofs.Towards.{rows_are}
+use Rattle.std.specs.List.{filter_map, cons_option}
+use Rattle.config_model.specs.declared.config.Config.{Config}
+use Rattle.config_model.specs.declared.topology.Topology.{Topology}
+use Rattle.std.proofs.Common.{Bool, true, false, cond, Option, Some, None}
+use Rattle.transform_model.specs.Objects.{Object, acl_objects, circuit_object, circuit_objects, instance_cmp}
+use Rattle.transform_model.specs.Objects.{instance_object, low_objects, port_object, use_object, with_instances}
+use Rattle.transform_model.specs.Objects.{with_objects}
+use Rattle.transform_model.specs.Tables.{Row, circuit_row, circuits_in, end_rows, hop_rows, subnet_rows, with_rows}
+use Rattle.transform_model.specs.Uses.{Circuit, Use, first_hop, last_hop, left_circuits, right_circuits, uses}
 
-with_rows-append : (xs ys entries : List Row) → with_rows entries (xs ++ ys) ≡ with_rows (with_rows entries xs) ys
-with_rows-append [] ys entries = refl
-with_rows-append (x ∷ xs) ys entries = with_rows-append xs ys (insert_entry row_key_cmp entries x.0 x.1)
+pub rows_append : (xs ys entries : List Row) → with_rows entries (xs ++ ys) ≡ with_rows (with_rows entries xs) ys
+rows_append [] ys entries = refl
+rows_append (x ∷ xs) ys entries = rows_append xs ys (insert_entry row_key_cmp entries x.0 x.1)
+
+pub objects_append : (xs ys entries : List Object)
+    → with_objects entries (xs ++ ys) ≡ with_objects (with_objects entries xs) ys
+objects_append [] ys entries = refl
+objects_append (x ∷ xs) ys entries = objects_append xs ys (insert_entry low_key_cmp entries x.0 x.1)
+
+pub instances_append : (xs ys set : List InstanceId)
+    → with_instances set (xs ++ ys) ≡ with_instances (with_instances set xs) ys
+instances_append [] ys set = refl
+instances_append (x ∷ xs) ys set = instances_append xs ys (insert_key instance_cmp set x)
+
+-- the item at i comes next
+pub comes_next : {A : Type 0} (items : List A) (i : ℕ) (item : A) → i < length items → item ≡ get_or items i item
+    → drop i items ≡ item ∷ drop (i + 1) items
+comes_next items i item lt at = rw add-one (drop-cons items i item lt ∙ ap (λ x. x ∷ drop (suc i) items) (sym at))
 
 -- the rows of the item at i are put next
-pub goes_on : {A : Type 0} (rows : A → List Row) (items : List A) (i : ℕ) (item : A) (before after total : List Row)
-    → i < length items → item ≡ get_or items i item → after ≡ with_rows before (rows item)
+pub rows_go_on : {A B : Type 0} (rows : B → List Row) (seen : A → B) (items : List A) (i : ℕ) (item : A)
+    (before after total : List Row) → i < length items → item ≡ get_or items i item
+    → after ≡ with_rows before (rows (seen item))
+    → with_rows before (flat_map rows (map seen (drop i items))) ≡ total
+    → with_rows after (flat_map rows (map seen (drop (i + 1) items))) ≡ total
+rows_go_on rows seen items i item before after total lt at put so_far =
+    ap (λ (e : List Row). with_rows e (flat_map rows (map seen (drop (i + 1) items)))) put
+    ∙ sym (rows_append (rows (seen item)) (flat_map rows (map seen (drop (i + 1) items))) before)
+    ∙ ap (λ (xs : List _). with_rows before (flat_map rows (map seen xs))) (sym (comes_next items i item lt at))
+    ∙ so_far
+
+pub tables_go_on : {A : Type 0} (rows : A → List Row) (items : List A) (i : ℕ) (item : A)
+    (before after total : List Row) → i < length items → item ≡ get_or items i item
+    → after ≡ with_rows before (rows item)
     → with_rows before (flat_map rows (drop i items)) ≡ total
     → with_rows after (flat_map rows (drop (i + 1) items)) ≡ total
-goes_on rows items i item before after total lt at put so_far =
-    let next : drop i items ≡ item ∷ drop (i + 1) items = rw add-one (drop-cons items i item lt ∙ ap (λ x. x ∷ drop (suc i) items) (sym at)) in
+tables_go_on rows items i item before after total lt at put so_far =
     ap (λ (e : List Row). with_rows e (flat_map rows (drop (i + 1) items))) put
-    ∙ sym (with_rows-append (rows item) (flat_map rows (drop (i + 1) items)) before)
-    ∙ ap (λ (xs : List _). with_rows before (flat_map rows xs)) (sym next)
+    ∙ sym (rows_append (rows item) (flat_map rows (drop (i + 1) items)) before)
+    ∙ ap (λ (xs : List _). with_rows before (flat_map rows xs)) (sym (comes_next items i item lt at))
+    ∙ so_far
+
+-- the objects of the item at i are put next
+pub objects_go_on : {A B : Type 0} (objects : B → List Object) (seen : A → B) (items : List A) (i : ℕ) (item : A)
+    (before after total : List Object) → i < length items → item ≡ get_or items i item
+    → after ≡ with_objects before (objects (seen item))
+    → with_objects before (flat_map objects (map seen (drop i items))) ≡ total
+    → with_objects after (flat_map objects (map seen (drop (i + 1) items))) ≡ total
+objects_go_on objects seen items i item before after total lt at put so_far =
+    ap (λ (e : List Object). with_objects e (flat_map objects (map seen (drop (i + 1) items)))) put
+    ∙ sym (objects_append (objects (seen item)) (flat_map objects (map seen (drop (i + 1) items))) before)
+    ∙ ap (λ (xs : List _). with_objects before (flat_map objects (map seen xs))) (sym (comes_next items i item lt at))
+    ∙ so_far
+
+pub lists_go_on : {A : Type 0} (objects : A → List Object) (items : List A) (i : ℕ) (item : A)
+    (before after total : List Object) → i < length items → item ≡ get_or items i item
+    → after ≡ with_objects before (objects item)
+    → with_objects before (flat_map objects (drop i items)) ≡ total
+    → with_objects after (flat_map objects (drop (i + 1) items)) ≡ total
+lists_go_on objects items i item before after total lt at put so_far =
+    ap (λ (e : List Object). with_objects e (flat_map objects (drop (i + 1) items))) put
+    ∙ sym (objects_append (objects item) (flat_map objects (drop (i + 1) items)) before)
+    ∙ ap (λ (xs : List _). with_objects before (flat_map objects xs)) (sym (comes_next items i item lt at))
+    ∙ so_far
+
+-- the instances of the item at i are put next
+pub needs_go_on : {A : Type 0} (needs : A → List InstanceId) (items : List A) (i : ℕ) (item : A)
+    (before after total : List InstanceId) → i < length items → item ≡ get_or items i item
+    → after ≡ with_instances before (needs item)
+    → with_instances before (flat_map needs (drop i items)) ≡ total
+    → with_instances after (flat_map needs (drop (i + 1) items)) ≡ total
+needs_go_on needs items i item before after total lt at put so_far =
+    ap (λ (e : List InstanceId). with_instances e (flat_map needs (drop (i + 1) items))) put
+    ∙ sym (instances_append (needs item) (flat_map needs (drop (i + 1) items)) before)
+    ∙ ap (λ (xs : List _). with_instances before (flat_map needs xs)) (sym (comes_next items i item lt at))
+    ∙ so_far
+
+-- ---- several lists
+one_first : (o : Option Use) (us : List Use) → option_to_list o ++ us ≡ cons_option o us
+one_first None us = refl
+one_first (Some u) us = refl
+
+given_append : {A B : Type 0} (f : A → Option B) (xs ys : List A)
+    → filter_map f (xs ++ ys) ≡ filter_map f xs ++ filter_map f ys
+given_append f [] ys = refl
+given_append f (x ∷ xs) ys =
+    elim (f x) as (λ o. cons_option o (filter_map f (xs ++ ys)) ≡ cons_option o (filter_map f xs) ++ filter_map f ys) [
+      | None ↦ given_append f xs ys
+      | Some y ↦ ap (λ zs. y ∷ zs) (given_append f xs ys)
+    ]
+
+kept_append : {A : Type 0} (p : A → Bool) (xs ys : List A) → filter p (xs ++ ys) ≡ filter p xs ++ filter p ys
+kept_append p [] ys = refl
+kept_append p (x ∷ xs) ys =
+    elim (p x) as (λ b. cond b (x ∷ filter p (xs ++ ys)) (filter p (xs ++ ys))
+    ≡ cond b (x ∷ filter p xs) (filter p xs) ++ filter p ys) [
+      | true ↦ ap (λ zs. x ∷ zs) (kept_append p xs ys)
+      | false ↦ kept_append p xs ys
+    ]
+
+-- the left circuits of a use and then the right ones
+pub circuits_put : (t : Topology) (u : Use) (lefts rights : List Circuit) (before : List Object)
+    → lefts ≡ left_circuits u → rights ≡ right_circuits u
+    → with_objects (with_objects before (filter_map (circuit_object t) lefts)) (filter_map (circuit_object t) rights)
+    ≡ with_objects before (circuit_objects t u)
+circuits_put t u lefts rights before left right =
+    sym (objects_append (filter_map (circuit_object t) lefts) (filter_map (circuit_object t) rights) before)
+    ∙ ap (with_objects before) (sym (given_append (circuit_object t) lefts rights)
+    ∙ ap (λ (ks : List Circuit). filter_map (circuit_object t) (ks ++ rights)) left
+    ∙ ap (λ (ks : List Circuit). filter_map (circuit_object t) (left_circuits u ++ ks)) right)
+
+-- the five kinds of objects one after the other
+pub all_put : (t : Topology) (c : Config) (us : List Use) (a b d e f : List Object) → us ≡ uses c
+    → a ≡ with_objects [] (map (instance_object c) c.networks)
+    → b ≡ with_objects a (filter_map (port_object t c) c.ports)
+    → d ≡ with_objects b (flat_map (circuit_objects t) us)
+    → e ≡ with_objects d (flat_map (acl_objects c) c.networks)
+    → f ≡ with_objects e (map (use_object t) us)
+    → f ≡ low_objects t c
+unfolding low_objects
+all_put t c us a b d e f same ha hb hd he hf =
+    let o1 : List Object = map (instance_object c) c.networks in
+    let o2 : List Object = filter_map (port_object t c) c.ports in
+    let o3 : List Object = flat_map (circuit_objects t) us in
+    let o4 : List Object = flat_map (acl_objects c) c.networks in
+    let o5 : List Object = map (use_object t) us in
+    hf ∙ ap (λ (x : List Object). with_objects x o5) (he
+    ∙ ap (λ (x : List Object). with_objects x o4) (hd
+    ∙ ap (λ (x : List Object). with_objects x o3) (hb
+    ∙ ap (λ (x : List Object). with_objects x o2) ha)))
+    ∙ sym (objects_append o4 o5 (with_objects (with_objects (with_objects [] o1) o2) o3))
+    ∙ sym (objects_append o3 (o4 ++ o5) (with_objects (with_objects [] o1) o2))
+    ∙ sym (objects_append o2 (o3 ++ (o4 ++ o5)) (with_objects [] o1))
+    ∙ sym (objects_append o1 (o2 ++ (o3 ++ (o4 ++ o5))) [])
+    ∙ ap (λ (vs : List Use). with_objects [] (o1 ++ (o2 ++ (flat_map (circuit_objects t) vs ++ (o4
+    ++ map (use_object t) vs))))) same
+
+-- what a use gives an instance, one kind after the other
+pub hop_put : (t : Topology) (c : Config) (i : InstanceId) (u : Use) (lefts rights : List Circuit) (first last : InstanceId)
+    (o a b d e f g : List Row) → lefts ≡ left_circuits u → rights ≡ right_circuits u
+    → first ≡ first_hop u → last ≡ last_hop u
+    → a ≡ with_rows o (filter_map (circuit_row t i) (circuits_in i lefts))
+    → b ≡ with_rows a (filter_map (circuit_row t i) (circuits_in i rights))
+    → d ≡ with_rows b (flat_map (rows_if_in t c i u.right) lefts)
+    → e ≡ with_rows d (flat_map (rows_if_in t c i u.left) rights)
+    → f ≡ with_rows e (end_rows t c i first u.left)
+    → g ≡ with_rows f (end_rows t c i last u.right)
+    → g ≡ with_rows o (hop_rows t c i u)
+hop_put t c i u lefts rights first last o a b d e f g left right at_first at_last ha hb hd he hf hg =
+    let r1 : List Row = filter_map (circuit_row t i) (circuits_in i lefts) in
+    let r2 : List Row = filter_map (circuit_row t i) (circuits_in i rights) in
+    let r3 : List Row = flat_map (rows_if_in t c i u.right) lefts in
+    let r4 : List Row = flat_map (rows_if_in t c i u.left) rights in
+    let r5 : List Row = end_rows t c i first u.left in
+    let r6 : List Row = end_rows t c i last u.right in
+    let s1 : List Row = filter_map (circuit_row t i) (circuits_in i (left_circuits u ++ right_circuits u)) in
+    let s3 : List Row = flat_map (subnet_rows t c i u.right) (circuits_in i (left_circuits u)) in
+    let s4 : List Row = flat_map (subnet_rows t c i u.left) (circuits_in i (right_circuits u)) in
+    let same1 : r1 ++ r2 ≡ s1 =
+    sym (given_append (circuit_row t i) (circuits_in i lefts) (circuits_in i rights))
+    ∙ ap (filter_map (circuit_row t i)) (sym (kept_append (λ (k : Circuit). (circuit_instance_of k.number).0 == i.0) lefts rights))
+    ∙ ap (λ (ks : List Circuit). filter_map (circuit_row t i) (circuits_in i (ks ++ rights))) left
+    ∙ ap (λ (ks : List Circuit). filter_map (circuit_row t i) (circuits_in i (left_circuits u ++ ks))) right
+    in
+    let same3 : r3 ≡ s3 = ap (flat_map (rows_if_in t c i u.right)) left ∙ sym (rows_are t c i u.right (left_circuits u)) in
+    let same4 : r4 ≡ s4 = ap (flat_map (rows_if_in t c i u.left)) right ∙ sym (rows_are t c i u.left (right_circuits u)) in
+    let same5 : r5 ≡ end_rows t c i (first_hop u) u.left = ap (λ (h : InstanceId). end_rows t c i h u.left) at_first in
+    let same6 : r6 ≡ end_rows t c i (last_hop u) u.right = ap (λ (h : InstanceId). end_rows t c i h u.right) at_last in
+    hg ∙ ap (λ (x : List Row). with_rows x r6) (hf
+    ∙ ap (λ (x : List Row). with_rows x r5) (he
+    ∙ ap (λ (x : List Row). with_rows x r4) (hd
+    ∙ ap (λ (x : List Row). with_rows x r3) (hb
+    ∙ ap (λ (x : List Row). with_rows x r2) ha
+    ∙ sym (rows_append r1 r2 o)))))
+    ∙ sym (rows_append r5 r6 (with_rows (with_rows (with_rows o (r1 ++ r2)) r3) r4))
+    ∙ sym (rows_append r4 (r5 ++ r6) (with_rows (with_rows o (r1 ++ r2)) r3))
+    ∙ sym (rows_append r3 (r4 ++ (r5 ++ r6)) (with_rows o (r1 ++ r2)))
+    ∙ sym (rows_append (r1 ++ r2) (r3 ++ (r4 ++ (r5 ++ r6))) o)
+    ∙ ap (with_rows o) (ap (λ (x : List Row). x ++ (r3 ++ (r4 ++ (r5 ++ r6)))) same1
+    ∙ ap (λ (x : List Row). s1 ++ (x ++ (r4 ++ (r5 ++ r6)))) same3
+    ∙ ap (λ (x : List Row). s1 ++ (s3 ++ (x ++ (r5 ++ r6)))) same4
+    ∙ ap (λ (x : List Row). s1 ++ (s3 ++ (s4 ++ (x ++ r6)))) same5
+    ∙ ap (λ (x : List Row). s1 ++ (s3 ++ (s4 ++ (end_rows t c i (first_hop u) u.left ++ x)))) same6)
+
+-- the uses that the item at i gives come next
+pub uses_go_on : {A : Type 0} (give : A → Option Use) (items : List A) (i : ℕ) (item : A) (before after total : List Use)
+    → i < length items → item ≡ get_or items i item → after ≡ before ++ option_to_list (give item)
+    → before ++ filter_map give (drop i items) ≡ total → after ++ filter_map give (drop (i + 1) items) ≡ total
+uses_go_on give items i item before after total lt at put so_far =
+    let rest : List Use = filter_map give (drop (i + 1) items) in
+    ap (λ (us : List Use). us ++ rest) put
+    ∙ append_assoc before (option_to_list (give item)) rest
+    ∙ ap (λ (us : List Use). before ++ us) (one_first (give item) rest)
+    ∙ ap (λ xs. before ++ filter_map give xs) (sym (comes_next items i item lt at))
     ∙ so_far

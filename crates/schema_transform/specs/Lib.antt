@@ -1,2 +1,5 @@
-pub mod IsRow
-pub mod Tables
+pub mod Sound
+pub mod Held
+pub mod HeldUses
+pub mod Concerning
+pub mod Towards

@@ -1,10 +1,18 @@
-//! The tables that a configuration asks for, computed from it alone.
+//! What a configuration asks for, computed from it alone: its low-level objects, and the rows of every node.
 #![tactic(auto)]
 
-pub mod laws;
+mod agents;
+mod attachment;
+mod chain_use;
+mod circuits;
+mod hops;
+mod objects;
 mod rows;
-mod tables;
 mod transform;
+mod uses;
 
-pub use tables::Compiled;
-pub use transform::compiled;
+pub use transform::{compiled, low};
+pub use transform_model::Compiled;
+
+#[cfg(test)]
+mod tests;

@@ -1,31 +1,41 @@
-//! The rows of networks' instances.
-ghost use Rattle.std.specs.Prelude.{◌≡◌, ◌≤◌, [], IfOk, OnOk, IsTrue, flat_map};
-ghost use Rattle.std.specs.List.{list_all};
-ghost use Rattle.config_model.specs.Form.{has_config_form, has_port_form};
-ghost use Rattle.config_check.specs.Rules.{first_broken};
-ghost use Rattle.schema_transform.specs.Tables.{host_route, port_row, network_rows, with_rows, control_rows};
+//! The rows of instances' tables.
+ghost use Rattle.std.specs.Prelude.{◌≡◌, ◌≤◌, ◌==◌, ◌++◌, [], filter, flat_map, map, IfOk, OnOk, IsTrue};
+ghost use Rattle.std.specs.List.{filter_map, list_all};
+ghost use Rattle.config_model.specs.Form.{has_port_form};
+ghost use Rattle.transform_model.specs.Tables.{circuit_route, circuit_row, circuits_in, end_row, end_rows, holds_port};
+ghost use Rattle.transform_model.specs.Tables.{host_route, hop_rows, instance_table, network_rows, port_row, row_if};
+ghost use Rattle.transform_model.specs.Tables.{row_towards, rows_of, subnet_rows, with_rows};
+ghost use Rattle.config_check.specs.Finding.{network_numbered};
+ghost use Rattle.route_targets.specs.Numbers.{circuit_instance_of};
+ghost use Rattle.transform_model.specs.Uses.{uses};
+ghost use Rattle.schema_transform.specs.Held.{circuit_of};
+ghost use Rattle.schema_transform.specs.Towards.{rows_if_in};
+ghost use Rattle.schema_transform.specs.HeldUses.{use_of};
 
-use config_check::{network_named, node_named};
+use crate::attachment::Attachment;
+use crate::chain_use::ChainUse;
+use crate::hops::{first_hop, last_hop};
+use config_check::{network_named, network_numbered, node_named};
 use config_model::{Config, Network, Node, Port, Topology};
 use network_rules::imports;
 use ov_types::{ControlRows, InstanceId, Items, NoMemory, Prefix, TableRow};
-use route_targets::{port_label, rd};
-use std::alloc::{AllocError, Global};
+use route_targets::{circuit_address, circuit_label, port_label, rd};
+use std::alloc::Global;
 use std::collections::BTreeMap;
 
 /// A row with its key: the instance and the prefix.
-type Row = ((InstanceId, Prefix), TableRow);
+pub(crate) type Row = ((InstanceId, Prefix), TableRow);
 
 /// Rows by their keys.
-type Rows = BTreeMap<(InstanceId, Prefix), TableRow>;
+pub(crate) type Rows = BTreeMap<(InstanceId, Prefix), TableRow>;
 
-/// The route to a port, in the instance of a network that imports the port's.
+/// In an instance, the route to a port of a network at a node.
 #[tactic(auto, unfolding(config_model::specs::Form::has_port_form))]
-fn route_to(network: &Network, home: &Network, node: &Node, port: &Port) -> Row
+fn host_route(instance: InstanceId, home: &Network, node: &Node, port: &Port) -> Row
     requires { IsTrue (has_port_form port.now) }
-    ensures { result ≡ host_route network.now home.now node.now port.now }
+    ensures { result ≡ host_route instance home.now node.now port.now }
 {
-    let key = (network.id, Prefix::host(port.address));
+    let key = (instance, Prefix::host(port.address));
     let row = TableRow {
         rd: rd(node.address, home.id),
         next_hop: node.address,
@@ -35,7 +45,7 @@ fn route_to(network: &Network, home: &Network, node: &Node, port: &Port) -> Row
 }
 
 /// The row of a port in a network's instance, where the port's network is imported.
-fn row_of(topology: &Topology, config: &Config, network: &Network, port: &Port) -> Option<Row>
+fn port_row(topology: &Topology, config: &Config, network: &Network, port: &Port) -> Option<Row>
     requires { IsTrue (has_port_form port.now) }
     ensures { result ≡ port_row topology.now config.now network.now port.now }
 {
@@ -44,11 +54,11 @@ fn row_of(topology: &Topology, config: &Config, network: &Network, port: &Port) 
         return None;
     }
     let node = node_named(topology, &port.node)?;
-    Some(route_to(network, home, node, port))
+    Some(host_route(network.id, home, node, port))
 }
 
-/// Puts the rows of a network's instance into a map.
-#[tactic(auto, unfolding(crate::specs::Tables::network_rows))]
+/// Puts the rows of a network's instance.
+#[tactic(auto, unfolding(transform_model::specs::Tables::network_rows))]
 fn put_network_rows(
     topology: &Topology,
     config: &Config,
@@ -60,45 +70,262 @@ fn put_network_rows(
         ≡ with_rows rows.old.entries (network_rows topology.now config.now network.now)) }
 {
     for port in config.ports.as_slice() {
-        if let Some((key, row)) = row_of(topology, config, network, port) {
+        if let Some((key, row)) = port_row(topology, config, network, port) {
             rows.insert(key, row)?;
         }
     }
     Ok(())
 }
 
-/// The rows of every network's instance, by their keys.
-fn rows_of_networks(alloc: Global, topology: &Topology, config: &Config) -> Result<Rows, NoMemory>
-    requires { IsTrue (list_all has_port_form config.now.ports) }
-    ensures { IfOk result (λ m. m.entries
-        ≡ with_rows [] (flat_map (network_rows topology.now config.now) config.now.networks)) }
+/// In an instance, the route of a prefix to or towards a circuit.
+fn row_towards(
+    topology: &Topology,
+    instance: InstanceId,
+    circuit: &Attachment,
+    prefix: Prefix,
+) -> Option<Row>
+    ensures { result ≡ row_towards topology.now instance (circuit_of circuit.now) prefix }
 {
-    let mut rows = BTreeMap::new(alloc);
-    for network in config.networks.as_slice() {
-        put_network_rows(topology, config, network, &mut rows)?;
+    let node = node_named(topology, &circuit.service.node)?;
+    let row = TableRow {
+        rd: rd(node.address, instance),
+        next_hop: node.address,
+        label: circuit_label(circuit.number),
+    };
+    Some(((instance, prefix), row))
+}
+
+/// Whether a circuit is in an instance.
+fn is_in(circuit: &Attachment, instance: InstanceId) -> bool
+    ensures { result ≡ ((circuit_instance_of circuit.now.number).0 == instance.0) }
+{
+    circuit.number / 2 == u32::from(instance.0)
+}
+
+/// The host route of a circuit.
+fn circuit_row(topology: &Topology, instance: InstanceId, circuit: &Attachment) -> Option<Row>
+    ensures { result ≡ circuit_row topology.now instance (circuit_of circuit.now) }
+{
+    let prefix = Prefix::host(circuit_address(circuit.number));
+    row_towards(topology, instance, circuit, prefix)
+}
+
+/// Puts the host routes of the circuits in an instance.
+fn put_circuit_rows(
+    topology: &Topology,
+    instance: InstanceId,
+    circuits: &[Attachment],
+    rows: &mut Rows,
+) -> Result<(), NoMemory>
+    ensures { OnOk result (rows.new.entries ≡ with_rows rows.old.entries
+        (filter_map (circuit_row topology.now instance) (circuits_in instance (map circuit_of circuits.now)))) }
+{
+    for circuit in circuits {
+        if is_in(circuit, instance) {
+            if let Some((key, row)) = circuit_row(topology, instance, circuit) {
+                rows.insert(key, row)?;
+            }
+        }
     }
-    Ok(rows)
+    Ok(())
+}
+
+/// Whether a port of a network has its address in a prefix.
+fn holds_port(config: &Config, network: &Network, prefix: &Prefix) -> bool
+    ensures { result ≡ holds_port config.now network.now prefix.now }
+{
+    config.ports.as_slice().iter().any(|port| port.network == network.name
+        && prefix.contains(port.address))
+}
+
+/// Puts the subnets of a network that hold a port of it, each towards a circuit.
+fn put_subnet_rows(
+    topology: &Topology,
+    config: &Config,
+    instance: InstanceId,
+    network: &Network,
+    circuit: &Attachment,
+    rows: &mut Rows,
+) -> Result<(), NoMemory>
+    ensures { OnOk result (rows.new.entries ≡ with_rows rows.old.entries
+        (subnet_rows topology.now config.now instance network.now (circuit_of circuit.now))) }
+{
+    for subnet in network.subnets.as_slice() {
+        if holds_port(config, network, subnet) {
+            if let Some((key, row)) = row_towards(topology, instance, circuit, *subnet) {
+                rows.insert(key, row)?;
+            }
+        }
+    }
+    Ok(())
+}
+
+/// Puts the same towards a circuit, where it is in the instance.
+fn put_rows_if_in(
+    topology: &Topology,
+    config: &Config,
+    instance: InstanceId,
+    network: &Network,
+    circuit: &Attachment,
+    rows: &mut Rows,
+) -> Result<(), NoMemory>
+    ensures { OnOk result (rows.new.entries ≡ with_rows rows.old.entries
+        (rows_if_in topology.now config.now instance network.now (circuit_of circuit.now))) }
+{
+    if !is_in(circuit, instance) {
+        return Ok(());
+    }
+    put_subnet_rows(topology, config, instance, network, circuit, rows)
+}
+
+/// Puts the same towards each of the circuits that are in the instance.
+fn put_rows_towards(
+    topology: &Topology,
+    config: &Config,
+    instance: InstanceId,
+    network: &Network,
+    circuits: &[Attachment],
+    rows: &mut Rows,
+) -> Result<(), NoMemory>
+    ensures { OnOk result (rows.new.entries ≡ with_rows rows.old.entries
+        (flat_map (rows_if_in topology.now config.now instance network.now) (map circuit_of circuits.now))) }
+{
+    for circuit in circuits {
+        put_rows_if_in(topology, config, instance, network, circuit, rows)?;
+    }
+    Ok(())
+}
+
+/// At an end of a chain, the route to a port of the network there.
+fn end_row(topology: &Topology, instance: InstanceId, network: &Network, port: &Port) -> Option<Row>
+    requires { IsTrue (has_port_form port.now) }
+    ensures { result ≡ end_row topology.now instance network.now port.now }
+{
+    if port.network != network.name {
+        return None;
+    }
+    let node = node_named(topology, &port.node)?;
+    Some(host_route(instance, network, node, port))
+}
+
+/// Puts the routes to the ports of a network, where an instance is at this end of a chain.
+fn put_end_rows(
+    topology: &Topology,
+    config: &Config,
+    instance: InstanceId,
+    end: InstanceId,
+    network: &Network,
+    rows: &mut Rows,
+) -> Result<(), NoMemory>
+    requires { IsTrue (list_all has_port_form config.now.ports) }
+    ensures { OnOk result (rows.new.entries ≡ with_rows rows.old.entries
+        (end_rows topology.now config.now instance end network.now)) }
+{
+    if instance.0 != end.0 {
+        return Ok(());
+    }
+    for port in config.ports.as_slice() {
+        if let Some((key, row)) = end_row(topology, instance, network, port) {
+            rows.insert(key, row)?;
+        }
+    }
+    Ok(())
+}
+
+/// Puts what a use gives an instance.
+fn put_hop_rows(
+    topology: &Topology,
+    config: &Config,
+    instance: InstanceId,
+    found: &ChainUse,
+    rows: &mut Rows,
+) -> Result<(), NoMemory>
+    requires { IsTrue (list_all has_port_form config.now.ports) }
+    ensures { OnOk result (rows.new.entries ≡ with_rows rows.old.entries
+        (hop_rows topology.now config.now instance (use_of found.now))) }
+{
+    let lefts = found.left_circuits.as_slice();
+    let rights = found.right_circuits.as_slice();
+    put_circuit_rows(topology, instance, lefts, rows)?;
+    put_circuit_rows(topology, instance, rights, rows)?;
+    put_rows_towards(topology, config, instance, &found.right, lefts, rows)?;
+    put_rows_towards(topology, config, instance, &found.left, rights, rows)?;
+    put_end_rows(
+        topology,
+        config,
+        instance,
+        first_hop(found),
+        &found.left,
+        rows,
+    )?;
+    put_end_rows(
+        topology,
+        config,
+        instance,
+        last_hop(found),
+        &found.right,
+        rows,
+    )?;
+    Ok(())
+}
+
+/// Puts what the uses give an instance.
+fn put_all_hop_rows(
+    topology: &Topology,
+    config: &Config,
+    instance: InstanceId,
+    chain_uses: &[ChainUse],
+    rows: &mut Rows,
+) -> Result<(), NoMemory>
+    requires { IsTrue (list_all has_port_form config.now.ports) }
+    ensures { OnOk result (rows.new.entries ≡ with_rows rows.old.entries
+        (flat_map (hop_rows topology.now config.now instance) (map use_of chain_uses.now))) }
+{
+    for found in chain_uses {
+        put_hop_rows(topology, config, instance, found, rows)?;
+    }
+    Ok(())
+}
+
+/// Puts the rows of the network with an instance's number.
+fn put_numbered_rows(
+    topology: &Topology,
+    config: &Config,
+    instance: InstanceId,
+    rows: &mut Rows,
+) -> Result<(), NoMemory>
+    requires { IsTrue (list_all has_port_form config.now.ports) }
+    ensures { OnOk result (rows.new.entries ≡ with_rows rows.old.entries
+        (rows_of topology.now config.now (network_numbered config.now instance.0))) }
+{
+    match network_numbered(config, instance) {
+        Some(network) => put_network_rows(topology, config, network, rows),
+        None => Ok(()),
+    }
+}
+
+/// Puts the table of an instance.
+#[tactic(auto, using(crate::proofs::Putting::rows_append))]
+pub(crate) fn put_table(
+    topology: &Topology,
+    config: &Config,
+    chain_uses: &[ChainUse],
+    instance: InstanceId,
+    rows: &mut Rows,
+) -> Result<(), NoMemory>
+    requires form { IsTrue (list_all has_port_form config.now.ports) }
+    requires uses { map use_of chain_uses.now ≡ uses config.now }
+    ensures { OnOk result (rows.new.entries ≡ with_rows rows.old.entries
+        (instance_table topology.now config.now instance)) }
+{
+    put_numbered_rows(topology, config, instance, rows)?;
+    put_all_hop_rows(topology, config, instance, chain_uses, rows)
 }
 
 /// The entries of a map, in the order of their keys.
-fn entries_of(alloc: Global, rows: &Rows) -> Result<ControlRows, NoMemory>
+pub(crate) fn entries_of(alloc: Global, rows: &Rows) -> Result<ControlRows, NoMemory>
     ensures { IfOk result (λ list. list ≡ rows.now.entries) }
 {
     let entries = rows.iter().map(|(key, row)| (*key, *row)).collect(alloc)?;
     Ok(Items::from_vec(entries))
-}
-
-/// The tables of every instance, which each control node has.
-#[tactic(auto, using(crate::proofs::Joined::control_rows_are), unfolding(config_model::specs::Form::has_config_form))]
-pub(crate) fn rows_of_controls(
-    alloc: Global,
-    topology: &Topology,
-    config: &Config,
-) -> Result<ControlRows, NoMemory>
-    requires form { IsTrue (has_config_form config.now) }
-    requires valid { first_broken topology.now config.now ≡ None }
-    ensures { IfOk result (λ list. list ≡ control_rows topology.now config.now) }
-{
-    let rows = rows_of_networks(alloc, topology, config)?;
-    entries_of(alloc, &rows)
 }

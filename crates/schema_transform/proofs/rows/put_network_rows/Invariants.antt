@@ -1,6 +1,6 @@
 use Rattle.std.proofs.Common.{◌≡◌, drop}
 use Rattle.std.specs.List.{filter_map}
-use Rattle.schema_transform.specs.Tables.{port_row, with_rows}
+use Rattle.transform_model.specs.Tables.{port_row, with_rows}
 use Rattle.schema_transform.proofs.rows.put_network_rows.Given as goal
 
 abbrev pub invariant-loop-port : goal.invariant-loop-port

@@ -1,5 +1,7 @@
-use Rattle.std.proofs.Common.{◌≡◌, map, take}
+use Rattle.std.proofs.Common.{◌≡◌, drop}
+use Rattle.std.specs.Prelude.{map, take}
 use Rattle.schema_transform.proofs.transform.copies.Given as goal
 
 abbrev pub invariant-loop-controller : goal.invariant-loop-controller
-invariant-loop-controller l = l.list ≡ map (λ x. l.rows) (take l._controller-index l.controllers)
+invariant-loop-controller l =
+    l.list ≡ map (λ x. l.rows) (take l._controller-index l.controllers)

@@ -1,0 +1,10 @@
+use Rattle.std.proofs.Common.{◌≡◌, drop}
+use Rattle.std.specs.Prelude.{flat_map, map}
+use Rattle.transform_model.specs.Objects.{circuit_objects, with_objects}
+use Rattle.schema_transform.specs.HeldUses.{use_of}
+use Rattle.schema_transform.proofs.objects.put_all_circuits.Given as goal
+
+abbrev pub invariant-loop-found : goal.invariant-loop-found
+invariant-loop-found l =
+    with_objects l.low.entries (flat_map (circuit_objects l.topology) (map use_of (drop l.found-index l.chain_uses)))
+    ≡ with_objects l.fn.low.entries (flat_map (circuit_objects l.topology) (map use_of l.chain_uses))
