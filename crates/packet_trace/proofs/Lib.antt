@@ -3,3 +3,4 @@ pub mod Walks
 pub mod Departing
 pub mod Delivering
 pub mod Tabled
+pub mod Orders

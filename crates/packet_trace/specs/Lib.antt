@@ -3,4 +3,5 @@ pub mod Circuits
 pub mod Lookups
 pub mod Steps
 pub mod Ports
+pub mod Orders
 pub mod Tables
