@@ -1,0 +1,22 @@
+//! Items: the records that nodes tell each other, and one end of the session that they go over.
+#![tactic(auto)]
+
+mod bounds;
+mod entry;
+mod event;
+mod fault;
+mod framing;
+mod input;
+mod item;
+mod list;
+mod member;
+mod op;
+mod session;
+mod table;
+mod written;
+
+pub use event::{ItemCause, ItemEvent, ItemFrom, ItemState};
+pub use fault::{Field, ItemFault, ItemRefusal};
+pub use framing::{TooLong, frame};
+pub use item::Item;
+pub use session::ItemSession;
