@@ -78,12 +78,16 @@ allows AnyNumber n = true
 allows AtLeastOne n = nat_le 1 n
 allows OneToFifteen n = is_from_to 1 15 n
 
+-- the items of a list, where it may have this number of them
+abbrev pub counted : Count → Option Items → Option Items
+counted count None = None
+counted count (Some items) = kept (allows count (items_len items)) items
+
 -- a list of a number of items that is allowed
 unfoldable pub list_from : {A : Type 0} → Count → (Data → Option A) → Data → Option (List A)
 list_from count reads d = do
-  items ← as_array d
-  counted ← kept (allows count (items_len items)) items
-  all_from reads counted
+  items ← counted count (as_array d)
+  all_from reads items
 
 -- the number of a network
 unfoldable pub network_from : Data → Option InstanceId

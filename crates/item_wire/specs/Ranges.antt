@@ -9,6 +9,7 @@ use Rattle.ov_types.specs.declared.objects.AclAction.{AclAction}
 use Rattle.ov_types.specs.declared.objects.AclAction.TheVariants.{Pass, Deny, Enter}
 use Rattle.ov_types.specs.declared.objects.AclRule.{AclRule}
 use Rattle.ov_types.specs.declared.packet.Range16.{Range16}
+use Rattle.ov_types.specs.declared.packet.RuleNo.{RuleNo}
 use Rattle.ov_types.specs.declared.prefix.Addr.{Addr}
 use Rattle.item_wire.specs.declared.item.Item.{Item}
 use Rattle.item_wire.specs.declared.item.Item.TheVariants as I
@@ -52,9 +53,12 @@ is_action Pass = true
 is_action Deny = true
 is_action (Enter i) = is_from_to 16384 65535 i.0
 
+abbrev pub is_rule_number : RuleNo → Bool
+is_rule_number n = nat_le n.sequence 65535 && is_from_to 1 16 n.position
+
 abbrev pub is_rule : AclRule → Bool
 is_rule r = is_protocol r.protocol && are_ports r.sports && are_ports r.dports && is_action r.action
-    && nat_le r.rule.sequence 65535 && is_from_to 1 16 r.rule.position
+    && is_rule_number r.rule
 
 -- each member of an item is within its range
 abbrev pub is_in_range : Item → Bool

@@ -1,7 +1,8 @@
 -- The record of each item: an object of its members in the order of their names.
-use Rattle.std.specs.Prelude.{ℕ, ◌∷◌, [], List, codes, Option, Some, None}
-use Rattle.serde_json.specs.Data.{Data, number, string, array, object, unsigned, Items, no_items, item, Members}
+use Rattle.std.specs.Prelude.{ℕ, List, map, codes, Option, Some, None}
+use Rattle.serde_json.specs.Data.{Data, number, string, array, object, unsigned, no_items, item}
 use Rattle.serde_json.specs.Data.{no_members, member}
+use Rattle.serde_json.specs.View.{items_of}
 use Rattle.serde_json.specs.Written.{compact_text}
 use Rattle.ov_types.specs.Prefix.{Block}
 use Rattle.ov_types.specs.Texts.{address_text, prefix_text}
@@ -24,13 +25,9 @@ address_record a = string (address_text a.0)
 abbrev pub prefix_record : Block → Data
 prefix_record b = string (prefix_text b)
 
-abbrev pub items_of : {A : Type 0} → (A → Data) → List A → Items
-items_of record_of [] = no_items
-items_of record_of (x ∷ xs) = item (record_of x) (items_of record_of xs)
-
 -- a list, of the records of its items
 abbrev pub list_record : {A : Type 0} → (A → Data) → List A → Data
-list_record record_of xs = array (items_of record_of xs)
+list_record record_of xs = array (items_of (map record_of xs))
 
 abbrev pub import_record : InstanceId → Data
 import_record i = number_record i.0

@@ -1,9 +1,10 @@
 //! Lists, whose items are read and written one by one.
-ghost use Rattle.std.specs.Prelude.{◌≡◌, length, List, Bool, IsTrue, Option, IfSome, IfOk, OnOk, OnErr};
+ghost use Rattle.std.specs.Prelude.{◌≡◌, length, List, Bool, IsTrue, Option, IfSome, IfOk, option_map};
 ghost use Rattle.std.specs.List.{list_all};
 ghost use Rattle.serde_json.specs.Data.{Data};
+ghost use Rattle.serde_json.specs.Find.{as_array};
 ghost use Rattle.serde_json.specs.View.{view, items_view};
-ghost use Rattle.item_wire.specs.Entries.{allows, all_from, list_from};
+ghost use Rattle.item_wire.specs.Entries.{allows, counted, all_from, list_from};
 ghost use Rattle.item_wire.specs.Records.{list_record};
 
 use ov_types::{Items, NoMemory};
@@ -65,6 +66,24 @@ fn all_from<T: Entry>(alloc: Global, values: &[Value]) -> Result<Option<Items<T>
     Ok(Some(items))
 }
 
+/// The items of a list, where it may have this number of them.
+fn counted(count: Count, value: &Value) -> Option<&[Value]>
+    ensures items { option_map (λ values. items_view values.now) result ≡ counted count (as_array (view value.now)) }
+    ensures count { IfSome result (λ values. IsTrue (allows count (length values.now))) }
+{
+    match value.as_array() {
+        None => None,
+        Some(list) => {
+            let items = list.as_slice();
+            if count.allows(items.len()) {
+                Some(items)
+            } else {
+                None
+            }
+        }
+    }
+}
+
 /// A list of a number of items that is allowed.
 #[tactic(auto, unfolding(crate::specs::Entries::list_from))]
 pub(crate) fn list_from<T: Entry>(
@@ -76,9 +95,9 @@ pub(crate) fn list_from<T: Entry>(
     ensures form { IfOk result (λ o. IfSome o (λ xs. IsTrue (list_all T.is_fit xs))) }
     ensures count { IfOk result (λ o. IfSome o (λ xs. IsTrue (allows count (length xs)))) }
 {
-    match value.as_array() {
-        Some(list) if count.allows(list.len()) => all_from(alloc, list.as_slice()),
-        _ => Ok(None),
+    match counted(count, value) {
+        Some(values) => all_from(alloc, values),
+        None => Ok(None),
     }
 }
 
