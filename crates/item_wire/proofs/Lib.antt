@@ -1,5 +1,11 @@
-pub mod Counts
+pub mod JsonLaws
 pub mod Lists
+pub mod Counts
 pub mod Addresses
 pub mod Lengths
 pub mod OneText
+pub mod TableLemmas
+pub mod Floats
+pub mod Read
+pub mod Plain
+pub mod Framed

@@ -62,7 +62,10 @@ pub(crate) fn has_items(n: usize, value: &Value) -> bool
     ensures { result ≡ has_items n (view value.now) }
 {
     match value.as_array() {
-        Some(list) => list.len() == n,
+        Some(list) => {
+            let items = list.as_slice();
+            items.len() == n
+        }
         None => false,
     }
 }
