@@ -7,5 +7,4 @@ pub mod OneText
 pub mod TableLemmas
 pub mod Floats
 pub mod Read
-pub mod Plain
 pub mod Framed
