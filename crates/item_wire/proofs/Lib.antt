@@ -8,3 +8,6 @@ pub mod TableLemmas
 pub mod Floats
 pub mod Read
 pub mod Framed
+pub mod Plain
+pub mod Spelled
+pub mod ChangeLemmas

@@ -11,3 +11,4 @@ pub mod Inputs
 pub mod Table
 pub mod Happenings
 pub mod Words
+pub mod Changes

@@ -272,7 +272,7 @@ fn record_of(alloc: Global, item: &Item) -> Result<Value, AllocError>
 }
 
 /// The JSON of an item.
-fn json_of(alloc: Global, item: &Item) -> Result<String, AllocError>
+pub(crate) fn json_of(alloc: Global, item: &Item) -> Result<String, AllocError>
     ensures { IfOk result (λ text. string_bytes text ≡ json_text item.now) }
 {
     let value = record_of(alloc, item)?;
