@@ -1,6 +1,6 @@
 -- Each item of a direction is one change, and each change one item.
 use Rattle.std.proofs.Common.{◌≡◌, ℕ, ◌==◌, Bool, true, false, Option, Some, None, IfSome, is_some, refl, sym, ap, inl, inr}
-use Rattle.std.proofs.lemmas.Bool.{cases_Bool, eqb-true, eq-eqb}
+use Rattle.std.proofs.lemmas.Bool.{eqb-true, eq-eqb}
 use Rattle.ov_types.specs.declared.keys.DownKey.{DownKey}
 use Rattle.ov_types.specs.declared.keys.DownKey.TheVariants as Down
 use Rattle.ov_types.specs.declared.keys.UpKey.{UpKey}

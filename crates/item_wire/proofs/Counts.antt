@@ -6,7 +6,7 @@ use Rattle.serde_json.specs.View.{items_view}
 use Rattle.serde_json.specs.Events.{items_len}
 use Rattle.serde_json.proofs.Views.{items_len-items_view}
 use Rattle.item_wire.specs.declared.list.Count.{Count}
-use Rattle.item_wire.specs.Entries.{allows, counted, kept, counts}
+use Rattle.item_wire.specs.Entries.{allows, counted, counts}
 
 pub is_kept : (count : Count) (o : Option Items) (items vs : List Value) → vs ≡ items → Some (items_view items) ≡ o → allows count (length vs) ≡ true
     → Some (items_view vs) ≡ counted count o

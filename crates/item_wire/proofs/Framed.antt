@@ -3,7 +3,7 @@ use Rattle.std.proofs.Common.{◌≡◌, ℕ, ◌+◌, ◌-◌, ◌≤◌, ◌<�
 use Rattle.std.proofs.lemmas.Bool.{le-ltb}
 use Rattle.std.proofs.lemmas.List.{take_at, drop_at}
 use Rattle.byteorder.specs.Endian.{big_bytes, big_number}
-use Rattle.item_wire.specs.Frames.{framed, first_octets, limited, frame_of}
+use Rattle.item_wire.specs.Frames.{framed, frame_of}
 
 reads_back : (x : ℕ) (rest : List ℕ) → x ≤ 65536 → big_number 4 (big_bytes 4 x ++ rest) ≡ x
 reads_back x rest h = omega (arith, h)

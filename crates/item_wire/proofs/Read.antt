@@ -19,7 +19,7 @@ use Rattle.item_wire.specs.declared.item.Item.{Item}
 use Rattle.item_wire.specs.declared.item.Item.TheVariants as I
 use Rattle.item_wire.specs.declared.list.Count.{Count}
 use Rattle.item_wire.specs.declared.list.Count.TheVariants.{AnyNumber, AtLeastOne, OneToFifteen}
-use Rattle.item_wire.specs.Written.{address_of, block_of}
+use Rattle.item_wire.specs.Written.{address_of}
 use Rattle.item_wire.specs.Entries.{is_from_to, allows, number_from, name_from, address_from, any_address_from, node_address_from, prefix_from, all_from, list_from, network_from, in_place, hop_from, protocol_from, ports_from, action_from, rule_number_from, rule_from}
 use Rattle.item_wire.specs.Members.{in_member}
 use Rattle.item_wire.specs.Ranges.{is_network, is_instance, is_attached_label, is_address, is_node_address, is_block, is_import, is_hop, is_protocol, are_ports, is_action, is_rule_number, is_rule, is_in_range}

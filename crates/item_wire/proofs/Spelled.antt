@@ -1,5 +1,5 @@
 -- What is written of an item is read as it.
-use Rattle.std.proofs.Common.{◌≡◌, ℕ, ◌≤◌, ◌<◌, ◌^◌, ◌/◌, ◌%◌, ◌&&◌, ◌==◌, Bool, true, IsTrue, List, [], ◌∷◌, ◌++◌, length, map, drop, nat_le, nat_lt, Option, Some, None, Ok, IsUtf8, decimal, codes, refl, sym, ap, ◌∙◌, arith}
+use Rattle.std.proofs.Common.{◌≡◌, ℕ, ◌<◌, ◌^◌, ◌/◌, ◌%◌, ◌&&◌, ◌==◌, Bool, true, IsTrue, List, [], ◌∷◌, length, map, drop, nat_le, nat_lt, Option, Some, None, Ok, IsUtf8, decimal, codes, refl, sym, ap, ◌∙◌, arith}
 use Rattle.std.specs.List.{list_all}
 use Rattle.std.proofs.lemmas.Bool.{and_parts, leb-true, ltb-true}
 use Rattle.std.proofs.lemmas.List.{drop_at}
@@ -7,11 +7,10 @@ use Rattle.std.proofs.lemmas.Str.{IsUtf8-append, IsUtf8-from_ascii}
 use Rattle.std.proofs.lemmas.Fmt.{IsAscii-decimal}
 use Rattle.json.proofs.Printed.Utf8.{are_ascii, IsUtf8-are_ascii}
 use Rattle.byteorder.specs.Endian.{big_bytes}
-use Rattle.serde_json.specs.Data.{Data, null, boolean, number, string, array, object, Members, no_members, member}
+use Rattle.serde_json.specs.Data.{Data, null, boolean, number, string, array, object, no_members}
 use Rattle.serde_json.specs.View.{items_of}
 use Rattle.serde_json.specs.Written.{compact_text}
 use Rattle.serde_json.specs.Read.{read}
-use Rattle.ov_types.specs.Name.{is_name}
 use Rattle.ov_types.specs.Prefix.{Block, is_prefix, size_of}
 use Rattle.ov_types.specs.Texts.{address_text, prefix_text}
 use Rattle.ov_types.proofs.Names.{name_is_utf8}
@@ -25,9 +24,8 @@ use Rattle.ov_types.specs.declared.prefix.Addr.{Addr}
 use Rattle.item_wire.specs.declared.item.Item.{Item}
 use Rattle.item_wire.specs.declared.item.Item.TheVariants as I
 use Rattle.item_wire.specs.Entries.{is_from_to}
-use Rattle.item_wire.specs.Faults.{◌>>=◌}
 use Rattle.item_wire.specs.Ranges.{is_network, is_instance, is_attached_label, is_address, is_node_address, is_block, is_import, is_hop, is_protocol, are_ports, is_action, is_rule_number, is_rule, is_in_range}
-use Rattle.item_wire.specs.Reading.{json_of, item_of, item_in}
+use Rattle.item_wire.specs.Reading.{json_of, item_in}
 use Rattle.item_wire.specs.Records.{prefix_record, import_record, hop_record, protocol_record, action_record, rule_record, record_of, json_text, spelling}
 use Rattle.item_wire.proofs.JsonLaws.{json_of_text}
 use Rattle.item_wire.proofs.Plain.{IsPlain, ArePlain, PlainMembers, read_one_by_one, object_is_text, object_is_read}

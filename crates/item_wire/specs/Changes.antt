@@ -1,7 +1,7 @@
 -- An item is a change of what one end of a session wants the other to hold.
 --     fed, told, said      the change that an item is, from the configuration node, a control node, an agent
 --     item_fed, item_told, item_said      the item that a change is
-use Rattle.std.specs.Prelude.{ℕ, ◌==◌, Bool, true, false, Option, Some, None, if◌then◌else◌}
+use Rattle.std.specs.Prelude.{◌==◌, Bool, true, false, Option, Some, None, if◌then◌else◌}
 use Rattle.ov_types.specs.declared.keys.DownKey.{DownKey}
 use Rattle.ov_types.specs.declared.keys.DownKey.TheVariants as Down
 use Rattle.ov_types.specs.declared.keys.UpKey.{UpKey}

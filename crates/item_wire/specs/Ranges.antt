@@ -1,5 +1,5 @@
 -- The items whose members are within their ranges.
-use Rattle.std.specs.Prelude.{ℕ, List, length, Bool, true, ◌&&◌, nat_le, nat_lt, ◌^◌, Option, Some, None}
+use Rattle.std.specs.Prelude.{ℕ, length, Bool, true, ◌&&◌, nat_le, nat_lt, ◌^◌, Option, Some, None}
 use Rattle.std.specs.List.{list_all}
 use Rattle.ov_types.specs.Name.{is_name}
 use Rattle.ov_types.specs.Prefix.{Block, is_prefix}

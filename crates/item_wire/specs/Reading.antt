@@ -7,7 +7,6 @@ use Rattle.serde_json.specs.Find.{as_str}
 use Rattle.serde_json.specs.Read.{read}
 use Rattle.ov_types.specs.Prefix.{Block}
 use Rattle.ov_types.specs.declared.prefix.Addr.{Addr}
-use Rattle.ov_types.specs.declared.objects.AclRule.{AclRule}
 use Rattle.item_wire.specs.declared.fault.Field.{Field}
 use Rattle.item_wire.specs.declared.fault.Field.TheVariants as F
 use Rattle.item_wire.specs.declared.fault.ItemFault.{ItemFault}
