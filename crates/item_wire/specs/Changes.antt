@@ -89,7 +89,8 @@ abbrev pub told : Item → Option (Delta DownKey DownValue)
 told (I.Port address instance node port) =
     Some (Put (Down.Slice (Key.Attach (port_label_of port).0)) (Object (Value.AttachPort port instance address node)))
 told (I.Circuit circuit node service) =
-    Some (Put (Down.Slice (Key.Attach (circuit_label_of circuit).0)) (Object (Value.AttachCircuit circuit service node)))
+    Some (Put (Down.Slice (Key.Attach (circuit_label_of circuit).0))
+    (Object (Value.AttachCircuit circuit service node)))
 told (I.Acl from rules subnets to) = Some (Put (Down.Slice (Key.Acl from to)) (Object (Value.Acl subnets rules)))
 told (I.NoAttach label) = Some (Drop (Down.Slice (Key.Attach label.0)))
 told (I.NoAcl from to) = Some (Drop (Down.Slice (Key.Acl from to)))

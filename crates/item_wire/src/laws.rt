@@ -21,7 +21,8 @@ ghost use Rattle.item_wire.specs.Words.{step_of};
 
 /// Each state does with each input what its words say.
 pub fn each_cell_says_its_words()
-    ensures { (state : ItemState) (came : CameTo) → (next_state state came, next_event state came) ≡ step_of state came }
+    ensures { (state : ItemState) (came : CameTo)
+        → (next_state state came, next_event state came) ≡ step_of state came }
 {}
 
 /// A record on a link is told by its octets, whatever follows it.
