@@ -28,3 +28,6 @@ pub use item::Item;
 pub use reader::read_item;
 pub use session::ItemSession;
 pub use writer::write_item;
+
+#[cfg(test)]
+mod tests;
