@@ -11,3 +11,4 @@ pub mod Framed
 pub mod Plain
 pub mod Spelled
 pub mod ChangeLemmas
+pub mod Passing

@@ -6,13 +6,17 @@ ghost use Rattle.ov_types.specs.declared.keys.DownKey.{DownKey};
 ghost use Rattle.ov_types.specs.declared.keys.UpKey.{UpKey};
 ghost use Rattle.ov_types.specs.declared.objects.LowKey.{LowKey};
 ghost use Rattle.ov_types.specs.declared.objects.LowValue.{LowValue};
+ghost use Rattle.serde_json.specs.Data.{Data};
+ghost use Rattle.serde_json.specs.Find.{get};
 ghost use Rattle.item_wire.specs.declared.event.ItemState.{ItemState};
 ghost use Rattle.item_wire.specs.declared.input.Came.{Came as CameTo};
+ghost use Rattle.item_wire.specs.declared.fault.Field.{Field as Member};
 ghost use Rattle.item_wire.specs.declared.item.Item.{Item as Record};
 ghost use Rattle.item_wire.specs.Changes.{DownValue, UpValue, has_key, fed, item_fed, told, item_told, said, item_said};
 ghost use Rattle.item_wire.specs.Frames.{framed, frame_of};
 ghost use Rattle.item_wire.specs.Happenings.{next_state, next_event};
 ghost use Rattle.item_wire.specs.Inputs.{is_of_feed, is_of_control, is_of_agent};
+ghost use Rattle.item_wire.specs.Members.{name_of};
 ghost use Rattle.item_wire.specs.Ranges.{is_in_range};
 ghost use Rattle.item_wire.specs.Reading.{item_of, item_in};
 ghost use Rattle.item_wire.specs.Records.{record_of, json_text, spelling};
@@ -28,6 +32,12 @@ pub fn each_cell_says_its_words()
 /// A record on a link is told by its octets, whatever follows it.
 pub fn records_are_told_by_their_octets()
     ensures { (json more : List ℕ) → length json ≤ 65536 → frame_of (framed json ++ more) ≡ Ok (Some json) }
+{}
+
+/// What a value reads as is told by the members of records alone; others are passed over.
+pub fn other_members_are_passed_over()
+    ensures { (d e : Data) → ((field : Member) → get (name_of field) d ≡ get (name_of field) e)
+        → item_of d ≡ item_of e }
 {}
 
 /// Each item within its ranges is what its record reads as.
