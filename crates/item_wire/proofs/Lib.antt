@@ -1,0 +1,14 @@
+pub mod JsonLaws
+pub mod Lists
+pub mod Counts
+pub mod Addresses
+pub mod Lengths
+pub mod OneText
+pub mod TableLemmas
+pub mod Floats
+pub mod Read
+pub mod Framed
+pub mod Plain
+pub mod Spelled
+pub mod ChangeLemmas
+pub mod Passing

@@ -1,0 +1,14 @@
+pub mod Written
+pub mod Texts
+pub mod Frames
+pub mod Faults
+pub mod Members
+pub mod Entries
+pub mod Reading
+pub mod Ranges
+pub mod Records
+pub mod Inputs
+pub mod Table
+pub mod Happenings
+pub mod Words
+pub mod Changes

@@ -1,0 +1,14 @@
+-- One text for each address and prefix.
+use Rattle.std.specs.Prelude.{◌≡◌, ◌↔◌, ℕ, ◌<◌, ◌^◌, List, IsTrue, Some}
+use Rattle.ov_types.specs.Prefix.{Block, is_prefix}
+use Rattle.ov_types.specs.Texts.{address_text, prefix_text}
+use Rattle.item_wire.specs.Written.{address_of, block_of}
+
+-- each address has one text, which reads as it, and no other text does
+abbrev pub AddressHasOneText : Type 0
+AddressHasOneText = (text : List ℕ) (n : ℕ) → (address_of text ≡ Some n) ↔ ((n < 2 ^ 32) × (text ≡ address_text n))
+
+-- each prefix has one text, which reads as it, and no other text does
+abbrev pub PrefixHasOneText : Type 0
+PrefixHasOneText = (text : List ℕ) (b : Block) → (block_of text ≡ Some b)
+    ↔ ((b.addr < 2 ^ 32) × IsTrue (is_prefix b.addr b.len) × (text ≡ prefix_text b))
