@@ -15,7 +15,8 @@ use Rattle.ov_types.specs.First.{◌<|>◌, first_of}
 use Rattle.network_rules.specs.declared.numbered.NumberedRule.{NumberedRule}
 use Rattle.network_rules.specs.Related.{numbered_rules, attaches, by_sequence, end_fits, fits, rules_between}
 use Rattle.ov_types.proofs.FirstLemmas.{all_head, all_tail}
-use Rattle.network_rules.specs.Matching.{Match, in_range, has_protocol, speaks_both_ways, matches_forwards, match_by, deciding, decision_by, decision}
+use Rattle.ov_types.specs.Access.{in_range}
+use Rattle.network_rules.specs.Matching.{Match, has_protocol, speaks_both_ways, matches_forwards, match_by, deciding, decision_by, decision}
 use Rattle.network_rules.specs.Answering.{answering, SpeakBothWays, NamesTwoEnds, rule_of}
 
 -- either network first

@@ -9,7 +9,8 @@ use Rattle.ov_types.specs.First.{◌<|>◌, first_of}
 use Rattle.ov_types.proofs.FirstLemmas.{first_flat, first_kept, next_is, all_here}
 use Rattle.network_rules.specs.declared.numbered.NumberedRule.{NumberedRule}
 use Rattle.network_rules.specs.Related.{numbered_from, numbered_rules, attaches, put_by_sequence, by_sequence, fits}
-use Rattle.network_rules.specs.Matching.{Match, has_protocol, in_range, speaks_both_ways, match_by}
+use Rattle.ov_types.specs.Access.{in_range}
+use Rattle.network_rules.specs.Matching.{Match, has_protocol, speaks_both_ways, match_by}
 use Rattle.network_rules.specs.Least.{match_in, least}
 
 -- a rule that matches fits

@@ -1,0 +1,6 @@
+-- Lemmas, in the order in which they stand on each other.
+pub mod Images
+pub mod Values
+pub mod Peers
+pub mod Agents
+pub mod Seating
