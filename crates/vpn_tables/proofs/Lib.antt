@@ -4,3 +4,5 @@ pub mod Values
 pub mod Peers
 pub mod Agents
 pub mod Seating
+pub mod Within
+pub mod Walks

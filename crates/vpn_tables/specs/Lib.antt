@@ -4,3 +4,5 @@ pub mod Codes
 pub mod Views
 pub mod Changes
 pub mod Seats
+pub mod Answers
+pub mod Routes

@@ -1,8 +1,12 @@
 //! The tables of a control node, from what it holds.
 #![tactic(auto)]
 
+mod chains;
 mod held;
+mod reaching;
+mod routes;
 mod sessions;
 mod tables;
 
+pub use routes::Route;
 pub use tables::VpnTables;
