@@ -1,12 +1,15 @@
 -- The paths that are walked over, from the typed entries.
-use Rattle.std.specs.Prelude.{◌≡◌, ℕ, suc, ◌+◌, List, [], ◌∷◌, ◌++◌, map, Bool, true, false, cond, ◌||◌}
+use Rattle.std.specs.Prelude.{◌≡◌, ◌<◌, ℕ, suc, ◌+◌, length, drop, List, [], ◌∷◌, ◌++◌, map, Bool, true, false, cond, ◌||◌}
 use Rattle.std.specs.declared.option.Option.{Option}
 use Rattle.std.specs.declared.option.Option.TheVariants.{Some, None}
 use Rattle.std.specs.List.{list_any, filter, filter_map, cons_option, flat_map, enumerate_from}
 use Rattle.std.specs.List.Sorted.{IsStrictlySortedBy}
 use Rattle.std.specs.FinMap.{entries}
-use Rattle.std.proofs.Common.{refl, sym, ◌∙◌, ap}
+use Rattle.std.proofs.Math.Seq.{drop-cons}
+use Rattle.std.proofs.Common.{refl, sym, ◌∙◌, ap, arith, get_or}
 use Rattle.ov_sync.specs.Embed.{moved_entry}
+use Rattle.ov_types.specs.Prefix.{Block, is_inside}
+use Rattle.ov_types.specs.declared.numbers.InstanceId.{InstanceId}
 use Rattle.ov_types.specs.declared.keys.UpKey.{UpKey}
 use Rattle.ov_types.specs.declared.numbers.Label.{Label as LabelNo}
 use Rattle.ov_types.specs.declared.vpn.VpnKey.{VpnKey}
@@ -14,7 +17,11 @@ use Rattle.ov_types.specs.declared.vpn.VpnRoute.{VpnRoute}
 use Rattle.node_model.specs.Keys.{Key, Vpn, of_up}
 use Rattle.node_model.specs.Values.{Value, Route, Label}
 use Rattle.node_model.specs.Maps.{Map}
-use Rattle.node_model.specs.Paths.{Holdings, Told, Path, own_path, peer_path}
+use Rattle.route_targets.specs.Numbers.{target_of}
+use Rattle.node_model.specs.Paths.{Holdings, Told, Path, own_path, peer_path, own_paths, peer_paths, has_target}
+use Rattle.node_model.specs.Reaching.{has_path_within}
+use Rattle.node_model.specs.Uses.{imports}
+use Rattle.vpn_tables.specs.Answers.{leads_within}
 use Rattle.vpn_tables.specs.declared.tables.Agent.{Agent}
 use Rattle.vpn_tables.specs.Views.{agent_of, told_of, peer_of, up_order, vpn_order}
 use Rattle.vpn_tables.proofs.Images.{told-entries, peer-entries}
@@ -79,3 +86,20 @@ one_with p o x ys whole is e h = sym (ap (λ (o : Option Path). list_any p (cons
 
 pub none_first : (p : Path → Bool) (o : Option Path) (ys : List Path) (whole : Bool) → o ≡ None → list_any p (cons_option o ys) ≡ whole → list_any p ys ≡ whole
 none_first p o ys whole is h = sym (ap (λ (o : Option Path). list_any p (cons_option o ys)) is) ∙ h
+
+one_on : (k : ℕ) → 1 + k + 1 ≡ 1 + (k + 1)
+one_on k = omega arith
+
+next_place : (k : ℕ) → suc k ≡ k + 1
+next_place k = omega arith
+
+pub peers_turn : (items : List (List (VpnKey × VpnRoute))) (k : ℕ) (x : List (VpnKey × VpnRoute)) → k < length items → x ≡ get_or items k x
+    → peers_from (1 + k) (map peer_of (drop k items)) ≡ filter_map (λ e. peer_path (1 + k) e.0 e.1) (entries (peer_of x)) ++ peers_from (1 + (k + 1)) (map peer_of (drop (k + 1) items))
+peers_turn items k x lt e =
+    ap (λ (l : List (List (VpnKey × VpnRoute))). peers_from (1 + k) (map peer_of l)) (drop-cons items k x lt ∙ ap (λ (y : List (VpnKey × VpnRoute)). y ∷ drop (suc k) items) (sym e))
+    ∙ (λ i. filter_map (λ e. peer_path (1 + k) e.0 e.1) (entries (peer_of x)) ++ peers_from (one_on k i) (map peer_of (drop (next_place k i) items)))
+
+pub path_within : (h : Holdings) (i : InstanceId) (subnet : Block) → has_path_within h i subnet ≡ (list_any (leads_within h i subnet) (own_paths h) || list_any (leads_within h i subnet) (peer_paths h))
+path_within h i subnet =
+    any-filter (λ p. is_inside p.prefix subnet) (has_target (map (target_of h.asn) (imports h.feed i))) (own_paths h ++ peer_paths h)
+    ∙ any-append (leads_within h i subnet) (own_paths h) (peer_paths h)
