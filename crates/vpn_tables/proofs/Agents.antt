@@ -31,7 +31,7 @@ named_there (b ∷ agents) session x k a e h s =
       | false ↦ λ e. here k e h
     ] e
   where
-    farther : ((k : ℕ) → seat_of agents session ≡ k → slice_get agents k ≡ Some a → map agent_of (slice_set agents k (record a { address = x })) ≡ named (map agent_of agents) session x) → 
+    farther : ((k : ℕ) → seat_of agents session ≡ k → slice_get agents k ≡ Some a → map agent_of (slice_set agents k (record a { address = x })) ≡ named (map agent_of agents) session x) →
         (k : ℕ) → suc (seat_of agents session) ≡ k → slice_get (b ∷ agents) k ≡ Some a
         → map agent_of (slice_set (b ∷ agents) k (record a { address = x })) ≡ agent_of b ∷ named (map agent_of agents) session x
     farther again zero e h = absurd (omega (arith, e))
@@ -62,7 +62,7 @@ named_new (b ∷ agents) session x k told t e h =
       | false ↦ λ e. here k e h
     ] e
   where
-    farther : ((k : ℕ) → seat_of agents session ≡ k → ((a : Agent) → slice_get agents k ≡ Some a → (a.session == session) ≡ false) → map agent_of (insert agents k (record { session = session; address = x; told = told })) ≡ named (map agent_of agents) session x) → 
+    farther : ((k : ℕ) → seat_of agents session ≡ k → ((a : Agent) → slice_get agents k ≡ Some a → (a.session == session) ≡ false) → map agent_of (insert agents k (record { session = session; address = x; told = told })) ≡ named (map agent_of agents) session x) →
         (k : ℕ) → suc (seat_of agents session) ≡ k → ((a : Agent) → slice_get (b ∷ agents) k ≡ Some a → (a.session == session) ≡ false)
         → map agent_of (insert (b ∷ agents) k (record { session = session; address = x; told = told })) ≡ agent_of b ∷ named (map agent_of agents) session x
     farther again zero e h = absurd (omega (arith, e))
@@ -88,7 +88,7 @@ told_there f (b ∷ agents) session k a fs e h s g =
       | false ↦ λ e. here k e h
     ] e
   where
-    farther : ((k : ℕ) → seat_of agents session ≡ k → slice_get agents k ≡ Some a → map agent_of (slice_set agents k (record a { told = fs })) ≡ at_session f (map agent_of agents) session) → 
+    farther : ((k : ℕ) → seat_of agents session ≡ k → slice_get agents k ≡ Some a → map agent_of (slice_set agents k (record a { told = fs })) ≡ at_session f (map agent_of agents) session) →
         (k : ℕ) → suc (seat_of agents session) ≡ k → slice_get (b ∷ agents) k ≡ Some a
         → map agent_of (slice_set (b ∷ agents) k (record a { told = fs })) ≡ agent_of b ∷ at_session f (map agent_of agents) session
     farther again zero e h = absurd (omega (arith, e))
@@ -118,7 +118,7 @@ told_nowhere f (b ∷ agents) session k e h =
       | false ↦ λ e. here k e h
     ] e
   where
-    farther : ((k : ℕ) → seat_of agents session ≡ k → ((a : Agent) → slice_get agents k ≡ Some a → (a.session == session) ≡ false) → map agent_of agents ≡ at_session f (map agent_of agents) session) → 
+    farther : ((k : ℕ) → seat_of agents session ≡ k → ((a : Agent) → slice_get agents k ≡ Some a → (a.session == session) ≡ false) → map agent_of agents ≡ at_session f (map agent_of agents) session) →
         (k : ℕ) → suc (seat_of agents session) ≡ k → ((a : Agent) → slice_get (b ∷ agents) k ≡ Some a → (a.session == session) ≡ false)
         → map agent_of (b ∷ agents) ≡ agent_of b ∷ at_session f (map agent_of agents) session
     farther again zero e h = absurd (omega (arith, e))

@@ -30,15 +30,15 @@ impl<'a> Model for Side<'a> {
     ghost Value = { SideValue };
 
     ghost view = { λ s. record {
-        chain = record {
-            number = s.number;
-            left = s.left;
-            right = s.right;
-            left_subnets = s.left_subnets.now;
-            right_subnets = s.right_subnets.now;
-            services = s.services;
-        };
-        is_right = s.is_right;
+      chain = record {
+        number = s.number;
+        left = s.left;
+        right = s.right;
+        left_subnets = s.left_subnets.now;
+        right_subnets = s.right_subnets.now;
+        services = s.services;
+      };
+      is_right = s.is_right;
     } };
 
     ghost invariant = { λ s. (s.number ≤ 3071) × (s.services ≤ 15) };
@@ -102,7 +102,11 @@ impl<'a> Side<'a> {
         ensures distance { result ≡ distance self.now place }
         ensures within { result ≤ self.now.chain.services }
     {
-        if self.is_right { self.services - place } else { place }
+        if self.is_right {
+            self.services - place
+        } else {
+            place
+        }
     }
 }
 

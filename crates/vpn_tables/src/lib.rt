@@ -7,6 +7,8 @@ mod reaching;
 mod routes;
 mod sessions;
 mod tables;
+#[cfg(test)]
+mod tests;
 
 pub use routes::Route;
 pub use tables::VpnTables;

@@ -129,7 +129,12 @@ impl VpnTables {
         false
     }
 
-    fn has_peer_within(&self, routes: &Held<VpnKey, VpnRoute>, i: InstanceId, subnet: &Prefix) -> bool
+    fn has_peer_within(
+        &self,
+        routes: &Held<VpnKey, VpnRoute>,
+        i: InstanceId,
+        subnet: &Prefix,
+    ) -> bool
         ensures { (session : ℕ) → result ≡ list_any (leads_within self.now i subnet.now)
             (filter_map (λ e. peer_path session e.0 e.1) (entries (peer_of routes.now))) }
     {

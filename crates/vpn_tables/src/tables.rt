@@ -48,10 +48,10 @@ impl Model for VpnTables {
     ghost use Rattle.vpn_tables.specs.Views.{low_order, feed_of, peer_of, agent_of};
 
     ghost view = { λ s. record {
-        asn = s.asn;
-        feed = feed_of s.low;
-        peers = map peer_of s.peers.items;
-        agents = map agent_of s.agents.items;
+      asn = s.asn;
+      feed = feed_of s.low;
+      peers = map peer_of s.peers.items;
+      agents = map agent_of s.agents.items;
     } };
 
     ghost invariant = { λ s. (s.asn ≤ 65535) × Values Fits (map_of low_order s.low) };
@@ -84,7 +84,11 @@ impl VpnTables {
     }
 
     /// Applies a change that a peer told on its session. Session 0 is the feed, which tells no routes.
-    pub fn set_peer_route(&mut self, session: u16, delta: Delta<VpnKey, VpnRoute>) -> Result<(), NoMemory>
+    pub fn set_peer_route(
+        &mut self,
+        session: u16,
+        delta: Delta<VpnKey, VpnRoute>,
+    ) -> Result<(), NoMemory>
         ensures ok { OnOk result (self.new ≡ with_route self.old session delta) }
         ensures err { OnErr result (self.new ≡ self.old) }
     {
@@ -105,7 +109,11 @@ impl VpnTables {
     }
 
     /// Applies a change that an agent told on its session. A session that is no agent's changes nothing.
-    pub fn set_publication(&mut self, session: u16, delta: Delta<UpKey, Label>) -> Result<(), NoMemory>
+    pub fn set_publication(
+        &mut self,
+        session: u16,
+        delta: Delta<UpKey, Label>,
+    ) -> Result<(), NoMemory>
         ensures ok { OnOk result (self.new ≡ with_publication self.old session delta) }
         ensures err { OnErr result (self.new ≡ self.old) }
     {
