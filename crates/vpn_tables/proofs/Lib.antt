@@ -6,3 +6,6 @@ pub mod Agents
 pub mod Seating
 pub mod Within
 pub mod Walks
+pub mod Selected
+pub mod Offers
+pub mod Whole

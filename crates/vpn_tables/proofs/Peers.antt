@@ -11,7 +11,7 @@ use Rattle.ov_types.specs.declared.vpn.VpnKey.{VpnKey}
 use Rattle.ov_types.specs.declared.vpn.VpnRoute.{VpnRoute}
 use Rattle.node_model.specs.Keys.{Vpn}
 use Rattle.node_model.specs.Values.{Route}
-use Rattle.node_model.specs.Maps.{Map}
+use Rattle.node_model.specs.Maps.{Map, Change}
 use Rattle.vpn_tables.specs.Views.{vpn_order, peer_of}
 use Rattle.vpn_tables.specs.Changes.{changed_at, emptied_at}
 use Rattle.vpn_tables.specs.Seats.{nothings}
@@ -70,3 +70,34 @@ pushed old now k h e =
     assoc : (xs ys zs : List Peer) → (xs ++ ys) ++ zs ≡ xs ++ (ys ++ zs)
     assoc [] ys zs = refl
     assoc (x ∷ xs) ys zs = ap (λ (l : List Peer). x ∷ l) (assoc xs ys zs)
+
+-- ---- how many there are
+length-map : (ps : List Peer) → length (map peer_of ps) ≡ length ps
+length-map [] = refl
+length-map (p ∷ ps) = (let e = length-map ps in omega (arith, e))
+
+length-changed : (ms : List Map) (place n : ℕ) (d : Change) → length ms ≤ n → place < n → length (changed_at ms place d) ≤ n
+length-changed [] zero n d h lt = omega (arith, lt)
+length-changed [] (suc place) zero d h lt = absurd (omega (arith, lt))
+length-changed [] (suc place) (suc n) d h lt = (let e = length-changed [] place n d (omega arith) (omega (arith, lt)) in omega (arith, e))
+length-changed (m ∷ ms) zero n d h lt = omega (arith, h)
+length-changed (m ∷ ms) (suc place) zero d h lt = absurd (omega (arith, lt))
+length-changed (m ∷ ms) (suc place) (suc n) d h lt = (let e = length-changed ms place n d (omega (arith, h)) (omega (arith, lt)) in omega (arith, e))
+
+length-emptied : (ms : List Map) (place : ℕ) → length (emptied_at ms place) ≡ length ms
+length-emptied [] place = refl
+length-emptied (m ∷ ms) zero = refl
+length-emptied (m ∷ ms) (suc place) = (let e = length-emptied ms place in omega (arith, e))
+
+pub fit_changed : (old new : List Peer) (place n : ℕ) (d : Change) → map peer_of new ≡ changed_at (map peer_of old) place d → place < n → length old ≤ n → length new ≤ n
+fit_changed old new place n d e lt h =
+    let a = length-changed (map peer_of old) place n d (let b = length-map old in omega (arith, b, h)) lt in
+    let c = sym (length-map new) ∙ ap length e in
+    omega (arith, a, c)
+
+pub fit_same : (old new : List Peer) (n : ℕ) → map peer_of new ≡ map peer_of old → length old ≤ n → length new ≤ n
+fit_same old new n e h = let a = length-map old in let c = sym (length-map new) ∙ ap length e in omega (arith, a, c, h)
+
+pub fit_emptied : (old new : List Peer) (place n : ℕ) → map peer_of new ≡ emptied_at (map peer_of old) place → length old ≤ n → length new ≤ n
+fit_emptied old new place n e h =
+    let a = length-map old in let b = length-emptied (map peer_of old) place in let c = sym (length-map new) ∙ ap length e in omega (arith, a, b, c, h)

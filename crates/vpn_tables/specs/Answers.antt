@@ -39,10 +39,13 @@ abbrev pub is_up_at : Holdings → InstanceId → Block → Bool → Bool
 is_up_at h i subnet is_right =
     if is_hop i then is_up_on h (place_of i) subnet (side_at h.feed (use_of i) is_right) else false
 
--- ---- a path that an instance receives, within a subnet
+-- ---- a path has the target of an import
+abbrev pub is_wanted : Holdings → InstanceId → Path → Bool
+is_wanted h i = has_target (map (target_of h.asn) (imports h.feed i))
+
+-- and lies within a subnet
 abbrev pub leads_within : Holdings → InstanceId → Block → Path → Bool
-leads_within h i subnet p =
-    if has_target (map (target_of h.asn) (imports h.feed i)) p then is_inside p.prefix subnet else false
+leads_within h i subnet p = if is_wanted h i p then is_inside p.prefix subnet else false
 
 -- ---- the rows of an instance, in the order of their prefixes
 abbrev pub rows_at : Holdings → InstanceId → List (Block × TableRow)

@@ -6,3 +6,4 @@ pub mod Changes
 pub mod Seats
 pub mod Answers
 pub mod Routes
+pub mod Least

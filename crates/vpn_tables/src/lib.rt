@@ -3,9 +3,12 @@
 
 mod chains;
 mod held;
+mod leading;
+mod least;
 mod reaching;
 mod routes;
 mod sessions;
+mod table;
 mod tables;
 #[cfg(test)]
 mod tests;

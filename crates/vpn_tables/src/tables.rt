@@ -42,7 +42,7 @@ impl Model for VpnTables {
 
     ghost coded = { coded_holdings };
 
-    ghost use Rattle.std.specs.Prelude.{◌≤◌, map};
+    ghost use Rattle.std.specs.Prelude.{◌≤◌, length, map};
     ghost use Rattle.ov_sync.specs.Keyed.{map_of, Values};
     ghost use Rattle.vpn_tables.specs.Ranges.{Fits};
     ghost use Rattle.vpn_tables.specs.Views.{low_order, feed_of, peer_of, agent_of};
@@ -54,7 +54,8 @@ impl Model for VpnTables {
       agents = map agent_of s.agents.items;
     } };
 
-    ghost invariant = { λ s. (s.asn ≤ 65535) × Values Fits (map_of low_order s.low) };
+    ghost invariant = { λ s.
+        (s.asn ≤ 65535) × Values Fits (map_of low_order s.low) × (length s.peers.items ≤ 65535) };
 }
 
 impl VpnTables {

@@ -11,7 +11,7 @@ use Rattle.vpn_tables.proofs.Values.{values_after}
 use Rattle.vpn_tables.proofs.tables.VpnTables.set_low.Goals as goal
 
 pub invariant_of-self-2 : goal.invariant_of-self-2
-invariant_of-self-2 c = (c.self.invariant.0, values_after c.self.inside.low c.apply.new.self c.args.delta (c.in_ok-apply.ensures.ok) c.self.invariant.1 c.requires)
+invariant_of-self-2 c = (c.self.invariant.0, values_after c.self.inside.low c.apply.new.self c.args.delta (c.in_ok-apply.ensures.ok) c.self.invariant.1 c.requires, c.self.invariant.2)
 
 pub returns-clause-ok : goal.returns-clause-ok
 returns-clause-ok c =

@@ -1,0 +1,81 @@
+//! The routes that lead the reachable subnets of held chains on.
+ghost use Rattle.std.specs.Prelude.{◌≡◌, ◌≤◌, ◌<◌, ◌++◌, OnOk, IfOk, map};
+ghost use Rattle.std.specs.List.{flat_map};
+ghost use Rattle.node_model.specs.Reaching.{below, into, is_up, reoriginated};
+ghost use Rattle.vpn_tables.specs.Routes.{path_of};
+
+use crate::chains::Side;
+use crate::routes::Route;
+use crate::tables::VpnTables;
+use ov_types::{InstanceId, LowKey, NoMemory};
+use path_select::Path;
+use route_targets::{rd, target};
+
+/// The session that a re-originated path counts as of.
+const OWN_SESSION: u16 = 65535;
+
+impl VpnTables {
+    /// The re-originated routes: of each held use by number, the right side's before the left's, by the distance that
+    /// they lead from, and then by subnet. Two may have one key; the first of these counts.
+    pub fn led_on(&self) -> Result<Vec<Route>, NoMemory>
+        ensures { IfOk result (λ routes. map path_of routes.items ≡ reoriginated self.now) }
+    {
+        let mut routes = Vec::new(self.alloc);
+        for (key, _value) in self.low.iter() {
+            if let LowKey::ChainUse(number) = *key {
+                self.lead_use(&mut routes, number)?;
+            }
+        }
+        Ok(routes)
+    }
+
+    /// Those of a held use.
+    fn lead_use(&self, routes: &mut Vec<Route>, number: u16) -> Result<(), NoMemory> {
+        if let Some(side) = self.side(number, true) {
+            self.lead_side(routes, &side)?;
+        }
+        if let Some(side) = self.side(number, false) {
+            self.lead_side(routes, &side)?;
+        }
+        Ok(())
+    }
+
+    fn lead_side(&self, routes: &mut Vec<Route>, side: &Side<'_>) -> Result<(), NoMemory>
+        ensures { OnOk result (map path_of routes.new.items ≡ map path_of routes.old.items
+            ++ flat_map (into (is_up self.now) self.now side.now) (below side.now.chain.services)) }
+    {
+        for distance in 0..side.services() {
+            self.lead_into(routes, side, distance)?;
+        }
+        Ok(())
+    }
+
+    /// Those from a distance into the next place.
+    fn lead_into(&self, routes: &mut Vec<Route>, side: &Side<'_>, distance: u8) -> Result<(), NoMemory>
+        requires within { distance < side.now.chain.services }
+        requires short { distance < 15 }
+        ensures { OnOk result (map path_of routes.new.items ≡ map path_of routes.old.items
+            ++ into (is_up self.now) self.now side.now distance) }
+    {
+        let hop = side.hop_at(distance + 1);
+        let Some((address, label)) = self.publisher(side.circuit_at(distance + 1)) else {
+            return Ok(());
+        };
+        for subnet in side.subnets() {
+            if self.is_up(side, subnet, distance) {
+                let path = Path {
+                    session: OWN_SESSION,
+                    rd: rd(address, hop),
+                    next_hop: address,
+                    label,
+                };
+                routes.push(Route {
+                    prefix: *subnet,
+                    path,
+                    target: target(self.asn, hop),
+                })?;
+            }
+        }
+        Ok(())
+    }
+}
