@@ -9,3 +9,4 @@ pub mod Walks
 pub mod Selected
 pub mod Offers
 pub mod Whole
+pub mod Leads

@@ -1,13 +1,13 @@
 //! The routes that lead the reachable subnets of held chains on.
-ghost use Rattle.std.specs.Prelude.{◌≡◌, ◌≤◌, ◌<◌, ◌++◌, OnOk, IfOk, map};
+ghost use Rattle.std.specs.Prelude.{◌≡◌, ◌≤◌, ◌<◌, ◌++◌, ◌+◌, Some, OnOk, IfOk, map};
 ghost use Rattle.std.specs.List.{flat_map};
-ghost use Rattle.node_model.specs.Reaching.{below, into, is_up, reoriginated};
+ghost use Rattle.node_model.specs.Reaching.{below, circuit_at, into, is_up, publisher, reoriginated};
 ghost use Rattle.vpn_tables.specs.Routes.{path_of};
 
 use crate::chains::Side;
 use crate::routes::Route;
 use crate::tables::VpnTables;
-use ov_types::{InstanceId, LowKey, NoMemory};
+use ov_types::{Addr, Label, LowKey, NoMemory};
 use path_select::Path;
 use route_targets::{rd, target};
 
@@ -57,10 +57,28 @@ impl VpnTables {
         ensures { OnOk result (map path_of routes.new.items ≡ map path_of routes.old.items
             ++ into (is_up self.now) self.now side.now distance) }
     {
+        match self.publisher(side.circuit_at(distance + 1)) {
+            Some((address, label)) => self.lead_towards(routes, side, distance, address, label),
+            None => Ok(()),
+        }
+    }
+
+    /// Those from a distance towards the circuit of the next place, which is published.
+    fn lead_towards(
+        &self,
+        routes: &mut Vec<Route>,
+        side: &Side<'_>,
+        distance: u8,
+        address: Addr,
+        label: Label,
+    ) -> Result<(), NoMemory>
+        requires within { distance < side.now.chain.services }
+        requires short { distance < 15 }
+        requires published { publisher self.now (circuit_at side.now (distance + 1)) ≡ Some (address, label) }
+        ensures { OnOk result (map path_of routes.new.items ≡ map path_of routes.old.items
+            ++ into (is_up self.now) self.now side.now distance) }
+    {
         let hop = side.hop_at(distance + 1);
-        let Some((address, label)) = self.publisher(side.circuit_at(distance + 1)) else {
-            return Ok(());
-        };
         for subnet in side.subnets() {
             if self.is_up(side, subnet, distance) {
                 let path = Path {
@@ -69,10 +87,12 @@ impl VpnTables {
                     next_hop: address,
                     label,
                 };
+                let prefix = *subnet;
+                let target = target(self.asn, hop);
                 routes.push(Route {
-                    prefix: *subnet,
+                    prefix,
                     path,
-                    target: target(self.asn, hop),
+                    target,
                 })?;
             }
         }
