@@ -10,3 +10,4 @@ pub mod Selected
 pub mod Offers
 pub mod Whole
 pub mod Leads
+pub mod Uses

@@ -7,3 +7,4 @@ pub mod Seats
 pub mod Answers
 pub mod Routes
 pub mod Least
+pub mod Leading

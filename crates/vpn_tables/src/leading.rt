@@ -2,6 +2,7 @@
 ghost use Rattle.std.specs.Prelude.{◌≡◌, ◌≤◌, ◌<◌, ◌++◌, ◌+◌, Some, OnOk, IfOk, map};
 ghost use Rattle.std.specs.List.{flat_map};
 ghost use Rattle.node_model.specs.Reaching.{below, circuit_at, into, is_up, publisher, reoriginated};
+ghost use Rattle.vpn_tables.specs.Leading.{leads, sides_of_held, use_at};
 ghost use Rattle.vpn_tables.specs.Routes.{path_of};
 
 use crate::chains::Side;
@@ -22,22 +23,27 @@ impl VpnTables {
     {
         let mut routes = Vec::new(self.alloc);
         for (key, _value) in self.low.iter() {
-            if let LowKey::ChainUse(number) = *key {
-                self.lead_use(&mut routes, number)?;
-            }
+            self.lead_use(&mut routes, key)?;
         }
         Ok(routes)
     }
 
-    /// Those of a held use.
-    fn lead_use(&self, routes: &mut Vec<Route>, number: u16) -> Result<(), NoMemory> {
-        if let Some(side) = self.side(number, true) {
-            self.lead_side(routes, &side)?;
+    /// Those of the use that is held at a key.
+    fn lead_use(&self, routes: &mut Vec<Route>, key: &LowKey) -> Result<(), NoMemory>
+        ensures { OnOk result (map path_of routes.new.items ≡ map path_of routes.old.items
+            ++ flat_map (leads self.now) (sides_of_held (use_at self.now.feed key.now))) }
+    {
+        let LowKey::ChainUse(number) = *key else {
+            return Ok(());
+        };
+        match (self.side(number, true), self.side(number, false)) {
+            (Some(right), Some(left)) => {
+                self.lead_side(routes, &right)?;
+                self.lead_side(routes, &left)?;
+                Ok(())
+            }
+            _ => Ok(()),
         }
-        if let Some(side) = self.side(number, false) {
-            self.lead_side(routes, &side)?;
-        }
-        Ok(())
     }
 
     fn lead_side(&self, routes: &mut Vec<Route>, side: &Side<'_>) -> Result<(), NoMemory>
