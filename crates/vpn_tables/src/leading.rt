@@ -57,7 +57,12 @@ impl VpnTables {
     }
 
     /// Those from a distance into the next place.
-    fn lead_into(&self, routes: &mut Vec<Route>, side: &Side<'_>, distance: u8) -> Result<(), NoMemory>
+    fn lead_into(
+        &self,
+        routes: &mut Vec<Route>,
+        side: &Side<'_>,
+        distance: u8,
+    ) -> Result<(), NoMemory>
         requires within { distance < side.now.chain.services }
         requires short { distance < 15 }
         ensures { OnOk result (map path_of routes.new.items ≡ map path_of routes.old.items

@@ -10,7 +10,11 @@ use path_select::{Path, better};
 use std::alloc::Global;
 
 /// Puts a path in its place, where its prefix has none yet or a worse one.
-pub(crate) fn offer(least: &mut Held<Prefix, Path>, prefix: Prefix, path: Path) -> Result<(), NoMemory>
+pub(crate) fn offer(
+    least: &mut Held<Prefix, Path>,
+    prefix: Prefix,
+    path: Path,
+) -> Result<(), NoMemory>
     ensures { OnOk result (least_of least.new ≡ offered (least_of least.old) prefix path) }
 {
     if let Some(held) = least.get(&prefix) {
@@ -23,7 +27,10 @@ pub(crate) fn offer(least: &mut Held<Prefix, Path>, prefix: Prefix, path: Path) 
 }
 
 /// The rows of the least paths, in the order of their prefixes.
-pub(crate) fn rows(alloc: Global, least: &Held<Prefix, Path>) -> Result<Vec<(Prefix, TableRow)>, NoMemory>
+pub(crate) fn rows(
+    alloc: Global,
+    least: &Held<Prefix, Path>,
+) -> Result<Vec<(Prefix, TableRow)>, NoMemory>
     ensures rows { IfOk result (λ rows. rows.items ≡ map row_of least.now) }
     ensures ascending { OnOk result (IsStrictlySortedBy prefix_order (map (λ e. e.0) least.now)) }
 {
