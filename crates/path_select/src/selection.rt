@@ -1,0 +1,82 @@
+//! The order of paths, and the first of the least.
+ghost use Rattle.std.specs.Prelude.{◌≡◌, ◌↔◌, [], IsNone, IfSome};
+ghost use Rattle.path_select.specs.Selection.{is_better, IsFirstOfLeast};
+
+use ov_types::{Addr, Label, Rd};
+
+/// Where a path to a prefix leads, and the session that told it.
+#[derive(Clone, Copy, Debug, PartialEq, Eq)]
+pub struct Path {
+    pub session: u16,
+    pub rd: Rd,
+    pub next_hop: Addr,
+    pub label: Label,
+}
+
+/// Whether the first path is used rather than the second: the one of the lesser next hop, then label, then
+/// distinguisher, then session.
+pub fn better(a: &Path, b: &Path) -> bool
+    ensures { result ≡ is_better a.now b.now }
+{
+    if a.next_hop.0 != b.next_hop.0 {
+        return a.next_hop.0 < b.next_hop.0;
+    }
+    if a.label.0 != b.label.0 {
+        return a.label.0 < b.label.0;
+    }
+    if a.rd.0 != b.rd.0 {
+        return a.rd.0 < b.rd.0;
+    }
+    a.session < b.session
+}
+
+/// The place of the path that is used: of equal ones the first.
+pub fn select(paths: &[Path]) -> Option<usize>
+    ensures none { IsNone result ↔ (paths.now ≡ []) }
+    ensures first { IfSome result (IsFirstOfLeast paths.now) }
+{
+    let mut best = paths.first()?;
+    let mut place = 0;
+    for (index, path) in paths.iter().enumerate() {
+        if better(path, best) {
+            best = path;
+            place = index;
+        }
+    }
+    Some(place)
+}
+
+#[cfg(test)]
+mod tests {
+    use super::*;
+
+    fn path(next_hop: u32, label: u32, rd: u64, session: u16) -> Path {
+        Path {
+            session,
+            rd: Rd(rd),
+            next_hop: Addr(next_hop),
+            label: Label(label),
+        }
+    }
+
+    #[test]
+    fn the_first_of_the_least_is_selected(rt: HostRuntime) {
+        let paths = [
+            path(2, 1, 1, 1),
+            path(1, 2, 1, 1),
+            path(1, 1, 2, 1),
+            path(1, 1, 1, 9),
+            path(1, 1, 1, 9),
+        ];
+        for count in 0..paths.len() + 1 {
+            let want = if count < 5 {
+                count.checked_sub(1)
+            } else {
+                Some(3)
+            };
+            assert_eq!(rt; select(&paths[..count]), want, "{count}");
+        }
+        assert!(rt; better(&paths[1], &paths[0]));
+        assert!(rt; !better(&paths[3], &paths[4]));
+    }
+}

@@ -1,0 +1,96 @@
+-- The routes that lead on, from the typed entries of the feed.
+use Rattle.std.specs.Prelude.{◌≡◌, List, [], ◌∷◌, ◌++◌, map}
+use Rattle.std.specs.declared.option.Option.{Option}
+use Rattle.std.specs.declared.option.Option.TheVariants.{Some, None}
+use Rattle.std.specs.Option.{option_map}
+use Rattle.std.specs.List.{flat_map, filter_map, cons_option, AllByRecursion}
+use Rattle.std.specs.List.Sorted.{IsStrictlySortedBy}
+use Rattle.std.specs.FinMap.{entries, get}
+use Rattle.std.proofs.lemmas.Option.{same_Some}
+use Rattle.std.proofs.Common.{refl, sym, ◌∙◌, ap, subst, inl, inr, true, false}
+use Rattle.ov_sync.specs.Keyed.{map_of}
+use Rattle.ov_sync.specs.Embed.{moved_entry}
+use Rattle.ov_sync.proofs.Ascending.{entries-map_of, ascends}
+use Rattle.ov_types.specs.declared.objects.LowKey.{LowKey}
+use Rattle.ov_types.specs.declared.objects.LowKey.TheVariants as key
+use Rattle.ov_types.specs.declared.objects.LowValue.{LowValue}
+use Rattle.node_model.specs.Keys.{Key, Low}
+use Rattle.node_model.specs.Values.{Value, Object}
+use Rattle.node_model.specs.Maps.{Map, object, objects, low_entry}
+use Rattle.node_model.specs.Members.{Member}
+use Rattle.node_model.specs.Uses.{Use, as_use, use_from, uses}
+use Rattle.node_model.specs.Paths.{Holdings, Path}
+use Rattle.node_model.specs.Reaching.{Side, sides_of, sides, reoriginated}
+use Rattle.node_model.proofs.Members.{get_member}
+use Rattle.vpn_tables.specs.Answers.{seen_from}
+use Rattle.vpn_tables.specs.Leading.{leads, use_at, sides_of_held}
+use Rattle.vpn_tables.specs.Views.{low_order, feed_of}
+use Rattle.vpn_tables.proofs.Images.{low_total, feed-entries, feed-object}
+
+abbrev Entry : Type 0
+Entry = LowKey × LowValue
+
+abbrev pub total : Holdings → List Entry → List Path
+total h es = flat_map (leads h) (flat_map sides_of (filter_map (λ e. as_use e.0 e.1) es))
+
+abbrev pub IsHeld : Map → Entry → Type 0
+IsHeld feed e = object feed e.0 ≡ Some e.1
+
+use_is : (feed : Map) (k : LowKey) (v : LowValue) → object feed k ≡ Some v → use_at feed k ≡ as_use k v
+use_is feed (key.ChainUse n) v e = ap (use_from n) e
+use_is feed (key.Instance n) v e = refl
+use_is feed (key.Attach n) v e = refl
+use_is feed (key.Acl a b) v e = refl
+
+assoc : (xs ys zs : List Path) → (xs ++ ys) ++ zs ≡ xs ++ (ys ++ zs)
+assoc [] ys zs = refl
+assoc (x ∷ xs) ys zs = ap (λ (l : List Path). x ∷ l) (assoc xs ys zs)
+
+pub leads-append : (h : Holdings) (xs ys : List Side) → flat_map (leads h) (xs ++ ys) ≡ flat_map (leads h) xs ++ flat_map (leads h) ys
+leads-append h [] ys = refl
+leads-append h (x ∷ xs) ys = ap (λ (l : List Path). leads h x ++ l) (leads-append h xs ys) ∙ sym (assoc (leads h x) (flat_map (leads h) xs) (flat_map (leads h) ys))
+
+sides_first : (o : Option Use) (us : List Use) → flat_map sides_of (cons_option o us) ≡ sides_of_held o ++ flat_map sides_of us
+sides_first None us = refl
+sides_first (Some u) us = refl
+
+pub led_turn : (h : Holdings) (k : LowKey) (v : LowValue) (rest : List Entry) (routes new : List Path) → object h.feed k ≡ Some v
+    → new ≡ routes ++ flat_map (leads h) (sides_of_held (use_at h.feed k)) → new ++ total h rest ≡ routes ++ total h ((k, v) ∷ rest)
+led_turn h k v rest routes new held e =
+    ap (λ (l : List Path). l ++ total h rest) (e ∙ ap (λ (o : Option Use). routes ++ flat_map (leads h) (sides_of_held o)) (use_is h.feed k v held))
+    ∙ assoc routes (flat_map (leads h) (sides_of_held (as_use k v))) (total h rest)
+    ∙ ap (λ (l : List Path). routes ++ l) (sym (leads-append h (sides_of_held (as_use k v)) (flat_map sides_of (filter_map (λ e. as_use e.0 e.1) rest)))
+    ∙ ap (flat_map (leads h)) (sym (sides_first (as_use k v) (filter_map (λ e. as_use e.0 e.1) rest))))
+
+-- ---- the two sides of a use
+pub both_led : (h : Holdings) (o : Option Use) (s t : Side) (routes mid new : List Path) → option_map (seen_from true) o ≡ Some s → option_map (seen_from false) o ≡ Some t
+    → mid ≡ routes ++ leads h s → new ≡ mid ++ leads h t → new ≡ routes ++ flat_map (leads h) (sides_of_held o)
+both_led h None s t routes mid new a b e f = cc
+both_led h (Some u) s t routes mid new a b e f =
+    f ∙ ap (λ (l : List Path). l ++ leads h t) e ∙ assoc routes (leads h s) (leads h t)
+    ∙ (λ i. routes ++ (leads h (sym (same_Some (seen_from true u) s a) i) ++ leads h (sym (same_Some (seen_from false u) t b) i)))
+    ∙ ap (λ (l : List Path). routes ++ (leads h (seen_from true u) ++ l)) (sym (none_more (leads h (seen_from false u))))
+  where
+    none_more : (xs : List Path) → xs ++ [] ≡ xs
+    none_more [] = refl
+    none_more (x ∷ xs) = ap (λ (l : List Path). x ∷ l) (none_more xs)
+
+-- ---- the entries
+objects_typed : (es : List Entry) → filter_map (λ e. low_entry e.0 e.1) (map (moved_entry Low Object) es) ≡ es
+objects_typed [] = refl
+objects_typed (e ∷ es) = ap (λ (l : List Entry). e ∷ l) (objects_typed es)
+
+pub total_is : (h : Holdings) (es : List Entry) → IsStrictlySortedBy low_order (map (λ e. e.0) es) → feed_of es ≡ h.feed → total h es ≡ reoriginated h
+total_is h es sorted e =
+    ap (total h) (sym (ap (filter_map (λ (x : Key × Value). low_entry x.0 x.1)) (feed-entries es sorted) ∙ objects_typed es))
+    ∙ ap (λ (feed : Map). flat_map (leads h) (sides feed)) e
+
+all_from : (P : Entry → Type 0) (es : List Entry) → ((e : Entry) → Member e es → P e) → AllByRecursion P es
+all_from P [] f = tt
+all_from P (e ∷ es) f = (f e (inl refl), all_from P es (λ x m. f x (inr m)))
+
+pub all_held : (feed : Map) (es : List Entry) → IsStrictlySortedBy low_order (map (λ e. e.0) es) → feed_of es ≡ feed → AllByRecursion (IsHeld feed) es
+all_held feed es sorted is =
+    all_from (IsHeld feed) es (λ e m.
+    ap (λ (f : Map). object f e.0) (sym is) ∙ feed-object es e.0
+    ∙ get_member low_total (map_of low_order es) e.0 e.1 (subst (λ (l : List Entry). Member (e.0, e.1) l) (sym (entries-map_of low_order low_total es (ascends low_order es sorted))) m))

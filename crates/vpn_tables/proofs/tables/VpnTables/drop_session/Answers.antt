@@ -1,0 +1,24 @@
+use Rattle.std.proofs.Common.{◌∙◌, ap, sym, map, ℕ}
+use Rattle.std.specs.FinMap.{empty}
+use Rattle.ov_sync.proofs.KeyedLaws.{empty_values}
+use Rattle.node_model.specs.Maps.{Map}
+use Rattle.node_model.specs.Paths.{Holdings}
+use Rattle.vpn_tables.specs.Changes.{without, at_session}
+use Rattle.vpn_tables.specs.Ranges.{Fits}
+use Rattle.vpn_tables.specs.Views.{low_order, feed_of, peer_of, agent_of}
+use Rattle.vpn_tables.proofs.Images.{feed-empty}
+use Rattle.vpn_tables.proofs.Peers.{fit_emptied}
+use Rattle.vpn_tables.proofs.tables.VpnTables.drop_session.Goals as goal
+
+pub invariant_of-self : goal.invariant_of-self
+invariant_of-self c = (c.self.invariant.0, rw c.clear.ensures (empty_values low_order Fits), c.self.invariant.2)
+
+pub returns-then-session-eq0 : goal.returns-then-session-eq0
+returns-then-session-eq0 c =
+    let agents = c.empty_agent.ensures ∙ ap (at_session (λ (m : Map). empty) (map agent_of c.self.inside.agents.items)) c.if-session-eq0.true in
+    (λ i. record { asn = c.self.inside.asn; feed = (ap feed_of c.clear.ensures ∙ feed-empty) i; peers = map peer_of c.self.inside.peers.items; agents = agents i })
+    ∙ ap (λ (h : Holdings). without h 0) c.self.view_is ∙ ap (λ (s : ℕ). without c.args.self.now s) (sym c.if-session-eq0.true)
+
+pub invariant_of-self-2 : goal.invariant_of-self-2
+invariant_of-self-2 c =
+    (c.self.invariant.0, c.self.invariant.1, fit_emptied c.self.inside.peers.items c.empty_at.new.peers.items c.from.result 65535 c.empty_at.ensures c.self.invariant.2)

@@ -1,0 +1,13 @@
+use Rattle.std.proofs.Common.{◌≡◌, map, drop}
+use Rattle.std.specs.List.{list_any, flat_map, filter_map}
+use Rattle.std.specs.FinMap.{entries}
+use Rattle.node_model.specs.Paths.{own_path}
+use Rattle.vpn_tables.specs.Answers.{leads_within}
+use Rattle.vpn_tables.specs.Views.{agent_of}
+use Rattle.vpn_tables.proofs.Walks.{own_of}
+use Rattle.vpn_tables.proofs.tables.VpnTables.has_own_within.Given as goal
+
+abbrev pub invariant-loop-agent : goal.invariant-loop-agent
+invariant-loop-agent l =
+    list_any (leads_within l.self l.i l.subnet) (flat_map (own_of l.self) (map agent_of (drop l.agent-index l.agent-items)))
+    ≡ list_any (leads_within l.self l.i l.subnet) (flat_map (own_of l.self) (map agent_of l.agent-items))

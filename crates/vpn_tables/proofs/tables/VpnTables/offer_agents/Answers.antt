@@ -1,0 +1,19 @@
+use Rattle.std.proofs.Common.{ap, sym, ◌∙◌, ◌+◌, List, map, drop}
+use Rattle.std.specs.List.{filter, flat_map}
+use Rattle.node_model.specs.Paths.{Path}
+use Rattle.vpn_tables.specs.Answers.{is_wanted}
+use Rattle.vpn_tables.specs.Least.{least_of, offer_all}
+use Rattle.vpn_tables.specs.Views.{agent_of}
+use Rattle.vpn_tables.proofs.Offers.{offer-parts, agents_turn}
+use Rattle.vpn_tables.proofs.Walks.{own_of}
+use Rattle.vpn_tables.proofs.tables.VpnTables.offer_agents.Goals as goal
+
+pub loop-agent-preserved : goal.loop-agent-preserved
+loop-agent-preserved c =
+    let h = c.args.self.now in
+    let k = c.loop-agent.agent-index in
+    let items = c.deref-agent-items.result.now in
+    offer-parts (is_wanted h c.args.i) (least_of c.loop-agent.least) (least_of c.offer_agent.new.least) (own_of h (agent_of c.agent-item.result)) (flat_map (own_of h) (map agent_of (drop (k + 1) items)))
+    c.in_ok-offer_agent.ensures
+    ∙ ap (λ (l : List Path). offer_all (least_of c.loop-agent.least) (filter (is_wanted h c.args.i) l)) (sym (agents_turn h items k c.agent-item.result c.loop-agent-test.true c.agent-item.is))
+    ∙ c.loop-agent.invariant

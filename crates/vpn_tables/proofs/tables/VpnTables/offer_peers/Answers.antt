@@ -1,0 +1,21 @@
+use Rattle.std.proofs.Common.{ap, sym, ◌∙◌, ◌+◌, List, map, drop}
+use Rattle.std.specs.List.{filter, filter_map}
+use Rattle.std.specs.FinMap.{entries}
+use Rattle.node_model.specs.Paths.{Path, peer_path}
+use Rattle.vpn_tables.specs.Answers.{is_wanted}
+use Rattle.vpn_tables.specs.Least.{least_of, offer_all}
+use Rattle.vpn_tables.specs.Views.{peer_of}
+use Rattle.vpn_tables.proofs.Offers.{offer-parts}
+use Rattle.vpn_tables.proofs.Walks.{peers_from, peers_turn}
+use Rattle.vpn_tables.proofs.tables.VpnTables.offer_peers.Goals as goal
+
+pub loop-place-preserved : goal.loop-place-preserved
+loop-place-preserved c =
+    let wanted = is_wanted c.args.self.now c.args.i in
+    let k = c.loop-place.place in
+    let items = c.deref-routes-items.result.now in
+    offer-parts wanted (least_of c.loop-place.least) (least_of c.offer_peer.new.least)
+    (filter_map (λ e. peer_path (1 + k) e.0 e.1) (entries (peer_of c.routes-item.result))) (peers_from (1 + (k + 1)) (map peer_of (drop (k + 1) items)))
+    c.in_ok-offer_peer.ensures
+    ∙ ap (λ (l : List Path). offer_all (least_of c.loop-place.least) (filter wanted l)) (sym (peers_turn items k c.routes-item.result c.loop-place-test.true c.routes-item.is))
+    ∙ c.loop-place.invariant

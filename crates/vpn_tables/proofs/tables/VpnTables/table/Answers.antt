@@ -1,0 +1,17 @@
+use Rattle.std.proofs.Common.{◌∙◌, ap, List}
+use Rattle.std.specs.List.{filter}
+use Rattle.node_model.specs.Paths.{own_paths}
+use Rattle.ov_types.specs.Prefix.{Block}
+use Rattle.path_select.specs.declared.selection.Path.{Path}
+use Rattle.vpn_tables.specs.Answers.{is_wanted}
+use Rattle.vpn_tables.specs.Least.{least_of, offer_all}
+use Rattle.vpn_tables.proofs.Whole.{rows_whole}
+use Rattle.vpn_tables.proofs.tables.VpnTables.table.Goals as goal
+
+pub returns : goal.returns
+returns c =
+    let h = c.args.self.now in
+    c.in_ok-rows.ensures.rows
+    ∙ rows_whole h c.args.i (least_of c.offer_agents.new.least) (least_of c.offer_peers.new.least) c.offer_led.new.least c.in_ok-rows.ensures.ascending
+    (c.in_ok-offer_agents.ensures ∙ ap (λ (es : List (Block × Path)). offer_all (least_of es) (filter (is_wanted h c.args.i) (own_paths h))) c.new-least.ensures)
+    c.in_ok-offer_peers.ensures c.in_ok-offer_led.ensures

@@ -1,0 +1,10 @@
+-- The files of definitions, in the order in which they stand on each other.
+pub mod Ranges
+pub mod Codes
+pub mod Views
+pub mod Changes
+pub mod Seats
+pub mod Answers
+pub mod Routes
+pub mod Least
+pub mod Leading

@@ -1,0 +1,112 @@
+//! The routes that lead the reachable subnets of held chains on.
+ghost use Rattle.std.specs.Prelude.{◌≡◌, ◌≤◌, ◌<◌, ◌++◌, ◌+◌, Some, OnOk, IfOk, map};
+ghost use Rattle.std.specs.List.{flat_map};
+ghost use Rattle.node_model.specs.Reaching.{below, circuit_at, into, is_up, publisher, reoriginated};
+ghost use Rattle.vpn_tables.specs.Leading.{leads, sides_of_held, use_at};
+ghost use Rattle.vpn_tables.specs.Routes.{path_of};
+
+use crate::chains::Side;
+use crate::routes::Route;
+use crate::tables::VpnTables;
+use ov_types::{Addr, Label, LowKey, NoMemory};
+use path_select::Path;
+use route_targets::{rd, target};
+
+/// The session that a re-originated path counts as of.
+const OWN_SESSION: u16 = 65535;
+
+impl VpnTables {
+    /// The re-originated routes: of each held use by number, the right side's before the left's, by the distance that
+    /// they lead from, and then by subnet. Two may have one key; the first of these counts.
+    pub fn led_on(&self) -> Result<Vec<Route>, NoMemory>
+        ensures { IfOk result (λ routes. map path_of routes.items ≡ reoriginated self.now) }
+    {
+        let mut routes = Vec::new(self.alloc);
+        for (key, _value) in self.low.iter() {
+            self.lead_use(&mut routes, key)?;
+        }
+        Ok(routes)
+    }
+
+    /// Those of the use that is held at a key.
+    fn lead_use(&self, routes: &mut Vec<Route>, key: &LowKey) -> Result<(), NoMemory>
+        ensures { OnOk result (map path_of routes.new.items ≡ map path_of routes.old.items
+            ++ flat_map (leads self.now) (sides_of_held (use_at self.now.feed key.now))) }
+    {
+        let LowKey::ChainUse(number) = *key else {
+            return Ok(());
+        };
+        match (self.side(number, true), self.side(number, false)) {
+            (Some(right), Some(left)) => {
+                self.lead_side(routes, &right)?;
+                self.lead_side(routes, &left)?;
+                Ok(())
+            }
+            _ => Ok(()),
+        }
+    }
+
+    fn lead_side(&self, routes: &mut Vec<Route>, side: &Side<'_>) -> Result<(), NoMemory>
+        ensures { OnOk result (map path_of routes.new.items ≡ map path_of routes.old.items
+            ++ flat_map (into (is_up self.now) self.now side.now) (below side.now.chain.services)) }
+    {
+        for distance in 0..side.services() {
+            self.lead_into(routes, side, distance)?;
+        }
+        Ok(())
+    }
+
+    /// Those from a distance into the next place.
+    fn lead_into(
+        &self,
+        routes: &mut Vec<Route>,
+        side: &Side<'_>,
+        distance: u8,
+    ) -> Result<(), NoMemory>
+        requires within { distance < side.now.chain.services }
+        requires short { distance < 15 }
+        ensures { OnOk result (map path_of routes.new.items ≡ map path_of routes.old.items
+            ++ into (is_up self.now) self.now side.now distance) }
+    {
+        match self.publisher(side.circuit_at(distance + 1)) {
+            Some((address, label)) => self.lead_towards(routes, side, distance, address, label),
+            None => Ok(()),
+        }
+    }
+
+    /// Those from a distance towards the circuit of the next place, which is published.
+    fn lead_towards(
+        &self,
+        routes: &mut Vec<Route>,
+        side: &Side<'_>,
+        distance: u8,
+        address: Addr,
+        label: Label,
+    ) -> Result<(), NoMemory>
+        requires within { distance < side.now.chain.services }
+        requires short { distance < 15 }
+        requires published { publisher self.now (circuit_at side.now (distance + 1)) ≡ Some (address, label) }
+        ensures { OnOk result (map path_of routes.new.items ≡ map path_of routes.old.items
+            ++ into (is_up self.now) self.now side.now distance) }
+    {
+        let hop = side.hop_at(distance + 1);
+        for subnet in side.subnets() {
+            if self.is_up(side, subnet, distance) {
+                let path = Path {
+                    session: OWN_SESSION,
+                    rd: rd(address, hop),
+                    next_hop: address,
+                    label,
+                };
+                let prefix = *subnet;
+                let target = target(self.asn, hop);
+                routes.push(Route {
+                    prefix,
+                    path,
+                    target,
+                })?;
+            }
+        }
+        Ok(())
+    }
+}

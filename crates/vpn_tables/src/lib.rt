@@ -1,0 +1,17 @@
+//! The tables of a control node, from what it holds.
+#![tactic(auto)]
+
+mod chains;
+mod held;
+mod leading;
+mod least;
+mod reaching;
+mod routes;
+mod sessions;
+mod table;
+mod tables;
+#[cfg(test)]
+mod tests;
+
+pub use routes::Route;
+pub use tables::VpnTables;

@@ -1,0 +1,150 @@
+//! Which subnets are reachable along a chain.
+ghost use Rattle.std.specs.Prelude.{◌≡◌, ◌≤◌, ◌&&◌, ◌||◌, ℕ, is_some};
+ghost use Rattle.std.specs.List.{list_any, filter_map};
+ghost use Rattle.std.specs.FinMap.{entries};
+ghost use Rattle.node_model.specs.Paths.{own_path, own_paths, peer_path, peer_paths};
+ghost use Rattle.node_model.specs.Reaching.{circuit_at, has_path_within, hop_at, is_up, publisher};
+ghost use Rattle.node_model.specs.Tables.{same_prefix};
+ghost use Rattle.vpn_tables.specs.Answers.{is_up_at, leads_within};
+ghost use Rattle.vpn_tables.specs.Routes.{path_of};
+ghost use Rattle.vpn_tables.specs.Views.{agent_of, peer_of};
+
+use crate::chains::Side;
+use crate::held::Held;
+use crate::routes::{Route, is_within};
+use crate::tables::{Agent, VpnTables};
+use ov_types::{InstanceId, Prefix, VpnKey, VpnRoute};
+
+/// Whether a subnet is among some.
+fn is_among(subnet: &Prefix, subnets: &[Prefix]) -> bool
+    ensures { result ≡ list_any (same_prefix subnet.now) subnets.now }
+{
+    for other in subnets {
+        if subnet.addr().0 == other.addr().0 && subnet.len() == other.len() {
+            return true;
+        }
+    }
+    false
+}
+
+impl VpnTables {
+    /// Whether a subnet of a side of the use that the instance is a hop of is reachable from there: false for another
+    /// instance or subnet. It takes no memory.
+    pub fn up(&self, hop: InstanceId, subnet: &Prefix, right: bool) -> bool
+        ensures { result ≡ is_up_at self.now hop subnet.now right }
+    {
+        if hop.0 <= 16383 {
+            return false;
+        }
+        let place = ((hop.0 - 16384) % 16) as u8;
+        let Some(side) = self.side((hop.0 - 16384) / 16, right) else {
+            return false;
+        };
+        if place > side.services() {
+            return false;
+        }
+        if !is_among(subnet, side.subnets()) {
+            return false;
+        }
+        self.is_up(&side, subnet, side.distance_of(place))
+    }
+
+    pub(crate) fn is_up(&self, side: &Side<'_>, subnet: &Prefix, distance: u8) -> bool
+        requires { distance ≤ side.now.chain.services }
+        ensures { result ≡ is_up self.now side.now subnet.now distance }
+    {
+        let mut up = self.has_path_within(side.hop_at(0), subnet);
+        for nearer in 0..distance {
+            up = self.is_up_next(side, subnet, nearer + 1, up);
+        }
+        up
+    }
+
+    /// Whether it is up at a distance, from whether it is one place nearer.
+    fn is_up_next(&self, side: &Side<'_>, subnet: &Prefix, distance: u8, nearer: bool) -> bool
+        requires { distance ≤ side.now.chain.services }
+        ensures { result ≡ (has_path_within self.now (hop_at side.now distance) subnet.now
+            || (is_some (publisher self.now (circuit_at side.now distance)) && nearer)) }
+    {
+        if self.has_path_within(side.hop_at(distance), subnet) {
+            return true;
+        }
+        if self.publisher(side.circuit_at(distance)).is_none() {
+            return false;
+        }
+        nearer
+    }
+
+    pub(crate) fn has_path_within(&self, i: InstanceId, subnet: &Prefix) -> bool
+        ensures { result ≡ has_path_within self.now i subnet.now }
+    {
+        if self.has_own_within(i, subnet) {
+            return true;
+        }
+        self.has_peers_within(i, subnet)
+    }
+
+    fn has_own_within(&self, i: InstanceId, subnet: &Prefix) -> bool
+        ensures { result ≡ list_any (leads_within self.now i subnet.now) (own_paths self.now) }
+    {
+        for agent in &self.agents {
+            if self.has_agents_within(agent, i, subnet) {
+                return true;
+            }
+        }
+        false
+    }
+
+    fn has_agents_within(&self, agent: &Agent, i: InstanceId, subnet: &Prefix) -> bool
+        ensures { result ≡ list_any (leads_within self.now i subnet.now)
+            (filter_map (λ e. own_path self.now (agent_of agent.now) e.0 e.1) (entries (agent_of agent.now).map)) }
+    {
+        for (key, label) in agent.told.iter() {
+            if let Some(route) = self.own_route(agent, key, *label) {
+                if self.leads_within(&route, i, subnet) {
+                    return true;
+                }
+            }
+        }
+        false
+    }
+
+    fn leads_within(&self, route: &Route, i: InstanceId, subnet: &Prefix) -> bool
+        ensures { result ≡ leads_within self.now i subnet.now (path_of route.now) }
+    {
+        if !self.imports_any(i, &[route.target]) {
+            return false;
+        }
+        is_within(&route.prefix, subnet)
+    }
+
+    fn has_peers_within(&self, i: InstanceId, subnet: &Prefix) -> bool
+        ensures { result ≡ list_any (leads_within self.now i subnet.now) (peer_paths self.now) }
+    {
+        for routes in &self.peers {
+            if self.has_peer_within(routes, i, subnet) {
+                return true;
+            }
+        }
+        false
+    }
+
+    fn has_peer_within(
+        &self,
+        routes: &Held<VpnKey, VpnRoute>,
+        i: InstanceId,
+        subnet: &Prefix,
+    ) -> bool
+        ensures { (session : ℕ) → result ≡ list_any (leads_within self.now i subnet.now)
+            (filter_map (λ e. peer_path session e.0 e.1) (entries (peer_of routes.now))) }
+    {
+        for (key, route) in routes.iter() {
+            if self.imports_any(i, route.targets.items()) {
+                if is_within(&key.prefix, subnet) {
+                    return true;
+                }
+            }
+        }
+        false
+    }
+}

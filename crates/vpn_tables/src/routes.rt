@@ -1,0 +1,159 @@
+//! What instances import, and the routes of the agents' publications.
+ghost use Rattle.std.specs.Prelude.{◌≡◌, ◌≤◌, ◌==◌, ◌<◌, None, map};
+ghost use Rattle.std.specs.List.{list_any};
+ghost use Rattle.std.specs.Option.{option_map};
+ghost use Rattle.ov_types.specs.Prefix.{is_inside as is_inside_of};
+ghost use Rattle.route_targets.specs.Numbers.{target_of};
+ghost use Rattle.node_model.specs.Keys.{of_up};
+ghost use Rattle.node_model.specs.Values.{Label as LabelOf};
+ghost use Rattle.node_model.specs.Reaching.{published_by, publisher};
+ghost use Rattle.node_model.specs.Uses.{imports, is_known};
+ghost use Rattle.node_model.specs.Paths.{own_path};
+ghost use Rattle.vpn_tables.specs.Routes.{path_of};
+ghost use Rattle.vpn_tables.specs.Views.{agent_of};
+
+use crate::tables::{Agent, VpnTables};
+use ov_types::{Addr, InstanceId, Label, LowKey, LowValue, Prefix, Target, UpKey};
+use path_select::Path;
+use route_targets::{rd, target};
+
+/// A route of this control node's own: its prefix, where it leads, and its one target.
+#[derive(Clone, Copy, Debug, PartialEq, Eq)]
+pub struct Route {
+    pub prefix: Prefix,
+    pub path: Path,
+    pub target: Target,
+}
+
+pub(crate) fn is_within(prefix: &Prefix, subnet: &Prefix) -> bool
+    ensures { result ≡ is_inside_of prefix.now subnet.now }
+{
+    prefix.within(subnet)
+}
+
+/// Whether one of these instances has a target.
+fn is_of_any(asn: u32, instances: &[InstanceId], wanted: Target) -> bool
+    requires { asn ≤ 65535 }
+    ensures { result ≡ list_any (λ u. wanted.0 == u.0) (map (target_of asn) instances.now) }
+{
+    for instance in instances {
+        if wanted.0 == target(asn, *instance).0 {
+            return true;
+        }
+    }
+    false
+}
+
+impl Agent {
+    /// The label under which it publishes a circuit.
+    fn label_of(&self, circuit: u32) -> Option<Label>
+        requires { circuit ≤ 131071 }
+        ensures { result ≡ published_by (agent_of self.now) circuit }
+    {
+        let instance = InstanceId((circuit / 2) as u16);
+        let host = Prefix::host(Addr(0xfa00_0000 + circuit));
+        self.told.get(&UpKey::Publish(instance, host)).copied()
+    }
+}
+
+impl VpnTables {
+    /// The address and the label of a circuit's publication; where two agents publish it, of the lower session. No
+    /// circuit has a number above 131071. It takes no memory.
+    pub fn publisher(&self, circuit: u32) -> Option<(Addr, Label)>
+        ensures counts { circuit ≤ 131071 → result ≡ publisher self.now circuit }
+        ensures no_circuit { 131071 < circuit → result ≡ None }
+    {
+        if circuit > 131_071 {
+            return None;
+        }
+        for agent in &self.agents {
+            if let Some(label) = agent.label_of(circuit) {
+                return Some((agent.address, label));
+            }
+        }
+        None
+    }
+
+    pub(crate) fn is_known(&self, i: InstanceId) -> bool
+        ensures { result ≡ is_known self.now.feed i }
+    {
+        if i.0 <= 16383 {
+            return self.low(&LowKey::Instance(i.0)).is_some();
+        }
+        let place = (i.0 - 16384) % 16;
+        match self.side((i.0 - 16384) / 16, true) {
+            Some(side) => place <= u16::from(side.services()),
+            None => false,
+        }
+    }
+
+    /// Whether an import of an instance has a target.
+    pub(crate) fn imports_target(&self, i: InstanceId, wanted: Target) -> bool
+        ensures { result ≡ list_any (λ u. wanted.0 == u.0) (map (target_of self.now.asn) (imports self.now.feed i)) }
+    {
+        if i.0 > 16383 {
+            return self.hop_imports_target(i, wanted);
+        }
+        match self.low(&LowKey::Instance(i.0)) {
+            Some(LowValue::Instance { imports }) => is_of_any(self.asn, imports.as_slice(), wanted),
+            _ => false,
+        }
+    }
+
+    fn hop_imports_target(&self, i: InstanceId, wanted: Target) -> bool
+        requires { 16383 < i.0 }
+        ensures { result ≡ list_any (λ u. wanted.0 == u.0) (map (target_of self.now.asn) (imports self.now.feed i)) }
+    {
+        let place = (i.0 - 16384) % 16;
+        let Some(side) = self.side((i.0 - 16384) / 16, true) else {
+            return false;
+        };
+        let services = u16::from(side.services());
+        if place > services {
+            return false;
+        }
+        if wanted.0 == target(self.asn, i).0 {
+            return true;
+        }
+        if place == 0 && wanted.0 == target(self.asn, side.left()).0 {
+            return true;
+        }
+        place == services && wanted.0 == target(self.asn, side.right()).0
+    }
+
+    /// Whether an import of an instance has one of these targets.
+    pub(crate) fn imports_any(&self, i: InstanceId, targets: &[Target]) -> bool
+        ensures { result ≡ list_any (λ t. list_any (λ u. t.0 == u.0)
+            (map (target_of self.now.asn) (imports self.now.feed i))) targets.now }
+    {
+        for wanted in targets {
+            if self.imports_target(i, *wanted) {
+                return true;
+            }
+        }
+        false
+    }
+
+    /// The route of a publication, where its instance is known.
+    pub(crate) fn own_route(&self, agent: &Agent, key: &UpKey, label: Label) -> Option<Route>
+        ensures { option_map path_of result ≡ own_path self.now (agent_of agent.now) (of_up key.now) (LabelOf label) }
+    {
+        let UpKey::Publish(instance, prefix) = *key else {
+            return None;
+        };
+        if !self.is_known(instance) {
+            return None;
+        }
+        let path = Path {
+            session: agent.session,
+            rd: rd(agent.address, instance),
+            next_hop: agent.address,
+            label,
+        };
+        Some(Route {
+            prefix,
+            path,
+            target: target(self.asn, instance),
+        })
+    }
+}

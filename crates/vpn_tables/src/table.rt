@@ -1,0 +1,123 @@
+//! The table of an instance: one walk over its paths, with the least of each prefix.
+ghost use Rattle.std.specs.Prelude.{◌≡◌, ◌≤◌, [], ◌∷◌, OnOk, IfOk, map};
+ghost use Rattle.std.specs.List.{filter, filter_map};
+ghost use Rattle.std.specs.FinMap.{entries};
+ghost use Rattle.route_targets.specs.Numbers.{target_of};
+ghost use Rattle.node_model.specs.Paths.{has_target, own_path, own_paths, peer_path, peer_paths};
+ghost use Rattle.node_model.specs.Reaching.{reoriginated};
+ghost use Rattle.vpn_tables.specs.Answers.{is_wanted, rows_at};
+ghost use Rattle.vpn_tables.specs.Least.{least_of, offer_all};
+ghost use Rattle.vpn_tables.specs.Routes.{path_of};
+ghost use Rattle.vpn_tables.specs.Views.{agent_of, peer_of};
+
+use crate::held::Held;
+use crate::least::{offer, rows};
+use crate::routes::Route;
+use crate::tables::{Agent, VpnTables};
+use ov_types::{InstanceId, NoMemory, Prefix, TableRow, Target, VpnKey, VpnRoute};
+use path_select::Path;
+use route_targets::target;
+
+type Least = Held<Prefix, Path>;
+
+impl VpnTables {
+    /// The rows of an instance, in the order of their prefixes: of each prefix that is among the paths that it
+    /// received or that are re-originated into it, the one of the least path.
+    pub fn table(&self, i: InstanceId) -> Result<Vec<(Prefix, TableRow)>, NoMemory>
+        ensures { IfOk result (λ rows. rows.items ≡ rows_at self.now i) }
+    {
+        let mut least = Held::new(self.alloc);
+        self.offer_agents(&mut least, i)?;
+        self.offer_peers(&mut least, i)?;
+        self.offer_led(&mut least, i)?;
+        let rows = rows(self.alloc, &least)?;
+        Ok(rows)
+    }
+
+    fn offer_agents(&self, least: &mut Least, i: InstanceId) -> Result<(), NoMemory>
+        ensures { OnOk result (least_of least.new
+            ≡ offer_all (least_of least.old) (filter (is_wanted self.now i) (own_paths self.now))) }
+    {
+        for agent in &self.agents {
+            self.offer_agent(least, agent, i)?;
+        }
+        Ok(())
+    }
+
+    fn offer_agent(&self, least: &mut Least, agent: &Agent, i: InstanceId) -> Result<(), NoMemory>
+        ensures { OnOk result (least_of least.new ≡ offer_all (least_of least.old) (filter (is_wanted self.now i)
+            (filter_map (λ e. own_path self.now (agent_of agent.now) e.0 e.1) (entries (agent_of agent.now).map)))) }
+    {
+        for (key, label) in agent.told.iter() {
+            if let Some(route) = self.own_route(agent, key, *label) {
+                self.offer_route(least, &route, i)?;
+            }
+        }
+        Ok(())
+    }
+
+    fn offer_route(&self, least: &mut Least, route: &Route, i: InstanceId) -> Result<(), NoMemory>
+        ensures { OnOk result (least_of least.new
+            ≡ offer_all (least_of least.old) (filter (is_wanted self.now i) (path_of route.now ∷ []))) }
+    {
+        if self.imports_any(i, &[route.target]) {
+            offer(least, route.prefix, route.path)?;
+        }
+        Ok(())
+    }
+
+    fn offer_peers(&self, least: &mut Least, i: InstanceId) -> Result<(), NoMemory>
+        ensures { OnOk result (least_of least.new
+            ≡ offer_all (least_of least.old) (filter (is_wanted self.now i) (peer_paths self.now))) }
+    {
+        for (place, routes) in self.peers.iter().enumerate() {
+            self.offer_peer(least, 1 + place as u16, routes, i)?;
+        }
+        Ok(())
+    }
+
+    fn offer_peer(
+        &self,
+        least: &mut Least,
+        session: u16,
+        routes: &Held<VpnKey, VpnRoute>,
+        i: InstanceId,
+    ) -> Result<(), NoMemory>
+        ensures { OnOk result (least_of least.new ≡ offer_all (least_of least.old) (filter (is_wanted self.now i)
+            (filter_map (λ e. peer_path session e.0 e.1) (entries (peer_of routes.now))))) }
+    {
+        for (key, route) in routes.iter() {
+            if self.imports_any(i, route.targets.items()) {
+                let path = Path {
+                    session,
+                    rd: key.rd,
+                    next_hop: route.next_hop,
+                    label: route.label,
+                };
+                offer(least, key.prefix, path)?;
+            }
+        }
+        Ok(())
+    }
+
+    fn offer_led(&self, least: &mut Least, i: InstanceId) -> Result<(), NoMemory>
+        ensures { OnOk result (least_of least.new ≡ offer_all (least_of least.old)
+            (filter (has_target (target_of self.now.asn i ∷ [])) (reoriginated self.now))) }
+    {
+        let routes = self.led_on()?;
+        offer_to(least, routes.as_slice(), target(self.asn, i))
+    }
+}
+
+/// Offers the routes that have a target.
+fn offer_to(least: &mut Least, routes: &[Route], wanted: Target) -> Result<(), NoMemory>
+    ensures { OnOk result (least_of least.new
+        ≡ offer_all (least_of least.old) (filter (has_target (wanted ∷ [])) (map path_of routes.now))) }
+{
+    for route in routes {
+        if route.target.0 == wanted.0 {
+            offer(least, route.prefix, route.path)?;
+        }
+    }
+    Ok(())
+}

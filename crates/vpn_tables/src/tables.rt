@@ -1,0 +1,152 @@
+//! What a control node holds.
+ghost use Rattle.std.specs.Prelude.{◌≡◌, ◌≤◌, OnOk, OnErr, IfSome, option_copied};
+ghost use Rattle.ov_sync.specs.Keyed.{PutOf, IsPut};
+ghost use Rattle.node_model.specs.Maps.{object};
+ghost use Rattle.vpn_tables.specs.Ranges.{Fits};
+ghost use Rattle.vpn_tables.specs.Changes.{nothing, with_low, with_route, with_agent, with_publication, without};
+
+use crate::held::Held;
+use crate::sessions::{change_at, empty_agent, empty_at, name_agent, tell_agent};
+use ov_sync::Delta;
+use ov_types::{Addr, Label, LowKey, LowValue, NoMemory, UpKey, VpnKey, VpnRoute};
+use std::alloc::Global;
+use std::marker::Model;
+
+/// What a control node holds of its sessions, and what follows from it. Session 0 is the feed; the sessions of peers
+/// and of agents are told apart by the calls.
+#[derive(Drop)]
+pub struct VpnTables {
+    pub(crate) asn: u32,
+    pub(crate) low: Held<LowKey, LowValue>,
+    /// Of session 1, 2 and so on.
+    pub(crate) peers: Vec<Held<VpnKey, VpnRoute>>,
+    /// In the order of their sessions.
+    pub(crate) agents: Vec<Agent>,
+    pub(crate) alloc: Global,
+}
+
+/// What an agent told on its session.
+#[derive(Drop)]
+pub(crate) struct Agent {
+    pub(crate) session: u16,
+    pub(crate) address: Addr,
+    pub(crate) told: Held<UpKey, Label>,
+}
+
+impl Model for VpnTables {
+    ghost use Rattle.node_model.specs.Paths.{Holdings};
+
+    ghost Value = { Holdings };
+
+    ghost use Rattle.vpn_tables.specs.Codes.{coded_holdings};
+
+    ghost coded = { coded_holdings };
+
+    ghost use Rattle.std.specs.Prelude.{◌≤◌, length, map};
+    ghost use Rattle.ov_sync.specs.Keyed.{map_of, Values};
+    ghost use Rattle.vpn_tables.specs.Ranges.{Fits};
+    ghost use Rattle.vpn_tables.specs.Views.{low_order, feed_of, peer_of, agent_of};
+
+    ghost view = { λ s. record {
+      asn = s.asn;
+      feed = feed_of s.low;
+      peers = map peer_of s.peers.items;
+      agents = map agent_of s.agents.items;
+    } };
+
+    ghost invariant = { λ s.
+        (s.asn ≤ 65535) × Values Fits (map_of low_order s.low) × (length s.peers.items ≤ 65535) };
+}
+
+impl VpnTables {
+    /// Nothing is held. It takes no memory.
+    pub fn new(alloc: Global, asn: u32) -> VpnTables
+        requires { asn ≤ 65535 }
+        ensures { result ≡ nothing asn }
+    {
+        VpnTables {
+            asn,
+            low: Held::new(alloc),
+            peers: Vec::new(alloc),
+            agents: Vec::new(alloc),
+            alloc,
+        }
+    }
+
+    /// Applies a change that the feed told. A drop takes no memory.
+    pub fn set_low(&mut self, delta: Delta<LowKey, LowValue>) -> Result<(), NoMemory>
+        requires { PutOf Fits delta }
+        ensures ok { OnOk result (self.new ≡ with_low self.old delta) }
+        ensures err { OnErr result (self.new ≡ self.old) }
+        ensures memory { OnErr result (IsPut delta) }
+    {
+        self.low.apply(delta)?;
+        Ok(())
+    }
+
+    /// Applies a change that a peer told on its session. Session 0 is the feed, which tells no routes.
+    pub fn set_peer_route(
+        &mut self,
+        session: u16,
+        delta: Delta<VpnKey, VpnRoute>,
+    ) -> Result<(), NoMemory>
+        ensures ok { OnOk result (self.new ≡ with_route self.old session delta) }
+        ensures err { OnErr result (self.new ≡ self.old) }
+    {
+        if session == 0 {
+            return Ok(());
+        }
+        change_at(self.alloc, &mut self.peers, usize::from(session - 1), delta)?;
+        Ok(())
+    }
+
+    /// Says whose session it is. What its agent told stays.
+    pub fn set_agent(&mut self, session: u16, address: Addr) -> Result<(), NoMemory>
+        ensures ok { OnOk result (self.new ≡ with_agent self.old session address) }
+        ensures err { OnErr result (self.new ≡ self.old) }
+    {
+        name_agent(self.alloc, &mut self.agents, session, address)?;
+        Ok(())
+    }
+
+    /// Applies a change that an agent told on its session. A session that is no agent's changes nothing.
+    pub fn set_publication(
+        &mut self,
+        session: u16,
+        delta: Delta<UpKey, Label>,
+    ) -> Result<(), NoMemory>
+        ensures ok { OnOk result (self.new ≡ with_publication self.old session delta) }
+        ensures err { OnErr result (self.new ≡ self.old) }
+    {
+        tell_agent(&mut self.agents, session, delta)?;
+        Ok(())
+    }
+
+    /// Empties what a session gave; whose session it is stays. It takes no memory.
+    pub fn drop_session(&mut self, session: u16)
+        ensures { self.new ≡ without self.old session }
+    {
+        empty_agent(&mut self.agents, session);
+        if session == 0 {
+            self.low.clear();
+            return;
+        }
+        empty_at(&mut self.peers, usize::from(session - 1));
+    }
+
+    /// The object that is held at a key. It takes no memory.
+    pub fn low(&self, key: &LowKey) -> Option<&LowValue>
+        ensures object { option_copied result ≡ object self.now.feed key.now }
+        ensures fits { IfSome result (λ value. Fits key.now value.now) }
+    {
+        self.low.get(key)
+    }
+
+    /// The AS number. It takes no memory.
+    pub fn asn(&self) -> u32
+        ensures number { result ≡ self.now.asn }
+        ensures at_most { result ≤ 65535 }
+    {
+        self.asn
+    }
+}

@@ -1,0 +1,99 @@
+//! What no clause says: that each call answers where memory is ample.
+use crate::VpnTables;
+use ov_sync::Delta;
+use ov_types::{
+    Addr, InstanceId, Items, Label, LowKey, LowValue, Prefix, Rd, ServiceNo, Target, Targets,
+    UpKey, VpnKey, VpnRoute,
+};
+use std::alloc::Global;
+use std::test::Fail;
+
+const NEAR: Addr = Addr(0xc000_020b);
+
+const FAR: Addr = Addr(0xc000_020c);
+
+/// A control node whose agent is on session 2 and whose one peer on session 1, with a chain of two services between
+/// networks 1 and 2, of which the agent publishes the first's circuits.
+fn chained(alloc: Global, left: Prefix, right: Prefix) -> Result<VpnTables, Fail> {
+    let mut tables = VpnTables::new(alloc, 64512);
+    let chain = LowValue::ChainUse {
+        left: InstanceId(1),
+        right: InstanceId(2),
+        left_prefixes: Items::from_vec(vec![in alloc; left]?),
+        right_prefixes: Items::from_vec(vec![in alloc; right]?),
+        hops: Items::from_vec(vec![in alloc; (ServiceNo(1), NEAR), (ServiceNo(2), FAR)]?),
+    };
+    tables.set_low(Delta::Put(LowKey::ChainUse(0), chain))?;
+    let imports = Items::from_vec(vec![in alloc; InstanceId(1)]?);
+    tables.set_low(Delta::Put(LowKey::Instance(1), LowValue::Instance { imports }))?;
+    tables.set_agent(2, NEAR)?;
+    for (instance, host, label) in [
+        (1, 0x0a01_0001, 17),
+        (16384, 0xfa00_8001, 557_057),
+        (16385, 0xfa00_8002, 557_058),
+    ] {
+        let key = UpKey::Publish(InstanceId(instance), Prefix::host(Addr(host)));
+        tables.set_publication(2, Delta::Put(key, Label(label)))?;
+    }
+    Ok(tables)
+}
+
+#[test]
+fn subnets_are_up_along_a_chain(rt: HostRuntime) -> Result<(), Fail> {
+    let alloc = rt.alloc();
+    let left = Prefix::new(Addr(0x0a01_0000), 24).ok_or("10.1.0.0/24")?;
+    let right = Prefix::new(Addr(0x0a02_0000), 24).ok_or("10.2.0.0/24")?;
+    let mut tables = chained(alloc, left, right)?;
+    let mut targets = Targets::new(alloc);
+    targets.insert(Target(0x0002_fc00_007a_5201))?;
+    let key = VpnKey {
+        rd: Rd(0x0001_c000_020c_4001),
+        prefix: right,
+    };
+    let route = VpnRoute {
+        next_hop: FAR,
+        label: Label(557_059),
+        targets,
+    };
+    assert!(rt; !tables.up(InstanceId(16384), &right, true));
+    tables.set_peer_route(1, Delta::Put(key, route))?;
+    for (hop, is_right, want) in [
+        (16384, true, true),
+        (16385, true, true),
+        (16386, true, false),
+        (16384, false, true),
+        (16385, false, true),
+        (16386, false, false),
+        (1, true, false),
+        (16400, true, false),
+    ] {
+        let subnet = if is_right { right } else { left };
+        assert_eq!(rt;
+            tables.up(InstanceId(hop), &subnet, is_right),
+            want,
+            "{hop} {is_right}"
+        );
+    }
+    tables.drop_session(1);
+    assert!(rt; !tables.up(InstanceId(16385), &right, true));
+    Ok(())
+}
+
+#[test]
+fn the_lower_session_publishes(rt: HostRuntime) -> Result<(), Fail> {
+    let left = Prefix::host(Addr(1));
+    let mut tables = chained(rt.alloc(), left, left)?;
+    assert_eq!(rt; tables.publisher(32_769), Some((NEAR, Label(557_057))));
+    assert_eq!(rt; tables.publisher(32_771), None);
+    assert_eq!(rt; tables.asn(), 64512);
+    tables.set_agent(1, FAR)?;
+    let key = UpKey::Publish(InstanceId(16384), Prefix::host(Addr(0xfa00_8001)));
+    tables.set_publication(1, Delta::Put(key, Label(16)))?;
+    assert_eq!(rt; tables.publisher(32_769), Some((FAR, Label(16))));
+    tables.drop_session(1);
+    assert_eq!(rt; tables.publisher(32_769), Some((NEAR, Label(557_057))));
+    assert!(rt; tables.low(&LowKey::ChainUse(0)).is_some());
+    tables.drop_session(0);
+    assert!(rt; tables.low(&LowKey::ChainUse(0)).is_none());
+    Ok(())
+}
