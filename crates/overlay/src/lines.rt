@@ -1,30 +1,17 @@
-//! The lines of tables.
-ghost use Rattle.std.specs.Prelude.{◌≡◌, ◌++◌, [], IfOk, OnOk, OnErr, string_bytes};
+//! Writing what `compile` writes: each line is made, and handed on where enough is gathered.
+ghost use Rattle.std.specs.Prelude.{◌++◌, [], OnOk, OnErr};
 ghost use Rattle.std.specs.Io.KnownBytes.{Appends};
 ghost use Rattle.ov_io.specs.Inputs.{TookFront};
 ghost use Rattle.ov_io.specs.Pieces.{HasWriteCause, IsOnItsWay};
-ghost use Rattle.overlay.specs.Lines.{row_line, control_lines, controls_text, compile_text};
+ghost use Rattle.overlay.specs.Lines.{compile_text, controls_text};
+ghost use Rattle.report.specs.Rows.{control_lines, control_row_line};
 
 use config_check::Valid;
-use ov_io::{Sink, TextOut, WriteRefusal, gather, write_gathered};
+use ov_io::{Sink, TextOut, WriteRefusal, write_gathered, write_piece};
 use ov_types::{ControlRows, InstanceId, Name, NodeId, Prefix, TableRow};
+use report::control_row_line;
 use schema_transform::compiled;
-use std::alloc::{AllocError, Global};
-
-/// The line of one row of a control node.
-#[tactic(auto, unfolding(crate::specs::Lines::row_line))]
-fn line_of(
-    alloc: Global,
-    node: &Name,
-    key: &(InstanceId, Prefix),
-    row: &TableRow,
-) -> Result<String, AllocError>
-    ensures { IfOk result (λ s. string_bytes s ≡ row_line node.now (key.now, row.now)) }
-{
-    let instance = key.0;
-    let prefix = key.1;
-    format!(in alloc; "control {node} table {instance} {prefix} {row}\n")
-}
+use std::alloc::Global;
 
 /// Hands on the line of one row of a control node.
 #[tactic(auto, using(ov_io::proofs::PieceLemmas::took_nothing))]
@@ -36,13 +23,13 @@ fn write_row<K: Sink>(
     gathered: &mut TextOut,
 ) -> Result<(), WriteRefusal>
     ensures ok { OnOk result (IsOnItsWay (K.taken sink.old) (K.taken sink.new) gathered.new []
-        (gathered.old ++ row_line node.now row.now)) }
+        (gathered.old ++ control_row_line node.now row.now)) }
     ensures front { OnErr result (TookFront (K.taken sink.old) (K.taken sink.new)
-        (gathered.old ++ row_line node.now row.now)) }
+        (gathered.old ++ control_row_line node.now row.now)) }
     ensures cause { HasWriteCause (K.faults sink.old) (K.faults sink.new) result }
 {
-    let line = line_of(alloc, node, &row.0, &row.1)?;
-    gather(sink, gathered, line.as_bytes())
+    control_row_line(alloc, node, row, gathered)?;
+    write_piece(sink, gathered)
 }
 
 /// Hands on the lines of one control node.
