@@ -1,0 +1,5 @@
+pub mod Places
+pub mod Walks
+pub mod Departing
+pub mod Delivering
+pub mod Tabled

@@ -1,0 +1,6 @@
+use Rattle.packet_trace.proofs.Places.{map_set}
+use Rattle.packet_trace.proofs.step.verdict_at.Goals as goal
+
+pub returns-clause-same : goal.returns-clause-same
+returns-clause-same g c =
+    map_set g.V.Vrouter.forwarder c.args.agents.now c.args.source.agent c.verdict.new.self c.index-agents-source.result c.verdict.ensures.same
