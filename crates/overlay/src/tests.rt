@@ -25,6 +25,17 @@ const ONE: &str = r#"{
     "ports":[{"name":"vm7","id":7,"network":"red","address":"10.1.0.5","node":"n1"}]
 }"#;
 
+/// What `compile` writes of one port.
+const ONE_TEXT: &str = "\
+instance 1 imports 1
+attach 23 port 7 instance 1 address 10.1.0.5 node 192.0.2.11
+acl 1 1 subnets 10.1.0.0/24
+control c1 table 1 10.1.0.5/32 192.0.2.11:1 192.0.2.11 23
+agent n1 label 23 port 7 instance 1
+agent n1 acl 1 1 subnets 10.1.0.0/24
+agent n1 table 1 10.1.0.5/32 192.0.2.11 23
+";
+
 const LAST_NETWORK: &str = r#"{
     "networks":[{"name":"red","id":16383,"subnets":["10.1.0.0/24"]}],
     "ports":[{"name":"vm7","id":7,"network":"red","address":"10.1.0.5","node":"n1"}]
@@ -127,20 +138,7 @@ const ONE_WAY_PACKETS: &str = r#"[
     {"port":1,"to":"10.2.0.2","protocol":6,"sport":999,"dport":80}
 ]"#;
 
-/// Two networks whose one rule leads through a chain of one service.
-const CHAIN: &str = r#"{
-    "networks":[{"name":"red","id":1,"subnets":["10.1.0.0/24"],"policies":["sec"]},
-        {"name":"blue","id":2,"subnets":["10.2.0.0/24"],"policies":["sec"]}],
-    "ports":[{"name":"vm1","id":1,"network":"red","address":"10.1.0.1","node":"n1"},
-        {"name":"vm2","id":2,"network":"blue","address":"10.2.0.2","node":"n2"}],
-    "services":[{"name":"s1","id":1,"node":"n1"}],
-    "chains":[{"name":"one","hops":["s1"]}],
-    "policies":[{"name":"sec","sequence":20,"rules":[
-        {"direction":"<>","source":"red","destination":"blue","protocol":"any",
-            "source_ports":[0,65535],"destination_ports":[0,65535],"action":"chain","chain":"one","use":0}]}]
-}"#;
-
-/// The same with a chain of two services.
+/// Two networks whose one rule leads through a chain of two services.
 const PAIR: &str = r#"{
     "networks":[{"name":"red","id":1,"subnets":["10.1.0.0/24"],"policies":["sec"]},
         {"name":"blue","id":2,"subnets":["10.2.0.0/24"],"policies":["sec"]}],
@@ -151,6 +149,19 @@ const PAIR: &str = r#"{
     "policies":[{"name":"sec","sequence":20,"rules":[
         {"direction":"<>","source":"red","destination":"blue","protocol":"any",
             "source_ports":[0,65535],"destination_ports":[0,65535],"action":"chain","chain":"pair","use":0}]}]
+}"#;
+
+/// A rule that leads through a chain, of a policy that only one of the networks has.
+const UNUSED: &str = r#"{
+    "networks":[{"name":"red","id":1,"subnets":["10.1.0.0/24"],"policies":["sec"]},
+        {"name":"blue","id":2,"subnets":["10.2.0.0/24"],"policies":[]}],
+    "ports":[{"name":"vm1","id":1,"network":"red","address":"10.1.0.1","node":"n1"},
+        {"name":"vm2","id":2,"network":"blue","address":"10.2.0.2","node":"n2"}],
+    "services":[{"name":"s1","id":1,"node":"n1"}],
+    "chains":[{"name":"one","hops":["s1"]}],
+    "policies":[{"name":"sec","sequence":20,"rules":[
+        {"direction":"<>","source":"red","destination":"blue","protocol":"any",
+            "source_ports":[0,65535],"destination_ports":[0,65535],"action":"chain","chain":"one","use":0}]}]
 }"#;
 
 const PAIR_PACKETS: &str = r#"[
@@ -368,48 +379,61 @@ ffffffffffffffffffffffffffffffff0054 02 0000 003d4001010040020040050400000064
     each_is_answered(&rt, rt.alloc(), "decode", &cases)
 }
 
-#[test]
-fn documents_are_compiled(rt: HostRuntime) -> Result<(), Fail> {
-    let cases: [DocumentCase; 5] = [
-        (
-            TWO_NODES,
-            CHAIN,
-            Status::Done,
-            "\
-control c1 table 1 10.1.0.1/32 192.0.2.11:1 192.0.2.11 17
-control c1 table 2 10.2.0.2/32 192.0.2.12:2 192.0.2.12 18
-control c2 table 1 10.1.0.1/32 192.0.2.11:1 192.0.2.11 17
-control c2 table 2 10.2.0.2/32 192.0.2.12:2 192.0.2.12 18
-",
-        ),
-        (
-            ONE_NODE,
-            ONE,
-            Status::Done,
-            "control c1 table 1 10.1.0.5/32 192.0.2.11:1 192.0.2.11 23\n",
-        ),
-        (
-            ONE_NODE,
-            LAST_NETWORK,
-            Status::Done,
-            "control c1 table 16383 10.1.0.5/32 192.0.2.11:16383 192.0.2.11 23\n",
-        ),
-        (
-            ONE_NODE,
-            EQUAL_ADDRESSES,
-            Status::Done,
-            "\
+/// What `compile` writes of equal addresses.
+const EQUAL_ADDRESSES_TEXT: &str = "\
+instance 1 imports 1
+instance 2 imports 2
+attach 17 port 1 instance 1 address 10.0.0.1 node 192.0.2.11
+attach 18 port 2 instance 1 address 10.0.0.9 node 192.0.2.11
+attach 19 port 3 instance 2 address 10.0.0.1 node 192.0.2.11
+attach 20 port 4 instance 2 address 10.0.0.9 node 192.0.2.11
+acl 1 1 subnets 10.0.0.0/24
+acl 2 2 subnets 10.0.0.0/24
 control c1 table 1 10.0.0.1/32 192.0.2.11:1 192.0.2.11 17
 control c1 table 1 10.0.0.9/32 192.0.2.11:1 192.0.2.11 18
 control c1 table 2 10.0.0.1/32 192.0.2.11:2 192.0.2.11 19
 control c1 table 2 10.0.0.9/32 192.0.2.11:2 192.0.2.11 20
-",
-        ),
-        (
-            TWO_NODES,
-            PASS,
-            Status::Done,
-            "\
+agent n1 label 17 port 1 instance 1
+agent n1 label 18 port 2 instance 1
+agent n1 label 19 port 3 instance 2
+agent n1 label 20 port 4 instance 2
+agent n1 acl 1 1 subnets 10.0.0.0/24
+agent n1 acl 2 2 subnets 10.0.0.0/24
+agent n1 table 1 10.0.0.1/32 192.0.2.11 17
+agent n1 table 1 10.0.0.9/32 192.0.2.11 18
+agent n1 table 2 10.0.0.1/32 192.0.2.11 19
+agent n1 table 2 10.0.0.9/32 192.0.2.11 20
+";
+
+/// What `compile` writes of a network with the last number.
+const LAST_NETWORK_TEXT: &str = "\
+instance 16383 imports 16383
+attach 23 port 7 instance 16383 address 10.1.0.5 node 192.0.2.11
+acl 16383 16383 subnets 10.1.0.0/24
+control c1 table 16383 10.1.0.5/32 192.0.2.11:16383 192.0.2.11 23
+agent n1 label 23 port 7 instance 16383
+agent n1 acl 16383 16383 subnets 10.1.0.0/24
+agent n1 table 16383 10.1.0.5/32 192.0.2.11 23
+";
+
+/// What `compile` writes of a policy that passes packets.
+const PASS_TEXT: &str = "\
+instance 1 imports 1,2
+instance 2 imports 1,2
+attach 17 port 1 instance 1 address 10.1.0.1 node 192.0.2.11
+attach 18 port 2 instance 2 address 10.2.0.2 node 192.0.2.12
+acl 1 1 subnets 10.1.0.0/24
+acl 1 2 subnets 10.2.0.0/24
+acl 1 2 rule 10/1 6 0-65535 22-22 deny
+acl 1 2 rule 10/1 6 22-22 0-65535 deny
+acl 1 2 rule 10/2 any 0-65535 0-65535 pass
+acl 1 2 rule 10/2 any 0-65535 0-65535 pass
+acl 2 1 subnets 10.1.0.0/24
+acl 2 1 rule 10/1 6 0-65535 22-22 deny
+acl 2 1 rule 10/1 6 22-22 0-65535 deny
+acl 2 1 rule 10/2 any 0-65535 0-65535 pass
+acl 2 1 rule 10/2 any 0-65535 0-65535 pass
+acl 2 2 subnets 10.2.0.0/24
 control c1 table 1 10.1.0.1/32 192.0.2.11:1 192.0.2.11 17
 control c1 table 1 10.2.0.2/32 192.0.2.12:2 192.0.2.12 18
 control c1 table 2 10.1.0.1/32 192.0.2.11:1 192.0.2.11 17
@@ -418,8 +442,131 @@ control c2 table 1 10.1.0.1/32 192.0.2.11:1 192.0.2.11 17
 control c2 table 1 10.2.0.2/32 192.0.2.12:2 192.0.2.12 18
 control c2 table 2 10.1.0.1/32 192.0.2.11:1 192.0.2.11 17
 control c2 table 2 10.2.0.2/32 192.0.2.12:2 192.0.2.12 18
-",
+agent n1 label 17 port 1 instance 1
+agent n1 acl 1 1 subnets 10.1.0.0/24
+agent n1 acl 1 2 subnets 10.2.0.0/24
+agent n1 acl 1 2 rule 10/1 6 0-65535 22-22 deny
+agent n1 acl 1 2 rule 10/1 6 22-22 0-65535 deny
+agent n1 acl 1 2 rule 10/2 any 0-65535 0-65535 pass
+agent n1 acl 1 2 rule 10/2 any 0-65535 0-65535 pass
+agent n1 table 1 10.1.0.1/32 192.0.2.11 17
+agent n1 table 1 10.2.0.2/32 192.0.2.12 18
+agent n2 label 18 port 2 instance 2
+agent n2 acl 2 1 subnets 10.1.0.0/24
+agent n2 acl 2 1 rule 10/1 6 0-65535 22-22 deny
+agent n2 acl 2 1 rule 10/1 6 22-22 0-65535 deny
+agent n2 acl 2 1 rule 10/2 any 0-65535 0-65535 pass
+agent n2 acl 2 1 rule 10/2 any 0-65535 0-65535 pass
+agent n2 acl 2 2 subnets 10.2.0.0/24
+agent n2 table 2 10.1.0.1/32 192.0.2.11 17
+agent n2 table 2 10.2.0.2/32 192.0.2.12 18
+";
+
+/// What `compile` writes of a chain of two services.
+const PAIR_TEXT: &str = "\
+instance 1 imports 1
+instance 2 imports 2
+attach 17 port 1 instance 1 address 10.1.0.1 node 192.0.2.11
+attach 18 port 2 instance 2 address 10.2.0.2 node 192.0.2.12
+attach 557057 circuit 32769 service 1 instance 16384 address 250.0.128.1 node 192.0.2.11
+attach 557058 circuit 32770 service 1 instance 16385 address 250.0.128.2 node 192.0.2.11
+attach 557059 circuit 32771 service 2 instance 16385 address 250.0.128.3 node 192.0.2.12
+attach 557060 circuit 32772 service 2 instance 16386 address 250.0.128.4 node 192.0.2.12
+acl 1 1 subnets 10.1.0.0/24
+acl 1 2 subnets 10.2.0.0/24
+acl 1 2 rule 20/1 any 0-65535 0-65535 enter 16384
+acl 2 1 subnets 10.1.0.0/24
+acl 2 1 rule 20/1 any 0-65535 0-65535 enter 16386
+acl 2 2 subnets 10.2.0.0/24
+use 0 left 1 10.1.0.0/24 right 2 10.2.0.0/24 hops 1@192.0.2.11,2@192.0.2.12
+control c1 table 1 10.1.0.1/32 192.0.2.11:1 192.0.2.11 17
+control c1 table 2 10.2.0.2/32 192.0.2.12:2 192.0.2.12 18
+control c1 table 16384 10.1.0.1/32 192.0.2.11:1 192.0.2.11 17
+control c1 table 16384 10.2.0.0/24 192.0.2.11:16384 192.0.2.11 557057
+control c1 table 16384 250.0.128.1/32 192.0.2.11:16384 192.0.2.11 557057
+control c1 table 16385 10.1.0.0/24 192.0.2.11:16385 192.0.2.11 557058
+control c1 table 16385 10.2.0.0/24 192.0.2.12:16385 192.0.2.12 557059
+control c1 table 16385 250.0.128.2/32 192.0.2.11:16385 192.0.2.11 557058
+control c1 table 16385 250.0.128.3/32 192.0.2.12:16385 192.0.2.12 557059
+control c1 table 16386 10.1.0.0/24 192.0.2.12:16386 192.0.2.12 557060
+control c1 table 16386 10.2.0.2/32 192.0.2.12:2 192.0.2.12 18
+control c1 table 16386 250.0.128.4/32 192.0.2.12:16386 192.0.2.12 557060
+control c2 table 1 10.1.0.1/32 192.0.2.11:1 192.0.2.11 17
+control c2 table 2 10.2.0.2/32 192.0.2.12:2 192.0.2.12 18
+control c2 table 16384 10.1.0.1/32 192.0.2.11:1 192.0.2.11 17
+control c2 table 16384 10.2.0.0/24 192.0.2.11:16384 192.0.2.11 557057
+control c2 table 16384 250.0.128.1/32 192.0.2.11:16384 192.0.2.11 557057
+control c2 table 16385 10.1.0.0/24 192.0.2.11:16385 192.0.2.11 557058
+control c2 table 16385 10.2.0.0/24 192.0.2.12:16385 192.0.2.12 557059
+control c2 table 16385 250.0.128.2/32 192.0.2.11:16385 192.0.2.11 557058
+control c2 table 16385 250.0.128.3/32 192.0.2.12:16385 192.0.2.12 557059
+control c2 table 16386 10.1.0.0/24 192.0.2.12:16386 192.0.2.12 557060
+control c2 table 16386 10.2.0.2/32 192.0.2.12:2 192.0.2.12 18
+control c2 table 16386 250.0.128.4/32 192.0.2.12:16386 192.0.2.12 557060
+agent n1 label 17 port 1 instance 1
+agent n1 label 557057 circuit 32769 service 1
+agent n1 label 557058 circuit 32770 service 1
+agent n1 acl 1 1 subnets 10.1.0.0/24
+agent n1 acl 1 2 subnets 10.2.0.0/24
+agent n1 acl 1 2 rule 20/1 any 0-65535 0-65535 enter 16384
+agent n1 table 1 10.1.0.1/32 192.0.2.11 17
+agent n1 table 16384 10.1.0.1/32 192.0.2.11 17
+agent n1 table 16384 10.2.0.0/24 192.0.2.11 557057
+agent n1 table 16384 250.0.128.1/32 192.0.2.11 557057
+agent n1 table 16385 10.1.0.0/24 192.0.2.11 557058
+agent n1 table 16385 10.2.0.0/24 192.0.2.12 557059
+agent n1 table 16385 250.0.128.2/32 192.0.2.11 557058
+agent n1 table 16385 250.0.128.3/32 192.0.2.12 557059
+agent n2 label 18 port 2 instance 2
+agent n2 label 557059 circuit 32771 service 2
+agent n2 label 557060 circuit 32772 service 2
+agent n2 acl 2 1 subnets 10.1.0.0/24
+agent n2 acl 2 1 rule 20/1 any 0-65535 0-65535 enter 16386
+agent n2 acl 2 2 subnets 10.2.0.0/24
+agent n2 table 2 10.2.0.2/32 192.0.2.12 18
+agent n2 table 16385 10.1.0.0/24 192.0.2.11 557058
+agent n2 table 16385 10.2.0.0/24 192.0.2.12 557059
+agent n2 table 16385 250.0.128.2/32 192.0.2.11 557058
+agent n2 table 16385 250.0.128.3/32 192.0.2.12 557059
+agent n2 table 16386 10.1.0.0/24 192.0.2.12 557060
+agent n2 table 16386 10.2.0.2/32 192.0.2.12 18
+agent n2 table 16386 250.0.128.4/32 192.0.2.12 557060
+";
+
+/// What `compile` writes where the use of a chain is not in effect.
+const UNUSED_TEXT: &str = "\
+instance 1 imports 1
+instance 2 imports 2
+attach 17 port 1 instance 1 address 10.1.0.1 node 192.0.2.11
+attach 18 port 2 instance 2 address 10.2.0.2 node 192.0.2.12
+acl 1 1 subnets 10.1.0.0/24
+acl 2 2 subnets 10.2.0.0/24
+control c1 table 1 10.1.0.1/32 192.0.2.11:1 192.0.2.11 17
+control c1 table 2 10.2.0.2/32 192.0.2.12:2 192.0.2.12 18
+control c2 table 1 10.1.0.1/32 192.0.2.11:1 192.0.2.11 17
+control c2 table 2 10.2.0.2/32 192.0.2.12:2 192.0.2.12 18
+agent n1 label 17 port 1 instance 1
+agent n1 acl 1 1 subnets 10.1.0.0/24
+agent n1 table 1 10.1.0.1/32 192.0.2.11 17
+agent n2 label 18 port 2 instance 2
+agent n2 acl 2 2 subnets 10.2.0.0/24
+agent n2 table 2 10.2.0.2/32 192.0.2.12 18
+";
+
+#[test]
+fn documents_are_compiled(rt: HostRuntime) -> Result<(), Fail> {
+    let cases: [DocumentCase; 6] = [
+        (ONE_NODE, ONE, Status::Done, ONE_TEXT),
+        (ONE_NODE, LAST_NETWORK, Status::Done, LAST_NETWORK_TEXT),
+        (
+            ONE_NODE,
+            EQUAL_ADDRESSES,
+            Status::Done,
+            EQUAL_ADDRESSES_TEXT,
         ),
+        (TWO_NODES, PASS, Status::Done, PASS_TEXT),
+        (TWO_NODES, PAIR, Status::Done, PAIR_TEXT),
+        (TWO_NODES, UNUSED, Status::Done, UNUSED_TEXT),
     ];
     each_is_compiled(&rt, rt.alloc(), &cases)
 }
@@ -450,11 +597,7 @@ fn chain_of(alloc: Global, count: u32) -> Result<String, AllocError> {
 fn chains_have_at_most_fifteen_services(rt: HostRuntime) -> Result<(), Fail> {
     let alloc = rt.alloc();
     for (count, status, output) in [
-        (
-            15,
-            Status::Done,
-            "control c1 table 1 10.1.0.5/32 192.0.2.11:1 192.0.2.11 23\n",
-        ),
+        (15, Status::Done, ONE_TEXT),
         (16, Status::Refused, "refused ChainTooLong long\n"),
     ] {
         let input = document(alloc, ONE_NODE, chain_of(alloc, count)?.as_str())?;
@@ -645,10 +788,7 @@ fn short_reads_and_writes_lose_nothing(rt: HostRuntime) -> Result<(), Fail> {
         let mut sink = Dribble { inner, most };
         let status = overlay(alloc, words.as_slice(), &mut source, &mut sink);
         assert_eq!(rt; status, Status::Done);
-        assert_eq!(rt;
-            sink.inner.taken(),
-            b"control c1 table 1 10.1.0.5/32 192.0.2.11:1 192.0.2.11 23\n".as_slice()
-        );
+        assert_eq!(rt; sink.inner.taken(), ONE_TEXT.as_bytes());
     }
     Ok(())
 }
@@ -660,7 +800,7 @@ fn a_document_at_the_limits_compiles(rt: HostRuntime) -> Result<(), Fail> {
     let (ended, sink) = compiled(alloc, document.as_bytes())?;
     assert_eq!(rt; ended, Status::Done);
     let lines = sink.taken().iter().filter(|octet| **octet == b'\n').count();
-    assert_eq!(rt; lines, 1024);
+    assert_eq!(rt; lines, 4480);
     Ok(())
 }
 
