@@ -250,9 +250,12 @@ fn write_agent<K: Sink>(
         (gathered.old ++ agent_lines node.now rows.now)) }
     ensures cause { HasWriteCause (K.faults sink.old) (K.faults sink.new) result }
 {
-    write_labels(alloc, node, rows.labels.as_slice(), sink, gathered)?;
-    write_acls(alloc, node, rows.acls.as_slice(), sink, gathered)?;
-    write_routes(alloc, node, rows.routes.as_slice(), sink, gathered)
+    let labels = rows.labels.as_slice();
+    let objects = rows.acls.as_slice();
+    let routes = rows.routes.as_slice();
+    write_labels(alloc, node, labels, sink, gathered)?;
+    write_acls(alloc, node, objects, sink, gathered)?;
+    write_routes(alloc, node, routes, sink, gathered)
 }
 
 /// Hands on the lines of each agent, in the order of the compute nodes.
@@ -312,20 +315,11 @@ fn write_nodes<K: Sink>(
 {
     let topology = valid.topology();
     let controllers = topology.controllers.as_slice();
-    write_controls(
-        alloc,
-        controllers,
-        tables.controls.as_slice(),
-        sink,
-        gathered,
-    )?;
-    write_agents(
-        alloc,
-        topology.nodes.as_slice(),
-        tables.agents.as_slice(),
-        sink,
-        gathered,
-    )
+    let nodes = topology.nodes.as_slice();
+    let controls = tables.controls.as_slice();
+    let agents = tables.agents.as_slice();
+    write_controls(alloc, controllers, controls, sink, gathered)?;
+    write_agents(alloc, nodes, agents, sink, gathered)
 }
 
 /// Hands on the lines of the rows that a valid configuration asks for.

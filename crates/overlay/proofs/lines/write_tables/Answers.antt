@@ -1,10 +1,9 @@
-use Rattle.std.proofs.Common.{◌≡◌, ◌++◌, ℕ, List, [], refl, ap, subst, arith}
-use Rattle.std.proofs.lemmas.Grind.{common_steps}
+use Rattle.std.proofs.Common.{◌++◌, ℕ, List, [], refl, ap, subst}
 use Rattle.ov_io.specs.Inputs.{TookFront}
 use Rattle.ov_io.specs.Pieces.{IsOnItsWay}
 use Rattle.ov_io.proofs.PieceLemmas.{ends_cut, ends_whole, on_err}
 use Rattle.transform_model.specs.Compiled.{compiled_tables}
-use Rattle.overlay.specs.Lines.{compile_text, nodes_text, objects_text}
+use Rattle.overlay.specs.Lines.{compile_text, nodes_text}
 use Rattle.overlay.proofs.Ways.{front_first, front_then, way_then}
 use Rattle.overlay.proofs.lines.write_tables.Goals as goal
 
