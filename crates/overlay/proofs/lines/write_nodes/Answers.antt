@@ -15,7 +15,7 @@ returns-in_err-write_controls-clause-front g c =
     let whole : c.args.gathered.now ++ (controls ++ agents) ≡ c.args.gathered.now ++ nodes_text c.args.valid.now c.args.tables.now = grind (arith, common_steps) in
     on_err c.from_residual.result _
     (subst (λ (t : List ℕ). TookFront (g.K.Sink.taken c.args.sink.now) (g.K.Sink.taken c.write_controls.new.sink) t) whole
-    (front_first _ _ _ _ _ c.in_err-write_controls.ensures.front))
+    (front_first _ _ c.args.gathered.now controls agents c.in_err-write_controls.ensures.front))
 
 pub returns-clause-ok : goal.returns-clause-ok
 returns-clause-ok g c =
@@ -24,7 +24,7 @@ returns-clause-ok g c =
     let whole : c.args.gathered.now ++ (controls ++ agents) ≡ c.args.gathered.now ++ nodes_text c.args.valid.now c.args.tables.now = grind (arith, common_steps) in
     subst (λ (t : List ℕ). OnOk c.write_agents.result
     (IsOnItsWay (g.K.Sink.taken c.args.sink.now) (g.K.Sink.taken c.write_agents.new.sink) c.write_agents.new.gathered [] t)) whole
-    (ok_then c.write_agents.result _ _ _ _ _ _ _ _ c.in_ok-write_controls.ensures.ok c.write_agents.ensures.ok)
+    (ok_then c.write_agents.result _ _ _ c.args.gathered.now c.write_controls.new.gathered _ controls agents c.in_ok-write_controls.ensures.ok c.write_agents.ensures.ok)
 
 pub returns-clause-front : goal.returns-clause-front
 returns-clause-front g c =
@@ -33,4 +33,4 @@ returns-clause-front g c =
     let whole : c.args.gathered.now ++ (controls ++ agents) ≡ c.args.gathered.now ++ nodes_text c.args.valid.now c.args.tables.now = grind (arith, common_steps) in
     subst (λ (t : List ℕ). OnErr c.write_agents.result
     (TookFront (g.K.Sink.taken c.args.sink.now) (g.K.Sink.taken c.write_agents.new.sink) t)) whole
-    (err_then c.write_agents.result _ _ _ _ _ _ _ c.in_ok-write_controls.ensures.ok c.write_agents.ensures.front)
+    (err_then c.write_agents.result _ _ _ c.args.gathered.now c.write_controls.new.gathered controls agents c.in_ok-write_controls.ensures.ok c.write_agents.ensures.front)
