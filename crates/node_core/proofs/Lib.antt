@@ -2,4 +2,4 @@
 pub mod Counting
 pub mod Deliveries
 pub mod Passing
-pub mod Telling
+pub mod Told

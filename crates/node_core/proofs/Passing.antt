@@ -51,7 +51,7 @@ module _ {L : Type 0} (accepted : L → Option (List (List ℕ))) (breaks : L �
   stays : (failed : Bool) (link : L) (j : ℕ) → j < i
       → ServedAt accepted breaks faults plans posts posts' links links' lowest j
       → ServedAt accepted breaks faults plans posts (closed_if failed posts' i) links (set links' i link)
-          (noted lowest i failed) j
+      (noted lowest i failed) j
   stays failed link j lt s = record {
     plan = s.plan;
     link = s.link;
@@ -68,9 +68,9 @@ module _ {L : Type 0} (accepted : L → Option (List (List ℕ))) (breaks : L �
 
   more : (failed : Bool) (link' : L) → Passes accepted breaks faults plans posts posts' links links' lowest i
       → ServedAt accepted breaks faults plans posts (closed_if failed posts' i) links (set links' i link')
-          (noted lowest i failed) i
+      (noted lowest i failed) i
       → Passes accepted breaks faults plans posts (closed_if failed posts' i) links (set links' i link')
-          (noted lowest i failed) (i + 1)
+      (noted lowest i failed) (i + 1)
   more failed link' p now = record {
     done = below_more _ _ (λ j lt. stays failed link' j lt (p.done j lt)) now;
     posts_stay = λ j le. closed_other failed posts' i j (λ e. omega arith) ∙ p.posts_stay j (omega arith);
@@ -88,7 +88,7 @@ module _ {L : Type 0} (accepted : L → Option (List (List ℕ))) (breaks : L �
       → Passes accepted breaks faults plans posts posts'' links links'' (noted lowest i failed) (i + 1)
   passes_more plan failed links'' posts'' p in_posts in_links plan_at s ends_are =
       let now : ServedAt accepted breaks faults plans posts (closed_if failed posts' i) links (set links' i s.link')
-          (noted lowest i failed) i = record {
+      (noted lowest i failed) i = record {
         plan = plan;
         link = s.link;
         link' = s.link';

@@ -103,7 +103,7 @@ pub fn tell<E: Ends, L: Link>(
     ensures steps { IfOk result (λ lowest. (before : List Post) (event : Event)
         → HasBegun (E.kind ends.old) before session event replies.now (E.posts ends.old)
         → Steps (E.kind ends.old) L.accepted L.breaks L.faults before (E.posts ends.new) session event links.old
-            links.new lowest) }
+        links.new lowest) }
     ensures names { IfOk result (λ lowest. Names L.faults links.old links.new lowest) }
 {
     let failed = serve(ends, links, session, replies)?;

@@ -18,7 +18,7 @@ loop-session-preserved g c =
     let read = get_or_read c.args.plans.now l.session plan in_plans c.index-plans-session.is in
     let messages : c.as_slice.result.now ≡ plan.messages = c.as_slice.ensures in
     let serves = subst (λ (ms : List (List ℕ)). Serves g.L.Link.accepted g.L.Link.breaks g.L.Link.faults ms
-        c.in_ok-failed.failed l.links c.serve.new.links l.session) messages c.in_ok-failed.ensures.serves in
+    c.in_ok-failed.failed l.links c.serve.new.links l.session) messages c.in_ok-failed.ensures.serves in
     record {
       kind = c.in_ok-failed.ensures.kind ∙ inv.kind;
       passes = rw c.noted-lowest.ensures (passes_more _ _ _ _ _ _ _ _ _ _ plan c.in_ok-failed.failed _ _ inv.passes

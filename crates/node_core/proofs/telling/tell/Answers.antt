@@ -1,4 +1,4 @@
-use Rattle.node_core.proofs.Telling.{told_from, told_names, told_steps}
+use Rattle.node_core.proofs.Told.{told_from, told_names, told_steps}
 use Rattle.node_core.proofs.telling.tell.Goals as goal
 
 pub returns-clause-steps : goal.returns-clause-steps

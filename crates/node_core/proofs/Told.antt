@@ -203,7 +203,7 @@ module _ (k : Kind) where
           let second : Delivers accepted breaks faults (changes k start session) o.failed after o.link' =
           subst (λ l. Delivers accepted breaks faults (changes k start session) o.failed l o.link') (sym link_is) o.delivers in
           let both : Both accepted breaks faults (replied replies session session) (changes k start session) fails o.failed
-              before o.link' =
+          before o.link' =
           both_delivered accepted breaks faults _ _ _ _ _ _ _ last
           (subst (λ rs. Delivers accepted breaks faults rs fails before after) (sym (replied_here replies session)) first)
           second in
@@ -265,8 +265,8 @@ module _ (k : Kind) where
         λ i lt link link' at at'.
             let t = told i (omega (arith, lt, low)) in
             let off : t.failed ≡ false = not_failed t.failed (λ f.
-                let n = t.named f in
-                let e : s ≡ n.0 = cc (n.2) in omega (arith, n.1, lt)) in
+            let n = t.named f in
+            let e : s ≡ n.0 = cc (n.2) in omega (arith, n.1, lt)) in
             let link_is : link ≡ t.link = sym (at t.link) ∙ t.link_at t.link in
             let link'_is : link' ≡ t.link' = sym (at' t.link') ∙ t.link'_at t.link' in
             ap faults link'_is ∙ t.delivers.took.still off ∙ sym (ap faults link_is),
@@ -277,7 +277,7 @@ module _ (k : Kind) where
       (lowest : Option ℕ) where
     step_at : (i : ℕ)
         → ToldAt accepted breaks faults (k.begins session (post before session) event).replies
-            (begun k before session event fails) posts' session fails links links' lowest i
+        (begun k before session event fails) posts' session fails links links' lowest i
         → StepAt k accepted breaks faults before posts' session event fails links links' lowest i
     step_at i t = record {
       link = t.link;
@@ -312,7 +312,7 @@ module _ (k : Kind) where
           fails = t.fails;
           each = λ i lt. step_at accepted breaks faults before posts' session event t.fails links links' lowest i
               (subst (λ rs. ToldAt accepted breaks faults rs (begun k before session event t.fails) posts' session t.fails
-                  links links' lowest i) h.replied
+              links links' lowest i) h.replied
               (subst (λ ps. ToldAt accepted breaks faults replies ps posts' session t.fails links links' lowest i) start_is
               (t.each i (omega (arith, lt, long)))));
           low = subst (λ n. IfSome lowest (λ s. s < n)) long t.low;
