@@ -1,2 +1,4 @@
 -- Lemmas, in the order in which they stand on each other.
 pub mod StepFact
+pub mod Receiving
+pub mod Shown

@@ -1,2 +1,4 @@
 -- The files of definitions.
 pub mod Stepped
+pub mod Received
+pub mod Labelled

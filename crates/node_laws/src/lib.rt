@@ -1,4 +1,6 @@
 //! Further laws of what nodes hold and want, and of how they step: laws alone.
 #![tactic(auto)]
 
+pub mod held_laws;
+pub mod shown_laws;
 pub mod step_laws;
