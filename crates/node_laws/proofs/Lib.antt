@@ -2,3 +2,4 @@
 pub mod StepFact
 pub mod Receiving
 pub mod Shown
+pub mod Worked

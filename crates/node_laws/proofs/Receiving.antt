@@ -165,7 +165,7 @@ network_is (key.Attach label) i e = absurd (none_some i e)
 network_is (key.Acl from to) i e = absurd (none_some i e)
 network_is (key.ChainUse n) i e = absurd (none_some i e)
 
-held_object : (o : Option Value) (v : LowValue) → as_object o ≡ Some v → o ≡ Some (Object v)
+pub held_object : (o : Option Value) (v : LowValue) → as_object o ≡ Some v → o ≡ Some (Object v)
 held_object (Some (Object w)) v e = ap (λ (x : LowValue). Some (Object x)) (same_Some w v e)
 held_object (Some (Route r)) v e = absurd (none_some v e)
 held_object (Some (Entry r)) v e = absurd (none_some v e)

@@ -2,3 +2,4 @@
 pub mod Stepped
 pub mod Received
 pub mod Labelled
+pub mod Chain

@@ -2,5 +2,6 @@
 #![tactic(auto)]
 
 pub mod held_laws;
+pub mod premise_laws;
 pub mod shown_laws;
 pub mod step_laws;
