@@ -3,3 +3,4 @@ pub mod StepFact
 pub mod Receiving
 pub mod Shown
 pub mod Worked
+pub mod Counting

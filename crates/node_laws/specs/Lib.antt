@@ -3,3 +3,4 @@ pub mod Stepped
 pub mod Received
 pub mod Labelled
 pub mod Chain
+pub mod Counts

@@ -3,16 +3,20 @@
 ghost use Rattle.std.specs.Prelude.{◌≡◌, ◌↔◌, Some, IsTrue};
 ghost use Rattle.std.specs.FinMap.{get};
 ghost use Rattle.ov_types.specs.declared.numbers.InstanceId.{InstanceId};
+ghost use Rattle.ov_types.specs.declared.vpn.VpnKey.{VpnKey};
+ghost use Rattle.ov_types.specs.declared.vpn.VpnRoute.{VpnRoute};
 ghost use Rattle.node_model.specs.Members.{Member};
-ghost use Rattle.node_model.specs.Keys.{Key, Subscribe};
-ghost use Rattle.node_model.specs.Values.{Value, Label};
+ghost use Rattle.node_model.specs.Keys.{Key, Subscribe, Vpn};
+ghost use Rattle.node_model.specs.Values.{Value, Label, Route};
 ghost use Rattle.node_model.specs.Maps.{Map};
 ghost use Rattle.node_model.specs.Uses.{is_known};
 ghost use Rattle.node_model.specs.Paths.{Holdings, Path, peer_paths, received};
 ghost use Rattle.node_model.specs.Reaching.{AreShort};
 ghost use Rattle.node_model.specs.Tables.{known_instances};
+ghost use Rattle.node_model.specs.Wants.{wanted_by_peers};
 ghost use Rattle.node_model.specs.Agent as agent;
 ghost use Rattle.node_model.specs.Agent.{IsNeeded, slice_in_use};
+ghost use Rattle.node_laws.specs.Counts.{AreListed, AreNumbered, IsCounted};
 ghost use Rattle.node_laws.specs.Received.{AreNetworks, IsKnown, IsPeerRoute, IsReceived};
 ghost use Rattle.node_laws.specs.Labelled.{IsToldUp};
 
@@ -41,4 +45,13 @@ pub fn needed_instances_are_subscribed()
         → (get (agent.wanted h) (Subscribe i) ≡ Some (Label (record { 0 = 0 }))) ↔ IsNeeded (slice_in_use h) i }
     ensures alone { (h : agent.Holdings) (k : Key) (v : Value) → get (agent.wanted h) k ≡ Some v
         → IsToldUp (slice_in_use h) k }
+{}
+
+/// Where paths have one key, a control node tells its peers exactly the own route of the lowest session; where there is
+/// none, a right subnet's; and where there is none of these, a left one's. It tells them nothing but routes.
+pub fn of_equal_keys_the_first_counts()
+    ensures exactly { (h : Holdings) → AreListed h.agents → AreNumbered h.feed → (k : VpnKey) (r : VpnRoute)
+        → (get (wanted_by_peers h) (Vpn k) ≡ Some (Route r)) ↔ IsCounted h k r }
+    ensures alone { (h : Holdings) (k : Key) (v : Value) → get (wanted_by_peers h) k ≡ Some v
+        → ((at : VpnKey) × (k ≡ Vpn at)) × ((r : VpnRoute) × (v ≡ Route r)) }
 {}

@@ -8,16 +8,19 @@ ghost use Rattle.node_model.specs.Keys.{Vpn};
 ghost use Rattle.node_model.specs.Uses.{Use, uses};
 ghost use Rattle.node_model.specs.Reaching.{AreShort};
 ghost use Rattle.node_model.specs.Ranks.{Agree, AreOrdered, IsTargeted, SameSlice};
+ghost use Rattle.node_laws.specs.Counts.{AreListed, AreNumbered};
 ghost use Rattle.node_laws.specs.Received.{AreNetworks};
 ghost use Rattle.node_laws.specs.Chain.{all_told, chain_feed, chain_use, early, key_at, own_told};
 ghost use Rattle.node_laws.specs.Chain.{right_subnet, second_agent, settled, with_row, without_row};
 
-/// Its feed holds the use of the chain, and is within all ranges.
+/// Its feed holds the use of the chain, and is within all ranges; its agents are listed in the order of their sessions.
 pub fn a_feed_is_ordered()
     ensures held { Member chain_use (uses chain_feed) }
     ensures ordered { AreOrdered chain_feed }
     ensures short { AreShort chain_feed }
     ensures networks { AreNetworks chain_feed }
+    ensures numbered { AreNumbered chain_feed }
+    ensures listed { AreListed settled.agents }
     ensures longest { (u : Use) → Member u (uses chain_feed) → u.services ≤ 2 }
 {}
 

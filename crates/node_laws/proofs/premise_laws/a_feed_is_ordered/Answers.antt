@@ -15,3 +15,9 @@ returns-clause-networks c = networks_small
 
 pub returns-clause-longest : goal.returns-clause-longest
 returns-clause-longest c = longest
+
+pub returns-clause-numbered : goal.returns-clause-numbered
+returns-clause-numbered c = record { numbers = ordered.numbers; short = ordered.short }
+
+pub returns-clause-listed : goal.returns-clause-listed
+returns-clause-listed c = ((λ b m. absurd m), tt)
