@@ -1,5 +1,5 @@
 -- Which of several paths with one key counts.
-use Rattle.std.specs.Prelude.{◌≡◌, ◌⊎◌, ◌↔◌, ℕ, zero, suc, ◌+◌, ◌*◌, ◌-◌, ◌<◌, ◌≤◌, List, [], ◌∷◌, ◌++◌, map, Bool, true, false, cond, is_some}
+use Rattle.std.specs.Prelude.{◌≡◌, ◌↔◌, ℕ, suc, ◌+◌, ◌*◌, ◌-◌, ◌<◌, ◌≤◌, List, [], ◌∷◌, ◌++◌, map, Bool, true, false, cond}
 use Rattle.std.specs.declared.option.Option.{Option}
 use Rattle.std.specs.declared.option.Option.TheVariants.{Some, None}
 use Rattle.std.specs.Ordering.{eq_by_cmp}
@@ -13,15 +13,13 @@ use Rattle.ov_types.specs.declared.numbers.InstanceId.{InstanceId}
 use Rattle.ov_types.specs.declared.numbers.Label.{Label as LabelNo}
 use Rattle.ov_types.specs.declared.numbers.Rd.{Rd}
 use Rattle.ov_types.specs.declared.prefix.Addr.{Addr}
-use Rattle.ov_types.specs.declared.targets.Target.{Target}
 use Rattle.ov_types.specs.declared.vpn.VpnKey.{VpnKey}
 use Rattle.ov_types.specs.declared.vpn.VpnRoute.{VpnRoute}
 use Rattle.route_targets.specs.Numbers.{target_of, distinguisher_of}
 use Rattle.node_model.specs.Members.{Member}
 use Rattle.node_model.specs.Keys.{Key, Low, Vpn, Row, Publish, Subscribe, key_cmp}
 use Rattle.node_model.specs.Values.{Value, Object, Route, Entry, Label}
-use Rattle.node_model.specs.Maps.{Map}
-use Rattle.node_model.specs.Uses.{Use, uses, hop}
+use Rattle.node_model.specs.Uses.{Use, uses}
 use Rattle.node_model.specs.Paths.{Holdings, Told, Path, own_path, own_paths, IsOwnRoute}
 use Rattle.node_model.specs.Reaching.{Side, sides, sides_of, subnets, hop_at, circuit_at, publisher, is_up, towards, below, into, reoriginated, IsReoriginated}
 use Rattle.node_model.specs.Ranks.{instance_in}
@@ -34,7 +32,7 @@ use Rattle.node_model.proofs.Places.{instance_in-distinguisher}
 use Rattle.node_model.proofs.Unknown.{place_at, place_at-within, le_trans}
 use Rattle.node_model.proofs.Routes.{in_below, from_below, own_route_from, own_route_in}
 use Rattle.node_model.proofs.Wanted.{told, as_route}
-use Rattle.node_laws.specs.Counts.{AreListed, AreNumbered, HasKey, HasRoute, HasNoOwn, LeadsRight, LeadsLeft, Counts, as_own, as_right, as_left, IsCounted}
+use Rattle.node_laws.specs.Counts.{AreListed, AreNumbered, HasKey, HasRoute, HasNoOwn, LeadsRight, Counts, as_own, as_right, as_left, IsCounted}
 
 -- ---- the first path of a key
 as_vpn : Key → Option VpnKey
@@ -168,7 +166,7 @@ unfolding label_number
 own_alike h listed p q o r key same =
     let agents : o.agent ≡ r.agent = one_agent h.agents listed o.agent r.agent o.told r.told (sym o.session ∙ same ∙ r.session) in
     let instances : o.instance ≡ r.instance = same_instance_there r.agent.address o.instance r.instance
-        (ap (λ (a : Told). distinguisher_of a.address o.instance) (sym agents) ∙ sym o.rd ∙ ap (λ (k : VpnKey). k.rd) key ∙ r.rd) in
+    (ap (λ (a : Told). distinguisher_of a.address o.instance) (sym agents) ∙ sym o.rd ∙ ap (λ (k : VpnKey). k.rd) key ∙ r.rd) in
     let labels : p.label ≡ q.label = same_Some p.label q.label (ap label_number (sym o.publishes ∙ (λ i. get (agents i).map (Publish (instances i) (key i).prefix)) ∙ r.publishes)) in
     let hops : p.next_hop ≡ q.next_hop = o.next_hop ∙ ap (λ (a : Told). a.address) agents ∙ sym r.next_hop in
     let targets : p.targets ≡ q.targets = o.targets ∙ ap (λ (i : InstanceId). target_of h.asn i ∷ []) instances ∙ sym r.targets in
@@ -201,19 +199,21 @@ module _ (h : Holdings) where
       let t = from_flat_map (led_on s d) p (subnets s) r.2 in
       let w = member_when (is_up h s t.0 d) p (towards h i t.0 (publisher h (circuit_at s (suc d)))) t.2 in
       let by = from_towards i t.0 (publisher h (circuit_at s (suc d))) p w.1 in
-      let is : led i t.0 by.0 ≡ p = by.2 in
-      (record {
-        side = s;
-        depth = d;
-        held = held;
-        within = from_below s.chain.services d r.1;
-        subnet = subst (λ (b : Block). Member b (subnets s)) (λ j. (is j).prefix) t.1;
-        up = ap (λ (b : Block). is_up h s b d) (λ j. (sym is j).prefix) ∙ w.0;
-        published = by.1 ∙ (λ j. Some ((is j).next_hop, (is j).label));
-        rd = (λ j. (sym is j).rd) ∙ ap (λ (x : Addr). distinguisher_of x (hop_at s (suc d))) (λ j. (is j).next_hop);
-        targets = λ j. (sym is j).targets;
-        session = λ j. (sym is j).session;
-      }, refl)
+      let is : led i t.0 by.0 ≡ p = by.2 in (
+        record {
+          side = s;
+          depth = d;
+          held = held;
+          within = from_below s.chain.services d r.1;
+          subnet = subst (λ (b : Block). Member b (subnets s)) (λ j. (is j).prefix) t.1;
+          up = ap (λ (b : Block). is_up h s b d) (λ j. (sym is j).prefix) ∙ w.0;
+          published = by.1 ∙ (λ j. Some ((is j).next_hop, (is j).label));
+          rd = (λ j. (sym is j).rd) ∙ ap (λ (x : Addr). distinguisher_of x (hop_at s (suc d))) (λ j. (is j).next_hop);
+          targets = λ j. (sym is j).targets;
+          session = λ j. (sym is j).session;
+        },
+        refl,
+      )
 
   in_when : {X : Type 0} (b : Bool) (x : X) (xs : List X) → b ≡ true → Member x xs → Member x (cond b xs [])
   in_when true x xs e m = m
@@ -381,7 +381,9 @@ module _ (h : Holdings) where
         let first = first_from k (own_paths h ++ reoriginated h) f.0 f.1 in
         let here : get (wanted_by_peers h) (Vpn k) ≡ Some (Route (route_of first.path)) = get-from_entries key_total (map route_entry (own_paths h ++ reoriginated h)) (Vpn k) ∙ f.1 ∙ ap Some (sym first.value_is) in
         let q = counts_from listed k (route_of first.path) here in
-        let same : route_of first.path ≡ r = sym q.2 ∙ sym (counts_alike listed k c.0 q.0 c.1 q.1 c.3 q.3) ∙ c.2 in
+        let there : route_of q.0 ≡ route_of first.path = q.2 in
+        let one : route_of c.0 ≡ route_of q.0 = counts_alike listed k c.0 q.0 c.1 q.1 c.3 q.3 in
+        let same : route_of first.path ≡ r = sym {a = route_of q.0} there ∙ sym {a = route_of c.0} one ∙ c.2 in
         here ∙ ap (λ (r : VpnRoute). Some (Route r)) same
 
 pub counted_is : (h : Holdings) → AreListed h.agents → AreNumbered h.feed → (k : VpnKey) (r : VpnRoute) → (get (wanted_by_peers h) (Vpn k) ≡ Some (Route r)) ↔ IsCounted h k r

@@ -4,3 +4,4 @@ pub mod Receiving
 pub mod Shown
 pub mod Worked
 pub mod Counting
+pub mod Leading

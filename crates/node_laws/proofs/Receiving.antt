@@ -1,9 +1,9 @@
 -- What is received and known, and what is subscribed.
-use Rattle.std.specs.Prelude.{◌≡◌, ◌⊎◌, ◌↔◌, ℕ, zero, suc, ◌+◌, ◌*◌, ◌-◌, ◌/◌, ◌%◌, ◌<◌, ◌≤◌, List, [], ◌∷◌, ◌++◌, map, length, Bool, true, false, cond, is_some, nat_lt, nat_le, ◌==◌}
+use Rattle.std.specs.Prelude.{◌≡◌, ◌⊎◌, ◌↔◌, ℕ, zero, suc, ◌+◌, ◌*◌, ◌-◌, ◌/◌, ◌%◌, ◌<◌, ◌≤◌, List, [], ◌∷◌, ◌++◌, map, length, true, false, cond, is_some, nat_lt, ◌==◌}
 use Rattle.std.specs.declared.option.Option.{Option}
 use Rattle.std.specs.declared.option.Option.TheVariants.{Some, None}
 use Rattle.std.specs.List.{filter_map, flat_map, list_any, enumerate_from}
-use Rattle.std.specs.FinMap.{get, entries, from_entries}
+use Rattle.std.specs.FinMap.{get, entries}
 use Rattle.std.proofs.lemmas.Bool.{true≢false, eqb-true, eq-eqb, leb-true}
 use Rattle.std.proofs.lemmas.Option.{same_Some}
 use Rattle.std.proofs.Common.{refl, sym, ◌∙◌, ap, subst, inl, inr, arith}
@@ -16,12 +16,12 @@ use Rattle.ov_types.specs.declared.objects.LowValue.TheVariants as low
 use Rattle.ov_types.specs.declared.targets.Target.{Target}
 use Rattle.ov_types.specs.declared.vpn.VpnKey.{VpnKey}
 use Rattle.ov_types.specs.declared.vpn.VpnRoute.{VpnRoute}
-use Rattle.route_targets.specs.Numbers.{target_of, hop_instance_of}
+use Rattle.route_targets.specs.Numbers.{target_of}
 use Rattle.node_model.specs.Members.{Member}
 use Rattle.node_model.specs.Keys.{Key, Low, Vpn, Row, Publish, Subscribe}
 use Rattle.node_model.specs.Values.{Value, Object, Route, Entry, Label}
 use Rattle.node_model.specs.Maps.{Map, as_object, object, objects}
-use Rattle.node_model.specs.Uses.{Use, use_from, uses, hop, is_hop, use_of, place_of, held_use, imports, is_place, is_known}
+use Rattle.node_model.specs.Uses.{Use, uses, hop, is_hop, use_of, place_of, held_use, imports, is_place, is_known}
 use Rattle.node_model.specs.Paths.{Holdings, Path, own_paths, peer_path, peer_paths, has_target, received}
 use Rattle.node_model.specs.Reaching.{AreShort, below}
 use Rattle.node_model.specs.Step.{At}
@@ -33,7 +33,7 @@ use Rattle.node_model.proofs.Orders.{key_total, key_exact}
 use Rattle.node_model.proofs.Objects.{object_of, in_objects, known_hop}
 use Rattle.node_model.proofs.Places.{is_hop-network, use_found}
 use Rattle.node_model.proofs.Routes.{in_below, from_below, own_route_from, own_route_in}
-use Rattle.node_model.proofs.Wanted.{told, as_route, named}
+use Rattle.node_model.proofs.Wanted.{told, named}
 use Rattle.node_model.proofs.Needed.{needed_is}
 use Rattle.node_laws.specs.Received.{IsPeerRoute, HasImportedTarget, IsReceived, IsKnown, of_network, of_place, AreNetworks}
 use Rattle.node_laws.specs.Labelled.{IsToldUp}

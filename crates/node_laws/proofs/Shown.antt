@@ -1,5 +1,5 @@
 -- What nodes show, and in which order.
-use Rattle.std.specs.Prelude.{◌≡◌, ◌⊎◌, ◌↔◌, ℕ, zero, suc, ◌+◌, ◌*◌, ◌<◌, ◌≤◌, List, [], ◌∷◌, ◌++◌, map, Bool, true, false, cond, T}
+use Rattle.std.specs.Prelude.{◌≡◌, ◌↔◌, ℕ, zero, suc, ◌+◌, ◌*◌, ◌<◌, ◌≤◌, List, [], ◌∷◌, ◌++◌, map, Bool, true, false, cond, T}
 use Rattle.std.specs.declared.cmp.Ordering.{Ordering}
 use Rattle.std.specs.declared.cmp.Ordering.TheVariants.{Less, Equal, Greater}
 use Rattle.std.specs.Ordering.{nat_cmp, is_lt, ordering_then}
@@ -8,15 +8,13 @@ use Rattle.std.specs.declared.option.Option.{Option}
 use Rattle.std.specs.declared.option.Option.TheVariants.{Some, None}
 use Rattle.std.specs.List.{AllByRecursion, filter, filter_map, flat_map, cons_option}
 use Rattle.std.specs.List.Sorted.{IsStrictlySortedBy}
-use Rattle.std.specs.FinMap.{FinMap, get, entries, entries_sorted, is_sorted}
+use Rattle.std.specs.FinMap.{get, entries, entries_sorted, is_sorted}
 use Rattle.std.proofs.lemmas.Option.{same_Some}
 use Rattle.std.proofs.Common.{refl, sym, ◌∙◌, ap, subst, inl, inr, arith}
 use Rattle.ov_types.specs.Keys.{low_key_cmp, row_key_cmp}
 use Rattle.ov_types.specs.Prefix.{Block, block_cmp}
 use Rattle.ov_types.specs.declared.numbers.InstanceId.{InstanceId}
 use Rattle.ov_types.specs.declared.numbers.Label.{Label as LabelNo}
-use Rattle.ov_types.specs.declared.numbers.PortNo.{PortNo}
-use Rattle.ov_types.specs.declared.numbers.ServiceNo.{ServiceNo}
 use Rattle.ov_types.specs.declared.objects.LowKey.{LowKey}
 use Rattle.ov_types.specs.declared.objects.LowKey.TheVariants as key
 use Rattle.ov_types.specs.declared.objects.LowValue.{LowValue}
@@ -26,7 +24,7 @@ use Rattle.ov_types.specs.declared.rows.Attached.TheVariants.{Port, Circuit}
 use Rattle.ov_types.specs.declared.rows.Entry.{Entry as Hop}
 use Rattle.ov_types.specs.declared.rows.TableRow.{TableRow}
 use Rattle.node_model.specs.Members.{Member}
-use Rattle.node_model.specs.Keys.{Key, Low, key_cmp}
+use Rattle.node_model.specs.Keys.{Low, key_cmp}
 use Rattle.node_model.specs.Values.{Value}
 use Rattle.node_model.specs.Maps.{Map, as_object, object, objects}
 use Rattle.node_model.specs.Uses.{Use, as_use, uses, hop}
@@ -36,13 +34,13 @@ use Rattle.node_model.specs.Tables.{table, table_row, network_of, known_instance
 use Rattle.node_model.specs.Agent as agent
 use Rattle.node_model.specs.Agent.{slice_in_use, attached, acl_entry, is_needed}
 use Rattle.node_model.proofs.Members.{none_some, second_of_and, in_either, in_map, from_map, from_filter, in_filter_map, from_filter_map, in_flat_map, from_flat_map, first_below, get_member, member_get}
-use Rattle.node_model.proofs.Orders.{key_total, prefix_total, prefix_exact}
+use Rattle.node_model.proofs.Orders.{prefix_total, prefix_exact}
 use Rattle.node_model.proofs.Objects.{object_of}
 use Rattle.node_model.proofs.Images.{low_keeps}
 use Rattle.node_model.proofs.Published.{IsBefore, Rise, rise_from, rise_slice}
 use Rattle.node_model.proofs.Heard.{row_total, first_rows}
 use Rattle.node_model.proofs.Wanted.{named}
-use Rattle.node_laws.specs.Received.{IsKnown, AreNetworks, IsShown}
+use Rattle.node_laws.specs.Received.{AreNetworks, IsShown}
 use Rattle.node_laws.specs.Labelled.{LeadsTo, to_port, to_circuit, IsAccessList}
 use Rattle.node_laws.proofs.Receiving.{known_from, known_in, network_is, networks, hops, places, places_within}
 
@@ -226,9 +224,9 @@ hops_rise feed short =
     rises_flat_map lower_use lower (λ (u : Use). map (hop u) (places u)) (uses feed) (uses_rise feed)
     (λ u m. rises_map less_number lower (hop u) (places u) (places_rise u) (λ j k _ _ h. nearer u.number j k h))
     (λ u w i k m n s v t.
-        let j = from_map (hop u) i (places u) v in
-        let l = from_map (hop w) k (places w) t in
-        subst (lower i) l.2 (subst (λ (x : InstanceId). lower x (hop w l.0)) j.2 (apart u.number w.number j.0 l.0 u.services s (places_within u j.0 j.1) (short u m))))
+    let j = from_map (hop u) i (places u) v in
+    let l = from_map (hop w) k (places w) t in
+    subst (lower i) l.2 (subst (λ (x : InstanceId). lower x (hop w l.0)) j.2 (apart u.number w.number j.0 l.0 u.services s (places_within u j.0 j.1) (short u m))))
   where
     nearer : (u j k : ℕ) → j < k → 16384 + 16 * u + j < 16384 + 16 * u + k
     nearer u j k h = omega arith
@@ -240,10 +238,10 @@ known_rises : (feed : Map) → AreNetworks feed → AreShort feed → Rises lowe
 known_rises feed are short =
     rises_append lower (networks feed) (hops feed) (networks_rise feed) (hops_rise feed short)
     (λ i k m n.
-        let q = from_filter_map (λ (e : LowKey × LowValue). network_of e.0) i (objects feed) m in
-        let r = from_flat_map (λ (u : Use). map (hop u) (places u)) k (uses feed) n in
-        let j = from_map (hop r.0) k (places r.0) r.2 in
-        subst (lower i) j.2 (over i.0 (r.0).number j.0 (are i.0 q.0.1 (held i q.0 (network_is q.0.0 i q.2) q.1))))
+    let q = from_filter_map (λ (e : LowKey × LowValue). network_of e.0) i (objects feed) m in
+    let r = from_flat_map (λ (u : Use). map (hop u) (places u)) k (uses feed) n in
+    let j = from_map (hop r.0) k (places r.0) r.2 in
+    subst (lower i) j.2 (over i.0 (r.0).number j.0 (are i.0 q.0.1 (held i q.0 (network_is q.0.0 i q.2) q.1))))
   where
     held : (i : InstanceId) (e : LowKey × LowValue) → e.0 ≡ key.Instance i.0 → Member e (objects feed) → object feed (key.Instance i.0) ≡ Some e.1
     held i e is m = ap (λ (o : Option Value). as_object o) (object_of feed (key.Instance i.0) e.1 (subst (λ (k : LowKey). Member (named k e.1) (objects feed)) is m))
@@ -259,12 +257,12 @@ shown_in_order h are short =
     in_order row_key row_key_cmp (rows h)
     (rises_flat_map lower (by_key row_key row_key_cmp) (λ (i : InstanceId). map (row_of i) (entries (table h i))) (known_instances h.feed) (known_rises h.feed are short)
     (λ i m. rises_map (by_key (λ (e : Block × Path). e.0) block_cmp) (by_key row_key row_key_cmp) (row_of i) (entries (table h i)) (entries_rise prefix_total (entries (table h i)) (entries_sorted (table h i)))
-        (λ x y _ _ s. ap (λ r. ordering_then r (block_cmp x.0 y.0)) (nat_same i.0 i.0 refl) ∙ s))
+    (λ x y _ _ s. ap (λ r. ordering_then r (block_cmp x.0 y.0)) (nat_same i.0 i.0 refl) ∙ s))
     (λ i j v w m n s a b.
-        let p = from_map (row_of i) v (entries (table h i)) a in
-        let q = from_map (row_of j) w (entries (table h j)) b in
-        subst (by_key row_key row_key_cmp v) q.2 (subst (λ (x : (InstanceId × Block) × TableRow). by_key row_key row_key_cmp x (row_of j q.0)) p.2
-        (ap (λ r. ordering_then r (block_cmp (p.0).0 (q.0).0)) (nat_less i.0 j.0 s)))))
+    let p = from_map (row_of i) v (entries (table h i)) a in
+    let q = from_map (row_of j) w (entries (table h j)) b in
+    subst (by_key row_key row_key_cmp v) q.2 (subst (λ (x : (InstanceId × Block) × TableRow). by_key row_key row_key_cmp x (row_of j q.0)) p.2
+    (ap (λ r. ordering_then r (block_cmp (p.0).0 (q.0).0)) (nat_less i.0 j.0 s)))))
 
 -- ---- what an agent shows
 abbrev label_at : ℕ → Attached → LabelNo × Attached
@@ -308,8 +306,8 @@ module _ (slice : List (LowKey × LowValue)) where
   pub labels_rise : Rises object_before slice → IsStrictlySortedBy nat_cmp (map label_number labels_of)
   labels_rise r = in_order label_number nat_cmp labels_of (rises_filter_map object_before (by_key label_number nat_cmp) (λ (e : LowKey × LowValue). attached e.0 e.1) slice r
       (λ x y v w m n s e f.
-          before_is (key.Attach v.0.0) (key.Attach w.0.0)
-          (subst (λ (k : LowKey). IsBefore k (key.Attach w.0.0)) (attached_from x.0 x.1 v m e).key_is (subst (IsBefore x.0) (attached_from y.0 y.1 w n f).key_is s))))
+      before_is (key.Attach v.0.0) (key.Attach w.0.0)
+      (subst (λ (k : LowKey). IsBefore k (key.Attach w.0.0)) (attached_from x.0 x.1 v m e).key_is (subst (IsBefore x.0) (attached_from y.0 y.1 w n f).key_is s))))
 
   acl_is : (k : LowKey) (v : LowValue) (x : LowKey × LowValue) → acl_entry k v ≡ Some x → (named k v ≡ x) × ((from : ℕ) × (to : ℕ) × (k ≡ key.Acl from to))
   acl_is (key.Acl from to) v x e = (same_Some (named (key.Acl from to) v) x e, (from, to, refl))
@@ -336,8 +334,8 @@ module _ (slice : List (LowKey × LowValue)) where
   pub acls_rise : Rises object_before slice → IsStrictlySortedBy low_key_cmp (map acl_key acls_of)
   acls_rise r = in_order acl_key low_key_cmp acls_of (rises_filter_map object_before (by_key acl_key low_key_cmp) (λ (e : LowKey × LowValue). acl_entry e.0 e.1) slice r
       (λ x y v w m n s e f.
-          before_is v.0 w.0
-          (subst (λ (k : LowKey × LowValue). IsBefore k.0 w.0) (acl_is x.0 x.1 v e).0 (subst (λ (k : LowKey × LowValue). IsBefore x.0 k.0) (acl_is y.0 y.1 w f).0 s))))
+      before_is v.0 w.0
+      (subst (λ (k : LowKey × LowValue). IsBefore k.0 w.0) (acl_is x.0 x.1 v e).0 (subst (λ (k : LowKey × LowValue). IsBefore x.0 k.0) (acl_is y.0 y.1 w f).0 s))))
 
 pub slice_rises : (h : agent.Holdings) → Rises object_before (slice_in_use h)
 slice_rises h = objects_rise (slice_in_use h) (rise_slice h)

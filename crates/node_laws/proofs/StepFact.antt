@@ -1,18 +1,18 @@
 -- A step, told by the ends and the links before it and after it.
-use Rattle.std.specs.Prelude.{◌≡◌, ◌≢◌, ◌↔◌, ◌⊎◌, ℕ, ◌+◌, ◌-◌, ◌<◌, ◌≤◌, List, [], ◌∷◌, ◌++◌, map, length, take, drop, Bool, true, false, cond, nat_lt, ◌==◌}
+use Rattle.std.specs.Prelude.{◌≡◌, ◌≢◌, ◌↔◌, ℕ, ◌+◌, ◌-◌, ◌<◌, ◌≤◌, List, [], ◌∷◌, ◌++◌, map, length, take, drop, Bool, true, false, cond, nat_lt, ◌==◌}
 use Rattle.std.specs.declared.option.Option.{Option}
 use Rattle.std.specs.declared.option.Option.TheVariants.{Some, None}
 use Rattle.std.specs.Option.{IfSome}
-use Rattle.std.specs.List.{slice_index_or, slice_set}
+use Rattle.std.specs.List.{slice_index_or}
 use Rattle.std.proofs.lemmas.Bool.{true≢false, eqb-true, eq-eqb, ltb-true, lt-ltb}
 use Rattle.std.proofs.lemmas.Option.{same_Some}
 use Rattle.std.proofs.lemmas.List.{get_or-set_same, get_or-set_other, get_or_default, length-set, take-append-drop, length-drop, length-append, same_lists}
 use Rattle.std.proofs.Math.ListN.{drop_of_length-le}
 use Rattle.std.proofs.Math.Seq.{take-append_seam}
-use Rattle.std.proofs.Common.{refl, sym, ◌∙◌, ap, subst, inl, inr, arith}
+use Rattle.std.proofs.Common.{refl, sym, ◌∙◌, ap, subst, arith}
 use Rattle.ov_link.specs.Delivery.{Took, Delivers}
-use Rattle.node_model.specs.Maps.{Change, difference}
-use Rattle.node_model.specs.Step.{At, Event, Kind, Post, StepAt, Steps, begun, changes, end_of, nothing, planned, post, replies, told_all}
+use Rattle.node_model.specs.Maps.{difference}
+use Rattle.node_model.specs.Step.{Event, Kind, Post, StepAt, Steps, begun, changes, end_of, nothing, planned, post, replies, told_all}
 use Rattle.node_model.proofs.Members.{none_some}
 use Rattle.node_laws.specs.Stepped.{IsPassStart, IsPlan, IsLeft, IsLowest, TakesFront, SteppedAt, Stepped}
 
@@ -106,15 +106,17 @@ module _ {L : Type 0} (accepted : L → Option (List (List ℕ))) (breaks : L �
   delivers_of : (messages front : List (List ℕ)) (failed : Bool) (link link' : L) → TakesFront accepted breaks faults messages front failed link link'
       → (d : Delivers accepted breaks faults messages failed link link') × (d.count ≡ length front)
   delivers_of messages front failed link link' t =
-      let total : length messages ≡ length front + length t.rest = ap length t.parts ∙ length-append front t.rest in
-      (record {
-        count = length front;
-        within = within_sum (length messages) (length front) (length t.rest) total;
-        whole = same_when_false failed (nat_lt (length front) (length messages))
-            (λ e. at_least (length front) (length messages) (all_taken (length front) (length messages) (length t.rest) total (ap length (t.whole.0 e))))
-            (λ e. t.whole.1 (empty_of_length t.rest (rest_is (length front) (length messages) (length t.rest) total (not_below (length front) (length messages) e))));
-        took = subst (λ (f : List (List ℕ)). Took accepted breaks faults f failed link link') (sym (ap (take (length front)) t.parts ∙ take-append_seam front t.rest)) t.took;
-      }, refl)
+      let total : length messages ≡ length front + length t.rest = ap length t.parts ∙ length-append front t.rest in (
+        record {
+          count = length front;
+          within = within_sum (length messages) (length front) (length t.rest) total;
+          whole = same_when_false failed (nat_lt (length front) (length messages))
+              (λ e. at_least (length front) (length messages) (all_taken (length front) (length messages) (length t.rest) total (ap length (t.whole.0 e))))
+              (λ e. t.whole.1 (empty_of_length t.rest (rest_is (length front) (length messages) (length t.rest) total (not_below (length front) (length messages) e))));
+          took = subst (λ (f : List (List ℕ)). Took accepted breaks faults f failed link link') (sym (ap (take (length front)) t.parts ∙ take-append_seam front t.rest)) t.took;
+        },
+        refl,
+      )
     where
       all_taken : (f n r : ℕ) → n ≡ f + r → r ≡ 0 → n ≤ f
       all_taken f n r e z = omega arith
@@ -188,21 +190,20 @@ module _ {L : Type 0} (accepted : L → Option (List (List ℕ))) (breaks : L �
     lowest_of : (fails : Bool) (each : Each fails) → IfSome lowest (λ s. s < length posts) → IsLowest (length posts) (failed_at fails each) lowest
     lowest_of fails each low = record {
       named = λ s e.
-        let here : s < length posts = if_some s lowest e low in
-        let f = found_at fails each s here in
-        (
-          here,
-          not_false (failed_at fails each s) (λ g. f.at.unnamed (sym f.is ∙ g) e),
-          (λ i under. not_true (failed_at fails each i) (λ g.
-            let o = found_at fails each i (below_it i s s (length posts) under here) in
-            let q = o.at.named (sym o.is ∙ g) in
-            too_low q.0 i s q.1 under (same_Some q.0 s (sym q.2 ∙ e)))),
-        );
+          let here : s < length posts = if_some s lowest e low in
+          let f = found_at fails each s here in (
+            here,
+            not_false (failed_at fails each s) (λ g. f.at.unnamed (sym f.is ∙ g) e),
+            (λ i under. not_true (failed_at fails each i) (λ g.
+                let o = found_at fails each i (below_it i s s (length posts) under here) in
+                let q = o.at.named (sym o.is ∙ g) in
+                too_low q.0 i s q.1 under (same_Some q.0 s (sym q.2 ∙ e)))),
+          );
       none = (
         (λ e i h. not_true (failed_at fails each i) (λ g.
-          let o = found_at fails each i h in
-          let q = o.at.named (sym o.is ∙ g) in
-          none_some q.0 (sym e ∙ q.2))),
+            let o = found_at fails each i h in
+            let q = o.at.named (sym o.is ∙ g) in
+            none_some q.0 (sym e ∙ q.2))),
         (λ all. none_when lowest refl low all),
       );
     }

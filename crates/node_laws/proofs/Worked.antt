@@ -1,30 +1,25 @@
 -- The example meets the premises of the laws.
-use Rattle.std.specs.Prelude.{◌≡◌, ◌≢◌, ◌⊎◌, ℕ, ◌+◌, ◌<◌, ◌≤◌, List, [], ◌∷◌, ◌++◌, map, Bool, true, false, cond, T}
+use Rattle.std.specs.Prelude.{◌≡◌, ◌≢◌, ℕ, ◌+◌, ◌<◌, ◌≤◌, List, [], ◌∷◌, ◌++◌, false, cond, T}
 use Rattle.std.specs.declared.cmp.Ordering.{Ordering}
 use Rattle.std.specs.declared.cmp.Ordering.TheVariants.{Less, Equal, Greater}
 use Rattle.std.specs.Ordering.{eq_by_cmp, is_eq}
 use Rattle.std.specs.declared.option.Option.{Option}
 use Rattle.std.specs.declared.option.Option.TheVariants.{Some, None}
 use Rattle.std.specs.List.{AllByRecursion, AllZip, filter_map}
-use Rattle.std.specs.FinMap.{IsAntisymmetric, find, get, entries, is_sorted, from_sorted, entries-from_sorted, get-from_sorted}
-use Rattle.std.proofs.lemmas.Bool.{true≢false}
-use Rattle.std.proofs.lemmas.Option.{same_Some}
+use Rattle.std.specs.FinMap.{find, get, entries, is_sorted, from_sorted, entries-from_sorted, get-from_sorted}
 use Rattle.std.proofs.Common.{refl, sym, ◌∙◌, ap, subst, inl, inr, arith}
 use Rattle.ov_types.specs.Prefix.{Block, is_inside}
 use Rattle.ov_types.specs.declared.numbers.InstanceId.{InstanceId}
 use Rattle.ov_types.specs.declared.objects.LowKey.{LowKey}
 use Rattle.ov_types.specs.declared.objects.LowKey.TheVariants as key
 use Rattle.ov_types.specs.declared.objects.LowValue.{LowValue}
-use Rattle.ov_types.specs.declared.vpn.VpnKey.{VpnKey}
-use Rattle.ov_types.specs.declared.vpn.VpnRoute.{VpnRoute}
 use Rattle.route_targets.specs.Numbers.{target_of}
 use Rattle.node_model.specs.Members.{Member}
 use Rattle.node_model.specs.Keys.{Key, Low, Vpn, Row, Publish, Subscribe, key_cmp}
 use Rattle.node_model.specs.Values.{Value, Object, Route, Entry, Label}
-use Rattle.node_model.specs.Maps.{Map, as_object, low_entry, object, objects}
+use Rattle.node_model.specs.Maps.{as_object, low_entry, object, objects}
 use Rattle.node_model.specs.Uses.{Use, as_use, use_from, uses, is_hop, use_of, place_of}
 use Rattle.node_model.specs.Paths.{Told}
-use Rattle.node_model.specs.Reaching.{AreShort}
 use Rattle.node_model.specs.Agent as agent
 use Rattle.node_model.specs.Agent.{Heard}
 use Rattle.node_model.specs.Ranks.{instance_in, depth_in, peer_rank, AreOrdered, IsTargeted, AgreeBelow, SameTold, Agree, SameSlice}
@@ -92,7 +87,7 @@ feed_get : (k : Key) → get chain_feed k ≡ find key_cmp k (told_objects chain
 feed_get k = get-from_sorted key_cmp (told_objects chain_objects) k tt
 
 -- what holds of each entry of a list holds of each member
-all_member : {X : Type 0} (P : X → Type 0) (x : X) (xs : List X) → Member x xs → AllByRecursion P xs → P x
+pub all_member : {X : Type 0} (P : X → Type 0) (x : X) (xs : List X) → Member x xs → AllByRecursion P xs → P x
 all_member P x [] m all = absurd m
 all_member P x (y ∷ ys) (inl e) all = subst P e all.0
 all_member P x (y ∷ ys) (inr m) all = all_member P x ys m all.1
@@ -212,10 +207,13 @@ before_a_row k [] = refl
 before_a_row k (e ∷ es) = ap (cond (eq_by_cmp key_cmp (Low k) e.0) (Some e.1)) (before_a_row k es)
 
 pub slices_agree : AllZip SameSlice with_row without_row
-slices_agree = (record {
-  up = refl;
-  objects = λ k. get-from_sorted key_cmp (told_objects agent_objects ++ chain_row ∷ []) (Low k) tt ∙ before_a_row k (told_objects agent_objects) ∙ sym (get-from_sorted key_cmp (told_objects agent_objects) (Low k) tt);
-}, tt)
+slices_agree = (
+  record {
+    up = refl;
+    objects = λ k. get-from_sorted key_cmp (told_objects agent_objects ++ chain_row ∷ []) (Low k) tt ∙ before_a_row k (told_objects agent_objects) ∙ sym (get-from_sorted key_cmp (told_objects agent_objects) (Low k) tt);
+  },
+  tt,
+)
 
 first_map : agent.Holdings → Option Value
 first_map [] = None

@@ -1,5 +1,5 @@
--- An example: two networks at two control nodes with an agent each, and one chain between them through two services, the
--- first at the first agent and the second at the second. What the first control node and the first agent hold.
+-- An example: two networks at two control nodes with an agent each, and one chain between them through two services,
+-- the first at the first agent and the second at the second. What the first control node and the first agent hold.
 use Rattle.std.specs.Prelude.{ℕ, ◌+◌, ◌*◌, ◌^◌, List, [], ◌∷◌, ◌++◌, map, true}
 use Rattle.std.specs.declared.option.Option.TheVariants.{None}
 use Rattle.std.specs.FinMap.{from_sorted}
@@ -75,7 +75,7 @@ chain_objects =
     ∷ (
       key.ChainUse 0,
       low.ChainUse (instance 1) (instance 2) (left_subnet ∷ []) (right_subnet ∷ [])
-      ((record { 0 = 1 }, first_agent) ∷ (record { 0 = 2 }, second_agent) ∷ []),
+          ((record { 0 = 1 }, first_agent) ∷ (record { 0 = 2 }, second_agent) ∷ []),
     )
     ∷ []
 
@@ -145,11 +145,8 @@ publication_at place host label = (Publish (instance place) (host_prefix host), 
 abbrev pub subscription_of : ℕ → Key × Value
 subscription_of place = (Subscribe (instance place), Label (record { 0 = 0 }))
 
-abbrev pub agent_told : Told
-agent_told = record {
-  session = 2;
-  address = first_agent;
-  map = from_sorted (
+abbrev pub agent_entries : List (Key × Value)
+agent_entries =
     publication_at 1 (dotted 10 1 0 1) 17
     ∷ publication_at 16384 (dotted 250 0 128 1) 557057
     ∷ publication_at 16385 (dotted 250 0 128 2) 557058
@@ -157,7 +154,12 @@ agent_told = record {
     ∷ subscription_of 16384
     ∷ subscription_of 16385
     ∷ []
-  );
+
+abbrev pub agent_told : Told
+agent_told = record {
+  session = 2;
+  address = first_agent;
+  map = from_sorted agent_entries;
 }
 
 -- ---- the first control node, as the second has told it this
@@ -170,6 +172,10 @@ settled = holding all_told
 
 abbrev pub early : Holdings
 early = holding own_told
+
+-- what it then leads on: the right subnet into the chain's first place, towards the left circuit of the first service
+abbrev pub leading_on : Key × Value
+leading_on = route_at first_agent 16384 right_subnet 557057
 
 -- ---- the first agent: its slice, with a row of the chain's first place, and without
 abbrev pub agent_objects : List (LowKey × LowValue)

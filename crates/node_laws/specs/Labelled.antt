@@ -31,4 +31,5 @@ IsAccessList slice k v = Member (k, v) slice × ((from : ℕ) × (to : ℕ) × (
 -- what an agent may have to tell: a publication, or the subscription of an instance that it needs
 abbrev pub IsToldUp : List (LowKey × LowValue) → Key → Type 0
 IsToldUp slice k =
-    ((i : InstanceId) × (prefix : Block) × (k ≡ Publish i prefix)) ⊎ ((i : InstanceId) × (k ≡ Subscribe i) × IsNeeded slice i)
+    ((i : InstanceId) × (prefix : Block) × (k ≡ Publish i prefix))
+    ⊎ ((i : InstanceId) × (k ≡ Subscribe i) × IsNeeded slice i)

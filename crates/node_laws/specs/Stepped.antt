@@ -9,12 +9,12 @@ use Rattle.node_model.specs.Step.{At, Event, Kind, Post, end_of, nothing, post}
 -- the ends as the pass begins: each is as it was before the step, but for the input's own. That is what the input made
 -- of it, and closed where a reply failed
 pub record IsPassStart (k : Kind) (posts start : List Post) (session : ℕ) (event : Event) (reply_failed : Bool) : Type 0
-    where
-  pub long : length start ≡ length posts
-  pub others : (i : ℕ) → i ≢ session → post start i ≡ post posts i
-  pub input : session < length posts → reply_failed ≡ false
-      → post start session ≡ end_of (k.begins session (post posts session) event).after
-  pub closed : session < length posts → reply_failed ≡ true → post start session ≡ nothing
+  where
+    pub long : length start ≡ length posts
+    pub others : (i : ℕ) → i ≢ session → post start i ≡ post posts i
+    pub input : session < length posts → reply_failed ≡ false
+        → post start session ≡ end_of (k.begins session (post posts session) event).after
+    pub closed : session < length posts → reply_failed ≡ true → post start session ≡ nothing
 
 -- what a session is to be told: the replies on the input's session alone, and, where it may send as the pass begins,
 -- the changes from what was sent there to what the ends want as the pass begins
@@ -65,7 +65,8 @@ module _ {L : Type 0} (accepted : L → Option (List (List ℕ))) (breaks : L �
       pub reply : i ≡ session → (reply_failed ≡ true) ↔ (length front < length replies)
       pub left : IsLeft k start i failed (post posts' i)
 
-    -- one step: a single list of ends, those as the pass begins, decides what every session is told, whichever links fail
+    -- one step: a single list of ends, those as the pass begins, decides what every session is told, whichever links
+    -- fail
     pub record Stepped (posts posts' : List Post) (session : ℕ) (event : Event) (links links' : List L)
         (lowest : Option ℕ) : Type 0 where
       pub start : List Post
