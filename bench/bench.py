@@ -71,6 +71,34 @@ def document(networks, ports, related, controllers=1, rules=1):
     return {"topology": topology(controllers), "configuration": configuration}
 
 
+def chain_rule(use, left, right):
+    """A rule between two networks, in both directions, that leads through a chain, for one destination port."""
+    value = rule("chain", 6, 20000 + use, 20000 + use)
+    return {**value, "source": f"w{left}", "destination": f"w{right}", "chain": f"chain{use % 128}", "use": use}
+
+
+def with_chains(value, uses):
+    """A document of 128 related networks, with 128 chains of 15 services in so many uses.
+
+    Each 16 uses have a policy of their own, of two neighbours, 127 at most: then 15 more stand in the policy of all.
+    """
+    configuration = value["configuration"]
+    configuration["services"] = [{"name": f"s{i}", "id": 1 + i, "node": f"n{1 + i % 64}"} for i in range(128)]
+    configuration["chains"] = [
+        {"name": f"chain{i}", "hops": [f"s{(i + j) % 128}" for j in range(15)]} for i in range(128)
+    ]
+    networks = configuration["networks"]
+    for i in range(min(127, uses // 16)):
+        numbers = range(16 * i, 16 * i + 16)
+        rules = [chain_rule(use, 1 + i, 2 + i) for use in numbers]
+        configuration["policies"].append({"name": f"chains{i}", "sequence": 2 + i, "rules": rules})
+        networks[i]["policies"].append(f"chains{i}")
+        networks[i + 1]["policies"].append(f"chains{i}")
+    first = configuration["policies"][0]
+    first["rules"] = [chain_rule(use, 1, 2) for use in range(127 * 16, uses)] + first["rules"]
+    return value
+
+
 def packets(count):
     """Packets from each port in turn to ports of other networks: the source's is 1 + i % 128."""
     return [
@@ -141,6 +169,9 @@ def inputs():
             name = f"compile {ports} ports, {networks} networks, {'related' if related else 'unrelated'}"
             yield name, "compile", json.dumps(document(networks, ports, related))
     yield "compile 1024 ports, 128 networks, related, 8 control nodes", "compile", json.dumps(document(128, 1024, True, 8))
+    for controllers, uses in [(1, 128), (1, 2047), (8, 2047)]:
+        name = f"compile 1024 ports, 128 networks, related, {uses} uses of 15 services, {controllers} control nodes"
+        yield name, "compile", json.dumps(with_chains(document(128, 1024, True, controllers), uses))
     for count in (100, 1_000, 10_000):
         value = document(128, 1024, True, 1, 16)
         value["packets"] = packets(count)

@@ -19,7 +19,14 @@ USAGE = b"""usage: overlay compile < DOCUMENT
        overlay decode < DIGITS
        overlay --help | --version
 """
-ROW = b"control c1 table 1 10.1.0.5/32 192.0.2.11:1 192.0.2.11 23\n"
+TEXT = b"""instance 1 imports 1
+attach 23 port 7 instance 1 address 10.1.0.5 node 192.0.2.11
+acl 1 1 subnets 10.1.0.0/24
+control c1 table 1 10.1.0.5/32 192.0.2.11:1 192.0.2.11 23
+agent n1 label 23 port 7 instance 1
+agent n1 acl 1 1 subnets 10.1.0.0/24
+agent n1 table 1 10.1.0.5/32 192.0.2.11 23
+"""
 OVERLAP = b"""{"topology":
   {"as":64512,"controllers":[{"name":"c1","address":"192.0.2.1"}],
    "nodes":[{"name":"n1","address":"192.0.2.11","controllers":["c1"]}]},
@@ -35,7 +42,7 @@ def example(name):
 
 # the words, the input, the status, standard output, standard error
 RUNS = [
-    ([b"compile"], example("one.json"), 0, ROW, b""),
+    ([b"compile"], example("one.json"), 0, TEXT, b""),
     ([b"decode"], b"", 0, b"", b""),
     ([b"decode"], KEEPALIVE * 10_000, 0, b"keepalive\n" * 10_000, b""),
     ([b"--help"], b"", 0, USAGE, b""),

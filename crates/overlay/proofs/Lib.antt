@@ -4,4 +4,5 @@ pub mod Reports
 pub mod OneReport
 pub mod SomeReport
 pub mod Telling
+pub mod Ways
 pub mod SomeText

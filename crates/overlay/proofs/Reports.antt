@@ -79,3 +79,6 @@ fewer_left octets content count begins =
     let within = begins.within in
     let left = length-drop count octets in
     omega arith
+
+-- each way in which a report ends
+pub ruleset report_ends = (faulty_ends, prefix_ends, fault_ends)

@@ -1,17 +1,14 @@
 -- What is answered to an input: what it is found to be, and the text that is written.
-use Rattle.std.specs.Prelude.{◌≡◌, ℕ, List, [], ◌∷◌, ◌++◌, ◌==◌, length, codes, Option, Some, None, Result, Ok, Err}
-use Rattle.std.specs.Prelude.{if◌then◌else◌, ⊤}
+use Rattle.std.specs.Prelude.{◌≡◌, ℕ, List, [], ◌∷◌, ◌++◌, codes, Option, Some, None, Result, Ok, Err, ⊤}
 use Rattle.std.specs.Io.KnownBytes.{Appends}
 use Rattle.serde_json.specs.Data.{Data}
-use Rattle.config_model.specs.declared.fault.DocKind.{DocKind}
-use Rattle.config_model.specs.declared.fault.DocKind.TheVariants.{Missing, Kind, Range, Unknown}
 use Rattle.config_model.specs.declared.input.CompileInput.{CompileInput}
 use Rattle.config_model.specs.declared.input.ReachInput.{ReachInput}
 use Rattle.config_model.specs.Faults.{Fault, fault_of}
 use Rattle.config_model.specs.Input.{compile_at, reach_at}
 use Rattle.config_check.specs.declared.refusal.Refusal.{Refusal}
 use Rattle.config_check.specs.Rules.{first_broken}
-use Rattle.config_check.specs.Texts.{refusal_text}
+use Rattle.report.specs.Refusals.{doc_fault_line, refused_line}
 use Rattle.overlay.specs.declared.answer.Verdict.{Verdict}
 use Rattle.overlay.specs.declared.answer.Verdict.TheVariants.{Good, NotJson, BadDocument, Refused}
 use Rattle.overlay.specs.declared.answer.Unfit.{Unfit}
@@ -22,21 +19,6 @@ use Rattle.overlay.specs.Decoding.{spelled, IsReport}
 use Rattle.overlay.specs.Json.{json_of}
 use Rattle.overlay.specs.Lines.{compile_text}
 use Rattle.overlay.specs.Outcomes.{reach_text}
-
-abbrev pub kind_text : DocKind → List ℕ
-kind_text Missing = codes "Missing"
-kind_text Kind = codes "Kind"
-kind_text Range = codes "Range"
-kind_text Unknown = codes "Unknown"
-
--- the line of a fault: the path, where there is one, and the kind
-unfoldable pub fault_line : Fault → List ℕ
-fault_line f = if length f.path == 0 then codes "bad document " ++ (kind_text f.kind ++ (10 ∷ []))
-    else codes "bad document " ++ (f.path ++ (codes " " ++ (kind_text f.kind ++ (10 ∷ []))))
-
--- the line of a broken rule
-unfoldable pub refused_line : Refusal → List ℕ
-refused_line r = codes "refused " ++ (refusal_text r ++ (10 ∷ []))
 
 -- what an input is found to be, and the text that is written of it
 pub record Answer : Type 0 where
@@ -50,7 +32,7 @@ abbrev pub answer_not_json : Answer
 answer_not_json = record { verdict = NotJson; text = codes "not json" ++ (10 ∷ []) }
 
 abbrev pub answer_bad : Fault → Answer
-answer_bad f = record { verdict = BadDocument; text = fault_line f }
+answer_bad f = record { verdict = BadDocument; text = doc_fault_line f }
 
 abbrev pub answer_refused : Refusal → Answer
 answer_refused r = record { verdict = Refused; text = refused_line r }

@@ -1,20 +1,19 @@
--- The lines of tables.
-use Rattle.std.specs.Prelude.{ℕ, List, [], ◌∷◌, ◌++◌, codes, decimal, flat_map}
-use Rattle.ov_types.specs.Rows.{table_row_text}
-use Rattle.ov_types.specs.Texts.{prefix_text}
+-- What `compile` writes.
+use Rattle.std.specs.Prelude.{ℕ, List, [], ◌∷◌, ◌++◌}
+use Rattle.ov_types.specs.declared.rows.AgentRows.{AgentRows}
 use Rattle.ov_types.specs.declared.rows.NodeId.{NodeId}
+use Rattle.config_model.specs.declared.topology.Node.{Node}
 use Rattle.config_check.specs.Checked.{Checked}
-use Rattle.schema_transform.specs.Tables.{Row, compiled_tables}
+use Rattle.report.specs.Objects.{low_lines}
+use Rattle.report.specs.Rows.{control_lines, agent_lines}
+use Rattle.transform_model.specs.Compiled.{compiled_tables}
+use Rattle.transform_model.specs.Objects.{low_objects}
+use Rattle.transform_model.specs.Tables.{Row}
+use Rattle.transform_model.specs.declared.tables.Compiled.{Compiled}
 
--- a row of a control node: the instance and the prefix, and then where they lead
-unfoldable pub row_line : List ℕ → Row → List ℕ
-row_line node r =
-    codes "control " ++ (node ++ (codes " table " ++ (decimal r.0.0.0 ++ (codes " " ++ (prefix_text r.0.1
-    ++ (codes " " ++ (table_row_text r.1 ++ (10 ∷ []))))))))
-
--- the rows of one control node
-abbrev pub control_lines : List ℕ → List Row → List ℕ
-control_lines node rows = flat_map (row_line node) rows
+-- the low-level objects
+abbrev pub objects_text : Checked → List ℕ
+objects_text x = low_lines (low_objects x.topology x.config)
 
 -- the rows of each control node, in order
 abbrev pub controls_text : List NodeId → List (List Row) → List ℕ
@@ -22,6 +21,17 @@ controls_text [] tables = []
 controls_text (n ∷ ns) [] = []
 controls_text (n ∷ ns) (rows ∷ tables) = control_lines n.name rows ++ controls_text ns tables
 
+-- the rows of the agent of each compute node, in order
+abbrev pub agents_text : List Node → List AgentRows → List ℕ
+agents_text [] tables = []
+agents_text (n ∷ ns) [] = []
+agents_text (n ∷ ns) (rows ∷ tables) = agent_lines n.name rows ++ agents_text ns tables
+
+-- the rows of every node: first of the control nodes, then of the agents
+abbrev pub nodes_text : Checked → Compiled → List ℕ
+nodes_text x tables =
+    controls_text x.topology.controllers tables.controls ++ agents_text x.topology.nodes tables.agents
+
 -- what `compile` writes of a valid configuration
 unfoldable pub compile_text : Checked → List ℕ
-compile_text x = controls_text x.topology.controllers (compiled_tables x).controls
+compile_text x = objects_text x ++ nodes_text x (compiled_tables x)

@@ -1,7 +1,6 @@
 //! The answer to an input.
-ghost use Rattle.std.specs.Prelude.{◌≡◌, ℕ, List, None, IfOk, IfErr, OnOk, OnErr, IsTrue, option_map, string_bytes};
+ghost use Rattle.std.specs.Prelude.{◌≡◌, ℕ, List, None, IfOk, IfErr, OnOk, OnErr, IsTrue, option_map};
 ghost use Rattle.serde_json.specs.View.{view};
-ghost use Rattle.config_model.specs.Faults.{fault_of};
 ghost use Rattle.config_model.specs.Form.{has_topology_form, has_config_form};
 ghost use Rattle.config_check.specs.Rules.{first_broken};
 ghost use Rattle.ov_io.specs.Inputs.{TookFront};
@@ -11,21 +10,20 @@ ghost use Rattle.overlay.specs.Lines.{compile_text};
 ghost use Rattle.overlay.specs.Outcomes.{reach_text};
 ghost use Rattle.overlay.specs.Decoding.{spelled};
 ghost use Rattle.overlay.specs.Answers.{Answer, IsAnswered, WasGiven, answer_checked, answer_good, compile_answer};
-ghost use Rattle.overlay.specs.Answers.{compile_value, decode_verdict, fault_line, kind_text, reach_answer};
-ghost use Rattle.overlay.specs.Answers.{reach_value, refused_line, verdict_of, Writes, WritesSpelled};
+ghost use Rattle.overlay.specs.Answers.{compile_value, decode_verdict, reach_answer, reach_value, verdict_of};
+ghost use Rattle.overlay.specs.Answers.{Writes, WritesSpelled};
 
 use crate::command::Command;
 use crate::decoding::{octets_of, write_report};
 use crate::lines::write_tables;
 use crate::outcomes::write_outcomes;
 use config_check::{CheckRefusal, Refusal, Valid, check};
-use config_model::{
-    CompileInput, DocFault, DocKind, ReachInput, ReadRefusal, read_compile, read_reach,
-};
-use ov_io::{Sink, WriteRefusal, write_all};
+use config_model::{CompileInput, DocFault, ReachInput, ReadRefusal, read_compile, read_reach};
+use ov_io::{Sink, TextOut, WriteRefusal, write_all};
 use ov_types::{Items, NoMemory, Packet};
+use report::{doc_fault_lines, refusal_lines};
 use serde_json::Value;
-use std::alloc::{AllocError, Global};
+use std::alloc::Global;
 use std::str;
 
 /// What an input is found to be.
@@ -65,37 +63,6 @@ fn value_of(alloc: Global, octets: &[u8]) -> Result<Option<Value>, NoMemory>
     }
 }
 
-fn kind_name(kind: DocKind) -> &'static str
-    ensures { result.now ≡ kind_text kind }
-{
-    match kind {
-        DocKind::Missing => "Missing",
-        DocKind::Kind => "Kind",
-        DocKind::Range => "Range",
-        DocKind::Unknown => "Unknown",
-    }
-}
-
-#[tactic(auto, unfolding(crate::specs::Answers::fault_line))]
-fn line_of_fault(alloc: Global, fault: &DocFault) -> Result<String, AllocError>
-    ensures { IfOk result (λ s. string_bytes s ≡ fault_line (fault_of fault.now)) }
-{
-    let kind = kind_name(fault.kind);
-    let path = fault.path.as_str();
-    if path.is_empty() {
-        format!(in alloc; "bad document {kind}\n")
-    } else {
-        format!(in alloc; "bad document {path} {kind}\n")
-    }
-}
-
-#[tactic(auto, unfolding(crate::specs::Answers::refused_line))]
-fn line_of_refusal(alloc: Global, refusal: &Refusal) -> Result<String, AllocError>
-    ensures { IfOk result (λ s. string_bytes s ≡ refused_line refusal.now) }
-{
-    format!(in alloc; "refused {refusal}\n")
-}
-
 /// Writes the one line of what is not fit.
 #[tactic(auto, using(ov_io::proofs::PieceLemmas::took_nothing))]
 fn write_unfit<K: Sink>(alloc: Global, unfit: Unfit, sink: &mut K) -> Result<Verdict, WriteRefusal>
@@ -111,13 +78,15 @@ fn write_unfit<K: Sink>(alloc: Global, unfit: Unfit, sink: &mut K) -> Result<Ver
             Ok(Verdict::NotJson)
         }
         Unfit::BadDocument(fault) => {
-            let line = line_of_fault(alloc, &fault)?;
-            write_all(sink, line.as_bytes())?;
+            let mut line = TextOut::new(alloc);
+            doc_fault_lines(alloc, &fault, &mut line)?;
+            write_all(sink, line.octets())?;
             Ok(Verdict::BadDocument)
         }
         Unfit::Refused(refusal) => {
-            let line = line_of_refusal(alloc, &refusal)?;
-            write_all(sink, line.as_bytes())?;
+            let mut line = TextOut::new(alloc);
+            refusal_lines(alloc, &refusal, &mut line)?;
+            write_all(sink, line.octets())?;
             Ok(Verdict::Refused)
         }
         Unfit::NoMemory => Err(WriteRefusal::NoMemory),

@@ -129,7 +129,7 @@ fn push_message(
 }
 
 /// Tells the first message, and says how many octets it has. `None` where nothing is left to tell.
-#[tactic(auto, using(crate::proofs::Reports::faulty_ends, crate::proofs::Reports::prefix_ends, crate::proofs::Reports::fault_ends))]
+#[tactic(auto, using(crate::proofs::Reports::report_ends))]
 fn push_report(
     alloc: Global,
     octets: &[u8],

@@ -1,6 +1,6 @@
 use Rattle.std.proofs.Common.{ap, ◌∙◌}
 use Rattle.ov_io.proofs.PieceLemmas.{on_err, way_breaks, way_goes_on}
-use Rattle.overlay.specs.Lines.{control_lines}
+use Rattle.report.specs.Rows.{control_lines}
 use Rattle.overlay.proofs.LineLemmas.{drop_at}
 use Rattle.overlay.proofs.lines.write_control.Goals as goal
 

@@ -1,6 +1,6 @@
 use Rattle.std.proofs.Common.{◌≡◌, ◌++◌, drop}
 use Rattle.ov_io.specs.Pieces.{IsOnItsWay}
-use Rattle.overlay.specs.Lines.{control_lines}
+use Rattle.report.specs.Rows.{control_lines}
 use Rattle.overlay.proofs.lines.write_control.Given as goal
 
 abbrev pub invariant-loop-row : goal.invariant-loop-row

@@ -1,7 +1,8 @@
 use Rattle.std.proofs.Common.{◌≡◌, ◌+◌, ◌++◌, drop, ◌∙◌, arith}
 use Rattle.std.proofs.lemmas.Grind.{common_steps}
 use Rattle.ov_io.proofs.PieceLemmas.{on_err, way_breaks, way_goes_on}
-use Rattle.overlay.specs.Lines.{control_lines, controls_text}
+use Rattle.report.specs.Rows.{control_lines}
+use Rattle.overlay.specs.Lines.{controls_text}
 use Rattle.overlay.proofs.lines.write_controls.Goals as goal
 
 pub returns-in_err-write_control-clause-front : goal.returns-in_err-write_control-clause-front

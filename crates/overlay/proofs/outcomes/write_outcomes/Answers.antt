@@ -1,7 +1,8 @@
 use Rattle.std.proofs.Common.{◌≡◌, ◌+◌, ◌++◌, drop, ◌∙◌, arith}
 use Rattle.std.proofs.lemmas.Grind.{common_steps}
 use Rattle.ov_io.proofs.PieceLemmas.{cause_from, ends_cut, ends_whole, on_err, way_breaks, way_goes_on}
-use Rattle.overlay.specs.Outcomes.{outcome_line, outcomes_from, reach_text}
+use Rattle.report.specs.Outcomes.{outcome_line}
+use Rattle.overlay.specs.Outcomes.{outcomes_from, reach_text}
 use Rattle.overlay.proofs.outcomes.write_outcomes.Goals as goal
 
 pub returns-in_err-write_outcome-clause-front : goal.returns-in_err-write_outcome-clause-front

@@ -1,0 +1,20 @@
+-- Lemmas, in the order in which they stand on each other.
+pub mod Numbers
+pub mod Told
+pub mod Peers
+pub mod Up
+pub mod Fixpoint
+pub mod Tables
+pub mod TableRows
+pub mod OneRow
+pub mod Sorted
+pub mod AgentMaps
+pub mod Shown
+pub mod Views
+pub mod RankBounds
+pub mod Assembly
+pub mod Fair
+pub mod Headline
+pub mod Names
+pub mod Placing
+pub mod Final

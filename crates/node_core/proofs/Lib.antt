@@ -1,0 +1,5 @@
+-- Lemmas.
+pub mod Counting
+pub mod Deliveries
+pub mod Passing
+pub mod Told

@@ -1,0 +1,6 @@
+-- The files of definitions, in the order in which they stand on each other.
+pub mod Plans
+pub mod Passing
+pub mod Begun
+pub mod Naming
+pub mod Answers

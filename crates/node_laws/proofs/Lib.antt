@@ -1,0 +1,7 @@
+-- Lemmas, in the order in which they stand on each other.
+pub mod StepFact
+pub mod Receiving
+pub mod Shown
+pub mod Worked
+pub mod Counting
+pub mod Leading

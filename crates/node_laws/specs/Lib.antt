@@ -1,0 +1,6 @@
+-- The files of definitions.
+pub mod Stepped
+pub mod Received
+pub mod Labelled
+pub mod Chain
+pub mod Counts
