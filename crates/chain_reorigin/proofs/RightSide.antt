@@ -31,12 +31,10 @@ module _ (h : Holdings) where
       let s = split u us m in
       let rest : List Path = right u ++ (left u ++ s.1) in (
         right v ++ (left v ++ s.0),
-        (
-          s.1.0,
-          ap (λ (l : List Path). right v ++ (left v ++ l)) s.2
-              ∙ ap (λ (l : List Path). right v ++ l) (sym (assoc (left v) s.0 rest))
-              ∙ sym (assoc (right v) (left v ++ s.0) rest),
-        ),
+        s.1,
+        ap (λ (l : List Path). right v ++ (left v ++ l)) s.2
+            ∙ ap (λ (l : List Path). right v ++ l) (sym (assoc (left v) s.0 rest))
+            ∙ sym (assoc (right v) (left v ++ s.0) rest),
       )
 
   pub right_first : (u : Use) → Member u (uses h.feed) → RightFirst h u

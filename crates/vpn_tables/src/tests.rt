@@ -40,11 +40,7 @@ fn chained(alloc: Global, left: Prefix, right: Prefix) -> Result<VpnTables, Fail
 }
 
 /// The peer leads the right subnet into the place between the two services.
-fn told_by_the_peer(
-    alloc: Global,
-    tables: &mut VpnTables,
-    right: Prefix,
-) -> Result<(), Fail> {
+fn told_by_the_peer(alloc: Global, tables: &mut VpnTables, right: Prefix) -> Result<(), Fail> {
     let mut targets = Targets::new(alloc);
     targets.insert(Target(0x0002_fc00_007a_5201))?;
     let key = VpnKey {
@@ -70,7 +66,11 @@ fn the_first_place_leads_to_both_sides(rt: HostRuntime) -> Result<(), Fail> {
     let mut text = String::new(alloc);
     for route in &tables.led_on()? {
         let path = route.path;
-        writeln!(text, "{} {} {} {}", path.rd, route.prefix, path.next_hop, path.label)?;
+        writeln!(
+            text,
+            "{} {} {} {}",
+            path.rd, route.prefix, path.next_hop, path.label
+        )?;
     }
     for (prefix, row) in &tables.table(InstanceId(16384))? {
         writeln!(text, "{prefix} {row}")?;
