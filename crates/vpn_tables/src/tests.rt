@@ -6,6 +6,7 @@ use ov_types::{
     UpKey, VpnKey, VpnRoute,
 };
 use std::alloc::Global;
+use std::fmt::Write;
 use std::test::Fail;
 
 const NEAR: Addr = Addr(0xc000_020b);
@@ -38,12 +39,8 @@ fn chained(alloc: Global, left: Prefix, right: Prefix) -> Result<VpnTables, Fail
     Ok(tables)
 }
 
-#[test]
-fn subnets_are_up_along_a_chain(rt: HostRuntime) -> Result<(), Fail> {
-    let alloc = rt.alloc();
-    let left = Prefix::new(Addr(0x0a01_0000), 24).ok_or("10.1.0.0/24")?;
-    let right = Prefix::new(Addr(0x0a02_0000), 24).ok_or("10.2.0.0/24")?;
-    let mut tables = chained(alloc, left, right)?;
+/// The peer leads the right subnet into the place between the two services.
+fn told_by_the_peer(alloc: Global, tables: &mut VpnTables, right: Prefix) -> Result<(), Fail> {
     let mut targets = Targets::new(alloc);
     targets.insert(Target(0x0002_fc00_007a_5201))?;
     let key = VpnKey {
@@ -55,8 +52,48 @@ fn subnets_are_up_along_a_chain(rt: HostRuntime) -> Result<(), Fail> {
         label: Label(557_059),
         targets,
     };
-    assert!(rt; !tables.up(InstanceId(16384), &right, true));
     tables.set_peer_route(1, Delta::Put(key, route))?;
+    Ok(())
+}
+
+#[test]
+fn the_first_place_leads_to_both_sides(rt: HostRuntime) -> Result<(), Fail> {
+    let alloc = rt.alloc();
+    let left = Prefix::new(Addr(0x0a01_0000), 24).ok_or("10.1.0.0/24")?;
+    let right = Prefix::new(Addr(0x0a02_0000), 24).ok_or("10.2.0.0/24")?;
+    let mut tables = chained(alloc, left, right)?;
+    told_by_the_peer(alloc, &mut tables, right)?;
+    let mut text = String::new(alloc);
+    for route in &tables.led_on()? {
+        let path = route.path;
+        writeln!(
+            text,
+            "{} {} {} {}",
+            path.rd, route.prefix, path.next_hop, path.label
+        )?;
+    }
+    for (prefix, row) in &tables.table(InstanceId(16384))? {
+        writeln!(text, "{prefix} {row}")?;
+    }
+    assert_eq!(rt;
+        text.as_str(),
+        "192.0.2.11:16384 10.2.0.0/24 192.0.2.11 557057\n\
+192.0.2.11:16385 10.1.0.0/24 192.0.2.11 557058\n\
+10.1.0.1/32 192.0.2.11:1 192.0.2.11 17\n\
+10.2.0.0/24 192.0.2.11:16384 192.0.2.11 557057\n\
+250.0.128.1/32 192.0.2.11:16384 192.0.2.11 557057\n"
+    );
+    Ok(())
+}
+
+#[test]
+fn subnets_are_up_along_a_chain(rt: HostRuntime) -> Result<(), Fail> {
+    let alloc = rt.alloc();
+    let left = Prefix::new(Addr(0x0a01_0000), 24).ok_or("10.1.0.0/24")?;
+    let right = Prefix::new(Addr(0x0a02_0000), 24).ok_or("10.2.0.0/24")?;
+    let mut tables = chained(alloc, left, right)?;
+    assert!(rt; !tables.up(InstanceId(16384), &right, true));
+    told_by_the_peer(alloc, &mut tables, right)?;
     for (hop, is_right, want) in [
         (16384, true, true),
         (16385, true, true),

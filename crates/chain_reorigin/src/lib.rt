@@ -1,0 +1,9 @@
+//! The routes by which a control node leads the subnets of chains on, as its peers are told them.
+#![tactic(auto)]
+
+pub mod laws;
+mod routes;
+#[cfg(test)]
+mod tests;
+
+pub use routes::reoriginated;
