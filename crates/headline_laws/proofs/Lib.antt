@@ -1,0 +1,8 @@
+-- Lemmas, in the order in which they stand on each other.
+pub mod Lists
+pub mod Objects
+pub mod Imports
+pub mod Hosts
+pub mod Sound
+pub mod Names
+pub mod Written

@@ -1,0 +1,101 @@
+-- A valid configuration of the written form is sound, and stays so by edits of the written form.
+use Rattle.std.specs.Option.{option_map}
+use Rattle.std.specs.Prelude.{IsTrue, List, ℕ, [], ◌∷◌, ◌≡◌}
+use Rattle.std.specs.declared.option.Option.TheVariants.{None, Some}
+use Rattle.std.specs.declared.option.Option.{Option}
+use Rattle.std.proofs.Common.{refl, subst}
+use Rattle.std.proofs.lemmas.Option.{same_Some}
+use Rattle.ov_types.proofs.FirstLemmas.{both_none, mapped_none}
+use Rattle.config_model.specs.Form.{has_topology_form}
+use Rattle.config_model.specs.declared.edit.Edit.{Edit}
+use Rattle.config_check.specs.Checked.{Checked}
+use Rattle.config_check.specs.Edits as edits
+use Rattle.config_check.specs.Edits.{edit_fault}
+use Rattle.config_check.specs.Rules.{first_broken}
+use Rattle.config_check.specs.declared.edits.EditFault.TheVariants.{Missing, Rule}
+use Rattle.config_check.specs.declared.edits.EditFault.{EditFault}
+use Rattle.config_check.proofs.Validity.{valid_iff}
+use Rattle.transform_model.proofs.InUse.{named}
+use Rattle.transform_model.proofs.Needed.{asked}
+use Rattle.node_model.specs.Keys.{Key}
+use Rattle.node_model.specs.Values.{Value}
+use Rattle.node_model.proofs.Members.{none_some}
+use Rattle.network_model.specs.Events.{Event, after}
+use Rattle.network_model.specs.Moments.{ArePositive, Each}
+use Rattle.network_model.specs.Network.{View, config, sessions_of, start, view, views_of, wanted}
+use Rattle.network_model.specs.Session.{Message, Session}
+use Rattle.network_model.specs.Setup.{Name, edited, edited_without}
+use Rattle.network_laws.specs.Settling.{EditsAreValid, FairMap, WantsFair}
+use Rattle.network_laws.proofs.EachFact.{edits_valid}
+use Rattle.network_laws.proofs.RanksSettle.{kept, stay_valid}
+use Rattle.compiled_laws.specs.Goal.{Party}
+use Rattle.compiled_laws.specs.Moments.{SettleSettles, SettlesInTime, ShowsCompiled}
+use Rattle.compiled_laws.specs.Setups.{IsSoundSetup}
+use Rattle.compiled_laws.proofs.Final.{all_rounds_settle, settle_settles, tables_are_compiled}
+use Rattle.headline_laws.specs.Headline.{AfterAnySchedule, IsOfForm, IsWritten}
+use Rattle.headline_laws.proofs.Names.{is_named}
+use Rattle.headline_laws.proofs.Sound.{homed, is_sound, within_longest}
+
+pub sound_setup : (x : Checked) → IsWritten x → IsSoundSetup x
+sound_setup x w =
+    let v = (valid_iff x.topology x.config).0 w.valid in
+    record { named = is_named x.topology x.config w.topology v; sound = is_sound x w.config v; within = within_longest x w.config v; homed = homed x w.config v }
+
+-- an edit without a fault breaks no rule
+none_broken : (y : Checked) (d : Edit) → edit_fault y d ≡ None → first_broken y.topology (edits.edited d y.config) ≡ None
+unfolding edit_fault
+none_broken y d e =
+    let made = first_broken y.topology (edits.edited d y.config) in
+    (mapped_none (λ r. Rule r) made).0 ((both_none (option_map (λ name. Missing name) (edits.missing_name d y.config)) (option_map (λ r. Rule r) made)).0 e).1
+
+edits_keep : (y : Checked) (d : Edit) (z : Checked) → IsWritten y → edited y d ≡ Some z → IsOfForm z → IsWritten z
+edits_keep y d z w e form = by_fault (edit_fault y d) refl e
+  where
+    by_fault : (o : Option EditFault) → edit_fault y d ≡ o → edited_without o y d ≡ Some z → IsWritten z
+    by_fault (Some f) is h = absurd (none_some z h)
+    by_fault None is h =
+        let s : ◌≡◌ {A = Checked} (record { topology = y.topology; config = edits.edited d y.config }) z = same_Some (record { topology = y.topology; config = edits.edited d y.config }) z h in
+        record {
+          topology = subst (λ (z : Checked). IsTrue (has_topology_form z.topology)) s w.topology;
+          config = form;
+          valid = subst (λ (z : Checked). first_broken z.topology z.config ≡ None) s (none_broken y d is);
+        }
+
+-- nothing is asked of what is told
+abbrev anything : Party → Party → Key → Value → Type 0
+anything p q k v = Unit {0}
+
+each_anything : (x : Checked) (vs : List View) (own : List Session) → Each (λ s. FairMap anything (s.near.name, s.near.role) (s.far.name, s.far.role) (wanted x vs (view s))) own
+each_anything x vs [] = tt
+each_anything x vs (s ∷ own) = ((λ k v e. tt), each_anything x vs own)
+
+anything_wants : WantsFair anything IsWritten
+anything_wants x ss n w f = each_anything x (views_of n ss) (sessions_of n ss)
+
+module _ (size : Name → Message → ℕ) (positive : ArePositive size) (x : Checked) (written : IsWritten x) (es : List Event) (asked : EditsAreValid size IsOfForm (start x) es) where
+  all_written : EditsAreValid size IsWritten (start x) es
+  all_written = stay_valid size positive x IsWritten anything anything_wants IsOfForm edits_keep written es asked
+
+  pub written_now : IsWritten (after size (start x) es).setup
+  written_now = (kept size positive x IsWritten anything anything_wants written es all_written).0
+
+  pub all_sound : EditsAreValid size IsSoundSetup (start x) es
+  all_sound = edits_valid size IsWritten IsSoundSetup sound_setup (start x) es all_written
+
+  pub rounds_now : SettlesInTime size (after size (start x) es)
+  rounds_now = all_rounds_settle size positive x (sound_setup x written) es all_sound
+
+  pub settles_now : SettleSettles (after size (start x) es)
+  settles_now = settle_settles size positive x (sound_setup x written) es all_sound
+
+  pub compiled_now : ShowsCompiled (after size (start x) es)
+  compiled_now = tables_are_compiled size positive x (sound_setup x written) es all_sound
+
+pub written_rounds_settle : AfterAnySchedule SettlesInTime
+written_rounds_settle size positive x written es asked = rounds_now size positive x written es asked
+
+pub written_settle_settles : AfterAnySchedule (λ size w. SettleSettles w)
+written_settle_settles size positive x written es asked = settles_now size positive x written es asked
+
+pub written_tables_are_compiled : AfterAnySchedule (λ size w. ShowsCompiled w)
+written_tables_are_compiled size positive x written es asked = compiled_now size positive x written es asked

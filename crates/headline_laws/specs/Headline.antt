@@ -1,0 +1,31 @@
+-- What is asked of a configuration and of a schedule: that both are of the written form, and no rule is broken.
+use Rattle.std.specs.Prelude.{◌≡◌, ℕ, List, IsTrue}
+use Rattle.std.specs.declared.option.Option.TheVariants.{None}
+use Rattle.config_model.specs.Form.{has_config_form, has_topology_form}
+use Rattle.config_check.specs.Checked.{Checked}
+use Rattle.config_check.specs.Rules.{first_broken}
+use Rattle.network_model.specs.Setup.{Name}
+use Rattle.network_model.specs.Session.{Message}
+use Rattle.network_model.specs.Network.{Network, start}
+use Rattle.network_model.specs.Events.{Event, after}
+use Rattle.network_model.specs.Moments.{ArePositive}
+use Rattle.network_laws.specs.Settling.{EditsAreValid}
+
+-- a topology with a configuration, of the written form and with no broken rule
+pub record IsWritten (x : Checked) : Type 0 where
+  pub topology : IsTrue (has_topology_form x.topology)
+  pub config : IsTrue (has_config_form x.config)
+  pub valid : first_broken x.topology x.config ≡ None
+
+-- what an edit puts is of the written form
+abbrev pub IsOfForm : Checked → Type 0
+IsOfForm x = IsTrue (has_config_form x.config)
+
+-- after any schedule from a valid configuration, whose edits are of the written form. A refused edit changes nothing,
+-- and an accepted one breaks no rule
+abbrev pub AfterAnySchedule : ((Name → Message → ℕ) → Network → Type 0) → Type 0
+AfterAnySchedule P =
+    (size : Name → Message → ℕ) → ArePositive size
+    → (x : Checked) → IsWritten x
+    → (es : List Event) → EditsAreValid size IsOfForm (start x) es
+    → P size (after size (start x) es)

@@ -1,0 +1,23 @@
+//! A network with a valid configuration: what it shows once it is settled, and that it settles. Laws alone.
+#![tactic(auto)]
+
+ghost use Rattle.compiled_laws.specs.Moments.{SettleSettles, SettlesInTime, ShowsCompiled};
+ghost use Rattle.headline_laws.specs.Headline.{AfterAnySchedule};
+
+/// After any schedule of edits, deliveries, losses of sessions and restarts: once every session is up and nothing is in
+/// flight, what each control node and each agent shows is exactly what the low-level objects of the configuration of
+/// that moment compile to.
+pub fn settled_networks_are_compiled()
+    ensures { AfterAnySchedule (λ size w. ShowsCompiled w) }
+{}
+
+/// From any moment where no session is down and no break is pending, every list of K + 5 rounds of deliveries ends
+/// settled, where K is the number of services of the longest chain in effect.
+pub fn rounds_settle()
+    ensures { AfterAnySchedule SettlesInTime }
+{}
+
+/// From any moment `settle` ends settled, in at most K + 6 rounds.
+pub fn settle_settles()
+    ensures { AfterAnySchedule (λ size w. SettleSettles w) }
+{}
