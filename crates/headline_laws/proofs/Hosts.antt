@@ -74,7 +74,7 @@ module _ (x : Checked) (form : IsTrue (has_config_form x.config)) (v : IsValid x
         ]
       ]
 
-  circuit_entry : (i : InstanceId) (k : Circuit) (d : Node) → i ≡ circuit_instance_of k.number → entry i (circuit_prefix k.number) (row_of (circuit_attachment k d)) ≡ circuit_route i (host_prefix (circuit_address_of k.number).0) k d
+  pub circuit_entry : (i : InstanceId) (k : Circuit) (d : Node) → i ≡ circuit_instance_of k.number → entry i (circuit_prefix k.number) (row_of (circuit_attachment k d)) ≡ circuit_route i (host_prefix (circuit_address_of k.number).0) k d
   circuit_entry i k d e = λ z. entry i (circuit_prefix k.number) (record { rd = distinguisher_of d.address (sym e z); next_hop = d.address; label = circuit_label_of k.number })
 
   pub host_is : (i : InstanceId) (a : Attachment) → Kind x a → Imported x i a.instance → RowOf i a

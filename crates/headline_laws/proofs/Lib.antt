@@ -5,4 +5,8 @@ pub mod Imports
 pub mod Hosts
 pub mod Sound
 pub mod Names
+pub mod Rows
+pub mod RowsIn
+pub mod Shown
 pub mod Written
+pub mod Delivers

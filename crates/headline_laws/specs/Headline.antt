@@ -1,13 +1,17 @@
 -- What is asked of a configuration and of a schedule: that both are of the written form, and no rule is broken.
-use Rattle.std.specs.Prelude.{◌≡◌, ℕ, List, IsTrue}
+use Rattle.std.specs.Prelude.{◌≡◌, ℕ, List, IsTrue, true}
 use Rattle.std.specs.declared.option.Option.TheVariants.{None}
+use Rattle.ov_types.specs.declared.packet.Packet.{Packet}
+use Rattle.route_targets.specs.Forwarding.{forwarding}
 use Rattle.config_model.specs.Form.{has_config_form, has_topology_form}
 use Rattle.config_check.specs.Checked.{Checked}
 use Rattle.config_check.specs.Rules.{first_broken}
+use Rattle.reach_plain.specs.Reachability.{reachability}
 use Rattle.network_model.specs.Setup.{Name}
 use Rattle.network_model.specs.Session.{Message}
 use Rattle.network_model.specs.Network.{Network, start}
-use Rattle.network_model.specs.Events.{Event, after}
+use Rattle.network_model.specs.Steps.{is_settled}
+use Rattle.network_model.specs.Events.{Event, after, forwarders}
 use Rattle.network_model.specs.Moments.{ArePositive}
 use Rattle.network_laws.specs.Settling.{EditsAreValid}
 
@@ -29,3 +33,8 @@ AfterAnySchedule P =
     → (x : Checked) → IsWritten x
     → (es : List Event) → EditsAreValid size IsOfForm (start x) es
     → P size (after size (start x) es)
+
+-- once every session is up and nothing is in flight, each packet goes where policies say
+abbrev pub SettledIsReachable : Network → Type 0
+SettledIsReachable w =
+    is_settled w ≡ true → (p : Packet) → forwarding (forwarders w) p ≡ reachability w.setup.config p

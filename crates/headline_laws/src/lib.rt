@@ -2,13 +2,19 @@
 #![tactic(auto)]
 
 ghost use Rattle.compiled_laws.specs.Moments.{SettleSettles, SettlesInTime, ShowsCompiled};
-ghost use Rattle.headline_laws.specs.Headline.{AfterAnySchedule};
+ghost use Rattle.headline_laws.specs.Headline.{AfterAnySchedule, SettledIsReachable};
 
 /// After any schedule of edits, deliveries, losses of sessions and restarts: once every session is up and nothing is in
 /// flight, what each control node and each agent shows is exactly what the low-level objects of the configuration of
 /// that moment compile to.
 pub fn settled_networks_are_compiled()
     ensures { AfterAnySchedule (λ size w. ShowsCompiled w) }
+{}
+
+/// At such a moment each packet has the outcome that policies alone give: it is delivered exactly where its ports share
+/// a network or a policy permits it, having visited that policy's service instances in order.
+pub fn settled_networks_deliver_what_policies_permit()
+    ensures { AfterAnySchedule (λ size w. SettledIsReachable w) }
 {}
 
 /// From any moment where no session is down and no break is pending, every list of K + 5 rounds of deliveries ends
