@@ -24,7 +24,6 @@ use Rattle.transform_model.proofs.Needed.{asked}
 use Rattle.transform_model.proofs.Rows.{is_node}
 use Rattle.node_model.specs.Agent as agent
 use Rattle.node_model.specs.Members.{Member}
-use Rattle.node_model.specs.Tables.{rows}
 use Rattle.network_model.specs.Events as events
 use Rattle.network_model.specs.Events.{after}
 use Rattle.network_model.specs.Network.{Network, start}
@@ -32,7 +31,6 @@ use Rattle.network_model.specs.Setup.{low as low_map}
 use Rattle.network_model.specs.Steps.{is_settled}
 use Rattle.compiled_laws.specs.Compiled as compiled
 use Rattle.compiled_laws.specs.Moments.{ShowsCompiled}
-use Rattle.compiled_laws.proofs.Headline.{shows}
 use Rattle.headline_laws.specs.Headline.{AfterAnySchedule, IsWritten, SettledIsReachable}
 use Rattle.headline_laws.proofs.Lists.{contains_of}
 use Rattle.headline_laws.proofs.Shown.{agent_is}
@@ -46,7 +44,7 @@ module _ (w : Network) (written : IsWritten w.setup) (shows : ShowsCompiled w) (
   valid : IsValid w.setup.topology w.setup.config
   valid = (valid_iff w.setup.topology w.setup.config).0 written.valid
 
-  found : (n : Node) → Member n w.setup.topology.nodes → node_named w.setup.topology n.name ≡ Some n
+  pub found : (n : Node) → Member n w.setup.topology.nodes → node_named w.setup.topology n.name ≡ Some n
   found n m = is_node w.setup.topology w.setup.config n.name n valid (contains_of w.setup.topology.nodes n m) refl
 
   rows_are : (n : Node) → Member n w.setup.topology.nodes → agent.rows (events.agent_rows w n.name) ≡ compiled_rows.agent_rows w.setup.topology w.setup.config n.address

@@ -51,7 +51,7 @@ pub data Imported (x : Checked) (i n : InstanceId) : Type 0 where
   network_import : (a b : Network) → Contains x.config.networks a → Contains x.config.networks b → i ≡ a.id → n ≡ b.id → (a.name ≡ b.name) ⊎ PassesBetween x.config a b → Imported x i n
   hop_import : (u : InEffect) (j : ℕ) → IsUse x.config u → j ≤ length u.services → i ≡ hop_instance_of u.number j → IsImportedAt (held_of u) j n → Imported x i n
 
-found_object : (m : Map) (k : LowKey) (w : LowValue) → object m k ≡ Some w → Member (object_at k w) (objects m)
+pub found_object : (m : Map) (k : LowKey) (w : LowValue) → object m k ≡ Some w → Member (object_at k w) (objects m)
 found_object m k w h = go (get m (Low k)) refl h
   where
     go : (o : Option Value) → get m (Low k) ≡ o → as_object o ≡ Some w → Member (object_at k w) (objects m)
@@ -82,7 +82,7 @@ pub record IsNetworkObject (x : Checked) (i : ℕ) (w : LowValue) : Type 0 where
   pub number : i ≡ home.id.0
   pub is : w ≡ low.Instance list
 
-instance_by : (x : Checked) (i : ℕ) (w : LowValue) → IsObject x.topology x.config (object_at (key.Instance i) w) → IsNetworkObject x i w
+pub instance_by : (x : Checked) (i : ℕ) (w : LowValue) → IsObject x.topology x.config (object_at (key.Instance i) w) → IsNetworkObject x i w
 instance_by x i w (of_network a list in_a are e) = record { home = a; list = list; has = in_a; are = are; number = ap (λ (o : LowObject). instance_number o.0) e; is = ap (λ (o : LowObject). o.1) e }
 instance_by x i w (of_port n p d at e) = absurd (apart 0 (ap kind_number e))
   where
@@ -126,7 +126,7 @@ module _ (x : Checked) (form : IsTrue (has_config_form x.config)) (v : IsValid x
       rest_of : (x : Checked) → List LowObject
       rest_of x = filter_map (port_object x.topology x.config) x.config.ports ++ (flat_map (circuit_objects x.topology) (in_effect x.config) ++ (flat_map (acl_objects x.config) x.config.networks ++ map (use_object x.topology) (in_effect x.config)))
 
-  small : (a : Network) → Contains x.config.networks a → a.id.0 < 16384
+  pub small : (a : Network) → Contains x.config.networks a → a.id.0 < 16384
   small a in_a = below a.id.0 (network_number x.config a form in_a)
     where
       below : (n : ℕ) → n ≤ 16383 → n < 16384

@@ -8,5 +8,7 @@ pub mod Names
 pub mod Rows
 pub mod RowsIn
 pub mod Shown
+pub mod Control
 pub mod Written
 pub mod Delivers
+pub mod Configured

@@ -17,7 +17,7 @@ use Rattle.config_check.specs.Rules.{controller_names, node_names}
 use Rattle.config_check.specs.Sentences.{IsValid}
 use Rattle.node_model.specs.Members.{Member}
 use Rattle.node_model.proofs.Members.{from_map, in_either}
-use Rattle.network_model.specs.Network.{AreNamed, config, lists}
+use Rattle.network_model.specs.Network.{AreNamed, config}
 use Rattle.network_model.specs.Setup.{Name}
 use Rattle.compiled_laws.specs.Setups.{IsNamed}
 use Rattle.headline_laws.proofs.Lists.{contains_of, member_of}

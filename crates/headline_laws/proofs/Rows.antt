@@ -5,7 +5,6 @@ use Rattle.std.specs.Prelude.{Bool, IsTrue, cond, false, length, suc, true, ℕ,
 use Rattle.std.proofs.Common.{ap, arith, inl, inr, subst, sym, ◌*◌, ◌^◌, ◌∙◌}
 use Rattle.ov_types.specs.Prefix.{Block, host_prefix, is_inside}
 use Rattle.ov_types.specs.declared.numbers.InstanceId.{InstanceId}
-use Rattle.ov_types.specs.declared.objects.LowValue.TheVariants as low
 use Rattle.ov_types.specs.declared.rows.TableRow.{TableRow}
 use Rattle.route_targets.specs.Numbers.{circuit_instance_of, circuit_label_of, distinguisher_of, hop_instance_of, left_circuit_of, right_circuit_of}
 use Rattle.config_model.specs.Form.{has_config_form}
@@ -18,7 +17,6 @@ use Rattle.transform_model.specs.Uses.{Use as InEffect}
 use Rattle.transform_model.proofs.Circuits.{left_instance, left_number, right_instance, right_number}
 use Rattle.transform_model.proofs.InUse.{one_use}
 use Rattle.transform_model.proofs.Lists.{place_within}
-use Rattle.transform_model.proofs.Needed.{has_port}
 use Rattle.transform_model.proofs.Prefixes.{network_number}
 use Rattle.node_model.specs.Maps.{Map}
 use Rattle.node_model.specs.Members.{Member}

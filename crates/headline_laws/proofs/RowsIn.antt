@@ -6,20 +6,16 @@ use Rattle.std.proofs.Common.{ap, arith, inl, inr, refl, subst, sym, ◌∙◌}
 use Rattle.std.proofs.lemmas.Bool.{and_from, and_parts, le-leb, ltb-true}
 use Rattle.ov_types.specs.Prefix.{Block, contains, host_prefix, is_inside, size_of}
 use Rattle.ov_types.specs.declared.numbers.InstanceId.{InstanceId}
-use Rattle.ov_types.specs.declared.objects.LowValue.TheVariants as low
 use Rattle.ov_types.specs.declared.rows.TableRow.{TableRow}
 use Rattle.route_targets.specs.Numbers.{circuit_instance_of, circuit_label_of, distinguisher_of, hop_instance_of, left_circuit_of, right_circuit_of, target_of}
 use Rattle.config_model.specs.Form.{has_config_form}
 use Rattle.config_model.specs.declared.config.Network.{Network}
 use Rattle.config_check.specs.Checked.{Checked}
 use Rattle.config_check.specs.Sentences.{IsValid}
-use Rattle.transform_model.specs.IsObject.{of_use}
 use Rattle.transform_model.specs.IsRow.{HoldsPort, IsPort, IsRow, at_left_end, at_right_end, to_left_circuit, to_left_subnet, to_port, to_right_circuit, to_right_subnet}
 use Rattle.transform_model.specs.Tables.{Row as TableEntry}
 use Rattle.transform_model.proofs.Circuits.{left_instance, right_instance}
 use Rattle.transform_model.proofs.Lists.{place_within}
-use Rattle.transform_model.proofs.Needed.{has_port}
-use Rattle.node_model.specs.Agent.{attached}
 use Rattle.node_model.specs.Maps.{Map}
 use Rattle.node_model.specs.Members.{Member}
 use Rattle.node_model.specs.Paths.{Path}

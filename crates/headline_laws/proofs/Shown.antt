@@ -68,10 +68,10 @@ slice_is x a =
     ∙ ap (λ (os : List LowObject). slice_of os a) (objects-low x)
 
 -- ---- lists in order
-pairs_rise : (es : List ((InstanceId × Block) × Hop)) → AllPairs (λ r s. row_key_cmp r.0 s.0 ≡ Less) es → Rises row_key_cmp es
+pub pairs_rise : {V : Type 0} (es : List ((InstanceId × Block) × V)) → AllPairs (λ r s. row_key_cmp r.0 s.0 ≡ Less) es → Rises row_key_cmp es
 pairs_rise [] h = tt
-pairs_rise (e ∷ es) h = (
-  (λ f m. less_to (row_key_cmp e.0 f.0) (All-contains (λ (s : (InstanceId × Block) × Hop). row_key_cmp e.0 s.0 ≡ Less) es f (pairs_head (λ r s. row_key_cmp r.0 s.0 ≡ Less) e es h) (contains_of es f m))),
+pairs_rise {V = V} (e ∷ es) h = (
+  (λ f m. less_to (row_key_cmp e.0 f.0) (All-contains (λ (s : (InstanceId × Block) × V). row_key_cmp e.0 s.0 ≡ Less) es f (pairs_head (λ r s. row_key_cmp r.0 s.0 ≡ Less) e es h) (contains_of es f m))),
   pairs_rise es (pairs_tail (λ r s. row_key_cmp r.0 s.0 ≡ Less) e es h),
 )
   where
@@ -80,6 +80,9 @@ pairs_rise (e ∷ es) h = (
 
 abbrev compiled_map : Map → Addr → FinMap row_key_cmp Hop
 compiled_map feed a = from_entries {R = row_key_cmp} (map route_of (flat_map (rows_in feed) (needed_by (slice feed a))))
+
+abbrev pub entry_at : InstanceId → Block × TableRow → TableEntry
+entry_at i e = ((i, e.0), e.1)
 
 module _ (x : Checked) (form : IsTrue (has_config_form x.config)) (v : IsValid x.topology x.config) where
   abbrev feed : Map
@@ -104,9 +107,6 @@ module _ (x : Checked) (form : IsTrue (has_config_form x.config)) (v : IsValid x
 
   abbrev routes_at : Addr → List Route'
   routes_at a = map route_of (flat_map (rows_in feed) (needs a))
-
-  abbrev entry_at : InstanceId → Block × TableRow → TableEntry
-  entry_at i e = ((i, e.0), e.1)
 
   needed_is_needed : (a : Addr) (i : InstanceId) → Member i (needs a) → IsNeededThere x.topology x.config a i
   needed_is_needed a i m = (needed_iff x.topology x.config v form a i).0 (contains_of (needed_by (slice_of (low_objects x.topology x.config) a)) i (subst (λ (os : List LowObject). Member i (needed_by os)) (slice_is x a) m))

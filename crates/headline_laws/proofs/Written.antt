@@ -15,14 +15,13 @@ use Rattle.config_check.specs.Rules.{first_broken}
 use Rattle.config_check.specs.declared.edits.EditFault.TheVariants.{Missing, Rule}
 use Rattle.config_check.specs.declared.edits.EditFault.{EditFault}
 use Rattle.config_check.proofs.Validity.{valid_iff}
-use Rattle.transform_model.proofs.InUse.{named}
 use Rattle.transform_model.proofs.Needed.{asked}
 use Rattle.node_model.specs.Keys.{Key}
 use Rattle.node_model.specs.Values.{Value}
 use Rattle.node_model.proofs.Members.{none_some}
 use Rattle.network_model.specs.Events.{Event, after}
 use Rattle.network_model.specs.Moments.{ArePositive, Each}
-use Rattle.network_model.specs.Network.{View, config, sessions_of, start, view, views_of, wanted}
+use Rattle.network_model.specs.Network.{View, sessions_of, start, view, views_of, wanted}
 use Rattle.network_model.specs.Session.{Message, Session}
 use Rattle.network_model.specs.Setup.{Name, edited, edited_without}
 use Rattle.network_laws.specs.Settling.{EditsAreValid, FairMap, WantsFair}

@@ -2,16 +2,22 @@
 use Rattle.std.specs.Prelude.{◌≡◌, ℕ, List, IsTrue, true}
 use Rattle.std.specs.declared.option.Option.TheVariants.{None}
 use Rattle.ov_types.specs.declared.packet.Packet.{Packet}
+use Rattle.ov_types.specs.declared.rows.NodeId.{NodeId}
+use Rattle.ov_types.specs.declared.rows.NodeRows.TheVariants as Rows
 use Rattle.route_targets.specs.Forwarding.{forwarding}
 use Rattle.config_model.specs.Form.{has_config_form, has_topology_form}
+use Rattle.config_model.specs.declared.topology.Node.{Node}
 use Rattle.config_check.specs.Checked.{Checked}
 use Rattle.config_check.specs.Rules.{first_broken}
 use Rattle.reach_plain.specs.Reachability.{reachability}
+use Rattle.transform_model.specs.Compiled.{agent_rows}
+use Rattle.transform_model.specs.Tables.{control_rows}
+use Rattle.node_model.specs.Members.{Member}
 use Rattle.network_model.specs.Setup.{Name}
 use Rattle.network_model.specs.Session.{Message}
 use Rattle.network_model.specs.Network.{Network, start}
 use Rattle.network_model.specs.Steps.{is_settled}
-use Rattle.network_model.specs.Events.{Event, after, forwarders}
+use Rattle.network_model.specs.Events.{Event, after, forwarders, shown}
 use Rattle.network_model.specs.Moments.{ArePositive}
 use Rattle.network_laws.specs.Settling.{EditsAreValid}
 
@@ -33,6 +39,18 @@ AfterAnySchedule P =
     → (x : Checked) → IsWritten x
     → (es : List Event) → EditsAreValid size IsOfForm (start x) es
     → P size (after size (start x) es)
+
+-- once every session is up and nothing is in flight, each control node shows the tables of all instances
+abbrev pub ControlNodesShowTables : Network → Type 0
+ControlNodesShowTables w =
+    is_settled w ≡ true → (n : NodeId) → Member n w.setup.topology.controllers
+    → shown w n.name ≡ Rows.Control (control_rows w.setup.topology w.setup.config)
+
+-- and the agent of each compute node the rows of its address
+abbrev pub AgentsShowRows : Network → Type 0
+AgentsShowRows w =
+    is_settled w ≡ true → (n : Node) → Member n w.setup.topology.nodes
+    → shown w n.name ≡ Rows.Agent (agent_rows w.setup.topology w.setup.config n.address)
 
 -- once every session is up and nothing is in flight, each packet goes where policies say
 abbrev pub SettledIsReachable : Network → Type 0

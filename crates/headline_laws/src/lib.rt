@@ -2,13 +2,21 @@
 #![tactic(auto)]
 
 ghost use Rattle.compiled_laws.specs.Moments.{SettleSettles, SettlesInTime, ShowsCompiled};
-ghost use Rattle.headline_laws.specs.Headline.{AfterAnySchedule, SettledIsReachable};
+ghost use Rattle.headline_laws.specs.Headline.{AfterAnySchedule, AgentsShowRows, ControlNodesShowTables};
+ghost use Rattle.headline_laws.specs.Headline.{SettledIsReachable};
 
 /// After any schedule of edits, deliveries, losses of sessions and restarts: once every session is up and nothing is in
 /// flight, what each control node and each agent shows is exactly what the low-level objects of the configuration of
 /// that moment compile to.
 pub fn settled_networks_are_compiled()
     ensures { AfterAnySchedule (λ size w. ShowsCompiled w) }
+{}
+
+/// At such a moment each control node shows exactly the tables of all instances of the configuration of that moment,
+/// and the agent of each compute node exactly the rows that this configuration has for the node's address.
+pub fn settled_tables_are_those_of_the_configuration()
+    ensures controls { AfterAnySchedule (λ size w. ControlNodesShowTables w) }
+    ensures agents { AfterAnySchedule (λ size w. AgentsShowRows w) }
 {}
 
 /// At such a moment each packet has the outcome that policies alone give: it is delivered exactly where its ports share
