@@ -13,7 +13,8 @@ module _ {L : Type 0} (faults : L → ℕ) (links links' : List L) where
   -- the count of a session's link never fell, and rose
   abbrev pub Rises : ℕ → Type 0
   Rises i =
-      (link link' : L) → At links i link → At links' i link' → (faults link ≤ faults link') × Rose (faults link) (faults link')
+      (link link' : L) → At links i link → At links' i link'
+      → (faults link ≤ faults link') × Rose (faults link) (faults link')
 
   -- the count of the named session's link rose, and no lower one changed. Where none is named, no count changed
   abbrev pub Names : Option ℕ → Type 0

@@ -37,7 +37,8 @@ module _ {L : Type 0} (accepted : L → Option (List (List ℕ))) (breaks : L �
     pub links_are : links' ≡ slice_set links session link'
     pub delivers : Delivers accepted breaks faults messages failed link link'
 
-  -- what the pass made of one session: its link took as much of its plan as it chose. Where it failed, the end is closed
+  -- what the pass made of one session: its link took as much of its plan as it chose. Where it failed, the end is
+  -- closed
   pub record ServedAt (plans : List Plan) (posts posts' : List Post) (links links' : List L) (lowest : Option ℕ) (i : ℕ)
       : Type 0 where
     pub plan : Plan
