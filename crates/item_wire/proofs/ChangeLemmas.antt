@@ -15,7 +15,9 @@ use Rattle.route_targets.specs.Numbers.{port_label_of, circuit_label_of}
 use Rattle.item_wire.specs.declared.item.Item.{Item}
 use Rattle.item_wire.specs.declared.item.Item.TheVariants as I
 use Rattle.item_wire.specs.Inputs.{is_of_feed, is_of_control, is_of_agent}
-use Rattle.item_wire.specs.Changes.{DownValue, Object, Row, UpValue, Behind, Wanted, has_key, fed, item_fed, told, item_told, said, item_said}
+use Rattle.ov_types.specs.declared.keys.DownValue.{DownValue}
+use Rattle.ov_types.specs.declared.keys.DownValue.TheVariants.{Object, Row}
+use Rattle.item_wire.specs.Changes.{UpValue, Behind, Wanted, has_key, fed, item_fed, told, item_told, said, item_said}
 
 itself : (n : ℕ) → (n == n) ≡ true
 itself n = eq-eqb n n refl

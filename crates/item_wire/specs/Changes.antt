@@ -4,6 +4,8 @@
 use Rattle.std.specs.Prelude.{◌==◌, Bool, true, false, Option, Some, None, if◌then◌else◌}
 use Rattle.ov_types.specs.declared.keys.DownKey.{DownKey}
 use Rattle.ov_types.specs.declared.keys.DownKey.TheVariants as Down
+use Rattle.ov_types.specs.declared.keys.DownValue.{DownValue}
+use Rattle.ov_types.specs.declared.keys.DownValue.TheVariants.{Object, Row}
 use Rattle.ov_types.specs.declared.keys.UpKey.{UpKey}
 use Rattle.ov_types.specs.declared.keys.UpKey.TheVariants as Up
 use Rattle.ov_types.specs.declared.numbers.Label.{Label}
@@ -11,17 +13,11 @@ use Rattle.ov_types.specs.declared.objects.LowKey.{LowKey}
 use Rattle.ov_types.specs.declared.objects.LowKey.TheVariants as Key
 use Rattle.ov_types.specs.declared.objects.LowValue.{LowValue}
 use Rattle.ov_types.specs.declared.objects.LowValue.TheVariants as Value
-use Rattle.ov_types.specs.declared.rows.Entry.{Entry}
 use Rattle.ov_sync.specs.declared.Delta.{Delta}
 use Rattle.ov_sync.specs.declared.Delta.TheVariants.{Put, Drop}
 use Rattle.route_targets.specs.Numbers.{port_label_of, circuit_label_of}
 use Rattle.item_wire.specs.declared.item.Item.{Item}
 use Rattle.item_wire.specs.declared.item.Item.TheVariants as I
-
--- what a control node tells an agent: an object of its slice, or a row
-pub data DownValue : Type 0 where
-  Object : LowValue → DownValue
-  Row : Entry → DownValue
 
 -- what an agent tells a control node: the label of a publication, or of a subscription nothing
 pub data UpValue : Type 0 where

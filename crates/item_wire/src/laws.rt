@@ -3,6 +3,7 @@ ghost use Rattle.std.specs.Prelude.{◌≡◌, ◌≤◌, ◌++◌, ℕ, List, l
 ghost use Rattle.ov_sync.specs.declared.Delta.{Delta};
 ghost use Rattle.ov_sync.specs.declared.Delta.TheVariants.{Put};
 ghost use Rattle.ov_types.specs.declared.keys.DownKey.{DownKey};
+ghost use Rattle.ov_types.specs.declared.keys.DownValue.{DownValue};
 ghost use Rattle.ov_types.specs.declared.keys.UpKey.{UpKey};
 ghost use Rattle.ov_types.specs.declared.objects.LowKey.{LowKey};
 ghost use Rattle.ov_types.specs.declared.objects.LowValue.{LowValue};
@@ -12,7 +13,7 @@ ghost use Rattle.item_wire.specs.declared.event.ItemState.{ItemState};
 ghost use Rattle.item_wire.specs.declared.input.Came.{Came as CameTo};
 ghost use Rattle.item_wire.specs.declared.fault.Field.{Field as Member};
 ghost use Rattle.item_wire.specs.declared.item.Item.{Item as Record};
-ghost use Rattle.item_wire.specs.Changes.{DownValue, UpValue, has_key, fed, item_fed, told, item_told, said, item_said};
+ghost use Rattle.item_wire.specs.Changes.{UpValue, has_key, fed, item_fed, told, item_told, said, item_said};
 ghost use Rattle.item_wire.specs.Frames.{framed, frame_of};
 ghost use Rattle.item_wire.specs.Happenings.{next_state, next_event};
 ghost use Rattle.item_wire.specs.Inputs.{is_of_feed, is_of_control, is_of_agent};

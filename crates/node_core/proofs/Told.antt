@@ -11,7 +11,7 @@ use Rattle.std.specs.FinMap.{empty}
 use Rattle.ov_types.specs.Counts.{Rose}
 use Rattle.ov_link.specs.Delivery.{Delivers}
 use Rattle.node_model.specs.Maps.{difference}
-use Rattle.node_model.specs.Step.{At, Event, Idle, Kind, Post, StepAt, Steps, begun, changes, end_of, nothing, post, told_all}
+use Rattle.node_model.specs.Step.{At, Begun, Idle, Kind, Post, StepAt, Steps, begun, changes, end_of, nothing, post, told_all}
 use Rattle.node_core.specs.declared.ends.Plan.{Plan}
 use Rattle.node_core.specs.Plans.{ArePlans}
 use Rattle.node_core.specs.Passing.{Passes, ServedAt, Serves, closed_if, earlier}
@@ -121,12 +121,12 @@ module _ (k : Kind) where
       ∙ ap (λ b. if b then record nothing { sent = k.wanted posts i } else nothing) silent
 
   -- how the ends stand as the pass begins
-  begun_is : (fails : Bool) (before posts : List Post) (session : ℕ) (event : Event)
-      → posts ≡ set before session (end_of (k.begins session (post before session) event).after)
-      → closed_if fails posts session ≡ begun k before session event fails
-  begun_is true before posts session event e =
+  begun_is : (fails : Bool) (before posts : List Post) (session : ℕ) (given : Begun)
+      → posts ≡ set before session (end_of given.after)
+      → closed_if fails posts session ≡ begun before session given fails
+  begun_is true before posts session given e =
       ap (λ ps. set ps session nothing) e ∙ set-set before session _ nothing
-  begun_is false before posts session event e = e
+  begun_is false before posts session given e = e
 
   module _ {L : Type 0} (accepted : L → Option (List (List ℕ))) (breaks : L → Option (List ℕ)) (faults : L → ℕ)
       (replies : List (List ℕ)) where
@@ -273,12 +273,12 @@ module _ (k : Kind) where
       )
 
   module _ {L : Type 0} (accepted : L → Option (List (List ℕ))) (breaks : L → Option (List ℕ)) (faults : L → ℕ)
-      (before posts' : List Post) (session : ℕ) (event : Event) (fails : Bool) (links links' : List L)
+      (before posts' : List Post) (session : ℕ) (given : Begun) (fails : Bool) (links links' : List L)
       (lowest : Option ℕ) where
     step_at : (i : ℕ)
-        → ToldAt accepted breaks faults (k.begins session (post before session) event).replies
-        (begun k before session event fails) posts' session fails links links' lowest i
-        → StepAt k accepted breaks faults before posts' session event fails links links' lowest i
+        → ToldAt accepted breaks faults given.replies
+        (begun before session given fails) posts' session fails links links' lowest i
+        → StepAt k accepted breaks faults before posts' session given fails links links' lowest i
     step_at i t = record {
       link = t.link;
       link' = t.link';
@@ -303,15 +303,15 @@ module _ (k : Kind) where
       pub kept : length posts' ≡ length posts
 
     -- sessions that were told so make a step of the node
-    pub told_steps : (before : List Post) (event : Event) → HasBegun k before session event replies posts → Told
-        → Steps k accepted breaks faults before posts' session event links links' lowest
-    told_steps before event h t =
+    pub told_steps : (before : List Post) (given : Begun) → HasBegun before session given replies posts → Told
+        → Steps k accepted breaks faults before posts' session given links links' lowest
+    told_steps before given h t =
         let long : length posts ≡ length before = ap length h.applied ∙ length-set before session _ in
-        let start_is = begun_is t.fails before posts session event h.applied in
+        let start_is = begun_is t.fails before posts session given h.applied in
         record {
           fails = t.fails;
-          each = λ i lt. step_at accepted breaks faults before posts' session event t.fails links links' lowest i
-              (subst (λ rs. ToldAt accepted breaks faults rs (begun k before session event t.fails) posts' session t.fails
+          each = λ i lt. step_at accepted breaks faults before posts' session given t.fails links links' lowest i
+              (subst (λ rs. ToldAt accepted breaks faults rs (begun before session given t.fails) posts' session t.fails
               links links' lowest i) h.replied
               (subst (λ ps. ToldAt accepted breaks faults replies ps posts' session t.fails links links' lowest i) start_is
               (t.each i (omega (arith, lt, long)))));

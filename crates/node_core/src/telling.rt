@@ -1,6 +1,6 @@
 //! The replies of a step, and then one pass over all sessions.
 ghost use Rattle.std.specs.Prelude.{◌≡◌, ◌<◌, ℕ, List, length, IfOk};
-ghost use Rattle.node_model.specs.Step.{Event, Post, Steps};
+ghost use Rattle.node_model.specs.Step.{Begun, Post, Steps};
 ghost use Rattle.node_core.specs.Passing.{Passes, Serves, closed_if, earlier, noted};
 ghost use Rattle.node_core.specs.Begun.{HasBegun};
 ghost use Rattle.node_core.specs.Naming.{Names};
@@ -100,9 +100,9 @@ pub fn tell<E: Ends, L: Link>(
     ensures kind { E.kind ends.new ≡ E.kind ends.old }
     ensures sessions { length (E.posts ends.new) ≡ length (E.posts ends.old) }
     ensures links { length links.new ≡ length links.old }
-    ensures steps { IfOk result (λ lowest. (before : List Post) (event : Event)
-        → HasBegun (E.kind ends.old) before session event replies.now (E.posts ends.old)
-        → Steps (E.kind ends.old) L.accepted L.breaks L.faults before (E.posts ends.new) session event links.old
+    ensures steps { IfOk result (λ lowest. (before : List Post) (given : Begun)
+        → HasBegun before session given replies.now (E.posts ends.old)
+        → Steps (E.kind ends.old) L.accepted L.breaks L.faults before (E.posts ends.new) session given links.old
         links.new lowest) }
     ensures names { IfOk result (λ lowest. Names L.faults links.old links.new lowest) }
 {

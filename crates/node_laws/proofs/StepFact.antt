@@ -12,23 +12,23 @@ use Rattle.std.proofs.Math.Seq.{take-append_seam}
 use Rattle.std.proofs.Common.{refl, sym, ◌∙◌, ap, subst, arith}
 use Rattle.ov_link.specs.Delivery.{Took, Delivers}
 use Rattle.node_model.specs.Maps.{difference}
-use Rattle.node_model.specs.Step.{Event, Kind, Post, StepAt, Steps, begun, changes, end_of, nothing, planned, post, replies, told_all}
+use Rattle.node_model.specs.Step.{Begun, Kind, Post, StepAt, Steps, begun, changes, end_of, nothing, planned, post, replies, told_all}
 use Rattle.node_model.proofs.Members.{none_some}
 use Rattle.node_laws.specs.Stepped.{IsPassStart, IsPlan, IsLeft, IsLowest, TakesFront, SteppedAt, Stepped}
 
-module _ (k : Kind) (posts : List Post) (session : ℕ) (event : Event) where
-  starts_of : (fails : Bool) → IsPassStart k posts (begun k posts session event fails) session event fails
+module _ (k : Kind) (posts : List Post) (session : ℕ) (given : Begun) where
+  starts_of : (fails : Bool) → IsPassStart posts (begun posts session given fails) session given fails
   starts_of fails = record {
-    long = length-set posts session (cond fails nothing (end_of (k.begins session (post posts session) event).after));
-    others = λ i apart. get_or-set_other posts session i (cond fails nothing (end_of (k.begins session (post posts session) event).after)) nothing apart;
-    input = λ h e. get_or-set_same posts session (cond fails nothing (end_of (k.begins session (post posts session) event).after)) nothing h ∙ ap (λ b. cond b nothing (end_of (k.begins session (post posts session) event).after)) e;
-    closed = λ h e. get_or-set_same posts session (cond fails nothing (end_of (k.begins session (post posts session) event).after)) nothing h ∙ ap (λ b. cond b nothing (end_of (k.begins session (post posts session) event).after)) e;
+    long = length-set posts session (cond fails nothing (end_of given.after));
+    others = λ i apart. get_or-set_other posts session i (cond fails nothing (end_of given.after)) nothing apart;
+    input = λ h e. get_or-set_same posts session (cond fails nothing (end_of given.after)) nothing h ∙ ap (λ b. cond b nothing (end_of given.after)) e;
+    closed = λ h e. get_or-set_same posts session (cond fails nothing (end_of given.after)) nothing h ∙ ap (λ b. cond b nothing (end_of given.after)) e;
   }
 
-  plan_of : (start : List Post) (i : ℕ) → IsPlan k posts start session event i (replies k posts session event i) (changes k start i)
+  plan_of : (start : List Post) (i : ℕ) → IsPlan k posts start session given i (replies session given i) (changes k start i)
   plan_of start i = record {
-    here = λ e. ap (λ b. cond b (k.begins session (post posts session) event).replies []) (eq-eqb i session e);
-    elsewhere = λ apart. elim (i == session) as (λ b. (i == session) ≡ b → cond b (k.begins session (post posts session) event).replies [] ≡ []) [
+    here = λ e. ap (λ b. cond b given.replies []) (eq-eqb i session e);
+    elsewhere = λ apart. elim (i == session) as (λ b. (i == session) ≡ b → cond b given.replies [] ≡ []) [
       | true ↦ λ e. absurd (apart (eqb-true i session e))
       | false ↦ λ _. refl
     ] refl;
@@ -121,9 +121,9 @@ module _ {L : Type 0} (accepted : L → Option (List (List ℕ))) (breaks : L �
       all_taken : (f n r : ℕ) → n ≡ f + r → r ≡ 0 → n ≤ f
       all_taken f n r e z = omega arith
 
-  module _ (k : Kind) (posts posts' : List Post) (session : ℕ) (event : Event) (links links' : List L) (lowest : Option ℕ) where
+  module _ (k : Kind) (posts posts' : List Post) (session : ℕ) (given : Begun) (links links' : List L) (lowest : Option ℕ) where
     abbrev Each : Bool → Type 0
-    Each fails = (i : ℕ) → i < length posts → StepAt k accepted breaks faults posts posts' session event fails links links' lowest i
+    Each fails = (i : ℕ) → i < length posts → StepAt k accepted breaks faults posts posts' session given fails links links' lowest i
 
     -- whether the link of a session failed
     failed_when : (fails : Bool) → Each fails → (i : ℕ) (b : Bool) → nat_lt i (length posts) ≡ b → Bool
@@ -135,7 +135,7 @@ module _ {L : Type 0} (accepted : L → Option (List (List ℕ))) (breaks : L �
 
     -- a session with its step
     record Found (fails failed : Bool) (i : ℕ) : Type 0 where
-      at : StepAt k accepted breaks faults posts posts' session event fails links links' lowest i
+      at : StepAt k accepted breaks faults posts posts' session given fails links links' lowest i
       is : failed ≡ at.failed
 
     found_when : (fails : Bool) (each : Each fails) (i : ℕ) (b : Bool) (e : nat_lt i (length posts) ≡ b) → b ≡ true → Found fails (failed_when fails each i b e) i
@@ -147,26 +147,26 @@ module _ {L : Type 0} (accepted : L → Option (List (List ℕ))) (breaks : L �
     unfolding failed_at
     found_at fails each i h = found_when fails each i (nat_lt i (length posts)) refl (lt-ltb i (length posts) h)
 
-    stepped_at : (fails failed : Bool) (i : ℕ) → Found fails failed i → SteppedAt accepted breaks faults k posts (begun k posts session event fails) posts' session event fails failed links links' i
+    stepped_at : (fails failed : Bool) (i : ℕ) → Found fails failed i → SteppedAt accepted breaks faults k posts (begun posts session given fails) posts' session given fails failed links links' i
     stepped_at fails failed i f =
         let s = f.at in
-        let start : List Post = begun k posts session event fails in
-        let plan : List (List ℕ) = planned k posts session event fails i in
-        subst (λ b. SteppedAt accepted breaks faults k posts start posts' session event fails b links links' i) (sym f.is) (record {
+        let start : List Post = begun posts session given fails in
+        let plan : List (List ℕ) = planned k posts session given fails i in
+        subst (λ b. SteppedAt accepted breaks faults k posts start posts' session given fails b links links' i) (sym f.is) (record {
           link = s.link;
           link' = s.link';
           link_at = s.link_at;
           link'_at = s.link'_at;
-          replies = replies k posts session event i;
+          replies = replies session given i;
           changes = changes k start i;
           front = take s.delivers.count plan;
-          plan = plan_of k posts session event start i;
+          plan = plan_of k posts session given start i;
           takes = takes_of plan s.failed s.link s.link' s.delivers;
           reply = λ e. (
-            (λ t. subst (λ n. n < length (replies k posts session event i)) (sym (length_taken s.delivers.count plan s.delivers.within)) (ltb-true s.delivers.count (length (replies k posts session event i)) (sym (s.reply e) ∙ t))),
-            (λ h. s.reply e ∙ lt-ltb s.delivers.count (length (replies k posts session event i)) (subst (λ n. n < length (replies k posts session event i)) (length_taken s.delivers.count plan s.delivers.within) h)),
+            (λ t. subst (λ n. n < length (replies session given i)) (sym (length_taken s.delivers.count plan s.delivers.within)) (ltb-true s.delivers.count (length (replies session given i)) (sym (s.reply e) ∙ t))),
+            (λ h. s.reply e ∙ lt-ltb s.delivers.count (length (replies session given i)) (subst (λ n. n < length (replies session given i)) (length_taken s.delivers.count plan s.delivers.within) h)),
           );
-          left = left_of k posts session event start i s.failed (post posts' i) s.end;
+          left = left_of k posts session given start i s.failed (post posts' i) s.end;
         })
 
     -- which session is named
@@ -214,25 +214,25 @@ module _ {L : Type 0} (accepted : L → Option (List (List ℕ))) (breaks : L �
             let f = found_at fails each s low in
             absurd (f.at.unnamed (sym f.is ∙ all s low) e)
 
-    stepped : Steps k accepted breaks faults posts posts' session event links links' lowest → Stepped accepted breaks faults k posts posts' session event links links' lowest
+    stepped : Steps k accepted breaks faults posts posts' session given links links' lowest → Stepped accepted breaks faults k posts posts' session given links links' lowest
     stepped st = record {
-      start = begun k posts session event st.fails;
+      start = begun posts session given st.fails;
       reply_failed = st.fails;
       failed = failed_at st.fails st.each;
-      starts = starts_of k posts session event st.fails;
+      starts = starts_of k posts session given st.fails;
       each = λ i h. stepped_at st.fails (failed_at st.fails st.each i) i (found_at st.fails st.each i h);
       lowest_is = lowest_of st.fails st.each st.low;
       long = st.long;
     }
 
     -- ---- and back
-    replies_are : (start : List Post) (i : ℕ) (rs cs : List (List ℕ)) → IsPlan k posts start session event i rs cs → rs ≡ replies k posts session event i
-    replies_are start i rs cs p = elim (i == session) as (λ b. (i == session) ≡ b → rs ≡ cond b (k.begins session (post posts session) event).replies []) [
+    replies_are : (start : List Post) (i : ℕ) (rs cs : List (List ℕ)) → IsPlan k posts start session given i rs cs → rs ≡ replies session given i
+    replies_are start i rs cs p = elim (i == session) as (λ b. (i == session) ≡ b → rs ≡ cond b given.replies []) [
       | true ↦ λ e. p.here (eqb-true i session e)
       | false ↦ λ e. p.elsewhere (λ same. true≢false (sym (eq-eqb i session same) ∙ e))
     ] refl
 
-    changes_are : (start : List Post) (i : ℕ) (rs cs : List (List ℕ)) → IsPlan k posts start session event i rs cs → cs ≡ changes k start i
+    changes_are : (start : List Post) (i : ℕ) (rs cs : List (List ℕ)) → IsPlan k posts start session given i rs cs → cs ≡ changes k start i
     changes_are start i rs cs p = elim (k.may_send i (post start i).phase) as (λ b. k.may_send i (post start i).phase ≡ b → cs ≡ cond b (map (k.spelled i) (difference (post start i).sent (k.wanted start i))) []) [
       | true ↦ λ e. p.told e
       | false ↦ λ e. p.silent e
@@ -245,33 +245,33 @@ module _ {L : Type 0} (accepted : L → Option (List (List ℕ))) (breaks : L �
       | false ↦ λ e. (λ x. record { phase = l.phase refl x; sent = l.silent refl e x; held = l.held refl x })
     ] refl
 
-    start_is : (start : List Post) (fails : Bool) → IsPassStart k posts start session event fails → start ≡ begun k posts session event fails
-    start_is start fails s = same_lists start (begun k posts session event fails) (s.long ∙ sym (starts_of k posts session event fails).long) same_at
+    start_is : (start : List Post) (fails : Bool) → IsPassStart posts start session given fails → start ≡ begun posts session given fails
+    start_is start fails s = same_lists start (begun posts session given fails) (s.long ∙ sym (starts_of k posts session given fails).long) same_at
       where
-        input_post : (h : session < length posts) (b : Bool) → fails ≡ b → post start session ≡ post (begun k posts session event fails) session
-        input_post h true e = s.closed h e ∙ sym ((starts_of k posts session event fails).closed h e)
-        input_post h false e = s.input h e ∙ sym ((starts_of k posts session event fails).input h e)
+        input_post : (h : session < length posts) (b : Bool) → fails ≡ b → post start session ≡ post (begun posts session given fails) session
+        input_post h true e = s.closed h e ∙ sym ((starts_of k posts session given fails).closed h e)
+        input_post h false e = s.input h e ∙ sym ((starts_of k posts session given fails).input h e)
 
-        here : (i : ℕ) → i ≡ session → i < length posts → post start i ≡ post (begun k posts session event fails) i
-        here i e h = subst (λ j. post start j ≡ post (begun k posts session event fails) j) (sym e) (input_post (subst (λ j. j < length posts) e h) fails refl)
+        here : (i : ℕ) → i ≡ session → i < length posts → post start i ≡ post (begun posts session given fails) i
+        here i e h = subst (λ j. post start j ≡ post (begun posts session given fails) j) (sym e) (input_post (subst (λ j. j < length posts) e h) fails refl)
 
-        same_post : (i : ℕ) → i < length posts → post start i ≡ post (begun k posts session event fails) i
-        same_post i h = elim (i == session) as (λ b. (i == session) ≡ b → post start i ≡ post (begun k posts session event fails) i) [
+        same_post : (i : ℕ) → i < length posts → post start i ≡ post (begun posts session given fails) i
+        same_post i h = elim (i == session) as (λ b. (i == session) ≡ b → post start i ≡ post (begun posts session given fails) i) [
           | true ↦ λ e. here i (eqb-true i session e) h
-          | false ↦ λ e. let apart : i ≢ session = λ same. true≢false (sym (eq-eqb i session same) ∙ e) in s.others i apart ∙ sym ((starts_of k posts session event fails).others i apart)
+          | false ↦ λ e. let apart : i ≢ session = λ same. true≢false (sym (eq-eqb i session same) ∙ e) in s.others i apart ∙ sym ((starts_of k posts session given fails).others i apart)
         ] refl
 
-        same_at : (i : ℕ) (d : Post) → i < length start → slice_index_or start i d ≡ slice_index_or (begun k posts session event fails) i d
+        same_at : (i : ℕ) (d : Post) → i < length start → slice_index_or start i d ≡ slice_index_or (begun posts session given fails) i d
         same_at i d h =
             let under : i < length posts = subst (λ n. i < n) s.long h in
-            get_or_default start i d nothing h ∙ same_post i under ∙ get_or_default (begun k posts session event fails) i nothing d (subst (λ n. i < n) (sym (starts_of k posts session event fails).long) under)
+            get_or_default start i d nothing h ∙ same_post i under ∙ get_or_default (begun posts session given fails) i nothing d (subst (λ n. i < n) (sym (starts_of k posts session given fails).long) under)
 
-    step_at : (start : List Post) (fails : Bool) (failed : ℕ → Bool) → start ≡ begun k posts session event fails → IsLowest (length posts) failed lowest
-        → (i : ℕ) → i < length posts → SteppedAt accepted breaks faults k posts start posts' session event fails (failed i) links links' i
-        → StepAt k accepted breaks faults posts posts' session event fails links links' lowest i
+    step_at : (start : List Post) (fails : Bool) (failed : ℕ → Bool) → start ≡ begun posts session given fails → IsLowest (length posts) failed lowest
+        → (i : ℕ) → i < length posts → SteppedAt accepted breaks faults k posts start posts' session given fails (failed i) links links' i
+        → StepAt k accepted breaks faults posts posts' session given fails links links' lowest i
     step_at start fails failed is low i h s =
-        let plan : s.replies ++ s.changes ≡ planned k posts session event fails i = (λ x. replies_are start i s.replies s.changes s.plan x ++ (changes_are start i s.replies s.changes s.plan ∙ ap (λ ps. changes k ps i) is) x) in
-        let d = delivers_of (planned k posts session event fails i) s.front (failed i) s.link s.link' (subst (λ (m : List (List ℕ)). TakesFront accepted breaks faults m s.front (failed i) s.link s.link') plan s.takes) in
+        let plan : s.replies ++ s.changes ≡ planned k posts session given fails i = (λ x. replies_are start i s.replies s.changes s.plan x ++ (changes_are start i s.replies s.changes s.plan ∙ ap (λ ps. changes k ps i) is) x) in
+        let d = delivers_of (planned k posts session given fails i) s.front (failed i) s.link s.link' (subst (λ (m : List (List ℕ)). TakesFront accepted breaks faults m s.front (failed i) s.link s.link') plan s.takes) in
         record {
           link = s.link;
           link' = s.link';
@@ -279,7 +279,7 @@ module _ {L : Type 0} (accepted : L → Option (List (List ℕ))) (breaks : L �
           link_at = s.link_at;
           link'_at = s.link'_at;
           delivers = d.0;
-          reply = λ e. reply_is fails (d.0).count (length s.front) (length s.replies) (length (replies k posts session event i)) d.1 (ap length (replies_are start i s.replies s.changes s.plan)) (s.reply e);
+          reply = λ e. reply_is fails (d.0).count (length s.front) (length s.replies) (length (replies session given i)) d.1 (ap length (replies_are start i s.replies s.changes s.plan)) (s.reply e);
           end = end_is start i (failed i) (post posts' i) s.left ∙ ap (λ ps. cond (failed i) nothing (told_all k ps i)) is;
           named = λ f. named_below lowest refl f;
           unnamed = λ f e. true≢false (sym (low.named i e).1 ∙ f);
@@ -300,7 +300,7 @@ module _ {L : Type 0} (accepted : L → Option (List (List ℕ))) (breaks : L �
             not_above : (s i : ℕ) → (i < s → ⊥) → s ≤ i
             not_above s i f = grind (arith, f)
 
-    steps : Stepped accepted breaks faults k posts posts' session event links links' lowest → Steps k accepted breaks faults posts posts' session event links links' lowest
+    steps : Stepped accepted breaks faults k posts posts' session given links links' lowest → Steps k accepted breaks faults posts posts' session given links links' lowest
     steps s = record {
       fails = s.reply_failed;
       each = λ i h. step_at s.start s.reply_failed s.failed (start_is s.start s.reply_failed s.starts) s.lowest_is i h (s.each i h);
@@ -312,5 +312,5 @@ module _ {L : Type 0} (accepted : L → Option (List (List ℕ))) (breaks : L �
         within None e = tt
         within (Some t) e = (s.lowest_is.named t e).0
 
-    pub step_is : Steps k accepted breaks faults posts posts' session event links links' lowest ↔ Stepped accepted breaks faults k posts posts' session event links links' lowest
+    pub step_is : Steps k accepted breaks faults posts posts' session given links links' lowest ↔ Stepped accepted breaks faults k posts posts' session given links links' lowest
     step_is = (stepped, steps)

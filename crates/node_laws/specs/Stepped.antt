@@ -4,23 +4,23 @@ use Rattle.std.specs.declared.option.Option.{Option}
 use Rattle.std.specs.declared.option.Option.TheVariants.{Some, None}
 use Rattle.ov_link.specs.Delivery.{Took}
 use Rattle.node_model.specs.Maps.{difference}
-use Rattle.node_model.specs.Step.{At, Event, Kind, Post, end_of, nothing, post}
+use Rattle.node_model.specs.Step.{At, Begun, Kind, Post, end_of, nothing, post}
 
 -- the ends as the pass begins: each is as it was before the step, but for the input's own. That is what the input made
 -- of it, and closed where a reply failed
-pub record IsPassStart (k : Kind) (posts start : List Post) (session : ℕ) (event : Event) (reply_failed : Bool) : Type 0
+pub record IsPassStart (posts start : List Post) (session : ℕ) (given : Begun) (reply_failed : Bool) : Type 0
   where
     pub long : length start ≡ length posts
     pub others : (i : ℕ) → i ≢ session → post start i ≡ post posts i
     pub input : session < length posts → reply_failed ≡ false
-        → post start session ≡ end_of (k.begins session (post posts session) event).after
+        → post start session ≡ end_of given.after
     pub closed : session < length posts → reply_failed ≡ true → post start session ≡ nothing
 
 -- what a session is to be told: the replies on the input's session alone, and, where it may send as the pass begins,
 -- the changes from what was sent there to what the ends want as the pass begins
-pub record IsPlan (k : Kind) (posts start : List Post) (session : ℕ) (event : Event) (i : ℕ)
+pub record IsPlan (k : Kind) (posts start : List Post) (session : ℕ) (given : Begun) (i : ℕ)
     (replies changes : List (List ℕ)) : Type 0 where
-  pub here : i ≡ session → replies ≡ (k.begins session (post posts session) event).replies
+  pub here : i ≡ session → replies ≡ given.replies
   pub elsewhere : i ≢ session → replies ≡ []
   pub told : k.may_send i (post start i).phase ≡ true
       → changes ≡ map (k.spelled i) (difference (post start i).sent (k.wanted start i))
@@ -51,7 +51,7 @@ module _ {L : Type 0} (accepted : L → Option (List (List ℕ))) (breaks : L �
 
   module _ (k : Kind) where
     -- one session in a step. The input's reply failed exactly where fewer messages were taken there than were replied
-    pub record SteppedAt (posts start posts' : List Post) (session : ℕ) (event : Event) (reply_failed failed : Bool)
+    pub record SteppedAt (posts start posts' : List Post) (session : ℕ) (given : Begun) (reply_failed failed : Bool)
         (links links' : List L) (i : ℕ) : Type 0 where
       pub link : L
       pub link' : L
@@ -60,20 +60,20 @@ module _ {L : Type 0} (accepted : L → Option (List (List ℕ))) (breaks : L �
       pub replies : List (List ℕ)
       pub changes : List (List ℕ)
       pub front : List (List ℕ)
-      pub plan : IsPlan k posts start session event i replies changes
+      pub plan : IsPlan k posts start session given i replies changes
       pub takes : TakesFront (replies ++ changes) front failed link link'
       pub reply : i ≡ session → (reply_failed ≡ true) ↔ (length front < length replies)
       pub left : IsLeft k start i failed (post posts' i)
 
     -- one step: a single list of ends, those as the pass begins, decides what every session is told, whichever links
     -- fail
-    pub record Stepped (posts posts' : List Post) (session : ℕ) (event : Event) (links links' : List L)
+    pub record Stepped (posts posts' : List Post) (session : ℕ) (given : Begun) (links links' : List L)
         (lowest : Option ℕ) : Type 0 where
       pub start : List Post
       pub reply_failed : Bool
       pub failed : ℕ → Bool
-      pub starts : IsPassStart k posts start session event reply_failed
+      pub starts : IsPassStart posts start session given reply_failed
       pub each : (i : ℕ) → i < length posts
-          → SteppedAt posts start posts' session event reply_failed (failed i) links links' i
+          → SteppedAt posts start posts' session given reply_failed (failed i) links links' i
       pub lowest_is : IsLowest (length posts) failed lowest
       pub long : length posts' ≡ length posts

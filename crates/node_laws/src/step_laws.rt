@@ -5,7 +5,7 @@ ghost use Rattle.std.specs.FinMap.{get};
 ghost use Rattle.ov_sync.specs.Keyed.{after, is_changed};
 ghost use Rattle.node_model.specs.Keys.{Key, key_cmp};
 ghost use Rattle.node_model.specs.Maps.{Map, difference};
-ghost use Rattle.node_model.specs.Step.{Event, Kind, Post, Steps};
+ghost use Rattle.node_model.specs.Step.{Begun, Kind, Post, Steps};
 ghost use Rattle.node_laws.specs.Stepped.{Stepped};
 
 /// The changes that a session is told lead from what was sent to what is wanted, and are of the keys at which these
@@ -22,7 +22,7 @@ pub fn changes_lead_to_what_is_wanted()
 /// that may not is told nothing but replies. But for the input's, it keeps its phase and what it holds.
 pub fn steps_tell_what_was_wanted<L>()
     ensures { (accepted : L → Option (List (List ℕ))) (breaks : L → Option (List ℕ)) (faults : L → ℕ)
-        → (k : Kind) (posts after : List Post) (session : ℕ) (event : Event) (links left : List L) (lowest : Option ℕ)
-        → Steps k accepted breaks faults posts after session event links left lowest
-        ↔ Stepped accepted breaks faults k posts after session event links left lowest }
+        → (k : Kind) (posts after : List Post) (session : ℕ) (given : Begun) (links left : List L) (lowest : Option ℕ)
+        → Steps k accepted breaks faults posts after session given links left lowest
+        ↔ Stepped accepted breaks faults k posts after session given links left lowest }
 {}

@@ -29,12 +29,6 @@ nothing = record { phase = Idle; sent = empty; held = empty }
 abbrev pub post : List Post → ℕ → Post
 post posts i = slice_index_or posts i nothing
 
--- what happens on a session
-pub data Event : Type 0 where
-  Opening : Event
-  Octets : List ℕ → Event
-  Closing : Event
-
 -- what an input makes of its end: what is replied, and the end after it. Where it goes down, what it replied before is
 -- sent, and then its notification where it has one, and there is no end after it
 pub record Begun : Type 0 where
@@ -45,17 +39,24 @@ abbrev pub end_of : Option Post → Post
 end_of None = nothing
 end_of (Some p) = p
 
--- a kind of node: what it wants a session to have been told, on which sessions it may send changes, how a change is
--- spelled there, and what an input makes of its end
+-- a kind of node: what it wants a session to have been told, on which sessions it may send changes, and how a change is
+-- spelled there
 pub record Kind : Type 0 where
   pub wanted : List Post → ℕ → Map
   pub may_send : ℕ → Phase → Bool
   pub spelled : ℕ → Change → List ℕ
-  pub begins : ℕ → Post → Event → Begun
 
 -- x stands at place i
 abbrev pub At : {X : Type 0} → List X → ℕ → X → Type 0
 At {X} xs i x = (d : X) → slice_index_or xs i d ≡ x
+
+-- the replies of an input are sent on its session alone
+abbrev pub replies : ℕ → Begun → ℕ → List (List ℕ)
+replies session given i = if i == session then given.replies else []
+
+-- the ends as the pass begins. A reply that fails closes the end before the pass
+abbrev pub begun : List Post → ℕ → Begun → Bool → List Post
+begun posts session given fails = slice_set posts session (if fails then nothing else end_of given.after)
 
 module _ (k : Kind) where
   -- the changes that a session is still to be told
@@ -69,37 +70,30 @@ module _ (k : Kind) where
   told_all posts i =
       if k.may_send i (post posts i).phase then record (post posts i) { sent = k.wanted posts i } else post posts i
 
-  abbrev pub replies : List Post → ℕ → Event → ℕ → List (List ℕ)
-  replies posts session event i = if i == session then (k.begins session (post posts session) event).replies else []
-
-  -- the ends as the pass begins. A reply that fails closes the end before the pass
-  abbrev pub begun : List Post → ℕ → Event → Bool → List Post
-  begun posts session event fails =
-      slice_set posts session (if fails then nothing else end_of (k.begins session (post posts session) event).after)
-
   -- what a session is to be told in this step: the replies, and then what the holdings want as the pass begins
-  abbrev pub planned : List Post → ℕ → Event → Bool → ℕ → List (List ℕ)
-  planned posts session event fails i = replies posts session event i ++ changes (begun posts session event fails) i
+  abbrev pub planned : List Post → ℕ → Begun → Bool → ℕ → List (List ℕ)
+  planned posts session given fails i = replies session given i ++ changes (begun posts session given fails) i
 
   module _ {L : Type 0} (accepted : L → Option (List (List ℕ))) (breaks : L → Option (List ℕ)) (faults : L → ℕ) where
     -- one session in a step: its link took as many of its messages as it chose. Where it failed, the end is closed
-    pub record StepAt (posts posts' : List Post) (session : ℕ) (event : Event) (fails : Bool) (links links' : List L)
+    pub record StepAt (posts posts' : List Post) (session : ℕ) (given : Begun) (fails : Bool) (links links' : List L)
         (lowest : Option ℕ) (i : ℕ) : Type 0 where
       pub link : L
       pub link' : L
       pub failed : Bool
       pub link_at : At links i link
       pub link'_at : At links' i link'
-      pub delivers : Delivers accepted breaks faults (planned posts session event fails i) failed link link'
-      pub reply : i ≡ session → fails ≡ nat_lt delivers.count (length (replies posts session event i))
-      pub end : post posts' i ≡ (if failed then nothing else told_all (begun posts session event fails) i)
+      pub delivers : Delivers accepted breaks faults (planned posts session given fails i) failed link link'
+      pub reply : i ≡ session → fails ≡ nat_lt delivers.count (length (replies session given i))
+      pub end : post posts' i ≡ (if failed then nothing else told_all (begun posts session given fails) i)
       pub named : failed ≡ true → (s : ℕ) × (s ≤ i) × (lowest ≡ Some s)
       pub unnamed : failed ≡ false → lowest ≢ Some i
 
-    -- one step, session by session. The lowest session whose link failed is named
-    pub record Steps (posts posts' : List Post) (session : ℕ) (event : Event) (links links' : List L)
+    -- one step, once it is given what the input makes of its session, session by session. The lowest session whose link
+    -- failed is named
+    pub record Steps (posts posts' : List Post) (session : ℕ) (given : Begun) (links links' : List L)
         (lowest : Option ℕ) : Type 0 where
       pub fails : Bool
-      pub each : (i : ℕ) → i < length posts → StepAt posts posts' session event fails links links' lowest i
+      pub each : (i : ℕ) → i < length posts → StepAt posts posts' session given fails links links' lowest i
       pub low : IfSome lowest (λ s. s < length posts)
       pub long : length posts' ≡ length posts

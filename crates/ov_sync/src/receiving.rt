@@ -1,12 +1,14 @@
 //! The receiving end.
-ghost use Rattle.std.specs.Prelude.{◌≡◌, [], OnOk, OnErr, option_copied};
+ghost use Rattle.std.specs.Prelude.{◌≡◌, [], OnOk, OnErr, option_copied, map};
 ghost use Rattle.std.specs.FinMap.{IsAntisymmetric, get};
+ghost use Rattle.std.specs.List.Sorted.{IsStrictlySortedBy};
 ghost use Rattle.ov_sync.specs.Keyed.{IsPut, map_of, changed};
 
 use crate::Delta;
 use ov_types::NoMemory;
 use std::alloc::Global;
 use std::collections::BTreeMap;
+use std::collections::btree_map::Iter;
 use std::marker::Model;
 
 /// What is held of a keyed table, which contracts see as its entries in the order of their keys.
@@ -64,5 +66,13 @@ impl<K: Ord + Drop, V: Drop> SyncIn<K, V> {
         ensures { option_copied result ≡ get (map_of K.cmp self.now) key.now }
     {
         self.held.get(key)
+    }
+
+    /// The entries in the order of their keys. It takes no memory.
+    pub fn iter(&self) -> Iter<'_, K, V>
+        ensures entries { result ≡ self.now }
+        ensures ascending { IsStrictlySortedBy K.cmp (map (λ e. e.0) self.now) }
+    {
+        self.held.iter()
     }
 }

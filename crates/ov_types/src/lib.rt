@@ -17,7 +17,7 @@ mod verdict;
 mod vpn;
 
 pub use items::{Items, NoMemory};
-pub use keys::{DownKey, UpKey};
+pub use keys::{DownKey, DownValue, UpKey};
 pub use name::Name;
 pub use numbers::{InstanceId, Label, PortNo, Rd, ServiceNo};
 pub use objects::{AclAction, AclRule, Low, LowKey, LowValue};

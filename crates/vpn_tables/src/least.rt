@@ -3,15 +3,14 @@ ghost use Rattle.std.specs.Prelude.{◌≡◌, OnOk, IfOk, map};
 ghost use Rattle.std.specs.List.Sorted.{IsStrictlySortedBy};
 ghost use Rattle.vpn_tables.specs.Least.{least_of, offered, prefix_order, row_of};
 
-use crate::held::Held;
-use ov_sync::Delta;
+use ov_sync::{Delta, SyncIn};
 use ov_types::{NoMemory, Prefix, TableRow};
 use path_select::{Path, better};
 use std::alloc::Global;
 
 /// Puts a path in its place, where its prefix has none yet or a worse one.
 pub(crate) fn offer(
-    least: &mut Held<Prefix, Path>,
+    least: &mut SyncIn<Prefix, Path>,
     prefix: Prefix,
     path: Path,
 ) -> Result<(), NoMemory>
@@ -29,7 +28,7 @@ pub(crate) fn offer(
 /// The rows of the least paths, in the order of their prefixes.
 pub(crate) fn rows(
     alloc: Global,
-    least: &Held<Prefix, Path>,
+    least: &SyncIn<Prefix, Path>,
 ) -> Result<Vec<(Prefix, TableRow)>, NoMemory>
     ensures rows { IfOk result (λ rows. rows.items ≡ map row_of least.now) }
     ensures ascending { OnOk result (IsStrictlySortedBy prefix_order (map (λ e. e.0) least.now)) }

@@ -2,7 +2,6 @@
 #![tactic(auto)]
 
 mod chains;
-mod held;
 mod leading;
 mod least;
 mod reaching;

@@ -10,9 +10,9 @@ ghost use Rattle.vpn_tables.specs.Routes.{path_of};
 ghost use Rattle.vpn_tables.specs.Views.{agent_of, peer_of};
 
 use crate::chains::Side;
-use crate::held::Held;
 use crate::routes::{Route, is_within};
 use crate::tables::{Agent, VpnTables};
+use ov_sync::SyncIn;
 use ov_types::{InstanceId, Prefix, VpnKey, VpnRoute};
 
 /// Whether a subnet is among some.
@@ -131,7 +131,7 @@ impl VpnTables {
 
     fn has_peer_within(
         &self,
-        routes: &Held<VpnKey, VpnRoute>,
+        routes: &SyncIn<VpnKey, VpnRoute>,
         i: InstanceId,
         subnet: &Prefix,
     ) -> bool

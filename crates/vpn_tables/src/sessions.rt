@@ -9,13 +9,12 @@ ghost use Rattle.vpn_tables.specs.Changes.{changed_at, emptied_at, named, at_ses
 ghost use Rattle.vpn_tables.specs.Views.{peer_of, agent_of};
 ghost use Rattle.vpn_tables.specs.Seats.{nothings, IsSeat};
 
-use crate::held::Held;
 use crate::tables::Agent;
-use ov_sync::Delta;
+use ov_sync::{Delta, SyncIn};
 use ov_types::{Addr, Label, NoMemory, UpKey, VpnKey, VpnRoute};
 use std::alloc::Global;
 
-type Peer = Held<VpnKey, VpnRoute>;
+type Peer = SyncIn<VpnKey, VpnRoute>;
 
 /// Applies a change at a place. Places up to it that were not there hold nothing else.
 pub(crate) fn change_at(
@@ -33,7 +32,7 @@ pub(crate) fn change_at(
         peer.apply(delta)?;
         return Ok(());
     }
-    let mut peer = Held::new(alloc);
+    let mut peer = SyncIn::new(alloc);
     peer.apply(delta)?;
     let known = peers.len();
     match push_at(alloc, peers, place, peer) {
@@ -54,7 +53,7 @@ fn push_at(alloc: Global, peers: &mut Vec<Peer>, place: usize, peer: Peer) -> Re
     ensures kept { take (length peers.old.items) peers.new.items ≡ peers.old.items }
 {
     for between in peers.len()..place {
-        peers.push(Held::new(alloc))?;
+        peers.push(SyncIn::new(alloc))?;
     }
     peers.push(peer)?;
     Ok(())
@@ -66,7 +65,7 @@ pub(crate) fn empty_at(peers: &mut Vec<Peer>, place: usize)
 {
     if place < peers.len() {
         let peer = &mut peers[place];
-        peer.clear();
+        peer.reset();
     }
 }
 
@@ -108,7 +107,7 @@ pub(crate) fn name_agent(
             agent.address = address;
         }
         Seat::Free(index) => {
-            let told = Held::new(alloc);
+            let told = SyncIn::new(alloc);
             let agent = Agent {
                 session,
                 address,
@@ -148,7 +147,7 @@ pub(crate) fn empty_agent(agents: &mut Vec<Agent>, session: u16)
     match seat_at(agents.as_slice(), session) {
         Seat::Taken(index) => {
             let agent = &mut agents[index];
-            agent.told.clear();
+            agent.told.reset();
         }
         Seat::Free(_) => {}
     }

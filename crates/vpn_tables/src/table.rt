@@ -10,15 +10,15 @@ ghost use Rattle.vpn_tables.specs.Least.{least_of, offer_all};
 ghost use Rattle.vpn_tables.specs.Routes.{path_of};
 ghost use Rattle.vpn_tables.specs.Views.{agent_of, peer_of};
 
-use crate::held::Held;
 use crate::least::{offer, rows};
 use crate::routes::Route;
 use crate::tables::{Agent, VpnTables};
+use ov_sync::SyncIn;
 use ov_types::{InstanceId, NoMemory, Prefix, TableRow, Target, VpnKey, VpnRoute};
 use path_select::Path;
 use route_targets::target;
 
-type Least = Held<Prefix, Path>;
+type Least = SyncIn<Prefix, Path>;
 
 impl VpnTables {
     /// The rows of an instance, in the order of their prefixes: of each prefix that is among the paths that it
@@ -26,7 +26,7 @@ impl VpnTables {
     pub fn table(&self, i: InstanceId) -> Result<Vec<(Prefix, TableRow)>, NoMemory>
         ensures { IfOk result (λ rows. rows.items ≡ rows_at self.now i) }
     {
-        let mut least = Held::new(self.alloc);
+        let mut least = SyncIn::new(self.alloc);
         self.offer_agents(&mut least, i)?;
         self.offer_peers(&mut least, i)?;
         self.offer_led(&mut least, i)?;
@@ -80,7 +80,7 @@ impl VpnTables {
         &self,
         least: &mut Least,
         session: u16,
-        routes: &Held<VpnKey, VpnRoute>,
+        routes: &SyncIn<VpnKey, VpnRoute>,
         i: InstanceId,
     ) -> Result<(), NoMemory>
         ensures { OnOk result (least_of least.new ≡ offer_all (least_of least.old) (filter (is_wanted self.now i)

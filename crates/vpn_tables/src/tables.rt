@@ -5,9 +5,8 @@ ghost use Rattle.node_model.specs.Maps.{object};
 ghost use Rattle.vpn_tables.specs.Ranges.{Fits};
 ghost use Rattle.vpn_tables.specs.Changes.{nothing, with_low, with_route, with_agent, with_publication, without};
 
-use crate::held::Held;
 use crate::sessions::{change_at, empty_agent, empty_at, name_agent, tell_agent};
-use ov_sync::Delta;
+use ov_sync::{Delta, SyncIn};
 use ov_types::{Addr, Label, LowKey, LowValue, NoMemory, UpKey, VpnKey, VpnRoute};
 use std::alloc::Global;
 use std::marker::Model;
@@ -17,9 +16,9 @@ use std::marker::Model;
 #[derive(Drop)]
 pub struct VpnTables {
     pub(crate) asn: u32,
-    pub(crate) low: Held<LowKey, LowValue>,
+    pub(crate) low: SyncIn<LowKey, LowValue>,
     /// Of session 1, 2 and so on.
-    pub(crate) peers: Vec<Held<VpnKey, VpnRoute>>,
+    pub(crate) peers: Vec<SyncIn<VpnKey, VpnRoute>>,
     /// In the order of their sessions.
     pub(crate) agents: Vec<Agent>,
     pub(crate) alloc: Global,
@@ -30,7 +29,7 @@ pub struct VpnTables {
 pub(crate) struct Agent {
     pub(crate) session: u16,
     pub(crate) address: Addr,
-    pub(crate) told: Held<UpKey, Label>,
+    pub(crate) told: SyncIn<UpKey, Label>,
 }
 
 impl Model for VpnTables {
@@ -66,7 +65,7 @@ impl VpnTables {
     {
         VpnTables {
             asn,
-            low: Held::new(alloc),
+            low: SyncIn::new(alloc),
             peers: Vec::new(alloc),
             agents: Vec::new(alloc),
             alloc,
@@ -128,7 +127,7 @@ impl VpnTables {
     {
         empty_agent(&mut self.agents, session);
         if session == 0 {
-            self.low.clear();
+            self.low.reset();
             return;
         }
         empty_at(&mut self.peers, usize::from(session - 1));

@@ -1,0 +1,57 @@
+-- The items of sessions, as changes of the one kind of map that serves every session.
+--     change_of      the change that an item is
+--     item_of      the item that a change is
+--     spelled      the octets of a change on a link
+use Rattle.std.specs.Prelude.{◌≡◌, ◌≤◌, ◌==◌, ℕ, List, [], length, Option, Some, None, IsTrue, if◌then◌else◌}
+use Rattle.std.specs.Option.{option_map}
+use Rattle.ov_sync.specs.declared.Delta.TheVariants.{Put, Drop}
+use Rattle.ov_sync.specs.Embed.{moved_delta}
+use Rattle.item_wire.specs.Changes.{fed, item_of_object, item_of_key}
+use Rattle.item_wire.specs.Ranges.{is_in_range}
+use Rattle.item_wire.specs.Records.{json_text, spelling}
+use Rattle.item_wire.specs.declared.item.Item.{Item}
+use Rattle.item_wire.specs.declared.item.Item.TheVariants as I
+use Rattle.node_model.specs.Keys.{Low, Vpn, Row, Publish, Subscribe}
+use Rattle.node_model.specs.Values.{Object, Entry, Label}
+use Rattle.node_model.specs.Maps.{Change}
+
+-- what is put at a subscription has label 0
+abbrev pub change_of : Item → Option Change
+change_of (I.Publish instance label prefix) = Some (Put (Publish instance prefix) (Label label))
+change_of (I.Unpublish instance prefix) = Some (Drop (Publish instance prefix))
+change_of (I.Subscribe instance) = Some (Put (Subscribe instance) (Label (record { 0 = 0 })))
+change_of (I.Unsubscribe instance) = Some (Drop (Subscribe instance))
+change_of (I.Route instance label next_hop prefix) =
+    Some (Put (Row instance prefix) (Entry (record { next_hop = next_hop; label = label })))
+change_of (I.Unroute instance prefix) = Some (Drop (Row instance prefix))
+change_of i = option_map (moved_delta Low Object) (fed i)
+
+abbrev pub item_of : Change → Option Item
+item_of (Put (Low k) (Object v)) = item_of_object k v
+item_of (Put (Row i prefix) (Entry hop)) = Some (I.Route i hop.label hop.next_hop prefix)
+item_of (Put (Publish i prefix) (Label label)) = Some (I.Publish i label prefix)
+item_of (Put (Subscribe i) (Label label)) = if label.0 == 0 then Some (I.Subscribe i) else None
+item_of (Put _ _) = None
+item_of (Drop (Low k)) = Some (item_of_key k)
+item_of (Drop (Row i prefix)) = Some (I.Unroute i prefix)
+item_of (Drop (Publish i prefix)) = Some (I.Unpublish i prefix)
+item_of (Drop (Subscribe i)) = Some (I.Unsubscribe i)
+item_of (Drop (Vpn k)) = None
+
+abbrev pub spelling_of : Option Item → List ℕ
+spelling_of None = []
+spelling_of (Some i) = spelling i
+
+abbrev pub spelled : Change → List ℕ
+spelled c = spelling_of (item_of c)
+
+-- an item can be written: its members are within their ranges, and its record is short enough
+pub record IsWritable (i : Item) : Type 0 where
+  pub in_range : IsTrue (is_in_range i)
+  pub short : length (json_text i) ≤ 65536
+
+-- a change can be told
+pub record CanBeTold (c : Change) : Type 0 where
+  pub item : Item
+  pub is : item_of c ≡ Some item
+  pub writable : IsWritable item
