@@ -8,7 +8,7 @@ use ov_types::Name;
 
 /// What comes to a session, with what it says.
 #[derive(Drop)]
-pub(crate) enum Came {
+pub enum Came {
     Opened,
     /// The hello of the other end.
     Hello,

@@ -24,6 +24,7 @@ mod written;
 pub use event::{ItemCause, ItemEvent, ItemFrom, ItemState};
 pub use fault::{Field, ItemFault, ItemRefusal};
 pub use framing::{TooLong, frame};
+pub use input::Came;
 pub use item::Item;
 pub use reader::read_item;
 pub use session::ItemSession;

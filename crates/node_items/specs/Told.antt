@@ -5,15 +5,24 @@
 use Rattle.std.specs.Prelude.{◌≡◌, ◌≤◌, ◌==◌, ℕ, List, [], length, Option, Some, None, IsTrue, if◌then◌else◌}
 use Rattle.std.specs.Option.{option_map}
 use Rattle.ov_sync.specs.declared.Delta.TheVariants.{Put, Drop}
-use Rattle.ov_sync.specs.Embed.{moved_delta}
+use Rattle.ov_sync.specs.Embed.{embedded, moved_delta}
+use Rattle.ov_sync.specs.Keyed.{Values, map_of}
+use Rattle.std.specs.declared.cmp.Ordering.{Ordering}
+use Rattle.ov_types.specs.contracts.keys.DownKeyOrd.TheImpl as down_keys
+use Rattle.ov_types.specs.contracts.keys.UpKeyOrd.TheImpl as up_keys
+use Rattle.ov_types.specs.declared.keys.DownKey.{DownKey}
+use Rattle.ov_types.specs.declared.keys.DownValue.{DownValue}
+use Rattle.ov_types.specs.declared.keys.DownValue.TheVariants as Told
+use Rattle.ov_types.specs.declared.keys.UpKey.{UpKey}
+use Rattle.ov_types.specs.declared.numbers.Label.{Label as LabelNo}
 use Rattle.item_wire.specs.Changes.{fed, item_of_object, item_of_key}
-use Rattle.item_wire.specs.Ranges.{is_in_range}
+use Rattle.item_wire.specs.Ranges.{is_in_range, is_instance, is_attached_label}
 use Rattle.item_wire.specs.Records.{json_text, spelling}
 use Rattle.item_wire.specs.declared.item.Item.{Item}
 use Rattle.item_wire.specs.declared.item.Item.TheVariants as I
-use Rattle.node_model.specs.Keys.{Low, Vpn, Row, Publish, Subscribe}
-use Rattle.node_model.specs.Values.{Object, Entry, Label}
-use Rattle.node_model.specs.Maps.{Change}
+use Rattle.node_model.specs.Keys.{Key, Low, Vpn, Row, Publish, Subscribe, key_cmp, of_down, of_up}
+use Rattle.node_model.specs.Values.{Value, Object, Entry, Label}
+use Rattle.node_model.specs.Maps.{Map, Change}
 
 -- what is put at a subscription has label 0
 abbrev pub change_of : Item → Option Change
@@ -55,3 +64,46 @@ pub record CanBeTold (c : Change) : Type 0 where
   pub item : Item
   pub is : item_of c ≡ Some item
   pub writable : IsWritable item
+
+-- ---- what the types of keys and values leave open
+-- a key is within its range
+abbrev pub KeyFits : Key → Type 0
+KeyFits (Low k) = IsTrue (is_in_range (item_of_key k))
+KeyFits (Row i prefix) = IsTrue (is_instance i.0)
+KeyFits (Publish i prefix) = IsTrue (is_instance i.0)
+KeyFits (Subscribe i) = IsTrue (is_instance i.0)
+KeyFits (Vpn k) = ⊥
+
+-- a value under its key is: an object has an item that can be written, a label is within its range
+abbrev pub Fits : Key → Value → Type 0
+Fits (Low k) v = KeyFits (Low k) × CanBeTold (Put (Low k) v)
+Fits (Row i prefix) (Entry hop) = KeyFits (Row i prefix) × (hop.label.0 ≤ 1048575)
+Fits (Publish i prefix) (Label label) = KeyFits (Publish i prefix) × IsTrue (is_attached_label label.0)
+Fits (Subscribe i) (Label label) = KeyFits (Subscribe i) × (label.0 ≡ 0)
+Fits _ _ = ⊥
+
+abbrev pub ChangeFits : Change → Type 0
+ChangeFits (Put k v) = Fits k v
+ChangeFits (Drop k) = KeyFits k
+
+abbrev pub AllFit : Map → Type 0
+AllFit m = Values Fits m
+
+-- ---- typed maps among all keys and values
+abbrev pub down_value : DownValue → Value
+down_value (Told.Object v) = Object v
+down_value (Told.Row hop) = Entry hop
+
+-- the orders of the keys of a direction
+abbrev pub down_order : DownKey → DownKey → Ordering
+down_order = down_keys.ghosts.cmp
+
+abbrev pub up_order : UpKey → UpKey → Ordering
+up_order = up_keys.ghosts.cmp
+
+-- what an agent is told, and what an agent tells
+abbrev pub down_of : List (DownKey × DownValue) → Map
+down_of es = embedded {S = key_cmp} of_down down_value (map_of down_order es)
+
+abbrev pub up_of : List (UpKey × LabelNo) → Map
+up_of es = embedded {S = key_cmp} of_up Label (map_of up_order es)

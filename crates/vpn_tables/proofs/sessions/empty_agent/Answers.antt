@@ -10,7 +10,7 @@ pub returns-in-Taken : goal.returns-in-Taken
 returns-in-Taken c =
     let t = rw c.as_slice.ensures.value at c.in-Taken.ensures in
     told_taken c.args.agents.now.items c.args.session c.in-Taken.index t c.index_mut-agent.result.now c.index_mut-agent.ensures.value
-    (λ (m : Map). empty) c.clear.new.self (ap told_of c.clear.ensures ∙ told-empty)
+    (λ (m : Map). empty) c.reset.new.self (ap told_of c.reset.ensures ∙ told-empty)
 
 pub returns-in-Free : goal.returns-in-Free
 returns-in-Free c =

@@ -9,7 +9,7 @@ use Rattle.vpn_tables.proofs.sessions.empty_at.Goals as goal
 pub returns-then-place-len : goal.returns-then-place-len
 returns-then-place-len c =
     let lt : c.args.place < length c.args.peers.now.items = search rules in
-    ap (λ (es : List (VpnKey × VpnRoute)). map peer_of (slice_set c.args.peers.now.items c.args.place es)) c.clear.ensures ∙ emptied_within c.args.peers.now.items c.args.place lt
+    ap (λ (es : List (VpnKey × VpnRoute)). map peer_of (slice_set c.args.peers.now.items c.args.place es)) c.reset.ensures ∙ emptied_within c.args.peers.now.items c.args.place lt
 
 pub returns-else-place-len : goal.returns-else-place-len
 returns-else-place-len c = let le : length c.args.peers.now.items ≤ c.args.place = search rules in emptied_past c.args.peers.now.items c.args.place le

@@ -11,12 +11,12 @@ use Rattle.vpn_tables.proofs.Peers.{fit_emptied}
 use Rattle.vpn_tables.proofs.tables.VpnTables.drop_session.Goals as goal
 
 pub invariant_of-self : goal.invariant_of-self
-invariant_of-self c = (c.self.invariant.0, rw c.clear.ensures (empty_values low_order Fits), c.self.invariant.2)
+invariant_of-self c = (c.self.invariant.0, rw c.reset.ensures (empty_values low_order Fits), c.self.invariant.2)
 
 pub returns-then-session-eq0 : goal.returns-then-session-eq0
 returns-then-session-eq0 c =
     let agents = c.empty_agent.ensures ∙ ap (at_session (λ (m : Map). empty) (map agent_of c.self.inside.agents.items)) c.if-session-eq0.true in
-    (λ i. record { asn = c.self.inside.asn; feed = (ap feed_of c.clear.ensures ∙ feed-empty) i; peers = map peer_of c.self.inside.peers.items; agents = agents i })
+    (λ i. record { asn = c.self.inside.asn; feed = (ap feed_of c.reset.ensures ∙ feed-empty) i; peers = map peer_of c.self.inside.peers.items; agents = agents i })
     ∙ ap (λ (h : Holdings). without h 0) c.self.view_is ∙ ap (λ (s : ℕ). without c.args.self.now s) (sym c.if-session-eq0.true)
 
 pub invariant_of-self-2 : goal.invariant_of-self-2

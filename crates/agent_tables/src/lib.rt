@@ -1,0 +1,11 @@
+//! What an agent goes by, from what its control nodes told: what it tells them, and what it forwards by.
+#![tactic(auto)]
+
+mod hearing;
+pub mod laws;
+mod tables;
+mod wants;
+
+pub use hearing::Hearing;
+pub use tables::Tables;
+pub use wants::wanted;

@@ -1,0 +1,12 @@
+//! Laws of what a control node wants: each is the contract of a function that does nothing.
+ghost use Rattle.std.specs.Prelude.{◌≡◌, ◌≤◌, Some};
+ghost use Rattle.std.specs.FinMap.{get};
+ghost use Rattle.ov_types.specs.declared.vpn.VpnKey.{VpnKey};
+ghost use Rattle.ov_types.specs.declared.vpn.VpnRoute.{VpnRoute};
+ghost use Rattle.node_items.specs.Told.{AllFit};
+ghost use Rattle.node_model.specs.Keys.{Vpn};
+ghost use Rattle.node_model.specs.Values.{Route};
+ghost use Rattle.node_model.specs.Paths.{Holdings, Told};
+ghost use Rattle.node_model.specs.Wants.{wanted_by_agent, wanted_by_peers};
+ghost use Rattle.node_peers.specs.Told.{IsWritable};
+ghost use Rattle.control_wants.specs.Held.{HoldingsFit};

@@ -1,0 +1,8 @@
+//! The items of nodes' sessions: what octets bring, and how changes are spelled.
+#![tactic(auto)]
+
+mod hearing;
+mod telling;
+
+pub use hearing::{Heard, greet, hear};
+pub use telling::{down_change, low_change, spell_down, spell_low, spell_up, up_change};

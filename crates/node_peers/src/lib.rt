@@ -1,0 +1,8 @@
+//! The routes of sessions between control nodes: what octets bring, and how changes are spelled.
+#![tactic(auto)]
+
+mod hearing;
+mod telling;
+
+pub use hearing::{Heard, greet, hear};
+pub use telling::spell;
