@@ -4,3 +4,4 @@ pub mod Passing
 pub mod Begun
 pub mod Naming
 pub mod Answers
+pub mod Whole

@@ -11,3 +11,4 @@ pub mod Wants
 pub mod Agent
 pub mod Ranks
 pub mod Step
+pub mod Codes

@@ -1,0 +1,56 @@
+-- What is seen of an agent: its plan, its ends, what it forwards by, and whether it failed.
+use Rattle.std.specs.Prelude.{ℕ, zero, suc, List, [], ◌∷◌, map, length, Bool, true, false, not}
+use Rattle.ov_types.specs.declared.rows.AgentRows.{AgentRows}
+use Rattle.node_items.specs.Told.{spelled}
+use Rattle.node_model.specs.Agent.{Heard, Holdings, wanted as wanted_of}
+use Rattle.node_model.specs.Maps.{Map}
+use Rattle.node_model.specs.Step.{Kind, Phase, Post, Idle, Up, nothing}
+use Rattle.agent_node.specs.declared.plan.AgentPlan.{AgentPlan}
+
+-- its ends are those of the control nodes, in the order in which it lists them
+pub record Core : Type 0 where
+  pub plan : AgentPlan
+  pub posts : List Post
+  pub rows : AgentRows
+  pub failed : Bool
+
+abbrev pub sessions : AgentPlan → ℕ
+sessions plan = length plan.controllers
+
+abbrev pub is_idle : Phase → Bool
+is_idle Idle = true
+is_idle _ = false
+
+abbrev pub is_up : Phase → Bool
+is_up Up = true
+is_up _ = false
+
+-- ---- what it holds, from its ends
+abbrev pub heard_at : Post → Heard
+heard_at p = record { is_up = is_up p.phase; map = p.held }
+
+abbrev pub holdings : List Post → Holdings
+holdings posts = map heard_at posts
+
+-- ---- what it wants its sessions to have been told: the same everywhere, from their opening on
+abbrev pub wanted : List Post → ℕ → Map
+wanted posts i = wanted_of (holdings posts)
+
+abbrev pub may_send : ℕ → Phase → Bool
+may_send i phase = not (is_idle phase)
+
+abbrev pub kind : Kind
+kind = record { wanted = wanted; may_send = may_send; spelled = λ i c. spelled c }
+
+-- ---- an agent whose ends are all closed
+abbrev pub nothings : ℕ → List Post
+nothings zero = []
+nothings (suc n) = nothing ∷ nothings n
+
+abbrev pub fresh : AgentPlan → Core
+fresh plan = record {
+  plan = plan;
+  posts = nothings (sessions plan);
+  rows = record { labels = []; acls = []; routes = [] };
+  failed = false;
+}

@@ -1,0 +1,5 @@
+-- The files of definitions, in the order in which they stand on each other.
+pub mod Core
+pub mod Wanting
+pub mod Beginning
+pub mod Ends

@@ -1,0 +1,69 @@
+//! A control node and its step.
+ghost use Rattle.std.specs.Prelude.{◌≡◌, ◌≢◌, ◌≤◌, ◌<◌, ◌+◌, length, false, true, IfOk, Err};
+ghost use Rattle.std.specs.List.{replicate};
+ghost use Rattle.node_core.specs.Whole.{Comes, IsWholeStep, session_of};
+ghost use Rattle.node_model.specs.Step.{nothing, post};
+ghost use Rattle.node_model.specs.Tables.{rows};
+ghost use Rattle.control_node.specs.Core.{fresh, holdings, sessions};
+ghost use Rattle.control_node.specs.Wanting.{is_idle, is_up, kind};
+ghost use Rattle.control_node.specs.Beginning.{Begins};
+
+use crate::cause::NodeCause;
+use crate::plan::ControlPlan;
+use ov_link::{Input, Link, Links, NodeFault, Stepped};
+use ov_types::{ControlRows, NoMemory};
+use std::alloc::Global;
+
+impl ControlNode {
+    /// A node whose sessions are all closed.
+    pub fn new(alloc: Global, plan: ControlPlan) -> Result<ControlNode, NoMemory>
+        requires few { length plan.peers + length plan.agents < 65535 }
+        requires address { plan.me.address.0 ≢ 0 }
+        requires autonomous_system { plan.asn ≤ 65535 }
+        ensures { IfOk result (λ node. node ≡ fresh plan) };
+
+    /// How many sessions there are. It takes no memory.
+    pub fn sessions(&self) -> u16
+        ensures { result ≡ sessions self.now.plan };
+
+    /// Whether an end is not idle. It takes no memory.
+    pub fn is_live(&self, session: u16) -> bool
+        requires { session < sessions self.now.plan }
+        ensures { result ≡ not (is_idle (post self.now.posts session).phase) };
+
+    /// Whether an end is up. It takes no memory.
+    pub fn is_up(&self, session: u16) -> bool
+        requires { session < sessions self.now.plan }
+        ensures { result ≡ is_up (post self.now.posts session).phase };
+
+    /// Whether memory was wanting in a step since the node was made or restarted. It takes no memory.
+    pub fn failed(&self) -> bool
+        ensures { result ≡ self.now.failed };
+
+    /// Closes every end, and holds nothing. It takes no memory.
+    pub fn restart(&mut self)
+        ensures { self.new ≡ fresh self.old.plan };
+
+    /// The table of every known instance, in the order of keys.
+    pub fn rows(&self, alloc: Global) -> Result<ControlRows, NoMemory>
+        ensures { IfOk result (λ rows. rows ≡ rows (holdings self.now.plan self.now.posts)) };
+
+    /// One step: the input is applied to its session, its replies are sent, and then each session is told what has
+    /// changed for it. A link that fails closes its session. Octets at the end that are no whole message are passed
+    /// over. After want of memory every step answers it, until a restart.
+    pub fn step<L: Link>(
+        &mut self,
+        input: Input<'_>,
+        links: &mut Links<L>,
+    ) -> Result<Stepped<NodeCause>, NodeFault>
+        requires known { session_of input < sessions self.old.plan }
+        requires linked { length links.old ≡ sessions self.old.plan }
+        requires comes { Comes (λ i. is_idle (post self.old.posts i).phase ≡ false) (λ i. is_idle (post self.old.posts i).phase ≡ true) input }
+        ensures step { result ≢ Err NodeFault.NoMemory
+            → IsWholeStep L.accepted L.breaks L.faults (kind self.old.plan)
+            (Begins self.old.plan (session_of input) (post self.old.posts (session_of input)) input)
+            self.old.posts self.new.posts (session_of input) links.old links.new result }
+        ensures plan { self.new.plan ≡ self.old.plan }
+        ensures failed { (self.new.failed ≡ true) ↔ (result ≡ Err NodeFault.NoMemory) }
+        ensures until_restart { self.old.failed ≡ true → result ≡ Err NodeFault.NoMemory };
+}
