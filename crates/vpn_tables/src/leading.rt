@@ -1,7 +1,7 @@
 //! The routes that lead the reachable subnets of held chains on.
 ghost use Rattle.std.specs.Prelude.{◌≡◌, ◌≤◌, ◌<◌, ◌++◌, ◌+◌, Some, OnOk, IfOk, map};
 ghost use Rattle.std.specs.List.{flat_map};
-ghost use Rattle.node_model.specs.Reaching.{below, circuit_at, into, is_up, publisher, reoriginated};
+ghost use Rattle.node_model.specs.Reaching.{below, circuit_at, into, is_up, publisher, reoriginated, subnets};
 ghost use Rattle.vpn_tables.specs.Leading.{leads, sides_of_held, use_at};
 ghost use Rattle.vpn_tables.specs.Routes.{path_of};
 
@@ -46,30 +46,37 @@ impl VpnTables {
         }
     }
 
+    /// One walk along the chain from the side's end.
     fn lead_side(&self, routes: &mut Vec<Route>, side: &Side<'_>) -> Result<(), NoMemory>
         ensures { OnOk result (map path_of routes.new.items ≡ map path_of routes.old.items
             ++ flat_map (into (is_up self.now) self.now side.now) (below side.now.chain.services)) }
     {
+        let mut up = self.up_at_end(side)?;
         for distance in 0..side.services() {
-            self.lead_into(routes, side, distance)?;
+            self.lead_into(routes, side, distance, up.as_slice())?;
+            up = self.up_next(side, distance, up.as_slice())?;
         }
         Ok(())
     }
 
-    /// Those from a distance into the next place.
+    /// Those from a distance, at which these subnets are up, into the next place.
     fn lead_into(
         &self,
         routes: &mut Vec<Route>,
         side: &Side<'_>,
         distance: u8,
+        up: &[bool],
     ) -> Result<(), NoMemory>
         requires within { distance < side.now.chain.services }
         requires short { distance < 15 }
+        requires up { up.now ≡ map (λ s. is_up self.now side.now s distance) (subnets side.now) }
         ensures { OnOk result (map path_of routes.new.items ≡ map path_of routes.old.items
             ++ into (is_up self.now) self.now side.now distance) }
     {
         match self.publisher(side.circuit_at(distance + 1)) {
-            Some((address, label)) => self.lead_towards(routes, side, distance, address, label),
+            Some((address, label)) => {
+                self.lead_towards(routes, side, distance, address, label, up)
+            }
             None => Ok(()),
         }
     }
@@ -82,16 +89,18 @@ impl VpnTables {
         distance: u8,
         address: Addr,
         label: Label,
+        up: &[bool],
     ) -> Result<(), NoMemory>
         requires within { distance < side.now.chain.services }
         requires short { distance < 15 }
         requires published { publisher self.now (circuit_at side.now (distance + 1)) ≡ Some (address, label) }
+        requires up { up.now ≡ map (λ s. is_up self.now side.now s distance) (subnets side.now) }
         ensures { OnOk result (map path_of routes.new.items ≡ map path_of routes.old.items
             ++ into (is_up self.now) self.now side.now distance) }
     {
         let hop = side.hop_at(distance + 1);
-        for subnet in side.subnets() {
-            if self.is_up(side, subnet, distance) {
+        for (index, subnet) in side.subnets().iter().enumerate() {
+            if up[index] {
                 let path = Path {
                     session: OWN_SESSION,
                     rd: rd(address, hop),

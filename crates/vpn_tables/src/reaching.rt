@@ -1,9 +1,9 @@
 //! Which subnets are reachable along a chain.
-ghost use Rattle.std.specs.Prelude.{◌≡◌, ◌≤◌, ◌&&◌, ◌||◌, ℕ, is_some};
+ghost use Rattle.std.specs.Prelude.{◌≡◌, ◌≤◌, ◌<◌, ◌+◌, ◌&&◌, ◌||◌, ℕ, is_some, IfOk, map};
 ghost use Rattle.std.specs.List.{list_any, filter_map};
 ghost use Rattle.std.specs.FinMap.{entries};
 ghost use Rattle.node_model.specs.Paths.{own_path, own_paths, peer_path, peer_paths};
-ghost use Rattle.node_model.specs.Reaching.{circuit_at, has_path_within, hop_at, is_up, publisher};
+ghost use Rattle.node_model.specs.Reaching.{circuit_at, has_path_within, hop_at, is_up, publisher, subnets};
 ghost use Rattle.node_model.specs.Tables.{same_prefix};
 ghost use Rattle.vpn_tables.specs.Answers.{is_up_at, leads_within};
 ghost use Rattle.vpn_tables.specs.Routes.{path_of};
@@ -13,7 +13,7 @@ use crate::chains::Side;
 use crate::routes::{Route, is_within};
 use crate::tables::{Agent, VpnTables};
 use ov_sync::SyncIn;
-use ov_types::{InstanceId, Prefix, VpnKey, VpnRoute};
+use ov_types::{InstanceId, NoMemory, Prefix, VpnKey, VpnRoute};
 
 /// Whether a subnet is among some.
 fn is_among(subnet: &Prefix, subnets: &[Prefix]) -> bool
@@ -58,6 +58,38 @@ impl VpnTables {
             up = self.is_up_next(side, subnet, nearer + 1, up);
         }
         up
+    }
+
+    /// Which of a side's subnets are up at its end.
+    pub(crate) fn up_at_end(&self, side: &Side<'_>) -> Result<Vec<bool>, NoMemory>
+        ensures { IfOk result (λ up. up.items ≡ map (λ s. is_up self.now side.now s 0) (subnets side.now)) }
+    {
+        let end = side.hop_at(0);
+        let mut up = Vec::new(self.alloc);
+        for subnet in side.subnets() {
+            up.push(self.has_path_within(end, subnet))?;
+        }
+        Ok(up)
+    }
+
+    /// Which of a side's subnets are up one place farther than at a distance, from which are there.
+    pub(crate) fn up_next(
+        &self,
+        side: &Side<'_>,
+        distance: u8,
+        up: &[bool],
+    ) -> Result<Vec<bool>, NoMemory>
+        requires within { distance < side.now.chain.services }
+        requires short { distance < 15 }
+        requires up { up.now ≡ map (λ s. is_up self.now side.now s distance) (subnets side.now) }
+        ensures { IfOk result (λ next. next.items ≡ map (λ s. is_up self.now side.now s (distance + 1))
+            (subnets side.now)) }
+    {
+        let mut next = Vec::new(self.alloc);
+        for (index, subnet) in side.subnets().iter().enumerate() {
+            next.push(self.is_up_next(side, subnet, distance + 1, up[index]))?;
+        }
+        Ok(next)
     }
 
     /// Whether it is up at a distance, from whether it is one place nearer.

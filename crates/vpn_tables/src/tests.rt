@@ -134,3 +134,38 @@ fn the_lower_session_publishes(rt: HostRuntime) -> Result<(), Fail> {
     assert!(rt; tables.low(&LowKey::ChainUse(0)).is_none());
     Ok(())
 }
+
+/// A control node whose one agent publishes eight ports in each of 128 networks, of which each imports all.
+fn related(alloc: Global) -> Result<VpnTables, Fail> {
+    let mut tables = VpnTables::new(alloc, 64512);
+    tables.set_agent(1, NEAR)?;
+    for network in 1..129u16 {
+        let imports = Items::from_vec(all_networks(alloc)?);
+        tables.set_low(Delta::Put(LowKey::Instance(network), LowValue::Instance { imports }))?;
+        for port in 0..8u32 {
+            let host = Prefix::host(Addr(0x0a00_0000 + 256 * u32::from(network) + port));
+            let label = Label(16 + 8 * u32::from(network) + port);
+            let key = UpKey::Publish(InstanceId(network), host);
+            tables.set_publication(1, Delta::Put(key, label))?;
+        }
+    }
+    Ok(tables)
+}
+
+fn all_networks(alloc: Global) -> Result<Vec<InstanceId>, Fail> {
+    let mut networks = Vec::new(alloc);
+    for network in 1..129u16 {
+        networks.push(InstanceId(network))?;
+    }
+    Ok(networks)
+}
+
+#[test]
+fn each_of_128_related_networks_has_the_routes_of_all(rt: HostRuntime) -> Result<(), Fail> {
+    let tables = related(rt.alloc())?;
+    for network in 1..129u16 {
+        let rows = tables.table(InstanceId(network))?;
+        assert_eq!(rt; rows.len(), 1024, "{network}");
+    }
+    Ok(())
+}
