@@ -1,4 +1,4 @@
--- STEPS: where all that is held is right up to a rank, all that is wanted is right up to the next one, for control nodes and agents.
+-- Where all that is held is right up to a rank, all that is wanted is right up to the next one, for control nodes and agents.
 use Rattle.std.specs.FinMap.{get, same_map}
 use Rattle.std.specs.List.{AllByRecursion, filter}
 use Rattle.std.specs.Option.{option_map, unwrap_or}

@@ -131,7 +131,7 @@ module _ (w : Network) (laid : IsLaid w.setup (map nodes w.sessions)) (apart : N
   far_right r n vs [] a b = tt
   far_right r n vs (s ∷ own) a b = ((λ k h. ap (λ (m : Map). get m k) (a.0.held ∙ a.0.wanted) ∙ b.0 k h), far_right r n vs own a.1 b.1)
 
-  -- BY INDUCTION ON THE RANK all that is held is right
+  -- by induction on the rank all that is held is right
   rights : (r : ℕ) → Each (BothRight r) w.sessions
   rights zero = each_weaker Ups (BothRight 0) right_zero w.sessions (all_up w.sessions settled)
   rights (suc r) =

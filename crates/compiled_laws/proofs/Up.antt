@@ -150,6 +150,6 @@ module _ (asn : ℕ) (feed : Map) (agents : Agents) (peers : List Agents) (sound
                 (imports_itself feed s (suc d) sound.ordered of_use h) (ap (λ (p : Block). is_inside p subnet) f.2 ∙ inside_itself subnet))
           ]
 
-      -- THE CHAIN: up at a place exactly where the subnet holds a port
+      -- along the chain: up at a place exactly where the subnet holds a port
       pub up_is_held : (d : ℕ) → d ≤ s.chain.services → is_up here s subnet d ≡ holds feed (network s) subnet
       up_is_held d h = iff_same (is_up here s subnet d) (holds feed (network s) subnet) (up_holds d h) (held_up d h)
