@@ -1,1 +1,3 @@
-
+pub mod Steps
+pub mod Leading
+pub mod Labels

@@ -1,4 +1,5 @@
 -- The files of definitions, in the order in which they stand on each other.
 pub mod Told
 pub mod Hearing
+pub mod Taking
 pub mod Beginning
