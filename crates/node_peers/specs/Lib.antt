@@ -3,3 +3,4 @@ pub mod Told
 pub mod Hearing
 pub mod Taking
 pub mod Beginning
+pub mod First
