@@ -1,5 +1,5 @@
 -- The labels of routes that are heard have 20 bits where octets are below 256.
-use Rattle.std.proofs.Common.{◌≡◌, ◌<◌, ℕ, List, [], ◌∷◌, Option, Some, None, take, sym, ap, subst, arith}
+use Rattle.std.proofs.Common.{ℕ, List, [], ◌∷◌, Option, Some, None, take, sym, ap, subst, arith}
 use Rattle.ov_types.specs.declared.prefix.Addr.{Addr}
 use Rattle.bgp_wire.specs.declared.fault.WireFault.{WireFault}
 use Rattle.bgp_wire.specs.Content.{Content, UpdateFields, Opens, Updates, Notifies, KeepsAlive}
@@ -11,11 +11,11 @@ use Rattle.bgp_session.specs.declared.event.State.TheVariants.{Idle, OpenSent, O
 use Rattle.bgp_session.specs.Happenings.{SessionFields, Happening, Passes, Sends, ComesUp, HandsOut, GoesDown, after, answer}
 use Rattle.bgp_session.specs.Words.{Step, step_of}
 use Rattle.bgp_session.proofs.TableLemmas.{words_of}
-use Rattle.bgp_session.specs.Inputs.{Came, Opened, RightOpen, WrongOpen, KeepaliveCame, RightUpdate, WrongUpdate, NotificationCame, BadFrame, Closed, BringsUpdate, right, wrong, Brings, open_refusal, came_by_open}
+use Rattle.bgp_session.specs.Inputs.{Came, Opened, RightUpdate, BringsUpdate, right, wrong, Brings, open_refusal, came_by_open}
 use Rattle.node_peers.specs.Hearing.{IsNext, message, fault, GoesOn, Hears, heard}
 use Rattle.node_peers.specs.Taking.{handed}
 use Rattle.node_peers.specs.declared.hearing.Heard.{Heard as HeardSoFar}
-use Rattle.node_peers.proofs.Leading.{by_happening, Outcome, Deltas}
+use Rattle.node_peers.proofs.Leading.{by_happening, Outcome}
 
 -- what came, with labels of 20 bits
 abbrev CameFits : Came → Type 0

@@ -1,5 +1,5 @@
 -- What is heard from one place on, and what was heard before it.
-use Rattle.std.proofs.Common.{◌≡◌, ℕ, List, [], ◌∷◌, ◌++◌, Option, Some, None, Bool, true, false, is_some, refl, sym, ◌∙◌, ap, subst, append_assoc}
+use Rattle.std.proofs.Common.{◌≡◌, ℕ, List, [], ◌∷◌, ◌++◌, Option, Some, None, true, false, is_some, refl, sym, ◌∙◌, ap, subst, append_assoc}
 use Rattle.std.proofs.lemmas.List.{append-nil}
 use Rattle.ov_types.specs.declared.prefix.Addr.{Addr}
 use Rattle.ov_types.specs.declared.vpn.VpnKey.{VpnKey}
@@ -47,11 +47,11 @@ by_happening id s came more h =
       | ComesUp ↦ heard id (after s came) more
       | HandsOut changes ↦ and_changes changes (heard id (after s came) more)
       | GoesDown cause code ↦ record {
-          replies = notification code;
-          changes = [];
-          state = (after s came).state;
-          cause = Some cause;
-        }
+        replies = notification code;
+        changes = [];
+        state = (after s came).state;
+        cause = Some cause;
+      }
     ]
 
 one_and_more : (id : Addr) (s : SessionFields) (came : Came) (more : List Came) (h : Happening) → cause_of h ≡ None
@@ -96,12 +96,11 @@ pub leads_on : (id : Addr) (start now : SessionFields) (octets rest rest' : List
     → Leads id start octets (after now came) rest' (replies ++ replied now.asn id (answer now came)) (changes ++ handed (answer now came))
 leads_on id start now octets rest rest' replies changes came leads next up = record {
   whole = λ inputs hears.
-      let before = leads.whole (came ∷ inputs) (rest', next, goes_on (answer now came) inputs (Hears (after now came) rest' inputs) up hears) in
-      (
+      let before = leads.whole (came ∷ inputs) (rest', next, goes_on (answer now came) inputs (Hears (after now came) rest' inputs) up hears) in (
         before.0,
         before.1,
         before.2 ∙ ap (behind replies changes) (one_and_more id now came inputs (answer now came) up)
-        ∙ behind_both replies (replied now.asn id (answer now came)) changes (handed (answer now came)) (heard id (after now came) inputs),
+            ∙ behind_both replies (replied now.asn id (answer now came)) changes (handed (answer now came)) (heard id (after now came) inputs),
       );
 }
 
@@ -121,12 +120,11 @@ pub leads_to_end : (id : Addr) (start now : SessionFields) (octets rest : List �
     → Leads id start octets now rest replies changes → IsProperPrefix rest
     → IsHeard id start octets (record { replies = replies; changes = changes; state = now.state; cause = None })
 leads_to_end id start now octets rest replies changes leads prefix =
-    let before = leads.whole [] prefix in
-    (
+    let before = leads.whole [] prefix in (
       before.0,
       before.1,
       before.2 ∙ ap (λ (x : Replies). record { replies = x; changes = changes ++ []; state = now.state; cause = None }) (append-nil replies)
-      ∙ ap (λ (y : Deltas). record { replies = replies; changes = y; state = now.state; cause = None }) (append-nil changes),
+          ∙ ap (λ (y : Deltas). record { replies = replies; changes = y; state = now.state; cause = None }) (append-nil changes),
     )
 
 -- what a call says that heard this and left the session in this state
@@ -194,7 +192,7 @@ module _ (id : Addr) (start now now' : SessionFields) (octets rest rest' : List 
   goes_down is =
       let why = some_cause new.cause is in
       let down = leads_down id start now octets rest rest' old.replies old.changes.items s.takes.came why.0 s.leads s.takes.next
-          (new_cause ∙ why.1) in
+      (new_cause ∙ why.1) in
       outcome id start octets new now'.state (
         down.0,
         down.1,
@@ -204,10 +202,10 @@ module _ (id : Addr) (start now now' : SessionFields) (octets rest rest' : List 
   pub stays_up : is_some new.cause ≡ false → Leads id start octets now' rest' new.replies new.changes.items
   stays_up is =
       let on = leads_on id start now octets rest rest' old.replies old.changes.items s.takes.came s.leads s.takes.next
-          (new_cause ∙ no_cause new.cause is) in
+      (new_cause ∙ no_cause new.cause is) in
       let first : Leads id start octets now' rest' (old.replies ++ replied now.asn id said) (old.changes.items ++ handed said) =
       subst (λ (x : SessionFields). Leads id start octets x rest' (old.replies ++ replied now.asn id said)
-        (old.changes.items ++ handed said)) (sym s.takes.state) on in
+      (old.changes.items ++ handed said)) (sym s.takes.state) on in
       let second : Leads id start octets now' rest' new.replies (old.changes.items ++ handed said) =
       subst (λ (x : Replies). Leads id start octets now' rest' x (old.changes.items ++ handed said)) new_replies first in
       subst (λ (x : Deltas). Leads id start octets now' rest' new.replies x) new_changes second

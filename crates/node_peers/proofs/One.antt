@@ -1,17 +1,16 @@
 -- What octets bring is one thing.
-use Rattle.std.proofs.Common.{◌≡◌, ◌≢◌, ◌<◌, ◌≤◌, ◌+◌, ◌^◌, ℕ, List, [], ◌∷◌, ◌++◌, length, drop, Some, refl, sym, ◌∙◌, ap, subst, arith}
+use Rattle.std.proofs.Common.{◌≡◌, ◌≢◌, ◌<◌, ◌≤◌, ◌^◌, ℕ, List, [], ◌∷◌, ◌++◌, length, drop, refl, sym, ◌∙◌, ap, subst, arith}
 use Rattle.std.proofs.Math.Seq.{drop-append_seam}
 use Rattle.std.specs.List.{flat_map}
-use Rattle.ov_types.specs.declared.prefix.Addr.{Addr}
 use Rattle.ov_types.specs.declared.vpn.VpnKey.{VpnKey}
 use Rattle.ov_types.specs.declared.vpn.VpnRoute.{VpnRoute}
 use Rattle.ov_sync.specs.declared.Delta.{Delta}
 use Rattle.ov_sync.specs.declared.Delta.TheVariants.{Put, Drop}
 use Rattle.ov_sync.specs.Embed.{moved_delta}
 use Rattle.bgp_wire.specs.Attributes.{attribute_octets}
-use Rattle.bgp_wire.specs.Content.{Content, Opens, Updates, Notifies, KeepsAlive}
+use Rattle.bgp_wire.specs.Content.{Content, Opens, Notifies, KeepsAlive}
 use Rattle.bgp_wire.specs.Frames.{IsProperPrefix}
-use Rattle.bgp_wire.specs.Messages.{IsMessage, BeginsWith}
+use Rattle.bgp_wire.specs.Messages.{IsMessage}
 use Rattle.bgp_wire.specs.Spelling.{spelling, open_fields}
 use Rattle.bgp_wire.proofs.Readings.{one_message, one_fault, never_message_and_prefix, never_message_and_fault, never_prefix_and_fault}
 use Rattle.bgp_wire.proofs.Spelling.{read_again, keepalive_says, notification_says, open_says, attributes_say}
@@ -19,7 +18,7 @@ use Rattle.bgp_vpn.specs.Updates.{Changes}
 use Rattle.bgp_vpn.specs.Written.{IfPut, written, written_parts, attributes_of}
 use Rattle.bgp_vpn.proofs.WrittenUpdates.{drop_changes, put_changes, drop_length, put_length}
 use Rattle.bgp_session.specs.Happenings.{SessionFields, Happening, Passes, Sends, ComesUp, HandsOut, GoesDown, after, answer}
-use Rattle.bgp_session.specs.Inputs.{Came, RightOpen, KeepaliveCame, NotificationCame, RightUpdate, BadFrame, right, Brings, came_by_open, open_refusal}
+use Rattle.bgp_session.specs.Inputs.{Came, RightOpen, KeepaliveCame, NotificationCame, RightUpdate, BadFrame, right, Brings, came_by_open}
 use Rattle.bgp_session.proofs.InputLemmas.{brings_one, right_open}
 use Rattle.node_model.specs.Keys.{Vpn}
 use Rattle.node_model.specs.Values.{Route}
@@ -29,8 +28,7 @@ use Rattle.node_peers.specs.Told.{IsWritable, spelled}
 
 next_one : (s : SessionFields) (octets : List ℕ) (a b : Came) (r q : List ℕ) → IsNext s octets a r → IsNext s octets b q → (a ≡ b) × (r ≡ q)
 next_one s octets a b r q (message m) (message n) =
-    let same = one_message octets m.content n.content m.length n.length m.begins n.begins in
-    (
+    let same = one_message octets m.content n.content m.length n.length m.begins n.begins in (
       brings_one s.asn s.peer.address n.content a b (subst (λ (c : Content). Brings s.asn s.peer.address c a) same.0 m.brings) n.brings,
       m.rest_is ∙ ap (λ (k : ℕ). drop k octets) same.1 ∙ sym n.rest_is,
     )

@@ -1,17 +1,17 @@
 -- What octets begin with, taken by a session.
-use Rattle.std.proofs.Common.{◌≡◌, ℕ, zero, suc, ◌+◌, ◌-◌, ◌<◌, ◌≤◌, List, [], ◌∷◌, ◌++◌, length, take, drop, None, refl, sym, subst, arith}
+use Rattle.std.proofs.Common.{◌≡◌, ℕ, zero, suc, ◌-◌, ◌<◌, List, [], ◌∷◌, length, take, drop, refl, sym, subst, arith}
 use Rattle.std.proofs.Common.{inl, lit<}
 use Rattle.std.proofs.lemmas.List.{length-drop}
 use Rattle.bgp_wire.specs.declared.fault.WireFault.{WireFault}
 use Rattle.bgp_wire.specs.Content.{Content}
-use Rattle.bgp_wire.specs.Frames.{frame_fault, IsProperPrefix}
-use Rattle.bgp_wire.specs.Messages.{IsMessage, BeginsWith, HasFault}
+use Rattle.bgp_wire.specs.Frames.{IsProperPrefix}
+use Rattle.bgp_wire.specs.Messages.{BeginsWith, HasFault}
 use Rattle.bgp_wire.proofs.Octets.{range_from}
 use Rattle.bgp_wire.proofs.Readings.{never_message_and_prefix, never_prefix_and_fault}
 use Rattle.bgp_session.specs.declared.event.Event.{Event}
 use Rattle.bgp_session.specs.Happenings.{SessionFields, happening_of, after, answer, Takes}
 use Rattle.bgp_session.specs.Inputs.{BadFrame}
-use Rattle.node_peers.specs.Hearing.{IsNext, message, fault}
+use Rattle.node_peers.specs.Hearing.{message, fault}
 use Rattle.node_peers.specs.Taking.{TakesNext}
 
 nothing_is_prefix : IsProperPrefix []

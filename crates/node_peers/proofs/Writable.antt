@@ -12,7 +12,7 @@ use Rattle.ov_sync.specs.Keyed as keyed
 use Rattle.ov_sync.specs.Keyed.{PutOf, Values}
 use Rattle.ov_sync.proofs.KeyedLaws.{difference_puts}
 use Rattle.bgp_vpn.specs.Written.{IfPut}
-use Rattle.node_model.specs.Keys.{Key, Low, Vpn, Row, Publish, Subscribe, key_cmp}
+use Rattle.node_model.specs.Keys.{Key, Low, Vpn, Row, Publish, Subscribe}
 use Rattle.node_model.specs.Values.{Value, Object, Route, Entry, Label, same_value}
 use Rattle.node_model.specs.Maps.{Map, Change, difference}
 use Rattle.node_peers.specs.Told.{IsWritable, route_change}

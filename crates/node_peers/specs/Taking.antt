@@ -6,7 +6,7 @@ use Rattle.ov_types.specs.declared.vpn.VpnRoute.{VpnRoute}
 use Rattle.ov_sync.specs.declared.Delta.{Delta}
 use Rattle.bgp_session.specs.declared.event.Cause.{Cause}
 use Rattle.bgp_session.specs.declared.event.Event.{Event}
-use Rattle.bgp_session.specs.Happenings.{SessionFields, Happening, Passes, Sends, ComesUp, HandsOut, GoesDown, happening_of}
+use Rattle.bgp_session.specs.Happenings.{SessionFields, Happening, Sends, HandsOut, GoesDown, happening_of}
 use Rattle.bgp_session.specs.Happenings.{after, answer}
 use Rattle.bgp_session.specs.Inputs.{Came}
 use Rattle.node_peers.specs.Hearing.{IsNext, reply_octets, notification}

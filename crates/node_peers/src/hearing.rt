@@ -11,9 +11,7 @@ ghost use Rattle.node_peers.specs.Hearing.{Hears, heard, open_octets, reply_octe
 ghost use Rattle.node_peers.specs.Taking.{TakesNext, IsAdded};
 
 use bgp_session::{Cause, Event, Reply, Session};
-use bgp_wire::{
-    OpenOut, read_message, write_keepalive, write_notification, write_open,
-};
+use bgp_wire::{OpenOut, read_message, write_keepalive, write_notification, write_open};
 use ov_sync::Delta;
 use ov_types::{Addr, Items, NoMemory, VpnKey, VpnRoute};
 use std::alloc::Global;
@@ -73,13 +71,7 @@ fn push_notification(
 }
 
 /// Adds what an event says.
-fn add(
-    alloc: Global,
-    asn: u32,
-    me: Addr,
-    event: Event,
-    heard: &mut Heard,
-) -> Result<(), NoMemory>
+fn add(alloc: Global, asn: u32, me: Addr, event: Event, heard: &mut Heard) -> Result<(), NoMemory>
     requires autonomous_system { asn < 2 ^ 16 }
     requires identifier { me.0 ≢ 0 }
     requires up { heard.old.cause ≡ None }

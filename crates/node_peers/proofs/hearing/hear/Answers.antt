@@ -1,9 +1,5 @@
-use Rattle.std.proofs.Common.{◌≡◌, ◌∙◌, sym, ap, subst}
-use Rattle.ov_types.specs.declared.prefix.Addr.{Addr}
-use Rattle.bgp_session.specs.Happenings.{SessionFields, happening_of}
-use Rattle.bgp_session.specs.declared.event.Event.{Event}
-use Rattle.node_peers.specs.Taking.{IsAdded}
-use Rattle.node_peers.specs.declared.hearing.Heard.{Heard}
+use Rattle.std.proofs.Common.{◌∙◌, sym, ap}
+use Rattle.bgp_session.specs.Happenings.{SessionFields}
 use Rattle.node_peers.proofs.Leading.{no_cause, goes_down, stays_up, ends}
 use Rattle.node_peers.proofs.Labels.{labels_of}
 use Rattle.node_peers.proofs.hearing.hear.Goals as goal

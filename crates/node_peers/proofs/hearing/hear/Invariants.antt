@@ -1,7 +1,4 @@
-use Rattle.std.proofs.Common.{◌≡◌, length, Option, None}
-use Rattle.ov_types.specs.declared.prefix.Addr.{Addr}
-use Rattle.bgp_session.specs.declared.event.Cause.{Cause}
-use Rattle.bgp_session.specs.Happenings.{SessionFields}
+use Rattle.std.proofs.Common.{◌≡◌, length, None}
 use Rattle.node_peers.proofs.Leading.{Leads}
 use Rattle.node_peers.proofs.hearing.hear.Given as goal
 
