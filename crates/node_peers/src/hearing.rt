@@ -80,8 +80,7 @@ fn add(alloc: Global, asn: u32, me: Addr, event: Event, heard: &mut Heard) -> Re
     match event {
         Event::Quiet | Event::Up => {}
         Event::Send(reply) => heard.replies.push(reply_octets(alloc, asn, me, reply)?)?,
-        Event::Deltas(deltas) => {
-            let mut deltas = deltas;
+        Event::Deltas(mut deltas) => {
             heard.changes.append(&mut deltas)?;
         }
         Event::Down { cause, reply } => {
