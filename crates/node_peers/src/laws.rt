@@ -37,8 +37,8 @@ pub fn differences_can_be_written()
         → AllByRecursion (λ d. IfPut d IsWritable) (keyed.difference same sent wanted) }
 {}
 
-/// What is told is heard, and nothing else: an UPDATE as its change, the OPEN of the peer as a right one, a KEEPALIVE and
-/// a NOTIFICATION as such. What follows is left.
+/// What is told is heard, and nothing else: an UPDATE as its change, the OPEN of the peer as a right one, a KEEPALIVE
+/// and a NOTIFICATION as such. What follows is left.
 pub fn updates_are_heard()
     ensures update { (s : SessionFields) (d : Delta VpnKey VpnRoute) (more : List ℕ) → IfPut d IsWritable
         → ChangeFitsItsTypes d
