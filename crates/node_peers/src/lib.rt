@@ -2,7 +2,11 @@
 #![tactic(auto)]
 
 mod hearing;
+pub mod laws;
 mod telling;
 
 pub use hearing::{Heard, greet, hear};
 pub use telling::spell;
+
+#[cfg(test)]
+mod tests;
