@@ -1,6 +1,9 @@
 pub mod JsonLaws
 pub mod Weights
 pub mod ShortRecords
+pub mod Lexemes
+pub mod Tokens
+pub mod ValueWeights
 pub mod Lists
 pub mod Counts
 pub mod Addresses
