@@ -4,6 +4,7 @@ pub mod ShortRecords
 pub mod Lexemes
 pub mod Tokens
 pub mod ValueWeights
+pub mod EntryWeights
 pub mod Lists
 pub mod Counts
 pub mod Addresses
