@@ -1,11 +1,11 @@
 -- What is read from a value is written in no more than the value weighs.
-use Rattle.std.proofs.Common.{◌≡◌, ℕ, zero, suc, ◌+◌, ◌<◌, ◌≤◌, ◌^◌, ◌&&◌, ◌==◌, Bool, true, false, cond, nat_eq, nat_le, List, [], ◌∷◌, length, map, codes, decimal, Option, Some, None, refl, sym, subst, ap, ◌∙◌, arith, inl, inr}
+use Rattle.std.proofs.Common.{◌≡◌, ℕ, ◌+◌, ◌≤◌, ◌==◌, Bool, true, false, cond, nat_eq, nat_le, List, [], ◌∷◌, length, map, codes, decimal, Option, Some, None, refl, sym, subst, ap, ◌∙◌, arith}
 use Rattle.std.proofs.lemmas.Bool.{and_parts, eqb-true}
 use Rattle.std.specs.Prelude.{⊤}
 use Rattle.std.specs.Cmp.Lexicographic.{pointwise}
-use Rattle.serde_json.specs.Data.{Num, unsigned, negative, float, Data, null, boolean, number, string, array, object, Items, no_items, item, Members, no_members, member}
+use Rattle.serde_json.specs.Data.{unsigned, negative, float, Data, null, boolean, number, string, array, object, Items, no_items, item}
 use Rattle.serde_json.specs.Events.{items_len}
-use Rattle.serde_json.specs.Find.{at, as_number, as_str, as_array}
+use Rattle.serde_json.specs.Find.{at, as_str, as_array}
 use Rattle.serde_json.specs.View.{items_of}
 use Rattle.ov_types.specs.Name.{is_name}
 use Rattle.ov_types.specs.Prefix.{Block}
@@ -20,10 +20,10 @@ use Rattle.ov_types.specs.declared.packet.RuleNo.{RuleNo}
 use Rattle.ov_types.specs.declared.prefix.Addr.{Addr}
 use Rattle.item_wire.specs.declared.list.Count.{Count}
 use Rattle.item_wire.specs.Written.{address_of, block_of}
-use Rattle.item_wire.specs.Entries.{◌>>=◌, kept, is_from_to, number_if, number_from, name_from, address_from, any_address_from, node_address_from, prefix_from, all_from, counted, allows, list_from, network_from, counts, has_items, in_place, hop_from, protocol_from, ports_from, action_named, action_of, action_from, rule_number_from, rule_from}
+use Rattle.item_wire.specs.Entries.{◌>>=◌, kept, is_from_to, number_from, name_from, address_from, any_address_from, node_address_from, prefix_from, all_from, counted, allows, list_from, network_from, counts, has_items, in_place, hop_from, protocol_from, ports_from, action_named, action_of, action_from, rule_number_from, rule_from}
 use Rattle.item_wire.specs.Records.{number_record, address_record, prefix_record, list_record, import_record, hop_record, protocol_record, action_record, rule_record}
 use Rattle.item_wire.proofs.OneText.{address_has_one_text, prefix_has_one_text}
-use Rattle.item_wire.proofs.Weights.{comma_weight, weight, items_weight}
+use Rattle.item_wire.proofs.Weights.{weight, items_weight}
 
 -- ---- steps of a reading that gave something
 
@@ -42,7 +42,7 @@ kept_is false x y h = absurd (cc)
 
 -- ---- values of one token
 
-string_is : (d : Data) (s : List ℕ) → as_str d ≡ Some s → d ≡ string s
+pub string_is : (d : Data) (s : List ℕ) → as_str d ≡ Some s → d ≡ string s
 string_is null s h = absurd (cc)
 string_is (boolean b) s h = absurd (cc)
 string_is (number n) s h = absurd (cc)

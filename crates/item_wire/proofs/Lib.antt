@@ -5,6 +5,8 @@ pub mod Lexemes
 pub mod Tokens
 pub mod ValueWeights
 pub mod EntryWeights
+pub mod ItemWeights
+pub mod ReadLengths
 pub mod Lists
 pub mod Counts
 pub mod Addresses

@@ -1,5 +1,5 @@
 -- A value weighs no more than the octets that it is read from.
-use Rattle.std.proofs.Common.{◌≡◌, ℕ, suc, ◌+◌, ◌-◌, ◌<◌, ◌≤◌, ◌^◌, ◌&&◌, ◌==◌, Bool, true, false, not, cond, nat_lt, nat_le, List, [], ◌∷◌, ◌++◌, length, drop, take, decimal, Option, Some, None, option_map, option_and_then, Ordering, Less, Equal, Greater, refl, sym, subst, ap, ◌∙◌, arith, append_assoc, append-nil, length-append, length-take, ltb-true, inl, inr}
+use Rattle.std.proofs.Common.{◌≡◌, ℕ, suc, ◌+◌, ◌-◌, ◌<◌, ◌≤◌, ◌^◌, ◌&&◌, ◌==◌, Bool, true, false, not, cond, nat_lt, nat_le, List, [], ◌∷◌, ◌++◌, length, drop, take, decimal, Option, Some, None, option_map, option_and_then, Ordering, Less, Equal, Greater, refl, subst, ap, ◌∙◌, arith, append_assoc, append-nil, length-take, ltb-true, inl, inr}
 use Rattle.std.specs.Ordering.{nat_cmp, match_ordering}
 use Rattle.std.specs.Cmp.Lexicographic.{slice_cmp}
 use Rattle.std.specs.Float.{binary64, float_is_finite}
