@@ -1,6 +1,7 @@
 //! The items of nodes' sessions: what octets bring, and how changes are spelled.
 #![tactic(auto)]
 
+mod change_item;
 mod hearing;
 mod telling;
 
