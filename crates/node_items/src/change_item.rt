@@ -1,8 +1,9 @@
 //! The items of changes.
-ghost use Rattle.std.specs.Prelude.{◌≡◌, IfOk, IfSome};
+ghost use Rattle.std.specs.Prelude.{◌≡◌, IfOk, IfSome, IsTrue};
 ghost use Rattle.ov_sync.specs.Embed.{moved_delta};
 ghost use Rattle.ov_sync.specs.declared.Delta.TheVariants.{Put};
 ghost use Rattle.item_wire.specs.Changes.{item_of_key, item_of_object};
+ghost use Rattle.item_wire.specs.Ranges.{is_in_range};
 ghost use Rattle.node_model.specs.Keys.{Low, Row, Publish, Subscribe, of_down, of_up};
 ghost use Rattle.node_model.specs.Values.{Object, Entry as EntryOf, Label as LabelOf};
 ghost use Rattle.node_items.specs.Told.{CanBeTold, ChangeFits, Fits, IsWritable, KeyFits, down_value, item_of};
@@ -79,9 +80,11 @@ fn object_item(key: LowKey, value: LowValue) -> Option<Item>
 }
 
 /// The item that tells that an object is gone.
+#[tactic(auto, using(crate::proofs::Fitting::without_lists))]
 fn gone_item(key: LowKey) -> Item
     requires { KeyFits (Low key) }
     ensures item { result ≡ item_of_key key }
+    ensures range { IsTrue (is_in_range result) }
     ensures writable { IsWritable result }
 {
     match key {
@@ -99,7 +102,7 @@ fn gone_item(key: LowKey) -> Item
 fn subscribe_item(instance: InstanceId) -> Item
     requires { KeyFits (Subscribe instance) }
     ensures item { result ≡ Item.Subscribe instance }
-    ensures writable { IsWritable result }
+    ensures range { IsTrue (is_in_range result) }
 {
     Item::Subscribe { instance }
 }
@@ -107,7 +110,7 @@ fn subscribe_item(instance: InstanceId) -> Item
 fn unsubscribe_item(instance: InstanceId) -> Item
     requires { KeyFits (Subscribe instance) }
     ensures item { result ≡ Item.Unsubscribe instance }
-    ensures writable { IsWritable result }
+    ensures range { IsTrue (is_in_range result) }
 {
     Item::Unsubscribe { instance }
 }
@@ -115,8 +118,9 @@ fn unsubscribe_item(instance: InstanceId) -> Item
 fn route_item(instance: InstanceId, prefix: Prefix, hop: Entry) -> Item
     requires { Fits (Row instance prefix) (EntryOf hop) }
     ensures item { result ≡ Item.Route instance hop.label hop.next_hop prefix }
-    ensures writable { IsWritable result }
+    ensures range { IsTrue (is_in_range result) }
 {
+    let _address = prefix.addr();
     Item::Route {
         instance,
         label: hop.label,
@@ -128,16 +132,18 @@ fn route_item(instance: InstanceId, prefix: Prefix, hop: Entry) -> Item
 fn unroute_item(instance: InstanceId, prefix: Prefix) -> Item
     requires { KeyFits (Row instance prefix) }
     ensures item { result ≡ Item.Unroute instance prefix }
-    ensures writable { IsWritable result }
+    ensures range { IsTrue (is_in_range result) }
 {
+    let _address = prefix.addr();
     Item::Unroute { instance, prefix }
 }
 
 fn publish_item(instance: InstanceId, prefix: Prefix, label: Label) -> Item
     requires { Fits (Publish instance prefix) (LabelOf label) }
     ensures item { result ≡ Item.Publish instance label prefix }
-    ensures writable { IsWritable result }
+    ensures range { IsTrue (is_in_range result) }
 {
+    let _address = prefix.addr();
     Item::Publish {
         instance,
         label,
@@ -148,8 +154,9 @@ fn publish_item(instance: InstanceId, prefix: Prefix, label: Label) -> Item
 fn unpublish_item(instance: InstanceId, prefix: Prefix) -> Item
     requires { KeyFits (Publish instance prefix) }
     ensures item { result ≡ Item.Unpublish instance prefix }
-    ensures writable { IsWritable result }
+    ensures range { IsTrue (is_in_range result) }
 {
+    let _address = prefix.addr();
     Item::Unpublish { instance, prefix }
 }
 
@@ -172,6 +179,7 @@ pub(crate) fn low_item(delta: &Delta<LowKey, LowValue>) -> Result<Option<Item>, 
 }
 
 /// The item of a change that a control node tells an agent.
+#[tactic(auto, using(crate::proofs::Fitting::without_lists))]
 pub(crate) fn down_item(delta: &Delta<DownKey, DownValue>) -> Result<Option<Item>, NoMemory>
     requires { ChangeFits (moved_delta of_down down_value delta.now) }
     ensures item { IfOk result (λ item. item ≡ item_of (moved_delta of_down down_value delta.now)) }
@@ -193,6 +201,7 @@ pub(crate) fn down_item(delta: &Delta<DownKey, DownValue>) -> Result<Option<Item
 }
 
 /// The item of a change that an agent tells a control node.
+#[tactic(auto, using(crate::proofs::Fitting::without_lists))]
 pub(crate) fn up_item(delta: &Delta<UpKey, Label>) -> Option<Item>
     requires { ChangeFits (moved_delta of_up LabelOf delta.now) }
     ensures item { result ≡ item_of (moved_delta of_up LabelOf delta.now) }
