@@ -3,6 +3,7 @@
 
 mod change_item;
 mod hearing;
+pub mod laws;
 mod telling;
 
 pub use hearing::{Heard, greet, hear};
