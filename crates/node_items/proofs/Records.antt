@@ -3,13 +3,14 @@ use Rattle.std.proofs.Common.{◌≡◌, ℕ, ◌+◌, ◌≤◌, Bool, true, fa
 use Rattle.std.proofs.lemmas.List.{drop_at}
 use Rattle.std.specs.Cmp.Lexicographic.{pointwise}
 use Rattle.std.specs.Prelude.{nat_eq}
-use Rattle.byteorder.specs.Endian.{big_bytes}
+use Rattle.std.proofs.lemmas.Slice.Eq.{bytes_eq-Decides}
 use Rattle.ov_types.specs.Name.{is_name}
 use Rattle.item_wire.specs.Frames.{framed, frame_of}
 use Rattle.item_wire.specs.Happenings.{SessionFields, after, answer, next_state, next_event}
 use Rattle.item_wire.specs.Inputs.{may_send, came_by, came_by_other, came_by_hello}
 use Rattle.item_wire.specs.Reading.{item_in}
 use Rattle.item_wire.specs.Records.{json_text, spelling}
+use Rattle.item_wire.specs.declared.event.ItemCause.TheVariants.{WrongName}
 use Rattle.item_wire.specs.declared.event.ItemEvent.TheVariants.{Record, Up as CameUp}
 use Rattle.item_wire.specs.declared.event.ItemFrom.{ItemFrom}
 use Rattle.item_wire.specs.declared.event.ItemFrom.TheVariants.{Feed, Control, Agent, Nothing}
@@ -27,7 +28,7 @@ use Rattle.node_items.proofs.Fitting.{without_lists}
 use Rattle.node_items.proofs.Changes.{spelling_of_what_is_told}
 
 past_the_record : (json more : List ℕ) → drop (4 + length json) (framed json ++ more) ≡ more
-past_the_record json more = drop_at (framed json) more (4 + length json) (sym (length-append (big_bytes 4 (length json)) json))
+past_the_record json more = drop_at (framed json) more (4 + length json) (omega arith)
 
 -- the octets of an item bring it first, whatever follows them
 pub first_heard : (s : SessionFields) (i : Item) (more : List ℕ) → IsWritable i → next_in s (spelling i ++ more) ≡ Some (came_by s.peer s.from i, more)
@@ -55,3 +56,9 @@ change_heard s c told more h =
     ap (λ (octets : List ℕ). next_in s (octets ++ more)) (spelling_of_what_is_told c told)
     ∙ first_heard s told.item more told.writable
     ∙ ap (λ (came : Came). Some (came, more)) (sent_came s.peer s.from told.item h)
+
+pub hello_heard : (s : SessionFields) (more : List ℕ) → IsTrue (is_name s.peer) → next_in s (spelling (I.Hello s.peer) ++ more) ≡ Some (Comes.Hello, more)
+hello_heard s more h =
+    let same : pointwise nat_eq s.peer s.peer ≡ true = (bytes_eq-Decides s.peer s.peer).1 refl in
+    first_heard s (I.Hello s.peer) more (without_lists _ h refl)
+    ∙ ap (λ (b : Bool). Some (cond b Comes.Hello (Comes.BadRecord WrongName), more)) same
