@@ -1,12 +1,12 @@
 -- What is heard, one record after another.
-use Rattle.std.proofs.Common.{◌≡◌, ℕ, ◌+◌, ◌≤◌, Bool, true, false, cond, List, [], ◌∷◌, ◌++◌, length, drop, Option, Some, None, Ok, IsTrue, refl, sym, ap, subst, ◌∙◌, append_assoc}
+use Rattle.std.proofs.Common.{◌≡◌, ℕ, ◌+◌, Bool, true, false, cond, List, [], ◌∷◌, ◌++◌, length, drop, Some, None, Ok, IsTrue, refl, sym, ap, subst, ◌∙◌, append_assoc}
 use Rattle.std.proofs.lemmas.List.{append-nil}
 use Rattle.std.specs.List.{AllByRecursion}
 use Rattle.std.specs.Cmp.Lexicographic.{pointwise}
 use Rattle.std.specs.Prelude.{nat_eq}
 use Rattle.item_wire.specs.Frames.{frame_of}
 use Rattle.item_wire.specs.Happenings.{SessionFields, after, answer, next_event}
-use Rattle.item_wire.specs.Inputs.{may_send, came_by, came_by_other, came_by_hello}
+use Rattle.item_wire.specs.Inputs.{may_send, came_by}
 use Rattle.item_wire.specs.Reading.{item_in}
 use Rattle.item_wire.specs.declared.event.ItemCause.{ItemCause}
 use Rattle.item_wire.specs.declared.event.ItemCause.TheVariants.{Order, WrongName}
@@ -83,12 +83,12 @@ leads_start start octets inputs h = record { all = inputs; hears = h; records_ar
 -- what an event makes of what is heard after it
 abbrev with_event : ItemEvent → ItemState → Heard → Heard
 with_event event state more = elim event [
-    | Event.Record i ↦ and_record i more
-    | Event.Down cause ↦ record { records = []; state = state; cause = Some cause }
-    | Event.Quiet ↦ more
-    | Event.SendHello ↦ more
-    | Event.Up ↦ more
-  ]
+  | Event.Record i ↦ and_record i more
+  | Event.Down cause ↦ record { records = []; state = state; cause = Some cause }
+  | Event.Quiet ↦ more
+  | Event.SendHello ↦ more
+  | Event.Up ↦ more
+]
 
 record AddsTo (event : ItemEvent) (state : ItemState) (more : Heard) : Type 0 where
   records_are : (with_event event state more).records ≡ records_in event ++ more.records
@@ -120,7 +120,7 @@ leads_on start octets records s rest came next leads brings on inputs h =
       hears = w.hears;
       records_are = w.records_are ∙ ap (λ (is : List Item). records ++ is) a.records_are ∙ sym (append_assoc records (records_in (answer s came)) (heard (after s came) inputs).records);
       state_is = w.state_is ∙ a.state_is;
-      cause_is = w.cause_is ∙ a.cause_is
+      cause_is = w.cause_is ∙ a.cause_is;
     }
 
 -- nothing is left that is a whole record
@@ -147,7 +147,7 @@ leads_down start octets records s rest came next cause leads brings down =
     let last : GoesOn (answer s came) [] (Hears (after s came) next []) = subst (λ (event : ItemEvent). GoesOn event [] (Hears (after s came) next [])) (sym down) refl in
     let w = leads (came ∷ []) (next, brings, last) in
     let is : heard s (came ∷ []) ≡ record { records = []; state = (after s came).state; cause = Some cause } =
-        ap (λ (event : ItemEvent). with_event event (after s came).state (heard (after s came) [])) down in
+    ap (λ (event : ItemEvent). with_event event (after s came).state (heard (after s came) [])) down in
     (w.all, w.hears, sym (w.records_are ∙ ap (λ (h : Heard). records ++ h.records) is ∙ append-nil records), sym (w.cause_is ∙ ap (λ (h : Heard). h.cause) is), sym (w.state_is ∙ ap (λ (h : Heard). h.state) is))
 
 -- ---- in the words of what was brought

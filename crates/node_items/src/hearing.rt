@@ -47,11 +47,7 @@ pub fn greet(
 }
 
 /// Hears the octets of JSON of one record.
-fn take_json(
-    alloc: Global,
-    session: &mut ItemSession,
-    json: &[u8],
-) -> Result<ItemEvent, NoMemory>
+fn take_json(alloc: Global, session: &mut ItemSession, json: &[u8]) -> Result<ItemEvent, NoMemory>
     requires { length json.now ≤ 65536 }
     ensures state { IfOk result (λ event. session.new ≡ after session.old (came_with session.old (item_in json.now))) }
     ensures event { IfOk result (λ event. event ≡ answer session.old (came_with session.old (item_in json.now))) }

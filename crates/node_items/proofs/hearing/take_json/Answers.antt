@@ -1,4 +1,4 @@
-use Rattle.std.proofs.Common.{IsTrue}
+use Rattle.std.proofs.Common.{IsTrue, arith}
 use Rattle.item_wire.specs.Inputs.{may_send}
 use Rattle.node_items.specs.Told.{IsWritable}
 use Rattle.node_items.proofs.Hearings.{handed_out_has}
@@ -10,4 +10,4 @@ returns-in-Ok-clause-sent c =
 
 pub returns-in-Ok-clause-writable : goal.returns-in-Ok-clause-writable
 returns-in-Ok-clause-writable c =
-    handed_out_has IsWritable c.args.session.now c.in-Ok.item _ c.take_item.ensures.event (λ may. record { in_range = c.in-Ok.ensures.form; short = ? })
+    handed_out_has IsWritable c.args.session.now c.in-Ok.item _ c.take_item.ensures.event (λ may. record { in_range = c.in-Ok.ensures.form; short = omega (arith, c.in-Ok.ensures.length, c.requires) })

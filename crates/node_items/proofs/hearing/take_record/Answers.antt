@@ -1,5 +1,4 @@
-use Rattle.std.proofs.Common.{◌≡◌, Option, List, ℕ, Ok, Some, ap, sym, ◌∙◌}
-use Rattle.std.specs.Option.{option_map}
+use Rattle.std.proofs.Common.{sym}
 use Rattle.node_items.proofs.Hearings.{brought_by_json}
 use Rattle.node_items.proofs.hearing.take_record.Goals as goal
 
