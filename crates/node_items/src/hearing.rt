@@ -112,7 +112,7 @@ fn past(bytes: &[u8], size: usize) -> &[u8]
 }
 
 /// Hears octets: each record of them in order, up to one that takes the session down. Octets at the end that are no
-/// whole record are passed over. Where memory runs out, the session has heard the records before.
+/// whole record are passed over. Where memory runs out, some of the records may have been heard.
 pub fn hear(alloc: Global, session: &mut ItemSession, bytes: &[u8]) -> Result<Heard, NoMemory>
     ensures heard { IfOk result (λ w. (inputs : List Came) × Hears session.old bytes.now inputs
         × (w.records.items ≡ (heard session.old inputs).records) × (w.cause ≡ (heard session.old inputs).cause)
