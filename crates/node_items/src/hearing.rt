@@ -53,7 +53,8 @@ fn take_json(alloc: Global, session: &mut ItemSession, json: &[u8]) -> Result<It
     ensures event { IfOk result (λ event. event ≡ answer session.old (came_with session.old (item_in json.now))) }
     ensures peer { session.new.peer ≡ session.old.peer }
     ensures from { session.new.from ≡ session.old.from }
-    ensures sent { IfOk result (λ event. AllByRecursion (λ i. IsTrue (may_send session.old.from i)) (records_in event)) }
+    ensures sent { IfOk result
+        (λ event. AllByRecursion (λ i. IsTrue (may_send session.old.from i)) (records_in event)) }
     ensures writable { IfOk result (λ event. AllByRecursion IsWritable (records_in event)) }
 {
     match read_item(alloc, json) {
