@@ -39,7 +39,8 @@ GoesOn _ more Then = Then
 abbrev pub Hears : SessionFields → List ℕ → List Came → Type 0
 Hears s octets [] = next_in s octets ≡ None
 Hears s octets (came ∷ more) =
-    (rest : List ℕ) × (next_in s octets ≡ Some (came, rest)) × GoesOn (answer s came) more (Hears (after s came) rest more)
+    (rest : List ℕ) × (next_in s octets ≡ Some (came, rest))
+    × GoesOn (answer s came) more (Hears (after s came) rest more)
 
 -- ---- what comes of it
 pub record Heard : Type 0 where

@@ -53,7 +53,8 @@ fn take_json(alloc: Global, session: &mut ItemSession, json: &[u8]) -> Result<It
     ensures event { IfOk result (λ event. event ≡ answer session.old (came_with session.old (item_in json.now))) }
     ensures peer { session.new.peer ≡ session.old.peer }
     ensures from { session.new.from ≡ session.old.from }
-    ensures sent { IfOk result (λ event. AllByRecursion (λ i. IsTrue (may_send session.old.from i)) (records_in event)) }
+    ensures sent { IfOk result
+        (λ event. AllByRecursion (λ i. IsTrue (may_send session.old.from i)) (records_in event)) }
     ensures writable { IfOk result (λ event. AllByRecursion IsWritable (records_in event)) }
 {
     match read_item(alloc, json) {
@@ -112,7 +113,7 @@ fn past(bytes: &[u8], size: usize) -> &[u8]
 }
 
 /// Hears octets: each record of them in order, up to one that takes the session down. Octets at the end that are no
-/// whole record are passed over.
+/// whole record are passed over. Where memory runs out, some of the records may have been heard.
 pub fn hear(alloc: Global, session: &mut ItemSession, bytes: &[u8]) -> Result<Heard, NoMemory>
     ensures heard { IfOk result (λ w. (inputs : List Came) × Hears session.old bytes.now inputs
         × (w.records.items ≡ (heard session.old inputs).records) × (w.cause ≡ (heard session.old inputs).cause)
