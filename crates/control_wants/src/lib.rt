@@ -1,6 +1,8 @@
 //! What a control node wants its peers and its agents to have been told, and the rows that it shows.
 #![tactic(auto)]
 
+mod entries;
+mod first;
 pub mod laws;
 mod wants;
 
