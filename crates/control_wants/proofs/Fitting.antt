@@ -92,8 +92,7 @@ services hops left right ls rs n item is h = within 1 15 (length hops) (second _
 use_parts : (k : LowKey) (v : LowValue) (u : Use) → as_use k v ≡ Some u → Fits (Low k) (Object v) → (u.number ≤ 3071) × (u.services ≤ 15)
 use_parts (key.ChainUse n) (low.ChainUse left right ls rs hops) u e f =
     let is : ◌≡◌ {A = Use} (record { number = n; left = left; right = right; left_subnets = ls; right_subnets = rs; services = length hops }) u = same_Some _ u e in
-    let number : n ≤ 3071 = leb-true n 3071 f.0 in
-    (
+    let number : n ≤ 3071 = leb-true n 3071 f.0 in (
       subst (λ (u : Use). u.number ≤ 3071) is number,
       subst (λ (u : Use). u.services ≤ 15) is (services hops left right ls rs n f.1.item (same_Some _ f.1.item f.1.is) f.1.writable.in_range),
     )
@@ -235,6 +234,7 @@ agents_fit h a fit told k v e =
         let q = from_flat_map (rows_of h) (k, v) (subscriptions a.map) m in
         let t = from_map (row_of_path q.0) (k, v) (entries (table h q.0)) q.2 in
         let least = selected_least (paths_of h q.0) t.0.0 t.0.1 (get_member prefix_total (table h q.0) t.0.0 t.0.1 t.1) in
-        subst (λ (e : Key × Value). Fits e.0 e.1) t.2
-        (subscribed_fits q.0 (get a.map (Subscribe q.0)) (subscription_from a.map q.0 q.1) (told (Subscribe q.0)),
-        row_label t.0.1.label.0 (path_label h q.0 t.0.1 fit least.member))
+        subst (λ (e : Key × Value). Fits e.0 e.1) t.2 (
+          subscribed_fits q.0 (get a.map (Subscribe q.0)) (subscription_from a.map q.0 q.1) (told (Subscribe q.0)),
+          row_label t.0.1.label.0 (path_label h q.0 t.0.1 fit least.member),
+        )

@@ -39,9 +39,10 @@ pub(crate) fn told_objects(
 ) -> Result<Vec<(DownKey, DownValue)>, NoMemory>
     ensures { IfOk result (λ told. told.items ≡ map told_object objects.items) }
 {
-    let told = objects
-        .into_iter()
-        .map(|(key, object)| (DownKey::Slice(key), DownValue::Object(object)));
+    let told = objects.into_iter().map(|(key, object)| (
+        DownKey::Slice(key),
+        DownValue::Object(object),
+    ));
     Ok(told.collect(alloc)?)
 }
 

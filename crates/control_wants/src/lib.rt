@@ -4,6 +4,8 @@
 mod entries;
 mod first;
 pub mod laws;
+#[cfg(test)]
+mod tests;
 mod wants;
 
 pub use wants::{rows, wanted_by_agent, wanted_by_peers};
