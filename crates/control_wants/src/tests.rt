@@ -100,13 +100,13 @@ fn peers_are_told_own_and_led_routes(rt: HostRuntime) -> Result<(), Fail> {
 fn the_lower_session_counts(rt: HostRuntime) -> Result<(), Fail> {
     let alloc = rt.alloc();
     let mut tables = chained(alloc)?;
-    let key = UpKey::Publish(InstanceId(1), Prefix::host(Addr(0x0a01_0001)));
     let told = VpnKey {
         rd: Rd(0x0001_c000_020b_0001),
         prefix: Prefix::host(Addr(0x0a01_0001)),
     };
     for (session, want) in [(3, 17), (1, 18)] {
         tables.set_agent(session, NEAR)?;
+        let key = UpKey::Publish(InstanceId(1), Prefix::host(Addr(0x0a01_0001)));
         tables.set_publication(session, Delta::Put(key, Label(18)))?;
         let wanted = wanted_by_peers(alloc, &tables)?;
         let route = wanted.get(&told).ok_or("192.0.2.11:1 10.1.0.1/32")?;

@@ -14,7 +14,8 @@ use std::alloc::Global;
 use std::collections::BTreeMap;
 use vpn_tables::VpnTables;
 
-/// What every peer is to have been told: the own and the re-originated routes.
+/// What every peer is to have been told: the own and the re-originated routes. Of those of one key an own route counts
+/// before a re-originated one, and the lower session's before the higher's.
 pub fn wanted_by_peers(
     alloc: Global,
     tables: &VpnTables,
