@@ -125,6 +125,122 @@ fn the_first_fault_is_told(rt: HostRuntime) {
     }
 }
 
+#[test]
+fn each_op_tells_its_first_member(rt: HostRuntime) {
+    for (missing, other_kind, out_of_range, name) in [
+        (
+            "{\"op\":\"hello\"}",
+            "{\"op\":\"hello\",\"name\":7}",
+            "{\"op\":\"hello\",\"name\":\"\"}",
+            Field::Name,
+        ),
+        (
+            "{\"op\":\"instance\"}",
+            "{\"op\":\"instance\",\"imports\":\"1\"}",
+            "{\"op\":\"instance\",\"imports\":[]}",
+            Field::Imports,
+        ),
+        (
+            "{\"op\":\"port\"}",
+            "{\"op\":\"port\",\"address\":167837701}",
+            "{\"op\":\"port\",\"address\":\"10.1.0.256\"}",
+            Field::Address,
+        ),
+        (
+            "{\"op\":\"circuit\"}",
+            "{\"op\":\"circuit\",\"circuit\":\"32769\"}",
+            "{\"op\":\"circuit\",\"circuit\":131071}",
+            Field::Circuit,
+        ),
+        (
+            "{\"op\":\"acl\"}",
+            "{\"op\":\"acl\",\"from\":1.0}",
+            "{\"op\":\"acl\",\"from\":0}",
+            Field::From,
+        ),
+        (
+            "{\"op\":\"use\"}",
+            "{\"op\":\"use\",\"hops\":{}}",
+            "{\"op\":\"use\",\"hops\":[[1,\"0.255.255.255\"]]}",
+            Field::Hops,
+        ),
+        (
+            "{\"op\":\"no-instance\"}",
+            "{\"op\":\"no-instance\",\"instance\":null}",
+            "{\"op\":\"no-instance\",\"instance\":16384}",
+            Field::Instance,
+        ),
+        (
+            "{\"op\":\"no-attach\"}",
+            "{\"op\":\"no-attach\",\"label\":[16]}",
+            "{\"op\":\"no-attach\",\"label\":15}",
+            Field::Label,
+        ),
+        (
+            "{\"op\":\"no-acl\"}",
+            "{\"op\":\"no-acl\",\"from\":true}",
+            "{\"op\":\"no-acl\",\"from\":16384}",
+            Field::From,
+        ),
+        (
+            "{\"op\":\"no-use\"}",
+            "{\"op\":\"no-use\",\"use\":1e3}",
+            "{\"op\":\"no-use\",\"use\":3072}",
+            Field::Use,
+        ),
+        (
+            "{\"op\":\"publish\"}",
+            "{\"op\":\"publish\",\"instance\":\"1\"}",
+            "{\"op\":\"publish\",\"instance\":65536}",
+            Field::Instance,
+        ),
+        (
+            "{\"op\":\"unpublish\"}",
+            "{\"op\":\"unpublish\",\"instance\":1.5}",
+            "{\"op\":\"unpublish\",\"instance\":0}",
+            Field::Instance,
+        ),
+        (
+            "{\"op\":\"subscribe\"}",
+            "{\"op\":\"subscribe\",\"instance\":{}}",
+            "{\"op\":\"subscribe\",\"instance\":65536}",
+            Field::Instance,
+        ),
+        (
+            "{\"op\":\"unsubscribe\"}",
+            "{\"op\":\"unsubscribe\",\"instance\":[]}",
+            "{\"op\":\"unsubscribe\",\"instance\":0}",
+            Field::Instance,
+        ),
+        (
+            "{\"op\":\"route\"}",
+            "{\"op\":\"route\",\"instance\":false}",
+            "{\"op\":\"route\",\"instance\":65536}",
+            Field::Instance,
+        ),
+        (
+            "{\"op\":\"unroute\"}",
+            "{\"op\":\"unroute\",\"instance\":\"0\"}",
+            "{\"op\":\"unroute\",\"instance\":-1}",
+            Field::Instance,
+        ),
+    ] {
+        let member = ItemFault::Member { name };
+        let range = ItemFault::Range { name };
+        for (text, fault) in [
+            (missing, member),
+            (other_kind, member),
+            (out_of_range, range),
+        ] {
+            assert_eq!(rt;
+                read_item(rt.alloc(), text.as_bytes()),
+                Err(ItemRefusal::Fault(fault)),
+                "{text}"
+            );
+        }
+    }
+}
+
 /// An entry of an access list that is as long as one can be.
 fn longest_rule() -> AclRule {
     AclRule {
