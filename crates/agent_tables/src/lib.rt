@@ -3,6 +3,9 @@
 
 mod hearing;
 pub mod laws;
+mod needs;
+mod object;
+mod slice;
 mod tables;
 mod wants;
 
