@@ -4,3 +4,4 @@ pub mod Objects
 pub mod Told
 pub mod Lists
 pub mod Added
+pub mod Telling
