@@ -6,11 +6,11 @@ use Rattle.std.specs.declared.option.Option.{Option}
 use Rattle.std.specs.declared.option.Option.TheVariants.{Some, None}
 use Rattle.std.specs.BTreeMap as tree
 use Rattle.std.specs.BTreeMap.{BTreeMap, insert_entry}
-use Rattle.std.specs.Ordering.{is_eq, eq_by_cmp}
+use Rattle.std.specs.Ordering.{is_eq}
 use Rattle.std.specs.Option.{option_map}
 use Rattle.std.specs.List.{flat_map}
 use Rattle.std.specs.Map.{lookup}
-use Rattle.std.specs.FinMap.{FinMap, get, entries, from_entries, find, insert, empty, get-entries, get-from_entries, same_map, from_entries_push}
+use Rattle.std.specs.FinMap.{get, entries, from_entries, find, insert, empty, get-entries, get-from_entries, same_map, from_entries_push}
 use Rattle.std.proofs.Common.{refl, sym, ◌∙◌, ap, append-nil}
 use Rattle.ov_sync.specs.declared.Delta.TheVariants.{Put}
 use Rattle.ov_sync.specs.Keyed.{map_of}

@@ -1,11 +1,10 @@
 -- What is held of each direction of a session, among the keys and values of all sessions.
 use Rattle.std.specs.Prelude.{◌≡◌, List, map}
 use Rattle.std.specs.declared.cmp.Ordering.{Ordering}
-use Rattle.std.specs.declared.cmp.Ordering.TheVariants.{Equal}
 use Rattle.std.specs.Cmp.{IsTotalOrder, on_total}
 use Rattle.std.specs.Option.{option_map}
 use Rattle.std.specs.List.Sorted.{IsStrictlySortedBy}
-use Rattle.std.specs.FinMap.{FinMap, IsAntisymmetric, get, entries}
+use Rattle.std.specs.FinMap.{IsAntisymmetric, get, entries}
 use Rattle.std.proofs.Common.{refl, sym, ◌∙◌, ap, subst, rules}
 use Rattle.ov_sync.specs.Keyed.{map_of}
 use Rattle.ov_sync.specs.Embed.{embedded, moved_entry}
@@ -88,6 +87,9 @@ up_again : (d k : UpKey) → an_up d (of_up k) ≡ k
 unfolding an_up
 up_again d (Up.Publish i p) = refl
 up_again d (Up.Subscribe i) = refl
+
+pub low_total : IsTotalOrder low_key_cmp
+low_total = image_total Low low_key_cmp images.low_keeps
 
 pub down_total : IsTotalOrder down_order
 down_total = image_total of_down down_order down_keeps

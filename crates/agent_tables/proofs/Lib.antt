@@ -5,3 +5,6 @@ pub mod Told
 pub mod Lists
 pub mod Added
 pub mod Telling
+pub mod Ordered
+pub mod Slices
+pub mod Routes

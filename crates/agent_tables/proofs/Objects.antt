@@ -1,11 +1,9 @@
 -- What objects that can be told are like.
 use Rattle.std.specs.Prelude.{◌≡◌, ℕ, Bool, true, false, cond, ◌&&◌, ◌==◌, is_some, nat_le, IsTrue}
-use Rattle.std.specs.declared.option.Option.{Option}
 use Rattle.std.specs.declared.option.Option.TheVariants.{Some, None}
 use Rattle.std.proofs.lemmas.Option.{same_Some}
 use Rattle.std.proofs.lemmas.Bool.{and_parts}
-use Rattle.std.proofs.Common.{refl, sym, ◌∙◌, ap, subst}
-use Rattle.ov_sync.specs.declared.Delta.TheVariants.{Put}
+use Rattle.std.proofs.Common.{refl, sym, ◌∙◌, ap}
 use Rattle.ov_types.specs.declared.objects.LowKey.{LowKey}
 use Rattle.ov_types.specs.declared.objects.LowKey.TheVariants as key
 use Rattle.ov_types.specs.declared.objects.LowValue.{LowValue}
@@ -20,7 +18,7 @@ use Rattle.item_wire.proofs.ChangeLemmas.{item_of_an_object}
 use Rattle.node_model.specs.Keys.{Low}
 use Rattle.node_model.specs.Values.{Object}
 use Rattle.node_model.proofs.Members.{none_some}
-use Rattle.node_items.specs.Told.{Fits, CanBeTold}
+use Rattle.node_items.specs.Told.{Fits}
 use Rattle.agent_tables.specs.Objects.{is_of_a_use}
 
 -- an object that can be told stands under its key

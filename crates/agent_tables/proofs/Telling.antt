@@ -1,9 +1,7 @@
 -- What an agent wants can be told, where what it holds can.
-use Rattle.std.specs.Prelude.{◌≡◌, ℕ, ◌/◌, ◌≤◌, List, [], ◌∷◌, ◌++◌, map, Bool, true, false, cond, ◌&&◌, ◌==◌, nat_le, length, IsTrue}
-use Rattle.std.specs.declared.option.Option.{Option}
+use Rattle.std.specs.Prelude.{◌≡◌, ℕ, ◌/◌, ◌≤◌, List, [], ◌∷◌, ◌++◌, map, Bool, true, false, cond, ◌&&◌, ◌==◌, nat_le}
 use Rattle.std.specs.declared.option.Option.TheVariants.{Some, None}
-use Rattle.std.specs.List.{AllByRecursion, filter_map, flat_map, list_all}
-use Rattle.std.specs.FinMap.{get}
+use Rattle.std.specs.List.{AllByRecursion, flat_map, list_all}
 use Rattle.std.proofs.lemmas.Bool.{and_parts, and_from, leb-true, le-leb}
 use Rattle.std.proofs.lemmas.Option.{same_Some}
 use Rattle.std.proofs.Common.{refl, sym, ◌∙◌, ap, subst, inl, inr, arith}
@@ -18,11 +16,10 @@ use Rattle.ov_types.specs.declared.objects.LowKey.{LowKey}
 use Rattle.ov_types.specs.declared.objects.LowKey.TheVariants as key
 use Rattle.ov_types.specs.declared.objects.LowValue.{LowValue}
 use Rattle.ov_types.specs.declared.objects.LowValue.TheVariants as low
-use Rattle.ov_types.specs.declared.numbers.Label.{Label as LabelNo}
 use Rattle.route_targets.specs.Numbers.{circuit_instance_of, port_label_of}
 use Rattle.item_wire.specs.Changes.{item_of_object}
 use Rattle.item_wire.specs.Entries.{is_from_to}
-use Rattle.item_wire.specs.Ranges.{is_in_range, is_network, is_instance, is_attached_label, is_rule, is_action, is_block, is_protocol, are_ports, is_rule_number, is_address, is_node_address}
+use Rattle.item_wire.specs.Ranges.{is_in_range, is_network, is_instance, is_rule, is_action, is_block, is_protocol, are_ports, is_rule_number, is_address, is_node_address}
 use Rattle.item_wire.specs.declared.item.Item.{Item}
 use Rattle.item_wire.specs.declared.item.Item.TheVariants as I
 use Rattle.node_model.specs.Agent.{Heard, Holdings, entered_by, needed_by, needed_for, publication, slice_in_use, wanted}
@@ -33,8 +30,7 @@ use Rattle.node_model.specs.Values.{Value, Object, Label}
 use Rattle.node_model.proofs.Members.{none_some, from_flat_map, from_filter_map, from_map, in_either, from_entry}
 use Rattle.node_model.proofs.Objects.{object_of}
 use Rattle.node_model.proofs.Orders.{key_total, key_exact}
-use Rattle.node_items.specs.Told.{AllFit, Fits, KeyFits}
-use Rattle.agent_tables.specs.Objects.{is_of_a_use}
+use Rattle.node_items.specs.Told.{AllFit, Fits}
 use Rattle.agent_tables.proofs.Objects.{circuit}
 
 -- ---- numbers of instances

@@ -1,10 +1,8 @@
 -- What a control node told, entry by entry.
-use Rattle.std.specs.Prelude.{◌≡◌, List, [], ◌∷◌, ◌++◌, map}
+use Rattle.std.specs.Prelude.{◌≡◌, List, [], ◌∷◌, map}
 use Rattle.std.specs.declared.option.Option.{Option}
-use Rattle.std.specs.declared.option.Option.TheVariants.{Some, None}
 use Rattle.std.specs.List.{AllByRecursion, filter_map, cons_option}
 use Rattle.std.specs.List.Sorted.{IsStrictlySortedBy}
-use Rattle.std.specs.FinMap.{get, entries}
 use Rattle.std.proofs.Common.{refl, sym, ◌∙◌, ap, subst, inl, inr}
 use Rattle.ov_sync.specs.Embed.{moved_entry}
 use Rattle.ov_types.specs.Prefix.{Block}
@@ -15,7 +13,7 @@ use Rattle.ov_types.specs.declared.objects.LowKey.{LowKey}
 use Rattle.ov_types.specs.declared.objects.LowValue.{LowValue}
 use Rattle.ov_types.specs.declared.rows.Entry.{Entry as Hop}
 use Rattle.node_model.specs.Agent.{row_entry}
-use Rattle.node_model.specs.Keys.{Key, key_cmp, of_down}
+use Rattle.node_model.specs.Keys.{Key, of_down}
 use Rattle.node_model.specs.Maps.{low_entry, objects}
 use Rattle.node_model.specs.Members.{Member}
 use Rattle.node_model.specs.Values.{Value}

@@ -4,6 +4,7 @@ use Rattle.std.specs.declared.cmp.Ordering.{Ordering}
 use Rattle.std.specs.declared.option.Option.{Option}
 use Rattle.std.specs.declared.option.Option.TheVariants.{Some, None}
 use Rattle.std.specs.BTreeMap.{insert_entry}
+use Rattle.std.specs.Ordering.{nat_cmp}
 use Rattle.std.specs.FinMap.{entries, from_entries}
 use Rattle.ov_types.specs.declared.keys.UpKey.{UpKey}
 use Rattle.ov_types.specs.declared.numbers.Label.{Label as LabelNo}
@@ -24,3 +25,7 @@ entries_of (Some e) = (of_up e.0, Label e.1) ∷ []
 abbrev pub with_entry : {K V : Type 0} → (K → K → Ordering) → List (K × V) → Option (K × V) → List (K × V)
 with_entry R es None = es
 with_entry R es (Some e) = insert_entry R es e.0 e.1
+
+-- labels go by number
+abbrev pub label_order : LabelNo → LabelNo → Ordering
+label_order a b = nat_cmp a.0 b.0

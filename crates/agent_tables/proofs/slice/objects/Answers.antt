@@ -1,11 +1,11 @@
-use Rattle.std.proofs.Common.{◌≡◌, ap, subst, sym, ◌∙◌, ◌++◌, List, append-nil, rules}
-use Rattle.std.specs.List.{AllByRecursion, filter_map}
+use Rattle.std.proofs.Common.{ap, sym, ◌∙◌, ◌++◌, List, append-nil, rules}
+use Rattle.std.specs.List.{filter_map}
 use Rattle.std.specs.Map.Iter.{deref_pair}
 use Rattle.std.proofs.lemmas.Map.Iter.{rest_all}
 use Rattle.ov_types.specs.declared.keys.DownKey.{DownKey}
 use Rattle.ov_types.specs.declared.keys.DownValue.{DownValue}
 use Rattle.agent_tables.specs.Slice.{pairs_of}
-use Rattle.agent_tables.proofs.Told.{Fit, all_fit, object_at, objects_are}
+use Rattle.agent_tables.proofs.Told.{all_fit, object_at, objects_are}
 use Rattle.agent_tables.proofs.slice.objects.Goals as goal
 
 pub loop-key-init : goal.loop-key-init

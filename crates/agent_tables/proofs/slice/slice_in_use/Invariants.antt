@@ -1,4 +1,4 @@
-use Rattle.std.proofs.Common.{◌≡◌, List, drop, map}
+use Rattle.std.proofs.Common.{◌≡◌, drop, map}
 use Rattle.std.specs.List.{AllByRecursion}
 use Rattle.node_items.specs.Told.{AllFit}
 use Rattle.node_model.specs.Agent.{Heard, Holdings, slice_in_use}

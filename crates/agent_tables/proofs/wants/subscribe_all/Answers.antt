@@ -1,4 +1,4 @@
-use Rattle.std.proofs.Common.{ap, ◌+◌, ◌∷◌, [], List, drop, map, get_or}
+use Rattle.std.proofs.Common.{ap, ◌+◌, ◌∷◌, [], drop, map, get_or}
 use Rattle.node_items.specs.Told.{up_of}
 use Rattle.node_model.specs.Keys.{Key, Subscribe}
 use Rattle.node_model.specs.Values.{Value, Label}
