@@ -98,6 +98,7 @@ fn subscribe_all(
 }
 
 /// Adds a key with its label, where the key is not there yet.
+#[tactic(auto, using(crate::proofs::Added::up_there, crate::proofs::Added::up_new))]
 fn add(wanted: &mut BTreeMap<UpKey, Label>, key: UpKey, label: Label) -> Result<(), NoMemory>
     ensures { OnOk result (up_of wanted.new.entries
         ≡ added (up_of wanted.old.entries) ((of_up key, LabelOf label) ∷ [])) }
