@@ -2,9 +2,8 @@
 #![tactic(auto)]
 
 mod cause;
-mod node;
+mod ends;
 mod plan;
 
 pub use cause::NodeCause;
-pub use node::ControlNode;
 pub use plan::ControlPlan;
