@@ -3,3 +3,4 @@ pub mod Core
 pub mod Wanting
 pub mod Beginning
 pub mod Ends
+pub mod Planning

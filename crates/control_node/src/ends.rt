@@ -1,7 +1,12 @@
 //! The ends of a control node's sessions.
+ghost use Rattle.std.specs.Prelude.{◌≡◌, not};
+ghost use Rattle.node_items.specs.Beginning as item;
+ghost use Rattle.node_peers.specs.Beginning as route;
+ghost use Rattle.control_node.specs.Wanting.{is_idle, is_up};
+
 use crate::plan::ControlPlan;
-use bgp_session::Session;
-use item_wire::ItemSession;
+use bgp_session::{Session, State};
+use item_wire::{ItemSession, ItemState};
 use ov_sync::SyncOut;
 use ov_types::{DownKey, DownValue, NodeId, VpnKey, VpnRoute};
 use std::alloc::Global;
@@ -15,12 +20,40 @@ pub(crate) struct PeerEnd {
     pub(crate) sent: SyncOut<VpnKey, VpnRoute>,
 }
 
+impl PeerEnd {
+    pub(crate) fn is_live(&self) -> bool
+        ensures { result ≡ not (is_idle (route.phase_of self.now.session.state)) }
+    {
+        !matches!(self.session.state(), State::Idle)
+    }
+
+    pub(crate) fn is_up(&self) -> bool
+        ensures { result ≡ is_up (route.phase_of self.now.session.state) }
+    {
+        matches!(self.session.state(), State::Established)
+    }
+}
+
 /// The end of a session with an agent, and what was sent on it.
 #[derive(Drop)]
 pub(crate) struct AgentEnd {
     pub(crate) id: NodeId,
     pub(crate) session: ItemSession,
     pub(crate) sent: SyncOut<DownKey, DownValue>,
+}
+
+impl AgentEnd {
+    pub(crate) fn is_live(&self) -> bool
+        ensures { result ≡ not (is_idle (item.phase_of self.now.session.state)) }
+    {
+        !matches!(self.session.state(), ItemState::Idle)
+    }
+
+    pub(crate) fn is_up(&self) -> bool
+        ensures { result ≡ is_up (item.phase_of self.now.session.state) }
+    {
+        matches!(self.session.state(), ItemState::Up)
+    }
 }
 
 /// The ends of all sessions, and what is held of them.

@@ -4,6 +4,7 @@
 mod cause;
 mod ends;
 mod plan;
+mod planning;
 
 pub use cause::NodeCause;
 pub use plan::ControlPlan;
