@@ -1,1 +1,4 @@
-
+-- Lemmas, in the order in which they stand on each other.
+pub mod Posts
+pub mod Keeping
+pub mod Closed

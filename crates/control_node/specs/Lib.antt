@@ -3,3 +3,5 @@ pub mod Core
 pub mod Wanting
 pub mod Beginning
 pub mod Ends
+pub mod Places
+pub mod Stays

@@ -2,9 +2,9 @@
 #![tactic(auto)]
 
 mod cause;
-mod node;
+mod closing;
+mod ends;
 mod plan;
 
 pub use cause::NodeCause;
-pub use node::ControlNode;
 pub use plan::ControlPlan;
