@@ -11,3 +11,4 @@ pub mod WrittenKeys
 pub mod WrittenTargets
 pub mod WrittenUpdates
 pub mod SaidLemmas
+pub mod LabelLemmas

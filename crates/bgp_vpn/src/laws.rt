@@ -1,6 +1,7 @@
 //! What the grammar of UPDATEs promises.
 ghost use Rattle.std.specs.Prelude.{◌≡◌, ◌<◌, ◌+◌, ◌*◌, ◌-◌, ◌^◌, ◌⊎◌, ◌↔◌, ℕ, List, Some, length, map, Contains};
 ghost use Rattle.std.specs.Prelude.{IsTrue};
+ghost use Rattle.std.specs.List.{AllByRecursion};
 ghost use Rattle.ov_types.specs.declared.vpn.VpnKey.{VpnKey};
 ghost use Rattle.ov_types.specs.declared.vpn.VpnRoute.{VpnRoute};
 ghost use Rattle.ov_sync.specs.declared.Delta.{Delta};
@@ -16,6 +17,7 @@ ghost use Rattle.bgp_vpn.specs.Routes.{RouteFields, ArePrefixes, label_of, disti
 ghost use Rattle.bgp_vpn.specs.Values.{next_hop_of, routes_behind, next_hop_in, targets_in, communities, targets_among};
 ghost use Rattle.bgp_vpn.specs.Spellings.{spelled_route, AgreeIn, reach_value};
 ghost use Rattle.bgp_vpn.specs.Updates.{changes_of, Changes, HasUpdateFault};
+ghost use Rattle.bgp_vpn.specs.Written.{IfPut};
 
 /// An UPDATE makes changes or has a fault: always one of the two, only one, and in one way.
 pub fn an_update_says_one_thing()
@@ -78,4 +80,10 @@ pub fn tests_hold_of_exactly_the_lists()
         → (segments : List SegmentFields) × AreSegments octets segments }
     ensures no_other_segments { (octets : List ℕ) (segments : List SegmentFields) → AreSegments octets segments
         → IsTrue (are_segments octets) }
+{}
+
+/// Where octets are below 256, the label of each route that is put has 20 bits (RFC 3032, section 2.1).
+pub fn labels_have_20_bits()
+    ensures { (parts : UpdateFields) (deltas : List (Delta VpnKey VpnRoute)) → AreOctets parts.attributes
+        → Changes parts deltas → AllByRecursion (λ d. IfPut d (λ route. route.label.0 < 2 ^ 20)) deltas }
 {}

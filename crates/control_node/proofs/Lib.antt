@@ -2,3 +2,6 @@
 pub mod Below
 pub mod Images
 pub mod Planned
+pub mod Posts
+pub mod Keeping
+pub mod Closed

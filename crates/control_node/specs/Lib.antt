@@ -4,3 +4,5 @@ pub mod Wanting
 pub mod Beginning
 pub mod Ends
 pub mod Planning
+pub mod Places
+pub mod Stays

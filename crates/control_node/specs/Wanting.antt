@@ -4,7 +4,7 @@ use Rattle.std.specs.FinMap.{empty}
 use Rattle.control_wants.specs.Held.{told_in}
 use Rattle.node_items.specs.Told as items
 use Rattle.node_model.specs.Maps.{Map, Change}
-use Rattle.node_model.specs.Step.{Kind, Phase, Post, Idle, Opened, Confirmed, Up}
+use Rattle.node_model.specs.Step.{Kind, Phase, Post, Idle, Up}
 use Rattle.node_model.specs.Wants.{wanted_by_agent, wanted_by_peers}
 use Rattle.node_peers.specs.Told as routes
 use Rattle.control_node.specs.Core.{holdings, is_peer}

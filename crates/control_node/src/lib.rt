@@ -2,6 +2,7 @@
 #![tactic(auto)]
 
 mod cause;
+mod closing;
 mod ends;
 mod plan;
 mod planning;

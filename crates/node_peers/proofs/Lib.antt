@@ -1,1 +1,5 @@
-
+pub mod Steps
+pub mod Leading
+pub mod Labels
+pub mod One
+pub mod Writable

@@ -7,7 +7,6 @@ use Rattle.ov_sync.specs.Keyed as keyed
 use Rattle.ov_types.specs.declared.prefix.Addr.{Addr}
 use Rattle.bgp_session.specs.declared.event.Cause.{Cause}
 use Rattle.bgp_session.specs.declared.event.State.{State}
-use Rattle.bgp_session.specs.declared.event.State.TheVariants as State
 use Rattle.bgp_session.specs.Happenings.{SessionFields}
 use Rattle.bgp_session.specs.Inputs.{Came}
 use Rattle.node_model.specs.Keys.{Vpn}

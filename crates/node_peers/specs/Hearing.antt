@@ -5,7 +5,6 @@ use Rattle.ov_types.specs.declared.vpn.VpnKey.{VpnKey}
 use Rattle.ov_types.specs.declared.vpn.VpnRoute.{VpnRoute}
 use Rattle.ov_sync.specs.declared.Delta.{Delta}
 use Rattle.bgp_wire.specs.declared.fault.WireFault.{WireFault}
-use Rattle.bgp_wire.specs.declared.write.OpenOut.{OpenOut}
 use Rattle.bgp_wire.specs.Content.{Content, Opens, Notifies, KeepsAlive}
 use Rattle.bgp_wire.specs.Frames.{IsProperPrefix}
 use Rattle.bgp_wire.specs.Messages.{BeginsWith, HasFault}
@@ -87,9 +86,9 @@ heard id s (came ∷ more) =
       | ComesUp ↦ heard id (after s came) more
       | HandsOut changes ↦ and_changes changes (heard id (after s came) more)
       | GoesDown cause code ↦ record {
-          replies = notification code;
-          changes = [];
-          state = (after s came).state;
-          cause = Some cause;
-        }
+        replies = notification code;
+        changes = [];
+        state = (after s came).state;
+        cause = Some cause;
+      }
     ]

@@ -1,12 +1,17 @@
 //! What is heard on a session between control nodes.
-ghost use Rattle.std.specs.Prelude.{◌≡◌, ◌≢◌, ◌<◌, ◌^◌, ◌∷◌, [], List, IfOk};
+ghost use Rattle.std.specs.Prelude.{◌≡◌, ◌≢◌, ◌<◌, ◌^◌, ◌∷◌, ◌++◌, [], List, None, IfOk, OnOk, MatchOption};
+ghost use Rattle.std.specs.Option.{option_map};
 ghost use Rattle.std.specs.List.{AllByRecursion};
+ghost use Rattle.bgp_wire.specs.Frames.{IsProperPrefix};
 ghost use Rattle.bgp_session.specs.Inputs.{Came};
+ghost use Rattle.bgp_session.specs.Happenings.{happening_of};
 ghost use Rattle.bgp_session.specs.declared.event.State.TheVariants.{Idle, OpenSent};
 ghost use Rattle.bgp_vpn.specs.Written.{IfPut};
-ghost use Rattle.node_peers.specs.Hearing.{Hears, heard, open_octets};
+ghost use Rattle.node_peers.specs.Hearing.{Hears, heard, open_octets, reply_octets, notification};
+ghost use Rattle.node_peers.specs.Taking.{TakesNext, IsAdded};
 
-use bgp_session::{Cause, Session};
+use bgp_session::{Cause, Event, Reply, Session};
+use bgp_wire::{OpenOut, read_message, write_keepalive, write_notification, write_open};
 use ov_sync::Delta;
 use ov_types::{Addr, Items, NoMemory, VpnKey, VpnRoute};
 use std::alloc::Global;
@@ -20,6 +25,92 @@ pub struct Heard {
     pub changes: Vec<Delta<VpnKey, VpnRoute>>,
     /// Why the session went down, where it did.
     pub cause: Option<Cause>,
+}
+
+/// The OPEN of the speaker of this system at this address.
+fn hello(alloc: Global, asn: u32, me: Addr) -> Result<Items<u8>, NoMemory>
+    requires autonomous_system { asn < 2 ^ 16 }
+    requires identifier { me.0 ≢ 0 }
+    ensures { IfOk result (λ octets. octets ≡ open_octets asn me) }
+{
+    let mut octets = Vec::new(alloc);
+    write_open(alloc, &OpenOut { asn, id: me }, &mut octets)?;
+    Ok(Items::from_vec(octets))
+}
+
+/// The octets of a reply.
+fn reply_octets(alloc: Global, asn: u32, me: Addr, reply: Reply) -> Result<Items<u8>, NoMemory>
+    requires autonomous_system { asn < 2 ^ 16 }
+    requires identifier { me.0 ≢ 0 }
+    ensures { IfOk result (λ octets. octets ≡ reply_octets asn me reply) }
+{
+    match reply {
+        Reply::Hello => hello(alloc, asn, me),
+        Reply::Keepalive => {
+            let mut octets = Vec::new(alloc);
+            write_keepalive(alloc, &mut octets)?;
+            Ok(Items::from_vec(octets))
+        }
+    }
+}
+
+/// Adds the NOTIFICATION of this code and subcode, where there is one.
+fn push_notification(
+    alloc: Global,
+    reply: Option<(u8, u8)>,
+    replies: &mut Items<Items<u8>>,
+) -> Result<(), NoMemory>
+    ensures { OnOk result (replies.new ≡ replies.old ++ notification (option_map (λ r. (r.0, r.1)) reply)) }
+{
+    let Some((code, subcode)) = reply else {
+        return Ok(());
+    };
+    let mut octets = Vec::new(alloc);
+    write_notification(alloc, code, subcode, &mut octets)?;
+    replies.push(Items::from_vec(octets))
+}
+
+/// Adds what an event says.
+fn add(alloc: Global, asn: u32, me: Addr, event: Event, heard: &mut Heard) -> Result<(), NoMemory>
+    requires autonomous_system { asn < 2 ^ 16 }
+    requires identifier { me.0 ≢ 0 }
+    requires up { heard.old.cause ≡ None }
+    ensures { OnOk result (IsAdded asn me (happening_of event) heard.old heard.new) }
+{
+    match event {
+        Event::Quiet | Event::Up => {}
+        Event::Send(reply) => heard.replies.push(reply_octets(alloc, asn, me, reply)?)?,
+        Event::Deltas(deltas) => {
+            let mut deltas = deltas;
+            heard.changes.append(&mut deltas)?;
+        }
+        Event::Down { cause, reply } => {
+            push_notification(alloc, reply, &mut heard.replies)?;
+            heard.cause = Some(cause);
+        }
+    }
+    Ok(())
+}
+
+/// Hears what the octets begin with. The octets behind it are left. None where they are a part of a message alone.
+fn take_next<'a>(
+    alloc: Global,
+    session: &mut Session,
+    octets: &'a [u8],
+) -> Result<Option<(Event, &'a [u8])>, NoMemory>
+    ensures next { IfOk result (λ next. MatchOption next ((session.new ≡ session.old) × IsProperPrefix octets.now)
+        (λ x. TakesNext session.old octets.now session.new x.0 x.1.now)) }
+    ensures asn { session.new.asn ≡ session.old.asn }
+    ensures peer { session.new.peer ≡ session.old.peer }
+{
+    match read_message(octets) {
+        Ok(Some((message, len))) => {
+            let event = session.message(alloc, &message)?;
+            Ok(Some((event, &octets[len..])))
+        }
+        Ok(None) => Ok(None),
+        Err(fault) => Ok(Some((session.fault(fault), &[]))),
+    }
 }
 
 /// Opens an end of the speaker of this system at this address: its OPEN is to be sent.
@@ -36,7 +127,9 @@ pub fn greet(
     ensures hello { IfOk result (λ replies. replies ≡ open_octets asn me ∷ []) }
 {
     let _event = session.opened();
-    Err(NoMemory)
+    let mut replies = Items::new(alloc);
+    replies.push(hello(alloc, asn, me)?)?;
+    Ok(replies)
 }
 
 /// Hears octets: each message of them in order, up to one that takes the session down, or to octets that are none.
@@ -60,5 +153,18 @@ pub fn hear(
     // A label in an UPDATE has 20 bits.
     ensures labels { IfOk result (λ w. AllByRecursion (λ d. IfPut d (λ route. route.label.0 < 2 ^ 20)) w.changes.items) }
 {
-    Err(NoMemory)
+    let mut heard = Heard {
+        replies: Items::new(alloc),
+        changes: Vec::new(alloc),
+        cause: None,
+    };
+    let mut rest = bytes;
+    'messages: while let Some((event, after)) = take_next(alloc, session, rest)? {
+        add(alloc, asn, me, event, &mut heard)?;
+        if heard.cause.is_some() {
+            return Ok(heard);
+        }
+        rest = after;
+    }
+    Ok(heard)
 }

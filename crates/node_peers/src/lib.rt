@@ -2,6 +2,7 @@
 #![tactic(auto)]
 
 mod hearing;
+pub mod laws;
 mod telling;
 
 pub use hearing::{Heard, greet, hear};

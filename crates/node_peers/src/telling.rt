@@ -6,6 +6,7 @@ ghost use Rattle.node_model.specs.Keys.{Vpn};
 ghost use Rattle.node_model.specs.Values.{Route};
 ghost use Rattle.node_peers.specs.Told.{IsWritable, spelled};
 
+use bgp_vpn::write_update;
 use ov_sync::Delta;
 use ov_types::{Items, NoMemory, VpnKey, VpnRoute};
 use std::alloc::Global;
@@ -15,5 +16,7 @@ pub fn spell(alloc: Global, delta: &Delta<VpnKey, VpnRoute>) -> Result<Items<u8>
     requires { IfPut delta.now IsWritable }
     ensures { IfOk result (λ octets. octets ≡ spelled (moved_delta Vpn Route delta.now)) }
 {
-    Err(NoMemory)
+    let mut octets = Vec::new(alloc);
+    write_update(alloc, delta, &mut octets)?;
+    Ok(Items::from_vec(octets))
 }

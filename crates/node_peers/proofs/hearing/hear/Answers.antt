@@ -1,0 +1,46 @@
+use Rattle.std.proofs.Common.{◌∙◌, sym, ap}
+use Rattle.bgp_session.specs.Happenings.{SessionFields}
+use Rattle.node_peers.proofs.Leading.{no_cause, goes_down, stays_up, ends}
+use Rattle.node_peers.proofs.Labels.{labels_of}
+use Rattle.node_peers.proofs.hearing.hear.Goals as goal
+
+pub returns-then-is_some-clause-heard : goal.returns-then-is_some-clause-heard
+returns-then-is_some-clause-heard c =
+    goes_down c.args.me c.args.session.now c.messages.session c.take_next.new.session c.args.bytes.now c.messages.rest.now c.in-Some.after.now
+    c.messages.heard c.add.new.heard
+    (record {
+      leads = c.messages.invariant.leads;
+      event = c.in-Some.event;
+      takes = rw c.in-Some.is at c.in_ok-event.ensures.next;
+      adds = rw c.messages.invariant.asn c.in_ok-add.ensures;
+    }) (sym c.if-is_some.ensures)
+
+pub returns-then-is_some-clause-labels : goal.returns-then-is_some-clause-labels
+returns-then-is_some-clause-labels c =
+    labels_of c.args.me c.args.session.now c.args.bytes.now c.add.new.heard _ (λ k. (c.type_inv.bytes k).fits)
+    (returns-then-is_some-clause-heard c)
+
+pub messages-preserved : goal.messages-preserved
+messages-preserved c = record {
+  leads = stays_up c.args.me c.args.session.now c.messages.session c.take_next.new.session c.args.bytes.now c.messages.rest.now c.in-Some.after.now
+      c.messages.heard c.add.new.heard
+      (record {
+        leads = c.messages.invariant.leads;
+        event = c.in-Some.event;
+        takes = rw c.in-Some.is at c.in_ok-event.ensures.next;
+        adds = rw c.messages.invariant.asn c.in_ok-add.ensures;
+      }) (sym c.if-is_some.ensures);
+  asn = c.take_next.ensures.asn ∙ c.messages.invariant.asn;
+  peer = c.take_next.ensures.peer ∙ c.messages.invariant.peer;
+  up = no_cause c.add.new.heard.cause (sym c.if-is_some.ensures);
+}
+
+pub returns-clause-heard : goal.returns-clause-heard
+returns-clause-heard c =
+    let next = rw c.in_default.is at c.in_ok-event.ensures.next in
+    ends c.args.me c.args.session.now c.messages.session c.args.bytes.now c.messages.rest.now c.messages.heard _ c.messages.invariant.leads
+    next.1 c.messages.invariant.up (sym (ap (λ (s : SessionFields). s.state) next.0))
+
+pub returns-clause-labels : goal.returns-clause-labels
+returns-clause-labels c =
+    labels_of c.args.me c.args.session.now c.args.bytes.now c.messages.heard _ (λ k. (c.type_inv.bytes k).fits) (returns-clause-heard c)
