@@ -5,3 +5,6 @@ pub mod Planned
 pub mod Posts
 pub mod Keeping
 pub mod Closed
+pub mod Holding
+pub mod Passing
+pub mod Kept

@@ -40,7 +40,7 @@ told_fits (a ∷ agents) session f =
     ]
 
 -- ---- one end
-map_twice : {X Y Z : Type 0} (f : X → Y) (g : Y → Z) (xs : List X) → map (λ x. g (f x)) xs ≡ map g (map f xs)
+pub map_twice : {X Y Z : Type 0} (f : X → Y) (g : Y → Z) (xs : List X) → map (λ x. g (f x)) xs ≡ map g (map f xs)
 map_twice f g [] = refl
 map_twice f g (x ∷ xs) = ap (λ zs. g (f x) ∷ zs) (map_twice f g xs)
 
@@ -110,12 +110,6 @@ peers_plans_more wanted old cur i e before plans after plan lt c is p q a =
     ∙ ap (λ l. before ++ l) (sym (map_more (peer_plan wanted) old i e lt))
 
 -- ---- agents
-pub ends_stay : (P : AgentEnd → Type 0) (es : List AgentEnd) (i : ℕ) (e : AgentEnd) → AllByRecursion P es → P e
-    → AllByRecursion P (set es i e)
-ends_stay P [] i e all now = all
-ends_stay P (x ∷ es) zero e all now = (now, all.1)
-ends_stay P (x ∷ es) (suc i) e all now = (all.0, ends_stay P es i e all.1 now)
-
 pub agents_told_more : (h : Holdings) (n : ℕ) (old cur : List AgentEnd) (i : ℕ) (e e' : AgentEnd) → i < length old
     → length cur ≡ length old → drop i cur ≡ drop i old → e ≡ get_or cur i e
     → AreAgentsTold h n (take i old) (take i cur) → IsAgentTold h (n + i) e e'

@@ -6,13 +6,14 @@ use Rattle.ov_types.specs.declared.keys.DownKey.{DownKey}
 use Rattle.ov_types.specs.declared.keys.DownValue.{DownValue}
 use Rattle.control_wants.specs.Held.{HoldingsFit, told_in}
 use Rattle.node_items.specs.Told.{AllFit, ChangeFits, down_of, down_value}
+use Rattle.node_items.proofs.Maps.{difference_fits}
 use Rattle.node_model.specs.Keys.{of_down}
 use Rattle.node_model.specs.Maps.{Map}
 use Rattle.node_model.specs.Paths.{Holdings}
 use Rattle.control_node.specs.Ends.{IsAgentEnd}
 use Rattle.control_node.specs.Planning.{wanted_on}
 use Rattle.control_node.specs.declared.ends.AgentEnd.{AgentEnd}
-use Rattle.control_node.proofs.Below.{differences_fit, wanted_items_fit}
+use Rattle.control_node.proofs.Below.{wanted_items_fit}
 use Rattle.control_node.proofs.Images.{changes_of_items_fit}
 use Rattle.control_node.proofs.Planned.{agent_plan_is, told_fits}
 use Rattle.control_node.proofs.planning.plan_agent.Goals as goal
@@ -38,7 +39,7 @@ spell_items-requires c =
     subst (AllByRecursion (λ (d : Delta DownKey DownValue). ChangeFits (moved_delta of_down down_value d)))
     (sym (c.deref.ensures.value ∙ c.in_ok-changes.ensures.changes))
     (changes_of_items_fit c.args.end.now.sent c.in_ok-wanted.wanted.entries
-    (differences_fit _ _ c.requires.end.sent
+    (difference_fits _ _ c.requires.end.sent
     (wanted_fits c.args.tables.now c.args.session _ c.requires.held c.in_ok-wanted.ensures)))
 
 pub returns-in_err-spell_items-clause-end : goal.returns-in_err-spell_items-clause-end

@@ -3,7 +3,8 @@ use Rattle.std.proofs.Math.Seq.{map-set_same}
 use Rattle.control_node.specs.Ends.{IsAgentEnd}
 use Rattle.control_node.specs.Planning.{AreAgentsTold, IsAgentTold, agent_plan, agent_plans}
 use Rattle.control_node.specs.declared.ends.AgentEnd.{AgentEnd}
-use Rattle.control_node.proofs.Planned.{ends_stay, agents_plans_more, agents_rest_more, agents_told_more}
+use Rattle.control_node.proofs.Keeping.{all-set}
+use Rattle.control_node.proofs.Planned.{agents_plans_more, agents_rest_more, agents_told_more}
 use Rattle.control_node.proofs.planning.plan_agents.Goals as goal
 
 pub returns-in_err-plan_agent-clause-ids : goal.returns-in_err-plan_agent-clause-ids
@@ -25,7 +26,7 @@ loop-end-preserved c =
     let more : suc l.end-index ≡ l.end-index + 1 = omega arith in
     record {
       number = omega (arith, inv.number);
-      ends = ends_stay IsAgentEnd l.ends l.end-index c.plan_agent.new.end inv.ends c.in_ok-plan_agent.ensures.end;
+      ends = all-set IsAgentEnd l.ends l.end-index c.plan_agent.new.end inv.ends c.in_ok-plan_agent.ensures.end;
       ids = map-set_same (λ (e : AgentEnd). e.id) l.ends l.end-index c.plan_agent.new.end c.end-item.result
           c.in_ok-plan_agent.ensures.id
           ∙ inv.ids;
