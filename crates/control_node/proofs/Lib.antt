@@ -8,3 +8,4 @@ pub mod Closed
 pub mod Holding
 pub mod Passing
 pub mod Kept
+pub mod Made

@@ -6,3 +6,4 @@ pub mod Ends
 pub mod Planning
 pub mod Places
 pub mod Stays
+pub mod Made

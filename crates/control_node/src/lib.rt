@@ -4,6 +4,8 @@
 mod cause;
 mod closing;
 mod ends;
+mod looking;
+mod making;
 mod plan;
 mod planning;
 
