@@ -127,7 +127,7 @@ module _ (plan : ControlPlan) (posts : List Post) (h : Holdings) (held : holding
     peer_changes = λ i.
         if (if peer i then is_up (at i).phase else not (is_idle (at i).phase))
         then map (λ c. if peer i then routes.spelled c else items.spelled c)
-            (difference (at i).sent (wanted_of_peer i))
+        (difference (at i).sent (wanted_of_peer i))
         else []
 
     peer_told_all : told_all (kind plan) posts n ≡ (if is_up p.phase then record p { sent = peer_of told } else p)
@@ -146,7 +146,7 @@ module _ (plan : ControlPlan) (posts : List Post) (h : Holdings) (held : holding
     agent_changes = λ i.
         if (if agent i then is_up (at i).phase else not (is_idle (at i).phase))
         then map (λ c. if agent i then routes.spelled c else items.spelled c)
-            (difference (at i).sent (wanted_of_agent i))
+        (difference (at i).sent (wanted_of_agent i))
         else []
 
     agent_told_all : told_all (kind plan) posts n

@@ -117,12 +117,16 @@ pub agents_told_more : (h : Holdings) (n : ℕ) (old cur : List AgentEnd) (i : �
 agents_told_more h n [] cur i e e' lt long rest is told now = absurd (omega (arith, lt))
 agents_told_more h n (x ∷ old) [] i e e' lt long rest is told now = absurd (omega (arith, long))
 agents_told_more h n (x ∷ old) (y ∷ cur) zero e e' lt long rest is told now =
-    let here : y ≡ x = cc in
-    (subst (λ m. IsAgentTold h m x e') (let z : n + 0 ≡ n = omega arith in z)
-    (subst (λ (z : AgentEnd). IsAgentTold h (n + 0) z e') (is ∙ here) now), tt)
-agents_told_more h n (x ∷ old) (y ∷ cur) (suc i) e e' lt long rest is told now =
-    (told.0, agents_told_more h (suc n) old cur i e e' (omega (arith, lt)) (omega (arith, long)) rest is told.1
-    (subst (λ m. IsAgentTold h m e e') (let z : n + suc i ≡ suc n + i = omega arith in z) now))
+    let here : y ≡ x = cc in (
+      subst (λ m. IsAgentTold h m x e') (let z : n + 0 ≡ n = omega arith in z)
+          (subst (λ (z : AgentEnd). IsAgentTold h (n + 0) z e') (is ∙ here) now),
+      tt,
+    )
+agents_told_more h n (x ∷ old) (y ∷ cur) (suc i) e e' lt long rest is told now = (
+  told.0,
+  agents_told_more h (suc n) old cur i e e' (omega (arith, lt)) (omega (arith, long)) rest is told.1
+      (subst (λ m. IsAgentTold h m e e') (let z : n + suc i ≡ suc n + i = omega arith in z) now),
+)
 
 one_less : (es : List AgentEnd) (i : ℕ) → drop (suc i) es ≡ drop 1 (drop i es)
 one_less [] zero = refl

@@ -7,3 +7,5 @@ pub mod Planning
 pub mod Places
 pub mod Stays
 pub mod Made
+pub mod Codes
+pub mod Begun

@@ -1,5 +1,6 @@
 //! The ends of a control node's sessions.
-ghost use Rattle.std.specs.Prelude.{◌≡◌, not};
+ghost use Rattle.std.specs.Prelude.{◌≡◌, not, refl};
+ghost use Rattle.std.proofs.Common.{◌∙◌};
 ghost use Rattle.node_items.specs.Beginning as item;
 ghost use Rattle.node_peers.specs.Beginning as route;
 ghost use Rattle.control_node.specs.Wanting.{idle_is_silent, is_idle, is_up, kind};
@@ -91,15 +92,16 @@ impl Ends for ControlEnds {
 
     ghost posts = { λ e. e.posts };
 
+    ghost stays = { λ before after. after.plan ≡ before.plan };
+
+    ghost stays_itself = { λ _. refl };
+
+    ghost stays_on = { λ _ _ _ first then. then ∙ first };
+
     ghost idle_is_silent = { λ e session. idle_is_silent e.plan session };
 
     fn plan(&mut self) -> Result<Vec<Plan>, NoMemory> {
-        plan_all(
-            self.alloc,
-            &self.tables,
-            &mut self.peers,
-            &mut self.agents,
-        )
+        plan_all(self.alloc, &self.tables, &mut self.peers, &mut self.agents)
     }
 
     fn close(&mut self, session: u16) {

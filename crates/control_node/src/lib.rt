@@ -1,13 +1,16 @@
 //! A control node: octets in, octets out, over any link.
 #![tactic(auto)]
 
+mod begin;
 mod cause;
 mod closing;
 mod ends;
 mod looking;
 mod making;
+mod node;
 mod plan;
 mod planning;
 
 pub use cause::NodeCause;
+pub use node::ControlNode;
 pub use plan::ControlPlan;

@@ -22,7 +22,7 @@ impl ControlEnds {
 
     /// Whether an end is not idle.
     pub(crate) fn is_live(&self, session: u16) -> bool
-        requires { session < length self.now.posts }
+        requires { session < sessions self.now.plan }
         ensures { result ≡ not (is_idle (post self.now.posts session).phase) }
     {
         match place_of(session, self.peers.len()) {
@@ -34,7 +34,7 @@ impl ControlEnds {
 
     /// Whether an end is up.
     pub(crate) fn is_up(&self, session: u16) -> bool
-        requires { session < length self.now.posts }
+        requires { session < sessions self.now.plan }
         ensures { result ≡ is_up (post self.now.posts session).phase }
     {
         match place_of(session, self.peers.len()) {

@@ -11,8 +11,16 @@ ghost use Rattle.node_peers.specs.Told.{IsWritable, spelled as spelled_route};
 ghost use Rattle.control_wants.specs.Held.{HoldingsFit};
 ghost use Rattle.vpn_tables.specs.Views.{vpn_order};
 ghost use Rattle.control_node.specs.Ends.{IsAgentEnd};
-ghost use Rattle.control_node.specs.Planning.{AreAgentsTold, ArePlanned, IsAgentTold, agent_plan, agent_plans, feed_plan, peer_plan,
-    peer_told};
+ghost use Rattle.control_node.specs.Planning.{
+  AreAgentsTold,
+  ArePlanned,
+  IsAgentTold,
+  agent_plan,
+  agent_plans,
+  feed_plan,
+  peer_plan,
+  peer_told,
+};
 
 use crate::ends::{AgentEnd, PeerEnd};
 use control_wants::{wanted_by_agent, wanted_by_peers};

@@ -11,6 +11,8 @@ loop-agent-preserved c =
       number = omega (arith, l.invariant.number);
       tables = c.in_ok-set_agent.ensures.ok
           ∙ (λ i. with_agent (l.invariant.tables i) (l.invariant.number i) c.agent-item.result.address)
-          ∙ (λ i. record h { agents = agents_seated c.args.first c.args.agents.now l.agent-index c.agent-item.result lt
-              c.agent-item.is i });
+          ∙ (λ i. record h {
+            agents = agents_seated c.args.first c.args.agents.now l.agent-index c.agent-item.result lt
+                c.agent-item.is i;
+          });
     }

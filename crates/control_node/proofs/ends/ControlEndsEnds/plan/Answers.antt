@@ -34,6 +34,19 @@ returns-clause-kept c =
     (c.plan_all.ensures.ids ∙ ap ids_of c.deref_mut-2.ensures.value))
     ∙ ap (λ (e : Ends). kind e.plan) c.self.view_is
 
+pub returns-clause-stays : goal.returns-clause-stays
+returns-clause-stays c =
+    let inside = c.self.inside in
+    let peers = written inside.peers.len c.plan_all.new.peers inside.peers.items
+    (omega (arith, inside.peers.ok.0, c.plan_all.auto.peers, ap length c.deref_mut.ensures.value)) in
+    let agents = written inside.agents.len c.plan_all.new.agents inside.agents.items
+    (omega (arith, inside.agents.ok.0, c.plan_all.auto.agents, ap length c.deref_mut-2.ensures.value)) in
+    (λ i. plan_of inside.me inside.asn (peers i) (agents i))
+    ∙ plan_kept inside.me inside.asn inside.feed inside.peers.items c.plan_all.new.peers inside.agents.items
+    c.plan_all.new.agents inside.tables (c.plan_all.ensures.sessions ∙ ap sessions_of c.deref_mut.ensures.value)
+    (c.plan_all.ensures.ids ∙ ap ids_of c.deref_mut-2.ensures.value)
+    ∙ ap (λ (e : Ends). e.plan) c.self.view_is
+
 pub returns-clause-long : goal.returns-clause-long
 returns-clause-long c =
     let inside = c.self.inside in
