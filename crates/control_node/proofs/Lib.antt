@@ -2,3 +2,7 @@
 pub mod Posts
 pub mod Keeping
 pub mod Closed
+pub mod Iterated
+pub mod Applied
+pub mod Turning
+pub mod Starting

@@ -5,3 +5,5 @@ pub mod Beginning
 pub mod Ends
 pub mod Places
 pub mod Stays
+pub mod Taking
+pub mod Begun

@@ -1,10 +1,12 @@
 //! A control node: octets in, octets out, over any link.
 #![tactic(auto)]
 
+mod begin;
 mod cause;
 mod closing;
 mod ends;
 mod plan;
+mod taking;
 
 pub use cause::NodeCause;
 pub use plan::ControlPlan;

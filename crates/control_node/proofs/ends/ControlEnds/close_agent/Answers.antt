@@ -2,11 +2,11 @@ use Rattle.std.proofs.Common.{◌+◌, ◌∙◌, ap, subst, sym, set, suc, get_
 use Rattle.std.specs.FinMap.{empty}
 use Rattle.node_model.specs.Paths.{Told}
 use Rattle.node_model.specs.Step.{nothing}
-use Rattle.control_node.specs.Ends.{Ends, IsAgentEnd, closed_agent, plan_of, posts_of}
+use Rattle.control_node.specs.Ends.{Ends, IsAgentEnd, closed_agent, posts_of}
 use Rattle.control_node.specs.declared.ends.AgentEnd.{AgentEnd}
 use Rattle.control_node.specs.declared.ends.PeerEnd.{PeerEnd}
 use Rattle.control_node.proofs.Closed.{agent-closed, closed_is}
-use Rattle.control_node.proofs.Keeping.{all-at, among, ends-agent, many, map-set, stays-without}
+use Rattle.control_node.proofs.Keeping.{all-at, among, ends-agent, many, plan-agent, stays-without}
 use Rattle.control_node.proofs.ends.ControlEnds.close_agent.Goals as goal
 
 pub invariant_of-self : goal.invariant_of-self
@@ -26,12 +26,7 @@ returns-clause-plan c =
     let e = c.index_mut.result.now in
     let lt = among (λ (e : AgentEnd). e.id) inside.agents.items c.args.self.now.plan.agents c.args.place (ap (λ (v : Ends). v.plan.agents) c.self.view_is) c.requires.among in
     let same = ap (λ (e : AgentEnd). e.id) (c.close_agent.ensures ∙ ap closed_agent c.index_mut.ensures.value) in
-    (λ i. record {
-      me = inside.me;
-      asn = inside.asn;
-      peers = (plan_of inside.me inside.asn inside.peers.items inside.agents.items).peers;
-      agents = map-set (λ (e : AgentEnd). e.id) inside.agents.items c.args.place c.close_agent.new.end e lt same i;
-    })
+    plan-agent inside.me inside.asn inside.peers.items inside.agents.items c.args.place c.close_agent.new.end e lt same
     ∙ ap (λ (v : Ends). v.plan) c.self.view_is
 
 pub returns-clause-closed : goal.returns-clause-closed

@@ -1,9 +1,9 @@
 use Rattle.std.proofs.Common.{◌≡◌, ◌∙◌, ap, set}
 use Rattle.node_model.specs.Step.{nothing}
-use Rattle.control_node.specs.Ends.{Ends, closed_peer, plan_of, posts_of}
+use Rattle.control_node.specs.Ends.{Ends, closed_peer, posts_of}
 use Rattle.control_node.specs.declared.ends.PeerEnd.{PeerEnd}
 use Rattle.control_node.proofs.Closed.{peer-closed}
-use Rattle.control_node.proofs.Keeping.{all-at, among, ends-peer, map-set, stays-without}
+use Rattle.control_node.proofs.Keeping.{all-at, among, ends-peer, plan-peer, stays-without}
 use Rattle.control_node.proofs.ends.ControlEnds.close_peer.Goals as goal
 
 pub invariant_of-self : goal.invariant_of-self
@@ -22,12 +22,7 @@ returns-clause-plan c =
     let e = c.index_mut.result.now in
     let lt = among (λ (e : PeerEnd). e.session.peer) inside.peers.items c.args.self.now.plan.peers c.args.place (ap (λ (v : Ends). v.plan.peers) c.self.view_is) c.requires.among in
     let same = ap (λ (e : PeerEnd). e.session.peer) (c.close_peer.ensures ∙ ap closed_peer c.index_mut.ensures.value) in
-    (λ i. record {
-      me = inside.me;
-      asn = inside.asn;
-      peers = map-set (λ (e : PeerEnd). e.session.peer) inside.peers.items c.args.place c.close_peer.new.end e lt same i;
-      agents = (plan_of inside.me inside.asn inside.peers.items inside.agents.items).agents;
-    })
+    plan-peer inside.me inside.asn inside.peers.items inside.agents.items c.args.place c.close_peer.new.end e lt same
     ∙ ap (λ (v : Ends). v.plan) c.self.view_is
 
 pub returns-clause-closed : goal.returns-clause-closed
