@@ -1,39 +1,21 @@
 //! What an input makes of the end of its session.
+ghost use Rattle.std.specs.Prelude.{◌≡◌, ◌<◌, ◌+◌, suc, length, false, true, IfOk};
 ghost use Rattle.std.specs.Option.{option_map};
-ghost use Rattle.control_node.specs.declared.cause.NodeCause.TheVariants as Because;
-ghost use Rattle.std.specs.Prelude.{◌≡◌, ◌≢◌, ◌≤◌, ◌<◌, ◌+◌, ◌^◌, ◌∷◌, [], suc, ℕ, List, length, map, false, true, None, IfOk};
 ghost use Rattle.ov_link.specs.declared.step.Input.TheVariants as input;
-ghost use Rattle.bgp_session.specs.declared.event.State.TheVariants as State;
-ghost use Rattle.item_wire.specs.declared.event.ItemFrom.TheVariants as From;
-ghost use Rattle.item_wire.specs.declared.event.ItemState.TheVariants as ItemState;
-ghost use Rattle.item_wire.specs.Records.{spelling};
-ghost use Rattle.item_wire.specs.declared.item.Item.TheVariants.{Hello};
-ghost use Rattle.ov_sync.specs.Embed.{moved_delta};
-ghost use Rattle.ov_sync.specs.declared.Delta.{Delta as DeltaOf};
-ghost use Rattle.ov_types.specs.declared.vpn.VpnKey.{VpnKey as KeyOf};
-ghost use Rattle.ov_types.specs.declared.vpn.VpnRoute.{VpnRoute as RouteOf};
 ghost use Rattle.node_core.specs.Whole.{Comes, session_of};
-ghost use Rattle.node_model.specs.Keys.{Vpn};
-ghost use Rattle.node_model.specs.Values.{Route};
-ghost use Rattle.node_model.specs.Maps.{Change};
 ghost use Rattle.node_model.specs.Step.{post};
-ghost use Rattle.node_peers.specs.Hearing.{open_octets};
 ghost use Rattle.control_node.specs.Begun.{IsBegun, IsHeard};
-ghost use Rattle.control_node.specs.Ends.{opened_agent, opened_peer};
-ghost use Rattle.control_node.specs.Stays.{StaysHeld};
-ghost use Rattle.control_node.specs.Taking.{ItemsHeard, RoutesHeard, agent_by, feed_by, peer_by, taken};
 ghost use Rattle.control_node.specs.Wanting.{is_idle};
+ghost use Rattle.control_node.specs.declared.cause.NodeCause.TheVariants as Because;
 
 use crate::cause::NodeCause;
 use crate::closing::{Place, place_of};
-use crate::ends::{AgentEnd, ControlEnds, PeerEnd};
-use crate::taking::{take_objects, take_publications, take_routes};
+use crate::ends::ControlEnds;
+use crate::inputs::{greet_agent, greet_peer, hear_from_agent, hear_from_feed, hear_from_peer};
 use bgp_session::Cause;
-use item_wire::{ItemCause, ItemSession};
+use item_wire::ItemCause;
 use ov_link::Input;
-use ov_types::{Addr, Items, Name, NoMemory};
-use std::alloc::Global;
-use vpn_tables::VpnTables;
+use ov_types::{Items, NoMemory};
 
 /// What an input made of its end.
 #[derive(Drop)]
@@ -42,127 +24,6 @@ pub(crate) struct Begun {
     pub(crate) replies: Items<Items<u8>>,
     /// Why the session went down, where it did.
     pub(crate) cause: Option<NodeCause>,
-}
-
-fn open_peer(
-    alloc: Global,
-    end: &mut PeerEnd,
-    asn: u32,
-    me: Addr,
-) -> Result<Items<Items<u8>>, NoMemory>
-    requires idle { end.old.session.state ≡ State.Idle }
-    requires autonomous_system { asn < 2 ^ 16 }
-    requires identifier { me.0 ≢ 0 }
-    ensures opened { end.new ≡ opened_peer end.old }
-    ensures hello { IfOk result (λ replies. replies ≡ open_octets asn me ∷ []) }
-{
-    node_peers::greet(alloc, &mut end.session, asn, me)
-}
-
-fn open_agent(alloc: Global, end: &mut AgentEnd, me: &Name) -> Result<Items<Items<u8>>, NoMemory>
-    requires idle { end.old.session.state ≡ ItemState.Idle }
-    ensures opened { end.new ≡ opened_agent end.old }
-    ensures hello { IfOk result (λ replies. replies ≡ spelling (Hello me.now) ∷ []) }
-{
-    node_items::greet(alloc, &mut end.session, me)
-}
-
-/// Hears octets on the feed. Where there is a cause, the end is still to be closed.
-fn hear_feed(
-    alloc: Global,
-    feed: &mut ItemSession,
-    tables: &mut VpnTables,
-    bytes: &[u8],
-) -> Result<Option<ItemCause>, NoMemory>
-    requires from { feed.old.from ≡ From.Feed }
-    ensures heard { IfOk result (λ cause. (changes : List Change)
-        × ItemsHeard feed.old feed.new bytes.now changes cause
-        × (tables.new ≡ feed_by (taken cause changes) tables.old)) }
-    ensures peer { feed.new.peer ≡ feed.old.peer }
-    ensures from { feed.new.from ≡ feed.old.from }
-    ensures stays { StaysHeld tables.old tables.new }
-{
-    let heard = node_items::hear(alloc, feed, bytes)?;
-    match heard.cause {
-        Some(cause) => Ok(Some(cause)),
-        None => {
-            take_objects(tables, heard.records)?;
-            Ok(None)
-        }
-    }
-}
-
-/// Hears octets of an agent. Where there is a cause, the end is still to be closed.
-fn hear_agent(
-    alloc: Global,
-    end: &mut AgentEnd,
-    tables: &mut VpnTables,
-    session: u16,
-    bytes: &[u8],
-) -> Result<Option<ItemCause>, NoMemory>
-    requires from { end.old.session.from ≡ From.Agent }
-    ensures heard { IfOk result (λ cause. (changes : List Change)
-        × ItemsHeard end.old.session end.new.session bytes.now changes cause
-        × (tables.new ≡ agent_by (taken cause changes) tables.old session)) }
-    ensures id { end.new.id ≡ end.old.id }
-    ensures sent { end.new.sent ≡ end.old.sent }
-    ensures peer { end.new.session.peer ≡ end.old.session.peer }
-    ensures from { end.new.session.from ≡ end.old.session.from }
-    ensures stays { StaysHeld tables.old tables.new }
-{
-    let heard = node_items::hear(alloc, &mut end.session, bytes)?;
-    match heard.cause {
-        Some(cause) => Ok(Some(cause)),
-        None => {
-            take_publications(tables, session, heard.records)?;
-            Ok(None)
-        }
-    }
-}
-
-/// What octets of a peer brought, but for the changes of routes.
-#[derive(Drop)]
-struct HeardPeer {
-    replies: Items<Items<u8>>,
-    cause: Option<Cause>,
-}
-
-/// Hears octets of a peer. Where there is a cause, the end is still to be closed.
-fn hear_peer(
-    alloc: Global,
-    end: &mut PeerEnd,
-    tables: &mut VpnTables,
-    session: u16,
-    asn: u32,
-    me: Addr,
-    bytes: &[u8],
-) -> Result<HeardPeer, NoMemory>
-    requires autonomous_system { asn < 2 ^ 16 }
-    requires own { end.old.session.asn ≡ asn }
-    requires identifier { me.0 ≢ 0 }
-    requires known { session ≤ length tables.old.peers }
-    ensures heard { IfOk result (λ w. (changes : List (DeltaOf KeyOf RouteOf))
-        × RoutesHeard me end.old.session end.new.session bytes.now w.replies changes w.cause
-        × (tables.new ≡ peer_by (taken w.cause (map (moved_delta Vpn Route) changes)) tables.old session)) }
-    ensures sent { end.new.sent ≡ end.old.sent }
-    ensures asn { end.new.session.asn ≡ end.old.session.asn }
-    ensures peer { end.new.session.peer ≡ end.old.session.peer }
-    ensures stays { StaysHeld tables.old tables.new }
-{
-    let heard = node_peers::hear(alloc, &mut end.session, asn, me, bytes)?;
-    match heard.cause {
-        Some(cause) => Ok(HeardPeer {
-            replies: heard.replies,
-            cause: Some(cause),
-        }),
-        None => {
-            take_routes(tables, session, heard.changes)?;
-            Ok(HeardPeer {
-                replies: heard.replies,
-                cause: None,
-            })
-        }
-    }
 }
 
 fn item_cause(cause: Option<ItemCause>) -> Option<NodeCause>
@@ -207,7 +68,7 @@ impl ControlEnds {
             begun.replies begun.cause self.new.posts) }
     {
         let end = &mut self.peers[place];
-        let replies = open_peer(self.alloc, end, self.asn, self.me.address)?;
+        let replies = greet_peer(self.alloc, end, self.asn, self.me.address)?;
         Ok(Begun {
             replies,
             cause: None,
@@ -223,7 +84,7 @@ impl ControlEnds {
             begun.replies begun.cause self.new.posts) }
     {
         let end = &mut self.agents[place];
-        let replies = open_agent(self.alloc, end, &self.me.name)?;
+        let replies = greet_agent(self.alloc, end, &self.me.name)?;
         Ok(Begun {
             replies,
             cause: None,
@@ -250,7 +111,7 @@ impl ControlEnds {
         ensures heard { IfOk result (λ begun. IsHeard self.old.plan self.old.posts session
             (input.Bytes session bytes.entry) begun.replies begun.cause self.new.posts) }
     {
-        let cause = hear_feed(self.alloc, &mut self.feed, &mut self.tables, bytes)?;
+        let cause = hear_from_feed(self.alloc, &mut self.feed, &mut self.tables, bytes)?;
         Ok(Begun {
             replies: Items::new(self.alloc),
             cause: item_cause(cause),
@@ -266,7 +127,7 @@ impl ControlEnds {
     {
         let end = &mut self.peers[place];
         let me = self.me.address;
-        let heard = hear_peer(
+        let heard = hear_from_peer(
             self.alloc,
             end,
             &mut self.tables,
@@ -289,7 +150,7 @@ impl ControlEnds {
             (input.Bytes session bytes.entry) begun.replies begun.cause self.new.posts) }
     {
         let end = &mut self.agents[place];
-        let cause = hear_agent(self.alloc, end, &mut self.tables, session, bytes)?;
+        let cause = hear_from_agent(self.alloc, end, &mut self.tables, session, bytes)?;
         Ok(Begun {
             replies: Items::new(self.alloc),
             cause: item_cause(cause),

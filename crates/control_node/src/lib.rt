@@ -5,6 +5,7 @@ mod begin;
 mod cause;
 mod closing;
 mod ends;
+mod inputs;
 mod plan;
 mod taking;
 

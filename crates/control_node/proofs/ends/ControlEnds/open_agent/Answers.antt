@@ -12,8 +12,8 @@ use Rattle.control_node.proofs.Starting.{agent-opened, opened_is}
 use Rattle.control_node.proofs.Turning.{agent_is_idle}
 use Rattle.control_node.proofs.ends.ControlEnds.open_agent.Goals as goal
 
-pub open_agent-requires : goal.open_agent-requires
-open_agent-requires c =
+pub greet_agent-requires : goal.greet_agent-requires
+greet_agent-requires c =
     let inside = c.self.inside in
     let lt = among (λ (e : AgentEnd). e.id) inside.agents.items c.args.self.now.plan.agents c.args.place (ap (λ (v : Ends). v.plan.agents) c.self.view_is) c.requires.among in
     let n = many (λ (e : PeerEnd). e.session.peer) inside.peers.items c.args.self.now.plan.peers (ap (λ (v : Ends). v.plan.peers) c.self.view_is) in
@@ -31,7 +31,7 @@ invariant_of-self c =
     let lt = among (λ (e : AgentEnd). e.id) inside.agents.items c.args.self.now.plan.agents c.args.place (ap (λ (v : Ends). v.plan.agents) c.self.view_is) c.requires.among in
     let opened = c.in_err-replies.ensures.opened ∙ ap opened_agent c.index_mut-end.ensures.value in
     let is = all-at IsAgentEnd inside.agents.items c.args.place e c.self.invariant.agent_ends lt in
-    ends-agent inside.me inside.asn inside.feed inside.peers.items inside.agents.items inside.tables inside.tables c.self.invariant (stays-same inside.tables) c.args.place c.open_agent.new.end e lt
+    ends-agent inside.me inside.asn inside.feed inside.peers.items inside.agents.items inside.tables inside.tables c.self.invariant (stays-same inside.tables) c.args.place c.greet_agent.new.end e lt
     (ap (λ (e : AgentEnd). e.id) opened) (subst IsAgentEnd (sym opened) (opened_is (get_or inside.agents.items c.args.place e) is))
 
 pub returns-in_err-replies-clause-plan : goal.returns-in_err-replies-clause-plan
@@ -39,7 +39,7 @@ returns-in_err-replies-clause-plan c =
     let inside = c.self.inside in
     let lt = among (λ (e : AgentEnd). e.id) inside.agents.items c.args.self.now.plan.agents c.args.place (ap (λ (v : Ends). v.plan.agents) c.self.view_is) c.requires.among in
     let same = ap (λ (e : AgentEnd). e.id) (c.in_err-replies.ensures.opened ∙ ap opened_agent c.index_mut-end.ensures.value) in
-    plan-agent inside.me inside.asn inside.peers.items inside.agents.items c.args.place c.open_agent.new.end c.index_mut-end.result.now lt same ∙ ap (λ (v : Ends). v.plan) c.self.view_is
+    plan-agent inside.me inside.asn inside.peers.items inside.agents.items c.args.place c.greet_agent.new.end c.index_mut-end.result.now lt same ∙ ap (λ (v : Ends). v.plan) c.self.view_is
 
 pub invariant_of-self-2 : goal.invariant_of-self-2
 invariant_of-self-2 c =
@@ -48,7 +48,7 @@ invariant_of-self-2 c =
     let lt = among (λ (e : AgentEnd). e.id) inside.agents.items c.args.self.now.plan.agents c.args.place (ap (λ (v : Ends). v.plan.agents) c.self.view_is) c.requires.among in
     let opened = c.in_ok-replies.ensures.opened ∙ ap opened_agent c.index_mut-end.ensures.value in
     let is = all-at IsAgentEnd inside.agents.items c.args.place e c.self.invariant.agent_ends lt in
-    ends-agent inside.me inside.asn inside.feed inside.peers.items inside.agents.items inside.tables inside.tables c.self.invariant (stays-same inside.tables) c.args.place c.open_agent.new.end e lt
+    ends-agent inside.me inside.asn inside.feed inside.peers.items inside.agents.items inside.tables inside.tables c.self.invariant (stays-same inside.tables) c.args.place c.greet_agent.new.end e lt
     (ap (λ (e : AgentEnd). e.id) opened) (subst IsAgentEnd (sym opened) (opened_is (get_or inside.agents.items c.args.place e) is))
 
 pub returns-clause-plan : goal.returns-clause-plan
@@ -56,7 +56,7 @@ returns-clause-plan c =
     let inside = c.self.inside in
     let lt = among (λ (e : AgentEnd). e.id) inside.agents.items c.args.self.now.plan.agents c.args.place (ap (λ (v : Ends). v.plan.agents) c.self.view_is) c.requires.among in
     let same = ap (λ (e : AgentEnd). e.id) (c.in_ok-replies.ensures.opened ∙ ap opened_agent c.index_mut-end.ensures.value) in
-    plan-agent inside.me inside.asn inside.peers.items inside.agents.items c.args.place c.open_agent.new.end c.index_mut-end.result.now lt same ∙ ap (λ (v : Ends). v.plan) c.self.view_is
+    plan-agent inside.me inside.asn inside.peers.items inside.agents.items c.args.place c.greet_agent.new.end c.index_mut-end.result.now lt same ∙ ap (λ (v : Ends). v.plan) c.self.view_is
 
 pub returns-clause-begun : goal.returns-clause-begun
 returns-clause-begun c =
@@ -65,8 +65,8 @@ returns-clause-begun c =
     let lt = among (λ (e : AgentEnd). e.id) inside.agents.items c.args.self.now.plan.agents c.args.place (ap (λ (v : Ends). v.plan.agents) c.self.view_is) c.requires.among in
     let n = many (λ (e : PeerEnd). e.session.peer) inside.peers.items c.args.self.now.plan.peers (ap (λ (v : Ends). v.plan.peers) c.self.view_is) in
     let at = c.requires.session ∙ ap (λ n. suc (n + c.args.place)) n in
-    let posts = posts_of inside.feed.state inside.peers.items (set inside.agents.items c.args.place c.open_agent.new.end) inside.tables in
+    let posts = posts_of inside.feed.state inside.peers.items (set inside.agents.items c.args.place c.greet_agent.new.end) inside.tables in
     subst (λ (v : Ends). IsBegun v.plan v.posts s (input.Opened s) c.in_ok-replies.replies None posts) c.self.view_is (
     agent-opened inside.me inside.asn inside.feed inside.peers.items inside.agents.items inside.tables c.self.invariant s c.args.place
-    c.open_agent.new.end c.index_mut-end.result.now c.in_ok-replies.replies at lt
+    c.greet_agent.new.end c.index_mut-end.result.now c.in_ok-replies.replies at lt
     (c.in_ok-replies.ensures.opened ∙ ap opened_agent c.index_mut-end.ensures.value) c.in_ok-replies.ensures.hello)

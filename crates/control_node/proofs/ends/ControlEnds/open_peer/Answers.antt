@@ -10,8 +10,8 @@ use Rattle.control_node.proofs.Starting.{peer-opened}
 use Rattle.control_node.proofs.Turning.{peer_is_idle}
 use Rattle.control_node.proofs.ends.ControlEnds.open_peer.Goals as goal
 
-pub open_peer-requires-clause-idle : goal.open_peer-requires-clause-idle
-open_peer-requires-clause-idle c =
+pub greet_peer-requires-clause-idle : goal.greet_peer-requires-clause-idle
+greet_peer-requires-clause-idle c =
     let inside = c.self.inside in
     let lt = among (λ (e : PeerEnd). e.session.peer) inside.peers.items c.args.self.now.plan.peers c.args.place (ap (λ (v : Ends). v.plan.peers) c.self.view_is) c.requires.among in
     let idle = ap (λ (v : Ends). is_idle (post v.posts c.args.session).phase) c.self.view_is ∙ c.requires.idle in
@@ -23,22 +23,22 @@ returns-in_err-replies-clause-plan c =
     let inside = c.self.inside in
     let lt = among (λ (e : PeerEnd). e.session.peer) inside.peers.items c.args.self.now.plan.peers c.args.place (ap (λ (v : Ends). v.plan.peers) c.self.view_is) c.requires.among in
     let same = ap (λ (e : PeerEnd). e.session.peer) (c.in_err-replies.ensures.opened ∙ ap opened_peer c.index_mut-end.ensures.value) in
-    plan-peer inside.me inside.asn inside.peers.items inside.agents.items c.args.place c.open_peer.new.end c.index_mut-end.result.now lt same ∙ ap (λ (v : Ends). v.plan) c.self.view_is
+    plan-peer inside.me inside.asn inside.peers.items inside.agents.items c.args.place c.greet_peer.new.end c.index_mut-end.result.now lt same ∙ ap (λ (v : Ends). v.plan) c.self.view_is
 
 pub returns-clause-plan : goal.returns-clause-plan
 returns-clause-plan c =
     let inside = c.self.inside in
     let lt = among (λ (e : PeerEnd). e.session.peer) inside.peers.items c.args.self.now.plan.peers c.args.place (ap (λ (v : Ends). v.plan.peers) c.self.view_is) c.requires.among in
     let same = ap (λ (e : PeerEnd). e.session.peer) (c.in_ok-replies.ensures.opened ∙ ap opened_peer c.index_mut-end.ensures.value) in
-    plan-peer inside.me inside.asn inside.peers.items inside.agents.items c.args.place c.open_peer.new.end c.index_mut-end.result.now lt same ∙ ap (λ (v : Ends). v.plan) c.self.view_is
+    plan-peer inside.me inside.asn inside.peers.items inside.agents.items c.args.place c.greet_peer.new.end c.index_mut-end.result.now lt same ∙ ap (λ (v : Ends). v.plan) c.self.view_is
 
 pub returns-clause-begun : goal.returns-clause-begun
 returns-clause-begun c =
     let inside = c.self.inside in
     let s = c.args.session in
     let lt = among (λ (e : PeerEnd). e.session.peer) inside.peers.items c.args.self.now.plan.peers c.args.place (ap (λ (v : Ends). v.plan.peers) c.self.view_is) c.requires.among in
-    let posts = posts_of inside.feed.state (set inside.peers.items c.args.place c.open_peer.new.end) inside.agents.items inside.tables in
+    let posts = posts_of inside.feed.state (set inside.peers.items c.args.place c.greet_peer.new.end) inside.agents.items inside.tables in
     subst (λ (v : Ends). IsBegun v.plan v.posts s (input.Opened s) c.in_ok-replies.replies None posts) c.self.view_is (
     peer-opened inside.me inside.asn inside.feed inside.peers.items inside.agents.items inside.tables c.self.invariant s c.args.place
-    c.open_peer.new.end c.index_mut-end.result.now c.in_ok-replies.replies c.requires.session lt
+    c.greet_peer.new.end c.index_mut-end.result.now c.in_ok-replies.replies c.requires.session lt
     (c.in_ok-replies.ensures.opened ∙ ap opened_peer c.index_mut-end.ensures.value) c.in_ok-replies.ensures.hello)

@@ -2,7 +2,7 @@ use Rattle.std.proofs.Common.{ap, sym, ◌∙◌}
 use Rattle.std.specs.List.{filter_map}
 use Rattle.node_items.specs.Told.{change_of}
 use Rattle.control_node.proofs.Applied.{agent-same}
-use Rattle.control_node.proofs.begin.hear_agent.Goals as goal
+use Rattle.control_node.proofs.inputs.hear_from_agent.Goals as goal
 
 pub returns-in-Some-clause-heard : goal.returns-in-Some-clause-heard
 returns-in-Some-clause-heard c =

@@ -1,6 +1,6 @@
 use Rattle.std.proofs.Common.{sym, ◌∙◌}
 use Rattle.control_node.proofs.Applied.{peer-same}
-use Rattle.control_node.proofs.begin.hear_peer.Goals as goal
+use Rattle.control_node.proofs.inputs.hear_from_peer.Goals as goal
 
 pub returns-in-Some-clause-heard : goal.returns-in-Some-clause-heard
 returns-in-Some-clause-heard c =

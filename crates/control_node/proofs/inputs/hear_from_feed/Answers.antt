@@ -1,7 +1,7 @@
 use Rattle.std.proofs.Common.{ap, sym, ◌∙◌, refl}
 use Rattle.std.specs.List.{filter_map}
 use Rattle.node_items.specs.Told.{change_of}
-use Rattle.control_node.proofs.begin.hear_feed.Goals as goal
+use Rattle.control_node.proofs.inputs.hear_from_feed.Goals as goal
 
 pub returns-in-Some-clause-heard : goal.returns-in-Some-clause-heard
 returns-in-Some-clause-heard c =
