@@ -1,4 +1,7 @@
 -- Lemmas, in the order in which they stand on each other.
+pub mod Below
+pub mod Images
+pub mod Planned
 pub mod Posts
 pub mod Keeping
 pub mod Closed
@@ -6,3 +9,7 @@ pub mod Iterated
 pub mod Applied
 pub mod Turning
 pub mod Starting
+pub mod Holding
+pub mod Passing
+pub mod Kept
+pub mod Made

@@ -3,7 +3,9 @@ pub mod Core
 pub mod Wanting
 pub mod Beginning
 pub mod Ends
+pub mod Planning
 pub mod Places
 pub mod Stays
 pub mod Taking
 pub mod Begun
+pub mod Made

@@ -6,7 +6,10 @@ mod cause;
 mod closing;
 mod ends;
 mod inputs;
+mod looking;
+mod making;
 mod plan;
+mod planning;
 mod taking;
 
 pub use cause::NodeCause;

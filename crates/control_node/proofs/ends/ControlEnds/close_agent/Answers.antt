@@ -24,9 +24,8 @@ pub returns-clause-plan : goal.returns-clause-plan
 returns-clause-plan c =
     let inside = c.self.inside in
     let e = c.index_mut.result.now in
-    let lt = among (λ (e : AgentEnd). e.id) inside.agents.items c.args.self.now.plan.agents c.args.place (ap (λ (v : Ends). v.plan.agents) c.self.view_is) c.requires.among in
     let same = ap (λ (e : AgentEnd). e.id) (c.shut_agent.ensures ∙ ap closed_agent c.index_mut.ensures.value) in
-    plan-agent inside.me inside.asn inside.peers.items inside.agents.items c.args.place c.shut_agent.new.end e lt same
+    plan-agent inside.me inside.asn inside.peers.items inside.agents.items c.args.place c.shut_agent.new.end e same
     ∙ ap (λ (v : Ends). v.plan) c.self.view_is
 
 pub returns-clause-closed : goal.returns-clause-closed

@@ -20,9 +20,8 @@ pub returns-clause-plan : goal.returns-clause-plan
 returns-clause-plan c =
     let inside = c.self.inside in
     let e = c.index_mut.result.now in
-    let lt = among (λ (e : PeerEnd). e.session.peer) inside.peers.items c.args.self.now.plan.peers c.args.place (ap (λ (v : Ends). v.plan.peers) c.self.view_is) c.requires.among in
     let same = ap (λ (e : PeerEnd). e.session.peer) (c.shut_peer.ensures ∙ ap closed_peer c.index_mut.ensures.value) in
-    plan-peer inside.me inside.asn inside.peers.items inside.agents.items c.args.place c.shut_peer.new.end e lt same
+    plan-peer inside.me inside.asn inside.peers.items inside.agents.items c.args.place c.shut_peer.new.end e same
     ∙ ap (λ (v : Ends). v.plan) c.self.view_is
 
 pub returns-clause-closed : goal.returns-clause-closed

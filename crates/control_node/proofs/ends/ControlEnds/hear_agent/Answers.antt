@@ -23,9 +23,8 @@ invariant_of-self c =
 pub returns-in_err-cause-clause-plan : goal.returns-in_err-cause-clause-plan
 returns-in_err-cause-clause-plan c =
     let inside = c.self.inside in
-    let lt = among (λ (e : AgentEnd). e.id) inside.agents.items c.args.self.now.plan.agents c.args.place (ap (λ (v : Ends). v.plan.agents) c.self.view_is) c.requires.among in
     let same = c.in_err-cause.ensures.id ∙ ap (λ (e : AgentEnd). e.id) c.index_mut-end.ensures.value in
-    plan-agent inside.me inside.asn inside.peers.items inside.agents.items c.args.place c.hear_from_agent.new.end c.index_mut-end.result.now lt same ∙ ap (λ (v : Ends). v.plan) c.self.view_is
+    plan-agent inside.me inside.asn inside.peers.items inside.agents.items c.args.place c.hear_from_agent.new.end c.index_mut-end.result.now same ∙ ap (λ (v : Ends). v.plan) c.self.view_is
 
 pub invariant_of-self-2 : goal.invariant_of-self-2
 invariant_of-self-2 c =
@@ -41,9 +40,8 @@ invariant_of-self-2 c =
 pub returns-clause-plan : goal.returns-clause-plan
 returns-clause-plan c =
     let inside = c.self.inside in
-    let lt = among (λ (e : AgentEnd). e.id) inside.agents.items c.args.self.now.plan.agents c.args.place (ap (λ (v : Ends). v.plan.agents) c.self.view_is) c.requires.among in
     let same = c.in_ok-cause.ensures.id ∙ ap (λ (e : AgentEnd). e.id) c.index_mut-end.ensures.value in
-    plan-agent inside.me inside.asn inside.peers.items inside.agents.items c.args.place c.hear_from_agent.new.end c.index_mut-end.result.now lt same ∙ ap (λ (v : Ends). v.plan) c.self.view_is
+    plan-agent inside.me inside.asn inside.peers.items inside.agents.items c.args.place c.hear_from_agent.new.end c.index_mut-end.result.now same ∙ ap (λ (v : Ends). v.plan) c.self.view_is
 
 pub returns-clause-heard : goal.returns-clause-heard
 returns-clause-heard c =

@@ -11,16 +11,14 @@ use Rattle.control_node.proofs.ends.ControlEnds.hear_peer.Goals as goal
 pub returns-in_err-heard-clause-plan : goal.returns-in_err-heard-clause-plan
 returns-in_err-heard-clause-plan c =
     let inside = c.self.inside in
-    let lt = among (λ (e : PeerEnd). e.session.peer) inside.peers.items c.args.self.now.plan.peers c.args.place (ap (λ (v : Ends). v.plan.peers) c.self.view_is) c.requires.among in
     let same = c.in_err-heard.ensures.peer ∙ ap (λ (e : PeerEnd). e.session.peer) c.index_mut-end.ensures.value in
-    plan-peer inside.me inside.asn inside.peers.items inside.agents.items c.args.place c.hear_from_peer.new.end c.index_mut-end.result.now lt same ∙ ap (λ (v : Ends). v.plan) c.self.view_is
+    plan-peer inside.me inside.asn inside.peers.items inside.agents.items c.args.place c.hear_from_peer.new.end c.index_mut-end.result.now same ∙ ap (λ (v : Ends). v.plan) c.self.view_is
 
 pub returns-clause-plan : goal.returns-clause-plan
 returns-clause-plan c =
     let inside = c.self.inside in
-    let lt = among (λ (e : PeerEnd). e.session.peer) inside.peers.items c.args.self.now.plan.peers c.args.place (ap (λ (v : Ends). v.plan.peers) c.self.view_is) c.requires.among in
     let same = c.in_ok-heard.ensures.peer ∙ ap (λ (e : PeerEnd). e.session.peer) c.index_mut-end.ensures.value in
-    plan-peer inside.me inside.asn inside.peers.items inside.agents.items c.args.place c.hear_from_peer.new.end c.index_mut-end.result.now lt same ∙ ap (λ (v : Ends). v.plan) c.self.view_is
+    plan-peer inside.me inside.asn inside.peers.items inside.agents.items c.args.place c.hear_from_peer.new.end c.index_mut-end.result.now same ∙ ap (λ (v : Ends). v.plan) c.self.view_is
 
 pub returns-clause-heard : goal.returns-clause-heard
 returns-clause-heard c =

@@ -21,16 +21,14 @@ greet_peer-requires-clause-idle c =
 pub returns-in_err-replies-clause-plan : goal.returns-in_err-replies-clause-plan
 returns-in_err-replies-clause-plan c =
     let inside = c.self.inside in
-    let lt = among (λ (e : PeerEnd). e.session.peer) inside.peers.items c.args.self.now.plan.peers c.args.place (ap (λ (v : Ends). v.plan.peers) c.self.view_is) c.requires.among in
     let same = ap (λ (e : PeerEnd). e.session.peer) (c.in_err-replies.ensures.opened ∙ ap opened_peer c.index_mut-end.ensures.value) in
-    plan-peer inside.me inside.asn inside.peers.items inside.agents.items c.args.place c.greet_peer.new.end c.index_mut-end.result.now lt same ∙ ap (λ (v : Ends). v.plan) c.self.view_is
+    plan-peer inside.me inside.asn inside.peers.items inside.agents.items c.args.place c.greet_peer.new.end c.index_mut-end.result.now same ∙ ap (λ (v : Ends). v.plan) c.self.view_is
 
 pub returns-clause-plan : goal.returns-clause-plan
 returns-clause-plan c =
     let inside = c.self.inside in
-    let lt = among (λ (e : PeerEnd). e.session.peer) inside.peers.items c.args.self.now.plan.peers c.args.place (ap (λ (v : Ends). v.plan.peers) c.self.view_is) c.requires.among in
     let same = ap (λ (e : PeerEnd). e.session.peer) (c.in_ok-replies.ensures.opened ∙ ap opened_peer c.index_mut-end.ensures.value) in
-    plan-peer inside.me inside.asn inside.peers.items inside.agents.items c.args.place c.greet_peer.new.end c.index_mut-end.result.now lt same ∙ ap (λ (v : Ends). v.plan) c.self.view_is
+    plan-peer inside.me inside.asn inside.peers.items inside.agents.items c.args.place c.greet_peer.new.end c.index_mut-end.result.now same ∙ ap (λ (v : Ends). v.plan) c.self.view_is
 
 pub returns-clause-begun : goal.returns-clause-begun
 returns-clause-begun c =
