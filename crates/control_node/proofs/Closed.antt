@@ -8,6 +8,7 @@ use Rattle.ov_types.specs.declared.keys.DownKey.{DownKey}
 use Rattle.ov_types.specs.declared.keys.DownValue.{DownValue}
 use Rattle.item_wire.specs.declared.event.ItemState.{ItemState}
 use Rattle.node_items.specs.Told.{AllFit, down_of, down_order, down_value}
+use Rattle.node_items.proofs.Maps.{nothing_fits}
 use Rattle.node_model.specs.Keys.{key_cmp, of_down}
 use Rattle.node_model.specs.Maps.{Map}
 use Rattle.node_model.specs.Paths.{Holdings, Told}
@@ -18,7 +19,7 @@ use Rattle.control_node.specs.declared.ends.AgentEnd.{AgentEnd}
 use Rattle.control_node.specs.declared.ends.PeerEnd.{PeerEnd}
 use Rattle.control_node.specs.Ends.{IsAgentEnd, closed_agent, closed_peer, posts_of, seat, seats}
 use Rattle.control_node.proofs.Posts.{at_session-none, at_session-there, posts-agent, posts-peer, seated-length}
-use Rattle.control_node.proofs.Keeping.{emptied-set, nothing_fits}
+use Rattle.control_node.proofs.Keeping.{emptied-set}
 
 pub down-empty : down_of [] ≡ empty
 down-empty = ap (λ (es : List (DownKey × DownValue)). from_entries {R = key_cmp} (map (moved_entry of_down down_value) es)) (entries-empty {V = DownValue} down_order)

@@ -3,13 +3,15 @@ use Rattle.std.specs.Prelude.{◌≡◌, ◌+◌, ◌<◌, ◌==◌, ℕ, zero, 
 use Rattle.std.specs.FinMap.{empty}
 use Rattle.std.specs.List.{AllByRecursion}
 use Rattle.std.proofs.Common.{refl, sym, ◌∙◌, ap, arith, get_or, set, length-set}
+use Rattle.std.proofs.Math.Seq.{map-set_same}
 use Rattle.std.proofs.lemmas.List.{length-map}
 use Rattle.ov_sync.specs.Keyed.{Values}
 use Rattle.ov_sync.proofs.KeyedLaws.{empty_values}
 use Rattle.ov_types.specs.declared.prefix.Addr.{Addr}
 use Rattle.ov_types.specs.declared.rows.NodeId.{NodeId}
 use Rattle.item_wire.specs.Happenings.{SessionFields}
-use Rattle.node_items.specs.Told.{AllFit, Fits}
+use Rattle.node_items.specs.Told.{AllFit}
+use Rattle.node_items.proofs.Maps.{nothing_fits}
 use Rattle.node_model.specs.Keys.{key_cmp}
 use Rattle.node_model.specs.Values.{Value}
 use Rattle.node_model.specs.Maps.{Map}
@@ -18,7 +20,7 @@ use Rattle.control_wants.specs.Held.{RouteFits}
 use Rattle.vpn_tables.specs.Changes.{at_session, emptied_at, without}
 use Rattle.control_node.specs.declared.ends.AgentEnd.{AgentEnd}
 use Rattle.control_node.specs.declared.ends.PeerEnd.{PeerEnd}
-use Rattle.control_node.specs.Ends.{AreEnds, IsAgentEnd, seat, seats}
+use Rattle.control_node.specs.Ends.{AreEnds, IsAgentEnd, plan_of, seat, seats}
 use Rattle.control_node.specs.Stays.{StaysHeld}
 
 -- ---- as many
@@ -39,10 +41,24 @@ all-set P [] i x all h = all
 all-set P (y ∷ xs) zero x all h = (h, all.1)
 all-set P (y ∷ xs) (suc i) x all h = (all.0, all-set P xs i x all.1 h)
 
-pub map-set : {X Y : Type 0} (f : X → Y) (xs : List X) (i : ℕ) (x d : X) → i < length xs → f x ≡ f (get_or xs i d) → map f (set xs i x) ≡ map f xs
-map-set f [] i x d h same = refl
-map-set {Y = Y} f (y ∷ xs) zero x d h same = ap (λ (z : Y). z ∷ map f xs) same
-map-set {Y = Y} f (y ∷ xs) (suc i) x d h same = ap (λ (l : List Y). f y ∷ l) (map-set f xs i x d (omega (arith, h)) same)
+-- the plan stays where the ends are those of the same nodes
+pub plan-peer : (me : NodeId) (asn : ℕ) (es : List PeerEnd) (ts : List AgentEnd) (i : ℕ) (e d : PeerEnd)
+    → e.session.peer ≡ (get_or es i d).session.peer → plan_of me asn (set es i e) ts ≡ plan_of me asn es ts
+plan-peer me asn es ts i e d same = (λ k. record {
+  me = me;
+  asn = asn;
+  peers = map-set_same (λ (e : PeerEnd). e.session.peer) es i e d same k;
+  agents = map (λ (e : AgentEnd). e.id) ts;
+})
+
+pub plan-agent : (me : NodeId) (asn : ℕ) (es : List PeerEnd) (ts : List AgentEnd) (i : ℕ) (e d : AgentEnd)
+    → e.id ≡ (get_or ts i d).id → plan_of me asn es (set ts i e) ≡ plan_of me asn es ts
+plan-agent me asn es ts i e d same = (λ k. record {
+  me = me;
+  asn = asn;
+  peers = map (λ (e : PeerEnd). e.session.peer) es;
+  agents = map-set_same (λ (e : AgentEnd). e.id) ts i e d same k;
+})
 
 pub seats-set : (first : ℕ) (es : List AgentEnd) (i : ℕ) (e d : AgentEnd) → i < length es → e.id ≡ (get_or es i d).id → seats first (set es i e) ≡ seats first es
 seats-set first [] i e d h same = refl
@@ -123,9 +139,6 @@ module _ (f : Map → Map) where
           | false ↦ all
         ]
       ]
-
-pub nothing_fits : AllFit empty
-nothing_fits = empty_values key_cmp Fits
 
 no_route_fits : Values RouteFits (empty {X = Value} {R = key_cmp})
 no_route_fits = empty_values key_cmp RouteFits

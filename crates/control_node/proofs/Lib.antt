@@ -5,6 +5,10 @@ pub mod Planned
 pub mod Posts
 pub mod Keeping
 pub mod Closed
+pub mod Iterated
+pub mod Applied
+pub mod Turning
+pub mod Starting
 pub mod Holding
 pub mod Passing
 pub mod Kept

@@ -36,7 +36,7 @@ use Rattle.control_node.specs.declared.ends.AgentEnd.{AgentEnd}
 use Rattle.control_node.specs.declared.ends.PeerEnd.{PeerEnd}
 use Rattle.control_node.specs.declared.plan.ControlPlan.{ControlPlan}
 use Rattle.control_node.proofs.Closed.{down-empty}
-use Rattle.control_node.proofs.Keeping.{nothing_fits}
+use Rattle.node_items.proofs.Maps.{nothing_fits}
 
 -- ---- places in the tables
 none_left : (k : Key) → remove {X = Value} {R = key_cmp} empty k ≡ empty

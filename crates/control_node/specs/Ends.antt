@@ -97,3 +97,10 @@ closed_peer e = record { session = record e.session { state = State.Idle }; sent
 
 abbrev pub closed_agent : AgentEnd → AgentEnd
 closed_agent e = record e { session = record e.session { state = ItemState.Idle }; sent = [] }
+
+-- ---- ends that are opened
+abbrev pub opened_peer : PeerEnd → PeerEnd
+opened_peer e = record e { session = record e.session { state = State.OpenSent } }
+
+abbrev pub opened_agent : AgentEnd → AgentEnd
+opened_agent e = record e { session = record e.session { state = ItemState.Opened } }

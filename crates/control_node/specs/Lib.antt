@@ -6,6 +6,8 @@ pub mod Ends
 pub mod Planning
 pub mod Places
 pub mod Stays
+pub mod Taking
+pub mod Begun
 pub mod Made
 pub mod Codes
 pub mod Begun

@@ -34,20 +34,20 @@ pub(crate) fn place_of(session: u16, peers: usize) -> Place
     }
 }
 
-fn close_feed(feed: &mut ItemSession)
+fn shut_feed(feed: &mut ItemSession)
     ensures { feed.new ≡ record feed.old { state = ItemState.Idle } }
 {
     let _event = feed.closed();
 }
 
-fn close_peer(end: &mut PeerEnd)
+fn shut_peer(end: &mut PeerEnd)
     ensures { end.new ≡ closed_peer end.old }
 {
     let _event = end.session.closed();
     end.sent.reset();
 }
 
-fn close_agent(end: &mut AgentEnd)
+fn shut_agent(end: &mut AgentEnd)
     ensures { end.new ≡ closed_agent end.old }
 {
     let _event = end.session.closed();
@@ -59,7 +59,7 @@ impl ControlEnds {
         ensures plan { self.new.plan ≡ self.old.plan }
         ensures closed { self.new.posts ≡ slice_set self.old.posts 0 nothing }
     {
-        close_feed(&mut self.feed);
+        shut_feed(&mut self.feed);
         self.tables.drop_session(0);
     }
 
@@ -69,7 +69,7 @@ impl ControlEnds {
         ensures plan { self.new.plan ≡ self.old.plan }
         ensures closed { self.new.posts ≡ slice_set self.old.posts session nothing }
     {
-        close_peer(&mut self.peers[place]);
+        shut_peer(&mut self.peers[place]);
         self.tables.drop_session(session);
     }
 
@@ -79,7 +79,7 @@ impl ControlEnds {
         ensures plan { self.new.plan ≡ self.old.plan }
         ensures closed { self.new.posts ≡ slice_set self.old.posts session nothing }
     {
-        close_agent(&mut self.agents[place]);
+        shut_agent(&mut self.agents[place]);
         self.tables.drop_session(session);
     }
 

@@ -5,11 +5,13 @@ mod begin;
 mod cause;
 mod closing;
 mod ends;
+mod inputs;
 mod looking;
 mod making;
 mod node;
 mod plan;
 mod planning;
+mod taking;
 
 pub use cause::NodeCause;
 pub use node::ControlNode;

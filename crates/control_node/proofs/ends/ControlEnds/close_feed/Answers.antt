@@ -11,11 +11,11 @@ invariant_of-self c =
     let inside = c.self.inside in
     let stays = rw (← c.drop_session.ensures) at (stays-without inside.tables 0) in
     ends-feed inside.me inside.asn inside.feed inside.peers.items inside.agents.items inside.tables c.drop_session.new.self c.self.invariant stays
-    c.close_feed.new.feed (ap (λ (s : SessionFields). s.peer) c.close_feed.ensures) (ap (λ (s : SessionFields). s.from) c.close_feed.ensures)
+    c.shut_feed.new.feed (ap (λ (s : SessionFields). s.peer) c.shut_feed.ensures) (ap (λ (s : SessionFields). s.from) c.shut_feed.ensures)
 
 pub returns-clause-closed : goal.returns-clause-closed
 returns-clause-closed c =
     let inside = c.self.inside in
-    (λ i. posts_of (c.close_feed.ensures i).state inside.peers.items inside.agents.items (c.drop_session.ensures i))
+    (λ i. posts_of (c.shut_feed.ensures i).state inside.peers.items inside.agents.items (c.drop_session.ensures i))
     ∙ feed-closed inside.feed.state inside.peers.items inside.agents.items inside.tables c.self.invariant.peers_held c.self.invariant.agents_held
     ∙ ap (λ (v : Ends). set v.posts 0 nothing) c.self.view_is
