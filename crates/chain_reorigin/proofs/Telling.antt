@@ -57,10 +57,10 @@ told_is rs es ps sorted e led =
     ∙ sym (entries_moved (λ (k : VpnKey). k) told_of vpn_total vpn_total (λ x y. refl) (map keyed rs))
     ∙ ap (λ (l : List (VpnKey × VpnRoute)). entries (from_entries {R = vpn_order} l)) (sym (told_all rs) ∙ ap (map told_path) led)
 
-vpn_keeps : (a b : VpnKey) → key_cmp (Vpn a) (Vpn b) ≡ vpn_order a b
+pub vpn_keeps : (a b : VpnKey) → key_cmp (Vpn a) (Vpn b) ≡ vpn_order a b
 vpn_keeps a b = images.vpn_keeps a b ∙ search rules
 
-entries_all : (ps : List Path) → map (moved_entry Vpn values.Route) (map told_path ps) ≡ map route_entry ps
+pub entries_all : (ps : List Path) → map (moved_entry Vpn values.Route) (map told_path ps) ≡ map route_entry ps
 entries_all [] = refl
 entries_all (p ∷ ps) = ap (λ (l : List (Key × Value)). route_entry p ∷ l) (entries_all ps)
 

@@ -6,4 +6,4 @@ mod routes;
 #[cfg(test)]
 mod tests;
 
-pub use routes::reoriginated;
+pub use routes::{reoriginated, told_route};

@@ -61,7 +61,8 @@ fn told(
     Ok(routes)
 }
 
-fn told_route(alloc: Global, route: &Route) -> Result<VpnRoute, NoMemory>
+/// A route as peers are told it, with its one target.
+pub fn told_route(alloc: Global, route: &Route) -> Result<VpnRoute, NoMemory>
     ensures { IfOk result (λ told. told ≡ told_of route.now) }
 {
     let mut targets = Targets::new(alloc);

@@ -1,1 +1,3 @@
-
+pub mod Counting
+pub mod Wanting
+pub mod Fitting

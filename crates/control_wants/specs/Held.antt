@@ -1,14 +1,12 @@
 -- What is asked of what a control node holds, so that all that it wants can be told.
-use Rattle.std.specs.Prelude.{◌<◌, ◌==◌, ◌^◌, ℕ, List, [], ◌∷◌, if◌then◌else◌}
-use Rattle.std.specs.FinMap.{empty}
+use Rattle.std.specs.Prelude.{◌<◌, ◌^◌}
 use Rattle.std.specs.List.{AllByRecursion}
 use Rattle.ov_sync.specs.Keyed.{Values}
-use Rattle.ov_types.specs.declared.prefix.Addr.{Addr}
 use Rattle.node_items.specs.Told.{AllFit}
 use Rattle.node_model.specs.Keys.{Key, Vpn}
 use Rattle.node_model.specs.Values.{Value, Route}
-use Rattle.node_model.specs.Maps.{Map}
 use Rattle.node_model.specs.Paths.{Holdings, Told}
+pub use Rattle.vpn_tables.specs.Listing.{told_in}
 
 -- a route whose label has 20 bits
 abbrev pub RouteFits : Key → Value → Type 0
@@ -19,8 +17,3 @@ pub record HoldingsFit (h : Holdings) : Type 0 where
   pub feed : AllFit h.feed
   pub peers : AllByRecursion (Values RouteFits) h.peers
   pub agents : AllByRecursion (λ (a : Told). AllFit a.map) h.agents
-
--- the agent of a session, among those held
-abbrev pub told_in : List Told → ℕ → Told
-told_in [] session = record { session = session; address = record { 0 = 0 }; map = empty }
-told_in (a ∷ agents) session = if a.session == session then a else told_in agents session

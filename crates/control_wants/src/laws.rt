@@ -10,3 +10,10 @@ ghost use Rattle.node_model.specs.Paths.{Holdings, Told};
 ghost use Rattle.node_model.specs.Wants.{wanted_by_agent, wanted_by_peers};
 ghost use Rattle.node_peers.specs.Told.{IsWritable};
 ghost use Rattle.control_wants.specs.Held.{HoldingsFit};
+
+/// Where what is held can be told, so can all that is wanted.
+pub fn what_is_wanted_can_be_told()
+    ensures peers { (h : Holdings) → h.asn ≤ 65535 → HoldingsFit h → (k : VpnKey) (r : VpnRoute)
+        → get (wanted_by_peers h) (Vpn k) ≡ Some (Route r) → IsWritable r }
+    ensures agents { (h : Holdings) (a : Told) → HoldingsFit h → AllFit a.map → AllFit (wanted_by_agent h a) }
+{}

@@ -1,7 +1,11 @@
 //! What a control node wants its peers and its agents to have been told, and the rows that it shows.
 #![tactic(auto)]
 
+mod entries;
+mod first;
 pub mod laws;
+#[cfg(test)]
+mod tests;
 mod wants;
 
 pub use wants::{rows, wanted_by_agent, wanted_by_peers};

@@ -11,3 +11,4 @@ pub mod Offers
 pub mod Whole
 pub mod Leads
 pub mod Uses
+pub mod Listed

@@ -36,7 +36,7 @@ total h es = flat_map (leads h) (flat_map sides_of (filter_map (λ e. as_use e.0
 abbrev pub IsHeld : Map → Entry → Type 0
 IsHeld feed e = object feed e.0 ≡ Some e.1
 
-use_is : (feed : Map) (k : LowKey) (v : LowValue) → object feed k ≡ Some v → use_at feed k ≡ as_use k v
+pub use_is : (feed : Map) (k : LowKey) (v : LowValue) → object feed k ≡ Some v → use_at feed k ≡ as_use k v
 use_is feed (key.ChainUse n) v e = ap (use_from n) e
 use_is feed (key.Instance n) v e = refl
 use_is feed (key.Attach n) v e = refl
@@ -76,7 +76,7 @@ both_led h (Some u) s t routes mid new a b e f =
     none_more (x ∷ xs) = ap (λ (l : List Path). x ∷ l) (none_more xs)
 
 -- ---- the entries
-objects_typed : (es : List Entry) → filter_map (λ e. low_entry e.0 e.1) (map (moved_entry Low Object) es) ≡ es
+pub objects_typed : (es : List Entry) → filter_map (λ e. low_entry e.0 e.1) (map (moved_entry Low Object) es) ≡ es
 objects_typed [] = refl
 objects_typed (e ∷ es) = ap (λ (l : List Entry). e ∷ l) (objects_typed es)
 

@@ -8,3 +8,4 @@ pub mod Answers
 pub mod Routes
 pub mod Least
 pub mod Leading
+pub mod Listing

@@ -45,6 +45,13 @@ impl<'a> Model for Side<'a> {
 }
 
 impl<'a> Side<'a> {
+    pub(crate) fn number(&self) -> u16
+        ensures number { result ≡ self.now.chain.number }
+        ensures at_most { result ≤ 3071 }
+    {
+        self.number
+    }
+
     pub(crate) fn services(&self) -> u8
         ensures number { result ≡ self.now.chain.services }
         ensures at_most { result ≤ 15 }

@@ -4,6 +4,7 @@
 mod chains;
 mod leading;
 mod least;
+mod listing;
 mod reaching;
 mod routes;
 mod sessions;

@@ -2,8 +2,8 @@
 use crate::VpnTables;
 use ov_sync::Delta;
 use ov_types::{
-    Addr, InstanceId, Items, Label, LowKey, LowValue, Prefix, Rd, ServiceNo, Target, Targets,
-    UpKey, VpnKey, VpnRoute,
+    Addr, InstanceId, Items, Label, LowKey, LowValue, PortNo, Prefix, Rd, ServiceNo, Target,
+    Targets, UpKey, VpnKey, VpnRoute,
 };
 use std::alloc::Global;
 use std::fmt::Write;
@@ -132,5 +132,70 @@ fn the_lower_session_publishes(rt: HostRuntime) -> Result<(), Fail> {
     assert!(rt; tables.low(&LowKey::ChainUse(0)).is_some());
     tables.drop_session(0);
     assert!(rt; tables.low(&LowKey::ChainUse(0)).is_none());
+    Ok(())
+}
+
+#[test]
+fn lists_are_of_what_is_held(rt: HostRuntime) -> Result<(), Fail> {
+    let alloc = rt.alloc();
+    let left = Prefix::new(Addr(0x0a01_0000), 24).ok_or("10.1.0.0/24")?;
+    let right = Prefix::new(Addr(0x0a02_0000), 24).ok_or("10.2.0.0/24")?;
+    let mut tables = chained(alloc, left, right)?;
+    let key = UpKey::Subscribe(InstanceId(16384));
+    tables.set_publication(2, Delta::Put(key, Label(0)))?;
+    let mut text = String::new(alloc);
+    for instance in &tables.known_instances()? {
+        writeln!(text, "known {}", instance.0)?;
+    }
+    for instance in &tables.subscriptions(2)? {
+        writeln!(text, "subscribed {}", instance.0)?;
+    }
+    for route in &tables.own_routes()? {
+        let path = route.path;
+        writeln!(text, "{} {} {}", path.rd, route.prefix, path.label)?;
+    }
+    assert_eq!(rt;
+        text.as_str(),
+        "known 1\n\
+known 16384\n\
+known 16385\n\
+known 16386\n\
+subscribed 16384\n\
+192.0.2.11:1 10.1.0.1/32 17\n\
+192.0.2.11:16384 250.0.128.1/32 557057\n\
+192.0.2.11:16385 250.0.128.2/32 557058\n"
+    );
+    assert_eq!(rt; tables.address_of(2), NEAR);
+    assert_eq!(rt; tables.address_of(3), Addr(0));
+    assert!(rt; tables.subscriptions(3)?.is_empty());
+    Ok(())
+}
+
+#[test]
+fn slices_have_ports_and_the_lists_of_their_networks(rt: HostRuntime) -> Result<(), Fail> {
+    let alloc = rt.alloc();
+    let host = Prefix::host(Addr(1));
+    let mut tables = chained(alloc, host, host)?;
+    let port = LowValue::AttachPort {
+        port: PortNo(1),
+        instance: InstanceId(1),
+        address: Addr(1),
+        node: NEAR,
+    };
+    tables.set_low(Delta::Put(LowKey::Attach(17), port))?;
+    for (from, to) in [(1, 2), (2, 1)] {
+        let list = LowValue::Acl {
+            subnets: Items::new(alloc),
+            rules: Items::new(alloc),
+        };
+        tables.set_low(Delta::Put(LowKey::Acl { from, to }, list))?;
+    }
+    let mut keys = Vec::new(alloc);
+    for (key, _value) in &tables.slice(NEAR)? {
+        keys.push(*key)?;
+    }
+    let want = [LowKey::Attach(17), LowKey::Acl { from: 1, to: 2 }];
+    assert_eq!(rt; keys.as_slice(), want.as_slice());
+    assert!(rt; tables.slice(FAR)?.is_empty());
     Ok(())
 }

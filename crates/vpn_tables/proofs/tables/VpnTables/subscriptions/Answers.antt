@@ -1,0 +1,14 @@
+use Rattle.std.proofs.Common.{ap, sym, ◌∙◌, Bor}
+use Rattle.std.specs.Prelude.{Option, option_copied}
+use Rattle.node_model.specs.Paths.{Told}
+use Rattle.node_model.specs.Wants.{subscriptions}
+use Rattle.vpn_tables.specs.declared.tables.Agent.{Agent}
+use Rattle.vpn_tables.specs.Listing.{told_by}
+use Rattle.vpn_tables.proofs.Listed.{none_subscribed}
+use Rattle.vpn_tables.proofs.tables.VpnTables.subscriptions.Goals as goal
+
+pub returns-in-None : goal.returns-in-None
+returns-in-None c =
+    c.new.ensures.items ∙ sym none_subscribed
+    ∙ ap (λ (o : Option (Bor Agent)). subscriptions (told_by c.args.session (option_copied o)).map) (sym c.in-None.is)
+    ∙ ap (λ (a : Told). subscriptions a.map) c.agent.ensures

@@ -1,0 +1,28 @@
+-- The agent of a session, and the places of held uses.
+use Rattle.std.specs.Prelude.{ℕ, List, [], ◌∷◌, ◌++◌, ◌==◌, map, if◌then◌else◌}
+use Rattle.std.specs.declared.option.Option.{Option}
+use Rattle.std.specs.declared.option.Option.TheVariants.{Some, None}
+use Rattle.ov_types.specs.declared.numbers.InstanceId.{InstanceId}
+use Rattle.node_model.specs.Paths.{Told}
+use Rattle.node_model.specs.Reaching.{below}
+use Rattle.node_model.specs.Uses.{Use, hop}
+use Rattle.vpn_tables.specs.declared.tables.Agent.{Agent}
+use Rattle.vpn_tables.specs.Changes.{with_nothing}
+use Rattle.vpn_tables.specs.Views.{agent_of}
+
+-- the agent of a session, among those held. A session that is no agent's told nothing, from address 0
+abbrev pub told_in : List Told → ℕ → Told
+told_in [] session = with_nothing session (record { 0 = 0 })
+told_in (a ∷ agents) session = if a.session == session then a else told_in agents session
+
+abbrev pub told_by : ℕ → Option Agent → Told
+told_by session (Some a) = agent_of a
+told_by session None = with_nothing session (record { 0 = 0 })
+
+-- the instances of the places of a use
+abbrev pub hops : Use → List InstanceId
+hops u = map (hop u) (below u.services ++ u.services ∷ [])
+
+abbrev pub hops_of_held : Option Use → List InstanceId
+hops_of_held None = []
+hops_of_held (Some u) = hops u

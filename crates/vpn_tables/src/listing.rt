@@ -1,0 +1,252 @@
+//! Lists of what is held, from which a control node makes what it wants and shows.
+ghost use Rattle.std.specs.Prelude.{◌≡◌, ◌==◌, ◌++◌, [], ◌∷◌, OnOk, IfOk, map, option_copied};
+ghost use Rattle.std.specs.List.{filter_map, list_any};
+ghost use Rattle.std.specs.FinMap.{entries};
+ghost use Rattle.node_model.specs.Keys.{of_up};
+ghost use Rattle.node_model.specs.Maps.{Map, objects};
+ghost use Rattle.node_model.specs.Paths.{own_path, own_paths};
+ghost use Rattle.node_model.specs.Reaching.{below};
+ghost use Rattle.node_model.specs.Tables.{known_instances, network_of};
+ghost use Rattle.node_model.specs.Uses.{hop};
+ghost use Rattle.node_model.specs.Wants.{is_at, is_in_slice, networks_at, port_at, slice, subscribed, subscriptions};
+ghost use Rattle.vpn_tables.specs.Leading.{use_at};
+ghost use Rattle.vpn_tables.specs.Listing.{hops_of_held, told_by, told_in};
+ghost use Rattle.vpn_tables.specs.Routes.{path_of};
+ghost use Rattle.vpn_tables.specs.Views.{agent_of};
+
+use crate::chains::Side;
+use crate::routes::Route;
+use crate::tables::{Agent, VpnTables};
+use ov_types::{Addr, InstanceId, LowKey, LowValue, NoMemory, UpKey};
+use route_targets::hop_instance;
+use std::alloc::Global;
+
+impl VpnTables {
+    /// The own routes, by session and then by publication. Two may have one key; the first of these counts.
+    pub fn own_routes(&self) -> Result<Vec<Route>, NoMemory>
+        ensures { IfOk result (λ routes. map path_of routes.items ≡ own_paths self.now) }
+    {
+        let mut routes = Vec::new(self.alloc);
+        for agent in &self.agents {
+            self.push_own(&mut routes, agent)?;
+        }
+        Ok(routes)
+    }
+
+    /// Those of an agent.
+    fn push_own(&self, routes: &mut Vec<Route>, agent: &Agent) -> Result<(), NoMemory>
+        ensures { OnOk result (map path_of routes.new.items ≡ map path_of routes.old.items
+            ++ filter_map (λ e. own_path self.now (agent_of agent.now) e.0 e.1) (entries (agent_of agent.now).map)) }
+    {
+        for (key, label) in agent.told.iter() {
+            if let Some(route) = self.own_route(agent, key, *label) {
+                routes.push(route)?;
+            }
+        }
+        Ok(())
+    }
+
+    /// The slice of an address: the attachments there, and the access lists of the networks of its ports, in the order
+    /// of their keys.
+    pub fn slice(&self, address: Addr) -> Result<Vec<(LowKey, LowValue)>, NoMemory>
+        ensures { IfOk result (λ objects. objects.items ≡ slice self.now.feed address) }
+    {
+        let networks = self.networks_at(address)?;
+        self.slice_among(address, networks.as_slice())
+    }
+
+    /// The slice of an address, whose ports are of these networks.
+    fn slice_among(
+        &self,
+        address: Addr,
+        networks: &[InstanceId],
+    ) -> Result<Vec<(LowKey, LowValue)>, NoMemory>
+        requires { networks.now ≡ networks_at self.now.feed address }
+        ensures { IfOk result (λ objects. objects.items ≡ slice self.now.feed address) }
+    {
+        let mut objects = Vec::new(self.alloc);
+        for (key, value) in self.low.iter() {
+            if belongs(networks, address, key, value) {
+                let object = copy_of(value)?;
+                objects.push((*key, object))?;
+            }
+        }
+        Ok(objects)
+    }
+
+    /// The networks of the ports at an address.
+    fn networks_at(&self, address: Addr) -> Result<Vec<InstanceId>, NoMemory>
+        ensures { IfOk result (λ networks. networks.items ≡ networks_at self.now.feed address) }
+    {
+        let mut networks = Vec::new(self.alloc);
+        for (_key, value) in self.low.iter() {
+            if let Some(network) = port_at(address, value) {
+                networks.push(network)?;
+            }
+        }
+        Ok(networks)
+    }
+
+    /// The instances that the agent of a session subscribed, in order: none where the session is no agent's.
+    pub fn subscriptions(&self, session: u16) -> Result<Vec<InstanceId>, NoMemory>
+        ensures { IfOk result (λ instances. instances.items ≡ subscriptions (told_in self.now.agents session).map) }
+    {
+        match self.agent(session) {
+            Some(agent) => agent.subscriptions(self.alloc),
+            None => Ok(Vec::new(self.alloc)),
+        }
+    }
+
+    /// The address of the agent of a session: 0.0.0.0 where the session is no agent's. It takes no memory.
+    pub fn address_of(&self, session: u16) -> Addr
+        ensures { result ≡ (told_in self.now.agents session).address }
+    {
+        match self.agent(session) {
+            Some(agent) => agent.address,
+            None => Addr(0),
+        }
+    }
+
+    fn agent(&self, session: u16) -> Option<&Agent>
+        ensures { told_by session (option_copied result) ≡ told_in self.now.agents session }
+    {
+        for agent in &self.agents {
+            if agent.session == session {
+                return Some(agent);
+            }
+        }
+        None
+    }
+
+    /// The known instances, in order: the networks that are held, and then the places of the uses that are held.
+    pub fn known_instances(&self) -> Result<Vec<InstanceId>, NoMemory>
+        ensures { IfOk result (λ instances. instances.items ≡ known_instances self.now.feed) }
+    {
+        let mut instances = self.networks()?;
+        for (key, _value) in self.low.iter() {
+            self.push_hops(&mut instances, key)?;
+        }
+        Ok(instances)
+    }
+
+    /// The networks that are held.
+    fn networks(&self) -> Result<Vec<InstanceId>, NoMemory>
+        ensures { IfOk result (λ networks. networks.items
+            ≡ filter_map (λ e. network_of e.0) (objects self.now.feed)) }
+    {
+        let mut networks = Vec::new(self.alloc);
+        for (key, _value) in self.low.iter() {
+            if let Some(network) = network_of(key) {
+                networks.push(network)?;
+            }
+        }
+        Ok(networks)
+    }
+
+    /// The places of the use that is held at a key.
+    fn push_hops(&self, instances: &mut Vec<InstanceId>, key: &LowKey) -> Result<(), NoMemory>
+        ensures { OnOk result (instances.new.items
+            ≡ instances.old.items ++ hops_of_held (use_at self.now.feed key.now)) }
+    {
+        let LowKey::ChainUse(number) = *key else {
+            return Ok(());
+        };
+        match self.side(number, false) {
+            Some(side) => push_places(instances, &side),
+            None => Ok(()),
+        }
+    }
+}
+
+/// The instance of each place of a use.
+fn push_places(instances: &mut Vec<InstanceId>, side: &Side<'_>) -> Result<(), NoMemory>
+    ensures { OnOk result (instances.new.items ≡ instances.old.items
+        ++ map (hop side.now.chain) (below side.now.chain.services ++ side.now.chain.services ∷ [])) }
+{
+    for place in 0..=side.services() {
+        instances.push(hop_instance(side.number(), place))?;
+    }
+    Ok(())
+}
+
+impl Agent {
+    /// The instances that it subscribed.
+    fn subscriptions(&self, alloc: Global) -> Result<Vec<InstanceId>, NoMemory>
+        ensures { IfOk result (λ instances. instances.items ≡ subscriptions (agent_of self.now).map) }
+    {
+        let mut instances = Vec::new(alloc);
+        for (key, _label) in self.told.iter() {
+            if let Some(instance) = subscribed(key) {
+                instances.push(instance)?;
+            }
+        }
+        Ok(instances)
+    }
+}
+
+fn copy_of(value: &LowValue) -> Result<LowValue, NoMemory>
+    ensures { IfOk result (λ copy. copy ≡ value.now) }
+{
+    Ok(value.clone()?)
+}
+
+/// Whether an object is of the slice of an address, whose ports are of these networks.
+fn belongs(networks: &[InstanceId], address: Addr, key: &LowKey, value: &LowValue) -> bool
+    ensures { (feed : Map) → networks.now ≡ networks_at feed address
+        → result ≡ is_in_slice feed address key.now value.now }
+{
+    match key {
+        LowKey::Attach(_) => is_attached(address, value),
+        LowKey::Acl { from, .. } => has_number(networks, *from),
+        _ => false,
+    }
+}
+
+/// Whether a network of this number is among these.
+fn has_number(networks: &[InstanceId], number: u16) -> bool
+    ensures { result ≡ list_any (λ n. n.0 == number) networks.now }
+{
+    networks.iter().any(|network| network.0 == number)
+}
+
+/// The network of a port at an address, where an object is one.
+fn port_at(address: Addr, value: &LowValue) -> Option<InstanceId>
+    ensures { result ≡ port_at address value.now }
+{
+    match value {
+        LowValue::AttachPort { instance, node, .. } if node.0 == address.0 => Some(*instance),
+        _ => None,
+    }
+}
+
+/// The network of a key, where it is a network's.
+fn network_of(key: &LowKey) -> Option<InstanceId>
+    ensures { result ≡ network_of key.now }
+{
+    match *key {
+        LowKey::Instance(number) => Some(InstanceId(number)),
+        _ => None,
+    }
+}
+
+/// The instance that a key subscribes, where it does.
+fn subscribed(key: &UpKey) -> Option<InstanceId>
+    ensures { result ≡ subscribed (of_up key.now) }
+{
+    match *key {
+        UpKey::Subscribe(instance) => Some(instance),
+        UpKey::Publish(_, _) => None,
+    }
+}
+
+/// Whether an attachment is at an address.
+fn is_attached(address: Addr, value: &LowValue) -> bool
+    ensures { result ≡ is_at address value.now }
+{
+    match value {
+        LowValue::AttachPort { node, .. } | LowValue::AttachCircuit { node, .. } => {
+            node.0 == address.0
+        }
+        _ => false,
+    }
+}
