@@ -1,22 +1,17 @@
 -- What an input makes of an end of a control node.
 use Rattle.std.specs.Prelude.{◌≡◌, ℕ, ◌∷◌, ◌-◌, ◌+◌, List, [], length, if◌then◌else◌, ◌==◌, Bool, true, false}
 use Rattle.std.specs.declared.option.Option.{Option}
-use Rattle.std.specs.declared.option.Option.TheVariants.{Some, None}
 use Rattle.std.specs.Option.{option_map}
 use Rattle.std.specs.List.{slice_index_or}
 use Rattle.ov_link.specs.declared.step.Input.{Input}
-use Rattle.ov_types.specs.declared.prefix.Addr.{Addr}
 use Rattle.ov_types.specs.declared.rows.NodeId.{NodeId}
 use Rattle.bgp_session.specs.Happenings as peers
 use Rattle.bgp_session.specs.declared.event.Cause.{Cause as PeerCause}
 use Rattle.bgp_session.specs.declared.event.State.{State}
-use Rattle.bgp_session.specs.declared.event.State.TheVariants as State
 use Rattle.item_wire.specs.Happenings as items
 use Rattle.item_wire.specs.declared.event.ItemCause.{ItemCause}
-use Rattle.item_wire.specs.declared.event.ItemFrom.{ItemFrom}
 use Rattle.item_wire.specs.declared.event.ItemFrom.TheVariants as From
 use Rattle.item_wire.specs.declared.event.ItemState.{ItemState}
-use Rattle.item_wire.specs.declared.event.ItemState.TheVariants as ItemState
 use Rattle.node_items.specs.Beginning as item
 use Rattle.node_peers.specs.Beginning as route
 use Rattle.node_model.specs.Step.{Begun, Phase, Idle, Opened, Confirmed, Up, Post}

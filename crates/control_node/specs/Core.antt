@@ -2,7 +2,6 @@
 use Rattle.std.specs.Prelude.{ℕ, zero, suc, ◌+◌, List, [], ◌∷◌, map, length, take, drop, Bool, false, ◌&&◌, nat_lt, nat_le}
 use Rattle.std.specs.FinMap.{empty}
 use Rattle.ov_types.specs.declared.rows.NodeId.{NodeId}
-use Rattle.node_model.specs.Maps.{Map}
 use Rattle.node_model.specs.Paths.{Holdings, Told}
 use Rattle.node_model.specs.Step.{Post, nothing, post}
 use Rattle.control_node.specs.declared.plan.ControlPlan.{ControlPlan}

@@ -5,6 +5,7 @@ use Rattle.std.specs.FinMap.{empty}
 use Rattle.std.specs.List.{AllByRecursion}
 use Rattle.ov_types.specs.declared.prefix.Addr.{Addr}
 use Rattle.ov_types.specs.declared.rows.NodeId.{NodeId}
+use Rattle.bgp_session.specs.declared.event.State.TheVariants as State
 use Rattle.item_wire.specs.Happenings.{SessionFields}
 use Rattle.item_wire.specs.declared.event.ItemFrom.TheVariants as From
 use Rattle.item_wire.specs.declared.event.ItemState.{ItemState}
@@ -89,3 +90,17 @@ abbrev pub coded_ends : Coded Ends
 coded_ends =
     code_by (ControlPlan × List Post) (coded× plans.the_row.coded (coded_list coded_post))
     (λ e. (e.plan, e.posts)) (λ c. record { plan = c.0; posts = c.1 }) (λ _. refl)
+
+-- ---- closed ends
+abbrev pub closed_peer : PeerEnd → PeerEnd
+closed_peer e = record { session = record e.session { state = State.Idle }; sent = [] }
+
+abbrev pub closed_agent : AgentEnd → AgentEnd
+closed_agent e = record e { session = record e.session { state = ItemState.Idle }; sent = [] }
+
+-- ---- ends that are opened
+abbrev pub opened_peer : PeerEnd → PeerEnd
+opened_peer e = record e { session = record e.session { state = State.OpenSent } }
+
+abbrev pub opened_agent : AgentEnd → AgentEnd
+opened_agent e = record e { session = record e.session { state = ItemState.Opened } }

@@ -3,3 +3,11 @@ pub mod Core
 pub mod Wanting
 pub mod Beginning
 pub mod Ends
+pub mod Planning
+pub mod Places
+pub mod Stays
+pub mod Taking
+pub mod Begun
+pub mod Made
+pub mod Codes
+pub mod Begun

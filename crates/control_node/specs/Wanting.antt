@@ -1,10 +1,10 @@
 -- What a control node wants its sessions to have been told, where it may send, and how.
-use Rattle.std.specs.Prelude.{ℕ, List, Bool, true, false, not, ◌==◌, if◌then◌else◌}
+use Rattle.std.specs.Prelude.{◌≡◌, ℕ, List, Bool, true, false, not, ◌==◌, if◌then◌else◌, refl}
 use Rattle.std.specs.FinMap.{empty}
 use Rattle.control_wants.specs.Held.{told_in}
 use Rattle.node_items.specs.Told as items
 use Rattle.node_model.specs.Maps.{Map, Change}
-use Rattle.node_model.specs.Step.{Kind, Phase, Post, Idle, Opened, Confirmed, Up}
+use Rattle.node_model.specs.Step.{Kind, Phase, Post, Idle, Up}
 use Rattle.node_model.specs.Wants.{wanted_by_agent, wanted_by_peers}
 use Rattle.node_peers.specs.Told as routes
 use Rattle.control_node.specs.Core.{holdings, is_peer}
@@ -34,3 +34,8 @@ spelled plan i c = if is_peer plan i then routes.spelled c else items.spelled c
 
 abbrev pub kind : ControlPlan → Kind
 kind plan = record { wanted = wanted plan; may_send = may_send plan; spelled = spelled plan }
+
+-- an idle end may not send
+pub idle_is_silent : (plan : ControlPlan) (i : ℕ) → may_send plan i Idle ≡ false
+idle_is_silent plan i =
+    elim (is_peer plan i) as (λ b. (if b then is_up Idle else not (is_idle Idle)) ≡ false) [ true ↦ refl | false ↦ refl ]

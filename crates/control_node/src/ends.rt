@@ -1,9 +1,16 @@
 //! The ends of a control node's sessions.
-use crate::plan::ControlPlan;
-use bgp_session::Session;
-use item_wire::ItemSession;
+ghost use Rattle.std.specs.Prelude.{◌≡◌, not, refl};
+ghost use Rattle.std.proofs.Common.{◌∙◌};
+ghost use Rattle.node_items.specs.Beginning as item;
+ghost use Rattle.node_peers.specs.Beginning as route;
+ghost use Rattle.control_node.specs.Wanting.{idle_is_silent, is_idle, is_up, kind};
+
+use crate::planning::plan_all;
+use bgp_session::{Session, State};
+use item_wire::{ItemSession, ItemState};
+use node_core::{Ends, Plan};
 use ov_sync::SyncOut;
-use ov_types::{DownKey, DownValue, NodeId, VpnKey, VpnRoute};
+use ov_types::{DownKey, DownValue, NoMemory, NodeId, VpnKey, VpnRoute};
 use std::alloc::Global;
 use std::marker::Model;
 use vpn_tables::VpnTables;
@@ -15,12 +22,40 @@ pub(crate) struct PeerEnd {
     pub(crate) sent: SyncOut<VpnKey, VpnRoute>,
 }
 
+impl PeerEnd {
+    pub(crate) fn is_live(&self) -> bool
+        ensures { result ≡ not (is_idle (route.phase_of self.now.session.state)) }
+    {
+        !matches!(self.session.state(), State::Idle)
+    }
+
+    pub(crate) fn is_up(&self) -> bool
+        ensures { result ≡ is_up (route.phase_of self.now.session.state) }
+    {
+        matches!(self.session.state(), State::Established)
+    }
+}
+
 /// The end of a session with an agent, and what was sent on it.
 #[derive(Drop)]
 pub(crate) struct AgentEnd {
     pub(crate) id: NodeId,
     pub(crate) session: ItemSession,
     pub(crate) sent: SyncOut<DownKey, DownValue>,
+}
+
+impl AgentEnd {
+    pub(crate) fn is_live(&self) -> bool
+        ensures { result ≡ not (is_idle (item.phase_of self.now.session.state)) }
+    {
+        !matches!(self.session.state(), ItemState::Idle)
+    }
+
+    pub(crate) fn is_up(&self) -> bool
+        ensures { result ≡ is_up (item.phase_of self.now.session.state) }
+    {
+        matches!(self.session.state(), ItemState::Up)
+    }
 }
 
 /// The ends of all sessions, and what is held of them.
@@ -50,4 +85,26 @@ impl Model for ControlEnds {
     } };
 
     ghost invariant = { λ s. AreEnds s.me s.asn s.feed s.peers.items s.agents.items s.tables };
+}
+
+impl Ends for ControlEnds {
+    ghost kind = { λ e. kind e.plan };
+
+    ghost posts = { λ e. e.posts };
+
+    ghost stays = { λ before after. after.plan ≡ before.plan };
+
+    ghost stays_itself = { λ _. refl };
+
+    ghost stays_on = { λ _ _ _ first then. then ∙ first };
+
+    ghost idle_is_silent = { λ e session. idle_is_silent e.plan session };
+
+    fn plan(&mut self) -> Result<Vec<Plan>, NoMemory> {
+        plan_all(self.alloc, &self.tables, &mut self.peers, &mut self.agents)
+    }
+
+    fn close(&mut self, session: u16) {
+        self.close_end(session);
+    }
 }

@@ -19,6 +19,7 @@ fn serve<E: Ends, L: Link>(
     requires known { session < length (E.posts ends.old) }
     requires linked { length links.old ≡ length (E.posts ends.old) }
     ensures kind { E.kind ends.new ≡ E.kind ends.old }
+    ensures stays { E.stays ends.old ends.new }
     ensures sessions { length (E.posts ends.new) ≡ length (E.posts ends.old) }
     ensures links { length links.new ≡ length links.old }
     ensures ends { IfOk result (λ failed. E.posts ends.new ≡ closed_if failed (E.posts ends.old) session) }
@@ -54,6 +55,7 @@ fn pass<E: Ends, L: Link>(
     requires planned { length plans.now ≡ length (E.posts ends.old) }
     requires linked { length links.old ≡ length (E.posts ends.old) }
     ensures kind { E.kind ends.new ≡ E.kind ends.old }
+    ensures stays { E.stays ends.old ends.new }
     ensures sessions { length (E.posts ends.new) ≡ length (E.posts ends.old) }
     ensures links { length links.new ≡ length links.old }
     ensures passes { IfOk result (λ lowest. Passes L.accepted L.breaks L.faults plans.now (E.posts ends.old)
@@ -98,6 +100,7 @@ pub fn tell<E: Ends, L: Link>(
     requires known { session < length (E.posts ends.old) }
     requires linked { length links.old ≡ length (E.posts ends.old) }
     ensures kind { E.kind ends.new ≡ E.kind ends.old }
+    ensures stays { E.stays ends.old ends.new }
     ensures sessions { length (E.posts ends.new) ≡ length (E.posts ends.old) }
     ensures links { length links.new ≡ length links.old }
     ensures steps { IfOk result (λ lowest. (before : List Post) (given : Begun)

@@ -21,6 +21,7 @@ loop-session-preserved g c =
     c.in_ok-failed.failed l.links c.serve.new.links l.session) messages c.in_ok-failed.ensures.serves in
     record {
       kind = c.in_ok-failed.ensures.kind ∙ inv.kind;
+      stays = g.met.E.Ends.stays_on c.args.ends.now l.ends c.serve.new.ends inv.stays c.in_ok-failed.ensures.stays;
       passes = rw c.noted-lowest.ensures (passes_more _ _ _ _ _ _ _ _ _ _ plan c.in_ok-failed.failed _ _ inv.passes
           in_posts in_links (λ d. sym (read d)) serves c.in_ok-failed.ensures.ends);
     }

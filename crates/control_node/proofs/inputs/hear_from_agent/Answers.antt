@@ -1,0 +1,22 @@
+use Rattle.std.proofs.Common.{ap, sym, ◌∙◌}
+use Rattle.std.specs.List.{filter_map}
+use Rattle.node_items.specs.Told.{change_of}
+use Rattle.control_node.proofs.Applied.{agent-same}
+use Rattle.control_node.proofs.inputs.hear_from_agent.Goals as goal
+
+pub returns-in-Some-clause-heard : goal.returns-in-Some-clause-heard
+returns-in-Some-clause-heard c =
+    let h = c.in_ok-heard.ensures.heard in (
+      filter_map change_of c.in_ok-heard.heard.records.items,
+      record { inputs = h.0; hears = h.1; changes_are = ap (filter_map change_of) h.2; state = h.4; cause_is = sym c.in-Some.is ∙ h.3 },
+      sym (agent-same c.args.tables.now c.args.session),
+    )
+
+pub returns-in_ok-take_publications-in-None-clause-heard :
+    goal.returns-in_ok-take_publications-in-None-clause-heard
+returns-in_ok-take_publications-in-None-clause-heard c =
+    let h = c.in_ok-heard.ensures.heard in (
+      filter_map change_of c.in_ok-heard.heard.records.items,
+      record { inputs = h.0; hears = h.1; changes_are = ap (filter_map change_of) h.2; state = h.4; cause_is = sym c.in-None.is ∙ h.3 },
+      c.in_ok-take_publications-in-None.ensures.ok,
+    )

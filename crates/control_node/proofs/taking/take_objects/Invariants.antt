@@ -1,0 +1,17 @@
+use Rattle.std.proofs.Common.{◌≡◌, true}
+use Rattle.std.specs.List.{AllByRecursion, filter_map}
+use Rattle.ov_sync.specs.Keyed.{after}
+use Rattle.item_wire.specs.Inputs.{is_of_feed}
+use Rattle.node_items.specs.Told.{IsWritable, change_of}
+use Rattle.control_node.specs.Stays.{StaysHeld}
+use Rattle.control_node.specs.Taking.{feed_by}
+use Rattle.control_node.proofs.taking.take_objects.Given as goal
+
+abbrev pub invariant-loop-item : goal.invariant-loop-item
+invariant-loop-item l = record {
+  stays : StaysHeld l.fn.tables l.tables;
+  rest : feed_by (λ m. after m (filter_map change_of l.item-iterator.rest.items)) l.tables
+      ≡ feed_by (λ m. after m (filter_map change_of l.fn.records.items)) l.fn.tables;
+  feed : AllByRecursion (λ i. is_of_feed i ≡ true) l.item-iterator.rest.items;
+  writable : AllByRecursion IsWritable l.item-iterator.rest.items;
+}

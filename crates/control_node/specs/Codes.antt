@@ -1,0 +1,13 @@
+-- How control nodes are told apart: by the codes of their parts.
+use Rattle.std.specs.Prelude.{List, Bool, refl}
+use Rattle.std.specs.Coded.{Coded, code_by, coded×, coded_bool, coded_list}
+use Rattle.node_model.specs.Codes.{coded_post}
+use Rattle.node_model.specs.Step.{Post}
+use Rattle.control_node.specs.Core.{Core}
+use Rattle.control_node.specs.contracts.plan.ControlPlan as plans
+use Rattle.control_node.specs.declared.plan.ControlPlan.{ControlPlan}
+
+abbrev pub coded_core : Coded Core
+coded_core =
+    code_by (ControlPlan × (List Post × Bool)) (coded× plans.the_row.coded (coded× (coded_list coded_post) coded_bool))
+    (λ n. (n.plan, (n.posts, n.failed))) (λ c. record { plan = c.0; posts = c.1.0; failed = c.1.1 }) (λ _. refl)

@@ -1,0 +1,71 @@
+-- What the ends of a control node's sessions are told in a pass.
+use Rattle.std.specs.Prelude.{◌≡◌, ℕ, suc, ◌+◌, List, [], ◌∷◌, ◌++◌, map, length, Bool, not, if◌then◌else◌}
+use Rattle.ov_types.specs.declared.vpn.VpnKey.{VpnKey}
+use Rattle.ov_types.specs.declared.vpn.VpnRoute.{VpnRoute}
+use Rattle.control_wants.specs.Held.{told_in}
+use Rattle.node_core.specs.declared.ends.Plan.{Plan}
+use Rattle.node_items.specs.Beginning as item
+use Rattle.node_items.specs.Told as items
+use Rattle.node_model.specs.Maps.{Map, Change, difference}
+use Rattle.node_model.specs.Paths.{Holdings}
+use Rattle.node_model.specs.Step.{Phase}
+use Rattle.node_model.specs.Wants.{wanted_by_agent, wanted_by_peers}
+use Rattle.node_peers.specs.Beginning as route
+use Rattle.node_peers.specs.Told as routes
+use Rattle.vpn_tables.specs.Views.{peer_of}
+use Rattle.control_node.specs.Wanting.{is_idle, is_up}
+use Rattle.control_node.specs.declared.ends.AgentEnd.{AgentEnd}
+use Rattle.control_node.specs.declared.ends.PeerEnd.{PeerEnd}
+
+-- the changes from what was sent to what is wanted, where the session may send
+abbrev pub plan_of : Bool → (Change → List ℕ) → Map → Map → Plan
+plan_of sends spelled sent wanted = record { messages = if sends then map spelled (difference sent wanted) else [] }
+
+abbrev pub feed_plan : Plan
+feed_plan = record { messages = [] }
+
+-- ---- a peer, which is told these routes
+abbrev pub peer_sends : PeerEnd → Bool
+peer_sends e = is_up (route.phase_of e.session.state)
+
+abbrev pub peer_plan : List (VpnKey × VpnRoute) → PeerEnd → Plan
+peer_plan wanted e = plan_of (peer_sends e) routes.spelled (peer_of e.sent) (peer_of wanted)
+
+abbrev pub peer_told : List (VpnKey × VpnRoute) → PeerEnd → PeerEnd
+peer_told wanted e = if peer_sends e then record e { sent = wanted } else e
+
+-- ---- an agent, by what is held
+abbrev pub agent_sends : AgentEnd → Bool
+agent_sends e = not (is_idle (item.phase_of e.session.state))
+
+abbrev pub wanted_on : Holdings → ℕ → Map
+wanted_on h session = wanted_by_agent h (told_in h.agents session)
+
+abbrev pub agent_plan : Holdings → ℕ → AgentEnd → Plan
+agent_plan h session e = plan_of (agent_sends e) items.spelled (items.down_of e.sent) (wanted_on h session)
+
+pub record IsAgentTold (h : Holdings) (session : ℕ) (e e' : AgentEnd) : Type 0 where
+  pub id : e'.id ≡ e.id
+  pub session_stays : e'.session ≡ e.session
+  pub sent : items.down_of e'.sent ≡ (if agent_sends e then wanted_on h session else items.down_of e.sent)
+
+-- ---- agents, of the sessions from one on
+abbrev pub agent_plans : Holdings → ℕ → List AgentEnd → List Plan
+agent_plans h session [] = []
+agent_plans h session (e ∷ es) = agent_plan h session e ∷ agent_plans h (suc session) es
+
+abbrev pub AreAgentsTold : Holdings → ℕ → List AgentEnd → List AgentEnd → Type 0
+AreAgentsTold h session [] [] = Unit {0}
+AreAgentsTold h session (e ∷ es) (e' ∷ es') = IsAgentTold h session e e' × AreAgentsTold h (suc session) es es'
+AreAgentsTold h session _ _ = ⊥
+
+-- ---- all of them
+-- the feed is told nothing, the peers what they are to have, each agent what it is to have
+pub record ArePlanned (h : Holdings) (peers peers' : List PeerEnd) (agents agents' : List AgentEnd) (plans : List Plan)
+    : Type 0 where
+  pub routes : List (VpnKey × VpnRoute)
+  pub wanted : peer_of routes ≡ wanted_by_peers h
+  pub peers_told : peers' ≡ map (peer_told routes) peers
+  pub agents_told : AreAgentsTold h (1 + length peers) agents agents'
+  pub plans_are : plans
+      ≡ feed_plan ∷ (map (peer_plan routes) peers ++ agent_plans h (1 + length peers) agents)

@@ -1,0 +1,212 @@
+//! What an input makes of the end of its session.
+ghost use Rattle.std.specs.Prelude.{◌≡◌, ◌<◌, ◌+◌, suc, length, false, true, IfOk};
+ghost use Rattle.std.specs.Option.{option_map};
+ghost use Rattle.ov_link.specs.declared.step.Input.TheVariants as input;
+ghost use Rattle.node_core.specs.Whole.{Comes, session_of};
+ghost use Rattle.node_model.specs.Step.{post};
+ghost use Rattle.control_node.specs.Begun.{IsBegun, IsHeard};
+ghost use Rattle.control_node.specs.Wanting.{is_idle};
+ghost use Rattle.control_node.specs.declared.cause.NodeCause.TheVariants as Because;
+
+use crate::cause::NodeCause;
+use crate::closing::{Place, place_of};
+use crate::ends::ControlEnds;
+use crate::inputs::{greet_agent, greet_peer, hear_from_agent, hear_from_feed, hear_from_peer};
+use bgp_session::Cause;
+use item_wire::ItemCause;
+use ov_link::Input;
+use ov_types::{Items, NoMemory};
+
+/// What an input made of its end.
+#[derive(Drop)]
+pub(crate) struct Begun {
+    /// The octets of each message that is to be sent on the session, in order.
+    pub(crate) replies: Items<Items<u8>>,
+    /// Why the session went down, where it did.
+    pub(crate) cause: Option<NodeCause>,
+}
+
+fn item_cause(cause: Option<ItemCause>) -> Option<NodeCause>
+    ensures { result ≡ option_map Because.Item cause }
+{
+    match cause {
+        Some(cause) => Some(NodeCause::Item(cause)),
+        None => None,
+    }
+}
+
+fn peer_cause(cause: Option<Cause>) -> Option<NodeCause>
+    ensures { result ≡ option_map Because.Peer cause }
+{
+    match cause {
+        Some(cause) => Some(NodeCause::Peer(cause)),
+        None => None,
+    }
+}
+
+impl ControlEnds {
+    fn open_feed(&mut self, session: u16) -> Result<Begun, NoMemory>
+        requires session { session ≡ 0 }
+        requires idle { is_idle (post self.old.posts session).phase ≡ true }
+        ensures plan { self.new.plan ≡ self.old.plan }
+        ensures begun { IfOk result (λ begun. IsBegun self.old.plan self.old.posts session (input.Opened session)
+            begun.replies begun.cause self.new.posts) }
+    {
+        let replies = node_items::greet(self.alloc, &mut self.feed, &self.me.name)?;
+        Ok(Begun {
+            replies,
+            cause: None,
+        })
+    }
+
+    fn open_peer(&mut self, session: u16, place: usize) -> Result<Begun, NoMemory>
+        requires among { place < length self.old.plan.peers }
+        requires session { session ≡ suc place }
+        requires idle { is_idle (post self.old.posts session).phase ≡ true }
+        ensures plan { self.new.plan ≡ self.old.plan }
+        ensures begun { IfOk result (λ begun. IsBegun self.old.plan self.old.posts session (input.Opened session)
+            begun.replies begun.cause self.new.posts) }
+    {
+        let end = &mut self.peers[place];
+        let replies = greet_peer(self.alloc, end, self.asn, self.me.address)?;
+        Ok(Begun {
+            replies,
+            cause: None,
+        })
+    }
+
+    fn open_agent(&mut self, session: u16, place: usize) -> Result<Begun, NoMemory>
+        requires among { place < length self.old.plan.agents }
+        requires session { session ≡ suc (length self.old.plan.peers + place) }
+        requires idle { is_idle (post self.old.posts session).phase ≡ true }
+        ensures plan { self.new.plan ≡ self.old.plan }
+        ensures begun { IfOk result (λ begun. IsBegun self.old.plan self.old.posts session (input.Opened session)
+            begun.replies begun.cause self.new.posts) }
+    {
+        let end = &mut self.agents[place];
+        let replies = greet_agent(self.alloc, end, &self.me.name)?;
+        Ok(Begun {
+            replies,
+            cause: None,
+        })
+    }
+
+    fn open(&mut self, session: u16) -> Result<Begun, NoMemory>
+        requires known { session < length self.old.posts }
+        requires idle { is_idle (post self.old.posts session).phase ≡ true }
+        ensures plan { self.new.plan ≡ self.old.plan }
+        ensures begun { IfOk result (λ begun. IsBegun self.old.plan self.old.posts session (input.Opened session)
+            begun.replies begun.cause self.new.posts) }
+    {
+        match place_of(session, self.peers.len()) {
+            Place::Feed => self.open_feed(session),
+            Place::Peer(place) => self.open_peer(session, place),
+            Place::Agent(place) => self.open_agent(session, place),
+        }
+    }
+
+    fn hear_feed(&mut self, session: u16, bytes: &[u8]) -> Result<Begun, NoMemory>
+        requires { session ≡ 0 }
+        ensures plan { self.new.plan ≡ self.old.plan }
+        ensures heard { IfOk result (λ begun. IsHeard self.old.plan self.old.posts session
+            (input.Bytes session bytes.entry) begun.replies begun.cause self.new.posts) }
+    {
+        let cause = hear_from_feed(self.alloc, &mut self.feed, &mut self.tables, bytes)?;
+        Ok(Begun {
+            replies: Items::new(self.alloc),
+            cause: item_cause(cause),
+        })
+    }
+
+    fn hear_peer(&mut self, session: u16, place: usize, bytes: &[u8]) -> Result<Begun, NoMemory>
+        requires among { place < length self.old.plan.peers }
+        requires session { session ≡ suc place }
+        ensures plan { self.new.plan ≡ self.old.plan }
+        ensures heard { IfOk result (λ begun. IsHeard self.old.plan self.old.posts session
+            (input.Bytes session bytes.entry) begun.replies begun.cause self.new.posts) }
+    {
+        let end = &mut self.peers[place];
+        let me = self.me.address;
+        let heard = hear_from_peer(
+            self.alloc,
+            end,
+            &mut self.tables,
+            session,
+            self.asn,
+            me,
+            bytes,
+        )?;
+        Ok(Begun {
+            replies: heard.replies,
+            cause: peer_cause(heard.cause),
+        })
+    }
+
+    fn hear_agent(&mut self, session: u16, place: usize, bytes: &[u8]) -> Result<Begun, NoMemory>
+        requires among { place < length self.old.plan.agents }
+        requires session { session ≡ suc (length self.old.plan.peers + place) }
+        ensures plan { self.new.plan ≡ self.old.plan }
+        ensures heard { IfOk result (λ begun. IsHeard self.old.plan self.old.posts session
+            (input.Bytes session bytes.entry) begun.replies begun.cause self.new.posts) }
+    {
+        let end = &mut self.agents[place];
+        let cause = hear_from_agent(self.alloc, end, &mut self.tables, session, bytes)?;
+        Ok(Begun {
+            replies: Items::new(self.alloc),
+            cause: item_cause(cause),
+        })
+    }
+
+    /// Hears octets. Where there is a cause, the end is still to be closed.
+    fn hear_open(&mut self, session: u16, bytes: &[u8]) -> Result<Begun, NoMemory>
+        requires { session < length self.old.posts }
+        ensures plan { self.new.plan ≡ self.old.plan }
+        ensures heard { IfOk result (λ begun. IsHeard self.old.plan self.old.posts session
+            (input.Bytes session bytes.entry) begun.replies begun.cause self.new.posts) }
+    {
+        match place_of(session, self.peers.len()) {
+            Place::Feed => self.hear_feed(session, bytes),
+            Place::Peer(place) => self.hear_peer(session, place, bytes),
+            Place::Agent(place) => self.hear_agent(session, place, bytes),
+        }
+    }
+
+    fn hear(&mut self, session: u16, bytes: &[u8]) -> Result<Begun, NoMemory>
+        requires { session < length self.old.posts }
+        ensures plan { self.new.plan ≡ self.old.plan }
+        ensures begun { IfOk result (λ begun. IsBegun self.old.plan self.old.posts session
+            (input.Bytes session bytes.entry) begun.replies begun.cause self.new.posts) }
+    {
+        let begun = self.hear_open(session, bytes)?;
+        match begun.cause {
+            None => Ok(begun),
+            Some(_) => {
+                self.close_end(session);
+                Ok(begun)
+            }
+        }
+    }
+
+    /// Applies an input to the end of its session, and says what is to be replied. Where octets bring a cause for which
+    /// the session goes down, its end is closed. Where memory is wanting, the ends stay those of the plan.
+    pub(crate) fn begin(&mut self, input: Input<'_>) -> Result<Begun, NoMemory>
+        requires known { session_of input < length self.old.posts }
+        requires comes { Comes (λ i. is_idle (post self.old.posts i).phase ≡ false)
+            (λ i. is_idle (post self.old.posts i).phase ≡ true) input }
+        ensures plan { self.new.plan ≡ self.old.plan }
+        ensures begun { IfOk result (λ begun. IsBegun self.old.plan self.old.posts (session_of input.entry) input.entry
+            begun.replies begun.cause self.new.posts) }
+    {
+        match input {
+            Input::Opened { session } => self.open(session),
+            Input::Bytes { session, bytes } => self.hear(session, bytes),
+            Input::Closed { session } => {
+                self.close_end(session);
+                Ok(Begun {
+                    replies: Items::new(self.alloc),
+                    cause: None,
+                })
+            }
+        }
+    }
+}

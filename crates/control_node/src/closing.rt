@@ -1,0 +1,98 @@
+//! Ends that are closed.
+ghost use Rattle.std.specs.Prelude.{◌≡◌, ◌<◌, ◌+◌, suc, length, slice_set};
+ghost use Rattle.bgp_session.specs.declared.event.State.TheVariants as State;
+ghost use Rattle.item_wire.specs.declared.event.ItemState.TheVariants as ItemState;
+ghost use Rattle.node_model.specs.Step.{nothing};
+ghost use Rattle.control_node.specs.Places.{IsPlace};
+ghost use Rattle.control_node.specs.Ends.{closed_peer, closed_agent};
+
+use crate::ends::{AgentEnd, ControlEnds, PeerEnd};
+use item_wire::ItemSession;
+
+/// Where the end of a session stands.
+#[derive(Clone, Copy)]
+pub(crate) enum Place {
+    Feed,
+    /// Among the ends of peers.
+    Peer(usize),
+    /// Among the ends of agents.
+    Agent(usize),
+}
+
+/// The place of a session's end, where there are so many peers.
+pub(crate) fn place_of(session: u16, peers: usize) -> Place
+    ensures { IsPlace peers session result }
+{
+    if session == 0 {
+        return Place::Feed;
+    }
+    let among = usize::from(session - 1);
+    if among < peers {
+        Place::Peer(among)
+    } else {
+        Place::Agent(among - peers)
+    }
+}
+
+fn shut_feed(feed: &mut ItemSession)
+    ensures { feed.new ≡ record feed.old { state = ItemState.Idle } }
+{
+    let _event = feed.closed();
+}
+
+fn shut_peer(end: &mut PeerEnd)
+    ensures { end.new ≡ closed_peer end.old }
+{
+    let _event = end.session.closed();
+    end.sent.reset();
+}
+
+fn shut_agent(end: &mut AgentEnd)
+    ensures { end.new ≡ closed_agent end.old }
+{
+    let _event = end.session.closed();
+    end.sent.reset();
+}
+
+impl ControlEnds {
+    fn close_feed(&mut self)
+        ensures plan { self.new.plan ≡ self.old.plan }
+        ensures closed { self.new.posts ≡ slice_set self.old.posts 0 nothing }
+    {
+        shut_feed(&mut self.feed);
+        self.tables.drop_session(0);
+    }
+
+    fn close_peer(&mut self, session: u16, place: usize)
+        requires among { place < length self.old.plan.peers }
+        requires session { session ≡ suc place }
+        ensures plan { self.new.plan ≡ self.old.plan }
+        ensures closed { self.new.posts ≡ slice_set self.old.posts session nothing }
+    {
+        shut_peer(&mut self.peers[place]);
+        self.tables.drop_session(session);
+    }
+
+    fn close_agent(&mut self, session: u16, place: usize)
+        requires among { place < length self.old.plan.agents }
+        requires session { session ≡ suc (length self.old.plan.peers + place) }
+        ensures plan { self.new.plan ≡ self.old.plan }
+        ensures closed { self.new.posts ≡ slice_set self.old.posts session nothing }
+    {
+        shut_agent(&mut self.agents[place]);
+        self.tables.drop_session(session);
+    }
+
+    /// Closes an end: it is idle, and nothing was sent on it and nothing is held of it. It takes no memory.
+    pub(crate) fn close_end(&mut self, session: u16)
+        requires { session < length self.old.posts }
+        ensures plan { self.new.plan ≡ self.old.plan }
+        ensures closed { self.new.posts ≡ slice_set self.old.posts session nothing }
+    {
+        match place_of(session, self.peers.len()) {
+            Place::Feed => self.close_feed(),
+            Place::Peer(place) => self.close_peer(session, place),
+            Place::Agent(place) => self.close_agent(session, place),
+        }
+    }
+}

@@ -1,0 +1,149 @@
+//! What inputs make of one end, and of what is held of its session.
+ghost use Rattle.std.specs.Prelude.{◌≡◌, ◌≢◌, ◌≤◌, ◌<◌, ◌^◌, ◌∷◌, [], List, length, map, IfOk};
+ghost use Rattle.ov_sync.specs.Embed.{moved_delta};
+ghost use Rattle.ov_sync.specs.declared.Delta.{Delta as DeltaOf};
+ghost use Rattle.ov_types.specs.declared.vpn.VpnKey.{VpnKey as KeyOf};
+ghost use Rattle.ov_types.specs.declared.vpn.VpnRoute.{VpnRoute as RouteOf};
+ghost use Rattle.bgp_session.specs.declared.event.State.TheVariants as State;
+ghost use Rattle.item_wire.specs.Records.{spelling};
+ghost use Rattle.item_wire.specs.declared.event.ItemFrom.TheVariants as From;
+ghost use Rattle.item_wire.specs.declared.event.ItemState.TheVariants as ItemState;
+ghost use Rattle.item_wire.specs.declared.item.Item.TheVariants.{Hello};
+ghost use Rattle.node_model.specs.Keys.{Vpn};
+ghost use Rattle.node_model.specs.Maps.{Change};
+ghost use Rattle.node_model.specs.Values.{Route};
+ghost use Rattle.node_peers.specs.Hearing.{open_octets};
+ghost use Rattle.control_node.specs.Ends.{opened_agent, opened_peer};
+ghost use Rattle.control_node.specs.Stays.{StaysHeld};
+ghost use Rattle.control_node.specs.Taking.{ItemsHeard, RoutesHeard, agent_by, feed_by, peer_by, taken};
+
+use crate::ends::{AgentEnd, PeerEnd};
+use crate::taking::{take_objects, take_publications, take_routes};
+use bgp_session::Cause;
+use item_wire::{ItemCause, ItemSession};
+use ov_types::{Addr, Items, Name, NoMemory};
+use std::alloc::Global;
+use vpn_tables::VpnTables;
+
+/// Opens the end of a session with a peer: its OPEN is to be sent.
+pub(crate) fn greet_peer(
+    alloc: Global,
+    end: &mut PeerEnd,
+    asn: u32,
+    me: Addr,
+) -> Result<Items<Items<u8>>, NoMemory>
+    requires idle { end.old.session.state ≡ State.Idle }
+    requires autonomous_system { asn < 2 ^ 16 }
+    requires identifier { me.0 ≢ 0 }
+    ensures opened { end.new ≡ opened_peer end.old }
+    ensures hello { IfOk result (λ replies. replies ≡ open_octets asn me ∷ []) }
+{
+    node_peers::greet(alloc, &mut end.session, asn, me)
+}
+
+/// Opens the end of a session with an agent: its hello is to be sent.
+pub(crate) fn greet_agent(alloc: Global, end: &mut AgentEnd, me: &Name) -> Result<Items<Items<u8>>, NoMemory>
+    requires idle { end.old.session.state ≡ ItemState.Idle }
+    ensures opened { end.new ≡ opened_agent end.old }
+    ensures hello { IfOk result (λ replies. replies ≡ spelling (Hello me.now) ∷ []) }
+{
+    node_items::greet(alloc, &mut end.session, me)
+}
+
+/// Hears octets on the feed. Where there is a cause, the end is still to be closed.
+pub(crate) fn hear_from_feed(
+    alloc: Global,
+    feed: &mut ItemSession,
+    tables: &mut VpnTables,
+    bytes: &[u8],
+) -> Result<Option<ItemCause>, NoMemory>
+    requires from { feed.old.from ≡ From.Feed }
+    ensures heard { IfOk result (λ cause. (changes : List Change)
+        × ItemsHeard feed.old feed.new bytes.now changes cause
+        × (tables.new ≡ feed_by (taken cause changes) tables.old)) }
+    ensures peer { feed.new.peer ≡ feed.old.peer }
+    ensures from { feed.new.from ≡ feed.old.from }
+    ensures stays { StaysHeld tables.old tables.new }
+{
+    let heard = node_items::hear(alloc, feed, bytes)?;
+    match heard.cause {
+        Some(cause) => Ok(Some(cause)),
+        None => {
+            take_objects(tables, heard.records)?;
+            Ok(None)
+        }
+    }
+}
+
+/// Hears octets of an agent. Where there is a cause, the end is still to be closed.
+pub(crate) fn hear_from_agent(
+    alloc: Global,
+    end: &mut AgentEnd,
+    tables: &mut VpnTables,
+    session: u16,
+    bytes: &[u8],
+) -> Result<Option<ItemCause>, NoMemory>
+    requires from { end.old.session.from ≡ From.Agent }
+    ensures heard { IfOk result (λ cause. (changes : List Change)
+        × ItemsHeard end.old.session end.new.session bytes.now changes cause
+        × (tables.new ≡ agent_by (taken cause changes) tables.old session)) }
+    ensures id { end.new.id ≡ end.old.id }
+    ensures sent { end.new.sent ≡ end.old.sent }
+    ensures peer { end.new.session.peer ≡ end.old.session.peer }
+    ensures from { end.new.session.from ≡ end.old.session.from }
+    ensures stays { StaysHeld tables.old tables.new }
+{
+    let heard = node_items::hear(alloc, &mut end.session, bytes)?;
+    match heard.cause {
+        Some(cause) => Ok(Some(cause)),
+        None => {
+            take_publications(tables, session, heard.records)?;
+            Ok(None)
+        }
+    }
+}
+
+/// What octets of a peer brought, but for the changes of routes.
+#[derive(Drop)]
+pub(crate) struct HeardPeer {
+    pub(crate) replies: Items<Items<u8>>,
+    pub(crate) cause: Option<Cause>,
+}
+
+/// Hears octets of a peer. Where there is a cause, the end is still to be closed.
+pub(crate) fn hear_from_peer(
+    alloc: Global,
+    end: &mut PeerEnd,
+    tables: &mut VpnTables,
+    session: u16,
+    asn: u32,
+    me: Addr,
+    bytes: &[u8],
+) -> Result<HeardPeer, NoMemory>
+    requires autonomous_system { asn < 2 ^ 16 }
+    requires own { end.old.session.asn ≡ asn }
+    requires identifier { me.0 ≢ 0 }
+    requires known { session ≤ length tables.old.peers }
+    ensures heard { IfOk result (λ w. (changes : List (DeltaOf KeyOf RouteOf))
+        × RoutesHeard me end.old.session end.new.session bytes.now w.replies changes w.cause
+        × (tables.new ≡ peer_by (taken w.cause (map (moved_delta Vpn Route) changes)) tables.old session)) }
+    ensures sent { end.new.sent ≡ end.old.sent }
+    ensures asn { end.new.session.asn ≡ end.old.session.asn }
+    ensures peer { end.new.session.peer ≡ end.old.session.peer }
+    ensures stays { StaysHeld tables.old tables.new }
+{
+    let heard = node_peers::hear(alloc, &mut end.session, asn, me, bytes)?;
+    match heard.cause {
+        Some(cause) => Ok(HeardPeer {
+            replies: heard.replies,
+            cause: Some(cause),
+        }),
+        None => {
+            take_routes(tables, session, heard.changes)?;
+            Ok(HeardPeer {
+                replies: heard.replies,
+                cause: None,
+            })
+        }
+    }
+}
