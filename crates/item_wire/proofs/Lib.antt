@@ -1,4 +1,6 @@
 pub mod JsonLaws
+pub mod Weights
+pub mod ShortRecords
 pub mod Lists
 pub mod Counts
 pub mod Addresses

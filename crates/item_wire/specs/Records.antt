@@ -1,5 +1,5 @@
 -- The record of each item: an object of its members in the order of their names.
-use Rattle.std.specs.Prelude.{ℕ, List, map, codes, Option, Some, None}
+use Rattle.std.specs.Prelude.{ℕ, List, Bool, true, false, map, codes, Option, Some, None}
 use Rattle.serde_json.specs.Data.{Data, number, string, array, object, unsigned, no_items, item}
 use Rattle.serde_json.specs.Data.{no_members, member}
 use Rattle.serde_json.specs.View.{items_of}
@@ -121,6 +121,13 @@ record_of (I.Unroute instance prefix) =
     object (member (codes "instance") (number_record instance.0)
     (member (codes "op") (string (codes "unroute"))
     (member (codes "prefix") (prefix_record prefix) no_members)))
+
+-- whether a record has lists: the others have one size, but for the digits of numbers and the letters of names
+abbrev pub has_lists : Item → Bool
+has_lists (I.Instance imports instance) = true
+has_lists (I.Acl from rules subnets to) = true
+has_lists (I.Use hops left left_prefixes right right_prefixes use_no) = true
+has_lists i = false
 
 -- its one spelling in JSON, without spaces, and on a link
 abbrev pub json_text : Item → List ℕ

@@ -1,5 +1,5 @@
 //! What records promise.
-ghost use Rattle.std.specs.Prelude.{◌≡◌, ◌≤◌, ◌++◌, ℕ, List, length, IsTrue, IfSome, is_some, Some, Ok};
+ghost use Rattle.std.specs.Prelude.{◌≡◌, ◌≤◌, ◌++◌, ℕ, List, length, IsTrue, false, IfSome, is_some, Some, Ok};
 ghost use Rattle.ov_sync.specs.declared.Delta.{Delta};
 ghost use Rattle.ov_sync.specs.declared.Delta.TheVariants.{Put};
 ghost use Rattle.ov_types.specs.declared.keys.DownKey.{DownKey};
@@ -20,7 +20,7 @@ ghost use Rattle.item_wire.specs.Inputs.{is_of_feed, is_of_control, is_of_agent}
 ghost use Rattle.item_wire.specs.Members.{name_of};
 ghost use Rattle.item_wire.specs.Ranges.{is_in_range};
 ghost use Rattle.item_wire.specs.Reading.{item_of, item_in};
-ghost use Rattle.item_wire.specs.Records.{record_of, json_text, spelling};
+ghost use Rattle.item_wire.specs.Records.{record_of, json_text, spelling, has_lists};
 ghost use Rattle.item_wire.specs.Texts.{AddressHasOneText, PrefixHasOneText};
 ghost use Rattle.item_wire.specs.Words.{step_of};
 
@@ -54,6 +54,11 @@ pub fn items_are_read()
 /// Two items within their ranges that are spelled alike are one.
 pub fn items_of_one_spelling_are_equal()
     ensures { (a b : Record) → IsTrue (is_in_range a) → IsTrue (is_in_range b) → spelling a ≡ spelling b → a ≡ b }
+{}
+
+/// An item within its ranges that has no list has few octets of JSON.
+pub fn most_records_are_short()
+    ensures { (item : Record) → IsTrue (is_in_range item) → has_lists item ≡ false → length (json_text item) ≤ 128 }
 {}
 
 /// Each address and each prefix has one text.

@@ -1,1 +1,5 @@
-
+-- Lemmas, in the order in which they stand on each other.
+pub mod Fitting
+pub mod Changes
+pub mod Maps
+pub mod Records

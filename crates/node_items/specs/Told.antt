@@ -2,7 +2,8 @@
 --     change_of      the change that an item is
 --     item_of      the item that a change is
 --     spelled      the octets of a change on a link
-use Rattle.std.specs.Prelude.{◌≡◌, ◌≤◌, ◌==◌, ℕ, List, [], length, Option, Some, None, IsTrue, if◌then◌else◌}
+use Rattle.std.specs.Prelude.{◌≡◌, ◌≤◌, ◌==◌, ℕ, List, [], length, Bool, true, false, Option, Some, None, IsTrue}
+use Rattle.std.specs.Prelude.{if◌then◌else◌}
 use Rattle.std.specs.Option.{option_map}
 use Rattle.ov_sync.specs.declared.Delta.TheVariants.{Put, Drop}
 use Rattle.ov_sync.specs.Embed.{embedded, moved_delta}
@@ -16,13 +17,18 @@ use Rattle.ov_types.specs.declared.keys.DownValue.TheVariants as Told
 use Rattle.ov_types.specs.declared.keys.UpKey.{UpKey}
 use Rattle.ov_types.specs.declared.numbers.Label.{Label as LabelNo}
 use Rattle.item_wire.specs.Changes.{fed, item_of_object, item_of_key}
-use Rattle.item_wire.specs.Ranges.{is_in_range, is_instance, is_attached_label}
+use Rattle.item_wire.specs.Ranges.{is_in_range, is_instance, is_attached_label, is_address, is_block}
 use Rattle.item_wire.specs.Records.{json_text, spelling}
 use Rattle.item_wire.specs.declared.item.Item.{Item}
 use Rattle.item_wire.specs.declared.item.Item.TheVariants as I
 use Rattle.node_model.specs.Keys.{Key, Low, Vpn, Row, Publish, Subscribe, key_cmp, of_down, of_up}
 use Rattle.node_model.specs.Values.{Value, Object, Entry, Label}
 use Rattle.node_model.specs.Maps.{Map, Change}
+
+-- whether an item says who is at the other end
+abbrev pub is_hello : Item → Bool
+is_hello (I.Hello name) = true
+is_hello i = false
 
 -- what is put at a subscription has label 0
 abbrev pub change_of : Item → Option Change
@@ -85,6 +91,14 @@ Fits _ _ = ⊥
 abbrev pub ChangeFits : Change → Type 0
 ChangeFits (Put k v) = Fits k v
 ChangeFits (Drop k) = KeyFits k
+
+-- what the types of keys and values settle: a prefix is a block, and an address has 32 bits
+abbrev pub IsTyped : Change → Type 0
+IsTyped (Put (Row i prefix) (Entry hop)) = IsTrue (is_block prefix) × IsTrue (is_address hop.next_hop)
+IsTyped (Put (Publish i prefix) v) = IsTrue (is_block prefix)
+IsTyped (Drop (Row i prefix)) = IsTrue (is_block prefix)
+IsTyped (Drop (Publish i prefix)) = IsTrue (is_block prefix)
+IsTyped c = Unit {0}
 
 abbrev pub AllFit : Map → Type 0
 AllFit m = Values Fits m

@@ -1,7 +1,9 @@
 //! The items of nodes' sessions: what octets bring, and how changes are spelled.
 #![tactic(auto)]
 
+mod change_item;
 mod hearing;
+pub mod laws;
 mod telling;
 
 pub use hearing::{Heard, greet, hear};

@@ -1,14 +1,16 @@
 //! The items of changes, and the changes of items.
-ghost use Rattle.std.specs.Prelude.{◌≡◌, IfOk, IsTrue, true};
+ghost use Rattle.std.specs.Prelude.{◌≡◌, IfOk, IfSome, IsTrue, true};
 ghost use Rattle.std.specs.Option.{option_map};
 ghost use Rattle.ov_sync.specs.Embed.{moved_delta};
 ghost use Rattle.item_wire.specs.Inputs.{is_of_feed, is_of_control, is_of_agent};
 ghost use Rattle.item_wire.specs.Ranges.{is_in_range};
+ghost use Rattle.item_wire.specs.Records.{spelling};
 ghost use Rattle.node_model.specs.Keys.{Low, of_down, of_up};
 ghost use Rattle.node_model.specs.Values.{Object, Label as LabelOf};
-ghost use Rattle.node_items.specs.Told.{ChangeFits, change_of, down_value, spelled};
+ghost use Rattle.node_items.specs.Told.{ChangeFits, IsWritable, change_of, down_value, spelled, spelling_of};
 
-use item_wire::Item;
+use crate::change_item::{down_item, low_item, up_item};
+use item_wire::{Item, write_item};
 use ov_sync::Delta;
 use ov_types::{DownKey, DownValue, Entry, Items, Label, LowKey, LowValue, NoMemory, UpKey};
 use route_targets::{circuit_label, port_label};
@@ -131,12 +133,34 @@ pub fn up_change(item: Item) -> Option<Delta<UpKey, Label>>
     }
 }
 
+/// The octets of an item.
+pub(crate) fn item_octets(alloc: Global, item: &Item) -> Result<Items<u8>, NoMemory>
+    requires { IsWritable item.now }
+    ensures { IfOk result (λ octets. octets ≡ spelling item.now) }
+{
+    let mut octets = Vec::new(alloc);
+    write_item(alloc, item, &mut octets)?;
+    Ok(Items::from_vec(octets))
+}
+
+/// The octets of an item; none where there is no item.
+fn octets_of(alloc: Global, item: &Option<Item>) -> Result<Items<u8>, NoMemory>
+    requires { IfSome item.now IsWritable }
+    ensures { IfOk result (λ octets. octets ≡ spelling_of item.now) }
+{
+    match item {
+        Some(item) => item_octets(alloc, item),
+        None => Ok(Items::new(alloc)),
+    }
+}
+
 /// The octets of a change that the configuration node tells a control node.
 pub fn spell_low(alloc: Global, delta: &Delta<LowKey, LowValue>) -> Result<Items<u8>, NoMemory>
     requires { ChangeFits (moved_delta Low Object delta.now) }
     ensures { IfOk result (λ octets. octets ≡ spelled (moved_delta Low Object delta.now)) }
 {
-    Err(NoMemory)
+    let item = low_item(delta)?;
+    octets_of(alloc, &item)
 }
 
 /// The octets of a change that a control node tells an agent.
@@ -147,7 +171,8 @@ pub fn spell_down(
     requires { ChangeFits (moved_delta of_down down_value delta.now) }
     ensures { IfOk result (λ octets. octets ≡ spelled (moved_delta of_down down_value delta.now)) }
 {
-    Err(NoMemory)
+    let item = down_item(delta)?;
+    octets_of(alloc, &item)
 }
 
 /// The octets of a change that an agent tells a control node.
@@ -155,5 +180,6 @@ pub fn spell_up(alloc: Global, delta: &Delta<UpKey, Label>) -> Result<Items<u8>,
     requires { ChangeFits (moved_delta of_up LabelOf delta.now) }
     ensures { IfOk result (λ octets. octets ≡ spelled (moved_delta of_up LabelOf delta.now)) }
 {
-    Err(NoMemory)
+    let item = up_item(delta);
+    octets_of(alloc, &item)
 }
