@@ -1,5 +1,5 @@
 -- What octets bring to one end of a session of items, record by record.
-use Rattle.std.specs.Prelude.{◌≡◌, ◌+◌, ◌≤◌, ◌<◌, ℕ, List, [], ◌∷◌, length, drop, Option, Some, None, Result, Ok, Err}
+use Rattle.std.specs.Prelude.{◌≡◌, ◌+◌, ℕ, List, [], ◌∷◌, length, drop, Option, Some, None, Result, Ok, Err}
 use Rattle.item_wire.specs.Frames.{frame_of}
 use Rattle.item_wire.specs.Happenings.{SessionFields, after, answer}
 use Rattle.item_wire.specs.Inputs.{came_by}

@@ -1,5 +1,5 @@
 //! What is heard on a session of items.
-ghost use Rattle.std.specs.Prelude.{◌≡◌, ◌<◌, ◌≤◌, ◌∷◌, ◌++◌, [], List, length, IfOk, IfSome, IsTrue};
+ghost use Rattle.std.specs.Prelude.{◌≡◌, ◌<◌, ◌≤◌, ◌∷◌, ◌++◌, [], List, drop, length, IfOk, IfSome, IsTrue};
 ghost use Rattle.std.specs.List.{AllByRecursion};
 ghost use Rattle.item_wire.specs.Happenings.{after, answer};
 ghost use Rattle.item_wire.specs.Inputs.{may_send};
@@ -47,11 +47,7 @@ pub fn greet(
 }
 
 /// Hears the octets of JSON of one record.
-fn take_json(
-    alloc: Global,
-    session: &mut ItemSession,
-    json: &[u8],
-) -> Result<ItemEvent, NoMemory>
+fn take_json(alloc: Global, session: &mut ItemSession, json: &[u8]) -> Result<ItemEvent, NoMemory>
     requires { length json.now ≤ 65536 }
     ensures state { IfOk result (λ event. session.new ≡ after session.old (came_with session.old (item_in json.now))) }
     ensures event { IfOk result (λ event. event ≡ answer session.old (came_with session.old (item_in json.now))) }
@@ -107,6 +103,14 @@ fn keep(records: &mut Vec<Item>, event: ItemEvent) -> Result<Option<ItemCause>, 
     }
 }
 
+/// The octets after so many.
+fn past(bytes: &[u8], size: usize) -> &[u8]
+    requires { size ≤ length bytes.now }
+    ensures { result.now ≡ drop size bytes.now }
+{
+    &bytes[size..]
+}
+
 /// Hears octets: each record of them in order, up to one that takes the session down. Octets at the end that are no
 /// whole record are passed over.
 pub fn hear(alloc: Global, session: &mut ItemSession, bytes: &[u8]) -> Result<Heard, NoMemory>
@@ -123,7 +127,7 @@ pub fn hear(alloc: Global, session: &mut ItemSession, bytes: &[u8]) -> Result<He
     let mut records = Vec::new(alloc);
     let mut rest = bytes;
     'hearing: while let Some((event, size)) = take_record(alloc, session, rest)? {
-        rest = &rest[size..];
+        rest = past(rest, size);
         if let Some(cause) = keep(&mut records, event)? {
             return Ok(Heard {
                 records,

@@ -57,10 +57,7 @@ pub fn low_change(item: Item) -> Option<Delta<LowKey, LowValue>>
             rules,
             subnets,
             to,
-        } => Some(Delta::Put(
-            LowKey::Acl { from, to },
-            LowValue::Acl { subnets, rules },
-        )),
+        } => Some(Delta::Put(LowKey::Acl { from, to }, LowValue::Acl { subnets, rules })),
         Item::Use {
             hops,
             left,
@@ -164,10 +161,7 @@ pub fn spell_low(alloc: Global, delta: &Delta<LowKey, LowValue>) -> Result<Items
 }
 
 /// The octets of a change that a control node tells an agent.
-pub fn spell_down(
-    alloc: Global,
-    delta: &Delta<DownKey, DownValue>,
-) -> Result<Items<u8>, NoMemory>
+pub fn spell_down(alloc: Global, delta: &Delta<DownKey, DownValue>) -> Result<Items<u8>, NoMemory>
     requires { ChangeFits (moved_delta of_down down_value delta.now) }
     ensures { IfOk result (λ octets. octets ≡ spelled (moved_delta of_down down_value delta.now)) }
 {
