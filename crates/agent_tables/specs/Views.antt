@@ -1,5 +1,5 @@
 -- What an agent holds of its sessions.
-use Rattle.std.specs.Prelude.{List, Bool, true, false}
+use Rattle.std.specs.Prelude.{Bool, true, false}
 use Rattle.item_wire.specs.declared.event.ItemState.{ItemState}
 use Rattle.item_wire.specs.declared.event.ItemState.TheVariants.{Up}
 use Rattle.node_items.specs.Told.{down_of}

@@ -1,5 +1,5 @@
 //! What was heard on the sessions of an agent.
-use item_wire::ItemSession;
+use item_wire::{ItemSession, ItemState};
 use ov_sync::SyncIn;
 use ov_types::{DownKey, DownValue};
 
@@ -8,4 +8,15 @@ use ov_types::{DownKey, DownValue};
 pub struct Hearing {
     pub session: ItemSession,
     pub held: SyncIn<DownKey, DownValue>,
+}
+
+impl Hearing {
+    ghost use Rattle.std.specs.Prelude.{◌≡◌};
+    ghost use Rattle.agent_tables.specs.Views.{is_up};
+
+    pub(crate) fn is_up(&self) -> bool
+        ensures { result ≡ is_up self.now.session.state }
+    {
+        matches!(self.session.state(), ItemState::Up)
+    }
 }

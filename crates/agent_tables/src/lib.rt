@@ -1,8 +1,15 @@
 //! What an agent goes by, from what its control nodes told: what it tells them, and what it forwards by.
 #![tactic(auto)]
 
+mod acls;
+mod fibs;
 mod hearing;
+mod labels;
 pub mod laws;
+mod needs;
+mod object;
+mod rows;
+mod slice;
 mod tables;
 mod wants;
 

@@ -1,27 +1,48 @@
 //! What an agent forwards by.
 ghost use Rattle.std.specs.Prelude.{◌≡◌, [], IfOk, map};
-ghost use Rattle.std.specs.List.{AllByRecursion};
+ghost use Rattle.std.specs.List.{All, AllByRecursion};
+ghost use Rattle.ov_types.specs.Access.{verdict};
+ghost use Rattle.route_targets.specs.Forwarding.{attached, looked_up};
+ghost use Rattle.packet_trace.specs.Circuits.{IsOfAUse};
 ghost use Rattle.node_items.specs.Told.{AllFit};
 ghost use Rattle.node_model.specs.Agent.{Heard, rows as rows_of};
 ghost use Rattle.agent_tables.specs.Views.{heard_of};
 
+use crate::acls::acls_of;
+use crate::fibs::{Fibs, empty_fibs, keep_heard};
 use crate::hearing::Hearing;
-use ov_types::{AgentRows, Items, NoMemory};
+use crate::labels::labels_of;
+use crate::needs::needed;
+use crate::rows::{acl_rows, label_rows, route_rows};
+use crate::slice::slice_in_use;
+use flow_acl::{Acls, evaluate};
+use ov_types::{Addr, AgentRows, Attached, Entry, InstanceId, Label, NoMemory, Packet, Verdict};
 use std::alloc::Global;
+use std::collections::BTreeMap;
 use std::marker::Model;
+use vrouter_fib::Labels;
 
-/// The labels, access lists and routes of an agent, which contracts see as its rows.
+/// The labels, access lists and routes of an agent, which contracts see as its rows. Its calls but for `of` and `rows`
+/// take no memory.
 #[derive(Drop)]
 pub struct Tables {
-    rows: AgentRows,
+    labels: Labels,
+    acls: Acls,
+    fibs: Fibs,
 }
 
 impl Model for Tables {
+    ghost use Rattle.std.specs.BTreeMap.{IsOrdered};
+    ghost use Rattle.std.specs.List.{All};
     ghost use Rattle.ov_types.specs.declared.rows.AgentRows.{AgentRows as Rows};
+    ghost use Rattle.packet_trace.specs.Circuits.{IsOfAUse};
+    ghost use Rattle.agent_tables.specs.Routes.{instance_order, routes_of};
 
     ghost Value = { Rows };
 
-    ghost view = { λ t. t.rows };
+    ghost view = { λ t. record { labels = t.labels; acls = t.acls; routes = routes_of t.fibs.entries } };
+
+    ghost invariant = { λ t. All (λ e. IsOfAUse e.1) t.labels × IsOrdered instance_order t.fibs };
 }
 
 impl Tables {
@@ -30,11 +51,9 @@ impl Tables {
         ensures { result ≡ record { labels = []; acls = []; routes = [] } }
     {
         Tables {
-            rows: AgentRows {
-                labels: Items::new(alloc),
-                acls: Items::new(alloc),
-                routes: Items::new(alloc),
-            },
+            labels: Labels::new(alloc),
+            acls: Acls::new(alloc),
+            fibs: BTreeMap::new(alloc),
         }
     }
 
@@ -44,6 +63,51 @@ impl Tables {
         requires { AllByRecursion (λ (s : Heard). AllFit s.map) (map heard_of sessions.now) }
         ensures { IfOk result (λ tables. tables ≡ rows_of (map heard_of sessions.now)) }
     {
-        Err(NoMemory)
+        let slice = slice_in_use(alloc, sessions)?;
+        let needed = needed(alloc, slice.as_slice())?;
+        let labels = labels_of(alloc, slice.as_slice())?;
+        let acls = acls_of(alloc, slice.as_slice())?;
+        let mut fibs = empty_fibs(alloc, needed.as_slice())?;
+        keep_heard(&mut fibs, sessions)?;
+        Ok(Tables { labels, acls, fibs })
+    }
+
+    /// The rows, in the order of their keys.
+    pub fn rows(&self, alloc: Global) -> Result<AgentRows, NoMemory>
+        ensures { IfOk result (λ rows. rows ≡ self.now) }
+    {
+        let labels = label_rows(alloc, &self.labels)?;
+        let acls = acl_rows(alloc, &self.acls)?;
+        let routes = route_rows(alloc, &self.fibs)?;
+        Ok(AgentRows {
+            labels,
+            acls,
+            routes,
+        })
+    }
+
+    /// What a label leads to. There is nothing exactly where the label is absent.
+    pub fn find(&self, label: Label) -> Option<Attached>
+        ensures found { result ≡ attached self.now label }
+        ensures circuits { All (λ e. IsOfAUse e.1) self.now.labels }
+    {
+        self.labels.find(label)
+    }
+
+    /// What the access lists say of a packet that leaves a network.
+    pub fn verdict(&self, network: InstanceId, packet: &Packet) -> Verdict
+        ensures { result ≡ verdict self.now.acls network.0 packet.now }
+    {
+        evaluate(&self.acls, network, packet)
+    }
+
+    /// Where the routes of an instance lead an address. There is nothing exactly where none of them contains it.
+    pub fn route(&self, i: InstanceId, a: Addr) -> Option<Entry>
+        ensures { result ≡ looked_up self.now i a.0 }
+    {
+        match self.fibs.get(&i) {
+            Some(fib) => fib.lookup(a),
+            None => None,
+        }
     }
 }

@@ -1,6 +1,7 @@
 //! The access lists of an agent.
-ghost use Rattle.std.specs.Prelude.{◌≡◌, [], OnOk, OnErr};
+ghost use Rattle.std.specs.Prelude.{◌≡◌, [], map, OnOk, OnErr};
 ghost use Rattle.std.specs.BTreeMap.{insert_entry, is_at};
+ghost use Rattle.std.specs.List.Sorted.{IsStrictlySortedBy};
 ghost use Rattle.std.specs.Map.{remove_entry};
 ghost use Rattle.ov_types.specs.Keys.{low_key_cmp};
 ghost use Rattle.ov_types.specs.declared.objects.LowKey.TheVariants as Key;
@@ -9,6 +10,7 @@ ghost use Rattle.flow_acl.specs.Lists.{IsAccessList};
 use ov_types::{InstanceId, LowKey, LowValue, NoMemory};
 use std::alloc::Global;
 use std::collections::BTreeMap;
+use std::collections::btree_map::Iter;
 use std::marker::Model;
 
 /// The access lists of an agent, which contracts see as their list in the order of their keys.
@@ -60,5 +62,13 @@ impl Acls {
             to: to.0,
         };
         self.lists.remove(&key);
+    }
+
+    /// The lists in the order of their keys. It takes no memory.
+    pub fn iter(&self) -> Iter<'_, LowKey, LowValue>
+        ensures entries { result ≡ self.now }
+        ensures ascending { IsStrictlySortedBy low_key_cmp (map (λ e. e.0) self.now) }
+    {
+        self.lists.iter()
     }
 }

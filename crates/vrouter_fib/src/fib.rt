@@ -1,7 +1,8 @@
 //! The routes of one instance.
-ghost use Rattle.std.specs.Prelude.{◌≡◌, [], Some, option_map, OnOk, OnErr};
+ghost use Rattle.std.specs.Prelude.{◌≡◌, [], Some, map, option_map, OnOk, OnErr};
 ghost use Rattle.std.specs.BTreeMap.{insert_entry, is_at};
-ghost use Rattle.std.specs.Map.{remove_entry};
+ghost use Rattle.std.specs.List.Sorted.{IsStrictlySortedBy};
+ghost use Rattle.std.specs.Map.{lookup, remove_entry};
 ghost use Rattle.ov_types.specs.Prefix.{block_cmp, contains};
 ghost use Rattle.ov_types.specs.Routing.{longest};
 ghost use Rattle.vrouter_fib.specs.Better.{or_longer};
@@ -9,6 +10,7 @@ ghost use Rattle.vrouter_fib.specs.Better.{or_longer};
 use ov_types::{Addr, Entry, NoMemory, Prefix};
 use std::alloc::Global;
 use std::collections::BTreeMap;
+use std::collections::btree_map::Iter;
 use std::marker::Model;
 
 /// The routes of one instance, which contracts see as their list in the order of their prefixes.
@@ -51,6 +53,21 @@ impl Fib {
         ensures { self.new ≡ remove_entry (is_at (block_cmp prefix.now)) self.old }
     {
         self.routes.remove(prefix);
+    }
+
+    /// Where this very prefix leads.
+    pub fn get(&self, prefix: &Prefix) -> Option<Entry>
+        ensures { result ≡ lookup (is_at (block_cmp prefix.now)) self.now }
+    {
+        self.routes.get(prefix).copied()
+    }
+
+    /// The routes in the order of their prefixes. It takes no memory.
+    pub fn iter(&self) -> Iter<'_, Prefix, Entry>
+        ensures entries { result ≡ self.now }
+        ensures ascending { IsStrictlySortedBy block_cmp (map (λ r. r.0) self.now) }
+    {
+        self.routes.iter()
     }
 
     /// Where an address leads: by the longest of the prefixes that contain it.

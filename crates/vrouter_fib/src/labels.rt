@@ -1,12 +1,14 @@
 //! What labels lead to.
-ghost use Rattle.std.specs.Prelude.{◌≡◌, ◌==◌, [], find, option_map, OnOk, OnErr};
+ghost use Rattle.std.specs.Prelude.{◌≡◌, ◌==◌, [], find, map, option_map, OnOk, OnErr};
 ghost use Rattle.std.specs.BTreeMap.{insert_entry};
+ghost use Rattle.std.specs.List.Sorted.{IsStrictlySortedBy};
 ghost use Rattle.std.specs.Map.{remove_entry};
 ghost use Rattle.std.specs.Ordering.{nat_cmp};
 
 use ov_types::{Attached, Label, NoMemory};
 use std::alloc::Global;
 use std::collections::BTreeMap;
+use std::collections::btree_map::Iter;
 use std::marker::Model;
 
 /// What an agent's labels lead to, which contracts see as their list in the order of the labels.
@@ -56,5 +58,13 @@ impl Labels {
         ensures { result ≡ option_map (λ e. e.1) (find (λ e. e.0.0 == label.0) self.now) }
     {
         self.attached.get(&label).copied()
+    }
+
+    /// What each label leads to, in the order of the labels. It takes no memory.
+    pub fn iter(&self) -> Iter<'_, Label, Attached>
+        ensures entries { result ≡ self.now }
+        ensures ascending { IsStrictlySortedBy (λ a b. nat_cmp a.0 b.0) (map (λ e. e.0) self.now) }
+    {
+        self.attached.iter()
     }
 }
