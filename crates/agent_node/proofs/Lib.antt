@@ -1,1 +1,7 @@
-
+-- Lemmas, in the order in which they stand on each other.
+pub mod Below
+pub mod Images
+pub mod Changes
+pub mod Posts
+pub mod Applied
+pub mod Begins

@@ -1,3 +1,6 @@
 -- The files of definitions, in the order in which they stand on each other.
 pub mod Core
 pub mod Beginning
+pub mod Ends
+pub mod Planning
+pub mod Applying

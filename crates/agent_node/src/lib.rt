@@ -1,8 +1,10 @@
 //! An agent: octets of records in, octets out, over any link; and a forwarder of packets.
 #![tactic(auto)]
 
+mod begin;
+mod ends;
 mod node;
 mod plan;
+mod planning;
 
-pub use node::AgentNode;
 pub use plan::AgentPlan;

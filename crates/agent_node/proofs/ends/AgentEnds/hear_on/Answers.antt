@@ -1,0 +1,66 @@
+use Rattle.std.proofs.Common.{◌≡◌, ◌<◌, ℕ, length, slice_index_or, slice_set, set, subst, sym, ap, ◌∙◌, arith, Some, None}
+use Rattle.std.proofs.lemmas.List.{length-set}
+use Rattle.item_wire.specs.declared.event.ItemFrom.TheVariants.{Control}
+use Rattle.node_model.specs.Step.{Post, nothing, post}
+use Rattle.agent_tables.specs.declared.hearing.Hearing.{Hearing}
+use Rattle.agent_node.specs.Applying.{HasTaken}
+use Rattle.agent_node.specs.Ends.{Ends, posts_of, whom}
+use Rattle.agent_node.proofs.Begins.{taken_down, taken_on, whom_at}
+use Rattle.agent_node.proofs.Posts.{ends_long, posts_long}
+use Rattle.agent_node.proofs.ends.AgentEnds.hear_on.Goals as goal
+
+pub hear_at-requires-clause-from : goal.hear_at-requires-clause-from
+hear_at-requires-clause-from c =
+    let hs = c.self.inside.hearings.items in
+    let ss = c.self.inside.sents.items in
+    let h = c.index_mut.result.now in
+    let controllers = ap (λ (e : Ends). length e.plan.controllers) c.self.view_is in
+    let long = ends_long c.self.inside.plan hs ss c.self.invariant in
+    let lt : c.from.result < length hs = omega (arith, long, controllers, c.requires.known, c.from.ensures) in
+    (λ i. (whom_at c.self.inside.plan hs ss c.self.invariant c.from.result h lt c.index_mut.ensures.value i).1)
+
+pub close-requires : goal.close-requires
+close-requires c =
+    let hs = c.self.inside.hearings.items in
+    let ss = c.self.inside.sents.items in
+    let controllers = ap (λ (e : Ends). length e.plan.controllers) c.self.view_is in
+    let long = ends_long c.self.inside.plan hs ss c.self.invariant in
+    let new = posts_long (set hs c.from.result c.hear_at.new.hearing) ss in
+    let same = length-set hs c.from.result c.hear_at.new.hearing in
+    omega (arith, long, controllers, new, same, c.requires.known)
+
+pub returns-in-None-clause-heard : goal.returns-in-None-clause-heard
+returns-in-None-clause-heard c =
+    let hs = c.self.inside.hearings.items in
+    let ss = c.self.inside.sents.items in
+    let h = c.index_mut.result.now in
+    let h' = c.hear_at.new.hearing in
+    let controllers = ap (λ (e : Ends). length e.plan.controllers) c.self.view_is in
+    let long = ends_long c.self.inside.plan hs ss c.self.invariant in
+    let lt : c.from.result < length hs = omega (arith, long, controllers, c.requires.known, c.from.ensures) in
+    let heard = rw c.in-None.is at c.in_ok-hear_at.ensures.heard in
+    let taken = taken_on c.self.inside.plan hs ss c.self.invariant c.from.result h lt c.index_mut.ensures.value
+        c.args.bytes.now h' heard in
+    subst (λ (n : ℕ). HasTaken c.args.self.now.plan n c.args.bytes.now c.args.self.now.posts
+    (posts_of (slice_set hs c.from.result h') ss) None) c.from.ensures
+    (subst (λ (e : Ends). HasTaken e.plan c.from.result c.args.bytes.now e.posts
+    (posts_of (slice_set hs c.from.result h') ss) None) c.self.view_is taken)
+
+pub returns-in-Some-clause-heard : goal.returns-in-Some-clause-heard
+returns-in-Some-clause-heard c =
+    let hs = c.self.inside.hearings.items in
+    let ss = c.self.inside.sents.items in
+    let h = c.index_mut.result.now in
+    let h' = c.hear_at.new.hearing in
+    let controllers = ap (λ (e : Ends). length e.plan.controllers) c.self.view_is in
+    let long = ends_long c.self.inside.plan hs ss c.self.invariant in
+    let lt : c.from.result < length hs = omega (arith, long, controllers, c.requires.known, c.from.ensures) in
+    let heard = rw c.in-Some.is at c.in_ok-hear_at.ensures.heard in
+    let closed = c.close.ensures.closed
+        ∙ ap (λ (n : ℕ). slice_set (posts_of (slice_set hs c.from.result h') ss) n nothing) (sym c.from.ensures) in
+    let taken = taken_down c.self.inside.plan hs ss c.self.invariant c.from.result h lt c.index_mut.ensures.value
+        c.args.bytes.now h' c.in-Some.cause c.close.new.self.posts heard closed in
+    subst (λ (n : ℕ). HasTaken c.args.self.now.plan n c.args.bytes.now c.args.self.now.posts c.close.new.self.posts
+    (Some c.in-Some.cause)) c.from.ensures
+    (subst (λ (e : Ends). HasTaken e.plan c.from.result c.args.bytes.now e.posts c.close.new.self.posts
+    (Some c.in-Some.cause)) c.self.view_is taken)

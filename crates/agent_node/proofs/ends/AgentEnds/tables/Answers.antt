@@ -1,0 +1,22 @@
+use Rattle.std.proofs.Common.{◌≡◌, List, map, sym, ap, ◌∙◌, subst}
+use Rattle.ov_types.specs.declared.rows.AgentRows.{AgentRows}
+use Rattle.std.specs.Result.{IfOk}
+use Rattle.node_model.specs.Agent.{Holdings, rows as rows_of}
+use Rattle.node_model.specs.Step.{Post}
+use Rattle.agent_tables.specs.Views.{heard_of}
+use Rattle.agent_tables.specs.declared.hearing.Hearing.{Hearing}
+use Rattle.agent_node.specs.Core.{holdings}
+use Rattle.agent_node.specs.Ends.{Ends}
+use Rattle.agent_node.proofs.Posts.{held_fits, holdings_as}
+use Rattle.agent_node.proofs.ends.AgentEnds.tables.Goals as goal
+
+pub of-requires : goal.of-requires
+of-requires c = rw c.deref.ensures.value (held_fits c.self.inside.hearings.items c.self.invariant.held)
+
+pub returns : goal.returns
+returns c =
+    let heard : map heard_of c.deref.result.now ≡ holdings c.args.self.now.posts =
+        ap (map heard_of) c.deref.ensures.value
+        ∙ sym (holdings_as c.self.inside.hearings.items c.self.inside.sents.items)
+        ∙ ap (λ (e : Ends). holdings e.posts) c.self.view_is in
+    subst (λ (h : Holdings). IfOk c.of.result (λ (tables : AgentRows). tables ≡ rows_of h)) heard c.of.ensures

@@ -1,0 +1,36 @@
+-- What octets make of what is held at an end.
+use Rattle.std.specs.Prelude.{◌≡◌, ℕ, List, Option, Some, None}
+use Rattle.std.specs.List.{filter_map, slice_set}
+use Rattle.ov_sync.specs.Keyed.{after, changed}
+use Rattle.item_wire.specs.declared.event.ItemCause.{ItemCause}
+use Rattle.item_wire.specs.declared.input.Came.{Came}
+use Rattle.node_items.specs.Beginning.{left_by}
+use Rattle.node_items.specs.Hearing.{Hears, heard}
+use Rattle.node_items.specs.Told.{change_of, down_of}
+use Rattle.node_model.specs.Maps.{Change, Map}
+use Rattle.node_model.specs.Step.{Post, end_of, post}
+use Rattle.agent_tables.specs.declared.hearing.Hearing.{Hearing}
+use Rattle.agent_node.specs.Beginning.{session_at}
+use Rattle.agent_node.specs.declared.plan.AgentPlan.{AgentPlan}
+
+abbrev pub changed_by : Option Change → Map → Map
+changed_by None m = m
+changed_by (Some c) m = changed m c
+
+-- an end once it heard octets. Where its session goes down, nothing is said of what it holds
+pub record HasHeard (h : Hearing) (octets : List ℕ) (h' : Hearing) (cause : Option ItemCause) : Type 0 where
+  pub inputs : List Came
+  pub hears : Hears h.session octets inputs
+  pub why : cause ≡ (heard h.session inputs).cause
+  pub state : h'.session.state ≡ (heard h.session inputs).state
+  pub held : cause ≡ None
+      → down_of h'.held ≡ after (down_of h.held) (filter_map change_of (heard h.session inputs).records)
+
+-- the end of a session once octets came on it
+pub record HasTaken (plan : AgentPlan) (session : ℕ) (octets : List ℕ) (posts posts' : List Post)
+    (cause : Option ItemCause) : Type 0 where
+  pub inputs : List Came
+  pub hears : Hears (session_at plan session (post posts session).phase) octets inputs
+  pub why : cause ≡ (heard (session_at plan session (post posts session).phase) inputs).cause
+  pub left : posts' ≡ slice_set posts session
+      (end_of (left_by (post posts session) (heard (session_at plan session (post posts session).phase) inputs) cause))

@@ -1,0 +1,138 @@
+//! The ends of an agent's sessions.
+ghost use Rattle.std.specs.Prelude.{◌≡◌, ◌≤◌, ◌<◌, length, not, IfOk};
+ghost use Rattle.node_items.specs.Beginning.{phase_of};
+ghost use Rattle.node_model.specs.Agent.{rows as rows_of};
+ghost use Rattle.node_model.specs.Step.{nothing, post};
+ghost use Rattle.agent_node.specs.Core.{holdings, is_idle, is_up, nothings, sessions};
+ghost use Rattle.agent_node.specs.Ends.{HeldFits, SentFits, end_at, whom};
+
+use crate::plan::AgentPlan;
+use crate::planning::plan_all;
+use agent_tables::{Hearing, Tables, wanted};
+use item_wire::{ItemFrom, ItemSession, ItemState};
+use node_core::{Ends, Plan};
+use ov_sync::{SyncIn, SyncOut};
+use ov_types::{Label, NoMemory, UpKey};
+use std::alloc::Global;
+use std::marker::Model;
+
+/// The ends of all sessions, in the order of the control nodes.
+#[derive(Drop)]
+pub(crate) struct AgentEnds {
+    pub(crate) plan: AgentPlan,
+    pub(crate) hearings: Vec<Hearing>,
+    /// What was sent on each session.
+    pub(crate) sents: Vec<SyncOut<UpKey, Label>>,
+    pub(crate) alloc: Global,
+}
+
+impl Model for AgentEnds {
+    ghost use Rattle.agent_node.specs.Ends.{Ends as Seen, AreEnds, coded_ends, posts_of};
+
+    ghost Value = { Seen };
+
+    ghost coded = { coded_ends };
+
+    ghost view = { λ e. record { plan = e.plan; posts = posts_of e.hearings.items e.sents.items } };
+
+    ghost invariant = { λ e. AreEnds e.plan e.hearings.items e.sents.items };
+}
+
+/// Closes an end: its session is idle, and nothing was sent on it and nothing is held of it.
+fn shut(hearing: &mut Hearing, sent: &mut SyncOut<UpKey, Label>)
+    ensures end { end_at hearing.new sent.new ≡ nothing }
+    ensures whom { whom hearing.new ≡ whom hearing.old }
+    ensures held { HeldFits hearing.new }
+    ensures sent { SentFits sent.new }
+{
+    let _down = hearing.session.closed();
+    hearing.held.reset();
+    sent.reset();
+}
+
+impl Ends for AgentEnds {
+    ghost use Rattle.std.specs.Prelude.{◌≡◌, refl};
+    ghost use Rattle.std.proofs.Common.{◌∙◌};
+    ghost use Rattle.agent_node.specs.Core.{kind};
+
+    ghost kind = { λ _. kind };
+
+    ghost posts = { λ e. e.posts };
+
+    ghost stays = { λ before after. after.plan ≡ before.plan };
+
+    fn plan(&mut self) -> Result<Vec<Plan>, NoMemory> {
+        let wanted = wanted(self.alloc, &self.hearings)?;
+        let plans = plan_all(self.alloc, &self.hearings, &mut self.sents, &wanted)?;
+        Ok(plans)
+    }
+
+    fn close(&mut self, session: u16) {
+        let index = usize::from(session);
+        shut(&mut self.hearings[index], &mut self.sents[index]);
+    }
+
+    ghost stays_itself = { λ _. refl };
+
+    ghost stays_on = { λ _ _ _ first then. then ∙ first };
+
+    ghost idle_is_silent = { λ _ _. refl };
+}
+
+impl AgentEnds {
+    /// The ends of an agent's sessions, all closed.
+    pub(crate) fn new(alloc: Global, plan: AgentPlan) -> Result<AgentEnds, NoMemory>
+        requires { length plan.controllers ≤ 2 }
+        ensures plan { IfOk result (λ ends. ends.plan ≡ plan) }
+        ensures posts { IfOk result (λ ends. ends.posts ≡ nothings (sessions plan)) }
+    {
+        let mut hearings = Vec::new(alloc);
+        let mut sents = Vec::new(alloc);
+        for controller in plan.controllers.as_slice() {
+            hearings.push(Hearing {
+                session: ItemSession::new(controller.name, ItemFrom::Control),
+                held: SyncIn::new(alloc),
+            })?;
+            sents.push(SyncOut::new(alloc))?;
+        }
+        Ok(AgentEnds {
+            plan,
+            hearings,
+            sents,
+            alloc,
+        })
+    }
+
+    /// How many sessions there are.
+    pub(crate) fn sessions(&self) -> u16
+        ensures sessions { result ≡ sessions self.now.plan }
+        ensures posts { length self.now.posts ≡ sessions self.now.plan }
+    {
+        self.hearings.len() as u16
+    }
+
+    /// The state of a session.
+    pub(crate) fn state(&self, session: u16) -> ItemState
+        requires { session < sessions self.now.plan }
+        ensures { phase_of result ≡ (post self.now.posts session).phase }
+    {
+        self.hearings[usize::from(session)].session.state()
+    }
+
+    /// Closes every end. It takes no memory.
+    pub(crate) fn close_all(&mut self)
+        ensures plan { self.new.plan ≡ self.old.plan }
+        ensures posts { self.new.posts ≡ nothings (sessions self.old.plan) }
+    {
+        for session in 0..self.sessions() {
+            self.close(session);
+        }
+    }
+
+    /// What the sessions give the agent to forward by.
+    pub(crate) fn tables(&self) -> Result<Tables, NoMemory>
+        ensures { IfOk result (λ tables. tables ≡ rows_of (holdings self.now.posts)) }
+    {
+        Tables::of(self.alloc, &self.hearings)
+    }
+}
