@@ -237,7 +237,7 @@ fields_fit : (fields : List Field) → are_apart (map name_of fields) ≡ true �
     → names_weight (map name_of fields) ms ≤ members_weight ms
 fields_fit fields h ms = names_fit (map name_of fields) h ms
 
--- an item whose op is there has no more weight than the members
+-- where the op of an item is among the members, its record weighs no more than they
 abbrev Within : Members → Op → Item → Type 0
 Within ms op i =
     member_weight (codes "op") (op_record op) ≤ found_weight (codes "op") ms
