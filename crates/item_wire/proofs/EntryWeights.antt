@@ -1,9 +1,11 @@
 -- What is read from a value is written in no more than the value weighs.
-use Rattle.std.proofs.Common.{◌≡◌, ℕ, ◌+◌, ◌≤◌, ◌==◌, Bool, true, false, cond, nat_eq, nat_le, List, [], ◌∷◌, length, map, codes, decimal, Option, Some, None, refl, sym, subst, ap, ◌∙◌, arith}
+use Rattle.std.proofs.Common.{◌≡◌, ℕ, ◌+◌, ◌≤◌, ◌==◌, Bool, true, false, cond, nat_eq, nat_le, List, [], ◌∷◌, length}
+use Rattle.std.proofs.Common.{map, codes, decimal, Option, Some, None, refl, sym, subst, ap, ◌∙◌, arith}
 use Rattle.std.proofs.lemmas.Bool.{and_parts, eqb-true}
 use Rattle.std.specs.Prelude.{⊤}
 use Rattle.std.specs.Cmp.Lexicographic.{pointwise}
-use Rattle.serde_json.specs.Data.{unsigned, negative, float, Data, null, boolean, number, string, array, object, Items, no_items, item}
+use Rattle.serde_json.specs.Data.{unsigned, negative, float, Data, null, boolean, number, string, array, object, Items}
+use Rattle.serde_json.specs.Data.{no_items, item}
 use Rattle.serde_json.specs.Events.{items_len}
 use Rattle.serde_json.specs.Find.{at, as_str, as_array}
 use Rattle.serde_json.specs.View.{items_of}
@@ -20,8 +22,12 @@ use Rattle.ov_types.specs.declared.packet.RuleNo.{RuleNo}
 use Rattle.ov_types.specs.declared.prefix.Addr.{Addr}
 use Rattle.item_wire.specs.declared.list.Count.{Count}
 use Rattle.item_wire.specs.Written.{address_of, block_of}
-use Rattle.item_wire.specs.Entries.{◌>>=◌, kept, is_from_to, number_from, name_from, address_from, any_address_from, node_address_from, prefix_from, all_from, counted, allows, list_from, network_from, counts, has_items, in_place, hop_from, protocol_from, ports_from, action_named, action_of, action_from, rule_number_from, rule_from}
-use Rattle.item_wire.specs.Records.{number_record, address_record, prefix_record, list_record, import_record, hop_record, protocol_record, action_record, rule_record}
+use Rattle.item_wire.specs.Entries.{◌>>=◌, kept, is_from_to, number_from, name_from, address_from, any_address_from}
+use Rattle.item_wire.specs.Entries.{node_address_from, prefix_from, all_from, counted, allows, list_from, network_from}
+use Rattle.item_wire.specs.Entries.{counts, has_items, in_place, hop_from, protocol_from, ports_from, action_named}
+use Rattle.item_wire.specs.Entries.{action_of, action_from, rule_number_from, rule_from}
+use Rattle.item_wire.specs.Records.{number_record, address_record, prefix_record, list_record, import_record}
+use Rattle.item_wire.specs.Records.{hop_record, protocol_record, action_record, rule_record}
 use Rattle.item_wire.proofs.OneText.{address_has_one_text, prefix_has_one_text}
 use Rattle.item_wire.proofs.Weights.{weight, items_weight}
 
@@ -35,6 +41,9 @@ record Step {A B : Type 0} (o : Option A) (f : A → Option B) (y : B) : Type 0 
 step : {A B : Type 0} (o : Option A) (f : A → Option B) (y : B) → (o >>= f) ≡ Some y → Step o f y
 step None f y h = absurd (cc)
 step (Some x) f y h = record { value = x; is = refl; then = h }
+
+some_is : {A : Type 0} (x y : A) → Some x ≡ Some y → x ≡ y
+some_is x y h = cc
 
 kept_is : {A : Type 0} (b : Bool) (x y : A) → kept b x ≡ Some y → (b ≡ true) × (x ≡ y)
 kept_is true x y h = (refl, cc)
@@ -58,7 +67,8 @@ array_is (string t) ds h = absurd (cc)
 array_is (array es) ds h = cc
 array_is (object ms) ds h = absurd (cc)
 
-pub number_weight : (low high : ℕ) (d : Data) (n : ℕ) → number_from low high d ≡ Some n → weight (number_record n) ≤ weight d
+pub number_weight : (low high : ℕ) (d : Data) (n : ℕ) → number_from low high d ≡ Some n
+    → weight (number_record n) ≤ weight d
 unfolding number_from
 number_weight low high null n h = absurd (cc)
 number_weight low high (boolean b) n h = absurd (cc)
@@ -75,9 +85,11 @@ pub name_weight : (d : Data) (text : List ℕ) → name_from d ≡ Some text →
 unfolding name_from
 name_weight d text h =
     let s = step (as_str d) (λ t. kept (is_name t) t) text h in
-    omega (arith, ap weight (string_is d s.value s.is), ap (λ (t : List ℕ). length t) (kept_is (is_name s.value) s.value text s.then).1)
+    let same : s.value ≡ text = (kept_is (is_name s.value) s.value text s.then).1 in
+    omega (arith, ap weight (string_is d s.value s.is), ap (λ (t : List ℕ). length t) same)
 
-address_weight : (low high : ℕ) (d : Data) (a : Addr) → address_from low high d ≡ Some a → weight (address_record a) ≤ weight d
+address_weight : (low high : ℕ) (d : Data) (a : Addr) → address_from low high d ≡ Some a
+    → weight (address_record a) ≤ weight d
 unfolding address_from
 address_weight low high d a h =
     let s = step (as_str d) _ a h in
@@ -108,8 +120,10 @@ import_weight d i h =
 
 -- ---- lists
 
-module _ {A : Type 0} (reads : Data → Option A) (value_of : A → Data) (each : (d : Data) (x : A) → reads d ≡ Some x → weight (value_of x) ≤ weight d) where
-  all_weight : (later : Bool) (ds : Items) (xs : List A) → all_from reads ds ≡ Some xs → items_weight later (items_of (map value_of xs)) ≤ items_weight later ds
+module _ {A : Type 0} (reads : Data → Option A) (value_of : A → Data)
+    (each : (d : Data) (x : A) → reads d ≡ Some x → weight (value_of x) ≤ weight d) where
+  all_weight : (later : Bool) (ds : Items) (xs : List A) → all_from reads ds ≡ Some xs
+      → items_weight later (items_of (map value_of xs)) ≤ items_weight later ds
   unfolding all_from
   all_weight later no_items xs h =
       let e : [] ≡ xs = cc in
@@ -125,11 +139,13 @@ module _ {A : Type 0} (reads : Data → Option A) (value_of : A → Data) (each 
   counted_is count None ds h = absurd (cc)
   counted_is count (Some es) ds h = ap (λ (x : Items). Some x) (kept_is (allows count (items_len es)) es ds h).1
 
-  pub list_weight : (count : Count) (d : Data) (xs : List A) → list_from count reads d ≡ Some xs → weight (list_record value_of xs) ≤ weight d
+  pub list_weight : (count : Count) (d : Data) (xs : List A) → list_from count reads d ≡ Some xs
+      → weight (list_record value_of xs) ≤ weight d
   unfolding list_from
   list_weight count d xs h =
       let s = step (counted count (as_array d)) (all_from reads) xs h in
-      omega (arith, ap weight (array_is d s.value (counted_is count (as_array d) s.value s.is)), all_weight false s.value xs s.then)
+      let listed = array_is d s.value (counted_is count (as_array d) s.value s.is) in
+      omega (arith, ap weight listed, all_weight false s.value xs s.then)
 
 -- ---- lists of a fixed number of items
 
@@ -153,17 +169,22 @@ is_pair d h =
     let l = has_so_many 2 (as_array d) h in
     subst IsPair (sym (array_is d l.0 l.1)) (two_items l.0 l.2)
 
-in_place_is : {A : Type 0} (i : ℕ) (reads : Data → Option A) (d e : Data) (x : A) → at i d ≡ Some e → in_place i reads d ≡ Some x → reads e ≡ Some x
+in_place_is : {A : Type 0} (i : ℕ) (reads : Data → Option A) (d e : Data) (x : A) → at i d ≡ Some e
+    → in_place i reads d ≡ Some x → reads e ≡ Some x
 unfolding in_place
 in_place_is i reads d e x found h = rw found at h
 
-hop_weight_of : (a b : Data) (h : ServiceNo × Addr) → hop_from (pair a b) ≡ Some h → weight (hop_record h) ≤ weight (pair a b)
+hop_weight_of : (a b : Data) (h : ServiceNo × Addr) → hop_from (pair a b) ≡ Some h
+    → weight (hop_record h) ≤ weight (pair a b)
 unfolding hop_from
 hop_weight_of a b h e =
     let service = step (in_place 0 (number_from 0 65535) (pair a b)) _ h e in
     let node = step (in_place 1 node_address_from (pair a b)) _ h service.then in
-    let s : weight (number_record service.value) ≤ weight a = number_weight 0 65535 a service.value (in_place_is 0 (number_from 0 65535) (pair a b) a service.value refl service.is) in
-    let n : weight (address_record node.value) ≤ weight b = node_address_weight b node.value (in_place_is 1 node_address_from (pair a b) b node.value refl node.is) in
+    let s : weight (number_record service.value) ≤ weight a =
+    number_weight 0 65535 a service.value
+    (in_place_is 0 (number_from 0 65535) (pair a b) a service.value refl service.is) in
+    let n : weight (address_record node.value) ≤ weight b =
+    node_address_weight b node.value (in_place_is 1 node_address_from (pair a b) b node.value refl node.is) in
     let same : (record { 0 = service.value }, node.value) ≡ h = cc (node.then) in
     subst (λ (x : ServiceNo × Addr). weight (hop_record x) ≤ weight (pair a b)) same (omega arith)
 
@@ -183,8 +204,11 @@ same_length [] (y ∷ b) h = absurd (cc)
 same_length (x ∷ a) [] h = absurd (cc)
 same_length (x ∷ a) (y ∷ b) h = omega (arith, same_length a b (and_parts (nat_eq x y) (pointwise nat_eq a b) h).1)
 
-protocol_of : (n : ℕ) (any : Bool) (p : Option ℕ) → (n == 256) ≡ any → cond any None (Some n) ≡ p → weight (protocol_record p) ≡ length (decimal n)
-protocol_of n true p e h = subst (λ (x : Option ℕ). weight (protocol_record x) ≡ length (decimal n)) h (ap (λ (x : ℕ). length (decimal x)) (sym (eqb-true n 256 e)))
+protocol_of : (n : ℕ) (any : Bool) (p : Option ℕ) → (n == 256) ≡ any → cond any None (Some n) ≡ p
+    → weight (protocol_record p) ≡ length (decimal n)
+protocol_of n true p e h =
+    subst (λ (x : Option ℕ). weight (protocol_record x) ≡ length (decimal n)) h
+    (ap (λ (x : ℕ). length (decimal x)) (sym (eqb-true n 256 e)))
 protocol_of n false p e h = subst (λ (x : Option ℕ). weight (protocol_record x) ≡ length (decimal n)) h refl
 
 protocol_weight : (d : Data) (p : Option ℕ) → protocol_from d ≡ Some p → weight (protocol_record p) ≤ weight d
@@ -199,17 +223,22 @@ abbrev Names : List ℕ → Option AclAction → Type 0
 Names text None = ⊤
 Names text (Some a) = weight (action_record a) ≡ length text + 2
 
-named_so : (text : List ℕ) (b : Bool) (name : List ℕ) (a : AclAction) (o : Option AclAction) → (b ≡ true → length text ≡ length name) → weight (action_record a) ≡ length name + 2 → Names text o → Names text (cond b (Some a) o)
+named_so : (text : List ℕ) (b : Bool) (name : List ℕ) (a : AclAction) (o : Option AclAction)
+    → (b ≡ true → length text ≡ length name) → weight (action_record a) ≡ length name + 2 → Names text o
+    → Names text (cond b (Some a) o)
 named_so text true name a o f e h = omega (arith, f refl, e)
 named_so text false name a o f e h = h
 
 action_names : (text : List ℕ) → Names text (action_named text)
 action_names text =
     named_so text (pointwise nat_eq text (codes "pass")) (codes "pass") Pass _ (same_length text (codes "pass")) refl
-    (named_so text (pointwise nat_eq text (codes "deny")) (codes "deny") Deny None (same_length text (codes "deny")) refl tt)
+    (named_so text (pointwise nat_eq text (codes "deny")) (codes "deny") Deny None
+    (same_length text (codes "deny")) refl tt)
 
-action_weight_of : (d : Data) (o : Option (List ℕ)) (a : AclAction) → as_str d ≡ o → action_of d o ≡ Some a → weight (action_record a) ≤ weight d
-action_weight_of d (Some text) a e h = omega (arith, ap weight (string_is d text e), subst (Names text) h (action_names text))
+action_weight_of : (d : Data) (o : Option (List ℕ)) (a : AclAction) → as_str d ≡ o → action_of d o ≡ Some a
+    → weight (action_record a) ≤ weight d
+action_weight_of d (Some text) a e h =
+    omega (arith, ap weight (string_is d text e), subst (Names text) h (action_names text))
 action_weight_of d None a e h =
     let n = step (number_from 16384 65535 d) _ a h in
     let same : Enter (record { 0 = n.value }) ≡ a = cc (n.then) in
@@ -257,26 +286,34 @@ module _ (a b c d e f g h : Data) where
   abbrev whole : Data
   whole = eight a b c d e f g h
 
-  ports_weight : (i : ℕ) (lo hi : Data) (r : Range16) → at i whole ≡ Some lo → at (i + 1) whole ≡ Some hi → ports_from i whole ≡ Some r
+  ports_weight : (i : ℕ) (lo hi : Data) (r : Range16) → at i whole ≡ Some lo → at (i + 1) whole ≡ Some hi
+      → ports_from i whole ≡ Some r
       → (weight (number_record r.lo) ≤ weight lo) × (weight (number_record r.hi) ≤ weight hi)
   unfolding ports_from
   ports_weight i lo hi r at_lo at_hi is =
       let l = step (in_place i (number_from 0 65535) whole) _ r is in
       let m = step (in_place (i + 1) (number_from 0 65535) whole) _ r l.then in
       let same = (kept_is (nat_le l.value m.value) _ r m.then).1 in
-      let p : weight (number_record l.value) ≤ weight lo = number_weight 0 65535 lo l.value (in_place_is i (number_from 0 65535) whole lo l.value at_lo l.is) in
-      let q : weight (number_record m.value) ≤ weight hi = number_weight 0 65535 hi m.value (in_place_is (i + 1) (number_from 0 65535) whole hi m.value at_hi m.is) in
-      subst (λ (x : Range16). (weight (number_record x.lo) ≤ weight lo) × (weight (number_record x.hi) ≤ weight hi)) same (p, q)
+      let p : weight (number_record l.value) ≤ weight lo =
+      number_weight 0 65535 lo l.value (in_place_is i (number_from 0 65535) whole lo l.value at_lo l.is) in
+      let q : weight (number_record m.value) ≤ weight hi =
+      number_weight 0 65535 hi m.value (in_place_is (i + 1) (number_from 0 65535) whole hi m.value at_hi m.is) in
+      subst (λ (x : Range16). (weight (number_record x.lo) ≤ weight lo) × (weight (number_record x.hi) ≤ weight hi))
+      same (p, q)
 
-  rule_number_weight : (n : RuleNo) → rule_number_from whole ≡ Some n → (weight (number_record n.sequence) ≤ weight g) × (weight (number_record n.position) ≤ weight h)
+  rule_number_weight : (n : RuleNo) → rule_number_from whole ≡ Some n
+      → (weight (number_record n.sequence) ≤ weight g) × (weight (number_record n.position) ≤ weight h)
   unfolding rule_number_from
   rule_number_weight n is =
       let s = step (in_place 6 (number_from 0 65535) whole) _ n is in
       let t = step (in_place 7 (number_from 1 16) whole) _ n s.then in
       let same : record { sequence = s.value; position = t.value } ≡ n = cc (t.then) in
-      let p : weight (number_record s.value) ≤ weight g = number_weight 0 65535 g s.value (in_place_is 6 (number_from 0 65535) whole g s.value refl s.is) in
-      let q : weight (number_record t.value) ≤ weight h = number_weight 1 16 h t.value (in_place_is 7 (number_from 1 16) whole h t.value refl t.is) in
-      subst (λ (x : RuleNo). (weight (number_record x.sequence) ≤ weight g) × (weight (number_record x.position) ≤ weight h)) same (p, q)
+      let p : weight (number_record s.value) ≤ weight g =
+      number_weight 0 65535 g s.value (in_place_is 6 (number_from 0 65535) whole g s.value refl s.is) in
+      let q : weight (number_record t.value) ≤ weight h =
+      number_weight 1 16 h t.value (in_place_is 7 (number_from 1 16) whole h t.value refl t.is) in
+      subst (λ (x : RuleNo). (length (decimal x.sequence) ≤ weight g) × (length (decimal x.position) ≤ weight h)) same
+      (p, q)
 
   rule_weight_of : (r : AclRule) → rule_from whole ≡ Some r → weight (rule_record r) ≤ weight whole
   unfolding rule_from
@@ -286,13 +323,14 @@ module _ (a b c d e f g h : Data) where
       let t = step (ports_from 3 whole) _ r s.then in
       let u = step (in_place 5 action_from whole) _ r t.then in
       let n = step (rule_number_from whole) _ r u.then in
-      let same : record { protocol = p.value; sports = s.value; dports = t.value; action = u.value; rule = n.value } ≡ r = cc (n.then) in
+      let same = some_is _ r n.then in
       let wp = protocol_weight a p.value (in_place_is 0 protocol_from whole a p.value refl p.is) in
       let ws = ports_weight 1 b c s.value refl refl s.is in
       let wt = ports_weight 3 d e t.value refl refl t.is in
       let wu = action_weight f u.value (in_place_is 5 action_from whole f u.value refl u.is) in
       let wn = rule_number_weight n.value n.is in
-      subst (λ (x : AclRule). weight (rule_record x) ≤ weight whole) same (omega (arith, wp, ws.0, ws.1, wt.0, wt.1, wu, wn.0, wn.1))
+      subst (λ (x : AclRule). weight (rule_record x) ≤ weight whole) same
+      (omega (arith, wp, ws.0, ws.1, wt.0, wt.1, wu, wn.0, wn.1))
 
 pub rule_weight : (d : Data) (r : AclRule) → rule_from d ≡ Some r → weight (rule_record r) ≤ weight d
 unfolding rule_from

@@ -1,6 +1,8 @@
 -- How few octets write a value as JSON: of texts with no escape, with no white space, and each member once. The records
 -- of items are written so.
-use Rattle.std.proofs.Common.{◌≡◌, ℕ, ◌+◌, ◌<◌, ◌≤◌, ◌^◌, ◌/◌, ◌%◌, ◌&&◌, ◌||◌, ◌==◌, Bool, true, false, List, [], ◌∷◌, ◌++◌, length, map, nat_le, nat_lt, Option, Some, None, decimal, codes, refl, ◌∙◌, arith, length-append}
+use Rattle.std.proofs.Common.{◌≡◌, ℕ, ◌+◌, ◌<◌, ◌≤◌, ◌^◌, ◌/◌, ◌%◌, ◌&&◌, ◌||◌, ◌==◌, Bool, true, false, List, [], ◌∷◌}
+use Rattle.std.proofs.Common.{◌++◌, length, map, nat_le, nat_lt, Option, Some, None, decimal, codes, refl, ◌∙◌, arith}
+use Rattle.std.proofs.Common.{length-append}
 use Rattle.std.specs.Prelude.{⊤}
 use Rattle.std.specs.List.{list_all}
 use Rattle.std.specs.Str.Parse.{AllDigits}
@@ -12,7 +14,8 @@ use Rattle.std.proofs.lemmas.Str.Parse.{digit_from_value}
 use Rattle.json.specs.Run.{is_plain}
 use Rattle.json.specs.Print.{escape, quoted}
 use Rattle.json.proofs.Printed.Strings.{escape_byte_plain}
-use Rattle.serde_json.specs.Data.{unsigned, negative, float, Data, null, boolean, number, string, array, object, Items, no_items, item, Members, no_members, member}
+use Rattle.serde_json.specs.Data.{unsigned, negative, float, Data, null, boolean, number, string, array, object, Items}
+use Rattle.serde_json.specs.Data.{no_items, item, Members, no_members, member}
 use Rattle.serde_json.specs.View.{items_of}
 use Rattle.serde_json.specs.Written.{compact_text, items_text, members_text, comma_if}
 use Rattle.ov_types.specs.Name.{is_name_octet_of, is_name}
@@ -28,8 +31,10 @@ use Rattle.ov_types.specs.declared.prefix.Addr.{Addr}
 use Rattle.item_wire.specs.declared.item.Item.{Item}
 use Rattle.item_wire.specs.declared.item.Item.TheVariants as I
 use Rattle.item_wire.specs.Entries.{is_from_to}
-use Rattle.item_wire.specs.Ranges.{is_network, is_instance, is_attached_label, is_address, is_block, is_import, is_hop, is_rule, is_in_range}
-use Rattle.item_wire.specs.Records.{prefix_record, import_record, hop_record, protocol_record, action_record, rule_record, record_of, json_text}
+use Rattle.item_wire.specs.Ranges.{is_network, is_instance, is_attached_label, is_address, is_block, is_import, is_hop}
+use Rattle.item_wire.specs.Ranges.{is_rule, is_in_range}
+use Rattle.item_wire.specs.Records.{prefix_record, import_record, hop_record, protocol_record, action_record}
+use Rattle.item_wire.specs.Records.{rule_record, record_of, json_text}
 
 -- a comma, where something stands before
 abbrev pub comma_weight : Bool → ℕ
@@ -57,6 +62,10 @@ abbrev mutual
   members_weight no_members = 0
   members_weight (member k d ms) = length k + 4 + (weight d + members_weight ms)
 
+-- a member, with its quotes, colon and comma
+abbrev pub member_weight : List ℕ → Data → ℕ
+member_weight k d = length k + 4 + weight d
+
 -- ---- texts with no escape
 
 abbrev pub are_plain : List ℕ → Bool
@@ -68,7 +77,11 @@ escape_same (x ∷ s) h =
     let p = and_parts (is_plain x) (are_plain s) h in
     let none = or_parts ((x == 34) || (x == 92)) (nat_lt x 32) (not-true _ p.0) in
     let tests = or_parts (x == 34) (x == 92) none.0 in
-    rw (escape_byte_plain x (eqb-false x 34 tests.0) (eqb-false x 92 tests.1) (ltb-false x 32 none.1), escape_same s p.1) refl
+    rw (
+      escape_byte_plain x (eqb-false x 34 tests.0) (eqb-false x 92 tests.1) (ltb-false x 32 none.1),
+      escape_same s
+          p.1,
+    ) refl
 
 length_quoted : (s : List ℕ) → are_plain s ≡ true → length (quoted s) ≡ length s + 2
 length_quoted s h = rw (escape_same s h) (omega (arith, length-append s (34 ∷ [])))
@@ -112,14 +125,31 @@ mutual
   are_written : (later : Bool) (ds : Items) → AreShort ds → length (items_text later ds) ≡ items_weight later ds
   are_written later no_items h = refl
   are_written later (item d ds) h =
-      omega (arith, length-append (comma_if later) (compact_text d ++ items_text true ds), length_comma later, length-append (compact_text d) (items_text true ds), written d h.0, are_written true ds h.1)
+      omega (
+        arith,
+        length-append (comma_if later) (compact_text d ++ items_text true ds),
+        length_comma later,
+        length-append (compact_text d) (items_text true ds),
+        written d h.0,
+        are_written true ds h.1,
+      )
 
-member_written : (k : List ℕ) (d : Data) (rest : List ℕ) → are_plain k ≡ true → IsShort d → length (quoted k ++ 58 ∷ (compact_text d ++ rest)) ≡ length k + 3 + (weight d + length rest)
-member_written k d rest h plain = omega (arith, length-append (quoted k) (58 ∷ (compact_text d ++ rest)), length_quoted k h, length-append (compact_text d) rest, written d plain)
+member_written : (k : List ℕ) (d : Data) (rest : List ℕ) → are_plain k ≡ true → IsShort d
+    → length (quoted k ++ 58 ∷ (compact_text d ++ rest)) ≡ length k + 3 + (weight d + length rest)
+member_written k d rest h plain =
+    omega (
+      arith,
+      length-append (quoted k) (58 ∷ (compact_text d ++ rest)),
+      length_quoted k h,
+      length-append
+          (compact_text d) rest,
+      written d plain,
+    )
 
 others_written : (ms : Members) → ShortMembers ms → length (members_text true ms) ≡ members_weight ms + 1
 others_written no_members h = refl
-others_written (member k d ms) h = omega (arith, member_written k d (members_text true ms) h.0 h.1, others_written ms h.2)
+others_written (member k d ms) h =
+    omega (arith, member_written k d (members_text true ms) h.0 h.1, others_written ms h.2)
 
 -- an object that has members
 abbrev pub ShortRecord : Data → Type 0
@@ -138,7 +168,8 @@ record_written (number n) h = absurd h
 record_written (string s) h = absurd h
 record_written (array ds) h = absurd h
 record_written (object no_members) h = absurd h
-record_written (object (member k d ms)) h = omega (arith, member_written k d (members_text true ms) h.0 h.1, others_written ms h.2)
+record_written (object (member k d ms)) h =
+    omega (arith, member_written k d (members_text true ms) h.0 h.1, others_written ms h.2)
 
 -- ---- the texts of records
 
@@ -181,7 +212,8 @@ prefix b h =
     let l : are_plain (decimal b.len) ≡ true = octet b.len (omega (arith, ltb-true b.len 33 q.0)) in
     list_all-append is_plain (address_text b.addr) (codes "/" ++ decimal b.len) ∙ rw (address b.addr, l) refl
 
-lists : {A : Type 0} (is_fit : A → Bool) (value_of : A → Data) → ((x : A) → is_fit x ≡ true → IsShort (value_of x)) → (xs : List A) → list_all is_fit xs ≡ true → AreShort (items_of (map value_of xs))
+lists : {A : Type 0} (is_fit : A → Bool) (value_of : A → Data) → ((x : A) → is_fit x ≡ true → IsShort (value_of x))
+    → (xs : List A) → list_all is_fit xs ≡ true → AreShort (items_of (map value_of xs))
 lists is_fit value_of each [] h = tt
 lists is_fit value_of each (x ∷ xs) h =
     let p = and_parts (is_fit x) (list_all is_fit xs) h in
@@ -214,21 +246,48 @@ record_is_short (I.Instance imports i) h =
     let a = and_parts (list_all is_import imports && nat_le 1 (length imports)) (is_network i.0) h in
     let b = and_parts (list_all is_import imports) (nat_le 1 (length imports)) a.0 in
     (refl, lists is_import import_record import_ imports b.0, (refl, tt, (refl, refl, tt)))
-record_is_short (I.Port host i node port) h = (refl, address host.0, (refl, tt, (refl, address node.0, (refl, refl, (refl, tt, tt)))))
+record_is_short (I.Port host i node port) h =
+    (refl, address host.0, (refl, tt, (refl, address node.0, (refl, refl, (refl, tt, tt)))))
 record_is_short (I.Circuit circuit node service) h = (refl, tt, (refl, address node.0, (refl, refl, (refl, tt, tt))))
 record_is_short (I.Acl from rules subnets to) h =
     let a = and_parts (is_network from && list_all is_rule rules && list_all is_block subnets) (is_network to) h in
     let b = and_parts (is_network from && list_all is_rule rules) (list_all is_block subnets) a.0 in
-    let c = and_parts (is_network from) (list_all is_rule rules) b.0 in
-    (refl, tt, (refl, refl, (refl, lists is_rule rule_record rule rules c.1, (refl, prefixes subnets b.1, (refl, tt, tt)))))
+    let c = and_parts (is_network from) (list_all is_rule rules) b.0 in (
+      refl,
+      tt,
+      (
+        refl,
+        refl,
+        (
+          refl,
+          lists is_rule rule_record rule rules c.1,
+          (refl, prefixes subnets b.1, (refl, tt, tt)),
+        ),
+      ),
+    )
 record_is_short (I.Use hops left left_prefixes right right_prefixes use_no) h =
-    let a = and_parts (list_all is_hop hops && is_from_to 1 15 (length hops) && is_network left.0 && list_all is_block left_prefixes && is_network right.0 && list_all is_block right_prefixes) (nat_le use_no 3071) h in
-    let b = and_parts (list_all is_hop hops && is_from_to 1 15 (length hops) && is_network left.0 && list_all is_block left_prefixes && is_network right.0) (list_all is_block right_prefixes) a.0 in
-    let c = and_parts (list_all is_hop hops && is_from_to 1 15 (length hops) && is_network left.0 && list_all is_block left_prefixes) (is_network right.0) b.0 in
-    let d = and_parts (list_all is_hop hops && is_from_to 1 15 (length hops) && is_network left.0) (list_all is_block left_prefixes) c.0 in
+    let a = and_parts (list_all is_hop hops && is_from_to 1 15 (length hops) && is_network left.0 && list_all is_block
+    left_prefixes && is_network right.0 && list_all is_block right_prefixes) (nat_le use_no 3071) h in
+    let b = and_parts (list_all is_hop hops && is_from_to 1 15 (length hops) && is_network left.0 && list_all is_block
+    left_prefixes && is_network right.0) (list_all is_block right_prefixes) a.0 in
+    let c = and_parts (list_all is_hop hops && is_from_to 1 15 (length hops) && is_network left.0 && list_all is_block
+    left_prefixes) (is_network right.0) b.0 in
+    let d = and_parts (list_all is_hop hops && is_from_to 1 15 (length hops) && is_network left.0)
+    (list_all is_block left_prefixes) c.0 in
     let e = and_parts (list_all is_hop hops && is_from_to 1 15 (length hops)) (is_network left.0) d.0 in
-    let f = and_parts (list_all is_hop hops) (is_from_to 1 15 (length hops)) e.0 in
-    (refl, lists is_hop hop_record hop hops f.0, (refl, tt, (refl, prefixes left_prefixes d.1, (refl, refl, (refl, tt, (refl, prefixes right_prefixes b.1, (refl, tt, tt)))))))
+    let f = and_parts (list_all is_hop hops) (is_from_to 1 15 (length hops)) e.0 in (
+      refl,
+      lists is_hop hop_record hop hops f.0,
+      (
+        refl,
+        tt,
+        (
+          refl,
+          prefixes left_prefixes d.1,
+          (refl, refl, (refl, tt, (refl, prefixes right_prefixes b.1, (refl, tt, tt)))),
+        ),
+      ),
+    )
 record_is_short (I.NoInstance i) h = (refl, tt, (refl, refl, tt))
 record_is_short (I.NoAttach label) h = (refl, tt, (refl, refl, tt))
 record_is_short (I.NoAcl from to) h = (refl, tt, (refl, refl, (refl, tt, tt)))
