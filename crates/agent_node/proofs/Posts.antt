@@ -1,26 +1,37 @@
 -- The ends as they are seen, from those that are kept.
 use Rattle.std.specs.Prelude.{◌≡◌, ◌<◌, ◌≤◌, ◌+◌, ℕ, zero, suc, List, [], ◌∷◌, ◌++◌, map, take, drop, length, Bool, true, false, not, if◌then◌else◌}
-use Rattle.std.specs.List.{All, AllByRecursion, slice_index_or}
+use Rattle.std.specs.FinMap.{entries, from_entries}
+use Rattle.std.specs.List.{All, AllByRecursion, filter, filter_map, flat_map, slice_index_or}
 use Rattle.std.proofs.Common.{refl, sym, ◌∙◌, ap, subst, get_or, set, arith, inl, inr}
 use Rattle.std.proofs.lemmas.List.Elements.{All-from_recursion, All-set, All-map, recursion_from_All}
 use Rattle.std.proofs.Math.Seq.{map-set_same}
 use Rattle.std.proofs.lemmas.List.{get_or-set_other, get_or-set_same, length-map, length-set, take_at}
 use Rattle.std.proofs.lemmas.Bool.{cases_eq}
+use Rattle.ov_sync.proofs.Ascending.{entries-empty}
 use Rattle.ov_sync.proofs.KeyedLaws.{empty_values}
+use Rattle.ov_types.specs.Keys.{row_key_cmp}
+use Rattle.ov_types.specs.Prefix.{Block}
+use Rattle.ov_types.specs.declared.numbers.InstanceId.{InstanceId}
+use Rattle.ov_types.specs.declared.objects.LowKey.{LowKey}
+use Rattle.ov_types.specs.declared.objects.LowValue.{LowValue}
+use Rattle.ov_types.specs.declared.rows.Entry.{Entry as Hop}
 use Rattle.item_wire.specs.declared.event.ItemState.{ItemState}
 use Rattle.item_wire.specs.declared.event.ItemState.TheVariants.{Idle, Opened, Up}
 use Rattle.item_wire.specs.declared.input.Came.TheVariants.{Closed}
 use Rattle.item_wire.specs.Happenings.{idle_session, next_state}
 use Rattle.item_wire.specs.declared.event.ItemFrom.{ItemFrom}
 use Rattle.item_wire.specs.declared.event.ItemFrom.TheVariants.{Control}
+use Rattle.ov_types.specs.declared.rows.AgentRows.{AgentRows}
 use Rattle.ov_types.specs.declared.rows.NodeId.{NodeId}
 use Rattle.node_core.specs.Plans.{ArePlans}
 use Rattle.node_core.specs.declared.ends.Plan.{Plan}
 use Rattle.node_items.specs.Beginning.{phase_of}
 use Rattle.node_items.specs.Told.{AllFit, Fits, down_of, up_of}
-use Rattle.node_model.specs.Agent.{Heard, wanted as wanted_of}
-use Rattle.node_model.specs.Keys.{key_cmp}
+use Rattle.node_model.specs.Agent.{Heard, acl_entry, attached, is_needed, routes as routes_of, row_entry, rows as rows_of}
+use Rattle.node_model.specs.Agent.{slice_in_use, wanted as wanted_of}
+use Rattle.node_model.specs.Keys.{Key, key_cmp}
 use Rattle.node_model.specs.Maps.{Map}
+use Rattle.node_model.specs.Values.{Value}
 use Rattle.node_model.specs.Step.{Phase, Post, nothing, post}
 use Rattle.agent_tables.specs.Views.{heard_of, is_up as is_heard_up}
 use Rattle.agent_tables.specs.declared.hearing.Hearing.{Hearing}
@@ -218,3 +229,34 @@ closed_more posts posts' n lt e below i in_i =
       | inl here ↦ rw here (get_or-set_same posts n nothing nothing lt)
       | inr other ↦ get_or-set_other posts n i nothing nothing other ∙ below i (omega arith)
     ]
+
+-- ---- an agent whose ends are all closed forwards nothing
+no_slice : (n : ℕ) → slice_in_use (holdings (nothings n)) ≡ []
+no_slice zero = refl
+no_slice (suc n) = no_slice n
+
+none_up : (n : ℕ) → filter (λ (s : Heard). s.is_up) (holdings (nothings n)) ≡ []
+none_up zero = refl
+none_up (suc n) = none_up n
+
+abbrev Routed : Type 0
+Routed = (InstanceId × Block) × Hop
+
+abbrev rows_from : List Heard → List Routed
+rows_from hs = flat_map (λ (s : Heard). filter_map (λ (e : Key × Value). row_entry e.0 e.1) (entries s.map)) hs
+
+abbrev no_rows : AgentRows
+no_rows = record { labels = []; acls = []; routes = [] }
+
+pub nothing_shown : (n : ℕ) → no_rows ≡ rows_of (holdings (nothings n))
+nothing_shown n =
+    let slice = sym (no_slice n) in
+    let routes : [] ≡ routes_of (holdings (nothings n)) =
+        ap (filter (λ (r : Routed). is_needed (holdings (nothings n)) r.0.0))
+        (sym (entries-empty {V = Hop} row_key_cmp)
+        ∙ ap (λ (hs : List Heard). entries (from_entries {R = row_key_cmp} (rows_from hs))) (sym (none_up n))) in
+    λ i. record {
+      labels = filter_map (λ (e : LowKey × LowValue). attached e.0 e.1) (slice i);
+      acls = filter_map (λ (e : LowKey × LowValue). acl_entry e.0 e.1) (slice i);
+      routes = routes i;
+    }

@@ -12,7 +12,7 @@ use agent_tables::{Hearing, Tables, wanted};
 use item_wire::{ItemFrom, ItemSession, ItemState};
 use node_core::{Ends, Plan};
 use ov_sync::{SyncIn, SyncOut};
-use ov_types::{Label, NoMemory, UpKey};
+use ov_types::{Addr, Label, NoMemory, UpKey};
 use std::alloc::Global;
 use std::marker::Model;
 
@@ -109,6 +109,18 @@ impl AgentEnds {
         ensures posts { length self.now.posts ≡ sessions self.now.plan }
     {
         self.hearings.len() as u16
+    }
+
+    /// Where its memory comes from.
+    pub(crate) fn alloc(&self) -> Global {
+        self.alloc
+    }
+
+    /// The address of the agent's node.
+    pub(crate) fn address(&self) -> Addr
+        ensures { result ≡ self.now.plan.me.address }
+    {
+        self.plan.me.address
     }
 
     /// The state of a session.

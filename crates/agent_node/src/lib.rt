@@ -3,8 +3,10 @@
 
 mod begin;
 mod ends;
+pub mod laws;
 mod node;
 mod plan;
 mod planning;
 
+pub use node::AgentNode;
 pub use plan::AgentPlan;

@@ -9,15 +9,18 @@ use Rattle.agent_node.specs.Core.{kind}
 use Rattle.agent_node.specs.Ends.{Ends, Sent, posts_of}
 use Rattle.agent_node.specs.Planning.{ArePlanned}
 use Rattle.agent_node.proofs.Posts.{held_fits, are_plans, posts_long, written}
-use Rattle.agent_node.proofs.Below.{wanted_fits}
+use Rattle.agent_tables.proofs.Telling.{can_be_told}
 use Rattle.agent_node.proofs.ends.AgentEndsEnds.plan.Goals as goal
+
+pub wanted-requires : goal.wanted-requires
+wanted-requires c = rw c.deref.ensures.value (held_fits c.self.inside.hearings.items c.self.invariant.held)
 
 pub plan_all-requires-clause-wanted : goal.plan_all-requires-clause-wanted
 plan_all-requires-clause-wanted c =
     let fit = held_fits c.self.inside.hearings.items c.self.invariant.held in
     let heard : map heard_of c.deref.result.now ≡ map heard_of c.self.inside.hearings.items =
         ap (map heard_of) c.deref.ensures.value in
-    subst AllFit (sym c.in_ok-wanted.ensures) (rw heard (wanted_fits (map heard_of c.self.inside.hearings.items) fit))
+    subst AllFit (sym c.in_ok-wanted.ensures) (rw heard (can_be_told (map heard_of c.self.inside.hearings.items) fit))
 
 pub returns-clause-long : goal.returns-clause-long
 returns-clause-long c =
