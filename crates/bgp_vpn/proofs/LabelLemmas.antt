@@ -1,5 +1,5 @@
 -- The labels of routes that are put have 20 bits where octets are below 256.
-use Rattle.std.proofs.Common.{◌≡◌, ◌<◌, ◌+◌, ◌^◌, ◌/◌, ◌==◌, ℕ, suc, List, [], ◌∷◌, ◌++◌, length, take, drop, map, cond, Bool, true, false, Option, Some, None, ap, sym, subst, arith}
+use Rattle.std.proofs.Common.{◌<◌, ◌+◌, ◌^◌, ◌==◌, ℕ, suc, List, [], ◌∷◌, ◌++◌, length, drop, map, cond, Bool, true, false, Option, Some, None, sym, subst, arith}
 use Rattle.std.proofs.Common.{IfSome, find}
 use Rattle.std.proofs.lemmas.List.{append-nil}
 use Rattle.std.proofs.Math.Seq.{take-append_seam, drop-append_seam}
@@ -10,15 +10,15 @@ use Rattle.ov_types.specs.declared.targets.Target.{Target}
 use Rattle.ov_types.specs.declared.vpn.VpnKey.{VpnKey}
 use Rattle.ov_types.specs.declared.vpn.VpnRoute.{VpnRoute}
 use Rattle.ov_sync.specs.declared.Delta.{Delta}
-use Rattle.byteorder.specs.Endian.{big_bytes, big_number}
+use Rattle.byteorder.specs.Endian.{big_bytes}
 use Rattle.bgp_wire.specs.Attributes.{AttributeFields, attribute_octets, length_size}
 use Rattle.bgp_wire.specs.Content.{UpdateFields, Updates}
 use Rattle.bgp_wire.specs.Frames.{head}
 use Rattle.bgp_wire.specs.Messages.{AreOctets, IsMessage}
 use Rattle.bgp_wire.proofs.Octets.{AreOctets-take, AreOctets-drop}
 use Rattle.bgp_vpn.specs.Routes.{RouteFields, route_octets, label_of, drop_of, put_of}
-use Rattle.bgp_vpn.specs.Updates.{Changes, changes_of}
-use Rattle.bgp_vpn.specs.Values.{is_vpn, value_at, routes_behind, reached_octets, next_hop_in, targets_in}
+use Rattle.bgp_vpn.specs.Updates.{Changes}
+use Rattle.bgp_vpn.specs.Values.{is_vpn, value_at, routes_behind, next_hop_in, targets_in}
 use Rattle.bgp_vpn.specs.Written.{IfPut}
 
 pub AreOctets-front : (xs ys : List ℕ) → AreOctets (xs ++ ys) → AreOctets xs
@@ -105,4 +105,4 @@ labels_fit parts deltas octets c =
     let all = routes c.reached (subst AreOctets c.reached_are.spelled reached) in
     subst LabelsFit (sym c.made)
     (labels_fit_both (map drop_of c.withdrawn) (map (put_of (next_hop_in c.attributes) (targets_in c.attributes)) c.reached)
-      (dropped_fit c.withdrawn) (put_fit (next_hop_in c.attributes) (targets_in c.attributes) c.reached all))
+    (dropped_fit c.withdrawn) (put_fit (next_hop_in c.attributes) (targets_in c.attributes) c.reached all))

@@ -282,6 +282,7 @@ fn a_withdrawal_drops_whatever_its_label(rt: HostRuntime) -> Result<(), Fail> {
     spellings_of_a_route_are_one();
     spellings_of_a_next_hop_are_one();
     equal_routes_make_equal_changes();
+    labels_have_20_bits();
     targets_are_those_communities();
     tests_hold_of_exactly_the_lists();
     Ok(())

@@ -1,5 +1,4 @@
 -- Lemmas, in the order in which they stand on each other.
-pub mod Below
 pub mod Images
 pub mod Planned
 pub mod Posts

@@ -10,4 +10,3 @@ pub mod Taking
 pub mod Begun
 pub mod Made
 pub mod Codes
-pub mod Begun

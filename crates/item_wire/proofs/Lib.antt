@@ -1,6 +1,12 @@
 pub mod JsonLaws
 pub mod Weights
 pub mod ShortRecords
+pub mod Lexemes
+pub mod Tokens
+pub mod ValueWeights
+pub mod EntryWeights
+pub mod ItemWeights
+pub mod ReadLengths
 pub mod Lists
 pub mod Counts
 pub mod Addresses

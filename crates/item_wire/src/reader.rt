@@ -1,11 +1,12 @@
 //! Records, read.
-ghost use Rattle.std.specs.Prelude.{◌≡◌, IsTrue, IfOk, option_map};
+ghost use Rattle.std.specs.Prelude.{◌≡◌, ◌≤◌, length, IsTrue, IfOk, option_map};
 ghost use Rattle.serde_json.specs.View.{view};
 ghost use Rattle.item_wire.specs.Faults.{IsRead, Gives};
 ghost use Rattle.item_wire.specs.Ranges.{is_in_range};
 ghost use Rattle.item_wire.specs.Reading.{hello_of, instance_of, port_of, circuit_of, acl_of, use_of, no_instance_of};
 ghost use Rattle.item_wire.specs.Reading.{no_attach_of, no_acl_of, no_use_of, publish_of, unpublish_of, subscribe_of};
 ghost use Rattle.item_wire.specs.Reading.{unsubscribe_of, route_of, unroute_of, by_op, item_of, json_of, item_in};
+ghost use Rattle.item_wire.specs.Records.{json_text};
 
 use crate::bounds::{
     FIRST_ATTACHED_LABEL, FIRST_CIRCUIT, LAST_ATTACHED_LABEL, LAST_CIRCUIT, LAST_LABEL, LAST_PORT,
@@ -311,6 +312,7 @@ fn json_of(alloc: Global, octets: &[u8]) -> Result<Option<Value>, NoMemory>
 pub fn read_item(alloc: Global, bytes: &[u8]) -> Result<Item, ItemRefusal>
     ensures reads { Gives result (item_in bytes.now) }
     ensures form { IfOk result (λ item. IsTrue (is_in_range item)) }
+    ensures length { IfOk result (λ item. length (json_text item) ≤ length bytes.now) }
 {
     match json_of(alloc, bytes)? {
         Some(value) => item_of(alloc, &value),

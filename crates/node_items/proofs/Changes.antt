@@ -1,8 +1,7 @@
 -- Each item but a hello is one change, and each change one item.
-use Rattle.std.proofs.Common.{◌≡◌, ℕ, ◌==◌, ◌+◌, ◌^◌, ◌≤◌, Bool, true, false, cond, not, Option, Some, None, IsTrue, IfSome, is_some, refl, sym, ap, subst, ◌∙◌, arith, nat_le, ◌&&◌}
+use Rattle.std.proofs.Common.{◌≡◌, ℕ, ◌==◌, ◌+◌, ◌^◌, Bool, true, false, cond, not, Option, Some, None, IsTrue, IfSome, is_some, refl, sym, ap, subst, ◌∙◌, arith, nat_le, ◌&&◌}
 use Rattle.std.specs.List.{list_all}
 use Rattle.std.proofs.lemmas.Bool.{eqb-true, eq-eqb, and_parts, and_from, leb-true, le-leb}
-use Rattle.ov_types.specs.declared.keys.DownKey.{DownKey}
 use Rattle.ov_types.specs.declared.numbers.InstanceId.{InstanceId}
 use Rattle.ov_types.specs.declared.numbers.Label.{Label as LabelNo}
 use Rattle.ov_types.specs.declared.objects.LowKey.{LowKey}
@@ -13,15 +12,15 @@ use Rattle.ov_sync.specs.declared.Delta.TheVariants.{Put, Drop}
 use Rattle.route_targets.specs.Numbers.{port_label_of, circuit_label_of}
 use Rattle.item_wire.specs.Changes.{item_of_object, item_of_key}
 use Rattle.item_wire.specs.Entries.{is_from_to}
-use Rattle.item_wire.specs.Ranges.{is_in_range, is_network, is_instance, is_node_address, is_address, is_attached_label, is_block, is_rule}
+use Rattle.item_wire.specs.Ranges.{is_network, is_instance, is_node_address, is_address, is_attached_label, is_block, is_rule}
 use Rattle.item_wire.specs.Records.{spelling}
 use Rattle.item_wire.specs.declared.item.Item.{Item}
 use Rattle.item_wire.specs.declared.item.Item.TheVariants as I
 use Rattle.item_wire.proofs.Spelled.{one_item}
-use Rattle.node_model.specs.Keys.{Key, Low, Vpn, Row, Publish, Subscribe}
-use Rattle.node_model.specs.Values.{Value, Object, Route, Entry, Label}
+use Rattle.node_model.specs.Keys.{Low, Row, Publish, Subscribe}
+use Rattle.node_model.specs.Values.{Object, Entry, Label}
 use Rattle.node_model.specs.Maps.{Change}
-use Rattle.node_items.specs.Told.{is_hello, change_of, item_of, spelled, spelling_of, IsWritable, CanBeTold, KeyFits, Fits, ChangeFits, IsTyped}
+use Rattle.node_items.specs.Told.{is_hello, change_of, item_of, spelled, spelling_of, IsWritable, CanBeTold, KeyFits, ChangeFits, IsTyped}
 use Rattle.node_items.proofs.Fitting.{without_lists}
 
 itself : (n : ℕ) → (n == n) ≡ true
@@ -175,30 +174,30 @@ key_writable (K.ChainUse use_no) h = without_lists _ h refl
 pub fits_told : (c : Change) → ChangeFits c → IsTyped c → CanBeTold c
 fits_told (Put (Low k) v) h typed = h.1
 fits_told (Put (Row i prefix) (Entry hop)) h typed = record {
-    item = I.Route i hop.label hop.next_hop prefix;
-    is = refl;
-    writable = without_lists _ (and_from _ _ (and_from _ _ (and_from _ _ h.0 (le-leb hop.label.0 1048575 h.1)) typed.1) typed.0) refl
-  }
+  item = I.Route i hop.label hop.next_hop prefix;
+  is = refl;
+  writable = without_lists _ (and_from _ _ (and_from _ _ (and_from _ _ h.0 (le-leb hop.label.0 1048575 h.1)) typed.1) typed.0) refl;
+}
 fits_told (Put (Publish i prefix) (Label label)) h typed = record {
-    item = I.Publish i label prefix;
-    is = refl;
-    writable = without_lists _ (and_from _ _ (and_from _ _ h.0 h.1) typed) refl
-  }
+  item = I.Publish i label prefix;
+  is = refl;
+  writable = without_lists _ (and_from _ _ (and_from _ _ h.0 h.1) typed) refl;
+}
 fits_told (Put (Subscribe i) (Label label)) h typed = record {
-    item = I.Subscribe i;
-    is = rw (eq-eqb label.0 0 h.1) refl;
-    writable = without_lists _ h.0 refl
-  }
+  item = I.Subscribe i;
+  is = rw (eq-eqb label.0 0 h.1) refl;
+  writable = without_lists _ h.0 refl;
+}
 fits_told (Drop (Low k)) h typed = record { item = item_of_key k; is = refl; writable = key_writable k h }
 fits_told (Drop (Row i prefix)) h typed = record {
-    item = I.Unroute i prefix;
-    is = refl;
-    writable = without_lists _ (and_from _ _ h typed) refl
-  }
+  item = I.Unroute i prefix;
+  is = refl;
+  writable = without_lists _ (and_from _ _ h typed) refl;
+}
 fits_told (Drop (Publish i prefix)) h typed = record {
-    item = I.Unpublish i prefix;
-    is = refl;
-    writable = without_lists _ (and_from _ _ h typed) refl
-  }
+  item = I.Unpublish i prefix;
+  is = refl;
+  writable = without_lists _ (and_from _ _ h typed) refl;
+}
 fits_told (Drop (Subscribe i)) h typed = record { item = I.Unsubscribe i; is = refl; writable = without_lists _ h refl }
 fits_told _ h typed = absurd h

@@ -3,3 +3,4 @@ pub mod Fitting
 pub mod Changes
 pub mod Maps
 pub mod Records
+pub mod Hearings

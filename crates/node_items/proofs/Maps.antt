@@ -1,12 +1,12 @@
 -- Maps in which all fits, under changes.
-use Rattle.std.proofs.Common.{◌≡◌, Bool, true, false, cond, List, [], ◌∷◌, Option, Some, None, refl}
+use Rattle.std.proofs.Common.{◌≡◌, true, false, cond, List, [], ◌∷◌, Option, Some, None, refl}
 use Rattle.std.specs.FinMap.{get, empty}
 use Rattle.std.specs.List.{AllByRecursion, filter_map, cons_option}
 use Rattle.ov_sync.specs.declared.Delta.TheVariants.{Put, Drop}
 use Rattle.ov_sync.specs.Keyed.{changed, after, change, change_at, keys_of_either, PutOf}
 use Rattle.ov_sync.proofs.KeyedLaws.{changed_values, empty_values}
-use Rattle.node_model.specs.Keys.{Key, Low, Vpn, Row, Publish, Subscribe, key_cmp}
-use Rattle.node_model.specs.Values.{Value, Object, Route, Entry, Label, same_value}
+use Rattle.node_model.specs.Keys.{Key, Low, Row, Publish, Subscribe, key_cmp}
+use Rattle.node_model.specs.Values.{Value, Entry, Label, same_value}
 use Rattle.node_model.specs.Maps.{Map, Change, difference}
 use Rattle.node_model.proofs.Orders.{key_total, key_exact}
 use Rattle.node_items.specs.Told.{KeyFits, Fits, ChangeFits, AllFit}

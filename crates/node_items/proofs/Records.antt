@@ -1,20 +1,17 @@
 -- What the octets of a record bring.
-use Rattle.std.proofs.Common.{◌≡◌, ℕ, ◌+◌, ◌≤◌, Bool, true, false, cond, List, ◌++◌, length, drop, Option, Some, Ok, IsTrue, refl, sym, ap, ◌∙◌, arith, append_assoc, length-append}
+use Rattle.std.proofs.Common.{◌≡◌, ℕ, ◌+◌, Bool, true, cond, List, ◌++◌, length, drop, Some, IsTrue, refl, ap, ◌∙◌, arith}
 use Rattle.std.proofs.lemmas.List.{drop_at}
 use Rattle.std.specs.Cmp.Lexicographic.{pointwise}
 use Rattle.std.specs.Prelude.{nat_eq}
 use Rattle.std.proofs.lemmas.Slice.Eq.{bytes_eq-Decides}
 use Rattle.ov_types.specs.Name.{is_name}
-use Rattle.item_wire.specs.Frames.{framed, frame_of}
-use Rattle.item_wire.specs.Happenings.{SessionFields, after, answer, next_state, next_event}
-use Rattle.item_wire.specs.Inputs.{may_send, came_by, came_by_other, came_by_hello}
-use Rattle.item_wire.specs.Reading.{item_in}
+use Rattle.item_wire.specs.Frames.{framed}
+use Rattle.item_wire.specs.Happenings.{SessionFields}
+use Rattle.item_wire.specs.Inputs.{may_send, came_by, came_by_other}
 use Rattle.item_wire.specs.Records.{json_text, spelling}
 use Rattle.item_wire.specs.declared.event.ItemCause.TheVariants.{WrongName}
-use Rattle.item_wire.specs.declared.event.ItemEvent.TheVariants.{Record, Up as CameUp}
 use Rattle.item_wire.specs.declared.event.ItemFrom.{ItemFrom}
 use Rattle.item_wire.specs.declared.event.ItemFrom.TheVariants.{Feed, Control, Agent, Nothing}
-use Rattle.item_wire.specs.declared.event.ItemState.TheVariants.{Idle, Opened, Up}
 use Rattle.item_wire.specs.declared.input.Came.{Came}
 use Rattle.item_wire.specs.declared.input.Came.TheVariants as Comes
 use Rattle.item_wire.specs.declared.item.Item.{Item}

@@ -39,7 +39,8 @@ GoesOn _ more Then = Then
 abbrev pub Hears : SessionFields → List ℕ → List Came → Type 0
 Hears s octets [] = next_in s octets ≡ None
 Hears s octets (came ∷ more) =
-    (rest : List ℕ) × (next_in s octets ≡ Some (came, rest)) × GoesOn (answer s came) more (Hears (after s came) rest more)
+    (rest : List ℕ) × (next_in s octets ≡ Some (came, rest))
+    × GoesOn (answer s came) more (Hears (after s came) rest more)
 
 -- ---- what comes of it
 pub record Heard : Type 0 where
@@ -62,3 +63,20 @@ heard s (came ∷ more) =
       | Event.SendHello ↦ heard (after s came) more
       | Event.Up ↦ heard (after s came) more
     ]
+
+-- ---- one record at a time
+-- what an event hands out, and why it ends the session
+abbrev pub records_in : ItemEvent → List Item
+records_in (Event.Record i) = i ∷ []
+records_in _ = []
+
+abbrev pub cause_in : ItemEvent → Option ItemCause
+cause_in (Event.Down cause) = Some cause
+cause_in _ = None
+
+-- what octets brought first, once a session has heard it: the event, and how many octets it was. Then the session is s'
+abbrev pub Brings : SessionFields → List ℕ → SessionFields → Option (ItemEvent × ℕ) → Type 0
+Brings s octets s' None = (next_in s octets ≡ None) × (s' ≡ s)
+Brings s octets s' (Some brought) =
+    (came : Came) × (next_in s octets ≡ Some (came, drop brought.1 octets)) × (s' ≡ after s came)
+    × (brought.0 ≡ answer s came)

@@ -15,7 +15,7 @@ use ov_types::{
 };
 use std::alloc::AllocError;
 
-/// The item that tells of an object under its key.
+/// The item that tells of an object under its key; none where the value is of another kind than the key.
 fn object_item(key: LowKey, value: LowValue) -> Option<Item>
     requires { CanBeTold (Put (Low key) (Object value)) }
     ensures item { result ≡ item_of_object key value }
@@ -178,7 +178,7 @@ pub(crate) fn low_item(delta: &Delta<LowKey, LowValue>) -> Result<Option<Item>, 
     }
 }
 
-/// The item of a change that a control node tells an agent.
+/// The item of a change that a control node tells an agent; none where the value is of another kind than the key.
 #[tactic(auto, using(crate::proofs::Fitting::without_lists))]
 pub(crate) fn down_item(delta: &Delta<DownKey, DownValue>) -> Result<Option<Item>, NoMemory>
     requires { ChangeFits (moved_delta of_down down_value delta.now) }

@@ -4,6 +4,7 @@ ghost use Rattle.std.specs.Option.{option_map};
 ghost use Rattle.ov_sync.specs.Embed.{moved_delta};
 ghost use Rattle.item_wire.specs.Inputs.{is_of_feed, is_of_control, is_of_agent};
 ghost use Rattle.item_wire.specs.Ranges.{is_in_range};
+ghost use Rattle.item_wire.specs.Records.{spelling};
 ghost use Rattle.node_model.specs.Keys.{Low, of_down, of_up};
 ghost use Rattle.node_model.specs.Values.{Object, Label as LabelOf};
 ghost use Rattle.node_items.specs.Told.{ChangeFits, IsWritable, change_of, down_value, spelled, spelling_of};
@@ -56,10 +57,7 @@ pub fn low_change(item: Item) -> Option<Delta<LowKey, LowValue>>
             rules,
             subnets,
             to,
-        } => Some(Delta::Put(
-            LowKey::Acl { from, to },
-            LowValue::Acl { subnets, rules },
-        )),
+        } => Some(Delta::Put(LowKey::Acl { from, to }, LowValue::Acl { subnets, rules })),
         Item::Use {
             hops,
             left,
@@ -132,16 +130,25 @@ pub fn up_change(item: Item) -> Option<Delta<UpKey, Label>>
     }
 }
 
+/// The octets of an item.
+pub(crate) fn item_octets(alloc: Global, item: &Item) -> Result<Items<u8>, NoMemory>
+    requires { IsWritable item.now }
+    ensures { IfOk result (λ octets. octets ≡ spelling item.now) }
+{
+    let mut octets = Vec::new(alloc);
+    write_item(alloc, item, &mut octets)?;
+    Ok(Items::from_vec(octets))
+}
+
 /// The octets of an item; none where there is no item.
 fn octets_of(alloc: Global, item: &Option<Item>) -> Result<Items<u8>, NoMemory>
     requires { IfSome item.now IsWritable }
     ensures { IfOk result (λ octets. octets ≡ spelling_of item.now) }
 {
-    let mut octets = Vec::new(alloc);
-    if let Some(item) = item {
-        write_item(alloc, item, &mut octets)?;
+    match item {
+        Some(item) => item_octets(alloc, item),
+        None => Ok(Items::new(alloc)),
     }
-    Ok(Items::from_vec(octets))
 }
 
 /// The octets of a change that the configuration node tells a control node.
@@ -154,10 +161,7 @@ pub fn spell_low(alloc: Global, delta: &Delta<LowKey, LowValue>) -> Result<Items
 }
 
 /// The octets of a change that a control node tells an agent.
-pub fn spell_down(
-    alloc: Global,
-    delta: &Delta<DownKey, DownValue>,
-) -> Result<Items<u8>, NoMemory>
+pub fn spell_down(alloc: Global, delta: &Delta<DownKey, DownValue>) -> Result<Items<u8>, NoMemory>
     requires { ChangeFits (moved_delta of_down down_value delta.now) }
     ensures { IfOk result (λ octets. octets ≡ spelled (moved_delta of_down down_value delta.now)) }
 {

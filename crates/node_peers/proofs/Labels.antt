@@ -45,7 +45,7 @@ next_fits s octets came rest h (fault f) = subst CameFits (sym f.came_is) tt
 no_octets : AreOctets []
 no_octets k = omega arith
 
-rest_octets : (s : SessionFields) (octets : List ℕ) (came : Came) (rest : List ℕ) → AreOctets octets → IsNext s octets came rest → AreOctets rest
+pub rest_octets : (s : SessionFields) (octets : List ℕ) (came : Came) (rest : List ℕ) → AreOctets octets → IsNext s octets came rest → AreOctets rest
 rest_octets s octets came rest h (message m) = subst AreOctets (sym m.rest_is) (AreOctets-drop m.length octets h)
 rest_octets s octets came rest h (fault f) = subst AreOctets (sym f.rest_is) no_octets
 

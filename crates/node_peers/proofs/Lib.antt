@@ -3,3 +3,4 @@ pub mod Leading
 pub mod Labels
 pub mod One
 pub mod Writable
+pub mod Some

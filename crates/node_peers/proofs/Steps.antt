@@ -22,11 +22,11 @@ some_octets octets content zero b =
     absurd (never_message_and_prefix [] content 0 (record { within = omega arith; message = b.message }) nothing_is_prefix)
 some_octets octets content (suc n) b = omega arith
 
-message_shortens : (octets : List ℕ) (content : Content) (n : ℕ) → BeginsWith octets content n → length (drop n octets) < length octets
+pub message_shortens : (octets : List ℕ) (content : Content) (n : ℕ) → BeginsWith octets content n → length (drop n octets) < length octets
 message_shortens octets content n b =
     let some = some_octets octets content n b in let within = b.within in omega (arith, length-drop n octets)
 
-fault_shortens : (octets : List ℕ) (f : WireFault) → HasFault octets f → 0 < length octets
+pub fault_shortens : (octets : List ℕ) (f : WireFault) → HasFault octets f → 0 < length octets
 fault_shortens [] f has = absurd (never_prefix_and_fault [] f nothing_is_prefix has)
 fault_shortens (x ∷ xs) f has = omega arith
 

@@ -13,7 +13,8 @@ use Rattle.bgp_session.specs.declared.event.Cause.{Cause}
 use Rattle.bgp_session.specs.declared.event.Reply.{Reply}
 use Rattle.bgp_session.specs.declared.event.Reply.TheVariants as reply
 use Rattle.bgp_session.specs.declared.event.State.{State}
-use Rattle.bgp_session.specs.Happenings.{SessionFields, Happening, Passes, Sends, ComesUp, HandsOut, GoesDown, after, answer}
+use Rattle.bgp_session.specs.Happenings.{SessionFields, Happening, Passes, Sends, ComesUp, HandsOut, GoesDown}
+use Rattle.bgp_session.specs.Happenings.{after, answer}
 use Rattle.bgp_session.specs.Inputs.{Came, BadFrame, Brings}
 
 -- ---- one message
@@ -37,7 +38,8 @@ pub data IsNext (s : SessionFields) (octets : List ℕ) (came : Came) (rest : Li
   message : IsMessageNext s octets came rest → IsNext s octets came rest
   fault : IsFaultNext octets came rest → IsNext s octets came rest
 
--- ---- all of them, in order, up to one that takes the session down. Octets of a message that is not whole bring nothing
+-- ---- all of them, in order, up to one that takes the session down. Octets of a message that is not whole bring
+-- nothing
 -- nothing is heard after that
 abbrev pub GoesOn : Happening → List Came → Type 0 → Type 0
 GoesOn (GoesDown cause reply) more Then = more ≡ []

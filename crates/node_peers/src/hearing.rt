@@ -80,8 +80,7 @@ fn add(alloc: Global, asn: u32, me: Addr, event: Event, heard: &mut Heard) -> Re
     match event {
         Event::Quiet | Event::Up => {}
         Event::Send(reply) => heard.replies.push(reply_octets(alloc, asn, me, reply)?)?,
-        Event::Deltas(deltas) => {
-            let mut deltas = deltas;
+        Event::Deltas(mut deltas) => {
             heard.changes.append(&mut deltas)?;
         }
         Event::Down { cause, reply } => {
@@ -145,13 +144,15 @@ pub fn hear(
     requires own { session.old.asn ≡ asn }
     requires identifier { me.0 ≢ 0 }
     ensures heard { IfOk result (λ w. (inputs : List Came) × Hears session.old bytes.now inputs
-        × (w.replies ≡ (heard me session.old inputs).replies) × (w.changes.items ≡ (heard me session.old inputs).changes)
+        × (w.replies ≡ (heard me session.old inputs).replies)
+        × (w.changes.items ≡ (heard me session.old inputs).changes)
         × (w.cause ≡ (heard me session.old inputs).cause) × (session.new.state ≡ (heard me session.old inputs).state)) }
     ensures asn { session.new.asn ≡ session.old.asn }
     ensures peer { session.new.peer ≡ session.old.peer }
 
     // A label in an UPDATE has 20 bits.
-    ensures labels { IfOk result (λ w. AllByRecursion (λ d. IfPut d (λ route. route.label.0 < 2 ^ 20)) w.changes.items) }
+    ensures labels { IfOk result (λ w.
+        AllByRecursion (λ d. IfPut d (λ route. route.label.0 < 2 ^ 20)) w.changes.items) }
 {
     let mut heard = Heard {
         replies: Items::new(alloc),

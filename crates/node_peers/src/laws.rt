@@ -10,6 +10,7 @@ ghost use Rattle.ov_sync.specs.Embed.{moved_delta};
 ghost use Rattle.ov_sync.specs.Keyed as keyed;
 ghost use Rattle.ov_sync.specs.Keyed.{Values};
 ghost use Rattle.bgp_wire.specs.Content.{Notifies, KeepsAlive};
+ghost use Rattle.bgp_wire.specs.Messages.{AreOctets};
 ghost use Rattle.bgp_wire.specs.Spelling.{spelling};
 ghost use Rattle.bgp_vpn.specs.Written.{IfPut};
 ghost use Rattle.bgp_session.specs.Happenings.{SessionFields};
@@ -36,8 +37,8 @@ pub fn differences_can_be_written()
         → AllByRecursion (λ d. IfPut d IsWritable) (keyed.difference same sent wanted) }
 {}
 
-/// What is told is heard, and nothing else: an UPDATE as its change, the OPEN of the peer as a right one, a KEEPALIVE and
-/// a NOTIFICATION as such. What follows is left.
+/// What is told is heard, and nothing else: an UPDATE as its change, the OPEN of the peer as a right one, a KEEPALIVE
+/// and a NOTIFICATION as such. What follows is left.
 pub fn updates_are_heard()
     ensures update { (s : SessionFields) (d : Delta VpnKey VpnRoute) (more : List ℕ) → IfPut d IsWritable
         → ChangeFitsItsTypes d
@@ -50,7 +51,10 @@ pub fn updates_are_heard()
         → BringFirst s (spelling (Notifies code subcode) ++ more) (NotificationCame code subcode) more }
 {}
 
-/// Octets bring one list of inputs.
+/// Octets bring a list of inputs, and only one.
 pub fn what_is_heard_is_one()
-    ensures { (s : SessionFields) (octets : List ℕ) (a b : List Came) → Hears s octets a → Hears s octets b → a ≡ b }
+    ensures some { (s : SessionFields) (octets : List ℕ) → AreOctets octets
+        → (inputs : List Came) × Hears s octets inputs }
+    ensures one { (s : SessionFields) (octets : List ℕ) (a b : List Came) → Hears s octets a → Hears s octets b
+        → a ≡ b }
 {}

@@ -7,3 +7,6 @@ mod telling;
 
 pub use hearing::{Heard, greet, hear};
 pub use telling::spell;
+
+#[cfg(test)]
+mod tests;

@@ -13,7 +13,7 @@ use Rattle.node_model.specs.Paths.{Holdings}
 use Rattle.control_node.specs.Ends.{IsAgentEnd}
 use Rattle.control_node.specs.Planning.{wanted_on}
 use Rattle.control_node.specs.declared.ends.AgentEnd.{AgentEnd}
-use Rattle.control_node.proofs.Below.{wanted_items_fit}
+use Rattle.control_wants.proofs.Fitting.{agents_fit}
 use Rattle.control_node.proofs.Images.{changes_of_items_fit}
 use Rattle.control_node.proofs.Planned.{agent_plan_is, told_fits}
 use Rattle.control_node.proofs.planning.plan_agent.Goals as goal
@@ -23,7 +23,7 @@ wanted_fits : (h : Holdings) (session : ℕ) (wanted : List (DownKey × DownValu
     → down_of wanted ≡ wanted_on h session
     → AllFit (down_of wanted)
 wanted_fits h session wanted fit e =
-    subst AllFit (sym e) (wanted_items_fit h (told_in h.agents session) fit (told_fits h.agents session fit.agents))
+    subst AllFit (sym e) (agents_fit h (told_in h.agents session) fit (told_fits h.agents session fit.agents))
 
 sent_fits : (e : AgentEnd) (wanted now : List (DownKey × DownValue)) → IsAgentEnd e → now ≡ wanted
     → AllFit (down_of wanted)

@@ -35,8 +35,8 @@ under v k k' e h = h ∙ ap (λ (x : LowKey). item_of_object x v) (sym e)
 
 pub returns-in_default-clause-item : goal.returns-in_default-clause-item
 returns-in_default-clause-item c = elim c.in_default.branch [
-    | in_default-via-in-Instance+in_default w ↦ under _ _ _ w.in_default.is-0 (no_instance _ _ w.in_default.not-Instance-1)
-    | in_default-via-in-Attach+in_default w ↦ under _ _ _ w.in_default.is-0 (no_attachment _ _ w.in_default.not-AttachPort-1 w.in_default.not-AttachCircuit-1)
-    | in_default-via-in-Acl+in_default w ↦ under _ _ _ w.in_default.is-0 (no_acl _ _ _ w.in_default.not-Acl-1)
-    | in_default-via-in-ChainUse+in_default w ↦ under _ _ _ w.in_default.is-0 (no_use _ _ w.in_default.not-ChainUse-1)
-  ]
+  | in_default-via-in-Instance+in_default w ↦ under _ _ _ w.in_default.is-0 (no_instance _ _ w.in_default.not-Instance-1)
+  | in_default-via-in-Attach+in_default w ↦ under _ _ _ w.in_default.is-0 (no_attachment _ _ w.in_default.not-AttachPort-1 w.in_default.not-AttachCircuit-1)
+  | in_default-via-in-Acl+in_default w ↦ under _ _ _ w.in_default.is-0 (no_acl _ _ _ w.in_default.not-Acl-1)
+  | in_default-via-in-ChainUse+in_default w ↦ under _ _ _ w.in_default.is-0 (no_use _ _ w.in_default.not-ChainUse-1)
+]
