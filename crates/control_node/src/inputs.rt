@@ -42,7 +42,11 @@ pub(crate) fn greet_peer(
 }
 
 /// Opens the end of a session with an agent: its hello is to be sent.
-pub(crate) fn greet_agent(alloc: Global, end: &mut AgentEnd, me: &Name) -> Result<Items<Items<u8>>, NoMemory>
+pub(crate) fn greet_agent(
+    alloc: Global,
+    end: &mut AgentEnd,
+    me: &Name,
+) -> Result<Items<Items<u8>>, NoMemory>
     requires idle { end.old.session.state ≡ ItemState.Idle }
     ensures opened { end.new ≡ opened_agent end.old }
     ensures hello { IfOk result (λ replies. replies ≡ spelling (Hello me.now) ∷ []) }
