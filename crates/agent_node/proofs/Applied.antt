@@ -26,7 +26,7 @@ module _ (es fs : List (DownKey × DownValue)) (item : Item) (d : Delta DownKey 
   pub applied_fits : IsWritable item → AllFit (down_of es) → AllFit (down_of fs)
   applied_fits w fits =
       let c : ChangeFits (moved_delta of_down down_value d) =
-          subst (λ (o : Option Change). IfSome o ChangeFits) (sym told) (read_fits item w) in
+      subst (λ (o : Option Change). IfSome o ChangeFits) (sym told) (read_fits item w) in
       subst AllFit (sym (down-changed es fs d e)) (changed_fits (down_of es) (moved_delta of_down down_value d) fits c)
 
 -- one more record

@@ -53,9 +53,9 @@ module _ (plan : AgentPlan) (hs : List Hearing) (ss : List Sent) (ends : AreEnds
   pub session_is : h.session ≡ session_at plan i (post (posts_of hs ss) i).phase
   session_is =
       let phase : phase_of h.session.state ≡ (post (posts_of hs ss) i).phase =
-          ap (λ (g : Hearing). phase_of g.session.state) is ∙ sym (ap (λ (p : Post). p.phase) (post_at hs ss i h lt)) in
+      ap (λ (g : Hearing). phase_of g.session.state) is ∙ sym (ap (λ (p : Post). p.phase) (post_at hs ss i h lt)) in
       let state : h.session.state ≡ state_at (post (posts_of hs ss) i).phase =
-          sym (state_again h.session.state) ∙ ap state_at phase in
+      sym (state_again h.session.state) ∙ ap state_at phase in
       λ j. record { peer = (whom_at j).0; from = (whom_at j).1; state = state j }
 
   pub here : end_at h (sent_at ss i) ≡ post (posts_of hs ss) i
@@ -111,9 +111,9 @@ module _ (plan : AgentPlan) (posts posts' : List Post) (input : Input) (session 
       → BeginsBy plan posts posts' input None replies
   begun_opened is hello e =
       let given : Begun = record {
-            replies = spelling (Hello plan.me.name) ∷ [];
-            after = Some (record (post posts session) { phase = Opened });
-          } in
+        replies = spelling (Hello plan.me.name) ∷ [];
+        after = Some (record (post posts session) { phase = Opened });
+      } in
       subst (λ (x : Input). BeginsBy plan posts posts' x None replies) (sym is)
       (given, (refl, refl), record { replied = hello; applied = e })
 
@@ -122,14 +122,17 @@ module _ (plan : AgentPlan) (posts posts' : List Post) (input : Input) (session 
   begun_bytes bytes cause is none t =
       let s = session_at plan session (post posts session).phase in
       let given : Begun = record {
-            replies = [];
-            after = left_by (post posts session) (heard s t.inputs) (heard s t.inputs).cause;
-          } in
-      subst (λ (x : Input). BeginsBy plan posts posts' x cause replies) (sym is)
-      (given, (t.inputs, t.hears, refl, t.why), record {
-        replied = none;
-        applied = t.left ∙ ap (λ (w : Option ItemCause). slice_set posts session (end_of (left_by (post posts session) (heard s t.inputs) w))) t.why;
-      })
+        replies = [];
+        after = left_by (post posts session) (heard s t.inputs) (heard s t.inputs).cause;
+      } in
+      subst (λ (x : Input). BeginsBy plan posts posts' x cause replies) (sym is) (
+        given,
+        (t.inputs, t.hears, refl, t.why),
+        record {
+          replied = none;
+          applied = t.left ∙ ap (λ (w : Option ItemCause). slice_set posts session (end_of (left_by (post posts session) (heard s t.inputs) w))) t.why;
+        },
+      )
 
   pub begun_closed : input ≡ In.Closed session → replies ≡ [] → posts' ≡ slice_set posts session nothing
       → BeginsBy plan posts posts' input None replies

@@ -140,9 +140,9 @@ told_post wants p = if not (is_idle p.phase) then record p { sent = wants } else
 
 told_end : (b : Bool) (phase : Phase) (sent sent' held wants : Map) → sent' ≡ (if b then wants else sent)
     → let p : Post = record { phase = phase; sent = sent'; held = held } in
-      let all : Post = record { phase = phase; sent = wants; held = held } in
-      let same : Post = record { phase = phase; sent = sent; held = held } in
-      p ≡ (if b then all else same)
+    let all : Post = record { phase = phase; sent = wants; held = held } in
+    let same : Post = record { phase = phase; sent = sent; held = held } in
+    p ≡ (if b then all else same)
 told_end true phase sent sent' held wants e = λ i. record { phase = phase; sent = e i; held = held }
 told_end false phase sent sent' held wants e = λ i. record { phase = phase; sent = e i; held = held }
 
@@ -163,9 +163,9 @@ module _ (hs : List Hearing) (ss ss' : List Sent) (wants : Map) (plans : List Pl
   are_plans is p =
       let wanted_is : wants ≡ wanted_of (holdings (posts_of hs ss)) = is ∙ ap wanted_of (sym (holdings_as hs ss)) in
       let within : (i : ℕ) → i < length (posts_of hs ss) → i < length hs =
-          λ i lt. subst (λ n. i < n) (posts_long hs ss) lt in
+      λ i lt. subst (λ n. i < n) (posts_long hs ss) lt in
       let here : (i : ℕ) → i < length hs → end_at (slice_index_or hs i no_hearing) (sent_at ss i) ≡ post (posts_of hs ss) i =
-          λ i lt. sym (post_at hs ss i no_hearing lt) in
+      λ i lt. sym (post_at hs ss i no_hearing lt) in
       record {
         many = p.many ∙ sym (posts_long hs ss);
         messages = λ i o lt. p.messages i o no_hearing (within i lt)
@@ -252,9 +252,9 @@ pub nothing_shown : (n : ℕ) → no_rows ≡ rows_of (holdings (nothings n))
 nothing_shown n =
     let slice = sym (no_slice n) in
     let routes : [] ≡ routes_of (holdings (nothings n)) =
-        ap (filter (λ (r : Routed). is_needed (holdings (nothings n)) r.0.0))
-        (sym (entries-empty {V = Hop} row_key_cmp)
-        ∙ ap (λ (hs : List Heard). entries (from_entries {R = row_key_cmp} (rows_from hs))) (sym (none_up n))) in
+    ap (filter (λ (r : Routed). is_needed (holdings (nothings n)) r.0.0))
+    (sym (entries-empty {V = Hop} row_key_cmp)
+    ∙ ap (λ (hs : List Heard). entries (from_entries {R = row_key_cmp} (rows_from hs))) (sym (none_up n))) in
     λ i. record {
       labels = filter_map (λ (e : LowKey × LowValue). attached e.0 e.1) (slice i);
       acls = filter_map (λ (e : LowKey × LowValue). acl_entry e.0 e.1) (slice i);

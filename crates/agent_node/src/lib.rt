@@ -7,6 +7,8 @@ pub mod laws;
 mod node;
 mod plan;
 mod planning;
+#[cfg(test)]
+mod tests;
 
 pub use node::AgentNode;
 pub use plan::AgentPlan;

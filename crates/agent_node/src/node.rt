@@ -52,6 +52,7 @@ fn advance<L: Link>(
     requires comes { Comes (λ i. is_idle (post ends.old.posts i).phase ≡ false)
         (λ i. is_idle (post ends.old.posts i).phase ≡ true) input }
     ensures plan { ends.new.plan ≡ ends.old.plan }
+    ensures links { length links.new ≡ length links.old }
     ensures advances { IfOk result (λ a. Advances L.accepted L.breaks L.faults ends.old.plan input.entry ends.old.posts
         ends.new.posts links.old links.new a.lowest a.cause) }
     ensures tables { IfOk result (λ a. a.tables ≡ rows_of (holdings ends.new.posts)) }
@@ -175,6 +176,7 @@ impl AgentNode {
             (Begins self.old.plan (session_of input.entry) (post self.old.posts (session_of input.entry)) input.entry)
             self.old.posts self.new.posts (session_of input.entry) links.old links.new result }
         ensures plan { self.new.plan ≡ self.old.plan }
+        ensures links { length links.new ≡ length links.old }
         ensures failed { (self.new.failed ≡ true) ↔ (result ≡ Err NodeFault.NoMemory) }
         ensures until_restart { self.old.failed ≡ true → result ≡ Err NodeFault.NoMemory }
     {
@@ -183,11 +185,13 @@ impl AgentNode {
         }
         let session = session_of(&input);
         match advance(&mut self.ends, input, links) {
-            Ok(Advanced {
-                lowest,
-                cause,
-                tables,
-            }) => {
+            Ok(
+                Advanced {
+                    lowest,
+                    cause,
+                    tables,
+                },
+            ) => {
                 self.tables = tables;
                 answer(lowest, session, cause)
             }

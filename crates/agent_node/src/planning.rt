@@ -19,10 +19,7 @@ use std::alloc::Global;
 use std::collections::BTreeMap;
 
 /// The octets of each change, in order.
-fn spell_all(
-    alloc: Global,
-    deltas: &[Delta<UpKey, Label>],
-) -> Result<Items<Items<u8>>, NoMemory>
+fn spell_all(alloc: Global, deltas: &[Delta<UpKey, Label>]) -> Result<Items<Items<u8>>, NoMemory>
     requires { All ChangeFits (map (moved_delta of_up LabelOf) deltas.now) }
     ensures { IfOk result (λ messages. messages ≡ map (λ c. spelled c) (map (moved_delta of_up LabelOf) deltas.now)) }
 {

@@ -24,7 +24,7 @@ spell_all-requires c =
 pub returns-clause-messages : goal.returns-clause-messages
 returns-clause-messages c =
     let told = told_as c.args.sent.now c.args.wanted.now.entries c.in_ok-deltas.deltas.items
-        c.in_ok-deltas.ensures.changes in
+    c.in_ok-deltas.ensures.changes in
     c.in_ok-messages.ensures ∙ rw c.deref.ensures.value (ap (map (λ (d : Change). spelled d)) told)
     ∙ not_idle c.args.state (up_of c.args.sent.now) (up_of c.args.wanted.now.entries)
     (sym c.eq.ensures ∙ c.if-eq.false)

@@ -10,7 +10,7 @@ pub loop-session-preserved : goal.loop-session-preserved
 loop-session-preserved c =
     let l = c.loop-session in
     let in_posts : l.session < length l.self.posts =
-        omega (arith, c.loop-session-test.true, c.sessions-session-end.ensures.sessions, l.invariant.long) in
+    omega (arith, c.loop-session-test.true, c.sessions-session-end.ensures.sessions, l.invariant.long) in
     record {
       plan = c.close.ensures.stays ∙ l.invariant.plan;
       long = ap length c.close.ensures.closed ∙ length-set l.self.posts l.session nothing ∙ l.invariant.long;

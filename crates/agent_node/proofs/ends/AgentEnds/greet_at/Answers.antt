@@ -19,7 +19,7 @@ greet-requires c =
     let is : h ≡ slice_index_or hs c.args.session h = rw (sym c.from.ensures) c.index_mut-hearing.ensures.value in
     let seen = ap (λ (e : Ends). (post e.posts c.args.session).phase) c.self.view_is in
     let idle = ap (λ (p : Post). p.phase) (here c.self.inside.plan hs ss c.self.invariant c.args.session h lt is)
-        ∙ seen ∙ c.requires.idle in
+    ∙ seen ∙ c.requires.idle in
     record { idle = idle_state h.session.state idle }
 
 pub invariant_of-self : goal.invariant_of-self

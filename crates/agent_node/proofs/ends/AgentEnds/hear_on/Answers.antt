@@ -40,7 +40,7 @@ returns-in-None-clause-heard c =
     let lt : c.from.result < length hs = omega (arith, long, controllers, c.requires.known, c.from.ensures) in
     let heard = rw c.in-None.is at c.in_ok-hear_at.ensures.heard in
     let taken = taken_on c.self.inside.plan hs ss c.self.invariant c.from.result h lt c.index_mut.ensures.value
-        c.args.bytes.now h' heard in
+    c.args.bytes.now h' heard in
     subst (λ (n : ℕ). HasTaken c.args.self.now.plan n c.args.bytes.now c.args.self.now.posts
     (posts_of (slice_set hs c.from.result h') ss) None) c.from.ensures
     (subst (λ (e : Ends). HasTaken e.plan c.from.result c.args.bytes.now e.posts
@@ -57,9 +57,9 @@ returns-in-Some-clause-heard c =
     let lt : c.from.result < length hs = omega (arith, long, controllers, c.requires.known, c.from.ensures) in
     let heard = rw c.in-Some.is at c.in_ok-hear_at.ensures.heard in
     let closed = c.close.ensures.closed
-        ∙ ap (λ (n : ℕ). slice_set (posts_of (slice_set hs c.from.result h') ss) n nothing) (sym c.from.ensures) in
+    ∙ ap (λ (n : ℕ). slice_set (posts_of (slice_set hs c.from.result h') ss) n nothing) (sym c.from.ensures) in
     let taken = taken_down c.self.inside.plan hs ss c.self.invariant c.from.result h lt c.index_mut.ensures.value
-        c.args.bytes.now h' c.in-Some.cause c.close.new.self.posts heard closed in
+    c.args.bytes.now h' c.in-Some.cause c.close.new.self.posts heard closed in
     subst (λ (n : ℕ). HasTaken c.args.self.now.plan n c.args.bytes.now c.args.self.now.posts c.close.new.self.posts
     (Some c.in-Some.cause)) c.from.ensures
     (subst (λ (e : Ends). HasTaken e.plan c.from.result c.args.bytes.now e.posts c.close.new.self.posts

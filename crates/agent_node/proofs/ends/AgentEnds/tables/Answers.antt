@@ -16,7 +16,7 @@ of-requires c = rw c.deref.ensures.value (held_fits c.self.inside.hearings.items
 pub returns : goal.returns
 returns c =
     let heard : map heard_of c.deref.result.now ≡ holdings c.args.self.now.posts =
-        ap (map heard_of) c.deref.ensures.value
-        ∙ sym (holdings_as c.self.inside.hearings.items c.self.inside.sents.items)
-        ∙ ap (λ (e : Ends). holdings e.posts) c.self.view_is in
+    ap (map heard_of) c.deref.ensures.value
+    ∙ sym (holdings_as c.self.inside.hearings.items c.self.inside.sents.items)
+    ∙ ap (λ (e : Ends). holdings e.posts) c.self.view_is in
     subst (λ (h : Holdings). IfOk c.of.result (λ (tables : AgentRows). tables ≡ rows_of h)) heard c.of.ensures

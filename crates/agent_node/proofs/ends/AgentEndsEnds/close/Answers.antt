@@ -25,7 +25,7 @@ returns-clause-closed c =
     let seen = ap (λ (e : Ends). length e.posts) c.self.view_is in
     let each = ends_long c.self.inside.plan hearings sents c.self.invariant in
     let lt : c.from-index.result < length sents =
-        omega (arith, long, seen, each, c.self.invariant.many, c.from-index.ensures, c.requires) in
+    omega (arith, long, seen, each, c.self.invariant.many, c.from-index.ensures, c.requires) in
     posts_set hearings sents c.from-index.result c.shut.new.hearing c.shut.new.sent lt
     ∙ ap (slice_set (posts_of hearings sents) c.from-index.result) c.shut.ensures.end
     ∙ (λ i. slice_set (c.self.view_is i).posts (c.from-index.ensures i) nothing)

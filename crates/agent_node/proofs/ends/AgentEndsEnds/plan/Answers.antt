@@ -19,7 +19,7 @@ pub plan_all-requires-clause-wanted : goal.plan_all-requires-clause-wanted
 plan_all-requires-clause-wanted c =
     let fit = held_fits c.self.inside.hearings.items c.self.invariant.held in
     let heard : map heard_of c.deref.result.now ≡ map heard_of c.self.inside.hearings.items =
-        ap (map heard_of) c.deref.ensures.value in
+    ap (map heard_of) c.deref.ensures.value in
     subst AllFit (sym c.in_ok-wanted.ensures) (rw heard (can_be_told (map heard_of c.self.inside.hearings.items) fit))
 
 pub returns-clause-long : goal.returns-clause-long
@@ -42,11 +42,11 @@ returns-clause-plans c =
     let wants = up_of c.in_ok-wanted.wanted.entries in
     let plans = c.in_ok-plans.plans.items in
     let long : length new ≡ c.self.inside.sents.len =
-        c.plan_all.auto.sents ∙ ap length c.deref_mut.ensures.value ∙ sym c.self.inside.sents.ok.0 in
+    c.plan_all.auto.sents ∙ ap length c.deref_mut.ensures.value ∙ sym c.self.inside.sents.ok.0 in
     let is : wants ≡ wanted (map heard_of hearings) =
-        c.in_ok-wanted.ensures ∙ ap (λ (hs : List Hearing). wanted (map heard_of hs)) c.deref.ensures.value in
+    c.in_ok-wanted.ensures ∙ ap (λ (hs : List Hearing). wanted (map heard_of hs)) c.deref.ensures.value in
     let planned : ArePlanned hearings sents new wants plans (length hearings) =
-        rw (c.deref-2.ensures.value, c.deref_mut.ensures.value) at c.in_ok-plans.ensures.planned in
+    rw (c.deref-2.ensures.value, c.deref_mut.ensures.value) at c.in_ok-plans.ensures.planned in
     subst (λ (ps : List Post). ArePlans kind ps (posts_of hearings (take c.self.inside.sents.len (new ++ drop (length new) sents))) plans)
     (ap (λ (e : Ends). e.posts) c.self.view_is)
     (subst (λ (ss : List Sent). ArePlans kind (posts_of hearings sents) (posts_of hearings ss) plans)
