@@ -1,14 +1,14 @@
-ghost use Rattle.std.specs.Prelude.{◌≡◌, ◌<◌, length, true};
+ghost use Rattle.std.specs.Prelude.{◌≡◌, ◌≤◌, ◌<◌, length, true};
 ghost use Rattle.agent_node.specs.Core.{sessions};
 
 use crate::{AgentNode, AgentPlan};
 use item_wire::ItemCause;
 use ov_link::{FailingLink, Input, Link, Links, NodeFault, QueueLink, Stepped};
 use ov_types::{
-    Addr, Attached, Entry, InstanceId, Items, Label, Name, NodeId, Packet, PortNo, Prefix, Tuple,
-    Verdict,
+    Addr, Attached, Entry, InstanceId, Items, Label, Name, NodeId, Outcome, Packet, PortNo, Prefix,
+    ServiceNo, Tuple, Verdict,
 };
-use packet_trace::Vrouter;
+use packet_trace::{Hop, Vrouter, trace};
 use std::alloc::Global;
 use std::test::Fail;
 
@@ -256,5 +256,129 @@ fn a_publication_that_fails_closes_its_session_alone(rt: HostRuntime) -> Result<
     assert_eq!(rt; node.rows(alloc)?, before);
     assert!(rt; !node.failed());
     assert_eq!(rt; open(&mut node, &mut links, 1), done);
+    Ok(())
+}
+
+const N1: Addr = Addr(0xc000_020b);
+
+const N2: Addr = Addr(0xc000_020c);
+
+/// The slice of 192.0.2.11, and the rows that its packets need, where port 1 of network 1 and port 2 of network 2 are
+/// joined by a chain of a service here and one at 192.0.2.12.
+const TOLD_AT_N1: [&[u8]; 10] = [
+    b"{\"name\":\"c1\",\"op\":\"hello\"}",
+    b"{\"address\":\"10.1.0.1\",\"instance\":1,\"node\":\"192.0.2.11\",\"op\":\"port\",\"port\":1}",
+    b"{\"circuit\":32769,\"node\":\"192.0.2.11\",\"op\":\"circuit\",\"service\":1}",
+    b"{\"circuit\":32770,\"node\":\"192.0.2.11\",\"op\":\"circuit\",\"service\":1}",
+    b"{\"from\":1,\"op\":\"acl\",\"rules\":[],\"subnets\":[\"10.1.0.0/24\"],\"to\":1}",
+    b"{\"from\":1,\"op\":\"acl\",\"rules\":[[256,0,65535,0,65535,16384,20,1]],\"subnets\":[\"10.2.0.0/24\"],\"to\":2}",
+    b"{\"instance\":16384,\"label\":17,\"next_hop\":\"192.0.2.11\",\"op\":\"route\",\"prefix\":\"10.1.0.1/32\"}",
+    b"{\"instance\":16384,\"label\":557057,\"next_hop\":\"192.0.2.11\",\"op\":\"route\",\"prefix\":\"10.2.0.0/24\"}",
+    b"{\"instance\":16385,\"label\":557059,\"next_hop\":\"192.0.2.12\",\"op\":\"route\",\"prefix\":\"10.2.0.0/24\"}",
+    b"{\"instance\":16385,\"label\":557058,\"next_hop\":\"192.0.2.11\",\"op\":\"route\",\"prefix\":\"10.1.0.0/24\"}",
+];
+
+/// And those of 192.0.2.12.
+const TOLD_AT_N2: [&[u8]; 10] = [
+    b"{\"name\":\"c1\",\"op\":\"hello\"}",
+    b"{\"address\":\"10.2.0.2\",\"instance\":2,\"node\":\"192.0.2.12\",\"op\":\"port\",\"port\":2}",
+    b"{\"circuit\":32771,\"node\":\"192.0.2.12\",\"op\":\"circuit\",\"service\":2}",
+    b"{\"circuit\":32772,\"node\":\"192.0.2.12\",\"op\":\"circuit\",\"service\":2}",
+    b"{\"from\":2,\"op\":\"acl\",\"rules\":[[256,0,65535,0,65535,16386,20,1]],\"subnets\":[\"10.1.0.0/24\"],\"to\":1}",
+    b"{\"from\":2,\"op\":\"acl\",\"rules\":[],\"subnets\":[\"10.2.0.0/24\"],\"to\":2}",
+    b"{\"instance\":16386,\"label\":18,\"next_hop\":\"192.0.2.12\",\"op\":\"route\",\"prefix\":\"10.2.0.2/32\"}",
+    b"{\"instance\":16386,\"label\":557060,\"next_hop\":\"192.0.2.12\",\"op\":\"route\",\"prefix\":\"10.1.0.0/24\"}",
+    b"{\"instance\":16385,\"label\":557059,\"next_hop\":\"192.0.2.12\",\"op\":\"route\",\"prefix\":\"10.2.0.0/24\"}",
+    b"{\"instance\":16385,\"label\":557058,\"next_hop\":\"192.0.2.11\",\"op\":\"route\",\"prefix\":\"10.1.0.0/24\"}",
+];
+
+/// Records, each behind its length, which has one octet.
+fn framed(alloc: Global, records: &[&[u8]]) -> Result<Vec<u8>, Fail> {
+    let mut octets = Vec::new(alloc);
+    for json in records {
+        octets.extend_from_slice(&[0, 0, 0])?;
+        octets.push(u8::try_from(json.len()).ok().ok_or("a short record")?)?;
+        octets.extend_from_slice(json)?;
+    }
+    Ok(octets)
+}
+
+/// An agent with one control node, which told it these records.
+fn filled(alloc: Global, address: Addr, records: &[&[u8]]) -> Result<AgentNode, Fail> {
+    let plan = AgentPlan {
+        me: node("a1", address.0)?,
+        controllers: Items::from_vec(Vec::from_slice(alloc, &[node("c1", 0xc000_0201)?])?),
+    };
+    let mut agent = AgentNode::new(alloc, plan)?;
+    let mut links = Links::new(alloc);
+    links.push(QueueLink::new(alloc))?;
+    open(&mut agent, &mut links, 0)
+        .ok_or("a closed session")?
+        .ok()
+        .ok_or("an answer")?;
+    let octets = framed(alloc, records)?;
+    bring(&mut agent, &mut links, 0, octets.as_slice())
+        .ok_or("an open session")?
+        .ok()
+        .ok_or("an answer")?;
+    Ok(agent)
+}
+
+fn packet(source: u16, destination: u32) -> Packet
+    ensures { result.source.0 ≤ 524271 }
+{
+    Packet {
+        source: PortNo(u32::from(source)),
+        destination: Addr(destination),
+        tuple: Tuple {
+            proto: 6,
+            sport: 50_000,
+            dport: 80,
+        },
+    }
+}
+
+fn hop(node: Addr, instance: u16) -> Hop {
+    Hop {
+        node,
+        instance: InstanceId(instance),
+    }
+}
+
+#[test]
+fn both_packets_pass_the_chain(rt: HostRuntime) -> Result<(), Fail> {
+    let alloc = rt.alloc();
+    let mut agents = [
+        filled(alloc, N1, &TOLD_AT_N1)?,
+        filled(alloc, N2, &TOLD_AT_N2)?,
+    ];
+    let there = [hop(N1, 16384), hop(N1, 16385), hop(N2, 16386)];
+    let back = [hop(N2, 16386), hop(N2, 16385), hop(N1, 16384)];
+    for (source, destination, to, visited, hops) in [
+        (
+            1,
+            0x0a02_0002,
+            PortNo(2),
+            [ServiceNo(1), ServiceNo(2)],
+            there,
+        ),
+        (
+            2,
+            0x0a01_0001,
+            PortNo(1),
+            [ServiceNo(2), ServiceNo(1)],
+            back,
+        ),
+    ] {
+        let trace = trace(&mut agents, packet(source, destination));
+        assert_eq!(rt; trace.hops.as_slice(), hops.as_slice());
+        match trace.outcome {
+            Outcome::Delivered { port, services } => {
+                assert_eq!(rt; port, to);
+                assert_eq!(rt; services.as_slice(), visited.as_slice());
+            }
+            Outcome::Dropped { .. } => return Err("dropped".into()),
+        }
+    }
     Ok(())
 }
