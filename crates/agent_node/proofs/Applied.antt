@@ -35,7 +35,8 @@ step m None cs = refl
 step m (Some c) cs = refl
 
 pub after_more : (m : Map) (items : List Item) (item : Item)
-    → after m (filter_map change_of (items ++ item ∷ [])) ≡ changed_by (change_of item) (after m (filter_map change_of items))
+    → after m (filter_map change_of (items ++ item ∷ []))
+    ≡ changed_by (change_of item) (after m (filter_map change_of items))
 after_more m [] item = sym (step m (change_of item) [])
 after_more m (i ∷ items) item =
     sym (step m (change_of i) (filter_map change_of (items ++ item ∷ [])))

@@ -66,7 +66,8 @@ module _ (plan : AgentPlan) (hs : List Hearing) (ss : List Sent) (ends : AreEnds
       ≡ slice_set (posts_of hs ss) i (record (post (posts_of hs ss) i) { phase = Opened })
   greeted s e =
       posts_hear hs ss i (record { session = s; held = h.held })
-      ∙ (λ j. set (posts_of hs ss) i (record { phase = phase_of (e j).state; sent = (here j).sent; held = (here j).held }))
+      ∙ (λ j. set (posts_of hs ss) i
+      (record { phase = phase_of (e j).state; sent = (here j).sent; held = (here j).held }))
 
   module _ (octets : List ℕ) (h' : Hearing) where
     pub taken_on : HasHeard h octets h' None → HasTaken plan i octets (posts_of hs ss) (posts_of (set hs i h') ss) None
@@ -77,7 +78,11 @@ module _ (plan : AgentPlan) (hs : List Hearing) (ss : List Sent) (ends : AreEnds
           hears = subst (λ (s : SessionFields). Hears s octets t.inputs) session_is t.hears;
           why = t.why ∙ ap (λ (s : SessionFields). (heard s t.inputs).cause) session_is;
           left = posts_hear hs ss i h'
-              ∙ (λ j. set (posts_of hs ss) i (record { phase = phase_of (t.state j); sent = up_of (sent_at ss i); held = t.held refl j }))
+              ∙ (λ j. set (posts_of hs ss) i (record {
+                phase = phase_of (t.state j);
+                sent = up_of (sent_at ss i);
+                held = t.held refl j;
+              }))
               ∙ (λ j. set (posts_of hs ss) i (record {
                 phase = phase_of (heard (session_is j) t.inputs).state;
                 sent = (here j).sent;
@@ -130,7 +135,9 @@ module _ (plan : AgentPlan) (posts posts' : List Post) (input : Input) (session 
         (t.inputs, t.hears, refl, t.why),
         record {
           replied = none;
-          applied = t.left ∙ ap (λ (w : Option ItemCause). slice_set posts session (end_of (left_by (post posts session) (heard s t.inputs) w))) t.why;
+          applied = t.left
+              ∙ ap (λ (w : Option ItemCause).
+              slice_set posts session (end_of (left_by (post posts session) (heard s t.inputs) w))) t.why;
         },
       )
 

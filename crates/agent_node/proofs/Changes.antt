@@ -33,12 +33,13 @@ pub told_as : (sent wants : Sent) (ds : List (Delta UpKey LabelNo))
     → map (moved_delta of_up Label) ds ≡ difference (up_of sent) (up_of wants)
 told_as sent wants ds e =
     ap (map (moved_delta of_up Label)) e
-    ∙ sym (difference-embedded of_up Label up_total key_total up_keeps labels.ghosts.eq same_value (λ v w. refl) up_exact
-    (map_of up_order sent) (map_of up_order wants))
+    ∙ sym (difference-embedded of_up Label up_total key_total up_keeps labels.ghosts.eq same_value (λ v w. refl)
+    up_exact (map_of up_order sent) (map_of up_order wants))
 
 pub told_fits : (sent wants : Sent) (ds : List (Delta UpKey LabelNo))
     → ds ≡ difference_by labels.ghosts.eq (map_of up_order sent) (map_of up_order wants)
     → SentFits sent → SentFits wants → All ChangeFits (map (moved_delta of_up Label) ds)
 told_fits sent wants ds e f g =
     subst (λ (cs : List Change). All ChangeFits cs) (sym (told_as sent wants ds e))
-    (All-from_recursion ChangeFits (difference (up_of sent) (up_of wants)) (difference_fits (up_of sent) (up_of wants) f g))
+    (All-from_recursion ChangeFits (difference (up_of sent) (up_of wants))
+    (difference_fits (up_of sent) (up_of wants) f g))

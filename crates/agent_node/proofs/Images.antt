@@ -32,4 +32,5 @@ pub down-changed : (es fs : List (DownKey × DownValue)) (d : Delta DownKey Down
     → down_of fs ≡ changed (down_of es) (moved_delta of_down down_value d)
 down-changed es fs d e =
     ap (embedded {S = key_cmp} of_down down_value) e
-    ∙ sym (changed-embedded of_down down_value down_total key_total down_keeps down_exact key_exact (map_of down_order es) d)
+    ∙ sym (changed-embedded of_down down_value down_total key_total down_keeps down_exact key_exact
+    (map_of down_order es) d)

@@ -1,5 +1,6 @@
 -- The ends as they are seen, from those that are kept.
-use Rattle.std.specs.Prelude.{◌≡◌, ◌<◌, ◌≤◌, ◌+◌, ℕ, zero, suc, List, [], ◌∷◌, ◌++◌, map, take, drop, length, Bool, true, false, not, if◌then◌else◌}
+use Rattle.std.specs.Prelude.{◌≡◌, ◌<◌, ◌≤◌, ◌+◌, ℕ, zero, suc, List, [], ◌∷◌, ◌++◌, map, take, drop, length}
+use Rattle.std.specs.Prelude.{Bool, true, false, not, if◌then◌else◌}
 use Rattle.std.specs.FinMap.{entries, from_entries}
 use Rattle.std.specs.List.{All, AllByRecursion, filter, filter_map, flat_map, slice_index_or}
 use Rattle.std.proofs.Common.{refl, sym, ◌∙◌, ap, subst, get_or, set, arith, inl, inr}
@@ -18,7 +19,7 @@ use Rattle.ov_types.specs.declared.rows.Entry.{Entry as Hop}
 use Rattle.item_wire.specs.declared.event.ItemState.{ItemState}
 use Rattle.item_wire.specs.declared.event.ItemState.TheVariants.{Idle, Opened, Up}
 use Rattle.item_wire.specs.declared.input.Came.TheVariants.{Closed}
-use Rattle.item_wire.specs.Happenings.{idle_session, next_state}
+use Rattle.item_wire.specs.Happenings.{SessionFields, after, idle_session, next_state}
 use Rattle.item_wire.specs.declared.event.ItemFrom.{ItemFrom}
 use Rattle.item_wire.specs.declared.event.ItemFrom.TheVariants.{Control}
 use Rattle.ov_types.specs.declared.rows.AgentRows.{AgentRows}
@@ -27,8 +28,8 @@ use Rattle.node_core.specs.Plans.{ArePlans}
 use Rattle.node_core.specs.declared.ends.Plan.{Plan}
 use Rattle.node_items.specs.Beginning.{phase_of}
 use Rattle.node_items.specs.Told.{AllFit, Fits, down_of, up_of}
-use Rattle.node_model.specs.Agent.{Heard, acl_entry, attached, is_needed, routes as routes_of, row_entry, rows as rows_of}
-use Rattle.node_model.specs.Agent.{slice_in_use, wanted as wanted_of}
+use Rattle.node_model.specs.Agent.{Heard, acl_entry, attached, is_needed, routes as routes_of, row_entry}
+use Rattle.node_model.specs.Agent.{rows as rows_of, slice_in_use, wanted as wanted_of}
 use Rattle.node_model.specs.Keys.{Key, key_cmp}
 use Rattle.node_model.specs.Maps.{Map}
 use Rattle.node_model.specs.Values.{Value}
@@ -60,7 +61,8 @@ pub posts_set : (hs : List Hearing) (ss : List Sent) (i : ℕ) (h : Hearing) (s 
 posts_set [] ss i h s lt = refl
 posts_set (g ∷ hs) [] i h s lt = absurd (omega arith)
 posts_set (g ∷ hs) (r ∷ ss) zero h s lt = refl
-posts_set (g ∷ hs) (r ∷ ss) (suc i) h s lt = ap (λ (ps : List Post). end_at g r ∷ ps) (posts_set hs ss i h s (omega arith))
+posts_set (g ∷ hs) (r ∷ ss) (suc i) h s lt =
+    ap (λ (ps : List Post). end_at g r ∷ ps) (posts_set hs ss i h s (omega arith))
 
 pub posts_hear : (hs : List Hearing) (ss : List Sent) (i : ℕ) (h : Hearing)
     → posts_of (set hs i h) ss ≡ set (posts_of hs ss) i (end_at h (sent_at ss i))
@@ -86,7 +88,8 @@ holdings_as (h ∷ hs) (s ∷ ss) = λ i. heard_as h s i ∷ holdings_as hs ss i
 
 pub held_fits : (hs : List Hearing) → All HeldFits hs → AllByRecursion (λ (s : Heard). AllFit s.map) (map heard_of hs)
 held_fits hs all =
-    recursion_from_All (λ (s : Heard). AllFit s.map) (map heard_of hs) (All-map (λ (s : Heard). AllFit s.map) heard_of hs all)
+    recursion_from_All (λ (s : Heard). AllFit s.map) (map heard_of hs)
+    (All-map (λ (s : Heard). AllFit s.map) heard_of hs all)
 
 -- ---- an end that is closed
 pub closes : (state : ItemState) → next_state state Closed ≡ Idle
@@ -102,7 +105,16 @@ nothing_sent s e = subst AllFit (sym (ap up_of e ∙ up-empty)) (empty_values ke
 
 pub nothing_at : (h : Hearing) (s : Sent) → h.session.state ≡ Idle → h.held ≡ [] → s ≡ [] → end_at h s ≡ nothing
 nothing_at h s idle held sent =
-    λ i. record { phase = phase_of (idle i); sent = (ap up_of sent ∙ up-empty) i; held = (ap down_of held ∙ down-empty) i }
+    λ i. record {
+      phase = phase_of (idle i);
+      sent = (ap up_of sent ∙ up-empty) i;
+      held = (ap down_of held ∙ down-empty) i;
+    }
+
+pub shut_at : (h : Hearing) (s : Sent) (before : SessionFields) → h.session ≡ after before Closed → h.held ≡ []
+    → s ≡ [] → end_at h s ≡ nothing
+shut_at h s before e held sent =
+    nothing_at h s (ap (λ (w : SessionFields). w.state) e ∙ closes before.state) held sent
 
 -- ---- the invariant after one end changed
 pub ends_set : (plan : AgentPlan) (hs : List Hearing) (ss : List Sent) (i : ℕ) (h d : Hearing) (s : Sent)
@@ -164,14 +176,16 @@ module _ (hs : List Hearing) (ss ss' : List Sent) (wants : Map) (plans : List Pl
       let wanted_is : wants ≡ wanted_of (holdings (posts_of hs ss)) = is ∙ ap wanted_of (sym (holdings_as hs ss)) in
       let within : (i : ℕ) → i < length (posts_of hs ss) → i < length hs =
       λ i lt. subst (λ n. i < n) (posts_long hs ss) lt in
-      let here : (i : ℕ) → i < length hs → end_at (slice_index_or hs i no_hearing) (sent_at ss i) ≡ post (posts_of hs ss) i =
+      let here : (i : ℕ) → i < length hs
+      → end_at (slice_index_or hs i no_hearing) (sent_at ss i) ≡ post (posts_of hs ss) i =
       λ i lt. sym (post_at hs ss i no_hearing lt) in
       record {
         many = p.many ∙ sym (posts_long hs ss);
         messages = λ i o lt. p.messages i o no_hearing (within i lt)
             ∙ (λ j. messages_of (here i (within i lt) j).phase (here i (within i lt) j).sent (wanted_is j));
         ends = λ i lt. post_at hs ss' i no_hearing (within i lt)
-            ∙ told_here (slice_index_or hs i no_hearing) (sent_at ss i) (sent_at ss' i) wants (p.told i no_hearing (within i lt))
+            ∙ told_here (slice_index_or hs i no_hearing) (sent_at ss i) (sent_at ss' i) wants
+            (p.told i no_hearing (within i lt))
             ∙ (λ j. told_post (wanted_is j) (here i (within i lt) j));
       }
 

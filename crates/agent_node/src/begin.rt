@@ -101,7 +101,8 @@ impl AgentEnds {
     fn hear_on(&mut self, session: u16, bytes: &[u8]) -> Result<Option<ItemCause>, NoMemory>
         requires known { session < sessions self.old.plan }
         ensures plan { self.new.plan ≡ self.old.plan }
-        ensures heard { IfOk result (λ cause. HasTaken self.old.plan session bytes.now self.old.posts self.new.posts cause) }
+        ensures heard { IfOk result (λ cause. HasTaken self.old.plan session bytes.now self.old.posts self.new.posts
+            cause) }
     {
         match hear_at(self.alloc, &mut self.hearings[usize::from(session)], bytes)? {
             None => Ok(None),

@@ -1,10 +1,11 @@
 //! The ends of an agent's sessions.
-ghost use Rattle.std.specs.Prelude.{◌≡◌, ◌≤◌, ◌<◌, length, not, IfOk};
+ghost use Rattle.std.specs.Prelude.{◌≡◌, ◌≤◌, ◌<◌, [], length, IfOk};
+ghost use Rattle.item_wire.specs.Happenings.{after};
+ghost use Rattle.item_wire.specs.declared.input.Came.TheVariants.{Closed};
 ghost use Rattle.node_items.specs.Beginning.{phase_of};
 ghost use Rattle.node_model.specs.Agent.{rows as rows_of};
-ghost use Rattle.node_model.specs.Step.{nothing, post};
-ghost use Rattle.agent_node.specs.Core.{holdings, is_idle, is_up, nothings, sessions};
-ghost use Rattle.agent_node.specs.Ends.{HeldFits, SentFits, end_at, whom};
+ghost use Rattle.node_model.specs.Step.{post};
+ghost use Rattle.agent_node.specs.Core.{holdings, nothings, sessions};
 
 use crate::plan::AgentPlan;
 use crate::planning::plan_all;
@@ -38,12 +39,11 @@ impl Model for AgentEnds {
     ghost invariant = { λ e. AreEnds e.plan e.hearings.items e.sents.items };
 }
 
-/// Closes an end: its session is idle, and nothing was sent on it and nothing is held of it.
+/// Closes an end. Nothing was sent on it then, and nothing is held of it.
 fn shut(hearing: &mut Hearing, sent: &mut SyncOut<UpKey, Label>)
-    ensures end { end_at hearing.new sent.new ≡ nothing }
-    ensures whom { whom hearing.new ≡ whom hearing.old }
-    ensures held { HeldFits hearing.new }
-    ensures sent { SentFits sent.new }
+    ensures session { hearing.new.session ≡ after hearing.old.session Closed }
+    ensures held { hearing.new.held ≡ [] }
+    ensures sent { sent.new ≡ [] }
 {
     let _down = hearing.session.closed();
     hearing.held.reset();

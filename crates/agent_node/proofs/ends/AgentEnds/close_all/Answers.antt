@@ -14,7 +14,8 @@ loop-session-preserved c =
     record {
       plan = c.close.ensures.stays ∙ l.invariant.plan;
       long = ap length c.close.ensures.closed ∙ length-set l.self.posts l.session nothing ∙ l.invariant.long;
-      closed = closed_more l.self.posts c.close.new.self.posts l.session in_posts c.close.ensures.closed l.invariant.closed;
+      closed = closed_more l.self.posts c.close.new.self.posts l.session in_posts c.close.ensures.closed
+          l.invariant.closed;
     }
 
 pub returns-clause-posts : goal.returns-clause-posts

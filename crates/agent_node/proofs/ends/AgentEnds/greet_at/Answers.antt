@@ -31,7 +31,8 @@ invariant_of-self c =
     let lt : c.from.result < length hs = omega (arith, long, controllers, c.requires.known, c.from.ensures) in
     let h' : Hearing = record { session = c.greet.new.session; held = h.held } in
     let same : whom h' ≡ whom h = ap (λ (s : SessionFields). (s.peer, s.from)) c.greet.ensures.opened in
-    let fits : HeldFits h = subst HeldFits (sym c.index_mut-hearing.ensures.value) (c.self.invariant.held c.from.result h lt) in
+    let fits : HeldFits h =
+    subst HeldFits (sym c.index_mut-hearing.ensures.value) (c.self.invariant.held c.from.result h lt) in
     ends_hear c.self.inside.plan hs c.self.inside.sents.items c.from.result h' h c.self.invariant
     (same ∙ ap whom c.index_mut-hearing.ensures.value) fits
 

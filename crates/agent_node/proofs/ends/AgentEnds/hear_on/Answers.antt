@@ -1,4 +1,5 @@
-use Rattle.std.proofs.Common.{◌≡◌, ◌<◌, ℕ, length, slice_index_or, slice_set, set, subst, sym, ap, ◌∙◌, arith, Some, None}
+use Rattle.std.proofs.Common.{◌≡◌, ◌<◌, ℕ, length, slice_index_or, slice_set, set, subst, sym}
+use Rattle.std.proofs.Common.{ap, ◌∙◌, arith, Some, None}
 use Rattle.std.proofs.lemmas.List.{length-set}
 use Rattle.item_wire.specs.declared.event.ItemFrom.TheVariants.{Control}
 use Rattle.node_model.specs.Step.{Post, nothing, post}

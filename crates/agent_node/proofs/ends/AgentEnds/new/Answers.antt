@@ -28,5 +28,6 @@ returns-clause-posts c =
     let l = c.loop-controller in
     let all = taken c.args.plan.controllers c.as_slice-controller-items.result.now l.controller-index
     c.as_slice-controller-items.ensures c.loop-controller-test.false in
-    (λ i. posts_of ((l.invariant.hearings ∙ ap (map fresh_hearing) all) i) ((l.invariant.sents ∙ ap (map fresh_sent) all) i))
+    (λ i. posts_of ((l.invariant.hearings ∙ ap (map fresh_hearing) all) i)
+    ((l.invariant.sents ∙ ap (map fresh_sent) all) i))
     ∙ fresh_posts c.args.plan.controllers

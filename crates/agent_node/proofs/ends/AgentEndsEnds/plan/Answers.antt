@@ -47,7 +47,8 @@ returns-clause-plans c =
     c.in_ok-wanted.ensures ∙ ap (λ (hs : List Hearing). wanted (map heard_of hs)) c.deref.ensures.value in
     let planned : ArePlanned hearings sents new wants plans (length hearings) =
     rw (c.deref-2.ensures.value, c.deref_mut.ensures.value) at c.in_ok-plans.ensures.planned in
-    subst (λ (ps : List Post). ArePlans kind ps (posts_of hearings (take c.self.inside.sents.len (new ++ drop (length new) sents))) plans)
+    subst (λ (ps : List Post). ArePlans kind ps
+    (posts_of hearings (take c.self.inside.sents.len (new ++ drop (length new) sents))) plans)
     (ap (λ (e : Ends). e.posts) c.self.view_is)
     (subst (λ (ss : List Sent). ArePlans kind (posts_of hearings sents) (posts_of hearings ss) plans)
     (sym (written c.self.inside.sents.len new sents long))
