@@ -56,6 +56,7 @@ fn advance<L: Link>(
     requires comes { Comes (λ i. is_idle (post ends.old.posts i).phase ≡ false)
         (λ i. is_idle (post ends.old.posts i).phase ≡ true) input }
     ensures plan { ends.new.plan ≡ ends.old.plan }
+    ensures links { length links.new ≡ length links.old }
     ensures step { result ≢ Err NodeFault.NoMemory
         → IsWholeStep L.accepted L.breaks L.faults (kind ends.old.plan)
         (Begins ends.old.plan (session_of input.entry) (post ends.old.posts (session_of input.entry)) input.entry)
@@ -150,6 +151,7 @@ impl ControlNode {
             (Begins self.old.plan (session_of input.entry) (post self.old.posts (session_of input.entry)) input.entry)
             self.old.posts self.new.posts (session_of input.entry) links.old links.new result }
         ensures plan { self.new.plan ≡ self.old.plan }
+        ensures links { length links.new ≡ length links.old }
         ensures failed { (self.new.failed ≡ true) ↔ (result ≡ Err NodeFault.NoMemory) }
         ensures until_restart { self.old.failed ≡ true → result ≡ Err NodeFault.NoMemory }
     {
