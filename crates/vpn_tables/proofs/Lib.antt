@@ -11,8 +11,5 @@ pub mod Offers
 pub mod Whole
 pub mod Leads
 pub mod Uses
-<<<<<<< HEAD
 pub mod Farther
-=======
 pub mod Listed
->>>>>>> 8745304cfcd9d553a0ada0d90d2b06790ad35e2e

@@ -167,6 +167,8 @@ fn each_of_128_related_networks_has_the_routes_of_all(rt: HostRuntime) -> Result
         let rows = tables.table(InstanceId(network))?;
         assert_eq!(rt; rows.len(), 1024, "{network}");
     }
+    Ok(())
+}
 
 #[test]
 fn lists_are_of_what_is_held(rt: HostRuntime) -> Result<(), Fail> {
