@@ -1,0 +1,35 @@
+-- What an input makes of an end of the configuration node.
+use Rattle.std.specs.Prelude.{ℕ, List, []}
+use Rattle.std.specs.declared.option.Option.{Option}
+use Rattle.std.specs.List.{slice_index_or}
+use Rattle.ov_link.specs.declared.step.Input.{Input}
+use Rattle.ov_types.specs.declared.rows.NodeId.{NodeId}
+use Rattle.item_wire.specs.Happenings.{SessionFields}
+use Rattle.item_wire.specs.declared.event.ItemCause.{ItemCause}
+use Rattle.item_wire.specs.declared.event.ItemFrom.TheVariants as From
+use Rattle.item_wire.specs.declared.event.ItemState.{ItemState}
+use Rattle.item_wire.specs.declared.event.ItemState.TheVariants as State
+use Rattle.config_check.specs.Checked.{Checked}
+use Rattle.node_items.specs.Beginning as item
+use Rattle.node_model.specs.Step.{Begun, Phase, Idle, Up, Post}
+use Rattle.network_model.specs.Network.{config}
+
+abbrev pub no_node : NodeId
+no_node = record { name = []; address = record { 0 = 0 } }
+
+-- the control node at the other end of a session
+abbrev pub controller_at : Checked → ℕ → NodeId
+controller_at x i = slice_index_or x.topology.controllers i no_node
+
+abbrev pub state_at : Phase → ItemState
+state_at Idle = State.Idle
+state_at Up = State.Up
+state_at _ = State.Opened
+
+-- the session of an end in this state. A control node sends its hello there, and nothing else
+abbrev pub session_at : Checked → ℕ → Phase → SessionFields
+session_at x i phase = record { peer = (controller_at x i).name; from = From.Nothing; state = state_at phase }
+
+-- what an input makes of the end of its session, and the cause for which that goes down
+abbrev pub Begins : Checked → ℕ → Post → Input → Begun → Option ItemCause → Type 0
+Begins x i p = item.Begins config (session_at x i p.phase) p

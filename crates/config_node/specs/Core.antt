@@ -1,0 +1,47 @@
+-- What is seen of the configuration node: what is valid now, its ends, and whether it failed.
+use Rattle.std.specs.Prelude.{ℕ, zero, suc, List, [], ◌∷◌, length, Bool, true, false, not, refl}
+use Rattle.std.specs.Coded.{Coded, code_by, coded×, coded_bool, coded_list}
+use Rattle.config_check.specs.Checked.{Checked}
+use Rattle.config_check.specs.contracts.valid.Valid as valid
+use Rattle.node_items.specs.Told.{spelled}
+use Rattle.node_model.specs.Codes.{coded_post}
+use Rattle.node_model.specs.Maps.{Map}
+use Rattle.node_model.specs.Step.{Kind, Phase, Post, Idle, nothing}
+use Rattle.network_model.specs.Setup.{low}
+
+-- its ends are those of the control nodes, in the order of the topology
+pub record Core : Type 0 where
+  pub setup : Checked
+  pub posts : List Post
+  pub failed : Bool
+
+abbrev pub sessions : Checked → ℕ
+sessions x = length x.topology.controllers
+
+abbrev pub is_idle : Phase → Bool
+is_idle Idle = true
+is_idle _ = false
+
+-- ---- what it wants its sessions to have been told: the low-level objects of the configuration, from their opening on
+abbrev pub wanted : Checked → List Post → ℕ → Map
+wanted x posts i = low x
+
+abbrev pub may_send : ℕ → Phase → Bool
+may_send i phase = not (is_idle phase)
+
+abbrev pub kind : Checked → Kind
+kind x = record { wanted = wanted x; may_send = may_send; spelled = λ i c. spelled c }
+
+-- ---- a configuration node whose ends are all closed
+abbrev pub nothings : ℕ → List Post
+nothings zero = []
+nothings (suc n) = nothing ∷ nothings n
+
+abbrev pub fresh : Checked → Core
+fresh x = record { setup = x; posts = nothings (sessions x); failed = false }
+
+-- ---- how configuration nodes are told apart
+abbrev pub coded_core : Coded Core
+coded_core =
+    code_by (Checked × (List Post × Bool)) (coded× valid.the_row.coded (coded× (coded_list coded_post) coded_bool))
+    (λ n. (n.setup, (n.posts, n.failed))) (λ c. record { setup = c.0; posts = c.1.0; failed = c.1.1 }) (λ _. refl)

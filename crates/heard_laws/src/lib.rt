@@ -1,0 +1,2 @@
+//! What a message is to the node that takes its octets: laws alone.
+#![tactic(auto)]

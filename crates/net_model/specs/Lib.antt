@@ -1,0 +1,6 @@
+-- The files of definitions, in the order in which they stand on each other.
+pub mod Seats
+pub mod Steps
+pub mod Stands
+pub mod Telling
+pub mod Taking

@@ -1,0 +1,37 @@
+-- What a message makes of the end that takes it, as the node sees it.
+use Rattle.std.specs.Prelude.{◌≡◌, ℕ, List, [], ◌∷◌, map, Bool, true, false, if◌then◌else◌}
+use Rattle.std.specs.declared.option.Option.TheVariants.{Some, None}
+use Rattle.ov_sync.specs.Keyed.{changed}
+use Rattle.node_model.specs.Maps.{Map}
+use Rattle.node_model.specs.Step.{Begun, Phase, Opened, Post}
+use Rattle.network_model.specs.Session.{Message, Open, Keepalive, Hello, Carries}
+use Rattle.net_model.specs.Seats.{Who}
+use Rattle.net_model.specs.Stands.{octets_of}
+
+-- a right OPEN is answered with a KEEPALIVE, and nothing else is answered
+abbrev pub replies_to : Bool → Phase → Message → List Message
+replies_to true Opened Open = Keepalive ∷ []
+replies_to _ _ _ = []
+
+abbrev pub held_after : Message → Map → Map
+held_after (Carries c) held = changed held c
+held_after m held = held
+
+abbrev pub greeting_of : Bool → Message
+greeting_of peering = if peering then Open else Hello
+
+-- the end that took a message, whose cell leads to this state
+abbrev pub taken : Who → Bool → Post → Message → Phase → Begun
+taken who peering p m next = record {
+  replies = map (octets_of who peering) (replies_to peering p.phase m);
+  after = Some (record { phase = next; sent = p.sent; held = held_after m p.held });
+}
+
+abbrev pub opened : Who → Bool → Post → Begun
+opened who peering p = record {
+  replies = octets_of who peering (greeting_of peering) ∷ [];
+  after = Some (record p { phase = Opened });
+}
+
+abbrev pub closed : Begun
+closed = record { replies = []; after = None }

@@ -1,0 +1,9 @@
+//! What the nodes of a network have, with what is in flight between them, and which state of the network's machine that
+//! is.
+#![tactic(auto)]
+
+mod place;
+mod stations;
+
+pub use place::Place;
+pub use stations::Stations;
