@@ -70,7 +70,7 @@ all_member P x [] all m = absurd m
 all_member P x (y ∷ xs) all (inl e) = subst P e all.0
 all_member P x (y ∷ xs) all (inr m) = all_member P x xs all.1 m
 
-list_member : {X : Type 0} (p : X → Bool) (x : X) (xs : List X) → list_all p xs ≡ true → Member x xs → p x ≡ true
+pub list_member : {X : Type 0} (p : X → Bool) (x : X) (xs : List X) → list_all p xs ≡ true → Member x xs → p x ≡ true
 list_member p x [] e m = absurd m
 list_member p x (y ∷ xs) e (inl is) = ap p (sym is) ∙ (and_parts (p y) (list_all p xs) e).0
 list_member p x (y ∷ xs) e (inr m) = list_member p x xs (and_parts (p y) (list_all p xs) e).1 m
