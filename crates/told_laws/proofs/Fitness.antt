@@ -21,7 +21,7 @@ use Rattle.node_model.specs.Values.{Entry, Route, Value}
 use Rattle.node_peers.specs.First.{RouteFitsItsTypes}
 use Rattle.node_peers.specs.Told.{IsWritable}
 use Rattle.network_model.specs.Session.{Role, are_peers}
-use Rattle.net_model.specs.Telling.{CanCarry, CanCarryBy, IsRecordChange, IsRouteChange, from_of}
+use Rattle.net_model.specs.Telling.{CanCarry, CanCarryAs, IsRecordChange, IsRouteChange, from_of}
 
 -- ---- entries
 -- whose records may say of a key
@@ -129,7 +129,7 @@ route_change (Drop k) (v, h) = absurd h
 
 pub can_carry : (from to : Role) (c : Change) → ChangeOf (IsFit from to) c → CanCarry from to c
 can_carry from to c h =
-    elim (are_peers from to) as (λ b. ChangeOf (FitsBy b (from_of from to)) c → CanCarryBy b (from_of from to) c) [
+    elim (are_peers from to) as (λ b. ChangeOf (FitsBy b (from_of from to)) c → CanCarryAs b (from_of from to) c) [
       | true ↦ route_change c
       | false ↦ record_change (from_of from to) c
     ] h
