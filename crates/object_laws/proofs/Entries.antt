@@ -1,5 +1,5 @@
 -- Each entry of an access list of a valid configuration has its members within their ranges.
-use Rattle.std.proofs.Common.{◌≡◌, inl, inr, ◌&&◌, ◌+◌, ◌*◌, ◌≤◌, ◌<◌, ℕ, Bool, true, false, cond, IsTrue, List, [], ◌∷◌, length, nat_le, refl, sym, ap, ◌∙◌, subst, arith}
+use Rattle.std.proofs.Common.{◌≡◌, inl, inr, ◌&&◌, ◌+◌, ◌*◌, ◌≤◌, ℕ, Bool, true, false, cond, IsTrue, List, [], ◌∷◌, length, nat_le, refl, ap, ◌∙◌, subst, arith}
 use Rattle.std.specs.List.{Contains}
 use Rattle.std.proofs.lemmas.Bool.{and_from, and_parts, leb-true, le-leb}
 use Rattle.std.proofs.lemmas.List.Elements.{All-contains, Contains-append_cases}
@@ -7,7 +7,6 @@ use Rattle.ov_types.specs.First.{same_name}
 use Rattle.ov_types.specs.Name.{is_name}
 use Rattle.ov_types.specs.declared.objects.AclRule.{AclRule}
 use Rattle.ov_types.specs.declared.packet.Range16.{Range16}
-use Rattle.ov_types.specs.declared.packet.RuleNo.{RuleNo}
 use Rattle.ov_types.proofs.FirstLemmas.{contains_at, contains_cases}
 use Rattle.config_model.specs.Form.{has_action_form, has_config_form, has_protocol_form}
 use Rattle.config_model.specs.declared.config.Action.{Action}
@@ -18,7 +17,6 @@ use Rattle.config_model.specs.declared.config.Policy.{Policy}
 use Rattle.config_model.specs.declared.config.Protocol.{Protocol}
 use Rattle.config_model.specs.declared.config.Protocol.TheVariants.{Any, Number}
 use Rattle.config_model.specs.declared.topology.Topology.{Topology}
-use Rattle.chain_expand.specs.Expansion.{expansion}
 use Rattle.network_rules.specs.Matching.{speaks_both_ways}
 use Rattle.network_rules.specs.Related.{fits, rules_between}
 use Rattle.network_rules.specs.Standing.{IsBetween}

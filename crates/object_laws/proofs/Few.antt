@@ -12,7 +12,6 @@ use Rattle.std.proofs.lemmas.List.Sorted.{length_permutation}
 use Rattle.std.proofs.lemmas.Map.Views.{Contains-from_any}
 use Rattle.ov_types.specs.First.{same_name}
 use Rattle.ov_types.specs.declared.numbers.InstanceId.{InstanceId}
-use Rattle.ov_types.specs.declared.objects.AclRule.{AclRule}
 use Rattle.ov_types.proofs.FirstLemmas.{same_name_iff}
 use Rattle.config_model.specs.Form.{has_config_form}
 use Rattle.config_model.specs.declared.config.Config.{Config}
@@ -91,8 +90,8 @@ module _ (t : Topology) (c : Config) (form : IsTrue (has_config_form c)) (v : Is
       let bounded = all_bounded c (λ p. attaches a p && attaches b p) ordered bounds refl in
       let each : (p : Policy) → Contains ordered p → length (numbered_rules p) ≤ 16 =
       λ p at.
-          let most = (All-contains IsBounded ordered p bounded at).rules in
-          omega (arith, most, length_numbered p.sequence 1 p.rules) in
+      let most = (All-contains IsBounded ordered p bounded at).rules in
+      omega (arith, most, length_numbered p.sequence 1 p.rules) in
       let all = length_sixteen numbered_rules ordered each in
       omega (
         arith,

@@ -1,5 +1,5 @@
 -- What the written form says of each object of a configuration and of a topology.
-use Rattle.std.proofs.Common.{◌≡◌, ◌<◌, ◌≤◌, ◌^◌, ◌&&◌, ℕ, Bool, true, IsTrue, List, length, nat_le, nat_lt}
+use Rattle.std.proofs.Common.{◌≡◌, ◌≤◌, ◌^◌, ◌&&◌, true, IsTrue, length, nat_le, nat_lt}
 use Rattle.std.specs.List.{Contains, list_all}
 use Rattle.std.proofs.lemmas.Bool.{and_from, and_parts, leb-true}
 use Rattle.ov_types.specs.Name.{is_name}
@@ -17,7 +17,7 @@ use Rattle.config_model.specs.declared.config.Service.{Service}
 use Rattle.config_model.specs.declared.topology.Node.{Node}
 use Rattle.config_model.specs.declared.topology.Topology.{Topology}
 use Rattle.item_wire.specs.Ranges.{are_ports, is_block, is_network}
-use Rattle.object_laws.proofs.Lists.{each_passes, passes_at}
+use Rattle.object_laws.proofs.Lists.{passes_at}
 
 -- ---- the five lists of a configuration
 record Lists (c : Config) : Type 0 where

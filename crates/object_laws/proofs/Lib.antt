@@ -6,3 +6,5 @@ pub mod Forms
 pub mod Services
 pub mod Few
 pub mod Entries
+pub mod Each
+pub mod Law

@@ -1,9 +1,9 @@
 -- How long lists are that others bound, and tests that each item passes.
-use Rattle.std.proofs.Common.{◌≡◌, ◌≢◌, ℕ, ◌*◌, ◌≤◌, ◌<◌, Bool, true, false, IsTrue, List, [], ◌∷◌, length, filter, flat_map, get_or, inl, inr, refl, sym, subst, arith}
-use Rattle.std.proofs.Common.{length-append, ◌∙◌}
+use Rattle.std.proofs.Common.{◌≡◌, ◌≢◌, ◌*◌, ◌≤◌, Bool, true, List, [], ◌∷◌, length, filter, flat_map, get_or, inl, inr, refl, subst, arith}
+use Rattle.std.proofs.Common.{length-append}
 use Rattle.std.specs.Bool.{Decides}
 use Rattle.std.specs.Cmp.{IsEquivalence}
-use Rattle.std.specs.List.{All, AllPairs, AllZip, Contains, list_all}
+use Rattle.std.specs.List.{AllPairs, AllZip, Contains, list_all}
 use Rattle.std.proofs.lemmas.List.Elements.{All-contains, Contains-get_or}
 use Rattle.std.proofs.lemmas.List.Sums.{count_by-le-length, length-filter}
 use Rattle.std.proofs.lemmas.Map.Made.{IsDistinct-from_AllPairs, length-le_from_is_member}

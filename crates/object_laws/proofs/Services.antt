@@ -1,5 +1,5 @@
--- Each chain of a valid configuration of the written form leads through some service.
-use Rattle.std.proofs.Common.{◌≡◌, ◌⊎◌, inl, inr, ℕ, ◌≤◌, Bool, true, false, IsTrue, List, [], ◌∷◌, ◌++◌, length, map, Option, Some, None, refl, sym, ap, ◌∙◌, subst, arith}
+-- Each chain of a valid configuration of the written form, and each use of one, leads through some service.
+use Rattle.std.proofs.Common.{◌≡◌, inl, inr, ℕ, ◌≤◌, true, false, IsTrue, List, [], ◌++◌, length, Option, Some, None, refl, sym, ap, ◌∙◌, subst, arith}
 use Rattle.std.proofs.Common.{length-append}
 use Rattle.std.specs.List.{All, Contains, find}
 use Rattle.std.specs.Option.{IsSome, option_map_or}
@@ -7,19 +7,26 @@ use Rattle.std.proofs.lemmas.List.Elements.{All-contains, Contains-append_cases}
 use Rattle.ov_types.specs.First.{same_name}
 use Rattle.ov_types.proofs.FirstLemmas.{find_none, found_is, same_name_iff}
 use Rattle.config_model.specs.Form.{has_config_form}
+use Rattle.config_model.specs.declared.config.Action.TheVariants.{Through}
 use Rattle.config_model.specs.declared.config.Chain.{Chain}
 use Rattle.config_model.specs.declared.config.Config.{Config}
+use Rattle.config_model.specs.declared.config.Rule.{Rule}
 use Rattle.config_model.specs.declared.config.Service.{Service}
 use Rattle.config_model.specs.declared.topology.Topology.{Topology}
-use Rattle.chain_expand.specs.Expansion.{chain_named, expansion, hops_of, service_named}
+use Rattle.chain_expand.specs.Expansion.{chain_named, expansion, hops_of}
 use Rattle.chain_expand.specs.Leading.{Expands, IsLoopFree, NamesThings}
 use Rattle.chain_expand.specs.Leading.Expands.{of_chain, of_nothing, of_service}
 use Rattle.chain_expand.proofs.ExpandsLaws.{expansion_expands}
 use Rattle.chain_expand.proofs.OkLaws.{loop_free}
-use Rattle.config_check.specs.Rules.{chain_names, service_names}
-use Rattle.config_check.specs.Sentences.{IsValid}
+use Rattle.network_rules.specs.Related.{all_rules}
+use Rattle.network_rules.specs.declared.numbered.NumberedRule.{NumberedRule}
+use Rattle.config_check.specs.Rules.{chain_names, network_names, service_names}
+use Rattle.config_check.specs.Sentences.{ChainExists, EndExists, IsValid}
 use Rattle.config_check.proofs.EachRule.{straight_iff}
 use Rattle.config_check.proofs.Straight.{no_loop}
+use Rattle.transform_model.specs.IsUse.{IsUse}
+use Rattle.transform_model.specs.Uses.{Use}
+use Rattle.transform_model.proofs.InUse.{among_all, numbered}
 use Rattle.transform_model.proofs.Lists.{mapped_is}
 use Rattle.object_laws.proofs.Forms.{chain_has_hops}
 
@@ -69,7 +76,7 @@ module _ (t : Topology) (c : Config) (form : IsTrue (has_config_form c)) (v : Is
       subst (λ (ss : List Service). 1 ≤ length ss) (sym e) (omega (arith, length-append inner rest, first))
 
   -- a chain of the configuration has a service
-  pub has_services : (d : Chain) → Contains c.chains d → 1 ≤ length (expansion c d.name)
+  has_services : (d : Chain) → Contains c.chains d → 1 ≤ length (expansion c d.name)
   has_services d at = by (chain_named c d.name) refl
     where
       by : (o : Option Chain) → chain_named c d.name ≡ o → 1 ≤ length (expansion c d.name)
@@ -82,3 +89,17 @@ module _ (t : Topology) (c : Config) (form : IsTrue (has_config_form c)) (v : Is
           let hops : hops_of c d.name ≡ f.hops = ap (λ (o : Option Chain). option_map_or (λ d. d.hops) o []) e in
           let some : 1 ≤ length (hops_of c d.name) = subst (λ (hs : List (List ℕ)). 1 ≤ length hs) (sym hops) (chain_has_hops c form f within.1) in
           some_services (expansion_expands c d.name (is_loop_free d.name) (names_things d.name)) some
+
+  -- and so has a use
+  pub some_of_use : (u : Use) → IsUse c u → 1 ≤ length u.services
+  some_of_use u h =
+      let x = numbered h.policy h.rule h.has_rule in
+      let there = among_all c h.policy x.0 h.has_policy x.1 in
+      let referents = All-contains (λ (r : NumberedRule). EndExists (network_names c) r.rule.source × EndExists (network_names c) r.rule.destination
+      × ChainExists (chain_names c) r.rule.action) (all_rules c) x.0 v.references.rules there in
+      let leads : x.0.rule.action ≡ Through h.chain u.number = ap (λ (r : Rule). r.action) x.2 ∙ h.leads in
+      let chain : Contains (chain_names c) h.chain = subst (ChainExists (chain_names c)) leads referents.2 in
+      let d = mapped_is (λ (d : Chain). d.name) c.chains h.chain chain in
+      let some = has_services d.0 d.1 in
+      let same : length u.services ≡ length (expansion c d.0.name) = ap length h.services ∙ ap (λ (name : List ℕ). length (expansion c name)) (sym d.2) in
+      omega arith

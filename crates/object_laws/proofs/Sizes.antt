@@ -1,5 +1,5 @@
 -- How few octets the entries of records take, and lists of them.
-use Rattle.std.proofs.Common.{◌≡◌, ℕ, ◌+◌, ◌*◌, ◌<◌, ◌≤◌, ◌^◌, ◌&&◌, Bool, true, false, List, [], ◌∷◌, length, map, nat_le}
+use Rattle.std.proofs.Common.{◌≡◌, ℕ, ◌+◌, ◌*◌, ◌<◌, ◌≤◌, ◌&&◌, Bool, true, false, List, [], ◌∷◌, length, map, nat_le}
 use Rattle.std.proofs.Common.{Option, Some, None, decimal, arith}
 use Rattle.std.specs.List.{list_all}
 use Rattle.std.proofs.lemmas.Bool.{and_parts, leb-true}
@@ -16,7 +16,7 @@ use Rattle.ov_types.specs.declared.packet.Range16.{Range16}
 use Rattle.ov_types.specs.declared.packet.RuleNo.{RuleNo}
 use Rattle.ov_types.specs.declared.prefix.Addr.{Addr}
 use Rattle.item_wire.specs.Entries.{is_from_to}
-use Rattle.item_wire.specs.Ranges.{is_network, is_node_address, is_block, is_import, is_hop, is_protocol, are_ports, is_action, is_rule_number, is_rule}
+use Rattle.item_wire.specs.Ranges.{is_node_address, is_block, is_import, is_hop, is_protocol, are_ports, is_action, is_rule_number, is_rule}
 use Rattle.item_wire.specs.Records.{prefix_record, import_record, hop_record, protocol_record, action_record, rule_record}
 use Rattle.item_wire.proofs.ShortRecords.{length_address, length_prefix}
 use Rattle.item_wire.proofs.Weights.{comma_weight, weight, items_weight}
