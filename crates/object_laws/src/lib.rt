@@ -1,4 +1,4 @@
-//! The low-level objects of a valid configuration can be told: laws alone.
+//! The low-level objects of a valid configuration can be told: a law, and a function that knows what it asks of types.
 #![tactic(auto)]
 
 ghost use Rattle.std.specs.Prelude.{◌≡◌, IsTrue, None};
@@ -9,6 +9,10 @@ ghost use Rattle.config_check.specs.Checked.{Checked};
 ghost use Rattle.config_check.specs.Rules.{first_broken};
 ghost use Rattle.node_items.specs.Told.{AllFit};
 ghost use Rattle.network_model.specs.Setup.{low};
+
+mod typed;
+
+pub use typed::know_subnets;
 
 /// Each low-level object of a valid configuration of the written form, whose subnets have addresses of 32 bits as their
 /// type has them, has a record: all of its members are within their ranges, and it is short enough.
