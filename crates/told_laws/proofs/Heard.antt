@@ -1,7 +1,7 @@
--- At every moment all that is in flight can be heard, where the low-level objects of valid configurations can be told.
+-- At every moment all that is in flight can be heard.
 use Rattle.std.specs.List.{AllByRecursion}
 use Rattle.std.specs.Prelude.{List, map, [], ◌∷◌}
-use Rattle.std.proofs.Common.{refl, subst, sym}
+use Rattle.std.proofs.Common.{subst, sym}
 use Rattle.ov_sync.proofs.KeyedLaws.{empty_values}
 use Rattle.config_check.specs.Checked.{Checked}
 use Rattle.node_model.specs.Keys.{key_cmp}
@@ -13,15 +13,16 @@ use Rattle.network_model.proofs.Start.{start_each}
 use Rattle.network_laws.proofs.EachFact.{after_keeps}
 use Rattle.compiled_laws.specs.Goal.{HasRoles}
 use Rattle.compiled_laws.proofs.Placing.{is_laid}
+use Rattle.object_laws.proofs.Law.{low_fits}
 use Rattle.headline_laws.specs.Headline.{IsWritten}
 use Rattle.headline_laws.proofs.Written.{sound_setup}
 use Rattle.net_model.specs.Stands.{any_size}
 use Rattle.net_model.specs.Telling.{CanBeHeard, CanSend}
 use Rattle.told_laws.specs.Moments.{IsMoment}
 use Rattle.told_laws.proofs.Fitness.{IsFit, can_carry}
-use Rattle.told_laws.proofs.Moments.{Follows, all_follow}
+use Rattle.told_laws.proofs.Moments.{Follows, all_follow, at_first}
 use Rattle.told_laws.proofs.SentFact.{EntriesOf, IsSent, MessageOf, MessagesOf, SentAt, sent_keeps}
-use Rattle.told_laws.proofs.Wanted.{LowFits, back, wants_fit}
+use Rattle.told_laws.proofs.Wanted.{back, wants_fit}
 
 -- ---- at the start
 abbrev NothingSent : Session → Type 0
@@ -66,16 +67,16 @@ all_heard x (s ∷ ss) f = (
   all_heard x ss f.1,
 )
 
-module _ (low_fits : LowFits) (w : Network) (m : IsMoment w) where
+module _ (w : Network) (m : IsMoment w) where
   abbrev opening : Checked
   opening = m.opening
 
   sent_now : Each (AllSent opening) (after any_size (start opening) m.events).sessions
   sent_now =
       (after_keeps any_size (Follows opening) (AllSent opening) (λ s k. EntriesOf (IsFit s.near.role s.far.role) k)
-      (sent_keeps IsFit (HasRoles opening) (back opening) any_size (Follows opening) (wants_fit low_fits opening (Follows opening) (λ y f. f.written)))
-      (start opening) m.events (all_follow opening m.written m.events m.edits)
-      (record { topology = refl; written = m.written }, start_sent opening m.written)).1
+      (sent_keeps IsFit (HasRoles opening) (back opening) any_size (Follows opening) (wants_fit opening (Follows opening) (λ y f. (f.written.topology, low_fits y f.written.topology f.written.config f.subnets f.written.valid))))
+      (start opening) m.events (all_follow opening m.written m.subnets m.events m.edits)
+      (at_first opening m.written m.subnets m.events m.edits, start_sent opening m.written)).1
 
   pub heard : AllByRecursion CanBeHeard w.sessions
   heard = subst (λ (w : Network). AllByRecursion CanBeHeard w.sessions) (sym m.is) (all_heard opening (after any_size (start opening) m.events).sessions sent_now)

@@ -14,12 +14,11 @@ use Rattle.ov_types.specs.Name.{is_name}
 use Rattle.ov_types.specs.declared.objects.LowKey.{LowKey}
 use Rattle.ov_types.specs.declared.objects.LowValue.{LowValue}
 use Rattle.item_wire.specs.declared.event.ItemFrom.TheVariants as From
-use Rattle.config_model.specs.Form.{has_config_form, has_controller_form, has_node_form, has_topology_form, is_as_number, is_from_to, is_node_address, is_node_name}
+use Rattle.config_model.specs.Form.{has_controller_form, has_node_form, has_topology_form, is_as_number, is_from_to, is_node_address, is_node_name}
 use Rattle.config_model.specs.declared.topology.Node.{Node}
 use Rattle.config_model.specs.declared.topology.Topology.{Topology}
 use Rattle.config_check.specs.Checked.{Checked}
 use Rattle.config_check.specs.Finding.{node_named}
-use Rattle.config_check.specs.Rules.{first_broken}
 use Rattle.transform_model.specs.Objects.{low_objects}
 use Rattle.transform_model.proofs.Rows.{node_is}
 use Rattle.node_items.specs.Told.{AllFit}
@@ -40,18 +39,11 @@ use Rattle.network_model.proofs.Feed.{entries-low}
 use Rattle.network_model.proofs.Twins.{all_to_own, each_and, each_weaker}
 use Rattle.compiled_laws.specs.Goal.{HasRoles, role_of}
 use Rattle.compiled_laws.proofs.Views.{all_have, own_named, peers_have, views}
-use Rattle.headline_laws.specs.Headline.{IsWritten}
 use Rattle.headline_laws.proofs.Lists.{member_of}
 use Rattle.told_laws.proofs.Controlled.{AgentFits, HeldFit, agent_wants, list_member, peers_want}
 use Rattle.told_laws.proofs.Fitness.{FitsItem, FitsPeer, IsFit}
 use Rattle.told_laws.proofs.Forwarded.{agent_tells}
 use Rattle.told_laws.proofs.SentFact.{EntriesOf, IsSent, WantsFit}
-
--- the low-level objects of a valid configuration can be told
-abbrev pub LowFits : Type 0
-LowFits =
-    (x : Checked) → IsTrue (has_topology_form x.topology) → IsTrue (has_config_form x.config)
-    → first_broken x.topology x.config ≡ None → AllFit (low x)
 
 -- ---- numbers of a topology
 topology_parts : (t : Topology) → IsTrue (has_topology_form t) → (is_as_number t.asn ≡ true) × (list_all has_node_form t.nodes ≡ true)
@@ -175,22 +167,21 @@ module _ (x : Checked) where
       (each_and NearFit (λ s. s.near.name ≡ n) own (all_to_own NearFit n ss (each_weaker (IsSent IsFit (HasRoles x) back) (λ s. NearFit s × NearFit (turned s)) both_fit ss f)) (own_named n ss))
 
 -- ---- of every node
-module _ (low_fits : LowFits) where
-  module _ (x : Checked) (written : IsWritten x) (own : List Session) where
-    by_roles : (r q : Role) (s : Session) → EntriesOf (IsFit q r) s.near.held → Each (HeldBy r) own → EntriesOf (IsFit r q) (wanted_from x (views own) (record (view s) { other_role = q }) r)
-    by_roles Configuration q s f h = low_fed x (low_fits x written.topology written.config written.valid)
-    by_roles Agent q s f h = agent_tells (agent_holdings x s.near.name (views own)) (agent_fit x s.near.name own h)
-    by_roles Controller Configuration s f h = empty_values key_cmp (IsFit Controller Configuration)
-    by_roles Controller Controller s f h = peers_want (control_holdings x (views own)) (control_fit x written.topology own h)
-    by_roles Controller Agent s f h =
-        agent_wants (control_holdings x (views own)) (control_fit x written.topology own h) (told_by_agent x 0 (view s)) (record { map = f; address = small_address x written.topology s.far.name })
+module _ (x : Checked) (form : IsTrue (has_topology_form x.topology)) (fits : AllFit (low x)) (own : List Session) where
+  by_roles : (r q : Role) (s : Session) → EntriesOf (IsFit q r) s.near.held → Each (HeldBy r) own → EntriesOf (IsFit r q) (wanted_from x (views own) (record (view s) { other_role = q }) r)
+  by_roles Configuration q s f h = low_fed x fits
+  by_roles Agent q s f h = agent_tells (agent_holdings x s.near.name (views own)) (agent_fit x s.near.name own h)
+  by_roles Controller Configuration s f h = empty_values key_cmp (IsFit Controller Configuration)
+  by_roles Controller Controller s f h = peers_want (control_holdings x (views own)) (control_fit x form own h)
+  by_roles Controller Agent s f h =
+      agent_wants (control_holdings x (views own)) (control_fit x form own h) (told_by_agent x 0 (view s)) (record { map = f; address = small_address x form s.far.name })
 
-    on_one : (r : Role) (s : Session) → Each (HeldBy r) own → HeldBy r s → EntriesOf (IsFit s.near.role s.far.role) (wanted x (views own) (view s))
-    unfolding wanted
-    on_one r s h f = subst (λ r. EntriesOf (IsFit r s.far.role) (wanted_from x (views own) (view s) r)) (sym f.near) (by_roles r s.far.role s f.held h)
+  on_one : (r : Role) (s : Session) → Each (HeldBy r) own → HeldBy r s → EntriesOf (IsFit s.near.role s.far.role) (wanted x (views own) (view s))
+  unfolding wanted
+  on_one r s h f = subst (λ r. EntriesOf (IsFit r s.far.role) (wanted_from x (views own) (view s) r)) (sym f.near) (by_roles r s.far.role s f.held h)
 
-  pub wants_fit : (x : Checked) (Valid : Checked → Type 0) → ((y : Checked) → Valid y → IsWritten y) → WantsFit IsFit (HasRoles x) (back x) Valid
-  wants_fit x Valid written y ss n v f =
-      let own = sessions_of n ss in
-      let held = all_held x n ss f in
-      each_weaker (HeldBy (role_of x n)) (λ s. EntriesOf (IsFit s.near.role s.far.role) (wanted y (views_of n ss) (view s))) (λ s. on_one y (written y v) own (role_of x n) s held) own held
+pub wants_fit : (x : Checked) (Valid : Checked → Type 0) → ((y : Checked) → Valid y → IsTrue (has_topology_form y.topology) × AllFit (low y)) → WantsFit IsFit (HasRoles x) (back x) Valid
+wants_fit x Valid facts y ss n v f =
+    let own = sessions_of n ss in
+    let held = all_held x n ss f in
+    each_weaker (HeldBy (role_of x n)) (λ s. EntriesOf (IsFit s.near.role s.far.role) (wanted y (views_of n ss) (view s))) (λ s. on_one y (facts y v).0 (facts y v).1 own (role_of x n) s held) own held
