@@ -38,7 +38,7 @@ nothing_sent x = start_each NothingSent (λ n m r q. record {
   far_flight = tt;
 }) x
 
--- a session with these roles, of which nothing is asked of what it sent but that it is fit
+-- the nodes have the roles of their names, and all that was sent on the session is fit
 abbrev pub AllSent : Checked → Session → Type 0
 AllSent x = IsSent IsFit (HasRoles x) (back x)
 

@@ -1,6 +1,6 @@
 -- What a moment's configuration and sessions are, and the moment after the next event.
 use Rattle.std.specs.Option.{option_map}
-use Rattle.std.specs.Prelude.{IsTrue, List, map, ℕ, [], ◌++◌, ◌<◌, ◌∷◌, ◌≡◌}
+use Rattle.std.specs.Prelude.{IsTrue, List, map, [], ◌++◌, ◌<◌, ◌∷◌, ◌≡◌}
 use Rattle.std.specs.declared.option.Option.TheVariants.{None, Some}
 use Rattle.std.specs.declared.option.Option.{Option}
 use Rattle.std.proofs.Common.{ap, arith, refl, subst, sym, ◌∙◌}
@@ -21,8 +21,8 @@ use Rattle.node_model.proofs.Members.{none_some}
 use Rattle.network_model.specs.Events.{Event, after, next}
 use Rattle.network_model.specs.Moments.{ArePositive, Each, nodes}
 use Rattle.network_model.specs.Network.{Network, View, accesses, feeds, peerings, sessions_of, start, view, views_of, wanted}
-use Rattle.network_model.specs.Session.{Message, Session}
-use Rattle.network_model.specs.Setup.{Name, edited, edited_without}
+use Rattle.network_model.specs.Session.{Session}
+use Rattle.network_model.specs.Setup.{edited, edited_without}
 use Rattle.network_model.proofs.NodesFact.{after_nodes}
 use Rattle.network_laws.specs.Settling.{EditIsValid, EditsAreValid, FairMap, WantsFair}
 use Rattle.network_laws.proofs.EachFact.{edits_valid}
@@ -111,7 +111,10 @@ moment_sessions w m =
     ∙ after_nodes any_size (start m.opening) m.events
     ∙ sym (same_start m.opening w.setup (follows_now w m).topology)
 
--- ---- the next event
+-- ---- the first moment, and the next event
+pub moment_start : (x : Checked) → IsWritten x → HasSubnets x → IsMoment (start x)
+moment_start x written subnets = record { opening = x; written = written; subnets = subnets; events = []; edits = tt; is = refl }
+
 after_one_more : (w : Network) (es : List Event) (e : Event) → after any_size w (es ++ e ∷ []) ≡ next any_size (after any_size w es) e
 after_one_more w [] e = refl
 after_one_more w (f ∷ es) e = after_one_more (next any_size w f) es e

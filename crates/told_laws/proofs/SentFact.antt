@@ -16,7 +16,7 @@ use Rattle.node_model.specs.Values.{Value, same_value}
 use Rattle.node_model.proofs.Orders.{key_exact, key_total}
 use Rattle.network_model.specs.Moments.{Each, Nodes, nodes}
 use Rattle.network_model.specs.Network.{sessions_of, view, views_of, wanted}
-use Rattle.network_model.specs.Session.{Carries, Hello, Keepalive, Message, Open, Role, Session, arrived, closed, greeting, is_peering, item_took, lost, may_send, octets_arrived, opened, passed, peer_took, shut, told, took, took_first, took_octets, turned, with_breaks, with_phase, without_first}
+use Rattle.network_model.specs.Session.{Carries, Hello, Keepalive, Message, Open, Role, Session, arrived, closed, greeting, is_peering, item_took, may_send, octets_arrived, opened, passed, peer_took, shut, told, took, took_first, took_octets, with_breaks, with_phase, without_first}
 use Rattle.network_model.specs.Setup.{Name}
 use Rattle.network_model.proofs.NetworkFact.{opened_nodes, passed_nodes}
 use Rattle.network_model.proofs.NodesFact.{arrived_nodes, octets_nodes}
@@ -65,7 +65,7 @@ module _ (P : Key → Value → Type 0) where
   no_entries : EntriesOf empty
   no_entries = empty_values key_cmp P
 
--- `fit` says what a node of the one role may tell one of the other, `placed` what holds of the nodes of sessions
+-- `fit` says what a node of the one role may tell one of the other
 module _ (fit : Role → Role → Key → Value → Type 0) where
   -- on a session whose near end has the one role and whose far end has the other
   pub record SentAt (p q : Role) (s : Session) : Type 0 where
@@ -169,6 +169,7 @@ module _ (fit : Role → Role → Key → Value → Type 0) where
             | false ↦ octets_sent s.far.flight n s f.far_flight f
           ]
 
+-- and `placed` what holds of the nodes of a session
 module _ (fit : Role → Role → Key → Value → Type 0) (placed : Nodes → Type 0) (back : (p : Nodes) → placed p → placed (p.1, p.0)) where
   pub record IsSent (s : Session) : Type 0 where
     pub place : placed (nodes s)

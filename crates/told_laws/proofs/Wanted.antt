@@ -5,14 +5,12 @@ use Rattle.std.specs.Option.{option_map, unwrap_or}
 use Rattle.std.specs.Prelude.{IsTrue, List, cond, false, length, map, nat_le, not, true, ℕ, [], ◌&&◌, ◌+◌, ◌<◌, ◌==◌, ◌^◌, ◌∷◌, ◌≡◌, ◌≤◌}
 use Rattle.std.specs.declared.option.Option.TheVariants.{None, Some}
 use Rattle.std.specs.declared.option.Option.{Option}
-use Rattle.std.proofs.Common.{ap, arith, inl, inr, refl, subst, sym, ◌∙◌}
+use Rattle.std.proofs.Common.{ap, arith, refl, subst, sym, ◌∙◌}
 use Rattle.std.proofs.lemmas.Bool.{and_parts, leb-true}
 use Rattle.ov_sync.specs.Keyed.{Values}
 use Rattle.ov_sync.proofs.KeyedLaws.{empty_values}
 use Rattle.ov_types.specs.First.{same_name}
 use Rattle.ov_types.specs.Name.{is_name}
-use Rattle.ov_types.specs.declared.objects.LowKey.{LowKey}
-use Rattle.ov_types.specs.declared.objects.LowValue.{LowValue}
 use Rattle.item_wire.specs.declared.event.ItemFrom.TheVariants as From
 use Rattle.config_model.specs.Form.{has_controller_form, has_node_form, has_topology_form, is_as_number, is_from_to, is_node_address, is_node_name}
 use Rattle.config_model.specs.declared.topology.Node.{Node}
@@ -32,7 +30,7 @@ use Rattle.node_model.specs.Wants.{slice_entry}
 use Rattle.node_model.proofs.Members.{from_map, member_get}
 use Rattle.node_model.proofs.Orders.{key_exact, key_total}
 use Rattle.network_model.specs.Moments.{Each, Nodes}
-use Rattle.network_model.specs.Network.{View, address_of, agent_holdings, control_holdings, first_held, heard_from, same_role, sessions_of, told_by_agent, view, views_of, wanted, wanted_from, with_role}
+use Rattle.network_model.specs.Network.{address_of, agent_holdings, control_holdings, first_held, heard_from, same_role, sessions_of, told_by_agent, view, views_of, wanted, wanted_from, with_role}
 use Rattle.network_model.specs.Session.{Agent, Configuration, Controller, Role, Session, is_up_phase, turned}
 use Rattle.network_model.specs.Setup.{Name, low}
 use Rattle.network_model.proofs.Feed.{entries-low}
