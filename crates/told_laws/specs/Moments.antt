@@ -9,14 +9,18 @@ use Rattle.network_laws.specs.Settling.{EditsAreValid}
 use Rattle.headline_laws.specs.Headline.{IsOfForm, IsWritten}
 use Rattle.net_model.specs.Stands.{any_size}
 
--- of the written form, and with subnets whose addresses have 32 bits, as their type has them
-abbrev pub IsTyped : Checked → Type 0
-IsTyped x = IsOfForm x × IsTrue (list_all subnets_fit x.config.networks)
+-- the addresses of subnets have 32 bits, as their type has them
+abbrev pub HasSubnets : Checked → Type 0
+HasSubnets x = IsTrue (list_all subnets_fit x.config.networks)
+
+-- what an edit puts is of the written form and of its types
+abbrev pub IsOfTypedForm : Checked → Type 0
+IsOfTypedForm x = IsOfForm x × HasSubnets x
 
 pub record IsMoment (w : Network) : Type 0 where
   pub opening : Checked
   pub written : IsWritten opening
-  pub typed : IsTyped opening
+  pub subnets : HasSubnets opening
   pub events : List Event
-  pub edits : EditsAreValid any_size IsTyped (start opening) events
+  pub edits : EditsAreValid any_size IsOfTypedForm (start opening) events
   pub is : w ≡ after any_size (start opening) events
