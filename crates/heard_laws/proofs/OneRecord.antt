@@ -1,6 +1,6 @@
 -- What the octets of one record make of an end of a session of items.
-use Rattle.std.specs.Prelude.{◌≡◌, ℕ, List, [], ◌∷◌, ◌++◌, Bool, true, false, IsTrue}
-use Rattle.std.specs.List.{filter_map, cons_option}
+use Rattle.std.specs.Prelude.{◌≡◌, ℕ, List, [], ◌∷◌, false, IsTrue}
+use Rattle.std.specs.List.{cons_option}
 use Rattle.std.specs.Borrow.{Bor}
 use Rattle.std.specs.declared.option.Option.{Option}
 use Rattle.std.specs.declared.option.Option.TheVariants.{Some, None}
@@ -22,7 +22,7 @@ use Rattle.item_wire.specs.declared.input.Came.{Came}
 use Rattle.item_wire.specs.declared.input.Came.TheVariants as Comes
 use Rattle.item_wire.specs.declared.item.Item.TheVariants.{Hello as HelloItem}
 use Rattle.node_model.specs.Maps.{Change, Map}
-use Rattle.node_model.specs.Step.{Begun, Phase, Idle, Opened, Confirmed, Up, Post}
+use Rattle.node_model.specs.Step.{Begun, Phase, Idle, Opened, Up, Post}
 use Rattle.node_model.proofs.Members.{none_some}
 use Rattle.node_items.specs.Beginning as item
 use Rattle.node_items.specs.Hearing.{GoesOn, Hears, cause_in, heard, next_in}
@@ -30,7 +30,7 @@ use Rattle.node_items.specs.Told as items
 use Rattle.node_items.proofs.Changes.{change_of_what_is_told}
 use Rattle.node_items.proofs.Records.{change_heard, hello_heard}
 use Rattle.control_node.specs.Beginning.{item_state}
-use Rattle.network_model.specs.Session.{Message, Open, Keepalive, Hello, Carries, is_idle}
+use Rattle.network_model.specs.Session.{Message, Hello, Carries, is_idle}
 use Rattle.network_model.specs.Moments.{cell}
 use Rattle.net_model.specs.Taking.{held_after}
 use Rattle.net_model.specs.Telling.{IsRecordChange}
