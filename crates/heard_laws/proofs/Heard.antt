@@ -33,7 +33,7 @@ use Rattle.net_model.specs.Seats.{Who, Configuring, Controlling, Forwarding, nam
 use Rattle.net_model.specs.Stands.{octets_of}
 use Rattle.net_model.specs.Steps.{BeginsAt}
 use Rattle.net_model.specs.Taking.{closed, opened, taken}
-use Rattle.net_model.specs.Telling.{CanSend, IsRecordChange, IsRouteChange, from_of}
+use Rattle.net_model.specs.Telling.{CanCarryAs, CanSend, IsRecordChange, from_of}
 use Rattle.heard_laws.specs.Hearing.{HasNoCause, IsBetween}
 use Rattle.heard_laws.proofs.Named.{are_nodes}
 use Rattle.heard_laws.proofs.OneMessage.{SaysRoute, message_taken}
@@ -46,7 +46,7 @@ says_item : (b : Who) (to : Role) (from : ItemFrom) (m : Message) (octets : List
     → octets ≡ octets_of b false m → SaysItem (name_of b) from m octets
 says_item b to from Hello octets named kind is can e = (e, named)
 says_item b to from (Carries c) octets named kind is can e =
-    (e, subst (λ (f : ItemFrom). IsRecordChange f c) is (subst (λ (peering : Bool). cond peering (IsRouteChange c) (IsRecordChange (from_of (role_of b) to) c)) kind can))
+    (e, subst (λ (f : ItemFrom). IsRecordChange f c) is (subst (λ (peering : Bool). CanCarryAs peering (from_of (role_of b) to) c) kind can))
 says_item b to from Open octets named kind is can e = tt
 says_item b to from Keepalive octets named kind is can e = tt
 
@@ -124,33 +124,33 @@ module _ (i : ℕ) (p : Post) (octets : Bor (List ℕ)) (given : Begun) (m : Mes
   heard : (a b : Who) → Meets a b i → IsSound b → cell (are_peers (role_of a) (role_of b)) p.phase m ≡ Some next
       → CanSend (role_of b) (role_of a) m → octets.now ≡ octets_of b (are_peers (role_of a) (role_of b)) m
       → heard_as a (are_peers (role_of a) (role_of b))
-  heard (Configuring x) (Controlling other) meets s e can is begins =
+  heard (Configuring x) (Controlling other) joined s e can is begins =
       record_taken config (configuration.controller_at x i).name From.Nothing (configuration.state_at p.phase) p i octets
       given begins.0 m next (config_state p.phase) live e
-      (subst (λ (name : List ℕ). SaysItem name From.Nothing m octets.now) (sym meets)
+      (subst (λ (name : List ℕ). SaysItem name From.Nothing m octets.now) (sym joined)
       (says_item (Controlling other) Configuration From.Nothing m octets.now s.name refl refl can is)) begins.1
-  heard (Controlling plan) (Configuring x) meets s e can is begins =
-      heard_item plan config From.Feed (first_is_no_peer plan i meets) (feed_session plan i p.phase meets) e
+  heard (Controlling plan) (Configuring x) joined s e can is begins =
+      heard_item plan config From.Feed (first_is_no_peer plan i joined) (feed_session plan i p.phase joined) e
       (says_item (Configuring x) Controller From.Feed m octets.now s.name refl refl can is) begins
-  heard (Controlling plan) (Controlling other) meets s e can is begins =
-      let b = begins_peer plan i p (input.Bytes i octets) given begins.0 meets.0 begins.1 in
+  heard (Controlling plan) (Controlling other) joined s e can is begins =
+      let b = begins_peer plan i p (input.Bytes i octets) given begins.0 joined.0 begins.1 in
       let says : SaysRoute plan.asn (control.peer_at plan i).address m octets.now =
-      subst (λ (asn : ℕ). SaysRoute asn (control.peer_at plan i).address m octets.now) meets.1
-      (subst (λ (n : NodeId). SaysRoute other.asn n.address m octets.now) (sym meets.2)
+      subst (λ (asn : ℕ). SaysRoute asn (control.peer_at plan i).address m octets.now) joined.1
+      (subst (λ (n : NodeId). SaysRoute other.asn n.address m octets.now) (sym joined.2)
       (says_route other m octets.now s can is)) in
       of_peer given (taken (Controlling plan) true p m next) begins.0 b.0 b.1
       (message_taken (Controlling plan) plan.me.address plan.asn (control.peer_at plan i) p i octets given b.0 m next live
       e says b.2)
-  heard (Controlling plan) (Forwarding other) meets s e can is begins =
-      heard_item plan (control.agent_at plan i).name From.Agent meets.0 (agent_session plan i p.phase meets.1) e
-      (subst (λ (name : List ℕ). SaysItem name From.Agent m octets.now) (sym meets.2)
+  heard (Controlling plan) (Forwarding other) joined s e can is begins =
+      heard_item plan (control.agent_at plan i).name From.Agent joined.0 (agent_session plan i p.phase joined.1) e
+      (subst (λ (name : List ℕ). SaysItem name From.Agent m octets.now) (sym joined.2)
       (says_item (Forwarding other) Controller From.Agent m octets.now s.name refl refl can is)) begins
-  heard (Forwarding plan) (Controlling other) meets s e can is begins =
+  heard (Forwarding plan) (Controlling other) joined s e can is begins =
       record_taken plan.me.name (agent.controller_at plan i).name From.Control (agent.state_at p.phase) p i octets given
       begins.0 m next (agent_state p.phase) live e
-      (subst (λ (name : List ℕ). SaysItem name From.Control m octets.now) (sym meets)
+      (subst (λ (name : List ℕ). SaysItem name From.Control m octets.now) (sym joined)
       (says_item (Controlling other) Agent From.Control m octets.now s.name refl refl can is)) begins.1
-  heard _ _ meets s e can is begins = absurd meets
+  heard _ _ joined s e can is begins = absurd joined
 
 -- ---- opening and closing
 module _ (i : ℕ) (p : Post) (given : Begun) where
@@ -165,14 +165,14 @@ module _ (i : ℕ) (p : Post) (given : Begun) where
       of_item given (opened (Controlling plan) false p) begins.0 b.0 b.1 b.2
 
   opens : (a b : Who) → Meets a b i → opens_as a (are_peers (role_of a) (role_of b))
-  opens (Configuring x) (Controlling other) meets begins = begins.1
-  opens (Controlling plan) (Configuring x) meets begins = opens_item plan (first_is_no_peer plan i meets) begins
-  opens (Controlling plan) (Controlling other) meets begins =
-      let b = begins_peer plan i p (input.Opened i) given begins.0 meets.0 begins.1 in
+  opens (Configuring x) (Controlling other) joined begins = begins.1
+  opens (Controlling plan) (Configuring x) joined begins = opens_item plan (first_is_no_peer plan i joined) begins
+  opens (Controlling plan) (Controlling other) joined begins =
+      let b = begins_peer plan i p (input.Opened i) given begins.0 joined.0 begins.1 in
       of_peer given (opened (Controlling plan) true p) begins.0 b.0 b.1 b.2
-  opens (Controlling plan) (Forwarding other) meets begins = opens_item plan meets.0 begins
-  opens (Forwarding plan) (Controlling other) meets begins = begins.1
-  opens _ _ meets begins = absurd meets
+  opens (Controlling plan) (Forwarding other) joined begins = opens_item plan joined.0 begins
+  opens (Forwarding plan) (Controlling other) joined begins = begins.1
+  opens _ _ joined begins = absurd joined
 
   closes_by : (plan : ControlPlan) (k : Bool) (c : Option NodeCause)
       → control.BeginsBy k plan i p (input.Closed i) given c → (given ≡ closed) × (c ≡ None)

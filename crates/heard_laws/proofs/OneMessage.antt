@@ -72,13 +72,13 @@ module _ (who : Who) (id : Addr) (asn : ℕ) (peer : NodeId) (sent held : Map) (
   made_by phase inputs = record {
     replies = (heard id (session_in phase) inputs).replies;
     after = route.left_by (record { phase = phase; sent = sent; held = held }) (heard id (session_in phase) inputs)
-    (heard id (session_in phase) inputs).cause;
+        (heard id (session_in phase) inputs).cause;
   }
 
   -- by the one input that the octets bring
   made : (phase : Phase) (came : Came) → BringFirst (session_in phase) octets.now came []
       → (IsProperPrefix []
-        → GoesOn (answer (session_in phase) came) [] (Hears (after (session_in phase) came) [] [])) → Begins phase
+      → GoesOn (answer (session_in phase) came) [] (Hears (after (session_in phase) came) [] [])) → Begins phase
       → (given ≡ made_by phase (came ∷ [])) × (cause ≡ (heard id (session_in phase) (came ∷ [])).cause)
   made phase came first on b =
       let one : b.0 ≡ came ∷ [] =

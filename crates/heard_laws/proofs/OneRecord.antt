@@ -94,8 +94,8 @@ module _ (me peer : List ℕ) (from : ItemFrom) (sent held : Map) (i : ℕ) (oct
       → (given ≡ record {
         replies = [];
         after = item.left_by (record { phase = phase; sent = sent; held = held })
-        (heard (session_in peer from (item_state phase)) (came ∷ []))
-        (heard (session_in peer from (item_state phase)) (came ∷ [])).cause;
+            (heard (session_in peer from (item_state phase)) (came ∷ []))
+            (heard (session_in peer from (item_state phase)) (came ∷ [])).cause;
       })
       × (cause ≡ (heard (session_in peer from (item_state phase)) (came ∷ [])).cause)
   made phase came next on b =
@@ -104,7 +104,7 @@ module _ (me peer : List ℕ) (from : ItemFrom) (sent held : Map) (i : ℕ) (oct
         b.2 ∙ ap (λ (inputs : List Came). record {
           replies = [];
           after = item.left_by (record { phase = phase; sent = sent; held = held }) (heard s inputs)
-          (heard s inputs).cause;
+              (heard s inputs).cause;
         }) one,
         b.3 ∙ ap (λ (inputs : List Came). (heard s inputs).cause) one,
       )
@@ -123,8 +123,7 @@ module _ (me peer : List ℕ) (from : ItemFrom) (sent held : Map) (i : ℕ) (oct
       let next : next_in s octets.now ≡ Some (Comes.OtherRecord told.item, []) =
       ap (next_in s) (says.0 ∙ sym (append-nil (items.spelled c))) ∙ change_heard s c told [] says.1.may in
       let m = made Up (Comes.OtherRecord told.item) next refl b in
-      let is : items.change_of told.item ≡ Some c = change_of_what_is_told c told in
-      (
+      let is : items.change_of told.item ≡ Some c = change_of_what_is_told c told in (
         m.0 ∙ ap (λ (o : Option Change). record {
           replies = [];
           after = Some (record { phase = Up; sent = sent; held = keyed.after held (cons_option o []) });

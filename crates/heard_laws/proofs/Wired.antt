@@ -1,18 +1,16 @@
 -- Which node is at the other end of a session.
-use Rattle.std.specs.Prelude.{◌≡◌, ◌≢◌, ◌⊎◌, ◌<◌, ◌≤◌, ◌+◌, ◌-◌, ◌==◌, ◌^◌, ℕ, zero, suc, List, [], ◌∷◌, ◌++◌, length, map, Bool, true, false, not}
-use Rattle.std.specs.Prelude.{find, nat_le, cond, IsTrue}
+use Rattle.std.specs.Prelude.{◌≡◌, ◌⊎◌, ◌<◌, ◌≤◌, ◌+◌, ◌-◌, ◌==◌, ◌^◌, ℕ, zero, suc, List, [], ◌∷◌, ◌++◌, length, map, Bool, true, false, not}
+use Rattle.std.specs.Prelude.{find, nat_le, nat_lt, cond, ◌&&◌, IsTrue}
 use Rattle.std.specs.Option.{unwrap_or}
 use Rattle.std.specs.List.{filter, slice_index_or}
-use Rattle.std.specs.declared.option.Option.{Option}
-use Rattle.std.specs.declared.option.Option.TheVariants.{Some, None}
+use Rattle.std.specs.declared.option.Option.TheVariants.{Some}
 use Rattle.std.proofs.Common.{refl, sym, ◌∙◌, ap, subst, inl, inr, arith}
-use Rattle.std.proofs.lemmas.Bool.{le-leb, leb-false, leb-true, lt-leb, true≢false}
+use Rattle.std.proofs.lemmas.Bool.{and_from, le-leb, leb-false, leb-true, lt-leb, ne_eqb, true≢false}
 use Rattle.std.proofs.lemmas.List.{get_or_append_left, get_or-append_right, length-append, length-map}
 use Rattle.ov_types.specs.First.{same_name}
 use Rattle.ov_types.specs.Name.{is_name}
 use Rattle.ov_types.specs.declared.rows.NodeId.{NodeId}
 use Rattle.config_model.specs.declared.topology.Node.{Node}
-use Rattle.config_model.specs.declared.topology.Topology.{Topology}
 use Rattle.config_check.specs.Checked.{Checked}
 use Rattle.node_model.specs.Members.{Member}
 use Rattle.node_model.proofs.Members.{from_filter, from_map, in_either}
@@ -72,6 +70,9 @@ in_at (x ∷ xs) (suc i) d lt = inr (in_at xs i d (omega (arith, lt)))
 split_at : (n j : ℕ) → (j < n) ⊎ (n ≤ j)
 split_at n j =
     elim (nat_le n j) as (λ b. nat_le n j ≡ b → (j < n) ⊎ (n ≤ j)) [ true ↦ λ e. inr (leb-true n j e) | false ↦ λ e. inl (leb-false n j e) ] refl
+
+above_first : (j : ℕ) → nat_lt 0 (suc j) ≡ true
+above_first j = le-leb 1 (suc j) (omega arith)
 
 found_or : (p : NodeId → Bool) (cs : List NodeId)
     → Member (unwrap_or (find p cs) no_node) cs ⊎ (unwrap_or (find p cs) no_node ≡ no_node)
@@ -168,7 +169,7 @@ module _ (x : Checked) (are : AreNodes x.topology) where
           ∙ name_at plan.peers j
 
       is_one : is_peer plan (suc j) ≡ true
-      is_one = le-leb (suc j) (length plan.peers) (omega (arith, lt))
+      is_one = and_from _ _ (above_first j) (le-leb (suc j) (length plan.peers) (omega (arith, lt)))
 
       from_peer : (b : Who) → Member b (whos x) → slice_index_or (others_of (Controlling plan)) (suc j) [] ≡ name_of b → Meets (Controlling plan) b (suc j)
       from_peer =
@@ -203,14 +204,16 @@ module _ (x : Checked) (are : AreNodes x.topology) where
       node_name = ap (λ (n : NodeId). n.name) agent_in.2 ∙ sym agent_name
 
       is_none : is_peer plan (suc j) ≡ false
-      is_none = lt-leb (suc j) (length plan.peers) (omega (arith, ge))
+      is_none =
+          ap (λ (b : Bool). b && nat_le (suc j) (length plan.peers)) (above_first j)
+          ∙ lt-leb (suc j) (length plan.peers) (omega (arith, ge))
 
       from_agents : (b : Who) → Member b (whos x) → slice_index_or (others_of (Controlling plan)) (suc j) [] ≡ name_of b → Meets (Controlling plan) b (suc j)
       from_agents =
           each_who x (λ b. slice_index_or (others_of (Controlling plan)) (suc j) [] ≡ name_of b → Meets (Controlling plan) b (suc j))
           (λ e. absurd (are.no_agent_config agent_in.0 agent_in.1 (node_name ∙ e)))
           (λ d m e. absurd (are.apart d agent_in.0 m agent_in.1 (sym (node_name ∙ e))))
-          (λ n m e. (is_none, refl, ap (λ (q : NodeId). q.name) at_agent ∙ sym agent_name ∙ e))
+          (λ n m e. (is_none, ne_eqb (suc j) 0 (λ z. absurd (omega (arith, z))), ap (λ (q : NodeId). q.name) at_agent ∙ sym agent_name ∙ e))
 
     from_control : (i : ℕ) (b : Who) → Member b (whos x) → MeetsAt (Controlling plan) b i
     from_control zero b m lt e = from_first b m lt e
