@@ -15,8 +15,8 @@ ghost use Rattle.net_model.specs.Taking.{closed, opened, taken};
 ghost use Rattle.net_model.specs.Telling.{CanSend};
 ghost use Rattle.heard_laws.specs.Hearing.{HasNoCause, IsBetween};
 
-/// Between two nodes of a valid configuration, the octets of a message that the one may send, and that does not take the
-/// other's end down, make of that end what the machine's cell says, with the machine's replies and without a cause.
+/// Between two nodes of a valid configuration, the octets of a message that the one may send, and that does not take
+/// the other's end down, make of that end what the machine's cell says, with the machine's replies and without a cause.
 pub fn messages_are_heard()
     ensures { (x : Checked) → IsTrue (has_topology_form x.topology) → first_broken x.topology x.config ≡ None
         → (a b : Who) (i : ℕ) → IsBetween x a b i → (p : Post) → is_idle p.phase ≡ false
@@ -31,7 +31,8 @@ pub fn messages_are_heard()
 /// An end that opens sends its greeting and nothing else.
 pub fn ends_open()
     ensures { (x : Checked) → IsTrue (has_topology_form x.topology) → first_broken x.topology x.config ≡ None
-        → (a b : Who) (i : ℕ) → IsBetween x a b i → (p : Post) (given : Begun) (begins : BeginsAt a i p (Opened i) given)
+        → (a b : Who) (i : ℕ) → IsBetween x a b i → (p : Post) (given : Begun)
+        → (begins : BeginsAt a i p (Opened i) given)
         → (given ≡ opened a (are_peers (role_of a) (role_of b)) p) × HasNoCause a i p (Opened i) given begins }
 {}
 
