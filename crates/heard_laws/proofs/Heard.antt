@@ -1,5 +1,5 @@
 -- What a message in flight makes of the end that takes it, and what opening and closing make of an end.
-use Rattle.std.specs.Prelude.{◌≡◌, ◌==◌, ℕ, List, Bool, true, false, cond, IsTrue}
+use Rattle.std.specs.Prelude.{◌≡◌, ◌==◌, ◌<◌, ℕ, length, List, Bool, true, false, cond, IsTrue}
 use Rattle.std.specs.Borrow.{Bor}
 use Rattle.std.specs.Option.{option_map}
 use Rattle.std.specs.declared.option.Option.{Option}
@@ -17,6 +17,7 @@ use Rattle.bgp_session.specs.declared.event.Cause.{Cause as PeerCause}
 use Rattle.config_model.specs.Form.{has_topology_form}
 use Rattle.config_check.specs.Checked.{Checked}
 use Rattle.config_check.specs.Rules.{first_broken}
+use Rattle.node_model.specs.Members.{Member}
 use Rattle.node_model.specs.Step.{Begun, Phase, Idle, Opened, Confirmed, Up, Post}
 use Rattle.node_items.specs.Beginning as item
 use Rattle.config_node.specs.Beginning as configuration
@@ -29,7 +30,7 @@ use Rattle.agent_node.specs.Beginning as agent
 use Rattle.network_model.specs.Session.{Configuration, Controller, Agent, Role, Message, Open, Keepalive, Hello, Carries, are_peers, is_idle}
 use Rattle.network_model.specs.Moments.{cell}
 use Rattle.network_model.specs.Network.{config}
-use Rattle.net_model.specs.Seats.{Who, Configuring, Controlling, Forwarding, name_of, role_of}
+use Rattle.net_model.specs.Seats.{Who, Configuring, Controlling, Forwarding, name_of, others_of, role_of, whos}
 use Rattle.net_model.specs.Stands.{octets_of}
 use Rattle.net_model.specs.Steps.{BeginsAt}
 use Rattle.net_model.specs.Taking.{closed, opened, taken}
@@ -38,7 +39,7 @@ use Rattle.heard_laws.specs.Hearing.{HasNoCause, IsBetween}
 use Rattle.heard_laws.proofs.Named.{are_nodes}
 use Rattle.heard_laws.proofs.OneMessage.{SaysRoute, message_taken}
 use Rattle.heard_laws.proofs.OneRecord.{SaysItem, record_taken}
-use Rattle.heard_laws.proofs.Wired.{IsSound, Meets, meets, sound}
+use Rattle.heard_laws.proofs.Wired.{IsSound, Meets, has_other, meets, sound}
 
 -- ---- what the other end says
 says_item : (b : Who) (to : Role) (from : ItemFrom) (m : Message) (octets : List ℕ) → IsTrue (is_name (name_of b))
@@ -207,3 +208,9 @@ module _ (x : Checked) (form : IsTrue (has_topology_form x.topology))
 pub end_closed : (a : Who) (i : ℕ) (p : Post) (given : Begun) (begins : BeginsAt a i p (input.Closed i) given)
     → (given ≡ closed) × HasNoCause a i p (input.Closed i) given begins
 end_closed a i p given begins = closes i p given a begins
+
+pub session_between : (x : Checked) → IsTrue (has_topology_form x.topology) → first_broken x.topology x.config ≡ None
+    → (a : Who) → Member a (whos x) → (i : ℕ) → i < length (others_of a) → (b : Who) × IsBetween x a b i
+session_between x form valid a m i lt =
+    let q = has_other x (are_nodes x form valid) a m i lt in
+    (q.0, record { near = m; far = q.1; within = lt; name = q.2 })

@@ -1,14 +1,14 @@
 -- The names and numbers of the nodes of a valid configuration.
 use Rattle.std.specs.Prelude.{◌≡◌, ◌≢◌, ◌<◌, ◌≤◌, ◌^◌, ℕ, suc, List, [], ◌∷◌, ◌++◌, length, map, Bool, true, not, ◌&&◌, IsTrue, nat_le}
 use Rattle.std.specs.Prelude.{slice_index_or, ◌==◌}
-use Rattle.std.specs.List.{list_all}
+use Rattle.std.specs.List.{All, Contains, list_all}
 use Rattle.std.specs.declared.option.Option.TheVariants.{None}
-use Rattle.std.proofs.Common.{sym, ◌∙◌, ap, inl, inr, arith}
+use Rattle.std.proofs.Common.{sym, ◌∙◌, ap, subst, inl, inr, arith}
 use Rattle.std.proofs.lemmas.Bool.{and_parts, leb-true, not-true, true≢false}
 use Rattle.ov_types.specs.First.{same_name}
 use Rattle.ov_types.specs.Name.{is_name}
 use Rattle.ov_types.specs.declared.rows.NodeId.{NodeId}
-use Rattle.ov_types.proofs.FirstLemmas.{same_name_self}
+use Rattle.ov_types.proofs.FirstLemmas.{all_head, all_tail, contains_cases, same_name_self}
 use Rattle.config_model.specs.Form.{has_controller_form, has_node_form, has_topology_form, is_as_number, is_from_to, is_node_address, is_node_name}
 use Rattle.config_model.specs.declared.topology.Node.{Node}
 use Rattle.config_model.specs.declared.topology.Topology.{Topology}
@@ -57,6 +57,17 @@ one_of_name (b ∷ cs) a c d (inl i) (inl j) e = sym i ∙ j
 one_of_name (b ∷ cs) a c d (inl i) (inr k) e = absurd (a.0 d.name (in_map name d cs k) (ap name i ∙ e))
 one_of_name (b ∷ cs) a c d (inr m) (inl j) e = absurd (a.0 c.name (in_map name c cs m) (ap name j ∙ sym e))
 one_of_name (b ∷ cs) a c d (inr m) (inr k) e = one_of_name cs a.1 c d m k e
+
+-- ---- what holds of all
+all_of : {A : Type 0} (P : A → Type 0) (xs : List A) (x : A) → All P xs → Member x xs → P x
+all_of P [] x h m = absurd m
+all_of P (y ∷ ys) x h (inl e) = subst P e (all_head P y ys h)
+all_of P (y ∷ ys) x h (inr m) = all_of P ys x (all_tail P y ys h) m
+
+contained : {A : Type 0} (xs : List A) (x : A) → Contains xs x → Member x xs
+contained [] x h = absurd (omega (arith, h.1))
+contained (y ∷ ys) x h =
+    elim (contains_cases y ys x h) as (λ _. Member x (y ∷ ys)) [ inl e ↦ inl e | inr later ↦ inr (contained ys x later) ]
 
 -- ---- the written form
 all_true : {A : Type 0} (p : A → Bool) (xs : List A) (y : A) → list_all p xs ≡ true → Member y xs → p y ≡ true
@@ -128,12 +139,15 @@ pub record AreNodes (t : Topology) : Type 0 where
   pub no_agent_config : (n : Node) → Member n t.nodes → n.name ≡ config → ⊥
   pub apart : (c : NodeId) (n : Node) → Member c t.controllers → Member n t.nodes → c.name ≡ n.name → ⊥
   pub one_site : (c d : NodeId) → Member c t.controllers → Member d t.controllers → c.name ≡ d.name → c ≡ d
+  -- an agent lists control nodes that there are
+  pub listed : (n : Node) → Member n t.nodes → (m : Name) → Member m n.controllers → Member m (controller_names t)
 
 pub are_nodes : (x : Checked) → IsTrue (has_topology_form x.topology) → first_broken x.topology x.config ≡ None → AreNodes x.topology
 are_nodes x form valid =
     let t = x.topology in
     let f = forms t form in
-    let names = apart_of (controller_names t ++ node_names t) ((valid_iff t x.config).0 valid).names.nodes in
+    let v = (valid_iff t x.config).0 valid in
+    let names = apart_of (controller_names t ++ node_names t) v.names.nodes in
     let site : (c : NodeId) → Member c t.controllers → (is_node_name c.name ≡ true) × (is_node_address c.address.0 ≡ true) =
     λ c m. controller_parts c (all_true has_controller_form t.controllers c f.controllers m) in
     let agent : (n : Node) → Member n t.nodes → is_node_name n.name ≡ true =
@@ -147,4 +161,7 @@ are_nodes x form valid =
       no_agent_config = λ n m e. not_config n.name (agent n m) e;
       apart = λ c n m k e. apart_between (controller_names t) (node_names t) names c.name n.name (in_map name c t.controllers m) (in_map (λ (n : Node). n.name) n t.nodes k) e;
       one_site = one_of_name t.controllers (apart_left (controller_names t) (node_names t) names);
+      listed = λ n k m i.
+          let each = all_of (λ (n : Node). All (Contains (controller_names t)) n.controllers) t.nodes n v.references.controllers k in
+          contained (controller_names t) m (all_of (Contains (controller_names t)) n.controllers m each i);
     }

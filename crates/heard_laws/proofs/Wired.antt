@@ -13,7 +13,8 @@ use Rattle.ov_types.specs.declared.rows.NodeId.{NodeId}
 use Rattle.config_model.specs.declared.topology.Node.{Node}
 use Rattle.config_check.specs.Checked.{Checked}
 use Rattle.node_model.specs.Members.{Member}
-use Rattle.node_model.proofs.Members.{from_filter, from_map, in_either}
+use Rattle.ov_types.proofs.FirstLemmas.{same_name_self}
+use Rattle.node_model.proofs.Members.{from_filter, from_map, in_either, in_left, in_map, in_right}
 use Rattle.config_node.specs.Beginning as configuration
 use Rattle.control_node.specs.Beginning as control
 use Rattle.control_node.specs.Core.{is_peer}
@@ -74,17 +75,22 @@ split_at n j =
 above_first : (j : ℕ) → nat_lt 0 (suc j) ≡ true
 above_first j = le-leb 1 (suc j) (omega arith)
 
-found_or : (p : NodeId → Bool) (cs : List NodeId)
-    → Member (unwrap_or (find p cs) no_node) cs ⊎ (unwrap_or (find p cs) no_node ≡ no_node)
-found_or p [] = inr refl
-found_or p (c ∷ cs) =
-    elim (p c) as (λ b. Member (unwrap_or (cond b (Some c) (find p cs)) no_node) (c ∷ cs) ⊎ (unwrap_or (cond b (Some c) (find p cs)) no_node ≡ no_node)) [
-      | true ↦ inl (inl refl)
-      | false ↦ elim (found_or p cs) as (λ _. Member (unwrap_or (find p cs) no_node) (c ∷ cs) ⊎ (unwrap_or (find p cs) no_node ≡ no_node)) [
-        | inl m ↦ inl (inr m)
-        | inr e ↦ inr e
-      ]
-    ]
+-- the control node of a name that there is
+abbrev named : Name → List NodeId → NodeId
+named name cs = unwrap_or (find (λ (c : NodeId). same_name c.name name) cs) no_node
+
+found_in : (name : Name) (cs : List NodeId) → Member name (map (λ (c : NodeId). c.name) cs) → Member (named name cs) cs
+found_in name [] m = absurd m
+found_in name (c ∷ cs) m = by_test (λ later. found_in name cs later) (same_name c.name name) refl
+  where
+    by_test : (Member name (map (λ (c : NodeId). c.name) cs) → Member (named name cs) cs) → (b : Bool) → same_name c.name name ≡ b
+        → Member (unwrap_or (cond b (Some c) (find (λ (c : NodeId). same_name c.name name) cs)) no_node) (c ∷ cs)
+    by_test rest true e = inl refl
+    by_test rest false e =
+        elim m as (λ _. Member (named name cs) (c ∷ cs)) [
+          | inl is ↦ absurd (true≢false (sym (ap (same_name c.name) (sym is) ∙ same_name_self c.name) ∙ e))
+          | inr later ↦ inr (rest later)
+        ]
 
 -- ---- who is there
 -- the first node's session of this number is with the second, as the first one has it
@@ -116,32 +122,23 @@ module _ (x : Checked) (are : AreNodes x.topology) where
       short lt = omega (arith, lt, length-map sites (λ (n : NodeId). n.name))
 
   -- ---- from an agent
-  listed : (n : Node) (i : ℕ) → i < length (names_of (agent_plan x.topology n).controllers)
-      → Member (agent.controller_at (agent_plan x.topology n) i) sites ⊎ (agent.controller_at (agent_plan x.topology n) i ≡ no_node)
-  listed n i lt =
+  listed : (n : Node) → Member n x.topology.nodes → (i : ℕ) → i < length (names_of (agent_plan x.topology n).controllers)
+      → Member (agent.controller_at (agent_plan x.topology n) i) sites
+  listed n m i lt =
       let cs = (agent_plan x.topology n).controllers in
       let short : i < length cs = omega (arith, lt, length-map cs (λ (n : NodeId). n.name)) in
       let q = from_map (controller_named x.topology) (slice_index_or cs i no_node) n.controllers (in_at cs i no_node short) in
-      subst (λ (c : NodeId). Member c sites ⊎ (c ≡ no_node)) q.2 (found_or (λ (c : NodeId). same_name c.name q.0) sites)
+      subst (λ (c : NodeId). Member c sites) q.2 (found_in q.0 sites (are.listed n m q.0 q.1))
 
-  no_name : (text : Name) → IsTrue (is_name text) → [] ≡ text → ⊥
-  no_name text h e = true≢false (sym h ∙ ap is_name (sym e))
-
-  from_agent : (n : Node) (i : ℕ) (b : Who) → Member b (whos x) → MeetsAt (Forwarding (agent_plan x.topology n)) b i
-  from_agent n i =
+  from_agent : (n : Node) → Member n x.topology.nodes → (i : ℕ) (b : Who) → Member b (whos x) → MeetsAt (Forwarding (agent_plan x.topology n)) b i
+  from_agent n k i =
       let plan = agent_plan x.topology n in
       let r = agent.controller_at plan i in
-      let named : slice_index_or (names_of plan.controllers) i [] ≡ r.name = name_at plan.controllers i in
+      let name_is : slice_index_or (names_of plan.controllers) i [] ≡ r.name = name_at plan.controllers i in
       each_who x (λ b. MeetsAt (Forwarding plan) b i)
-      (λ lt e. elim (listed n i lt) as (λ _. ⊥) [
-        | inl m ↦ are.no_site_config r m (sym named ∙ e)
-        | inr none ↦ no_name config config_is_name (sym (ap (λ (c : NodeId). c.name) none) ∙ sym named ∙ e)
-      ])
-      (λ d m lt e. sym named ∙ e)
-      (λ k m lt e. elim (listed n i lt) as (λ _. ⊥) [
-        | inl l ↦ are.apart r k l m (sym named ∙ e)
-        | inr none ↦ no_name k.name (are.agent_name k m) (sym (ap (λ (c : NodeId). c.name) none) ∙ sym named ∙ e)
-      ])
+      (λ lt e. are.no_site_config r (listed n k i lt) (sym name_is ∙ e))
+      (λ d m lt e. sym name_is ∙ e)
+      (λ other m lt e. are.apart r other (listed n k i lt) m (sym name_is ∙ e))
 
   -- ---- from a control node
   module _ (c : NodeId) where
@@ -225,4 +222,48 @@ module _ (x : Checked) (are : AreNodes x.topology) where
 
   pub meets : (a : Who) → Member a (whos x) → (b : Who) → Member b (whos x) → (i : ℕ) → MeetsAt a b i
   meets a ma b mb i =
-      each_who x (λ a. MeetsAt a b i) (from_config i b mb) (λ c m. from_control c i b mb) (λ n m. from_agent n i b mb) a ma
+      each_who x (λ a. MeetsAt a b i) (from_config i b mb) (λ c m. from_control c i b mb) (λ n m. from_agent n m i b mb) a ma
+
+  -- ---- each session has another end
+  abbrev pub HasOther : Who → ℕ → Type 0
+  HasOther a i = (b : Who) × Member b (whos x) × (slice_index_or (others_of a) i [] ≡ name_of b)
+
+  abbrev site : NodeId → Who
+  site c = Controlling (control_plan x.topology c)
+
+  abbrev forward : Node → Who
+  forward n = Forwarding (agent_plan x.topology n)
+
+  site_there : (c : NodeId) → Member c sites → Member (site c) (whos x)
+  site_there c m = inr (in_left (site c) (map site sites) (map forward x.topology.nodes) (in_map site c sites m))
+
+  agent_there : (n : Node) → Member n x.topology.nodes → Member (forward n) (whos x)
+  agent_there n m = inr (in_right (forward n) (map site sites) (map forward x.topology.nodes) (in_map forward n x.topology.nodes m))
+
+  other_of_config : (i : ℕ) → i < length (names_of sites) → HasOther (Configuring x) i
+  other_of_config i lt =
+      let c = slice_index_or sites i no_node in
+      let short : i < length sites = omega (arith, lt, length-map sites (λ (n : NodeId). n.name)) in
+      (site c, site_there c (in_at sites i no_node short), name_at sites i)
+
+  other_of_control : (c : NodeId) (i : ℕ) → i < length (others_of (site c)) → HasOther (site c) i
+  other_of_control c zero lt = (Configuring x, inl refl, refl)
+  other_of_control c (suc j) lt =
+      let plan = control_plan x.topology c in
+      elim (split_at (length plan.peers) j) as (λ _. HasOther (site c) (suc j)) [
+        | inl below ↦ let p = slice_index_or plan.peers j no_node in (site p, site_there p (peer_in c j below), peer_name c j below)
+        | inr above ↦
+            let short : j < length (names_of plan.peers ++ names_of plan.agents) = omega (arith, lt) in
+            let n = agent_in c j above short in
+            (forward n.0, agent_there n.0 n.1, sym (node_name c j above short))
+      ]
+
+  other_of_agent : (n : Node) → Member n x.topology.nodes → (i : ℕ) → i < length (others_of (forward n)) → HasOther (forward n) i
+  other_of_agent n m i lt =
+      let plan = agent_plan x.topology n in
+      let r = agent.controller_at plan i in
+      (site r, site_there r (listed n m i lt), name_at plan.controllers i)
+
+  pub has_other : (a : Who) → Member a (whos x) → (i : ℕ) → i < length (others_of a) → HasOther a i
+  has_other a m i =
+      each_who x (λ a. i < length (others_of a) → HasOther a i) (other_of_config i) (λ c k. other_of_control c i) (λ n k. other_of_agent n k i) a m
