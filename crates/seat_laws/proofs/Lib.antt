@@ -1,0 +1,6 @@
+-- The files of proofs, in the order in which they stand on each other.
+pub mod Lists
+pub mod Parties
+pub mod Links
+pub mod Seating
+pub mod Sessions
