@@ -20,75 +20,81 @@ pub some_none : {A : Type 0} (x : A) → Some x ≡ None → ⊥
 some_none x e = cc
 
 -- ---- members by their places
-pub member_of_at : {A : Type 0} (as : List A) (k : ℕ) (d : A) → k < length as → Member (slice_index_or as k d) as
+pub member_of_at : {A : Type 0} (xs : List A) (k : ℕ) (d : A) → k < length xs → Member (slice_index_or xs k d) xs
 member_of_at [] k d h = absurd (omega (arith, h))
-member_of_at (a ∷ as) zero d h = inl refl
-member_of_at (a ∷ as) (suc k) d h = inr (member_of_at as k d (omega (arith, h)))
+member_of_at (a ∷ xs) zero d h = inl refl
+member_of_at (a ∷ xs) (suc k) d h = inr (member_of_at xs k d (omega (arith, h)))
 
-pub at_of_member : {A : Type 0} (a : A) (as : List A) (d : A) → Member a as → (k : ℕ) × (k < length as) × (slice_index_or as k d ≡ a)
+pub at_of_member : {A : Type 0} (a : A) (xs : List A) (d : A) → Member a xs → (k : ℕ) × (k < length xs) × (slice_index_or xs k d ≡ a)
 at_of_member a [] d m = absurd m
-at_of_member a (b ∷ as) d (inl e) = (0, omega arith, e)
-at_of_member a (b ∷ as) d (inr m) = let q = at_of_member a as d m in (suc q.0, omega (arith, q.1), q.2)
+at_of_member a (b ∷ xs) d (inl e) = (0, omega arith, e)
+at_of_member a (b ∷ xs) d (inr m) = let q = at_of_member a xs d m in (suc q.0, omega (arith, q.1), q.2)
 
-pub all_of : {A : Type 0} (P : A → Type 0) (as : List A) → ((a : A) → Member a as → P a) → AllByRecursion P as
+-- what a map has at a place, also behind the end
+pub at_map : {A B : Type 0} (f : A → B) (xs : List A) (i : ℕ) (d : A) → slice_index_or (map f xs) i (f d) ≡ f (slice_index_or xs i d)
+at_map f [] i d = refl
+at_map f (x ∷ xs) zero d = refl
+at_map f (x ∷ xs) (suc i) d = at_map f xs i d
+
+pub all_of : {A : Type 0} (P : A → Type 0) (xs : List A) → ((a : A) → Member a xs → P a) → AllByRecursion P xs
 all_of P [] h = tt
-all_of P (a ∷ as) h = (h a (inl refl), all_of P as (λ b m. h b (inr m)))
+all_of P (a ∷ xs) h = (h a (inl refl), all_of P xs (λ b m. h b (inr m)))
 
-pub from_all : {A : Type 0} (P : A → Type 0) (as : List A) → AllByRecursion P as → (a : A) → Member a as → P a
+pub from_all : {A : Type 0} (P : A → Type 0) (xs : List A) → AllByRecursion P xs → (a : A) → Member a xs → P a
 from_all P [] h a m = absurd m
-from_all P (b ∷ as) h a (inl e) = subst P e h.0
-from_all P (b ∷ as) h a (inr m) = from_all P as h.1 a m
+from_all P (b ∷ xs) h a (inl e) = subst P e h.0
+from_all P (b ∷ xs) h a (inr m) = from_all P xs h.1 a m
 
-pub zip_from : {A B : Type 0} (R : A → B → Type 0) (as : List A) (bs : List B) (d : A) (e : B) → length as ≡ length bs → ((i : ℕ) → i < length bs → R (slice_index_or as i d) (slice_index_or bs i e)) → AllZip R as bs
+pub zip_from : {A B : Type 0} (R : A → B → Type 0) (xs : List A) (ys : List B) (d : A) (e : B) → length xs ≡ length ys → ((i : ℕ) → i < length ys → R (slice_index_or xs i d) (slice_index_or ys i e)) → AllZip R xs ys
 zip_from R [] [] d e l h = tt
-zip_from R [] (b ∷ bs) d e l h = absurd (omega (arith, l))
-zip_from R (a ∷ as) [] d e l h = absurd (omega (arith, l))
-zip_from R (a ∷ as) (b ∷ bs) d e l h = (h 0 (omega arith), zip_from R as bs d e (omega (arith, l)) (λ i less. h (suc i) (omega (arith, less))))
+zip_from R [] (b ∷ ys) d e l h = absurd (omega (arith, l))
+zip_from R (a ∷ xs) [] d e l h = absurd (omega (arith, l))
+zip_from R (a ∷ xs) (b ∷ ys) d e l h = (h 0 (omega arith), zip_from R xs ys d e (omega (arith, l)) (λ i less. h (suc i) (omega (arith, less))))
 
-pub zip_at : {A B : Type 0} (R : A → B → Type 0) (as : List A) (bs : List B) (d : A) (e : B) (i : ℕ) → AllZip R as bs → i < length bs → R (slice_index_or as i d) (slice_index_or bs i e)
+pub zip_at : {A B : Type 0} (R : A → B → Type 0) (xs : List A) (ys : List B) (d : A) (e : B) (i : ℕ) → AllZip R xs ys → i < length ys → R (slice_index_or xs i d) (slice_index_or ys i e)
 zip_at R [] [] d e i z h = absurd (omega (arith, h))
-zip_at R [] (b ∷ bs) d e i z h = absurd z
-zip_at R (a ∷ as) [] d e i z h = absurd z
-zip_at R (a ∷ as) (b ∷ bs) d e zero z h = z.0
-zip_at R (a ∷ as) (b ∷ bs) d e (suc i) z h = zip_at R as bs d e i z.1 (omega (arith, h))
+zip_at R [] (b ∷ ys) d e i z h = absurd z
+zip_at R (a ∷ xs) [] d e i z h = absurd z
+zip_at R (a ∷ xs) (b ∷ ys) d e zero z h = z.0
+zip_at R (a ∷ xs) (b ∷ ys) d e (suc i) z h = zip_at R xs ys d e i z.1 (omega (arith, h))
 
-pub same_length : {A B C : Type 0} (f : A → C) (g : B → C) (as : List A) (bs : List B) → map f as ≡ map g bs → length as ≡ length bs
-same_length f g as bs e = sym (long f as) ∙ ap length e ∙ long g bs
+pub same_length : {A B C : Type 0} (f : A → C) (g : B → C) (xs : List A) (ys : List B) → map f xs ≡ map g ys → length xs ≡ length ys
+same_length f g xs ys e = sym (long f xs) ∙ ap length e ∙ long g ys
   where
-    long : {A C : Type 0} (f : A → C) (as : List A) → length (map f as) ≡ length as
+    long : {A C : Type 0} (f : A → C) (xs : List A) → length (map f xs) ≡ length xs
     long f [] = refl
-    long f (a ∷ as) = ap suc (long f as)
+    long f (a ∷ xs) = ap suc (long f xs)
 
-pub map_both : {A B : Type 0} (f : A → B) (as bs : List A) → map f (as ++ bs) ≡ map f as ++ map f bs
-map_both f [] bs = refl
-map_both f (a ∷ as) bs = ap (λ cs. f a ∷ cs) (map_both f as bs)
+pub map_both : {A B : Type 0} (f : A → B) (xs ys : List A) → map f (xs ++ ys) ≡ map f xs ++ map f ys
+map_both f [] ys = refl
+map_both f (a ∷ xs) ys = ap (λ cs. f a ∷ cs) (map_both f xs ys)
 
-pub map_twice : {A B C : Type 0} (g : B → C) (f : A → B) (as : List A) → map g (map f as) ≡ map (λ a. g (f a)) as
+pub map_twice : {A B C : Type 0} (g : B → C) (f : A → B) (xs : List A) → map g (map f xs) ≡ map (λ a. g (f a)) xs
 map_twice g f [] = refl
-map_twice g f (a ∷ as) = ap (λ cs. g (f a) ∷ cs) (map_twice g f as)
+map_twice g f (a ∷ xs) = ap (λ cs. g (f a) ∷ cs) (map_twice g f xs)
 
 -- ---- first places
-pub index_of_map : {A B : Type 0} (f : A → B) (p : B → Bool) (i : ℕ) (as : List A) → index_from i p (map f as) ≡ index_from i (λ a. p (f a)) as
+pub index_of_map : {A B : Type 0} (f : A → B) (p : B → Bool) (i : ℕ) (xs : List A) → index_from i p (map f xs) ≡ index_from i (λ a. p (f a)) xs
 index_of_map f p i [] = refl
-index_of_map f p i (a ∷ as) = ap (λ o. cond (p (f a)) (Some i) o) (index_of_map f p (suc i) as)
+index_of_map f p i (a ∷ xs) = ap (λ o. cond (p (f a)) (Some i) o) (index_of_map f p (suc i) xs)
 
 module _ {A : Type 0} (p : A → Bool) where
   -- what is found is there
-  pub index_found : (i : ℕ) (as : List A) (k : ℕ) (d : A) → index_from i p as ≡ Some k → (j : ℕ) × (k ≡ i + j) × (j < length as) × (p (slice_index_or as j d) ≡ true)
+  pub index_found : (i : ℕ) (xs : List A) (k : ℕ) (d : A) → index_from i p xs ≡ Some k → (j : ℕ) × (k ≡ i + j) × (j < length xs) × (p (slice_index_or xs j d) ≡ true)
   index_found i [] k d e = absurd (none_some k e)
-  index_found i (a ∷ as) k d e =
-      elim (p a) as (λ b. p a ≡ b → cond b (Some i) (index_from (suc i) p as) ≡ Some k → (j : ℕ) × (k ≡ i + j) × (j < suc (length as)) × (p (slice_index_or (a ∷ as) j d) ≡ true)) [
+  index_found i (a ∷ xs) k d e =
+      elim (p a) as (λ b. p a ≡ b → cond b (Some i) (index_from (suc i) p xs) ≡ Some k → (j : ℕ) × (k ≡ i + j) × (j < suc (length xs)) × (p (slice_index_or (a ∷ xs) j d) ≡ true)) [
         | true ↦ λ is e. let same : i ≡ k = same_Some i k e in (0, omega (arith, same), omega arith, is)
-        | false ↦ λ _ e. let q = index_found (suc i) as k d e in (suc q.0, omega (arith, q.1), omega (arith, q.2), q.3)
+        | false ↦ λ _ e. let q = index_found (suc i) xs k d e in (suc q.0, omega (arith, q.1), omega (arith, q.2), q.3)
       ] refl e
 
   -- where none is found there is none
-  pub index_none : (i : ℕ) (as : List A) → index_from i p as ≡ None → (a : A) → Member a as → p a ≡ true → ⊥
+  pub index_none : (i : ℕ) (xs : List A) → index_from i p xs ≡ None → (a : A) → Member a xs → p a ≡ true → ⊥
   index_none i [] e a m is = m
-  index_none i (b ∷ as) e a m is =
-      elim (p b) as (λ c. p b ≡ c → cond c (Some i) (index_from (suc i) p as) ≡ None → ⊥) [
+  index_none i (b ∷ xs) e a m is =
+      elim (p b) as (λ c. p b ≡ c → cond c (Some i) (index_from (suc i) p xs) ≡ None → ⊥) [
         | true ↦ λ _ e. some_none i e
-        | false ↦ λ off e. elim m as (λ _. ⊥) [ inl same ↦ true≢false (sym is ∙ ap p (sym same) ∙ off) | inr m ↦ index_none (suc i) as e a m is ]
+        | false ↦ λ off e. elim m as (λ _. ⊥) [ inl same ↦ true≢false (sym is ∙ ap p (sym same) ∙ off) | inr m ↦ index_none (suc i) xs e a m is ]
       ] refl e
 
 -- ---- names that are apart
@@ -101,6 +107,9 @@ index_apart i (n ∷ ns) (suc k) d a h =
     let e : suc i + k ≡ i + suc k = omega arith in
     ap (λ b. cond b (Some i) (index_from (suc i) (λ m. same_name m x) ns)) (same_false n x (a.0 x (member_of_at ns k d (omega (arith, h)))))
     ∙ index_apart (suc i) ns k d a.1 (omega (arith, h)) ∙ ap (λ k. Some k) e
+
+pub index_here : (ns : List Name) (k : ℕ) (d : Name) → Apart ns → k < length ns → index_from 0 (λ m. same_name m (slice_index_or ns k d)) ns ≡ Some k
+index_here ns k d a h = let e : 0 + k ≡ k = omega arith in index_apart 0 ns k d a h ∙ ap (λ k. Some k) e
 
 pub apart_of : (ns : List Name) → AreDistinct ns → Apart ns
 apart_of [] h = tt
@@ -116,9 +125,9 @@ apart_both (m ∷ ms) ns a b h = (
   apart_both ms ns a.1 b (λ k n i j. h k n (inr i) j),
 )
 
-pub apart_kept : {A : Type 0} (name : A → Name) (p : A → Bool) (as : List A) → Apart (map name as) → Apart (map name (filter p as))
+pub apart_kept : {A : Type 0} (name : A → Name) (p : A → Bool) (xs : List A) → Apart (map name xs) → Apart (map name (filter p xs))
 apart_kept name p [] a = tt
-apart_kept name p (x ∷ as) a = elim (p x) as (λ b. Apart (map name (cond b (x ∷ filter p as) (filter p as)))) [
-  | true ↦ ((λ n m e. let q = from_map name n (filter p as) m in a.0 n (subst (λ n. Member n (map name as)) q.2 (in_map name q.0 as (from_filter p q.0 as q.1).0)) e), apart_kept name p as a.1)
-  | false ↦ apart_kept name p as a.1
+apart_kept name p (x ∷ xs) a = elim (p x) as (λ b. Apart (map name (cond b (x ∷ filter p xs) (filter p xs)))) [
+  | true ↦ ((λ n m e. let q = from_map name n (filter p xs) m in a.0 n (subst (λ n. Member n (map name xs)) q.2 (in_map name q.0 xs (from_filter p q.0 xs q.1).0)) e), apart_kept name p xs a.1)
+  | false ↦ apart_kept name p xs a.1
 ]

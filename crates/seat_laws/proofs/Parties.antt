@@ -2,7 +2,7 @@
 use Rattle.std.specs.Cmp.Lexicographic.{bytes_decides}
 use Rattle.std.specs.List.{filter}
 use Rattle.std.specs.Option.{unwrap_or}
-use Rattle.std.specs.Prelude.{List, cond, find, length, map, not, true, [], ◌++◌, ◌∷◌, ◌≡◌}
+use Rattle.std.specs.Prelude.{List, Some, cond, false, find, length, map, not, true, [], ◌++◌, ◌∷◌, ◌≡◌}
 use Rattle.std.proofs.Common.{ap, inl, inr, refl, subst, sym, ◌∙◌}
 use Rattle.std.proofs.lemmas.Bool.{not-true, true≢false}
 use Rattle.ov_types.specs.First.{same_name}
@@ -76,12 +76,11 @@ controller_found [] name m = absurd m
 controller_found (c ∷ cs) name m =
     elim (same_name c.name name) as (λ b. same_name c.name name ≡ b → IsNamedAs (c ∷ cs) name (unwrap_or (cond b (Some c) (find (λ (c : NodeId). same_name c.name name) cs)) no_node)) [
       | true ↦ λ e. (inl refl, (bytes_decides c.name name).0 e)
-      | false ↦ λ e. later e m
+      | false ↦ λ e. elim m as (λ _. IsNamedAs (c ∷ cs) name (unwrap_or (find (λ (c : NodeId). same_name c.name name) cs) no_node)) [
+        | inl is ↦ absurd (true≢false (sym ((bytes_decides c.name name).1 is) ∙ e))
+        | inr m ↦ let q = controller_found cs name m in (inr q.0, q.1)
+      ]
     ] refl
-  where
-    later : same_name c.name name ≡ false → Member name (map (λ (c : NodeId). c.name) (c ∷ cs)) → IsNamedAs (c ∷ cs) name (unwrap_or (find (λ (c : NodeId). same_name c.name name) cs) no_node)
-    later e (inl is) = absurd (true≢false (sym ((bytes_decides c.name name).1 is) ∙ e))
-    later e (inr m) = let q = controller_found cs name m in (inr q.0, q.1)
 
 module _ (x : Checked) (named : IsNamed x.topology) where
   abbrev t : Topology

@@ -6,7 +6,6 @@ use Rattle.std.specs.Prelude.{List, false, length, map, not, slice_index_or, tru
 use Rattle.std.specs.declared.option.Option.TheVariants.{None, Some}
 use Rattle.std.specs.declared.option.Option.{Option}
 use Rattle.std.proofs.Common.{ap, arith, inl, inr, refl, subst, sym, ◌∙◌}
-use Rattle.std.proofs.lemmas.List.{get_or-map}
 use Rattle.std.proofs.lemmas.Option.{same_Some}
 use Rattle.ov_types.specs.First.{same_name}
 use Rattle.ov_types.specs.declared.rows.NodeId.{NodeId}
@@ -25,7 +24,7 @@ use Rattle.compiled_laws.proofs.Names.{Apart, NamesApart, apart_names}
 use Rattle.net_model.specs.Seats.{Controlling, Forwarding, Seat, Who, agent_plan, control_plan, far_of, id_of, index_from, name_of, names_of, nobody, others_of, place_at, place_of, role_of, seat, seat_named, session_with, whos}
 use Rattle.net_model.specs.declared.place.Place.{Place}
 use Rattle.seat_laws.specs.Wiring.{AreSeats, HasFar, IsPlace, IsPlaceOf, name_at, other_at}
-use Rattle.seat_laws.proofs.Lists.{apart_both, apart_kept, apart_of, at_of_member, index_apart, index_found, index_of_map, map_both, map_twice, member_of_at, same_length}
+use Rattle.seat_laws.proofs.Lists.{apart_both, apart_kept, apart_of, at_map, at_of_member, index_here, index_found, index_of_map, map_both, map_twice, member_of_at, same_length}
 use Rattle.seat_laws.proofs.Parties.{Ties, by_kind, holder_of, parties_named, parties_of, plan_names, self, ties_of, ties_turned}
 
 -- the control nodes that a compute node lists are different
@@ -80,7 +79,7 @@ module _ (x : Checked) (named : IsNamed x.topology) (listed : ListsApart x) wher
     who_of n = n.who
 
     who_at : (k : ℕ) → (seat seats k).who ≡ slice_index_or (whos x) k nobody.who
-    who_at k = sym (get_or-map who_of seats k nobody) ∙ ap (λ ws. slice_index_or ws k nobody.who) are
+    who_at k = sym (at_map who_of seats k nobody) ∙ ap (λ ws. slice_index_or ws k nobody.who) are
 
     pub seats_long : length seats ≡ length (whos x)
     seats_long = same_length who_of (λ (w : Who). w) seats (whos x) (are ∙ same (whos x))
@@ -115,14 +114,14 @@ module _ (x : Checked) (named : IsNamed x.topology) (listed : ListsApart x) wher
     seat_found k h =
         let a = name_of (seat seats k).who in
         sym (index_of_map (λ (n : Seat). name_of n.who) (λ m. same_name m a) 0 seats)
-        ∙ subst (λ a. index_from 0 (λ m. same_name m a) seat_names ≡ Some k) (get_or-map (λ (n : Seat). name_of n.who) seats k nobody)
-        (index_apart 0 seat_names k (name_of nobody.who) (subst Apart (sym seats_named) all_apart) (subst (λ n. k < n) (sym names_long) h))
+        ∙ subst (λ a. index_from 0 (λ m. same_name m a) seat_names ≡ Some k) (at_map (λ (n : Seat). name_of n.who) seats k nobody)
+        (index_here seat_names k (name_of nobody.who) (subst Apart (sym seats_named) all_apart) (subst (λ n. k < n) (sym names_long) h))
       where
         all_apart : Apart all_names
         all_apart = apart_of all_names named.apart
 
     session_found : (w : Who) → Member w (whos x) → (i : ℕ) → i < length (others_of w) → index_from 0 (λ m. same_name m (slice_index_or (others_of w) i [])) (others_of w) ≡ Some i
-    session_found w m i h = index_apart 0 (others_of w) i [] (others_apart w m) h
+    session_found w m i h = index_here (others_of w) i [] (others_apart w m) h
 
     -- ---- places
     pub place_found : (p : Place) → IsPlace seats p → place_of seats (name_at seats p) (other_at seats p) ≡ Some p
@@ -177,7 +176,7 @@ module _ (x : Checked) (named : IsNamed x.topology) (listed : ListsApart x) wher
           is_of = record {
             is_place = record { node = k.1; session = subst (λ n. i.0 < n) long here };
             name = ap name_of k.2 ∙ ap (λ (p : Party). p.0) h.self_is;
-            other = ap (λ ms. slice_index_or ms i.0 []) (sym (parties_named w)) ∙ get_or-map (λ (o : Party). o.0) (parties_of w) i.0 ([], Agent)
+            other = ap (λ ms. slice_index_or ms i.0 []) (sym (parties_named w)) ∙ at_map (λ (o : Party). o.0) (parties_of w) i.0 ([], Agent)
                 ∙ ap (λ w. (slice_index_or (parties_of w) i.0 ([], Agent)).0) k.2 ∙ ap (λ (p : Party). p.0) i.2;
           };
           role = ap role_of k.2 ∙ ap (λ (p : Party). p.1) h.self_is;
@@ -194,7 +193,7 @@ module _ (x : Checked) (named : IsNamed x.topology) (listed : ListsApart x) wher
     pub party_named : (p : Place) → (party_at p).0 ≡ other_at seats p
     party_named p =
         let w = (seat seats p.node).who in
-        sym (get_or-map (λ (o : Party). o.0) (parties_of w) p.session ([], Agent)) ∙ ap (λ ms. slice_index_or ms p.session []) (parties_named w)
+        sym (at_map (λ (o : Party). o.0) (parties_of w) p.session ([], Agent)) ∙ ap (λ ms. slice_index_or ms p.session []) (parties_named w)
 
     pub ties_at : (p : Place) → IsPlace seats p → Ties x.topology (self (seat seats p.node).who) (party_at p)
     ties_at p h =
