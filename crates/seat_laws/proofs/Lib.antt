@@ -4,3 +4,4 @@ pub mod Parties
 pub mod Links
 pub mod Seating
 pub mod Sessions
+pub mod Written
