@@ -5,3 +5,4 @@ pub mod Links
 pub mod Seating
 pub mod Sessions
 pub mod Written
+pub mod Order
