@@ -6,3 +6,4 @@ pub mod Seating
 pub mod Sessions
 pub mod Written
 pub mod Order
+pub mod Holdings
