@@ -7,3 +7,4 @@ pub mod Sessions
 pub mod Written
 pub mod Order
 pub mod Holdings
+pub mod Hearing
