@@ -8,3 +8,4 @@ pub mod Written
 pub mod Order
 pub mod Holdings
 pub mod Hearing
+pub mod Positions
