@@ -9,3 +9,5 @@ pub mod Order
 pub mod Holdings
 pub mod Hearing
 pub mod Positions
+pub mod Ends
+pub mod Going

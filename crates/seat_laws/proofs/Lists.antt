@@ -58,12 +58,12 @@ zip_at R (a ∷ xs) [] d e i z h = absurd z
 zip_at R (a ∷ xs) (b ∷ ys) d e zero z h = z.0
 zip_at R (a ∷ xs) (b ∷ ys) d e (suc i) z h = zip_at R xs ys d e i z.1 (omega (arith, h))
 
-pub same_length : {A B C : Type 0} (f : A → C) (g : B → C) (xs : List A) (ys : List B) → map f xs ≡ map g ys → length xs ≡ length ys
-same_length f g xs ys e = sym (long f xs) ∙ ap length e ∙ long g ys
+pub mapped_length : {A B : Type 0} (f : A → B) (xs : List A) (ys : List B) → map f xs ≡ ys → length xs ≡ length ys
+mapped_length {A = A} f xs ys e = sym (long xs) ∙ ap length e
   where
-    long : {A C : Type 0} (f : A → C) (xs : List A) → length (map f xs) ≡ length xs
-    long f [] = refl
-    long f (a ∷ xs) = ap suc (long f xs)
+    long : (xs : List A) → length (map f xs) ≡ length xs
+    long [] = refl
+    long (x ∷ xs) = ap suc (long xs)
 
 pub map_both : {A B : Type 0} (f : A → B) (xs ys : List A) → map f (xs ++ ys) ≡ map f xs ++ map f ys
 map_both f [] ys = refl

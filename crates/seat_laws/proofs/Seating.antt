@@ -24,7 +24,7 @@ use Rattle.compiled_laws.proofs.Names.{Apart, NamesApart, apart_names}
 use Rattle.net_model.specs.Seats.{Controlling, Forwarding, Seat, Who, agent_plan, control_plan, far_of, id_of, index_from, name_of, names_of, nobody, others_of, place_at, place_of, role_of, seat, seat_named, session_with, whos}
 use Rattle.net_model.specs.declared.place.Place.{Place}
 use Rattle.seat_laws.specs.Wiring.{AreSeats, HasFar, IsPlace, IsPlaceOf, name_at, other_at}
-use Rattle.seat_laws.proofs.Lists.{apart_both, apart_kept, apart_of, at_map, at_of_member, index_here, index_found, index_of_map, map_both, map_twice, member_of_at, same_length}
+use Rattle.seat_laws.proofs.Lists.{apart_both, apart_kept, apart_of, at_map, at_of_member, index_here, index_found, index_of_map, map_both, map_twice, member_of_at, mapped_length}
 use Rattle.seat_laws.proofs.Parties.{Ties, by_kind, holder_of, parties_named, parties_of, plan_names, self, ties_of, ties_turned}
 
 -- the control nodes that a compute node lists are different
@@ -82,11 +82,7 @@ module _ (x : Checked) (named : IsNamed x.topology) (listed : ListsApart x) wher
     who_at k = sym (at_map who_of seats k nobody) ∙ ap (λ ws. slice_index_or ws k nobody.who) are
 
     pub seats_long : length seats ≡ length (whos x)
-    seats_long = same_length who_of (λ (w : Who). w) seats (whos x) (are ∙ same (whos x))
-      where
-        same : (ws : List Who) → ws ≡ map (λ (w : Who). w) ws
-        same [] = refl
-        same (w ∷ ws) = ap (λ us. w ∷ us) (same ws)
+    seats_long = mapped_length who_of seats (whos x) are
 
     pub who_in : (k : ℕ) → k < length seats → Member (seat seats k).who (whos x)
     who_in k h = subst (λ w. Member w (whos x)) (sym (who_at k)) (member_of_at (whos x) k nobody.who (subst (λ n. k < n) seats_long h))
@@ -103,19 +99,15 @@ module _ (x : Checked) (named : IsNamed x.topology) (listed : ListsApart x) wher
     seats_named : seat_names ≡ all_names
     seats_named = sym (map_twice name_of who_of seats) ∙ ap (map name_of) are ∙ whos_named
 
-    names_long : length seat_names ≡ length seats
-    names_long = same_length (λ (m : Name). m) (λ (n : Seat). name_of n.who) seat_names seats (same seat_names)
-      where
-        same : (ms : List Name) → map (λ (m : Name). m) ms ≡ ms
-        same [] = refl
-        same (m ∷ ms) = ap (λ ns. m ∷ ns) (same ms)
+    names_long : length seats ≡ length seat_names
+    names_long = mapped_length (λ (n : Seat). name_of n.who) seats seat_names refl
 
     pub seat_found : (k : ℕ) → k < length seats → seat_named seats (name_of (seat seats k).who) ≡ Some k
     seat_found k h =
         let a = name_of (seat seats k).who in
         sym (index_of_map (λ (n : Seat). name_of n.who) (λ m. same_name m a) 0 seats)
         ∙ subst (λ a. index_from 0 (λ m. same_name m a) seat_names ≡ Some k) (at_map (λ (n : Seat). name_of n.who) seats k nobody)
-        (index_here seat_names k (name_of nobody.who) (subst Apart (sym seats_named) all_apart) (subst (λ n. k < n) (sym names_long) h))
+        (index_here seat_names k (name_of nobody.who) (subst Apart (sym seats_named) all_apart) (subst (λ n. k < n) names_long h))
       where
         all_apart : Apart all_names
         all_apart = apart_of all_names named.apart
@@ -169,7 +161,7 @@ module _ (x : Checked) (named : IsNamed x.topology) (listed : ListsApart x) wher
         let k = seat_of h.who h.member in
         let i = at_of_member o (parties_of h.who) ([], Agent) h.tied in
         let w = (seat seats k.0).who in
-        let long : length (parties_of w) ≡ length (others_of w) = sym (same_length (λ (m : Name). m) (λ (o : Party). o.0) (others_of w) (parties_of w) (plain (others_of w) ∙ sym (parties_named w))) in
+        let long : length (parties_of w) ≡ length (others_of w) = mapped_length (λ (o : Party). o.0) (parties_of w) (others_of w) (parties_named w) in
         let here : i.0 < length (parties_of w) = subst (λ w. i.0 < length (parties_of w)) (sym k.2) i.1 in
         record {
           place = record { node = k.0; session = i.0 };
@@ -181,10 +173,6 @@ module _ (x : Checked) (named : IsNamed x.topology) (listed : ListsApart x) wher
           };
           role = ap role_of k.2 ∙ ap (λ (p : Party). p.1) h.self_is;
         }
-      where
-        plain : (ms : List Name) → map (λ (m : Name). m) ms ≡ ms
-        plain [] = refl
-        plain (m ∷ ms) = ap (λ ns. m ∷ ns) (plain ms)
 
     -- with whom the node of a place has the session
     abbrev pub party_at : Place → Party
@@ -198,12 +186,8 @@ module _ (x : Checked) (named : IsNamed x.topology) (listed : ListsApart x) wher
     pub ties_at : (p : Place) → IsPlace seats p → Ties x.topology (self (seat seats p.node).who) (party_at p)
     ties_at p h =
         let w = (seat seats p.node).who in
-        let long : length (others_of w) ≡ length (parties_of w) = same_length (λ (m : Name). m) (λ (o : Party). o.0) (others_of w) (parties_of w) (plain (others_of w) ∙ sym (parties_named w)) in
-        ties_of x named w (who_in p.node h.node) (party_at p) (member_of_at (parties_of w) p.session ([], Agent) (subst (λ n. p.session < n) long h.session))
-      where
-        plain : (ms : List Name) → map (λ (m : Name). m) ms ≡ ms
-        plain [] = refl
-        plain (m ∷ ms) = ap (λ ns. m ∷ ns) (plain ms)
+        let long : length (parties_of w) ≡ length (others_of w) = mapped_length (λ (o : Party). o.0) (parties_of w) (others_of w) (parties_named w) in
+        ties_of x named w (who_in p.node h.node) (party_at p) (member_of_at (parties_of w) p.session ([], Agent) (subst (λ n. p.session < n) (sym long) h.session))
 
     pub record FarAt (p : Place) : Type 0 where
       pub has : HasFar seats p
