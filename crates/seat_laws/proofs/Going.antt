@@ -65,7 +65,7 @@ root_sends Opened = refl
 root_sends Confirmed = refl
 root_sends Up = refl
 
-agent_sends : (p : Phase) → may_send_at false p ≡ not (agent.is_idle p)
+pub agent_sends : (p : Phase) → may_send_at false p ≡ not (agent.is_idle p)
 agent_sends Idle = refl
 agent_sends Opened = refl
 agent_sends Confirmed = refl
@@ -87,10 +87,10 @@ control_tells v false c = refl
 
 -- ---- the roles of a session's two ends
 module _ (w : Network) (v : Who) (posts : List Post) (h : Ends w v posts) (i : ℕ) (s : Session) (at : IsAt w v i s) where
-  same : Same s (post posts i)
+  pub same : Same s (post posts i)
   same = end_is w v posts h i (subst (λ n. i < n) (sym h.long) at.within) s at.found
 
-  near_role : s.near.role ≡ role_of v
+  pub near_role : s.near.role ≡ role_of v
   near_role = ap (λ (n : Nodes). n.0.1) at.nodes_are
 
   far_role : s.far.role ≡ (slice_index_or (parties_of v) i ([], Agent)).1
@@ -99,14 +99,14 @@ module _ (w : Network) (v : Who) (posts : List Post) (h : Ends w v posts) (i : �
   far_name : s.far.name ≡ (slice_index_or (parties_of v) i ([], Agent)).0
   far_name = ap (λ (n : Nodes). n.1.0) at.nodes_are
 
-  wanted_near : wanted w.setup (views_of (name_of v) w.sessions) (view s) ≡ wanted_from w.setup (views_of (name_of v) w.sessions) (view s) (role_of v)
+  pub wanted_near : wanted w.setup (views_of (name_of v) w.sessions) (view s) ≡ wanted_from w.setup (views_of (name_of v) w.sessions) (view s) (role_of v)
   wanted_near = wanted_is w.setup (views_of (name_of v) w.sessions) (view s) ∙ ap (wanted_from w.setup (views_of (name_of v) w.sessions) (view s)) near_role
 
-  sends : (b : Bool) → is_peering s ≡ b → may_send s ≡ may_send_at b (post posts i).phase
+  pub sends : (b : Bool) → is_peering s ≡ b → may_send s ≡ may_send_at b (post posts i).phase
   sends b e = (λ k. may_send_at (e k) (same.0 k))
 
 -- ---- the configuration node
-root_goes : (w : Network) → GoesWell w (Configuring w.setup)
+pub root_goes : (w : Network) → GoesWell w (Configuring w.setup)
 root_goes w posts h i s at =
     let v = Configuring w.setup in
     let apart : is_peering s ≡ false = ap (λ r. are_peers r s.far.role) (near_role w v posts h i s at) in
@@ -200,5 +200,5 @@ module _ (w : Network) (named : IsNamed w.setup.topology) (has : HasSessions w) 
           told = λ c. ap (λ b. octets_of v b (Carries c)) peering ∙ control_tells v (is_peer plan i) c;
         }
 
-  site_goes : (c : NodeId) → Member c w.setup.topology.controllers → GoesWell w (Controlling (plan_of c))
+  pub site_goes : (c : NodeId) → Member c w.setup.topology.controllers → GoesWell w (Controlling (plan_of c))
   site_goes c m posts h i s at = site_goes_at c m posts h i s at

@@ -11,3 +11,4 @@ pub mod Hearing
 pub mod Positions
 pub mod Ends
 pub mod Going
+pub mod Agents

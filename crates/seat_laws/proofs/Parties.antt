@@ -108,13 +108,19 @@ module _ (x : Checked) (named : IsNamed x.topology) where
   computer_in n m = inr (in_right (Forwarding (agent_plan t n)) (map (λ c. Controlling (control_plan t c)) t.controllers) (map (λ n. Forwarding (agent_plan t n)) t.nodes) (in_map (λ n. Forwarding (agent_plan t n)) n t.nodes m))
 
   -- a node is one of three kinds
-  pub by_kind : (P : Who → Type 0) → P (Configuring x) → ((c : NodeId) → Member c t.controllers → P (Controlling (control_plan t c))) → ((n : Node) → Member n t.nodes → P (Forwarding (agent_plan t n))) → (w : Who) → Member w (whos x) → P w
-  by_kind P a b c w (inl e) = subst P e a
-  by_kind P a b c w (inr m) =
+  abbrev pub others_than_root : List Who
+  others_than_root = map (λ c. Controlling (control_plan t c)) t.controllers ++ map (λ n. Forwarding (agent_plan t n)) t.nodes
+
+  pub by_node : (P : Who → Type 0) → ((c : NodeId) → Member c t.controllers → P (Controlling (control_plan t c))) → ((n : Node) → Member n t.nodes → P (Forwarding (agent_plan t n))) → (w : Who) → Member w others_than_root → P w
+  by_node P b c w m =
       elim (in_either w (map (λ c. Controlling (control_plan t c)) t.controllers) (map (λ n. Forwarding (agent_plan t n)) t.nodes) m) as (λ _. P w) [
         | inl l ↦ let q = from_map (λ c. Controlling (control_plan t c)) w t.controllers l in subst P q.2 (b q.0 q.1)
         | inr r ↦ let q = from_map (λ n. Forwarding (agent_plan t n)) w t.nodes r in subst P q.2 (c q.0 q.1)
       ]
+
+  pub by_kind : (P : Who → Type 0) → P (Configuring x) → ((c : NodeId) → Member c t.controllers → P (Controlling (control_plan t c))) → ((n : Node) → Member n t.nodes → P (Forwarding (agent_plan t n))) → (w : Who) → Member w (whos x) → P w
+  by_kind P a b c w (inl e) = subst P e a
+  by_kind P a b c w (inr m) = by_node P b c w m
 
   -- ---- the first of two that have a session
   pub record Holder (a o : Party) : Type 0 where

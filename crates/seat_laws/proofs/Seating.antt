@@ -2,7 +2,7 @@
 use Rattle.std.specs.Cmp.Lexicographic.{bytes_decides}
 use Rattle.std.specs.List.{filter}
 use Rattle.std.specs.Option.{option_map}
-use Rattle.std.specs.Prelude.{List, false, length, map, not, slice_index_or, true, ℕ, [], ◌++◌, ◌<◌, ◌∷◌, ◌≡◌}
+use Rattle.std.specs.Prelude.{List, false, length, map, not, slice_index_or, suc, true, zero, ℕ, [], ◌++◌, ◌<◌, ◌∷◌, ◌≡◌}
 use Rattle.std.specs.declared.option.Option.TheVariants.{None, Some}
 use Rattle.std.specs.declared.option.Option.{Option}
 use Rattle.std.proofs.Common.{ap, arith, inl, inr, refl, subst, sym, ◌∙◌}
@@ -21,11 +21,11 @@ use Rattle.network_model.specs.Setup.{Name}
 use Rattle.compiled_laws.specs.Goal.{Party}
 use Rattle.compiled_laws.specs.Setups.{IsNamed}
 use Rattle.compiled_laws.proofs.Names.{Apart, NamesApart, apart_names}
-use Rattle.net_model.specs.Seats.{Controlling, Forwarding, Seat, Who, agent_plan, control_plan, far_of, id_of, index_from, name_of, names_of, nobody, others_of, place_at, place_of, role_of, seat, seat_named, session_with, whos}
+use Rattle.net_model.specs.Seats.{Configuring, Controlling, Forwarding, Seat, Who, agent_plan, control_plan, far_of, id_of, index_from, name_of, names_of, nobody, others_of, place_at, place_of, role_of, seat, seat_named, session_with, whos}
 use Rattle.net_model.specs.declared.place.Place.{Place}
 use Rattle.seat_laws.specs.Wiring.{AreSeats, HasFar, IsPlace, IsPlaceOf, name_at, other_at}
 use Rattle.seat_laws.proofs.Lists.{apart_both, apart_kept, apart_of, at_map, at_of_member, index_here, index_found, index_of_map, map_both, map_twice, member_of_at, mapped_length}
-use Rattle.seat_laws.proofs.Parties.{Ties, by_kind, holder_of, parties_named, parties_of, plan_names, self, ties_of, ties_turned}
+use Rattle.seat_laws.proofs.Parties.{Ties, by_kind, holder_of, others_than_root, parties_named, parties_of, plan_names, self, ties_of, ties_turned}
 
 -- the control nodes that a compute node lists are different
 abbrev pub ListsApart : Checked → Type 0
@@ -87,6 +87,14 @@ module _ (x : Checked) (named : IsNamed x.topology) (listed : ListsApart x) wher
     pub who_in : (k : ℕ) → k < length seats → Member (seat seats k).who (whos x)
     who_in k h = subst (λ w. Member w (whos x)) (sym (who_at k)) (member_of_at (whos x) k nobody.who (subst (λ n. k < n) seats_long h))
 
+    -- the first is the configuration node's, and each other is a control node's or an agent's
+    pub root_at : (seat seats 0).who ≡ Configuring x
+    root_at = who_at 0
+
+    pub who_above : (k : ℕ) → 0 < k → k < length seats → Member (seat seats k).who (others_than_root x named)
+    who_above zero above h = absurd (omega (arith, above))
+    who_above (suc k) above h = subst (λ w. Member w (others_than_root x named)) (sym (who_at (suc k))) (member_of_at (others_than_root x named) k nobody.who (omega (arith, h, seats_long)))
+
     -- a node has a seat
     pub seat_of : (w : Who) → Member w (whos x) → (k : ℕ) × (k < length seats) × ((seat seats k).who ≡ w)
     seat_of w m =
@@ -112,6 +120,13 @@ module _ (x : Checked) (named : IsNamed x.topology) (listed : ListsApart x) wher
         all_apart : Apart all_names
         all_apart = apart_of all_names named.apart
 
+    -- what is found by a name is a seat of that name
+    pub seat_is : (a : Name) (k : ℕ) → seat_named seats a ≡ Some k → (k < length seats) × (name_of (seat seats k).who ≡ a)
+    seat_is a k is =
+        let n = index_found (λ (n : Seat). same_name (name_of n.who) a) 0 seats k nobody is in
+        let same : n.0 ≡ k = omega (arith, n.1) in
+        (subst (λ j. j < length seats) same n.2, subst (λ j. name_of (seat seats j).who ≡ a) same ((bytes_decides (name_of (seat seats n.0).who) a).0 n.3))
+
     session_found : (w : Who) → Member w (whos x) → (i : ℕ) → i < length (others_of w) → index_from 0 (λ m. same_name m (slice_index_or (others_of w) i [])) (others_of w) ≡ Some i
     session_found w m i h = index_here (others_of w) i [] (others_apart w m) h
 
@@ -129,13 +144,12 @@ module _ (x : Checked) (named : IsNamed x.topology) (listed : ListsApart x) wher
         by_session k is (Some i) at e =
             let q : Place = record { node = k; session = i } in
             let same : q ≡ p = same_Some q p e in
-            let n = index_found (λ (n : Seat). same_name (name_of n.who) a) 0 seats k nobody is in
+            let n = seat_is a k is in
             let m = index_found (λ m. same_name m b) 0 (others_of (seat seats k).who) i [] at in
-            let k_is : k ≡ n.0 = omega (arith, n.1) in
             let i_is : i ≡ m.0 = omega (arith, m.1) in
             subst (IsPlaceOf seats a b) same (record {
-              is_place = record { node = subst (λ j. j < length seats) (sym k_is) n.2; session = subst (λ j. j < length (others_of (seat seats k).who)) (sym i_is) m.2 };
-              name = subst (λ j. name_of (seat seats j).who ≡ a) (sym k_is) ((bytes_decides (name_of (seat seats n.0).who) a).0 n.3);
+              is_place = record { node = n.0; session = subst (λ j. j < length (others_of (seat seats k).who)) (sym i_is) m.2 };
+              name = n.1;
               other = subst (λ j. slice_index_or (others_of (seat seats k).who) j [] ≡ b) (sym i_is) ((bytes_decides (slice_index_or (others_of (seat seats k).who) m.0 []) b).0 m.3);
             })
 

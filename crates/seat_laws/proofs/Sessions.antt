@@ -69,6 +69,14 @@ module _ (w : Network) (named : IsNamed w.setup.topology) (listed : ListsApart w
   pub sessions_proper : Each (λ s. (same_name s.near.name s.far.name ≡ false) × (same_name s.far.name s.near.name ≡ false)) w.sessions
   sessions_proper = all_of (λ (s : Session). (same_name s.near.name s.far.name ≡ false) × (same_name s.far.name s.near.name ≡ false)) w.sessions (λ s m. proper w.setup named (nodes s) (link_at s m))
 
+  pub names_differ : (a b : Name) (s : Session) → session_of w a b ≡ Some s → a ≡ b → ⊥
+  names_differ a b s e same =
+      let h = stands_in w.sessions a b s e in
+      elim h.2 as (λ _. ⊥) [
+        | inl m ↦ true≢false (sym ((bytes_decides s.near.name s.far.name).1 (h.0 ∙ same ∙ sym h.1)) ∙ (proper w.setup named (nodes s) (link_at s m)).0)
+        | inr m ↦ true≢false (sym ((bytes_decides s.far.name s.near.name).1 (h.1 ∙ sym same ∙ sym h.0)) ∙ (proper w.setup named (nodes (turned s)) (link_at (turned s) m)).0)
+      ]
+
   -- ---- the session of two nodes that have one
   pub record SessionOf (a o : Party) : Type 0 where
     pub session : Session
@@ -93,6 +101,14 @@ module _ (w : Network) (named : IsNamed w.setup.topology) (listed : ListsApart w
               nodes_are = ap (λ (p : Nodes). (p.1, p.0)) q.2;
             }
       ]
+
+  pub nodes_at : (p : Place) → IsPlace seats p → (s : Session) → session_of w (name_at seats p) (other_at seats p) ≡ Some s → nodes s ≡ (self (seat seats p.node).who, party_at w.setup named listed seats are p)
+  nodes_at p h s e =
+      let a = self (seat seats p.node).who in
+      let o = party_at w.setup named listed seats are p in
+      let q = session_tied a o (ties_at w.setup named listed seats are p h) in
+      let found : session_of w (name_at seats p) (other_at seats p) ≡ Some q.session = subst (λ b. session_of w (name_at seats p) b ≡ Some q.session) (party_named w.setup named listed seats are p) q.found in
+      subst (λ s. nodes s ≡ (a, o)) (same_Some q.session s (sym found ∙ e)) q.nodes_are
 
   -- ---- each place has its session
   pub place_session : (p : Place) → IsPlace seats p → HasSession seats w p
