@@ -12,3 +12,4 @@ pub mod Positions
 pub mod Ends
 pub mod Going
 pub mod Agents
+pub mod Shows
