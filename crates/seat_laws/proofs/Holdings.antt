@@ -15,20 +15,12 @@ use Rattle.compiled_laws.specs.Goal.{Party}
 use Rattle.compiled_laws.proofs.Views.{far, views}
 use Rattle.control_node.specs.Core.{holdings, told_from}
 use Rattle.control_node.specs.declared.plan.ControlPlan.{ControlPlan}
+use Rattle.seat_laws.proofs.Lists.{first_is, rest_is, some_nothing}
 use Rattle.seat_laws.proofs.Parties.{client, root, site}
 
 -- a session shows its node what the node's end has
 abbrev pub Same : Session → Post → Type 0
 Same s p = (s.near.phase ≡ p.phase) × (s.near.held ≡ p.held)
-
-first_is : {A : Type 0} (x y : A) (xs ys : List A) → (x ∷ xs) ≡ (y ∷ ys) → x ≡ y
-first_is x y xs ys e = ap (λ zs. slice_index_or zs zero x) e
-
-rest_is : {A : Type 0} (x y : A) (xs ys : List A) → (x ∷ xs) ≡ (y ∷ ys) → xs ≡ ys
-rest_is x y xs ys e = ap (λ zs. drop (suc zero) zs) e
-
-some_nothing : {A : Type 0} (x : A) (xs : List A) → (x ∷ xs) ≡ [] → ⊥
-some_nothing x xs e = cc
 
 -- ---- sessions of one role among others
 passed_by : (q r : Role) (s : Session) (own : List Session) → s.far.role ≡ r → same_role q r ≡ false → with_role q (views (s ∷ own)) ≡ with_role q (views own)

@@ -13,3 +13,5 @@ pub mod Ends
 pub mod Going
 pub mod Agents
 pub mod Shows
+pub mod Forwarders
+pub mod Rounds

@@ -1,7 +1,7 @@
 -- The first place at which a list has something, and lists in which each name stands once.
 use Rattle.std.specs.Cmp.Lexicographic.{bytes_decides}
 use Rattle.std.specs.List.{AllByRecursion, AllZip, filter}
-use Rattle.std.specs.Prelude.{Bool, List, cond, false, length, map, slice_index_or, suc, true, zero, ℕ, [], ◌++◌, ◌+◌, ◌<◌, ◌∷◌, ◌≡◌}
+use Rattle.std.specs.Prelude.{Bool, List, cond, drop, false, length, map, slice_index_or, suc, true, zero, ℕ, [], ◌++◌, ◌+◌, ◌<◌, ◌∷◌, ◌≡◌}
 use Rattle.std.specs.declared.option.Option.TheVariants.{None, Some}
 use Rattle.std.specs.declared.option.Option.{Option}
 use Rattle.std.proofs.Common.{ap, arith, inl, inr, refl, subst, sym, ◌∙◌}
@@ -18,6 +18,16 @@ use Rattle.net_model.specs.Seats.{index_from}
 
 pub some_none : {A : Type 0} (x : A) → Some x ≡ None → ⊥
 some_none x e = cc
+
+-- ---- heads and tails
+pub first_is : {A : Type 0} (x y : A) (xs ys : List A) → (x ∷ xs) ≡ (y ∷ ys) → x ≡ y
+first_is x y xs ys e = ap (λ zs. slice_index_or zs zero x) e
+
+pub rest_is : {A : Type 0} (x y : A) (xs ys : List A) → (x ∷ xs) ≡ (y ∷ ys) → xs ≡ ys
+rest_is x y xs ys e = ap (λ zs. drop (suc zero) zs) e
+
+pub some_nothing : {A : Type 0} (x : A) (xs : List A) → (x ∷ xs) ≡ [] → ⊥
+some_nothing x xs e = cc
 
 -- ---- members by their places
 pub member_of_at : {A : Type 0} (xs : List A) (k : ℕ) (d : A) → k < length xs → Member (slice_index_or xs k d) xs
