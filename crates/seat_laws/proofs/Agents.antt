@@ -38,8 +38,8 @@ module _ (w : Network) (named : IsNamed w.setup.topology) (listed : ListsApart w
       let q = h.end j less in
       let b = slice_index_or (others_of v) j [] in
       let hears : HearsAt vs b (post posts j) =
-          heard_of n.name b (names_differ w named listed seats stands.who has n.name b q.0 q.1) w.sessions q.0 q.1
-          ∙ (λ k. record { is_up = (ap is_up_phase q.2.0 ∙ up_same (post posts j).phase) k; map = q.2.1 k }) in
+      heard_of n.name b (names_differ w named listed seats stands.who has n.name b q.0 q.1) w.sessions q.0 q.1
+      ∙ (λ k. record { is_up = (ap is_up_phase q.2.0 ∙ up_same (post posts j).phase) k; map = q.2.1 k }) in
       subst (λ ns. HearsAt vs (slice_index_or ns j []) (post posts j)) names hears))
 
   computer_goes : (n : Node) → Member n w.setup.topology.nodes → GoesWell w (Forwarding (agent_plan w.setup.topology n))

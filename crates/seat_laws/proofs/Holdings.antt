@@ -61,7 +61,7 @@ module _ (x : Checked) where
       let next : m + 1 ≡ suc m = omega arith in
       ap (told_all x m) (taken_in Agent Agent s own (role_is s own (client a) (map client agents) e) refl)
       ∙ (λ i. record { session = m; address = address i; map = z.0.1 i }
-          ∷ (agents_told agents own posts (m + 1) (rest_is (far s) (client a) (map far own) (map client agents) e) z.1 (λ b k. h b (inr k)) ∙ ap (λ n. told_from n agents posts) next) i)
+      ∷ (agents_told agents own posts (m + 1) (rest_is (far s) (client a) (map far own) (map client agents) e) z.1 (λ b k. h b (inr k)) ∙ ap (λ n. told_from n agents posts) next) i)
 
   -- ---- those of peers, and then those of agents
   peers_held : (peers agents : List NodeId) (own : List Session) (posts : List Post) → map far own ≡ map site peers ++ map client agents → AllZip Same own posts
@@ -106,10 +106,10 @@ module _ (x : Checked) where
       let controllers : with_role Controller (views (s ∷ own)) ≡ with_role Controller (views own) = passed_by Controller Configuration s own role refl in
       let many : length (with_role Controller (views (s ∷ own))) ≡ n = ap length controllers ∙ peers_many plan.peers plan.agents own rest in
       let agents : told_all x (1 + length (with_role Controller (views (s ∷ own)))) (with_role Agent (views (s ∷ own))) ≡ told_from (1 + n) plan.agents (drop (1 + n) (p ∷ posts)) =
-          ap (λ k. told_all x (1 + k) (with_role Agent (views (s ∷ own)))) many
-          ∙ ap (told_all x (1 + n)) (passed_by Agent Configuration s own role refl)
-          ∙ told_after plan.peers plan.agents own posts (1 + n) rest z.1 h
-          ∙ ap (λ k. told_from (1 + n) plan.agents (drop k (p ∷ posts))) more in
+      ap (λ k. told_all x (1 + k) (with_role Agent (views (s ∷ own)))) many
+      ∙ ap (told_all x (1 + n)) (passed_by Agent Configuration s own role refl)
+      ∙ told_after plan.peers plan.agents own posts (1 + n) rest z.1 h
+      ∙ ap (λ k. told_from (1 + n) plan.agents (drop k (p ∷ posts))) more in
       λ i. record {
         asn = sym asn i;
         feed = (ap (λ vs. first_held vs) (taken_in Configuration Configuration s own role refl) ∙ z.0.1) i;

@@ -4,7 +4,6 @@ pub mod Parties
 pub mod Links
 pub mod Seating
 pub mod Sessions
-pub mod Written
 pub mod Order
 pub mod Holdings
 pub mod Hearing
@@ -15,3 +14,4 @@ pub mod Agents
 pub mod Shows
 pub mod Forwarders
 pub mod Rounds
+pub mod Written

@@ -58,10 +58,10 @@ module _ (x : Checked) (named : IsNamed x.topology) (listed : ListsApart x) wher
       let peer : (m : Name) → Member m (names_of peers) → Member m (controller_names t) = λ m i. let q = from_map (λ (d : NodeId). d.name) m peers i in subst (λ m. Member m (controller_names t)) q.2 (in_map (λ (d : NodeId). d.name) q.0 t.controllers (from_filter (λ (d : NodeId). not (same_name d.name c.name)) q.0 t.controllers q.1).0) in
       let agent : (m : Name) → Member m (map (λ (n : Node). n.name) agents) → Member m (node_names t) = λ m i. let q = from_map (λ (n : Node). n.name) m agents i in subst (λ m. Member m (node_names t)) q.2 (in_map (λ (n : Node). n.name) q.0 t.nodes (from_filter (λ n. lists n c) q.0 t.nodes q.1).0) in
       let apart : Apart (names_of peers ++ map (λ (n : Node). n.name) agents) =
-          apart_both (names_of peers) (map (λ (n : Node). n.name) agents)
-          (apart_kept (λ (d : NodeId). d.name) (λ (d : NodeId). not (same_name d.name c.name)) t.controllers names.sites_apart)
-          (apart_kept (λ (n : Node). n.name) (λ n. lists n c) t.nodes names.computers_apart)
-          (λ m n i j e. names.kinds_apart m n (peer m i) (agent n j) e) in
+      apart_both (names_of peers) (map (λ (n : Node). n.name) agents)
+      (apart_kept (λ (d : NodeId). d.name) (λ (d : NodeId). not (same_name d.name c.name)) t.controllers names.sites_apart)
+      (apart_kept (λ (n : Node). n.name) (λ n. lists n c) t.nodes names.computers_apart)
+      (λ m n i j e. names.kinds_apart m n (peer m i) (agent n j) e) in
       subst (λ ms. Apart (config ∷ (names_of peers ++ ms))) (sym (names_of_map agents)) (
         (λ m i e. elim (in_either m (names_of peers) (map (λ (n : Node). n.name) agents) i) as (λ _. ⊥) [ inl l ↦ names.no_site_config m (peer m l) (sym e) | inr r ↦ names.no_computer_config m (agent m r) (sym e) ]),
         apart,

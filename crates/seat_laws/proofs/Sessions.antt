@@ -152,10 +152,10 @@ module _ (w : Network) (named : IsNamed w.setup.topology) (listed : ListsApart w
   place_where a b s e =
       let h = stands_in w.sessions a b s e in
       let ties : Ties w.setup.topology (s.near.name, s.near.role) (s.far.name, s.far.role) =
-          elim h.2 as (λ _. Ties w.setup.topology (s.near.name, s.near.role) (s.far.name, s.far.role)) [
-            | inl m ↦ tied_of w.setup named (nodes s) (link_at s m)
-            | inr m ↦ ties_turned w.setup.topology (s.far.name, s.far.role) (s.near.name, s.near.role) (tied_of w.setup named (nodes (turned s)) (link_at (turned s) m))
-          ] in
+      elim h.2 as (λ _. Ties w.setup.topology (s.near.name, s.near.role) (s.far.name, s.far.role)) [
+        | inl m ↦ tied_of w.setup named (nodes s) (link_at s m)
+        | inr m ↦ ties_turned w.setup.topology (s.far.name, s.far.role) (s.near.name, s.near.role) (tied_of w.setup named (nodes (turned s)) (link_at (turned s) m))
+      ] in
       let q = tied_at w.setup named listed seats are (s.near.name, s.near.role) (s.far.name, s.far.role) ties in
       let at : place_of seats s.near.name s.far.name ≡ Some q.place = place_is_of w.setup named listed seats are s.near.name s.far.name q.place q.is_of in
       (q.place, subst (λ a. place_of seats a b ≡ Some q.place) h.0 (subst (λ b. place_of seats s.near.name b ≡ Some q.place) h.1 at))

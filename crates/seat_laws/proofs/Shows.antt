@@ -114,15 +114,17 @@ module _ (w : Network) (named : IsNamed w.setup.topology) (listed : ListsApart w
       let plan = control_plan w.setup.topology c in
       let q = seat_of w.setup named listed seats stands.who (Controlling plan) (site_in w.setup named c m) in
       let n = seat seats q.0 in
-      let ends : Ends w (Controlling plan) n.posts = subst (λ v. Ends w v n.posts) q.2 (seat_ends w seats stands q.0 q.1) in
-      (q.0, record {
-        seat_is = subst (λ name. seat_named seats name ≡ Some q.0) (ap name_of q.2) (seat_found w.setup named listed seats stands.who q.0 q.1);
-        above = above_root q.0 (Controlling plan) q.2 (λ e. apart e);
-        within = q.1;
-        shows = ap (λ o. shown_of o w c.name) (site_none c m)
-            ∙ ap (λ h. Rows.Control (control_rows h)) (site_holds w named has (all_found w named listed seats stands.who has) c m n.posts ends)
-            ∙ sym (shown_control n plan q.2);
-      })
+      let ends : Ends w (Controlling plan) n.posts = subst (λ v. Ends w v n.posts) q.2 (seat_ends w seats stands q.0 q.1) in (
+        q.0,
+        record {
+          seat_is = subst (λ name. seat_named seats name ≡ Some q.0) (ap name_of q.2) (seat_found w.setup named listed seats stands.who q.0 q.1);
+          above = above_root q.0 (Controlling plan) q.2 (λ e. apart e);
+          within = q.1;
+          shows = ap (λ o. shown_of o w c.name) (site_none c m)
+              ∙ ap (λ h. Rows.Control (control_rows h)) (site_holds w named has (all_found w named listed seats stands.who has) c m n.posts ends)
+              ∙ sym (shown_control n plan q.2);
+        },
+      )
     where
       apart : Configuration ≡ Controller → ⊥
       apart e = cc
@@ -132,15 +134,17 @@ module _ (w : Network) (named : IsNamed w.setup.topology) (listed : ListsApart w
       let plan = agent_plan w.setup.topology c in
       let q = seat_of w.setup named listed seats stands.who (Forwarding plan) (computer_in w.setup named c m) in
       let n = seat seats q.0 in
-      let ends : Ends w (Forwarding plan) n.posts = subst (λ v. Ends w v n.posts) q.2 (seat_ends w seats stands q.0 q.1) in
-      (q.0, record {
-        seat_is = subst (λ name. seat_named seats name ≡ Some q.0) (ap name_of q.2) (seat_found w.setup named listed seats stands.who q.0 q.1);
-        above = above_root q.0 (Forwarding plan) q.2 (λ e. apart e);
-        within = q.1;
-        shows = ap (λ o. shown_of o w c.name) (computer_found ns c names.computers_apart m)
-            ∙ ap (λ h. Rows.Agent (agent_rows h)) (computer_holds w named listed seats stands has c m n.posts ends)
-            ∙ sym (shown_agent n plan q.2);
-      })
+      let ends : Ends w (Forwarding plan) n.posts = subst (λ v. Ends w v n.posts) q.2 (seat_ends w seats stands q.0 q.1) in (
+        q.0,
+        record {
+          seat_is = subst (λ name. seat_named seats name ≡ Some q.0) (ap name_of q.2) (seat_found w.setup named listed seats stands.who q.0 q.1);
+          above = above_root q.0 (Forwarding plan) q.2 (λ e. apart e);
+          within = q.1;
+          shows = ap (λ o. shown_of o w c.name) (computer_found ns c names.computers_apart m)
+              ∙ ap (λ h. Rows.Agent (agent_rows h)) (computer_holds w named listed seats stands has c m n.posts ends)
+              ∙ sym (shown_agent n plan q.2);
+        },
+      )
     where
       apart : Configuration ≡ Agent → ⊥
       apart e = cc

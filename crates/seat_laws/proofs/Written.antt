@@ -1,6 +1,6 @@
--- Of a valid configuration of the written form: places and sessions belong together.
+-- Of a valid configuration of the written form: places and sessions belong together, and nodes go by what seats hold.
 use Rattle.std.specs.List.{All, AllByRecursion}
-use Rattle.std.specs.Prelude.{List, false, ◌≡◌}
+use Rattle.std.specs.Prelude.{List, false, length, true, ℕ, ◌<◌, ◌≡◌}
 use Rattle.std.specs.declared.option.Option.TheVariants.{None, Some}
 use Rattle.std.proofs.lemmas.List.Elements.{All-contains}
 use Rattle.ov_types.specs.First.{same_name}
@@ -8,6 +8,7 @@ use Rattle.config_model.specs.declared.topology.Node.{Node}
 use Rattle.config_check.specs.Checked.{Checked}
 use Rattle.config_check.specs.Sentences.{AreDistinct}
 use Rattle.config_check.proofs.Validity.{valid_iff}
+use Rattle.network_model.specs.Events.{forwarders, is_node}
 use Rattle.network_model.specs.Moments.{Each}
 use Rattle.network_model.specs.Network.{Network}
 use Rattle.network_model.specs.Session.{Session}
@@ -17,9 +18,14 @@ use Rattle.compiled_laws.specs.Setups.{IsNamed}
 use Rattle.headline_laws.specs.Headline.{IsWritten}
 use Rattle.headline_laws.proofs.Lists.{contains_of}
 use Rattle.headline_laws.proofs.Names.{is_named}
-use Rattle.net_model.specs.Seats.{Seat, far_of, place_of}
+use Rattle.net_model.specs.Seats.{Seat, far_of, name_of, place_of, seat, seat_named}
+use Rattle.net_model.specs.Stands.{Seats}
+use Rattle.net_model.specs.Steps.{forwarders_of}
 use Rattle.net_model.specs.declared.place.Place.{Place}
-use Rattle.seat_laws.specs.Wiring.{AreSeats, HasFar, HasSession, HasSessions, IsFound, IsPlace, IsPlaceOf, name_at, other_at}
+use Rattle.seat_laws.specs.Wiring.{AreSeats, GoesBy, HasFar, HasSession, HasSessions, IsFound, IsPlace, IsPlaceOf, ShowsAt, name_at, other_at}
+use Rattle.seat_laws.proofs.Agents as agents
+use Rattle.seat_laws.proofs.Forwarders as forward
+use Rattle.seat_laws.proofs.Shows as shows
 use Rattle.seat_laws.proofs.Seating as seating
 use Rattle.seat_laws.proofs.Seating.{ListsApart, far_at}
 use Rattle.seat_laws.proofs.Sessions as sessions
@@ -72,3 +78,20 @@ module _ (w : Network) (written : IsWritten w.setup) (seats : List Seat) (are : 
 
   pub names_differ : Each (λ s. (same_name s.near.name s.far.name ≡ false) × (same_name s.far.name s.near.name ≡ false)) w.sessions
   names_differ = sessions.sessions_proper w named apart seats are has
+
+-- ---- what nodes go by
+module _ (w : Network) (written : IsWritten w.setup) (seats : List Seat) (stands : Seats seats w) (has : HasSessions w) where
+  pub goes_by : (p : Place) → IsPlace seats p → (s : Session) → session_of w (name_at seats p) (other_at seats p) ≡ Some s → GoesBy seats w p s
+  goes_by p h s e = agents.goes_by w (written_named w.setup written) (written_apart w.setup written) seats stands has p h s e
+
+  pub shows_at : (name : Name) → is_node w name ≡ true → (k : ℕ) × ShowsAt seats w name k
+  shows_at name e = shows.shows_at w (written_named w.setup written) (written_apart w.setup written) seats stands has name e
+
+  pub seats_are_nodes : (k : ℕ) → 0 < k → k < length seats → is_node w (name_of (seat seats k).who) ≡ true
+  seats_are_nodes k above h = shows.seats_are_nodes w (written_named w.setup written) (written_apart w.setup written) seats stands has k above h
+
+  pub no_node_above : (name : Name) → is_node w name ≡ false → (k : ℕ) → seat_named seats name ≡ Some k → k ≡ 0
+  no_node_above name off k e = shows.no_node_above w (written_named w.setup written) (written_apart w.setup written) seats stands has name off k e
+
+  pub forwarders_are : forwarders w ≡ forwarders_of seats
+  forwarders_are = forward.forwarders_are w (written_named w.setup written) (written_apart w.setup written) seats stands has
