@@ -1,13 +1,12 @@
 -- What an agent goes by, and each node at its place.
-use Rattle.std.specs.List.{AllZip}
-use Rattle.std.specs.Prelude.{List, false, length, slice_index_or, ℕ, [], ◌<◌, ◌∷◌, ◌≡◌}
+use Rattle.std.specs.Prelude.{List, false, length, slice_index_or, [], ◌≡◌}
 use Rattle.std.specs.declared.option.Option.TheVariants.{Some}
-use Rattle.std.proofs.Common.{ap, refl, subst, sym, ◌∙◌}
+use Rattle.std.proofs.Common.{ap, subst, sym, ◌∙◌}
 use Rattle.config_model.specs.declared.topology.Node.{Node}
 use Rattle.node_model.specs.Agent.{wanted as wanted_by}
 use Rattle.node_model.specs.Members.{Member}
 use Rattle.node_model.specs.Step.{Post, nothing, post}
-use Rattle.network_model.specs.Network.{Network, agent_holdings, view, views_of}
+use Rattle.network_model.specs.Network.{Network, agent_holdings, views_of}
 use Rattle.network_model.specs.Session.{Carries, Session, are_peers, is_peering, is_up_phase}
 use Rattle.network_model.specs.Steps.{session_of}
 use Rattle.compiled_laws.specs.Setups.{IsNamed}
@@ -18,7 +17,7 @@ use Rattle.net_model.specs.Stands.{Seats, octets_of}
 use Rattle.net_model.specs.declared.place.Place.{Place}
 use Rattle.seat_laws.specs.Wiring.{GoesBy, HasSessions, IsPlace, name_at, other_at}
 use Rattle.seat_laws.proofs.Ends.{Ends, IsAt, seat_ends}
-use Rattle.seat_laws.proofs.Going.{GoesWell, agent_sends, near_role, root_goes, same, sends, site_goes, wanted_near}
+use Rattle.seat_laws.proofs.Going.{GoesWell, agent_sends, near_role, root_goes, sends, site_goes, wanted_near}
 use Rattle.seat_laws.proofs.Hearing.{HearsAt, agent_holds, heard_of, up_same}
 use Rattle.seat_laws.proofs.Lists.{zip_from}
 use Rattle.seat_laws.proofs.Parties.{by_kind, plan_names}

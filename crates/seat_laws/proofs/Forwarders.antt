@@ -1,7 +1,7 @@
 -- The agents' seats forward by what the machine's agents forward by, in the order of the topology.
-use Rattle.std.specs.List.{AllByRecursion, cons_option, filter_map}
-use Rattle.std.specs.Prelude.{List, length, map, [], ◌++◌, ◌<◌, ◌∷◌, ◌≡◌}
-use Rattle.std.specs.declared.option.Option.TheVariants.{None, Some}
+use Rattle.std.specs.List.{AllByRecursion, cons_option}
+use Rattle.std.specs.Prelude.{List, map, [], ◌++◌, ◌∷◌, ◌≡◌}
+use Rattle.std.specs.declared.option.Option.TheVariants.{Some}
 use Rattle.std.specs.declared.option.Option.{Option}
 use Rattle.std.proofs.Common.{ap, inl, inr, refl, subst, sym, ◌∙◌}
 use Rattle.ov_types.specs.declared.rows.NodeId.{NodeId}
@@ -13,10 +13,7 @@ use Rattle.network_model.specs.Events as events
 use Rattle.network_model.specs.Events.{forwarders}
 use Rattle.network_model.specs.Network.{Network}
 use Rattle.compiled_laws.specs.Setups.{IsNamed}
-use Rattle.agent_node.specs.Core as agent
-use Rattle.agent_node.specs.declared.plan.AgentPlan.{AgentPlan}
-use Rattle.control_node.specs.declared.plan.ControlPlan.{ControlPlan}
-use Rattle.net_model.specs.Seats.{Configuring, Controlling, Forwarding, Seat, Who, agent_plan, control_plan, nobody, seat}
+use Rattle.net_model.specs.Seats.{Configuring, Controlling, Forwarding, Seat, Who, agent_plan, control_plan, nobody}
 use Rattle.net_model.specs.Stands.{Seats}
 use Rattle.net_model.specs.Steps.{forwarder_of, forwarders_of}
 use Rattle.seat_laws.specs.Wiring.{HasSessions}

@@ -1,33 +1,24 @@
 -- What the machine's node wants, may send and tells on a session is what the node at its seat does.
-use Rattle.std.specs.List.{AllZip, filter}
-use Rattle.std.specs.Prelude.{Bool, List, cond, false, length, map, not, slice_index_or, suc, true, ℕ, [], ◌++◌, ◌+◌, ◌<◌, ◌==◌, ◌∷◌, ◌≡◌}
+use Rattle.std.specs.List.{filter}
+use Rattle.std.specs.Prelude.{Bool, List, cond, false, length, map, not, slice_index_or, suc, true, ℕ, [], ◌+◌, ◌<◌, ◌==◌, ◌≡◌}
 use Rattle.std.specs.FinMap.{empty}
-use Rattle.std.specs.declared.option.Option.TheVariants.{Some}
 use Rattle.std.proofs.Common.{ap, refl, subst, sym, ◌∙◌}
-use Rattle.std.proofs.lemmas.Bool.{true≢false}
-use Rattle.ov_types.specs.First.{same_name}
-use Rattle.ov_types.specs.declared.prefix.Addr.{Addr}
 use Rattle.ov_types.specs.declared.rows.NodeId.{NodeId}
-use Rattle.config_model.specs.declared.topology.Node.{Node}
 use Rattle.config_check.specs.Checked.{Checked}
 use Rattle.node_items.specs.Told as items
-use Rattle.node_model.specs.Agent.{wanted as wanted_by}
-use Rattle.node_model.specs.Maps.{Change, Map}
+use Rattle.node_model.specs.Maps.{Change}
 use Rattle.node_model.specs.Members.{Member}
-use Rattle.node_model.specs.Paths.{Holdings, Told}
 use Rattle.node_model.specs.Step.{Confirmed, Idle, Opened, Phase, Post, Up, post}
 use Rattle.node_model.specs.Wants.{wanted_by_agent, wanted_by_peers}
 use Rattle.node_model.proofs.Members.{from_filter, from_map}
 use Rattle.node_peers.specs.Told as routes
-use Rattle.network_model.specs.Moments.{Each, Nodes, nodes}
-use Rattle.network_model.specs.Network.{Network, View, address_of, agent_holdings, control_holdings, lists, sessions_of, told_by_agent, view, views_of, wanted, wanted_from, wanted_from_control}
+use Rattle.network_model.specs.Moments.{Each, Nodes}
+use Rattle.network_model.specs.Network.{Network, View, address_of, control_holdings, lists, sessions_of, view, views_of, wanted, wanted_from, wanted_from_control}
 use Rattle.network_model.specs.Session.{Agent, Carries, Configuration, Controller, Role, Session, are_peers, is_peering, may_send, may_send_at}
-use Rattle.network_model.specs.Setup.{Name}
-use Rattle.network_model.specs.Steps.{session_of}
 use Rattle.network_model.proofs.Twins.{Found}
 use Rattle.compiled_laws.specs.Goal.{Party, others}
 use Rattle.compiled_laws.specs.Setups.{IsNamed}
-use Rattle.compiled_laws.proofs.Names.{Apart, NamesApart, apart_names}
+use Rattle.compiled_laws.proofs.Names.{NamesApart, apart_names}
 use Rattle.compiled_laws.proofs.Views.{far, fars_are}
 use Rattle.config_node.specs.Core as configuration
 use Rattle.control_node.specs.Core.{holdings, is_peer}
@@ -35,15 +26,15 @@ use Rattle.control_node.specs.Wanting as control
 use Rattle.control_wants.specs.Held.{told_in}
 use Rattle.control_node.specs.declared.plan.ControlPlan.{ControlPlan}
 use Rattle.agent_node.specs.Core as agent
-use Rattle.net_model.specs.Seats.{Configuring, Controlling, Forwarding, Seat, Who, agent_plan, control_plan, id_of, kind_of, name_of, no_node, others_of, role_of, whos}
+use Rattle.net_model.specs.Seats.{Configuring, Controlling, Who, control_plan, id_of, kind_of, name_of, no_node, others_of, role_of}
 use Rattle.net_model.specs.Stands.{octets_of}
-use Rattle.seat_laws.specs.Wiring.{AreSeats, HasSessions}
+use Rattle.seat_laws.specs.Wiring.{HasSessions}
 use Rattle.seat_laws.proofs.Ends.{Ends, IsAt, end_is, own_ends}
-use Rattle.seat_laws.proofs.Hearing.{HearsAt, addressed, agent_holds, heard_as, heard_of, up_same}
+use Rattle.seat_laws.proofs.Hearing.{addressed}
 use Rattle.seat_laws.proofs.Holdings.{Same, control_holds}
-use Rattle.seat_laws.proofs.Lists.{from_all, map_twice, member_of_at, zip_from}
+use Rattle.seat_laws.proofs.Lists.{map_twice, member_of_at}
 use Rattle.seat_laws.proofs.Order.{site_sees}
-use Rattle.seat_laws.proofs.Parties.{by_kind, parties_named, parties_of, plan_names}
+use Rattle.seat_laws.proofs.Parties.{parties_named, parties_of}
 use Rattle.seat_laws.proofs.Positions.{AtAgent, AtFeed, AtPeer, Position, agent_at, agent_is, agent_told, not_feed, peer_at, peer_is, position}
 
 pub record Goes (w : Network) (v : Who) (posts : List Post) (i : ℕ) (s : Session) : Type 0 where

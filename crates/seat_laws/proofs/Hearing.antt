@@ -8,10 +8,8 @@ use Rattle.std.specs.declared.option.Option.{Option}
 use Rattle.std.proofs.Common.{ap, inl, inr, refl, subst, sym, ◌∙◌}
 use Rattle.std.proofs.lemmas.Option.{same_Some}
 use Rattle.ov_types.specs.First.{same_name}
-use Rattle.ov_types.specs.declared.prefix.Addr.{Addr}
 use Rattle.config_model.specs.declared.topology.Node.{Node}
 use Rattle.config_check.specs.Checked.{Checked}
-use Rattle.config_check.specs.Finding.{node_named}
 use Rattle.node_model.specs.Agent.{Heard}
 use Rattle.node_model.specs.Members.{Member}
 use Rattle.node_model.specs.Step.{Confirmed, Idle, Opened, Phase, Post, Up}

@@ -1,13 +1,11 @@
 -- What the machine takes of a control node's sessions is what the node takes of its ends.
 use Rattle.std.specs.List.{AllZip, enumerate_from}
-use Rattle.std.specs.Prelude.{Bool, List, cond, drop, false, length, map, slice_index_or, suc, take, true, zero, ℕ, [], ◌++◌, ◌+◌, ◌∷◌, ◌≡◌}
+use Rattle.std.specs.Prelude.{List, cond, drop, false, length, map, suc, take, true, ℕ, [], ◌++◌, ◌+◌, ◌∷◌, ◌≡◌}
 use Rattle.std.proofs.Common.{ap, arith, inl, inr, refl, sym, ◌∙◌}
-use Rattle.ov_types.specs.declared.prefix.Addr.{Addr}
 use Rattle.ov_types.specs.declared.rows.NodeId.{NodeId}
 use Rattle.config_check.specs.Checked.{Checked}
-use Rattle.node_model.specs.Maps.{Map}
 use Rattle.node_model.specs.Members.{Member}
-use Rattle.node_model.specs.Paths.{Holdings, Told}
+use Rattle.node_model.specs.Paths.{Told}
 use Rattle.node_model.specs.Step.{Post}
 use Rattle.network_model.specs.Network.{View, address_of, control_holdings, first_held, same_role, told_by_agent, view, with_role}
 use Rattle.network_model.specs.Session.{Agent, Configuration, Controller, Role, Session}

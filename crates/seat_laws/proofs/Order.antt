@@ -4,7 +4,7 @@ use Rattle.std.specs.List.{cons_option, filter, list_any}
 use Rattle.std.specs.Prelude.{Bool, List, cond, false, map, not, true, [], ◌++◌, ◌∷◌, ◌≡◌}
 use Rattle.std.specs.declared.option.Option.TheVariants.{None, Some}
 use Rattle.std.specs.declared.option.Option.{Option}
-use Rattle.std.proofs.Common.{ap, inl, inr, refl, subst, sym, ◌∙◌}
+use Rattle.std.proofs.Common.{ap, inl, inr, refl, sym, ◌∙◌}
 use Rattle.std.proofs.lemmas.Bool.{true≢false}
 use Rattle.ov_types.specs.First.{same_name}
 use Rattle.ov_types.specs.declared.rows.NodeId.{NodeId}
@@ -16,7 +16,6 @@ use Rattle.network_model.specs.Moments.{Nodes, nodes}
 use Rattle.network_model.specs.Network.{accesses, config, feeds, lists, peerings}
 use Rattle.network_model.specs.Session.{Session}
 use Rattle.network_model.specs.Setup.{Name}
-use Rattle.network_model.proofs.Twins.{itself}
 use Rattle.compiled_laws.specs.Goal.{Party, other_end, others}
 use Rattle.compiled_laws.specs.Setups.{IsNamed}
 use Rattle.compiled_laws.proofs.Names.{Apart, NamesApart, apart_names, same_false}

@@ -2,7 +2,7 @@
 use Rattle.std.specs.Cmp.Lexicographic.{bytes_decides}
 use Rattle.std.specs.List.{filter}
 use Rattle.std.specs.Option.{unwrap_or}
-use Rattle.std.specs.Prelude.{List, Some, cond, false, find, length, map, not, true, [], ◌++◌, ◌∷◌, ◌≡◌}
+use Rattle.std.specs.Prelude.{List, Some, cond, false, find, map, not, true, [], ◌++◌, ◌∷◌, ◌≡◌}
 use Rattle.std.proofs.Common.{ap, inl, inr, refl, subst, sym, ◌∙◌}
 use Rattle.std.proofs.lemmas.Bool.{not-true, true≢false}
 use Rattle.ov_types.specs.First.{same_name}
@@ -10,7 +10,6 @@ use Rattle.ov_types.specs.declared.rows.NodeId.{NodeId}
 use Rattle.config_model.specs.declared.topology.Node.{Node}
 use Rattle.config_model.specs.declared.topology.Topology.{Topology}
 use Rattle.config_check.specs.Checked.{Checked}
-use Rattle.config_check.specs.Rules.{controller_names}
 use Rattle.node_model.specs.Members.{Member}
 use Rattle.node_model.proofs.Members.{any_in, from_any, from_filter, from_map, in_either, in_filter, in_left, in_map, in_right}
 use Rattle.network_model.specs.Network.{config, lists}

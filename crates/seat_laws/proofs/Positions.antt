@@ -1,11 +1,11 @@
 -- The sessions of a control node by their numbers: the feed is 0, then come its peers and then its agents.
-use Rattle.std.specs.Prelude.{Bool, List, cond, drop, false, length, map, nat_le, nat_lt, slice_index_or, suc, true, zero, ℕ, [], ◌&&◌, ◌++◌, ◌+◌, ◌<◌, ◌==◌, ◌∷◌, ◌≡◌, ◌⊎◌}
+use Rattle.std.specs.Prelude.{List, cond, drop, false, length, map, nat_le, slice_index_or, suc, true, zero, ℕ, [], ◌&&◌, ◌++◌, ◌+◌, ◌<◌, ◌==◌, ◌∷◌, ◌≡◌, ◌⊎◌}
 use Rattle.std.proofs.Common.{ap, arith, inl, inr, refl, sym, ◌∙◌}
 use Rattle.std.proofs.lemmas.Bool.{eq-eqb, le-leb, lt-leb, lt-ltb, ne_eqb}
 use Rattle.ov_types.specs.declared.rows.NodeId.{NodeId}
 use Rattle.node_model.specs.Paths.{Told}
 use Rattle.node_model.specs.Step.{Post, nothing, post}
-use Rattle.network_model.specs.Session.{Agent, Controller}
+use Rattle.network_model.specs.Session.{Controller}
 use Rattle.compiled_laws.specs.Goal.{Party}
 use Rattle.control_node.specs.Core.{is_peer, told_from}
 use Rattle.control_node.specs.declared.plan.ControlPlan.{ControlPlan}

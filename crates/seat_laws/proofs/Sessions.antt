@@ -8,7 +8,6 @@ use Rattle.std.proofs.Common.{ap, inl, inr, refl, subst, sym, ◌∙◌}
 use Rattle.std.proofs.lemmas.Bool.{and_parts, true≢false}
 use Rattle.std.proofs.lemmas.Option.{same_Some}
 use Rattle.ov_types.specs.First.{same_name}
-use Rattle.config_check.specs.Checked.{Checked}
 use Rattle.node_model.specs.Members.{Member}
 use Rattle.node_model.proofs.Members.{from_map, in_map, none_some}
 use Rattle.network_model.specs.Moments.{Each, Nodes, nodes}
@@ -19,13 +18,13 @@ use Rattle.network_model.specs.Steps.{joins, session_in, session_of}
 use Rattle.network_model.proofs.Twins.{Found, NoTwins, found_each}
 use Rattle.compiled_laws.specs.Goal.{Party}
 use Rattle.compiled_laws.specs.Setups.{IsNamed}
-use Rattle.net_model.specs.Seats.{Seat, far_of, place_of, role_of, seat}
+use Rattle.net_model.specs.Seats.{Seat, place_of, role_of, seat}
 use Rattle.net_model.specs.declared.place.Place.{Place}
-use Rattle.seat_laws.specs.Wiring.{AreSeats, HasSession, HasSessions, IsFound, IsPlace, IsPlaceOf, name_at, other_at}
+use Rattle.seat_laws.specs.Wiring.{AreSeats, HasSession, HasSessions, IsFound, IsPlace, name_at, other_at}
 use Rattle.seat_laws.proofs.Lists.{all_of, from_all, some_none}
 use Rattle.seat_laws.proofs.Links.{link_of, links, proper, tied_of, twinless}
 use Rattle.seat_laws.proofs.Parties.{Ties, self, ties_turned}
-use Rattle.seat_laws.proofs.Seating.{ListsApart, far_at, party_at, party_named, place_found, place_is, place_is_of, seats_long, tied_at, ties_at}
+use Rattle.seat_laws.proofs.Seating.{ListsApart, far_at, party_at, party_named, place_is, place_is_of, tied_at, ties_at}
 
 -- what is found in a list of sessions stands there, as one of its two nodes sees it
 abbrev pub StandsIn : List Session → Name → Name → Session → Type 0

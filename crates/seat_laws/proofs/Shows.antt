@@ -1,34 +1,30 @@
 -- What a seat shows is what the machine's node shows, and the agents forward by the same.
 use Rattle.std.specs.Cmp.Lexicographic.{bytes_decides}
-use Rattle.std.specs.List.{AllByRecursion, cons_option, filter_map, list_any}
-use Rattle.std.specs.Prelude.{Bool, List, cond, false, find, is_some, length, map, suc, true, zero, ℕ, [], ◌++◌, ◌<◌, ◌||◌, ◌∷◌, ◌≡◌}
+use Rattle.std.specs.List.{list_any}
+use Rattle.std.specs.Prelude.{List, cond, false, find, is_some, length, suc, true, zero, ℕ, [], ◌<◌, ◌∷◌, ◌≡◌}
 use Rattle.std.specs.declared.option.Option.TheVariants.{None, Some}
-use Rattle.std.specs.declared.option.Option.{Option}
 use Rattle.std.proofs.Common.{ap, arith, inl, inr, refl, subst, sym, ◌∙◌}
 use Rattle.std.proofs.lemmas.Bool.{or_cases, or_left, or_right, true≢false}
-use Rattle.std.proofs.lemmas.Option.{same_Some}
 use Rattle.ov_types.specs.First.{same_name}
 use Rattle.ov_types.specs.declared.rows.NodeId.{NodeId}
 use Rattle.ov_types.specs.declared.rows.NodeRows.TheVariants as Rows
-use Rattle.ov_types.specs.declared.rows.NodeRows.{NodeRows}
-use Rattle.route_targets.specs.Forwarding.{Forwarder}
 use Rattle.config_model.specs.declared.topology.Node.{Node}
 use Rattle.config_check.specs.Finding.{node_named}
 use Rattle.node_model.specs.Agent.{rows as agent_rows}
 use Rattle.node_model.specs.Members.{Member}
 use Rattle.node_model.specs.Tables.{rows as control_rows}
-use Rattle.node_model.proofs.Members.{any_in, from_any, in_map, none_some}
-use Rattle.network_model.specs.Events.{forwarders, is_node, shown, shown_of}
+use Rattle.node_model.proofs.Members.{any_in, from_any, in_map}
+use Rattle.network_model.specs.Events.{is_node, shown_of}
 use Rattle.network_model.specs.Network.{Network}
-use Rattle.network_model.specs.Session.{Configuration, Controller, Agent, Role}
+use Rattle.network_model.specs.Session.{Configuration, Controller, Agent}
 use Rattle.network_model.specs.Setup.{Name}
 use Rattle.compiled_laws.specs.Setups.{IsNamed}
 use Rattle.compiled_laws.proofs.Names.{NamesApart, apart_names, same_false}
 use Rattle.control_node.specs.Core as control
 use Rattle.agent_node.specs.Core as agent
-use Rattle.net_model.specs.Seats.{Configuring, Controlling, Forwarding, Seat, Who, agent_plan, control_plan, name_of, role_of, seat, seat_named}
+use Rattle.net_model.specs.Seats.{Controlling, Forwarding, Seat, Who, agent_plan, control_plan, name_of, role_of, seat, seat_named}
 use Rattle.net_model.specs.Stands.{Seats}
-use Rattle.net_model.specs.Steps.{forwarder_of, forwarders_of, shown_by}
+use Rattle.net_model.specs.Steps.{shown_by}
 use Rattle.seat_laws.specs.Wiring.{HasSessions, ShowsAt}
 use Rattle.seat_laws.proofs.Agents.{computer_holds}
 use Rattle.seat_laws.proofs.Ends.{Ends, seat_ends}

@@ -1,5 +1,5 @@
 -- Of a valid configuration of the written form: places and sessions belong together, and nodes go by what seats hold.
-use Rattle.std.specs.List.{All, AllByRecursion}
+use Rattle.std.specs.List.{AllByRecursion}
 use Rattle.std.specs.Prelude.{List, false, length, true, ℕ, ◌<◌, ◌≡◌}
 use Rattle.std.specs.declared.option.Option.TheVariants.{None, Some}
 use Rattle.std.proofs.lemmas.List.Elements.{All-contains}
@@ -23,7 +23,9 @@ use Rattle.net_model.specs.Stands.{Seats}
 use Rattle.net_model.specs.Steps.{forwarders_of}
 use Rattle.net_model.specs.declared.place.Place.{Place}
 use Rattle.seat_laws.specs.Wiring.{AreSeats, GoesBy, HasFar, HasSession, HasSessions, IsFound, IsPlace, IsPlaceOf, ShowsAt, name_at, other_at}
+use Rattle.seat_laws.specs.Wired.{HasPlace, pairs}
 use Rattle.seat_laws.proofs.Agents as agents
+use Rattle.seat_laws.proofs.Rounds as rounds
 use Rattle.seat_laws.proofs.Forwarders as forward
 use Rattle.seat_laws.proofs.Shows as shows
 use Rattle.seat_laws.proofs.Seating as seating
@@ -49,6 +51,9 @@ module _ (x : Checked) (written : IsWritten x) (seats : List Seat) (are : AreSea
 
   pub far_is : (a b : Name) (p : Place) → place_of seats a b ≡ Some p → far_of seats p ≡ place_of seats b a
   far_is a b p e = seating.far_is x (written_named x written) (written_apart x written) seats are a b p e
+
+  pub pairs_placed : AllByRecursion (HasPlace seats) (pairs x.topology)
+  pairs_placed = rounds.pairs_placed x (written_named x written) (written_apart x written) seats are
 
 -- ---- sessions
 module _ (w : Network) (written : IsWritten w.setup) (seats : List Seat) (are : AreSeats w.setup seats) (has : HasSessions w) where

@@ -1,8 +1,7 @@
 -- What holds of seats and of the machine's sessions where the configuration is valid: the statements of the laws.
-use Rattle.std.specs.Prelude.{◌≡◌, ◌↔◌, ◌<◌, ℕ, List, [], ◌∷◌, ◌++◌, map, length, Bool, true, false}
-use Rattle.std.specs.declared.option.Option.{Option}
+use Rattle.std.specs.Prelude.{◌≡◌, ◌↔◌, ◌<◌, ℕ, List, [], ◌∷◌, ◌++◌, map, length, true, false}
 use Rattle.std.specs.declared.option.Option.TheVariants.{Some, None}
-use Rattle.std.specs.List.{AllByRecursion, filter, flat_map}
+use Rattle.std.specs.List.{AllByRecursion, filter}
 use Rattle.ov_types.specs.First.{same_name}
 use Rattle.ov_types.specs.declared.rows.NodeId.{NodeId}
 use Rattle.config_model.specs.declared.topology.Node.{Node}
@@ -18,8 +17,8 @@ use Rattle.net_model.specs.Seats.{Seat, far_of, name_of, place_of, seat, seat_na
 use Rattle.net_model.specs.Stands.{Seats}
 use Rattle.net_model.specs.Steps.{forwarders_of}
 use Rattle.net_model.specs.declared.place.Place.{Place}
-use Rattle.seat_laws.specs.Wiring.{AreSeats, GoesBy, HasFar, HasSession, HasSessions, IsFound, IsPlace, IsPlaceOf, ShowsAt}
-use Rattle.seat_laws.specs.Wiring.{name_at, other_at}
+use Rattle.seat_laws.specs.Wiring.{AreSeats, GoesBy, HasFar, HasSession, HasSessions, IsFound, IsPlace, IsPlaceOf}
+use Rattle.seat_laws.specs.Wiring.{ShowsAt, name_at, other_at}
 
 -- ---- places, among the seats of a valid configuration
 abbrev pub WhereSeated : (List Seat → Type 0) → Type 0
@@ -114,3 +113,12 @@ pairs t = (feed_pairs t.controllers ++ peer_pairs t.controllers) ++ access_pairs
 
 abbrev pub SessionsAreInOrder : Type 0
 SessionsAreInOrder = (w : Network) → HasSessions w → map names_of w.sessions ≡ pairs w.setup.topology
+
+-- each of these is a place
+abbrev pub HasPlace : List Seat → Pair → Type 0
+HasPlace seats q = (p : Place) × (place_of seats q.0 q.1 ≡ Some p)
+
+abbrev pub PairsArePlaces : Type 0
+PairsArePlaces =
+    (x : Checked) → IsWritten x → (seats : List Seat) → AreSeats x seats
+    → AllByRecursion (HasPlace seats) (pairs x.topology)

@@ -3,8 +3,9 @@
 
 ghost use Rattle.std.specs.List.{AllByRecursion};
 ghost use Rattle.seat_laws.specs.Wired.{ForwardsAlike, JoinsTwo, NamesAreOfPlaces, NodesAreSeats, NodesGoBySeats};
-ghost use Rattle.seat_laws.specs.Wired.{NoneIsWhereNoneIs, NoOtherIsSeated, PlacesAreNamed, PlacesHaveSessions};
-ghost use Rattle.seat_laws.specs.Wired.{SeatsAreNodes, SessionsAreInOrder, SessionsHavePlaces, WhereJoined};
+ghost use Rattle.seat_laws.specs.Wired.{NoneIsWhereNoneIs, NoOtherIsSeated, PairsArePlaces, PlacesAreNamed};
+ghost use Rattle.seat_laws.specs.Wired.{PlacesHaveSessions, SeatsAreNodes, SessionsAreInOrder, SessionsHavePlaces};
+ghost use Rattle.seat_laws.specs.Wired.{WhereJoined};
 ghost use Rattle.seat_laws.specs.Wired.{WhereSeated, WhereSeatsAre};
 
 /// Among the seats of the nodes of a valid configuration each end of a session is found by the names of its node and of
@@ -23,8 +24,8 @@ pub fn places_and_sessions_belong_together()
     ensures two { WhereJoined (λ seats w. AllByRecursion JoinsTwo w.sessions) }
 {}
 
-/// Where each end is as its seat has it, what the machine's nodes want, may send and tell on a session is what the nodes
-/// at the seats do, of their own ends alone.
+/// Where each end is as its seat has it, what the machine's nodes want, may send and tell on a session is what the
+/// nodes at the seats do, of their own ends alone.
 pub fn nodes_go_by_what_their_seats_hold()
     ensures { WhereSeatsAre NodesGoBySeats }
 {}
@@ -44,6 +45,8 @@ pub fn seats_forward_as_agents_do()
 
 /// The sessions stand in the order of a round: the feeds of the control nodes, then each control node's sessions with
 /// those after it, and then those of each agent with the control nodes that it lists, all in the order of the topology.
+/// In a valid configuration each of them is found by the names of its two nodes.
 pub fn sessions_stand_in_the_order_of_a_round()
-    ensures { SessionsAreInOrder }
+    ensures order { SessionsAreInOrder }
+    ensures places { PairsArePlaces }
 {}
