@@ -1,0 +1,5 @@
+-- Lemmas, in the order in which they stand on each other.
+pub mod Images
+pub mod Wanted
+pub mod Posts
+pub mod Begins
