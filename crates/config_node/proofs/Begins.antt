@@ -1,5 +1,5 @@
 -- How a step of the configuration node begins.
-use Rattle.std.specs.Prelude.{◌≡◌, ◌<◌, ℕ, List, [], ◌∷◌, map, length}
+use Rattle.std.specs.Prelude.{◌≡◌, ◌<◌, ℕ, List, [], ◌∷◌, map, length, IsTrue, true, false}
 use Rattle.std.specs.FinMap.{empty}
 use Rattle.std.specs.List.{AllByRecursion, filter_map, slice_index_or, slice_set}
 use Rattle.std.specs.declared.option.Option.{Option}
@@ -10,9 +10,11 @@ use Rattle.ov_link.specs.declared.step.Input.{Input}
 use Rattle.ov_link.specs.declared.step.Input.TheVariants as In
 use Rattle.ov_sync.specs.Keyed.{after}
 use Rattle.item_wire.specs.Happenings.{SessionFields}
+use Rattle.item_wire.specs.Inputs.{may_send}
 use Rattle.item_wire.specs.Records.{spelling}
 use Rattle.item_wire.specs.declared.event.ItemCause.{ItemCause}
 use Rattle.item_wire.specs.declared.event.ItemFrom.{ItemFrom}
+use Rattle.item_wire.specs.declared.event.ItemFrom.TheVariants as From
 use Rattle.item_wire.specs.declared.event.ItemState.{ItemState}
 use Rattle.item_wire.specs.declared.event.ItemState.TheVariants as State
 use Rattle.item_wire.specs.declared.item.Item.{Item}
@@ -42,9 +44,9 @@ state_again State.Opened = refl
 state_again State.Up = refl
 
 -- where none may be sent, none is handed out
-pub none_of : (items : List Item) → AllByRecursion (λ (i : Item). ⊥) items → items ≡ []
+pub none_of : (items : List Item) → AllByRecursion (λ (i : Item). IsTrue (may_send From.Nothing i)) items → items ≡ []
 none_of [] all = refl
-none_of (i ∷ items) all = absurd all.0
+none_of (i ∷ items) all = let no : false ≡ true = all.0 in cc
 
 module _ (x : Checked) (wants : Objects) (es : List FeedEnd) (are : AreEnds x wants es) (i : ℕ) (e : FeedEnd)
     (lt : i < length es) (is : e ≡ slice_index_or es i e) where

@@ -1,10 +1,10 @@
 -- The ends as they are seen, from those that are kept.
-use Rattle.std.specs.Prelude.{◌≡◌, ◌<◌, ◌≤◌, ◌+◌, ℕ, zero, suc, List, [], ◌∷◌, map, length, Bool, true, false, not}
+use Rattle.std.specs.Prelude.{◌≡◌, ◌<◌, ◌≤◌, ◌+◌, ℕ, zero, suc, List, [], ◌∷◌, ◌++◌, map, length, Bool, true, false, not}
 use Rattle.std.specs.Prelude.{if◌then◌else◌}
 use Rattle.std.specs.List.{AllByRecursion, slice_index_or}
-use Rattle.std.proofs.Common.{refl, sym, ◌∙◌, ap, subst, set, arith, inl, inr}
+use Rattle.std.proofs.Common.{refl, sym, ◌∙◌, ap, subst, set, get_or, take, drop, arith, inl, inr}
 use Rattle.std.proofs.Math.Seq.{map-set_same}
-use Rattle.std.proofs.lemmas.List.{get_or-map, get_or-set_other, get_or-set_same, length-map}
+use Rattle.std.proofs.lemmas.List.{get_or-map, get_or-set_other, get_or-set_same, length-map, map_more, take_at}
 use Rattle.std.proofs.lemmas.Bool.{cases_eq}
 use Rattle.ov_sync.proofs.KeyedLaws.{empty_values}
 use Rattle.ov_types.specs.declared.rows.NodeId.{NodeId}
@@ -13,6 +13,7 @@ use Rattle.item_wire.specs.declared.event.ItemState.{ItemState}
 use Rattle.item_wire.specs.declared.event.ItemState.TheVariants.{Idle, Opened, Up}
 use Rattle.item_wire.specs.declared.event.ItemFrom.{ItemFrom}
 use Rattle.item_wire.specs.declared.input.Came.TheVariants.{Closed}
+use Rattle.config_model.specs.declared.topology.Topology.{Topology}
 use Rattle.config_check.specs.Checked.{Checked}
 use Rattle.node_core.specs.Plans.{ArePlans}
 use Rattle.node_core.specs.declared.ends.Plan.{Plan}
@@ -24,7 +25,8 @@ use Rattle.node_model.specs.Step.{Post, changes, nothing, post, told_all}
 use Rattle.network_model.specs.Setup.{low}
 use Rattle.config_node.specs.Beginning.{no_node}
 use Rattle.config_node.specs.Core.{is_idle, kind, nothings}
-use Rattle.config_node.specs.Ends.{AreEnds, Objects, SentFits, controller, end_at, low_of, new_end, posts_of, whom_at}
+use Rattle.config_node.specs.Ends.{AreEnds, Objects, SentFits, controller, end_at, low_of, new_end, posts_of, whom}
+use Rattle.config_node.specs.Ends.{whom_at}
 use Rattle.config_node.specs.Planning.{plan_of, sends, told}
 use Rattle.config_node.specs.declared.ends.FeedEnd.{FeedEnd}
 use Rattle.config_node.proofs.Images.{low-empty}
@@ -73,15 +75,62 @@ all-at P (x ∷ xs) (suc i) d all lt = all-at P xs i d all.1 (omega (arith, lt))
 
 pub ends_set : (x : Checked) (wants : Objects) (es : List FeedEnd) (i : ℕ) (e d : FeedEnd) → AreEnds x wants es
     → whom_at e ≡ whom_at (slice_index_or es i d) → SentFits e → AreEnds x wants (set es i e)
-ends_set x wants es i e d are same sent = record are {
+ends_set x wants es i e d are same sent = record {
+  some = are.some;
+  few = are.few;
+  wanted = are.wanted;
+  fits = are.fits;
   whose = map-set_same whom_at es i e d same ∙ are.whose;
   sent = all-set SentFits es i e are.sent sent;
 }
+
+-- the same sessions
+same_whom : (es es' : List FeedEnd) → map (λ (e : FeedEnd). e.session) es' ≡ map (λ (e : FeedEnd). e.session) es
+    → map whom_at es' ≡ map whom_at es
+same_whom es es' same =
+    sym (map_twice es') ∙ ap (map whom) same ∙ map_twice es
+  where
+    map_twice : (es : List FeedEnd) → map whom (map (λ (e : FeedEnd). e.session) es) ≡ map whom_at es
+    map_twice [] = refl
+    map_twice (e ∷ es) = ap (λ (ws : List (List ℕ × ItemFrom)). whom_at e ∷ ws) (map_twice es)
+
+pub ends_told : (x : Checked) (wants : Objects) (es es' : List FeedEnd) → AreEnds x wants es
+    → map (λ (e : FeedEnd). e.session) es' ≡ map (λ (e : FeedEnd). e.session) es → AllByRecursion SentFits es'
+    → AreEnds x wants es'
+ends_told x wants es es' are same sent = record {
+  some = are.some;
+  few = are.few;
+  whose = same_whom es es' same ∙ are.whose;
+  wanted = are.wanted;
+  fits = are.fits;
+  sent = sent;
+}
+
+-- other objects are to be told of another configuration, with the same control nodes
+pub ends_edited : (x y : Checked) (wants wants' : Objects) (es : List FeedEnd) → AreEnds x wants es
+    → y.topology ≡ x.topology → low_of wants' ≡ low y → AllFit (low y) → AreEnds y wants' es
+ends_edited x y wants wants' es are same is fits = record {
+  some = subst (λ (t : Topology). 1 ≤ length t.controllers) (sym same) are.some;
+  few = subst (λ (t : Topology). length t.controllers ≤ 8) (sym same) are.few;
+  whose = are.whose ∙ ap (λ (t : Topology). map controller t.controllers) (sym same);
+  wanted = is;
+  fits = fits;
+  sent = are.sent;
+}
+
+-- a vector that was lent as a slice, and written
+pub written : {X : Type 0} (n : ℕ) (new old : List X) → length new ≡ n → take n (new ++ drop (length new) old) ≡ new
+written n new old e = take_at new (drop (length new) old) n e
 
 pub ends_long : (x : Checked) (wants : Objects) (es : List FeedEnd) → AreEnds x wants es
     → length es ≡ length x.topology.controllers
 ends_long x wants es are =
     sym (length-map es whom_at) ∙ ap length are.whose ∙ length-map x.topology.controllers controller
+
+-- what was sent on a session can be told
+pub sent_there : (x : Checked) (wants : Objects) (es : List FeedEnd) → AreEnds x wants es → (i : ℕ) (e : FeedEnd)
+    → i < length es → e ≡ slice_index_or es i e → SentFits e
+sent_there x wants es are i e lt is = subst SentFits (sym is) (all-at SentFits es i e are.sent lt)
 
 -- ---- ends that are all closed
 fresh_whose : (ns : List NodeId) → map whom_at (map new_end ns) ≡ map controller ns
@@ -130,6 +179,32 @@ closed_more posts posts' n lt e below i in_i =
     ]
 
 -- ---- the plans of a pass
+-- an end that is told
+pub plan_is : (wants : Objects) (e : FeedEnd) (messages : List (List ℕ)) → true ≡ sends e
+    → messages ≡ map (λ c. spelled c) (difference (low_of e.sent) (low_of wants))
+    → record { messages = messages } ≡ plan_of wants e
+plan_is wants e messages live is =
+    (λ i. record { messages = is i })
+    ∙ (λ i. record {
+      messages = if live i then map (λ c. spelled c) (difference (low_of e.sent) (low_of wants)) else [];
+    })
+
+same_place : (f : FeedEnd → FeedEnd) (es : List FeedEnd) (i : ℕ) (d : FeedEnd) → i < length es
+    → get_or (map f (take i es) ++ drop i es) i d ≡ get_or es i d
+same_place f [] i d lt = absurd (omega (arith, lt))
+same_place f (e ∷ es) zero d lt = refl
+same_place f (e ∷ es) (suc i) d lt = same_place f es i d (omega (arith, lt))
+
+-- one more plan
+pub plans_more : (wants : Objects) (old now : List FeedEnd) (i : ℕ) (e : FeedEnd) (plans plans' : List Plan)
+    (plan : Plan) → i < length old → now ≡ map (told wants) (take i old) ++ drop i old → e ≡ get_or now i e
+    → plans ≡ map (plan_of wants) (take i old) → plan ≡ plan_of wants e → plans' ≡ plans ++ plan ∷ []
+    → plans' ≡ map (plan_of wants) (take (i + 1) old)
+plans_more wants old now i e plans plans' plan lt told_to is p q more =
+    let there : e ≡ get_or old i e =
+    is ∙ ap (λ (l : List FeedEnd). get_or l i e) told_to ∙ same_place (told wants) old i e lt in
+    more ∙ (λ j. p j ++ (q ∙ ap (plan_of wants) there) j ∷ []) ∙ sym (map_more (plan_of wants) old i e lt)
+
 told_post : (wants : Objects) (e : FeedEnd)
     → end_at (told wants e)
     ≡ (if not (is_idle (end_at e).phase) then record (end_at e) { sent = low_of wants } else end_at e)

@@ -1,20 +1,20 @@
 -- What the control nodes are to be told: the low-level objects of what is valid.
 use Rattle.std.specs.Prelude.{◌≡◌, ◌≤◌, List, [], ◌∷◌, ◌++◌, ◌&&◌, map, nat_le, length, IsTrue, None}
 use Rattle.std.specs.List.{list_all}
+use Rattle.std.specs.declared.cmp.Ordering.{Ordering}
 use Rattle.std.specs.FinMap.{FinMap, from_entries, insert}
 use Rattle.std.proofs.Common.{refl, sym, ◌∙◌, ap}
 use Rattle.std.proofs.lemmas.Bool.{and_parts, leb-true}
 use Rattle.ov_sync.specs.Embed.{embedded}
 use Rattle.ov_sync.specs.Keyed.{map_of}
-use Rattle.ov_types.specs.declared.objects.LowKey.{LowKey}
-use Rattle.ov_types.specs.declared.objects.LowValue.{LowValue}
-use Rattle.config_model.specs.Form.{has_controller_form, has_node_form, has_topology_form, is_as_number}
+use Rattle.config_model.specs.Form.{has_controller_form, has_node_form, has_topology_form, has_config_form, is_as_number}
 use Rattle.config_model.specs.declared.topology.Topology.{Topology}
 use Rattle.config_model.specs.declared.config.Config.{Config}
 use Rattle.config_check.specs.Checked.{Checked}
 use Rattle.config_check.specs.Rules.{first_broken}
 use Rattle.config_check.proofs.Few.{all_kept, counts_kept, first_none}
 use Rattle.transform_model.specs.Objects.{low_objects}
+use Rattle.node_items.specs.Told.{AllFit}
 use Rattle.node_model.specs.Keys.{Low, key_cmp}
 use Rattle.node_model.specs.Values.{Object}
 use Rattle.node_model.specs.Wants.{slice_entry}
@@ -22,18 +22,18 @@ use Rattle.network_model.specs.Setup.{low}
 use Rattle.config_node.specs.Ends.{Objects, low_of, low_order}
 use Rattle.config_node.proofs.Images.{low-entries}
 
--- ---- the objects of a list go into a map, the last first
-put_last : (rest es fs : Objects) (e : LowKey × LowValue) → map_of low_order fs ≡ insert (map_of low_order es) e.0 e.1
-    → map_of low_order (rest ++ fs) ≡ map_of low_order ((rest ++ e ∷ []) ++ es)
-put_last [] es fs e h = h
-put_last (x ∷ rest) es fs e h =
-    ap (λ (m : FinMap low_order LowValue). insert m x.0 x.1) (put_last rest es fs e h)
+-- ---- entries go into a map, the last first
+put_last : {K V : Type 0} (R : K → K → Ordering) (rest es fs : List (K × V)) (e : K × V)
+    → map_of R fs ≡ insert (map_of R es) e.0 e.1 → map_of R (rest ++ fs) ≡ map_of R ((rest ++ e ∷ []) ++ es)
+put_last R [] es fs e h = h
+put_last {V = V} R (x ∷ rest) es fs e h =
+    ap (λ (m : FinMap R V). insert m x.0 x.1) (put_last R rest es fs e h)
 
-pub turn : (rest before es fs : Objects) (e : LowKey × LowValue) (whole : FinMap low_order LowValue)
-    → before ≡ rest ++ e ∷ [] → map_of low_order fs ≡ insert (map_of low_order es) e.0 e.1
-    → map_of low_order (before ++ es) ≡ whole → map_of low_order (rest ++ fs) ≡ whole
-turn rest before es fs e whole is h all =
-    put_last rest es fs e h ∙ ap (λ (l : Objects). map_of low_order (l ++ es)) (sym is) ∙ all
+pub turn : {K V : Type 0} (R : K → K → Ordering) (rest before es fs : List (K × V)) (e : K × V) (whole : FinMap R V)
+    → before ≡ rest ++ e ∷ [] → map_of R fs ≡ insert (map_of R es) e.0 e.1 → map_of R (before ++ es) ≡ whole
+    → map_of R (rest ++ fs) ≡ whole
+turn {K = K} {V = V} R rest before es fs e whole is h all =
+    put_last R rest es fs e h ∙ ap (λ (l : List (K × V)). map_of R (l ++ es)) (sym is) ∙ all
 
 -- ---- they are those of the model
 pub as_wanted : (x : Checked) (objects held : Objects) → objects ≡ low_objects x.topology x.config
@@ -58,3 +58,8 @@ some t form =
 pub few : (t : Topology) (c : Config) → first_broken t c ≡ None → length t.controllers ≤ 8
 unfolding first_broken
 few t c h = leb-true (length t.controllers) 8 (all_kept _ _ _ _ _ _ _ (counts_kept t c (first_none _ _ h))).controllers_kept
+
+-- ---- they can be told
+pub can_be_told : (x : Checked) → IsTrue (has_topology_form x.topology) → IsTrue (has_config_form x.config)
+    → first_broken x.topology x.config ≡ None → AllFit (low x)
+can_be_told x topology config valid = ?

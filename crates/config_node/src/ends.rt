@@ -80,7 +80,8 @@ impl Ends for ConfigEnds {
     ghost stays = { λ before after. after.setup ≡ before.setup };
 
     fn plan(&mut self) -> Result<Vec<Plan>, NoMemory> {
-        plan_all(self.alloc, &mut self.ends, &self.wants)
+        let plans = plan_all(self.alloc, &mut self.ends, &self.wants)?;
+        Ok(plans)
     }
 
     fn close(&mut self, session: u16) {

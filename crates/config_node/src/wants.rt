@@ -4,7 +4,7 @@ ghost use Rattle.std.specs.FinMap.{from_entries};
 ghost use Rattle.ov_sync.specs.Keyed.{map_of};
 ghost use Rattle.node_items.specs.Told.{AllFit};
 ghost use Rattle.network_model.specs.Setup.{low};
-ghost use Rattle.config_node.specs.Ends.{low_of, low_order};
+ghost use Rattle.config_node.specs.Ends.{low_of};
 
 use config_check::Valid;
 use ov_types::{LowKey, LowValue, NoMemory};
@@ -15,15 +15,15 @@ use std::collections::BTreeMap;
 /// Low-level objects by their keys.
 pub(crate) type Objects = BTreeMap<LowKey, LowValue>;
 
-/// The map of objects. Of those of one key the first counts.
-fn by_keys(
+/// The map of entries. Of those of one key the first counts.
+fn by_keys<K: Ord + Drop, V: Drop>(
     alloc: Global,
-    mut objects: Vec<(LowKey, LowValue)>,
-) -> Result<Objects, NoMemory>
-    ensures { IfOk result (λ map. map_of low_order map.entries ≡ from_entries objects.items) }
+    mut entries: Vec<(K, V)>,
+) -> Result<BTreeMap<K, V>, NoMemory>
+    ensures { IfOk result (λ map. map_of K.cmp map.entries ≡ from_entries entries.items) }
 {
     let mut map = BTreeMap::new(alloc);
-    while let Some((key, value)) = objects.pop() {
+    while let Some((key, value)) = entries.pop() {
         map.insert(key, value)?;
     }
     Ok(map)
@@ -36,5 +36,6 @@ pub(crate) fn wanted(alloc: Global, valid: &Valid) -> Result<Objects, NoMemory>
 {
     let _topology = valid.topology();
     let objects = low(alloc, valid)?;
-    by_keys(alloc, objects.into_vec())
+    let wants = by_keys(alloc, objects.into_vec())?;
+    Ok(wants)
 }
