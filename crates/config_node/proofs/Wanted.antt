@@ -7,14 +7,13 @@ use Rattle.std.proofs.Common.{refl, sym, ◌∙◌, ap}
 use Rattle.std.proofs.lemmas.Bool.{and_parts, leb-true}
 use Rattle.ov_sync.specs.Embed.{embedded}
 use Rattle.ov_sync.specs.Keyed.{map_of}
-use Rattle.config_model.specs.Form.{has_controller_form, has_node_form, has_topology_form, has_config_form, is_as_number}
+use Rattle.config_model.specs.Form.{has_controller_form, has_node_form, has_topology_form, is_as_number}
 use Rattle.config_model.specs.declared.topology.Topology.{Topology}
 use Rattle.config_model.specs.declared.config.Config.{Config}
 use Rattle.config_check.specs.Checked.{Checked}
 use Rattle.config_check.specs.Rules.{first_broken}
 use Rattle.config_check.proofs.Few.{all_kept, counts_kept, first_none}
 use Rattle.transform_model.specs.Objects.{low_objects}
-use Rattle.node_items.specs.Told.{AllFit}
 use Rattle.node_model.specs.Keys.{Low, key_cmp}
 use Rattle.node_model.specs.Values.{Object}
 use Rattle.node_model.specs.Wants.{slice_entry}
@@ -58,8 +57,3 @@ some t form =
 pub few : (t : Topology) (c : Config) → first_broken t c ≡ None → length t.controllers ≤ 8
 unfolding first_broken
 few t c h = leb-true (length t.controllers) 8 (all_kept _ _ _ _ _ _ _ (counts_kept t c (first_none _ _ h))).controllers_kept
-
--- ---- they can be told
-pub can_be_told : (x : Checked) → IsTrue (has_topology_form x.topology) → IsTrue (has_config_form x.config)
-    → first_broken x.topology x.config ≡ None → AllFit (low x)
-can_be_told x topology config valid = ?
