@@ -1,5 +1,5 @@
 -- How a step of the configuration node begins.
-use Rattle.std.specs.Prelude.{◌≡◌, ◌<◌, ℕ, List, [], ◌∷◌, map, length, IsTrue, true, false}
+use Rattle.std.specs.Prelude.{◌≡◌, ◌<◌, ℕ, List, [], ◌∷◌, length, IsTrue, true, false}
 use Rattle.std.specs.FinMap.{empty}
 use Rattle.std.specs.List.{AllByRecursion, filter_map, slice_index_or, slice_set}
 use Rattle.std.specs.declared.option.Option.{Option}
@@ -25,10 +25,10 @@ use Rattle.node_core.specs.Whole.{session_of}
 use Rattle.node_items.specs.Beginning.{left_by, phase_of}
 use Rattle.node_items.specs.Hearing.{Hears, heard}
 use Rattle.node_items.specs.Told.{change_of}
-use Rattle.node_model.specs.Step.{Begun, Idle, Opened, Phase, Post, end_of, nothing, post}
+use Rattle.node_model.specs.Step.{Begun, Idle, Opened, Post, end_of, nothing, post}
 use Rattle.network_model.specs.Network.{config}
 use Rattle.config_node.specs.Beginning.{Begins, controller_at, no_node, session_at, state_at}
-use Rattle.config_node.specs.Ends.{AreEnds, Objects, controller, end_at, low_of, posts_of, whom, whom_at}
+use Rattle.config_node.specs.Ends.{AreEnds, Objects, controller, end_at, low_of, posts_of, whom_at}
 use Rattle.config_node.specs.Taking.{HasHeard, HasTaken}
 use Rattle.config_node.specs.declared.ends.FeedEnd.{FeedEnd}
 use Rattle.config_node.proofs.Posts.{ends_long, post_at, posts_set}

@@ -1,6 +1,5 @@
 -- Low-level objects among the keys and values of all sessions.
-use Rattle.std.specs.Prelude.{◌≡◌, List, [], ◌∷◌, ◌++◌, map}
-use Rattle.std.specs.declared.cmp.Ordering.{Ordering}
+use Rattle.std.specs.Prelude.{◌≡◌, List, [], ◌∷◌, map}
 use Rattle.std.specs.Cmp.{IsTotalOrder, on_total}
 use Rattle.std.specs.FinMap.{FinMap, IsAntisymmetric, empty, from_entries, insert}
 use Rattle.std.proofs.Common.{refl, sym, ◌∙◌, ap, subst, rules}

@@ -1,5 +1,5 @@
 -- The ends as they are seen, from those that are kept.
-use Rattle.std.specs.Prelude.{◌≡◌, ◌<◌, ◌≤◌, ◌+◌, ℕ, zero, suc, List, [], ◌∷◌, ◌++◌, map, length, Bool, true, false, not}
+use Rattle.std.specs.Prelude.{◌≡◌, ◌<◌, ◌≤◌, ◌+◌, ℕ, zero, suc, List, [], ◌∷◌, ◌++◌, map, length, true, false, not}
 use Rattle.std.specs.Prelude.{if◌then◌else◌}
 use Rattle.std.specs.List.{AllByRecursion, slice_index_or}
 use Rattle.std.proofs.Common.{refl, sym, ◌∙◌, ap, subst, set, get_or, take, drop, arith, inl, inr}
@@ -20,7 +20,7 @@ use Rattle.node_core.specs.declared.ends.Plan.{Plan}
 use Rattle.node_items.specs.Beginning.{phase_of}
 use Rattle.node_items.specs.Told.{AllFit, Fits, spelled}
 use Rattle.node_model.specs.Keys.{key_cmp}
-use Rattle.node_model.specs.Maps.{Map, difference}
+use Rattle.node_model.specs.Maps.{difference}
 use Rattle.node_model.specs.Step.{Post, changes, nothing, post, told_all}
 use Rattle.network_model.specs.Setup.{low}
 use Rattle.config_node.specs.Beginning.{no_node}

@@ -1,5 +1,5 @@
 -- What the sessions of the configuration node are to be told in a pass.
-use Rattle.std.specs.Prelude.{List, [], map, Bool, not, if◌then◌else◌}
+use Rattle.std.specs.Prelude.{[], map, Bool, not, if◌then◌else◌}
 use Rattle.node_core.specs.declared.ends.Plan.{Plan}
 use Rattle.node_items.specs.Beginning.{phase_of}
 use Rattle.node_items.specs.Told.{spelled}

@@ -1,5 +1,5 @@
 -- What octets make of an end.
-use Rattle.std.specs.Prelude.{◌≡◌, ℕ, List, [], Option, None}
+use Rattle.std.specs.Prelude.{◌≡◌, ℕ, List, [], Option}
 use Rattle.std.specs.List.{slice_set}
 use Rattle.item_wire.specs.Happenings.{SessionFields}
 use Rattle.item_wire.specs.declared.event.ItemCause.{ItemCause}

@@ -1,11 +1,12 @@
 //! The configuration node, its step and its edits.
-ghost use Rattle.std.specs.Prelude.{◌≡◌, ◌≢◌, ◌<◌, ◌↔◌, length, not, true, false, None, IfOk, IfSome, IsTrue};
+ghost use Rattle.std.specs.Prelude.{◌≡◌, ◌≢◌, ◌<◌, ◌↔◌, ◌⊎◌, length, not, true, false, None, Some, IfOk, IfSome, IsTrue};
 ghost use Rattle.config_model.specs.Edit.{has_edit_form};
 ghost use Rattle.config_model.specs.Form.{has_config_form, has_topology_form};
 ghost use Rattle.config_check.specs.Edits.{edit_fault};
 ghost use Rattle.config_check.specs.Rules.{first_broken};
 ghost use Rattle.node_core.specs.Whole.{Comes, IsWholeStep, session_of};
 ghost use Rattle.node_model.specs.Step.{post};
+ghost use Rattle.network_model.specs.Setup.{edited};
 ghost use Rattle.config_node.specs.Advancing.{Advances, Remakes};
 ghost use Rattle.config_node.specs.Beginning.{Begins};
 ghost use Rattle.config_node.specs.Core.{fresh, is_idle, is_up, kind, sessions};
@@ -79,6 +80,7 @@ fn remake<L: Link>(
     requires form { IsTrue (has_edit_form edit.now) }
     requires linked { length links.old ≡ sessions ends.old.setup }
     ensures topology { ends.new.setup.topology ≡ ends.old.setup.topology }
+    ensures setup { (ends.new.setup ≡ ends.old.setup) ⊎ (edited ends.old.setup edit.now ≡ Some ends.new.setup) }
     ensures links { length links.new ≡ length links.old }
     ensures remakes { IfOk result (λ remade. Remakes L.accepted L.breaks L.faults edit.now ends.old ends.new links.old
         links.new remade) }
@@ -225,6 +227,7 @@ impl ConfigNode {
             → IsEdited L.accepted L.breaks L.faults self.old.setup self.new.setup edit.now self.old.posts self.new.posts
             links.old links.new (failed_link result) }
         ensures topology { self.new.setup.topology ≡ self.old.setup.topology }
+        ensures setup { (self.new.setup ≡ self.old.setup) ⊎ (edited self.old.setup edit.now ≡ Some self.new.setup) }
         ensures links { length links.new ≡ length links.old }
         ensures failed { (self.new.failed ≡ true) ↔ (result ≡ Err NodeFault.NoMemory) }
         ensures until_restart { self.old.failed ≡ true → result ≡ Err NodeFault.NoMemory }

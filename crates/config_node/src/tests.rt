@@ -160,7 +160,9 @@ fn address(node: &ConfigNode) -> Option<Addr> {
 }
 
 #[test]
-fn a_control_node_is_told_the_objects_and_what_an_edit_changes(rt: HostRuntime) -> Result<(), Fail> {
+fn a_control_node_is_told_the_objects_and_what_an_edit_changes(
+    rt: HostRuntime,
+) -> Result<(), Fail> {
     let alloc = rt.alloc();
     let mut node = node(alloc)?;
     let mut links = queue(alloc)?;
@@ -178,7 +180,10 @@ fn a_control_node_is_told_the_objects_and_what_an_edit_changes(rt: HostRuntime) 
     assert_eq!(rt; address(&node), Some(Addr(0x0a01_0006)));
     assert_eq!(rt; change(alloc, &mut node, &mut links, MOVE), Some(Ok(None)));
     assert!(rt; were_sent(&mut links, &[]));
-    assert_eq!(rt; change(alloc, &mut node, &mut links, DELETE), Some(Ok(None)));
+    assert_eq!(rt;
+        change(alloc, &mut node, &mut links, DELETE),
+        Some(Ok(None))
+    );
     assert!(rt; were_sent(&mut links, &[GONE]));
     Ok(())
 }
@@ -192,12 +197,21 @@ fn an_edit_with_a_fault_changes_nothing(rt: HostRuntime) -> Result<(), Fail> {
     assert!(rt; were_sent(&mut links, &[HELLO, INSTANCE, PORT, ACL]));
     let port = Name::new("vm1").ok_or("a name")?;
     let outside = EditFault::Rule(Refusal::AddressOutside { port });
-    assert_eq!(rt; change(alloc, &mut node, &mut links, STRAY), Some(Ok(Some(outside))));
+    assert_eq!(rt;
+        change(alloc, &mut node, &mut links, STRAY),
+        Some(Ok(Some(outside)))
+    );
     assert!(rt; were_sent(&mut links, &[]));
     assert_eq!(rt; address(&node), Some(Addr(0x0a01_0005)));
-    assert_eq!(rt; change(alloc, &mut node, &mut links, DELETE), Some(Ok(None)));
+    assert_eq!(rt;
+        change(alloc, &mut node, &mut links, DELETE),
+        Some(Ok(None))
+    );
     let missing = EditFault::Missing { name: port };
-    assert_eq!(rt; change(alloc, &mut node, &mut links, DELETE), Some(Ok(Some(missing))));
+    assert_eq!(rt;
+        change(alloc, &mut node, &mut links, DELETE),
+        Some(Ok(Some(missing)))
+    );
     assert!(rt; were_sent(&mut links, &[GONE]));
     Ok(())
 }
@@ -214,7 +228,10 @@ fn a_record_of_a_control_node_closes_the_session(rt: HostRuntime) -> Result<(), 
         session: 0,
         cause: ItemCause::Order,
     };
-    assert_eq!(rt; bring(&mut node, &mut links, 0, SUBSCRIBE), Some(Ok(closed)));
+    assert_eq!(rt;
+        bring(&mut node, &mut links, 0, SUBSCRIBE),
+        Some(Ok(closed))
+    );
     assert_eq!(rt; bring(&mut node, &mut links, 0, SUBSCRIBE), None);
     assert!(rt; were_sent(&mut links, &[HELLO, INSTANCE, PORT, ACL]));
 
@@ -249,7 +266,10 @@ fn a_link_that_fails_closes_its_session_and_the_edit_stays(rt: HostRuntime) -> R
     assert_eq!(rt; bring(&mut node, &mut links, 0, FROM_CONTROLLER), None);
     assert_eq!(rt; open(&mut node, &mut links, 0), Some(Ok(Stepped::Done)));
     fails(&mut links, 1)?;
-    assert_eq!(rt; change(alloc, &mut node, &mut links, MOVE), Some(Err(failed)));
+    assert_eq!(rt;
+        change(alloc, &mut node, &mut links, MOVE),
+        Some(Err(failed))
+    );
     assert!(rt; !node.failed());
     assert_eq!(rt; address(&node), Some(Addr(0x0a01_0006)));
     assert_eq!(rt; bring(&mut node, &mut links, 0, FROM_CONTROLLER), None);

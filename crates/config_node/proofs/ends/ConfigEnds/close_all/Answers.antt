@@ -1,8 +1,7 @@
-use Rattle.std.proofs.Common.{◌≡◌, ◌≤◌, ◌<◌, ◌≢◌, ℕ, length, set, sym, ap, ◌∙◌, arith, ⊎_elim}
+use Rattle.std.proofs.Common.{◌<◌, length, ap, ◌∙◌, arith}
 use Rattle.std.proofs.lemmas.List.{length-set}
-use Rattle.node_model.specs.Step.{Post, nothing, post}
+use Rattle.node_model.specs.Step.{nothing}
 use Rattle.config_node.specs.Core.{sessions}
-use Rattle.config_node.specs.Ends.{Ends}
 use Rattle.config_node.proofs.Posts.{all_closed, closed_more}
 use Rattle.config_node.proofs.ends.ConfigEnds.close_all.Goals as goal
 

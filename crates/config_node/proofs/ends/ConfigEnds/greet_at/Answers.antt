@@ -1,4 +1,4 @@
-use Rattle.std.proofs.Common.{◌≡◌, ◌<◌, length, slice_set, sym, ap, ◌∙◌, arith}
+use Rattle.std.proofs.Common.{◌≡◌, ◌<◌, length, slice_set, ap, ◌∙◌, arith}
 use Rattle.node_model.specs.Step.{Opened, post}
 use Rattle.config_node.specs.Ends.{Ends, whom, whom_at}
 use Rattle.config_node.specs.declared.ends.FeedEnd.{FeedEnd}

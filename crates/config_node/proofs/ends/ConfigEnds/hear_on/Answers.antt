@@ -1,4 +1,4 @@
-use Rattle.std.proofs.Common.{◌≡◌, ◌<◌, ℕ, List, length, slice_set, subst, sym, ap, ◌∙◌, arith, Some, None}
+use Rattle.std.proofs.Common.{◌<◌, ℕ, length, slice_set, subst, sym, ap, ◌∙◌, arith, Some, None}
 use Rattle.node_model.specs.Step.{nothing}
 use Rattle.config_node.specs.Ends.{Ends, posts_of, whom_at}
 use Rattle.config_node.specs.Taking.{HasTaken}

@@ -1,4 +1,4 @@
-use Rattle.std.proofs.Common.{◌≡◌, List, map, ap, ◌∙◌, sym, subst}
+use Rattle.std.proofs.Common.{◌≡◌, map, ap, ◌∙◌, sym, subst}
 use Rattle.config_model.specs.declared.topology.Topology.{Topology}
 use Rattle.config_check.specs.Checked.{Checked}
 use Rattle.config_node.specs.Ends.{AreEnds, new_end, posts_of}
