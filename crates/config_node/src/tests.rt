@@ -50,9 +50,35 @@ const FROM_CONTROLLER: &[u8] = b"\0\0\0\x1a{\"name\":\"c1\",\"op\":\"hello\"}";
 
 const SUBSCRIBE: &[u8] = b"\0\0\0\x1f{\"instance\":1,\"op\":\"subscribe\"}";
 
-type Answer = Result<Stepped<ItemCause>, NodeFault>;
+/// What is sent where a session is opened, from the start and once the port moved.
+const ALL: Messages = &[HELLO, INSTANCE, PORT, ACL];
 
-type Edited = Result<Option<EditFault>, NodeFault>;
+const ALL_MOVED: Messages = &[HELLO, INSTANCE, MOVED, ACL];
+
+type Messages = &'static [&'static [u8]];
+
+/// What is done to the node, on its first session.
+#[derive(Clone, Copy)]
+enum Deed {
+    Open,
+    Hear(&'static [u8]),
+    Edit(&'static str),
+}
+
+/// What comes of it.
+#[derive(Clone, Copy, Debug, PartialEq, Eq)]
+enum Outcome {
+    Done,
+    Closed(ItemCause),
+    Refused(EditFault),
+    LinkFailed,
+    NoMemory,
+    /// The session was open already, or was not open.
+    NotAsked,
+}
+
+/// What is done, what comes of it, and what is sent.
+type Row = (Deed, Outcome, Messages);
 
 fn valid_of(alloc: Global, text: &str) -> Option<Valid> {
     let value = Value::from_str(alloc, text).ok()?;
@@ -72,44 +98,52 @@ fn edit_of(alloc: Global, text: &str) -> Option<Edit>
     read_edit(alloc, &value).ok()
 }
 
-/// Whether there is a link for each session.
+/// Whether there is a link for each session, and a session.
 fn are_linked<L>(node: &ConfigNode, links: &Links<L>) -> bool
-    ensures { result ≡ true → length links.now ≡ sessions node.now.setup }
+    ensures linked { result ≡ true → length links.now ≡ sessions node.now.setup }
+    ensures some { result ≡ true → 0 < sessions node.now.setup }
 {
-    links.len() == node.sessions()
+    if links.len() != node.sessions() {
+        return false;
+    }
+    node.sessions() > 0
+}
+
+fn of_fault(fault: NodeFault) -> Outcome {
+    match fault {
+        NodeFault::LinkFailed { .. } => Outcome::LinkFailed,
+        NodeFault::NoMemory => Outcome::NoMemory,
+    }
+}
+
+fn of_step(answer: Result<Stepped<ItemCause>, NodeFault>) -> Outcome {
+    match answer {
+        Ok(Stepped::Done) => Outcome::Done,
+        Ok(Stepped::Closed { cause, .. }) => Outcome::Closed(cause),
+        Err(fault) => of_fault(fault),
+    }
 }
 
 /// The session is opened, where it is closed.
-fn open<L: Link>(node: &mut ConfigNode, links: &mut Links<L>, session: u16) -> Option<Answer> {
+fn open<L: Link>(node: &mut ConfigNode, links: &mut Links<L>) -> Outcome {
     if !are_linked(node, links) {
-        return None;
+        return Outcome::NotAsked;
     }
-    if session >= node.sessions() {
-        return None;
+    if node.is_live(0) {
+        return Outcome::NotAsked;
     }
-    if node.is_live(session) {
-        return None;
-    }
-    Some(node.step(Input::Opened { session }, links))
+    of_step(node.step(Input::Opened { session: 0 }, links))
 }
 
 /// Octets come on the session, where it is open.
-fn bring<L: Link>(
-    node: &mut ConfigNode,
-    links: &mut Links<L>,
-    session: u16,
-    bytes: &[u8],
-) -> Option<Answer> {
+fn bring<L: Link>(node: &mut ConfigNode, links: &mut Links<L>, bytes: &[u8]) -> Outcome {
     if !are_linked(node, links) {
-        return None;
+        return Outcome::NotAsked;
     }
-    if session >= node.sessions() {
-        return None;
+    if !node.is_live(0) {
+        return Outcome::NotAsked;
     }
-    if !node.is_live(session) {
-        return None;
-    }
-    Some(node.step(Input::Bytes { session, bytes }, links))
+    of_step(node.step(Input::Bytes { session: 0, bytes }, links))
 }
 
 /// The edit is made.
@@ -118,16 +152,35 @@ fn change<L: Link>(
     node: &mut ConfigNode,
     links: &mut Links<L>,
     text: &str,
-) -> Option<Edited> {
-    let edit = edit_of(alloc, text)?;
+) -> Outcome {
+    let Some(edit) = edit_of(alloc, text) else {
+        return Outcome::NotAsked;
+    };
     if !are_linked(node, links) {
-        return None;
+        return Outcome::NotAsked;
     }
-    Some(node.edit(&edit, links))
+    match node.edit(&edit, links) {
+        Ok(None) => Outcome::Done,
+        Ok(Some(fault)) => Outcome::Refused(fault),
+        Err(fault) => of_fault(fault),
+    }
 }
 
-fn is_up(node: &ConfigNode, session: u16) -> bool {
-    session < node.sessions() && node.is_up(session)
+fn act<L: Link>(
+    alloc: Global,
+    node: &mut ConfigNode,
+    links: &mut Links<L>,
+    deed: &Deed,
+) -> Outcome {
+    match deed {
+        Deed::Open => open(node, links),
+        Deed::Hear(bytes) => bring(node, links, bytes),
+        Deed::Edit(text) => change(alloc, node, links, text),
+    }
+}
+
+fn is_up(node: &ConfigNode) -> bool {
+    0 < node.sessions() && node.is_up(0)
 }
 
 /// Whether the messages on the link of the first session are these. They are taken out.
@@ -166,25 +219,20 @@ fn a_control_node_is_told_the_objects_and_what_an_edit_changes(
     let alloc = rt.alloc();
     let mut node = node(alloc)?;
     let mut links = queue(alloc)?;
-    let done = Some(Ok(Stepped::Done));
-    assert_eq!(rt; node.sessions(), 1);
-    assert_eq!(rt; open(&mut node, &mut links, 0), done);
-    assert!(rt; were_sent(&mut links, &[HELLO, INSTANCE, PORT, ACL]));
-    assert!(rt; !is_up(&node, 0));
-    assert_eq!(rt; bring(&mut node, &mut links, 0, FROM_CONTROLLER), done);
-    assert!(rt; is_up(&node, 0));
-    assert!(rt; were_sent(&mut links, &[]));
-
-    assert_eq!(rt; change(alloc, &mut node, &mut links, MOVE), Some(Ok(None)));
-    assert!(rt; were_sent(&mut links, &[MOVED]));
+    let rows: [Row; 6] = [
+        (Deed::Open, Outcome::Done, ALL),
+        (Deed::Hear(FROM_CONTROLLER), Outcome::Done, &[]),
+        (Deed::Edit(MOVE), Outcome::Done, &[MOVED]),
+        (Deed::Edit(MOVE), Outcome::Done, &[]),
+        (Deed::Edit(DELETE), Outcome::Done, &[GONE]),
+        (Deed::Edit(MOVE), Outcome::Done, &[MOVED]),
+    ];
+    for (deed, outcome, sent) in rows.iter() {
+        assert_eq!(rt; act(alloc, &mut node, &mut links, deed), *outcome);
+        assert!(rt; were_sent(&mut links, sent));
+    }
+    assert!(rt; is_up(&node));
     assert_eq!(rt; address(&node), Some(Addr(0x0a01_0006)));
-    assert_eq!(rt; change(alloc, &mut node, &mut links, MOVE), Some(Ok(None)));
-    assert!(rt; were_sent(&mut links, &[]));
-    assert_eq!(rt;
-        change(alloc, &mut node, &mut links, DELETE),
-        Some(Ok(None))
-    );
-    assert!(rt; were_sent(&mut links, &[GONE]));
     Ok(())
 }
 
@@ -193,26 +241,20 @@ fn an_edit_with_a_fault_changes_nothing(rt: HostRuntime) -> Result<(), Fail> {
     let alloc = rt.alloc();
     let mut node = node(alloc)?;
     let mut links = queue(alloc)?;
-    assert_eq!(rt; open(&mut node, &mut links, 0), Some(Ok(Stepped::Done)));
-    assert!(rt; were_sent(&mut links, &[HELLO, INSTANCE, PORT, ACL]));
     let port = Name::new("vm1").ok_or("a name")?;
     let outside = EditFault::Rule(Refusal::AddressOutside { port });
-    assert_eq!(rt;
-        change(alloc, &mut node, &mut links, STRAY),
-        Some(Ok(Some(outside)))
-    );
-    assert!(rt; were_sent(&mut links, &[]));
-    assert_eq!(rt; address(&node), Some(Addr(0x0a01_0005)));
-    assert_eq!(rt;
-        change(alloc, &mut node, &mut links, DELETE),
-        Some(Ok(None))
-    );
     let missing = EditFault::Missing { name: port };
-    assert_eq!(rt;
-        change(alloc, &mut node, &mut links, DELETE),
-        Some(Ok(Some(missing)))
-    );
-    assert!(rt; were_sent(&mut links, &[GONE]));
+    let rows: [Row; 5] = [
+        (Deed::Open, Outcome::Done, ALL),
+        (Deed::Edit(STRAY), Outcome::Refused(outside), &[]),
+        (Deed::Hear(FROM_CONTROLLER), Outcome::Done, &[]),
+        (Deed::Edit(DELETE), Outcome::Done, &[GONE]),
+        (Deed::Edit(DELETE), Outcome::Refused(missing), &[]),
+    ];
+    for (deed, outcome, sent) in rows.iter() {
+        assert_eq!(rt; act(alloc, &mut node, &mut links, deed), *outcome);
+        assert!(rt; were_sent(&mut links, sent));
+    }
     Ok(())
 }
 
@@ -221,32 +263,40 @@ fn a_record_of_a_control_node_closes_the_session(rt: HostRuntime) -> Result<(), 
     let alloc = rt.alloc();
     let mut node = node(alloc)?;
     let mut links = queue(alloc)?;
-    let done = Some(Ok(Stepped::Done));
-    assert_eq!(rt; open(&mut node, &mut links, 0), done);
-    assert_eq!(rt; bring(&mut node, &mut links, 0, FROM_CONTROLLER), done);
-    let closed = Stepped::Closed {
-        session: 0,
-        cause: ItemCause::Order,
-    };
-    assert_eq!(rt;
-        bring(&mut node, &mut links, 0, SUBSCRIBE),
-        Some(Ok(closed))
-    );
-    assert_eq!(rt; bring(&mut node, &mut links, 0, SUBSCRIBE), None);
-    assert!(rt; were_sent(&mut links, &[HELLO, INSTANCE, PORT, ACL]));
-
-    assert_eq!(rt; change(alloc, &mut node, &mut links, MOVE), Some(Ok(None)));
-    assert!(rt; were_sent(&mut links, &[]));
-    assert_eq!(rt; open(&mut node, &mut links, 0), done);
-    assert!(rt; were_sent(&mut links, &[HELLO, INSTANCE, MOVED, ACL]));
-    node.restart();
-    assert!(rt; !node.failed());
-    assert_eq!(rt; address(&node), Some(Addr(0x0a01_0006)));
-    assert_eq!(rt; bring(&mut node, &mut links, 0, FROM_CONTROLLER), None);
+    let closed = Outcome::Closed(ItemCause::Order);
+    let rows: [Row; 6] = [
+        (Deed::Open, Outcome::Done, ALL),
+        (Deed::Hear(FROM_CONTROLLER), Outcome::Done, &[]),
+        (Deed::Hear(SUBSCRIBE), closed, &[]),
+        (Deed::Hear(SUBSCRIBE), Outcome::NotAsked, &[]),
+        (Deed::Edit(MOVE), Outcome::Done, &[]),
+        (Deed::Open, Outcome::Done, ALL_MOVED),
+    ];
+    for (deed, outcome, sent) in rows.iter() {
+        assert_eq!(rt; act(alloc, &mut node, &mut links, deed), *outcome);
+        assert!(rt; were_sent(&mut links, sent));
+    }
     Ok(())
 }
 
-/// A send on the link of the first session fails: the nth from now on.
+#[test]
+fn a_restart_closes_the_session_and_keeps_what_is_valid(rt: HostRuntime) -> Result<(), Fail> {
+    let alloc = rt.alloc();
+    let mut node = node(alloc)?;
+    let mut links = queue(alloc)?;
+    assert_eq!(rt; open(&mut node, &mut links), Outcome::Done);
+    assert_eq!(rt; change(alloc, &mut node, &mut links, MOVE), Outcome::Done);
+    node.restart();
+    assert!(rt; !node.failed());
+    assert_eq!(rt; address(&node), Some(Addr(0x0a01_0006)));
+    assert_eq!(rt;
+        bring(&mut node, &mut links, FROM_CONTROLLER),
+        Outcome::NotAsked
+    );
+    Ok(())
+}
+
+/// Of the sends on the link of the first session the nth from now on fails.
 fn fails(links: &mut Links<FailingLink>, n: u32) -> Result<(), Fail> {
     if n > 0 && links.len() > 0 {
         links.get_mut(0).add_break(n)?;
@@ -260,19 +310,18 @@ fn a_link_that_fails_closes_its_session_and_the_edit_stays(rt: HostRuntime) -> R
     let mut node = node(alloc)?;
     let mut links = Links::new(alloc);
     links.push(FailingLink::new(alloc))?;
-    let failed = NodeFault::LinkFailed { session: 0 };
-    fails(&mut links, 3)?;
-    assert_eq!(rt; open(&mut node, &mut links, 0), Some(Err(failed)));
-    assert_eq!(rt; bring(&mut node, &mut links, 0, FROM_CONTROLLER), None);
-    assert_eq!(rt; open(&mut node, &mut links, 0), Some(Ok(Stepped::Done)));
-    fails(&mut links, 1)?;
-    assert_eq!(rt;
-        change(alloc, &mut node, &mut links, MOVE),
-        Some(Err(failed))
-    );
+    for (breaks, deed, outcome) in [
+        (3, Deed::Open, Outcome::LinkFailed),
+        (0, Deed::Hear(FROM_CONTROLLER), Outcome::NotAsked),
+        (0, Deed::Open, Outcome::Done),
+        (1, Deed::Edit(MOVE), Outcome::LinkFailed),
+        (0, Deed::Hear(FROM_CONTROLLER), Outcome::NotAsked),
+        (0, Deed::Open, Outcome::Done),
+    ] {
+        fails(&mut links, breaks)?;
+        assert_eq!(rt; act(alloc, &mut node, &mut links, &deed), outcome);
+    }
     assert!(rt; !node.failed());
     assert_eq!(rt; address(&node), Some(Addr(0x0a01_0006)));
-    assert_eq!(rt; bring(&mut node, &mut links, 0, FROM_CONTROLLER), None);
-    assert_eq!(rt; open(&mut node, &mut links, 0), Some(Ok(Stepped::Done)));
     Ok(())
 }
