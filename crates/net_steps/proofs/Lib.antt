@@ -1,0 +1,9 @@
+-- Lemmas, in the order in which they stand on each other.
+pub mod Sides
+pub mod Unbroken
+pub mod Quiet
+pub mod Lists
+pub mod Facts
+pub mod Here
+pub mod Building
+pub mod Passing
