@@ -7,3 +7,8 @@ pub mod Facts
 pub mod Here
 pub mod Building
 pub mod Passing
+pub mod Changing
+pub mod Stepping
+pub mod Finishing
+pub mod AtMoments
+pub mod Members

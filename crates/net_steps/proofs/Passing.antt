@@ -48,7 +48,7 @@ pub record IsKept (w : Network) (n n' : Seat) : Type 0 where
       → link n' i ≡ cond s.is_down [] (link n i)
 
 -- ---- what a pass makes of an end
-told_phase : (k : Kind) (posts : List Post) (i : ℕ) → (told_all k posts i).phase ≡ (post posts i).phase
+pub told_phase : (k : Kind) (posts : List Post) (i : ℕ) → (told_all k posts i).phase ≡ (post posts i).phase
 told_phase k posts i =
     elim (k.may_send i (post posts i).phase) as (λ b.
     (cond b (record (post posts i) { sent = k.wanted posts i }) (post posts i)).phase ≡ (post posts i).phase) [ true ↦ refl | false ↦ refl ]
