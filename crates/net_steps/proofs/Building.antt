@@ -78,20 +78,6 @@ put_but seats p n' lt s = record {
         (end_refl (seat seats r.node) r.session)
 
 -- a node whose lists are stored at one of its ends
-pub stored : (n : Seat) (i : ℕ) (p : Post) (messages : List (List ℕ)) (waits : Bool)
-    → SameBut n (record n { posts = slice_set n.posts i p; links = slice_set n.links i messages; notices = slice_set n.notices i waits }) i
-stored n i p messages waits = record {
-  who = refl;
-  posts_long = length-set n.posts i p;
-  links_long = length-set n.links i messages;
-  notices_long = length-set n.notices i waits;
-  ends = λ j ne. record {
-    post = get_or-set_other n.posts i j p nothing ne;
-    link = get_or-set_other n.links i j messages [] ne;
-    notice = get_or-set_other n.notices i j waits false ne;
-  };
-}
-
 pub stored_link : (n : Seat) (i : ℕ) (messages : List (List ℕ)) → SameBut n (record n { links = slice_set n.links i messages }) i
 stored_link n i messages = record {
   who = refl;
@@ -99,6 +85,20 @@ stored_link n i messages = record {
   links_long = length-set n.links i messages;
   notices_long = refl;
   ends = λ j ne. record { post = refl; link = get_or-set_other n.links i j messages [] ne; notice = refl };
+}
+
+pub stored_begun : (n : Seat) (i : ℕ) (p : Post) (messages : List (List ℕ))
+    → SameBut n (record n { posts = slice_set n.posts i p; links = slice_set n.links i messages }) i
+stored_begun n i p messages = record {
+  who = refl;
+  posts_long = length-set n.posts i p;
+  links_long = length-set n.links i messages;
+  notices_long = refl;
+  ends = λ j ne. record {
+    post = get_or-set_other n.posts i j p nothing ne;
+    link = get_or-set_other n.links i j messages [] ne;
+    notice = refl;
+  };
 }
 
 pub stored_notice : (n : Seat) (i : ℕ) (waits : Bool) → SameBut n (record n { notices = slice_set n.notices i waits }) i

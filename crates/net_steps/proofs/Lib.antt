@@ -12,3 +12,4 @@ pub mod Stepping
 pub mod Finishing
 pub mod AtMoments
 pub mod Members
+pub mod Message

@@ -63,7 +63,7 @@ module _ (seats seats' : List Seat) (alike : AreAlike seats seats') where
     session = subst (λ x. p.session < length (others_of x)) (same_who p.node) h.session;
   }
 
-  same_named : (a : Name) → seat_named seats' a ≡ seat_named seats a
+  pub same_named : (a : Name) → seat_named seats' a ≡ seat_named seats a
   same_named a =
       index_map (λ x. same_name (name_of x) a) (λ (n : Seat). n.who) 0 seats'
       ∙ ap (index_from 0 (λ x. same_name (name_of x) a)) alike
