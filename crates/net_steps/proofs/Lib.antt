@@ -13,3 +13,4 @@ pub mod Finishing
 pub mod AtMoments
 pub mod Members
 pub mod Message
+pub mod Notice
