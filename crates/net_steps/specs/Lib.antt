@@ -1,1 +1,3 @@
 -- The files of definitions.
+pub mod Asking
+pub mod Delivering
