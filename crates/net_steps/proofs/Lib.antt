@@ -16,3 +16,4 @@ pub mod Message
 pub mod Notice
 pub mod Asked
 pub mod Delivered
+pub mod Started

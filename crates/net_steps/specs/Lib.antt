@@ -1,3 +1,4 @@
 -- The files of definitions.
 pub mod Asking
 pub mod Delivering
+pub mod Starting
