@@ -17,3 +17,5 @@ pub mod Notice
 pub mod Asked
 pub mod Delivered
 pub mod Started
+pub mod Marks
+pub mod Lost

@@ -2,3 +2,4 @@
 pub mod Asking
 pub mod Delivering
 pub mod Starting
+pub mod Losing
