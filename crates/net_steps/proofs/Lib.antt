@@ -19,3 +19,5 @@ pub mod Delivered
 pub mod Started
 pub mod Marks
 pub mod Lost
+pub mod Telling
+pub mod Restarted
