@@ -21,3 +21,4 @@ pub mod Marks
 pub mod Lost
 pub mod Telling
 pub mod Restarted
+pub mod Edited

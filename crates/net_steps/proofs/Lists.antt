@@ -27,7 +27,7 @@ seat_elsewhere k j n seats ne = get_or-set_other seats k j n nobody ne
 abbrev pub AreAlike : List Seat → List Seat → Type 0
 AreAlike seats seats' = map (λ (n : Seat). n.who) seats' ≡ map (λ (n : Seat). n.who) seats
 
-who_at : (seats : List Seat) (k : ℕ)
+pub who_at : (seats : List Seat) (k : ℕ)
     → (seat seats k).who ≡ slice_index_or (map (λ (n : Seat). n.who) seats) k nobody.who
 who_at [] k = refl
 who_at (n ∷ seats) zero = refl
