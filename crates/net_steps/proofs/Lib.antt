@@ -22,3 +22,5 @@ pub mod Lost
 pub mod Telling
 pub mod Restarted
 pub mod Edited
+pub mod Opens
+pub mod Wholes

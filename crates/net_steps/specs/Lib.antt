@@ -4,3 +4,4 @@ pub mod Delivering
 pub mod Starting
 pub mod Losing
 pub mod Editing
+pub mod Connecting
