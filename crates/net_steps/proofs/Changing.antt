@@ -40,6 +40,17 @@ module _ (wired : Wired) (seats : List Seat) (w : Network) (right : IsRight w) (
       ∙ (λ i. place_of seats (e i) (f i))
       ∙ wired.place w.setup seats q right.written stands.who is')
 
+  -- the session at another place stays
+  pub found_elsewhere : (p : Place) → IsPlace seats p → (h : Here seats w p) → (f : Session → Session) → KeepsNodes f
+      → (r : Place) → IsPlace seats r → r ≢ p → r ≢ h.far.far → (s : Session)
+      → session_of w (name_at seats r) (other_at seats r) ≡ Some s
+      → session_of (change_session (name_at seats p) (other_at seats p) f w) (name_at seats r) (other_at seats r) ≡ Some s
+  found_elsewhere p is h f keeps r is_r not_p not_q s found =
+      changed_elsewhere (name_at seats p) (other_at seats p) (name_at seats r) (other_at seats r)
+      (λ e g. not_p (one_place r p is_r is (sym e) (sym g)))
+      (λ e g. not_q (one_place r h.far.far is_r h.far.is_place (sym g ∙ sym h.far.name) (sym e ∙ sym h.far.other)))
+      f keeps w.sessions s found
+
   module _ (seats' : List Seat) (p : Place) (is : IsPlace seats p) (h : Here seats w p) (f : Session → Session)
       (keeps : KeepsNodes f) (alike : AreAlike seats seats')
       (long : (k : ℕ) → k < length seats' → IsLong (seat seats' k))
@@ -64,10 +75,7 @@ module _ (wired : Wired) (seats : List Seat) (w : Network) (right : IsRight w) (
     others_same r is_r not_p not_q =
         let there = here wired seats w right stands r is_r in
         has_end seats seats' changed r there.session alike
-        (changed_elsewhere (name_at seats p) (other_at seats p) (name_at seats r) (other_at seats r)
-        (λ e g. not_p (one_place r p is_r is (sym e) (sym g)))
-        (λ e g. not_q (one_place r h.far.far is_r h.far.is_place (sym g ∙ sym h.far.name) (sym e ∙ sym h.far.other)))
-        f keeps w.sessions there.session there.found)
+        (found_elsewhere p is h f keeps r is_r not_p not_q there.session there.found)
         (moved (seat seats r.node) (seat seats' r.node) r.session there.session there.session
         (same_who seats seats' alike r.node) (elsewhere r is_r not_p not_q) refl refl there.near_is)
 

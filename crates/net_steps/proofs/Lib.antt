@@ -24,3 +24,4 @@ pub mod Restarted
 pub mod Edited
 pub mod Opens
 pub mod Wholes
+pub mod Connected

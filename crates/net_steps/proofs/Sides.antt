@@ -17,7 +17,7 @@ use Rattle.network_model.proofs.NetworkFact.{KeepsNodes, found}
 use Rattle.network_model.proofs.Twins.{NoTwins, found_changed, found_node}
 
 -- ---- the two sides
-joined_twice : (a b : Name) → a ≢ b → (s : Session) → joins a b s ≡ true → joins b a s ≡ true → ⊥
+pub joined_twice : (a b : Name) → a ≢ b → (s : Session) → joins a b s ≡ true → joins b a s ≡ true → ⊥
 joined_twice a b apart s e f =
     let p = and_parts (is_at a s.near) (is_at b s.far) e in
     let q = and_parts (is_at b s.near) (is_at a s.far) f in

@@ -26,6 +26,15 @@ SamePosts s s' = (j : ℕ) → ((seat s' j).posts ≡ (seat s j).posts) × ((sea
 pub same_posts_whole : (s s' : List Seat) → SamePosts s s' → (r : Place) → whole_at s' r ≡ whole_at s r
 same_posts_whole s s' same r = λ i. not (is_idle (post ((same r.node).0 i) r.session).phase) && not (slice_index_or ((same r.node).1 i) r.session false)
 
+pub same_posts_down : (s s' : List Seat) → AreAlike s s' → SamePosts s s' → (r : Place) → is_down_at s' r ≡ is_down_at s r
+same_posts_down s s' alike same r =
+    (λ i. not (same_posts_whole s s' same r i && whole_there s' (same_far_of s s' alike r i)))
+    ∙ ap (λ b. not (whole_at s r && b)) (there (far_of s r))
+  where
+    there : (o : Option Place) → whole_there s' o ≡ whole_there s o
+    there None = refl
+    there (Some q) = same_posts_whole s s' same q
+
 pub same_posts_with : (k : ℕ) (n n' : Seat) (s s' : List Seat) → k < length s → k < length s' → n'.posts ≡ n.posts
     → n'.notices ≡ n.notices → SamePosts s s' → SamePosts (with_seat k n s) (with_seat k n' s')
 same_posts_with k n n' s s' lt lt' e f same j = by_node (cases_eq j k)
