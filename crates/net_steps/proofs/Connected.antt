@@ -1,6 +1,7 @@
 -- A session is connected: one end opens, then the other, and then what both nodes sent on sessions that are down is
 -- discarded.
 use Rattle.std.specs.Prelude.{◌≡◌, ◌≢◌, ◌⊎◌, ◌<◌, ℕ, List, [], ◌∷◌, ◌++◌, map, length, Bool, true, false, cond}
+use Rattle.std.specs.List.{slice_index_or}
 use Rattle.std.specs.Option.{option_map, unwrap_or}
 use Rattle.std.specs.declared.option.Option.{Option}
 use Rattle.std.specs.declared.option.Option.TheVariants.{Some, None}
@@ -16,7 +17,7 @@ use Rattle.network_model.specs.Network.{Network, view, views_of, wanted}
 use Rattle.network_model.specs.Steps.{around, change_session, connect, is_broken, joins, pass, session_of, with_session}
 use Rattle.network_model.specs.Moments.{nodes}
 use Rattle.network_model.proofs.NetworkFact.{opened_nodes, passed_nodes}
-use Rattle.net_model.specs.Seats.{Seat, far_of, is_down_at, link, link_at, name_of, notice, notice_at, seat, whole_at}
+use Rattle.net_model.specs.Seats.{Seat, far_of, is_down_at, link, link_at, name_of, notice, notice_at, others_of, seat, whole_at}
 use Rattle.net_model.specs.Steps.{BeginsAt, IsDiscarded, IsStepped, Takes, with_seat}
 use Rattle.net_model.specs.Stands.{HasEnd, IsLong, Seats}
 use Rattle.net_model.specs.declared.place.Place.{Place}
@@ -24,7 +25,7 @@ use Rattle.told_laws.specs.Moments.{IsMoment}
 use Rattle.seat_laws.specs.Wiring.{HasFar, IsPlace, name_at, other_at}
 use Rattle.net_steps.proofs.Asked.{down_here}
 use Rattle.net_steps.proofs.AtMoments.{moment_right}
-use Rattle.net_steps.proofs.Building.{SameEnd, moved, seats_by_places}
+use Rattle.net_steps.proofs.Building.{has_end, moved, seats_by_places}
 use Rattle.net_steps.proofs.Changing.{found_elsewhere, one_place}
 use Rattle.net_steps.proofs.Facts.{Facts, IsRight}
 use Rattle.net_steps.proofs.Here.{Here, here}
@@ -32,7 +33,7 @@ use Rattle.net_steps.proofs.Lists.{AreAlike, same_far_of, same_name_at, same_or_
 use Rattle.net_steps.proofs.Opens.{is_kept, kept_seat, open_phase, open_stands, opened_right, passed_right}
 use Rattle.net_steps.proofs.Sides.{changed_elsewhere, changed_here, joined_twice, node_elsewhere, node_here}
 use Rattle.net_steps.proofs.Unbroken.{opens, passed_is}
-use Rattle.net_steps.proofs.Wholes.{SamePosts, discarded_long, down_by_ends, not_down_by_ends, same_posts_discarded, same_posts_trans, same_posts_whole, same_posts_with, stepped_long, stepped_open, stepped_whole, with_long}
+use Rattle.net_steps.proofs.Wholes.{SamePosts, discarded_long, down_by_ends, not_down_by_ends, same_posts_discarded, same_posts_down, same_posts_trans, same_posts_whole, same_posts_with, stepped_long, stepped_open, stepped_whole, with_long}
 
 -- a change at the other end is a change of the session the other way round
 around_back : (a b : Name) → a ≢ b → (f : Session → Session) → (ss : List Session)
@@ -291,3 +292,109 @@ module _ (facts : Facts) (seats : List Seat) (w : Network) (moment : IsMoment w)
                   ((λ i. session_of w2 (same_name_at seats i2 alike2 r i) (same_other_at seats i2 alike2 r i)) ∙ second),
               down_elsewhere r is_r not_p ne,
             )
+
+    module _ (n3 : Seat) (d3 : IsDiscarded s4 p.node n3) (n4 : Seat) (d4 : IsDiscarded (with_seat p.node n3 s4) q.node n4) where
+      abbrev s5 : List Seat
+      s5 = with_seat p.node n3 s4
+
+      abbrev s6 : List Seat
+      s6 = with_seat q.node n4 s5
+
+      lt4 : (k : ℕ) → k < length seats → k < length s4
+      lt4 k lt = subst (λ m. k < m) (sym (length-set s2 q.node n2)) (lt2 k lt)
+
+      lt5 : (k : ℕ) → k < length seats → k < length s5
+      lt5 k lt = subst (λ m. k < m) (sym (length-set s4 p.node n3)) (lt4 k lt)
+
+      near_at : p.node < length s4
+      near_at = lt4 p.node is.node
+
+      far_at : q.node < length s5
+      far_at = lt5 q.node at.far.is_place.node
+
+      alike45 : AreAlike s4 s5
+      alike45 = with_alike p.node n3 s4 d3.who
+
+      alike6 : AreAlike seats s6
+      alike6 = with_alike q.node n4 s5 d4.who ∙ alike45 ∙ alike_s4
+
+      posts45 : SamePosts s4 s5
+      posts45 = same_posts_discarded s4 p.node n3 near_at d3
+
+      posts46 : SamePosts i4 s6
+      posts46 =
+          same_posts_trans i4 s4 s6
+          (same_posts_with q.node (kept_seat w3 n2) n2 i2 s2 (lti2 q.node at.far.is_place.node) (lt2 q.node at.far.is_place.node) refl refl
+          (same_posts_with p.node (kept_seat w1 n1) n1 seats seats is.node is.node refl refl (λ j. (refl, refl))))
+          (same_posts_trans s4 s5 s6 posts45 (same_posts_discarded s5 q.node n4 far_at d4))
+
+      long_n3 : IsLong n3
+      long_n3 = discarded_long s4 p.node n3 d3 (subst IsLong (sym near_seat) long_n1)
+
+      seat_q5 : seat s5 q.node ≡ n2
+      seat_q5 = seat_elsewhere p.node q.node n3 s4 not_far ∙ far_seat
+
+      long_n4 : IsLong n4
+      long_n4 = discarded_long s5 q.node n4 d4 (subst IsLong (sym seat_q5) long_n2)
+
+      long6 : (j : ℕ) → j < length s6 → IsLong (seat s6 j)
+      long6 = with_long q.node n4 s5 far_at (with_long p.node n3 s4 near_at (with_long q.node n2 s2 (lt2 q.node at.far.is_place.node) long1 long_n2) long_n3) long_n4
+
+      -- what is left at each place is the same
+      near_links : (i : ℕ) → IsPlace seats (record { node = p.node; session = i }) → link n3 i ≡ link (kept_seat w1 n1) i
+      near_links i is_r =
+          let t = near_session (record { node = p.node; session = i }) is_r refl in
+          let less : i < length n1.posts = subst (λ m. i < m) (sym (long_n1.posts ∙ ap (λ x. length (others_of x)) takes1.stepped.who)) is_r.session in
+          d3.links i (subst (λ (n : Seat). i < length n.posts) (sym near_seat) less)
+          ∙ (λ j. cond (t.2 j) [] (link (near_seat j) i))
+          ∙ sym ((is_kept w1 n1).links i less t.0
+          ((λ j. session_of w1 (name_of (takes1.stepped.who j)) (slice_index_or (others_of (takes1.stepped.who j)) i [])) ∙ t.1))
+
+      far_links : (i : ℕ) → IsPlace seats (record { node = q.node; session = i }) → link n4 i ≡ link (kept_seat w3 n2) i
+      far_links i is_r =
+          let r : Place = record { node = q.node; session = i } in
+          let t = far_session r is_r refl in
+          let who : n2.who ≡ (seat seats q.node).who = takes2.stepped.who ∙ ap (λ (n : Seat). n.who) (seat_elsewhere p.node q.node n1 seats not_far) in
+          let less : i < length n2.posts = subst (λ m. i < m) (sym (long_n2.posts ∙ ap (λ x. length (others_of x)) who)) is_r.session in
+          d4.links i (subst (λ (n : Seat). i < length n.posts) (sym seat_q5) less)
+          ∙ (λ j. cond ((same_posts_down s4 s5 alike45 posts45 r ∙ t.2) j) [] (link (seat_q5 j) i))
+          ∙ sym ((is_kept w3 n2).links i less t.0
+          ((λ j. session_of w3 (name_of (who j)) (slice_index_or (others_of (who j)) i [])) ∙ t.1))
+
+      same_links : (r : Place) → IsPlace seats r → link_at s6 r ≡ link_at i4 r
+      same_links r is_r = by_node (cases_eq r.node q.node) (cases_eq r.node p.node)
+        where
+          by_node : (r.node ≡ q.node) ⊎ (r.node ≢ q.node) → (r.node ≡ p.node) ⊎ (r.node ≢ p.node) → link_at s6 r ≡ link_at i4 r
+          by_node (inl e) b =
+              ap (λ k. link (seat s6 k) r.session) e
+              ∙ ap (λ n. link n r.session) (seat_here q.node n4 s5 far_at)
+              ∙ far_links r.session (subst (λ k. IsPlace seats (record { node = k; session = r.session })) e is_r)
+              ∙ sym (ap (λ k. link (seat i4 k) r.session) e
+              ∙ ap (λ n. link n r.session) (seat_here q.node (kept_seat w3 n2) i2 (lti2 q.node at.far.is_place.node)))
+          by_node (inr ne) (inl e) =
+              ap (λ n. link n r.session) (seat_elsewhere q.node r.node n4 s5 ne)
+              ∙ ap (λ k. link (seat s5 k) r.session) e
+              ∙ ap (λ n. link n r.session) (seat_here p.node n3 s4 near_at)
+              ∙ near_links r.session (subst (λ k. IsPlace seats (record { node = k; session = r.session })) e is_r)
+              ∙ sym (ap (λ n. link n r.session) (seat_elsewhere q.node r.node (kept_seat w3 n2) i2 ne)
+              ∙ ap (λ k. link (seat i2 k) r.session) e
+              ∙ ap (λ n. link n r.session) (seat_here p.node (kept_seat w1 n1) seats is.node))
+          by_node (inr ne) (inr ne') =
+              ap (λ n. link n r.session)
+              (seat_elsewhere q.node r.node n4 s5 ne ∙ seat_elsewhere p.node r.node n3 s4 ne'
+              ∙ seat_elsewhere q.node r.node n2 s2 ne ∙ seat_elsewhere p.node r.node n1 seats ne'
+              ∙ sym (seat_elsewhere q.node r.node (kept_seat w3 n2) i2 ne ∙ seat_elsewhere p.node r.node (kept_seat w1 n1) seats ne'))
+
+      pub connected_seats : Seats s6 w4
+      connected_seats =
+          seats_by_places s6 w4 (alike6 ∙ stands.who) long6 (λ r is_r.
+          let there = same_place seats s6 alike6 r is_r in
+          let is4 = same_place i4 seats (sym alike4) r there in
+          let h = here facts.wired i4 w4 right4 stands4 r is4 in
+          has_end i4 s6 w4 r h.session (alike6 ∙ sym alike4) h.found
+          (moved (seat i4 r.node) (seat s6 r.node) r.session h.session h.session (same_who i4 s6 (alike6 ∙ sym alike4) r.node)
+          (record {
+            post = ap (λ ps. post ps r.session) (posts46 r.node).0;
+            link = same_links r there;
+            notice = ap (λ bs. slice_index_or bs r.session false) (posts46 r.node).1;
+          }) refl refl h.near_is))

@@ -25,3 +25,4 @@ pub mod Edited
 pub mod Opens
 pub mod Wholes
 pub mod Connected
+pub mod Connections
