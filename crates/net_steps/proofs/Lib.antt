@@ -26,3 +26,5 @@ pub mod Opens
 pub mod Wholes
 pub mod Connected
 pub mod Connections
+pub mod MachineTakes
+pub mod MachineTells
