@@ -14,3 +14,5 @@ pub mod AtMoments
 pub mod Members
 pub mod Message
 pub mod Notice
+pub mod Storing
+pub mod Losing
