@@ -16,3 +16,4 @@ pub mod Message
 pub mod Notice
 pub mod Storing
 pub mod Losing
+pub mod Emptying
