@@ -17,3 +17,4 @@ pub mod Notice
 pub mod Storing
 pub mod Losing
 pub mod Emptying
+pub mod Restarting
