@@ -15,6 +15,5 @@ pub mod Members
 pub mod Message
 pub mod Notice
 pub mod Storing
-pub mod Losing
 pub mod Emptying
 pub mod Restarting

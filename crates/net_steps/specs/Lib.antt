@@ -1,3 +1,1 @@
 -- The files of definitions.
-pub mod Losing
-pub mod Restarting
