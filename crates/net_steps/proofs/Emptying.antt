@@ -14,7 +14,7 @@ use Rattle.net_model.specs.Steps.{all_of, emptied, with_link, with_notice, with_
 use Rattle.net_model.specs.Stands.{IsLong}
 use Rattle.net_model.specs.declared.place.Place.{Place}
 use Rattle.seat_laws.specs.Wiring.{HasFar, IsPlace}
-use Rattle.net_steps.specs.Restarting.{all_told, told_of_loss}
+use Rattle.net_steps.specs.Losing.{all_told, told_of_loss}
 use Rattle.net_steps.proofs.Building.{SameEnd, end_refl, end_trans, long_again}
 use Rattle.net_steps.proofs.Lists.{AreAlike, same_far_of, same_place, seat_elsewhere, seat_here, with_alike}
 use Rattle.net_steps.proofs.Storing.{AreLong, IsTold, LinkIs, NoticeIs, set_link, set_notice}

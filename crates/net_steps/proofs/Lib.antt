@@ -14,6 +14,11 @@ pub mod AtMoments
 pub mod Members
 pub mod Message
 pub mod Notice
+pub mod Asked
+pub mod Delivered
+pub mod Started
+pub mod Marks
+pub mod Lost
 pub mod Storing
 pub mod Emptying
 pub mod Restarting

@@ -1,5 +1,5 @@
 -- A node restarts: it has nothing then, and the far ends of its sessions are told of the loss.
-use Rattle.std.specs.Prelude.{◌≡◌, ◌≢◌, ◌⊎◌, ◌<◌, ◌+◌, ℕ, suc, List, [], ◌∷◌, map, length, Bool, true, false, cond}
+use Rattle.std.specs.Prelude.{◌≡◌, ◌≢◌, ◌⊎◌, ◌<◌, ◌+◌, ℕ, suc, List, [], ◌∷◌, map, length, Bool, true, false, cond, not}
 use Rattle.std.specs.List.{slice_index_or}
 use Rattle.std.specs.Cmp.Lexicographic.{bytes_decides}
 use Rattle.std.specs.declared.option.Option.{Option}
@@ -13,7 +13,8 @@ use Rattle.network_model.specs.Setup.{Name}
 use Rattle.network_model.specs.Session.{Session, is_peering, shut, turned}
 use Rattle.network_model.specs.Network.{Network}
 use Rattle.network_model.specs.Steps.{change_node, session_of}
-use Rattle.network_model.specs.Events.{Restart, is_node, next}
+use Rattle.schedule_script.specs.declared.answer.Answer.TheVariants.{Did, Idle}
+use Rattle.network_model.specs.Events.{Restart, answer_to, is_node, next, unless}
 use Rattle.headline_laws.specs.Headline.{IsWritten}
 use Rattle.net_model.specs.Seats.{Seat, far_of, index_from, live_at, name_of, nobody, others_of, seat, seat_named}
 use Rattle.net_model.specs.Steps.{emptied, with_seat}
@@ -21,7 +22,7 @@ use Rattle.net_model.specs.Stands.{HasEnd, IsEnd, Seats, StandsFor, any_size, oc
 use Rattle.net_model.specs.declared.place.Place.{Place}
 use Rattle.told_laws.specs.Moments.{IsMoment}
 use Rattle.seat_laws.specs.Wiring.{HasFar, HasSessions, IsPlace, ShowsAt, name_at, other_at}
-use Rattle.net_steps.specs.Restarting.{NodesRestart, NoneRestarts, restarted}
+use Rattle.net_steps.specs.Losing.{NothingIsRestarted, RestartsAreMade, restarted}
 use Rattle.net_steps.proofs.AtMoments.{all_down_where, moment_right, moment_sound}
 use Rattle.net_steps.proofs.Building.{has_end, moved, seats_by_places}
 use Rattle.net_steps.proofs.Emptying.{IsEmpty, IsEmptied, all_are_told, emptied_first}
@@ -193,39 +194,39 @@ module _ (facts : Facts) (seats : List Seat) (w : Network) (moment : IsMoment w)
 
 -- ---- by its name
 module _ (facts : Facts) (names : Named) where
-  pub nodes_restart : NodesRestart
-  nodes_restart seats w moment stands name k found above =
+  pub restarts_are_made : RestartsAreMade
+  restarts_are_made seats w moment stands name k found =
       let right = moment_right facts.moments w moment in
-      let first = first_at (λ (n : Seat). same_name (name_of n.who) name) nobody 0 seats k found in
-      let number : first.number ≡ k = omega (arith, first.counted) in
-      let lt : k < length seats = omega (arith, number, first.within) in
-      let is : name_of (seat seats k).who ≡ name =
+      let first = first_at (λ (n : Seat). same_name (name_of n.who) name) nobody 0 seats (suc k) found in
+      let number : first.number ≡ suc k = omega (arith, first.counted) in
+      let above : 0 < suc k = omega arith in
+      let lt : suc k < length seats = omega (arith, number, first.within) in
+      let is : name_of (seat seats (suc k)).who ≡ name =
         subst (λ k. name_of (seat seats k).who ≡ name) number
         ((bytes_decides (name_of (seat seats first.number).who) name).0 first.passes)
       in
+      let node = names.nodes w seats right.written right.sessions stands.seats_are (suc k) above lt in
       (
-        subst (λ name. StandsFor (restarted seats k) (next any_size w (Restart name))) is
-            (restarts facts seats w moment stands k lt (ap (seat_named seats) is ∙ found)
-            (names.nodes w seats right.written right.sessions stands.seats_are k above lt)),
+        subst (λ name. StandsFor (restarted seats (suc k)) (next any_size w (Restart name))) is
+            (restarts facts seats w moment stands (suc k) lt (ap (seat_named seats) is ∙ found) node),
         facts.moments.after w (Restart name) moment tt,
+        ap (λ b. unless (not b)) (ap (is_node w) (sym is) ∙ node),
       )
 
-  pub none_restarts : NoneRestarts
+  restarts_none : (w : Network) (name : Name) → is_node w name ≡ false
+      → (next any_size w (Restart name) ≡ w) × (answer_to w (Restart name) ≡ Idle)
   unfolding next
-  none_restarts seats w moment stands name none = by_node (is_node w name) refl
+  restarts_none w name e = (ap (λ c. cond c (change_node name shut w) w) e, ap (λ b. unless (not b)) e)
+
+  pub nothing_is_restarted : NothingIsRestarted
+  nothing_is_restarted seats w moment stands name none = restarts_none w name (by_node (is_node w name) refl)
     where
       right : IsRight w
       right = moment_right facts.moments w moment
 
-      no_number : (k : ℕ) → 0 < k → seat_named seats name ≡ Some k → ⊥
-      no_number k above e = by_none none
-        where
-          by_none : (seat_named seats name ≡ None) ⊎ (seat_named seats name ≡ Some 0) → ⊥
-          by_none (inl f) = none-some k (sym f ∙ e)
-          by_none (inr f) = let same : 0 ≡ k = same_Some 0 k (sym f ∙ e) in absurd (omega (arith, above, same))
-
-      by_node : (b : Bool) → is_node w name ≡ b → cond (is_node w name) (change_node name shut w) w ≡ w
+      by_node : (b : Bool) → is_node w name ≡ b → b ≡ false
       by_node true e =
           let s = names.shows w seats right.written right.sessions stands.seats_are name e in
-          absurd (no_number s.0 s.1.above s.1.seat_is)
-      by_node false e = ap (λ c. cond c (change_node name shut w) w) e
+          let zero : s.0 ≡ 0 = none s.0 s.1.seat_is in
+          absurd (omega (arith, zero, s.1.above))
+      by_node false e = refl

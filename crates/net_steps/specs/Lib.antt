@@ -1,1 +1,5 @@
 -- The files of definitions.
+pub mod Asking
+pub mod Delivering
+pub mod Starting
+pub mod Losing
