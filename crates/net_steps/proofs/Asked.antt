@@ -66,7 +66,7 @@ module _ (facts : Facts) (seats : List Seat) (w : Network) (moment : IsMoment w)
       }
 
   -- ---- is it down
-  down_here : (p : Place) → IsPlace seats p → (h : Here seats w p) → is_down_at seats p ≡ h.session.is_down
+  pub down_here : (p : Place) → IsPlace seats p → (h : Here seats w p) → is_down_at seats p ≡ h.session.is_down
   down_here p is h =
       down_is facts.wired seats w right stands seats refl (λ _ _. refl) p is h
       (down_where h.session (found_sound w moment (name_at seats p) (other_at seats p) h.session h.found))

@@ -15,12 +15,13 @@ use Rattle.network_model.specs.Steps.{change_session, session_of}
 use Rattle.network_model.specs.Events.{Lose, answer_to, lose, next, unless}
 use Rattle.net_model.specs.Seats.{Seat, is_down_at, link_at, notice_at, others_of, place_of, seat}
 use Rattle.net_model.specs.Steps.{with_link, with_notice}
-use Rattle.net_model.specs.Stands.{IsLong, Seats, any_size}
+use Rattle.net_model.specs.Stands.{IsLong, Seats, StandsFor, any_size}
 use Rattle.net_model.specs.declared.place.Place.{Place}
 use Rattle.told_laws.specs.Moments.{IsMoment}
 use Rattle.seat_laws.specs.Wiring.{IsPlace, IsPlaceOf, name_at, other_at}
+use Rattle.net_steps.specs.Asking.{AreAt}
 use Rattle.net_steps.specs.Losing.{LossesAreMade, NothingIsLost, cut}
-use Rattle.net_steps.proofs.Asked.{places_say}
+use Rattle.net_steps.proofs.Asked.{down_here}
 use Rattle.net_steps.proofs.AtMoments.{found_joined, moment_right}
 use Rattle.net_steps.proofs.Building.{AllBut, SameEnd, end_trans}
 use Rattle.net_steps.proofs.Changing.{changes_at}
@@ -144,3 +145,57 @@ module _ (facts : Facts) (seats : List Seat) (w : Network) (moment : IsMoment w)
         (far_notice seats p q not_far lt lt' long within within' ∙ sym joined.far_live)
         (far_link seats p q not_far lt lt' long within within') refl at.far_is)
         (λ r _ not_p not_q. cut_elsewhere seats p q not_far lt lt' long within within' r not_p not_q)
+
+  lost_at : (a b : Name) (s : Session) → session_of w a b ≡ Some s → s.is_down ≡ false
+      → (next any_size w (Lose a b) ≡ change_session a b lost w) × (answer_to w (Lose a b) ≡ Did)
+  unfolding next
+  lost_at a b s found whole = (
+    ap (λ (o : Option Session). lose o a b w) found ∙ ap (λ c. cond c w (change_session a b lost w)) whole,
+    ap (λ (o : Option Session). unless (unwrap_or (option_map (λ (s : Session). s.is_down) o) true)) found ∙ ap unless whole,
+  )
+
+  pub losses_made : (a b : Name) (p far : Place) → AreAt seats a b p far → is_down_at seats p ≡ false
+      → StandsFor (cut p far seats) (next any_size w (Lose a b)) × IsMoment (next any_size w (Lose a b))
+      × (answer_to w (Lose a b) ≡ Did)
+  losses_made a b p far are whole =
+      let place = facts.wired.place_is w.setup seats a b p right.written stands.who are.0 in
+      let h = here facts.wired seats w right stands p place.is_place in
+      let far_is : h.far.far ≡ far = same_Some h.far.far far (sym h.far.found ∙ are.1) in
+      let whole_is : h.session.is_down ≡ false = sym (down_here facts seats w moment stands p place.is_place h) ∙ whole in
+      let step = lost_at a b h.session ((λ i. session_of w (sym place.name i) (sym place.other i)) ∙ h.found) whole_is in
+      let later = facts.moments.after w (Lose a b) moment tt in (
+        stands_at (cut p far seats) (next any_size w (Lose a b)) later
+            (subst (λ far. Seats (cut p far seats) (next any_size w (Lose a b))) far_is
+            (subst (Seats (cut p h.far.far seats)) ((λ i. change_session (place.name i) (place.other i) lost w) ∙ sym step.0)
+            (lost_seats p place.is_place whole_is))),
+        later,
+        step.1,
+      )
+
+  not_lost : (a b : Name) → unwrap_or (option_map (λ (s : Session). s.is_down) (session_of w a b)) true ≡ true
+      → (next any_size w (Lose a b) ≡ w) × (answer_to w (Lose a b) ≡ Idle)
+  unfolding next
+  not_lost a b down = (by_session (session_of w a b) down, ap unless down)
+    where
+      by_session : (o : Option Session) → unwrap_or (option_map (λ (s : Session). s.is_down) o) true ≡ true → lose o a b w ≡ w
+      by_session None e = refl
+      by_session (Some s) e = ap (λ c. cond c w (change_session a b lost w)) e
+
+  broken_at : (a b : Name) (o : Option Place) → place_of seats a b ≡ o → ((p : Place) → place_of seats a b ≡ Some p → is_down_at seats p ≡ true)
+      → unwrap_or (option_map (λ (s : Session). s.is_down) (session_of w a b)) true ≡ true
+  broken_at a b None none down =
+      ap (λ (o : Option Session). unwrap_or (option_map (λ (s : Session). s.is_down) o) true)
+      (facts.wired.none w seats a b right.written right.sessions stands.who none)
+  broken_at a b (Some p) is down =
+      let place = facts.wired.place_is w.setup seats a b p right.written stands.who is in
+      let h = here facts.wired seats w right stands p place.is_place in
+      ap (λ (o : Option Session). unwrap_or (option_map (λ (s : Session). s.is_down) o) true)
+      ((λ i. session_of w (sym place.name i) (sym place.other i)) ∙ h.found)
+      ∙ sym (down_here facts seats w moment stands p place.is_place h) ∙ down p is
+
+pub losses_are_made : Facts → LossesAreMade
+losses_are_made facts seats w moment stands a b p far are whole = losses_made facts seats w moment stands.seats_are a b p far are whole
+
+pub nothing_is_lost : Facts → NothingIsLost
+nothing_is_lost facts seats w moment stands a b down =
+    not_lost facts seats w moment stands.seats_are a b (broken_at facts seats w moment stands.seats_are a b (place_of seats a b) refl down)
