@@ -22,3 +22,5 @@ pub mod Lost
 pub mod Storing
 pub mod Emptying
 pub mod Restarting
+pub mod Spelled
+pub mod OneState

@@ -3,3 +3,4 @@ pub mod Asking
 pub mod Delivering
 pub mod Starting
 pub mod Losing
+pub mod OneState
