@@ -19,8 +19,5 @@ pub mod Delivered
 pub mod Started
 pub mod Marks
 pub mod Lost
-pub mod Storing
-pub mod Emptying
-pub mod Restarting
 pub mod Spelled
 pub mod OneState
