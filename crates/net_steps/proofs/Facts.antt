@@ -13,21 +13,21 @@ use Rattle.network_model.specs.Setup.{Name}
 use Rattle.network_model.specs.Session.{Message, Session, are_peers, is_idle}
 use Rattle.network_model.specs.Network.{Network}
 use Rattle.network_model.specs.Steps.{session_of}
-use Rattle.network_model.specs.Events.{Event, next}
+use Rattle.network_model.specs.Events.{Event, is_node, next}
 use Rattle.network_model.specs.Moments.{Each, cell, nodes}
 use Rattle.network_laws.specs.Settling.{EditIsValid}
 use Rattle.network_model.proofs.Apart.{no_twins}
 use Rattle.network_model.proofs.Twins.{NoTwins}
 use Rattle.headline_laws.specs.Headline.{IsOfForm, IsWritten}
 use Rattle.headline_laws.proofs.Written.{sound_setup}
-use Rattle.net_model.specs.Seats.{Seat, Who, name_of, others_of, place_of, role_of, whos}
+use Rattle.net_model.specs.Seats.{Seat, Who, name_of, others_of, place_of, role_of, seat, whos}
 use Rattle.net_model.specs.Steps.{BeginsAt}
 use Rattle.net_model.specs.Stands.{Seats, any_size, octets_of}
 use Rattle.net_model.specs.Taking.{closed, opened, taken}
 use Rattle.net_model.specs.Telling.{CanBeHeard, CanSend}
 use Rattle.net_model.specs.declared.place.Place.{Place}
 use Rattle.told_laws.specs.Moments.{IsMoment}
-use Rattle.seat_laws.specs.Wiring.{AreSeats, GoesBy, HasFar, HasSession, HasSessions, IsPlace, IsPlaceOf, name_at, other_at}
+use Rattle.seat_laws.specs.Wiring.{AreSeats, GoesBy, HasFar, HasSession, HasSessions, IsPlace, IsPlaceOf, ShowsAt, name_at, other_at}
 use Rattle.net_steps.proofs.Quiet.{IsQuiet}
 
 -- ---- of seats
@@ -43,6 +43,11 @@ pub record Wired : Type 0 where
       → place_of seats a b ≡ None → session_of w a b ≡ None
   pub goes_by : (w : Network) (seats : List Seat) (p : Place) (s : Session) → IsWritten w.setup → HasSessions w
       → Seats seats w → IsPlace seats p → session_of w (name_at seats p) (other_at seats p) ≡ Some s → GoesBy seats w p s
+
+  pub nodes : (w : Network) (seats : List Seat) (k : ℕ) → IsWritten w.setup → HasSessions w → Seats seats w → 0 < k
+      → k < length seats → is_node w (name_of (seat seats k).who) ≡ true
+  pub shown : (w : Network) (seats : List Seat) (name : Name) → IsWritten w.setup → HasSessions w → Seats seats w
+      → is_node w name ≡ true → (k : ℕ) × ShowsAt seats w name k
 
 -- ---- of what a node hears
 pub record Heard : Type 0 where

@@ -19,5 +19,7 @@ pub mod Delivered
 pub mod Started
 pub mod Marks
 pub mod Lost
+pub mod Telling
+pub mod Restarted
 pub mod Spelled
 pub mod OneState
