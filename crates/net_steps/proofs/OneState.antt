@@ -1,5 +1,5 @@
 -- The state for which seats stand is one: each end is as its seat has it, and what is in flight is known by its octets.
-use Rattle.std.specs.Prelude.{◌≡◌, ◌<◌, ◌++◌, ℕ, suc, List, [], ◌∷◌, map, length, Bool, true, false, not, ◌&&◌}
+use Rattle.std.specs.Prelude.{◌≡◌, ◌++◌, ℕ, List, [], ◌∷◌, map, length, Bool, not, ◌&&◌}
 use Rattle.std.specs.List.{AllByRecursion}
 use Rattle.std.specs.declared.option.Option.{Option}
 use Rattle.std.specs.declared.option.Option.TheVariants.{Some, None}
@@ -8,15 +8,14 @@ use Rattle.std.proofs.lemmas.Option.{none-some, same_Some}
 use Rattle.std.proofs.Common.{refl, sym, ◌∙◌, ap, subst, inl, inr, suc-ne-zero}
 use Rattle.config_check.specs.Checked.{Checked}
 use Rattle.node_model.specs.Maps.{Change}
-use Rattle.network_model.specs.Setup.{Name}
-use Rattle.network_model.specs.Session.{Carries, End, Message, Role, Session, are_peers, is_idle, is_peering, turned}
+use Rattle.network_model.specs.Session.{Carries, Message, Session, are_peers, is_idle, is_peering, turned}
 use Rattle.network_model.specs.Network.{Network, start}
 use Rattle.network_model.specs.Steps.{session_of}
 use Rattle.network_model.specs.Moments.{Each, Nodes, nodes}
 use Rattle.network_model.proofs.NetworkFact.{found}
 use Rattle.network_model.proofs.SessionFact.{Fact, Fact-turned, greetings}
 use Rattle.network_model.proofs.Twins.{Found, found_each}
-use Rattle.net_model.specs.Seats.{Configuring, Seat, Who, place_of, role_of, seat, whos}
+use Rattle.net_model.specs.Seats.{Configuring, Seat, Who, place_of, seat, whos}
 use Rattle.net_model.specs.Stands.{IsDownWhere, IsEnd, StandsFor, any_size, octets_of}
 use Rattle.net_model.specs.Telling.{CanBeHeard, CanSend, from_of}
 use Rattle.net_model.specs.declared.place.Place.{Place}
@@ -26,7 +25,6 @@ use Rattle.net_steps.specs.OneState.{SeatsStandForOneState}
 use Rattle.net_steps.proofs.AtMoments.{found_heard, found_sound, moment_right}
 use Rattle.net_steps.proofs.Facts.{Facts, IsRight, right_twins}
 use Rattle.net_steps.proofs.Here.{Here, here}
-use Rattle.net_steps.proofs.Sides.{found_names}
 use Rattle.net_steps.proofs.Spelled.{head_or, one_flight, tail_of}
 use Rattle.net_steps.proofs.Stepping.{down_turned}
 
@@ -69,27 +67,27 @@ same_flight who s t a (inl j) (inl k) p q e =
     let peering : is_peering t ≡ b = λ i. are_peers (sym roles i) (sym others i) in
     let g : List Message = greetings b s.far.phase s.near.phase in
     let there : t.near.flight ≡ g ++ map Carries k.outward.changes =
-      k.outward.flight
-      ∙ (λ i. greetings (peering i) (sym a.far_phase i) (sym a.near_phase i) ++ map Carries k.outward.changes)
+    k.outward.flight
+    ∙ (λ i. greetings (peering i) (sym a.far_phase i) (sym a.near_phase i) ++ map Carries k.outward.changes)
     in
     let mine : AllByRecursion (CanSend s.near.role s.far.role) (g ++ map Carries j.outward.changes) =
-      subst (AllByRecursion (CanSend s.near.role s.far.role)) j.outward.flight p
+    subst (AllByRecursion (CanSend s.near.role s.far.role)) j.outward.flight p
     in
     let yours : AllByRecursion (CanSend s.near.role s.far.role) (g ++ map Carries k.outward.changes) =
-      subst (AllByRecursion (CanSend s.near.role s.far.role)) there
-      (subst (λ r. AllByRecursion (CanSend r s.far.role) t.near.flight) (sym roles)
-      (subst (λ r. AllByRecursion (CanSend t.near.role r) t.near.flight) (sym others) q))
+    subst (AllByRecursion (CanSend s.near.role s.far.role)) there
+    (subst (λ r. AllByRecursion (CanSend r s.far.role) t.near.flight) (sym roles)
+    (subst (λ r. AllByRecursion (CanSend t.near.role r) t.near.flight) (sym others) q))
     in
     let same : j.outward.changes ≡ k.outward.changes =
-      one_flight who b (from_of s.near.role s.far.role) g j.outward.changes k.outward.changes
-      (all_carried (CanSend s.near.role s.far.role) j.outward.changes
-      (all_right (CanSend s.near.role s.far.role) g (map Carries j.outward.changes) mine))
-      (all_carried (CanSend s.near.role s.far.role) k.outward.changes
-      (all_right (CanSend s.near.role s.far.role) g (map Carries k.outward.changes) yours))
-      (ap (map (octets_of who b)) (sym j.outward.flight)
-      ∙ e
-      ∙ ap (λ c. map (octets_of who c) t.near.flight) peering
-      ∙ ap (map (octets_of who b)) there)
+    one_flight who b (from_of s.near.role s.far.role) g j.outward.changes k.outward.changes
+    (all_carried (CanSend s.near.role s.far.role) j.outward.changes
+    (all_right (CanSend s.near.role s.far.role) g (map Carries j.outward.changes) mine))
+    (all_carried (CanSend s.near.role s.far.role) k.outward.changes
+    (all_right (CanSend s.near.role s.far.role) g (map Carries k.outward.changes) yours))
+    (ap (map (octets_of who b)) (sym j.outward.flight)
+    ∙ e
+    ∙ ap (λ c. map (octets_of who c) t.near.flight) peering
+    ∙ ap (map (octets_of who b)) there)
     in
     j.outward.flight ∙ ap (λ cs. g ++ map Carries cs) same ∙ sym there
 
@@ -151,10 +149,10 @@ module _ (facts : Facts) (seats : List Seat) (w v : Network) (moment : IsMoment 
         let is_s : x.session ≡ s = same_Some x.session s (sym x.found ∙ at.found) in
         let is_t : y.session ≡ t = same_Some y.session t (sym y.found ∙ at'.found) in
         let both : nodes x.session ≡ nodes y.session =
-          λ i. (
-            ((x.near_name ∙ sym y.near_name) i, (x.near_role ∙ sym y.near_role) i),
-            ((x.far_name ∙ sym y.far_name) i, (x.far_role at.far.far at.far.found ∙ sym (y.far_role at.far.far at.far.found)) i),
-          )
+        λ i. (
+          ((x.near_name ∙ sym y.near_name) i, (x.near_role ∙ sym y.near_role) i),
+          ((x.far_name ∙ sym y.far_name) i, (x.far_role at.far.far at.far.found ∙ sym (y.far_role at.far.far at.far.found)) i),
+        )
         in
         ap nodes (sym is_s) ∙ both ∙ ap nodes is_t
 
@@ -217,13 +215,13 @@ module _ (facts : Facts) (seats : List Seat) (w v : Network) (moment : IsMoment 
           let h = at p of.is_place in
           let h' = at' p of.is_place in
           let first : h.session ≡ s =
-            same_Some h.session s (sym h.found ∙ (λ i. session_of w (of.name i) (of.other i)) ∙ f.0)
+          same_Some h.session s (sym h.found ∙ (λ i. session_of w (of.name i) (of.other i)) ∙ f.0)
           in
           let second : h'.session ≡ t =
-            same_Some h'.session t
-            (sym h'.found
-            ∙ (λ i. session_of v ((of.name ∙ ap (λ (p : Nodes). p.0.0) e) i) ((of.other ∙ ap (λ (p : Nodes). p.1.0) e) i))
-            ∙ g.0)
+          same_Some h'.session t
+          (sym h'.found
+          ∙ (λ i. session_of v ((of.name ∙ ap (λ (p : Nodes). p.0.0) e) i) ((of.other ∙ ap (λ (p : Nodes). p.1.0) e) i))
+          ∙ g.0)
           in
           sym first ∙ one_session p of.is_place ∙ second
 
@@ -247,9 +245,9 @@ module _ (facts : Facts) (seats : List Seat) (w v : Network) (moment : IsMoment 
   one_state : w ≡ v
   one_state =
       let same : w.sessions ≡ v.sessions =
-        same_sessions w.sessions v.sessions
-        (right.sessions ∙ ap (λ x. map nodes (start x).sessions) same_setup ∙ sym right'.sessions)
-        (found_each w.sessions (right_twins w right)) (found_each v.sessions (right_twins v right'))
+      same_sessions w.sessions v.sessions
+      (right.sessions ∙ ap (λ x. map nodes (start x).sessions) same_setup ∙ sym right'.sessions)
+      (found_each w.sessions (right_twins w right)) (found_each v.sessions (right_twins v right'))
       in
       λ i. record { setup = same_setup i; sessions = same i }
 

@@ -1,5 +1,5 @@
 -- What is in flight is known by its octets: changes of one spelling are one, and so are lists of them.
-use Rattle.std.specs.Prelude.{◌≡◌, ℕ, suc, List, [], ◌∷◌, ◌++◌, map, length, Bool, true, false}
+use Rattle.std.specs.Prelude.{◌≡◌, List, [], ◌∷◌, ◌++◌, map, length, Bool, true, false}
 use Rattle.std.specs.List.{AllByRecursion}
 use Rattle.std.proofs.Common.{refl, sym, ◌∙◌, ap, subst, suc-ne-zero}
 use Rattle.ov_types.specs.declared.vpn.VpnKey.{VpnKey}
@@ -13,7 +13,6 @@ use Rattle.node_items.proofs.Changes.{one_change}
 use Rattle.node_model.specs.Keys.{Vpn}
 use Rattle.node_model.specs.Maps.{Change}
 use Rattle.node_model.specs.Values.{Route}
-use Rattle.node_peers.specs.First.{BringFirst}
 use Rattle.node_peers.specs.Hearing.{IsNext}
 use Rattle.node_peers.specs.Told.{spelled}
 use Rattle.node_peers.proofs.One.{update_first}
@@ -35,13 +34,13 @@ one_route c d r r' e =
     let first = update_first s r.change [] r.writable r.typed in
     let second = update_first s r'.change [] r'.writable r'.typed in
     let octets : spelled (moved_delta Vpn Route r'.change) ≡ spelled (moved_delta Vpn Route r.change) =
-      ap spelled (sym r'.is) ∙ sym e ∙ ap spelled r.is
+    ap spelled (sym r'.is) ∙ sym e ∙ ap spelled r.is
     in
     let heard : IsNext s (spelled (moved_delta Vpn Route r.change) ++ []) (RightUpdate (r'.change ∷ [])) [] =
-      subst (λ o. IsNext s (o ++ []) (RightUpdate (r'.change ∷ [])) []) octets second.next
+    subst (λ o. IsNext s (o ++ []) (RightUpdate (r'.change ∷ [])) []) octets second.next
     in
     let same : r'.change ≡ r.change =
-      ap (first_update r.change) (first.only (RightUpdate (r'.change ∷ [])) [] heard).0
+    ap (first_update r.change) (first.only (RightUpdate (r'.change ∷ [])) [] heard).0
     in
     r.is ∙ ap (moved_delta Vpn Route) (sym same) ∙ sym r'.is
 
@@ -85,7 +84,7 @@ pub one_flight : (who : Who) (b : Bool) (from : ItemFrom) (greetings : List Mess
 one_flight who b from greetings cs ds p q e =
     let o = octets_of who b in
     let both : map o greetings ++ map o (map Carries cs) ≡ map o greetings ++ map o (map Carries ds) =
-      sym (map_append o greetings (map Carries cs)) ∙ e ∙ map_append o greetings (map Carries ds)
+    sym (map_append o greetings (map Carries cs)) ∙ e ∙ map_append o greetings (map Carries ds)
     in
     let after = same_rest (map o greetings) (map o (map Carries cs)) (map o (map Carries ds)) both in
     one_by_one (λ c. o (Carries c)) (CanCarryAs b from) (carried_once who b from) cs ds p q
