@@ -28,3 +28,5 @@ pub mod Connected
 pub mod Connections
 pub mod MachineTakes
 pub mod MachineTells
+pub mod Spelled
+pub mod OneState

@@ -5,3 +5,4 @@ pub mod Starting
 pub mod Losing
 pub mod Editing
 pub mod Connecting
+pub mod OneState
