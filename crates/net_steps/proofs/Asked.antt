@@ -83,8 +83,7 @@ module _ (facts : Facts) (seats : List Seat) (w : Network) (moment : IsMoment w)
       → (s : Session) × (session_of w a b ≡ Some s) × SaysAt seats p far s × SaysAt seats far p (turned s)
   places_say a b p far are =
       let at = at_names a b p far are in
-      let h = at.here_is in
-      (
+      let h = at.here_is in (
         h.session,
         (λ i. session_of w (sym at.name i) (sym at.other i)) ∙ h.found,
         subst (λ far. SaysAt seats p far h.session) at.far_is

@@ -134,7 +134,7 @@ module _ (facts : Facts) (seats : List Seat) (w : Network) (moment : IsMoment w)
         let tells : Session → Session = λ s. passed (wanted w1.setup (views_of a w1.sessions) (view s)) s in
         let first = changed_here a b at.apart opened opened_nodes w.sessions s at.found in
         let second : session_of w2 a b ≡ Some (tells (opened s)) =
-          node_here a b at.apart tells (λ s. passed_nodes (wanted w1.setup (views_of a w1.sessions) (view s)) s) w1.sessions (opened s) first
+        node_here a b at.apart tells (λ s. passed_nodes (wanted w1.setup (views_of a w1.sessions) (view s)) s) w1.sessions (opened s) first
         in
         let is_open = opens s at.near_is.breaks in
         ap (λ (o : Option Session). unwrap_or (option_map (λ (s : Session). s.is_down) o) true) second
@@ -280,10 +280,10 @@ module _ (facts : Facts) (seats : List Seat) (w : Network) (moment : IsMoment w)
             let tells : Session → Session = λ s. passed (wanted w1.setup (views_of a w1.sessions) (view s)) s in
             let first = found_elsewhere facts.wired seats w right stands p is at opened opened_nodes r is_r not_p ne h.session h.found in
             let second : session_of w2 (name_at seats r) (other_at seats r) ≡ Some h.session =
-              node_elsewhere a (name_at seats r) (other_at seats r)
-              (λ f. at.apart (f ∙ ap (λ k. name_of (seat seats k).who) e ∙ at.far.name))
-              (λ f. ne (one_place facts.wired seats w right stands r q is_r at.far.is_place (ap (λ k. name_of (seat seats k).who) e) (sym f ∙ sym at.far.other)))
-              tells (λ s. passed_nodes (wanted w1.setup (views_of a w1.sessions) (view s)) s) w1.sessions h.session first
+            node_elsewhere a (name_at seats r) (other_at seats r)
+            (λ f. at.apart (f ∙ ap (λ k. name_of (seat seats k).who) e ∙ at.far.name))
+            (λ f. ne (one_place facts.wired seats w right stands r q is_r at.far.is_place (ap (λ k. name_of (seat seats k).who) e) (sym f ∙ sym at.far.other)))
+            tells (λ s. passed_nodes (wanted w1.setup (views_of a w1.sessions) (view s)) s) w1.sessions h.session first
             in (
               h.session,
               names r

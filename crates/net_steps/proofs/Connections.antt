@@ -7,6 +7,7 @@ use Rattle.std.specs.declared.option.Option.TheVariants.{Some, None}
 use Rattle.std.proofs.lemmas.Bool.{and_from, and_parts, not-true}
 use Rattle.std.proofs.lemmas.Option.{same_Some}
 use Rattle.std.proofs.Common.{refl, sym, ◌∙◌, ap, subst}
+use Rattle.ov_types.specs.First.{same_name}
 use Rattle.network_model.specs.Setup.{Name}
 use Rattle.network_model.specs.Session.{Configuration, Session}
 use Rattle.network_model.specs.Network.{Network, between, is_at}
@@ -14,7 +15,7 @@ use Rattle.network_model.specs.Steps.{connect, connect_found, connect_if, joins,
 use Rattle.network_model.specs.Events.{Connect, is_earlier, next}
 use Rattle.network_model.specs.Moments.{Each, Nodes, nodes}
 use Rattle.network_model.proofs.NetworkFact.{connect_all_sound}
-use Rattle.network_model.proofs.Twins.{IsOther, NoTwins}
+use Rattle.network_model.proofs.Twins.{IsOther, NoTwins, itself, same_name_sym, swap_and}
 use Rattle.net_model.specs.Seats.{Seat, is_down_at, notice_at}
 use Rattle.net_model.specs.Stands.{Seats, StandsFor, any_size}
 use Rattle.net_model.specs.declared.place.Place.{Place}
@@ -65,7 +66,7 @@ connections_are_made facts seats w moment stands a b p far are may after opens =
     by_place may after opens =
         let said = places_say facts seats w moment stands.seats_are a b p at.far (are.0, at.found) in
         let parts = and_parts (not (notice_at seats p)) (not (notice_at seats at.far))
-          (and_parts (is_down_at seats p) (not (notice_at seats p) && not (notice_at seats at.far)) may).1
+        (and_parts (is_down_at seats p) (not (notice_at seats p) && not (notice_at seats at.far)) may).1
         in
         let quiet = not-true (notice_at seats p) parts.0 in
         let quiet' = not-true (notice_at seats at.far) parts.1 in
@@ -86,3 +87,34 @@ connect_event w a b e = ap (λ c. cond c (connect_if a b w) (connect_if b a w)) 
 
 pub earlier_connections : Facts → EarlierConnectionsAreEvents
 earlier_connections facts w moment a b e = subst IsMoment (connect_event w a b e) (facts.moments.after w (Connect a b) moment tt)
+
+-- ---- the near node is the earlier one
+earlier_each : (ss : List Session) → NoTwins (map nodes ss) → Each (λ s. is_earlier ss s.near.name s.far.name ≡ true) ss
+earlier_each [] t = tt
+earlier_each (s ∷ ss) t = (here_is, rest ss t.1 (earlier_each ss t.2))
+  where
+    here_is : is_earlier (s ∷ ss) s.near.name s.far.name ≡ true
+    here_is =
+        ap (λ c. cond c true (cond (joins s.far.name s.near.name s) false (is_earlier ss s.near.name s.far.name)))
+        (and_from (is_at s.near.name s.near) (is_at s.far.name s.far) (itself s.near.name) (itself s.far.name))
+
+    rest : (us : List Session) → AllByRecursion (IsOther (nodes s)) (map nodes us)
+        → Each (λ u. is_earlier ss u.near.name u.far.name ≡ true) us
+        → Each (λ u. is_earlier (s ∷ ss) u.near.name u.far.name ≡ true) us
+    rest [] o e = tt
+    rest (u ∷ us) o e = (
+      ap (λ c. cond c true (cond (joins u.far.name u.near.name s) false (is_earlier ss u.near.name u.far.name))) apart
+          ∙ ap (λ c. cond c false (is_earlier ss u.near.name u.far.name)) apart_back ∙ e.0,
+      rest us o.1 e.1,
+    )
+      where
+        apart : joins u.near.name u.far.name s ≡ false
+        apart = (λ i. same_name_sym s.near.name u.near.name i && same_name_sym s.far.name u.far.name i) ∙ o.0.0
+
+        apart_back : joins u.far.name u.near.name s ≡ false
+        apart_back =
+            (λ i. same_name_sym s.near.name u.far.name i && same_name_sym s.far.name u.near.name i)
+            ∙ swap_and (same_name u.near.name s.far.name) (same_name u.far.name s.near.name) false o.0.1
+
+pub near_is_earlier : Facts → NearIsEarlier
+near_is_earlier facts w moment = earlier_each w.sessions (right_twins w (moment_right facts.moments w moment))

@@ -55,7 +55,7 @@ some_controllers t h =
 
 first_named : (seats : List Seat) → 0 < length seats → seat_named seats (name_of (seat seats 0).who) ≡ Some 0
 first_named [] lt = absurd (omega (arith, lt))
-first_named (n ∷ seats) lt = 
+first_named (n ∷ seats) lt =
     ap (λ b. cond b (Some 0) (index_from 1 (λ (m : Seat). same_name (name_of m.who) (name_of n.who)) seats))
     (same_name_self (name_of n.who))
 
@@ -215,7 +215,7 @@ edits_are_made facts seats w moment stands e form none made makes left d =
     let same : y0 ≡ makes.0 = same_Some y0 makes.0 (sym (ap (λ o. edited_without o w.setup e) none) ∙ makes.2) in
     let later = facts.moments.after w (Edits e) moment form in
     let stepped : IsStepped (record (seat seats 0) { who = Configuring y0 }) makes.1 0 (as_it_is (seat seats 0)) =
-      subst (λ y. IsStepped (record (seat seats 0) { who = Configuring y }) makes.1 0 (as_it_is (seat seats 0))) (sym same) makes.3
+    subst (λ y. IsStepped (record (seat seats 0) { who = Configuring y }) makes.1 0 (as_it_is (seat seats 0))) (sym same) makes.3
     in (
       subst (λ ss. StandsFor (with_seat 0 left ss) (next any_size w (Edits e))) (sym makes.4)
           (stands_at (with_seat 0 left (with_seat 0 makes.1 seats)) (next any_size w (Edits e)) later

@@ -18,7 +18,7 @@ use Rattle.network_model.specs.Moments.{Each, cell, nodes}
 use Rattle.network_laws.specs.Settling.{EditIsValid}
 use Rattle.network_model.proofs.Apart.{no_twins}
 use Rattle.network_model.proofs.Twins.{NoTwins}
-use Rattle.headline_laws.specs.Headline.{IsOfForm, IsWritten}
+use Rattle.headline_laws.specs.Headline.{IsWritten}
 use Rattle.headline_laws.proofs.Written.{sound_setup}
 use Rattle.net_model.specs.Seats.{Seat, Who, name_of, others_of, place_of, role_of, seat, whos}
 use Rattle.net_model.specs.Steps.{BeginsAt}
@@ -26,8 +26,8 @@ use Rattle.net_model.specs.Stands.{Seats, any_size, octets_of}
 use Rattle.net_model.specs.Taking.{closed, opened, taken}
 use Rattle.net_model.specs.Telling.{CanBeHeard, CanSend}
 use Rattle.net_model.specs.declared.place.Place.{Place}
-use Rattle.told_laws.specs.Moments.{IsMoment}
-use Rattle.seat_laws.specs.Wiring.{AreSeats, GoesBy, HasFar, HasSession, HasSessions, IsPlace, IsPlaceOf, ShowsAt, name_at, other_at}
+use Rattle.told_laws.specs.Moments.{IsMoment, IsOfTypedForm}
+use Rattle.seat_laws.specs.Wiring.{AreSeats, GoesBy, HasFar, HasSession, HasSessions, IsFound, IsPlace, IsPlaceOf, ShowsAt, name_at, other_at}
 use Rattle.net_steps.proofs.Quiet.{IsQuiet}
 
 -- ---- of seats
@@ -41,9 +41,10 @@ pub record Wired : Type 0 where
       → IsPlace seats p → HasSession seats w p
   pub none : (w : Network) (seats : List Seat) (a b : Name) → IsWritten w.setup → HasSessions w → AreSeats w.setup seats
       → place_of seats a b ≡ None → session_of w a b ≡ None
+  pub found : (w : Network) (seats : List Seat) → IsWritten w.setup → HasSessions w → AreSeats w.setup seats
+      → AllByRecursion (IsFound seats w) w.sessions
   pub goes_by : (w : Network) (seats : List Seat) (p : Place) (s : Session) → IsWritten w.setup → HasSessions w
       → Seats seats w → IsPlace seats p → session_of w (name_at seats p) (other_at seats p) ≡ Some s → GoesBy seats w p s
-
   pub nodes : (w : Network) (seats : List Seat) (k : ℕ) → IsWritten w.setup → HasSessions w → Seats seats w → 0 < k
       → k < length seats → is_node w (name_of (seat seats k).who) ≡ true
   pub shown : (w : Network) (seats : List Seat) (name : Name) → IsWritten w.setup → HasSessions w → Seats seats w
@@ -68,7 +69,7 @@ pub record Heard : Type 0 where
 pub record Moments : Type 0 where
   pub written : (w : Network) → IsMoment w → IsWritten w.setup
   pub sessions : (w : Network) → IsMoment w → HasSessions w
-  pub after : (w : Network) (e : Event) → IsMoment w → EditIsValid IsOfForm w e → IsMoment (next any_size w e)
+  pub after : (w : Network) (e : Event) → IsMoment w → EditIsValid IsOfTypedForm w e → IsMoment (next any_size w e)
   pub heard : (w : Network) → IsMoment w → AllByRecursion CanBeHeard w.sessions
 
 pub record Facts : Type 0 where

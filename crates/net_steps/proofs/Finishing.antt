@@ -53,9 +53,9 @@ module _ (wired : Wired) (seats : List Seat) (k i : ℕ) (given : Begun) (n' : S
         by_node : (p.node ≡ k) ⊎ (p.node ≢ k) → whole_at stepped_seats p ≡ whole_at begun_seats p
         by_node (inl e) =
             let less : p.session < length (begun_seat (seat seats k) i given).posts =
-              subst (λ n. p.session < length n.posts) begun_here
-              (subst (λ k. p.session < length (seat begun_seats k).posts) e
-              (subst (λ m. p.session < m) (sym (stands.long p.node is.node).posts) is.session))
+            subst (λ n. p.session < length n.posts) begun_here
+            (subst (λ k. p.session < length (seat begun_seats k).posts) e
+            (subst (λ m. p.session < m) (sym (stands.long p.node is.node).posts) is.session))
             in
             ap (λ k. whole_of (seat stepped_seats k)) e
             ∙ ap whole_of (seat_here k n' seats lt)
@@ -71,10 +71,10 @@ module _ (wired : Wired) (seats : List Seat) (k i : ℕ) (given : Begun) (n' : S
     finishes n'' d =
         let long = (stands.long k lt_begun).posts in
         let kept : IsKept w n' n'' =
-          discarded_kept wired begun_seats w right stands stepped_seats alike same_whole k n' n'' lt_begun
-          (seat_here k n' seats lt) (stepped.who ∙ sym (ap (λ (n : Seat). n.who) begun_here))
-          (told.posts_long ∙ sym (ap (λ (n : Seat). length n.posts) begun_here) ∙ long ∙ ap (λ (n : Seat). length (others_of n.who)) begun_here
-          ∙ ap (λ x. length (others_of x)) (sym stepped.who)) down d
+        discarded_kept wired begun_seats w right stands stepped_seats alike same_whole k n' n'' lt_begun
+        (seat_here k n' seats lt) (stepped.who ∙ sym (ap (λ (n : Seat). n.who) begun_here))
+        (told.posts_long ∙ sym (ap (λ (n : Seat). length n.posts) begun_here) ∙ long ∙ ap (λ (n : Seat). length (others_of n.who)) begun_here
+        ∙ ap (λ x. length (others_of x)) (sym stepped.who)) down d
         in
         subst (λ (ss : List Seat). Seats ss (pass (name_of (seat seats k).who) w))
         (set-set seats k (begun_seat (seat seats k) i given) n'' ∙ sym (set-set seats k n' n''))

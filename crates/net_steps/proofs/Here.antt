@@ -43,8 +43,8 @@ module _ (wired : Wired) (seats : List Seat) (w : Network) (right : IsRight w) (
       let apart = found_apart (name_at seats p) (other_at seats p) w.sessions near.session (right_twins w right) near.found in
       let back = seen_back (name_at seats p) (other_at seats p) apart w.sessions near.session near.found in
       let same : there.session ≡ turned near.session =
-        same_Some there.session (turned near.session)
-        (sym there.found ∙ (λ i. session_of w (far.name i) (far.other i)) ∙ back)
+      same_Some there.session (turned near.session)
+      (sym there.found ∙ (λ i. session_of w (far.name i) (far.other i)) ∙ back)
       in
       record {
         far = far;

@@ -30,3 +30,5 @@ pub mod MachineTakes
 pub mod MachineTells
 pub mod Spelled
 pub mod OneState
+pub mod NoBreaks
+pub mod Given

@@ -23,7 +23,7 @@ sends_quiet : (b : List ℕ) (ms : List Message) (s : Session) → IsQuiet s →
 sends_quiet b ms s q =
     elim s.is_down as (λ d. (d ≡ true → (s.near.flight ≡ []) × (s.far.flight ≡ []))
     → IsQuiet (with_breaks b (cond d (record { is_down = d; near = s.near; far = s.far })
-        (record { is_down = d; near = record s.near { flight = s.near.flight ++ ms }; far = s.far })))) [
+    (record { is_down = d; near = record s.near { flight = s.near.flight ++ ms }; far = s.far })))) [
       | true ↦ λ q e. q e
       | false ↦ λ q e. absurd (true≢false (sym e))
     ] q
@@ -39,7 +39,7 @@ pub passed_quiet : (m : Map) (s : Session) → IsQuiet s → IsQuiet (passed m s
 unfolding passed
 passed_quiet m s q =
     elim (may_send s) as (λ b. IsQuiet (cond b
-        (told (map Carries (difference s.near.sent m)) (record s { near = record s.near { sent = m } })) s)) [
+    (told (map Carries (difference s.near.sent m)) (record s { near = record s.near { sent = m } })) s)) [
       | true ↦ told_quiet (map Carries (difference s.near.sent m)) (record s { near = record s.near { sent = m } }) (λ e. q e)
       | false ↦ q
     ]

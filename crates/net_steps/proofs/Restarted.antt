@@ -109,9 +109,9 @@ module _ (facts : Facts) (seats : List Seat) (w : Network) (moment : IsMoment w)
       let p : Place = record { node = k; session = i } in
       let h = here facts.wired seats w right stands p is in
       let same : SameEnd (seat empty k) (seat after k) i =
-        all_others seats k count far count 0 empty within empty_going p
-        (λ j less e. (here facts.wired seats w right stands (record { node = k; session = j }) (own_place j less)).apart
-        (ap (name_at seats) e ∙ (far j less).name))
+      all_others seats k count far count 0 empty within empty_going p
+      (λ j less e. (here facts.wired seats w right stands (record { node = k; session = j }) (own_place j less)).apart
+      (ap (name_at seats) e ∙ (far j less).name))
       in
       let gone : seat empty k ≡ emptied n = seat_here k (emptied n) seats lt in
       has_end seats after later p (shut h.session) going.alike
@@ -145,11 +145,11 @@ module _ (facts : Facts) (seats : List Seat) (w : Network) (moment : IsMoment w)
         let q = there.far.far in
         let at = far_node e in
         let less : q.session < count =
-          subst (λ j. q.session < length (seat seats j).posts) at
-          (subst (λ m. q.session < m) (sym (stands.long q.node there.far.is_place.node).posts) there.far.is_place.session)
+        subst (λ j. q.session < length (seat seats j).posts) at
+        (subst (λ m. q.session < m) (sym (stands.long q.node there.far.is_place.node).posts) there.far.is_place.session)
         in
         let told : IsTold after (far q.session less).far =
-          all_are_told seats k count far count 0 empty within empty_going q.session less (omega arith) (omega (arith, less))
+        all_are_told seats k count far count 0 empty within empty_going q.session less (omega arith) (omega (arith, less))
         in
         subst (IsTold after)
         (same_Some (far q.session less).far p
@@ -173,8 +173,8 @@ module _ (facts : Facts) (seats : List Seat) (w : Network) (moment : IsMoment w)
     strange_end ne =
         let s = there.session in
         let same : SameEnd (seat empty p.node) (seat after p.node) p.session =
-          all_others seats k count far count 0 empty within empty_going p
-          (λ j less e. ne (sym (ap (other_at seats) e ∙ (far j less).other)))
+        all_others seats k count far count 0 empty within empty_going p
+        (λ j less e. ne (sym (ap (other_at seats) e ∙ (far j less).other)))
         in
         has_end seats after later p s going.alike
         (node_elsewhere me (name_at seats p) (other_at seats p) mine ne shut (λ s. refl) w.sessions s there.found)
@@ -211,7 +211,7 @@ restarts_are_made facts seats w moment stands name k e =
     let at = seat_of_name seats name (suc k) e in
     let named : seat_named seats (name_of (seat seats (suc k)).who) ≡ Some (suc k) = ap (seat_named seats) at.1 ∙ e in
     let is : is_node w name ≡ true =
-      ap (is_node w) (sym at.1) ∙ facts.wired.nodes w seats (suc k) right.written right.sessions stands.seats_are (omega arith) at.0
+    ap (is_node w) (sym at.1) ∙ facts.wired.nodes w seats (suc k) right.written right.sessions stands.seats_are (omega arith) at.0
     in
     let step = restart_made w name true is in
     let later = facts.moments.after w (Restart name) moment tt in (

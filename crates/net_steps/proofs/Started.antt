@@ -16,7 +16,7 @@ use Rattle.net_model.specs.Seats.{Seat, Who, others_of, seat, whos}
 use Rattle.net_model.specs.Steps.{all_of}
 use Rattle.net_model.specs.Stands.{HasEnd, IsEnd, IsLong, Seats, any_size, octets_of}
 use Rattle.net_model.specs.declared.place.Place.{Place}
-use Rattle.told_laws.specs.Moments.{IsMoment}
+use Rattle.told_laws.specs.Moments.{HasSubnets, IsMoment}
 use Rattle.seat_laws.specs.Wiring.{IsPlace, name_at, other_at}
 use Rattle.net_steps.specs.Starting.{FreshSeatsStandForTheStart, fresh}
 use Rattle.net_steps.proofs.AtMoments.{moment_right}
@@ -59,9 +59,9 @@ nothing_end who i s h =
       breaks = ap (λ (e : End). e.breaks) h.is;
     }
 
-module _ (facts : Facts) (x : Checked) (written : IsWritten x) where
+module _ (facts : Facts) (x : Checked) (written : IsWritten x) (subnets : HasSubnets x) where
   start_moment : IsMoment (start x)
-  start_moment = record { opening = x; written = written; events = []; edits = tt; is = refl }
+  start_moment = record { opening = x; written = written; subnets = subnets; events = []; edits = tt; is = refl }
 
   abbrev seats : List Seat
   seats = map fresh (whos x)
@@ -81,7 +81,7 @@ module _ (facts : Facts) (x : Checked) (written : IsWritten x) where
       let h = facts.wired.session (start x) seats p written right.sessions (whos_again (whos x)) is in
       let at = fresh_at (whos x) p.node is.node in
       let each : Each BothNothing (start x).sessions =
-        start_each BothNothing (λ n m r q. (record { is = refl }, record { is = refl })) x
+      start_each BothNothing (λ n m r q. (record { is = refl }, record { is = refl })) x
       in
       record {
         session = h.session;
@@ -95,5 +95,5 @@ module _ (facts : Facts) (x : Checked) (written : IsWritten x) where
   start_seats = seats_by_places seats (start x) (whos_again (whos x)) fresh_long end_is
 
 pub fresh_seats_stand : Facts → FreshSeatsStandForTheStart
-fresh_seats_stand facts x written =
-    (stands_at (map fresh (whos x)) (start x) (start_moment facts x written) (start_seats facts x written), start_moment facts x written)
+fresh_seats_stand facts x written subnets =
+    (stands_at (map fresh (whos x)) (start x) (start_moment facts x written subnets) (start_seats facts x written subnets), start_moment facts x written subnets)

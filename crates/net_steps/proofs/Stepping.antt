@@ -99,7 +99,7 @@ module _ (wired : Wired) (seats : List Seat) (w : Network) (right : IsRight w) (
           let place : IsPlace seats p = record { node = lt; session = subst (λ m. i < m) (long ∙ ap (λ x. length (others_of x)) who) less } in
           let h = here wired seats w right stands p place in
           let same_session : h.session ≡ s = same_Some h.session s
-            (sym h.found ∙ (λ j. session_of w (name_of (sym who j)) (slice_index_or (others_of (sym who j)) i [])) ∙ found_it)
+          (sym h.found ∙ (λ j. session_of w (name_of (sym who j)) (slice_index_or (others_of (sym who j)) i [])) ∙ found_it)
           in
           d.links i (subst (λ (n : Seat). i < length n.posts) (sym is) less)
           ∙ ap (λ b. cond b [] (link (seat seats' k) i))

@@ -153,7 +153,7 @@ module _ (base : List Seat) (k count : ℕ) (far : (j : ℕ) → j < count → H
       by_number (inl e) rest =
           let q = far i (first_within n i h) in
           let same : q.far ≡ (far j lt).far =
-            same_Some q.far (far j lt).far (sym q.found ∙ ap (λ i. far_of base (record { node = k; session = i })) e ∙ (far j lt).found)
+          same_Some q.far (far j lt).far (sym q.found ∙ ap (λ i. far_of base (record { node = k; session = i })) e ∙ (far j lt).found)
           in
           subst (IsTold (all_told n k (i + 1) (told_at q.far s))) same
           (all_keep n (i + 1) (told_at q.far s) (rest_within n i h) (one_going base s going q.far q.is_place) q.far

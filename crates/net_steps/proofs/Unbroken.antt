@@ -37,21 +37,41 @@ pub record IsPassedAs (may lost : Bool) (wanted : Map) (s t : Session) : Type 0 
 
 passed_cases : (may down : Bool) (m : Map) (s : Session)
     → IsPassedAs may down m s (cond may (cond down (record s { near = record s.near { sent = m } })
-        (record s { near = record s.near { sent = m; flight = s.near.flight ++ map Carries (difference s.near.sent m) } })) s)
+    (record s { near = record s.near { sent = m; flight = s.near.flight ++ map Carries (difference s.near.sent m) } })) s)
 passed_cases true true m s = record {
-  down = refl; far = refl; phase = refl; held = refl; sent = refl; flight = refl;
+  down = refl;
+  far = refl;
+  phase = refl;
+  held = refl;
+  sent = refl;
+  flight = refl;
   kept = record { name = refl; role = refl; notice = refl; taken = refl; breaks = refl };
 }
 passed_cases true false m s = record {
-  down = refl; far = refl; phase = refl; held = refl; sent = refl; flight = refl;
+  down = refl;
+  far = refl;
+  phase = refl;
+  held = refl;
+  sent = refl;
+  flight = refl;
   kept = record { name = refl; role = refl; notice = refl; taken = refl; breaks = refl };
 }
 passed_cases false true m s = record {
-  down = refl; far = refl; phase = refl; held = refl; sent = refl; flight = refl;
+  down = refl;
+  far = refl;
+  phase = refl;
+  held = refl;
+  sent = refl;
+  flight = refl;
   kept = record { name = refl; role = refl; notice = refl; taken = refl; breaks = refl };
 }
 passed_cases false false m s = record {
-  down = refl; far = refl; phase = refl; held = refl; sent = refl; flight = append_nil s.near.flight;
+  down = refl;
+  far = refl;
+  phase = refl;
+  held = refl;
+  sent = refl;
+  flight = append_nil s.near.flight;
   kept = record { name = refl; role = refl; notice = refl; taken = refl; breaks = refl };
 }
 
@@ -81,9 +101,15 @@ pub record IsTakenAs (peering : Bool) (p : Phase) (m : Message) (next : Phase) (
 replied : (s : Session) → s.is_down ≡ false → IsTakenAs true Opened Open Confirmed s (sends (Keepalive ∷ []) (with_phase Confirmed s))
 replied s whole =
     subst (λ (d : Bool). IsTakenAs true Opened Open Confirmed s (cond d (with_phase Confirmed s)
-        (record s { near = record s.near { phase = Confirmed; flight = s.near.flight ++ Keepalive ∷ [] } }))) (sym whole)
+    (record s { near = record s.near { phase = Confirmed; flight = s.near.flight ++ Keepalive ∷ [] } }))) (sym whole)
     (record {
-      down = refl; far = refl; phase = refl; held = refl; sent = refl; flight = refl; kept = record { name = refl; role = refl; notice = refl; taken = refl; breaks = refl };
+      down = refl;
+      far = refl;
+      phase = refl;
+      held = refl;
+      sent = refl;
+      flight = refl;
+      kept = record { name = refl; role = refl; notice = refl; taken = refl; breaks = refl };
     })
 
 taken_cases : (b : Bool) (p : Phase) (m : Message) (next : Phase) (s : Session) → s.near.phase ≡ p → s.is_down ≡ false
@@ -95,24 +121,49 @@ taken_cases true Opened Open next s at whole e live is =
     (subst (IsTakenAs true Opened Open Confirmed s) (sym (told_easy (Keepalive ∷ []) (with_phase Confirmed s) e))
     (replied s whole))
 taken_cases true Confirmed Keepalive next s at whole e live is = record {
-  down = refl; far = refl; phase = same_Some Up next is; held = refl; sent = refl; flight = append_nil s.near.flight;
+  down = refl;
+  far = refl;
+  phase = same_Some Up next is;
+  held = refl;
+  sent = refl;
+  flight = append_nil s.near.flight;
   kept = record { name = refl; role = refl; notice = refl; taken = refl; breaks = refl };
 }
 taken_cases true Up Keepalive next s at whole e live is = record {
-  down = refl; far = refl; phase = at ∙ same_Some Up next is; held = refl; sent = refl;
-  flight = append_nil s.near.flight; kept = record { name = refl; role = refl; notice = refl; taken = refl; breaks = refl };
+  down = refl;
+  far = refl;
+  phase = at ∙ same_Some Up next is;
+  held = refl;
+  sent = refl;
+  flight = append_nil s.near.flight;
+  kept = record { name = refl; role = refl; notice = refl; taken = refl; breaks = refl };
 }
 taken_cases true Up (Carries d) next s at whole e live is = record {
-  down = refl; far = refl; phase = at ∙ same_Some Up next is; held = refl; sent = refl;
-  flight = append_nil s.near.flight; kept = record { name = refl; role = refl; notice = refl; taken = refl; breaks = refl };
+  down = refl;
+  far = refl;
+  phase = at ∙ same_Some Up next is;
+  held = refl;
+  sent = refl;
+  flight = append_nil s.near.flight;
+  kept = record { name = refl; role = refl; notice = refl; taken = refl; breaks = refl };
 }
 taken_cases false Opened Hello next s at whole e live is = record {
-  down = refl; far = refl; phase = same_Some Up next is; held = refl; sent = refl; flight = append_nil s.near.flight;
+  down = refl;
+  far = refl;
+  phase = same_Some Up next is;
+  held = refl;
+  sent = refl;
+  flight = append_nil s.near.flight;
   kept = record { name = refl; role = refl; notice = refl; taken = refl; breaks = refl };
 }
 taken_cases false Up (Carries d) next s at whole e live is = record {
-  down = refl; far = refl; phase = at ∙ same_Some Up next is; held = refl; sent = refl;
-  flight = append_nil s.near.flight; kept = record { name = refl; role = refl; notice = refl; taken = refl; breaks = refl };
+  down = refl;
+  far = refl;
+  phase = at ∙ same_Some Up next is;
+  held = refl;
+  sent = refl;
+  flight = append_nil s.near.flight;
+  kept = record { name = refl; role = refl; notice = refl; taken = refl; breaks = refl };
 }
 taken_cases true p m next s at whole e live is = absurd (none-some next is)
 taken_cases false p m next s at whole e live is = absurd (none-some next is)

@@ -101,8 +101,8 @@ module _ (seats : List Seat) (p : Place) (lt : p.node < length seats) (n' : Seat
           ap (λ k. whole_of (seat (with_seat p.node n' seats) k) r.session) e
           ∙ ap (λ n. whole_of n r.session) (seat_here p.node n' seats lt)
           ∙ (λ i. not (is_idle ((ap (λ (q : Post). q.phase) (stepped.posts r.session less_here)
-            ∙ told_phase (kind_of n.who) (begun n.posts p.session given false) r.session
-            ∙ ap (λ (q : Post). q.phase) (get_or-set_other n.posts p.session r.session (end_of given.after) nothing other)) i))
+          ∙ told_phase (kind_of n.who) (begun n.posts p.session given false) r.session
+          ∙ ap (λ (q : Post). q.phase) (get_or-set_other n.posts p.session r.session (end_of given.after) nothing other)) i))
           && not (slice_index_or (stepped.notices i) r.session false))
           ∙ ap (λ k. whole_of (seat seats k) r.session) (sym e)
       by_node (inr off) = ap (λ n. whole_of n r.session) (seat_elsewhere p.node r.node n' seats off)
@@ -115,8 +115,8 @@ module _ (seats : List Seat) (p : Place) (lt : p.node < length seats) (n' : Seat
       let n = seat seats p.node in
       ap (λ n. whole_of n p.session) (seat_here p.node n' seats lt)
       ∙ (λ i. not ((ap is_idle (ap (λ (q : Post). q.phase) (stepped.posts p.session less)
-        ∙ told_phase (kind_of n.who) (begun n.posts p.session given false) p.session
-        ∙ ap (λ (q : Post). q.phase) (get_or-set_same n.posts p.session (end_of given.after) nothing less) ∙ at) ∙ live) i)
+      ∙ told_phase (kind_of n.who) (begun n.posts p.session given false) p.session
+      ∙ ap (λ (q : Post). q.phase) (get_or-set_same n.posts p.session (end_of given.after) nothing less) ∙ at) ∙ live) i)
       && not ((ap (λ bs. slice_index_or bs p.session false) stepped.notices ∙ quiet) i))
 
 -- ---- room for all sessions

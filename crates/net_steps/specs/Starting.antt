@@ -7,7 +7,7 @@ use Rattle.headline_laws.specs.Headline.{IsWritten}
 use Rattle.net_model.specs.Seats.{Seat, Who, others_of, whos}
 use Rattle.net_model.specs.Stands.{StandsFor}
 use Rattle.net_model.specs.Steps.{all_of}
-use Rattle.told_laws.specs.Moments.{IsMoment}
+use Rattle.told_laws.specs.Moments.{HasSubnets, IsMoment}
 
 -- every session is idle, nothing is in flight and no notice waits
 abbrev pub fresh : Who → Seat
@@ -21,4 +21,4 @@ fresh who = record {
 -- they stand for the empty state, which is a moment
 abbrev pub FreshSeatsStandForTheStart : Type 0
 FreshSeatsStandForTheStart =
-    (x : Checked) → IsWritten x → StandsFor (map fresh (whos x)) (start x) × IsMoment (start x)
+    (x : Checked) → IsWritten x → HasSubnets x → StandsFor (map fresh (whos x)) (start x) × IsMoment (start x)

@@ -1,0 +1,9 @@
+use Rattle.net_steps.proofs.Asked.{no_session, sessions_said}
+use Rattle.net_steps.proofs.Given.{given}
+use Rattle.net_steps.proofs.places_say_what_sessions_are.Goals as goal
+
+pub returns-clause-said : goal.returns-clause-said
+returns-clause-said c = sessions_said given
+
+pub returns-clause-none : goal.returns-clause-none
+returns-clause-none c = no_session given
