@@ -1,25 +1,23 @@
 -- The ends of a session say at their places what the session is.
-use Rattle.std.specs.Prelude.{◌≡◌, ℕ, List, [], ◌∷◌, map, length, Bool, not, ◌&&◌, ◌==◌, cond}
-use Rattle.std.specs.declared.option.Option.{Option}
+use Rattle.std.specs.Prelude.{◌≡◌, List, length, not, ◌&&◌, ◌==◌, cond}
 use Rattle.std.specs.declared.option.Option.TheVariants.{Some}
 use Rattle.std.proofs.lemmas.List.{length-map}
 use Rattle.std.proofs.lemmas.Option.{same_Some}
 use Rattle.std.proofs.Common.{refl, sym, ◌∙◌, ap, subst}
 use Rattle.network_model.specs.Setup.{Name}
-use Rattle.network_model.specs.Session.{Message, Session, is_idle, is_peering, is_up_phase, turned}
+use Rattle.network_model.specs.Session.{Session, is_idle, is_peering, is_up_phase, turned}
 use Rattle.network_model.specs.Network.{Network}
 use Rattle.network_model.specs.Steps.{session_of}
-use Rattle.network_model.proofs.SessionFact.{Fact-turned}
-use Rattle.net_model.specs.Seats.{Seat, far_of, is_down_at, link_at, notice_at, seat}
-use Rattle.net_model.specs.Stands.{IsEnd, Seats, StandsFor, any_size, octets_of}
+use Rattle.net_model.specs.Seats.{Seat, is_down_at, link_at, seat}
+use Rattle.net_model.specs.Stands.{IsEnd, Seats, octets_of}
 use Rattle.net_model.specs.declared.place.Place.{Place}
 use Rattle.told_laws.specs.Moments.{IsMoment}
-use Rattle.seat_laws.specs.Wiring.{IsPlace, IsPlaceOf, name_at, other_at}
+use Rattle.seat_laws.specs.Wiring.{IsPlace, name_at, other_at}
 use Rattle.net_steps.specs.Asking.{AreAt, NoPlaceIsNoSession, PlacesSayWhatSessionsAre, SaysAt}
 use Rattle.net_steps.proofs.AtMoments.{down_where, found_sound, moment_right}
 use Rattle.net_steps.proofs.Facts.{Facts, IsRight}
 use Rattle.net_steps.proofs.Here.{Here, here}
-use Rattle.net_steps.proofs.Stepping.{down_is, down_turned}
+use Rattle.net_steps.proofs.Stepping.{down_is}
 
 -- ---- one end
 says : (seats : List Seat) (p far : Place) (s : Session) → IsEnd (seat seats p.node) p.session s

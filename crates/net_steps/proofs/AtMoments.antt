@@ -1,10 +1,9 @@
 -- What holds at a moment: of its sessions, and of a session that is found.
-use Rattle.std.specs.Prelude.{◌≡◌, ◌<◌, ℕ, List, map, length, Bool, true, false, not, ◌&&◌}
+use Rattle.std.specs.Prelude.{◌≡◌, ◌<◌, Bool, true, false, not, ◌&&◌}
 use Rattle.std.specs.declared.option.Option.TheVariants.{Some}
-use Rattle.std.proofs.lemmas.Bool.{true≢false}
 use Rattle.std.proofs.Common.{refl, sym, ◌∙◌, ap, subst, inl, inr, arith}
 use Rattle.network_model.specs.Setup.{Name}
-use Rattle.network_model.specs.Session.{Message, Session, are_peers, is_idle, is_live, is_peering, turned}
+use Rattle.network_model.specs.Session.{Session, is_idle, is_live, is_peering, turned}
 use Rattle.network_model.specs.Network.{Network, start}
 use Rattle.network_model.specs.Steps.{session_of}
 use Rattle.network_model.specs.Moments.{ArePositive, Each, IsFlowing, IsJoined}

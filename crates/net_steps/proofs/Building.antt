@@ -1,6 +1,6 @@
 -- Seats that change at single places.
 use Rattle.std.specs.Prelude.{◌≡◌, ◌≢◌, ◌⊎◌, ◌<◌, ℕ, List, [], map, length, Bool, false}
-use Rattle.std.specs.List.{slice_index_or, slice_set}
+use Rattle.std.specs.List.{slice_set}
 use Rattle.std.specs.declared.option.Option.TheVariants.{Some}
 use Rattle.std.proofs.lemmas.Bool.{cases_eq}
 use Rattle.std.proofs.lemmas.List.{get_or-set_other, length-set}
@@ -9,12 +9,12 @@ use Rattle.node_model.specs.Step.{Post, nothing, post}
 use Rattle.network_model.specs.Session.{End, Session, is_peering}
 use Rattle.network_model.specs.Network.{Network}
 use Rattle.network_model.specs.Steps.{session_of}
-use Rattle.net_model.specs.Seats.{Seat, link, name_of, notice, other, others_of, seat, whos}
-use Rattle.net_model.specs.Steps.{with_link, with_notice, with_seat}
+use Rattle.net_model.specs.Seats.{Seat, link, notice, others_of, seat, whos}
+use Rattle.net_model.specs.Steps.{with_seat}
 use Rattle.net_model.specs.Stands.{HasEnd, IsEnd, IsLong, Seats, octets_of}
 use Rattle.net_model.specs.declared.place.Place.{Place}
 use Rattle.seat_laws.specs.Wiring.{IsPlace, name_at, other_at}
-use Rattle.net_steps.proofs.Lists.{AreAlike, same_long, same_name_at, same_other_at, same_place, same_who, seat_elsewhere, seat_here, with_alike}
+use Rattle.net_steps.proofs.Lists.{AreAlike, same_name_at, same_other_at, seat_elsewhere, seat_here, with_alike}
 
 -- ---- one end of a node
 pub record SameEnd (n n' : Seat) (i : ℕ) : Type 0 where

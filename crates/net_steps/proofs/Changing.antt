@@ -1,13 +1,13 @@
 -- A change of one session: seats that change at its two places stand for the state after it.
-use Rattle.std.specs.Prelude.{◌≡◌, ◌≢◌, ◌⊎◌, ◌<◌, ℕ, List, map, length, Bool, true, false}
+use Rattle.std.specs.Prelude.{◌≡◌, ◌≢◌, ◌⊎◌, ◌<◌, ℕ, List, length}
 use Rattle.std.specs.declared.option.Option.TheVariants.{Some}
 use Rattle.std.proofs.lemmas.Option.{same_Some}
-use Rattle.std.proofs.Common.{refl, sym, ◌∙◌, ap, subst, inl, inr}
+use Rattle.std.proofs.Common.{refl, sym, ◌∙◌, subst, inl, inr}
 use Rattle.network_model.specs.Setup.{Name}
 use Rattle.network_model.specs.Session.{Session, turned}
 use Rattle.network_model.specs.Network.{Network}
 use Rattle.network_model.specs.Steps.{change_session, session_of}
-use Rattle.network_model.specs.Moments.{Each, nodes}
+use Rattle.network_model.specs.Moments.{Each}
 use Rattle.network_model.proofs.NetworkFact.{KeepsNodes}
 use Rattle.network_model.proofs.NodesFact.{session_nodes}
 use Rattle.net_model.specs.Seats.{Seat, place_of, seat}

@@ -1,28 +1,27 @@
 -- A session is connected: one end opens, then the other, and then what both nodes sent on sessions that are down is
 -- discarded.
-use Rattle.std.specs.Prelude.{◌≡◌, ◌≢◌, ◌⊎◌, ◌<◌, ℕ, List, [], ◌∷◌, ◌++◌, map, length, Bool, true, false, cond}
+use Rattle.std.specs.Prelude.{◌≡◌, ◌≢◌, ◌⊎◌, ◌<◌, ℕ, List, [], ◌∷◌, length, Bool, true, false, cond}
 use Rattle.std.specs.List.{slice_index_or}
 use Rattle.std.specs.Option.{option_map, unwrap_or}
 use Rattle.std.specs.declared.option.Option.{Option}
-use Rattle.std.specs.declared.option.Option.TheVariants.{Some, None}
+use Rattle.std.specs.declared.option.Option.TheVariants.{Some}
 use Rattle.std.proofs.lemmas.Bool.{cases_eq}
 use Rattle.std.proofs.lemmas.List.{length-set}
 use Rattle.std.proofs.lemmas.Option.{same_Some}
 use Rattle.std.proofs.Common.{refl, sym, ◌∙◌, ap, subst, inl, inr}
 use Rattle.ov_link.specs.declared.step.Input.TheVariants as input
-use Rattle.node_model.specs.Step.{Begun, Opened, Post, post}
+use Rattle.node_model.specs.Step.{Opened, post}
 use Rattle.network_model.specs.Setup.{Name}
-use Rattle.network_model.specs.Session.{Session, greeting, opened, passed, turned}
+use Rattle.network_model.specs.Session.{Session, opened, passed, turned}
 use Rattle.network_model.specs.Network.{Network, view, views_of, wanted}
 use Rattle.network_model.specs.Steps.{around, change_session, connect, is_broken, joins, pass, session_of, with_session}
-use Rattle.network_model.specs.Moments.{nodes}
 use Rattle.network_model.proofs.NetworkFact.{opened_nodes, passed_nodes}
 use Rattle.net_model.specs.Seats.{Seat, far_of, is_down_at, link, link_at, name_of, notice, notice_at, others_of, seat, whole_at}
 use Rattle.net_model.specs.Steps.{BeginsAt, IsDiscarded, IsStepped, Takes, with_seat}
-use Rattle.net_model.specs.Stands.{HasEnd, IsLong, Seats}
+use Rattle.net_model.specs.Stands.{IsLong, Seats}
 use Rattle.net_model.specs.declared.place.Place.{Place}
 use Rattle.told_laws.specs.Moments.{IsMoment}
-use Rattle.seat_laws.specs.Wiring.{HasFar, IsPlace, name_at, other_at}
+use Rattle.seat_laws.specs.Wiring.{IsPlace, name_at, other_at}
 use Rattle.net_steps.proofs.Asked.{down_here}
 use Rattle.net_steps.proofs.AtMoments.{moment_right}
 use Rattle.net_steps.proofs.Building.{has_end, moved, seats_by_places}
@@ -31,9 +30,9 @@ use Rattle.net_steps.proofs.Facts.{Facts, IsRight}
 use Rattle.net_steps.proofs.Here.{Here, here}
 use Rattle.net_steps.proofs.Lists.{AreAlike, same_far_of, same_name_at, same_or_other, same_other_at, same_place, same_who, seat_elsewhere, seat_here, with_alike}
 use Rattle.net_steps.proofs.Opens.{is_kept, kept_seat, open_phase, open_stands, opened_right, passed_right}
-use Rattle.net_steps.proofs.Sides.{changed_elsewhere, changed_here, joined_twice, node_elsewhere, node_here}
+use Rattle.net_steps.proofs.Sides.{changed_here, joined_twice, node_elsewhere, node_here}
 use Rattle.net_steps.proofs.Unbroken.{opens, passed_is}
-use Rattle.net_steps.proofs.Wholes.{SamePosts, discarded_long, down_by_ends, not_down_by_ends, same_posts_discarded, same_posts_down, same_posts_trans, same_posts_whole, same_posts_with, stepped_long, stepped_open, stepped_whole, with_long}
+use Rattle.net_steps.proofs.Wholes.{SamePosts, discarded_long, down_by_ends, not_down_by_ends, same_posts_discarded, same_posts_down, same_posts_trans, same_posts_with, stepped_long, stepped_open, stepped_whole, with_long}
 
 -- a change at the other end is a change of the session the other way round
 around_back : (a b : Name) → a ≢ b → (f : Session → Session) → (ss : List Session)

@@ -1,27 +1,25 @@
 -- Connections by the names of their nodes.
-use Rattle.std.specs.Prelude.{◌≡◌, ◌≢◌, List, [], ◌∷◌, map, Bool, true, false, cond, not, ◌&&◌}
+use Rattle.std.specs.Prelude.{◌≡◌, List, [], ◌∷◌, map, Bool, true, false, cond, not, ◌&&◌}
 use Rattle.std.specs.List.{AllByRecursion}
-use Rattle.std.specs.Cmp.Lexicographic.{bytes_decides}
 use Rattle.std.specs.declared.option.Option.{Option}
-use Rattle.std.specs.declared.option.Option.TheVariants.{Some, None}
+use Rattle.std.specs.declared.option.Option.TheVariants.{Some}
 use Rattle.std.proofs.lemmas.Bool.{and_from, and_parts, not-true}
 use Rattle.std.proofs.lemmas.Option.{same_Some}
-use Rattle.std.proofs.Common.{refl, sym, ◌∙◌, ap, subst}
+use Rattle.std.proofs.Common.{sym, ◌∙◌, ap, subst}
 use Rattle.ov_types.specs.First.{same_name}
 use Rattle.network_model.specs.Setup.{Name}
 use Rattle.network_model.specs.Session.{Configuration, Session}
 use Rattle.network_model.specs.Network.{Network, between, is_at}
 use Rattle.network_model.specs.Steps.{connect, connect_found, connect_if, joins, may_connect, session_of}
 use Rattle.network_model.specs.Events.{Connect, is_earlier, next}
-use Rattle.network_model.specs.Moments.{Each, Nodes, nodes}
+use Rattle.network_model.specs.Moments.{Each, nodes}
 use Rattle.network_model.proofs.NetworkFact.{connect_all_sound}
 use Rattle.network_model.proofs.Twins.{IsOther, NoTwins, itself, same_name_sym, swap_and}
 use Rattle.net_model.specs.Seats.{Seat, is_down_at, notice_at}
 use Rattle.net_model.specs.Stands.{Seats, StandsFor, any_size}
 use Rattle.net_model.specs.declared.place.Place.{Place}
 use Rattle.told_laws.specs.Moments.{IsMoment}
-use Rattle.seat_laws.specs.Wiring.{HasFar, IsPlaceOf, name_at, other_at}
-use Rattle.net_steps.specs.Asking.{AreAt}
+use Rattle.seat_laws.specs.Wiring.{HasFar, IsPlaceOf}
 use Rattle.net_steps.specs.Connecting.{ConnectionsAreMade, EarlierConnectionsAreEvents, NearIsEarlier, NothingIsConnected, OpensBoth}
 use Rattle.net_steps.proofs.Asked.{places_say}
 use Rattle.net_steps.proofs.AtMoments.{IsSound, all_down_where, moment_right, moment_sound, positive}

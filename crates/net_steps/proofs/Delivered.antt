@@ -1,24 +1,21 @@
 -- Deliveries of single messages and notices, by the names of their nodes.
-use Rattle.std.specs.Prelude.{◌≡◌, ◌⊎◌, ◌<◌, ℕ, List, [], ◌∷◌, map, length, true, false, cond, ◌==◌}
-use Rattle.std.specs.Borrow.{Bor}
+use Rattle.std.specs.Prelude.{◌≡◌, List, ◌∷◌, length, false, cond, ◌==◌}
 use Rattle.std.specs.Option.{option_map, unwrap_or}
 use Rattle.std.specs.declared.option.Option.{Option}
-use Rattle.std.specs.declared.option.Option.TheVariants.{Some, None}
 use Rattle.std.proofs.lemmas.Option.{same_Some}
-use Rattle.std.proofs.Common.{refl, sym, ◌∙◌, ap, subst, inl, inr, suc-ne-zero}
-use Rattle.ov_link.specs.declared.step.Input.TheVariants.{Bytes, Closed}
+use Rattle.std.proofs.Common.{refl, sym, ◌∙◌, ap, subst, inl, inr}
+use Rattle.ov_link.specs.declared.step.Input.TheVariants.{Bytes}
 use Rattle.network_model.specs.Setup.{Name}
-use Rattle.network_model.specs.Session.{Message, Session, arrived, is_peering, turned, waiting}
+use Rattle.network_model.specs.Session.{Session, arrived, waiting}
 use Rattle.network_model.specs.Network.{Network}
-use Rattle.network_model.specs.Steps.{change_session, deliver, in_flight, pass, session_of}
+use Rattle.network_model.specs.Steps.{change_session, deliver, pass}
 use Rattle.network_model.specs.Events.{Deliver, next}
-use Rattle.net_model.specs.Seats.{Seat, link_at, notice_at, place_of, seat}
+use Rattle.net_model.specs.Seats.{Seat, link_at}
 use Rattle.net_model.specs.Steps.{with_link, with_notice, with_seat}
-use Rattle.net_model.specs.Stands.{Seats, StandsFor, any_size, octets_of}
+use Rattle.net_model.specs.Stands.{Seats, StandsFor, any_size}
 use Rattle.net_model.specs.declared.place.Place.{Place}
 use Rattle.told_laws.specs.Moments.{IsMoment}
 use Rattle.seat_laws.specs.Wiring.{HasFar, IsPlaceOf}
-use Rattle.net_steps.specs.Asking.{AreAt}
 use Rattle.net_steps.specs.Delivering.{MessagesAreDelivered, NoticesAreDelivered, NothingIsDelivered, TakesAt}
 use Rattle.net_steps.proofs.Asked.{places_say}
 use Rattle.net_steps.proofs.AtMoments.{all_down_where, moment_right, moment_sound}

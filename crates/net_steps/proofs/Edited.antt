@@ -1,5 +1,5 @@
 -- An edit is made at the configuration node, which makes its pass.
-use Rattle.std.specs.Prelude.{◌≡◌, ◌≢◌, ◌⊎◌, ◌<◌, ◌≤◌, ℕ, suc, List, [], ◌∷◌, ◌++◌, map, length, Bool, true, false, cond, ◌&&◌, nat_le, IsTrue}
+use Rattle.std.specs.Prelude.{◌≡◌, ◌≢◌, ◌⊎◌, ◌<◌, ℕ, List, [], ◌∷◌, map, length, Bool, true, false, cond, ◌&&◌, nat_le, IsTrue}
 use Rattle.std.specs.List.{list_all, slice_index_or, slice_set}
 use Rattle.std.specs.declared.option.Option.{Option}
 use Rattle.std.specs.declared.option.Option.TheVariants.{Some, None}
@@ -17,27 +17,22 @@ use Rattle.config_check.specs.Checked.{Checked}
 use Rattle.config_check.specs.Edits as config_edits
 use Rattle.config_check.specs.Edits.{edit_fault}
 use Rattle.config_check.specs.declared.edits.EditFault.{EditFault}
-use Rattle.schedule_script.specs.declared.answer.Answer.TheVariants.{Did, EditRefused}
-use Rattle.node_model.specs.Step.{Begun, Post, nothing, post}
-use Rattle.network_model.specs.Setup.{Name, edited_without}
-use Rattle.network_model.specs.Session.{Message, Open, Keepalive, Hello, Carries, Session, is_peering}
-use Rattle.network_model.specs.Network.{Network, config, start}
+use Rattle.node_model.specs.Step.{nothing}
+use Rattle.network_model.specs.Setup.{edited_without}
+use Rattle.network_model.specs.Session.{Message, Open, Keepalive, Hello, Carries, is_peering}
+use Rattle.network_model.specs.Network.{Network, config}
 use Rattle.network_model.specs.Steps.{pass}
 use Rattle.network_model.specs.Events.{Edits, answer_to, edit_answer, edits, next}
 use Rattle.network_model.proofs.NodesFact.{pass_nodes}
 use Rattle.net_model.specs.Seats.{Seat, Configuring, index_from, name_of, nobody, others_of, seat, seat_named, whos}
 use Rattle.net_model.specs.Steps.{IsDiscarded, IsStepped, as_it_is, with_seat}
-use Rattle.net_model.specs.Stands.{HasEnd, IsEnd, IsLong, Seats, StandsFor, any_size, octets_of}
-use Rattle.net_model.specs.declared.place.Place.{Place}
+use Rattle.net_model.specs.Stands.{HasEnd, IsLong, Seats, StandsFor, any_size, octets_of}
 use Rattle.told_laws.specs.Moments.{IsMoment}
-use Rattle.seat_laws.specs.Wiring.{IsPlace}
 use Rattle.net_steps.specs.Editing.{EditsAreMade, FaultyEditsAreRefused}
 use Rattle.net_steps.proofs.AtMoments.{all_down_where, moment_right, moment_sound}
-use Rattle.net_steps.proofs.Building.{seats_by_places}
 use Rattle.net_steps.proofs.Delivered.{stands_at}
 use Rattle.net_steps.proofs.Facts.{Facts, IsRight}
 use Rattle.net_steps.proofs.Finishing.{begun_seats, finishes}
-use Rattle.net_steps.proofs.Here.{end_at}
 use Rattle.net_steps.proofs.Lists.{seat_elsewhere, seat_here, who_at}
 use Rattle.net_steps.proofs.Stepping.{begun_seat}
 

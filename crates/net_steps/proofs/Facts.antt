@@ -1,10 +1,10 @@
 -- What is known of seats, of what their nodes hear, and of moments, and states in which no session that is down has
 -- messages in flight.
-use Rattle.std.specs.Prelude.{◌≡◌, ◌≢◌, ◌<◌, ℕ, List, [], map, length, true, false}
+use Rattle.std.specs.Prelude.{◌≡◌, ◌<◌, ℕ, List, [], map, length, true, false}
 use Rattle.std.specs.List.{AllByRecursion, slice_index_or}
 use Rattle.std.specs.declared.option.Option.TheVariants.{Some, None}
 use Rattle.std.specs.Borrow.{Bor}
-use Rattle.std.proofs.Common.{refl, sym, ◌∙◌, ap, subst}
+use Rattle.std.proofs.Common.{sym, subst}
 use Rattle.ov_link.specs.declared.step.Input.TheVariants as input
 use Rattle.config_check.specs.Checked.{Checked}
 use Rattle.node_model.specs.Members.{Member}

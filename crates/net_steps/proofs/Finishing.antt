@@ -1,5 +1,5 @@
 -- A node takes an input, makes its pass, and what it sent on sessions that are down is discarded.
-use Rattle.std.specs.Prelude.{◌≡◌, ◌≢◌, ◌⊎◌, ◌<◌, ℕ, List, [], ◌++◌, map, length, Bool, not, ◌&&◌}
+use Rattle.std.specs.Prelude.{◌≡◌, ◌≢◌, ◌⊎◌, ◌<◌, ℕ, List, length, Bool, not, ◌&&◌}
 use Rattle.std.specs.declared.option.Option.TheVariants.{Some}
 use Rattle.std.proofs.lemmas.Bool.{cases_eq}
 use Rattle.std.proofs.lemmas.List.{length-set, set-set}
@@ -15,7 +15,7 @@ use Rattle.net_model.specs.Stands.{IsDownWhere, Seats}
 use Rattle.net_model.specs.declared.place.Place.{Place}
 use Rattle.seat_laws.specs.Wiring.{IsPlace}
 use Rattle.net_steps.proofs.Facts.{IsRight, Wired}
-use Rattle.net_steps.proofs.Lists.{AreAlike, same_long, seat_elsewhere, seat_here, with_alike}
+use Rattle.net_steps.proofs.Lists.{AreAlike, seat_elsewhere, seat_here, with_alike}
 use Rattle.net_steps.proofs.Passing.{IsKept, IsTold, passes, told_phase}
 use Rattle.net_steps.proofs.Stepping.{begun_seat, discarded_kept, stepped_told}
 

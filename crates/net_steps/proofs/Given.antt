@@ -1,5 +1,4 @@
 -- What is known of seats, of what nodes hear, and of moments, all together.
-use Rattle.std.proofs.Common.{refl}
 use Rattle.heard_laws.proofs.Heard.{end_closed, end_opened, message_heard}
 use Rattle.seat_laws.proofs.Written as seats
 use Rattle.told_laws.proofs.Heard.{heard}

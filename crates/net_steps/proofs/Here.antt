@@ -1,17 +1,16 @@
 -- A place where the seats stand for a state: the session there, as both of its ends have it.
-use Rattle.std.specs.Prelude.{◌≡◌, ◌≢◌, ◌<◌, ℕ, List, [], map, length, true, false}
-use Rattle.std.specs.declared.option.Option.{Option}
-use Rattle.std.specs.declared.option.Option.TheVariants.{Some, None}
+use Rattle.std.specs.Prelude.{◌≡◌, ◌≢◌, ◌<◌, ℕ, List}
+use Rattle.std.specs.declared.option.Option.TheVariants.{Some}
 use Rattle.std.proofs.lemmas.Option.{same_Some}
-use Rattle.std.proofs.Common.{refl, sym, ◌∙◌, ap, subst}
+use Rattle.std.proofs.Common.{sym, ◌∙◌, ap, subst}
 use Rattle.network_model.specs.Session.{Session, turned}
 use Rattle.network_model.specs.Network.{Network}
 use Rattle.network_model.specs.Steps.{session_of}
 use Rattle.network_model.proofs.NetworkFact.{found}
-use Rattle.net_model.specs.Seats.{Seat, name_of, others_of, seat, seat_named}
+use Rattle.net_model.specs.Seats.{Seat, name_of, seat, seat_named}
 use Rattle.net_model.specs.Stands.{HasEnd, IsEnd, Seats}
 use Rattle.net_model.specs.declared.place.Place.{Place}
-use Rattle.seat_laws.specs.Wiring.{AreSeats, HasFar, IsPlace, name_at, other_at}
+use Rattle.seat_laws.specs.Wiring.{HasFar, IsPlace, name_at, other_at}
 use Rattle.net_steps.proofs.Facts.{IsRight, Wired, right_twins}
 use Rattle.net_steps.proofs.Lists.{named_by}
 use Rattle.net_steps.proofs.Quiet.{IsQuiet, quiet_turned}

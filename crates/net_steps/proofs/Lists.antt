@@ -5,12 +5,12 @@ use Rattle.std.specs.declared.option.Option.TheVariants.{Some, None}
 use Rattle.std.specs.Option.{option_map}
 use Rattle.std.specs.List.{slice_set}
 use Rattle.std.proofs.lemmas.Bool.{cases_eq}
-use Rattle.std.proofs.lemmas.List.{get_or-set_same, get_or-set_other, length-map, length-set, map-set, set-get_or}
+use Rattle.std.proofs.lemmas.List.{get_or-set_same, get_or-set_other, length-map, map-set, set-get_or}
 use Rattle.std.proofs.lemmas.Option.{none-some, same_Some}
-use Rattle.std.proofs.Common.{refl, sym, ◌∙◌, ap, subst, inl, inr, arith}
+use Rattle.std.proofs.Common.{refl, sym, ◌∙◌, ap, subst, inl, inr}
 use Rattle.ov_types.specs.First.{same_name}
 use Rattle.network_model.specs.Setup.{Name}
-use Rattle.net_model.specs.Seats.{Seat, Who, far_of, index_from, name_of, nobody, other, others_of, place_at, place_of, seat}
+use Rattle.net_model.specs.Seats.{Seat, far_of, index_from, name_of, nobody, others_of, place_at, place_of, seat}
 use Rattle.net_model.specs.Seats.{seat_named, session_with}
 use Rattle.net_model.specs.Steps.{with_seat}
 use Rattle.net_model.specs.declared.place.Place.{Place}

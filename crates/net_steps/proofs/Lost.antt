@@ -1,5 +1,5 @@
 -- A session is lost: notices wait at both of its ends, and nothing is in flight.
-use Rattle.std.specs.Prelude.{◌≡◌, ◌≢◌, ◌<◌, ℕ, List, [], map, length, Bool, true, false, cond, not}
+use Rattle.std.specs.Prelude.{◌≡◌, ◌≢◌, ◌<◌, ℕ, List, [], length, true, false, cond}
 use Rattle.std.specs.List.{slice_index_or}
 use Rattle.std.specs.Option.{option_map, unwrap_or}
 use Rattle.std.specs.declared.option.Option.{Option}
@@ -7,9 +7,9 @@ use Rattle.std.specs.declared.option.Option.TheVariants.{Some, None}
 use Rattle.std.proofs.lemmas.Option.{same_Some}
 use Rattle.std.proofs.Common.{refl, sym, ◌∙◌, ap, subst}
 use Rattle.schedule_script.specs.declared.answer.Answer.TheVariants.{Did, Idle}
-use Rattle.node_model.specs.Step.{Post, post}
+use Rattle.node_model.specs.Step.{post}
 use Rattle.network_model.specs.Setup.{Name}
-use Rattle.network_model.specs.Session.{Session, is_live, lost, turned}
+use Rattle.network_model.specs.Session.{Session, lost, turned}
 use Rattle.network_model.specs.Network.{Network}
 use Rattle.network_model.specs.Steps.{change_session, session_of}
 use Rattle.network_model.specs.Events.{Lose, answer_to, lose, next, unless}
@@ -18,7 +18,7 @@ use Rattle.net_model.specs.Steps.{with_link, with_notice}
 use Rattle.net_model.specs.Stands.{IsLong, Seats, StandsFor, any_size}
 use Rattle.net_model.specs.declared.place.Place.{Place}
 use Rattle.told_laws.specs.Moments.{IsMoment}
-use Rattle.seat_laws.specs.Wiring.{IsPlace, IsPlaceOf, name_at, other_at}
+use Rattle.seat_laws.specs.Wiring.{IsPlace, name_at, other_at}
 use Rattle.net_steps.specs.Asking.{AreAt}
 use Rattle.net_steps.specs.Losing.{LossesAreMade, NothingIsLost, cut}
 use Rattle.net_steps.proofs.Asked.{down_here}

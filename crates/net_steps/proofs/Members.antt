@@ -1,8 +1,8 @@
 -- The nodes of seats stand in the list of all nodes.
-use Rattle.std.specs.Prelude.{◌≡◌, ◌<◌, ℕ, zero, suc, List, [], ◌∷◌, map, length}
-use Rattle.std.proofs.Common.{refl, sym, subst, inl, inr, arith}
+use Rattle.std.specs.Prelude.{◌<◌, ℕ, zero, suc, List, [], ◌∷◌, map, length}
+use Rattle.std.proofs.Common.{refl, subst, inl, inr, arith}
 use Rattle.node_model.specs.Members.{Member}
-use Rattle.net_model.specs.Seats.{Seat, Who, seat, whos}
+use Rattle.net_model.specs.Seats.{Seat, seat, whos}
 use Rattle.net_model.specs.Stands.{Seats}
 use Rattle.network_model.specs.Network.{Network}
 

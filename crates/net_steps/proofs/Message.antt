@@ -1,26 +1,25 @@
 -- A message is delivered: it leaves its link, its node takes it and makes its pass.
-use Rattle.std.specs.Prelude.{◌≡◌, ◌≢◌, ◌⊎◌, ◌<◌, ℕ, suc, List, [], ◌∷◌, ◌++◌, map, length, drop, Bool, true, false, cond, ◌==◌}
+use Rattle.std.specs.Prelude.{◌≡◌, ◌≢◌, ◌<◌, ℕ, suc, List, [], ◌∷◌, ◌++◌, map, length, drop, Bool, true, false, cond, ◌==◌}
 use Rattle.std.specs.Borrow.{Bor}
 use Rattle.std.specs.List.{AllByRecursion, slice_index_or, slice_set}
 use Rattle.std.specs.Option.{option_map, unwrap_or}
 use Rattle.std.specs.declared.option.Option.{Option}
-use Rattle.std.specs.declared.option.Option.TheVariants.{Some}
-use Rattle.std.proofs.lemmas.Bool.{ne_eqb, not-true, true≢false}
-use Rattle.std.proofs.lemmas.List.{get_or-set_other, get_or-set_same, length-set}
+use Rattle.std.proofs.lemmas.Bool.{ne_eqb, not-true}
+use Rattle.std.proofs.lemmas.List.{get_or-set_same, length-set}
 use Rattle.std.proofs.lemmas.Option.{same_Some}
 use Rattle.std.proofs.Common.{refl, sym, ◌∙◌, ap, subst, suc-ne-zero}
 use Rattle.ov_link.specs.declared.step.Input.TheVariants as input
-use Rattle.node_model.specs.Step.{Begun, Phase, Post, begun, end_of, nothing, post}
+use Rattle.node_model.specs.Step.{Begun, Phase, Post, end_of, nothing, post}
 use Rattle.network_model.specs.Session.{Message, End, Session, are_peers, arrived, is_idle, is_peering, took, turned, waiting, without_first}
 use Rattle.network_model.specs.Network.{Network}
-use Rattle.network_model.specs.Steps.{change_session, deliver, in_flight, pass, session_of}
+use Rattle.network_model.specs.Steps.{change_session, deliver, in_flight, pass}
 use Rattle.network_model.specs.Moments.{NoneGoesDown, cell}
 use Rattle.network_model.proofs.NetworkFact.{with_session_keeps}
 use Rattle.network_model.proofs.NodesFact.{arrived_nodes}
 use Rattle.network_model.proofs.SessionFact.{Fact, Fact-turned, are_peers-turned, arrived_keeps, map_append}
 use Rattle.net_model.specs.Seats.{Seat, link, link_at, name_of, notice_at, role_of, seat, seat_named}
-use Rattle.net_model.specs.Steps.{BeginsAt, IsDiscarded, IsStepped, Takes, with_link, with_seat}
-use Rattle.net_model.specs.Stands.{IsEnd, Seats, StandsFor, any_size, octets_of}
+use Rattle.net_model.specs.Steps.{BeginsAt, IsDiscarded, Takes, with_link, with_seat}
+use Rattle.net_model.specs.Stands.{IsEnd, Seats, any_size, octets_of}
 use Rattle.net_model.specs.Taking.{held_after, replies_to, taken}
 use Rattle.net_model.specs.Telling.{CanSend}
 use Rattle.net_model.specs.declared.place.Place.{Place}
@@ -30,9 +29,9 @@ use Rattle.net_steps.proofs.AtMoments.{IsSound, all_down_where, all_quiet, found
 use Rattle.net_steps.proofs.Building.{AllBut, end_refl, end_trans, moved, put_but, stored_begun, stored_link}
 use Rattle.net_steps.proofs.Changing.{changed_right, changes_at}
 use Rattle.net_steps.proofs.Facts.{Facts, IsRight}
-use Rattle.net_steps.proofs.Finishing.{begun_seats, finishes, stepped_seats}
+use Rattle.net_steps.proofs.Finishing.{begun_seats, finishes}
 use Rattle.net_steps.proofs.Here.{Here, here, place_named}
-use Rattle.net_steps.proofs.Lists.{AreAlike, same_long, same_name_at, same_who, seat_elsewhere, seat_here, same_named}
+use Rattle.net_steps.proofs.Lists.{AreAlike, same_name_at, seat_elsewhere, seat_here, same_named}
 use Rattle.net_steps.proofs.Members.{is_one_of}
 use Rattle.net_steps.proofs.Stepping.{begun_seat}
 use Rattle.net_steps.proofs.Unbroken.{IsTakenAs, arrived_takes, took_is}

@@ -1,7 +1,5 @@
 -- Where seats stand for a moment no break is pending.
-use Rattle.std.specs.Prelude.{◌≡◌, ℕ, List, [], ◌∷◌, map}
-use Rattle.std.specs.List.{AllByRecursion}
-use Rattle.std.specs.declared.option.Option.TheVariants.{Some}
+use Rattle.std.specs.Prelude.{◌≡◌, List, [], ◌∷◌, map}
 use Rattle.std.proofs.lemmas.Option.{same_Some}
 use Rattle.std.proofs.Common.{refl, sym, ◌∙◌, subst}
 use Rattle.network_model.specs.Session.{Session}
@@ -16,7 +14,7 @@ use Rattle.seat_laws.specs.Wiring.{IsFound}
 use Rattle.net_steps.specs.Unbroken.{NoBreaksArePending}
 use Rattle.net_steps.proofs.AtMoments.{moment_right}
 use Rattle.net_steps.proofs.Facts.{Facts, IsRight}
-use Rattle.net_steps.proofs.Here.{Here, here}
+use Rattle.net_steps.proofs.Here.{here}
 
 -- neither end is to fail
 abbrev IsUnbroken : Session → Type 0

@@ -1,5 +1,5 @@
 -- A notice of loss is delivered: it leaves its end, which closes, and the node makes its pass.
-use Rattle.std.specs.Prelude.{◌≡◌, ◌≢◌, ◌<◌, ℕ, List, [], ◌∷◌, ◌++◌, map, length, Bool, true, false, cond, ◌==◌}
+use Rattle.std.specs.Prelude.{◌≡◌, ◌≢◌, ◌<◌, ℕ, List, [], ◌++◌, map, length, Bool, true, false, cond, ◌==◌}
 use Rattle.std.specs.List.{slice_set}
 use Rattle.std.specs.Option.{option_map, unwrap_or}
 use Rattle.std.specs.declared.option.Option.{Option}
@@ -7,14 +7,14 @@ use Rattle.std.proofs.lemmas.Bool.{true≢false}
 use Rattle.std.proofs.lemmas.List.{get_or-set_same, length-set}
 use Rattle.std.proofs.Common.{refl, sym, ◌∙◌, ap, subst, inl, inr}
 use Rattle.ov_link.specs.declared.step.Input.TheVariants as input
-use Rattle.node_model.specs.Step.{Begun, Post, begun, end_of, nothing, post}
-use Rattle.network_model.specs.Session.{End, Session, arrived, closed as closed_end, is_peering, turned, waiting}
+use Rattle.node_model.specs.Step.{Begun, Post, end_of, nothing, post}
+use Rattle.network_model.specs.Session.{Session, arrived, closed as closed_end, is_peering, turned, waiting}
 use Rattle.network_model.specs.Network.{Network}
 use Rattle.network_model.specs.Steps.{change_session, deliver, in_flight, pass}
 use Rattle.network_model.proofs.NetworkFact.{with_session_keeps}
 use Rattle.network_model.proofs.NodesFact.{arrived_nodes}
 use Rattle.network_model.proofs.SessionFact.{Down, Fact, Fact-turned, arrived_keeps}
-use Rattle.net_model.specs.Seats.{Seat, link, name_of, notice_at, role_of, seat, seat_named}
+use Rattle.net_model.specs.Seats.{Seat, link, name_of, notice_at, seat, seat_named}
 use Rattle.net_model.specs.Steps.{IsDiscarded, Takes, with_notice, with_seat}
 use Rattle.net_model.specs.Stands.{IsEnd, Seats, any_size, octets_of}
 use Rattle.net_model.specs.Taking.{closed}

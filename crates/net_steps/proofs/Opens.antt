@@ -1,22 +1,22 @@
 -- A node opens an end and makes its pass: the seats, without what it sent on sessions that are down, stand for the state
 -- after it.
 use Rattle.std.specs.Prelude.{◌≡◌, ◌≢◌, ◌<◌, ℕ, zero, suc, List, [], ◌∷◌, ◌++◌, map, length, Bool, true, false, cond}
-use Rattle.std.specs.List.{slice_index_or, slice_set}
+use Rattle.std.specs.List.{slice_index_or}
 use Rattle.std.specs.declared.option.Option.{Option}
 use Rattle.std.specs.declared.option.Option.TheVariants.{Some, None}
 use Rattle.std.proofs.lemmas.List.{get_or-set_same, length-set, set-set}
 use Rattle.std.proofs.lemmas.Option.{same_Some}
 use Rattle.std.proofs.Common.{refl, sym, ◌∙◌, ap, subst}
 use Rattle.ov_link.specs.declared.step.Input.TheVariants as input
-use Rattle.node_model.specs.Step.{Begun, Opened, Post, begun, end_of, nothing, post}
+use Rattle.node_model.specs.Step.{Begun, Opened, Post, end_of, nothing, post}
 use Rattle.network_model.specs.Setup.{Name}
-use Rattle.network_model.specs.Session.{Message, End, Session, are_peers, greeting, is_peering, opened, passed, turned}
+use Rattle.network_model.specs.Session.{Session, are_peers, greeting, is_peering, opened, passed, turned}
 use Rattle.network_model.specs.Network.{Network, view, views_of, wanted}
 use Rattle.network_model.specs.Steps.{change_session, pass, session_of}
 use Rattle.network_model.proofs.NetworkFact.{nodes_keep, opened_nodes, with_session_keeps}
 use Rattle.network_model.proofs.NodesFact.{pass_nodes}
 use Rattle.network_model.proofs.SessionFact.{map_append}
-use Rattle.net_model.specs.Seats.{Seat, link, name_of, other, others_of, role_of, seat, seat_named}
+use Rattle.net_model.specs.Seats.{Seat, link, name_of, other, role_of, seat, seat_named}
 use Rattle.net_model.specs.Steps.{Takes, with_seat}
 use Rattle.net_model.specs.Stands.{IsEnd, Seats, octets_of}
 use Rattle.net_model.specs.Taking.{greeting_of, opened as opened_by}
@@ -26,7 +26,7 @@ use Rattle.net_steps.proofs.Building.{AllBut, end_refl, moved, put_but, stored_b
 use Rattle.net_steps.proofs.Changing.{changed_right, changes_at}
 use Rattle.net_steps.proofs.Facts.{Facts, IsRight}
 use Rattle.net_steps.proofs.Here.{Here, here, place_named}
-use Rattle.net_steps.proofs.Lists.{AreAlike, same_name_at, same_named, seat_elsewhere, seat_here}
+use Rattle.net_steps.proofs.Lists.{same_name_at, same_named, seat_elsewhere, seat_here}
 use Rattle.net_steps.proofs.Members.{is_one_of}
 use Rattle.net_steps.proofs.Passing.{IsKept, IsTold, passes}
 use Rattle.net_steps.proofs.Quiet.{IsQuiet, opened_quiet, passed_quiet, quiet_turned}

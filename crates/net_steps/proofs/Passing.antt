@@ -11,7 +11,7 @@ use Rattle.ov_types.specs.First.{same_name}
 use Rattle.node_model.specs.Maps.{Change, difference}
 use Rattle.node_model.specs.Step.{Kind, Post, changes, post, told_all}
 use Rattle.network_model.specs.Setup.{Name}
-use Rattle.network_model.specs.Session.{Carries, End, Message, Session, are_peers, is_peering, may_send, passed, turned}
+use Rattle.network_model.specs.Session.{Carries, Message, Session, are_peers, is_peering, may_send, passed, turned}
 use Rattle.network_model.specs.Network.{Network, view, views_of, wanted}
 use Rattle.network_model.specs.Steps.{pass, session_of}
 use Rattle.network_model.specs.Moments.{nodes}
@@ -21,8 +21,8 @@ use Rattle.net_model.specs.Seats.{Seat, kind_of, link, name_of, other, others_of
 use Rattle.net_model.specs.Steps.{with_seat}
 use Rattle.net_model.specs.Stands.{HasEnd, IsEnd, IsLong, Seats, octets_of}
 use Rattle.net_model.specs.declared.place.Place.{Place}
-use Rattle.seat_laws.specs.Wiring.{GoesBy, IsPlace, name_at, other_at}
-use Rattle.net_steps.proofs.Building.{SameEnd, end_refl, has_end, long_again, moved, seats_by_places}
+use Rattle.seat_laws.specs.Wiring.{IsPlace, name_at, other_at}
+use Rattle.net_steps.proofs.Building.{end_refl, has_end, long_again, moved, seats_by_places}
 use Rattle.net_steps.proofs.Facts.{IsRight, Wired}
 use Rattle.net_steps.proofs.Here.{Here, here, other_named}
 use Rattle.net_steps.proofs.Lists.{AreAlike, same_place, seat_elsewhere, seat_here, with_alike}

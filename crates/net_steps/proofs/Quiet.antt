@@ -1,11 +1,10 @@
 -- On a session that is down nothing is in flight: what is sent there, a pass or an opening keep this.
-use Rattle.std.specs.Prelude.{◌≡◌, ℕ, List, [], ◌∷◌, ◌++◌, map, Bool, true, false, cond}
+use Rattle.std.specs.Prelude.{◌≡◌, ℕ, List, [], ◌∷◌, ◌++◌, map, true, false, cond}
 use Rattle.std.proofs.lemmas.Bool.{true≢false}
-use Rattle.std.proofs.Common.{refl, sym, ◌∙◌, ap, subst, inl, inr}
+use Rattle.std.proofs.Common.{refl, sym, ◌∙◌, subst, inl, inr}
 use Rattle.node_model.specs.Maps.{Map, difference}
 use Rattle.node_model.specs.Step.{Opened}
-use Rattle.network_model.specs.Setup.{Name}
-use Rattle.network_model.specs.Session.{Message, Carries, End, Session, turned, greeting, may_send, opened, passed, shut}
+use Rattle.network_model.specs.Session.{Message, Carries, Session, turned, greeting, may_send, opened, passed}
 use Rattle.network_model.specs.Session.{told, with_breaks}
 use Rattle.network_model.proofs.SessionFact.{Fact, sends, told_cases}
 

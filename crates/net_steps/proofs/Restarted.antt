@@ -1,34 +1,33 @@
 -- A node restarts: it has nothing, and the other end of each of its sessions is told of the loss.
-use Rattle.std.specs.Prelude.{◌≡◌, ◌≢◌, ◌⊎◌, ◌<◌, ◌≤◌, ℕ, zero, suc, ◌+◌, List, [], ◌∷◌, map, length, Bool, true, false, cond, not}
+use Rattle.std.specs.Prelude.{◌≡◌, ◌≢◌, ◌⊎◌, ◌<◌, ◌≤◌, ℕ, suc, ◌+◌, List, [], ◌∷◌, length, Bool, true, false, cond, not}
 use Rattle.std.specs.List.{slice_index_or}
 use Rattle.std.specs.Cmp.Lexicographic.{bytes_decides}
-use Rattle.std.specs.declared.option.Option.{Option}
-use Rattle.std.specs.declared.option.Option.TheVariants.{Some, None}
+use Rattle.std.specs.declared.option.Option.TheVariants.{Some}
 use Rattle.std.proofs.lemmas.Bool.{cases_eq, true≢false}
 use Rattle.std.proofs.lemmas.List.{length-set}
 use Rattle.std.proofs.lemmas.Option.{none-some, same_Some}
 use Rattle.std.proofs.Common.{refl, sym, ◌∙◌, ap, subst, inl, inr, arith}
 use Rattle.ov_types.specs.First.{same_name}
-use Rattle.schedule_script.specs.declared.answer.Answer.TheVariants.{Did, Idle}
-use Rattle.node_model.specs.Step.{Post, nothing, post}
+use Rattle.schedule_script.specs.declared.answer.Answer.TheVariants.{Idle}
+use Rattle.node_model.specs.Step.{nothing, post}
 use Rattle.network_model.specs.Setup.{Name}
-use Rattle.network_model.specs.Session.{Session, is_idle, shut, turned}
+use Rattle.network_model.specs.Session.{is_idle, shut, turned}
 use Rattle.network_model.specs.Network.{Network}
 use Rattle.network_model.specs.Steps.{change_node, session_of}
 use Rattle.network_model.specs.Events.{Restart, answer_to, is_node, next, unless}
 use Rattle.net_model.specs.Seats.{Seat, far_of, index_from, link, name_of, nobody, notice, seat, seat_named}
-use Rattle.net_model.specs.Steps.{all_of, emptied, with_seat}
-use Rattle.net_model.specs.Stands.{HasEnd, IsEnd, IsLong, Seats, StandsFor, any_size}
+use Rattle.net_model.specs.Steps.{emptied, with_seat}
+use Rattle.net_model.specs.Stands.{HasEnd, IsLong, Seats, any_size}
 use Rattle.net_model.specs.declared.place.Place.{Place}
 use Rattle.told_laws.specs.Moments.{IsMoment}
 use Rattle.seat_laws.specs.Wiring.{HasFar, IsPlace, name_at, other_at}
 use Rattle.net_steps.specs.Losing.{NothingIsRestarted, RestartsAreMade, all_told, restarted}
 use Rattle.net_steps.proofs.AtMoments.{moment_right}
-use Rattle.net_steps.proofs.Building.{SameEnd, end_trans, has_end, long_again, moved, seats_by_places}
+use Rattle.net_steps.proofs.Building.{SameEnd, has_end, long_again, moved, seats_by_places}
 use Rattle.net_steps.proofs.Delivered.{stands_at}
 use Rattle.net_steps.proofs.Facts.{Facts, IsRight}
 use Rattle.net_steps.proofs.Here.{Here, here, other_named, place_named}
-use Rattle.net_steps.proofs.Lists.{AreAlike, same_place, same_who, seat_elsewhere, seat_here, with_alike}
+use Rattle.net_steps.proofs.Lists.{same_place, same_who, seat_elsewhere, seat_here, with_alike}
 use Rattle.net_steps.proofs.Marks.{end_closed, end_noticed}
 use Rattle.net_steps.proofs.Sides.{node_elsewhere, node_here, node_there}
 use Rattle.net_steps.proofs.Started.{all_alike, all_long}

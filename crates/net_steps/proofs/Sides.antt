@@ -1,7 +1,6 @@
 -- The session of two nodes as each of them sees it, before and after a change of it, or of all sessions of one of them.
 use Rattle.std.specs.Prelude.{◌≡◌, ◌≢◌, List, [], ◌∷◌, map, Bool, true, false, cond}
-use Rattle.std.specs.declared.option.Option.{Option}
-use Rattle.std.specs.declared.option.Option.TheVariants.{Some, None}
+use Rattle.std.specs.declared.option.Option.TheVariants.{Some}
 use Rattle.std.specs.Option.{option_map}
 use Rattle.std.specs.Cmp.Lexicographic.{bytes_decides}
 use Rattle.std.proofs.lemmas.Bool.{true≢false, and_parts}
@@ -10,7 +9,7 @@ use Rattle.std.proofs.Common.{refl, sym, ◌∙◌, ap}
 use Rattle.network_model.specs.Setup.{Name}
 use Rattle.network_model.specs.Session.{Session, turned}
 use Rattle.network_model.specs.Network.{is_at}
-use Rattle.network_model.specs.Steps.{around, at_node, joins, session_in, with_session}
+use Rattle.network_model.specs.Steps.{at_node, joins, session_in, with_session}
 use Rattle.network_model.proofs.Deeds.{others_stay, strangers_stay}
 use Rattle.network_model.specs.Moments.{Each, nodes}
 use Rattle.network_model.proofs.NetworkFact.{KeepsNodes, found}

@@ -1,20 +1,19 @@
 -- Seats of nodes that have nothing stand for the empty state.
-use Rattle.std.specs.Prelude.{◌≡◌, ◌<◌, ℕ, zero, suc, List, [], ◌∷◌, map, length, Bool, true, false}
+use Rattle.std.specs.Prelude.{◌≡◌, ◌<◌, ℕ, zero, suc, List, [], ◌∷◌, map, length, false}
 use Rattle.std.specs.List.{slice_index_or}
-use Rattle.std.specs.declared.option.Option.TheVariants.{Some}
 use Rattle.std.proofs.lemmas.List.{length-map}
 use Rattle.std.proofs.Common.{refl, sym, ◌∙◌, ap, subst, arith}
 use Rattle.config_check.specs.Checked.{Checked}
 use Rattle.node_model.specs.Step.{Post, nothing}
 use Rattle.network_model.specs.Session.{End, Session, is_peering}
-use Rattle.network_model.specs.Network.{Network, start, fresh as fresh_end}
+use Rattle.network_model.specs.Network.{start, fresh as fresh_end}
 use Rattle.network_model.specs.Moments.{Each}
 use Rattle.network_model.proofs.NetworkFact.{found}
 use Rattle.network_model.proofs.Start.{start_each}
 use Rattle.headline_laws.specs.Headline.{IsWritten}
 use Rattle.net_model.specs.Seats.{Seat, Who, others_of, seat, whos}
 use Rattle.net_model.specs.Steps.{all_of}
-use Rattle.net_model.specs.Stands.{HasEnd, IsEnd, IsLong, Seats, any_size, octets_of}
+use Rattle.net_model.specs.Stands.{HasEnd, IsEnd, IsLong, Seats, octets_of}
 use Rattle.net_model.specs.declared.place.Place.{Place}
 use Rattle.told_laws.specs.Moments.{HasSubnets, IsMoment}
 use Rattle.seat_laws.specs.Wiring.{IsPlace, name_at, other_at}

@@ -1,20 +1,18 @@
 -- A step of a node over its links is a change of the end of its input, and then a pass. What it sent on sessions that are
 -- down is what is discarded.
-use Rattle.std.specs.Prelude.{◌≡◌, ◌≢◌, ◌⊎◌, ◌<◌, ℕ, List, [], ◌++◌, map, length, Bool, true, false, not, ◌&&◌, ◌==◌, cond}
+use Rattle.std.specs.Prelude.{◌≡◌, ◌≢◌, ◌⊎◌, ◌<◌, ℕ, List, [], ◌++◌, length, Bool, true, false, not, ◌&&◌, ◌==◌, cond}
 use Rattle.std.specs.List.{slice_index_or, slice_set}
-use Rattle.std.specs.declared.option.Option.{Option}
-use Rattle.std.specs.declared.option.Option.TheVariants.{Some, None}
 use Rattle.std.proofs.lemmas.Option.{same_Some}
 use Rattle.std.proofs.lemmas.Bool.{cases_eq, eq-eqb, ne_eqb}
 use Rattle.std.proofs.lemmas.List.{append_assoc, append-nil, get_or-set_other, get_or-set_same, length-set}
 use Rattle.std.proofs.Common.{refl, sym, ◌∙◌, ap, subst, inl, inr}
-use Rattle.node_model.specs.Step.{Begun, Post, begun, changes, end_of, post, told_all}
+use Rattle.node_model.specs.Step.{Begun, begun, changes, end_of, post}
 use Rattle.network_model.specs.Session.{Session, is_idle, turned}
 use Rattle.network_model.specs.Network.{Network}
 use Rattle.network_model.specs.Steps.{session_of}
 use Rattle.network_model.specs.Moments.{Each}
 use Rattle.network_model.proofs.NetworkFact.{found}
-use Rattle.net_model.specs.Seats.{Seat, far_of, is_down_at, kind_of, link, notice, notice_at, live_at, name_of, other, others_of, seat, whole_at, whole_there}
+use Rattle.net_model.specs.Seats.{Seat, is_down_at, kind_of, link, notice, name_of, others_of, seat, whole_at, whole_there}
 use Rattle.net_model.specs.Steps.{IsDiscarded, IsStepped}
 use Rattle.net_model.specs.Stands.{IsDownWhere, IsEnd, Seats, is_whole_end}
 use Rattle.net_model.specs.declared.place.Place.{Place}

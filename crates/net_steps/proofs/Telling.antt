@@ -2,11 +2,10 @@
 -- live and nothing in flight, and all other ends stay.
 use Rattle.std.specs.Prelude.{◌≡◌, ◌≢◌, ◌⊎◌, ◌<◌, ◌≤◌, ℕ, zero, suc, ◌+◌, List, [], length, false, not}
 use Rattle.std.specs.List.{slice_index_or}
-use Rattle.std.specs.declared.option.Option.TheVariants.{Some}
 use Rattle.std.proofs.lemmas.Bool.{cases_eq}
 use Rattle.std.proofs.lemmas.Option.{same_Some}
 use Rattle.std.proofs.Common.{refl, sym, ◌∙◌, ap, subst, inl, inr, arith}
-use Rattle.node_model.specs.Step.{Post, post}
+use Rattle.node_model.specs.Step.{post}
 use Rattle.network_model.specs.Session.{is_idle}
 use Rattle.net_model.specs.Seats.{Seat, far_of, link_at, live_at, notice_at, others_of, seat}
 use Rattle.net_model.specs.Steps.{with_link, with_notice}

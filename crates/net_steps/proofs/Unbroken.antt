@@ -1,12 +1,10 @@
 -- What the steps of a session make of it, where no break is pending at the near end.
-use Rattle.std.specs.Prelude.{◌≡◌, ℕ, List, [], ◌∷◌, ◌++◌, map, Bool, true, false, cond}
-use Rattle.std.specs.declared.option.Option.{Option}
-use Rattle.std.specs.declared.option.Option.TheVariants.{Some, None}
-use Rattle.std.specs.FinMap.{empty}
+use Rattle.std.specs.Prelude.{◌≡◌, List, [], ◌∷◌, ◌++◌, map, Bool, true, false, cond}
+use Rattle.std.specs.declared.option.Option.TheVariants.{Some}
 use Rattle.std.proofs.lemmas.Bool.{true≢false}
 use Rattle.std.proofs.lemmas.Option.{none-some, same_Some}
 use Rattle.std.proofs.Common.{refl, sym, ◌∙◌, ap, subst}
-use Rattle.node_model.specs.Maps.{Map, Change, difference}
+use Rattle.node_model.specs.Maps.{Map, difference}
 use Rattle.node_model.specs.Step.{Phase, Idle, Opened, Confirmed, Up}
 use Rattle.network_model.specs.Session.{Message, Open, Keepalive, Hello, Carries, End, Session, closed, is_idle, is_peering}
 use Rattle.network_model.specs.Session.{may_send, told, passed, greeting, opened, with_phase, peer_took, item_took, took}

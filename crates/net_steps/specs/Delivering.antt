@@ -1,7 +1,7 @@
 -- What the deliveries of single messages and notices make of the state for which seats stand.
 use Rattle.std.specs.Prelude.{◌≡◌, ◌⊎◌, ℕ, List, [], ◌∷◌, true, false}
 use Rattle.std.specs.Borrow.{Bor}
-use Rattle.std.specs.declared.option.Option.TheVariants.{Some, None}
+use Rattle.std.specs.declared.option.Option.TheVariants.{None}
 use Rattle.ov_link.specs.declared.step.Input.{Input}
 use Rattle.ov_link.specs.declared.step.Input.TheVariants.{Bytes, Closed}
 use Rattle.network_model.specs.Setup.{Name}

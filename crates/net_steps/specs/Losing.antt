@@ -1,11 +1,11 @@
 -- What the loss of a session and the restart of a node make of the state for which seats stand.
-use Rattle.std.specs.Prelude.{◌≡◌, ◌<◌, ℕ, zero, suc, ◌+◌, List, [], length, true, false}
+use Rattle.std.specs.Prelude.{◌≡◌, ℕ, zero, suc, ◌+◌, List, [], length, true, false}
 use Rattle.std.specs.declared.option.Option.{Option}
 use Rattle.std.specs.declared.option.Option.TheVariants.{Some, None}
 use Rattle.schedule_script.specs.declared.answer.Answer.TheVariants.{Did, Idle}
 use Rattle.network_model.specs.Setup.{Name}
 use Rattle.network_model.specs.Network.{Network}
-use Rattle.network_model.specs.Events.{Lose, Restart, answer_to, is_node, next}
+use Rattle.network_model.specs.Events.{Lose, Restart, answer_to, next}
 use Rattle.net_model.specs.Seats.{Seat, far_of, is_down_at, live_at, place_of, seat, seat_named}
 use Rattle.net_model.specs.Steps.{emptied, with_link, with_notice, with_seat}
 use Rattle.net_model.specs.Stands.{StandsFor, any_size}

@@ -1,5 +1,5 @@
 -- The seats of nodes that have nothing of each other.
-use Rattle.std.specs.Prelude.{List, [], map, false}
+use Rattle.std.specs.Prelude.{[], map, false}
 use Rattle.config_check.specs.Checked.{Checked}
 use Rattle.node_model.specs.Step.{nothing}
 use Rattle.network_model.specs.Network.{start}
