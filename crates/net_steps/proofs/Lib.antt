@@ -31,4 +31,5 @@ pub mod MachineTells
 pub mod Spelled
 pub mod OneState
 pub mod NoBreaks
+pub mod Closed
 pub mod Given

@@ -1,5 +1,5 @@
 -- What is asked of a place in a network, and what the session there says of it.
-use Rattle.std.specs.Prelude.{◌≡◌, ℕ, List, length, Bool, not, ◌&&◌, ◌==◌, if◌then◌else◌}
+use Rattle.std.specs.Prelude.{◌≡◌, ℕ, List, [], length, Bool, false, not, ◌&&◌, ◌==◌, if◌then◌else◌}
 use Rattle.std.specs.declared.option.Option.TheVariants.{Some, None}
 use Rattle.network_model.specs.Setup.{Name}
 use Rattle.network_model.specs.Session.{Session, is_live, is_up, turned, waiting}
@@ -48,3 +48,16 @@ abbrev pub NoPlaceIsNoSession : Type 0
 NoPlaceIsNoSession =
     (seats : List Seat) (w : Network) → IsMoment w → StandsFor seats w → (a b : Name)
     → place_of seats a b ≡ None → session_of w a b ≡ None
+
+-- at an end that is not live no notice waits, and nothing is in flight on its session
+abbrev pub NothingWaitsAtClosedEnds : Type 0
+NothingWaitsAtClosedEnds =
+    (seats : List Seat) (w : Network) → IsMoment w → StandsFor seats w → (a b : Name) (p far : Place)
+    → AreAt seats a b p far → live_at seats p ≡ false
+    → (notice_at seats p ≡ false) × (link_at seats far ≡ []) × (link_at seats p ≡ [])
+
+-- a session may be connected exactly where neither end is live
+abbrev pub ClosedSessionsMayConnect : Type 0
+ClosedSessionsMayConnect =
+    (seats : List Seat) (w : Network) → IsMoment w → StandsFor seats w → (a b : Name) (p far : Place)
+    → AreAt seats a b p far → may_connect_at seats p far ≡ (not (live_at seats p) && not (live_at seats far))

@@ -16,8 +16,8 @@ use Rattle.told_laws.specs.Moments.{IsMoment, IsOfTypedForm}
 -- an edit without a fault is made, and what the configuration node sent on sessions that are down is discarded
 abbrev pub EditsAreMade : Type 0
 EditsAreMade =
-    (seats : List Seat) (w : Network) → IsMoment w → StandsFor seats w → (e : Edit) → EditIsValid IsOfTypedForm w (Edits e)
-    → edit_fault w.setup e ≡ None → (made : List Seat) → MakesEdit seats w.setup e None made
+    (seats : List Seat) (w : Network) → IsMoment w → StandsFor seats w → (e : Edit)
+    → EditIsValid IsOfTypedForm w (Edits e) → edit_fault w.setup e ≡ None → (made : List Seat) → MakesEdit seats w.setup e None made
     → (left : Seat) → IsDiscarded made 0 left
     → StandsFor (with_seat 0 left made) (next any_size w (Edits e)) × IsMoment (next any_size w (Edits e))
     × (answer_to w (Edits e) ≡ Did)

@@ -1,7 +1,8 @@
 //! What the steps of nodes make of the state for which the seats of a network stand: laws alone.
 #![tactic(auto)]
 
-ghost use Rattle.net_steps.specs.Asking.{NoPlaceIsNoSession, PlacesSayWhatSessionsAre};
+ghost use Rattle.net_steps.specs.Asking.{ClosedSessionsMayConnect, NoPlaceIsNoSession, NothingWaitsAtClosedEnds};
+ghost use Rattle.net_steps.specs.Asking.{PlacesSayWhatSessionsAre};
 ghost use Rattle.net_steps.specs.Connecting.{ConnectionsAreMade, EarlierConnectionsAreEvents, NearIsEarlier};
 ghost use Rattle.net_steps.specs.Connecting.{NothingIsConnected};
 ghost use Rattle.net_steps.specs.Delivering.{MessagesAreDelivered, NothingIsDelivered, NoticesAreDelivered};
@@ -12,10 +13,13 @@ ghost use Rattle.net_steps.specs.Starting.{FreshSeatsStandForTheStart};
 ghost use Rattle.net_steps.specs.Unbroken.{NoBreaksArePending};
 
 /// The session of two nodes stands at the place of their names: both of its ends say how far it is, whether a notice
-/// waits, how many messages are in flight, and whether it is down, may be connected and is at rest.
+/// waits, how many messages are in flight, and whether it is down, may be connected and is at rest. Nothing waits at an
+/// end that is not live, and a session may be connected exactly where neither end is live.
 pub fn places_say_what_sessions_are()
     ensures said { PlacesSayWhatSessionsAre }
     ensures none { NoPlaceIsNoSession }
+    ensures closed { NothingWaitsAtClosedEnds }
+    ensures connects { ClosedSessionsMayConnect }
 {}
 
 /// A node that takes the first message, or the notice of loss, that waits at a place of it, makes of the seats those of
@@ -47,7 +51,8 @@ pub fn edits_are_made()
 {}
 
 /// A session that may connect is connected where its one end opens and then the other, and what both nodes sent on
-/// sessions that are down is discarded.
+/// sessions that are down is discarded. From the earlier node of a session to the later one this is an event, and the
+/// near node of each session is the earlier one.
 pub fn connections_are_made()
     ensures made { ConnectionsAreMade }
     ensures nothing { NothingIsConnected }
