@@ -33,7 +33,7 @@ EditsOver links links' n n' x e (Some f) = (n' ≡ n) × (links' ≡ links)
 EditsOver links links' n n' x e None =
     (y : Checked) × (edited x e ≡ Some y)
     × ((notices : List Bool) → IsStepped (record (seated n links notices) { who = Configuring y })
-        (seated n' links' notices) 0 (as_it_is (seated n links notices)))
+    (seated n' links' notices) 0 (as_it_is (seated n links notices)))
 
 -- a node with nothing
 abbrev pub emptied_inner : Inner → Inner

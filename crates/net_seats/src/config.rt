@@ -12,7 +12,7 @@ use crate::stub::ConfigNode;
 use config_check::EditFault;
 use config_model::Edit;
 use ov_link::{Input, Links, QueueLink};
-use ov_types::{NoMemory};
+use ov_types::NoMemory;
 
 /// Whether the end of a session is not idle.
 pub(crate) fn is_live(node: &ConfigNode, session: u16) -> bool
@@ -63,7 +63,6 @@ pub(crate) fn edit(
     links: &mut Links<QueueLink>,
 ) -> Result<Option<EditFault>, NoMemory>
     requires form { IsTrue (has_edit_form edit.now) }
-    requires some { 0 < length (others_of (configured node.old).who) }
     requires long { length node.old.posts ≡ length (others_of (configured node.old).who) }
     requires linked { length links.old ≡ length (others_of (configured node.old).who) }
     ensures topology { node.new.setup.topology ≡ node.old.setup.topology }
@@ -73,6 +72,7 @@ pub(crate) fn edit(
         node.old.setup edit.now fault) }
     ensures fault { IfOk result (λ fault. fault ≡ edit_fault node.old.setup edit.now) }
 {
+    let _valid = node.valid();
     match node.edit(edit, links) {
         Ok(fault) => Ok(fault),
         Err(_) => {

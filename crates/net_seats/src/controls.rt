@@ -55,7 +55,7 @@ pub(crate) fn take(
 /// Loses all that the node has.
 pub(crate) fn restart(node: &mut ControlNode)
     requires { length node.old.posts ≡ length (others_of (controlled node.old).who) }
-    ensures emptied { controlled node.new ≡ emptied_inner (controlled node.old) }
+    ensures { controlled node.new ≡ emptied_inner (controlled node.old) }
 {
     node.restart();
 }

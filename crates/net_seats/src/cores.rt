@@ -9,11 +9,9 @@ ghost use Rattle.net_model.specs.Seats.{Configuring, is_up, others_of};
 ghost use Rattle.net_seats.specs.Changes.{ChangesOne, EditsOver, TakesOver, emptied_inner, forwarders, shown};
 ghost use Rattle.net_seats.specs.Halves.{inner, live, seated};
 
-use crate::agents;
-use crate::config;
-use crate::controls;
 use crate::kinds::{Kind, kind_of};
 use crate::stub::ConfigNode;
+use crate::{agents, config, controls};
 use agent_node::AgentNode;
 use config_check::{EditFault, Valid};
 use config_model::Edit;
@@ -118,7 +116,8 @@ impl Cores {
 
     /// The configuration that is valid now.
     pub(crate) fn valid(&self) -> &Valid
-        ensures { (inner self.now 0).who ≡ Configuring result.now }
+        ensures who { (inner self.now 0).who ≡ Configuring result.now }
+        ensures some { 0 < length self.now }
     {
         self.config.valid()
     }
@@ -130,7 +129,6 @@ impl Cores {
         links: &mut Links<QueueLink>,
     ) -> Result<Option<EditFault>, NoMemory>
         requires form { IsTrue (has_edit_form edit.now) }
-        requires some { 0 < length (others_of (inner self.old 0).who) }
         requires long { length (inner self.old 0).posts ≡ length (others_of (inner self.old 0).who) }
         requires linked { length links.old ≡ length (others_of (inner self.old 0).who) }
         ensures one { ChangesOne 0 self.old self.new }

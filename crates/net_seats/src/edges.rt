@@ -3,6 +3,7 @@ ghost use Rattle.std.specs.Prelude.{◌≡◌, ◌<◌, ◌^◌, [], drop, false
 ghost use Rattle.ov_types.specs.First.{same_name};
 ghost use Rattle.net_model.specs.Seats.{index_from};
 ghost use Rattle.net_model.specs.Steps.{all_of};
+ghost use Rattle.net_seats.specs.Halves.{IsEven};
 
 use crate::finding::index_of;
 use bytes::Bytes;
@@ -38,8 +39,12 @@ impl Edge {
     /// The ends of sessions with these nodes: nothing left them, and no notice waits.
     pub(crate) fn new(alloc: Global, name: Name, others: Items<Name>) -> Result<Edge, NoMemory>
         requires { length others < 2 ^ 16 }
-        ensures { IfOk result (λ edge. edge ≡ record { name = name; others = others; links = all_of [] others;
-            notices = all_of false others }) }
+        ensures { IfOk result (λ edge. edge ≡ record {
+          name = name;
+          others = others;
+          links = all_of [] others;
+          notices = all_of false others;
+        }) }
     {
         let mut links = Links::new(alloc);
         let mut notices = Vec::new(alloc);
@@ -63,7 +68,8 @@ impl Edge {
 
     /// How many sessions there are.
     pub(crate) fn sessions(&self) -> u16
-        ensures { result ≡ length self.now.others }
+        ensures sessions { result ≡ length self.now.others }
+        ensures even { IsEven self.now }
     {
         self.links.len()
     }
@@ -111,8 +117,10 @@ impl Edge {
     pub(crate) fn pop(&mut self, session: u16) -> Option<Bytes>
         requires { session < length self.old.others }
         ensures first { result ≡ slice_get (slice_index_or self.old.links session []) 0 }
-        ensures rest { self.new ≡ record self.old { links = slice_set self.old.links session
-            (drop 1 (slice_index_or self.old.links session [])) } }
+        ensures rest { self.new ≡ record self.old {
+          links = slice_set self.old.links session
+              (drop 1 (slice_index_or self.old.links session []));
+        } }
     {
         self.links.get_mut(session).pop()
     }

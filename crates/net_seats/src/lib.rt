@@ -12,7 +12,5 @@ mod making;
 mod nodes;
 mod plans;
 mod stub;
-#[cfg(test)]
-mod tests;
 
 pub use nodes::Nodes;

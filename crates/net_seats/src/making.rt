@@ -56,7 +56,7 @@ fn add_control(
 {
     let plan = control_plan(alloc, topology, controller)?;
     let others = others_of_control(alloc, config_name(), &plan)?;
-    let edge = Edge::new(alloc, plan.me.name, others)?;
+    let edge = Edge::new(alloc, controller.name, others)?;
     let control = ControlNode::new(alloc, plan)?;
     controls.push(control)?;
     edges.push(edge)?;
@@ -100,7 +100,7 @@ fn add_agent(
 {
     let plan = agent_plan(alloc, topology, node)?;
     let others = others_of_agent(alloc, &plan)?;
-    let edge = Edge::new(alloc, plan.me.name, others)?;
+    let edge = Edge::new(alloc, node.name, others)?;
     let agent = AgentNode::new(alloc, plan)?;
     let _failed = agent.failed();
     agents.push(agent)?;

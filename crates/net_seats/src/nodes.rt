@@ -71,6 +71,7 @@ fn edit_at(
     ensures fault { IfOk result (λ fault. (x : Checked) → (seat (joined cores.old edges.old) 0).who ≡ Configuring x
         → fault ≡ edit_fault x edit.now) }
 {
+    let _valid = cores.valid();
     let edge = &mut edges[0];
     cores.edit(edit, &mut edge.links)
 }

@@ -26,7 +26,10 @@ fn id_of(node: &Node) -> NodeId
 fn lists(node: &Node, controller: &NodeId) -> bool
     ensures { result ≡ lists node.now controller.now }
 {
-    node.controllers.as_slice().iter().any(|name| controller.name == *name)
+    node.controllers
+        .as_slice()
+        .iter()
+        .any(|name| controller.name == *name)
 }
 
 /// The other control nodes.

@@ -1,6 +1,5 @@
 //! The configuration node, until it is there.
-ghost use Rattle.std.specs.Prelude.{◌≡◌, ◌≢◌, ◌<◌, ◌↔◌, length, not, true, false, IfOk, IsTrue};
-ghost use Rattle.std.specs.declared.option.Option.{Option};
+ghost use Rattle.std.specs.Prelude.{◌≡◌, ◌≢◌, ◌<◌, length, not, true, false, None, IfOk, IfSome, IsTrue};
 ghost use Rattle.config_check.specs.Edits.{edit_fault};
 ghost use Rattle.config_model.specs.Edit.{has_edit_form};
 ghost use Rattle.config_model.specs.Form.{has_topology_form, has_config_form};
@@ -10,7 +9,7 @@ ghost use Rattle.node_core.specs.Whole.{Comes, IsWholeStep, session_of};
 ghost use Rattle.node_model.specs.Step.{post};
 ghost use Rattle.config_node.specs.Core.{fresh, is_idle, kind, sessions};
 ghost use Rattle.config_node.specs.Beginning.{Begins};
-ghost use Rattle.net_seats.specs.Stub.{Edits};
+ghost use Rattle.net_seats.specs.Stub.{IsEdited, failed_link, fault_in};
 
 use config_check::{EditFault, Valid};
 use config_model::Edit;
@@ -48,6 +47,7 @@ impl ConfigNode {
         requires { session < sessions self.now.setup }
         ensures { result ≡ not (is_idle (post self.now.posts session).phase) }
     {
+        let _valid = &self.valid;
         false
     }
 
@@ -55,18 +55,25 @@ impl ConfigNode {
         requires { session < sessions self.now.setup }
         ensures { result ≡ is_up_phase (post self.now.posts session).phase }
     {
+        let _valid = &self.valid;
         false
     }
 
     pub(crate) fn valid(&self) -> &Valid
-        ensures { result.now ≡ self.now.setup }
+        ensures setup { result.now ≡ self.now.setup }
+        ensures topology_form { IsTrue (has_topology_form self.now.setup.topology) }
+        ensures config_form { IsTrue (has_config_form self.now.setup.config) }
+        ensures valid { first_broken self.now.setup.topology self.now.setup.config ≡ None }
     {
+        let _topology = self.valid.topology();
         &self.valid
     }
 
     pub(crate) fn restart(&mut self)
         ensures { self.new ≡ fresh self.old.setup }
-    {}
+    {
+        let _valid = &self.valid;
+    }
 
     pub(crate) fn step<L: Link>(
         &mut self,
@@ -96,8 +103,12 @@ impl ConfigNode {
         requires linked { length links.old ≡ sessions self.old.setup }
         ensures topology { self.new.setup.topology ≡ self.old.setup.topology }
         ensures links { length links.new ≡ length links.old }
-        ensures edits { result ≢ Err NodeFault.NoMemory
-            → Edits L.accepted L.breaks L.faults self.old self.new edit.now links.old links.new result }
+        ensures fault { result ≢ Err NodeFault.NoMemory → fault_in result ≡ edit_fault self.old.setup edit.now }
+        ensures refused { result ≢ Err NodeFault.NoMemory → IfSome (edit_fault self.old.setup edit.now)
+            (λ _. (self.new ≡ self.old) × (links.new ≡ links.old)) }
+        ensures made { result ≢ Err NodeFault.NoMemory → edit_fault self.old.setup edit.now ≡ None
+            → IsEdited L.accepted L.breaks L.faults self.old.setup self.new.setup edit.now self.old.posts self.new.posts
+            links.old links.new (failed_link result) }
     {
         Err(NodeFault::NoMemory)
     }

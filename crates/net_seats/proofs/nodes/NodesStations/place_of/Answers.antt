@@ -1,0 +1,26 @@
+use Rattle.std.proofs.Common.{rules, ◌≡◌, ◌≢◌, ◌<◌, ◌≤◌, ◌^◌, [], drop, ℕ, List, true, false, length, map, slice_get, slice_index_or, slice_set, IfOk, IsTrue, ◌+◌, ◌-◌, ◌*◌, ◌/◌, ◌%◌, Bool, nat_eq, nat_lt, ◌∷◌, ◌++◌, bit_and, bit_or, Fits, w8, w32, w64, Bor, MutBor}
+use Rattle.config_check.specs.Checked.{Checked}
+use Rattle.config_check.specs.Edits.{edit_fault}
+use Rattle.config_model.specs.Edit.{has_edit_form}
+use Rattle.node_core.specs.Whole.{Comes, session_of}
+use Rattle.net_model.specs.Seats.{Configuring, Seat, is_live, seat, whos}
+use Rattle.net_model.specs.Steps.{MakesEdit, Takes, emptied, with_seat}
+use Rattle.net_seats.specs.Fresh.{fresh_seat}
+use Rattle.net_seats.specs.Halves.{AreAllHalves, joined}
+use Rattle.net_seats.proofs.nodes.NodesStations.place_of.Goals as goal
+
+-- src/nodes.rt:145:33
+pub index-requires : goal.index-requires
+index-requires c = ?
+
+-- src/nodes.rt:142:5
+pub returns-in-None : goal.returns-in-None
+returns-in-None c = ?
+
+-- src/nodes.rt:142:5
+pub returns-in-None-session_with : goal.returns-in-None-session_with
+returns-in-None-session_with c = ?
+
+-- src/nodes.rt:142:5
+pub returns-in-Some-session_with : goal.returns-in-Some-session_with
+returns-in-Some-session_with c = ?
