@@ -33,6 +33,16 @@ later {A} is xs k x lt at fails =
 pub none_left : {A : Type 0} (is : A → Bool) (xs : List A) (k : ℕ) → length xs ≤ k → index_from k is (drop k xs) ≡ None
 none_left {A} is xs k all = ap (λ (ys : List A). index_from k is ys) (drop_all xs k all)
 
+-- it is among them
+pub found_below : {A : Type 0} (is : A → Bool) (xs : List A) (k i : ℕ) → index_from k is xs ≡ Some i → i < k + length xs
+found_below is [] k i e = absurd (let none : None ≡ Some i = e in cc)
+found_below {A} is (x ∷ xs) k i e = by_test (is x) e (found_below is xs (suc k) i)
+  where
+    by_test : (b : Bool) → (if b then Some k else index_from (suc k) is xs) ≡ Some i
+        → (index_from (suc k) is xs ≡ Some i → i < suc k + length xs) → i < k + length (x ∷ xs)
+    by_test true h rest = let same : k ≡ i = cc in omega arith
+    by_test false h rest = let later : i < suc k + length xs = rest h in omega arith
+
 -- ---- itself
 pub found_here : {A : Type 0} (is : A → Bool) (xs : List A) (k : ℕ) (x : A) → k < length xs → x ≡ get_or xs k x → is x ≡ true
     → find is (drop k xs) ≡ Some x

@@ -10,3 +10,4 @@ pub mod Emptied
 pub mod Standing
 pub mod SetUp
 pub mod Closed
+pub mod Made

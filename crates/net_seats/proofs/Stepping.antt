@@ -56,23 +56,23 @@ pub sessions_of_agent : (plan : AgentPlan) → length (others_of (Forwarding pla
 sessions_of_agent plan = named plan.controllers
 
 -- ---- a node with nothing
-nothing_config : (n : ℕ) (posts : List Post) → length posts ≡ n → configuration.nothings n ≡ all_of nothing posts
+pub nothing_config : {A : Type 0} (n : ℕ) (xs : List A) → length xs ≡ n → configuration.nothings n ≡ all_of nothing xs
 nothing_config zero [] h = refl
-nothing_config zero (p ∷ posts) h = absurd (omega arith)
+nothing_config zero (x ∷ xs) h = absurd (omega arith)
 nothing_config (suc n) [] h = absurd (omega arith)
-nothing_config (suc n) (p ∷ posts) h = ap (λ (ps : List Post). nothing ∷ ps) (nothing_config n posts (omega arith))
+nothing_config (suc n) (x ∷ xs) h = ap (λ (ps : List Post). nothing ∷ ps) (nothing_config n xs (omega arith))
 
-nothing_control : (n : ℕ) (posts : List Post) → length posts ≡ n → control.nothings n ≡ all_of nothing posts
+pub nothing_control : {A : Type 0} (n : ℕ) (xs : List A) → length xs ≡ n → control.nothings n ≡ all_of nothing xs
 nothing_control zero [] h = refl
-nothing_control zero (p ∷ posts) h = absurd (omega arith)
+nothing_control zero (x ∷ xs) h = absurd (omega arith)
 nothing_control (suc n) [] h = absurd (omega arith)
-nothing_control (suc n) (p ∷ posts) h = ap (λ (ps : List Post). nothing ∷ ps) (nothing_control n posts (omega arith))
+nothing_control (suc n) (x ∷ xs) h = ap (λ (ps : List Post). nothing ∷ ps) (nothing_control n xs (omega arith))
 
-nothing_agent : (n : ℕ) (posts : List Post) → length posts ≡ n → agent.nothings n ≡ all_of nothing posts
+pub nothing_agent : {A : Type 0} (n : ℕ) (xs : List A) → length xs ≡ n → agent.nothings n ≡ all_of nothing xs
 nothing_agent zero [] h = refl
-nothing_agent zero (p ∷ posts) h = absurd (omega arith)
+nothing_agent zero (x ∷ xs) h = absurd (omega arith)
 nothing_agent (suc n) [] h = absurd (omega arith)
-nothing_agent (suc n) (p ∷ posts) h = ap (λ (ps : List Post). nothing ∷ ps) (nothing_agent n posts (omega arith))
+nothing_agent (suc n) (x ∷ xs) h = ap (λ (ps : List Post). nothing ∷ ps) (nothing_agent n xs (omega arith))
 
 pub as_long : {A B : Type 0} (b : B) (xs : List A) → length (all_of b xs) ≡ length xs
 as_long b [] = refl

@@ -1,14 +1,11 @@
-use Rattle.std.proofs.Common.{rules, ◌≡◌, ◌≢◌, ◌≤◌, ◌∷◌, [], ◌++◌, length, map, IfOk, ℕ, ◌+◌, ◌-◌, ◌*◌, ◌<◌, ◌/◌, ◌%◌, Bool, true, false, nat_eq, nat_lt, List, slice_index_or, slice_set, bit_and, bit_or, Fits, w8, w32, w64, Bor, MutBor}
-use Rattle.std.specs.List.{All, Contains}
-use Rattle.config_check.specs.Rules.{controller_names}
-use Rattle.agent_node.specs.Core.{fresh as fresh_agent}
-use Rattle.control_node.specs.Core.{fresh as fresh_control}
-use Rattle.network_model.specs.Network.{config}
-use Rattle.net_model.specs.Seats.{Configuring, Controlling, Forwarding, agent_plan, control_plan}
-use Rattle.net_seats.specs.Cores.{IsRight}
-use Rattle.net_seats.specs.Fresh.{IsSetUp, fresh_outer}
+use Rattle.std.proofs.Common.{ap, length, ◌≡◌, ◌∙◌, arith, List}
+use Rattle.control_node.specs.declared.plan.ControlPlan.{ControlPlan}
+use Rattle.net_model.specs.Seats.{Controlling, control_plan, others_of}
+use Rattle.net_seats.proofs.Made.{few_others}
 use Rattle.net_seats.proofs.making.add_control.Goals as goal
 
--- src/making.rt:59:16
 pub new-requires : goal.new-requires
-new-requires c = ?
+new-requires c =
+    let long : length c.in_ok-others.others ≡ length (others_of (Controlling (control_plan c.args.topology.now c.args.controller.now))) =
+      ap length c.in_ok-others.ensures ∙ ap (λ (p : ControlPlan). length (others_of (Controlling p))) c.in_ok-plan.ensures in
+    omega (arith, few_others c.args.topology.now c.args.controller.now c.requires.set_up.controllers c.requires.set_up.nodes)

@@ -1,26 +1,35 @@
-use Rattle.std.proofs.Common.{rules, ◌≡◌, ◌≢◌, ◌≤◌, ◌∷◌, [], ◌++◌, length, map, IfOk, ℕ, ◌+◌, ◌-◌, ◌*◌, ◌<◌, ◌/◌, ◌%◌, Bool, true, false, nat_eq, nat_lt, List, slice_index_or, slice_set, bit_and, bit_or, Fits, w8, w32, w64, Bor, MutBor}
+use Rattle.std.proofs.Common.{ap, subst, sym, ◌<◌, ◌≤◌, ◌≡◌, ◌++◌, ◌∙◌, [], List, get_or, length, map, refl, arith}
+use Rattle.std.proofs.lemmas.List.{append-nil}
 use Rattle.std.specs.List.{All, Contains}
 use Rattle.config_check.specs.Rules.{controller_names}
-use Rattle.agent_node.specs.Core.{fresh as fresh_agent}
-use Rattle.control_node.specs.Core.{fresh as fresh_control}
-use Rattle.network_model.specs.Network.{config}
-use Rattle.net_model.specs.Seats.{Configuring, Controlling, Forwarding, agent_plan, control_plan}
+use Rattle.ov_types.specs.declared.rows.NodeId.{NodeId}
+use Rattle.control_node.specs.Core.{Core, fresh}
+use Rattle.net_model.specs.Seats.{Controlling, control_plan}
 use Rattle.net_seats.specs.Cores.{IsRight}
-use Rattle.net_seats.specs.Fresh.{IsSetUp, fresh_outer}
+use Rattle.net_seats.specs.Fresh.{fresh_outer}
+use Rattle.net_seats.specs.Halves.{Outer}
+use Rattle.net_seats.proofs.Made.{all_right}
+use Rattle.net_seats.proofs.Pushed.{all_pushed, pushed}
 use Rattle.net_seats.proofs.making.add_controls.Goals as goal
 
--- src/making.rt:79:5
 pub loop-controller-init : goal.loop-controller-init
-loop-controller-init c = ?
+loop-controller-init c = record {
+  made = c.new-controls.ensures.items;
+  edges = sym (append-nil c.args.edges.now.items);
+}
 
--- src/making.rt:79:5
 pub loop-controller-preserved : goal.loop-controller-preserved
-loop-controller-preserved c = ?
+loop-controller-preserved c = record {
+  made = pushed (λ (x : NodeId). fresh (control_plan c.args.topology.now x)) [] c.loop-controller.controls.items c.add_control.new.controls.items c.as_slice-controller-items.result.now c.loop-controller.controller-index c.controller-item.result (fresh (control_plan c.args.topology.now c.controller-item.result)) c.loop-controller.invariant.made c.in_ok-add_control.ensures.control refl c.controller-item.is c.loop-controller-test.true;
+  edges = pushed (λ (x : NodeId). fresh_outer (Controlling (control_plan c.args.topology.now x))) c.args.edges.now.items c.loop-controller.edges.items c.add_control.new.edges.items c.as_slice-controller-items.result.now c.loop-controller.controller-index c.controller-item.result (fresh_outer (Controlling (control_plan c.args.topology.now c.controller-item.result))) c.loop-controller.invariant.edges c.in_ok-add_control.ensures.edge refl c.controller-item.is c.loop-controller-test.true;
+}
 
--- src/making.rt:67:1
 pub returns-clause-controls : goal.returns-clause-controls
-returns-clause-controls c = ?
+returns-clause-controls c =
+    let all : length c.as_slice-controller-items.result.now ≤ c.loop-controller.controller-index = omega arith in
+    all_pushed (λ (x : NodeId). fresh (control_plan c.args.topology.now x)) [] c.loop-controller.controls.items c.as_slice-controller-items.result.now c.loop-controller.controller-index c.loop-controller.invariant.made all ∙ ap (λ (xs : List NodeId). map (λ (x : NodeId). fresh (control_plan c.args.topology.now x)) xs) c.as_slice-controller-items.ensures
 
--- src/making.rt:67:1
 pub returns-clause-edges : goal.returns-clause-edges
-returns-clause-edges c = ?
+returns-clause-edges c =
+    let all : length c.as_slice-controller-items.result.now ≤ c.loop-controller.controller-index = omega arith in
+    all_pushed (λ (x : NodeId). fresh_outer (Controlling (control_plan c.args.topology.now x))) c.args.edges.now.items c.loop-controller.edges.items c.as_slice-controller-items.result.now c.loop-controller.controller-index c.loop-controller.invariant.edges all ∙ ap (λ (xs : List NodeId). c.args.edges.now.items ++ map (λ (x : NodeId). fresh_outer (Controlling (control_plan c.args.topology.now x))) xs) c.as_slice-controller-items.ensures

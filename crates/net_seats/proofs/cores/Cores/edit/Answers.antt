@@ -1,4 +1,4 @@
-use Rattle.std.proofs.Common.{ap, sym}
+use Rattle.std.proofs.Common.{List, ap, sym}
 use Rattle.net_seats.specs.Halves.{Inner, inner}
 use Rattle.net_seats.specs.Cores.{configured}
 use Rattle.net_seats.proofs.Forwarding.{edits_there}

@@ -7,9 +7,9 @@ use Rattle.net_seats.proofs.cores.Cores.rows.Goals as goal
 
 pub returns-in-Control : goal.returns-in-Control
 returns-in-Control c =
-    subst (λ (n : Inner). IfOk c.rows-in-Control.result (λ (rows : NodeRows). rows ≡ shown n))
+    subst (λ (n : Inner). IfOk c.rows.result (λ (rows : NodeRows). rows ≡ shown n))
     (sym (control_is c.args.self.now c.self.inside.config c.self.inside.controls.items c.self.inside.agents.items c.args.node c.len.result c.in-Control.place c.self.view_is (omega (arith, c.len.ensures, c.self.inside.controls.ok.0)) c.index.result.now c.in-Control.ensures.number c.in-Control.ensures.within c.index.ensures))
-    c.rows-in-Control.ensures
+    c.rows.ensures
 
 pub returns-in-Agent : goal.returns-in-Agent
 returns-in-Agent c =

@@ -1,30 +1,26 @@
-use Rattle.std.proofs.Common.{rules, ◌≡◌, ◌≢◌, ◌<◌, ◌≤◌, ◌^◌, [], drop, ℕ, List, true, false, length, map, slice_get, slice_index_or, slice_set, IfOk, IsTrue, ◌+◌, ◌-◌, ◌*◌, ◌/◌, ◌%◌, Bool, nat_eq, nat_lt, ◌∷◌, ◌++◌, bit_and, bit_or, Fits, w8, w32, w64, Bor, MutBor}
-use Rattle.config_check.specs.Checked.{Checked}
-use Rattle.config_check.specs.Edits.{edit_fault}
-use Rattle.config_model.specs.Edit.{has_edit_form}
-use Rattle.node_core.specs.Whole.{Comes, session_of}
-use Rattle.net_model.specs.Seats.{Configuring, Seat, is_live, seat, whos}
-use Rattle.net_model.specs.Steps.{MakesEdit, Takes, emptied, with_seat}
-use Rattle.net_seats.specs.Fresh.{fresh_seat}
-use Rattle.net_seats.specs.Halves.{AreAllHalves, joined}
+use Rattle.std.proofs.Common.{ap, subst, sym, ◌∙◌, ◌++◌, ◌∷◌, [], List}
+use Rattle.config_model.specs.declared.topology.Topology.{Topology}
+use Rattle.net_seats.specs.Cores.{inners}
+use Rattle.net_seats.specs.Fresh.{IsSetUp}
+use Rattle.net_seats.specs.Halves.{Outer}
+use Rattle.net_seats.proofs.Made.{inners_are, made_few, made_halves, made_seats, outers_are}
+use Rattle.net_seats.proofs.SetUp.{set_up}
 use Rattle.net_seats.proofs.nodes.Nodes.new.Goals as goal
 
--- src/nodes.rt:111:20
 pub config_edge-requires : goal.config_edge-requires
-config_edge-requires c = ?
+config_edge-requires c = (set_up c.args.valid.topology c.args.valid.config c.topology-topology.ensures.topology_form c.topology-topology.ensures.valid)
 
--- src/nodes.rt:112:24
 pub add_controls-requires : goal.add_controls-requires
-add_controls-requires c = ?
+add_controls-requires c = subst (λ (t : Topology). IsSetUp t) (sym c.topology-topology.ensures.part) (set_up c.args.valid.topology c.args.valid.config c.topology-topology.ensures.topology_form c.topology-topology.ensures.valid)
 
--- src/nodes.rt:113:22
 pub add_agents-requires : goal.add_agents-requires
-add_agents-requires c = ?
+add_agents-requires c = subst (λ (t : Topology). IsSetUp t) (sym c.topology-topology.ensures.part) (set_up c.args.valid.topology c.args.valid.config c.topology-topology.ensures.topology_form c.topology-topology.ensures.valid)
 
--- src/nodes.rt:120:9
 pub invariant_of-result : goal.invariant_of-result
-invariant_of-result c = ?
+invariant_of-result c =
+    let edges = (outers_are c.args.valid c.topology-topology.result.now c.push.new.self.items c.add_controls.new.edges.items c.add_agents.new.edges.items c.in_ok-config_edge.field-0 c.topology-topology.ensures.part c.in_ok-config_edge.ensures (c.in_ok-push.ensures.items ∙ ap (λ (os : List Outer). os ++ c.in_ok-config_edge.field-0 ∷ []) c.new-edges.ensures.items) c.in_ok-controls.ensures.edges c.in_ok-agents.ensures.edges) in
+    (made_halves c.args.valid (inners c.in_ok-config.config c.in_ok-controls.controls.items c.in_ok-agents.agents.items) c.add_agents.new.edges.items (set_up c.args.valid.topology c.args.valid.config c.topology-topology.ensures.topology_form c.topology-topology.ensures.valid) (inners_are c.args.valid c.topology-topology.result.now c.topology-topology.ensures.part c.in_ok-config.config c.in_ok-controls.controls.items c.in_ok-agents.agents.items c.in_ok-config.ensures c.in_ok-controls.ensures.controls c.in_ok-agents.ensures.agents) edges,
+     made_few c.args.valid c.add_agents.new.edges.items (set_up c.args.valid.topology c.args.valid.config c.topology-topology.ensures.topology_form c.topology-topology.ensures.valid) edges)
 
--- src/nodes.rt:105:5
 pub returns-clause-seats : goal.returns-clause-seats
-returns-clause-seats c = ?
+returns-clause-seats c = made_seats c.args.valid (inners c.in_ok-config.config c.in_ok-controls.controls.items c.in_ok-agents.agents.items) c.add_agents.new.edges.items (inners_are c.args.valid c.topology-topology.result.now c.topology-topology.ensures.part c.in_ok-config.config c.in_ok-controls.controls.items c.in_ok-agents.agents.items c.in_ok-config.ensures c.in_ok-controls.ensures.controls c.in_ok-agents.ensures.agents) (outers_are c.args.valid c.topology-topology.result.now c.push.new.self.items c.add_controls.new.edges.items c.add_agents.new.edges.items c.in_ok-config_edge.field-0 c.topology-topology.ensures.part c.in_ok-config_edge.ensures (c.in_ok-push.ensures.items ∙ ap (λ (os : List Outer). os ++ c.in_ok-config_edge.field-0 ∷ []) c.new-edges.ensures.items) c.in_ok-controls.ensures.edges c.in_ok-agents.ensures.edges)
