@@ -9,5 +9,4 @@ pub mod Forwarding
 pub mod Emptied
 pub mod Standing
 pub mod SetUp
-pub mod Closed
 pub mod Made

@@ -78,9 +78,11 @@ few_both (x ∷ xs) ys h k = (h.0, few_both xs ys h.1 k)
 all_few : (x : Checked) → IsSetUp x.topology → AllByRecursion IsFew (whos x)
 all_few x s =
     let long = named x.topology.controllers in
-    let first : length (names_of x.topology.controllers) < 2 ^ 16 = omega (arith, s.controllers) in
-    (first, few_both (map (λ (c : NodeId). Controlling (control_plan x.topology c)) x.topology.controllers) (map (λ (n : Node). Forwarding (agent_plan x.topology n)) x.topology.nodes)
-      (few_controls x.topology x.topology.controllers s.controllers s.nodes) (few_agents x.topology x.topology.nodes s.few))
+    let first : length (names_of x.topology.controllers) < 2 ^ 16 = omega (arith, s.controllers) in (
+      first,
+      few_both (map (λ (c : NodeId). Controlling (control_plan x.topology c)) x.topology.controllers) (map (λ (n : Node). Forwarding (agent_plan x.topology n)) x.topology.nodes)
+          (few_controls x.topology x.topology.controllers s.controllers s.nodes) (few_agents x.topology x.topology.nodes s.few),
+    )
 
 fresh_halves : (ws : List Who) → AllByRecursion IsFew ws → AreAllHalves (map fresh_inner ws) (map fresh_outer ws)
 fresh_halves [] h = tt
@@ -91,7 +93,7 @@ fresh_halves (w ∷ ws) h = (
     posts = as_long nothing (others_of w);
     even = record { links = as_long [] (others_of w); notices = as_long false (others_of w); few = h.0 };
   },
-  fresh_halves ws h.1
+  fresh_halves ws h.1,
 )
 
 fresh_joined : (ws : List Who) → joined (map fresh_inner ws) (map fresh_outer ws) ≡ map fresh_seat ws
@@ -109,7 +111,7 @@ inner_controls t [] = refl
 inner_controls t (c ∷ cs) =
     let plan = control_plan t c in
     ap (λ (ps : List Post). let n : Inner = record { who = Controlling plan; posts = ps } in n ∷ map controlled (map (λ (c : NodeId). control.fresh (control_plan t c)) cs))
-      (nothing_control (control.sessions plan) (others_of (Controlling plan)) (sessions_of_control plan))
+    (nothing_control (control.sessions plan) (others_of (Controlling plan)) (sessions_of_control plan))
     ∙ ap (λ (ns : List Inner). fresh_inner (Controlling plan) ∷ ns) (inner_controls t cs)
 
 inner_agents : (t : Topology) (ns : List Node)
@@ -118,7 +120,7 @@ inner_agents t [] = refl
 inner_agents t (n ∷ ns) =
     let plan = agent_plan t n in
     ap (λ (ps : List Post). let m : Inner = record { who = Forwarding plan; posts = ps } in m ∷ map forwarded (map (λ (n : Node). agent.fresh (agent_plan t n)) ns))
-      (nothing_agent (agent.sessions plan) (others_of (Forwarding plan)) (sessions_of_agent plan))
+    (nothing_agent (agent.sessions plan) (others_of (Forwarding plan)) (sessions_of_agent plan))
     ∙ ap (λ (ms : List Inner). fresh_inner (Forwarding plan) ∷ ms) (inner_agents t ns)
 
 map_both : {A B : Type 0} (f : A → B) (xs ys : List A) → map f xs ++ map f ys ≡ map f (xs ++ ys)
@@ -138,11 +140,11 @@ module _ (x : Checked) (t : Topology) (same : t ≡ x.topology) (config : config
       ap (λ (c : configuration.Core). configured c ∷ (map controlled controls ++ map forwarded agents)) first
       ∙ (ap (λ (n : Inner). n ∷ (map controlled controls ++ map forwarded agents)) (inner_config x)
       ∙ ap (λ (ns : List Inner). fresh_inner (Configuring x) ∷ ns)
-        (ap (λ (cs : List control.Core). map controlled cs ++ map forwarded agents) (second ∙ ap (λ (u : Topology). map (λ (c : NodeId). control.fresh (control_plan u c)) u.controllers) same)
-        ∙ (ap (λ (as' : List agent.Core). map controlled (map (λ (c : NodeId). control.fresh (control_plan x.topology c)) x.topology.controllers) ++ map forwarded as') (third ∙ ap (λ (u : Topology). map (λ (n : Node). agent.fresh (agent_plan u n)) u.nodes) same)
-        ∙ (ap (λ (ns : List Inner). ns ++ map forwarded (map (λ (n : Node). agent.fresh (agent_plan x.topology n)) x.topology.nodes)) (inner_controls x.topology x.topology.controllers)
-        ∙ (ap (λ (ns : List Inner). map fresh_inner (map (λ (c : NodeId). Controlling (control_plan x.topology c)) x.topology.controllers) ++ ns) (inner_agents x.topology x.topology.nodes)
-        ∙ map_both fresh_inner (map (λ (c : NodeId). Controlling (control_plan x.topology c)) x.topology.controllers) (map (λ (n : Node). Forwarding (agent_plan x.topology n)) x.topology.nodes))))))
+      (ap (λ (cs : List control.Core). map controlled cs ++ map forwarded agents) (second ∙ ap (λ (u : Topology). map (λ (c : NodeId). control.fresh (control_plan u c)) u.controllers) same)
+      ∙ (ap (λ (as' : List agent.Core). map controlled (map (λ (c : NodeId). control.fresh (control_plan x.topology c)) x.topology.controllers) ++ map forwarded as') (third ∙ ap (λ (u : Topology). map (λ (n : Node). agent.fresh (agent_plan u n)) u.nodes) same)
+      ∙ (ap (λ (ns : List Inner). ns ++ map forwarded (map (λ (n : Node). agent.fresh (agent_plan x.topology n)) x.topology.nodes)) (inner_controls x.topology x.topology.controllers)
+      ∙ (ap (λ (ns : List Inner). map fresh_inner (map (λ (c : NodeId). Controlling (control_plan x.topology c)) x.topology.controllers) ++ ns) (inner_agents x.topology x.topology.nodes)
+      ∙ map_both fresh_inner (map (λ (c : NodeId). Controlling (control_plan x.topology c)) x.topology.controllers) (map (λ (n : Node). Forwarding (agent_plan x.topology n)) x.topology.nodes))))))
 
 pub outers_are : (x : Checked) (t : Topology) (e0 e1 e2 : List Outer) (edge : Outer) → t ≡ x.topology → edge ≡ fresh_outer (Configuring x)
     → e0 ≡ edge ∷ [] → e1 ≡ e0 ++ map (λ (c : NodeId). fresh_outer (Controlling (control_plan t c))) t.controllers
@@ -154,9 +156,9 @@ outers_are x t e0 e1 e2 edge same is0 is1 is2 is3 =
     is3 ∙ (ap (λ (es : List Outer). es ++ last t) (is2 ∙ ap (λ (es : List Outer). es ++ later t) (is1 ∙ ap (λ (e : Outer). e ∷ []) is0))
     ∙ (ap (λ (u : Topology). fresh_outer (Configuring x) ∷ (later u ++ last u)) same
     ∙ ap (λ (es : List Outer). fresh_outer (Configuring x) ∷ es)
-      (ap (λ (es : List Outer). es ++ last x.topology) (map_map fresh_outer (λ (c : NodeId). Controlling (control_plan x.topology c)) x.topology.controllers)
-      ∙ (ap (λ (es : List Outer). map fresh_outer (map (λ (c : NodeId). Controlling (control_plan x.topology c)) x.topology.controllers) ++ es) (map_map fresh_outer (λ (n : Node). Forwarding (agent_plan x.topology n)) x.topology.nodes)
-      ∙ map_both fresh_outer (map (λ (c : NodeId). Controlling (control_plan x.topology c)) x.topology.controllers) (map (λ (n : Node). Forwarding (agent_plan x.topology n)) x.topology.nodes)))))
+    (ap (λ (es : List Outer). es ++ last x.topology) (map_map fresh_outer (λ (c : NodeId). Controlling (control_plan x.topology c)) x.topology.controllers)
+    ∙ (ap (λ (es : List Outer). map fresh_outer (map (λ (c : NodeId). Controlling (control_plan x.topology c)) x.topology.controllers) ++ es) (map_map fresh_outer (λ (n : Node). Forwarding (agent_plan x.topology n)) x.topology.nodes)
+    ∙ map_both fresh_outer (map (λ (c : NodeId). Controlling (control_plan x.topology c)) x.topology.controllers) (map (λ (n : Node). Forwarding (agent_plan x.topology n)) x.topology.nodes)))))
 
 pub made_halves : (x : Checked) (ns : List Inner) (os : List Outer) → IsSetUp x.topology → ns ≡ map fresh_inner (whos x) → os ≡ map fresh_outer (whos x)
     → AreAllHalves ns os

@@ -35,21 +35,21 @@ module _ (k : Kind) (posts posts' : List Post) (session : ℕ) (given : Begun) (
   -- no reply fails
   replied : (fails : Bool) (s : Served fails session) → fails ≡ false
   replied fails s =
-    let long : length (planned k posts session given fails session) ≡ length (replies session given session) + length (changes k (begun posts session given fails) session) =
+      let long : length (planned k posts session given fails session) ≡ length (replies session given session) + length (changes k (begun posts session given fails) session) =
       length-append (replies session given session) (changes k (begun posts session given fails) session) in
-    let all : length (planned k posts session given fails session) ≤ s.delivers.count = all_taken fails session s in
-    s.reply refl ∙ le-ltb s.delivers.count (length (replies session given session)) (omega arith)
+      let all : length (planned k posts session given fails session) ≤ s.delivers.count = all_taken fails session s in
+      s.reply refl ∙ le-ltb s.delivers.count (length (replies session given session)) (omega arith)
 
   pub posts_told : (i : ℕ) (s : Served false i) → post posts' i ≡ told_all k (begun posts session given false) i
   posts_told i s =
-    s.end ∙ ap (λ (failed : Bool). if failed then nothing else told_all k (begun posts session given false) i) (quiet false i s)
+      s.end ∙ ap (λ (failed : Bool). if failed then nothing else told_all k (begun posts session given false) i) (quiet false i s)
 
   pub links_told : (i : ℕ) (s : Served false i) → slice_index_or links' i [] ≡ slice_index_or links i [] ++ planned k posts session given false i
   links_told i s =
-    let all : take s.delivers.count (planned k posts session given false i) ≡ planned k posts session given false i =
+      let all : take s.delivers.count (planned k posts session given false i) ≡ planned k posts session given false i =
       take_all s.delivers.count (planned k posts session given false i) (all_taken false i s) in
-    let told : s.link' ≡ s.link ++ take s.delivers.count (planned k posts session given false i) = cc s.delivers.took.told in
-    s.link'_at [] ∙ (told ∙ (ap (λ (sent : Queue). s.link ++ sent) all ∙ ap (λ (sent : Queue). sent ++ planned k posts session given false i) (sym (s.link_at []))))
+      let told : s.link' ≡ s.link ++ take s.delivers.count (planned k posts session given false i) = cc s.delivers.took.told in
+      s.link'_at [] ∙ (told ∙ (ap (λ (sent : Queue). s.link ++ sent) all ∙ ap (λ (sent : Queue). sent ++ planned k posts session given false i) (sym (s.link_at []))))
 
   abbrev pub AllServed : Bool → Type 0
   AllServed fails = (i : ℕ) → i < length posts → Served fails i

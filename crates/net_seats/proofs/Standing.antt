@@ -11,7 +11,6 @@ use Rattle.net_seats.specs.Changes.{ChangesOne, EditsOver, TakesOver}
 use Rattle.net_seats.specs.Halves.{AreAllHalves, AreHalves, Inner, IsEven, Outer, Standing, inner, joined, no_inner, no_outer, outer, seated, whole}
 use Rattle.net_seats.proofs.Halves.{as_many, as_many_seats, halves_at, halves_set, joined_set, same_at, seat_at, set_itself}
 
-
 -- ---- one seat of them, at place k, which is j by another count
 module _ (ns : List Inner) (os : List Outer) (h : AreAllHalves ns os) (j k : ℕ) (same : j ≡ k) (below : k < length os) where
   pub outer_is : (e : Outer) → e ≡ get_or os j e → outer os k ≡ e
@@ -57,12 +56,12 @@ module _ (ns : List Inner) (os : List Outer) (h : AreAllHalves ns os) (j k : ℕ
     seat_kept changes name others even =
         let was = halves_are e at in
         let new : AreHalves (inner ns' k) o' =
-          record {
-            name = name ∙ (was.name ∙ sym changes.name);
-            others = others ∙ (was.others ∙ sym changes.others);
-            posts = changes.long ∙ (was.posts ∙ ap length (sym changes.others));
-            even = even;
-          } in
+        record {
+          name = name ∙ (was.name ∙ sym changes.name);
+          others = others ∙ (was.others ∙ sym changes.others);
+          posts = changes.long ∙ (was.posts ∙ ap length (sym changes.others));
+          even = even;
+        } in
         subst (λ (i : ℕ). AreAllHalves ns' (set os i o')) (sym same)
         (subst (λ (ms : List Inner). AreAllHalves ms (set os k o')) (sym changes.one) (halves_set ns os k (inner ns' k) o' h new))
 
@@ -73,8 +72,8 @@ module _ (ns : List Inner) (os : List Outer) (h : AreAllHalves ns os) (j k : ℕ
     takes_at (Ok x) input one notices takes = (
       whole (inner ns' k) o',
       subst (λ (n : Seat). Takes n (whole (inner ns' k) o') input) (sym (whole_is e at))
-        (subst (λ (waits : List Bool). Takes (whole (inner ns k) e) (seated (inner ns' k) o'.links waits) input) (sym notices) (takes e.notices)),
-      seat_changed one
+          (subst (λ (waits : List Bool). Takes (whole (inner ns k) e) (seated (inner ns' k) o'.links waits) input) (sym notices) (takes e.notices)),
+      seat_changed one,
     )
 
     edit_made : (x : Checked) (edit : Edit) (fault : Option EditFault) → ns' ≡ set ns k (inner ns' k)
@@ -95,11 +94,13 @@ module _ (ns : List Inner) (os : List Outer) (h : AreAllHalves ns os) (j k : ℕ
             ∙ (ap (λ (ls : List (List (List ℕ))). let o : Outer = record { name = e.name; others = e.others; links = ls; notices = o'.notices } in o) c
             ∙ ap (λ (ws : List Bool). let o : Outer = record { name = e.name; others = e.others; links = e.links; notices = ws } in o) d))
     edit_made x edit None one name others notices first edits = (
-      edits.0, whole (inner ns' k) o', edits.1,
+      edits.0,
+      whole (inner ns' k) o',
+      edits.1,
       subst (λ (i : ℕ). IsStepped (record (seat (joined ns os) i) { who = Configuring edits.0 }) (whole (inner ns' k) o') 0 (as_it_is (seat (joined ns os) i))) first
-        (subst (λ (n : Seat). IsStepped (record n { who = Configuring edits.0 }) (whole (inner ns' k) o') 0 (as_it_is n)) (sym (whole_is e at))
+          (subst (λ (n : Seat). IsStepped (record n { who = Configuring edits.0 }) (whole (inner ns' k) o') 0 (as_it_is n)) (sym (whole_is e at))
           (subst (λ (waits : List Bool). IsStepped (record (whole (inner ns k) e) { who = Configuring edits.0 }) (seated (inner ns' k) o'.links waits) 0 (as_it_is (whole (inner ns k) e))) (sym notices) (edits.2 e.notices))),
-      subst (λ (i : ℕ). joined ns' (set os j o') ≡ with_seat i (whole (inner ns' k) o') (joined ns os)) first (seat_changed one)
+      subst (λ (i : ℕ). joined ns' (set os j o') ≡ with_seat i (whole (inner ns' k) o') (joined ns os)) first (seat_changed one),
     )
 
     pub edits_at : {E : Type 0} (r : Result (Option EditFault) E) (edit : Edit) → ns' ≡ set ns k (inner ns' k)

@@ -21,7 +21,7 @@ use Rattle.net_model.specs.Steps.{BeginsAt, all_of}
 use Rattle.net_seats.specs.Changes.{EditsOver, TakesOver, emptied_inner}
 use Rattle.net_seats.specs.Cores.{configured, controlled, forwarded}
 use Rattle.net_seats.specs.Halves.{Inner}
-use Rattle.net_seats.specs.Stub.{IsEdited, as_it_is}
+use Rattle.config_node.specs.Editing.{IsEdited, as_it_is}
 use Rattle.net_seats.proofs.Quiet.{Queue, quiet_steps}
 
 -- ---- a step
@@ -128,9 +128,11 @@ pub edits_over : (x y : Checked) (posts posts' : List Post) (e : Edit) (links li
     → (fault ≡ None → IsEdited (λ (l : Queue). Some l) (λ (l : Queue). Some []) (λ (l : Queue). 0) x y e posts posts' links links' None)
     → EditsOver links links' (record { who = Configuring x; posts = posts }) (record { who = Configuring y; posts = posts' }) x e fault
 edits_over x y posts posts' e links links' (Some f) some long refused made =
-    let same = refused f refl in
-    (ap (λ (z : Checked). let n : Inner = record { who = Configuring z; posts = posts' } in n) same.0
-     ∙ ap (λ (ps : List Post). let n : Inner = record { who = Configuring x; posts = ps } in n) same.1, same.2)
+    let same = refused f refl in (
+      ap (λ (z : Checked). let n : Inner = record { who = Configuring z; posts = posts' } in n) same.0
+          ∙ ap (λ (ps : List Post). let n : Inner = record { who = Configuring x; posts = ps } in n) same.1,
+      same.2,
+    )
 edits_over x y posts posts' e links links' None some long refused made =
     let is = made refl in
     (y, is.made, λ notices. quiet_steps (Configuring y) (Configuring y) posts posts' 0 (as_it_is posts) links links' None refl some long is.steps notices)

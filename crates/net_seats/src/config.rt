@@ -8,9 +8,9 @@ ghost use Rattle.net_seats.specs.Changes.{EditsOver, TakesOver};
 ghost use Rattle.net_seats.specs.Cores.{configured};
 ghost use Rattle.net_seats.specs.Halves.{live, seated};
 
-use crate::stub::ConfigNode;
 use config_check::EditFault;
 use config_model::Edit;
+use config_node::ConfigNode;
 use ov_link::{Input, Links, QueueLink};
 use ov_types::NoMemory;
 

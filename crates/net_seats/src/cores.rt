@@ -10,11 +10,11 @@ ghost use Rattle.net_seats.specs.Changes.{ChangesOne, EditsOver, TakesOver, empt
 ghost use Rattle.net_seats.specs.Halves.{inner, live, seated};
 
 use crate::kinds::{Kind, kind_of};
-use crate::stub::ConfigNode;
 use crate::{agents, config, controls};
 use agent_node::AgentNode;
 use config_check::{EditFault, Valid};
 use config_model::Edit;
+use config_node::ConfigNode;
 use control_node::ControlNode;
 use ov_link::{Input, Links, QueueLink};
 use ov_types::{NoMemory, NodeRows, Outcome, Packet};

@@ -11,6 +11,7 @@ mod kinds;
 mod making;
 mod nodes;
 mod plans;
-mod stub;
+#[cfg(test)]
+mod tests;
 
 pub use nodes::Nodes;

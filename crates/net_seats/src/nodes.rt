@@ -14,10 +14,10 @@ use crate::cores::Cores;
 use crate::edges::Edge;
 use crate::finding::edge_named;
 use crate::making::{add_agents, add_controls, config_edge};
-use crate::stub::ConfigNode;
 use bytes::Bytes;
 use config_check::{EditFault, Valid};
 use config_model::Edit;
+use config_node::ConfigNode;
 use net_model::{Place, Stations};
 use ov_link::Input;
 use ov_types::{Name, NoMemory, NodeRows, Outcome, Packet};
@@ -123,6 +123,13 @@ impl Nodes {
             failed: false,
             alloc,
         })
+    }
+
+    /// Whether memory was wanting in a step of a node. It takes no memory.
+    pub fn failed(&self) -> bool
+        ensures { result ≡ self.now.failed }
+    {
+        self.failed
     }
 }
 

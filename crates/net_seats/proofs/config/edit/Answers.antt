@@ -21,11 +21,11 @@ returns-in-Ok-clause-edits c =
     let below : 0 < length c.args.node.now.posts = omega (arith, sessions_of_config c.args.node.now.setup) in
     let is : c.in-Ok.fault ≡ edit_fault c.args.node.now.setup c.args.edit.now = c.in-Ok.ensures.fault (λ e. cc) in
     let same : (f : EditFault) → edit_fault c.args.node.now.setup c.args.edit.now ≡ Some f
-            → (c.edit.new.self.setup ≡ c.args.node.now.setup) × (c.edit.new.self.posts ≡ c.args.node.now.posts) × (c.edit.new.links ≡ c.args.links.now) =
-      λ f found.
-        let all : (c.edit.new.self ≡ c.args.node.now) × (c.edit.new.links ≡ c.args.links.now) =
-          subst (λ (r : Option EditFault). IfSome r (λ _. (c.edit.new.self ≡ c.args.node.now) × (c.edit.new.links ≡ c.args.links.now))) found (c.in-Ok.ensures.refused (λ e. cc)) in
-        (ap (λ (n : configuration.Core). n.setup) all.0, ap (λ (n : configuration.Core). n.posts) all.0, all.1) in
+    → (c.edit.new.self.setup ≡ c.args.node.now.setup) × (c.edit.new.self.posts ≡ c.args.node.now.posts) × (c.edit.new.links ≡ c.args.links.now) =
+    λ f found.
+    let all : (c.edit.new.self ≡ c.args.node.now) × (c.edit.new.links ≡ c.args.links.now) =
+    subst (λ (r : Option EditFault). IfSome r (λ _. (c.edit.new.self ≡ c.args.node.now) × (c.edit.new.links ≡ c.args.links.now))) found (c.in-Ok.ensures.refused (λ e. cc)) in
+    (ap (λ (n : configuration.Core). n.setup) all.0, ap (λ (n : configuration.Core). n.posts) all.0, all.1) in
     edits_over c.args.node.now.setup c.edit.new.self.setup c.args.node.now.posts c.edit.new.self.posts c.args.edit.now c.args.links.now c.edit.new.links c.in-Ok.fault
     below c.edit.ensures.links
     (λ f some_fault. same f (sym is ∙ some_fault))

@@ -23,7 +23,7 @@ bounds-edges-from c = let below : c.args.node < length c.args.edges.now = (let m
 pub returns-clause-halves : goal.returns-clause-halves
 returns-clause-halves c =
     seat_kept c.args.cores.now c.args.edges.now c.requires.halves c.from.result c.args.node c.from.ensures (let many : length (joined c.args.cores.now c.args.edges.now) ≡ length c.args.edges.now = as_many_seats c.args.cores.now c.args.edges.now c.requires.halves in let lt : c.args.node < length c.args.edges.now = omega (arith, c.requires.node) in lt) c.restart.new.self c.index-edges-from.result c.restart-2.new.self c.index-edges-from.is (let below : c.args.node < length c.args.cores.now = below_inner c.args.cores.now c.args.edges.now c.args.node c.requires.halves (let many : length (joined c.args.cores.now c.args.edges.now) ≡ length c.args.edges.now = as_many_seats c.args.cores.now c.args.edges.now c.requires.halves in let lt : c.args.node < length c.args.edges.now = omega (arith, c.requires.node) in lt) in
-      emptied_one c.args.cores.now c.restart.new.self c.args.node c.restart.ensures below)
+    emptied_one c.args.cores.now c.restart.new.self c.args.node c.restart.ensures below)
     (ap (λ (o : Outer). o.name) (c.restart-2.ensures ∙ ap emptied_outer (sym c.index-edges-from.is))) (ap (λ (o : Outer). o.others) (c.restart-2.ensures ∙ ap emptied_outer (sym c.index-edges-from.is)))
     (emptied_even c.index-edges-from.result c.restart-2.new.self (c.restart-2.ensures ∙ ap emptied_outer (sym c.index-edges-from.is)) (halves_are c.args.cores.now c.args.edges.now c.requires.halves c.from.result c.args.node c.from.ensures (let many : length (joined c.args.cores.now c.args.edges.now) ≡ length c.args.edges.now = as_many_seats c.args.cores.now c.args.edges.now c.requires.halves in let lt : c.args.node < length c.args.edges.now = omega (arith, c.requires.node) in lt) c.index-edges-from.result c.index-edges-from.is).even)
 
@@ -31,7 +31,7 @@ pub returns-clause-emptied : goal.returns-clause-emptied
 returns-clause-emptied c =
     let below : c.args.node < length c.args.cores.now = below_inner c.args.cores.now c.args.edges.now c.args.node c.requires.halves (let many : length (joined c.args.cores.now c.args.edges.now) ≡ length c.args.edges.now = as_many_seats c.args.cores.now c.args.edges.now c.requires.halves in let lt : c.args.node < length c.args.edges.now = omega (arith, c.requires.node) in lt) in
     let now : inner c.restart.new.self c.args.node ≡ emptied_inner (inner c.args.cores.now c.args.node) =
-      ap (λ (ns : List Inner). inner ns c.args.node) c.restart.ensures ∙ get_or-set_same c.args.cores.now c.args.node (emptied_inner (inner c.args.cores.now c.args.node)) no_inner below in
+    ap (λ (ns : List Inner). inner ns c.args.node) c.restart.ensures ∙ get_or-set_same c.args.cores.now c.args.node (emptied_inner (inner c.args.cores.now c.args.node)) no_inner below in
     seat_changed c.args.cores.now c.args.edges.now c.requires.halves c.from.result c.args.node c.from.ensures (let many : length (joined c.args.cores.now c.args.edges.now) ≡ length c.args.edges.now = as_many_seats c.args.cores.now c.args.edges.now c.requires.halves in let lt : c.args.node < length c.args.edges.now = omega (arith, c.requires.node) in lt) c.restart.new.self c.index-edges-from.result c.restart-2.new.self c.index-edges-from.is (emptied_one c.args.cores.now c.restart.new.self c.args.node c.restart.ensures below).one
     ∙ (ap (λ (n : Inner). set (joined c.args.cores.now c.args.edges.now) c.args.node (whole n c.restart-2.new.self)) now
     ∙ (ap (λ (o : Outer). set (joined c.args.cores.now c.args.edges.now) c.args.node (whole (emptied_inner (inner c.args.cores.now c.args.node)) o)) (c.restart-2.ensures ∙ ap emptied_outer (sym c.index-edges-from.is))

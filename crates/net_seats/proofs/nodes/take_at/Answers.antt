@@ -34,10 +34,10 @@ take-requires-clause-comes c =
 pub returns-clause-halves : goal.returns-clause-halves
 returns-clause-halves c =
     let even : IsEven (let o : Outer = record { name = c.edge.inside.name; others = c.edge.inside.others; links = c.take.new.links; notices = c.edge.inside.notices.items } in o) = record {
-        links = c.take.ensures.links ∙ c.edge.invariant.links;
-        notices = c.edge.invariant.notices;
-        few = c.edge.invariant.few;
-      } in
+      links = c.take.ensures.links ∙ c.edge.invariant.links;
+      notices = c.edge.invariant.notices;
+      few = c.edge.invariant.few;
+    } in
     seat_kept c.args.cores.now c.args.edges.now c.requires.halves c.from.result c.args.node c.from.ensures (let many : length (joined c.args.cores.now c.args.edges.now) ≡ length c.args.edges.now = as_many_seats c.args.cores.now c.args.edges.now c.requires.halves in let lt : c.args.node < length c.args.edges.now = omega (arith, c.requires.node) in lt) c.take.new.self c.index-edges-from.result (let o : Outer = record { name = c.edge.inside.name; others = c.edge.inside.others; links = c.take.new.links; notices = c.edge.inside.notices.items } in o) c.index-edges-from.is c.take.ensures.one
     (ap (λ (o : Outer). o.name) (c.edge.view_is ∙ sym c.index-edges-from.is)) (ap (λ (o : Outer). o.others) (c.edge.view_is ∙ sym c.index-edges-from.is)) even
 

@@ -27,7 +27,7 @@ pub returns : goal.returns
 returns c =
     let all : length c.as_slice-name-items.result.now ≤ c.loop-name.name-index = omega arith in
     let made : c.loop-name.controllers ≡ map (controller_named c.args.topology.now) c.args.node.now.controllers =
-      all_pushed (controller_named c.args.topology.now) [] c.loop-name.controllers c.as_slice-name-items.result.now c.loop-name.name-index c.loop-name.invariant all
-      ∙ ap (λ (names : List Name). map (controller_named c.args.topology.now) names) c.as_slice-name-items.ensures in
+    all_pushed (controller_named c.args.topology.now) [] c.loop-name.controllers c.as_slice-name-items.result.now c.loop-name.name-index c.loop-name.invariant all
+    ∙ ap (λ (names : List Name). map (controller_named c.args.topology.now) names) c.as_slice-name-items.ensures in
     ap (λ (me : NodeId). let p : AgentPlan = record { me = me; controllers = c.loop-name.controllers } in p) c.id_of.ensures
     ∙ ap (λ (cs : List NodeId). let p : AgentPlan = record { me = id_of c.args.node.now; controllers = cs } in p) made

@@ -37,7 +37,7 @@ returns-in-Control-clause-one c =
 pub returns-in-Control-clause-takes : goal.returns-in-Control-clause-takes
 returns-in-Control-clause-takes c =
     let now : inner (inners c.self.inside.config (set c.self.inside.controls.items c.in-Control.place c.take-in-Control.new.node) c.self.inside.agents.items) c.args.node ≡ controlled c.take-in-Control.new.node =
-      set_at c.args.self.now (inners c.self.inside.config (set c.self.inside.controls.items c.in-Control.place c.take-in-Control.new.node) c.self.inside.agents.items) c.args.node (controlled c.take-in-Control.new.node) (control_set c.args.self.now c.self.inside.config c.self.inside.controls.items c.self.inside.agents.items c.args.node c.len.result c.in-Control.place c.self.view_is (omega (arith, c.len.ensures, c.self.inside.controls.ok.0)) c.take-in-Control.new.node c.in-Control.ensures.number c.in-Control.ensures.within) c.requires.node in
+    set_at c.args.self.now (inners c.self.inside.config (set c.self.inside.controls.items c.in-Control.place c.take-in-Control.new.node) c.self.inside.agents.items) c.args.node (controlled c.take-in-Control.new.node) (control_set c.args.self.now c.self.inside.config c.self.inside.controls.items c.self.inside.agents.items c.args.node c.len.result c.in-Control.place c.self.view_is (omega (arith, c.len.ensures, c.self.inside.controls.ok.0)) c.take-in-Control.new.node c.in-Control.ensures.number c.in-Control.ensures.within) c.requires.node in
     subst (λ (n' : Inner). IfOk c.take-in-Control.result (λ _. TakesOver c.args.links.now c.take-in-Control.new.links (inner c.args.self.now c.args.node) n' c.args.input)) (sym now)
     (subst (λ (n : Inner). IfOk c.take-in-Control.result (λ _. TakesOver c.args.links.now c.take-in-Control.new.links n (controlled c.take-in-Control.new.node) c.args.input)) (sym (control_is c.args.self.now c.self.inside.config c.self.inside.controls.items c.self.inside.agents.items c.args.node c.len.result c.in-Control.place c.self.view_is (omega (arith, c.len.ensures, c.self.inside.controls.ok.0)) c.index_mut.result.now c.in-Control.ensures.number c.in-Control.ensures.within c.index_mut.ensures.value))
     c.take-in-Control.ensures.takes)
@@ -76,7 +76,7 @@ returns-in-Agent-clause-one c =
 pub returns-in-Agent-clause-takes : goal.returns-in-Agent-clause-takes
 returns-in-Agent-clause-takes c =
     let now : inner (inners c.self.inside.config c.self.inside.controls.items (set c.self.inside.agents.items c.in-Agent.place c.take-in-Agent.new.node)) c.args.node ≡ forwarded c.take-in-Agent.new.node =
-      set_at c.args.self.now (inners c.self.inside.config c.self.inside.controls.items (set c.self.inside.agents.items c.in-Agent.place c.take-in-Agent.new.node)) c.args.node (forwarded c.take-in-Agent.new.node) (agent_set c.args.self.now c.self.inside.config c.self.inside.controls.items c.self.inside.agents.items c.args.node c.len.result c.in-Agent.place c.self.view_is (omega (arith, c.len.ensures, c.self.inside.controls.ok.0)) c.take-in-Agent.new.node c.in-Agent.ensures.number) c.requires.node in
+    set_at c.args.self.now (inners c.self.inside.config c.self.inside.controls.items (set c.self.inside.agents.items c.in-Agent.place c.take-in-Agent.new.node)) c.args.node (forwarded c.take-in-Agent.new.node) (agent_set c.args.self.now c.self.inside.config c.self.inside.controls.items c.self.inside.agents.items c.args.node c.len.result c.in-Agent.place c.self.view_is (omega (arith, c.len.ensures, c.self.inside.controls.ok.0)) c.take-in-Agent.new.node c.in-Agent.ensures.number) c.requires.node in
     subst (λ (n' : Inner). IfOk c.take-in-Agent.result (λ _. TakesOver c.args.links.now c.take-in-Agent.new.links (inner c.args.self.now c.args.node) n' c.args.input)) (sym now)
     (subst (λ (n : Inner). IfOk c.take-in-Agent.result (λ _. TakesOver c.args.links.now c.take-in-Agent.new.links n (forwarded c.take-in-Agent.new.node) c.args.input)) (sym (agent_is c.args.self.now c.self.inside.config c.self.inside.controls.items c.self.inside.agents.items c.args.node c.len.result c.in-Agent.place c.self.view_is (omega (arith, c.len.ensures, c.self.inside.controls.ok.0)) c.index_mut-in-Agent.result.now c.in-Agent.ensures.number c.requires.node c.index_mut-in-Agent.ensures.value))
     c.take-in-Agent.ensures.takes)

@@ -14,7 +14,7 @@ pub push-requires : goal.push-requires
 push-requires c =
     let items : length c.as_slice-other-items.result.now ≡ length c.args.others = ap length c.as_slice-other-items.ensures in
     let long : length c.loop-other.links ≡ length (take c.loop-other._other-index c.as_slice-other-items.result.now) =
-      ap length c.loop-other.invariant.links ∙ as_long [] (take c.loop-other._other-index c.as_slice-other-items.result.now) in
+    ap length c.loop-other.invariant.links ∙ as_long [] (take c.loop-other._other-index c.as_slice-other-items.result.now) in
     omega (arith, length-take-le c.loop-other._other-index c.as_slice-other-items.result.now)
 
 pub loop-other-preserved : goal.loop-other-preserved
@@ -37,8 +37,8 @@ pub returns : goal.returns
 returns c =
     let all : length c.as_slice-other-items.result.now ≤ c.loop-other._other-index = omega arith in
     let links : c.loop-other.links ≡ all_of [] c.args.others =
-      all_pushed (λ (n : Name). let q : List (List ℕ) = [] in q) [] c.loop-other.links c.as_slice-other-items.result.now c.loop-other._other-index c.loop-other.invariant.links all ∙ ap (λ (xs : List Name). all_of [] xs) c.as_slice-other-items.ensures in
+    all_pushed (λ (n : Name). let q : List (List ℕ) = [] in q) [] c.loop-other.links c.as_slice-other-items.result.now c.loop-other._other-index c.loop-other.invariant.links all ∙ ap (λ (xs : List Name). all_of [] xs) c.as_slice-other-items.ensures in
     let notices : c.loop-other.notices.items ≡ all_of false c.args.others =
-      all_pushed (λ (n : Name). false) [] c.loop-other.notices.items c.as_slice-other-items.result.now c.loop-other._other-index c.loop-other.invariant.notices all ∙ ap (λ (xs : List Name). all_of false xs) c.as_slice-other-items.ensures in
+    all_pushed (λ (n : Name). false) [] c.loop-other.notices.items c.as_slice-other-items.result.now c.loop-other._other-index c.loop-other.invariant.notices all ∙ ap (λ (xs : List Name). all_of false xs) c.as_slice-other-items.ensures in
     ap (λ (ls : List (List (List ℕ))). let o : Outer = record { name = c.args.name; others = c.args.others; links = ls; notices = c.loop-other.notices.items } in o) links
     ∙ ap (λ (ns : List Bool). let o : Outer = record { name = c.args.name; others = c.args.others; links = all_of [] c.args.others; notices = ns } in o) notices

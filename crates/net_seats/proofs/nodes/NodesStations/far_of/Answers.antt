@@ -19,17 +19,17 @@ index-edge-requires c =
 pub other-requires : goal.other-requires
 other-requires c =
     let posts : length (seat c.args.self.now.seats c.args.place.node).posts ≡ length c.index-edge.result.now.others =
-      ap (λ (ss : List Seat). length (seat ss c.args.place.node).posts) (sym (ap (λ (s : Standing). s.seats) c.self.view_is)) ∙ others_are c.self.inside.cores c.self.inside.edges.items c.self.invariant.0 c.from.result c.args.place.node c.from.ensures (below_all c.self.inside.cores c.self.inside.edges.items c.args.self.now.seats c.args.place.node c.self.invariant.0 (ap (λ (s : Standing). s.seats) c.self.view_is) c.requires.node) c.index-edge.result.now c.index-edge.ensures in
+    ap (λ (ss : List Seat). length (seat ss c.args.place.node).posts) (sym (ap (λ (s : Standing). s.seats) c.self.view_is)) ∙ others_are c.self.inside.cores c.self.inside.edges.items c.self.invariant.0 c.from.result c.args.place.node c.from.ensures (below_all c.self.inside.cores c.self.inside.edges.items c.args.self.now.seats c.args.place.node c.self.invariant.0 (ap (λ (s : Standing). s.seats) c.self.view_is) c.requires.node) c.index-edge.result.now c.index-edge.ensures in
     omega (arith, c.requires.session)
 
 pub returns : goal.returns
 returns c =
     let its_other : c.other.result.now ≡ other (seat c.args.self.now.seats c.args.place.node) c.args.place.session =
-      c.other.ensures ∙ (ap (λ (names : List Name). get_or names c.args.place.session []) (halves_are c.self.inside.cores c.self.inside.edges.items c.self.invariant.0 c.from.result c.args.place.node c.from.ensures (below_all c.self.inside.cores c.self.inside.edges.items c.args.self.now.seats c.args.place.node c.self.invariant.0 (ap (λ (s : Standing). s.seats) c.self.view_is) c.requires.node) c.index-edge.result.now c.index-edge.ensures).others
-      ∙ (ap (λ (n : Seat). other n c.args.place.session) (sym (whole_is c.self.inside.cores c.self.inside.edges.items c.self.invariant.0 c.from.result c.args.place.node c.from.ensures (below_all c.self.inside.cores c.self.inside.edges.items c.args.self.now.seats c.args.place.node c.self.invariant.0 (ap (λ (s : Standing). s.seats) c.self.view_is) c.requires.node) c.index-edge.result.now c.index-edge.ensures)) ∙ ap (λ (ss : List Seat). other (seat ss c.args.place.node) c.args.place.session) (ap (λ (s : Standing). s.seats) c.self.view_is))) in
+    c.other.ensures ∙ (ap (λ (names : List Name). get_or names c.args.place.session []) (halves_are c.self.inside.cores c.self.inside.edges.items c.self.invariant.0 c.from.result c.args.place.node c.from.ensures (below_all c.self.inside.cores c.self.inside.edges.items c.args.self.now.seats c.args.place.node c.self.invariant.0 (ap (λ (s : Standing). s.seats) c.self.view_is) c.requires.node) c.index-edge.result.now c.index-edge.ensures).others
+    ∙ (ap (λ (n : Seat). other n c.args.place.session) (sym (whole_is c.self.inside.cores c.self.inside.edges.items c.self.invariant.0 c.from.result c.args.place.node c.from.ensures (below_all c.self.inside.cores c.self.inside.edges.items c.args.self.now.seats c.args.place.node c.self.invariant.0 (ap (λ (s : Standing). s.seats) c.self.view_is) c.requires.node) c.index-edge.result.now c.index-edge.ensures)) ∙ ap (λ (ss : List Seat). other (seat ss c.args.place.node) c.args.place.session) (ap (λ (s : Standing). s.seats) c.self.view_is))) in
     let its_name : c.name.result.now ≡ name_of (seat c.args.self.now.seats c.args.place.node).who =
-      c.name.ensures ∙ ((halves_are c.self.inside.cores c.self.inside.edges.items c.self.invariant.0 c.from.result c.args.place.node c.from.ensures (below_all c.self.inside.cores c.self.inside.edges.items c.args.self.now.seats c.args.place.node c.self.invariant.0 (ap (λ (s : Standing). s.seats) c.self.view_is) c.requires.node) c.index-edge.result.now c.index-edge.ensures).name
-      ∙ (ap (λ (n : Seat). name_of n.who) (sym (whole_is c.self.inside.cores c.self.inside.edges.items c.self.invariant.0 c.from.result c.args.place.node c.from.ensures (below_all c.self.inside.cores c.self.inside.edges.items c.args.self.now.seats c.args.place.node c.self.invariant.0 (ap (λ (s : Standing). s.seats) c.self.view_is) c.requires.node) c.index-edge.result.now c.index-edge.ensures)) ∙ ap (λ (ss : List Seat). name_of (seat ss c.args.place.node).who) (ap (λ (s : Standing). s.seats) c.self.view_is))) in
+    c.name.ensures ∙ ((halves_are c.self.inside.cores c.self.inside.edges.items c.self.invariant.0 c.from.result c.args.place.node c.from.ensures (below_all c.self.inside.cores c.self.inside.edges.items c.args.self.now.seats c.args.place.node c.self.invariant.0 (ap (λ (s : Standing). s.seats) c.self.view_is) c.requires.node) c.index-edge.result.now c.index-edge.ensures).name
+    ∙ (ap (λ (n : Seat). name_of n.who) (sym (whole_is c.self.inside.cores c.self.inside.edges.items c.self.invariant.0 c.from.result c.args.place.node c.from.ensures (below_all c.self.inside.cores c.self.inside.edges.items c.args.self.now.seats c.args.place.node c.self.invariant.0 (ap (λ (s : Standing). s.seats) c.self.view_is) c.requires.node) c.index-edge.result.now c.index-edge.ensures)) ∙ ap (λ (ss : List Seat). name_of (seat ss c.args.place.node).who) (ap (λ (s : Standing). s.seats) c.self.view_is))) in
     c.place_of.ensures
     ∙ (ap (λ (name : Name). place_of c.args.self.now.seats name c.name.result.now) its_other
     ∙ ap (λ (name : Name). place_of c.args.self.now.seats (other (seat c.args.self.now.seats c.args.place.node) c.args.place.session) name) its_name)

@@ -15,15 +15,16 @@ index_mut-requires c =
 pub pop-requires : goal.pop-requires
 pop-requires c =
     let posts : length (seat c.args.self.now.seats c.args.place.node).posts ≡ length c.index_mut.result.now.others =
-      ap (λ (ss : List Seat). length (seat ss c.args.place.node).posts) (sym (ap (λ (s : Standing). s.seats) c.self.view_is)) ∙ others_are c.self.inside.cores c.self.inside.edges.items c.self.invariant.0 c.from.result c.args.place.node c.from.ensures (below_all c.self.inside.cores c.self.inside.edges.items c.args.self.now.seats c.args.place.node c.self.invariant.0 (ap (λ (s : Standing). s.seats) c.self.view_is) c.requires.node) c.index_mut.result.now c.index_mut.ensures.value in
+    ap (λ (ss : List Seat). length (seat ss c.args.place.node).posts) (sym (ap (λ (s : Standing). s.seats) c.self.view_is)) ∙ others_are c.self.inside.cores c.self.inside.edges.items c.self.invariant.0 c.from.result c.args.place.node c.from.ensures (below_all c.self.inside.cores c.self.inside.edges.items c.args.self.now.seats c.args.place.node c.self.invariant.0 (ap (λ (s : Standing). s.seats) c.self.view_is) c.requires.node) c.index_mut.result.now c.index_mut.ensures.value in
     omega (arith, c.requires.session)
 
 pub invariant_of-self : goal.invariant_of-self
 invariant_of-self c =
     let even : IsEven c.pop.new.self =
-      subst IsEven (sym c.pop.ensures.rest) (even_links c.index_mut.result.now (set c.index_mut.result.now.links c.args.place.session (drop 1 (get_or c.index_mut.result.now.links c.args.place.session []))) (halves_are c.self.inside.cores c.self.inside.edges.items c.self.invariant.0 c.from.result c.args.place.node c.from.ensures (below_all c.self.inside.cores c.self.inside.edges.items c.args.self.now.seats c.args.place.node c.self.invariant.0 (ap (λ (s : Standing). s.seats) c.self.view_is) c.requires.node) c.index_mut.result.now c.index_mut.ensures.value).even (length-set c.index_mut.result.now.links c.args.place.session _)) in
-    (edge_kept c.self.inside.cores c.self.inside.edges.items c.self.invariant.0 c.from.result c.args.place.node c.from.ensures (below_all c.self.inside.cores c.self.inside.edges.items c.args.self.now.seats c.args.place.node c.self.invariant.0 (ap (λ (s : Standing). s.seats) c.self.view_is) c.requires.node) c.index_mut.result.now c.pop.new.self c.index_mut.ensures.value (ap (λ (o : Outer). o.name) c.pop.ensures.rest) (ap (λ (o : Outer). o.others) c.pop.ensures.rest) even,
-     omega (arith, length-set c.self.inside.edges.items c.from.result c.pop.new.self, c.self.invariant.1))
+    subst IsEven (sym c.pop.ensures.rest) (even_links c.index_mut.result.now (set c.index_mut.result.now.links c.args.place.session (drop 1 (get_or c.index_mut.result.now.links c.args.place.session []))) (halves_are c.self.inside.cores c.self.inside.edges.items c.self.invariant.0 c.from.result c.args.place.node c.from.ensures (below_all c.self.inside.cores c.self.inside.edges.items c.args.self.now.seats c.args.place.node c.self.invariant.0 (ap (λ (s : Standing). s.seats) c.self.view_is) c.requires.node) c.index_mut.result.now c.index_mut.ensures.value).even (length-set c.index_mut.result.now.links c.args.place.session _)) in (
+      edge_kept c.self.inside.cores c.self.inside.edges.items c.self.invariant.0 c.from.result c.args.place.node c.from.ensures (below_all c.self.inside.cores c.self.inside.edges.items c.args.self.now.seats c.args.place.node c.self.invariant.0 (ap (λ (s : Standing). s.seats) c.self.view_is) c.requires.node) c.index_mut.result.now c.pop.new.self c.index_mut.ensures.value (ap (λ (o : Outer). o.name) c.pop.ensures.rest) (ap (λ (o : Outer). o.others) c.pop.ensures.rest) even,
+      omega (arith, length-set c.self.inside.edges.items c.from.result c.pop.new.self, c.self.invariant.1),
+    )
 
 pub returns-clause-rest : goal.returns-clause-rest
 returns-clause-rest c =
