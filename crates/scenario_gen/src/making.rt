@@ -40,6 +40,10 @@ pub fn scenario(alloc: Global, n: u16) -> Result<Scenario, NoMemory>
     requires first { 1 ≤ n }
     requires last { n ≤ 999 }
     ensures scenario { IfOk result (λ s. s ≡ scenario n) }
+    ensures topology_form { IfOk result (λ s. IsTrue (has_topology_form s.topology)) }
+    ensures config_form { IfOk result (λ s. IsTrue (has_config_form s.config)) }
+    ensures event_form { IfOk result (λ s. IsTrue (list_all has_event_form s.events)) }
+    ensures packet_form { IfOk result (λ s. IsTrue (list_all has_packet_form s.packets)) }
 {
     Ok(Scenario {
         topology: topology(alloc, n)?,
