@@ -5,3 +5,7 @@ pub mod NodeForms
 pub mod TenantForms
 pub mod PolicyForms
 pub mod WholeForm
+pub mod Ranges
+pub mod Numbers
+pub mod Places
+pub mod There

@@ -7,3 +7,4 @@ pub mod Services
 pub mod Policies
 pub mod Schedule
 pub mod Scenario
+pub mod Laws

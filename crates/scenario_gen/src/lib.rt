@@ -1,6 +1,7 @@
 //! Scenarios: for each number a topology, a configuration, events and packets, made by rule.
 #![tactic(auto)]
 
+pub mod laws;
 mod listing;
 mod making;
 mod naming;
@@ -16,3 +17,6 @@ mod whole;
 pub use making::scenario;
 pub use whole::Scenario;
 pub use tenancy::tenants;
+
+#[cfg(test)]
+mod tests;
