@@ -1,5 +1,5 @@
 -- Lists by number have what each of their items has, and names and numbers of scenarios are within their bounds.
-use Rattle.std.proofs.Common.{◌≡◌, ℕ, ◌<◌, ◌≤◌, ◌+◌, ◌%◌, ◌++◌, ◌&&◌, ◌^◌, Bool, true, false, not, nat_le, nat_lt, nat_eq, List, [], ◌∷◌, map, codes, zero, suc}
+use Rattle.std.proofs.Common.{◌≡◌, ℕ, ◌<◌, ◌≤◌, ◌+◌, ◌%◌, ◌&&◌, ◌^◌, Bool, true, false, not, nat_le, nat_lt, nat_eq, List, [], ◌∷◌, map, codes, zero, suc}
 use Rattle.std.proofs.Common.{arith, refl, ◌∙◌}
 use Rattle.std.specs.Fmt.{decimal}
 use Rattle.std.specs.Cmp.Lexicographic.{pointwise}
@@ -9,8 +9,7 @@ use Rattle.std.proofs.lemmas.Bool.Decides.{nat_tests}
 use Rattle.std.proofs.lemmas.Fmt.{decimal_by_steps}
 use Rattle.std.proofs.lemmas.List.Folds.{list_all-append}
 use Rattle.config_model.specs.Form.{is_from_to, is_network_name, is_node_name}
-use Rattle.ov_types.specs.Name.{is_name}
-use Rattle.scenario_gen.specs.Naming.{numbered, below}
+use Rattle.scenario_gen.specs.Naming.{numbered}
 use Rattle.scenario_gen.proofs.Names.{numbered_is_name}
 
 pub all_numbered : {X : Type 0} (p : X → Bool) (f : ℕ → X) (a n : ℕ) → ((k : ℕ) → k < a + n → p (f k) ≡ true)

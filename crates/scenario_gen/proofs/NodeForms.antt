@@ -1,7 +1,5 @@
 -- The topology has the written form.
-use Rattle.std.proofs.Common.{◌≡◌, ℕ, ◌<◌, ◌≤◌, ◌+◌, ◌%◌, ◌&&◌, ◌^◌, true, nat_le, length, [], ◌∷◌, codes, refl, arith}
-use Rattle.std.specs.List.{list_all}
-use Rattle.std.proofs.lemmas.List.FromFn.{length-map-range_with_len}
+use Rattle.std.proofs.Common.{◌≡◌, ℕ, ◌<◌, ◌+◌, ◌%◌, true, codes, refl, arith}
 use Rattle.config_model.specs.Form.{has_controller_form, has_node_form, has_topology_form, is_node_address, is_node_name}
 use Rattle.ov_types.specs.Name.{is_name}
 use Rattle.scenario_gen.specs.Naming.{numbered, address}

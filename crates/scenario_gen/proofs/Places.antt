@@ -1,11 +1,11 @@
 -- Networks and ports by tenant and place.
-use Rattle.std.proofs.Common.{◌≡◌, ℕ, ◌<◌, ◌≤◌, ◌+◌, ◌-◌, ◌*◌, ◌/◌, ◌%◌, ◌&&◌, ◌∷◌, [], List, IsTrue, true, nat_le, nat_lt, length, map, zero, suc, refl, ap, sym, subst, ◌∙◌, arith}
-use Rattle.std.specs.List.{All, Contains, list_any}
+use Rattle.std.proofs.Common.{◌≡◌, ℕ, ◌<◌, ◌≤◌, ◌+◌, ◌-◌, ◌*◌, ◌/◌, ◌%◌, List, true, zero, suc, refl, ap, subst, ◌∙◌, arith}
+use Rattle.std.specs.List.{All, Contains}
 use Rattle.std.proofs.lemmas.Bool.Decides.{nat_tests}
 use Rattle.std.proofs.lemmas.List.Elements.{Contains-get_or}
 use Rattle.std.proofs.lemmas.Nat.{mod-mul-add, div-mul-add, div_below, mod_below, mul-add-lt}
 use Rattle.std.proofs.Math.Nat.{mod-mod_of_dvd, dvd-mul_right}
-use Rattle.ov_types.specs.Prefix.{contains, Block}
+use Rattle.ov_types.specs.Prefix.{contains}
 use Rattle.config_model.specs.declared.config.Network.{Network}
 use Rattle.config_model.specs.declared.config.Port.{Port}
 use Rattle.scenario_gen.specs.Laws.{IsNetworkAt, IsPortAt, HasNetwork}
@@ -80,8 +80,7 @@ pub port_there : (n t place octet : ℕ) → t < tenants n → place < 4 → 1 �
 unfolding config
 port_there n t place octet h few first last =
     let before : ℕ = octet - 1 in
-    let x : ℕ = port_number n t place before in
-    (
+    let x : ℕ = port_number n t place before in (
       port n x,
       has_numbered (port n) 0 (ports_count n) x x (omega arith) (number_is_small n t place before h few (omega (arith, first, last))),
       subst (λ o. IsPortAt t place o (port n x)) (omega (arith, first)) (port_is_at n t place before h few),

@@ -1,5 +1,5 @@
 -- What tenants have has the written form.
-use Rattle.std.proofs.Common.{◌≡◌, ℕ, ◌<◌, ◌≤◌, ◌+◌, ◌*◌, ◌/◌, ◌%◌, ◌&&◌, ◌^◌, true, nat_le, List, length, [], ◌∷◌, codes, refl, arith}
+use Rattle.std.proofs.Common.{◌≡◌, ℕ, ◌<◌, ◌≤◌, ◌+◌, ◌*◌, true, List, length, [], ◌∷◌, codes, refl, arith}
 use Rattle.std.specs.List.{list_all}
 use Rattle.config_model.specs.Form.{has_network_form, has_service_form, has_chain_form, is_network_name, is_from_to, is_block}
 use Rattle.ov_types.specs.Name.{is_name}
@@ -8,7 +8,7 @@ use Rattle.scenario_gen.specs.Nodes.{node_at}
 use Rattle.scenario_gen.specs.Networks.{subnet, network_of, networks_of}
 use Rattle.scenario_gen.specs.Services.{services_of, service_of, chain}
 use Rattle.scenario_gen.specs.Tenants.{web, application, database, management, front_policy, back_policy, management_policy}
-use Rattle.scenario_gen.specs.Tenants.{firewall, balancer, chain_name}
+use Rattle.scenario_gen.specs.Tenants.{firewall, balancer}
 use Rattle.scenario_gen.proofs.Names.{numbered_is_name}
 use Rattle.scenario_gen.proofs.Forms.{application_is_no_any, within, at_most, both, last}
 use Rattle.scenario_gen.proofs.NodeForms.{node_at_is_name}

@@ -1,7 +1,6 @@
 -- The topology, the configuration, the events and the packets of a scenario have the written form.
-use Rattle.std.proofs.Common.{◌≡◌, ℕ, ◌<◌, ◌≤◌, ◌+◌, ◌-◌, ◌*◌, length, ◌/◌, ◌%◌, ◌&&◌, ◌==◌, true, false, Bool, cond, nat_le, nat_eq, List, [], ◌∷◌, codes, refl, arith}
+use Rattle.std.proofs.Common.{◌≡◌, ℕ, ◌<◌, ◌≤◌, ◌+◌, ◌*◌, length, ◌/◌, ◌%◌, ◌==◌, true, false, Bool, cond, List, codes, refl, arith}
 use Rattle.std.specs.List.{list_all}
-use Rattle.std.proofs.lemmas.Bool.Decides.{nat_tests}
 use Rattle.config_model.specs.Edit.{has_edit_form}
 use Rattle.config_model.specs.Event.{has_event_form}
 use Rattle.config_model.specs.Form.{has_config_form, has_network_form, has_port_form, has_policy_form, has_service_form, has_chain_form, has_packet_form}
@@ -9,7 +8,7 @@ use Rattle.ov_types.specs.Name.{is_name}
 use Rattle.scenario_gen.specs.Naming.{numbered}
 use Rattle.scenario_gen.specs.Networks.{networks_of}
 use Rattle.scenario_gen.specs.Policies.{policies_of}
-use Rattle.scenario_gen.specs.Ports.{port, ports_count, networks_count, network_at, network_after}
+use Rattle.scenario_gen.specs.Ports.{port, ports_count, networks_count, network_at}
 use Rattle.scenario_gen.specs.Schedule.{events, packet, packets, asked_port}
 use Rattle.scenario_gen.specs.Scenario.{config}
 use Rattle.scenario_gen.specs.Services.{services_of, chain}

@@ -1,7 +1,7 @@
 -- What scenarios are, in words that do not say how they are made.
 use Rattle.std.specs.Prelude.{◌≡◌, ℕ, ◌+◌, ◌*◌, ⊤, List, [], ◌∷◌, map, IsTrue}
 use Rattle.std.specs.List.{Contains, flat_map, list_any}
-use Rattle.ov_types.specs.Prefix.{Block, contains}
+use Rattle.ov_types.specs.Prefix.{contains}
 use Rattle.config_model.specs.declared.config.Action.{Action}
 use Rattle.config_model.specs.declared.config.Action.TheVariants.{Pass, Deny, Through}
 use Rattle.config_model.specs.declared.config.Config.{Config}
@@ -9,7 +9,7 @@ use Rattle.config_model.specs.declared.config.Network.{Network}
 use Rattle.config_model.specs.declared.config.Policy.{Policy}
 use Rattle.config_model.specs.declared.config.Port.{Port}
 use Rattle.config_model.specs.declared.edit.Edit.{Edit}
-use Rattle.config_model.specs.declared.edit.Edit.TheVariants.{Put, Delete}
+use Rattle.config_model.specs.declared.edit.Edit.TheVariants.{Delete}
 use Rattle.config_model.specs.declared.edit.ObjectKind.TheVariants as Kinds
 use Rattle.config_model.specs.declared.event.Event.{Event}
 use Rattle.config_model.specs.declared.event.Event.TheVariants as Events

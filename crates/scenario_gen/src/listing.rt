@@ -58,7 +58,10 @@ pub(crate) fn all_numbered<T: Numbered>(
 }
 
 /// Those of each tenant, in the order of the tenants.
-pub(crate) fn of_all_tenants<T: OfTenant>(alloc: Global, scenario: u16) -> Result<Items<T>, NoMemory>
+pub(crate) fn of_all_tenants<T: OfTenant>(
+    alloc: Global,
+    scenario: u16,
+) -> Result<Items<T>, NoMemory>
     requires first { 1 ≤ scenario }
     requires last { scenario ≤ 999 }
     ensures { IfOk result (λ xs. xs ≡ flat_map (T.of_tenant scenario) (below (tenants scenario))) }

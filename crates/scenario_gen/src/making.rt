@@ -34,7 +34,7 @@ fn config(alloc: Global, n: u16) -> Result<Config, NoMemory>
     })
 }
 
-/// The scenario of a number.
+/// The scenario of a number. Only want of memory keeps it from being made.
 #[tactic(auto, unfolding(crate::specs::Scenario::scenario))]
 pub fn scenario(alloc: Global, n: u16) -> Result<Scenario, NoMemory>
     requires first { 1 ≤ n }

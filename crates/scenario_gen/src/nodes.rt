@@ -5,7 +5,7 @@ ghost use Rattle.scenario_gen.specs.Nodes.{controller, node, topology};
 use crate::listing::{Numbered, all_numbered};
 use crate::naming::{address, controller_at, numbered};
 use config_model::{Node, Topology};
-use ov_types::{Items, NodeId, NoMemory};
+use ov_types::{Items, NoMemory, NodeId};
 use std::alloc::Global;
 
 /// The number of the autonomous system.
@@ -13,6 +13,7 @@ const AS_NUMBER: u32 = 64_512;
 
 /// How many control nodes and compute nodes there are.
 const CONTROLLERS: u16 = 3;
+
 const NODES: u16 = 20;
 
 impl Numbered for NodeId {

@@ -6,8 +6,8 @@ use ov_types::{Name, Packet};
 use std::alloc::{AllocError, Global};
 use std::test::Fail;
 
-/// Scenarios, and how many tenants each has.
-const VALID: [(u16, usize); 4] = [(1, 1), (16, 16), (17, 1), (999, 7)];
+/// Scenarios that are valid, and how many networks each has.
+const VALID: [(u16, usize); 4] = [(1, 4), (16, 64), (17, 4), (999, 28)];
 
 /// Some of the nodes of each scenario, by place.
 const NODES: [(usize, &str); 3] = [
@@ -150,14 +150,25 @@ fn events_line(alloc: Global, events: &[Event]) -> Result<String, AllocError> {
     Ok(line)
 }
 
+/// How many networks a scenario has, if it is valid.
+fn networks_if_valid(alloc: Global, n: u16) -> Result<usize, Fail> {
+    if n < 1 || n > 999 {
+        return Err(Fail::new("no scenario"));
+    }
+    let Ok(made) = scenario(alloc, n) else {
+        return Err(Fail::new("no memory"));
+    };
+    match check(alloc, made.topology, made.config) {
+        Ok(valid) => Ok(valid.config().networks.len()),
+        Err(_) => Err(Fail::new("not valid")),
+    }
+}
+
 #[test]
 fn scenarios_are_valid(rt: HostRuntime) -> Result<(), Fail> {
     let alloc = rt.alloc();
-    for (n, count) in VALID {
-        let made = made(alloc, n)?;
-        assert_eq!(rt; made.config.networks.len(), 4 * count, "{n}");
-        assert_eq!(rt; made.config.ports.len(), 64 * count, "{n}");
-        assert!(rt; check(alloc, made.topology, made.config).is_ok(), "{n}");
+    for (n, networks) in VALID {
+        assert_eq!(rt; networks_if_valid(alloc, n)?, networks, "{n}");
     }
     Ok(())
 }
