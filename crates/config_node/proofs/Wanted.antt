@@ -56,4 +56,6 @@ some t form =
 
 pub few : (t : Topology) (c : Config) → first_broken t c ≡ None → length t.controllers ≤ 8
 unfolding first_broken
-few t c h = leb-true (length t.controllers) 8 (all_kept _ _ _ _ _ _ _ (counts_kept t c (first_none _ _ h))).controllers_kept
+few t c h =
+    let kept = all_kept _ _ _ _ _ _ _ (counts_kept t c (first_none _ _ h)) in
+    leb-true (length t.controllers) 8 kept.controllers_kept

@@ -1,5 +1,6 @@
 //! The configuration node, its step and its edits.
-ghost use Rattle.std.specs.Prelude.{◌≡◌, ◌≢◌, ◌<◌, ◌↔◌, ◌⊎◌, length, not, true, false, None, Some, IfOk, IfSome, IsTrue};
+ghost use Rattle.std.specs.Prelude.{◌≡◌, ◌≢◌, ◌<◌, ◌↔◌, ◌⊎◌, length, not, true, false};
+ghost use Rattle.std.specs.Prelude.{None, Some, IfOk, IfSome, IsTrue};
 ghost use Rattle.config_model.specs.Edit.{has_edit_form};
 ghost use Rattle.config_model.specs.Form.{has_config_form, has_topology_form};
 ghost use Rattle.config_check.specs.Edits.{edit_fault};
