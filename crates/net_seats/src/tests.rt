@@ -289,32 +289,21 @@ fn seats_are_numbered_in_the_order_of_the_topology(rt: HostRuntime) -> Result<()
     let nodes = Nodes::new(alloc, valid)?;
     assert_eq!(rt; nodes.nodes(), 5);
     assert_eq!(rt; nodes.valid().topology().asn, 64512);
-    assert_eq!(rt; numbered(&nodes, "c1").ok(), Some((1, 4)));
-    assert_eq!(rt; numbered(&nodes, "n2").ok(), Some((4, 2)));
-    assert_eq!(rt;
-        far(
-            &nodes,
-            Place {
-                node: 4,
-                session: 1
-            }
-        )
-        .ok(),
-        Some(Place {
-            node: 1,
-            session: 3
-        })
-    );
+    assert_eq!(rt; numbered(&nodes, "c1")?, (1, 4));
+    assert_eq!(rt; numbered(&nodes, "n2")?, (4, 2));
+    let (end, other) = (place(&nodes, "n2", "c1")?, place(&nodes, "c1", "n2")?);
+    assert_eq!(rt; far(&nodes, end)?, other);
+    assert_eq!(rt; (other.node, other.session), (1, 3));
     Ok(())
 }
 
 #[test]
 fn agents_forward_once_all_is_told(rt: HostRuntime) -> Result<(), Fail> {
     let mut nodes = settled(rt.alloc())?;
-    assert_eq!(rt; all_shown(&nodes).ok(), Some([2, 2, 2, 2]));
+    assert_eq!(rt; all_shown(&nodes)?, [2, 2, 2, 2]);
     assert_eq!(rt;
-        traced(&mut nodes).ok(),
-        Some([Some(PortNo(8)), Some(PortNo(7)), None])
+        traced(&mut nodes)?,
+        [Some(PortNo(8)), Some(PortNo(7)), None]
     );
     Ok(())
 }
@@ -325,12 +314,12 @@ fn an_edit_is_told_to_every_control_node(rt: HostRuntime) -> Result<(), Fail> {
     let name = named("vm3")?;
     let mut nodes = settled(alloc)?;
     let missing = Some(EditFault::Missing { name });
-    assert_eq!(rt; told(alloc, &mut nodes, DELETE).ok(), Some((missing, 0, 0)));
-    assert_eq!(rt; told(alloc, &mut nodes, MOVE).ok(), Some((None, 1, 1)));
+    assert_eq!(rt; told(alloc, &mut nodes, DELETE)?, (missing, 0, 0));
+    assert_eq!(rt; told(alloc, &mut nodes, MOVE)?, (None, 1, 1));
     settle(&mut nodes)?;
     assert_eq!(rt;
-        traced(&mut nodes).ok(),
-        Some([None, Some(PortNo(7)), Some(PortNo(8))])
+        traced(&mut nodes)?,
+        [None, Some(PortNo(7)), Some(PortNo(8))]
     );
     Ok(())
 }
@@ -339,8 +328,8 @@ fn an_edit_is_told_to_every_control_node(rt: HostRuntime) -> Result<(), Fail> {
 fn a_restart_and_a_loss_leave_nothing(rt: HostRuntime) -> Result<(), Fail> {
     let mut nodes = settled(rt.alloc())?;
     let (near, far) = (place(&nodes, "n1", "c1")?, place(&nodes, "c1", "n1")?);
-    assert_eq!(rt; lose(&mut nodes, far).ok(), Some(true));
-    assert_eq!(rt; restart(&mut nodes, near).ok(), Some((false, 0)));
+    assert_eq!(rt; lose(&mut nodes, far)?, true);
+    assert_eq!(rt; restart(&mut nodes, near)?, (false, 0));
     assert!(rt; is_live(&nodes, far));
     Ok(())
 }
