@@ -24,7 +24,8 @@ pub record ChangesOne (k : ℕ) (ns ns' : List Inner) : Type 0 where
 
 -- a node takes an input, whatever notices wait at its ends
 abbrev pub TakesOver : List (List (List ℕ)) → List (List (List ℕ)) → Inner → Inner → Input → Type 0
-TakesOver links links' n n' input = (notices : List Bool) → Takes (seated n links notices) (seated n' links' notices) input
+TakesOver links links' n n' input =
+    (notices : List Bool) → Takes (seated n links notices) (seated n' links' notices) input
 
 -- the configuration node makes an edit, or leaves it
 abbrev pub EditsOver : List (List (List ℕ)) → List (List (List ℕ)) → Inner → Inner → Checked → Edit → Option EditFault

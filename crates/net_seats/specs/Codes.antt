@@ -35,7 +35,8 @@ plans_tell (Forwarding plan) = refl
 
 abbrev pub coded_who : Coded Who
 coded_who =
-    code_by Plan (coded⊎ valid.the_row.coded (coded⊎ controls.the_row.coded agents.the_row.coded)) plan_of who_of plans_tell
+    code_by Plan (coded⊎ valid.the_row.coded (coded⊎ controls.the_row.coded agents.the_row.coded))
+    plan_of who_of plans_tell
 
 -- ---- halves
 abbrev pub coded_inner : Coded Inner

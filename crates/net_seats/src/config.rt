@@ -40,11 +40,13 @@ pub(crate) fn take(
     requires known { session_of input < length (others_of (configured node.old).who) }
     requires long { length node.old.posts ≡ length (others_of (configured node.old).who) }
     requires linked { length links.old ≡ length (others_of (configured node.old).who) }
-    requires comes { Comes (λ i. live (configured node.old) i ≡ true) (λ i. live (configured node.old) i ≡ false) input }
+    requires comes { Comes (λ i. live (configured node.old) i ≡ true) (λ i. live (configured node.old) i ≡ false)
+        input }
     ensures setup { node.new.setup ≡ node.old.setup }
     ensures long { length node.new.posts ≡ length node.old.posts }
     ensures links { length links.new ≡ length links.old }
-    ensures takes { IfOk result (λ _. TakesOver links.old links.new (configured node.old) (configured node.new) input.entry) }
+    ensures takes { IfOk result (λ _. TakesOver links.old links.new (configured node.old) (configured node.new)
+        input.entry) }
 {
     match node.step(input, links) {
         Ok(_) => Ok(()),

@@ -37,11 +37,13 @@ pub(crate) fn take(
     requires known { session_of input < length (others_of (controlled node.old).who) }
     requires long { length node.old.posts ≡ length (others_of (controlled node.old).who) }
     requires linked { length links.old ≡ length (others_of (controlled node.old).who) }
-    requires comes { Comes (λ i. live (controlled node.old) i ≡ true) (λ i. live (controlled node.old) i ≡ false) input }
+    requires comes { Comes (λ i. live (controlled node.old) i ≡ true) (λ i. live (controlled node.old) i ≡ false)
+        input }
     ensures plan { node.new.plan ≡ node.old.plan }
     ensures long { length node.new.posts ≡ length node.old.posts }
     ensures links { length links.new ≡ length links.old }
-    ensures takes { IfOk result (λ _. TakesOver links.old links.new (controlled node.old) (controlled node.new) input.entry) }
+    ensures takes { IfOk result (λ _. TakesOver links.old links.new (controlled node.old) (controlled node.new)
+        input.entry) }
 {
     match node.step(input, links) {
         Ok(_) => Ok(()),

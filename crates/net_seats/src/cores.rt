@@ -1,5 +1,5 @@
 //! The cores of all nodes.
-ghost use Rattle.std.specs.Prelude.{◌≡◌, ◌≢◌, ◌<◌, ◌≤◌, [], ◌++◌, ℕ, List, true, false, length, map, slice_set, IfOk, IsTrue};
+ghost use Rattle.std.specs.Prelude.{◌≡◌, ◌<◌, ◌≤◌, [], true, false, length, slice_set, IfOk, IsTrue};
 ghost use Rattle.config_check.specs.Checked.{Checked};
 ghost use Rattle.config_check.specs.Edits.{edit_fault};
 ghost use Rattle.config_model.specs.Edit.{has_edit_form};

@@ -32,7 +32,12 @@ impl Model for Edge {
 
     ghost view = { λ e. record { name = e.name; others = e.others; links = e.links; notices = e.notices.items } };
 
-    ghost invariant = { λ e. IsEven (record { name = e.name; others = e.others; links = e.links; notices = e.notices.items }) };
+    ghost invariant = { λ e. IsEven (record {
+      name = e.name;
+      others = e.others;
+      links = e.links;
+      notices = e.notices.items;
+    }) };
 }
 
 impl Edge {
@@ -135,7 +140,10 @@ impl Edge {
 
     /// Takes out all messages and all notices.
     pub(crate) fn restart(&mut self)
-        ensures { self.new ≡ record self.old { links = all_of [] self.old.links; notices = all_of false self.old.notices } }
+        ensures { self.new ≡ record self.old {
+          links = all_of [] self.old.links;
+          notices = all_of false self.old.notices;
+        } }
     {
         for session in 0..self.sessions() {
             self.clear(session);

@@ -209,124 +209,127 @@ fn edit(alloc: Global, nodes: &mut Nodes, text: &str) -> Result<Option<EditFault
     Ok(nodes.edit(&edit)?)
 }
 
+/// The number of each node, and how many sessions it has.
+fn numbered(nodes: &Nodes, text: &str) -> Result<(u16, u16), Fail> {
+    let name = named(text)?;
+    let number = nodes.seat_named(&name).ok_or("a node")?;
+    if number >= nodes.nodes() {
+        return Err("a node of them".into());
+    }
+    Ok((number, nodes.sessions(number)))
+}
+
+/// The other end of a session.
+fn far(nodes: &Nodes, place: Place) -> Result<Place, Fail> {
+    if !is_there(nodes, place) {
+        return Err("an end".into());
+    }
+    Ok(nodes.far_of(place).ok_or("another end")?)
+}
+
+/// Marks an end with a notice, and takes out what left it. Says whether it has the notice.
+fn lose(nodes: &mut Nodes, place: Place) -> Result<bool, Fail> {
+    if !is_there(nodes, place) {
+        return Err("an end".into());
+    }
+    nodes.clear(place);
+    if !is_there(nodes, place) {
+        return Err("an end still".into());
+    }
+    nodes.set_notice(place, true);
+    if !is_there(nodes, place) {
+        return Err("an end yet".into());
+    }
+    Ok(nodes.has_notice(place))
+}
+
+/// Restarts a node. Says whether an end of it is live then, and what it shows.
+fn restart(nodes: &mut Nodes, place: Place) -> Result<(bool, usize), Fail> {
+    if place.node == 0 || place.node >= nodes.nodes() {
+        return Err("an agent".into());
+    }
+    nodes.restart(place.node);
+    Ok((is_live(nodes, place), shown(nodes, place.node)?))
+}
+
+/// How many rows the nodes show that have tables.
+fn all_shown(nodes: &Nodes) -> Result<[usize; 4], Fail> {
+    Ok([
+        shown(nodes, 1)?,
+        shown(nodes, 2)?,
+        shown(nodes, 3)?,
+        shown(nodes, 4)?,
+    ])
+}
+
+/// Where the two ports' packets go, one of them to an address that the second port may move to.
+fn traced(nodes: &mut Nodes) -> Result<[Option<PortNo>; 3], Fail> {
+    Ok([
+        delivered(nodes, packet(7, 0x0a01_0006))?,
+        delivered(nodes, packet(8, 0x0a01_0005))?,
+        delivered(nodes, packet(7, 0x0a01_0007))?,
+    ])
+}
+
+/// Makes an edit. Gives its fault, and how many messages left the configuration node for each control node then.
+fn told(
+    alloc: Global,
+    nodes: &mut Nodes,
+    text: &str,
+) -> Result<(Option<EditFault>, usize, usize), Fail> {
+    let (first, second) = (place(nodes, "config", "c1")?, place(nodes, "config", "c2")?);
+    let fault = edit(alloc, nodes, text)?;
+    Ok((fault, sent(nodes, first), sent(nodes, second)))
+}
+
 #[test]
 fn seats_are_numbered_in_the_order_of_the_topology(rt: HostRuntime) -> Result<(), Fail> {
     let alloc = rt.alloc();
     let valid = valid_of(alloc).ok_or("a valid document")?;
     let nodes = Nodes::new(alloc, valid)?;
     assert_eq!(rt; nodes.nodes(), 5);
-    for (number, (name, sessions)) in [("config", 2), ("c1", 4), ("c2", 3), ("n1", 1), ("n2", 2)]
-        .into_iter()
-        .enumerate()
-    {
-        assert_eq!(rt; nodes.seat_named(&named(name)?), Some(number as u16));
-        if number as u16 >= nodes.nodes() {
-            return Err("a node".into());
-        }
-        assert_eq!(rt; nodes.sessions(number as u16), sessions);
-    }
-    let end = place(&nodes, "n2", "c1")?;
-    assert_eq!(rt;
-        end,
-        Place {
-            node: 4,
-            session: 1
-        }
-    );
-    assert_eq!(rt;
-        place(&nodes, "c1", "n2")?,
-        Place {
-            node: 1,
-            session: 3
-        }
-    );
-    if !is_there(&nodes, end) {
-        return Err("an end".into());
-    }
-    assert_eq!(rt;
-        nodes.far_of(end),
-        Some(Place {
-            node: 1,
-            session: 3
-        })
-    );
-    assert!(rt; !nodes.is_live(end));
-    assert!(rt; !nodes.is_up(end));
-    assert!(rt; !nodes.has_notice(end));
     assert_eq!(rt; nodes.valid().topology().asn, 64512);
+    assert_eq!(rt; numbered(&nodes, "c1")?, (1, 4));
+    assert_eq!(rt; numbered(&nodes, "n2")?, (4, 2));
+    let (end, other) = (place(&nodes, "n2", "c1")?, place(&nodes, "c1", "n2")?);
+    assert_eq!(rt; far(&nodes, end)?, other);
+    assert_eq!(rt; (other.node, other.session), (1, 3));
     Ok(())
 }
 
 #[test]
 fn agents_forward_once_all_is_told(rt: HostRuntime) -> Result<(), Fail> {
     let mut nodes = settled(rt.alloc())?;
-    for node in 1..5 {
-        assert_eq!(rt; shown(&nodes, node)?, 2);
-    }
+    assert_eq!(rt; all_shown(&nodes)?, [2, 2, 2, 2]);
     assert_eq!(rt;
-        delivered(&mut nodes, packet(7, 0x0a01_0006))?,
-        Some(PortNo(8))
+        traced(&mut nodes)?,
+        [Some(PortNo(8)), Some(PortNo(7)), None]
     );
-    assert_eq!(rt;
-        delivered(&mut nodes, packet(8, 0x0a01_0005))?,
-        Some(PortNo(7))
-    );
-    assert_eq!(rt; delivered(&mut nodes, packet(7, 0x0a01_0007))?, None);
-    let end = place(&nodes, "c1", "c2")?;
-    if !is_there(&nodes, end) {
-        return Err("an end".into());
-    }
-    assert!(rt; nodes.is_up(end));
     Ok(())
 }
 
 #[test]
 fn an_edit_is_told_to_every_control_node(rt: HostRuntime) -> Result<(), Fail> {
     let alloc = rt.alloc();
-    let mut nodes = settled(alloc)?;
-    let (first, second) = (
-        place(&nodes, "config", "c1")?,
-        place(&nodes, "config", "c2")?,
-    );
     let name = named("vm3")?;
-    assert_eq!(rt;
-        edit(alloc, &mut nodes, DELETE)?,
-        Some(EditFault::Missing { name })
-    );
-    assert_eq!(rt; sent(&nodes, first), 0);
-    assert_eq!(rt; edit(alloc, &mut nodes, MOVE)?, None);
-    assert_eq!(rt; sent(&nodes, first), 1);
-    assert_eq!(rt; sent(&nodes, second), 1);
+    let mut nodes = settled(alloc)?;
+    let missing = Some(EditFault::Missing { name });
+    assert_eq!(rt; told(alloc, &mut nodes, DELETE)?, (missing, 0, 0));
+    assert_eq!(rt; told(alloc, &mut nodes, MOVE)?, (None, 1, 1));
     settle(&mut nodes)?;
     assert_eq!(rt;
-        delivered(&mut nodes, packet(7, 0x0a01_0007))?,
-        Some(PortNo(8))
+        traced(&mut nodes)?,
+        [None, Some(PortNo(7)), Some(PortNo(8))]
     );
-    assert_eq!(rt; delivered(&mut nodes, packet(7, 0x0a01_0006))?, None);
     Ok(())
 }
 
 #[test]
 fn a_restart_and_a_loss_leave_nothing(rt: HostRuntime) -> Result<(), Fail> {
     let mut nodes = settled(rt.alloc())?;
-    let near = place(&nodes, "n1", "c1")?;
-    let far = place(&nodes, "c1", "n1")?;
-    if !is_there(&nodes, far) {
-        return Err("an end".into());
-    }
-    nodes.set_notice(far, true);
-    if !is_there(&nodes, far) {
-        return Err("an end".into());
-    }
-    assert!(rt; nodes.has_notice(far));
-    nodes.clear(far);
-    assert_eq!(rt; sent(&nodes, far), 0);
-    if near.node == 0 || near.node >= nodes.nodes() {
-        return Err("an agent".into());
-    }
-    nodes.restart(near.node);
-    assert!(rt; !is_live(&nodes, near));
+    let (near, far) = (place(&nodes, "n1", "c1")?, place(&nodes, "c1", "n1")?);
+    assert_eq!(rt; lose(&mut nodes, far)?, true);
+    assert_eq!(rt; restart(&mut nodes, near)?, (false, 0));
     assert!(rt; is_live(&nodes, far));
-    assert_eq!(rt; shown(&nodes, near.node)?, 0);
     Ok(())
 }
