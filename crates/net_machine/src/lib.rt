@@ -1,0 +1,16 @@
+//! The whole network: its nodes over queue links, and the state of the network's machine for which it stands.
+#![tactic(auto)]
+
+mod connect;
+mod deliver;
+mod discard;
+mod ends;
+mod happen;
+mod longest;
+mod lose;
+mod order;
+mod round;
+mod settle;
+
+pub use ends::SessionEnds;
+pub use round::Due;
