@@ -1,5 +1,6 @@
 -- What one delivery, and what several in turn, make of a network.
 use Rattle.std.specs.Prelude.{◌≡◌, ℕ, zero, suc, List, [], ◌∷◌, Bool, true, false}
+use denote.Bor.{Bor}
 use Rattle.ov_link.specs.declared.step.Input.{Input}
 use Rattle.ov_link.specs.declared.step.Input.TheVariants.{Bytes, Closed}
 use Rattle.net_model.specs.Seats.{Seat, link_at, live_at, notice_at, seat}
@@ -14,13 +15,19 @@ pub record TakesAt (seats : List Seat) (k : ℕ) (input : Input) (after : List S
   pub takes : Takes (seat seats k) node input
   pub discards : Discards (with_seat k node seats) k after
 
+-- it takes these octets on a session
+pub record TakesOctets (seats : List Seat) (p : Place) (octets : List ℕ) (after : List Seat) : Type 0 where
+  pub bytes : Bor (List ℕ)
+  pub are : bytes.now ≡ octets
+  pub takes : TakesAt seats p.node (Bytes p.session bytes) after
+
 -- what the near end takes: a notice that waits there closes it. Else the first message that left the far end comes
 abbrev pub DeliversTo : List Seat → SessionEnds → Bool → List (List ℕ) → List Seat → Type 0
 DeliversTo seats e true messages after =
     TakesAt (with_notice e.near false seats) e.near.node (Closed e.near.session) after
 DeliversTo seats e false [] after = after ≡ seats
 DeliversTo seats e false (octets ∷ messages) after =
-    TakesAt (with_link e.far messages seats) e.near.node (Bytes e.near.session octets) after
+    TakesOctets (with_link e.far messages seats) e.near octets after
 
 -- nothing comes to an end that is not live
 abbrev pub DeliversIf : Bool → List Seat → SessionEnds → List Seat → Type 0

@@ -1,5 +1,5 @@
 -- What settling makes of a network.
-use Rattle.std.specs.Prelude.{◌≡◌, ℕ, zero, suc, ◌+◌, List, Bool, true, false, ◌&&◌, ◌==◌}
+use Rattle.std.specs.Prelude.{◌≡◌, ℕ, zero, suc, ◌+◌, List, Bool, ◌&&◌, ◌==◌, MatchBool}
 use Rattle.std.specs.List.{list_all}
 use Rattle.net_model.specs.Seats.{Seat, up_at}
 use Rattle.net_machine.specs.declared.ends.SessionEnds.{SessionEnds}
@@ -23,15 +23,11 @@ abbrev pub is_settled : List Seat → List SessionEnds → Bool
 is_settled seats order = list_all (is_rested seats) order
 
 -- rounds until nothing is in flight, at most n more, with their number
-mutual
-  abbrev pub RoundsFrom : ℕ → ℕ → List SessionEnds → List Seat → ℕ → List Seat → Type 0
-  RoundsFrom zero done order seats rounds after = (rounds ≡ done) × (after ≡ seats)
-  RoundsFrom (suc n) done order seats rounds after = RoundsIf (is_quiet seats order) n done order seats rounds after
-
-  abbrev pub RoundsIf : Bool → ℕ → ℕ → List SessionEnds → List Seat → ℕ → List Seat → Type 0
-  RoundsIf true n done order seats rounds after = (rounds ≡ done) × (after ≡ seats)
-  RoundsIf false n done order seats rounds after =
-      (between : List Seat) × IsRound order seats between × RoundsFrom n (done + 1) order between rounds after
+abbrev pub RoundsFrom : ℕ → ℕ → List SessionEnds → List Seat → ℕ → List Seat → Type 0
+RoundsFrom zero done order seats rounds after = (rounds ≡ done) × (after ≡ seats)
+RoundsFrom (suc n) done order seats rounds after =
+    MatchBool (is_quiet seats order) ((rounds ≡ done) × (after ≡ seats))
+    ((between : List Seat) × IsRound order seats between × RoundsFrom n (done + 1) order between rounds after)
 
 -- one round, every session that is down is connected, and then rounds, at most 6 in all more than the number
 pub record Settles (most : ℕ) (order : List SessionEnds) (seats : List Seat) (rounds : ℕ) (after : List Seat)

@@ -1,17 +1,16 @@
 -- The seats of a network: each node, with its links and with the notices of loss that wait at its ends.
-use Rattle.std.specs.Prelude.{◌≡◌, ◌==◌, ℕ, suc, ◌+◌, List, [], ◌∷◌, ◌++◌, map, length, Bool, true, false, not, ◌&&◌}
+use Rattle.std.specs.Prelude.{ℕ, suc, List, [], ◌∷◌, ◌++◌, map, Bool, false, not, ◌&&◌}
 use Rattle.std.specs.Prelude.{find, if◌then◌else◌}
 use Rattle.std.specs.declared.option.Option.{Option}
 use Rattle.std.specs.declared.option.Option.TheVariants.{Some, None}
 use Rattle.std.specs.Option.{option_map, unwrap_or}
 use Rattle.std.specs.List.{filter, slice_index_or}
 use Rattle.ov_types.specs.First.{same_name}
-use Rattle.ov_types.specs.declared.prefix.Addr.{Addr}
 use Rattle.ov_types.specs.declared.rows.NodeId.{NodeId}
 use Rattle.config_model.specs.declared.topology.Node.{Node}
 use Rattle.config_model.specs.declared.topology.Topology.{Topology}
 use Rattle.config_check.specs.Checked.{Checked}
-use Rattle.node_model.specs.Step.{Kind, Phase, Post, post}
+use Rattle.node_model.specs.Step.{Kind, Post, post}
 use Rattle.network_model.specs.Setup.{Name}
 use Rattle.network_model.specs.Network.{config, lists}
 use Rattle.network_model.specs.Session.{Role, Configuration, Controller, Agent, is_idle, is_up_phase}
@@ -122,7 +121,7 @@ is_up n i = is_up_phase (post n.posts i).phase
 -- ---- places: one end of a session, by the numbers of its node and of the session there
 abbrev pub index_from : {A : Type 0} → ℕ → (A → Bool) → List A → Option ℕ
 index_from i is [] = None
-index_from i is (a ∷ as) = if is a then Some i else index_from (suc i) is as
+index_from i is (x ∷ xs) = if is x then Some i else index_from (suc i) is xs
 
 -- the first session of a node with the node of this name
 abbrev pub session_with : Seat → Name → Option ℕ

@@ -1,9 +1,7 @@
 -- Which state of the machine the seats of a network stand for.
-use Rattle.std.specs.Prelude.{◌≡◌, ◌<◌, ℕ, List, [], ◌∷◌, map, length, Bool, true, false, not, ◌&&◌, if◌then◌else◌}
-use Rattle.std.specs.declared.option.Option.{Option}
-use Rattle.std.specs.declared.option.Option.TheVariants.{Some, None}
+use Rattle.std.specs.Prelude.{◌≡◌, ◌<◌, ℕ, List, [], map, length, Bool, true, false, not, ◌&&◌}
+use Rattle.std.specs.declared.option.Option.TheVariants.{Some}
 use Rattle.std.specs.List.{AllByRecursion}
-use Rattle.ov_types.specs.declared.prefix.Addr.{Addr}
 use Rattle.bgp_wire.specs.Content.{KeepsAlive}
 use Rattle.bgp_wire.specs.Spelling as wire
 use Rattle.item_wire.specs.Records as record_of
@@ -19,7 +17,7 @@ use Rattle.network_model.specs.Session.{Message, Open, Keepalive, Hello, Carries
 use Rattle.network_model.specs.Network.{Network, start}
 use Rattle.network_model.specs.Steps.{session_of}
 use Rattle.network_model.specs.Events.{after, event_of}
-use Rattle.net_model.specs.Seats.{Who, Configuring, Controlling, Forwarding, Seat, whos, name_of, others_of}
+use Rattle.net_model.specs.Seats.{Who, Controlling, Seat, whos, name_of, others_of}
 use Rattle.net_model.specs.Seats.{link, notice, other, seat}
 
 -- ---- the octets of a message on a link

@@ -1,10 +1,9 @@
 -- What the steps of nodes make of their seats.
-use Rattle.std.specs.Prelude.{◌≡◌, ◌<◌, ℕ, List, [], ◌∷◌, ◌++◌, map, length, Bool, true, false, if◌then◌else◌}
+use Rattle.std.specs.Prelude.{◌≡◌, ◌<◌, ℕ, List, [], ◌++◌, map, length, Bool, false, if◌then◌else◌}
 use Rattle.std.specs.declared.option.Option.{Option}
 use Rattle.std.specs.declared.option.Option.TheVariants.{Some, None}
 use Rattle.std.specs.List.{filter_map, slice_set}
 use Rattle.ov_link.specs.declared.step.Input.{Input}
-use Rattle.ov_link.specs.declared.step.Input.TheVariants as input
 use Rattle.item_wire.specs.declared.event.ItemCause.{ItemCause}
 use Rattle.ov_types.specs.declared.rows.NodeRows.{NodeRows}
 use Rattle.ov_types.specs.declared.rows.NodeRows.TheVariants as Rows
@@ -23,7 +22,7 @@ use Rattle.control_node.specs.Core as controls
 use Rattle.control_node.specs.declared.cause.NodeCause.{NodeCause}
 use Rattle.agent_node.specs.Beginning as agent
 use Rattle.agent_node.specs.Core as agents
-use Rattle.net_model.specs.Seats.{Who, Configuring, Controlling, Forwarding, Seat, kind_of, link, notice, seat}
+use Rattle.net_model.specs.Seats.{Who, Configuring, Controlling, Forwarding, Seat, kind_of, link, seat}
 use Rattle.net_model.specs.Seats.{is_down_at}
 use Rattle.net_model.specs.declared.place.Place.{Place}
 
@@ -80,7 +79,7 @@ pub record IsDiscarded (seats : List Seat) (k : ℕ) (n' : Seat) : Type 0 where
 
 -- a node with nothing
 abbrev pub all_of : {A B : Type 0} → B → List A → List B
-all_of b as = map (λ _. b) as
+all_of b xs = map (λ _. b) xs
 
 abbrev pub emptied : Seat → Seat
 emptied n = record {

@@ -1,5 +1,5 @@
 -- What a message makes of the end that takes it, as the node sees it.
-use Rattle.std.specs.Prelude.{◌≡◌, ℕ, List, [], ◌∷◌, map, Bool, true, false, if◌then◌else◌}
+use Rattle.std.specs.Prelude.{List, [], ◌∷◌, map, Bool, true, if◌then◌else◌}
 use Rattle.std.specs.declared.option.Option.TheVariants.{Some, None}
 use Rattle.ov_sync.specs.Keyed.{changed}
 use Rattle.node_model.specs.Maps.{Map}

@@ -1,5 +1,5 @@
 -- Which messages a node may have in flight, so that the other end hears what was told.
-use Rattle.std.specs.Prelude.{◌≡◌, List, IsTrue, if◌then◌else◌}
+use Rattle.std.specs.Prelude.{◌≡◌, IsTrue, Bool, true, false}
 use Rattle.std.specs.List.{AllByRecursion}
 use Rattle.ov_types.specs.declared.vpn.VpnKey.{VpnKey}
 use Rattle.ov_types.specs.declared.vpn.VpnRoute.{VpnRoute}
@@ -16,7 +16,7 @@ use Rattle.node_model.specs.Values.{Route}
 use Rattle.node_peers.specs.First.{ChangeFitsItsTypes}
 use Rattle.node_peers.specs.Told.{IsWritable}
 use Rattle.network_model.specs.Session.{Role, Configuration, Controller, Agent, are_peers}
-use Rattle.network_model.specs.Session.{Message, Open, Keepalive, Hello, Carries, Session}
+use Rattle.network_model.specs.Session.{Message, Carries, Session}
 
 -- which records a node may send to another, besides its hello
 abbrev pub from_of : Role → Role → ItemFrom
@@ -37,8 +37,13 @@ pub record IsRecordChange (from : ItemFrom) (c : Change) : Type 0 where
   pub told : CanBeTold c
   pub may : IsTrue (may_send from told.item)
 
+abbrev pub CanCarryAs : Bool → ItemFrom → Change → Type 0
+CanCarryAs true from c = IsRouteChange c
+CanCarryAs false from c = IsRecordChange from c
+
+-- between control nodes a route, and else a record
 abbrev pub CanCarry : Role → Role → Change → Type 0
-CanCarry from to c = if are_peers from to then IsRouteChange c else IsRecordChange (from_of from to) c
+CanCarry from to c = CanCarryAs (are_peers from to) (from_of from to) c
 
 -- from a node to another
 abbrev pub CanSend : Role → Role → Message → Type 0
