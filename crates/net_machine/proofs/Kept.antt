@@ -34,7 +34,7 @@ pub with_count : (seats : List Seat) (k : ℕ) (n : Seat) → length (with_seat 
 with_count seats k n = length-set seats k n
 
 -- what holds of both the changed seat and the one that was there
-same_at : {B : Type 0} (f : Seat → B) (seats : List Seat) (k : ℕ) (n : Seat) → k < length seats → f n ≡ f (seat seats k)
+pub same_at : {B : Type 0} (f : Seat → B) (seats : List Seat) (k : ℕ) (n : Seat) → k < length seats → f n ≡ f (seat seats k)
     → (j : ℕ) → f (seat (with_seat k n seats) j) ≡ f (seat seats j)
 same_at f seats k n within e j =
     elim (cases_eq j k) as (λ _. f (seat (with_seat k n seats) j) ≡ f (seat seats j)) [

@@ -1,3 +1,5 @@
 pub mod Seating
 pub mod Kept
 pub mod Changes
+pub mod Along
+pub mod Discarding

@@ -8,7 +8,6 @@ use crate::ends::is_whole;
 use net_model::{Place, Stations};
 
 /// Whether the other end of a session is live, with no notice.
-#[tactic(auto, using(crate::proofs::Seating::far_is_seated))]
 fn is_whole_there<S: Stations>(stations: &S, place: Place) -> bool
     requires long { AreLong (S.seats stations.now) }
     requires seated { IsSeated (S.seats stations.now) place }

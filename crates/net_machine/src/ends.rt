@@ -25,7 +25,6 @@ pub(crate) fn turned(ends: SessionEnds) -> SessionEnds
 }
 
 /// The session of two nodes, with the first one's end near.
-#[tactic(auto, using(crate::proofs::Seating::ends_are_seated))]
 pub(crate) fn ends_of<S: Stations>(stations: &S, a: &Name, b: &Name) -> Option<SessionEnds>
     requires { AreLong (S.seats stations.now) }
     ensures ends { result ≡ ends_of (S.seats stations.now) a.now b.now }
