@@ -57,3 +57,9 @@ pub longest_more : (o : Option Use) (us : List Use) (m n : ℕ) → n ≡ max (s
     → max n (longest_of us) ≡ max m (longest_of (cons_option o us))
 longest_more None us m n e = omega (arith, e)
 longest_more (Some u) us m n e = omega (arith, e)
+
+pub longest_both : (us vs : List Use) (m n : ℕ) → n ≡ max (longest_of us) m
+    → max n (longest_of vs) ≡ max m (longest_of (us ++ vs))
+longest_both [] vs m n e = omega (arith, e)
+longest_both (u ∷ us) vs m n e =
+    let h = longest_both us vs m (max (longest_of us) m) refl in omega (arith, e, h)

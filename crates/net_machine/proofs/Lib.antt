@@ -3,3 +3,6 @@ pub mod Kept
 pub mod Changes
 pub mod Along
 pub mod Discarding
+pub mod Going
+pub mod Ordering
+pub mod Editing

@@ -6,11 +6,14 @@ use Rattle.net_model.specs.Seats.{Seat, notice_at}
 use Rattle.net_machine.specs.declared.ends.SessionEnds.{SessionEnds}
 use Rattle.net_machine.specs.declared.round.Due.{Due}
 use Rattle.net_machine.specs.Deliveries.{Delivers}
-use Rattle.net_machine.specs.Seating.{turned, waiting}
+use Rattle.net_machine.specs.Seating.{AreSeated, turned, waiting}
 
 -- ---- what waits as a round begins: in each session from its earlier node to its later one, and then back
 abbrev pub due_at : List Seat → SessionEnds → Due
 due_at seats e = record { ends = e; is_notice = notice_at seats e.near; count = waiting seats e }
+
+abbrev pub IsDueSeated : List Seat → Due → Type 0
+IsDueSeated seats d = AreSeated seats d.ends
 
 abbrev pub dues : List Seat → List SessionEnds → List Due
 dues seats order = flat_map (λ e. due_at seats (turned e) ∷ due_at seats e ∷ []) order

@@ -11,8 +11,8 @@ use Rattle.config_check.specs.Checked.{Checked}
 use Rattle.network_model.specs.Setup.{Name}
 use Rattle.network_model.specs.Session.{Session, Controller, Agent}
 use Rattle.network_model.specs.Network.{between, lists, start}
-use Rattle.net_model.specs.Seats.{Seat, far_of, is_down_at, link_at, live_at, name_of, notice_at, others_of, place_of}
-use Rattle.net_model.specs.Seats.{seat, whole_at}
+use Rattle.net_model.specs.Seats.{Configuring, Seat, far_of, is_down_at, link_at, name_of, notice_at, others_of}
+use Rattle.net_model.specs.Seats.{place_of, seat, whole_at}
 use Rattle.net_model.specs.Stands.{IsLong}
 use Rattle.net_model.specs.Steps.{IsDiscarded, with_link, with_seat}
 use Rattle.net_model.specs.declared.place.Place.{Place}
@@ -31,6 +31,12 @@ pub record AreSeated (seats : List Seat) (e : SessionEnds) : Type 0 where
 -- each node has an end, a link and room for a notice for each of its sessions
 abbrev pub AreLong : List Seat → Type 0
 AreLong seats = (k : ℕ) → k < length seats → IsLong (seat seats k)
+
+-- the first node is the configuration node
+pub record IsConfigured (seats : List Seat) : Type 0 where
+  pub some : 0 < length seats
+  pub setup : Checked
+  pub is : (seat seats 0).who ≡ Configuring setup
 
 -- what every event keeps: the nodes by their names, each with its sessions
 pub record Keeps (seats after : List Seat) : Type 0 where

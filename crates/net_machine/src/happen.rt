@@ -1,5 +1,5 @@
 //! Events.
-ghost use Rattle.std.specs.Prelude.{◌≡◌, ◌≤◌, ◌<◌, length, false, IfOk, IsTrue};
+ghost use Rattle.std.specs.Prelude.{◌≡◌, false, IfOk, IsTrue};
 ghost use Rattle.std.specs.List.{All};
 ghost use Rattle.report.specs.Answers.{IsAnswerTo};
 ghost use Rattle.config_model.specs.Edit.{has_edit_form};
@@ -11,7 +11,7 @@ ghost use Rattle.net_model.specs.Seats as seats_of;
 ghost use Rattle.net_model.specs.Seats.{Configuring, seat};
 ghost use Rattle.net_machine.specs.Happenings.{ConnectsOn, DeliversOn, Edits, Happens, LosesOn, RestartsAt, SettlesAs};
 ghost use Rattle.net_machine.specs.Happenings.{earlier_first, shown_at};
-ghost use Rattle.net_machine.specs.Seating.{AreLong, AreSeated, Keeps, ends_of};
+ghost use Rattle.net_machine.specs.Seating.{AreLong, AreSeated, IsConfigured, Keeps, ends_of};
 
 use crate::connect::{connect, may_connect};
 use crate::deliver::deliver_many;
@@ -47,7 +47,7 @@ fn edit_answer(fault: Option<EditFault>) -> Answer
 fn edited<S: Stations>(stations: &mut S, edit: &Edit) -> Result<Answer, NoMemory>
     requires form { IsTrue (has_edit_form edit.now) }
     requires long { AreLong (S.seats stations.old) }
-    requires some { 0 < length (S.seats stations.old) }
+    requires configured { IsConfigured (S.seats stations.old) }
     ensures answer { IfOk result (λ a. (x : Checked) → (seat (S.seats stations.old) 0).who ≡ Configuring x
         → a ≡ edit_answer (edit_fault x edit.now)) }
     ensures edits { IfOk result (λ _. (x : Checked) → (seat (S.seats stations.old) 0).who ≡ Configuring x
@@ -193,7 +193,7 @@ pub(crate) fn happen<S: Stations>(
 ) -> Result<Answer, NoMemory>
     requires form { IsTrue (has_event_form event.now) }
     requires long { AreLong (S.seats stations.old) }
-    requires some { 0 < length (S.seats stations.old) }
+    requires configured { IsConfigured (S.seats stations.old) }
     requires seated { All (AreSeated (S.seats stations.old)) order.now }
     requires works { S.failed stations.old ≡ false }
     ensures happens { IfOk result (λ a. (x : Checked) → (seat (S.seats stations.old) 0).who ≡ Configuring x

@@ -1,9 +1,8 @@
 //! The sessions of a network, in the order of a round.
-ghost use Rattle.std.specs.Prelude.{◌≡◌, ◌++◌, map, drop, option_to_list, IfOk, OnOk};
+ghost use Rattle.std.specs.Prelude.{◌≡◌, ◌++◌, ◌∷◌, [], option_to_list, IfOk, OnOk};
 ghost use Rattle.std.specs.List.{All};
 ghost use Rattle.network_model.specs.Network as network;
 ghost use Rattle.network_model.specs.Network.{accesses, config, feeds, peerings};
-ghost use Rattle.network_model.specs.Session.{Controller};
 ghost use Rattle.net_machine.specs.Seating.{AreLong, AreSeated, accesses_of, ends_of, order_among, order_of, peerings_of};
 
 use crate::ends::{SessionEnds, ends_of};
@@ -108,6 +107,25 @@ fn push_peerings<S: Stations>(
     Ok(())
 }
 
+/// Appends the session of a compute node with a control node, where it lists it.
+fn push_access<S: Stations>(
+    stations: &S,
+    controller: &NodeId,
+    node: &Node,
+    order: &mut Vec<SessionEnds>,
+) -> Result<(), NoMemory>
+    requires long { AreLong (S.seats stations.now) }
+    requires seated { All (AreSeated (S.seats stations.now)) order.old.items }
+    ensures pushed { OnOk result (order.new.items
+        ≡ order.old.items ++ order_among (S.seats stations.now) (accesses_of (controller.now ∷ []) node.now)) }
+    ensures seated { All (AreSeated (S.seats stations.now)) order.new.items }
+{
+    if lists(node, controller) {
+        push_ends(stations, &controller.name, &node.name, order)?;
+    }
+    Ok(())
+}
+
 /// Appends the sessions of a compute node, those of the control nodes that it lists.
 fn push_accesses_of<S: Stations>(
     stations: &S,
@@ -122,9 +140,7 @@ fn push_accesses_of<S: Stations>(
     ensures seated { All (AreSeated (S.seats stations.now)) order.new.items }
 {
     for controller in controllers {
-        if lists(node, controller) {
-            push_ends(stations, &controller.name, &node.name, order)?;
-        }
+        push_access(stations, controller, node, order)?;
     }
     Ok(())
 }

@@ -1,7 +1,7 @@
 //! Rounds.
 ghost use Rattle.std.specs.Prelude.{◌≡◌, ◌++◌, ◌∷◌, [], IfOk, OnOk};
 ghost use Rattle.std.specs.List.{All};
-ghost use Rattle.net_machine.specs.Rounds.{DeliversDue, DeliversDues, IsRound, due_at, dues};
+ghost use Rattle.net_machine.specs.Rounds.{DeliversDue, DeliversDues, IsDueSeated, IsRound, due_at, dues};
 ghost use Rattle.net_machine.specs.Seating.{AreLong, AreSeated, Keeps, turned as turned_ends};
 
 use crate::deliver::deliver;
@@ -51,7 +51,8 @@ fn dues<S: Stations>(
     order: &[SessionEnds],
 ) -> Result<Vec<Due>, NoMemory>
     requires { All (AreSeated (S.seats stations.now)) order.now }
-    ensures { IfOk result (λ due. due.items ≡ dues (S.seats stations.now) order.now) }
+    ensures dues { IfOk result (λ due. due.items ≡ dues (S.seats stations.now) order.now) }
+    ensures seated { IfOk result (λ due. All (IsDueSeated (S.seats stations.now)) due.items) }
 {
     let mut due = Vec::new(alloc);
     for ends in order {
