@@ -20,6 +20,9 @@ one_left n i h = omega arith
 none_left : (n i : ℕ) → n ≤ i → n - i ≡ 0
 none_left n i h = omega arith
 
+pub all_left : (n : ℕ) → n - 0 ≡ n
+all_left n = omega arith
+
 -- ---- deliveries
 pub many_more : (n i : ℕ) (e : SessionEnds) (a b c : List Seat) → i < n → Delivers a e b → DeliversMany (n - (i + 1)) b e c
     → DeliversMany (n - i) a e c

@@ -1,5 +1,5 @@
 //! The sessions of a network, in the order of a round.
-ghost use Rattle.std.specs.Prelude.{◌≡◌, ◌++◌, ◌∷◌, [], option_to_list, IfOk, OnOk};
+ghost use Rattle.std.specs.Prelude.{◌≡◌, ◌≤◌, ◌++◌, ◌∷◌, [], drop, length, option_to_list, IfOk, OnOk};
 ghost use Rattle.std.specs.List.{All};
 ghost use Rattle.network_model.specs.Network as network;
 ghost use Rattle.network_model.specs.Network.{accesses, config, feeds, peerings};
@@ -89,6 +89,14 @@ fn push_peerings_of<S: Stations>(
     Ok(())
 }
 
+/// The control nodes from this place on.
+fn from_place(controllers: &[NodeId], place: usize) -> &[NodeId]
+    requires { place ≤ length controllers.now }
+    ensures { result.now ≡ drop place controllers.now }
+{
+    &controllers[place..]
+}
+
 /// Appends the sessions between control nodes.
 fn push_peerings<S: Stations>(
     stations: &S,
@@ -102,7 +110,8 @@ fn push_peerings<S: Stations>(
     ensures seated { All (AreSeated (S.seats stations.now)) order.new.items }
 {
     for i in 0..controllers.len() {
-        push_peerings_of(stations, &controllers[i], &controllers[i + 1..], order)?;
+        let later = from_place(controllers, i + 1);
+        push_peerings_of(stations, &controllers[i], later, order)?;
     }
     Ok(())
 }

@@ -1,10 +1,16 @@
-use Rattle.std.proofs.Common.{refl, sym, ◌∙◌, ◌-◌}
-use Rattle.net_machine.proofs.Going.{many_more, many_none, many_wait}
+use Rattle.std.proofs.Common.{refl, sym, ◌∙◌, ◌-◌, subst}
+use Rattle.net_machine.specs.Deliveries.{DeliversMany}
+use Rattle.net_machine.proofs.Going.{all_left, many_more, many_none, many_wait}
 use Rattle.net_machine.proofs.Kept.{ends_kept, keeps_all, keeps_both}
 use Rattle.net_machine.proofs.deliver.deliver_many.Goals as goal
 
 pub loop-init : goal.loop-init
-loop-init g c = record { delivers = λ after h. h; keeps = keeps_all _ c.requires.long; failed = refl }
+loop-init g c = record {
+  delivers = λ after h. subst (λ n. DeliversMany n (g.S.Stations.seats c.args.stations.now) c.args.ends after)
+      (all_left c.args.n) h;
+  keeps = keeps_all _ c.requires.long;
+  failed = refl;
+}
 
 pub waiting-requires : goal.waiting-requires
 waiting-requires g c = ends_kept _ _ c.args.ends c.loop.invariant.keeps c.requires.seated

@@ -1,14 +1,15 @@
-use Rattle.std.proofs.Common.{refl, sym, ◌∙◌, ap, subst, arith, ◌+◌, ◌-◌}
+use Rattle.std.proofs.Common.{sym, ◌∙◌, ap, subst, arith, ◌+◌, ◌-◌}
 use Rattle.net_machine.specs.Losses.{all_told}
 use Rattle.net_machine.specs.Seating.{Keeps}
 use Rattle.net_machine.proofs.Changes.{emptied_keeps}
-use Rattle.net_machine.proofs.Going.{told_more, told_none}
+use Rattle.net_machine.proofs.Going.{all_left, told_more, told_none}
 use Rattle.net_machine.proofs.Kept.{keeps_both, seated_kept}
 use Rattle.net_machine.proofs.lose.restart.Goals as goal
 
 pub loop-session-init : goal.loop-session-init
 loop-session-init g c = record {
-  told = refl;
+  told = ap (λ n. all_told n c.args.node 0 (g.S.Stations.seats c.restart.new.self))
+      (all_left c.sessions-sessions.result);
   keeps = subst (Keeps (g.S.Stations.seats c.args.stations.now)) (sym c.restart.ensures.emptied)
       (emptied_keeps _ c.args.node c.requires.long c.requires.node);
   failed = c.restart.ensures.failed;

@@ -1,4 +1,4 @@
-use Rattle.std.proofs.Common.{◌≡◌, ◌++◌, ◌+◌, drop, refl, ◌∙◌}
+use Rattle.std.proofs.Common.{◌≡◌, ◌++◌, ◌+◌, drop, refl, ◌∙◌, ap}
 use Rattle.network_model.specs.Network.{peerings}
 use Rattle.net_machine.specs.Seating.{order_among, peerings_of}
 use Rattle.net_machine.proofs.Ordering.{peerings_step, pushed_all, pushed_some}
@@ -17,7 +17,8 @@ loop-i-preserved g c =
     let controller = c.index-controllers-i.result in
     let pushed : c.push_peerings_of.new.order.items
         ≡ c.loop-i.order.items ++ order_among seats (peerings_of controller (drop (c.loop-i.i + 1) controllers)) =
-    c.in_ok-push_peerings_of.ensures.pushed in
+    c.in_ok-push_peerings_of.ensures.pushed
+    ∙ ap (λ cs. c.loop-i.order.items ++ order_among seats (peerings_of controller cs)) c.from_place-later.ensures in
     record {
       pushed = pushed_some (λ cs. order_among seats (peerings cs)) (λ x xs. order_among seats (peerings_of x xs))
           (peerings_step seats) controllers c.loop-i.i controller c.loop-i.order.items c.push_peerings_of.new.order.items

@@ -1,10 +1,16 @@
-use Rattle.std.proofs.Common.{refl, ◌∙◌}
-use Rattle.net_machine.proofs.Going.{dues_more, dues_none}
+use Rattle.std.proofs.Common.{refl, ◌∙◌, subst}
+use Rattle.net_machine.specs.Rounds.{DeliversDues}
+use Rattle.net_machine.proofs.Going.{all_left, dues_more, dues_none}
 use Rattle.net_machine.proofs.Kept.{ends_kept, keeps_all, keeps_both}
 use Rattle.net_machine.proofs.round.deliver_dues.Goals as goal
 
 pub loop-init : goal.loop-init
-loop-init g c = record { delivers = λ after h. h; keeps = keeps_all _ c.requires.long; failed = refl }
+loop-init g c = record {
+  delivers = λ after h. subst (λ n. DeliversDues n c.args.due.now (g.S.Stations.seats c.args.stations.now) after)
+      (all_left c.args.due.now.count) h;
+  keeps = keeps_all _ c.requires.long;
+  failed = refl;
+}
 
 pub deliver_due-requires-clause-long : goal.deliver_due-requires-clause-long
 deliver_due-requires-clause-long g c = c.loop.invariant.keeps.long

@@ -1,11 +1,14 @@
-use Rattle.std.proofs.Common.{refl, sym, ◌∙◌, arith, rules}
-use Rattle.net_machine.proofs.Going.{rounds_more, rounds_none, rounds_quiet}
+use Rattle.std.proofs.Common.{refl, sym, ◌∙◌, arith, subst}
+use Rattle.net_machine.specs.Settling.{RoundsFrom}
+use Rattle.net_machine.proofs.Going.{all_left, rounds_more, rounds_none, rounds_quiet}
 use Rattle.net_machine.proofs.Kept.{all_kept, keeps_all, keeps_both}
 use Rattle.net_machine.proofs.settle.rounds.Goals as goal
 
 pub loop-init : goal.loop-init
 loop-init g c = record {
-  rounds = λ n after h. h;
+  rounds = λ n after h.
+      subst (λ m. RoundsFrom m 1 c.args.order.now (g.S.Stations.seats c.args.stations.now) n after)
+      (all_left c.args.most) h;
   done = omega arith;
   keeps = keeps_all _ c.requires.long;
   failed = refl;

@@ -1,0 +1,29 @@
+use Rattle.std.proofs.Common.{rules, ◌≡◌, false, IfOk, IsTrue, ℕ, ◌+◌, ◌-◌, ◌*◌, ◌<◌, ◌≤◌, length, ◌/◌, ◌%◌, Bool, true, nat_eq, nat_lt, List, [], ◌∷◌, ◌++◌, slice_index_or, slice_set, bit_and, bit_or, Fits, w8, w32, w64, Bor, MutBor}
+use Rattle.std.specs.List.{All}
+use Rattle.report.specs.Answers.{IsAnswerTo}
+use Rattle.config_model.specs.Edit.{has_edit_form}
+use Rattle.config_model.specs.Event.{has_event_form}
+use Rattle.config_check.specs.Checked.{Checked}
+use Rattle.config_check.specs.Edits.{edit_fault}
+use Rattle.network_model.specs.Events.{edit_answer, unless}
+use Rattle.net_model.specs.Seats as seats_of
+use Rattle.net_model.specs.Seats.{Configuring, seat}
+use Rattle.net_machine.specs.Happenings.{ConnectsOn, DeliversOn, Edits, Happens, LosesOn, RestartsAt, SettlesAs, earlier_first, shown_at}
+use Rattle.net_machine.specs.Seating.{AreLong, AreSeated, IsConfigured, Keeps, ends_of}
+use Rattle.net_machine.proofs.happen.edited.Goals as goal
+
+-- src/happen.rt:60:9
+pub discard-requires-clause-node : goal.discard-requires-clause-node
+discard-requires-clause-node g c = ?
+
+-- src/happen.rt:60:9
+pub discard-requires-clause-long : goal.discard-requires-clause-long
+discard-requires-clause-long g c = ?
+
+-- src/happen.rt:47:1
+pub returns-clause-edits : goal.returns-clause-edits
+returns-clause-edits g c = ?
+
+-- src/happen.rt:47:1
+pub returns-clause-keeps : goal.returns-clause-keeps
+returns-clause-keeps g c = ?
