@@ -3,6 +3,7 @@ use Rattle.std.specs.Prelude.{◌≡◌, ◌<◌, ℕ, List, length, Bool, true,
 use Rattle.std.specs.declared.option.Option.{Option}
 use Rattle.std.specs.declared.option.Option.TheVariants.{Some, None}
 use Rattle.std.proofs.Common.{refl, sym, ◌∙◌, ap, subst}
+use Rattle.std.proofs.lemmas.Bool.{true≢false}
 use Rattle.std.proofs.lemmas.Option.{same_Some}
 use Rattle.config_model.specs.declared.edit.Edit.{Edit}
 use Rattle.config_check.specs.Checked.{Checked}
@@ -38,3 +39,22 @@ edit_keeps seats x e None after long within who (y, n, made, s, is) =
       links = s.links_long ∙ l.links ∙ sym (ap (λ xs. length xs) others);
       notices = ap (λ xs. length xs) s.notices ∙ l.notices ∙ sym (ap (λ xs. length xs) others);
     }))
+
+-- ---- an edit that was made, and one that was not
+pub edit_made : (seats : List Seat) (x : Checked) (e : Edit) (o : Option EditFault) (made after : List Seat)
+    → o ≡ edit_fault x e → MakesEdit seats x e o made → is_some o ≡ false → Discards made 0 after → Edits seats x e after
+edit_made seats x e (Some f) made after same makes none d = absurd (true≢false none)
+edit_made seats x e None made after same makes none d = record {
+  made = made;
+  makes = subst (λ o. MakesEdit seats x e o made) same makes;
+  discards = subst (λ o. DiscardsUnless o made after) same d;
+}
+
+pub edit_refused : (seats : List Seat) (x : Checked) (e : Edit) (o : Option EditFault) (made : List Seat)
+    → o ≡ edit_fault x e → MakesEdit seats x e o made → is_some o ≡ true → Edits seats x e made
+edit_refused seats x e None made same makes some = absurd (true≢false (sym some))
+edit_refused seats x e (Some f) made same makes some = record {
+  made = made;
+  makes = subst (λ o. MakesEdit seats x e o made) same makes;
+  discards = subst (λ o. DiscardsUnless o made made) same refl;
+}

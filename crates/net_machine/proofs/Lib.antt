@@ -6,3 +6,4 @@ pub mod Discarding
 pub mod Going
 pub mod Ordering
 pub mod Editing
+pub mod Forms

@@ -4,6 +4,7 @@ ghost use Rattle.std.specs.List.{All};
 ghost use Rattle.report.specs.Answers.{IsAnswerTo};
 ghost use Rattle.config_model.specs.Edit.{has_edit_form};
 ghost use Rattle.config_model.specs.Event.{has_event_form};
+ghost use Rattle.config_model.specs.declared.event.Event.{Event as Written};
 ghost use Rattle.config_check.specs.Checked.{Checked};
 ghost use Rattle.config_check.specs.Edits.{edit_fault};
 ghost use Rattle.network_model.specs.Events.{edit_answer, unless};
@@ -35,7 +36,8 @@ fn unless(is_idle: bool) -> Answer
 }
 
 fn edit_answer(fault: Option<EditFault>) -> Answer
-    ensures { result ≡ edit_answer fault }
+    ensures answer { result ≡ edit_answer fault }
+    ensures plain { (event : Written) → IsAnswerTo event result }
 {
     match fault {
         None => Answer::Did,
@@ -50,6 +52,7 @@ fn edited<S: Stations>(stations: &mut S, edit: &Edit) -> Result<Answer, NoMemory
     requires configured { IsConfigured (S.seats stations.old) }
     ensures answer { IfOk result (λ a. (x : Checked) → (seat (S.seats stations.old) 0).who ≡ Configuring x
         → a ≡ edit_answer (edit_fault x edit.now)) }
+    ensures plain { IfOk result (λ a. (event : Written) → IsAnswerTo event a) }
     ensures edits { IfOk result (λ _. (x : Checked) → (seat (S.seats stations.old) 0).who ≡ Configuring x
         → Edits (S.seats stations.old) x edit.now (S.seats stations.new)) }
     ensures keeps { IfOk result (λ _. Keeps (S.seats stations.old) (S.seats stations.new)) }
@@ -157,6 +160,7 @@ fn settled<S: Stations>(
 ) -> Result<Answer, NoMemory>
     requires long { AreLong (S.seats stations.old) }
     requires seated { All (AreSeated (S.seats stations.old)) order.now }
+    ensures plain { IfOk result (λ a. (event : Written) → IsAnswerTo event a) }
     ensures settles { IfOk result (λ a. (x : Checked) → (seat (S.seats stations.old) 0).who ≡ Configuring x
         → SettlesAs x order.now (S.seats stations.old) a (S.seats stations.new)) }
     ensures keeps { IfOk result (λ _. Keeps (S.seats stations.old) (S.seats stations.new)) }
