@@ -124,7 +124,7 @@ pub ends_of_kept : (seats after : List Seat) (a b : Name) → Keeps seats after 
 ends_of_kept seats after a b h =
     ap (ends_at after) (place_kept seats after a b h) ∙ ends_at_kept seats after (place_of seats a b) h
 
-among_kept : (seats after : List Seat) (ss : List Session) → Keeps seats after → order_among after ss ≡ order_among seats ss
+pub among_kept : (seats after : List Seat) (ss : List Session) → Keeps seats after → order_among after ss ≡ order_among seats ss
 among_kept seats after [] h = refl
 among_kept seats after (s ∷ ss) h =
     (λ i. cons_option (ends_of_kept seats after s.near.name s.far.name h i) (among_kept seats after ss h i))

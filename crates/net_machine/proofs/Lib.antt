@@ -7,3 +7,11 @@ pub mod Going
 pub mod Ordering
 pub mod Editing
 pub mod Forms
+pub mod Facts
+pub mod Carried
+pub mod Delivering
+pub mod Rounding
+pub mod Connecting
+pub mod Resting
+pub mod Settled
+pub mod Named
