@@ -15,3 +15,4 @@ pub mod Connecting
 pub mod Resting
 pub mod Settled
 pub mod Named
+pub mod Happening
