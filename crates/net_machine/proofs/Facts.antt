@@ -17,6 +17,7 @@ use Rattle.net_model.specs.Seats.{Seat, notice_at, seat, seat_named}
 use Rattle.net_model.specs.Stands.{StandsFor, any_size}
 use Rattle.net_model.specs.Steps.{forwarders_of, shown_by}
 use Rattle.net_machine.specs.declared.ends.SessionEnds.{SessionEnds}
+use Rattle.net_machine.specs.Fitting.{edit_fits}
 use Rattle.net_machine.specs.Connections.{Connects, may_connect}
 use Rattle.net_machine.specs.Deliveries.{Delivers}
 use Rattle.net_machine.specs.Happenings.{Edits}
@@ -51,9 +52,9 @@ abbrev pub IsNotAfter : Option ℕ → Type 0
 IsNotAfter (Some (suc k)) = ⊥
 IsNotAfter _ = Unit {0}
 
--- an edit is of the written form
+-- an edit is of the written form, and of its types
 abbrev pub MayHappen : Event → Type 0
-MayHappen (Changes e) = IsTrue (has_edit_form e)
+MayHappen (Changes e) = IsTrue (has_edit_form e) × IsTrue (edit_fits e)
 MayHappen _ = Unit {0}
 
 -- ---- all of it, where M are the moments
@@ -75,7 +76,7 @@ pub record Facts (M : Network → Type 0) : Type 0 where
       → ends_of seats a b ≡ Some e → StandsFor (lost seats e) (next any_size w (Lose a b))
   pub restarts : (seats : List Seat) (w : Network) (name : Name) (k : ℕ) → M w → StandsFor seats w
       → seat_named seats name ≡ Some (suc k) → StandsFor (restarted seats (suc k)) (next any_size w (Restart name))
-  pub edits : (seats after : List Seat) (w : Network) (e : Edit) → IsTrue (has_edit_form e) → M w → StandsFor seats w
+  pub edits : (seats after : List Seat) (w : Network) (e : Edit) → MayHappen (Changes e) → M w → StandsFor seats w
       → Edits seats w.setup e after → StandsFor after (next any_size w (Changes e))
   pub nodes : (seats : List Seat) (w : Network) (name : Name) (k : ℕ) → M w → StandsFor seats w
       → seat_named seats name ≡ Some (suc k)

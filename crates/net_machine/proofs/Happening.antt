@@ -1,5 +1,5 @@
 -- What an event makes of the state for which seats stand, and what it answers.
-use Rattle.std.specs.Prelude.{◌≡◌, ◌==◌, ℕ, zero, suc, List, [], ◌∷◌, Bool, true, false, cond, not, is_some, IsTrue}
+use Rattle.std.specs.Prelude.{◌≡◌, ◌==◌, ℕ, zero, suc, List, [], ◌∷◌, Bool, true, false, cond, not}
 use Rattle.std.specs.declared.option.Option.{Option}
 use Rattle.std.specs.declared.option.Option.TheVariants.{Some, None}
 use Rattle.std.specs.Option.{option_map, unwrap_or}
@@ -7,7 +7,6 @@ use Rattle.std.proofs.Common.{refl, sym, ◌∙◌, ap, subst}
 use Rattle.config_model.specs.declared.edit.Edit.{Edit}
 use Rattle.config_model.specs.declared.event.Event.{Event as Written}
 use Rattle.config_model.specs.declared.event.Event.TheVariants as event
-use Rattle.config_model.specs.Event.{has_event_form}
 use Rattle.config_check.specs.Checked.{Checked}
 use Rattle.config_check.specs.Edits.{edit_fault}
 use Rattle.route_targets.specs.Forwarding.{forwarding}
@@ -37,7 +36,6 @@ use Rattle.net_machine.specs.Settling.{Settles}
 use Rattle.net_machine.proofs.Connecting.{one_connected, other_earlier}
 use Rattle.net_machine.proofs.Delivering.{many_delivered, stays}
 use Rattle.net_machine.proofs.Facts.{At, Facts, IsNotAfter, MayHappen}
-use Rattle.net_machine.proofs.Forms.{edit_form}
 use Rattle.net_machine.proofs.Named.{earlier_is}
 use Rattle.net_machine.proofs.Resting.{settled_is}
 use Rattle.net_machine.proofs.Rounding.{round_stands}
@@ -196,40 +194,40 @@ module _ (M : Network → Type 0) (f : Facts M) where
 
   -- ---- every event
   pub happens : (seats after : List Seat) (w : Network) (x : Checked) (order : List SessionEnds) (e : Written)
-      (answer : Answer) → At M seats w → x ≡ w.setup → order ≡ order_among seats w.sessions → IsTrue (has_event_form e)
+      (answer : Answer) → At M seats w → x ≡ w.setup → order ≡ order_among seats w.sessions → MayHappen (event_of e)
       → Happens x order e seats answer after
       → Makes w (next any_size w (event_of e)) answer (answer_to w (event_of e)) after
   unfolding next
-  happens seats after w x order (event.Edit e) answer h setup ordered form d = record {
+  happens seats after w x order (event.Edit e) answer h setup ordered may d = record {
     answers = d.0 ∙ ap (λ x. edit_answer (edit_fault x e)) setup;
     stands = record {
-      moment = f.next w (Changes e) (edit_form e form) h.moment;
-      stands = f.edits seats after w e (edit_form e form) h.moment h.stands
+      moment = f.next w (Changes e) may h.moment;
+      stands = f.edits seats after w e may h.moment h.stands
           (subst (λ x. Edits seats x e after) setup d.1);
     };
   }
-  happens seats after w x order (event.Deliver from to n) answer h setup ordered form d =
+  happens seats after w x order (event.Deliver from to n) answer h setup ordered may d =
       delivered_on seats after w to from answer h n (ends_of seats to from) refl d
-  happens seats after w x order (event.Lose a b) answer h setup ordered form d =
+  happens seats after w x order (event.Lose a b) answer h setup ordered may d =
       lost_on seats after w a b answer h (ends_of seats a b) refl d
-  happens seats after w x order (event.Connect a b) answer h setup ordered form d =
+  happens seats after w x order (event.Connect a b) answer h setup ordered may d =
       connected_on seats after w order a b answer (ends_of seats a b) h ordered refl d
-  happens seats after w x order (event.Restart name) answer h setup ordered form d =
+  happens seats after w x order (event.Restart name) answer h setup ordered may d =
       restarted_at seats after w name answer h (seat_named seats name) refl d
-  happens seats after w x order event.Round answer h setup ordered form d =
+  happens seats after w x order event.Round answer h setup ordered may d =
       record { answers = d.0; stands = (round_stands M f seats after w order h ordered d.1).1 }
-  happens seats after w x order event.Settle answer h setup ordered form d =
+  happens seats after w x order event.Settle answer h setup ordered may d =
       let l = settle_leads M f seats after w order d.rounds h ordered
       (subst (λ x. Settles (longest x) order seats d.rounds after) setup d.settles) in
       record {
         answers = d.answers ∙ (λ i. Rounds (sym l.count i) (settled_is M f after (settle w).1 order l.stands l.ordered i));
         stands = l.stands;
       }
-  happens seats after w x order (event.Show name) answer h setup ordered form d = record {
+  happens seats after w x order (event.Show name) answer h setup ordered may d = record {
     answers = shown_is seats after w name answer h (seat_named seats name) refl d.0;
     stands = stays M f seats after w d.1 h;
   }
-  happens seats after w x order (event.Trace p) answer h setup ordered form d = record {
+  happens seats after w x order (event.Trace p) answer h setup ordered may d = record {
     answers = d.0 ∙ ap (λ fs. Traced (forwarding fs p)) (sym (f.forwards seats w h.moment h.stands));
     stands = stays M f seats after w d.1 h;
   }

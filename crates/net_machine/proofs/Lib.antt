@@ -16,3 +16,7 @@ pub mod Resting
 pub mod Settled
 pub mod Named
 pub mod Happening
+pub mod Subnets
+pub mod Proved
+pub mod KnownEnds
+pub mod Known
