@@ -9,3 +9,5 @@ pub mod Losses
 pub mod Settling
 pub mod Longest
 pub mod Happenings
+pub mod Running
+pub mod Codes

@@ -8,9 +8,12 @@ mod ends;
 mod happen;
 mod longest;
 mod lose;
+mod net;
 mod order;
 mod round;
 mod settle;
+mod typed;
 
 pub use ends::SessionEnds;
+pub use net::Net;
 pub use round::Due;
