@@ -137,7 +137,8 @@ impl AgentNode {
 
     /// Whether memory was wanting in a step since the agent was made or restarted. It takes no memory.
     pub fn failed(&self) -> bool
-        ensures { result ≡ self.now.failed }
+        ensures answer { result ≡ self.now.failed }
+        ensures held { self.now.failed ≡ false → self.now.rows ≡ rows_of (holdings self.now.posts) }
     {
         self.failed
     }

@@ -6,7 +6,7 @@ use Rattle.config_check.specs.contracts.valid.Valid as valid
 use Rattle.node_items.specs.Told.{spelled}
 use Rattle.node_model.specs.Codes.{coded_post}
 use Rattle.node_model.specs.Maps.{Map}
-use Rattle.node_model.specs.Step.{Kind, Phase, Post, Idle, nothing}
+use Rattle.node_model.specs.Step.{Kind, Phase, Post, Idle, Up, nothing}
 use Rattle.network_model.specs.Setup.{low}
 
 -- its ends are those of the control nodes, in the order of the topology
@@ -21,6 +21,10 @@ sessions x = length x.topology.controllers
 abbrev pub is_idle : Phase → Bool
 is_idle Idle = true
 is_idle _ = false
+
+abbrev pub is_up : Phase → Bool
+is_up Up = true
+is_up _ = false
 
 -- ---- what it wants its sessions to have been told: the low-level objects of the configuration, from their opening on
 abbrev pub wanted : Checked → List Post → ℕ → Map

@@ -1,3 +1,8 @@
 -- The files of definitions, in the order in which they stand on each other.
 pub mod Core
 pub mod Beginning
+pub mod Ends
+pub mod Planning
+pub mod Taking
+pub mod Editing
+pub mod Advancing

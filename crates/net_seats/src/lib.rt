@@ -1,2 +1,17 @@
 //! The nodes of a network, joined by links that keep their messages until they are taken.
 #![tactic(auto)]
+
+mod agents;
+mod config;
+mod controls;
+mod cores;
+mod edges;
+mod finding;
+mod kinds;
+mod making;
+mod nodes;
+mod plans;
+#[cfg(test)]
+mod tests;
+
+pub use nodes::Nodes;

@@ -66,6 +66,7 @@ pub(crate) fn verdict_at<V: Vrouter>(agents: &mut [V], source: Place, packet: &P
     ensures said { Some result ≡ option_map (λ f. verdict f.rows.acls source.instance.0 packet.now)
         (slice_get (map V.forwarder agents.old) source.agent) }
     ensures same { map V.forwarder agents.new ≡ map V.forwarder agents.old }
+    ensures kept { agents.new ≡ agents.old }
 {
     agents[source.agent].verdict(source.instance, packet)
 }

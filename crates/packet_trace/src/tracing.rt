@@ -15,6 +15,7 @@ pub fn trace<V: Vrouter>(agents: &mut [V], packet: Packet) -> Trace
     ensures outcome { result.outcome ≡ forwarding (map V.forwarder agents.old) packet }
     ensures hops { result.hops ≡ hops_of (map V.forwarder agents.old) packet }
     ensures same { map V.forwarder agents.new ≡ map V.forwarder agents.old }
+    ensures kept { agents.new ≡ agents.old }
 {
     let Some(source) = source_of(agents, packet) else {
         return dropped(Why::NoSourcePort);

@@ -25,7 +25,8 @@ pub trait Vrouter {
     /// What its access lists say of a packet that leaves a network.
     fn verdict(&mut self, network: InstanceId, packet: &Packet) -> Verdict
         ensures said { result ≡ verdict (forwarder self.old).rows.acls network.0 packet.now }
-        ensures same { forwarder self.new ≡ forwarder self.old };
+        ensures same { forwarder self.new ≡ forwarder self.old }
+        ensures kept { self.new ≡ self.old };
 
     /// Where its routes of an instance lead an address. There is nothing exactly where none of them contains it.
     fn route(&self, i: InstanceId, a: Addr) -> Option<Entry>

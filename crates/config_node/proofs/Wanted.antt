@@ -1,0 +1,59 @@
+-- What the control nodes are to be told: the low-level objects of what is valid.
+use Rattle.std.specs.Prelude.{◌≡◌, ◌≤◌, List, [], ◌∷◌, ◌++◌, ◌&&◌, map, nat_le, length, IsTrue, None}
+use Rattle.std.specs.List.{list_all}
+use Rattle.std.specs.declared.cmp.Ordering.{Ordering}
+use Rattle.std.specs.FinMap.{FinMap, from_entries, insert}
+use Rattle.std.proofs.Common.{sym, ◌∙◌, ap}
+use Rattle.std.proofs.lemmas.Bool.{and_parts, leb-true}
+use Rattle.ov_sync.specs.Embed.{embedded}
+use Rattle.ov_sync.specs.Keyed.{map_of}
+use Rattle.config_model.specs.Form.{has_controller_form, has_node_form, has_topology_form, is_as_number}
+use Rattle.config_model.specs.declared.topology.Topology.{Topology}
+use Rattle.config_model.specs.declared.config.Config.{Config}
+use Rattle.config_check.specs.Checked.{Checked}
+use Rattle.config_check.specs.Rules.{first_broken}
+use Rattle.config_check.proofs.Few.{all_kept, counts_kept, first_none}
+use Rattle.transform_model.specs.Objects.{low_objects}
+use Rattle.node_model.specs.Keys.{Low, key_cmp}
+use Rattle.node_model.specs.Values.{Object}
+use Rattle.node_model.specs.Wants.{slice_entry}
+use Rattle.network_model.specs.Setup.{low}
+use Rattle.config_node.specs.Ends.{Objects, low_of, low_order}
+use Rattle.config_node.proofs.Images.{low-entries}
+
+-- ---- entries go into a map, the last first
+put_last : {K V : Type 0} (R : K → K → Ordering) (rest es fs : List (K × V)) (e : K × V)
+    → map_of R fs ≡ insert (map_of R es) e.0 e.1 → map_of R (rest ++ fs) ≡ map_of R ((rest ++ e ∷ []) ++ es)
+put_last R [] es fs e h = h
+put_last {V = V} R (x ∷ rest) es fs e h =
+    ap (λ (m : FinMap R V). insert m x.0 x.1) (put_last R rest es fs e h)
+
+pub turn : {K V : Type 0} (R : K → K → Ordering) (rest before es fs : List (K × V)) (e : K × V) (whole : FinMap R V)
+    → before ≡ rest ++ e ∷ [] → map_of R fs ≡ insert (map_of R es) e.0 e.1 → map_of R (before ++ es) ≡ whole
+    → map_of R (rest ++ fs) ≡ whole
+turn {K = K} {V = V} R rest before es fs e whole is h all =
+    put_last R rest es fs e h ∙ ap (λ (l : List (K × V)). map_of R (l ++ es)) (sym is) ∙ all
+
+-- ---- they are those of the model
+pub as_wanted : (x : Checked) (objects held : Objects) → objects ≡ low_objects x.topology x.config
+    → map_of low_order held ≡ from_entries objects → low_of held ≡ low x
+unfolding low
+as_wanted x objects held is h =
+    ap (embedded {S = key_cmp} Low Object) h ∙ low-entries objects
+    ∙ ap (λ (es : Objects). from_entries (map slice_entry es)) is
+
+-- ---- how many control nodes there are
+pub some : (t : Topology) → IsTrue (has_topology_form t) → 1 ≤ length t.controllers
+unfolding has_topology_form
+some t form =
+    let asn = is_as_number t.asn in
+    let controllers = list_all has_controller_form t.controllers in
+    let nodes = list_all has_node_form t.nodes in
+    let one = nat_le 1 (length t.controllers) in
+    let first = and_parts (asn && controllers && one && nodes) (nat_le 1 (length t.nodes)) form in
+    let second = and_parts (asn && controllers && one) nodes first.0 in
+    leb-true 1 (length t.controllers) (and_parts (asn && controllers) one second.0).1
+
+pub few : (t : Topology) (c : Config) → first_broken t c ≡ None → length t.controllers ≤ 8
+unfolding first_broken
+few t c h = leb-true (length t.controllers) 8 (all_kept _ _ _ _ _ _ _ (counts_kept t c (first_none _ _ h))).controllers_kept

@@ -1,0 +1,81 @@
+-- The ends of the configuration node's sessions, and what always holds of them.
+use Rattle.std.specs.Prelude.{◌≡◌, ◌≤◌, ℕ, List, [], map, length, refl}
+use Rattle.std.specs.Coded.{Coded, code_by, coded×, coded_list}
+use Rattle.std.specs.FinMap.{empty}
+use Rattle.std.specs.List.{AllByRecursion}
+use Rattle.std.specs.declared.cmp.Ordering.{Ordering}
+use Rattle.ov_sync.specs.Embed.{embedded}
+use Rattle.ov_sync.specs.Keyed.{map_of}
+use Rattle.ov_types.specs.contracts.objects.LowKeyOrd.TheImpl as low_keys
+use Rattle.ov_types.specs.declared.objects.LowKey.{LowKey}
+use Rattle.ov_types.specs.declared.objects.LowValue.{LowValue}
+use Rattle.ov_types.specs.declared.rows.NodeId.{NodeId}
+use Rattle.item_wire.specs.Happenings.{SessionFields, idle_session}
+use Rattle.item_wire.specs.declared.event.ItemFrom.{ItemFrom}
+use Rattle.item_wire.specs.declared.event.ItemFrom.TheVariants.{Nothing}
+use Rattle.config_check.specs.Checked.{Checked}
+use Rattle.config_check.specs.contracts.valid.Valid as valid
+use Rattle.node_items.specs.Beginning.{phase_of}
+use Rattle.node_items.specs.Told.{AllFit}
+use Rattle.node_model.specs.Codes.{coded_post}
+use Rattle.node_model.specs.Keys.{Low, key_cmp}
+use Rattle.node_model.specs.Maps.{Map}
+use Rattle.node_model.specs.Step.{Post}
+use Rattle.node_model.specs.Values.{Object}
+use Rattle.network_model.specs.Setup.{low}
+use Rattle.config_node.specs.declared.ends.FeedEnd.{FeedEnd}
+
+pub record Ends : Type 0 where
+  pub setup : Checked
+  pub posts : List Post
+
+-- ---- low-level objects among all keys and values
+abbrev pub Objects : Type 0
+Objects = List (LowKey × LowValue)
+
+abbrev pub low_order : LowKey → LowKey → Ordering
+low_order = low_keys.ghosts.cmp
+
+abbrev pub low_of : Objects → Map
+low_of es = embedded {S = key_cmp} Low Object (map_of low_order es)
+
+-- ---- an end, with what was sent on its session. Nothing is held of a control node
+abbrev pub end_at : FeedEnd → Post
+end_at e = record { phase = phase_of e.session.state; sent = low_of e.sent; held = empty }
+
+abbrev pub posts_of : List FeedEnd → List Post
+posts_of es = map end_at es
+
+-- the end of the session with a control node, from the start
+abbrev pub new_end : NodeId → FeedEnd
+new_end n = record { session = idle_session n.name Nothing; sent = [] }
+
+-- ---- what always holds
+-- whom a session is with, and what that one may send
+abbrev pub whom : SessionFields → List ℕ × ItemFrom
+whom s = (s.peer, s.from)
+
+abbrev pub whom_at : FeedEnd → List ℕ × ItemFrom
+whom_at e = whom e.session
+
+abbrev pub controller : NodeId → List ℕ × ItemFrom
+controller n = (n.name, Nothing)
+
+abbrev pub SentFits : FeedEnd → Type 0
+SentFits e = AllFit (low_of e.sent)
+
+-- a session with each control node, in their order. What is to be told are the low-level objects of what is valid, and
+-- these and what was sent can be told
+pub record AreEnds (x : Checked) (wants : Objects) (ends : List FeedEnd) : Type 0 where
+  pub some : 1 ≤ length x.topology.controllers
+  pub few : length x.topology.controllers ≤ 8
+  pub whose : map whom_at ends ≡ map controller x.topology.controllers
+  pub wanted : low_of wants ≡ low x
+  pub fits : AllFit (low x)
+  pub sent : AllByRecursion SentFits ends
+
+-- ---- how they are told apart
+abbrev pub coded_ends : Coded Ends
+coded_ends =
+    code_by (Checked × List Post) (coded× valid.the_row.coded (coded_list coded_post))
+    (λ e. (e.setup, e.posts)) (λ c. record { setup = c.0; posts = c.1 }) (λ _. refl)

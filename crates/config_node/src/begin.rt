@@ -1,0 +1,124 @@
+//! What an input makes of the end of its session.
+ghost use Rattle.std.specs.Prelude.{◌≡◌, ◌<◌, ◌∷◌, [], IfOk, slice_set, true, false};
+ghost use Rattle.item_wire.specs.Records.{spelling};
+ghost use Rattle.item_wire.specs.declared.event.ItemFrom.TheVariants.{Nothing};
+ghost use Rattle.item_wire.specs.declared.item.Item.TheVariants.{Hello};
+ghost use Rattle.node_core.specs.Begun.{HasBegun};
+ghost use Rattle.node_core.specs.Whole.{Comes, session_of};
+ghost use Rattle.node_model.specs.Step.{Begun as BegunOf, Idle, Opened, post};
+ghost use Rattle.network_model.specs.Network.{config};
+ghost use Rattle.config_node.specs.Beginning.{Begins};
+ghost use Rattle.config_node.specs.Core.{is_idle, sessions};
+ghost use Rattle.config_node.specs.Ends.{whom};
+ghost use Rattle.config_node.specs.Taking.{HasHeard, HasTaken};
+
+use crate::ends::ConfigEnds;
+use item_wire::{ItemCause, ItemSession};
+use node_core::Ends;
+use node_items::{Heard, greet, hear};
+use ov_link::Input;
+use ov_types::{Items, Name, NoMemory};
+use std::alloc::Global;
+
+/// What an input came to at its end.
+#[derive(Drop)]
+pub(crate) struct Begun {
+    /// The octets that are to be sent on the session, message by message.
+    pub(crate) replies: Items<Items<u8>>,
+    /// Why the octets took the session down, where they did.
+    pub(crate) cause: Option<ItemCause>,
+}
+
+/// The configuration node's name.
+fn config_name() -> Name
+    ensures { result ≡ config }
+{
+    match Name::new("config") {
+        Some(name) => name,
+        None => unreachable!(),
+    }
+}
+
+/// Hears octets at an end. A control node sends its hello alone, so that any other record takes the session down.
+fn hear_at(
+    alloc: Global,
+    session: &mut ItemSession,
+    bytes: &[u8],
+) -> Result<Option<ItemCause>, NoMemory>
+    requires from { session.old.from ≡ Nothing }
+    ensures heard { IfOk result (λ cause. HasHeard session.old bytes.now session.new cause) }
+    ensures whom { whom session.new ≡ whom session.old }
+{
+    let Heard { records, cause } = hear(alloc, session, bytes)?;
+    let _none = records;
+    Ok(cause)
+}
+
+impl ConfigEnds {
+    /// Opens an end. Gives the hello that is to be sent.
+    fn greet_at(&mut self, session: u16) -> Result<Items<Items<u8>>, NoMemory>
+        requires known { session < sessions self.old.setup }
+        requires idle { (post self.old.posts session).phase ≡ Idle }
+        ensures setup { self.new.setup ≡ self.old.setup }
+        ensures hello { IfOk result (λ replies. replies ≡ spelling (Hello config) ∷ []) }
+        ensures opened { self.new.posts
+            ≡ slice_set self.old.posts session (record (post self.old.posts session) { phase = Opened }) }
+    {
+        let end = &mut self.ends[usize::from(session)];
+        greet(self.alloc, &mut end.session, &config_name())
+    }
+
+    /// Hears octets at an end, which is closed where they take its session down: then this is why.
+    fn hear_on(&mut self, session: u16, bytes: &[u8]) -> Result<Option<ItemCause>, NoMemory>
+        requires known { session < sessions self.old.setup }
+        ensures setup { self.new.setup ≡ self.old.setup }
+        ensures heard { IfOk result (λ cause. HasTaken self.old.setup session bytes.now self.old.posts self.new.posts
+            cause) }
+    {
+        let end = &mut self.ends[usize::from(session)];
+        match hear_at(self.alloc, &mut end.session, bytes)? {
+            None => Ok(None),
+            Some(cause) => {
+                self.close(session);
+                Ok(Some(cause))
+            }
+        }
+    }
+
+    /// Applies an input to the end of its session.
+    pub(crate) fn begin(&mut self, input: Input<'_>) -> Result<Begun, NoMemory>
+        requires known { session_of input < sessions self.old.setup }
+        requires comes { Comes (λ i. is_idle (post self.old.posts i).phase ≡ false)
+            (λ i. is_idle (post self.old.posts i).phase ≡ true) input }
+        ensures setup { self.new.setup ≡ self.old.setup }
+        ensures begins { IfOk result (λ begun. (given : BegunOf)
+            × Begins self.old.setup (session_of input.entry) (post self.old.posts (session_of input.entry)) input.entry
+            given begun.cause
+            × HasBegun self.old.posts (session_of input.entry) given begun.replies self.new.posts) }
+    {
+        let alloc = self.alloc;
+        match input {
+            Input::Opened { session } => {
+                let replies = self.greet_at(session)?;
+                Ok(Begun {
+                    replies,
+                    cause: None,
+                })
+            }
+            Input::Bytes { session, bytes } => {
+                let cause = self.hear_on(session, bytes)?;
+                Ok(Begun {
+                    replies: Items::new(alloc),
+                    cause,
+                })
+            }
+            Input::Closed { session } => {
+                self.close(session);
+                Ok(Begun {
+                    replies: Items::new(alloc),
+                    cause: None,
+                })
+            }
+        }
+    }
+}

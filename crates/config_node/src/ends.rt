@@ -1,0 +1,187 @@
+//! The ends of the configuration node's sessions.
+ghost use Rattle.std.specs.Prelude.{◌≡◌, ◌<◌, [], length, map, not, None, Some, IfOk, IfSome, IsTrue, OnErr};
+ghost use Rattle.config_model.specs.Edit.{has_edit_form};
+ghost use Rattle.config_model.specs.Form.{has_config_form, has_topology_form};
+ghost use Rattle.config_check.specs.Edits.{edit_fault};
+ghost use Rattle.config_check.specs.Rules.{first_broken};
+ghost use Rattle.item_wire.specs.Happenings.{after};
+ghost use Rattle.item_wire.specs.declared.input.Came.TheVariants.{Closed};
+ghost use Rattle.node_items.specs.Beginning.{phase_of};
+ghost use Rattle.node_model.specs.Step.{post};
+ghost use Rattle.network_model.specs.Setup.{edited};
+ghost use Rattle.config_node.specs.Core.{is_idle, nothings, sessions};
+ghost use Rattle.config_node.specs.Ends.{new_end};
+
+use crate::planning::plan_all;
+use crate::wants::{Objects, wanted};
+use config_check::{EditFault, EditRefusal, Valid, apply_edit};
+use config_model::Edit;
+use item_wire::{ItemFrom, ItemSession, ItemState};
+use node_core::{Ends, Plan};
+use ov_sync::SyncOut;
+use ov_types::{LowKey, LowValue, NoMemory, NodeId};
+use std::alloc::Global;
+use std::marker::Model;
+
+/// The end of a session with a control node, and what was sent on it.
+#[derive(Drop)]
+pub(crate) struct FeedEnd {
+    pub(crate) session: ItemSession,
+    pub(crate) sent: SyncOut<LowKey, LowValue>,
+}
+
+impl FeedEnd {
+    pub(crate) fn is_live(&self) -> bool
+        ensures { result ≡ not (is_idle (phase_of self.now.session.state)) }
+    {
+        !matches!(self.session.state(), ItemState::Idle)
+    }
+
+    /// Closes the end. Nothing was sent on it then.
+    fn shut(&mut self)
+        ensures session { self.new.session ≡ after self.old.session Closed }
+        ensures sent { self.new.sent ≡ [] }
+    {
+        let _down = self.session.closed();
+        self.sent.reset();
+    }
+}
+
+/// The ends of all sessions, in the order of the control nodes, with what is valid and what they are to be told of it.
+#[derive(Drop)]
+pub(crate) struct ConfigEnds {
+    pub(crate) valid: Valid,
+    pub(crate) wants: Objects,
+    pub(crate) ends: Vec<FeedEnd>,
+    pub(crate) alloc: Global,
+}
+
+impl Model for ConfigEnds {
+    ghost use Rattle.config_node.specs.Ends.{Ends as Seen, AreEnds, coded_ends, posts_of};
+
+    ghost Value = { Seen };
+
+    ghost coded = { coded_ends };
+
+    ghost view = { λ e. record { setup = e.valid; posts = posts_of e.ends.items } };
+
+    ghost invariant = { λ e. AreEnds e.valid e.wants.entries e.ends.items };
+}
+
+impl Ends for ConfigEnds {
+    ghost use Rattle.std.specs.Prelude.{◌≡◌, refl};
+    ghost use Rattle.std.proofs.Common.{◌∙◌};
+    ghost use Rattle.config_node.specs.Core.{kind};
+
+    ghost kind = { λ e. kind e.setup };
+
+    ghost posts = { λ e. e.posts };
+
+    ghost stays = { λ before after. after.setup ≡ before.setup };
+
+    fn plan(&mut self) -> Result<Vec<Plan>, NoMemory> {
+        let plans = plan_all(self.alloc, &mut self.ends, &self.wants)?;
+        Ok(plans)
+    }
+
+    fn close(&mut self, session: u16) {
+        self.ends[usize::from(session)].shut();
+    }
+
+    ghost stays_itself = { λ _. refl };
+
+    ghost stays_on = { λ _ _ _ first then. then ∙ first };
+
+    ghost idle_is_silent = { λ _ _. refl };
+}
+
+/// The ends of sessions with these control nodes, all closed.
+fn new_ends(alloc: Global, controllers: &[NodeId]) -> Result<Vec<FeedEnd>, NoMemory>
+    ensures { IfOk result (λ ends. ends.items ≡ map new_end controllers.now) }
+{
+    let mut ends = Vec::new(alloc);
+    for controller in controllers {
+        ends.push(FeedEnd {
+            session: ItemSession::new(controller.name, ItemFrom::Nothing),
+            sent: SyncOut::new(alloc),
+        })?;
+    }
+    Ok(ends)
+}
+
+impl ConfigEnds {
+    /// The ends of the sessions with the control nodes of what is valid, all closed.
+    pub(crate) fn new(alloc: Global, valid: Valid) -> Result<ConfigEnds, NoMemory>
+        ensures setup { IfOk result (λ ends. ends.setup ≡ valid) }
+        ensures posts { IfOk result (λ ends. ends.posts ≡ nothings (sessions valid)) }
+    {
+        let wants = wanted(alloc, &valid)?;
+        let ends = new_ends(alloc, valid.topology().controllers.as_slice())?;
+        Ok(ConfigEnds {
+            valid,
+            wants,
+            ends,
+            alloc,
+        })
+    }
+
+    /// What is valid now.
+    pub(crate) fn valid(&self) -> &Valid
+        ensures setup { result.now ≡ self.now.setup }
+        ensures topology_form { IsTrue (has_topology_form self.now.setup.topology) }
+        ensures config_form { IsTrue (has_config_form self.now.setup.config) }
+        ensures valid { first_broken self.now.setup.topology self.now.setup.config ≡ None }
+    {
+        let _topology = self.valid.topology();
+        &self.valid
+    }
+
+    /// How many sessions there are.
+    pub(crate) fn sessions(&self) -> u16
+        ensures sessions { result ≡ sessions self.now.setup }
+        ensures posts { length self.now.posts ≡ sessions self.now.setup }
+        ensures some { 0 < sessions self.now.setup }
+    {
+        self.ends.len() as u16
+    }
+
+    /// The state of a session.
+    pub(crate) fn state(&self, session: u16) -> ItemState
+        requires { session < sessions self.now.setup }
+        ensures { phase_of result ≡ (post self.now.posts session).phase }
+    {
+        self.ends[usize::from(session)].session.state()
+    }
+
+    /// Closes every end. It takes no memory.
+    pub(crate) fn close_all(&mut self)
+        ensures setup { self.new.setup ≡ self.old.setup }
+        ensures posts { self.new.posts ≡ nothings (sessions self.old.setup) }
+    {
+        for session in 0..self.sessions() {
+            self.close(session);
+        }
+    }
+
+    /// Makes an edit of what is valid, unless it has a fault.
+    pub(crate) fn edit(&mut self, edit: &Edit) -> Result<Option<EditFault>, NoMemory>
+        requires { IsTrue (has_edit_form edit.now) }
+        ensures topology { self.new.setup.topology ≡ self.old.setup.topology }
+        ensures posts { self.new.posts ≡ self.old.posts }
+        ensures fault { IfOk result (λ fault. fault ≡ edit_fault self.old.setup edit.now) }
+        ensures refused { IfOk result (λ fault. IfSome fault (λ _. self.new ≡ self.old)) }
+        ensures made { IfOk result (λ fault. fault ≡ None → edited self.old.setup edit.now ≡ Some self.new.setup) }
+        ensures err { OnErr result (self.new ≡ self.old) }
+    {
+        match apply_edit(self.alloc, &self.valid, edit) {
+            Ok(valid) => {
+                let wants = wanted(self.alloc, &valid)?;
+                self.valid = valid;
+                self.wants = wants;
+                Ok(None)
+            }
+            Err(EditRefusal::Edit(fault)) => Ok(Some(fault)),
+            Err(EditRefusal::NoMemory) => Err(NoMemory),
+        }
+    }
+}

@@ -1,0 +1,46 @@
+-- What the agents forward by, and an edit at the first node.
+use Rattle.std.proofs.Common.{◌≡◌, ◌<◌, ℕ, zero, suc, List, [], ◌∷◌, ◌++◌, Result, Ok, Err, IfOk, Option, length, map, get_or, sym, ◌∙◌, ap, refl, subst, arith}
+use Rattle.std.specs.List.{All}
+use Rattle.ov_types.specs.declared.rows.AgentRows.{AgentRows}
+use Rattle.config_check.specs.Checked.{Checked}
+use Rattle.config_check.specs.declared.edits.EditFault.{EditFault}
+use Rattle.config_model.specs.declared.edit.Edit.{Edit}
+use Rattle.route_targets.specs.Forwarding.{Forwarder}
+use Rattle.node_model.specs.Agent.{rows as node_rows}
+use Rattle.config_node.specs.Core as configuration
+use Rattle.control_node.specs.Core as control
+use Rattle.agent_node.specs.Core as agent
+use Rattle.net_model.specs.Seats.{Configuring, Who}
+use Rattle.net_seats.specs.Changes.{EditsOver, forwarders}
+use Rattle.net_seats.specs.Cores.{IsRight, configured, controlled, forwarded, inners}
+use Rattle.net_seats.specs.Halves.{Inner}
+use Rattle.net_seats.proofs.Quiet.{Queue}
+
+abbrev pub shown_at : agent.Core → Forwarder
+shown_at a = record { address = a.plan.me.address; rows = a.rows }
+
+agents_forward : (agents : List agent.Core) → All IsRight agents → map shown_at agents ≡ forwarders (map forwarded agents)
+agents_forward [] h = refl
+agents_forward (a ∷ agents) h =
+    let right : IsRight a = h 0 a (omega arith) in
+    let rest : map shown_at agents ≡ forwarders (map forwarded agents) = agents_forward agents (λ k d lt. h (suc k) d (omega arith)) in
+    ap (λ (rows : AgentRows). let f : Forwarder = record { address = a.plan.me.address; rows = rows } in f ∷ map shown_at agents) right.rows
+    ∙ ap (λ (fs : List Forwarder). let f : Forwarder = record { address = a.plan.me.address; rows = node_rows (agent.holdings a.posts) } in f ∷ fs) rest
+
+past_controls : (controls : List control.Core) (ns : List Inner) → forwarders ns ≡ forwarders (map controlled controls ++ ns)
+past_controls [] ns = refl
+past_controls (c ∷ controls) ns = past_controls controls ns
+
+pub all_forward : (x : configuration.Core) (controls : List control.Core) (agents : List agent.Core) → All IsRight agents
+    → map shown_at agents ≡ forwarders (inners x controls agents)
+all_forward x controls agents h = agents_forward agents h ∙ past_controls controls (map forwarded agents)
+
+pub edits_there : {E : Type 0} (r : Result (Option EditFault) E) (n : Inner) (old : configuration.Core) (n' : Inner) (links links' : List Queue) (e : Edit)
+    → n ≡ configured old → IfOk r (λ fault. EditsOver links links' (configured old) n' old.setup e fault)
+    → IfOk r (λ fault. (x : Checked) → n.who ≡ Configuring x → EditsOver links links' n n' x e fault)
+edits_there (Err y) n old n' links links' e is edits = tt
+edits_there (Ok fault) n old n' links links' e is edits = λ x who.
+    let both : Configuring old.setup ≡ Configuring x = ap (λ (m : Inner). m.who) (sym is) ∙ who in
+    let same : old.setup ≡ x = cc in
+    subst (λ (m : Inner). EditsOver links links' m n' x e fault) (sym is)
+    (subst (λ (y : Checked). EditsOver links links' (configured old) n' y e fault) same edits)

@@ -1,0 +1,12 @@
+pub mod Quiet
+pub mod Stepping
+pub mod Halves
+pub mod Numbers
+pub mod Found
+pub mod Pushed
+pub mod Cleared
+pub mod Forwarding
+pub mod Emptied
+pub mod Standing
+pub mod SetUp
+pub mod Made

@@ -1,0 +1,179 @@
+-- The nodes that are made of a valid topology, with nothing of each other.
+use Rattle.std.proofs.Common.{◌≡◌, ◌<◌, ◌≤◌, ◌+◌, ◌^◌, ℕ, zero, suc, Bool, true, false, cond, not, List, [], ◌∷◌, ◌++◌, length, map, get_or, sym, ◌∙◌, ap, refl, subst, arith, length-append}
+use Rattle.std.proofs.lemmas.List.Elements.{All-append}
+use Rattle.std.specs.List.{All, AllByRecursion, filter}
+use Rattle.ov_types.specs.First.{same_name}
+use Rattle.ov_types.specs.declared.rows.NodeId.{NodeId}
+use Rattle.config_check.specs.Checked.{Checked}
+use Rattle.config_model.specs.declared.topology.Node.{Node}
+use Rattle.config_model.specs.declared.topology.Topology.{Topology}
+use Rattle.network_model.specs.Network.{lists}
+use Rattle.node_model.specs.Step.{Post, nothing}
+use Rattle.config_node.specs.Core as configuration
+use Rattle.control_node.specs.Core as control
+use Rattle.agent_node.specs.Core as agent
+use Rattle.net_model.specs.Seats.{Configuring, Controlling, Forwarding, Seat, Who, agent_plan, control_plan, controller_named, id_of, names_of, others_of, whos}
+use Rattle.net_model.specs.Steps.{all_of}
+use Rattle.net_seats.specs.Cores.{configured, controlled, forwarded, inners}
+use Rattle.net_seats.specs.Fresh.{IsSetUp, fresh_inner, fresh_outer, fresh_seat}
+use Rattle.net_seats.specs.Halves.{AreAllHalves, Inner, Outer, joined}
+use Rattle.net_seats.proofs.Stepping.{as_long, named, nothing_agent, nothing_config, nothing_control, sessions_of_agent, sessions_of_config, sessions_of_control}
+
+-- ---- one more at the end
+one_right : {A : Type 0} (P : A → Type 0) (y : A) → P y → All P (y ∷ [])
+one_right P y p zero d lt = p
+one_right P y p (suc k) d lt = absurd (omega arith)
+
+pub all_right : {A : Type 0} (P : A → Type 0) (xs ys : List A) (y : A) → All P xs → ys ≡ xs ++ y ∷ [] → P y → All P ys
+all_right {A} P xs ys y h is p = subst (λ (zs : List A). All P zs) (sym is) (All-append P xs (y ∷ []) h (one_right P y p))
+
+-- ---- how many sessions there are
+mapped_long : {A B : Type 0} (f : A → B) (xs : List A) → length (map f xs) ≡ length xs
+mapped_long f [] = refl
+mapped_long f (x ∷ xs) = ap suc (mapped_long f xs)
+
+filtered_short : {A : Type 0} (p : A → Bool) (xs : List A) → length (filter p xs) ≤ length xs
+filtered_short p [] = omega arith
+filtered_short {A} p (x ∷ xs) = by_test (p x) (filtered_short p xs)
+  where
+    by_test : (b : Bool) → length (filter p xs) ≤ length xs → length (cond b (x ∷ filter p xs) (filter p xs)) ≤ suc (length xs)
+    by_test true h = omega arith
+    by_test false h = omega arith
+
+pub few_others : (t : Topology) (me : NodeId) → length t.controllers ≤ 8 → length t.nodes ≤ 64
+    → length (others_of (Controlling (control_plan t me))) < 2 ^ 16
+few_others t me controllers nodes =
+    let plan = control_plan t me in
+    let both = length-append (names_of plan.peers) (names_of plan.agents) in
+    let peers = named plan.peers in
+    let agents = named plan.agents in
+    let less : length plan.peers ≤ length t.controllers = filtered_short (λ (d : NodeId). not (same_name d.name me.name)) t.controllers in
+    let as_many : length plan.agents ≡ length (filter (λ (n : Node). lists n me) t.nodes) = mapped_long id_of (filter (λ (n : Node). lists n me) t.nodes) in
+    let fewer : length (filter (λ (n : Node). lists n me) t.nodes) ≤ length t.nodes = filtered_short (λ (n : Node). lists n me) t.nodes in
+    omega arith
+
+-- ---- all of them
+abbrev pub IsFew : Who → Type 0
+IsFew who = length (others_of who) < 2 ^ 16
+
+few_controls : (t : Topology) (cs : List NodeId) → length t.controllers ≤ 8 → length t.nodes ≤ 64
+    → AllByRecursion IsFew (map (λ (c : NodeId). Controlling (control_plan t c)) cs)
+few_controls t [] controllers nodes = tt
+few_controls t (c ∷ cs) controllers nodes = (few_others t c controllers nodes, few_controls t cs controllers nodes)
+
+few_agents : (t : Topology) (ns : List Node) → All (λ (n : Node). length n.controllers ≤ 2) ns
+    → AllByRecursion IsFew (map (λ (n : Node). Forwarding (agent_plan t n)) ns)
+few_agents t [] h = tt
+few_agents t (n ∷ ns) h =
+    let here : length n.controllers ≤ 2 = h 0 n (omega arith) in
+    let long = named (map (controller_named t) n.controllers) in
+    let same = mapped_long (controller_named t) n.controllers in
+    let few : length (names_of (map (controller_named t) n.controllers)) < 2 ^ 16 = omega arith in
+    (few, few_agents t ns (λ k d lt. h (suc k) d (omega arith)))
+
+few_both : (xs ys : List Who) → AllByRecursion IsFew xs → AllByRecursion IsFew ys → AllByRecursion IsFew (xs ++ ys)
+few_both [] ys h k = k
+few_both (x ∷ xs) ys h k = (h.0, few_both xs ys h.1 k)
+
+all_few : (x : Checked) → IsSetUp x.topology → AllByRecursion IsFew (whos x)
+all_few x s =
+    let long = named x.topology.controllers in
+    let first : length (names_of x.topology.controllers) < 2 ^ 16 = omega (arith, s.controllers) in (
+      first,
+      few_both (map (λ (c : NodeId). Controlling (control_plan x.topology c)) x.topology.controllers) (map (λ (n : Node). Forwarding (agent_plan x.topology n)) x.topology.nodes)
+          (few_controls x.topology x.topology.controllers s.controllers s.nodes) (few_agents x.topology x.topology.nodes s.few),
+    )
+
+fresh_halves : (ws : List Who) → AllByRecursion IsFew ws → AreAllHalves (map fresh_inner ws) (map fresh_outer ws)
+fresh_halves [] h = tt
+fresh_halves (w ∷ ws) h = (
+  record {
+    name = refl;
+    others = refl;
+    posts = as_long nothing (others_of w);
+    even = record { links = as_long [] (others_of w); notices = as_long false (others_of w); few = h.0 };
+  },
+  fresh_halves ws h.1,
+)
+
+fresh_joined : (ws : List Who) → joined (map fresh_inner ws) (map fresh_outer ws) ≡ map fresh_seat ws
+fresh_joined [] = refl
+fresh_joined (w ∷ ws) = ap (λ (seats : List Seat). fresh_seat w ∷ seats) (fresh_joined ws)
+
+-- ---- what was made
+inner_config : (x : Checked) → configured (configuration.fresh x) ≡ fresh_inner (Configuring x)
+inner_config x =
+    ap (λ (ps : List Post). let n : Inner = record { who = Configuring x; posts = ps } in n) (nothing_config (configuration.sessions x) (others_of (Configuring x)) (sessions_of_config x))
+
+inner_controls : (t : Topology) (cs : List NodeId)
+    → map controlled (map (λ (c : NodeId). control.fresh (control_plan t c)) cs) ≡ map fresh_inner (map (λ (c : NodeId). Controlling (control_plan t c)) cs)
+inner_controls t [] = refl
+inner_controls t (c ∷ cs) =
+    let plan = control_plan t c in
+    ap (λ (ps : List Post). let n : Inner = record { who = Controlling plan; posts = ps } in n ∷ map controlled (map (λ (c : NodeId). control.fresh (control_plan t c)) cs))
+    (nothing_control (control.sessions plan) (others_of (Controlling plan)) (sessions_of_control plan))
+    ∙ ap (λ (ns : List Inner). fresh_inner (Controlling plan) ∷ ns) (inner_controls t cs)
+
+inner_agents : (t : Topology) (ns : List Node)
+    → map forwarded (map (λ (n : Node). agent.fresh (agent_plan t n)) ns) ≡ map fresh_inner (map (λ (n : Node). Forwarding (agent_plan t n)) ns)
+inner_agents t [] = refl
+inner_agents t (n ∷ ns) =
+    let plan = agent_plan t n in
+    ap (λ (ps : List Post). let m : Inner = record { who = Forwarding plan; posts = ps } in m ∷ map forwarded (map (λ (n : Node). agent.fresh (agent_plan t n)) ns))
+    (nothing_agent (agent.sessions plan) (others_of (Forwarding plan)) (sessions_of_agent plan))
+    ∙ ap (λ (ms : List Inner). fresh_inner (Forwarding plan) ∷ ms) (inner_agents t ns)
+
+map_both : {A B : Type 0} (f : A → B) (xs ys : List A) → map f xs ++ map f ys ≡ map f (xs ++ ys)
+map_both f [] ys = refl
+map_both {A} {B} f (x ∷ xs) ys = ap (λ (zs : List B). f x ∷ zs) (map_both f xs ys)
+
+map_map : {A B C : Type 0} (f : B → C) (g : A → B) (xs : List A) → map (λ x. f (g x)) xs ≡ map f (map g xs)
+map_map f g [] = refl
+map_map {A} {B} {C} f g (x ∷ xs) = ap (λ (zs : List C). f (g x) ∷ zs) (map_map f g xs)
+
+module _ (x : Checked) (t : Topology) (same : t ≡ x.topology) (config : configuration.Core) (controls : List control.Core) (agents : List agent.Core)
+    (first : config ≡ configuration.fresh x)
+    (second : controls ≡ map (λ (c : NodeId). control.fresh (control_plan t c)) t.controllers)
+    (third : agents ≡ map (λ (n : Node). agent.fresh (agent_plan t n)) t.nodes) where
+  pub inners_are : inners config controls agents ≡ map fresh_inner (whos x)
+  inners_are =
+      ap (λ (c : configuration.Core). configured c ∷ (map controlled controls ++ map forwarded agents)) first
+      ∙ (ap (λ (n : Inner). n ∷ (map controlled controls ++ map forwarded agents)) (inner_config x)
+      ∙ ap (λ (ns : List Inner). fresh_inner (Configuring x) ∷ ns)
+      (ap (λ (cs : List control.Core). map controlled cs ++ map forwarded agents) (second ∙ ap (λ (u : Topology). map (λ (c : NodeId). control.fresh (control_plan u c)) u.controllers) same)
+      ∙ (ap (λ (as' : List agent.Core). map controlled (map (λ (c : NodeId). control.fresh (control_plan x.topology c)) x.topology.controllers) ++ map forwarded as') (third ∙ ap (λ (u : Topology). map (λ (n : Node). agent.fresh (agent_plan u n)) u.nodes) same)
+      ∙ (ap (λ (ns : List Inner). ns ++ map forwarded (map (λ (n : Node). agent.fresh (agent_plan x.topology n)) x.topology.nodes)) (inner_controls x.topology x.topology.controllers)
+      ∙ (ap (λ (ns : List Inner). map fresh_inner (map (λ (c : NodeId). Controlling (control_plan x.topology c)) x.topology.controllers) ++ ns) (inner_agents x.topology x.topology.nodes)
+      ∙ map_both fresh_inner (map (λ (c : NodeId). Controlling (control_plan x.topology c)) x.topology.controllers) (map (λ (n : Node). Forwarding (agent_plan x.topology n)) x.topology.nodes))))))
+
+pub outers_are : (x : Checked) (t : Topology) (e0 e1 e2 : List Outer) (edge : Outer) → t ≡ x.topology → edge ≡ fresh_outer (Configuring x)
+    → e0 ≡ edge ∷ [] → e1 ≡ e0 ++ map (λ (c : NodeId). fresh_outer (Controlling (control_plan t c))) t.controllers
+    → e2 ≡ e1 ++ map (λ (n : Node). fresh_outer (Forwarding (agent_plan t n))) t.nodes
+    → e2 ≡ map fresh_outer (whos x)
+outers_are x t e0 e1 e2 edge same is0 is1 is2 is3 =
+    let later : (u : Topology) → List Outer = λ u. map (λ (c : NodeId). fresh_outer (Controlling (control_plan u c))) u.controllers in
+    let last : (u : Topology) → List Outer = λ u. map (λ (n : Node). fresh_outer (Forwarding (agent_plan u n))) u.nodes in
+    is3 ∙ (ap (λ (es : List Outer). es ++ last t) (is2 ∙ ap (λ (es : List Outer). es ++ later t) (is1 ∙ ap (λ (e : Outer). e ∷ []) is0))
+    ∙ (ap (λ (u : Topology). fresh_outer (Configuring x) ∷ (later u ++ last u)) same
+    ∙ ap (λ (es : List Outer). fresh_outer (Configuring x) ∷ es)
+    (ap (λ (es : List Outer). es ++ last x.topology) (map_map fresh_outer (λ (c : NodeId). Controlling (control_plan x.topology c)) x.topology.controllers)
+    ∙ (ap (λ (es : List Outer). map fresh_outer (map (λ (c : NodeId). Controlling (control_plan x.topology c)) x.topology.controllers) ++ es) (map_map fresh_outer (λ (n : Node). Forwarding (agent_plan x.topology n)) x.topology.nodes)
+    ∙ map_both fresh_outer (map (λ (c : NodeId). Controlling (control_plan x.topology c)) x.topology.controllers) (map (λ (n : Node). Forwarding (agent_plan x.topology n)) x.topology.nodes)))))
+
+pub made_halves : (x : Checked) (ns : List Inner) (os : List Outer) → IsSetUp x.topology → ns ≡ map fresh_inner (whos x) → os ≡ map fresh_outer (whos x)
+    → AreAllHalves ns os
+made_halves x ns os s is os_are =
+    subst (λ (ms : List Inner). AreAllHalves ms os) (sym is) (subst (λ (ps : List Outer). AreAllHalves (map fresh_inner (whos x)) ps) (sym os_are) (fresh_halves (whos x) (all_few x s)))
+
+pub made_seats : (x : Checked) (ns : List Inner) (os : List Outer) → ns ≡ map fresh_inner (whos x) → os ≡ map fresh_outer (whos x)
+    → joined ns os ≡ map fresh_seat (whos x)
+made_seats x ns os is os_are =
+    ap (λ (ms : List Inner). joined ms os) is ∙ (ap (λ (ps : List Outer). joined (map fresh_inner (whos x)) ps) os_are ∙ fresh_joined (whos x))
+
+pub made_few : (x : Checked) (os : List Outer) → IsSetUp x.topology → os ≡ map fresh_outer (whos x) → length os < 2 ^ 16
+made_few x os s is =
+    let long : length os ≡ length (whos x) = ap length is ∙ mapped_long fresh_outer (whos x) in
+    let both = length-append (map (λ (c : NodeId). Controlling (control_plan x.topology c)) x.topology.controllers) (map (λ (n : Node). Forwarding (agent_plan x.topology n)) x.topology.nodes) in
+    let cs = mapped_long (λ (c : NodeId). Controlling (control_plan x.topology c)) x.topology.controllers in
+    let ns = mapped_long (λ (n : Node). Forwarding (agent_plan x.topology n)) x.topology.nodes in
+    omega (arith, s.controllers, s.nodes)

@@ -1,0 +1,27 @@
+use Rattle.std.proofs.Common.{arith, [], ap, subst, sym, ◌∙◌, ◌<◌, length}
+use Rattle.net_model.specs.Seats.{is_up, others_of}
+use Rattle.net_seats.specs.Halves.{Inner, seated}
+use Rattle.net_seats.proofs.Numbers.{agent_is, control_is}
+use Rattle.net_seats.proofs.cores.Cores.is_up.Goals as goal
+
+pub is_up-requires-in-Control : goal.is_up-requires-in-Control
+is_up-requires-in-Control c =
+    subst (λ (n : Inner). c.args.session < length (others_of n.who))
+    (control_is c.args.self.now c.self.inside.config c.self.inside.controls.items c.self.inside.agents.items c.args.node c.len.result c.in-Control.place c.self.view_is (omega (arith, c.len.ensures, c.self.inside.controls.ok.0)) c.index.result.now c.in-Control.ensures.number c.in-Control.ensures.within c.index.ensures)
+    c.requires.session
+
+pub is_up-requires-in-Agent : goal.is_up-requires-in-Agent
+is_up-requires-in-Agent c =
+    subst (λ (n : Inner). c.args.session < length (others_of n.who))
+    (agent_is c.args.self.now c.self.inside.config c.self.inside.controls.items c.self.inside.agents.items c.args.node c.len.result c.in-Agent.place c.self.view_is (omega (arith, c.len.ensures, c.self.inside.controls.ok.0)) c.index-in-Agent.result.now c.in-Agent.ensures.number c.requires.node c.index-in-Agent.ensures)
+    c.requires.session
+
+pub returns-in-Control : goal.returns-in-Control
+returns-in-Control c =
+    c.is_up-in-Control.ensures
+    ∙ ap (λ (n : Inner). is_up (seated n [] []) c.args.session) (sym (control_is c.args.self.now c.self.inside.config c.self.inside.controls.items c.self.inside.agents.items c.args.node c.len.result c.in-Control.place c.self.view_is (omega (arith, c.len.ensures, c.self.inside.controls.ok.0)) c.index.result.now c.in-Control.ensures.number c.in-Control.ensures.within c.index.ensures))
+
+pub returns-in-Agent : goal.returns-in-Agent
+returns-in-Agent c =
+    c.is_up-in-Agent.ensures
+    ∙ ap (λ (n : Inner). is_up (seated n [] []) c.args.session) (sym (agent_is c.args.self.now c.self.inside.config c.self.inside.controls.items c.self.inside.agents.items c.args.node c.len.result c.in-Agent.place c.self.view_is (omega (arith, c.len.ensures, c.self.inside.controls.ok.0)) c.index-in-Agent.result.now c.in-Agent.ensures.number c.requires.node c.index-in-Agent.ensures))

@@ -1,0 +1,11 @@
+use Rattle.std.proofs.Common.{◌≡◌, ◌++◌, map, take}
+use Rattle.control_node.specs.Core.{fresh}
+use Rattle.net_model.specs.Seats.{Controlling, control_plan}
+use Rattle.net_seats.specs.Fresh.{fresh_outer}
+use Rattle.net_seats.proofs.making.add_controls.Given as goal
+
+abbrev pub invariant-loop-controller : goal.invariant-loop-controller
+invariant-loop-controller l = record {
+  made : l.controls.items ≡ map (λ x. fresh (control_plan l.topology x)) (take l.controller-index l.controller-items);
+  edges : l.edges.items ≡ l.initial.edges.items ++ map (λ x. fresh_outer (Controlling (control_plan l.topology x))) (take l.controller-index l.controller-items);
+}

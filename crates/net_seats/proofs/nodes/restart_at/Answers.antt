@@ -1,0 +1,38 @@
+use Rattle.std.proofs.Common.{[], List, Bool, IfOk, ap, arith, true, false, get_or, length, set, subst, sym, ◌<◌, ◌≡◌, ◌∙◌, ℕ, refl}
+use Rattle.std.proofs.lemmas.List.{get_or-set_same}
+use Rattle.node_core.specs.Whole.{Comes, session_of}
+use Rattle.net_model.specs.Seats.{Seat, is_live, seat, name_of, others_of}
+use Rattle.net_model.specs.Steps.{all_of, emptied}
+use Rattle.net_seats.specs.Changes.{TakesOver, emptied_inner}
+use Rattle.net_seats.specs.Halves.{AreAllHalves, Inner, IsEven, Outer, inner, joined, no_inner, outer, whole}
+use Rattle.net_seats.proofs.Halves.{as_many, as_many_seats, halves_at, seat_at}
+use Rattle.net_seats.proofs.Stepping.{as_long}
+use Rattle.net_seats.proofs.Standing.{below_inner, edits_at, halves_are, links_are, posts_are, seat_changed, seat_kept, takes_at, whole_is}
+use Rattle.net_seats.proofs.Emptied.{emptied_even, emptied_one, emptied_outer}
+use Rattle.net_seats.proofs.nodes.restart_at.Goals as goal
+
+pub restart-requires-clause-node : goal.restart-requires-clause-node
+restart-requires-clause-node c = below_inner c.args.cores.now c.args.edges.now c.args.node c.requires.halves (let many : length (joined c.args.cores.now c.args.edges.now) ≡ length c.args.edges.now = as_many_seats c.args.cores.now c.args.edges.now c.requires.halves in let lt : c.args.node < length c.args.edges.now = omega (arith, c.requires.node) in lt)
+
+pub restart-requires-clause-long : goal.restart-requires-clause-long
+restart-requires-clause-long c = (halves_at c.args.cores.now c.args.edges.now c.args.node c.requires.halves (let many : length (joined c.args.cores.now c.args.edges.now) ≡ length c.args.edges.now = as_many_seats c.args.cores.now c.args.edges.now c.requires.halves in let lt : c.args.node < length c.args.edges.now = omega (arith, c.requires.node) in lt)).posts
+
+pub bounds-edges-from : goal.bounds-edges-from
+bounds-edges-from c = let below : c.args.node < length c.args.edges.now = (let many : length (joined c.args.cores.now c.args.edges.now) ≡ length c.args.edges.now = as_many_seats c.args.cores.now c.args.edges.now c.requires.halves in let lt : c.args.node < length c.args.edges.now = omega (arith, c.requires.node) in lt) in omega (arith, c.from.ensures)
+
+pub returns-clause-halves : goal.returns-clause-halves
+returns-clause-halves c =
+    seat_kept c.args.cores.now c.args.edges.now c.requires.halves c.from.result c.args.node c.from.ensures (let many : length (joined c.args.cores.now c.args.edges.now) ≡ length c.args.edges.now = as_many_seats c.args.cores.now c.args.edges.now c.requires.halves in let lt : c.args.node < length c.args.edges.now = omega (arith, c.requires.node) in lt) c.restart.new.self c.index-edges-from.result c.restart-2.new.self c.index-edges-from.is (let below : c.args.node < length c.args.cores.now = below_inner c.args.cores.now c.args.edges.now c.args.node c.requires.halves (let many : length (joined c.args.cores.now c.args.edges.now) ≡ length c.args.edges.now = as_many_seats c.args.cores.now c.args.edges.now c.requires.halves in let lt : c.args.node < length c.args.edges.now = omega (arith, c.requires.node) in lt) in
+    emptied_one c.args.cores.now c.restart.new.self c.args.node c.restart.ensures below)
+    (ap (λ (o : Outer). o.name) (c.restart-2.ensures ∙ ap emptied_outer (sym c.index-edges-from.is))) (ap (λ (o : Outer). o.others) (c.restart-2.ensures ∙ ap emptied_outer (sym c.index-edges-from.is)))
+    (emptied_even c.index-edges-from.result c.restart-2.new.self (c.restart-2.ensures ∙ ap emptied_outer (sym c.index-edges-from.is)) (halves_are c.args.cores.now c.args.edges.now c.requires.halves c.from.result c.args.node c.from.ensures (let many : length (joined c.args.cores.now c.args.edges.now) ≡ length c.args.edges.now = as_many_seats c.args.cores.now c.args.edges.now c.requires.halves in let lt : c.args.node < length c.args.edges.now = omega (arith, c.requires.node) in lt) c.index-edges-from.result c.index-edges-from.is).even)
+
+pub returns-clause-emptied : goal.returns-clause-emptied
+returns-clause-emptied c =
+    let below : c.args.node < length c.args.cores.now = below_inner c.args.cores.now c.args.edges.now c.args.node c.requires.halves (let many : length (joined c.args.cores.now c.args.edges.now) ≡ length c.args.edges.now = as_many_seats c.args.cores.now c.args.edges.now c.requires.halves in let lt : c.args.node < length c.args.edges.now = omega (arith, c.requires.node) in lt) in
+    let now : inner c.restart.new.self c.args.node ≡ emptied_inner (inner c.args.cores.now c.args.node) =
+    ap (λ (ns : List Inner). inner ns c.args.node) c.restart.ensures ∙ get_or-set_same c.args.cores.now c.args.node (emptied_inner (inner c.args.cores.now c.args.node)) no_inner below in
+    seat_changed c.args.cores.now c.args.edges.now c.requires.halves c.from.result c.args.node c.from.ensures (let many : length (joined c.args.cores.now c.args.edges.now) ≡ length c.args.edges.now = as_many_seats c.args.cores.now c.args.edges.now c.requires.halves in let lt : c.args.node < length c.args.edges.now = omega (arith, c.requires.node) in lt) c.restart.new.self c.index-edges-from.result c.restart-2.new.self c.index-edges-from.is (emptied_one c.args.cores.now c.restart.new.self c.args.node c.restart.ensures below).one
+    ∙ (ap (λ (n : Inner). set (joined c.args.cores.now c.args.edges.now) c.args.node (whole n c.restart-2.new.self)) now
+    ∙ (ap (λ (o : Outer). set (joined c.args.cores.now c.args.edges.now) c.args.node (whole (emptied_inner (inner c.args.cores.now c.args.node)) o)) (c.restart-2.ensures ∙ ap emptied_outer (sym c.index-edges-from.is))
+    ∙ ap (λ (n : Seat). set (joined c.args.cores.now c.args.edges.now) c.args.node (emptied n)) (sym (whole_is c.args.cores.now c.args.edges.now c.requires.halves c.from.result c.args.node c.from.ensures (let many : length (joined c.args.cores.now c.args.edges.now) ≡ length c.args.edges.now = as_many_seats c.args.cores.now c.args.edges.now c.requires.halves in let lt : c.args.node < length c.args.edges.now = omega (arith, c.requires.node) in lt) c.index-edges-from.result c.index-edges-from.is))))

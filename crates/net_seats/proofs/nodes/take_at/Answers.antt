@@ -1,0 +1,48 @@
+use Rattle.std.proofs.Common.{[], List, Bool, IfOk, ap, arith, true, false, get_or, length, set, subst, sym, ◌<◌, ◌≡◌, ◌∙◌, ℕ, refl}
+use Rattle.std.proofs.lemmas.List.{get_or-set_same}
+use Rattle.node_core.specs.Whole.{Comes, session_of}
+use Rattle.net_model.specs.Seats.{Seat, is_live, seat, name_of, others_of}
+use Rattle.net_model.specs.Steps.{all_of, emptied}
+use Rattle.net_seats.specs.Changes.{TakesOver, emptied_inner}
+use Rattle.net_seats.specs.Halves.{AreAllHalves, Inner, IsEven, Outer, inner, joined, no_inner, outer, whole}
+use Rattle.net_seats.proofs.Halves.{as_many, as_many_seats, halves_at, seat_at}
+use Rattle.net_seats.proofs.Stepping.{as_long}
+use Rattle.net_seats.proofs.Standing.{below_inner, edits_at, halves_are, links_are, posts_are, seat_changed, seat_kept, takes_at, whole_is}
+use Rattle.net_seats.proofs.nodes.take_at.Goals as goal
+
+pub bounds-edges-from : goal.bounds-edges-from
+bounds-edges-from c = let below : c.args.node < length c.args.edges.now = (let many : length (joined c.args.cores.now c.args.edges.now) ≡ length c.args.edges.now = as_many_seats c.args.cores.now c.args.edges.now c.requires.halves in let lt : c.args.node < length c.args.edges.now = omega (arith, c.requires.node) in lt) in omega (arith, c.from.ensures)
+
+pub take-requires-clause-node : goal.take-requires-clause-node
+take-requires-clause-node c = below_inner c.args.cores.now c.args.edges.now c.args.node c.requires.halves (let many : length (joined c.args.cores.now c.args.edges.now) ≡ length c.args.edges.now = as_many_seats c.args.cores.now c.args.edges.now c.requires.halves in let lt : c.args.node < length c.args.edges.now = omega (arith, c.requires.node) in lt)
+
+pub take-requires-clause-known : goal.take-requires-clause-known
+take-requires-clause-known c =
+    let was = posts_are c.args.cores.now c.args.edges.now c.requires.halves c.from.result c.args.node c.from.ensures (let many : length (joined c.args.cores.now c.args.edges.now) ≡ length c.args.edges.now = as_many_seats c.args.cores.now c.args.edges.now c.requires.halves in let lt : c.args.node < length c.args.edges.now = omega (arith, c.requires.node) in lt) in omega (arith, c.requires.session)
+
+pub take-requires-clause-long : goal.take-requires-clause-long
+take-requires-clause-long c = (halves_at c.args.cores.now c.args.edges.now c.args.node c.requires.halves (let many : length (joined c.args.cores.now c.args.edges.now) ≡ length c.args.edges.now = as_many_seats c.args.cores.now c.args.edges.now c.requires.halves in let lt : c.args.node < length c.args.edges.now = omega (arith, c.requires.node) in lt)).posts
+
+pub take-requires-clause-linked : goal.take-requires-clause-linked
+take-requires-clause-linked c = ap (λ (o : Outer). length o.links) (c.edge.view_is ∙ sym c.index-edges-from.is) ∙ links_are c.args.cores.now c.args.edges.now c.requires.halves c.from.result c.args.node c.from.ensures (let many : length (joined c.args.cores.now c.args.edges.now) ≡ length c.args.edges.now = as_many_seats c.args.cores.now c.args.edges.now c.requires.halves in let lt : c.args.node < length c.args.edges.now = omega (arith, c.requires.node) in lt) c.index-edges-from.result c.index-edges-from.is
+
+pub take-requires-clause-comes : goal.take-requires-clause-comes
+take-requires-clause-comes c =
+    subst (λ (n : Seat). Comes (λ i. is_live n i ≡ true) (λ i. is_live n i ≡ false) c.args.input)
+    (seat_at c.args.cores.now c.args.edges.now c.args.node c.requires.halves (let many : length (joined c.args.cores.now c.args.edges.now) ≡ length c.args.edges.now = as_many_seats c.args.cores.now c.args.edges.now c.requires.halves in let lt : c.args.node < length c.args.edges.now = omega (arith, c.requires.node) in lt)) c.requires.comes
+
+pub returns-clause-halves : goal.returns-clause-halves
+returns-clause-halves c =
+    let even : IsEven (let o : Outer = record { name = c.edge.inside.name; others = c.edge.inside.others; links = c.take.new.links; notices = c.edge.inside.notices.items } in o) = record {
+      links = c.take.ensures.links ∙ c.edge.invariant.links;
+      notices = c.edge.invariant.notices;
+      few = c.edge.invariant.few;
+    } in
+    seat_kept c.args.cores.now c.args.edges.now c.requires.halves c.from.result c.args.node c.from.ensures (let many : length (joined c.args.cores.now c.args.edges.now) ≡ length c.args.edges.now = as_many_seats c.args.cores.now c.args.edges.now c.requires.halves in let lt : c.args.node < length c.args.edges.now = omega (arith, c.requires.node) in lt) c.take.new.self c.index-edges-from.result (let o : Outer = record { name = c.edge.inside.name; others = c.edge.inside.others; links = c.take.new.links; notices = c.edge.inside.notices.items } in o) c.index-edges-from.is c.take.ensures.one
+    (ap (λ (o : Outer). o.name) (c.edge.view_is ∙ sym c.index-edges-from.is)) (ap (λ (o : Outer). o.others) (c.edge.view_is ∙ sym c.index-edges-from.is)) even
+
+pub returns-clause-takes : goal.returns-clause-takes
+returns-clause-takes c =
+    takes_at c.args.cores.now c.args.edges.now c.requires.halves c.from.result c.args.node c.from.ensures (let many : length (joined c.args.cores.now c.args.edges.now) ≡ length c.args.edges.now = as_many_seats c.args.cores.now c.args.edges.now c.requires.halves in let lt : c.args.node < length c.args.edges.now = omega (arith, c.requires.node) in lt) c.take.new.self c.index-edges-from.result (let o : Outer = record { name = c.edge.inside.name; others = c.edge.inside.others; links = c.take.new.links; notices = c.edge.inside.notices.items } in o) c.index-edges-from.is c.take.result c.args.input c.take.ensures.one.one
+    (ap (λ (o : Outer). o.notices) (c.edge.view_is ∙ sym c.index-edges-from.is))
+    (subst (λ (o : Outer). IfOk c.take.result (λ _. TakesOver o.links c.take.new.links (inner c.args.cores.now c.args.node) (inner c.take.new.self c.args.node) c.args.input)) (c.edge.view_is ∙ sym c.index-edges-from.is) c.take.ensures.takes)

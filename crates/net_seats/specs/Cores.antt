@@ -1,0 +1,39 @@
+-- The cores of the nodes: the configuration node's, and those of the control nodes and of the agents.
+use Rattle.std.specs.Prelude.{◌≡◌, ◌<◌, ℕ, ◌+◌, List, [], ◌∷◌, ◌++◌, map, length, Bool, false}
+use Rattle.std.specs.List.{All}
+use Rattle.node_model.specs.Agent.{rows as rows_of}
+use Rattle.config_node.specs.Core as configuration
+use Rattle.control_node.specs.Core as control
+use Rattle.agent_node.specs.Core as agent
+use Rattle.net_model.specs.Seats.{Configuring, Controlling, Forwarding}
+use Rattle.net_seats.specs.Halves.{Inner}
+use Rattle.net_seats.specs.declared.kinds.Kind.{Kind}
+use Rattle.net_seats.specs.declared.kinds.Kind.TheVariants.{Configuration, Control, Agent}
+
+abbrev pub configured : configuration.Core → Inner
+configured c = record { who = Configuring c.setup; posts = c.posts }
+
+abbrev pub controlled : control.Core → Inner
+controlled c = record { who = Controlling c.plan; posts = c.posts }
+
+abbrev pub forwarded : agent.Core → Inner
+forwarded a = record { who = Forwarding a.plan; posts = a.posts }
+
+-- the configuration node, then the control nodes, then the agents
+abbrev pub inners : configuration.Core → List control.Core → List agent.Core → List Inner
+inners c controls agents = configured c ∷ (map controlled controls ++ map forwarded agents)
+
+-- an agent forwards by what it holds
+pub record IsRight (a : agent.Core) : Type 0 where
+  pub works : a.failed ≡ false
+  pub rows : a.rows ≡ rows_of (agent.holdings a.posts)
+
+-- ---- which node has a number
+abbrev pub number_of : ℕ → Kind → ℕ
+number_of controls Configuration = 0
+number_of controls (Control i) = 1 + i
+number_of controls (Agent i) = 1 + (controls + i)
+
+abbrev pub IsWithin : ℕ → Kind → Type 0
+IsWithin controls (Control i) = i < controls
+IsWithin controls _ = Unit {0}

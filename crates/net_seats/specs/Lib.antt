@@ -1,0 +1,6 @@
+-- The files of definitions, in the order in which they stand on each other.
+pub mod Halves
+pub mod Cores
+pub mod Codes
+pub mod Changes
+pub mod Fresh

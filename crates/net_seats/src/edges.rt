@@ -1,0 +1,145 @@
+//! What lies at the ends of a node's sessions.
+ghost use Rattle.std.specs.Prelude.{◌≡◌, ◌<◌, ◌^◌, [], drop, false, length, slice_get, slice_index_or, slice_set, IfOk};
+ghost use Rattle.ov_types.specs.First.{same_name};
+ghost use Rattle.net_model.specs.Seats.{index_from};
+ghost use Rattle.net_model.specs.Steps.{all_of};
+ghost use Rattle.net_seats.specs.Halves.{IsEven};
+
+use crate::finding::index_of;
+use bytes::Bytes;
+use ov_link::{Links, QueueLink};
+use ov_types::{Items, Name, NoMemory};
+use std::alloc::Global;
+use std::marker::Model;
+
+/// The name of a node and those at the other ends of its sessions, what left each of its ends and was not taken, and
+/// where a notice of loss waits.
+#[derive(Drop)]
+pub(crate) struct Edge {
+    name: Name,
+    others: Items<Name>,
+    pub(crate) links: Links<QueueLink>,
+    notices: Vec<bool>,
+}
+
+impl Model for Edge {
+    ghost use Rattle.net_seats.specs.Halves.{IsEven, Outer};
+    ghost use Rattle.net_seats.specs.Codes.{coded_outer};
+
+    ghost Value = { Outer };
+
+    ghost coded = { coded_outer };
+
+    ghost view = { λ e. record { name = e.name; others = e.others; links = e.links; notices = e.notices.items } };
+
+    ghost invariant = { λ e. IsEven (record { name = e.name; others = e.others; links = e.links; notices = e.notices.items }) };
+}
+
+impl Edge {
+    /// The ends of sessions with these nodes: nothing left them, and no notice waits.
+    pub(crate) fn new(alloc: Global, name: Name, others: Items<Name>) -> Result<Edge, NoMemory>
+        requires { length others < 2 ^ 16 }
+        ensures { IfOk result (λ edge. edge ≡ record {
+          name = name;
+          others = others;
+          links = all_of [] others;
+          notices = all_of false others;
+        }) }
+    {
+        let mut links = Links::new(alloc);
+        let mut notices = Vec::new(alloc);
+        for _other in others.as_slice() {
+            links.push(QueueLink::new(alloc))?;
+            notices.push(false)?;
+        }
+        Ok(Edge {
+            name,
+            others,
+            links,
+            notices,
+        })
+    }
+
+    pub(crate) fn name(&self) -> &Name
+        ensures { result.now ≡ self.now.name }
+    {
+        &self.name
+    }
+
+    /// How many sessions there are.
+    pub(crate) fn sessions(&self) -> u16
+        ensures sessions { result ≡ length self.now.others }
+        ensures even { IsEven self.now }
+    {
+        self.links.len()
+    }
+
+    /// The name at the other end of a session.
+    pub(crate) fn other(&self, session: u16) -> &Name
+        requires { session < length self.now.others }
+        ensures { result.now ≡ slice_index_or self.now.others session [] }
+    {
+        let others = self.others.as_slice();
+        &others[usize::from(session)]
+    }
+
+    /// The first session with the node of this name.
+    pub(crate) fn session_with(&self, name: &Name) -> Option<u16>
+        ensures { result ≡ index_from 0 (λ m. same_name m name.now) self.now.others }
+    {
+        index_of(self.others.as_slice(), name)
+    }
+
+    /// Whether a notice waits at the end of a session.
+    pub(crate) fn has_notice(&self, session: u16) -> bool
+        requires { session < length self.now.others }
+        ensures { result ≡ slice_index_or self.now.notices session false }
+    {
+        self.notices[usize::from(session)]
+    }
+
+    /// How many messages left the end of a session and were not taken.
+    pub(crate) fn sent(&self, session: u16) -> usize
+        requires { session < length self.now.others }
+        ensures { result ≡ length (slice_index_or self.now.links session []) }
+    {
+        self.links.get(session).len()
+    }
+
+    pub(crate) fn set_notice(&mut self, session: u16, waits: bool)
+        requires { session < length self.old.others }
+        ensures { self.new ≡ record self.old { notices = slice_set self.old.notices session waits } }
+    {
+        self.notices[usize::from(session)] = waits;
+    }
+
+    /// Takes out the first message that left the end of a session.
+    pub(crate) fn pop(&mut self, session: u16) -> Option<Bytes>
+        requires { session < length self.old.others }
+        ensures first { result ≡ slice_get (slice_index_or self.old.links session []) 0 }
+        ensures rest { self.new ≡ record self.old {
+          links = slice_set self.old.links session
+              (drop 1 (slice_index_or self.old.links session []));
+        } }
+    {
+        self.links.get_mut(session).pop()
+    }
+
+    /// Takes out all messages that left the end of a session.
+    pub(crate) fn clear(&mut self, session: u16)
+        requires { session < length self.old.others }
+        ensures { self.new ≡ record self.old { links = slice_set self.old.links session [] } }
+    {
+        self.links.get_mut(session).clear();
+    }
+
+    /// Takes out all messages and all notices.
+    pub(crate) fn restart(&mut self)
+        ensures { self.new ≡ record self.old { links = all_of [] self.old.links; notices = all_of false self.old.notices } }
+    {
+        for session in 0..self.sessions() {
+            self.clear(session);
+            self.set_notice(session, false);
+        }
+    }
+}

@@ -1,0 +1,129 @@
+//! The nodes of a topology, with nothing of each other.
+ghost use Rattle.std.specs.Prelude.{◌≡◌, ◌≢◌, ◌≤◌, ◌∷◌, [], ◌++◌, length, map, IfOk};
+ghost use Rattle.std.specs.List.{All, Contains};
+ghost use Rattle.config_check.specs.Rules.{controller_names};
+ghost use Rattle.agent_node.specs.Core.{fresh as fresh_agent};
+ghost use Rattle.control_node.specs.Core.{fresh as fresh_control};
+ghost use Rattle.network_model.specs.Network.{config};
+ghost use Rattle.net_model.specs.Seats.{Configuring, Controlling, Forwarding, agent_plan, control_plan};
+ghost use Rattle.net_seats.specs.Cores.{IsRight};
+ghost use Rattle.net_seats.specs.Fresh.{IsSetUp, fresh_outer};
+
+use crate::edges::Edge;
+use crate::plans::{
+    agent_plan, control_plan, others_of_agent, others_of_config, others_of_control,
+};
+use agent_node::AgentNode;
+use config_check::Valid;
+use config_model::{Node, Topology};
+use control_node::ControlNode;
+use ov_types::{Name, NoMemory, NodeId};
+use std::alloc::Global;
+
+/// The name of the configuration node.
+fn config_name() -> Name
+    ensures { result ≡ config }
+{
+    match Name::new("config") {
+        Some(name) => name,
+        None => unreachable!(),
+    }
+}
+
+/// The edge of the configuration node.
+pub(crate) fn config_edge(alloc: Global, valid: &Valid) -> Result<Edge, NoMemory>
+    requires { IsSetUp valid.now.topology }
+    ensures { IfOk result (λ edge. edge ≡ fresh_outer (Configuring valid.now)) }
+{
+    let others = others_of_config(alloc, valid.topology())?;
+    Edge::new(alloc, config_name(), others)
+}
+
+/// One more control node, with its edge.
+fn add_control(
+    alloc: Global,
+    topology: &Topology,
+    controller: &NodeId,
+    controls: &mut Vec<ControlNode>,
+    edges: &mut Vec<Edge>,
+) -> Result<(), NoMemory>
+    requires set_up { IsSetUp topology.now }
+    requires address { controller.now.address.0 ≢ 0 }
+    ensures control { IfOk result (λ _. controls.new.items ≡ controls.old.items
+        ++ fresh_control (control_plan topology.now controller.now) ∷ []) }
+    ensures edge { IfOk result (λ _. edges.new.items ≡ edges.old.items
+        ++ fresh_outer (Controlling (control_plan topology.now controller.now)) ∷ []) }
+{
+    let plan = control_plan(alloc, topology, controller)?;
+    let others = others_of_control(alloc, config_name(), &plan)?;
+    let edge = Edge::new(alloc, controller.name, others)?;
+    let control = ControlNode::new(alloc, plan)?;
+    controls.push(control)?;
+    edges.push(edge)?;
+    Ok(())
+}
+
+/// The control nodes, in the order of the topology, whose edges come after those that are there.
+pub(crate) fn add_controls(
+    alloc: Global,
+    topology: &Topology,
+    edges: &mut Vec<Edge>,
+) -> Result<Vec<ControlNode>, NoMemory>
+    requires { IsSetUp topology.now }
+    ensures controls { IfOk result (λ controls. controls.items
+        ≡ map (λ c. fresh_control (control_plan topology.now c)) topology.now.controllers) }
+    ensures edges { IfOk result (λ _. edges.new.items ≡ edges.old.items
+        ++ map (λ c. fresh_outer (Controlling (control_plan topology.now c))) topology.now.controllers) }
+{
+    let mut controls = Vec::new(alloc);
+    for controller in topology.controllers.as_slice() {
+        add_control(alloc, topology, controller, &mut controls, edges)?;
+    }
+    Ok(controls)
+}
+
+/// One more agent, with its edge.
+fn add_agent(
+    alloc: Global,
+    topology: &Topology,
+    node: &Node,
+    agents: &mut Vec<AgentNode>,
+    edges: &mut Vec<Edge>,
+) -> Result<(), NoMemory>
+    requires listed { All (Contains (controller_names topology.now)) node.now.controllers }
+    requires few { length node.now.controllers ≤ 2 }
+    ensures agent { IfOk result (λ _. agents.new.items ≡ agents.old.items
+        ++ fresh_agent (agent_plan topology.now node.now) ∷ []) }
+    ensures right { IfOk result (λ _. IsRight (fresh_agent (agent_plan topology.now node.now))) }
+    ensures edge { IfOk result (λ _. edges.new.items ≡ edges.old.items
+        ++ fresh_outer (Forwarding (agent_plan topology.now node.now)) ∷ []) }
+{
+    let plan = agent_plan(alloc, topology, node)?;
+    let others = others_of_agent(alloc, &plan)?;
+    let edge = Edge::new(alloc, node.name, others)?;
+    let agent = AgentNode::new(alloc, plan)?;
+    let _failed = agent.failed();
+    agents.push(agent)?;
+    edges.push(edge)?;
+    Ok(())
+}
+
+/// The agents, in the order of the topology, whose edges come after those that are there.
+pub(crate) fn add_agents(
+    alloc: Global,
+    topology: &Topology,
+    edges: &mut Vec<Edge>,
+) -> Result<Vec<AgentNode>, NoMemory>
+    requires { IsSetUp topology.now }
+    ensures agents { IfOk result (λ agents. agents.items
+        ≡ map (λ n. fresh_agent (agent_plan topology.now n)) topology.now.nodes) }
+    ensures right { IfOk result (λ agents. All IsRight agents.items) }
+    ensures edges { IfOk result (λ _. edges.new.items ≡ edges.old.items
+        ++ map (λ n. fresh_outer (Forwarding (agent_plan topology.now n))) topology.now.nodes) }
+{
+    let mut agents = Vec::new(alloc);
+    for node in topology.nodes.as_slice() {
+        add_agent(alloc, topology, node, &mut agents, edges)?;
+    }
+    Ok(agents)
+}

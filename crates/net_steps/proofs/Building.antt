@@ -1,0 +1,146 @@
+-- Seats that change at single places.
+use Rattle.std.specs.Prelude.{◌≡◌, ◌≢◌, ◌⊎◌, ◌<◌, ℕ, List, [], map, length, Bool, false}
+use Rattle.std.specs.List.{slice_set}
+use Rattle.std.specs.declared.option.Option.TheVariants.{Some}
+use Rattle.std.proofs.lemmas.Bool.{cases_eq}
+use Rattle.std.proofs.lemmas.List.{get_or-set_other, length-set}
+use Rattle.std.proofs.Common.{refl, sym, ◌∙◌, ap, subst, inl, inr}
+use Rattle.node_model.specs.Step.{Post, nothing, post}
+use Rattle.network_model.specs.Session.{End, Session, is_peering}
+use Rattle.network_model.specs.Network.{Network}
+use Rattle.network_model.specs.Steps.{session_of}
+use Rattle.net_model.specs.Seats.{Seat, link, notice, others_of, seat, whos}
+use Rattle.net_model.specs.Steps.{with_seat}
+use Rattle.net_model.specs.Stands.{HasEnd, IsEnd, IsLong, Seats, octets_of}
+use Rattle.net_model.specs.declared.place.Place.{Place}
+use Rattle.seat_laws.specs.Wiring.{IsPlace, name_at, other_at}
+use Rattle.net_steps.proofs.Lists.{AreAlike, same_name_at, same_other_at, seat_elsewhere, seat_here, with_alike}
+
+-- ---- one end of a node
+pub record SameEnd (n n' : Seat) (i : ℕ) : Type 0 where
+  pub post : post n'.posts i ≡ post n.posts i
+  pub link : link n' i ≡ link n i
+  pub notice : notice n' i ≡ notice n i
+
+-- a node that differs at one of its ends alone
+pub record SameBut (n n' : Seat) (i : ℕ) : Type 0 where
+  pub who : n'.who ≡ n.who
+  pub posts_long : length n'.posts ≡ length n.posts
+  pub links_long : length n'.links ≡ length n.links
+  pub notices_long : length n'.notices ≡ length n.notices
+  pub ends : (j : ℕ) → j ≢ i → SameEnd n n' j
+
+-- nodes that differ at one place alone
+pub record AllBut (seats seats' : List Seat) (p : Place) : Type 0 where
+  pub alike : AreAlike seats seats'
+  pub long : ((k : ℕ) → k < length seats → IsLong (seat seats k)) → (k : ℕ) → k < length seats' → IsLong (seat seats' k)
+  pub ends : (r : Place) → r ≢ p → SameEnd (seat seats r.node) (seat seats' r.node) r.session
+
+pub end_refl : (n : Seat) (i : ℕ) → SameEnd n n i
+end_refl n i = record { post = refl; link = refl; notice = refl }
+
+pub end_trans : (n n' m : Seat) (i : ℕ) → SameEnd n n' i → SameEnd n' m i → SameEnd n m i
+end_trans n n' m i a b = record { post = b.post ∙ a.post; link = b.link ∙ a.link; notice = b.notice ∙ a.notice }
+
+pub long_again : (n n' : Seat) → n'.who ≡ n.who → length n'.posts ≡ length n.posts → length n'.links ≡ length n.links
+    → length n'.notices ≡ length n.notices → IsLong n → IsLong n'
+long_again n n' who posts links notices l = record {
+  posts = posts ∙ l.posts ∙ ap (λ x. length (others_of x)) (sym who);
+  links = links ∙ l.links ∙ ap (λ x. length (others_of x)) (sym who);
+  notices = notices ∙ l.notices ∙ ap (λ x. length (others_of x)) (sym who);
+}
+
+-- where one node changes at one of its ends
+pub put_but : (seats : List Seat) (p : Place) (n' : Seat) → p.node < length seats → SameBut (seat seats p.node) n' p.session
+    → AllBut seats (with_seat p.node n' seats) p
+put_but seats p n' lt s = record {
+  alike = with_alike p.node n' seats s.who;
+  long = λ all k less. by_node_long all k (cases_eq k p.node) (subst (λ n. k < n) (length-set seats p.node n') less);
+  ends = λ r ne. by_node r ne (cases_eq r.node p.node);
+}
+  where
+    by_node_long : ((k : ℕ) → k < length seats → IsLong (seat seats k)) → (k : ℕ) → (k ≡ p.node) ⊎ (k ≢ p.node) → k < length seats
+        → IsLong (seat (with_seat p.node n' seats) k)
+    by_node_long all k (inl e) less =
+        subst (λ k. IsLong (seat (with_seat p.node n' seats) k)) (sym e)
+        (subst IsLong (sym (seat_here p.node n' seats lt))
+        (long_again (seat seats p.node) n' s.who s.posts_long s.links_long s.notices_long (all p.node lt)))
+    by_node_long all k (inr ne) less = subst IsLong (sym (seat_elsewhere p.node k n' seats ne)) (all k less)
+
+    by_node : (r : Place) → r ≢ p → (r.node ≡ p.node) ⊎ (r.node ≢ p.node)
+        → SameEnd (seat seats r.node) (seat (with_seat p.node n' seats) r.node) r.session
+    by_node r ne (inl e) =
+        subst (λ k. SameEnd (seat seats k) (seat (with_seat p.node n' seats) k) r.session) (sym e)
+        (subst (λ n. SameEnd (seat seats p.node) n r.session) (sym (seat_here p.node n' seats lt))
+        (s.ends r.session (λ f. ne (λ i. record { node = e i; session = f i }))))
+    by_node r ne (inr off) =
+        subst (λ n. SameEnd (seat seats r.node) n r.session) (sym (seat_elsewhere p.node r.node n' seats off))
+        (end_refl (seat seats r.node) r.session)
+
+-- a node whose lists are stored at one of its ends
+pub stored_link : (n : Seat) (i : ℕ) (messages : List (List ℕ)) → SameBut n (record n { links = slice_set n.links i messages }) i
+stored_link n i messages = record {
+  who = refl;
+  posts_long = refl;
+  links_long = length-set n.links i messages;
+  notices_long = refl;
+  ends = λ j ne. record { post = refl; link = get_or-set_other n.links i j messages [] ne; notice = refl };
+}
+
+pub stored_begun : (n : Seat) (i : ℕ) (p : Post) (messages : List (List ℕ))
+    → SameBut n (record n { posts = slice_set n.posts i p; links = slice_set n.links i messages }) i
+stored_begun n i p messages = record {
+  who = refl;
+  posts_long = length-set n.posts i p;
+  links_long = length-set n.links i messages;
+  notices_long = refl;
+  ends = λ j ne. record {
+    post = get_or-set_other n.posts i j p nothing ne;
+    link = get_or-set_other n.links i j messages [] ne;
+    notice = refl;
+  };
+}
+
+pub stored_notice : (n : Seat) (i : ℕ) (waits : Bool) → SameBut n (record n { notices = slice_set n.notices i waits }) i
+stored_notice n i waits = record {
+  who = refl;
+  posts_long = refl;
+  links_long = refl;
+  notices_long = length-set n.notices i waits;
+  ends = λ j ne. record { post = refl; link = refl; notice = get_or-set_other n.notices i j waits false ne };
+}
+
+-- ---- an end that stays, for a session whose near end stays
+pub moved : (n n' : Seat) (i : ℕ) (s s' : Session) → n'.who ≡ n.who → SameEnd n n' i → s'.near ≡ s.near
+    → is_peering s' ≡ is_peering s → IsEnd n i s → IsEnd n' i s'
+moved n n' i s s' who same near peering h = record {
+  phase = ap (λ (e : End). e.phase) near ∙ h.phase ∙ ap (λ (p : Post). p.phase) (sym same.post);
+  sent = ap (λ (e : End). e.sent) near ∙ h.sent ∙ ap (λ (p : Post). p.sent) (sym same.post);
+  held = ap (λ (e : End). e.held) near ∙ h.held ∙ ap (λ (p : Post). p.held) (sym same.post);
+  notice = ap (λ (e : End). e.notice) near ∙ h.notice ∙ sym same.notice;
+  flight = same.link ∙ h.flight
+      ∙ (λ j. map (octets_of (sym who j) (sym peering j)) (ap (λ (e : End). e.flight) (sym near) j));
+  taken = ap (λ (e : End). e.taken) near ∙ h.taken;
+  breaks = ap (λ (e : End). e.breaks) near ∙ h.breaks;
+}
+
+-- ---- seats are those of a state by their places
+pub seats_by_places : (seats : List Seat) (w : Network) → map (λ (n : Seat). n.who) seats ≡ whos w.setup
+    → ((k : ℕ) → k < length seats → IsLong (seat seats k))
+    → ((p : Place) → IsPlace seats p → HasEnd w (seat seats p.node) p.session)
+    → Seats seats w
+seats_by_places seats w who long each = record {
+  who = who;
+  long = long;
+  ends = λ k i lt less. each (record { node = k; session = i }) (record { node = lt; session = subst (λ n. i < n) (long k lt).posts less });
+}
+
+-- an end of a place by the names of earlier seats
+pub has_end : (seats seats' : List Seat) (w : Network) (p : Place) (s : Session) → AreAlike seats seats'
+    → session_of w (name_at seats p) (other_at seats p) ≡ Some s → IsEnd (seat seats' p.node) p.session s
+    → HasEnd w (seat seats' p.node) p.session
+has_end seats seats' w p s alike found is = record {
+  session = s;
+  found = (λ i. session_of w (same_name_at seats seats' alike p i) (same_other_at seats seats' alike p i)) ∙ found;
+  is = is;
+}

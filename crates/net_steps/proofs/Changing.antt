@@ -1,0 +1,88 @@
+-- A change of one session: seats that change at its two places stand for the state after it.
+use Rattle.std.specs.Prelude.{◌≡◌, ◌≢◌, ◌⊎◌, ◌<◌, ℕ, List, length}
+use Rattle.std.specs.declared.option.Option.TheVariants.{Some}
+use Rattle.std.proofs.lemmas.Option.{same_Some}
+use Rattle.std.proofs.Common.{refl, sym, ◌∙◌, subst, inl, inr}
+use Rattle.network_model.specs.Setup.{Name}
+use Rattle.network_model.specs.Session.{Session, turned}
+use Rattle.network_model.specs.Network.{Network}
+use Rattle.network_model.specs.Steps.{change_session, session_of}
+use Rattle.network_model.specs.Moments.{Each}
+use Rattle.network_model.proofs.NetworkFact.{KeepsNodes}
+use Rattle.network_model.proofs.NodesFact.{session_nodes}
+use Rattle.net_model.specs.Seats.{Seat, place_of, seat}
+use Rattle.net_model.specs.Stands.{HasEnd, IsEnd, IsLong, Seats}
+use Rattle.net_model.specs.declared.place.Place.{Place}
+use Rattle.seat_laws.specs.Wiring.{IsPlace, name_at, other_at}
+use Rattle.net_steps.proofs.Building.{SameEnd, has_end, moved, seats_by_places}
+use Rattle.net_steps.proofs.Facts.{IsRight, Wired}
+use Rattle.net_steps.proofs.Here.{Here, here}
+use Rattle.net_steps.proofs.Lists.{AreAlike, same_or_other, same_place, same_who}
+use Rattle.net_steps.proofs.Quiet.{IsQuiet}
+use Rattle.net_steps.proofs.Sides.{changed_elsewhere, changed_here, changed_there}
+
+-- the state after a change of a session that keeps who is there, and leaves no session down with messages in flight
+pub changed_right : (a b : Name) (f : Session → Session) → KeepsNodes f → (w : Network) → IsRight w
+    → Each IsQuiet (change_session a b f w).sessions → IsRight (change_session a b f w)
+changed_right a b f kept w right quiet = record {
+  written = right.written;
+  sessions = session_nodes a b f kept w.sessions ∙ right.sessions;
+  quiet = quiet;
+}
+
+module _ (wired : Wired) (seats : List Seat) (w : Network) (right : IsRight w) (stands : Seats seats w) where
+  -- two places with the same names are one
+  pub one_place : (p q : Place) → IsPlace seats p → IsPlace seats q → name_at seats p ≡ name_at seats q
+      → other_at seats p ≡ other_at seats q → p ≡ q
+  one_place p q is is' e f =
+      same_Some p q
+      (sym (wired.place w.setup seats p right.written stands.who is)
+      ∙ (λ i. place_of seats (e i) (f i))
+      ∙ wired.place w.setup seats q right.written stands.who is')
+
+  -- the session at another place stays
+  pub found_elsewhere : (p : Place) → IsPlace seats p → (h : Here seats w p) → (f : Session → Session) → KeepsNodes f
+      → (r : Place) → IsPlace seats r → r ≢ p → r ≢ h.far.far → (s : Session)
+      → session_of w (name_at seats r) (other_at seats r) ≡ Some s
+      → session_of (change_session (name_at seats p) (other_at seats p) f w) (name_at seats r) (other_at seats r) ≡ Some s
+  found_elsewhere p is h f keeps r is_r not_p not_q s found =
+      changed_elsewhere (name_at seats p) (other_at seats p) (name_at seats r) (other_at seats r)
+      (λ e g. not_p (one_place r p is_r is (sym e) (sym g)))
+      (λ e g. not_q (one_place r h.far.far is_r h.far.is_place (sym g ∙ sym h.far.name) (sym e ∙ sym h.far.other)))
+      f keeps w.sessions s found
+
+  module _ (seats' : List Seat) (p : Place) (is : IsPlace seats p) (h : Here seats w p) (f : Session → Session)
+      (keeps : KeepsNodes f) (alike : AreAlike seats seats')
+      (long : (k : ℕ) → k < length seats' → IsLong (seat seats' k))
+      (near : IsEnd (seat seats' p.node) p.session (f h.session))
+      (far : IsEnd (seat seats' h.far.far.node) h.far.far.session (turned (f h.session)))
+      (elsewhere : (r : Place) → IsPlace seats r → r ≢ p → r ≢ h.far.far → SameEnd (seat seats r.node) (seat seats' r.node) r.session) where
+    abbrev changed : Network
+    changed = change_session (name_at seats p) (other_at seats p) f w
+
+    here_changed : HasEnd changed (seat seats' p.node) p.session
+    here_changed =
+        has_end seats seats' changed p (f h.session) alike
+        (changed_here (name_at seats p) (other_at seats p) h.apart f keeps w.sessions h.session h.found) near
+
+    far_changed : HasEnd changed (seat seats' h.far.far.node) h.far.far.session
+    far_changed =
+        has_end seats seats' changed h.far.far (turned (f h.session)) alike
+        ((λ i. session_of changed (h.far.name i) (h.far.other i))
+        ∙ changed_there (name_at seats p) (other_at seats p) h.apart f keeps w.sessions h.session h.found) far
+
+    others_same : (r : Place) → IsPlace seats r → r ≢ p → r ≢ h.far.far → HasEnd changed (seat seats' r.node) r.session
+    others_same r is_r not_p not_q =
+        let there = here wired seats w right stands r is_r in
+        has_end seats seats' changed r there.session alike
+        (found_elsewhere p is h f keeps r is_r not_p not_q there.session there.found)
+        (moved (seat seats r.node) (seat seats' r.node) r.session there.session there.session
+        (same_who seats seats' alike r.node) (elsewhere r is_r not_p not_q) refl refl there.near_is)
+
+    pub changes_at : Seats seats' changed
+    changes_at = seats_by_places seats' changed (alike ∙ stands.who) long (λ r is_r. by_place r (same_place seats seats' alike r is_r) (same_or_other r p) (same_or_other r h.far.far))
+      where
+        by_place : (r : Place) → IsPlace seats r → (r ≡ p) ⊎ (r ≢ p) → (r ≡ h.far.far) ⊎ (r ≢ h.far.far) → HasEnd changed (seat seats' r.node) r.session
+        by_place r is_r (inl e) b = subst (λ (r : Place). HasEnd changed (seat seats' r.node) r.session) (sym e) here_changed
+        by_place r is_r (inr ne) (inl e) = subst (λ (r : Place). HasEnd changed (seat seats' r.node) r.session) (sym e) far_changed
+        by_place r is_r (inr ne) (inr ne') = others_same r is_r ne ne'

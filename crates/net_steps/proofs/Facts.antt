@@ -1,0 +1,87 @@
+-- What is known of seats, of what their nodes hear, and of moments, and states in which no session that is down has
+-- messages in flight.
+use Rattle.std.specs.Prelude.{◌≡◌, ◌<◌, ℕ, List, [], map, length, true, false}
+use Rattle.std.specs.List.{AllByRecursion, slice_index_or}
+use Rattle.std.specs.declared.option.Option.TheVariants.{Some, None}
+use Rattle.std.specs.Borrow.{Bor}
+use Rattle.std.proofs.Common.{sym, subst}
+use Rattle.ov_link.specs.declared.step.Input.TheVariants as input
+use Rattle.config_check.specs.Checked.{Checked}
+use Rattle.node_model.specs.Members.{Member}
+use Rattle.node_model.specs.Step.{Begun, Phase, Post}
+use Rattle.network_model.specs.Setup.{Name}
+use Rattle.network_model.specs.Session.{Message, Session, are_peers, is_idle}
+use Rattle.network_model.specs.Network.{Network}
+use Rattle.network_model.specs.Steps.{session_of}
+use Rattle.network_model.specs.Events.{Event, is_node, next}
+use Rattle.network_model.specs.Moments.{Each, cell, nodes}
+use Rattle.network_laws.specs.Settling.{EditIsValid}
+use Rattle.network_model.proofs.Apart.{no_twins}
+use Rattle.network_model.proofs.Twins.{NoTwins}
+use Rattle.headline_laws.specs.Headline.{IsWritten}
+use Rattle.headline_laws.proofs.Written.{sound_setup}
+use Rattle.net_model.specs.Seats.{Seat, Who, name_of, others_of, place_of, role_of, seat, whos}
+use Rattle.net_model.specs.Steps.{BeginsAt}
+use Rattle.net_model.specs.Stands.{Seats, any_size, octets_of}
+use Rattle.net_model.specs.Taking.{closed, opened, taken}
+use Rattle.net_model.specs.Telling.{CanBeHeard, CanSend}
+use Rattle.net_model.specs.declared.place.Place.{Place}
+use Rattle.told_laws.specs.Moments.{IsMoment, IsOfTypedForm}
+use Rattle.seat_laws.specs.Wiring.{AreSeats, GoesBy, HasFar, HasSession, HasSessions, IsFound, IsPlace, IsPlaceOf, ShowsAt, name_at, other_at}
+use Rattle.net_steps.proofs.Quiet.{IsQuiet}
+
+-- ---- of seats
+pub record Wired : Type 0 where
+  pub far : (x : Checked) (seats : List Seat) (p : Place) → IsWritten x → AreSeats x seats → IsPlace seats p → HasFar seats p
+  pub place : (x : Checked) (seats : List Seat) (p : Place) → IsWritten x → AreSeats x seats → IsPlace seats p
+      → place_of seats (name_at seats p) (other_at seats p) ≡ Some p
+  pub place_is : (x : Checked) (seats : List Seat) (a b : Name) (p : Place) → IsWritten x → AreSeats x seats
+      → place_of seats a b ≡ Some p → IsPlaceOf seats a b p
+  pub session : (w : Network) (seats : List Seat) (p : Place) → IsWritten w.setup → HasSessions w → AreSeats w.setup seats
+      → IsPlace seats p → HasSession seats w p
+  pub none : (w : Network) (seats : List Seat) (a b : Name) → IsWritten w.setup → HasSessions w → AreSeats w.setup seats
+      → place_of seats a b ≡ None → session_of w a b ≡ None
+  pub found : (w : Network) (seats : List Seat) → IsWritten w.setup → HasSessions w → AreSeats w.setup seats
+      → AllByRecursion (IsFound seats w) w.sessions
+  pub goes_by : (w : Network) (seats : List Seat) (p : Place) (s : Session) → IsWritten w.setup → HasSessions w
+      → Seats seats w → IsPlace seats p → session_of w (name_at seats p) (other_at seats p) ≡ Some s → GoesBy seats w p s
+  pub nodes : (w : Network) (seats : List Seat) (k : ℕ) → IsWritten w.setup → HasSessions w → Seats seats w → 0 < k
+      → k < length seats → is_node w (name_of (seat seats k).who) ≡ true
+  pub shown : (w : Network) (seats : List Seat) (name : Name) → IsWritten w.setup → HasSessions w → Seats seats w
+      → is_node w name ≡ true → (k : ℕ) × ShowsAt seats w name k
+
+-- ---- of what a node hears
+pub record Heard : Type 0 where
+  pub message : (x : Checked) → IsWritten x → (a b : Who) → Member a (whos x) → Member b (whos x)
+      → (i : ℕ) → i < length (others_of a) → slice_index_or (others_of a) i [] ≡ name_of b
+      → (p : Post) → is_idle p.phase ≡ false → (m : Message) (after : Phase)
+      → cell (are_peers (role_of a) (role_of b)) p.phase m ≡ Some after → CanSend (role_of b) (role_of a) m
+      → (bytes : Bor (List ℕ)) → bytes.now ≡ octets_of b (are_peers (role_of a) (role_of b)) m
+      → (given : Begun) → BeginsAt a i p (input.Bytes i bytes) given
+      → given ≡ taken a (are_peers (role_of a) (role_of b)) p m after
+  pub opens : (x : Checked) → IsWritten x → (a b : Who) → Member a (whos x) → Member b (whos x)
+      → (i : ℕ) → i < length (others_of a) → slice_index_or (others_of a) i [] ≡ name_of b
+      → (p : Post) (given : Begun) → BeginsAt a i p (input.Opened i) given
+      → given ≡ opened a (are_peers (role_of a) (role_of b)) p
+  pub closes : (a : Who) (i : ℕ) (p : Post) (given : Begun) → BeginsAt a i p (input.Closed i) given → given ≡ closed
+
+-- ---- of moments
+pub record Moments : Type 0 where
+  pub written : (w : Network) → IsMoment w → IsWritten w.setup
+  pub sessions : (w : Network) → IsMoment w → HasSessions w
+  pub after : (w : Network) (e : Event) → IsMoment w → EditIsValid IsOfTypedForm w e → IsMoment (next any_size w e)
+  pub heard : (w : Network) → IsMoment w → AllByRecursion CanBeHeard w.sessions
+
+pub record Facts : Type 0 where
+  pub wired : Wired
+  pub hears : Heard
+  pub moments : Moments
+
+-- ---- states between moments
+pub record IsRight (w : Network) : Type 0 where
+  pub written : IsWritten w.setup
+  pub sessions : HasSessions w
+  pub quiet : Each IsQuiet w.sessions
+
+pub right_twins : (w : Network) → IsRight w → NoTwins (map nodes w.sessions)
+right_twins w r = subst NoTwins (sym r.sessions) (no_twins w.setup (sound_setup w.setup r.written).named.apart)

@@ -1,0 +1,36 @@
+-- What is known of seats, of what nodes hear, and of moments, all together.
+use Rattle.heard_laws.proofs.Heard.{end_closed, end_opened, message_heard}
+use Rattle.seat_laws.proofs.Written as seats
+use Rattle.told_laws.proofs.Heard.{heard}
+use Rattle.told_laws.proofs.Moments.{moment_next, moment_sessions, moment_written}
+use Rattle.net_steps.proofs.Facts.{Facts}
+
+pub given : Facts
+given = record {
+  wired = record {
+    far = λ x ss p written are is. seats.has_far x written ss are p is;
+    place = λ x ss p written are is. seats.place_found x written ss are p is;
+    place_is = λ x ss a b p written are found. seats.place_is x written ss are a b p found;
+    session = λ w ss p written has are is. seats.has_session w written ss are has p is;
+    none = λ w ss a b written has are none. seats.session_without_place w written ss are has a b none;
+    found = λ w ss written has are. seats.sessions_found w written ss are has;
+    goes_by = λ w ss p s written has stands is found. seats.goes_by w written ss stands has p is s found;
+    nodes = λ w ss k written has stands above lt. seats.seats_are_nodes w written ss stands has k above lt;
+    shown = λ w ss name written has stands is. seats.shows_at w written ss stands has name is;
+  };
+  hears = record {
+    message = λ x written a b near far i within name p live m next cell can bytes is given begins.
+        (message_heard x written.topology written.valid a b i (record { near = near; far = far; within = within; name = name })
+        p live m next cell can bytes is given begins).0;
+    opens = λ x written a b near far i within name p given begins.
+        (end_opened x written.topology written.valid a b i (record { near = near; far = far; within = within; name = name })
+        p given begins).0;
+    closes = λ a i p given begins. (end_closed a i p given begins).0;
+  };
+  moments = record {
+    written = moment_written;
+    sessions = moment_sessions;
+    after = moment_next;
+    heard = heard;
+  };
+}

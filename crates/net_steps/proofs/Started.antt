@@ -1,0 +1,98 @@
+-- Seats of nodes that have nothing stand for the empty state.
+use Rattle.std.specs.Prelude.{◌≡◌, ◌<◌, ℕ, zero, suc, List, [], ◌∷◌, map, length, false}
+use Rattle.std.specs.List.{slice_index_or}
+use Rattle.std.proofs.lemmas.List.{length-map}
+use Rattle.std.proofs.Common.{refl, sym, ◌∙◌, ap, subst, arith}
+use Rattle.config_check.specs.Checked.{Checked}
+use Rattle.node_model.specs.Step.{Post, nothing}
+use Rattle.network_model.specs.Session.{End, Session, is_peering}
+use Rattle.network_model.specs.Network.{start, fresh as fresh_end}
+use Rattle.network_model.specs.Moments.{Each}
+use Rattle.network_model.proofs.NetworkFact.{found}
+use Rattle.network_model.proofs.Start.{start_each}
+use Rattle.headline_laws.specs.Headline.{IsWritten}
+use Rattle.net_model.specs.Seats.{Seat, Who, others_of, seat, whos}
+use Rattle.net_model.specs.Steps.{all_of}
+use Rattle.net_model.specs.Stands.{HasEnd, IsEnd, IsLong, Seats, octets_of}
+use Rattle.net_model.specs.declared.place.Place.{Place}
+use Rattle.told_laws.specs.Moments.{HasSubnets, IsMoment}
+use Rattle.seat_laws.specs.Wiring.{IsPlace, name_at, other_at}
+use Rattle.net_steps.specs.Starting.{FreshSeatsStandForTheStart, fresh}
+use Rattle.net_steps.proofs.AtMoments.{moment_right}
+use Rattle.net_steps.proofs.Building.{seats_by_places}
+use Rattle.net_steps.proofs.Delivered.{stands_at}
+use Rattle.net_steps.proofs.Facts.{Facts}
+
+-- ---- lists of one thing
+pub all_alike : {A B : Type 0} (b : B) (xs : List A) (i : ℕ) → slice_index_or (all_of b xs) i b ≡ b
+all_alike b [] i = refl
+all_alike b (x ∷ xs) zero = refl
+all_alike b (x ∷ xs) (suc i) = all_alike b xs i
+
+pub all_long : {A B : Type 0} (b : B) (xs : List A) → length (all_of b xs) ≡ length xs
+all_long b xs = length-map xs (λ _. b)
+
+whos_again : (xs : List Who) → map (λ (n : Seat). n.who) (map fresh xs) ≡ xs
+whos_again [] = refl
+whos_again (x ∷ xs) = ap (λ ys. x ∷ ys) (whos_again xs)
+
+fresh_at : (xs : List Who) (k : ℕ) → k < length (map fresh xs) → (x : Who) × (seat (map fresh xs) k ≡ fresh x)
+fresh_at [] k lt = absurd (omega (arith, lt))
+fresh_at (x ∷ xs) zero lt = (x, refl)
+fresh_at (x ∷ xs) (suc k) lt = fresh_at xs k (omega (arith, lt))
+
+-- ---- an end that has nothing
+pub record HasNothing (e : End) : Type 0 where
+  pub is : e ≡ fresh_end e.name e.role
+
+nothing_end : (who : Who) (i : ℕ) (s : Session) → HasNothing s.near → IsEnd (fresh who) i s
+nothing_end who i s h =
+    let none = all_alike nothing (others_of who) i in
+    record {
+      phase = ap (λ (e : End). e.phase) h.is ∙ sym (ap (λ (p : Post). p.phase) none);
+      sent = ap (λ (e : End). e.sent) h.is ∙ sym (ap (λ (p : Post). p.sent) none);
+      held = ap (λ (e : End). e.held) h.is ∙ sym (ap (λ (p : Post). p.held) none);
+      notice = ap (λ (e : End). e.notice) h.is ∙ sym (all_alike false (others_of who) i);
+      flight = all_alike [] (others_of who) i ∙ sym (ap (λ (e : End). map (octets_of who (is_peering s)) e.flight) h.is);
+      taken = ap (λ (e : End). e.taken) h.is;
+      breaks = ap (λ (e : End). e.breaks) h.is;
+    }
+
+module _ (facts : Facts) (x : Checked) (written : IsWritten x) (subnets : HasSubnets x) where
+  start_moment : IsMoment (start x)
+  start_moment = record { opening = x; written = written; subnets = subnets; events = []; edits = tt; is = refl }
+
+  abbrev seats : List Seat
+  seats = map fresh (whos x)
+
+  abbrev BothNothing : Session → Type 0
+  BothNothing s = HasNothing s.near × HasNothing s.far
+
+  fresh_long : (k : ℕ) → k < length seats → IsLong (seat seats k)
+  fresh_long k lt =
+      let at = fresh_at (whos x) k lt in
+      subst IsLong (sym at.1)
+      (record { posts = all_long nothing (others_of at.0); links = all_long [] (others_of at.0); notices = all_long false (others_of at.0) })
+
+  end_is : (p : Place) → IsPlace seats p → HasEnd (start x) (seat seats p.node) p.session
+  end_is p is =
+      let right = moment_right facts.moments (start x) start_moment in
+      let h = facts.wired.session (start x) seats p written right.sessions (whos_again (whos x)) is in
+      let at = fresh_at (whos x) p.node is.node in
+      let each : Each BothNothing (start x).sessions =
+      start_each BothNothing (λ n m r q. (record { is = refl }, record { is = refl })) x
+      in
+      record {
+        session = h.session;
+        found = h.found;
+        is = subst (λ n. IsEnd n p.session h.session) (sym at.1)
+            (nothing_end at.0 p.session h.session
+            (found BothNothing (λ s b. (b.1, b.0)) (start x).sessions (name_at seats p) (other_at seats p) each h.session h.found).0);
+      }
+
+  start_seats : Seats seats (start x)
+  start_seats = seats_by_places seats (start x) (whos_again (whos x)) fresh_long end_is
+
+pub fresh_seats_stand : Facts → FreshSeatsStandForTheStart
+fresh_seats_stand facts x written subnets =
+    (stands_at (map fresh (whos x)) (start x) (start_moment facts x written subnets) (start_seats facts x written subnets), start_moment facts x written subnets)

@@ -1,0 +1,53 @@
+-- What a connection makes of the state for which seats stand.
+use Rattle.std.specs.Prelude.{◌≡◌, List, true, false}
+use Rattle.std.specs.List.{AllByRecursion}
+use Rattle.ov_link.specs.declared.step.Input.TheVariants.{Opened}
+use Rattle.network_model.specs.Setup.{Name}
+use Rattle.network_model.specs.Network.{Network}
+use Rattle.network_model.specs.Steps.{connect_if}
+use Rattle.network_model.specs.Events.{is_earlier}
+use Rattle.net_model.specs.Seats.{Seat, seat}
+use Rattle.net_model.specs.Steps.{IsDiscarded, Takes, with_seat}
+use Rattle.net_model.specs.Stands.{StandsFor}
+use Rattle.net_model.specs.declared.place.Place.{Place}
+use Rattle.told_laws.specs.Moments.{IsMoment}
+use Rattle.net_steps.specs.Asking.{AreAt, may_connect_at}
+
+-- one end opens, and then the other. After both what their nodes sent on sessions that are down is discarded
+pub record OpensBoth (seats : List Seat) (p far : Place) (after : List Seat) : Type 0 where
+  pub near_node : Seat
+  pub near_takes : Takes (seat seats p.node) near_node (Opened p.session)
+  pub far_node : Seat
+  pub far_takes : Takes (seat (with_seat p.node near_node seats) far.node) far_node (Opened far.session)
+  pub near_left : Seat
+  pub near_discarded : IsDiscarded (with_seat far.node far_node (with_seat p.node near_node seats)) p.node near_left
+  pub far_left : Seat
+  pub far_discarded : IsDiscarded
+      (with_seat p.node near_left (with_seat far.node far_node (with_seat p.node near_node seats))) far.node far_left
+  pub is : after
+      ≡ with_seat far.node far_left
+      (with_seat p.node near_left (with_seat far.node far_node (with_seat p.node near_node seats)))
+
+-- the first node opens before the second
+abbrev pub ConnectionsAreMade : Type 0
+ConnectionsAreMade =
+    (seats : List Seat) (w : Network) → IsMoment w → StandsFor seats w → (a b : Name) (p far : Place)
+    → AreAt seats a b p far → may_connect_at seats p far ≡ true → (after : List Seat) → OpensBoth seats p far after
+    → StandsFor after (connect_if a b w)
+
+-- where the session may not connect
+abbrev pub NothingIsConnected : Type 0
+NothingIsConnected =
+    (seats : List Seat) (w : Network) → IsMoment w → StandsFor seats w → (a b : Name) (p far : Place)
+    → AreAt seats a b p far → may_connect_at seats p far ≡ false → connect_if a b w ≡ w
+
+-- a connection from the earlier node of a session to the later one is an event
+abbrev pub EarlierConnectionsAreEvents : Type 0
+EarlierConnectionsAreEvents =
+    (w : Network) → IsMoment w → (a b : Name) → is_earlier w.sessions a b ≡ true → IsMoment (connect_if a b w)
+
+-- the near node of each session is the earlier one
+abbrev pub NearIsEarlier : Type 0
+NearIsEarlier =
+    (w : Network) → IsMoment w
+    → AllByRecursion (λ s. is_earlier w.sessions s.near.name s.far.name ≡ true) w.sessions

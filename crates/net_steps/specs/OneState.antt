@@ -1,0 +1,12 @@
+-- The state for which seats stand is one.
+use Rattle.std.specs.Prelude.{◌≡◌, List}
+use Rattle.network_model.specs.Network.{Network}
+use Rattle.net_model.specs.Seats.{Seat}
+use Rattle.net_model.specs.Stands.{StandsFor}
+use Rattle.told_laws.specs.Moments.{IsMoment}
+
+-- the nodes with their links and notices leave nothing of the state open: its configuration, how far each end is, what
+-- it sent and holds, and each message in flight
+abbrev pub SeatsStandForOneState : Type 0
+SeatsStandForOneState =
+    (seats : List Seat) (w v : Network) → IsMoment w → IsMoment v → StandsFor seats w → StandsFor seats v → w ≡ v

@@ -1,0 +1,11 @@
+pub mod Names
+pub mod Loops
+pub mod Forms
+pub mod NodeForms
+pub mod TenantForms
+pub mod PolicyForms
+pub mod WholeForm
+pub mod Ranges
+pub mod Numbers
+pub mod Places
+pub mod There

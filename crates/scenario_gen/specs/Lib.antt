@@ -1,0 +1,10 @@
+pub mod Naming
+pub mod Nodes
+pub mod Tenants
+pub mod Networks
+pub mod Ports
+pub mod Services
+pub mod Policies
+pub mod Schedule
+pub mod Scenario
+pub mod Laws

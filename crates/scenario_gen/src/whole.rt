@@ -1,0 +1,15 @@
+//! Whole scenarios.
+ghost use Rattle.std.specs.Prelude.{◌≡◌, ◌≤◌, IfOk, IsTrue};
+
+use config_model::{Config, Event, Topology};
+use ov_types::{Items, NoMemory, Packet};
+use std::alloc::Global;
+
+/// A topology and a configuration, the events of a run, and the packets that are traced after them.
+#[derive(Debug, Drop)]
+pub struct Scenario {
+    pub topology: Topology,
+    pub config: Config,
+    pub events: Items<Event>,
+    pub packets: Items<Packet>,
+}
