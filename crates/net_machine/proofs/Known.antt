@@ -214,7 +214,7 @@ module _ (p : Proved) (seats : List Seat) (w : Network) (m : IsMoment w) (st : S
       subst (λ s. StandsFor s (next any_size w (Changes e))) (sym d.is)
       (p.edits seats w m st e
       (λ y at. edited_typed w.setup y e may.0 may.1 (moment_written w m).config (moment_subnets w m) at)
-      is made makes d.node d.discarded)
+      is made makes d.node d.discarded).0
 
   node_at : (name : Name) (k : ℕ) → seat_named seats name ≡ Some (suc k)
       → (is_node w name ≡ true) × (shown w name ≡ shown_by (seat seats (suc k)))

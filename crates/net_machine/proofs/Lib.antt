@@ -20,3 +20,5 @@ pub mod Subnets
 pub mod Proved
 pub mod KnownEnds
 pub mod Known
+pub mod Given
+pub mod Ran

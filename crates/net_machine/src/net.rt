@@ -12,20 +12,32 @@ use crate::order::order_of;
 use crate::settle::is_settled;
 use crate::typed::know_subnets;
 use config_check::{Valid, check};
-use config_model::Event;
+use config_model::{Config, Event, Topology};
 use net_model::Stations;
 use net_seats::Nodes;
 use ov_types::{Items, NoMemory};
 use schedule_script::Answer;
-use std::alloc::Global;
+use std::alloc::{AllocError, Global};
 use std::marker::Model;
+
+fn copied_topology(topology: &Topology) -> Result<Topology, AllocError>
+    ensures { IfOk result (λ copy. copy ≡ topology.now) }
+{
+    topology.clone()
+}
+
+fn copied_config(config: &Config) -> Result<Config, AllocError>
+    ensures { IfOk result (λ copy. copy ≡ config.now) }
+{
+    config.clone()
+}
 
 /// A copy of a valid configuration, with its topology.
 fn copied(alloc: Global, valid: &Valid) -> Result<Valid, NoMemory>
     ensures { IfOk result (λ copy. copy ≡ valid.now) }
 {
-    let topology = valid.topology().clone()?;
-    let config = valid.config().clone()?;
+    let topology = copied_topology(valid.topology())?;
+    let config = copied_config(valid.config())?;
     match check(alloc, topology, config) {
         Ok(copy) => Ok(copy),
         Err(_) => Err(NoMemory),
