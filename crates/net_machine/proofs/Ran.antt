@@ -84,18 +84,16 @@ module _ (x : Checked) (es : List Event) (seats : List Seat) (order : List Sessi
   pub run_seated : All (AreSeated seats) order
   run_seated = subst (All (AreSeated seats)) (sym r.ordered) (among_seated seats (start x).sessions run_long)
 
+  run_first : (0 < length seats) × ((seat seats 0).who ≡ Configuring (moment x es).setup)
+  run_first = first_who seats (moment x es).setup _ r.stands.seats_are.who
+
   pub run_configured : IsConfigured seats
-  run_configured =
-      let first = first_who seats (moment x es).setup _ r.stands.seats_are.who in
-      record { some = first.0; setup = (moment x es).setup; is = first.1 }
+  run_configured = record { some = run_first.0; setup = (moment x es).setup; is = run_first.1 }
 
   run_ordered : order ≡ order_among seats (moment x es).sessions
   run_ordered =
       r.ordered ∙ sym (same_order seats (moment x es).sessions (start x).sessions
       (after_nodes any_size (start x) (map event_of es)))
-
-  pub run_setup : (y : Checked) → (seat seats 0).who ≡ Configuring y → y ≡ (moment x es).setup
-  run_setup y is = let first = run_configured.is in cc
 
   pub run_settled : is_settled seats order ≡ machine.is_settled (moment x es)
   run_settled =
@@ -110,7 +108,7 @@ module _ (x : Checked) (es : List Event) (seats : List Seat) (order : List Sessi
     makes =
         happens IsMoment facts seats then_seats (moment x es) (moment x es).setup order e answer
         (record { moment = r.moment_is; stands = r.stands }) refl run_ordered (may_happen e form fits)
-        (h (moment x es).setup run_configured.is)
+        (h (moment x es).setup run_first.1)
 
     pub step_answers : answer ≡ answer_to (moment x es) (event_of e)
     step_answers = makes.answers
