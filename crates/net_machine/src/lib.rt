@@ -1,2 +1,19 @@
-//! The whole network: its nodes take the events of a schedule.
+//! The whole network: its nodes over queue links, and the state of the network's machine for which it stands.
 #![tactic(auto)]
+
+mod connect;
+mod deliver;
+mod discard;
+mod ends;
+mod happen;
+mod longest;
+mod lose;
+mod net;
+mod order;
+mod round;
+mod settle;
+mod typed;
+
+pub use ends::SessionEnds;
+pub use net::Net;
+pub use round::Due;

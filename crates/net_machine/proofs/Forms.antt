@@ -1,0 +1,29 @@
+-- What the form of an event says of what it holds.
+use Rattle.std.specs.Prelude.{◌≡◌, ◌≤◌, ◌&&◌, ℕ, Bool, true, nat_le, IsTrue}
+use Rattle.std.proofs.Common.{arith}
+use Rattle.std.proofs.lemmas.Bool.{and_parts}
+use Rattle.std.proofs.lemmas.Bool.Decides.{nat_tests}
+use Rattle.ov_types.specs.declared.packet.Packet.{Packet}
+use Rattle.config_model.specs.declared.edit.Edit.{Edit as Change}
+use Rattle.config_model.specs.declared.event.Event.TheVariants.{Edit, Trace}
+use Rattle.config_model.specs.Edit.{has_edit_form}
+use Rattle.config_model.specs.Event.{has_event_form}
+use Rattle.config_model.specs.Form.{has_packet_form}
+
+pub edit_form : (e : Change) → IsTrue (has_event_form (Edit e)) → IsTrue (has_edit_form e)
+unfolding has_event_form
+edit_form e h = h
+
+within : (n : ℕ) → nat_le n 524271 ≡ true → n ≤ 524271
+within n h = grind (arith, nat_tests, h)
+
+pub trace_source : (p : Packet) → IsTrue (has_event_form (Trace p)) → p.source.0 ≤ 524271
+unfolding has_event_form has_packet_form
+trace_source p h =
+    let a = nat_le p.source.0 524271 in
+    let b = nat_le p.destination.0 0xffff_ffff in
+    let t = p.tuple in
+    let four = and_parts (a && b && nat_le t.proto 255 && nat_le t.sport 65535) (nat_le t.dport 65535) h in
+    let three = and_parts (a && b && nat_le t.proto 255) (nat_le t.sport 65535) four.0 in
+    let two = and_parts (a && b) (nat_le t.proto 255) three.0 in
+    within p.source.0 (and_parts a b two.0).0

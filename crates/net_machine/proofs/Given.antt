@@ -1,0 +1,32 @@
+-- What single steps make of the state for which seats stand, as it is proved.
+use Rattle.network_model.specs.Network.{Network}
+use Rattle.told_laws.specs.Moments.{IsMoment}
+use Rattle.net_steps.proofs.Asked.{sessions_said}
+use Rattle.net_steps.proofs.Connections.{connections_are_made, near_is_earlier, nothing_is_connected}
+use Rattle.net_steps.proofs.Delivered.{messages_are_delivered, nothing_is_delivered, notices_are_delivered}
+use Rattle.net_steps.proofs.Edited.{edits_are_made, faulty_edits_are_refused}
+use Rattle.net_steps.proofs.Given.{given}
+use Rattle.net_steps.proofs.Lost.{losses_are_made, nothing_is_lost}
+use Rattle.net_steps.proofs.Restarted.{restarts_are_made}
+use Rattle.net_machine.proofs.Facts.{Facts}
+use Rattle.net_machine.proofs.Known.{known}
+use Rattle.net_machine.proofs.Proved.{Proved}
+
+proved : Proved
+proved = record {
+  say = sessions_said given;
+  messages = messages_are_delivered given;
+  notices = notices_are_delivered given;
+  nothing = nothing_is_delivered given;
+  losses = losses_are_made given;
+  no_loss = nothing_is_lost given;
+  restarts = restarts_are_made given;
+  edits = edits_are_made given;
+  refused = faulty_edits_are_refused;
+  connections = connections_are_made given;
+  none_connected = nothing_is_connected given;
+  near_earlier = near_is_earlier given;
+}
+
+pub facts : Facts IsMoment
+facts = known proved

@@ -1,0 +1,233 @@
+-- What an event makes of the state for which seats stand, and what it answers.
+use Rattle.std.specs.Prelude.{◌≡◌, ◌==◌, ℕ, zero, suc, List, [], ◌∷◌, Bool, true, false, cond, not}
+use Rattle.std.specs.declared.option.Option.{Option}
+use Rattle.std.specs.declared.option.Option.TheVariants.{Some, None}
+use Rattle.std.specs.Option.{option_map, unwrap_or}
+use Rattle.std.proofs.Common.{refl, sym, ◌∙◌, ap, subst}
+use Rattle.config_model.specs.declared.edit.Edit.{Edit}
+use Rattle.config_model.specs.declared.event.Event.{Event as Written}
+use Rattle.config_model.specs.declared.event.Event.TheVariants as event
+use Rattle.config_check.specs.Checked.{Checked}
+use Rattle.config_check.specs.Edits.{edit_fault}
+use Rattle.route_targets.specs.Forwarding.{forwarding}
+use Rattle.schedule_script.specs.declared.answer.Answer.{Answer}
+use Rattle.schedule_script.specs.declared.answer.Answer.TheVariants.{Did, Idle, Rounds, Shown, Traced}
+use Rattle.network_model.specs.Setup.{Name, longest}
+use Rattle.network_model.specs.Session as session
+use Rattle.network_model.specs.Session.{Session, shut}
+use Rattle.network_model.specs.Network.{Network}
+use Rattle.network_model.specs.Steps as steps
+use Rattle.network_model.specs.Steps.{connect_found, connect_if, deliver, in_flight, is_broken, repeat, session_of, settle}
+use Rattle.network_model.specs.Steps.{change_node, pass, change_session}
+use Rattle.network_model.specs.Session.{arrived}
+use Rattle.network_model.specs.Events as events
+use Rattle.network_model.specs.Events.{Connect, Deliver, Edits as Changes, Event, Lose, Restart, answer_to, edit_answer}
+use Rattle.network_model.specs.Events.{event_of, is_node, lose, next, shown, unless}
+use Rattle.net_model.specs.Seats.{Seat, seat_named}
+use Rattle.net_model.specs.Stands.{any_size}
+use Rattle.net_machine.specs.declared.ends.SessionEnds.{SessionEnds}
+use Rattle.net_machine.specs.Connections.{Connects, may_connect}
+use Rattle.net_machine.specs.Happenings.{ConnectsOn, DeliversOn, Edits, Happens, LosesOn, RestartsAt, SettlesAs}
+use Rattle.net_machine.specs.Happenings.{earlier_first, shown_at}
+use Rattle.net_machine.specs.Losses.{lost}
+use Rattle.net_machine.specs.Rounds.{IsRound}
+use Rattle.net_machine.specs.Seating.{ends_of, is_down, is_earlier, order_among, turned, waiting}
+use Rattle.net_machine.specs.Settling.{Settles}
+use Rattle.net_machine.proofs.Connecting.{one_connected, other_earlier}
+use Rattle.net_machine.proofs.Delivering.{many_delivered, stays}
+use Rattle.net_machine.proofs.Facts.{At, Facts, IsNotAfter, MayHappen}
+use Rattle.net_machine.proofs.Named.{earlier_is}
+use Rattle.net_machine.proofs.Resting.{settled_is}
+use Rattle.net_machine.proofs.Rounding.{round_stands}
+use Rattle.net_machine.proofs.Settled.{settle_leads}
+
+again : (n : ℕ) (f : Network → Network) (w : Network) → f w ≡ w → repeat n f w ≡ w
+again zero f w e = refl
+again (suc n) f w e = ap (repeat n f) e ∙ again n f w e
+
+module _ (M : Network → Type 0) (f : Facts M) where
+  -- the answer, and the state after it
+  pub record Makes (w v : Network) (answer answer' : Answer) (after : List Seat) : Type 0 where
+    pub answers : answer ≡ answer'
+    pub stands : At M after v
+
+  -- ---- deliveries
+  module _ (seats after : List Seat) (w : Network) (a b : Name) (answer : Answer) (h : At M seats w) where
+    none_in_flight : session_of w a b ≡ None → in_flight w b a ≡ 0
+    none_in_flight e = ap (λ o. unwrap_or (option_map session.waiting o) 0) e
+
+    none_delivered : session_of w a b ≡ None → deliver b a w ≡ w
+    none_delivered e =
+        ap (λ n. cond (n == 0) w (pass a (change_session a b arrived w))) (none_in_flight e)
+
+    delivered_on : (n : ℕ) (o : Option SessionEnds) → ends_of seats a b ≡ o → DeliversOn o n seats answer after
+        → Makes w (next any_size w (Deliver b a n)) answer (answer_to w (Deliver b a n)) after
+    unfolding next
+    delivered_on n None is d =
+        let none = f.none seats w a b h.moment h.stands is in
+        record {
+          answers = d.0 ∙ ap (λ k. unless (k == 0)) (sym (none_in_flight none));
+          stands = subst (At M after) (sym (again n (deliver b a) w (none_delivered none))) (stays M f seats after w d.1 h);
+        }
+    delivered_on n (Some e) is d =
+        let s = f.says seats w a b e h.moment h.stands is in
+        record {
+          answers = d.0 ∙ ap (λ k. unless (k == 0))
+              (s.says.waits ∙ sym (ap (λ o. unwrap_or (option_map session.waiting o) 0) s.found));
+          stands = many_delivered M f n seats after w b a e h is d.1;
+        }
+
+    -- ---- lost sessions
+    none_broken : session_of w a b ≡ None → is_broken w a b ≡ true
+    none_broken e = ap (λ o. unwrap_or (option_map (λ (s : Session). s.is_down) o) true) e
+
+    lost_on : (o : Option SessionEnds) → ends_of seats a b ≡ o → LosesOn o seats answer after
+        → Makes w (next any_size w (Lose a b)) answer (answer_to w (Lose a b)) after
+    unfolding next
+    lost_on None is l =
+        let none = f.none seats w a b h.moment h.stands is in
+        record {
+          answers = l.0 ∙ ap unless (sym (none_broken none));
+          stands = subst (At M after) (sym (ap (λ o. lose o a b w) none)) (stays M f seats after w l.1 h);
+        }
+    lost_on (Some e) is l =
+        let s = f.says seats w a b e h.moment h.stands is in
+        record {
+          answers = l.0 ∙ ap unless (s.says.down
+              ∙ sym (ap (λ o. unwrap_or (option_map (λ (s : Session). s.is_down) o) true) s.found));
+          stands = subst (λ ss. At M ss (next any_size w (Lose a b))) (sym l.1) (record {
+            moment = f.next w (Lose a b) tt h.moment;
+            stands = f.loses seats w a b e h.moment h.stands is;
+          });
+        }
+
+  -- ---- of two nodes that have no session, neither is connected
+  none_back : (seats : List Seat) (w : Network) (a b : Name) → At M seats w → ends_of seats a b ≡ None
+      → ends_of seats b a ≡ None
+  none_back seats w a b h is =
+      elim (ends_of seats b a) as (λ o. ends_of seats b a ≡ o → o ≡ None) [
+        | None ↦ λ _. refl
+        | Some e ↦ λ at.
+            let back = sym (f.turns seats w b a e h.moment h.stands at) ∙ is in
+            cc
+      ] refl
+
+  none_connected : (seats : List Seat) (w : Network) (a b : Name) → At M seats w → ends_of seats a b ≡ None
+      → connect_if a b w ≡ w
+  none_connected seats w a b h is = ap (λ o. connect_found o a b w) (f.none seats w a b h.moment h.stands is)
+
+  first_connected : (c : Bool) (seats after : List Seat) (w : Network) (a b : Name) (e : SessionEnds) → At M seats w
+      → ends_of seats a b ≡ Some e → events.is_earlier w.sessions a b ≡ c → Connects seats (cond c e (turned e)) after
+      → At M after (cond c (connect_if a b w) (connect_if b a w))
+  first_connected true seats after w a b e h is first c = one_connected M f seats after w a b e h first is c
+  first_connected false seats after w a b e h is first c =
+      one_connected M f seats after w b a (turned e) h (other_earlier w.sessions a b first)
+      (f.turns seats w a b e h.moment h.stands is) c
+
+  connected_on : (seats after : List Seat) (w : Network) (order : List SessionEnds) (a b : Name) (answer : Answer)
+      (o : Option SessionEnds) → At M seats w → order ≡ order_among seats w.sessions → ends_of seats a b ≡ o
+      → ConnectsOn o order seats answer after
+      → Makes w (next any_size w (Connect a b)) answer (answer_to w (Connect a b)) after
+  unfolding next
+  connected_on seats after w order a b answer None h ordered is c =
+      let none = none_connected seats w a b h is in
+      let back = none_connected seats w b a h (none_back seats w a b h is) in
+      let same : cond (events.is_earlier w.sessions a b) (connect_if a b w) (connect_if b a w) ≡ w =
+      (λ i. cond (events.is_earlier w.sessions a b) (none i) (back i))
+      ∙ elim (events.is_earlier w.sessions a b) as (λ b. cond b w w ≡ w) [ true ↦ refl | false ↦ refl ] in
+      record {
+        answers = c.0 ∙ sym (ap (λ o. elim o as (λ (o : Option Session). Answer) [
+          | Some s ↦ unless (not (steps.may_connect s))
+          | None ↦ Idle
+        ]) (f.none seats w a b h.moment h.stands is));
+        stands = subst (At M after) (sym same) (stays M f seats after w c.1 h);
+      }
+  connected_on seats after w order a b answer (Some e) h ordered is c =
+      let s = f.says seats w a b e h.moment h.stands is in
+      let first = earlier_is M f seats w a b e order h is ordered in
+      record {
+        answers = c.0 ∙ ap (λ b. unless (not b)) s.says.may ∙ sym (ap (λ o. elim o as (λ (o : Option Session). Answer) [
+          | Some s ↦ unless (not (steps.may_connect s))
+          | None ↦ Idle
+        ]) s.found);
+        stands = first_connected (events.is_earlier w.sessions a b) seats after w a b e h is refl
+            (subst (λ b. Connects seats (cond b e (turned e)) after) first c.1);
+      }
+
+  -- ---- at one node
+  not_restarted : (w : Network) (name : Name) → is_node w name ≡ false → next any_size w (Restart name) ≡ w
+  unfolding next
+  not_restarted w name e = ap (λ b. cond b (change_node name shut w) w) e
+
+  module _ (seats after : List Seat) (w : Network) (name : Name) (answer : Answer) (h : At M seats w) where
+    restarted_none : is_node w name ≡ false → (answer ≡ Idle) × (after ≡ seats)
+        → Makes w (next any_size w (Restart name)) answer (answer_to w (Restart name)) after
+    restarted_none e r = record {
+      answers = r.0 ∙ ap (λ b. unless (not b)) (sym e);
+      stands = subst (At M after) (sym (not_restarted w name e)) (stays M f seats after w r.1 h);
+    }
+
+    restarted_at : (o : Option ℕ) → seat_named seats name ≡ o → RestartsAt o seats answer after
+        → Makes w (next any_size w (Restart name)) answer (answer_to w (Restart name)) after
+    restarted_at None is r =
+        restarted_none (f.others seats w name h.moment h.stands (subst IsNotAfter (sym is) tt)) r
+    restarted_at (Some zero) is r =
+        restarted_none (f.others seats w name h.moment h.stands (subst IsNotAfter (sym is) tt)) r
+    restarted_at (Some (suc k)) is r = record {
+      answers = r.0 ∙ ap (λ b. unless (not b)) (sym (f.nodes seats w name k h.moment h.stands is).0);
+      stands = subst (λ ss. At M ss (next any_size w (Restart name))) (sym r.1) (record {
+        moment = f.next w (Restart name) tt h.moment;
+        stands = f.restarts seats w name k h.moment h.stands is;
+      });
+    }
+
+    shown_none : is_node w name ≡ false → answer ≡ Idle → answer ≡ cond (is_node w name) (Shown (shown w name)) Idle
+    shown_none e a = a ∙ sym (ap (λ b. cond b (Shown (shown w name)) Idle) e)
+
+    shown_is : (o : Option ℕ) → seat_named seats name ≡ o → answer ≡ shown_at o seats
+        → answer ≡ cond (is_node w name) (Shown (shown w name)) Idle
+    shown_is None is a = shown_none (f.others seats w name h.moment h.stands (subst IsNotAfter (sym is) tt)) a
+    shown_is (Some zero) is a = shown_none (f.others seats w name h.moment h.stands (subst IsNotAfter (sym is) tt)) a
+    shown_is (Some (suc k)) is a =
+        let n = f.nodes seats w name k h.moment h.stands is in
+        a ∙ ap Shown (sym n.1) ∙ sym (ap (λ b. cond b (Shown (shown w name)) Idle) n.0)
+
+  -- ---- every event
+  pub happens : (seats after : List Seat) (w : Network) (x : Checked) (order : List SessionEnds) (e : Written)
+      (answer : Answer) → At M seats w → x ≡ w.setup → order ≡ order_among seats w.sessions → MayHappen (event_of e)
+      → Happens x order e seats answer after
+      → Makes w (next any_size w (event_of e)) answer (answer_to w (event_of e)) after
+  unfolding next
+  happens seats after w x order (event.Edit e) answer h setup ordered may d = record {
+    answers = d.0 ∙ ap (λ x. edit_answer (edit_fault x e)) setup;
+    stands = record {
+      moment = f.next w (Changes e) may h.moment;
+      stands = f.edits seats after w e may h.moment h.stands
+          (subst (λ x. Edits seats x e after) setup d.1);
+    };
+  }
+  happens seats after w x order (event.Deliver from to n) answer h setup ordered may d =
+      delivered_on seats after w to from answer h n (ends_of seats to from) refl d
+  happens seats after w x order (event.Lose a b) answer h setup ordered may d =
+      lost_on seats after w a b answer h (ends_of seats a b) refl d
+  happens seats after w x order (event.Connect a b) answer h setup ordered may d =
+      connected_on seats after w order a b answer (ends_of seats a b) h ordered refl d
+  happens seats after w x order (event.Restart name) answer h setup ordered may d =
+      restarted_at seats after w name answer h (seat_named seats name) refl d
+  happens seats after w x order event.Round answer h setup ordered may d =
+      record { answers = d.0; stands = (round_stands M f seats after w order h ordered d.1).1 }
+  happens seats after w x order event.Settle answer h setup ordered may d =
+      let l = settle_leads M f seats after w order d.rounds h ordered
+      (subst (λ x. Settles (longest x) order seats d.rounds after) setup d.settles) in
+      record {
+        answers = d.answers ∙ (λ i. Rounds (sym l.count i) (settled_is M f after (settle w).1 order l.stands l.ordered i));
+        stands = l.stands;
+      }
+  happens seats after w x order (event.Show name) answer h setup ordered may d = record {
+    answers = shown_is seats after w name answer h (seat_named seats name) refl d.0;
+    stands = stays M f seats after w d.1 h;
+  }
+  happens seats after w x order (event.Trace p) answer h setup ordered may d = record {
+    answers = d.0 ∙ ap (λ fs. Traced (forwarding fs p)) (sym (f.forwards seats w h.moment h.stands));
+    stands = stays M f seats after w d.1 h;
+  }

@@ -1,0 +1,280 @@
+-- What is asked of the seats of a network at a moment is known of them.
+use Rattle.std.specs.Prelude.{◌≡◌, ◌≢◌, ◌<◌, ◌+◌, ◌==◌, ◌&&◌, ℕ, zero, suc, List, [], ◌∷◌, length, Bool, true, false, not, cond, IsTrue}
+use Rattle.std.specs.declared.option.Option.{Option}
+use Rattle.std.specs.declared.option.Option.TheVariants.{Some, None}
+use Rattle.std.specs.Option.{option_map, unwrap_or}
+use Rattle.std.specs.List.{AllByRecursion}
+use Rattle.std.proofs.Common.{refl, sym, ◌∙◌, ap, subst, arith, inl, inr}
+use Rattle.std.proofs.lemmas.Bool.{and_parts, true≢false}
+use Rattle.std.proofs.lemmas.Option.{same_Some}
+use Rattle.ov_types.specs.First.{same_name}
+use Rattle.ov_link.specs.declared.step.Input.{Input}
+use Rattle.ov_link.specs.declared.step.Input.TheVariants.{Bytes, Closed, Opened}
+use Rattle.config_model.specs.declared.edit.Edit.{Edit}
+use Rattle.config_check.specs.Edits.{edit_fault}
+use Rattle.config_check.specs.declared.edits.EditFault.{EditFault}
+use Rattle.network_model.specs.Setup.{Name}
+use Rattle.network_model.specs.Session as session
+use Rattle.network_model.specs.Session.{Session, arrived}
+use Rattle.network_model.specs.Network.{Network}
+use Rattle.network_model.specs.Steps as machine
+use Rattle.network_model.specs.Steps.{change_session, connect_if, deliver, in_flight, pass, session_of}
+use Rattle.network_model.specs.Events as events
+use Rattle.network_model.specs.Events.{Connect, Deliver, DeliverOctets, Break, Event, Edits as Changes, Lose, Restart}
+use Rattle.network_model.specs.Events.{Round, Settle, Show, Trace, is_node, next, shown}
+use Rattle.network_model.proofs.NetworkFact.{found}
+use Rattle.network_model.proofs.Twins.{itself}
+use Rattle.network_laws.specs.Settling.{EditIsValid}
+use Rattle.net_model.specs.Seats.{Seat, far_of, is_down_at, is_live, link_at, live_at, name_of, notice_at, seat, seat_named}
+use Rattle.net_model.specs.Seats.{whole_at, whole_there}
+use Rattle.net_model.specs.Steps.{IsDiscarded, MakesEdit, Takes, emptied, shown_by, with_link, with_notice, with_seat}
+use Rattle.net_model.specs.Stands.{StandsFor, any_size}
+use Rattle.net_model.specs.declared.place.Place.{Place}
+use Rattle.told_laws.specs.Moments.{IsMoment, IsOfTypedForm}
+use Rattle.told_laws.proofs.Moments.{moment_next, moment_sessions, moment_subnets, moment_written}
+use Rattle.seat_laws.specs.Wiring.{name_at, other_at}
+use Rattle.seat_laws.proofs.Written.{forwarders_are, has_far, has_session, names_differ, no_node_above, place_is, shows_at}
+use Rattle.net_steps.specs.Connecting.{OpensBoth}
+use Rattle.net_steps.specs.Delivering as deliveries
+use Rattle.net_steps.specs.Losing as losses
+use Rattle.net_machine.specs.declared.ends.SessionEnds.{SessionEnds}
+use Rattle.net_machine.specs.Connections.{Connects, ConnectsAt, ConnectsIf, Opens, OpensFar, OpensSecond, may_connect}
+use Rattle.net_machine.specs.Deliveries.{Delivers, DeliversIf, DeliversTo, TakesAt, TakesOctets}
+use Rattle.net_machine.specs.Happenings.{DiscardsUnless, Edits}
+use Rattle.net_machine.specs.Losses.{all_told, cut, lost, restarted, told_of_loss}
+use Rattle.net_machine.specs.Seating.{Discards, ends_of, is_down, turned, waiting}
+use Rattle.net_machine.proofs.Facts.{Facts, IsNotAfter, MayHappen}
+use Rattle.net_machine.proofs.Kept.{with_there}
+use Rattle.net_machine.proofs.KnownEnds.{all_stood, all_unbroken, closed_waits, ends_are_at, ends_turn, fact_of, no_session_of, says_of}
+use Rattle.net_machine.proofs.Proved.{Proved}
+use Rattle.net_machine.proofs.Subnets.{edited_typed}
+
+-- ---- the same, as it is said there
+takes_there : (seats : List Seat) (q : Place) (input : Input) (after : List Seat) → TakesAt seats q.node input after
+    → deliveries.TakesAt seats q input after
+takes_there seats q input after h = record {
+  taken = h.node;
+  left = h.discards.node;
+  takes = h.takes;
+  discarded = h.discards.discarded;
+  is = h.discards.is;
+}
+
+told_there : (n k i : ℕ) (seats : List Seat) → losses.all_told n k i seats ≡ all_told n k i seats
+told_there zero k i seats = refl
+told_there (suc n) k i seats =
+    elim (far_of seats (record { node = k; session = i })) as (λ o. losses.all_told n k (i + 1) (losses.told_of_loss seats o)
+        ≡ all_told n k (i + 1) (told_of_loss seats o)) [
+      | None ↦ told_there n k (i + 1) seats
+      | Some q ↦ told_there n k (i + 1) (with_link q [] (with_notice q (live_at seats q) seats))
+    ]
+
+opens_there : (seats : List Seat) (p q : Place) (n : Seat) (one : List Seat) (m : Seat) (two : List Seat) (near far : Seat)
+    (three four : List Seat) → Takes (seat seats p.node) n (Opened p.session) → one ≡ with_seat p.node n seats
+    → Takes (seat one q.node) m (Opened q.session) → two ≡ with_seat q.node m one
+    → IsDiscarded two p.node near → three ≡ with_seat p.node near two
+    → IsDiscarded three q.node far → four ≡ with_seat q.node far three → OpensBoth seats p q four
+opens_there seats p q n one m two near far three four first one_is second two_is third three_is fourth four_is =
+    let two_at : two ≡ with_seat q.node m (with_seat p.node n seats) = two_is ∙ ap (with_seat q.node m) one_is in
+    let three_at : three ≡ with_seat p.node near (with_seat q.node m (with_seat p.node n seats)) =
+    three_is ∙ ap (with_seat p.node near) two_at in
+    record {
+      near_node = n;
+      near_takes = first;
+      far_node = m;
+      far_takes = subst (λ ss. Takes (seat ss q.node) m (Opened q.session)) one_is second;
+      near_left = near;
+      near_discarded = subst (λ ss. IsDiscarded ss p.node near) two_at third;
+      far_left = far;
+      far_discarded = subst (λ ss. IsDiscarded ss q.node far) three_at fourth;
+      is = four_is ∙ ap (with_seat q.node far) three_at;
+    }
+
+module _ (p : Proved) (seats : List Seat) (w : Network) (m : IsMoment w) (st : StandsFor seats w) where
+  -- ---- deliveries
+  nothing_there : (from to : Name) (e : SessionEnds) → ends_of seats to from ≡ Some e → live_at seats e.near ≡ false
+      → deliver from to w ≡ w
+  nothing_there from to e is closed =
+      let at = ends_are_at seats to from e is in
+      let s = p.say seats w m st to from e.near e.far at in
+      let none = closed_waits s.0 (fact_of w to from s.0 m s.1) (sym s.2.live ∙ closed) in
+      ap (λ n. cond (n == 0) w (pass to (change_session to from arrived w)))
+      (ap (λ o. unwrap_or (option_map session.waiting o) 0) s.1 ∙ none)
+
+  delivers_to : (after : List Seat) (from to : Name) (e : SessionEnds) → ends_of seats to from ≡ Some e
+      → (b : Bool) (messages : List (List ℕ)) → notice_at seats e.near ≡ b → link_at seats e.far ≡ messages
+      → DeliversTo seats e b messages after → StandsFor after (deliver from to w)
+  delivers_to after from to e is true messages notice link d =
+      let at = ends_are_at seats to from e is in
+      (p.notices seats w m st from to e.near e.far at notice after
+      (takes_there (with_notice e.near false seats) e.near (Closed e.near.session) after d)).0
+  delivers_to after from to e is false [] notice link d =
+      let at = ends_are_at seats to from e is in
+      let none = p.nothing seats w m st from to (inr (e.near, e.far, at, notice, link)) in
+      subst (StandsFor after) (sym none) (subst (λ s. StandsFor s w) (sym d) st)
+  delivers_to after from to e is false (octets ∷ messages) notice link d =
+      let at = ends_are_at seats to from e is in
+      (p.messages seats w m st from to e.near e.far at notice d.bytes messages
+      (link ∙ ap (λ o. o ∷ messages) (sym d.are)) after
+      (takes_there (with_link e.far messages seats) e.near (Bytes e.near.session d.bytes) after d.takes)).0
+
+  delivers_if : (after : List Seat) (from to : Name) (e : SessionEnds) → ends_of seats to from ≡ Some e
+      → (b : Bool) → live_at seats e.near ≡ b → DeliversIf b seats e after → StandsFor after (deliver from to w)
+  delivers_if after from to e is true live d =
+      delivers_to after from to e is (notice_at seats e.near) (link_at seats e.far) refl refl d
+  delivers_if after from to e is false live d =
+      subst (StandsFor after) (sym (nothing_there from to e is live)) (subst (λ s. StandsFor s w) (sym d) st)
+
+  -- ---- connections
+  nodes_differ : (a b : Name) (e : SessionEnds) → ends_of seats a b ≡ Some e → e.far.node ≢ e.near.node
+  nodes_differ a b e is same =
+      let written = moment_written w m in
+      let has = moment_sessions w m in
+      let at = ends_are_at seats a b e is in
+      let there = place_is w.setup written seats st.seats_are.who a b e.near at.0 in
+      let far = has_far w.setup written seats st.seats_are.who e.near there.is_place in
+      let far_is : far.far ≡ e.far = same_Some far.far e.far (sym far.found ∙ at.1) in
+      let s = has_session w written seats st.seats_are.who has e.near there.is_place in
+      let apart = found (λ s. (same_name s.near.name s.far.name ≡ false) × (same_name s.far.name s.near.name ≡ false))
+      (λ s h. (h.1, h.0)) w.sessions (name_at seats e.near) (other_at seats e.near)
+      (names_differ w written seats st.seats_are.who has) s.session s.found in
+      let one : s.session.far.name ≡ s.session.near.name =
+      s.far_name ∙ sym far.name ∙ (λ i. name_of (seat seats (far_is i).node).who)
+      ∙ (λ i. name_of (seat seats (same i)).who) ∙ sym s.near_name in
+      true≢false (sym (itself s.session.near.name) ∙ ap (λ n. same_name s.session.near.name n) (sym one) ∙ apart.0)
+
+  opened_still : (e : SessionEnds) (n : Seat) (opened : List Seat) → e.far.node ≢ e.near.node
+      → opened ≡ with_seat e.near.node n seats → live_at opened e.far ≡ live_at seats e.far
+  opened_still e n opened off is =
+      ap (λ ss. live_at ss e.far) is
+      ∙ ap (λ (n : Seat). is_live n e.far.session) (with_there seats e.near.node e.far.node n off)
+
+  connects_both : (after : List Seat) (a b : Name) (e : SessionEnds) → ends_of seats a b ≡ Some e
+      → may_connect seats e ≡ true → ConnectsAt seats e after → OpensBoth seats e.near e.far after
+  connects_both after a b e is may c =
+      let closed = and_parts (not (live_at seats e.near)) (not (live_at seats e.far)) may in
+      let still = opened_still e c.first.node c.opened (nodes_differ a b e is) c.first.is in
+      let quiet : live_at c.opened e.far ≡ false = still ∙ not_true (live_at seats e.far) closed.1 in
+      let o = subst (λ b. OpensSecond b c.opened e after) quiet c.second in
+      opens_there seats e.near e.far c.first.node c.opened o.opens.node o.opened o.near.node o.far.node o.between after
+      c.first.takes c.first.is o.opens.takes o.opens.is o.near.discarded o.near.is o.far.discarded o.far.is
+    where
+      not_true : (b : Bool) → not b ≡ true → b ≡ false
+      not_true true h = sym h
+      not_true false h = refl
+
+  connects_if : (after : List Seat) (a b : Name) (e : SessionEnds) → ends_of seats a b ≡ Some e → (c : Bool)
+      → may_connect seats e ≡ c → ConnectsIf c seats e after → StandsFor after (connect_if a b w)
+  connects_if after a b e is true may c =
+      let at = ends_are_at seats a b e is in
+      let s = p.say seats w m st a b e.near e.far at in
+      let of = says_of p seats w m st a b e is in
+      let same = same_Some of.session s.0 (sym of.found ∙ s.1) in
+      p.connections seats w m st a b e.near e.far at
+      (s.2.may_connect ∙ sym (of.says.may ∙ ap machine.may_connect same) ∙ may) after (connects_both after a b e is may c)
+  connects_if after a b e is false may c =
+      let at = ends_are_at seats a b e is in
+      let s = p.say seats w m st a b e.near e.far at in
+      let of = says_of p seats w m st a b e is in
+      let same = same_Some of.session s.0 (sym of.found ∙ s.1) in
+      let none = p.none_connected seats w m st a b e.near e.far at
+      (s.2.may_connect ∙ sym (of.says.may ∙ ap machine.may_connect same) ∙ may) in
+      subst (StandsFor after) (sym none) (subst (λ s. StandsFor s w) (sym c) st)
+
+  -- ---- losses
+  down_at : (a b : Name) (e : SessionEnds) → ends_of seats a b ≡ Some e → is_down_at seats e.near ≡ is_down seats e
+  down_at a b e is =
+      ap (λ o. not (whole_at seats e.near && whole_there seats o)) (ends_are_at seats a b e is).1
+
+  loses_if : (a b : Name) (e : SessionEnds) → ends_of seats a b ≡ Some e → (c : Bool) → is_down seats e ≡ c
+      → StandsFor (cond c seats (cut seats e)) (next any_size w (Lose a b))
+  loses_if a b e is true down =
+      let at = ends_are_at seats a b e is in
+      let none = (p.no_loss seats w m st a b (λ q there. subst (λ q. is_down_at seats q ≡ true)
+      (same_Some e.near q (sym at.0 ∙ there)) (down_at a b e is ∙ down))).0 in
+      subst (StandsFor seats) (sym none) st
+  loses_if a b e is false down =
+      (p.losses seats w m st a b e.near e.far (ends_are_at seats a b e is) (down_at a b e is ∙ down)).0
+
+  -- ---- restarts, edits, and what is shown
+  restarts_at : (name : Name) (k : ℕ) → seat_named seats name ≡ Some (suc k)
+      → StandsFor (restarted seats (suc k)) (next any_size w (Restart name))
+  restarts_at name k is =
+      subst (λ ss. StandsFor ss (next any_size w (Restart name)))
+      (told_there (length (seat seats (suc k)).posts) (suc k) 0
+      (with_seat (suc k) (emptied (seat seats (suc k))) seats)) (p.restarts seats w m st name k is).0
+
+  edits_if : (after made : List Seat) (e : Edit) → MayHappen (Changes e) → (o : Option EditFault)
+      → edit_fault w.setup e ≡ o → MakesEdit seats w.setup e o made → DiscardsUnless o made after
+      → StandsFor after (next any_size w (Changes e))
+  edits_if after made e may (Some f) is makes d =
+      subst (StandsFor after) (sym (p.refused w e f is).0)
+      (subst (λ s. StandsFor s w) (sym (d ∙ makes)) st)
+  edits_if after made e may None is makes d =
+      subst (λ s. StandsFor s (next any_size w (Changes e))) (sym d.is)
+      (p.edits seats w m st e
+      (λ y at. edited_typed w.setup y e may.0 may.1 (moment_written w m).config (moment_subnets w m) at)
+      is made makes d.node d.discarded).0
+
+  node_at : (name : Name) (k : ℕ) → seat_named seats name ≡ Some (suc k)
+      → (is_node w name ≡ true) × (shown w name ≡ shown_by (seat seats (suc k)))
+  node_at name k is =
+      elim (is_node w name) as (λ b. is_node w name ≡ b
+          → (b ≡ true) × (shown w name ≡ shown_by (seat seats (suc k)))) [
+        | true ↦ λ at.
+            let s = shows_at w (moment_written w m) seats st.seats_are (moment_sessions w m) name at in
+            let same : s.0 ≡ suc k = same_Some s.0 (suc k) (sym s.1.seat_is ∙ is) in
+            (refl, s.1.shows ∙ ap (λ j. shown_by (seat seats j)) same)
+        | false ↦ λ at.
+            let none = no_node_above w (moment_written w m) seats st.seats_are (moment_sessions w m) name at (suc k) is in
+            absurd (omega (arith, none))
+      ] refl
+
+  no_node : (name : Name) → IsNotAfter (seat_named seats name) → is_node w name ≡ false
+  no_node name off =
+      elim (is_node w name) as (λ b. is_node w name ≡ b → b ≡ false) [
+        | true ↦ λ at.
+            let s = shows_at w (moment_written w m) seats st.seats_are (moment_sessions w m) name at in
+            absurd (not_after s.0 s.1.above (subst IsNotAfter s.1.seat_is off))
+        | false ↦ λ at. refl
+      ] refl
+    where
+      not_after : (k : ℕ) → 0 < k → IsNotAfter (Some k) → ⊥
+      not_after zero above off = omega (arith, above)
+      not_after (suc k) above off = off
+
+-- what may happen leads on
+asked_of : (w : Network) (e : Event) → IsMoment w → MayHappen e → EditIsValid IsOfTypedForm w e
+asked_of w (Changes e) m may =
+    λ y at. edited_typed w.setup y e may.0 may.1 (moment_written w m).config (moment_subnets w m) at
+asked_of w (Deliver from to n) m may = tt
+asked_of w (DeliverOctets from to n) m may = tt
+asked_of w (Lose a b) m may = tt
+asked_of w (Connect a b) m may = tt
+asked_of w (Restart name) m may = tt
+asked_of w Round m may = tt
+asked_of w Settle m may = tt
+asked_of w (Show name) m may = tt
+asked_of w (Trace packet) m may = tt
+asked_of w (Break from to n) m may = tt
+
+pub known : Proved → Facts IsMoment
+known p = record {
+  says = λ seats w a b e m st is. says_of p seats w m st a b e is;
+  none = λ seats w a b m st is. no_session_of p seats w m st a b is;
+  turns = λ seats w a b e m st is. ends_turn p seats w m st a b e is;
+  stood = λ seats w m st. all_stood p seats w m st;
+  unbroken = λ seats w m st. all_unbroken p seats w m st;
+  delivers = λ seats after w from to e m st is d.
+      delivers_if p seats w m st after from to e is (live_at seats e.near) refl d;
+  connects = λ seats after w a b e m st first is c.
+      connects_if p seats w m st after a b e is (may_connect seats e) refl c;
+  loses = λ seats w a b e m st is. loses_if p seats w m st a b e is (is_down seats e) refl;
+  restarts = λ seats w name k m st is. restarts_at p seats w m st name k is;
+  edits = λ seats after w e may m st d.
+      edits_if p seats w m st after d.made e may (edit_fault w.setup e) refl d.makes d.discards;
+  nodes = λ seats w name k m st is. node_at p seats w m st name k is;
+  others = λ seats w name m st off. no_node p seats w m st name off;
+  forwards = λ seats w m st. forwarders_are w (moment_written w m) seats st.seats_are (moment_sessions w m);
+  next = λ w e may m. moment_next w e m (asked_of w e m may);
+}

@@ -1,0 +1,192 @@
+-- What the ends of sessions are at a moment.
+use Rattle.std.specs.Prelude.{◌≡◌, ◌<◌, ◌&&◌, ◌==◌, ℕ, List, [], ◌∷◌, map, length, Bool, true, false, not, cond}
+use Rattle.std.specs.declared.option.Option.{Option}
+use Rattle.std.specs.declared.option.Option.TheVariants.{Some, None}
+use Rattle.std.specs.Option.{option_map}
+use Rattle.std.specs.List.{AllByRecursion}
+use Rattle.std.proofs.Common.{refl, sym, ◌∙◌, ap, subst, inl, inr, arith}
+use Rattle.std.proofs.lemmas.Option.{same_Some}
+use Rattle.config_check.specs.Checked.{Checked}
+use Rattle.headline_laws.specs.Headline.{IsWritten}
+use Rattle.headline_laws.proofs.Written.{sound_setup}
+use Rattle.network_model.specs.Setup.{Name}
+use Rattle.network_model.specs.Session as session
+use Rattle.network_model.specs.Session.{Message, Session, is_idle, is_peering}
+use Rattle.network_model.specs.Network.{Network, start}
+use Rattle.network_model.specs.Steps as steps
+use Rattle.network_model.specs.Steps.{session_of, without_breaks}
+use Rattle.network_model.specs.Events as events
+use Rattle.network_model.specs.Moments.{ArePositive, Each, nodes}
+use Rattle.network_model.proofs.Apart.{no_twins}
+use Rattle.network_model.proofs.NetworkFact.{after_sound, found}
+use Rattle.network_model.proofs.SessionFact.{Fact, Fact-turned, live_receiver}
+use Rattle.network_model.proofs.Start.{start_sound}
+use Rattle.network_model.proofs.Twins.{Found, NoTwins, found_each}
+use Rattle.net_model.specs.Seats.{Seat, far_of, is_down_at, live_at, others_of, place_of, seat, whole_at, whole_there}
+use Rattle.net_model.specs.Stands.{HasEnd, StandsFor, any_size}
+use Rattle.net_model.specs.declared.place.Place.{Place}
+use Rattle.told_laws.specs.Moments.{IsMoment}
+use Rattle.told_laws.proofs.Moments.{moment_sessions, moment_written}
+use Rattle.seat_laws.specs.Wiring.{AreSeats, HasFar, HasSessions, IsFound, IsPlace, IsPlaceOf, name_at, other_at}
+use Rattle.seat_laws.proofs.Written.{far_is, has_far, place_is, session_without_place, sessions_found}
+use Rattle.net_steps.specs.Asking.{AreAt, SaysAt}
+use Rattle.net_machine.specs.declared.ends.SessionEnds.{SessionEnds}
+use Rattle.net_machine.specs.Connections.{may_connect}
+use Rattle.net_machine.specs.Seating.{ends_at, ends_from, ends_of, is_down, turned}
+use Rattle.net_machine.proofs.Facts.{IsStood, Says, SaysOf}
+use Rattle.net_machine.proofs.Proved.{Proved}
+
+-- ---- ends by their places
+from_at : (seats : List Seat) (a b : Name) (p : Place) (o : Option Place) (e : SessionEnds) → place_of seats a b ≡ Some p
+    → far_of seats p ≡ o → ends_from p o ≡ Some e → AreAt seats a b e.near e.far
+from_at seats a b p None e is far found = cc
+from_at seats a b p (Some q) e is far found =
+    let same : record { near = p; far = q } ≡ e = cc in
+    subst (λ (e : SessionEnds). AreAt seats a b e.near e.far) same (is, far)
+
+pub ends_are_at : (seats : List Seat) (a b : Name) (e : SessionEnds) → ends_of seats a b ≡ Some e
+    → AreAt seats a b e.near e.far
+ends_are_at seats a b e found =
+    elim (place_of seats a b) as (λ o. place_of seats a b ≡ o → ends_at seats o ≡ Some e → AreAt seats a b e.near e.far) [
+      | None ↦ λ is h. cc
+      | Some p ↦ λ is h. from_at seats a b p (far_of seats p) e is refl h
+    ] refl found
+
+pub at_are_ends : (seats : List Seat) (a b : Name) (p q : Place) → AreAt seats a b p q
+    → ends_of seats a b ≡ Some (record { near = p; far = q })
+at_are_ends seats a b p q at = ap (ends_at seats) at.0 ∙ ap (ends_from p) at.1
+
+-- ---- a session that is down is one of which no end is live, or where a notice waits
+positive : ArePositive any_size
+positive n m = one
+  where
+    one : 0 < 1
+    one = omega arith
+
+pub sound_now : (w : Network) → IsMoment w → Each (Fact any_size) w.sessions
+sound_now w m =
+    subst (λ (w : Network). Each (Fact any_size) w.sessions) (sym m.is)
+    (after_sound any_size positive (start m.opening) m.events (start_sound any_size positive m.opening))
+
+pub fact_of : (w : Network) (a b : Name) (s : Session) → IsMoment w → session_of w a b ≡ Some s → Fact any_size s
+fact_of w a b s m is = found (Fact any_size) (Fact-turned any_size) w.sessions a b (sound_now w m) s is
+
+-- the two ends are closed exactly where the session may be connected
+closed_may : (s : Session) → Fact any_size s
+    → (not (session.is_live s.near) && not (session.is_live s.far)) ≡ steps.may_connect s
+closed_may s (inl j) =
+    let near : is_idle s.near.phase ≡ false = live_receiver (is_peering s) s.near.phase s.far.phase j.inward.phases in
+    ap (λ b. not (not b) && not (session.is_live s.far)) near
+    ∙ sym (ap (λ b. b && (not s.near.notice && not s.far.notice)) j.whole)
+closed_may s (inr d) =
+    sym (ap (λ b. b && (not s.near.notice && not s.far.notice)) d.down
+    ∙ (λ i. not (d.near.notice i) && not (d.far.notice i)))
+
+pub closed_waits : (s : Session) → Fact any_size s → session.is_live s.near ≡ false → session.waiting s ≡ 0
+closed_waits s (inl j) closed =
+    let near : is_idle s.near.phase ≡ false = live_receiver (is_peering s) s.near.phase s.far.phase j.inward.phases in
+    let live = sym (ap not near) ∙ closed in
+    cc
+closed_waits s (inr d) closed = (λ i. cond ((d.near.notice ∙ closed) i) 1 (length (d.far.flight i)))
+
+module _ (p : Proved) (seats : List Seat) (w : Network) (m : IsMoment w) (st : StandsFor seats w) where
+  written : IsWritten w.setup
+  written = moment_written w m
+
+  has : HasSessions w
+  has = moment_sessions w m
+
+  are : AreSeats w.setup seats
+  are = st.seats_are.who
+
+  pub says_of : (a b : Name) (e : SessionEnds) → ends_of seats a b ≡ Some e → SaysOf seats w a b e
+  says_of a b e is =
+      let at = ends_are_at seats a b e is in
+      let s = p.say seats w m st a b e.near e.far at in
+      let near = s.2 in
+      let far = s.3 in
+      record {
+        session = s.0;
+        found = s.1;
+        says = record {
+          waits = near.waiting;
+          waits_back = far.waiting;
+          has_notice = near.notice;
+          down = ap (λ o. not (whole_at seats e.near && whole_there seats o)) (sym at.1) ∙ near.down;
+          may = (λ i. not (near.live i) && not (far.live i)) ∙ closed_may s.0 (fact_of w a b s.0 m s.1);
+          rests = near.is_rested;
+        };
+      }
+
+  -- ---- as the other end sees it
+  pub ends_turn : (a b : Name) (e : SessionEnds) → ends_of seats a b ≡ Some e → ends_of seats b a ≡ Some (turned e)
+  ends_turn a b e is =
+      let at = ends_are_at seats a b e is in
+      let back : place_of seats b a ≡ Some e.far = sym (far_is w.setup written seats are a b e.near at.0) ∙ at.1 in
+      at_are_ends seats b a e.far e.near (back, far_is w.setup written seats are b a e.far back ∙ at.0)
+
+  -- ---- where there is no place there is no session
+  no_far : (a b : Name) (q : Place) → place_of seats a b ≡ Some q → ends_of seats a b ≡ None → ⊥
+  no_far a b q is none =
+      let far = has_far w.setup written seats are q (place_is w.setup written seats are a b q is).is_place in
+      let some = sym none ∙ at_are_ends seats a b q far.far (is, far.found) in
+      cc
+
+  pub no_session_of : (a b : Name) → ends_of seats a b ≡ None → session_of w a b ≡ None
+  no_session_of a b none =
+      elim (place_of seats a b) as (λ o. place_of seats a b ≡ o → session_of w a b ≡ None) [
+        | None ↦ λ is. session_without_place w written seats are has a b is
+        | Some q ↦ λ is. absurd (no_far a b q is none)
+      ] refl
+
+  -- ---- all sessions
+  twins : NoTwins (map nodes w.sessions)
+  twins = subst NoTwins (sym has) (no_twins w.setup (sound_setup w.setup written).named.apart)
+
+  stood_all : (ss : List Session) → AllByRecursion (IsFound seats w) ss → Each (Found w.sessions) ss
+      → AllByRecursion (λ s. events.is_earlier w.sessions s.near.name s.far.name ≡ true) ss
+      → AllByRecursion (IsStood seats w) ss
+  stood_all [] f g h = tt
+  stood_all (s ∷ ss) f g h =
+      let far = has_far w.setup written seats are f.0.place f.0.is_place in
+      (record {
+        ends = record { near = f.0.place; far = far.far };
+        are = at_are_ends seats s.near.name s.far.name f.0.place far.far (f.0.place_is, far.found);
+        found = g.0.0;
+        back = g.0.1;
+        earlier = h.0;
+      }, stood_all ss f.1 g.1 h.1)
+
+  pub all_stood : AllByRecursion (IsStood seats w) w.sessions
+  all_stood =
+      stood_all w.sessions (sessions_found w written seats are has) (found_each w.sessions twins) (p.near_earlier w m)
+
+  -- ---- no send is to fail
+  no_breaks_at : (q : Place) (a b : Name) (s : Session) → IsPlace seats q → name_at seats q ≡ a → other_at seats q ≡ b
+      → session_of w a b ≡ Some s → s.near.breaks ≡ []
+  no_breaks_at q a b s is name other at =
+      let long = st.seats_are.long q.node is.node in
+      let fits : q.session < length (seat seats q.node).posts = (let i = is.session in let l = long.posts in omega (arith, i, l)) in
+      let e = st.seats_are.ends q.node q.session is.node fits in
+      let same : e.session ≡ s =
+      same_Some e.session s (sym e.found ∙ (λ i. session_of w (name i) (other i)) ∙ at) in
+      subst (λ (s : Session). s.near.breaks ≡ []) same e.is.breaks
+
+  unbroken_all : (ss : List Session) → AllByRecursion (IsFound seats w) ss → Each (Found w.sessions) ss
+      → map without_breaks ss ≡ ss
+  unbroken_all [] f g = refl
+  unbroken_all (s ∷ ss) f g =
+      let there = place_is w.setup written seats are s.near.name s.far.name f.0.place f.0.place_is in
+      let far = has_far w.setup written seats are f.0.place f.0.is_place in
+      let near = no_breaks_at f.0.place s.near.name s.far.name s f.0.is_place there.name there.other g.0.0 in
+      let back = no_breaks_at far.far s.far.name s.near.name (session.turned s) far.is_place (far.name ∙ there.other)
+      (far.other ∙ there.name) g.0.1 in
+      (λ i. record {
+        is_down = s.is_down;
+        near = record s.near { breaks = sym near i };
+        far = record s.far { breaks = sym back i };
+      } ∷ unbroken_all ss f.1 g.1 i)
+
+  pub all_unbroken : map without_breaks w.sessions ≡ w.sessions
+  all_unbroken =
+      unbroken_all w.sessions (sessions_found w written seats are has) (found_each w.sessions twins)

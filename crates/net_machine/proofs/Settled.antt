@@ -1,0 +1,81 @@
+-- What settling makes of the state for which seats stand.
+use Rattle.std.specs.Prelude.{◌≡◌, ◌+◌, ℕ, zero, suc, List, map, Bool, true, false, cond, MatchBool}
+use Rattle.std.proofs.Common.{refl, sym, ◌∙◌, ap, subst}
+use Rattle.network_model.specs.Setup.{longest}
+use Rattle.network_model.specs.Session.{Session}
+use Rattle.network_model.specs.Network.{Network}
+use Rattle.network_model.specs.Steps as steps
+use Rattle.network_model.specs.Steps.{connect_all, round, rounds_from, settle, without_breaks}
+use Rattle.network_model.specs.Moments.{nodes}
+use Rattle.network_model.proofs.NodesFact.{connect_all_nodes, round_nodes}
+use Rattle.net_model.specs.Seats.{Seat}
+use Rattle.net_machine.specs.declared.ends.SessionEnds.{SessionEnds}
+use Rattle.net_machine.specs.Rounds.{IsRound}
+use Rattle.net_machine.specs.Seating.{Keeps, order_among}
+use Rattle.net_machine.specs.Settling.{RoundsFrom, Settles, is_quiet}
+use Rattle.net_machine.proofs.Connecting.{all_connected, are_next}
+use Rattle.net_machine.proofs.Facts.{At, Facts}
+use Rattle.net_machine.proofs.Kept.{among_kept}
+use Rattle.net_machine.proofs.Delivering.{stays}
+use Rattle.net_machine.proofs.Resting.{quiet_is}
+use Rattle.net_machine.proofs.Rounding.{round_stands, same_order}
+
+-- the order stays
+pub order_stays : (seats after : List Seat) (w v : Network) (order : List SessionEnds) → Keeps seats after
+    → map nodes v.sessions ≡ map nodes w.sessions → order ≡ order_among seats w.sessions
+    → order ≡ order_among after v.sessions
+order_stays seats after w v order k e is =
+    is ∙ sym (among_kept seats after w.sessions k) ∙ same_order after w.sessions v.sessions (sym e)
+
+module _ (M : Network → Type 0) (f : Facts M) where
+  -- the number of rounds, and where they lead
+  pub record Leads (done : ℕ × Network) (w : Network) (order : List SessionEnds) (rounds : ℕ) (after : List Seat)
+      : Type 0 where
+    pub count : done.0 ≡ rounds
+    pub stands : At M after done.1
+    pub ordered : order ≡ order_among after done.1.sessions
+
+  stop : (done : ℕ) (seats after : List Seat) (w : Network) (order : List SessionEnds) (n : ℕ) → At M seats w
+      → order ≡ order_among seats w.sessions → (n ≡ done) × (after ≡ seats) → Leads (done, w) w order n after
+  stop done seats after w order n h is e = record {
+    count = sym e.0;
+    stands = stays M f seats after w e.1 h;
+    ordered = is ∙ ap (λ s. order_among s w.sessions) (sym e.1);
+  }
+
+  rounds_lead : (n done : ℕ) (seats after : List Seat) (w : Network) (order : List SessionEnds) (rounds : ℕ) → At M seats w
+      → order ≡ order_among seats w.sessions → RoundsFrom n done order seats rounds after
+      → Leads (rounds_from n done w) w order rounds after
+  rounds_lead zero done seats after w order rounds h is all = stop done seats after w order rounds h is all
+  rounds_lead (suc n) done seats after w order rounds h is all =
+      elim (steps.is_quiet w) as (λ q. MatchBool q ((rounds ≡ done) × (after ≡ seats))
+          ((between : List Seat) × IsRound order seats between × RoundsFrom n (done + 1) order between rounds after)
+          → Leads (cond q (done, w) (rounds_from n (done + 1) (round w))) w order rounds after) [
+        | true ↦ λ e. stop done seats after w order rounds h is e
+        | false ↦ λ c.
+            let r = round_stands M f seats c.0 w order h is c.1 in
+            let l = rounds_lead n (done + 1) c.0 after (round w) order rounds r.1
+            (order_stays seats c.0 w (round w) order r.0 (round_nodes w) is) c.2 in
+            record { count = l.count; stands = l.stands; ordered = l.ordered }
+      ] (subst (λ q. MatchBool q ((rounds ≡ done) × (after ≡ seats))
+      ((between : List Seat) × IsRound order seats between × RoundsFrom n (done + 1) order between rounds after))
+      (quiet_is M f seats w order h is) all)
+
+  pub settle_leads : (seats after : List Seat) (w : Network) (order : List SessionEnds) (rounds : ℕ) → At M seats w
+      → order ≡ order_among seats w.sessions → Settles (longest w.setup) order seats rounds after
+      → Leads (settle w) w order rounds after
+  unfolding settle
+  settle_leads seats after w order rounds h is s =
+      let whole : record { setup = w.setup; sessions = map without_breaks w.sessions } ≡ w =
+      ap (λ (ss : List Session). record { setup = w.setup; sessions = ss }) (f.unbroken seats w h.moment h.stands) in
+      let v = round w in
+      let r = round_stands M f seats s.cleared w order h is s.first in
+      let there = order_stays seats s.cleared w v order r.0 (round_nodes w) is in
+      let c = all_connected M f v.sessions s.cleared s.connected v order r.1
+      (are_next s.cleared v v.sessions (f.stood s.cleared v r.1.moment r.1.stands)) there s.connects in
+      let u = connect_all v.sessions v in
+      let l = rounds_lead (longest w.setup + 5) 1 s.connected after u order rounds c.1
+      (order_stays s.cleared s.connected v u order c.0 (connect_all_nodes v.sessions v) there) s.rest in
+      subst (λ (x : Network). Leads (rounds_from (longest w.setup + 5) 1 (connect_all (round x).sessions (round x))) w order
+      rounds after) (sym whole)
+      (record { count = l.count; stands = l.stands; ordered = l.ordered })

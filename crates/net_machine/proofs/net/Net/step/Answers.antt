@@ -1,0 +1,51 @@
+use Rattle.std.proofs.Common.{◌≡◌, List, refl, sym, ◌∙◌, ap, subst}
+use Rattle.std.specs.List.{All}
+use Rattle.network_model.specs.Events.{answer_to, event_of}
+use Rattle.config_check.specs.Checked.{Checked}
+use Rattle.net_model.specs.Seats.{Configuring, seat}
+use Rattle.net_model.specs.Stands.{moment}
+use Rattle.net_machine.specs.declared.ends.SessionEnds.{SessionEnds}
+use Rattle.net_machine.specs.Happenings.{Happens}
+use Rattle.net_machine.specs.NetState.{NetState}
+use Rattle.net_machine.specs.Seating.{AreSeated}
+use Rattle.net_machine.proofs.Ran.{run_configured, run_seated, step_answers, step_runs}
+use Rattle.net_machine.proofs.net.Net.step.Goals as goal
+
+pub happen-requires-clause-configured : goal.happen-requires-clause-configured
+happen-requires-clause-configured c =
+    run_configured c.self.inside.opening c.self.inside.events c.self.inside.nodes.seats c.self.inside.order.items
+    (c.self.invariant c.if-self.false).0
+
+pub happen-requires-clause-seated : goal.happen-requires-clause-seated
+happen-requires-clause-seated c =
+    subst (All (AreSeated c.self.inside.nodes.seats)) (sym c.as_slice.ensures.value)
+    (run_seated c.self.inside.opening c.self.inside.events c.self.inside.nodes.seats c.self.inside.order.items
+    (c.self.invariant c.if-self.false).0)
+
+pub invariant_of-self-2 : goal.invariant_of-self-2
+invariant_of-self-2 c = λ _.
+    let n = c.self.inside in
+    (step_runs n.opening n.events n.nodes.seats n.order.items (c.self.invariant c.if-self.false).0 c.args.event
+    c.in_ok-answer.answer c.happen.new.stations.seats c.requires.form c.know_subnets.ensures
+    (λ y is. subst (λ (es : List SessionEnds). Happens y es c.args.event n.nodes.seats c.in_ok-answer.answer
+    c.happen.new.stations.seats) c.as_slice.ensures.value (c.in_ok-answer.ensures.happens y is))
+    c.in_ok-answer.ensures.keeps c.push.new.self c.in_ok-push.ensures.ok, c.in_ok-answer.ensures.works)
+
+pub returns-clause-answer : goal.returns-clause-answer
+returns-clause-answer c =
+    let n = c.self.inside in
+    step_answers n.opening n.events n.nodes.seats n.order.items (c.self.invariant c.if-self.false).0 c.args.event
+    c.in_ok-answer.answer c.happen.new.stations.seats c.requires.form c.know_subnets.ensures
+    (λ y is. subst (λ (es : List SessionEnds). Happens y es c.args.event n.nodes.seats c.in_ok-answer.answer
+    c.happen.new.stations.seats) c.as_slice.ensures.value (c.in_ok-answer.ensures.happens y is))
+    c.in_ok-answer.ensures.keeps
+    ∙ ap (λ (s : NetState). answer_to (moment s.opening s.events) (event_of c.args.event)) c.self.view_is
+
+pub returns-clause-state : goal.returns-clause-state
+returns-clause-state c =
+    let n = c.self.inside in
+    (step_runs n.opening n.events n.nodes.seats n.order.items (c.self.invariant c.if-self.false).0 c.args.event
+    c.in_ok-answer.answer c.happen.new.stations.seats c.requires.form c.know_subnets.ensures
+    (λ y is. subst (λ (es : List SessionEnds). Happens y es c.args.event n.nodes.seats c.in_ok-answer.answer
+    c.happen.new.stations.seats) c.as_slice.ensures.value (c.in_ok-answer.ensures.happens y is))
+    c.in_ok-answer.ensures.keeps c.push.new.self c.in_ok-push.ensures.ok).stands

@@ -1,0 +1,12 @@
+use Rattle.std.proofs.Common.{◌≡◌, ◌++◌, drop}
+use Rattle.std.specs.List.{All}
+use Rattle.network_model.specs.Network.{feeds}
+use Rattle.net_machine.specs.Seating.{AreSeated, order_among}
+use Rattle.net_machine.proofs.order.push_feeds.Given as goal
+
+abbrev pub invariant-loop-controller : goal.invariant-loop-controller
+invariant-loop-controller g l = record {
+  pushed : l.order.items ++ order_among (g.S.Stations.seats l.stations) (feeds (drop l.controller-index l.controllers))
+      ≡ l.fn.order.items ++ order_among (g.S.Stations.seats l.stations) (feeds l.controllers);
+  seated : All (AreSeated (g.S.Stations.seats l.stations)) l.order.items;
+}

@@ -1,0 +1,12 @@
+use Rattle.std.proofs.Common.{◌≡◌, ◌++◌, drop}
+use Rattle.std.specs.List.{All}
+use Rattle.network_model.specs.Network.{peerings}
+use Rattle.net_machine.specs.Seating.{AreSeated, order_among}
+use Rattle.net_machine.proofs.order.push_peerings.Given as goal
+
+abbrev pub invariant-loop-i : goal.invariant-loop-i
+invariant-loop-i g l = record {
+  pushed : l.order.items ++ order_among (g.S.Stations.seats l.stations) (peerings (drop l.i l.controllers))
+      ≡ l.fn.order.items ++ order_among (g.S.Stations.seats l.stations) (peerings l.controllers);
+  seated : All (AreSeated (g.S.Stations.seats l.stations)) l.order.items;
+}

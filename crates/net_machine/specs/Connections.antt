@@ -1,0 +1,48 @@
+-- What connecting makes of a network.
+use Rattle.std.specs.Prelude.{◌≡◌, List, [], ◌∷◌, Bool, true, false, not, ◌&&◌}
+use Rattle.ov_link.specs.declared.step.Input.TheVariants.{Opened}
+use Rattle.net_model.specs.Seats.{Seat, live_at, seat}
+use Rattle.net_model.specs.Steps.{Takes, with_seat}
+use Rattle.net_model.specs.declared.place.Place.{Place}
+use Rattle.net_machine.specs.declared.ends.SessionEnds.{SessionEnds}
+use Rattle.net_machine.specs.Seating.{Discards}
+
+-- where both ends are closed
+abbrev pub may_connect : List Seat → SessionEnds → Bool
+may_connect seats e = not (live_at seats e.near) && not (live_at seats e.far)
+
+-- a node opens its end
+pub record Opens (seats : List Seat) (p : Place) (after : List Seat) : Type 0 where
+  pub node : Seat
+  pub takes : Takes (seat seats p.node) node (Opened p.session)
+  pub is : after ≡ with_seat p.node node seats
+
+-- then what both sent on sessions that are down is discarded
+pub record OpensFar (seats : List Seat) (e : SessionEnds) (after : List Seat) : Type 0 where
+  pub opened : List Seat
+  pub opens : Opens seats e.far opened
+  pub between : List Seat
+  pub near : Discards opened e.near.node between
+  pub far : Discards between e.far.node after
+
+-- the far node opens after the near one, where its end is still closed
+abbrev pub OpensSecond : Bool → List Seat → SessionEnds → List Seat → Type 0
+OpensSecond true seats e after = after ≡ seats
+OpensSecond false seats e after = OpensFar seats e after
+
+pub record ConnectsAt (seats : List Seat) (e : SessionEnds) (after : List Seat) : Type 0 where
+  pub opened : List Seat
+  pub first : Opens seats e.near opened
+  pub second : OpensSecond (live_at opened e.far) opened e after
+
+abbrev pub ConnectsIf : Bool → List Seat → SessionEnds → List Seat → Type 0
+ConnectsIf true seats e after = ConnectsAt seats e after
+ConnectsIf false seats e after = after ≡ seats
+
+abbrev pub Connects : List Seat → SessionEnds → List Seat → Type 0
+Connects seats e after = ConnectsIf (may_connect seats e) seats e after
+
+-- one session after the other
+abbrev pub ConnectsAll : List SessionEnds → List Seat → List Seat → Type 0
+ConnectsAll [] seats after = after ≡ seats
+ConnectsAll (e ∷ es) seats after = (between : List Seat) × Connects seats e between × ConnectsAll es between after

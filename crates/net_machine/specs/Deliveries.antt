@@ -1,0 +1,45 @@
+-- What one delivery, and what several in turn, make of a network.
+use Rattle.std.specs.Prelude.{◌≡◌, ℕ, zero, suc, List, [], ◌∷◌, Bool, true, false}
+use denote.Bor.{Bor}
+use Rattle.ov_link.specs.declared.step.Input.{Input}
+use Rattle.ov_link.specs.declared.step.Input.TheVariants.{Bytes, Closed}
+use Rattle.net_model.specs.Seats.{Seat, link_at, live_at, notice_at, seat}
+use Rattle.net_model.specs.Steps.{Takes, with_link, with_notice, with_seat}
+use Rattle.net_model.specs.declared.place.Place.{Place}
+use Rattle.net_machine.specs.declared.ends.SessionEnds.{SessionEnds}
+use Rattle.net_machine.specs.Seating.{Discards}
+
+-- a node takes an input, and what it sent on sessions that are down is discarded
+pub record TakesAt (seats : List Seat) (k : ℕ) (input : Input) (after : List Seat) : Type 0 where
+  pub node : Seat
+  pub takes : Takes (seat seats k) node input
+  pub discards : Discards (with_seat k node seats) k after
+
+-- it takes these octets on a session
+pub record TakesOctets (seats : List Seat) (p : Place) (octets : List ℕ) (after : List Seat) : Type 0 where
+  pub bytes : Bor (List ℕ)
+  pub are : bytes.now ≡ octets
+  pub takes : TakesAt seats p.node (Bytes p.session bytes) after
+
+-- what the near end takes: a notice that waits there closes it. Else the first message that left the far end comes
+abbrev pub DeliversTo : List Seat → SessionEnds → Bool → List (List ℕ) → List Seat → Type 0
+DeliversTo seats e true messages after =
+    TakesAt (with_notice e.near false seats) e.near.node (Closed e.near.session) after
+DeliversTo seats e false [] after = after ≡ seats
+DeliversTo seats e false (octets ∷ messages) after =
+    TakesOctets (with_link e.far messages seats) e.near octets after
+
+-- nothing comes to an end that is not live
+abbrev pub DeliversIf : Bool → List Seat → SessionEnds → List Seat → Type 0
+DeliversIf false seats e after = after ≡ seats
+DeliversIf true seats e after = DeliversTo seats e (notice_at seats e.near) (link_at seats e.far) after
+
+-- one message or notice is taken at the near end, where there is one
+abbrev pub Delivers : List Seat → SessionEnds → List Seat → Type 0
+Delivers seats e after = DeliversIf (live_at seats e.near) seats e after
+
+-- one by one, as often
+abbrev pub DeliversMany : ℕ → List Seat → SessionEnds → List Seat → Type 0
+DeliversMany zero seats e after = after ≡ seats
+DeliversMany (suc n) seats e after =
+    (between : List Seat) × Delivers seats e between × DeliversMany n between e after

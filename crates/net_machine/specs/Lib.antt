@@ -1,0 +1,13 @@
+-- The files of definitions, in the order in which they stand on each other.
+pub mod NetState
+pub mod Fitting
+pub mod Seating
+pub mod Deliveries
+pub mod Rounds
+pub mod Connections
+pub mod Losses
+pub mod Settling
+pub mod Longest
+pub mod Happenings
+pub mod Running
+pub mod Codes

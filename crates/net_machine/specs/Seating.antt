@@ -1,0 +1,111 @@
+-- The places of a network's sessions, and what each step keeps of them.
+use Rattle.std.specs.Prelude.{◌≡◌, ◌<◌, ℕ, List, [], ◌∷◌, length, map, Bool, true, false, not, ◌&&◌, ◌==◌}
+use Rattle.std.specs.Prelude.{if◌then◌else◌}
+use Rattle.std.specs.declared.option.Option.{Option}
+use Rattle.std.specs.declared.option.Option.TheVariants.{Some, None}
+use Rattle.std.specs.Option.{option_map}
+use Rattle.std.specs.List.{filter, filter_map}
+use Rattle.ov_types.specs.declared.rows.NodeId.{NodeId}
+use Rattle.config_model.specs.declared.topology.Node.{Node}
+use Rattle.config_check.specs.Checked.{Checked}
+use Rattle.network_model.specs.Setup.{Name}
+use Rattle.network_model.specs.Session.{Session, Controller, Agent}
+use Rattle.network_model.specs.Network.{between, lists, start}
+use Rattle.net_model.specs.Seats.{Configuring, Seat, far_of, is_down_at, link_at, name_of, notice_at, others_of}
+use Rattle.net_model.specs.Seats.{place_of, seat, whole_at}
+use Rattle.net_model.specs.Stands.{IsLong}
+use Rattle.net_model.specs.Steps.{IsDiscarded, with_link, with_seat}
+use Rattle.net_model.specs.declared.place.Place.{Place}
+use Rattle.net_machine.specs.declared.ends.SessionEnds.{SessionEnds}
+
+-- ---- places
+-- a place that there is
+pub record IsSeated (seats : List Seat) (p : Place) : Type 0 where
+  pub node : p.node < length seats
+  pub session : p.session < length (seat seats p.node).posts
+
+pub record AreSeated (seats : List Seat) (e : SessionEnds) : Type 0 where
+  pub near : IsSeated seats e.near
+  pub far : IsSeated seats e.far
+
+-- each node has an end, a link and room for a notice for each of its sessions
+abbrev pub AreLong : List Seat → Type 0
+AreLong seats = (k : ℕ) → k < length seats → IsLong (seat seats k)
+
+-- the first node is the configuration node
+pub record IsConfigured (seats : List Seat) : Type 0 where
+  pub some : 0 < length seats
+  pub setup : Checked
+  pub is : (seat seats 0).who ≡ Configuring setup
+
+-- what every event keeps: the nodes by their names, each with its sessions
+pub record Keeps (seats after : List Seat) : Type 0 where
+  pub count : length after ≡ length seats
+  pub name : (k : ℕ) → name_of (seat after k).who ≡ name_of (seat seats k).who
+  pub others : (k : ℕ) → others_of (seat after k).who ≡ others_of (seat seats k).who
+  pub posts : (k : ℕ) → length (seat after k).posts ≡ length (seat seats k).posts
+  pub long : AreLong after
+
+-- ---- sessions, by their two ends
+abbrev pub ends_from : Place → Option Place → Option SessionEnds
+ends_from p far = option_map (λ (q : Place). record { near = p; far = q }) far
+
+abbrev pub ends_at : List Seat → Option Place → Option SessionEnds
+ends_at seats None = None
+ends_at seats (Some p) = ends_from p (far_of seats p)
+
+-- the session of two nodes, with the first one's end near
+abbrev pub ends_of : List Seat → Name → Name → Option SessionEnds
+ends_of seats a b = ends_at seats (place_of seats a b)
+
+-- the sessions of a network, in the order of a round
+abbrev pub order_among : List Seat → List Session → List SessionEnds
+order_among seats sessions = filter_map (λ (s : Session). ends_of seats s.near.name s.far.name) sessions
+
+-- those of a control node with others, and those of a compute node
+abbrev pub peerings_of : NodeId → List NodeId → List Session
+peerings_of c others = map (λ (d : NodeId). between c.name Controller d.name Controller) others
+
+abbrev pub accesses_of : List NodeId → Node → List Session
+accesses_of controllers n =
+    map (λ (c : NodeId). between c.name Controller n.name Agent) (filter (lists n) controllers)
+
+abbrev pub order_of : List Seat → Checked → List SessionEnds
+order_of seats x = order_among seats (start x).sessions
+
+-- as the other end sees it
+abbrev pub turned : SessionEnds → SessionEnds
+turned e = record { near = e.far; far = e.near }
+
+abbrev pub same_place : Place → Place → Bool
+same_place p q = (p.node == q.node) && (p.session == q.session)
+
+abbrev pub same_ends : SessionEnds → SessionEnds → Bool
+same_ends d e = same_place d.near e.near && same_place d.far e.far
+
+-- whether the near node of a session comes before the far one in the order of a round
+abbrev pub is_earlier : List SessionEnds → SessionEnds → Bool
+is_earlier [] e = true
+is_earlier (d ∷ order) e =
+    if same_ends d e then true else if same_ends d (turned e) then false else is_earlier order e
+
+-- ---- what waits towards the near end: a notice counts as one
+abbrev pub waiting : List Seat → SessionEnds → ℕ
+waiting seats e = if notice_at seats e.near then 1 else length (link_at seats e.far)
+
+abbrev pub waiting_there : List Seat → Option SessionEnds → ℕ
+waiting_there seats None = 0
+waiting_there seats (Some e) = waiting seats e
+
+-- a session is down where an end is not live, or a notice waits
+abbrev pub is_down : List Seat → SessionEnds → Bool
+is_down seats e = not (whole_at seats e.near && whole_at seats e.far)
+
+-- ---- what a node sent on sessions that are down is discarded
+abbrev pub discarded_at : List Seat → Place → List Seat
+discarded_at seats p = if is_down_at seats p then with_link p [] seats else seats
+
+pub record Discards (seats : List Seat) (k : ℕ) (after : List Seat) : Type 0 where
+  pub node : Seat
+  pub discarded : IsDiscarded seats k node
+  pub is : after ≡ with_seat k node seats

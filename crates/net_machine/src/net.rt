@@ -1,0 +1,162 @@
+//! A network that runs: it takes the events of a schedule.
+ghost use Rattle.std.specs.Prelude.{◌≡◌, ◌++◌, ◌∷◌, [], true, false, IfOk, IsErr, IsTrue, OnErr, OnOk};
+ghost use Rattle.report.specs.Answers.{IsAnswerTo};
+ghost use Rattle.config_model.specs.Event.{has_event_form};
+ghost use Rattle.network_model.specs.Events.{answer_to, event_of};
+ghost use Rattle.network_model.specs.Steps.{is_settled};
+ghost use Rattle.net_model.specs.Stands.{StandsFor, moment};
+
+use crate::ends::SessionEnds;
+use crate::happen::happen;
+use crate::order::order_of;
+use crate::settle::is_settled;
+use crate::typed::know_subnets;
+use config_check::{Valid, check};
+use config_model::{Config, Event, Topology};
+use net_model::Stations;
+use net_seats::Nodes;
+use ov_types::{Items, NoMemory};
+use schedule_script::Answer;
+use std::alloc::{AllocError, Global};
+use std::marker::Model;
+
+fn copied_topology(topology: &Topology) -> Result<Topology, AllocError>
+    ensures { IfOk result (λ copy. copy ≡ topology.now) }
+{
+    topology.clone()
+}
+
+fn copied_config(config: &Config) -> Result<Config, AllocError>
+    ensures { IfOk result (λ copy. copy ≡ config.now) }
+{
+    config.clone()
+}
+
+/// A copy of a valid configuration, with its topology.
+fn copied(alloc: Global, valid: &Valid) -> Result<Valid, NoMemory>
+    ensures { IfOk result (λ copy. copy ≡ valid.now) }
+{
+    let topology = copied_topology(valid.topology())?;
+    let config = copied_config(valid.config())?;
+    match check(alloc, topology, config) {
+        Ok(copy) => Ok(copy),
+        Err(_) => Err(NoMemory),
+    }
+}
+
+/// The nodes of a topology over queue links, with the events that they took. Contracts see the opening configuration, the
+/// events, the nodes' seats, and whether memory was wanting in an event: after that every event fails. The seats stand for
+/// the state that the network's machine has after these events.
+#[derive(Drop)]
+pub struct Net {
+    alloc: Global,
+    nodes: Nodes,
+    /// The sessions, in the order of a round.
+    order: Vec<SessionEnds>,
+    opening: Valid,
+    events: Items<Event>,
+    failed: bool,
+}
+
+impl Model for Net {
+    ghost use Rattle.std.specs.Prelude.{◌≡◌, false};
+    ghost use Rattle.net_machine.specs.Codes.{coded_net};
+    ghost use Rattle.net_machine.specs.NetState.{NetState};
+    ghost use Rattle.net_machine.specs.Running.{IsRunning};
+
+    ghost Value = { NetState };
+
+    ghost coded = { coded_net };
+
+    ghost view = { λ n. record { opening = n.opening; events = n.events; seats = n.nodes.seats; failed = n.failed } };
+
+    ghost invariant = { λ n. n.failed ≡ false
+        → IsRunning n.opening n.events n.nodes.seats n.order.items × (n.nodes.failed ≡ false) };
+}
+
+impl Net {
+    /// A network in which nothing has happened: no session is open, and no node has anything of another.
+    pub fn new(alloc: Global, valid: Valid) -> Result<Net, NoMemory>
+        ensures opening { IfOk result (λ net. net.opening ≡ valid) }
+        ensures events { IfOk result (λ net. net.events ≡ []) }
+        ensures works { IfOk result (λ net. net.failed ≡ false) }
+        ensures state { IfOk result (λ net. StandsFor net.seats (moment valid [])) }
+    {
+        let opening = copied(alloc, &valid)?;
+        object_laws::know_subnets(opening.config());
+        let nodes = Nodes::new(alloc, valid)?;
+        let order = order_of(alloc, &nodes, &opening)?;
+        Ok(Net {
+            alloc,
+            nodes,
+            order,
+            opening,
+            events: Items::new(alloc),
+            failed: false,
+        })
+    }
+
+    /// The network takes an event. Where memory is wanting, what its nodes have then is not said, and every later event
+    /// fails.
+    pub fn step(&mut self, event: Event) -> Result<Answer, NoMemory>
+        requires form { IsTrue (has_event_form event) }
+        ensures answer { IfOk result (λ a. a
+            ≡ answer_to (moment self.old.opening self.old.events) (event_of event)) }
+        ensures shown { IfOk result (λ a. IsAnswerTo event a) }
+        ensures state { OnOk result (StandsFor self.new.seats (moment self.new.opening self.new.events)) }
+
+        ensures opening { self.new.opening ≡ self.old.opening }
+        ensures events { OnOk result (self.new.events ≡ self.old.events ++ event ∷ []) }
+        ensures kept { OnErr result (self.new.events ≡ self.old.events) }
+        ensures works { OnOk result (self.new.failed ≡ false) }
+        ensures failed { OnErr result (self.new.failed ≡ true) }
+        ensures ended { self.old.failed ≡ true → IsErr result }
+    {
+        if self.failed {
+            return Err(NoMemory);
+        }
+        self.failed = true;
+        know_subnets(&event);
+        let answer = happen(self.alloc, &mut self.nodes, self.order.as_slice(), &event)?;
+        self.events.push(event)?;
+        self.failed = false;
+        Ok(answer)
+    }
+
+    /// Whether every session is up at both ends, and no message and no notice is in flight. It takes no memory.
+    pub fn settled(&self) -> bool
+        requires { self.now.failed ≡ false }
+        ensures { result ≡ is_settled (moment self.now.opening self.now.events) }
+    {
+        is_settled(&self.nodes, self.order.as_slice())
+    }
+
+    /// The configuration that is valid now, with its topology. It takes no memory.
+    pub fn config(&self) -> &Valid
+        requires { self.now.failed ≡ false }
+        ensures { result.now ≡ (moment self.now.opening self.now.events).setup }
+    {
+        self.nodes.valid()
+    }
+
+    /// The configuration that the network began with. It takes no memory.
+    pub fn opening(&self) -> &Valid
+        ensures { result.now ≡ self.now.opening }
+    {
+        &self.opening
+    }
+
+    /// The events that the network took, in order. It takes no memory.
+    pub fn events(&self) -> &[Event]
+        ensures { result.now ≡ self.now.events }
+    {
+        self.events.as_slice()
+    }
+
+    /// Whether memory was wanting in an event. It takes no memory.
+    pub fn failed(&self) -> bool
+        ensures { result ≡ self.now.failed }
+    {
+        self.failed
+    }
+}
