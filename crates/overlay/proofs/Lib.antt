@@ -6,3 +6,4 @@ pub mod SomeReport
 pub mod Telling
 pub mod Ways
 pub mod SomeText
+pub mod AsCompiled

@@ -1,4 +1,5 @@
-//! The program `overlay`: the tables that a configuration asks for, what becomes of packets, and what BGP messages say.
+//! The program `overlay`: the tables that a configuration asks for, what becomes of packets, what the events of a
+//! schedule answer, and what BGP messages say.
 #![tactic(auto)]
 
 ghost use Rattle.std.specs.Prelude.{◌≡◌, ◌≢◌, ◌↔◌, ◌⊎◌};
@@ -14,6 +15,7 @@ mod decoding;
 mod laws;
 mod lines;
 mod outcomes;
+mod running;
 #[cfg(test)]
 mod tests;
 mod top;
@@ -26,6 +28,7 @@ use top::{Status, overlay};
 
 const USAGE: &str = "usage: overlay compile < DOCUMENT
        overlay reach < DOCUMENT
+       overlay run < DOCUMENT
        overlay decode < DIGITS
        overlay --help | --version
 ";
@@ -94,7 +97,8 @@ fn printed(rt: &impl Print, text: &str) -> Status
 fn run(rt: &HostRuntime, words: &[String]) -> Status {
     let mut source = StdSource::new(rt.stdin());
     let mut sink = StdSink::new(rt.stdout());
-    overlay(rt.alloc(), words, &mut source, &mut sink)
+    let mut net = None;
+    overlay(rt.alloc(), words, &mut source, &mut sink, &mut net)
 }
 
 /// The exit status that tells how the run ended.
