@@ -24,7 +24,11 @@ impl Model for Net {
     ghost use Rattle.std.specs.Prelude.{[]};
     ghost use Rattle.net_machine.specs.NetState.{NetState};
 
+    ghost use Rattle.net_machine.specs.Codes.{coded_net};
+
     ghost Value = { NetState };
+
+    ghost coded = { coded_net };
 
     ghost view = { λ n. record { opening = n.opening; events = n.events; seats = []; failed = n.failed } };
 }
