@@ -1,20 +1,19 @@
 -- How the seats of a network and the sessions of its machine belong together.
-use Rattle.std.specs.Prelude.{◌≡◌, ◌↔◌, ◌<◌, ℕ, List, map, length, Bool, true, is_some}
-use Rattle.std.specs.declared.option.Option.{Option}
-use Rattle.std.specs.declared.option.Option.TheVariants.{Some, None}
+use Rattle.std.specs.Prelude.{◌≡◌, ◌<◌, ℕ, List, map, length}
+use Rattle.std.specs.declared.option.Option.TheVariants.{Some}
 use Rattle.config_check.specs.Checked.{Checked}
-use Rattle.node_model.specs.Maps.{Change, Map}
+use Rattle.node_model.specs.Maps.{Change}
 use Rattle.node_model.specs.Step.{post}
 use Rattle.network_model.specs.Setup.{Name}
 use Rattle.network_model.specs.Session.{Carries, Session, is_peering, may_send}
 use Rattle.network_model.specs.Network.{Network, start, view, views_of, wanted}
 use Rattle.network_model.specs.Steps.{session_of}
-use Rattle.network_model.specs.Events.{forwarders, is_node, shown}
+use Rattle.network_model.specs.Events.{shown}
 use Rattle.network_model.specs.Moments.{nodes}
 use Rattle.net_model.specs.Seats.{Seat, far_of, kind_of, name_of, other, others_of, place_of, role_of, seat, seat_named}
 use Rattle.net_model.specs.Seats.{whos}
-use Rattle.net_model.specs.Steps.{forwarders_of, shown_by}
-use Rattle.net_model.specs.Stands.{Seats, octets_of}
+use Rattle.net_model.specs.Steps.{shown_by}
+use Rattle.net_model.specs.Stands.{octets_of}
 use Rattle.net_model.specs.declared.place.Place.{Place}
 
 -- the seats are those of a topology's nodes
