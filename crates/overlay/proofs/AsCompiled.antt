@@ -32,7 +32,7 @@ use Rattle.network_model.specs.Setup.{edited_without}
 use Rattle.network_model.specs.Session.{Message}
 use Rattle.network_model.specs.Network.{Network, start}
 use Rattle.network_model.specs.Steps.{is_settled, settle}
-use Rattle.network_model.specs.Events.{Event, Edits, Show, after, answer_to, event_of, is_node, next, run, shown}
+use Rattle.network_model.specs.Events.{Event, Edits, Show, after, answer_to, edits as edits_of, event_of, is_node, next, run, shown}
 use Rattle.network_model.proofs.Deeds.{edit_made, setup_kept}
 use Rattle.network_laws.specs.Settling.{EditIsValid, EditsAreValid}
 use Rattle.headline_laws.specs.Headline.{IsOfForm, IsWritten}
@@ -61,16 +61,16 @@ module _ (w : Network) (old : IsOfForm w.setup) where
   same_form : (e : Event) → ((d : Edit) → e ≢ Edits d) → IsOfForm (next any_size w e).setup
   same_form e no_edit = subst IsOfForm (sym (setup_kept any_size w e no_edit)) old
 
+  refused_form : (d : Edit) (f : EditFault) → edits.edit_fault w.setup d ≡ Some f → IsOfForm (next any_size w (Edits d)).setup
+  unfolding next
+  refused_form d f is = subst (λ (o : Option EditFault). IsOfForm (edits_of (edited_without o w.setup d) w).setup) (sym is) old
+
   edit_form : (d : Edit) → IsTrue (has_edit_form d) → IsOfForm (next any_size w (Edits d)).setup
   edit_form d form =
       elim (edits.edit_fault w.setup d) as (λ f. edits.edit_fault w.setup d ≡ f → IsOfForm (next any_size w (Edits d)).setup) [
         | None ↦ λ is. subst IsOfForm (sym (edit_made any_size w d is)) (form_is_kept d w.setup.config form old)
-        | Some f ↦ λ is. refused f is
+        | Some f ↦ λ is. refused_form d f is
       ] refl
-    where
-      refused : (f : EditFault) → edits.edit_fault w.setup d ≡ Some f → IsOfForm (next any_size w (Edits d)).setup
-      unfolding next
-      refused f is = rw is old
 
   form_kept : (e : Written) → IsTrue (has_event_form e) → IsOfForm (next any_size w (event_of e)).setup
   unfolding has_event_form

@@ -31,9 +31,9 @@ input_of x es = record { input = record { topology = x.topology; config = x.conf
 
 -- octets that are a document which `run` reads so
 pub record AreReadAs (octets : List ℕ) (r : RunInput) : Type 0 where
-  pub data : Data
-  pub json : json_of octets ≡ Some data
-  pub read : run_at [] data ≡ Ok r
+  pub value : Data
+  pub json : json_of octets ≡ Some value
+  pub read : run_at [] value ≡ Ok r
 
 -- a network with this opening configuration took these events, and is in the state that they lead to
 pub record HasTaken (r : RunInput) (n : NetState) : Type 0 where
