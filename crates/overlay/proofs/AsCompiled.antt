@@ -115,10 +115,10 @@ positive n m = omega arith
 
 -- ---- a moment of the schedule
 module _ (x : Checked) (valid : IsWritten x) (es : List Written) (forms : IsTrue (list_all has_event_form es)) (place : ℕ) where
-  before : List Event
+  abbrev before : List Event
   before = map event_of (take place es)
 
-  w : Network
+  abbrev w : Network
   w = moment x (take place es)
 
   asked : EditsAreValid any_size IsOfForm (start x) before

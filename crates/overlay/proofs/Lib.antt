@@ -7,3 +7,4 @@ pub mod Telling
 pub mod Ways
 pub mod SomeText
 pub mod AsCompiled
+pub mod Scheduled
