@@ -11,10 +11,22 @@ ghost use Rattle.overlay.specs.Runs.{number_of};
 
 mod answer;
 mod command;
+#[cfg(test)]
+mod decode_tests;
 mod decoding;
+#[cfg(test)]
+mod end_tests;
+#[cfg(test)]
+mod first_schedules;
 mod laws;
 mod lines;
+#[cfg(test)]
+mod more_schedules;
 mod outcomes;
+#[cfg(test)]
+mod run_cases;
+#[cfg(test)]
+mod run_tests;
 mod running;
 #[cfg(test)]
 mod tests;
