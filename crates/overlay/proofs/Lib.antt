@@ -8,3 +8,4 @@ pub mod Ways
 pub mod SomeText
 pub mod AsCompiled
 pub mod Scheduled
+pub mod Unfit

@@ -1,5 +1,5 @@
 //! The answer to an input.
-ghost use Rattle.std.specs.Prelude.{◌≡◌, ℕ, List, None, IfOk, IfErr, OnOk, OnErr, IsTrue, option_map};
+ghost use Rattle.std.specs.Prelude.{◌≡◌, ◌≢◌, ℕ, List, None, IfOk, IfErr, OnOk, OnErr, IsTrue, option_map};
 ghost use Rattle.serde_json.specs.View.{view};
 ghost use Rattle.config_model.specs.Form.{has_topology_form, has_config_form};
 ghost use Rattle.config_check.specs.Rules.{first_broken};
@@ -74,6 +74,7 @@ pub(crate) fn write_unfit<K: Sink>(alloc: Global, unfit: Unfit, sink: &mut K) ->
     ensures front { (answer : Answer) → IsAnswered unfit answer
         → OnErr result (TookFront (K.taken sink.old) (K.taken sink.new) answer.text) }
     ensures cause { HasWriteCause (K.faults sink.old) (K.faults sink.new) result }
+    ensures unfit { IfOk result (λ verdict. verdict ≢ Verdict.Good) }
 {
     match unfit {
         Unfit::NotJson => {
