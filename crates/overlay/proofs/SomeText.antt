@@ -8,9 +8,9 @@ use Rattle.bgp_wire.specs.Messages.{AreOctets}
 use Rattle.ov_io.specs.Pieces.{TookFrontOf}
 use Rattle.ov_io.proofs.PieceLemmas.{took_nothing}
 use Rattle.overlay.specs.declared.command.Command.{Command}
-use Rattle.overlay.specs.declared.command.Command.TheVariants.{Compile, Reach, Decode}
+use Rattle.overlay.specs.declared.command.Command.TheVariants.{Compile, Reach, Run, Decode}
 use Rattle.overlay.specs.Decoding.{spelled, without_blanks}
-use Rattle.overlay.specs.Answers.{compile_answer, reach_answer, Writes, WritesSpelled}
+use Rattle.overlay.specs.Answers.{compile_answer, reach_answer, run_answer, Writes, WritesSpelled}
 use Rattle.overlay.specs.Runs.{OfInput}
 use Rattle.overlay.proofs.SomeReport.{some_report}
 
@@ -40,6 +40,7 @@ pub some_text : (command : Command) (octets : List ℕ) → (text : List ℕ) ×
 unfolding Writes
 some_text Compile octets = ((compile_answer octets).text, refl)
 some_text Reach octets = ((reach_answer octets).text, refl)
+some_text Run octets = ((run_answer octets).text, refl)
 some_text Decode octets = text_spelled octets (spelled octets) refl
 
 -- nothing is a front of it

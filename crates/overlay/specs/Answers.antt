@@ -4,8 +4,10 @@ use Rattle.std.specs.Io.KnownBytes.{Appends}
 use Rattle.serde_json.specs.Data.{Data}
 use Rattle.config_model.specs.declared.input.CompileInput.{CompileInput}
 use Rattle.config_model.specs.declared.input.ReachInput.{ReachInput}
+use Rattle.config_model.specs.declared.event.RunInput.{RunInput}
 use Rattle.config_model.specs.Faults.{Fault, fault_of}
 use Rattle.config_model.specs.Input.{compile_at, reach_at}
+use Rattle.config_model.specs.Event.{run_at}
 use Rattle.config_check.specs.declared.refusal.Refusal.{Refusal}
 use Rattle.config_check.specs.Rules.{first_broken}
 use Rattle.report.specs.Refusals.{doc_fault_line, refused_line}
@@ -14,11 +16,12 @@ use Rattle.overlay.specs.declared.answer.Verdict.TheVariants.{Good, NotJson, Bad
 use Rattle.overlay.specs.declared.answer.Unfit.{Unfit}
 use Rattle.overlay.specs.declared.answer.Unfit.TheVariants as unfit
 use Rattle.overlay.specs.declared.command.Command.{Command}
-use Rattle.overlay.specs.declared.command.Command.TheVariants.{Compile, Reach, Decode}
+use Rattle.overlay.specs.declared.command.Command.TheVariants.{Compile, Reach, Run, Decode}
 use Rattle.overlay.specs.Decoding.{spelled, IsReport}
 use Rattle.overlay.specs.Json.{json_of}
 use Rattle.overlay.specs.Lines.{compile_text}
 use Rattle.overlay.specs.Outcomes.{reach_text}
+use Rattle.overlay.specs.Schedules.{run_text}
 
 -- what an input is found to be, and the text that is written of it
 pub record Answer : Type 0 where
@@ -68,6 +71,13 @@ reach_reading (Ok r) =
     answer_checked (first_broken r.input.topology r.input.config)
     (reach_text (record { topology = r.input.topology; config = r.input.config }) r.packets)
 
+-- of what was read for `run`, or not, it writes the answers of the events
+abbrev pub run_reading : Result RunInput Fault → Answer
+run_reading (Err f) = answer_bad f
+run_reading (Ok r) =
+    answer_checked (first_broken r.input.topology r.input.config)
+    (run_text (record { topology = r.input.topology; config = r.input.config }) r.events)
+
 -- of a value `compile` reads a topology and a configuration
 unfoldable pub compile_value : Data → Answer
 compile_value d = compile_reading (compile_at [] d)
@@ -75,6 +85,10 @@ compile_value d = compile_reading (compile_at [] d)
 -- of a value `reach` reads packets too
 unfoldable pub reach_value : Data → Answer
 reach_value d = reach_reading (reach_at [] d)
+
+-- of a value `run` reads events too
+unfoldable pub run_value : Data → Answer
+run_value d = run_reading (run_at [] d)
 
 -- the answer to a document by what is answered to its value
 abbrev pub of_json : (Data → Answer) → Option Data → Answer
@@ -88,6 +102,10 @@ compile_answer octets = of_json compile_value (json_of octets)
 -- what `reach` answers to a document
 unfoldable pub reach_answer : List ℕ → Answer
 reach_answer octets = of_json reach_value (json_of octets)
+
+-- what `run` answers to a document
+unfoldable pub run_answer : List ℕ → Answer
+run_answer octets = of_json run_value (json_of octets)
 
 -- what a text is found to be that spells octets, or none
 abbrev pub decode_verdict : Option (List ℕ) → Verdict
@@ -103,10 +121,12 @@ WritesSpelled (Some octets) text = IsReport octets text
 unfoldable pub verdict_of : Command → List ℕ → Verdict
 verdict_of Compile octets = (compile_answer octets).verdict
 verdict_of Reach octets = (reach_answer octets).verdict
+verdict_of Run octets = (run_answer octets).verdict
 verdict_of Decode octets = decode_verdict (spelled octets)
 
 -- the text is what a command writes of an input
 unfoldable pub Writes : Command → List ℕ → List ℕ → Type 0
 Writes Compile octets text = text ≡ (compile_answer octets).text
 Writes Reach octets text = text ≡ (reach_answer octets).text
+Writes Run octets text = text ≡ (run_answer octets).text
 Writes Decode octets text = WritesSpelled (spelled octets) text

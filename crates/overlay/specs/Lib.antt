@@ -1,8 +1,10 @@
 pub mod Json
 pub mod Lines
 pub mod Outcomes
+pub mod Schedules
 pub mod Decoding
 pub mod Reporting
 pub mod Answers
+pub mod Networks
 pub mod Commands
 pub mod Runs

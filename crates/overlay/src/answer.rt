@@ -1,5 +1,5 @@
 //! The answer to an input.
-ghost use Rattle.std.specs.Prelude.{◌≡◌, ℕ, List, None, IfOk, IfErr, OnOk, OnErr, IsTrue, option_map};
+ghost use Rattle.std.specs.Prelude.{◌≡◌, ◌≢◌, ℕ, List, None, IfOk, IfErr, OnOk, OnErr, IsTrue, option_map};
 ghost use Rattle.serde_json.specs.View.{view};
 ghost use Rattle.config_model.specs.Form.{has_topology_form, has_config_form};
 ghost use Rattle.config_check.specs.Rules.{first_broken};
@@ -12,13 +12,16 @@ ghost use Rattle.overlay.specs.Decoding.{spelled};
 ghost use Rattle.overlay.specs.Answers.{Answer, IsAnswered, WasGiven, answer_checked, answer_good, compile_answer};
 ghost use Rattle.overlay.specs.Answers.{compile_value, decode_verdict, reach_answer, reach_value, verdict_of};
 ghost use Rattle.overlay.specs.Answers.{Writes, WritesSpelled};
+ghost use Rattle.overlay.specs.Networks.{LeavesOn, PromisesOn};
 
 use crate::command::Command;
 use crate::decoding::{octets_of, write_report};
 use crate::lines::write_tables;
 use crate::outcomes::write_outcomes;
+use crate::running::answer_run;
 use config_check::{CheckRefusal, Refusal, Valid, check};
 use config_model::{CompileInput, DocFault, ReachInput, ReadRefusal, read_compile, read_reach};
+use net_machine::Net;
 use ov_io::{Sink, TextOut, WriteRefusal, write_all};
 use ov_types::{Items, NoMemory, Packet};
 use report::{doc_fault_lines, refusal_lines};
@@ -45,7 +48,7 @@ pub(crate) enum Unfit {
 }
 
 /// The value that octets write as JSON.
-fn value_of(alloc: Global, octets: &[u8]) -> Result<Option<Value>, NoMemory>
+pub(crate) fn value_of(alloc: Global, octets: &[u8]) -> Result<Option<Value>, NoMemory>
     ensures { IfOk result (λ o. option_map view o ≡ json_of octets.now) }
 {
     let Ok(text) = str::from_utf8(octets) else {
@@ -65,12 +68,13 @@ fn value_of(alloc: Global, octets: &[u8]) -> Result<Option<Value>, NoMemory>
 
 /// Writes the one line of what is not fit.
 #[tactic(auto, using(ov_io::proofs::PieceLemmas::took_nothing))]
-fn write_unfit<K: Sink>(alloc: Global, unfit: Unfit, sink: &mut K) -> Result<Verdict, WriteRefusal>
+pub(crate) fn write_unfit<K: Sink>(alloc: Global, unfit: Unfit, sink: &mut K) -> Result<Verdict, WriteRefusal>
     ensures given { (answer : Answer) → IsAnswered unfit answer
         → IfOk result (λ verdict. WasGiven answer verdict (K.taken sink.old) (K.taken sink.new)) }
     ensures front { (answer : Answer) → IsAnswered unfit answer
         → OnErr result (TookFront (K.taken sink.old) (K.taken sink.new) answer.text) }
     ensures cause { HasWriteCause (K.faults sink.old) (K.faults sink.new) result }
+    ensures unfit { IfOk result (λ verdict. verdict ≢ Verdict.Good) }
 {
     match unfit {
         Unfit::NotJson => {
@@ -94,7 +98,7 @@ fn write_unfit<K: Sink>(alloc: Global, unfit: Unfit, sink: &mut K) -> Result<Ver
 }
 
 /// The valid configuration that a command takes, with its topology.
-fn valid_of(alloc: Global, input: CompileInput) -> Result<Valid, Unfit>
+pub(crate) fn valid_of(alloc: Global, input: CompileInput) -> Result<Valid, Unfit>
     requires topology_form { IsTrue (has_topology_form input.topology) }
     requires config_form { IsTrue (has_config_form input.config) }
     ensures ok { IfOk result (λ valid. valid ≡ record { topology = input.topology; config = input.config }) }
@@ -232,22 +236,28 @@ fn answer_decode<K: Sink>(alloc: Global, text: &[u8], sink: &mut K) -> Result<Ve
     }
 }
 
-/// Writes what a command answers to an input, as it is made, and tells what the input is found to be.
+/// Writes what a command answers to an input, as it is made, and tells what the input is found to be. `run` leaves its
+/// network.
 #[tactic(auto, unfolding(crate::specs::Answers::verdict_of, crate::specs::Answers::Writes))]
 pub(crate) fn answer<K: Sink>(
     alloc: Global,
     command: Command,
     octets: &[u8],
     sink: &mut K,
+    net: &mut Option<Net>,
 ) -> Result<Verdict, WriteRefusal>
+    requires { net.old ≡ None }
     ensures verdict { IfOk result (λ verdict. verdict ≡ verdict_of command octets.now) }
     ensures written { OnOk result (TookText (Writes command octets.now) (K.taken sink.old) (K.taken sink.new)) }
     ensures front { OnErr result (TookFrontOf (Writes command octets.now) (K.taken sink.old) (K.taken sink.new)) }
     ensures cause { HasWriteCause (K.faults sink.old) (K.faults sink.new) result }
+    ensures network { LeavesOn command octets.now result net.new }
+    ensures promise { PromisesOn command octets.now result (K.taken sink.old) (K.taken sink.new) }
 {
     match command {
         Command::Compile => answer_compile(alloc, octets, sink),
         Command::Reach => answer_reach(alloc, octets, sink),
+        Command::Run => answer_run(alloc, octets, sink, net),
         Command::Decode => answer_decode(alloc, octets, sink),
     }
 }

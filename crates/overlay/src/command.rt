@@ -9,6 +9,8 @@ pub enum Command {
     Compile,
     /// What becomes of packets.
     Reach,
+    /// What the events of a schedule answer.
+    Run,
     /// What BGP messages say that are spelled in hexadecimal digits.
     Decode,
 }
@@ -30,6 +32,7 @@ fn named(word: &str) -> Option<Command>
     match word {
         "compile" => Some(Command::Compile),
         "reach" => Some(Command::Reach),
+        "run" => Some(Command::Run),
         "decode" => Some(Command::Decode),
         _ => None,
     }

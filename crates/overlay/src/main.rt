@@ -1,4 +1,5 @@
-//! The program `overlay`: the tables that a configuration asks for, what becomes of packets, and what BGP messages say.
+//! The program `overlay`: the tables that a configuration asks for, what becomes of packets, what the events of a
+//! schedule answer, and what BGP messages say.
 #![tactic(auto)]
 
 ghost use Rattle.std.specs.Prelude.{◌≡◌, ◌≢◌, ◌↔◌, ◌⊎◌};
@@ -10,10 +11,23 @@ ghost use Rattle.overlay.specs.Runs.{number_of};
 
 mod answer;
 mod command;
+#[cfg(test)]
+mod decode_tests;
 mod decoding;
+#[cfg(test)]
+mod end_tests;
+#[cfg(test)]
+mod first_schedules;
 mod laws;
 mod lines;
+#[cfg(test)]
+mod more_schedules;
 mod outcomes;
+#[cfg(test)]
+mod run_cases;
+#[cfg(test)]
+mod run_tests;
+mod running;
 #[cfg(test)]
 mod tests;
 mod top;
@@ -26,6 +40,7 @@ use top::{Status, overlay};
 
 const USAGE: &str = "usage: overlay compile < DOCUMENT
        overlay reach < DOCUMENT
+       overlay run < DOCUMENT
        overlay decode < DIGITS
        overlay --help | --version
 ";
@@ -94,7 +109,8 @@ fn printed(rt: &impl Print, text: &str) -> Status
 fn run(rt: &HostRuntime, words: &[String]) -> Status {
     let mut source = StdSource::new(rt.stdin());
     let mut sink = StdSink::new(rt.stdout());
-    overlay(rt.alloc(), words, &mut source, &mut sink)
+    let mut net = None;
+    overlay(rt.alloc(), words, &mut source, &mut sink, &mut net)
 }
 
 /// The exit status that tells how the run ended.

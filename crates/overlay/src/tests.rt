@@ -1,32 +1,32 @@
 //! Whole runs, over memory.
 use crate::top::{Status, overlay};
-use ov_io::{MemSink, MemSource, Sink, SinkFault, Source, SourceFault};
+use ov_io::{MemSink, MemSource};
 use std::alloc::{AllocError, Global};
 use std::process::Abort;
 use std::test::Fail;
 
 /// One control node and one compute node.
-const ONE_NODE: &str = r#"{
+pub(crate) const ONE_NODE: &str = r#"{
     "as":64512,
     "controllers":[{"name":"c1","address":"192.0.2.1"}],
     "nodes":[{"name":"n1","address":"192.0.2.11","controllers":["c1"]}]
 }"#;
 
 /// Two control nodes, each with a compute node of its own.
-const TWO_NODES: &str = r#"{
+pub(crate) const TWO_NODES: &str = r#"{
     "as":64512,
     "controllers":[{"name":"c1","address":"192.0.2.1"},{"name":"c2","address":"192.0.2.2"}],
     "nodes":[{"name":"n1","address":"192.0.2.11","controllers":["c1"]},
         {"name":"n2","address":"192.0.2.12","controllers":["c2"]}]
 }"#;
 
-const ONE: &str = r#"{
+pub(crate) const ONE: &str = r#"{
     "networks":[{"name":"red","id":1,"subnets":["10.1.0.0/24"]}],
     "ports":[{"name":"vm7","id":7,"network":"red","address":"10.1.0.5","node":"n1"}]
 }"#;
 
 /// What `compile` writes of one port.
-const ONE_TEXT: &str = "\
+pub(crate) const ONE_TEXT: &str = "\
 instance 1 imports 1
 attach 23 port 7 instance 1 address 10.1.0.5 node 192.0.2.11
 acl 1 1 subnets 10.1.0.0/24
@@ -71,7 +71,7 @@ const TWICE: &str = r#"{
     "chains":[{"name":"a","hops":["fw"]},{"name":"b","hops":["fw"]},{"name":"outer","hops":["a","b"]}]
 }"#;
 
-const EQUAL_ADDRESSES: &str = r#"{
+pub(crate) const EQUAL_ADDRESSES: &str = r#"{
     "networks":[{"name":"red","id":1,"subnets":["10.0.0.0/24"],"policies":[]},
         {"name":"blue","id":2,"subnets":["10.0.0.0/24"],"policies":[]}],
     "ports":[{"name":"p1","id":1,"network":"red","address":"10.0.0.1","node":"n1"},
@@ -81,7 +81,7 @@ const EQUAL_ADDRESSES: &str = r#"{
 }"#;
 
 /// Two networks with a policy that denies some packets, and passes all others.
-const PASS: &str = r#"{
+pub(crate) const PASS: &str = r#"{
     "networks":[{"name":"red","id":1,"subnets":["10.1.0.0/24"],"policies":["web"]},
         {"name":"blue","id":2,"subnets":["10.2.0.0/24"],"policies":["web"]}],
     "ports":[{"name":"vm1","id":1,"network":"red","address":"10.1.0.1","node":"n1"},
@@ -139,7 +139,7 @@ const ONE_WAY_PACKETS: &str = r#"[
 ]"#;
 
 /// Two networks whose one rule leads through a chain of two services.
-const PAIR: &str = r#"{
+pub(crate) const PAIR: &str = r#"{
     "networks":[{"name":"red","id":1,"subnets":["10.1.0.0/24"],"policies":["sec"]},
         {"name":"blue","id":2,"subnets":["10.2.0.0/24"],"policies":["sec"]}],
     "ports":[{"name":"vm1","id":1,"network":"red","address":"10.1.0.1","node":"n1"},
@@ -170,7 +170,7 @@ const PAIR_PACKETS: &str = r#"[
 ]"#;
 
 /// A document of a topology and a configuration.
-fn document(alloc: Global, topology: &str, configuration: &str) -> Result<String, AllocError> {
+pub(crate) fn document(alloc: Global, topology: &str, configuration: &str) -> Result<String, AllocError> {
     format!(in alloc; r#"{{"topology":{topology},"configuration":{configuration}}}"#)
 }
 
@@ -183,16 +183,16 @@ fn question(alloc: Global, configuration: &str, packets: &str) -> Result<String,
 }
 
 /// How a run of a command ended, and what it wrote.
-fn ran(alloc: Global, word: &str, input: &[u8]) -> Result<(Status, MemSink), Fail> {
+pub(crate) fn ran(alloc: Global, word: &str, input: &[u8]) -> Result<(Status, MemSink), Fail> {
     let words = vec![in alloc; String::from_str(alloc, word)?]?;
     let mut source = MemSource::new(alloc, input.to_vec(alloc)?, Vec::new(alloc));
     let mut sink = MemSink::new(alloc, Vec::new(alloc));
-    let status = overlay(alloc, words.as_slice(), &mut source, &mut sink);
+    let status = overlay(alloc, words.as_slice(), &mut source, &mut sink, &mut None);
     Ok((status, sink))
 }
 
 /// An input, how its run is to end, and what it is to write.
-type Case = (&'static str, Status, &'static str);
+pub(crate) type Case = (&'static str, Status, &'static str);
 
 /// A topology and a configuration, how the run of their document is to end, and what it is to write.
 type DocumentCase = (&'static str, &'static str, Status, &'static str);
@@ -223,7 +223,7 @@ fn each_is_reached(rt: &impl Abort, alloc: Global, cases: &[PacketCase]) -> Resu
 }
 
 /// Runs a command on each input.
-fn each_is_answered(
+pub(crate) fn each_is_answered(
     rt: &impl Abort,
     alloc: Global,
     word: &str,
@@ -290,96 +290,6 @@ fn packets_are_required(rt: HostRuntime) -> Result<(), Fail> {
     Ok(())
 }
 
-const UPDATE: &str = "\
-ffffffffffffffffffffffffffffffff 0054 02 0000 003d
-40010100 400200 40050400000064
-800e21 0001 80 0c 0000000000000000c000020b 00 78 000171 0001c000020b0001 0a010005
-c01008 0002fc00007a1201
-";
-
-#[test]
-fn messages_are_told(rt: HostRuntime) -> Result<(), Fail> {
-    let cases: [Case; 5] = [
-        (
-            UPDATE,
-            Status::Done,
-            "\
-update
-put 192.0.2.11:1 10.1.0.5/32 next-hop 192.0.2.11 label 23 targets 64512:8000001
-",
-        ),
-        (
-            "ffffffffffffffffffffffffffffffff002d 02 0000 0016800f13 0001 80 78 800000 0001c000020b0001 0a010005",
-            Status::Done,
-            "update\ndrop 192.0.2.11:1 10.1.0.5/32\n",
-        ),
-        (
-            "FFFFFFFFFFFFFFFFffffffffffffffff002D 02 0000 0016800F13 0001 80 78 000171 0001C000020B0001 0A010005",
-            Status::Done,
-            "update\ndrop 192.0.2.11:1 10.1.0.5/32\n",
-        ),
-        (
-            "\
-ffffffffffffffffffffffffffffffff 0031 01 04 fc00 00b4 c0000202
-14 02060104 00010080 02020200 0206 4104 0000fc00
-",
-            Status::Done,
-            "open as 64512 hold 180 id 192.0.2.2\n",
-        ),
-        (
-            "ffffffffffffffffffffffffffffffff0015030600 ffffffffffffffffffffffffffffffff001304",
-            Status::Done,
-            "notification 6/0\nkeepalive\n",
-        ),
-    ];
-    each_is_answered(&rt, rt.alloc(), "decode", &cases)
-}
-
-#[test]
-fn what_is_no_message_is_told(rt: HostRuntime) -> Result<(), Fail> {
-    let cases: [Case; 10] = [
-        (
-            "f fffffffffffffffffffffffffffffff\t00\r\n1\n2",
-            Status::Done,
-            "fault 1/2\n",
-        ),
-        (
-            "\
-ffffffffffffffffffffffffffffffff0054 02 0000 003d4001010040020040050400000064
-800e21 0001 80 0c 0000000000000000c000020b 00 79 000171 0001c000020b0001 0a010005c01008 0002fc00007a1201
-",
-            Status::Done,
-            "fault 3/9\n",
-        ),
-        (
-            "ffffffffffffffffffffffffffffffff1001",
-            Status::Done,
-            "fault 1/2\n",
-        ),
-        (
-            "ffffffffffffffffffffffffffffffff001309",
-            Status::Done,
-            "fault 1/3\n",
-        ),
-        ("00", Status::Done, "fault 1/1\n"),
-        (
-            "ffffffffffffffffffffffffffffffff00130400",
-            Status::Done,
-            "keepalive\nfault 1/1\n",
-        ),
-        (
-            "ffffffffffffffffffffffffffffffff0054",
-            Status::Done,
-            "incomplete 18\n",
-        ),
-        ("", Status::Done, ""),
-        ("0", Status::NotJson, "not hex\n"),
-        ("0x", Status::NotJson, "not hex\n"),
-    ];
-    each_is_answered(&rt, rt.alloc(), "decode", &cases)
-}
-
-/// What `compile` writes of equal addresses.
 const EQUAL_ADDRESSES_TEXT: &str = "\
 instance 1 imports 1
 instance 2 imports 2
@@ -672,124 +582,10 @@ fn other_words_are_usage(rt: HostRuntime) -> Result<(), Fail> {
     let mut sink = MemSink::new(alloc, vec![in alloc; 1]?);
     let none: &[String] = &[];
     assert_eq!(rt;
-        overlay(alloc, words.as_slice(), &mut source, &mut sink),
+        overlay(alloc, words.as_slice(), &mut source, &mut sink, &mut None),
         Status::Usage
     );
-    assert_eq!(rt; overlay(alloc, none, &mut source, &mut sink), Status::Usage);
-    Ok(())
-}
-
-#[test]
-fn a_fault_of_an_end_is_told(rt: HostRuntime) -> Result<(), Fail> {
-    let alloc = rt.alloc();
-    let words = vec![in alloc; String::from_str(alloc, "compile")?]?;
-    let input = document(alloc, ONE_NODE, ONE)?;
-    let octets = input.as_bytes().to_vec(alloc)?;
-    let mut source = MemSource::new(alloc, octets, vec![in alloc; 2]?);
-    let mut sink = MemSink::new(alloc, Vec::new(alloc));
-    assert_eq!(rt;
-        overlay(alloc, words.as_slice(), &mut source, &mut sink),
-        Status::ReadFault
-    );
-    assert_eq!(rt; sink.taken().len(), 0);
-    let octets = input.as_bytes().to_vec(alloc)?;
-    let mut source = MemSource::new(alloc, octets, Vec::new(alloc));
-    let mut sink = MemSink::new(alloc, vec![in alloc; 1]?);
-    assert_eq!(rt;
-        overlay(alloc, words.as_slice(), &mut source, &mut sink),
-        Status::WriteFault
-    );
-    assert_eq!(rt; sink.taken().len(), 0);
-    Ok(())
-}
-
-/// Enough messages that what is told of them is written in pieces.
-fn many_messages(alloc: Global) -> Result<String, Fail> {
-    let mut digits = String::new(alloc);
-    for _message in 0..16_384 {
-        digits.push_str("ffffffffffffffffffffffffffffffff001304\n")?;
-    }
-    Ok(digits)
-}
-
-#[test]
-fn each_failed_write_leaves_a_front(rt: HostRuntime) -> Result<(), Fail> {
-    let alloc = rt.alloc();
-    let digits = many_messages(alloc)?;
-    let (ended, whole) = ran(alloc, "decode", digits.as_bytes())?;
-    assert_eq!(rt; ended, Status::Done);
-    assert_eq!(rt; whole.taken().len(), 163_840);
-    for failing in 1..=3u64 {
-        let words = vec![in alloc; String::from_str(alloc, "decode")?]?;
-        let mut source = MemSource::new(alloc, digits.as_bytes().to_vec(alloc)?, Vec::new(alloc));
-        let mut sink = MemSink::new(alloc, vec![in alloc; failing]?);
-        let status = overlay(alloc, words.as_slice(), &mut source, &mut sink);
-        assert_eq!(rt; status, Status::WriteFault);
-        let taken = sink.taken();
-        assert_eq!(rt; taken.len(), 65_540 * (failing as usize - 1));
-        assert!(rt; whole.taken().starts_with(taken));
-    }
-    Ok(())
-}
-
-/// A source that gives at most so many octets a call.
-#[derive(Drop)]
-struct Trickle {
-    inner: MemSource,
-    most: usize,
-}
-
-impl Source for Trickle {
-    ghost use Rattle.std.specs.Prelude.{None};
-
-    ghost left = { λ _. None };
-
-    ghost faults = { λ _. 0 };
-
-    fn read(&mut self, into: &mut [u8]) -> Result<usize, SourceFault> {
-        let room = into.len().min(self.most);
-        match self.inner.read(&mut into[..room]) {
-            Ok(count) => Ok(count.min(room)),
-            Err(_) => Ok(0),
-        }
-    }
-}
-
-/// A sink that takes at most so many octets a call.
-#[derive(Drop)]
-struct Dribble {
-    inner: MemSink,
-    most: usize,
-}
-
-impl Sink for Dribble {
-    ghost use Rattle.std.specs.Prelude.{◌^◌, ◌-◌, None};
-
-    ghost taken = { λ _. None };
-
-    ghost faults = { λ s. 2 ^ 64 - 1 };
-
-    fn write(&mut self, from: &[u8]) -> Result<usize, SinkFault> {
-        let room = from.len().min(self.most.max(1));
-        self.inner.write(&from[..room])
-    }
-}
-
-#[test]
-fn short_reads_and_writes_lose_nothing(rt: HostRuntime) -> Result<(), Fail> {
-    let alloc = rt.alloc();
-    let words = vec![in alloc; String::from_str(alloc, "compile")?]?;
-    let input = document(alloc, ONE_NODE, ONE)?;
-    for most in 1..input.len() {
-        let octets = input.as_bytes().to_vec(alloc)?;
-        let inner = MemSource::new(alloc, octets, Vec::new(alloc));
-        let mut source = Trickle { inner, most };
-        let inner = MemSink::new(alloc, Vec::new(alloc));
-        let mut sink = Dribble { inner, most };
-        let status = overlay(alloc, words.as_slice(), &mut source, &mut sink);
-        assert_eq!(rt; status, Status::Done);
-        assert_eq!(rt; sink.inner.taken(), ONE_TEXT.as_bytes());
-    }
+    assert_eq!(rt; overlay(alloc, none, &mut source, &mut sink, &mut None), Status::Usage);
     Ok(())
 }
 

@@ -5,10 +5,12 @@ ghost use Rattle.ov_io.specs.Inputs.{WasReadWhole};
 ghost use Rattle.ov_io.specs.Pieces.{TookFrontOf, TookText};
 ghost use Rattle.overlay.specs.Answers.{verdict_of, Writes};
 ghost use Rattle.overlay.specs.Commands.{command_of};
+ghost use Rattle.overlay.specs.Networks.{Leaves, Promises};
 ghost use Rattle.overlay.specs.Runs.{OfInput, IfInput, IsCut, IsFound, IsSilent, IsWritten, number_of, status_of};
 
 use crate::answer::{Verdict, answer};
 use crate::command::command_from;
+use net_machine::Net;
 use ov_io::{InputRefusal, Sink, Source, WriteRefusal, read_all};
 use std::alloc::Global;
 
@@ -49,12 +51,14 @@ impl Status {
 }
 
 /// All that the program does: what its words ask for, from a source to a sink. The answer is written as it is made,
-/// once the source is read and what it holds is found good.
+/// once the source is read and what it holds is found good. `run` leaves the network that took the events in `net`,
+/// where all was written; in every other case `net` is None.
 pub fn overlay<S: Source, K: Sink>(
     alloc: Global,
     words: &[String],
     source: &mut S,
     sink: &mut K,
+    net: &mut Option<Net>,
 ) -> Status
     // Which status comes.
     ensures usage { (result ≡ Status.Usage) ↔ (command_of words.now ≡ None) }
@@ -80,6 +84,13 @@ pub fn overlay<S: Source, K: Sink>(
         (λ command octets. TookFrontOf (Writes command octets) (K.taken sink.old) (K.taken sink.new)) }
     ensures silent { IsSilent result → sink.new ≡ sink.old }
 
+    // What `run` promises of its answers, and the network that it leaves.
+    ensures promise { result ≡ Status.Done → OfInput (command_of words.now) (S.left source.old)
+        (λ command octets. Promises command octets (K.taken sink.old) (K.taken sink.new)) }
+    ensures network { result ≡ Status.Done → OfInput (command_of words.now) (S.left source.old)
+        (λ command octets. Leaves command octets net.new) }
+    ensures no_network { result ≢ Status.Done → net.new ≡ None }
+
     // What is read.
     ensures read_whole { IsWritten result ⊎ (result ≡ Status.WriteFault)
         → OfInput (command_of words.now) (S.left source.old)
@@ -94,6 +105,7 @@ pub fn overlay<S: Source, K: Sink>(
     ensures reads_kept { result ≢ Status.ReadFault → S.faults source.new ≡ S.faults source.old }
     ensures writes_kept { result ≢ Status.WriteFault → K.faults sink.new ≡ K.faults sink.old }
 {
+    *net = None;
     let Some(command) = command_from(words) else {
         return Status::Usage;
     };
@@ -103,7 +115,7 @@ pub fn overlay<S: Source, K: Sink>(
         Err(InputRefusal::TooLong) => return Status::TooLong,
         Err(InputRefusal::NoMemory) => return Status::NoMemory,
     };
-    match answer(alloc, command, octets.as_slice(), sink) {
+    match answer(alloc, command, octets.as_slice(), sink, net) {
         Ok(verdict) => status_from(verdict),
         Err(WriteRefusal::Fault) => Status::WriteFault,
         Err(WriteRefusal::NoMemory) => Status::NoMemory,

@@ -1,0 +1,77 @@
+-- What `run` leaves behind, and what it is told by.
+use Rattle.std.specs.Prelude.{◌≡◌, ℕ, List, [], false, ⊤}
+use Rattle.std.specs.declared.option.Option.{Option}
+use Rattle.std.specs.declared.option.Option.TheVariants.{Some, None}
+use Rattle.std.specs.declared.result.Result.{Result}
+use Rattle.std.specs.declared.result.Result.TheVariants.{Ok, Err}
+use Rattle.std.specs.Io.KnownBytes.{Appends}
+use Rattle.serde_json.specs.Data.{Data}
+use Rattle.config_check.specs.Checked.{Checked}
+use Rattle.config_model.specs.declared.event.Event.{Event}
+use Rattle.config_model.specs.declared.event.RunInput.{RunInput}
+use Rattle.config_model.specs.Event.{run_at}
+use Rattle.ov_io.specs.declared.pieces.WriteRefusal.{WriteRefusal}
+use Rattle.schedule_script.specs.declared.answer.Answer.{Answer}
+use Rattle.net_machine.specs.NetState.{NetState}
+use Rattle.net_model.specs.Stands.{StandsFor, moment}
+use Rattle.overlay.specs.declared.answer.Verdict.{Verdict}
+use Rattle.overlay.specs.declared.answer.Verdict.TheVariants.{Good}
+use Rattle.overlay.specs.declared.command.Command.{Command}
+use Rattle.overlay.specs.declared.command.Command.TheVariants.{Run}
+use Rattle.overlay.specs.Json.{json_of}
+use Rattle.overlay.specs.Schedules.{AreAsCompiled, lines_from}
+
+-- the opening configuration of an input, with its topology
+abbrev pub opening_of : RunInput → Checked
+opening_of r = record { topology = r.input.topology; config = r.input.config }
+
+-- an input with this opening configuration and these events
+abbrev pub input_of : Checked → List Event → RunInput
+input_of x es = record { input = record { topology = x.topology; config = x.config }; events = es }
+
+-- octets that are a document which `run` reads so
+pub record AreReadAs (octets : List ℕ) (r : RunInput) : Type 0 where
+  pub value : Data
+  pub json : json_of octets ≡ Some value
+  pub read : run_at [] value ≡ Ok r
+
+-- a network with this opening configuration took these events, and is in the state that they lead to
+pub record HasTaken (r : RunInput) (n : NetState) : Type 0 where
+  pub opening : n.opening ≡ opening_of r
+  pub events : n.events ≡ r.events
+  pub works : n.failed ≡ false
+  pub state : StandsFor n.seats (moment n.opening n.events)
+
+-- the network that `run` leaves of a document
+pub record IsLeftOf (octets : List ℕ) (left : Option NetState) : Type 0 where
+  pub input : RunInput
+  pub read : AreReadAs octets input
+  pub net : NetState
+  pub is_left : left ≡ Some net
+  pub took : HasTaken input net
+
+-- only `run` leaves a network
+abbrev pub Leaves : Command → List ℕ → Option NetState → Type 0
+Leaves Run octets left = IsLeftOf octets left
+Leaves command octets left = left ≡ None
+
+-- and only where all was written
+abbrev pub LeavesOn : Command → List ℕ → Result Verdict WriteRefusal → Option NetState → Type 0
+LeavesOn command octets (Ok Good) left = Leaves command octets left
+LeavesOn command octets result left = left ≡ None
+
+-- what was taken is the lines of answers that are as compiled
+pub record TookAnswers (octets : List ℕ) (old new : Option (List ℕ)) : Type 0 where
+  pub input : RunInput
+  pub read : AreReadAs octets input
+  pub answered : List Answer
+  pub taken : Appends old new (lines_from 1 input.events answered)
+  pub compiled : AreAsCompiled (opening_of input) input.events answered
+
+abbrev pub Promises : Command → List ℕ → Option (List ℕ) → Option (List ℕ) → Type 0
+Promises Run octets old new = TookAnswers octets old new
+Promises command octets old new = ⊤
+
+abbrev pub PromisesOn : Command → List ℕ → Result Verdict WriteRefusal → Option (List ℕ) → Option (List ℕ) → Type 0
+PromisesOn command octets (Ok Good) old new = Promises command octets old new
+PromisesOn command octets result old new = ⊤

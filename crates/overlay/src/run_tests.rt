@@ -1,0 +1,108 @@
+//! Whole runs of `run`, over memory.
+use crate::first_schedules::{FIRST, Schedule};
+use crate::more_schedules::MORE;
+use crate::run_cases::{
+    AGGREGATE_GOES, CHAIN_SETTLES, CHAIN_SHOWN_BY_THE_OTHER, CONNECT_AND_LOSE, EDITS_ANSWERED,
+    EQUAL_ADDRESSES_STAY_APART, LOST_SESSION, NO_EVENTS, TWO_CONTROL_NODES,
+};
+use crate::tests::{Case, ran};
+use crate::top::{Status, overlay};
+use config_model::Event;
+use net_machine::Net;
+use ov_io::{MemSink, MemSource};
+use std::alloc::Global;
+use std::process::Abort;
+use std::test::Fail;
+
+/// Runs each document.
+fn each_runs(rt: &impl Abort, alloc: Global, schedules: &[Schedule]) -> Result<(), Fail> {
+    for (document, answers) in schedules {
+        let (ended, sink) = ran(alloc, "run", document.as_bytes())?;
+        assert_eq!(rt; ended, Status::Done, "{document}");
+        assert_eq!(rt; sink.taken(), answers.as_bytes(), "{document}");
+    }
+    Ok(())
+}
+
+#[test]
+fn sessions_and_edits_are_answered(rt: HostRuntime) -> Result<(), Fail> {
+    let schedules = [
+        NO_EVENTS,
+        EQUAL_ADDRESSES_STAY_APART,
+        CONNECT_AND_LOSE,
+        EDITS_ANSWERED,
+    ];
+    each_runs(&rt, rt.alloc(), &schedules)
+}
+
+#[test]
+fn losses_and_restarts_are_answered(rt: HostRuntime) -> Result<(), Fail> {
+    each_runs(&rt, rt.alloc(), &[LOST_SESSION, TWO_CONTROL_NODES])
+}
+
+#[test]
+fn a_chain_settles_through_two_control_nodes(rt: HostRuntime) -> Result<(), Fail> {
+    let schedules = [CHAIN_SETTLES, CHAIN_SHOWN_BY_THE_OTHER, AGGREGATE_GOES];
+    each_runs(&rt, rt.alloc(), &schedules)
+}
+
+#[test]
+fn schedules_are_answered(rt: HostRuntime) -> Result<(), Fail> {
+    each_runs(&rt, rt.alloc(), &FIRST)
+}
+
+#[test]
+fn further_schedules_are_answered(rt: HostRuntime) -> Result<(), Fail> {
+    each_runs(&rt, rt.alloc(), &MORE)
+}
+
+/// How a run of a document ended, and the network that it left.
+fn left(alloc: Global, document: &str, failing: &[u64]) -> Result<(Status, Option<Net>), Fail> {
+    let words = vec![in alloc; String::from_str(alloc, "run")?]?;
+    let octets = document.as_bytes().to_vec(alloc)?;
+    let mut source = MemSource::new(alloc, octets, Vec::new(alloc));
+    let mut sink = MemSink::new(alloc, failing.to_vec(alloc)?);
+    let mut net = None;
+    let status = overlay(alloc, words.as_slice(), &mut source, &mut sink, &mut net);
+    Ok((status, net))
+}
+
+#[test]
+fn the_network_that_took_the_events_is_left(rt: HostRuntime) -> Result<(), Fail> {
+    let (ended, net) = left(rt.alloc(), CHAIN_SETTLES.0, &[])?;
+    assert_eq!(rt; ended, Status::Done);
+    let net = net.ok_or("a network")?;
+    assert_eq!(rt; net.opening().topology().asn, 64512);
+    assert!(rt; net.settled());
+    let [first, second, third, fourth] = net.events() else {
+        return Err(Fail::new("four events"));
+    };
+    assert!(rt; matches!(first, Event::Settle));
+    assert!(rt; matches!(second, Event::Show { .. }));
+    assert!(rt; matches!(third, Event::Trace(_)));
+    assert!(rt; matches!(fourth, Event::Trace(_)));
+    Ok(())
+}
+
+#[test]
+fn no_network_is_left_of_a_run_that_fails(rt: HostRuntime) -> Result<(), Fail> {
+    let (ended, net) = left(rt.alloc(), CHAIN_SETTLES.0, &[1])?;
+    assert_eq!(rt; ended, Status::WriteFault);
+    assert!(rt; net.is_none());
+    Ok(())
+}
+
+#[test]
+fn what_does_not_run_is_answered(rt: HostRuntime) -> Result<(), Fail> {
+    let cases: [Case; 3] = [
+        (r#"{"topology":"#, Status::NotJson, "not json\n"),
+        ("{}", Status::BadDocument, "bad document topology Missing\n"),
+        (
+            r#"{"topology":{"as":64512,"controllers":[{"name":"c1","address":"192.0.2.1"}],
+"nodes":[{"name":"n1","address":"192.0.2.11","controllers":["c9"]}]},"configuration":{},"events":[]}"#,
+            Status::Refused,
+            "refused BadReference c9\n",
+        ),
+    ];
+    crate::tests::each_is_answered(&rt, rt.alloc(), "run", &cases)
+}
