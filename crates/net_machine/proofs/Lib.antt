@@ -21,4 +21,5 @@ pub mod Proved
 pub mod KnownEnds
 pub mod Known
 pub mod Given
+pub mod Promised
 pub mod Ran

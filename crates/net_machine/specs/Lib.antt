@@ -9,5 +9,6 @@ pub mod Losses
 pub mod Settling
 pub mod Longest
 pub mod Happenings
+pub mod Shown
 pub mod Running
 pub mod Codes

@@ -4,7 +4,9 @@ ghost use Rattle.report.specs.Answers.{IsAnswerTo};
 ghost use Rattle.config_model.specs.Event.{has_event_form};
 ghost use Rattle.network_model.specs.Events.{answer_to, event_of};
 ghost use Rattle.network_model.specs.Steps.{is_settled};
-ghost use Rattle.net_model.specs.Stands.{StandsFor, moment};
+ghost use Rattle.compiled_laws.specs.Moments.{SettlesInTime};
+ghost use Rattle.net_model.specs.Stands.{StandsFor, any_size, moment};
+ghost use Rattle.net_machine.specs.Shown.{ShowsCompiled};
 
 use crate::ends::SessionEnds;
 use crate::happen::happen;
@@ -81,6 +83,7 @@ impl Net {
         ensures events { IfOk result (λ net. net.events ≡ []) }
         ensures works { IfOk result (λ net. net.failed ≡ false) }
         ensures state { IfOk result (λ net. StandsFor net.seats (moment valid [])) }
+        ensures rounds { IfOk result (λ net. SettlesInTime any_size (moment net.opening net.events)) }
     {
         let opening = copied(alloc, &valid)?;
         object_laws::know_subnets(opening.config());
@@ -104,6 +107,7 @@ impl Net {
             ≡ answer_to (moment self.old.opening self.old.events) (event_of event)) }
         ensures shown { IfOk result (λ a. IsAnswerTo event a) }
         ensures state { OnOk result (StandsFor self.new.seats (moment self.new.opening self.new.events)) }
+        ensures rounds { OnOk result (SettlesInTime any_size (moment self.new.opening self.new.events)) }
 
         ensures opening { self.new.opening ≡ self.old.opening }
         ensures events { OnOk result (self.new.events ≡ self.old.events ++ event ∷ []) }
@@ -126,7 +130,9 @@ impl Net {
     /// Whether every session is up at both ends, and no message and no notice is in flight. It takes no memory.
     pub fn settled(&self) -> bool
         requires { self.now.failed ≡ false }
-        ensures { result ≡ is_settled (moment self.now.opening self.now.events) }
+        ensures settled { result ≡ is_settled (moment self.now.opening self.now.events) }
+        ensures compiled { result ≡ true
+            → ShowsCompiled (moment self.now.opening self.now.events).setup self.now.seats }
     {
         is_settled(&self.nodes, self.order.as_slice())
     }

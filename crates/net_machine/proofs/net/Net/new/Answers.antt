@@ -6,9 +6,11 @@ use Rattle.config_model.specs.declared.config.Config.{Config}
 use Rattle.config_model.specs.declared.event.Event.{Event}
 use Rattle.config_check.specs.Checked.{Checked}
 use Rattle.net_model.specs.Seats.{whos}
-use Rattle.net_model.specs.Stands.{StandsFor, moment}
+use Rattle.compiled_laws.specs.Moments.{SettlesInTime}
+use Rattle.net_model.specs.Stands.{StandsFor, any_size, moment}
 use Rattle.net_seats.specs.Fresh.{fresh_seat}
 use Rattle.net_machine.specs.Running.{IsRunning}
+use Rattle.net_machine.proofs.Promised.{moment_rounds}
 use Rattle.net_machine.proofs.Ran.{start_long, start_runs, start_stands}
 use Rattle.net_machine.proofs.net.Net.new.Goals as goal
 
@@ -48,3 +50,17 @@ returns-clause-state c =
     })
     (subst (λ (k : Config). IsTrue (list_all subnets_fit k.networks)) c.config.ensures.part c.know_subnets.ensures.fit)
     (c.in_ok-nodes.ensures.seats ∙ ap (λ (x : Checked). map fresh_seat (whos x)) (sym c.in_ok-opening.ensures)))
+
+pub returns-clause-rounds : goal.returns-clause-rounds
+returns-clause-rounds c =
+    subst (λ (es : List Event). SettlesInTime any_size (moment c.in_ok-opening.opening es)) (sym c.new-2.ensures)
+    (moment_rounds (moment c.in_ok-opening.opening [])
+    (start_runs c.in_ok-opening.opening c.in_ok-nodes.nodes.seats
+    (record {
+      topology = c.config.ensures.topology_form;
+      config = c.config.ensures.config_form;
+      valid = c.config.ensures.valid;
+    })
+    (subst (λ (k : Config). IsTrue (list_all subnets_fit k.networks)) c.config.ensures.part c.know_subnets.ensures.fit)
+    (c.in_ok-nodes.ensures.seats ∙ ap (λ (x : Checked). map fresh_seat (whos x)) (sym c.in_ok-opening.ensures))
+    c.in_ok-order.order.items c.in_ok-order.ensures.order).moment_is)

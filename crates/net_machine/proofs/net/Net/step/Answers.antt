@@ -8,6 +8,7 @@ use Rattle.net_machine.specs.declared.ends.SessionEnds.{SessionEnds}
 use Rattle.net_machine.specs.Happenings.{Happens}
 use Rattle.net_machine.specs.NetState.{NetState}
 use Rattle.net_machine.specs.Seating.{AreSeated}
+use Rattle.net_machine.proofs.Promised.{moment_rounds}
 use Rattle.net_machine.proofs.Ran.{run_configured, run_seated, step_answers, step_runs}
 use Rattle.net_machine.proofs.net.Net.step.Goals as goal
 
@@ -49,3 +50,13 @@ returns-clause-state c =
     (λ y is. subst (λ (es : List SessionEnds). Happens y es c.args.event n.nodes.seats c.in_ok-answer.answer
     c.happen.new.stations.seats) c.as_slice.ensures.value (c.in_ok-answer.ensures.happens y is))
     c.in_ok-answer.ensures.keeps c.push.new.self c.in_ok-push.ensures.ok).stands
+
+pub returns-clause-rounds : goal.returns-clause-rounds
+returns-clause-rounds c =
+    let n = c.self.inside in
+    moment_rounds (moment n.opening c.push.new.self)
+    (step_runs n.opening n.events n.nodes.seats n.order.items (c.self.invariant c.if-self.false).0 c.args.event
+    c.in_ok-answer.answer c.happen.new.stations.seats c.requires.form c.know_subnets.ensures
+    (λ y is. subst (λ (es : List SessionEnds). Happens y es c.args.event n.nodes.seats c.in_ok-answer.answer
+    c.happen.new.stations.seats) c.as_slice.ensures.value (c.in_ok-answer.ensures.happens y is))
+    c.in_ok-answer.ensures.keeps c.push.new.self c.in_ok-push.ensures.ok).moment_is

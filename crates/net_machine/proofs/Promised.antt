@@ -1,0 +1,76 @@
+-- What a network that runs shows once it is settled, and that rounds settle it.
+use Rattle.std.specs.Prelude.{◌≡◌, ◌<◌, ℕ, zero, suc, List, length, true}
+use Rattle.std.proofs.Common.{sym, ◌∙◌, ap, subst, arith}
+use Rattle.std.proofs.lemmas.Option.{same_Some}
+use Rattle.config_check.specs.Checked.{Checked}
+use Rattle.network_model.specs.Network.{Network}
+use Rattle.network_model.specs.Events.{shown}
+use Rattle.network_model.specs.Moments.{ArePositive}
+use Rattle.network_model.specs.Steps.{is_settled}
+use Rattle.compiled_laws.specs.Moments.{SettlesInTime}
+use Rattle.headline_laws.specs.Headline.{AgentsShowRows, ControlNodesShowTables}
+use Rattle.headline_laws.proofs.Configured.{agents_show_rows, control_nodes_show_tables}
+use Rattle.headline_laws.proofs.Written.{written_rounds_settle}
+use Rattle.net_model.specs.Seats.{Configuring, Seat, Who, name_of, seat}
+use Rattle.net_model.specs.Stands.{StandsFor, any_size}
+use Rattle.net_model.specs.Steps.{shown_by}
+use Rattle.seat_laws.proofs.Parties.{by_node}
+use Rattle.seat_laws.proofs.Seating.{root_at, seat_found, who_above}
+use Rattle.seat_laws.proofs.Written.{seats_are_nodes, shows_at, written_apart, written_named}
+use Rattle.told_laws.specs.Moments.{IsMoment}
+use Rattle.told_laws.proofs.Moments.{moment_asked, moment_sessions, moment_written}
+use Rattle.net_machine.specs.Shown.{ShowsCompiled, compiled_for}
+
+positive : ArePositive any_size
+positive n m = one
+  where
+    one : 0 < 1
+    one = omega arith
+
+-- ---- what all schedules promise, at a moment
+pub moment_rounds : (w : Network) → IsMoment w → SettlesInTime any_size w
+moment_rounds w m =
+    subst (SettlesInTime any_size) (sym m.is)
+    (written_rounds_settle any_size positive m.opening m.written m.events (moment_asked w m))
+
+moment_controls : (w : Network) → IsMoment w → ControlNodesShowTables w
+moment_controls w m =
+    subst ControlNodesShowTables (sym m.is)
+    (control_nodes_show_tables any_size positive m.opening m.written m.events (moment_asked w m))
+
+moment_agents : (w : Network) → IsMoment w → AgentsShowRows w
+moment_agents w m =
+    subst AgentsShowRows (sym m.is)
+    (agents_show_rows any_size positive m.opening m.written m.events (moment_asked w m))
+
+-- ---- at each seat
+first_shows : (n : Seat) (x y : Checked) → n.who ≡ Configuring y → shown_by n ≡ compiled_for x n.who
+first_shows n x y e = ap (λ (v : Who). shown_by (record n { who = v })) e ∙ sym (ap (compiled_for x) e)
+
+module _ (w : Network) (m : IsMoment w) (seats : List Seat) (stands : StandsFor seats w)
+    (settled : is_settled w ≡ true) where
+  abbrev ShowsPart : Who → Type 0
+  ShowsPart v = shown w (name_of v) ≡ compiled_for w.setup v
+
+  later_shows : (k : ℕ) → 0 < k → k < length seats → shown_by (seat seats k) ≡ compiled_for w.setup (seat seats k).who
+  later_shows k above within =
+      let written = moment_written w m in
+      let named = written_named w.setup written in
+      let apart = written_apart w.setup written in
+      let are = stands.seats_are.who in
+      let has = moment_sessions w m in
+      let name = name_of (seat seats k).who in
+      let there = seats_are_nodes w written seats stands.seats_are has k above within in
+      let q = shows_at w written seats stands.seats_are has name there in
+      let same : q.0 ≡ k = same_Some q.0 k (sym q.1.seat_is ∙ seat_found w.setup named apart seats are k within) in
+      let part : ShowsPart (seat seats k).who =
+          by_node w.setup named ShowsPart (moment_controls w m settled) (moment_agents w m settled) (seat seats k).who
+          (who_above w.setup named apart seats are k above within) in
+      ap (λ j. shown_by (seat seats j)) (sym same) ∙ sym q.1.shows ∙ part
+
+  pub settled_shows : ShowsCompiled w.setup seats
+  settled_shows zero within =
+      let written = moment_written w m in
+      first_shows (seat seats 0) w.setup w.setup
+      (root_at w.setup (written_named w.setup written) (written_apart w.setup written) seats stands.seats_are.who)
+  settled_shows (suc k) within = later_shows (suc k) (omega arith) within
