@@ -42,13 +42,13 @@ pub other_earlier : (ss : List Session) (a b : Name) → is_earlier ss a b ≡ f
 other_earlier [] a b e = refl
 other_earlier (s ∷ ss) a b e =
     elim (joins b a s) as (λ c. cond (joins a b s) true (cond c false (is_earlier ss a b)) ≡ false
-        → cond c true (cond (joins a b s) false (is_earlier ss b a)) ≡ true) [
+    → cond c true (cond (joins a b s) false (is_earlier ss b a)) ≡ true) [
       | true ↦ λ _. refl
       | false ↦ λ e. elim (joins a b s) as (λ c. cond c true (is_earlier ss a b) ≡ false
           → cond c false (is_earlier ss b a) ≡ true) [
-        | true ↦ λ e. cc
-        | false ↦ λ e. other_earlier ss a b e
-      ] e
+            | true ↦ λ e. cc
+            | false ↦ λ e. other_earlier ss a b e
+          ] e
     ] e
 
 -- a session that may be connected, by its two names
@@ -66,12 +66,14 @@ are_next seats w (s ∷ ss) all =
 next_kept : (seats after : List Seat) (w v : Network) (ss : List Session) → Keeps seats after
     → map nodes v.sessions ≡ map nodes w.sessions → AllByRecursion (IsNext seats w) ss → AllByRecursion (IsNext after v) ss
 next_kept seats after w v [] k e all = tt
-next_kept seats after w v (s ∷ ss) k e all =
-    (record {
-      ends = all.0.ends;
-      are = ends_of_kept seats after s.near.name s.far.name k ∙ all.0.are;
-      earlier = same_earlier v.sessions w.sessions s.near.name s.far.name e ∙ all.0.earlier;
-    }, next_kept seats after w v ss k e all.1)
+next_kept seats after w v (s ∷ ss) k e all = (
+  record {
+    ends = all.0.ends;
+    are = ends_of_kept seats after s.near.name s.far.name k ∙ all.0.are;
+    earlier = same_earlier v.sessions w.sessions s.near.name s.far.name e ∙ all.0.earlier;
+  },
+  next_kept seats after w v ss k e all.1,
+)
 
 module _ (M : Network → Type 0) (f : Facts M) where
   one_connection : (w : Network) (a b : Name) → is_earlier w.sessions a b ≡ true

@@ -107,11 +107,11 @@ module _ (seats : List Seat) (k i : ℕ) (now : List Seat) (long : AreLong seats
     links_long = length-set d.node.links i [] ∙ d.links_long;
     done = λ j below. elim (cases_eq j i) as (λ _. link emptier j
         ≡ cond (is_down_at seats (record { node = k; session = j })) [] (link (seat seats k) j)) [
-      | inl at ↦ ap (link emptier) at ∙ get_or-set_same d.node.links i [] [] has_link
-          ∙ sym (ap (λ (j : ℕ). cond (is_down_at seats (record { node = k; session = j })) [] (link (seat seats k) j)) at
-          ∙ ap (λ b. cond b [] (link (seat seats k) i)) down)
-      | inr off ↦ get_or-set_other d.node.links i j [] [] off ∙ d.done j (omega (arith, below, off))
-    ];
+          | inl at ↦ ap (link emptier) at ∙ get_or-set_same d.node.links i [] [] has_link
+              ∙ sym (ap (λ (j : ℕ). cond (is_down_at seats (record { node = k; session = j })) [] (link (seat seats k) j)) at
+              ∙ ap (λ b. cond b [] (link (seat seats k) i)) down)
+          | inr off ↦ get_or-set_other d.node.links i j [] [] off ∙ d.done j (omega (arith, below, off))
+        ];
     rest = λ j from. get_or-set_other d.node.links i j [] [] (λ at. omega (arith, at, from)) ∙ d.rest j (omega (arith, from));
   }
 
@@ -125,18 +125,18 @@ module _ (seats : List Seat) (k i : ℕ) (now : List Seat) (long : AreLong seats
     links_long = d.links_long;
     done = λ j below. elim (cases_eq j i) as (λ _. link d.node j
         ≡ cond (is_down_at seats (record { node = k; session = j })) [] (link (seat seats k) j)) [
-      | inl at ↦ ap (link d.node) at ∙ d.rest i (omega arith)
-          ∙ sym (ap (λ (j : ℕ). cond (is_down_at seats (record { node = k; session = j })) [] (link (seat seats k) j)) at
-          ∙ ap (λ b. cond b [] (link (seat seats k) i)) up)
-      | inr off ↦ d.done j (omega (arith, below, off))
-    ];
+          | inl at ↦ ap (link d.node) at ∙ d.rest i (omega arith)
+              ∙ sym (ap (λ (j : ℕ). cond (is_down_at seats (record { node = k; session = j })) [] (link (seat seats k) j)) at
+              ∙ ap (λ b. cond b [] (link (seat seats k) i)) up)
+          | inr off ↦ d.done j (omega (arith, below, off))
+        ];
     rest = λ j from. d.rest j (omega (arith, from));
   }
 
   pub one_discarded : Discarded seats k (i + 1) (discarded_at now here)
   one_discarded =
       elim (is_down_at now here) as (λ b. is_down_at now here ≡ b
-          → Discarded seats k (i + 1) (cond b (with_link here [] now) now)) [
+      → Discarded seats k (i + 1) (cond b (with_link here [] now) now)) [
         | true ↦ λ is. when_down (sym (down_stays seats k i now long within d here) ∙ is)
         | false ↦ λ is. when_up (sym (down_stays seats k i now long within d here) ∙ is)
       ] refl

@@ -64,7 +64,7 @@ told_there : (n k i : ℕ) (seats : List Seat) → losses.all_told n k i seats �
 told_there zero k i seats = refl
 told_there (suc n) k i seats =
     elim (far_of seats (record { node = k; session = i })) as (λ o. losses.all_told n k (i + 1) (losses.told_of_loss seats o)
-        ≡ all_told n k (i + 1) (told_of_loss seats o)) [
+    ≡ all_told n k (i + 1) (told_of_loss seats o)) [
       | None ↦ told_there n k (i + 1) seats
       | Some q ↦ told_there n k (i + 1) (with_link q [] (with_notice q (live_at seats q) seats))
     ]
@@ -220,7 +220,7 @@ module _ (p : Proved) (seats : List Seat) (w : Network) (m : IsMoment w) (st : S
       → (is_node w name ≡ true) × (shown w name ≡ shown_by (seat seats (suc k)))
   node_at name k is =
       elim (is_node w name) as (λ b. is_node w name ≡ b
-          → (b ≡ true) × (shown w name ≡ shown_by (seat seats (suc k)))) [
+      → (b ≡ true) × (shown w name ≡ shown_by (seat seats (suc k)))) [
         | true ↦ λ at.
             let s = shows_at w (moment_written w m) seats st.seats_are (moment_sessions w m) name at in
             let same : s.0 ≡ suc k = same_Some s.0 (suc k) (sym s.1.seat_is ∙ is) in

@@ -148,14 +148,16 @@ module _ (p : Proved) (seats : List Seat) (w : Network) (m : IsMoment w) (st : S
       → AllByRecursion (IsStood seats w) ss
   stood_all [] f g h = tt
   stood_all (s ∷ ss) f g h =
-      let far = has_far w.setup written seats are f.0.place f.0.is_place in
-      (record {
-        ends = record { near = f.0.place; far = far.far };
-        are = at_are_ends seats s.near.name s.far.name f.0.place far.far (f.0.place_is, far.found);
-        found = g.0.0;
-        back = g.0.1;
-        earlier = h.0;
-      }, stood_all ss f.1 g.1 h.1)
+      let far = has_far w.setup written seats are f.0.place f.0.is_place in (
+        record {
+          ends = record { near = f.0.place; far = far.far };
+          are = at_are_ends seats s.near.name s.far.name f.0.place far.far (f.0.place_is, far.found);
+          found = g.0.0;
+          back = g.0.1;
+          earlier = h.0;
+        },
+        stood_all ss f.1 g.1 h.1,
+      )
 
   pub all_stood : AllByRecursion (IsStood seats w) w.sessions
   all_stood =

@@ -123,18 +123,18 @@ pub joins_is : (seats : List Seat) (a b : Name) (e : SessionEnds) (s : Session) 
 joins_is seats a b e s d is at =
     both_true (same_ends d e) (joins a b s)
     (λ same.
-        let one = ends_are d e same in
-        let here = ends_names seats a b e is in
-        let there = subst (λ (e : SessionEnds). AreNamed seats s.near.name s.far.name e.near) one
-        (ends_names seats s.near.name s.far.name d at) in
-        (λ i. same_name ((sym there.here ∙ here.here) i) a && same_name ((sym there.there ∙ here.there) i) b)
-        ∙ (λ i. itself a i && same_name b b) ∙ itself b)
+    let one = ends_are d e same in
+    let here = ends_names seats a b e is in
+    let there = subst (λ (e : SessionEnds). AreNamed seats s.near.name s.far.name e.near) one
+    (ends_names seats s.near.name s.far.name d at) in
+    (λ i. same_name ((sym there.here ∙ here.here) i) a && same_name ((sym there.there ∙ here.there) i) b)
+    ∙ (λ i. itself a i && same_name b b) ∙ itself b)
     (λ join.
-        let names = and_parts (same_name s.near.name a) (same_name s.far.name b) join in
-        let near = (bytes_decides s.near.name a).0 names.0 in
-        let far = (bytes_decides s.far.name b).0 names.1 in
-        let one : d ≡ e = same_Some d e (sym at ∙ (λ i. ends_of seats (near i) (far i)) ∙ is) in
-        ap (λ c. same_ends c e) one ∙ ends_itself e)
+    let names = and_parts (same_name s.near.name a) (same_name s.far.name b) join in
+    let near = (bytes_decides s.near.name a).0 names.0 in
+    let far = (bytes_decides s.far.name b).0 names.1 in
+    let one : d ≡ e = same_Some d e (sym at ∙ (λ i. ends_of seats (near i) (far i)) ∙ is) in
+    ap (λ c. same_ends c e) one ∙ ends_itself e)
 
 module _ (M : Network → Type 0) (f : Facts M) where
   earlier_among : (seats : List Seat) (w : Network) (a b : Name) (e : SessionEnds) (ss : List Session)

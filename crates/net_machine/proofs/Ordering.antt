@@ -63,9 +63,9 @@ module _ (seats : List Seat) where
       ≡ order_among seats (accesses_of (c ∷ []) n) ++ order_among seats (accesses_of cs n)
   access_step n c cs =
       elim (lists n c) as (λ b. order_among seats (map (λ (c : NodeId). between c.name Controller n.name Agent)
-          (cond b (c ∷ filter (lists n) cs) (filter (lists n) cs)))
-          ≡ order_among seats (map (λ (c : NodeId). between c.name Controller n.name Agent) (cond b (c ∷ []) []))
-          ++ order_among seats (accesses_of cs n)) [
+      (cond b (c ∷ filter (lists n) cs) (filter (lists n) cs)))
+      ≡ order_among seats (map (λ (c : NodeId). between c.name Controller n.name Agent) (cond b (c ∷ []) []))
+      ++ order_among seats (accesses_of cs n)) [
         | true ↦ filter_map-append (λ (s : Session). ends_of seats s.near.name s.far.name)
             (between c.name Controller n.name Agent ∷ []) (accesses_of cs n)
         | false ↦ refl

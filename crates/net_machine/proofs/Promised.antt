@@ -64,8 +64,8 @@ module _ (w : Network) (m : IsMoment w) (seats : List Seat) (stands : StandsFor 
       let q = shows_at w written seats stands.seats_are has name there in
       let same : q.0 ≡ k = same_Some q.0 k (sym q.1.seat_is ∙ seat_found w.setup named apart seats are k within) in
       let part : ShowsPart (seat seats k).who =
-          by_node w.setup named ShowsPart (moment_controls w m settled) (moment_agents w m settled) (seat seats k).who
-          (who_above w.setup named apart seats are k above within) in
+      by_node w.setup named ShowsPart (moment_controls w m settled) (moment_agents w m settled) (seat seats k).who
+      (who_above w.setup named apart seats are k above within) in
       ap (λ j. shown_by (seat seats j)) (sym same) ∙ sym q.1.shows ∙ part
 
   pub settled_shows : ShowsCompiled w.setup seats

@@ -49,7 +49,7 @@ among_seated : (seats : List Seat) (ss : List Session) → AreLong seats → All
 among_seated seats [] long = λ k d h. absurd (omega (arith, h))
 among_seated seats (s ∷ ss) long =
     elim (ends_of seats s.near.name s.far.name) as (λ o. ends_of seats s.near.name s.far.name ≡ o
-        → All (AreSeated seats) (cons_option o (order_among seats ss))) [
+    → All (AreSeated seats) (cons_option o (order_among seats ss))) [
       | None ↦ λ _. among_seated seats ss long
       | Some e ↦ λ is. All-cons (AreSeated seats) e (order_among seats ss)
           (found_seated seats s.near.name s.far.name e long is) (among_seated seats ss long)

@@ -49,8 +49,8 @@ module _ (M : Network → Type 0) (f : Facts M) where
   rounds_lead zero done seats after w order rounds h is all = stop done seats after w order rounds h is all
   rounds_lead (suc n) done seats after w order rounds h is all =
       elim (steps.is_quiet w) as (λ q. MatchBool q ((rounds ≡ done) × (after ≡ seats))
-          ((between : List Seat) × IsRound order seats between × RoundsFrom n (done + 1) order between rounds after)
-          → Leads (cond q (done, w) (rounds_from n (done + 1) (round w))) w order rounds after) [
+      ((between : List Seat) × IsRound order seats between × RoundsFrom n (done + 1) order between rounds after)
+      → Leads (cond q (done, w) (rounds_from n (done + 1) (round w))) w order rounds after) [
         | true ↦ λ e. stop done seats after w order rounds h is e
         | false ↦ λ c.
             let r = round_stands M f seats c.0 w order h is c.1 in

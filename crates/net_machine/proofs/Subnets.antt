@@ -56,7 +56,7 @@ subnets_kept : (e : Edit) (c : Config) → edit_fits e ≡ true → list_all sub
 unfolding edits.edited
 subnets_kept (Put (object.Network n)) c fits all =
     elim (place_of network_name n.name c.networks) as (λ (o : Option ℕ). list_all subnets_fit
-        (option_map_or (λ i. slice_set c.networks i n) o (c.networks ++ n ∷ [])) ≡ true) [
+    (option_map_or (λ i. slice_set c.networks i n) o (c.networks ++ n ∷ [])) ≡ true) [
       | None ↦ push_passes subnets_fit c.networks n all fits
       | Some i ↦ set_passes subnets_fit c.networks i n all fits
     ]
@@ -66,7 +66,7 @@ subnets_kept (Put (object.Service s)) c fits all = all
 subnets_kept (Put (object.Chain d)) c fits all = all
 subnets_kept (Delete kind.Network name) c fits all =
     elim (place_of network_name name c.networks) as (λ (o : Option ℕ). list_all subnets_fit
-        (option_map_or (λ i. remove c.networks i) o c.networks) ≡ true) [
+    (option_map_or (λ i. remove c.networks i) o c.networks) ≡ true) [
       | None ↦ all
       | Some i ↦ remove_passes subnets_fit c.networks i all
     ]

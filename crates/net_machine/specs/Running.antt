@@ -10,7 +10,7 @@ use Rattle.net_machine.specs.Seating.{order_of}
 
 -- its seats stand for the state after its events, and the order of a round is that of its sessions
 pub record IsRunning (opening : Checked) (events : List Event) (seats : List Seat) (order : List SessionEnds) : Type 0
-    where
-  pub moment_is : IsMoment (moment opening events)
-  pub stands : StandsFor seats (moment opening events)
-  pub ordered : order ≡ order_of seats opening
+  where
+    pub moment_is : IsMoment (moment opening events)
+    pub stands : StandsFor seats (moment opening events)
+    pub ordered : order ≡ order_of seats opening

@@ -45,7 +45,7 @@ returns-clause-most c =
     let config = c.config-config.result.now in
     let policies = c.as_slice-policy-items.result.now in
     let none : max c.loop-policy.longest (longest_of (flat_map (uses_of config) (drop c.loop-policy.policy-index policies)))
-        ≡ c.loop-policy.longest =
+    ≡ c.loop-policy.longest =
     ap (λ (ps : List Policy). max c.loop-policy.longest (longest_of (flat_map (uses_of config) ps)))
     (drop_all c.loop-policy.policy-index policies c.loop-policy-test.false) ∙ omega arith in
     sym none ∙ c.loop-policy.invariant.most

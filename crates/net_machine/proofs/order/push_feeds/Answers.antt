@@ -16,7 +16,7 @@ pub loop-controller-preserved : goal.loop-controller-preserved
 loop-controller-preserved g c =
     let seats = g.S.Stations.seats c.args.stations.now in
     let pushed : c.push_ends.new.order.items
-        ≡ c.loop-controller.order.items ++ option_to_list (ends_of seats config c.controller-item.result.name) =
+    ≡ c.loop-controller.order.items ++ option_to_list (ends_of seats config c.controller-item.result.name) =
     c.in_ok-push_ends.ensures.pushed
     ∙ ap (λ m. c.loop-controller.order.items ++ option_to_list (ends_of seats m c.controller-item.result.name))
     c.config_name-config.ensures in

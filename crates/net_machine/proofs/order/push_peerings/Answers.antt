@@ -16,7 +16,7 @@ loop-i-preserved g c =
     let controllers = c.args.controllers.now in
     let controller = c.index-controllers-i.result in
     let pushed : c.push_peerings_of.new.order.items
-        ≡ c.loop-i.order.items ++ order_among seats (peerings_of controller (drop (c.loop-i.i + 1) controllers)) =
+    ≡ c.loop-i.order.items ++ order_among seats (peerings_of controller (drop (c.loop-i.i + 1) controllers)) =
     c.in_ok-push_peerings_of.ensures.pushed
     ∙ ap (λ cs. c.loop-i.order.items ++ order_among seats (peerings_of controller cs)) c.from_place-later.ensures in
     record {

@@ -26,18 +26,20 @@ order_of-requires c =
     (c.in_ok-nodes.ensures.seats ∙ ap (λ (x : Checked). map fresh_seat (whos x)) (sym c.in_ok-opening.ensures))
 
 pub invariant_of-result : goal.invariant_of-result
-invariant_of-result c = λ _.
-    (subst (λ (es : List Event). IsRunning c.in_ok-opening.opening es c.in_ok-nodes.nodes.seats c.in_ok-order.order.items)
-    (sym c.new-2.ensures)
-    (start_runs c.in_ok-opening.opening c.in_ok-nodes.nodes.seats
-    (record {
-      topology = c.config.ensures.topology_form;
-      config = c.config.ensures.config_form;
-      valid = c.config.ensures.valid;
-    })
-    (subst (λ (k : Config). IsTrue (list_all subnets_fit k.networks)) c.config.ensures.part c.know_subnets.ensures.fit)
-    (c.in_ok-nodes.ensures.seats ∙ ap (λ (x : Checked). map fresh_seat (whos x)) (sym c.in_ok-opening.ensures))
-    c.in_ok-order.order.items c.in_ok-order.ensures.order), c.in_ok-nodes.ensures.works)
+invariant_of-result c = λ _. (
+  subst (λ (es : List Event). IsRunning c.in_ok-opening.opening es c.in_ok-nodes.nodes.seats c.in_ok-order.order.items)
+      (sym c.new-2.ensures)
+      (start_runs c.in_ok-opening.opening c.in_ok-nodes.nodes.seats
+      (record {
+        topology = c.config.ensures.topology_form;
+        config = c.config.ensures.config_form;
+        valid = c.config.ensures.valid;
+      })
+      (subst (λ (k : Config). IsTrue (list_all subnets_fit k.networks)) c.config.ensures.part c.know_subnets.ensures.fit)
+      (c.in_ok-nodes.ensures.seats ∙ ap (λ (x : Checked). map fresh_seat (whos x)) (sym c.in_ok-opening.ensures))
+      c.in_ok-order.order.items c.in_ok-order.ensures.order),
+  c.in_ok-nodes.ensures.works,
+)
 
 pub returns-clause-state : goal.returns-clause-state
 returns-clause-state c =

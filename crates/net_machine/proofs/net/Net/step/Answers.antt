@@ -25,12 +25,14 @@ happen-requires-clause-seated c =
 
 pub invariant_of-self-2 : goal.invariant_of-self-2
 invariant_of-self-2 c = λ _.
-    let n = c.self.inside in
-    (step_runs n.opening n.events n.nodes.seats n.order.items (c.self.invariant c.if-self.false).0 c.args.event
-    c.in_ok-answer.answer c.happen.new.stations.seats c.requires.form c.know_subnets.ensures
-    (λ y is. subst (λ (es : List SessionEnds). Happens y es c.args.event n.nodes.seats c.in_ok-answer.answer
-    c.happen.new.stations.seats) c.as_slice.ensures.value (c.in_ok-answer.ensures.happens y is))
-    c.in_ok-answer.ensures.keeps c.push.new.self c.in_ok-push.ensures.ok, c.in_ok-answer.ensures.works)
+    let n = c.self.inside in (
+      step_runs n.opening n.events n.nodes.seats n.order.items (c.self.invariant c.if-self.false).0 c.args.event
+          c.in_ok-answer.answer c.happen.new.stations.seats c.requires.form c.know_subnets.ensures
+          (λ y is. subst (λ (es : List SessionEnds). Happens y es c.args.event n.nodes.seats c.in_ok-answer.answer
+          c.happen.new.stations.seats) c.as_slice.ensures.value (c.in_ok-answer.ensures.happens y is))
+          c.in_ok-answer.ensures.keeps c.push.new.self c.in_ok-push.ensures.ok,
+      c.in_ok-answer.ensures.works,
+    )
 
 pub returns-clause-answer : goal.returns-clause-answer
 returns-clause-answer c =
