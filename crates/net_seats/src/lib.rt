@@ -11,7 +11,5 @@ mod kinds;
 mod making;
 mod nodes;
 mod plans;
-#[cfg(test)]
-mod tests;
 
 pub use nodes::Nodes;

@@ -1,0 +1,122 @@
+#!/usr/bin/env python3
+"""What `run` costs.
+
+Makes schedules by formula, runs the built program on each, and prints a table in Markdown: processor time in seconds (user
+and system, the least of three runs), peak memory in millions of octets, and the rounds that each `settle` took. Each line is
+a network from nothing: it is settled; or settled, edited and settled again; or settled, and then 10,000 deliveries are asked
+for of which none has anything in flight.
+
+usage: bench/runs.py PROGRAM [WORD]
+
+PROGRAM is the built `overlay`. With WORD only the lines whose name has it are run. Needs Python 3.8 on Linux.
+"""
+import json
+import os
+import resource
+import subprocess
+import sys
+
+RUNS = 3
+SECONDS = 900
+
+
+def topology():
+    """Two control nodes and eight compute nodes, which list both in turn."""
+    return {
+        "as": 64512,
+        "controllers": [{"name": f"c{i}", "address": f"192.0.2.{i}"} for i in (1, 2)],
+        "nodes": [
+            {"name": f"n{i}", "address": f"192.0.2.{10 + i}", "controllers": ["c1", "c2"] if i % 2 else ["c2", "c1"]}
+            for i in range(1, 9)
+        ],
+    }
+
+
+def rule(action, **more):
+    return {
+        "direction": "<>", "source": "any", "destination": "any", "protocol": "any",
+        "source_ports": [0, 65535], "destination_ports": [0, 65535], "action": action, **more,
+    }
+
+
+def related(ports):
+    """So many ports on an eighth as many networks, which all attach one policy that passes everything."""
+    networks = ports // 8
+    return {
+        "networks": [
+            {"name": f"w{n}", "id": n, "subnets": [f"10.{n}.0.0/24"], "policies": ["all"]} for n in range(1, networks + 1)
+        ],
+        "ports": [
+            {
+                "name": f"p{p}", "id": p, "network": f"w{1 + p % networks}",
+                "address": f"10.{1 + p % networks}.0.{1 + p // networks}", "node": f"n{1 + p % 8}",
+            }
+            for p in range(ports)
+        ],
+        "policies": [{"name": "all", "sequence": 1, "rules": [rule("pass")]}],
+    }
+
+
+def chain():
+    """Two networks with eight ports each, and a chain of four services between them."""
+    made = related(16)
+    for network in made["networks"]:
+        network["policies"] = ["through"]
+    made["services"] = [{"name": f"s{i}", "id": i, "node": f"n{2 * i}"} for i in range(1, 5)]
+    made["chains"] = [{"name": "four", "hops": ["s1", "s2", "s3", "s4"]}]
+    through = rule("chain", chain="four", use=0)
+    through.update(source="w1", destination="w2")
+    made["policies"] = [{"name": "through", "sequence": 1, "rules": [through]}]
+    return made
+
+
+def lines():
+    """The lines: their names, and their documents."""
+    for name, configuration in [
+        ("16 ports, 2 related networks", related(16)),
+        ("64 ports, 8 related networks", related(64)),
+        ("256 ports, 32 related networks", related(256)),
+        ("16 ports, a chain of 4 services", chain()),
+    ]:
+        port = dict(configuration["ports"][0], address="10.1.0.200")
+        edit = {"edit": {"put": {"port": port}}}
+        idle = [{"deliver": ["c1", "n1", 1]}] * 10_000
+        for what, events in [
+            ("settle", ["settle"]),
+            ("settle, one edit, settle", ["settle", edit, "settle"]),
+            ("settle, 10,000 deliveries", ["settle"] + idle),
+        ]:
+            yield f"{name}: {what}", {"topology": topology(), "configuration": configuration, "events": events}
+
+
+def measured(program, document):
+    """Processor time, peak memory in octets, and what was written."""
+    read, write = os.pipe()
+    child = subprocess.Popen([program, "run"], stdin=subprocess.PIPE, stdout=write, stderr=subprocess.DEVNULL)
+    os.close(write)
+    child.stdin.write(json.dumps(document).encode())
+    child.stdin.close()
+    with os.fdopen(read, "rb") as output:
+        text = output.read()
+    _, status, usage = os.wait4(child.pid, 0)
+    if status != 0:
+        sys.exit(f"a run ended with {status}")
+    return usage.ru_utime + usage.ru_stime, usage.ru_maxrss * 1024, text.decode()
+
+
+def main(program, word):
+    print("| Network from nothing | Processor time, s | Peak memory, MB | Rounds |")
+    print("|---|---|---|---|")
+    for name, document in lines():
+        if word in name:
+            runs = [measured(program, document) for _ in range(RUNS)]
+            seconds, memory, text = min(runs)
+            rounds = [line.split()[-1] for line in text.splitlines() if " rounds " in line]
+            print(f"| {name} | {seconds:.3f} | {memory / 1e6:.1f} | {', '.join(rounds)} |", flush=True)
+
+
+if __name__ == "__main__":
+    if len(sys.argv) < 2:
+        sys.exit(__doc__)
+    resource.setrlimit(resource.RLIMIT_CPU, (SECONDS, SECONDS))
+    main(sys.argv[1], sys.argv[2] if len(sys.argv) > 2 else "")
