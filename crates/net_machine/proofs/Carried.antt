@@ -3,8 +3,7 @@ use Rattle.std.specs.Prelude.{◌≡◌, ◌<◌, ℕ, zero, suc, List, [], ◌�
 use mathlib.Core.Bool.{beq}
 use Rattle.std.specs.declared.option.Option.{Option}
 use Rattle.std.specs.declared.option.Option.TheVariants.{Some, None}
-use Rattle.std.specs.List.{AllByRecursion}
-use Rattle.std.proofs.Common.{refl, sym, ◌∙◌, ap, subst, arith}
+use Rattle.std.proofs.Common.{refl, sym, subst, arith}
 use Rattle.ov_link.specs.declared.step.Input.{Input}
 use Rattle.network_model.specs.Setup.{Name}
 use Rattle.net_model.specs.Seats.{Seat, far_of, link_at, live_at, notice_at, place_of}
@@ -12,10 +11,10 @@ use Rattle.net_model.specs.Steps.{with_link, with_notice, with_seat}
 use Rattle.net_model.specs.declared.place.Place.{Place}
 use Rattle.net_machine.specs.declared.ends.SessionEnds.{SessionEnds}
 use Rattle.net_machine.specs.declared.round.Due.{Due}
-use Rattle.net_machine.specs.Connections.{Connects, ConnectsAt, ConnectsIf, Opens, OpensFar, OpensSecond, may_connect}
-use Rattle.net_machine.specs.Deliveries.{Delivers, DeliversIf, DeliversMany, DeliversTo, TakesAt}
+use Rattle.net_machine.specs.Connections.{Connects, ConnectsIf, OpensFar, OpensSecond, may_connect}
+use Rattle.net_machine.specs.Deliveries.{Delivers, DeliversIf, DeliversTo, TakesAt}
 use Rattle.net_machine.specs.Rounds.{DeliversDue, DeliversDues, DeliversWhere}
-use Rattle.net_machine.specs.Seating.{AreLong, AreSeated, IsSeated, Keeps, ends_at, ends_from, ends_of}
+use Rattle.net_machine.specs.Seating.{AreLong, AreSeated, Keeps, ends_at, ends_from, ends_of}
 use Rattle.net_machine.proofs.Changes.{discards_keeps, link_keeps, notice_keeps, opens_keeps, takes_keeps}
 use Rattle.net_machine.proofs.Kept.{ends_kept, keeps_all, keeps_both, seated_kept}
 use Rattle.net_machine.proofs.Seating.{ends_are_seated}

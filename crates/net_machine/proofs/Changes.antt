@@ -1,17 +1,15 @@
 -- What changes of single places keep.
-use Rattle.std.specs.Prelude.{◌≡◌, ◌+◌, ◌<◌, ℕ, List, [], length, map, Bool, true, false, cond}
-use Rattle.std.proofs.Common.{refl, sym, ◌∙◌, ap, subst, arith, set}
+use Rattle.std.specs.Prelude.{◌≡◌, ◌<◌, ℕ, List, [], length, Bool, false}
+use Rattle.std.proofs.Common.{refl, sym, ◌∙◌, ap, subst, set}
 use Rattle.std.proofs.lemmas.List.{length-set, length-map}
 use Rattle.ov_link.specs.declared.step.Input.{Input}
-use Rattle.node_model.specs.Step.{Begun, Post, nothing}
-use Rattle.net_model.specs.Seats.{Seat, is_down_at, link, live_at, name_of, others_of, seat}
-use Rattle.net_model.specs.Stands.{IsLong}
-use Rattle.net_model.specs.Steps.{IsDiscarded, IsStepped, Takes, emptied, with_link, with_notice, with_seat}
+use Rattle.node_model.specs.Step.{nothing}
+use Rattle.net_model.specs.Seats.{Seat, name_of, others_of, seat}
+use Rattle.net_model.specs.Steps.{Takes, emptied, with_link, with_notice, with_seat}
 use Rattle.net_model.specs.declared.place.Place.{Place}
 use Rattle.net_machine.specs.Connections.{Opens}
-use Rattle.net_machine.specs.Deliveries.{TakesAt}
-use Rattle.net_machine.specs.Seating.{AreLong, Discards, IsSeated, Keeps}
-use Rattle.net_machine.proofs.Kept.{keeps_both, with_keeps}
+use Rattle.net_machine.specs.Seating.{AreLong, Discards, Keeps}
+use Rattle.net_machine.proofs.Kept.{with_keeps}
 
 pub link_keeps : (seats : List Seat) (p : Place) (messages : List (List ℕ)) → AreLong seats → p.node < length seats
     → Keeps seats (with_link p messages seats)

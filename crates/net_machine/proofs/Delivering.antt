@@ -1,8 +1,7 @@
 -- What several deliveries, and those of a round, make of the state for which seats stand.
 use Rattle.std.specs.Prelude.{◌≡◌, ℕ, zero, suc, List, [], ◌∷◌, Bool, true, false, cond}
 use mathlib.Core.Bool.{beq}
-use Rattle.std.specs.declared.option.Option.{Option}
-use Rattle.std.specs.declared.option.Option.TheVariants.{Some, None}
+use Rattle.std.specs.declared.option.Option.TheVariants.{Some}
 use Rattle.std.specs.Option.{option_map, unwrap_or}
 use Rattle.std.proofs.Common.{refl, sym, ◌∙◌, ap, subst}
 use Rattle.network_model.specs.Setup.{Name}
@@ -11,7 +10,7 @@ use Rattle.network_model.specs.Network.{Network}
 use Rattle.network_model.specs.Steps.{Due as Waiting, deliver, deliver_all, deliver_due, notice_stands, repeat}
 use Rattle.network_model.specs.Events.{Deliver, next}
 use Rattle.net_model.specs.Seats.{Seat, notice_at}
-use Rattle.net_model.specs.Stands.{StandsFor, any_size}
+use Rattle.net_model.specs.Stands.{any_size}
 use Rattle.net_machine.specs.declared.ends.SessionEnds.{SessionEnds}
 use Rattle.net_machine.specs.declared.round.Due.{Due}
 use Rattle.net_machine.specs.Deliveries.{Delivers, DeliversMany}

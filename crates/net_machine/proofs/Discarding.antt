@@ -1,15 +1,14 @@
 -- What a node sent on sessions that are down is discarded session by session.
-use Rattle.std.specs.Prelude.{◌≡◌, ◌≢◌, ◌+◌, ◌<◌, ◌≤◌, ◌&&◌, not, ℕ, List, [], ◌∷◌, length, Bool, true, false, cond}
+use Rattle.std.specs.Prelude.{◌≡◌, ◌+◌, ◌<◌, ◌≤◌, ◌&&◌, not, ℕ, List, [], length, true, false, cond}
 use Rattle.std.specs.declared.option.Option.{Option}
 use Rattle.std.specs.declared.option.Option.TheVariants.{Some, None}
 use Rattle.std.proofs.Common.{refl, sym, ◌∙◌, ap, subst, arith, inl, inr, get_or, set}
 use Rattle.std.proofs.lemmas.Bool.{cases_eq}
 use Rattle.std.proofs.lemmas.List.{length-set, get_or-set_same, get_or-set_other, set-get_or}
-use Rattle.node_model.specs.Step.{Post, post}
+use Rattle.node_model.specs.Step.{post}
 use Rattle.network_model.specs.Session.{is_idle}
 use Rattle.net_model.specs.Seats.{Seat, far_of, is_down_at, link, name_of, nobody, others_of, seat, whole_at, whole_there}
-use Rattle.net_model.specs.Stands.{IsLong}
-use Rattle.net_model.specs.Steps.{IsDiscarded, with_link, with_seat}
+use Rattle.net_model.specs.Steps.{with_link, with_seat}
 use Rattle.net_model.specs.declared.place.Place.{Place}
 use Rattle.net_machine.specs.Seating.{AreLong, Discards, Keeps, discarded_at}
 use Rattle.net_machine.proofs.Kept.{far_kept, same_at, with_here, with_keeps, with_twice}

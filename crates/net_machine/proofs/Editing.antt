@@ -1,5 +1,5 @@
 -- An edit keeps the nodes, with their names and sessions.
-use Rattle.std.specs.Prelude.{◌≡◌, ◌<◌, ℕ, List, length, Bool, true, false, is_some, not}
+use Rattle.std.specs.Prelude.{◌≡◌, ◌<◌, List, length, true, false, is_some}
 use Rattle.std.specs.declared.option.Option.{Option}
 use Rattle.std.specs.declared.option.Option.TheVariants.{Some, None}
 use Rattle.std.proofs.Common.{refl, sym, ◌∙◌, ap, subst}
@@ -10,12 +10,11 @@ use Rattle.config_check.specs.Checked.{Checked}
 use Rattle.config_check.specs.Edits.{edit_fault}
 use Rattle.config_check.specs.declared.edits.EditFault.{EditFault}
 use Rattle.network_model.specs.Setup.{edited, edited_without}
-use Rattle.net_model.specs.Seats.{Configuring, Seat, Who, name_of, names_of, others_of, seat}
-use Rattle.net_model.specs.Steps.{IsStepped, MakesEdit, as_it_is, with_seat}
+use Rattle.net_model.specs.Seats.{Configuring, Seat, name_of, names_of, others_of, seat}
+use Rattle.net_model.specs.Steps.{MakesEdit}
 use Rattle.net_machine.specs.Happenings.{DiscardsUnless, Edits}
-use Rattle.net_machine.specs.Seating.{AreLong, Discards, IsConfigured, Keeps}
-use Rattle.net_machine.proofs.Changes.{discards_keeps}
-use Rattle.net_machine.proofs.Kept.{keeps_all, keeps_both, with_keeps}
+use Rattle.net_machine.specs.Seating.{AreLong, Discards, Keeps}
+use Rattle.net_machine.proofs.Kept.{keeps_all, with_keeps}
 
 edited_topology : (o : Option EditFault) (x y : Checked) (e : Edit) → edited_without o x e ≡ Some y → y.topology ≡ x.topology
 edited_topology None x y e h = sym (ap (λ (z : Checked). z.topology) (same_Some _ y h))

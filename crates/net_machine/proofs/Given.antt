@@ -1,5 +1,4 @@
 -- What single steps make of the state for which seats stand, as it is proved.
-use Rattle.network_model.specs.Network.{Network}
 use Rattle.told_laws.specs.Moments.{IsMoment}
 use Rattle.net_steps.proofs.Asked.{sessions_said}
 use Rattle.net_steps.proofs.Connections.{connections_are_made, near_is_earlier, nothing_is_connected}

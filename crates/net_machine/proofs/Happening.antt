@@ -1,17 +1,16 @@
 -- What an event makes of the state for which seats stand, and what it answers.
-use Rattle.std.specs.Prelude.{◌≡◌, ◌==◌, ℕ, zero, suc, List, [], ◌∷◌, Bool, true, false, cond, not}
+use Rattle.std.specs.Prelude.{◌≡◌, ◌==◌, ℕ, zero, suc, List, Bool, true, false, cond, not}
 use Rattle.std.specs.declared.option.Option.{Option}
 use Rattle.std.specs.declared.option.Option.TheVariants.{Some, None}
 use Rattle.std.specs.Option.{option_map, unwrap_or}
 use Rattle.std.proofs.Common.{refl, sym, ◌∙◌, ap, subst}
-use Rattle.config_model.specs.declared.edit.Edit.{Edit}
 use Rattle.config_model.specs.declared.event.Event.{Event as Written}
 use Rattle.config_model.specs.declared.event.Event.TheVariants as event
 use Rattle.config_check.specs.Checked.{Checked}
 use Rattle.config_check.specs.Edits.{edit_fault}
 use Rattle.route_targets.specs.Forwarding.{forwarding}
 use Rattle.schedule_script.specs.declared.answer.Answer.{Answer}
-use Rattle.schedule_script.specs.declared.answer.Answer.TheVariants.{Did, Idle, Rounds, Shown, Traced}
+use Rattle.schedule_script.specs.declared.answer.Answer.TheVariants.{Idle, Rounds, Shown, Traced}
 use Rattle.network_model.specs.Setup.{Name, longest}
 use Rattle.network_model.specs.Session as session
 use Rattle.network_model.specs.Session.{Session, shut}
@@ -26,12 +25,10 @@ use Rattle.network_model.specs.Events.{event_of, is_node, lose, next, shown, unl
 use Rattle.net_model.specs.Seats.{Seat, seat_named}
 use Rattle.net_model.specs.Stands.{any_size}
 use Rattle.net_machine.specs.declared.ends.SessionEnds.{SessionEnds}
-use Rattle.net_machine.specs.Connections.{Connects, may_connect}
-use Rattle.net_machine.specs.Happenings.{ConnectsOn, DeliversOn, Edits, Happens, LosesOn, RestartsAt, SettlesAs}
-use Rattle.net_machine.specs.Happenings.{earlier_first, shown_at}
-use Rattle.net_machine.specs.Losses.{lost}
-use Rattle.net_machine.specs.Rounds.{IsRound}
-use Rattle.net_machine.specs.Seating.{ends_of, is_down, is_earlier, order_among, turned, waiting}
+use Rattle.net_machine.specs.Connections.{Connects}
+use Rattle.net_machine.specs.Happenings.{ConnectsOn, DeliversOn, Edits, Happens, LosesOn, RestartsAt}
+use Rattle.net_machine.specs.Happenings.{shown_at}
+use Rattle.net_machine.specs.Seating.{ends_of, order_among, turned}
 use Rattle.net_machine.specs.Settling.{Settles}
 use Rattle.net_machine.proofs.Connecting.{one_connected, other_earlier}
 use Rattle.net_machine.proofs.Delivering.{many_delivered, stays}

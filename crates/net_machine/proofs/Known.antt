@@ -1,10 +1,9 @@
 -- What is asked of the seats of a network at a moment is known of them.
-use Rattle.std.specs.Prelude.{◌≡◌, ◌≢◌, ◌<◌, ◌+◌, ◌==◌, ◌&&◌, ℕ, zero, suc, List, [], ◌∷◌, length, Bool, true, false, not, cond, IsTrue}
+use Rattle.std.specs.Prelude.{◌≡◌, ◌≢◌, ◌<◌, ◌+◌, ◌==◌, ◌&&◌, ℕ, zero, suc, List, [], ◌∷◌, length, Bool, true, false, not, cond}
 use Rattle.std.specs.declared.option.Option.{Option}
 use Rattle.std.specs.declared.option.Option.TheVariants.{Some, None}
 use Rattle.std.specs.Option.{option_map, unwrap_or}
-use Rattle.std.specs.List.{AllByRecursion}
-use Rattle.std.proofs.Common.{refl, sym, ◌∙◌, ap, subst, arith, inl, inr}
+use Rattle.std.proofs.Common.{refl, sym, ◌∙◌, ap, subst, arith, inr}
 use Rattle.std.proofs.lemmas.Bool.{and_parts, true≢false}
 use Rattle.std.proofs.lemmas.Option.{same_Some}
 use Rattle.ov_types.specs.First.{same_name}
@@ -19,7 +18,6 @@ use Rattle.network_model.specs.Session.{Session, arrived}
 use Rattle.network_model.specs.Network.{Network}
 use Rattle.network_model.specs.Steps as machine
 use Rattle.network_model.specs.Steps.{change_session, connect_if, deliver, in_flight, pass, session_of}
-use Rattle.network_model.specs.Events as events
 use Rattle.network_model.specs.Events.{Connect, Deliver, DeliverOctets, Break, Event, Edits as Changes, Lose, Restart}
 use Rattle.network_model.specs.Events.{Round, Settle, Show, Trace, is_node, next, shown}
 use Rattle.network_model.proofs.NetworkFact.{found}
@@ -38,11 +36,11 @@ use Rattle.net_steps.specs.Connecting.{OpensBoth}
 use Rattle.net_steps.specs.Delivering as deliveries
 use Rattle.net_steps.specs.Losing as losses
 use Rattle.net_machine.specs.declared.ends.SessionEnds.{SessionEnds}
-use Rattle.net_machine.specs.Connections.{Connects, ConnectsAt, ConnectsIf, Opens, OpensFar, OpensSecond, may_connect}
-use Rattle.net_machine.specs.Deliveries.{Delivers, DeliversIf, DeliversTo, TakesAt, TakesOctets}
-use Rattle.net_machine.specs.Happenings.{DiscardsUnless, Edits}
-use Rattle.net_machine.specs.Losses.{all_told, cut, lost, restarted, told_of_loss}
-use Rattle.net_machine.specs.Seating.{Discards, ends_of, is_down, turned, waiting}
+use Rattle.net_machine.specs.Connections.{ConnectsAt, ConnectsIf, OpensSecond, may_connect}
+use Rattle.net_machine.specs.Deliveries.{DeliversIf, DeliversTo, TakesAt}
+use Rattle.net_machine.specs.Happenings.{DiscardsUnless}
+use Rattle.net_machine.specs.Losses.{all_told, cut, restarted, told_of_loss}
+use Rattle.net_machine.specs.Seating.{ends_of, is_down}
 use Rattle.net_machine.proofs.Facts.{Facts, IsNotAfter, MayHappen}
 use Rattle.net_machine.proofs.Kept.{with_there}
 use Rattle.net_machine.proofs.KnownEnds.{all_stood, all_unbroken, closed_waits, ends_are_at, ends_turn, fact_of, no_session_of, says_of}

@@ -1,12 +1,10 @@
 -- What the ends of sessions are at a moment.
-use Rattle.std.specs.Prelude.{◌≡◌, ◌<◌, ◌&&◌, ◌==◌, ℕ, List, [], ◌∷◌, map, length, Bool, true, false, not, cond}
+use Rattle.std.specs.Prelude.{◌≡◌, ◌<◌, ◌&&◌, List, [], ◌∷◌, map, length, true, false, not, cond}
 use Rattle.std.specs.declared.option.Option.{Option}
 use Rattle.std.specs.declared.option.Option.TheVariants.{Some, None}
-use Rattle.std.specs.Option.{option_map}
 use Rattle.std.specs.List.{AllByRecursion}
 use Rattle.std.proofs.Common.{refl, sym, ◌∙◌, ap, subst, inl, inr, arith}
 use Rattle.std.proofs.lemmas.Option.{same_Some}
-use Rattle.config_check.specs.Checked.{Checked}
 use Rattle.headline_laws.specs.Headline.{IsWritten}
 use Rattle.headline_laws.proofs.Written.{sound_setup}
 use Rattle.network_model.specs.Setup.{Name}
@@ -22,18 +20,17 @@ use Rattle.network_model.proofs.NetworkFact.{after_sound, found}
 use Rattle.network_model.proofs.SessionFact.{Fact, Fact-turned, live_receiver}
 use Rattle.network_model.proofs.Start.{start_sound}
 use Rattle.network_model.proofs.Twins.{Found, NoTwins, found_each}
-use Rattle.net_model.specs.Seats.{Seat, far_of, is_down_at, live_at, others_of, place_of, seat, whole_at, whole_there}
-use Rattle.net_model.specs.Stands.{HasEnd, StandsFor, any_size}
+use Rattle.net_model.specs.Seats.{Seat, far_of, place_of, seat, whole_at, whole_there}
+use Rattle.net_model.specs.Stands.{StandsFor, any_size}
 use Rattle.net_model.specs.declared.place.Place.{Place}
 use Rattle.told_laws.specs.Moments.{IsMoment}
 use Rattle.told_laws.proofs.Moments.{moment_sessions, moment_written}
-use Rattle.seat_laws.specs.Wiring.{AreSeats, HasFar, HasSessions, IsFound, IsPlace, IsPlaceOf, name_at, other_at}
+use Rattle.seat_laws.specs.Wiring.{AreSeats, HasSessions, IsFound, IsPlace, name_at, other_at}
 use Rattle.seat_laws.proofs.Written.{far_is, has_far, place_is, session_without_place, sessions_found}
-use Rattle.net_steps.specs.Asking.{AreAt, SaysAt}
+use Rattle.net_steps.specs.Asking.{AreAt}
 use Rattle.net_machine.specs.declared.ends.SessionEnds.{SessionEnds}
-use Rattle.net_machine.specs.Connections.{may_connect}
-use Rattle.net_machine.specs.Seating.{ends_at, ends_from, ends_of, is_down, turned}
-use Rattle.net_machine.proofs.Facts.{IsStood, Says, SaysOf}
+use Rattle.net_machine.specs.Seating.{ends_at, ends_from, ends_of, turned}
+use Rattle.net_machine.proofs.Facts.{IsStood, SaysOf}
 use Rattle.net_machine.proofs.Proved.{Proved}
 
 -- ---- ends by their places

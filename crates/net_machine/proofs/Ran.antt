@@ -1,9 +1,8 @@
 -- A network that runs takes an event.
-use Rattle.std.specs.Prelude.{◌≡◌, ◌<◌, ◌++◌, ℕ, List, [], ◌∷◌, map, length, Bool, true, false, IsTrue}
-use Rattle.std.specs.declared.option.Option.{Option}
+use Rattle.std.specs.Prelude.{◌≡◌, ◌<◌, ◌++◌, List, [], ◌∷◌, map, length, IsTrue}
 use Rattle.std.specs.declared.option.Option.TheVariants.{Some, None}
 use Rattle.std.specs.List.{All, cons_option}
-use Rattle.std.proofs.Common.{refl, sym, ◌∙◌, ap, subst, arith}
+use Rattle.std.proofs.Common.{refl, sym, ◌∙◌, subst, arith}
 use Rattle.std.proofs.lemmas.List.Elements.{All-cons}
 use Rattle.config_model.specs.declared.event.Event.{Event}
 use Rattle.config_model.specs.declared.event.Event.TheVariants.{Edit, Deliver, Lose, Connect, Restart, Round, Settle, Show, Trace}
@@ -14,7 +13,6 @@ use Rattle.schedule_script.specs.declared.answer.Answer.{Answer}
 use Rattle.network_model.specs.Session.{Session}
 use Rattle.network_model.specs.Network.{Network, start}
 use Rattle.network_model.specs.Events.{after, answer_to, event_of, next}
-use Rattle.network_model.specs.Moments.{nodes}
 use Rattle.network_model.specs.Steps as machine
 use Rattle.network_model.proofs.NodesFact.{after_nodes}
 use Rattle.net_model.specs.Seats.{Configuring, Seat, Who, seat, whos}
@@ -30,7 +28,7 @@ use Rattle.net_machine.specs.Running.{IsRunning}
 use Rattle.net_machine.specs.Seating.{AreLong, AreSeated, IsConfigured, Keeps, ends_of, order_among, order_of}
 use Rattle.net_machine.specs.Settling.{is_settled}
 use Rattle.net_machine.proofs.Carried.{found_seated}
-use Rattle.net_machine.proofs.Facts.{At, MayHappen}
+use Rattle.net_machine.proofs.Facts.{MayHappen}
 use Rattle.net_machine.proofs.Forms.{edit_form}
 use Rattle.net_machine.proofs.Given.{facts}
 use Rattle.net_machine.proofs.Happening.{Makes, happens}

@@ -1,11 +1,8 @@
 -- What a round makes of the state for which seats stand.
-use Rattle.std.specs.Prelude.{◌≡◌, ◌++◌, ℕ, List, [], ◌∷◌, map, Bool, true, false, cond}
-use Rattle.std.specs.declared.option.Option.{Option}
-use Rattle.std.specs.declared.option.Option.TheVariants.{Some, None}
+use Rattle.std.specs.Prelude.{◌≡◌, List, [], ◌∷◌, map}
 use Rattle.std.specs.List.{AllByRecursion, cons_option, filter_map, flat_map}
 use Rattle.std.proofs.Common.{refl, sym, ◌∙◌, ap, subst}
 use Rattle.std.proofs.lemmas.Option.{same_Some}
-use Rattle.network_model.specs.Setup.{Name}
 use Rattle.network_model.specs.Session as session
 use Rattle.network_model.specs.Session.{Session}
 use Rattle.network_model.specs.Network.{Network}
@@ -14,11 +11,10 @@ use Rattle.network_model.specs.Steps.{Due as Waiting, round}
 use Rattle.network_model.specs.Moments.{Nodes, nodes}
 use Rattle.net_model.specs.Seats.{Seat}
 use Rattle.net_machine.specs.declared.ends.SessionEnds.{SessionEnds}
-use Rattle.net_machine.specs.declared.round.Due.{Due}
 use Rattle.net_machine.specs.Rounds.{IsRound, due_at, dues}
 use Rattle.net_machine.specs.Seating.{Keeps, ends_of, order_among, turned}
 use Rattle.net_machine.proofs.Delivering.{AreDue, IsDue, all_delivered}
-use Rattle.net_machine.proofs.Facts.{At, Facts, IsStood, Says, SaysOf}
+use Rattle.net_machine.proofs.Facts.{At, Facts, IsStood, Says}
 
 -- ---- the order of a round goes by names alone
 among_names : (seats : List Seat) (ss : List Session)

@@ -1,16 +1,15 @@
 -- The places of nodes and of sessions that are found are places that there are.
-use Rattle.std.specs.Prelude.{◌≡◌, ◌+◌, ◌<◌, ◌≤◌, ℕ, zero, suc, List, [], ◌∷◌, length, Bool, true, false, cond}
+use Rattle.std.specs.Prelude.{◌≡◌, ◌+◌, ◌<◌, ◌≤◌, ℕ, suc, List, [], ◌∷◌, length, Bool, true, false, cond}
 use Rattle.std.specs.declared.option.Option.{Option}
 use Rattle.std.specs.declared.option.Option.TheVariants.{Some, None}
-use Rattle.std.proofs.Common.{refl, sym, ◌∙◌, ap, subst, arith}
+use Rattle.std.proofs.Common.{refl, subst, arith}
 use Rattle.std.proofs.lemmas.Option.{same_Some}
 use Rattle.ov_types.specs.First.{same_name}
 use Rattle.network_model.specs.Setup.{Name}
 use Rattle.net_model.specs.Seats.{Seat, far_of, index_from, name_of, other, others_of, place_at, place_of, seat, seat_named}
 use Rattle.net_model.specs.Seats.{session_with}
 use Rattle.net_model.specs.declared.place.Place.{Place}
-use Rattle.net_machine.specs.declared.ends.SessionEnds.{SessionEnds}
-use Rattle.net_machine.specs.Seating.{AreLong, AreSeated, IsSeated, ends_of}
+use Rattle.net_machine.specs.Seating.{AreLong, AreSeated, IsSeated}
 
 -- what is found stands in the list
 pub index_within : {A : Type 0} → (is : A → Bool) (xs : List A) (i k : ℕ) → index_from i is xs ≡ Some k

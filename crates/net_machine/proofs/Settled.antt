@@ -1,6 +1,6 @@
 -- What settling makes of the state for which seats stand.
-use Rattle.std.specs.Prelude.{◌≡◌, ◌+◌, ℕ, zero, suc, List, map, Bool, true, false, cond, MatchBool}
-use Rattle.std.proofs.Common.{refl, sym, ◌∙◌, ap, subst}
+use Rattle.std.specs.Prelude.{◌≡◌, ◌+◌, ℕ, zero, suc, List, map, true, false, cond, MatchBool}
+use Rattle.std.proofs.Common.{sym, ◌∙◌, ap, subst}
 use Rattle.network_model.specs.Setup.{longest}
 use Rattle.network_model.specs.Session.{Session}
 use Rattle.network_model.specs.Network.{Network}
@@ -12,7 +12,7 @@ use Rattle.net_model.specs.Seats.{Seat}
 use Rattle.net_machine.specs.declared.ends.SessionEnds.{SessionEnds}
 use Rattle.net_machine.specs.Rounds.{IsRound}
 use Rattle.net_machine.specs.Seating.{Keeps, order_among}
-use Rattle.net_machine.specs.Settling.{RoundsFrom, Settles, is_quiet}
+use Rattle.net_machine.specs.Settling.{RoundsFrom, Settles}
 use Rattle.net_machine.proofs.Connecting.{all_connected, are_next}
 use Rattle.net_machine.proofs.Facts.{At, Facts}
 use Rattle.net_machine.proofs.Kept.{among_kept}

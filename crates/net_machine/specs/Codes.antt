@@ -1,5 +1,5 @@
 -- How networks that run are told apart: by the codes of their parts.
-use Rattle.std.specs.Prelude.{◌≡◌, List, Bool, refl}
+use Rattle.std.specs.Prelude.{List, Bool, refl}
 use Rattle.std.specs.Coded.{Coded, code_by, coded×, coded_bool, coded_list}
 use Rattle.config_check.specs.Checked.{Checked}
 use Rattle.config_check.specs.contracts.valid.Valid as valid

@@ -1,5 +1,5 @@
 -- What the loss of a session and the restart of a node make of a network.
-use Rattle.std.specs.Prelude.{ℕ, zero, suc, ◌+◌, List, [], length, Bool, true, if◌then◌else◌}
+use Rattle.std.specs.Prelude.{ℕ, zero, suc, ◌+◌, List, [], length, true, if◌then◌else◌}
 use Rattle.std.specs.declared.option.Option.{Option}
 use Rattle.std.specs.declared.option.Option.TheVariants.{Some, None}
 use Rattle.net_model.specs.Seats.{Seat, far_of, live_at, seat}

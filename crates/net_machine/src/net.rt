@@ -46,9 +46,9 @@ fn copied(alloc: Global, valid: &Valid) -> Result<Valid, NoMemory>
     }
 }
 
-/// The nodes of a topology over queue links, with the events that they took. Contracts see the opening configuration, the
-/// events, the nodes' seats, and whether memory was wanting in an event: after that every event fails. The seats stand for
-/// the state that the network's machine has after these events.
+/// The nodes of a topology over queue links, with the events that they took. Contracts see the opening configuration,
+/// the events, the nodes' seats, and whether memory was wanting in an event: after that every event fails. The seats
+/// stand for the state that the network's machine has after these events.
 #[derive(Drop)]
 pub struct Net {
     alloc: Global,

@@ -3,7 +3,8 @@ ghost use Rattle.std.specs.Prelude.{◌≡◌, ◌≤◌, ◌++◌, ◌∷◌, [
 ghost use Rattle.std.specs.List.{All};
 ghost use Rattle.network_model.specs.Network as network;
 ghost use Rattle.network_model.specs.Network.{accesses, config, feeds, peerings};
-ghost use Rattle.net_machine.specs.Seating.{AreLong, AreSeated, accesses_of, ends_of, order_among, order_of, peerings_of};
+ghost use Rattle.net_machine.specs.Seating.{AreLong, AreSeated, accesses_of, ends_of, order_among, order_of};
+ghost use Rattle.net_machine.specs.Seating.{peerings_of};
 
 use crate::ends::{SessionEnds, ends_of};
 use config_check::Valid;

@@ -76,8 +76,8 @@ fn rounds<S: Stations>(
     Ok(done)
 }
 
-/// One round, then every session that may be is connected, and then rounds until nothing is in flight, at most 6 more in
-/// all than the longest chain in effect has services. Answers the number of rounds.
+/// One round, then every session that may be is connected, and then rounds until nothing is in flight, at most 6 more
+/// in all than the longest chain in effect has services. Answers the number of rounds.
 pub(crate) fn settle<S: Stations>(
     alloc: Global,
     stations: &mut S,

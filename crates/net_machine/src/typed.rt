@@ -34,8 +34,8 @@ fn know_edit(edit: &Edit)
     }
 }
 
-/// Reads each subnet of an event, and changes nothing: what is known after it is that each address is of 32 bits, as its
-/// type has it.
+/// Reads each subnet of an event, and changes nothing: what is known after it is that each address is of 32 bits, as
+/// its type has it.
 pub(crate) fn know_subnets(event: &Event)
     ensures { IsTrue (event_fits event.now) }
 {

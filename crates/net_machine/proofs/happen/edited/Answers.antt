@@ -1,4 +1,4 @@
-use Rattle.std.proofs.Common.{◌≡◌, sym, ◌∙◌, ap, subst, arith, not}
+use Rattle.std.proofs.Common.{sym, ◌∙◌, ap, subst, arith, not}
 use Rattle.net_machine.specs.Happenings.{Edits}
 use Rattle.net_machine.specs.Seating.{Keeps}
 use Rattle.net_machine.proofs.Editing.{edit_keeps, edit_made, edit_refused}

@@ -1,9 +1,9 @@
-use Rattle.std.proofs.Common.{◌≡◌, ◌+◌, List, ◌∷◌, max, drop, refl, sym, ◌∙◌, ap, arith, get_or}
-use Rattle.std.proofs.lemmas.List.{at_drop_more, drop_all, get_or_read}
-use Rattle.std.specs.List.{filter_map, cons_option}
+use Rattle.std.proofs.Common.{◌≡◌, ◌+◌, List, ◌∷◌, max, drop, sym, ◌∙◌, ap, arith}
+use Rattle.std.proofs.lemmas.List.{at_drop_more, drop_all}
+use Rattle.std.specs.List.{filter_map}
 use Rattle.config_model.specs.declared.config.Rule.{Rule}
 use Rattle.network_model.specs.Setup.{longest_of}
-use Rattle.transform_model.specs.Uses.{Use, use_by, uses_of}
+use Rattle.transform_model.specs.Uses.{use_by}
 use Rattle.net_machine.proofs.Along.{longest_more}
 use Rattle.net_machine.proofs.longest.longest_by.Goals as goal
 

@@ -1,4 +1,4 @@
-use Rattle.std.proofs.Common.{◌≡◌, ◌++◌, refl, sym, ◌∙◌, ap}
+use Rattle.std.proofs.Common.{◌≡◌, ◌++◌, refl, ◌∙◌, ap}
 use Rattle.std.specs.Option.{option_to_list}
 use Rattle.ov_types.specs.declared.rows.NodeId.{NodeId}
 use Rattle.network_model.specs.Network.{config, feeds}

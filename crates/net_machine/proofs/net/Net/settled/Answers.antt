@@ -1,9 +1,8 @@
-use Rattle.std.proofs.Common.{◌≡◌, sym, ◌∙◌, ap, subst}
+use Rattle.std.proofs.Common.{sym, ◌∙◌, ap, subst}
 use Rattle.std.specs.List.{All}
 use Rattle.network_model.specs.Steps as machine
 use Rattle.net_model.specs.Stands.{moment}
 use Rattle.net_machine.specs.NetState.{NetState}
-use Rattle.net_machine.specs.Running.{IsRunning}
 use Rattle.net_machine.specs.Seating.{AreSeated}
 use Rattle.net_machine.specs.Settling.{is_settled}
 use Rattle.net_machine.specs.Shown.{ShowsCompiled}

@@ -1,8 +1,6 @@
-use Rattle.std.proofs.Common.{◌≡◌, List, refl, sym, ◌∙◌, ap, subst}
+use Rattle.std.proofs.Common.{List, sym, ◌∙◌, ap, subst}
 use Rattle.std.specs.List.{All}
 use Rattle.network_model.specs.Events.{answer_to, event_of}
-use Rattle.config_check.specs.Checked.{Checked}
-use Rattle.net_model.specs.Seats.{Configuring, seat}
 use Rattle.net_model.specs.Stands.{moment}
 use Rattle.net_machine.specs.declared.ends.SessionEnds.{SessionEnds}
 use Rattle.net_machine.specs.Happenings.{Happens}
