@@ -91,5 +91,3 @@ ffffffffffffffffffffffffffffffff0054 02 0000 003d4001010040020040050400000064
     ];
     each_is_answered(&rt, rt.alloc(), "decode", &cases)
 }
-
-/// What `compile` writes of equal addresses.

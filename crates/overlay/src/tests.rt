@@ -290,6 +290,7 @@ fn packets_are_required(rt: HostRuntime) -> Result<(), Fail> {
     Ok(())
 }
 
+/// What `compile` writes of equal addresses.
 const EQUAL_ADDRESSES_TEXT: &str = "\
 instance 1 imports 1
 instance 2 imports 2
