@@ -68,7 +68,11 @@ pub(crate) fn value_of(alloc: Global, octets: &[u8]) -> Result<Option<Value>, No
 
 /// Writes the one line of what is not fit.
 #[tactic(auto, using(ov_io::proofs::PieceLemmas::took_nothing))]
-pub(crate) fn write_unfit<K: Sink>(alloc: Global, unfit: Unfit, sink: &mut K) -> Result<Verdict, WriteRefusal>
+pub(crate) fn write_unfit<K: Sink>(
+    alloc: Global,
+    unfit: Unfit,
+    sink: &mut K,
+) -> Result<Verdict, WriteRefusal>
     ensures given { (answer : Answer) → IsAnswered unfit answer
         → IfOk result (λ verdict. WasGiven answer verdict (K.taken sink.old) (K.taken sink.new)) }
     ensures front { (answer : Answer) → IsAnswered unfit answer

@@ -16,12 +16,8 @@ mod decode_tests;
 mod decoding;
 #[cfg(test)]
 mod end_tests;
-#[cfg(test)]
-mod first_schedules;
 mod laws;
 mod lines;
-#[cfg(test)]
-mod more_schedules;
 mod outcomes;
 #[cfg(test)]
 mod run_cases;

@@ -1,5 +1,7 @@
 //! Documents of `run`, each with what it writes.
-use crate::first_schedules::Schedule;
+
+/// A document of `run`, and what it writes.
+pub(crate) type Schedule = (&'static str, &'static str);
 
 /// No events.
 pub(crate) const NO_EVENTS: Schedule = (

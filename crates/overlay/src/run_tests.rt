@@ -1,9 +1,7 @@
 //! Whole runs of `run`, over memory.
-use crate::first_schedules::{FIRST, Schedule};
-use crate::more_schedules::MORE;
 use crate::run_cases::{
     AGGREGATE_GOES, CHAIN_SETTLES, CHAIN_SHOWN_BY_THE_OTHER, CONNECT_AND_LOSE, EDITS_ANSWERED,
-    EQUAL_ADDRESSES_STAY_APART, LOST_SESSION, NO_EVENTS, TWO_CONTROL_NODES,
+    EQUAL_ADDRESSES_STAY_APART, LOST_SESSION, NO_EVENTS, Schedule, TWO_CONTROL_NODES,
 };
 use crate::tests::{Case, ran};
 use crate::top::{Status, overlay};
@@ -46,16 +44,6 @@ fn a_chain_settles_through_two_control_nodes(rt: HostRuntime) -> Result<(), Fail
     each_runs(&rt, rt.alloc(), &schedules)
 }
 
-#[test]
-fn schedules_are_answered(rt: HostRuntime) -> Result<(), Fail> {
-    each_runs(&rt, rt.alloc(), &FIRST)
-}
-
-#[test]
-fn further_schedules_are_answered(rt: HostRuntime) -> Result<(), Fail> {
-    each_runs(&rt, rt.alloc(), &MORE)
-}
-
 /// How a run of a document ended, and the network that it left.
 fn left(alloc: Global, document: &str, failing: &[u64]) -> Result<(Status, Option<Net>), Fail> {
     let words = vec![in alloc; String::from_str(alloc, "run")?]?;
@@ -67,28 +55,36 @@ fn left(alloc: Global, document: &str, failing: &[u64]) -> Result<(Status, Optio
     Ok((status, net))
 }
 
+/// Whether a network is settled, and took the four events of a chain that settles.
+fn took_the_chain(net: &Net) -> bool {
+    if net.failed() || net.opening().topology().asn != 64512 {
+        return false;
+    }
+    let [first, second, third, fourth] = net.events() else {
+        return false;
+    };
+    matches!(first, Event::Settle)
+        && matches!(second, Event::Show { .. })
+        && matches!(third, Event::Trace(_))
+        && matches!(fourth, Event::Trace(_))
+        && net.settled()
+}
+
 #[test]
 fn the_network_that_took_the_events_is_left(rt: HostRuntime) -> Result<(), Fail> {
     let (ended, net) = left(rt.alloc(), CHAIN_SETTLES.0, &[])?;
-    assert_eq!(rt; ended, Status::Done);
-    let net = net.ok_or("a network")?;
-    assert_eq!(rt; net.opening().topology().asn, 64512);
-    assert!(rt; net.settled());
-    let [first, second, third, fourth] = net.events() else {
-        return Err(Fail::new("four events"));
+    let took = match &net {
+        Some(net) => took_the_chain(net),
+        None => false,
     };
-    assert!(rt; matches!(first, Event::Settle));
-    assert!(rt; matches!(second, Event::Show { .. }));
-    assert!(rt; matches!(third, Event::Trace(_)));
-    assert!(rt; matches!(fourth, Event::Trace(_)));
+    assert!(rt; took && ended == Status::Done);
     Ok(())
 }
 
 #[test]
 fn no_network_is_left_of_a_run_that_fails(rt: HostRuntime) -> Result<(), Fail> {
     let (ended, net) = left(rt.alloc(), CHAIN_SETTLES.0, &[1])?;
-    assert_eq!(rt; ended, Status::WriteFault);
-    assert!(rt; net.is_none());
+    assert!(rt; net.is_none() && ended == Status::WriteFault);
     Ok(())
 }
 

@@ -170,7 +170,11 @@ const PAIR_PACKETS: &str = r#"[
 ]"#;
 
 /// A document of a topology and a configuration.
-pub(crate) fn document(alloc: Global, topology: &str, configuration: &str) -> Result<String, AllocError> {
+pub(crate) fn document(
+    alloc: Global,
+    topology: &str,
+    configuration: &str,
+) -> Result<String, AllocError> {
     format!(in alloc; r#"{{"topology":{topology},"configuration":{configuration}}}"#)
 }
 
@@ -586,7 +590,10 @@ fn other_words_are_usage(rt: HostRuntime) -> Result<(), Fail> {
         overlay(alloc, words.as_slice(), &mut source, &mut sink, &mut None),
         Status::Usage
     );
-    assert_eq!(rt; overlay(alloc, none, &mut source, &mut sink, &mut None), Status::Usage);
+    assert_eq!(rt;
+        overlay(alloc, none, &mut source, &mut sink, &mut None),
+        Status::Usage
+    );
     Ok(())
 }
 
