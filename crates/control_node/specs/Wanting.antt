@@ -38,4 +38,5 @@ kind plan = record { wanted = wanted plan; may_send = may_send plan; spelled = s
 -- an idle end may not send
 pub idle_is_silent : (plan : ControlPlan) (i : ℕ) → may_send plan i Idle ≡ false
 idle_is_silent plan i =
-    elim (is_peer plan i) as (λ b. (if b then is_up Idle else not (is_idle Idle)) ≡ false) [ true ↦ refl | false ↦ refl ]
+    elim (is_peer plan i) as (λ b. (if b then is_up Idle else not (is_idle Idle)) ≡ false)
+    [ true ↦ refl | false ↦ refl ]

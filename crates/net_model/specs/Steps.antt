@@ -32,8 +32,8 @@ BeginsAt (Configuring x) i p input given = (c : Option ItemCause) × configurati
 BeginsAt (Controlling plan) i p input given = (c : Option NodeCause) × control.Begins plan i p input given c
 BeginsAt (Forwarding plan) i p input given = (c : Option ItemCause) × agent.Begins plan i p input given c
 
--- ---- a step over links of which none fails: the replies are sent on the session of the input, and then each session is
--- told what is wanted as the pass begins
+-- ---- a step over links of which none fails: the replies are sent on the session of the input, and then each session
+-- is told what is wanted as the pass begins
 pub record IsStepped (n n' : Seat) (session : ℕ) (given : Begun) : Type 0 where
   pub who : n'.who ≡ n.who
   pub notices : n'.notices ≡ n.notices
@@ -60,7 +60,8 @@ with_seat k n seats = slice_set seats k n
 
 abbrev pub with_link : Place → List (List ℕ) → List Seat → List Seat
 with_link p messages seats =
-    with_seat p.node (record (seat seats p.node) { links = slice_set (seat seats p.node).links p.session messages }) seats
+    with_seat p.node (record (seat seats p.node) { links = slice_set (seat seats p.node).links p.session messages })
+    seats
 
 abbrev pub with_notice : Place → Bool → List Seat → List Seat
 with_notice p waits seats =
@@ -89,8 +90,8 @@ emptied n = record {
   notices = all_of false n.notices;
 }
 
--- ---- an edit at the configuration node, whose number is 0: a fault changes nothing, and else every control node is told
--- what the edited configuration wants
+-- ---- an edit at the configuration node, whose number is 0: a fault changes nothing, and else every control node is
+-- told what the edited configuration wants
 abbrev pub MakesEdit : List Seat → Checked → Edit → Option EditFault → List Seat → Type 0
 MakesEdit seats x e (Some f) seats' = seats' ≡ seats
 MakesEdit seats x e None seats' =

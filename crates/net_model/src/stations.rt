@@ -1,5 +1,6 @@
 //! The nodes of a network, with their links.
-ghost use Rattle.std.specs.Prelude.{◌≡◌, ◌<◌, ◌≤◌, ℕ, List, Bool, [], true, false, drop, length, slice_get, IfOk, IsTrue};
+ghost use Rattle.std.specs.Prelude.{◌≡◌, ◌<◌, ◌≤◌, ℕ, List, Bool, [], true, false, drop, length, slice_get};
+ghost use Rattle.std.specs.Prelude.{IfOk, IsTrue};
 ghost use Rattle.config_model.specs.Edit.{has_edit_form};
 ghost use Rattle.config_check.specs.Checked.{Checked};
 ghost use Rattle.config_check.specs.Edits.{edit_fault};
@@ -17,9 +18,9 @@ use config_model::Edit;
 use ov_link::Input;
 use ov_types::{Name, NoMemory, NodeRows, Outcome, Packet};
 
-/// The nodes of a network by their numbers: the configuration node is 0, then come the control nodes and then the agents,
-/// both in the order of the topology. Each has a link for each of its sessions, and at each end a notice of loss may
-/// wait.
+/// The nodes of a network by their numbers: the configuration node is 0, then come the control nodes and then the
+/// agents, both in the order of the topology. Each has a link for each of its sessions, and at each end a notice of loss
+/// may wait.
 pub trait Stations {
     /// What each node has.
     ghost seats: { Self → List Seat };
@@ -115,8 +116,8 @@ pub trait Stations {
     fn valid(&self) -> &Valid
         ensures { (seat (seats self.now) 0).who ≡ Configuring result.now };
 
-    /// Makes an edit at the configuration node, unless it has a fault, and tells each control node what the configuration
-    /// wants then.
+    /// Makes an edit at the configuration node, unless it has a fault, and tells each control node what the
+    /// configuration wants then.
     fn edit(&mut self, edit: &Edit) -> Result<Option<EditFault>, NoMemory>
         requires form { IsTrue (has_edit_form edit.now) }
         ensures made { IfOk result (λ fault. (x : Checked) → (seat (seats self.old) 0).who ≡ Configuring x

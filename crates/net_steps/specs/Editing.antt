@@ -17,7 +17,8 @@ use Rattle.told_laws.specs.Moments.{IsMoment, IsOfTypedForm}
 abbrev pub EditsAreMade : Type 0
 EditsAreMade =
     (seats : List Seat) (w : Network) → IsMoment w → StandsFor seats w → (e : Edit)
-    → EditIsValid IsOfTypedForm w (Edits e) → edit_fault w.setup e ≡ None → (made : List Seat) → MakesEdit seats w.setup e None made
+    → EditIsValid IsOfTypedForm w (Edits e) → edit_fault w.setup e ≡ None
+    → (made : List Seat) → MakesEdit seats w.setup e None made
     → (left : Seat) → IsDiscarded made 0 left
     → StandsFor (with_seat 0 left made) (next any_size w (Edits e)) × IsMoment (next any_size w (Edits e))
     × (answer_to w (Edits e) ≡ Did)

@@ -23,8 +23,8 @@ Comes IsLive IsIdle (input.Bytes session bytes) = IsLive session
 Comes IsLive IsIdle (input.Closed session) = IsLive session
 
 module _ {L : Type 0} (accepted : L → Option (List (List ℕ))) (breaks : L → Option (List ℕ)) (faults : L → ℕ) where
-  -- an input makes this of its session, perhaps with a cause for which it goes down; then the step is taken, and answered
-  -- by the lowest link that failed, else by the cause
+  -- an input makes this of its session, perhaps with a cause for which it goes down; then the step is taken, and
+  -- answered by the lowest link that failed, else by the cause
   pub record IsWholeStep {C : Type 0} (k : Kind) (Begins : Begun → Option C → Type 0) (posts posts' : List Post)
       (session : ℕ) (links links' : List L) (result : Result (Stepped C) NodeFault) : Type 0 where
     pub given : Begun
