@@ -6,7 +6,6 @@ pub mod SomeReport
 pub mod Telling
 pub mod Ways
 pub mod SomeText
-pub mod AsCompiled
 pub mod Scheduled
 pub mod Unfit
 pub mod Left

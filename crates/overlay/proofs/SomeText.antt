@@ -8,10 +8,10 @@ use Rattle.bgp_wire.specs.Messages.{AreOctets}
 use Rattle.ov_io.specs.Pieces.{TookFrontOf}
 use Rattle.ov_io.proofs.PieceLemmas.{took_nothing}
 use Rattle.overlay.specs.declared.command.Command.{Command}
-use Rattle.overlay.specs.declared.command.Command.TheVariants.{Compile, Reach, Run, Decode}
+use Rattle.overlay.specs.declared.command.Command.TheVariants.{Compile, Reach, Run, Decode, Gen}
 use Rattle.overlay.specs.Decoding.{spelled, without_blanks}
-use Rattle.overlay.specs.Answers.{compile_answer, reach_answer, run_answer, Writes, WritesSpelled}
-use Rattle.overlay.specs.Runs.{OfInput}
+use Rattle.overlay.specs.Answers.{compile_answer, gen_answer, reach_answer, run_answer, Writes, WritesSpelled}
+use Rattle.overlay.specs.Runs.{OfInput, OfOctets, input_to}
 use Rattle.overlay.proofs.SomeReport.{some_report}
 
 ok_from : (r : Result (List ℕ) FromHexError) (octets : List ℕ) → result_ok r ≡ Some octets → r ≡ Ok octets
@@ -42,12 +42,17 @@ some_text Compile octets = ((compile_answer octets).text, refl)
 some_text Reach octets = ((reach_answer octets).text, refl)
 some_text Run octets = ((run_answer octets).text, refl)
 some_text Decode octets = text_spelled octets (spelled octets) refl
+some_text (Gen n) octets = ((gen_answer n).text, refl)
 
 -- nothing is a front of it
+text_of_octets : (command : Command) (old : Option (List ℕ)) (o : Option (List ℕ))
+    → OfOctets o (λ octets. TookFrontOf (Writes command octets) old old)
+text_of_octets command old None = tt
+text_of_octets command old (Some octets) =
+    let some = some_text command octets in
+    record { text = some.0; is = some.1; taken = took_nothing old some.0 }
+
 pub nothing_written : (o : Option Command) (held : Option (List ℕ)) (command : Command) (old : Option (List ℕ)) → o ≡ Some command
     → OfInput o held (λ c octets. TookFrontOf (Writes c octets) old old)
 nothing_written None held command old e = absurd cc
-nothing_written (Some c) None command old e = tt
-nothing_written (Some c) (Some octets) command old e =
-    let some = some_text c octets in
-    record { text = some.0; is = some.1; taken = took_nothing old some.0 }
+nothing_written (Some c) held command old e = text_of_octets c old (input_to c held)

@@ -16,12 +16,14 @@ use Rattle.overlay.specs.declared.answer.Verdict.TheVariants.{Good, NotJson, Bad
 use Rattle.overlay.specs.declared.answer.Unfit.{Unfit}
 use Rattle.overlay.specs.declared.answer.Unfit.TheVariants as unfit
 use Rattle.overlay.specs.declared.command.Command.{Command}
-use Rattle.overlay.specs.declared.command.Command.TheVariants.{Compile, Reach, Run, Decode}
+use Rattle.overlay.specs.declared.command.Command.TheVariants.{Compile, Reach, Run, Decode, Gen}
 use Rattle.overlay.specs.Decoding.{spelled, IsReport}
 use Rattle.overlay.specs.Json.{json_of}
 use Rattle.overlay.specs.Lines.{compile_text}
 use Rattle.overlay.specs.Outcomes.{reach_text}
 use Rattle.overlay.specs.Schedules.{run_text}
+use Rattle.overlay.specs.Generating.{summary_text}
+use Rattle.scenario_gen.specs.Scenario.{scenario}
 
 -- what an input is found to be, and the text that is written of it
 pub record Answer : Type 0 where
@@ -107,6 +109,10 @@ reach_answer octets = of_json reach_value (json_of octets)
 unfoldable pub run_answer : List ℕ → Answer
 run_answer octets = of_json run_value (json_of octets)
 
+-- what `gen` answers of a scenario
+unfoldable pub gen_answer : ℕ → Answer
+gen_answer n = answer_checked (first_broken (scenario n).topology (scenario n).config) (summary_text n)
+
 -- what a text is found to be that spells octets, or none
 abbrev pub decode_verdict : Option (List ℕ) → Verdict
 decode_verdict None = NotJson
@@ -123,6 +129,7 @@ verdict_of Compile octets = (compile_answer octets).verdict
 verdict_of Reach octets = (reach_answer octets).verdict
 verdict_of Run octets = (run_answer octets).verdict
 verdict_of Decode octets = decode_verdict (spelled octets)
+verdict_of (Gen n) octets = (gen_answer n).verdict
 
 -- the text is what a command writes of an input
 unfoldable pub Writes : Command → List ℕ → List ℕ → Type 0
@@ -130,3 +137,4 @@ Writes Compile octets text = text ≡ (compile_answer octets).text
 Writes Reach octets text = text ≡ (reach_answer octets).text
 Writes Run octets text = text ≡ (run_answer octets).text
 Writes Decode octets text = WritesSpelled (spelled octets) text
+Writes (Gen n) octets text = text ≡ (gen_answer n).text

@@ -2,6 +2,7 @@ pub mod Json
 pub mod Lines
 pub mod Outcomes
 pub mod Schedules
+pub mod Generating
 pub mod Decoding
 pub mod Reporting
 pub mod Answers

@@ -1,4 +1,4 @@
--- What `run` leaves behind, and what it is told by.
+-- What `run` and `gen` leave behind and promise.
 use Rattle.std.specs.Prelude.{◌≡◌, ℕ, List, [], false, ⊤}
 use Rattle.std.specs.declared.option.Option.{Option}
 use Rattle.std.specs.declared.option.Option.TheVariants.{Some, None}
@@ -17,9 +17,13 @@ use Rattle.net_model.specs.Stands.{StandsFor, moment}
 use Rattle.overlay.specs.declared.answer.Verdict.{Verdict}
 use Rattle.overlay.specs.declared.answer.Verdict.TheVariants.{Good}
 use Rattle.overlay.specs.declared.command.Command.{Command}
-use Rattle.overlay.specs.declared.command.Command.TheVariants.{Run}
+use Rattle.overlay.specs.declared.command.Command.TheVariants.{Run, Gen}
 use Rattle.overlay.specs.Json.{json_of}
-use Rattle.overlay.specs.Schedules.{AreAsCompiled, lines_from}
+use Rattle.schedule_laws.specs.Compiled.{AreAsCompiled, answers}
+use Rattle.scenario_run.specs.Agreed.{PacketsAgree}
+use Rattle.scenario_run.specs.Scheduled.{opening, schedule}
+use Rattle.overlay.specs.Generating.{summary_text}
+use Rattle.overlay.specs.Schedules.{lines_from}
 
 -- the opening configuration of an input, with its topology
 abbrev pub opening_of : RunInput → Checked
@@ -36,9 +40,9 @@ pub record AreReadAs (octets : List ℕ) (r : RunInput) : Type 0 where
   pub read : run_at [] value ≡ Ok r
 
 -- a network with this opening configuration took these events, and is in the state that they lead to
-pub record HasTaken (r : RunInput) (n : NetState) : Type 0 where
-  pub opening : n.opening ≡ opening_of r
-  pub events : n.events ≡ r.events
+pub record HasTaken (x : Checked) (es : List Event) (n : NetState) : Type 0 where
+  pub opening : n.opening ≡ x
+  pub events : n.events ≡ es
   pub works : n.failed ≡ false
   pub state : StandsFor n.seats (moment n.opening n.events)
 
@@ -48,11 +52,18 @@ pub record IsLeftOf (octets : List ℕ) (left : Option NetState) : Type 0 where
   pub read : AreReadAs octets input
   pub net : NetState
   pub is_left : left ≡ Some net
-  pub took : HasTaken input net
+  pub took : HasTaken (opening_of input) input.events net
 
--- only `run` leaves a network
+-- the network that `gen` leaves of a scenario: it took the scenario's events, and then a trace for each of its packets
+pub record IsLeftOfScenario (n : ℕ) (left : Option NetState) : Type 0 where
+  pub net : NetState
+  pub is_left : left ≡ Some net
+  pub took : HasTaken (opening n) (schedule n) net
+
+-- only these two leave a network
 abbrev pub Leaves : Command → List ℕ → Option NetState → Type 0
 Leaves Run octets left = IsLeftOf octets left
+Leaves (Gen n) octets left = IsLeftOfScenario n left
 Leaves command octets left = left ≡ None
 
 -- and only where all was written
@@ -68,8 +79,16 @@ pub record TookAnswers (octets : List ℕ) (old new : Option (List ℕ)) : Type 
   pub taken : Appends old new (lines_from 1 input.events answered)
   pub compiled : AreAsCompiled (opening_of input) input.events answered
 
+-- what was taken is the summary of a scenario, whose answers are as compiled: each of its packets has the outcome that
+-- policies give
+pub record TookSummary (n : ℕ) (old new : Option (List ℕ)) : Type 0 where
+  pub taken : Appends old new (summary_text n)
+  pub compiled : AreAsCompiled (opening n) (schedule n) (answers (opening n) (schedule n))
+  pub agree : PacketsAgree n
+
 abbrev pub Promises : Command → List ℕ → Option (List ℕ) → Option (List ℕ) → Type 0
 Promises Run octets old new = TookAnswers octets old new
+Promises (Gen n) octets old new = TookSummary n old new
 Promises command octets old new = ⊤
 
 abbrev pub PromisesOn : Command → List ℕ → Result Verdict WriteRefusal → Option (List ℕ) → Option (List ℕ) → Type 0

@@ -1,23 +1,48 @@
 -- What a run is told by: its words, and the octets that its source held.
-use Rattle.std.specs.Prelude.{◌≡◌, ℕ, ◌≤◌, List, length, Option, Some, None, ⊤}
+use Rattle.std.specs.Prelude.{◌≡◌, ℕ, ◌≤◌, List, [], length, Option, Some, None, ⊤}
+use Rattle.ov_io.specs.Inputs.{WasReadWhole}
 use Rattle.overlay.specs.declared.answer.Verdict.{Verdict}
 use Rattle.overlay.specs.declared.answer.Verdict.TheVariants as Found
 use Rattle.overlay.specs.declared.command.Command.{Command}
+use Rattle.overlay.specs.declared.command.Command.TheVariants.{Gen}
 use Rattle.overlay.specs.declared.top.Status.{Status}
 use Rattle.overlay.specs.declared.top.Status.TheVariants as Ended
 use Rattle.overlay.specs.Answers.{verdict_of}
 
--- a fact of the command that was given and of the input; nothing is said of an input that the source does not tell
+-- whether a command reads an input: `gen` reads none
+abbrev pub Reads : Command → Type 0
+Reads (Gen n) = ⊥
+Reads command = ⊤
+
+-- the input of a command is what the source holds, where it tells; where nothing is read it is empty
+unfoldable pub input_to : Command → Option (List ℕ) → Option (List ℕ)
+input_to (Gen n) held = Some []
+input_to command held = held
+
+-- a fact of an input; nothing is said of one that the source does not tell
+abbrev pub OfOctets : Option (List ℕ) → (List ℕ → Type 0) → Type 0
+OfOctets None Fact = ⊤
+OfOctets (Some octets) Fact = Fact octets
+
+-- a fact of the command that was given and of its input
 abbrev pub OfInput : Option Command → Option (List ℕ) → (Command → List ℕ → Type 0) → Type 0
 OfInput None held Fact = ⊥
-OfInput (Some command) None Fact = ⊤
-OfInput (Some command) (Some octets) Fact = Fact command octets
+OfInput (Some command) held Fact = OfOctets (input_to command held) (Fact command)
 
 -- the same where a command was given
 abbrev pub IfInput : Option Command → Option (List ℕ) → (Command → List ℕ → Type 0) → Type 0
 IfInput None held Fact = ⊤
-IfInput (Some command) None Fact = ⊤
-IfInput (Some command) (Some octets) Fact = Fact command octets
+IfInput (Some command) held Fact = OfOctets (input_to command held) (Fact command)
+
+-- a command that reads an input was given
+abbrev pub ReadsInput : Option Command → Type 0
+ReadsInput None = ⊥
+ReadsInput (Some command) = Reads command
+
+-- a command that reads an input reads it to its end
+abbrev pub ReadsWhole : Option (List ℕ) → Option (List ℕ) → Command → List ℕ → Type 0
+ReadsWhole old new (Gen n) octets = ⊤
+ReadsWhole old new command octets = WasReadWhole old new octets
 
 -- the input is no longer than the limit, and is found to be this
 abbrev pub IsFound : ℕ → Verdict → Command → List ℕ → Type 0

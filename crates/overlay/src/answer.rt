@@ -12,10 +12,12 @@ ghost use Rattle.overlay.specs.Decoding.{spelled};
 ghost use Rattle.overlay.specs.Answers.{Answer, IsAnswered, WasGiven, answer_checked, answer_good, compile_answer};
 ghost use Rattle.overlay.specs.Answers.{compile_value, decode_verdict, reach_answer, reach_value, verdict_of};
 ghost use Rattle.overlay.specs.Answers.{Writes, WritesSpelled};
+ghost use Rattle.overlay.specs.Commands.{IsCommand};
 ghost use Rattle.overlay.specs.Networks.{LeavesOn, PromisesOn};
 
 use crate::command::Command;
 use crate::decoding::{octets_of, write_report};
+use crate::generating::answer_gen;
 use crate::lines::write_tables;
 use crate::outcomes::write_outcomes;
 use crate::running::answer_run;
@@ -45,6 +47,16 @@ pub(crate) enum Unfit {
     BadDocument(DocFault),
     Refused(Refusal),
     NoMemory,
+}
+
+impl From<NoMemory> for Unfit {
+    ghost use Rattle.overlay.specs.declared.answer.Unfit.TheVariants as unfit;
+
+    ghost from_gives = { λ _ u. u ≡ unfit.NoMemory };
+
+    fn from(_: NoMemory) -> Unfit {
+        Unfit::NoMemory
+    }
 }
 
 /// The value that octets write as JSON.
@@ -240,8 +252,8 @@ fn answer_decode<K: Sink>(alloc: Global, text: &[u8], sink: &mut K) -> Result<Ve
     }
 }
 
-/// Writes what a command answers to an input, as it is made, and tells what the input is found to be. `run` leaves its
-/// network.
+/// Writes what a command answers to an input, as it is made, and tells what the input is found to be. `run` and `gen`
+/// leave their network.
 #[tactic(auto, unfolding(crate::specs::Answers::verdict_of, crate::specs::Answers::Writes))]
 pub(crate) fn answer<K: Sink>(
     alloc: Global,
@@ -250,7 +262,8 @@ pub(crate) fn answer<K: Sink>(
     sink: &mut K,
     net: &mut Option<Net>,
 ) -> Result<Verdict, WriteRefusal>
-    requires { net.old ≡ None }
+    requires command { IsCommand command }
+    requires none { net.old ≡ None }
     ensures verdict { IfOk result (λ verdict. verdict ≡ verdict_of command octets.now) }
     ensures written { OnOk result (TookText (Writes command octets.now) (K.taken sink.old) (K.taken sink.new)) }
     ensures front { OnErr result (TookFrontOf (Writes command octets.now) (K.taken sink.old) (K.taken sink.new)) }
@@ -263,5 +276,6 @@ pub(crate) fn answer<K: Sink>(
         Command::Reach => answer_reach(alloc, octets, sink),
         Command::Run => answer_run(alloc, octets, sink, net),
         Command::Decode => answer_decode(alloc, octets, sink),
+        Command::Gen(n) => answer_gen(alloc, n, sink, net),
     }
 }

@@ -1,5 +1,5 @@
 //! The program `overlay`: the tables that a configuration asks for, what becomes of packets, what the events of a
-//! schedule answer, and what BGP messages say.
+//! schedule answer, what BGP messages say, and what scenarios come to.
 #![tactic(auto)]
 
 ghost use Rattle.std.specs.Prelude.{◌≡◌, ◌≢◌, ◌↔◌, ◌⊎◌};
@@ -16,6 +16,7 @@ mod decode_tests;
 mod decoding;
 #[cfg(test)]
 mod end_tests;
+mod generating;
 mod laws;
 mod lines;
 mod outcomes;
@@ -38,6 +39,7 @@ const USAGE: &str = "usage: overlay compile < DOCUMENT
        overlay reach < DOCUMENT
        overlay run < DOCUMENT
        overlay decode < DIGITS
+       overlay gen NUMBER
        overlay --help | --version
 ";
 

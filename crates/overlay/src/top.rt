@@ -1,15 +1,15 @@
 //! The top call.
-ghost use Rattle.std.specs.Prelude.{◌≡◌, ◌≢◌, ◌↔◌, ◌<◌, ◌≤◌, ◌⊎◌, None, length};
+ghost use Rattle.std.specs.Prelude.{◌≡◌, ◌≢◌, ◌↔◌, ◌<◌, ◌≤◌, ◌⊎◌, Err, IfOk, None, length, vec_len};
 ghost use Rattle.ov_io.specs.Causes.{Rose};
-ghost use Rattle.ov_io.specs.Inputs.{WasReadWhole};
 ghost use Rattle.ov_io.specs.Pieces.{TookFrontOf, TookText};
 ghost use Rattle.overlay.specs.Answers.{verdict_of, Writes};
 ghost use Rattle.overlay.specs.Commands.{command_of};
 ghost use Rattle.overlay.specs.Networks.{Leaves, Promises};
-ghost use Rattle.overlay.specs.Runs.{OfInput, IfInput, IsCut, IsFound, IsSilent, IsWritten, number_of, status_of};
+ghost use Rattle.overlay.specs.Runs.{IfInput, IsCut, IsFound, IsSilent, IsWritten, OfInput, OfOctets, Reads};
+ghost use Rattle.overlay.specs.Runs.{ReadsInput, ReadsWhole, input_to, number_of, status_of};
 
 use crate::answer::{Verdict, answer};
-use crate::command::command_from;
+use crate::command::{Command, command_from};
 use net_machine::Net;
 use ov_io::{InputRefusal, Sink, Source, WriteRefusal, read_all};
 use std::alloc::Global;
@@ -51,8 +51,8 @@ impl Status {
 }
 
 /// All that the program does: what its words ask for, from a source to a sink. The answer is written as it is made,
-/// once the source is read and what it holds is found good. `run` leaves the network that took the events in `net`,
-/// where all was written; in every other case `net` is None.
+/// once the source is read and what it holds is found good. `gen` reads nothing. `run` and `gen` leave the network that
+/// took the events in `net`, where all was written; in every other case `net` is None.
 pub fn overlay<S: Source, K: Sink>(
     alloc: Global,
     words: &[String],
@@ -62,7 +62,8 @@ pub fn overlay<S: Source, K: Sink>(
 ) -> Status
     // Which status comes.
     ensures usage { (result ≡ Status.Usage) ↔ (command_of words.now ≡ None) }
-    ensures read_fault { result ≡ Status.ReadFault → Rose (S.faults source.old) (S.faults source.new) }
+    ensures read_fault { result ≡ Status.ReadFault
+        → ReadsInput (command_of words.now) × Rose (S.faults source.old) (S.faults source.new) }
     ensures too_long { result ≡ Status.TooLong
         → OfInput (command_of words.now) (S.left source.old) (λ command octets. MAX_INPUT_OCTETS < length octets) }
     ensures not_json { result ≡ Status.NotJson
@@ -84,7 +85,7 @@ pub fn overlay<S: Source, K: Sink>(
         (λ command octets. TookFrontOf (Writes command octets) (K.taken sink.old) (K.taken sink.new)) }
     ensures silent { IsSilent result → sink.new ≡ sink.old }
 
-    // What `run` promises of its answers, and the network that it leaves.
+    // What `run` and `gen` promise of their answers, and the network that they leave.
     ensures promise { result ≡ Status.Done → OfInput (command_of words.now) (S.left source.old)
         (λ command octets. Promises command octets (K.taken sink.old) (K.taken sink.new)) }
     ensures network { result ≡ Status.Done → OfInput (command_of words.now) (S.left source.old)
@@ -94,8 +95,8 @@ pub fn overlay<S: Source, K: Sink>(
     // What is read.
     ensures read_whole { IsWritten result ⊎ (result ≡ Status.WriteFault)
         → OfInput (command_of words.now) (S.left source.old)
-        (λ command octets. WasReadWhole (S.left source.old) (S.left source.new) octets) }
-    ensures unread { result ≡ Status.Usage → source.new ≡ source.old }
+        (ReadsWhole (S.left source.old) (S.left source.new)) }
+    ensures unread { ¬ ReadsInput (command_of words.now) → source.new ≡ source.old }
 
     // Nothing is refused without a cause, and only a fault is counted.
     ensures complete { ¬ Rose (S.faults source.old) (S.faults source.new)
@@ -109,7 +110,7 @@ pub fn overlay<S: Source, K: Sink>(
     let Some(command) = command_from(words) else {
         return Status::Usage;
     };
-    let octets = match read_all(alloc, source, MAX_INPUT_OCTETS) {
+    let octets = match read_input(alloc, command, source) {
         Ok(octets) => octets,
         Err(InputRefusal::Fault) => return Status::ReadFault,
         Err(InputRefusal::TooLong) => return Status::TooLong,
@@ -119,6 +120,28 @@ pub fn overlay<S: Source, K: Sink>(
         Ok(verdict) => status_from(verdict),
         Err(WriteRefusal::Fault) => Status::WriteFault,
         Err(WriteRefusal::NoMemory) => Status::NoMemory,
+    }
+}
+
+/// Reads the input of a command whole. `gen` reads nothing.
+#[tactic(auto, unfolding(crate::specs::Runs::input_to))]
+fn read_input<S: Source>(
+    alloc: Global,
+    command: Command,
+    source: &mut S,
+) -> Result<Vec<u8>, InputRefusal>
+    ensures input { IfOk result (λ v. OfOctets (input_to command (S.left source.old)) (λ octets. octets ≡ v.items)) }
+    ensures whole { IfOk result (λ v. ReadsWhole (S.left source.old) (S.left source.new) command v.items) }
+    ensures short { IfOk result (λ v. vec_len v ≤ MAX_INPUT_OCTETS) }
+    ensures long { result ≡ Err InputRefusal.TooLong
+        → OfOctets (input_to command (S.left source.old)) (λ octets. MAX_INPUT_OCTETS < length octets) }
+    ensures fault { result ≡ Err InputRefusal.Fault → Reads command × Rose (S.faults source.old) (S.faults source.new) }
+    ensures kept { result ≢ Err InputRefusal.Fault → S.faults source.new ≡ S.faults source.old }
+    ensures unread { ¬ Reads command → source.new ≡ source.old }
+{
+    match command {
+        Command::Gen(_) => Ok(Vec::new(alloc)),
+        _ => read_all(alloc, source, MAX_INPUT_OCTETS),
     }
 }
 

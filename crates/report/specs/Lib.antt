@@ -5,3 +5,4 @@ pub mod Rows
 pub mod Outcomes
 pub mod Refusals
 pub mod Answers
+pub mod Summaries

@@ -1,5 +1,5 @@
-//! Every text that the program writes: low-level objects, the rows of nodes, outcomes, refusals, answers, and what
-//! messages say.
+//! Every text that the program writes: low-level objects, the rows of nodes, outcomes, refusals, answers, what messages
+//! say, and what scenarios come to.
 #![tactic(auto)]
 
 mod answers;
@@ -11,6 +11,7 @@ mod objects;
 mod outcomes;
 mod refusals;
 mod rows;
+mod summaries;
 mod targets;
 #[cfg(test)]
 mod tests;
@@ -27,4 +28,5 @@ pub use rows::{
     agent_acl_lines, agent_label_line, agent_lines, agent_row_line, control_lines,
     control_row_line, node_lines,
 };
+pub use summaries::summary_lines;
 pub use targets::{TargetsText, put_lines_after};

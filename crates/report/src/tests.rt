@@ -57,6 +57,22 @@ incomplete 18
     Ok(())
 }
 
+#[test]
+fn a_scenario_is_summed_up(rt: HostRuntime) -> Result<(), Fail> {
+    let mut out = TextOut::new(rt.alloc());
+    summary_lines(rt.alloc(), 3, 12, 192, 3, (6, 5), 8, 40, &mut out)?;
+    assert_eq!(rt;
+        out.octets(),
+        "\
+gen 3 controllers 3 nodes 20 networks 12 ports 192 uses 3
+rounds 6 5
+traces 40 delivered 8 agreed 40
+"
+            .as_bytes()
+    );
+    Ok(())
+}
+
 /// An entry for one protocol and one destination port.
 fn entry(protocol: Option<u8>, port: u16, action: AclAction, position: u16) -> AclRule {
     AclRule {

@@ -1,15 +1,16 @@
 use Rattle.std.proofs.Common.{refl, subst, ◌∙◌}
 use Rattle.std.specs.Io.KnownBytes.{Appends}
+use Rattle.overlay.specs.declared.command.Command.TheVariants.{Run}
 use Rattle.overlay.specs.Schedules.{run_text}
 use Rattle.overlay.proofs.Left.{is_left, took_answers}
 use Rattle.overlay.proofs.Unfit.{leaves_none, promises_none}
 use Rattle.overlay.proofs.running.answer_run.Goals as goal
 
 pub returns-in-Err-clause-network : goal.returns-in-Err-clause-network
-returns-in-Err-clause-network g c = leaves_none c.args.octets.now c.write_unfit.result _ c.write_unfit.ensures.unfit refl
+returns-in-Err-clause-network g c = leaves_none Run c.args.octets.now c.write_unfit.result _ c.write_unfit.ensures.unfit refl
 
 pub returns-in-Err-clause-promise : goal.returns-in-Err-clause-promise
-returns-in-Err-clause-promise g c = promises_none c.args.octets.now c.write_unfit.result _ _ c.write_unfit.ensures.unfit
+returns-in-Err-clause-promise g c = promises_none Run c.args.octets.now c.write_unfit.result _ _ c.write_unfit.ensures.unfit
 
 pub returns-in_ok-write_answers-in-Ok-clause-network : goal.returns-in_ok-write_answers-in-Ok-clause-network
 returns-in_ok-write_answers-in-Ok-clause-network g c =

@@ -4,10 +4,11 @@ use Rattle.network_model.specs.Events.{answer_to, event_of}
 use Rattle.net_model.specs.Stands.{moment}
 use Rattle.net_machine.specs.declared.ends.SessionEnds.{SessionEnds}
 use Rattle.net_machine.specs.Happenings.{Happens}
+use Rattle.schedule_laws.specs.Ends.{SettlesAtOnce}
 use Rattle.net_machine.specs.NetState.{NetState}
 use Rattle.net_machine.specs.Seating.{AreSeated}
-use Rattle.net_machine.proofs.Promised.{moment_rounds}
-use Rattle.net_machine.proofs.Ran.{run_configured, run_seated, step_answers, step_runs}
+use Rattle.net_machine.proofs.Promised.{moment_rounds, settles_at_once}
+use Rattle.net_machine.proofs.Ran.{moment_more, run_configured, run_seated, step_answers, step_runs}
 use Rattle.net_machine.proofs.net.Net.step.Goals as goal
 
 pub happen-requires-clause-configured : goal.happen-requires-clause-configured
@@ -60,3 +61,18 @@ returns-clause-rounds c =
     (λ y is. subst (λ (es : List SessionEnds). Happens y es c.args.event n.nodes.seats c.in_ok-answer.answer
     c.happen.new.stations.seats) c.as_slice.ensures.value (c.in_ok-answer.ensures.happens y is))
     c.in_ok-answer.ensures.keeps c.push.new.self c.in_ok-push.ensures.ok).moment_is
+
+pub returns-clause-settles : goal.returns-clause-settles
+returns-clause-settles c =
+    let n = c.self.inside in
+    let before = moment n.opening n.events in
+    let answers = step_answers n.opening n.events n.nodes.seats n.order.items (c.self.invariant c.if-self.false).0
+    c.args.event c.in_ok-answer.answer c.happen.new.stations.seats c.requires.form c.know_subnets.ensures
+    (λ y is. subst (λ (es : List SessionEnds). Happens y es c.args.event n.nodes.seats c.in_ok-answer.answer
+    c.happen.new.stations.seats) c.as_slice.ensures.value (c.in_ok-answer.ensures.happens y is))
+    c.in_ok-answer.ensures.keeps in
+    subst (λ (s : NetState). SettlesAtOnce (moment s.opening s.events) c.args.event c.in_ok-answer.answer
+    (moment n.opening c.push.new.self)) c.self.view_is
+    (settles_at_once before (c.self.invariant c.if-self.false).0.moment_is c.args.event c.in_ok-answer.answer
+    (moment n.opening c.push.new.self) answers
+    (ap (moment n.opening) c.in_ok-push.ensures.ok ∙ moment_more n.opening n.events c.args.event))

@@ -40,7 +40,8 @@ use Rattle.headline_laws.proofs.Configured.{agents_show_rows, control_nodes_show
 use Rattle.headline_laws.proofs.Delivers.{found, written_delivers}
 use Rattle.headline_laws.proofs.Written.{compiled_now, written_now, written_settle_settles}
 use Rattle.net_model.specs.Stands.{any_size, moment}
-use Rattle.overlay.specs.Schedules.{AnswersCompiled, AreAsCompiled, SettlesInTime, StandsAt, answers}
+use Rattle.schedule_laws.specs.Compiled.{AnswersCompiled, AreAsCompiled, StandsAt, answers}
+use Rattle.schedule_laws.specs.Ends.{SettlesAtOnce}
 
 -- ---- the answer of a place is that to its event, at the moment before it
 at_place : (es : List Written) (w : Network) (place : ℕ) (e : Written) (a : Answer)
@@ -49,6 +50,14 @@ at_place : (es : List Written) (w : Network) (place : ℕ) (e : Written) (a : An
 at_place [] w place e a is answered = absurd cc
 at_place (d ∷ es) w zero e a is answered = sym (same_Some (answer_to w (event_of d)) a answered) ∙ ap (λ x. answer_to w (event_of x)) (same_Some d e is)
 at_place (d ∷ es) w (suc place) e a is answered = at_place es (next any_size w (event_of d)) place e a is answered
+
+-- ---- the event of a place leads to the moment behind it
+moment_there : (es : List Written) (w : Network) (place : ℕ) (e : Written) → slice_get es place ≡ Some e
+    → after any_size w (map event_of (take (suc place) es))
+    ≡ next any_size (after any_size w (map event_of (take place es))) (event_of e)
+moment_there [] w place e is = absurd cc
+moment_there (d ∷ es) w zero e is = ap (λ x. next any_size w (event_of x)) (same_Some d e is)
+moment_there (d ∷ es) w (suc place) e is = moment_there es (next any_size w (event_of d)) place e is
 
 -- ---- edits of the written form lead to configurations of it
 form_of_edited : (x : Checked) (d : Edit) (y : Checked) (f : Option EditFault) → IsTrue (has_edit_form d) → IsOfForm x
@@ -96,14 +105,14 @@ module _ (w : Network) (old : IsOfForm w.setup) where
   edit_of_form (written.Show name) form = tt
   edit_of_form (written.Trace p) form = tt
 
-edits_of_form : (es : List Written) (w : Network) → IsTrue (list_all has_event_form es) → IsOfForm w.setup
+pub edits_of_form : (es : List Written) (w : Network) → IsTrue (list_all has_event_form es) → IsOfForm w.setup
     → EditsAreValid any_size IsOfForm w (map event_of es)
 edits_of_form [] w forms old = tt
 edits_of_form (e ∷ es) w forms old =
     let parts = and_parts (has_event_form e) (list_all has_event_form es) forms in
     (edit_of_form w old e parts.0, edits_of_form es (next any_size w (event_of e)) parts.1 (form_kept w old e parts.0))
 
-forms_of_front : (place : ℕ) (es : List Written) → IsTrue (list_all has_event_form es) → IsTrue (list_all has_event_form (take place es))
+pub forms_of_front : (place : ℕ) (es : List Written) → IsTrue (list_all has_event_form es) → IsTrue (list_all has_event_form (take place es))
 forms_of_front zero es forms = refl
 forms_of_front (suc place) [] forms = refl
 forms_of_front (suc place) (e ∷ es) forms =
@@ -157,18 +166,24 @@ module _ (x : Checked) (valid : IsWritten x) (es : List Written) (forms : IsTrue
   compiled_at settled written.Round = tt
   compiled_at settled written.Settle = tt
 
-  settles_at : (e : Written) → SettlesInTime w.setup e (answer_to w (event_of e))
-  settles_at written.Settle =
+  settles_at : (e : Written) (w' : Network) → w' ≡ next any_size w (event_of e) → SettlesAtOnce w e (answer_to w (event_of e)) w'
+  unfolding next
+  settles_at written.Settle w' leads =
       let s = written_settle_settles any_size positive x valid before asked in
-      ((settle w).0, ap (λ b. Rounds (settle w).0 b) s.0, s.1)
-  settles_at (written.Show name) = tt
-  settles_at (written.Trace p) = tt
-  settles_at (written.Edit d) = tt
-  settles_at (written.Deliver from to n) = tt
-  settles_at (written.Lose a b) = tt
-  settles_at (written.Connect a b) = tt
-  settles_at (written.Restart name) = tt
-  settles_at written.Round = tt
+      record {
+        rounds = (settle w).0;
+        is = ap (λ b. Rounds (settle w).0 b) s.0;
+        few = s.1;
+        settled = ap is_settled leads ∙ s.0;
+      }
+  settles_at (written.Show name) w' leads = tt
+  settles_at (written.Trace p) w' leads = tt
+  settles_at (written.Edit d) w' leads = tt
+  settles_at (written.Deliver from to n) w' leads = tt
+  settles_at (written.Lose a b) w' leads = tt
+  settles_at (written.Connect a b) w' leads = tt
+  settles_at (written.Restart name) w' leads = tt
+  settles_at written.Round w' leads = tt
 
   answer_there : (e : Written) (a : Answer) → StandsAt es (answers x es) place e a → a ≡ answer_to w (event_of e)
   answer_there e a at = at_place es (start x) place e a at.event at.answer
@@ -179,5 +194,6 @@ as_compiled x valid es forms = record {
   settled = λ place e a at settled.
       subst (AnswersCompiled (moment x (take place es)).setup e) (sym (answer_there x valid es forms place e a at)) (compiled_at x valid es forms place settled e);
   settles = λ place e a at.
-      subst (SettlesInTime (moment x (take place es)).setup e) (sym (answer_there x valid es forms place e a at)) (settles_at x valid es forms place e);
+      subst (λ a. SettlesAtOnce (moment x (take place es)) e a (moment x (take (suc place) es))) (sym (answer_there x valid es forms place e a at))
+      (settles_at x valid es forms place e (moment x (take (suc place) es)) (moment_there es (start x) place e at.event));
 }

@@ -1,0 +1,19 @@
+//! What is promised of scenarios that are run, as laws: each is the contract of a function that does nothing.
+ghost use Rattle.std.specs.Prelude.{◌≡◌, ◌≤◌, ℕ};
+ghost use Rattle.std.specs.declared.option.Option.TheVariants.{None};
+ghost use Rattle.ov_types.specs.declared.packet.Outcome.{Outcome};
+ghost use Rattle.config_check.specs.Rules.{first_broken};
+ghost use Rattle.scenario_gen.specs.Scenario.{scenario};
+ghost use Rattle.scenario_run.specs.Agreed.{PacketsAgree};
+ghost use Rattle.scenario_run.specs.Tallies.{same_outcome};
+
+/// Where the scenario is valid, each of its packets has the outcome that policies give.
+pub fn packets_agree()
+    ensures { (n : ℕ) → 1 ≤ n → n ≤ 999 → first_broken (scenario n).topology (scenario n).config ≡ None
+        → PacketsAgree n }
+{}
+
+/// Outcomes are counted as one exactly where they are.
+pub fn outcomes_that_are_one()
+    ensures { (one other : Outcome) → (same_outcome one other ≡ true) ↔ (one ≡ other) }
+{}

@@ -1,0 +1,74 @@
+//! Running a schedule, and counting what it answers.
+ghost use Rattle.std.specs.Prelude.{◌≡◌, ◌≤◌, ◌<◌, ◌^◌, ◌+◌, ◌++◌, ◌∷◌, [], length, false, IfOk, OnOk, IsTrue};
+ghost use Rattle.std.specs.List.{list_all};
+ghost use Rattle.config_model.specs.Event.{has_event_form};
+ghost use Rattle.net_model.specs.Stands.{StandsFor, moment};
+ghost use Rattle.network_model.specs.Events.{answer_to, event_of};
+ghost use Rattle.scenario_run.specs.Tallies.{counted, tally};
+
+use crate::tally::Tally;
+use config_check::Valid;
+use config_model::Event;
+use net_machine::Net;
+use ov_types::NoMemory;
+use std::alloc::Global;
+
+/// A network that took the events of a schedule, and what it answered, counted.
+#[derive(Drop)]
+pub struct Ran {
+    pub net: Net,
+    pub tally: Tally,
+}
+
+/// A network takes an event, and its answer is counted.
+fn count_step(net: &mut Net, event: Event, tally: Tally) -> Result<Tally, NoMemory>
+    requires form { IsTrue (has_event_form event) }
+    requires delivered { tally.delivered < 2 ^ 31 }
+    requires agreed { tally.agreed < 2 ^ 31 }
+    ensures tally { IfOk result (λ t. t ≡ counted (moment net.new.opening net.new.events).setup event
+        (answer_to (moment net.old.opening net.old.events) (event_of event)) tally) }
+    ensures opening { net.new.opening ≡ net.old.opening }
+    ensures events { OnOk result (net.new.events ≡ net.old.events ++ event ∷ []) }
+    ensures works { OnOk result (net.new.failed ≡ false) }
+    ensures state { OnOk result (StandsFor net.new.seats (moment net.new.opening net.new.events)) }
+{
+    let answer = net.step(event)?;
+    let events = net.events();
+    Ok(tally.counted(net.config(), &events[events.len() - 1], &answer))
+}
+
+/// A network without events takes these in turn, and what they answer is counted.
+#[tactic(auto, unfolding(crate::specs::Tallies::tally))]
+fn count_all(net: &mut Net, events: Vec<Event>) -> Result<Tally, NoMemory>
+    requires form { IsTrue (list_all has_event_form events.items) }
+    requires few { length events.items ≤ 1000 }
+    requires begins { net.old.events ≡ [] }
+    requires works { net.old.failed ≡ false }
+    requires state { StandsFor net.old.seats (moment net.old.opening net.old.events) }
+    ensures tally { IfOk result (λ t. t ≡ tally net.old.opening events.items) }
+    ensures opening { net.new.opening ≡ net.old.opening }
+    ensures events { OnOk result (net.new.events ≡ events.items) }
+    ensures works { OnOk result (net.new.failed ≡ false) }
+    ensures state { OnOk result (StandsFor net.new.seats (moment net.new.opening net.new.events)) }
+{
+    let mut tally = Tally::nothing();
+    for event in events {
+        tally = count_step(net, event, tally)?;
+    }
+    Ok(tally)
+}
+
+/// Runs a schedule from a valid configuration, and counts what it answers. Only want of memory keeps it from being run.
+pub fn run_counted(alloc: Global, valid: Valid, events: Vec<Event>) -> Result<Ran, NoMemory>
+    requires form { IsTrue (list_all has_event_form events.items) }
+    requires few { length events.items ≤ 1000 }
+    ensures tally { IfOk result (λ ran. ran.tally ≡ tally valid events.items) }
+    ensures opening { IfOk result (λ ran. ran.net.opening ≡ valid) }
+    ensures events { IfOk result (λ ran. ran.net.events ≡ events.items) }
+    ensures works { IfOk result (λ ran. ran.net.failed ≡ false) }
+    ensures state { IfOk result (λ ran. StandsFor ran.net.seats (moment valid events.items)) }
+{
+    let mut net = Net::new(alloc, valid)?;
+    let tally = count_all(&mut net, events)?;
+    Ok(Ran { net, tally })
+}
