@@ -35,7 +35,7 @@ struct Prepared {
 
 /// What `gen` takes: the scenario of a number, where it is valid.
 #[tactic(auto, unfolding(crate::specs::Answers::gen_answer))]
-fn prepared(alloc: Global, n: u16) -> Result<Prepared, Unfit>
+fn prepare(alloc: Global, n: u16) -> Result<Prepared, Unfit>
     requires first { 1 ≤ n }
     requires last { n ≤ 999 }
     ensures fit { IfOk result (λ p. gen_answer n ≡ answer_good (summary_text n)) }
@@ -96,7 +96,8 @@ fn write_summary<K: Sink>(
         tally.agreed,
         &mut lines,
     )?;
-    write_all(sink, lines.octets())
+    write_all(sink, lines.octets())?;
+    Ok(())
 }
 
 /// Writes what `gen` answers. The network that took the scenario's events is left where all was written.
@@ -115,7 +116,7 @@ pub(crate) fn answer_gen<K: Sink>(
     ensures promise { (octets : List ℕ) → PromisesOn (Gen n) octets result (K.taken sink.old) (K.taken sink.new) }
 {
     *net = None;
-    match prepared(alloc, n) {
+    match prepare(alloc, n) {
         Ok(Prepared {
             valid,
             events,
