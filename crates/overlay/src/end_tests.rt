@@ -1,6 +1,6 @@
 //! Whole runs over ends that fail, or that take little at a time.
-use crate::tests::{ONE, ONE_NODE, ONE_TEXT, document, ran};
-use crate::top::{Status, overlay};
+use crate::tests::{ONE, ONE_NODE, ONE_TEXT, document, ran, run_over};
+use crate::top::Status;
 use ov_io::{MemSink, MemSource, Sink, SinkFault, Source, SourceFault};
 use std::alloc::Global;
 use std::test::Fail;
@@ -8,23 +8,18 @@ use std::test::Fail;
 #[test]
 fn a_fault_of_an_end_is_told(rt: HostRuntime) -> Result<(), Fail> {
     let alloc = rt.alloc();
-    let words = vec![in alloc; String::from_str(alloc, "compile")?]?;
     let input = document(alloc, ONE_NODE, ONE)?;
     let octets = input.as_bytes().to_vec(alloc)?;
     let mut source = MemSource::new(alloc, octets, vec![in alloc; 2]?);
     let mut sink = MemSink::new(alloc, Vec::new(alloc));
-    assert_eq!(rt;
-        overlay(alloc, words.as_slice(), &mut source, &mut sink, &mut None),
-        Status::ReadFault
-    );
+    let status = run_over(alloc, &["compile"], &mut source, &mut sink)?;
+    assert_eq!(rt; status, Status::ReadFault);
     assert_eq!(rt; sink.taken().len(), 0);
     let octets = input.as_bytes().to_vec(alloc)?;
     let mut source = MemSource::new(alloc, octets, Vec::new(alloc));
     let mut sink = MemSink::new(alloc, vec![in alloc; 1]?);
-    assert_eq!(rt;
-        overlay(alloc, words.as_slice(), &mut source, &mut sink, &mut None),
-        Status::WriteFault
-    );
+    let status = run_over(alloc, &["compile"], &mut source, &mut sink)?;
+    assert_eq!(rt; status, Status::WriteFault);
     assert_eq!(rt; sink.taken().len(), 0);
     Ok(())
 }
@@ -46,10 +41,9 @@ fn each_failed_write_leaves_a_front(rt: HostRuntime) -> Result<(), Fail> {
     assert_eq!(rt; ended, Status::Done);
     assert_eq!(rt; whole.taken().len(), 163_840);
     for failing in 1..=3u64 {
-        let words = vec![in alloc; String::from_str(alloc, "decode")?]?;
         let mut source = MemSource::new(alloc, digits.as_bytes().to_vec(alloc)?, Vec::new(alloc));
         let mut sink = MemSink::new(alloc, vec![in alloc; failing]?);
-        let status = overlay(alloc, words.as_slice(), &mut source, &mut sink, &mut None);
+        let status = run_over(alloc, &["decode"], &mut source, &mut sink)?;
         assert_eq!(rt; status, Status::WriteFault);
         let taken = sink.taken();
         assert_eq!(rt; taken.len(), 65_540 * (failing as usize - 1));
@@ -104,7 +98,6 @@ impl Sink for Dribble {
 #[test]
 fn short_reads_and_writes_lose_nothing(rt: HostRuntime) -> Result<(), Fail> {
     let alloc = rt.alloc();
-    let words = vec![in alloc; String::from_str(alloc, "compile")?]?;
     let input = document(alloc, ONE_NODE, ONE)?;
     for most in 1..input.len() {
         let octets = input.as_bytes().to_vec(alloc)?;
@@ -112,7 +105,7 @@ fn short_reads_and_writes_lose_nothing(rt: HostRuntime) -> Result<(), Fail> {
         let mut source = Trickle { inner, most };
         let inner = MemSink::new(alloc, Vec::new(alloc));
         let mut sink = Dribble { inner, most };
-        let status = overlay(alloc, words.as_slice(), &mut source, &mut sink, &mut None);
+        let status = run_over(alloc, &["compile"], &mut source, &mut sink)?;
         assert_eq!(rt; status, Status::Done);
         assert_eq!(rt; sink.inner.taken(), ONE_TEXT.as_bytes());
     }

@@ -117,12 +117,14 @@ pub(crate) fn answer_gen<K: Sink>(
 {
     *net = None;
     match prepare(alloc, n) {
-        Ok(Prepared {
-            valid,
-            events,
-            networks,
-            ports,
-        }) => {
+        Ok(
+            Prepared {
+                valid,
+                events,
+                networks,
+                ports,
+            },
+        ) => {
             let Ran { net: made, tally } = run_counted(alloc, valid, events)?;
             write_summary(alloc, n, networks, ports, &tally, sink)?;
             *net = Some(made);

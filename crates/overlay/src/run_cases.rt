@@ -247,3 +247,27 @@ pub(crate) const EDITS_ANSWERED: Schedule = (
 4 did
 ",
 );
+
+/// A chain of two services that stand across, of which one network loses its port once all is settled; and six rounds,
+/// each of exactly what was in flight as it began, in the order opposite to that of a round. The end of the document is
+/// wanting.
+pub(crate) const SIX_ROUNDS: &str =
+    r#"{"topology":{"as":64512,"controllers":[{"name":"c1","address":"192.0.2.1"},
+{"name":"c2","address":"192.0.2.2"}],"nodes":[{"name":"n1","address":"192.0.2.11","controllers":["c1"]},{"name":"n2",
+"address":"192.0.2.12","controllers":["c2"]}]},"configuration":{"networks":[{"name":"red","id":1,"subnets":[
+"10.1.0.0/24"],"policies":["sec"]},{"name":"blue","id":2,"subnets":["10.2.0.0/24"],"policies":["sec"]}],"ports":[
+{"name":"vm1","id":1,"network":"red","address":"10.1.0.1","node":"n1"},{"name":"vm2","id":2,"network":"blue",
+"address":"10.2.0.2","node":"n2"}],"services":[{"name":"s1","id":1,"node":"n2"},{"name":"s2","id":2,"node":"n1"}],
+"chains":[{"name":"pair","hops":["s1","s2"]}],"policies":[{"name":"sec","sequence":20,"rules":[{"direction":"<>",
+"source":"red","destination":"blue","protocol":"any","source_ports":[0,65535],"destination_ports":[0,65535],"action":
+"chain","chain":"pair","use":0}]}]},"events":["settle",{"edit":{"delete":{"port":"vm2"}}},
+{"deliver":["config","c2",1]},{"deliver":["config","c1",1]},
+{"deliver":["c2","n2",3]},
+{"deliver":["n2","c2",3]},
+{"deliver":["c2","n2",4]},{"deliver":["c2","c1",1]},
+{"deliver":["c1","n1",2]},{"deliver":["c1","c2",1]},
+{"deliver":["c2","n2",2]},{"deliver":["c2","c1",1]}"#;
+
+/// The seventh round, and the end of the document.
+pub(crate) const SEVENTH_ROUND: &str = r#",
+{"deliver":["c1","n1",1]}]}"#;

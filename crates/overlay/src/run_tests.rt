@@ -1,9 +1,10 @@
 //! Whole runs of `run`, over memory.
 use crate::run_cases::{
     AGGREGATE_GOES, CHAIN_SETTLES, CHAIN_SHOWN_BY_THE_OTHER, CONNECT_AND_LOSE, EDITS_ANSWERED,
-    EQUAL_ADDRESSES_STAY_APART, LOST_SESSION, NO_EVENTS, Schedule, TWO_CONTROL_NODES,
+    EQUAL_ADDRESSES_STAY_APART, LOST_SESSION, NO_EVENTS, SEVENTH_ROUND, SIX_ROUNDS, Schedule,
+    TWO_CONTROL_NODES,
 };
-use crate::tests::{Case, ran};
+use crate::tests::{Case, ran, run_over, words_of};
 use crate::top::{Status, overlay};
 use config_model::Event;
 use net_machine::Net;
@@ -46,13 +47,59 @@ fn a_chain_settles_through_two_control_nodes(rt: HostRuntime) -> Result<(), Fail
 
 /// How a run of a document ended, and the network that it left.
 fn left(alloc: Global, document: &str, failing: &[u64]) -> Result<(Status, Option<Net>), Fail> {
-    let words = vec![in alloc; String::from_str(alloc, "run")?]?;
+    let words = words_of(alloc, &["run"])?;
     let octets = document.as_bytes().to_vec(alloc)?;
     let mut source = MemSource::new(alloc, octets, Vec::new(alloc));
     let mut sink = MemSink::new(alloc, failing.to_vec(alloc)?);
     let mut net = None;
     let status = overlay(alloc, words.as_slice(), &mut source, &mut sink, &mut net);
     Ok((status, net))
+}
+
+/// Whether the network that a document of `run` leaves is settled.
+fn ends_settled(alloc: Global, document: &str) -> Result<Option<bool>, Fail> {
+    let (_, net) = left(alloc, document, &[])?;
+    Ok(match &net {
+        Some(net) => Some(is_settled(net)),
+        None => None,
+    })
+}
+
+fn is_settled(net: &Net) -> bool {
+    !net.failed() && net.settled()
+}
+
+#[test]
+fn rounds_that_go_backwards_need_seven_for_a_chain_of_two(rt: HostRuntime) -> Result<(), Fail> {
+    let alloc = rt.alloc();
+    for (rest, settled) in [("]}", false), (SEVENTH_ROUND, true)] {
+        let document = format!(in alloc; "{SIX_ROUNDS}{rest}")?;
+        assert_eq!(rt;
+            ends_settled(alloc, document.as_str())?,
+            Some(settled),
+            "{rest}"
+        );
+    }
+    Ok(())
+}
+
+#[test]
+fn a_scenario_is_run(rt: HostRuntime) -> Result<(), Fail> {
+    let alloc = rt.alloc();
+    let mut source = MemSource::new(alloc, Vec::new(alloc), vec![in alloc; 1]?);
+    let mut sink = MemSink::new(alloc, Vec::new(alloc));
+    let status = run_over(alloc, &["gen", "3"], &mut source, &mut sink)?;
+    assert_eq!(rt; status, Status::Done);
+    assert_eq!(rt;
+        sink.taken(),
+        "\
+gen 3 controllers 3 nodes 20 networks 12 ports 192 uses 3
+rounds 6 5
+traces 40 delivered 8 agreed 40
+"
+            .as_bytes()
+    );
+    Ok(())
 }
 
 /// Whether a network is settled, and took the four events of a chain that settles.

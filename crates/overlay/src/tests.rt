@@ -1,6 +1,6 @@
 //! Whole runs, over memory.
 use crate::top::{Status, overlay};
-use ov_io::{MemSink, MemSource};
+use ov_io::{MemSink, MemSource, Sink, Source};
 use std::alloc::{AllocError, Global};
 use std::process::Abort;
 use std::test::Fail;
@@ -186,12 +186,32 @@ fn question(alloc: Global, configuration: &str, packets: &str) -> Result<String,
     )
 }
 
+/// The words of a command line.
+pub(crate) fn words_of(alloc: Global, words: &[&str]) -> Result<Vec<String>, AllocError> {
+    let mut owned = Vec::new(alloc);
+    for word in words {
+        owned.push(String::from_str(alloc, word)?)?;
+    }
+    Ok(owned)
+}
+
+/// How a run ended. The network that it leaves is let go.
+pub(crate) fn run_over<S: Source, K: Sink>(
+    alloc: Global,
+    words: &[&str],
+    source: &mut S,
+    sink: &mut K,
+) -> Result<Status, Fail> {
+    let words = words_of(alloc, words)?;
+    let mut net = None;
+    Ok(overlay(alloc, words.as_slice(), source, sink, &mut net))
+}
+
 /// How a run of a command ended, and what it wrote.
 pub(crate) fn ran(alloc: Global, word: &str, input: &[u8]) -> Result<(Status, MemSink), Fail> {
-    let words = vec![in alloc; String::from_str(alloc, word)?]?;
     let mut source = MemSource::new(alloc, input.to_vec(alloc)?, Vec::new(alloc));
     let mut sink = MemSink::new(alloc, Vec::new(alloc));
-    let status = overlay(alloc, words.as_slice(), &mut source, &mut sink, &mut None);
+    let status = run_over(alloc, &[word], &mut source, &mut sink)?;
     Ok((status, sink))
 }
 
@@ -581,19 +601,23 @@ fn one_octet_past_the_limit_is_too_long(rt: HostRuntime) -> Result<(), Fail> {
 #[test]
 fn other_words_are_usage(rt: HostRuntime) -> Result<(), Fail> {
     let alloc = rt.alloc();
-    let word = String::from_str(alloc, "compile")?;
-    let words = vec![in alloc; word.clone()?, word]?;
-    let mut source = MemSource::new(alloc, Vec::new(alloc), vec![in alloc; 1]?);
-    let mut sink = MemSink::new(alloc, vec![in alloc; 1]?);
-    let none: &[String] = &[];
-    assert_eq!(rt;
-        overlay(alloc, words.as_slice(), &mut source, &mut sink, &mut None),
-        Status::Usage
-    );
-    assert_eq!(rt;
-        overlay(alloc, none, &mut source, &mut sink, &mut None),
-        Status::Usage
-    );
+    let cases: [&[&str]; 9] = [
+        &[],
+        &["compile", "compile"],
+        &["gen"],
+        &["gen", "0"],
+        &["gen", "03"],
+        &["gen", "1000"],
+        &["gen", "+3"],
+        &["gen", "3 "],
+        &["gen", "3", "3"],
+    ];
+    for words in cases {
+        let mut source = MemSource::new(alloc, Vec::new(alloc), vec![in alloc; 1]?);
+        let mut sink = MemSink::new(alloc, vec![in alloc; 1]?);
+        let status = run_over(alloc, words, &mut source, &mut sink)?;
+        assert_eq!(rt; status, Status::Usage);
+    }
     Ok(())
 }
 
