@@ -121,6 +121,8 @@ mod tests {
         assert_eq!(rt; write_all(&mut sink, b"ab"), Ok(()));
         assert_eq!(rt; write_all(&mut sink, b"cd"), Err(SinkFault::Failed));
         assert_eq!(rt; sink.taken(), b"ab".as_slice());
+        assert_eq!(rt; write_all(&mut sink, b"ef"), Ok(()));
+        assert_eq!(rt; sink.taken(), b"abef".as_slice());
         Ok(())
     }
 }
