@@ -10,6 +10,7 @@ use ov_types::{
 };
 use packet_trace::{Hop, Vrouter, trace};
 use std::alloc::Global;
+use std::process::Abort;
 use std::test::Fail;
 
 const HELLO: &[u8] = b"\0\0\0\x1a{\"name\":\"a1\",\"op\":\"hello\"}";
@@ -131,45 +132,54 @@ const PORT_7: Attached = Attached::Port {
     instance: InstanceId(1),
 };
 
-#[test]
-fn an_agent_comes_up_and_goes_on_with_the_second_control_node(rt: HostRuntime) -> Result<(), Fail> {
-    let alloc = rt.alloc();
-    let mut node = agent(alloc)?;
-    let mut links = Links::new(alloc);
-    links.push(QueueLink::new(alloc))?;
-    links.push(QueueLink::new(alloc))?;
+/// The first control node comes, then the second, and then the first is lost.
+fn change_control_nodes(
+    rt: &impl Abort,
+    node: &mut AgentNode,
+    links: &mut Links<QueueLink>,
+) -> Result<(), Fail> {
     let done = Some(Ok(Stepped::Done));
 
-    assert_eq!(rt; open(&mut node, &mut links, 0), done);
-    assert!(rt; were_sent(&mut links, 0, &[HELLO]));
-    assert!(rt; !is_up(&node, 0));
-    assert_eq!(rt; bring(&mut node, &mut links, 0, FIRST), done);
-    assert!(rt; is_up(&node, 0));
-    assert!(rt; were_sent(&mut links, 0, &[PUBLISH, SUBSCRIBE]));
+    assert_eq!(rt; open(node, links, 0), done);
+    assert!(rt; were_sent(links, 0, &[HELLO]));
+    assert!(rt; !is_up(node, 0));
+    assert_eq!(rt; bring(node, links, 0, FIRST), done);
+    assert!(rt; is_up(node, 0));
+    assert!(rt; were_sent(links, 0, &[PUBLISH, SUBSCRIBE]));
 
-    assert_eq!(rt; open(&mut node, &mut links, 1), done);
-    assert!(rt; were_sent(&mut links, 1, &[HELLO, PUBLISH, SUBSCRIBE]));
-    assert_eq!(rt; bring(&mut node, &mut links, 1, SECOND), done);
-    assert!(rt; were_sent(&mut links, 0, &[]));
-    assert!(rt; were_sent(&mut links, 1, &[]));
+    assert_eq!(rt; open(node, links, 1), done);
+    assert!(rt; were_sent(links, 1, &[HELLO, PUBLISH, SUBSCRIBE]));
+    assert_eq!(rt; bring(node, links, 1, SECOND), done);
+    assert!(rt; were_sent(links, 0, &[]));
+    assert!(rt; were_sent(links, 1, &[]));
 
-    assert_eq!(rt; close(&mut node, &mut links, 0), done);
-    assert!(rt; were_sent(&mut links, 0, &[]));
-    assert!(rt; were_sent(&mut links, 1, &[UNPUBLISH, PUBLISH_OTHER]));
+    assert_eq!(rt; close(node, links, 0), done);
+    assert!(rt; were_sent(links, 0, &[]));
+    assert!(rt; were_sent(links, 1, &[UNPUBLISH, PUBLISH_OTHER]));
     assert_eq!(rt; node.find(Label(23)), Some(PORT_7));
     Ok(())
 }
 
 #[test]
-fn rows_are_shown_and_forwarded_by(rt: HostRuntime) -> Result<(), Fail> {
+fn an_agent_comes_up_and_goes_on_with_the_second_control_node(rt: HostRuntime) -> Result<(), Fail> {
     let alloc = rt.alloc();
-    let mut node = agent(alloc)?;
     let mut links = Links::new(alloc);
     links.push(QueueLink::new(alloc))?;
     links.push(QueueLink::new(alloc))?;
+    let mut node = agent(alloc)?;
+    change_control_nodes(&rt, &mut node, &mut links)
+}
+
+/// The second control node tells its rows, and then the agent is started again.
+fn show_and_restart(
+    rt: &impl Abort,
+    alloc: Global,
+    node: &mut AgentNode,
+    links: &mut Links<QueueLink>,
+) -> Result<(), Fail> {
     let done = Some(Ok(Stepped::Done));
-    assert_eq!(rt; open(&mut node, &mut links, 1), done);
-    assert_eq!(rt; bring(&mut node, &mut links, 1, SECOND), done);
+    assert_eq!(rt; open(node, links, 1), done);
+    assert_eq!(rt; bring(node, links, 1, SECOND), done);
     let led = Entry {
         next_hop: Addr(0xc000_020c),
         label: Label(24),
@@ -200,32 +210,48 @@ fn rows_are_shown_and_forwarded_by(rt: HostRuntime) -> Result<(), Fail> {
 
     node.restart();
     assert!(rt; !node.failed());
-    assert!(rt; !is_up(&node, 1));
+    assert!(rt; !is_up(node, 1));
     assert_eq!(rt; node.rows(alloc)?.labels.len(), 0);
     assert_eq!(rt; node.route(InstanceId(1), Addr(0x0a01_0009)), None);
     Ok(())
 }
 
 #[test]
-fn a_hello_of_another_node_closes_the_session(rt: HostRuntime) -> Result<(), Fail> {
+fn rows_are_shown_and_forwarded_by(rt: HostRuntime) -> Result<(), Fail> {
     let alloc = rt.alloc();
-    let mut node = agent(alloc)?;
     let mut links = Links::new(alloc);
     links.push(QueueLink::new(alloc))?;
     links.push(QueueLink::new(alloc))?;
-    assert_eq!(rt; open(&mut node, &mut links, 0), Some(Ok(Stepped::Done)));
+    let mut node = agent(alloc)?;
+    show_and_restart(&rt, alloc, &mut node, &mut links)
+}
+
+/// The second control node greets on the session of the first.
+fn greet_by_another_name(
+    rt: &impl Abort,
+    node: &mut AgentNode,
+    links: &mut Links<QueueLink>,
+) -> Result<(), Fail> {
+    assert_eq!(rt; open(node, links, 0), Some(Ok(Stepped::Done)));
     let closed = Stepped::Closed {
         session: 0,
         cause: ItemCause::WrongName,
     };
-    assert_eq!(rt;
-        bring(&mut node, &mut links, 0, SECOND_HELLO),
-        Some(Ok(closed))
-    );
-    assert_eq!(rt; bring(&mut node, &mut links, 0, FIRST), None);
-    assert_eq!(rt; open(&mut node, &mut links, 0), Some(Ok(Stepped::Done)));
-    assert!(rt; were_sent(&mut links, 0, &[HELLO, HELLO]));
+    assert_eq!(rt; bring(node, links, 0, SECOND_HELLO), Some(Ok(closed)));
+    assert_eq!(rt; bring(node, links, 0, FIRST), None);
+    assert_eq!(rt; open(node, links, 0), Some(Ok(Stepped::Done)));
+    assert!(rt; were_sent(links, 0, &[HELLO, HELLO]));
     Ok(())
+}
+
+#[test]
+fn a_hello_of_another_node_closes_the_session(rt: HostRuntime) -> Result<(), Fail> {
+    let alloc = rt.alloc();
+    let mut links = Links::new(alloc);
+    links.push(QueueLink::new(alloc))?;
+    links.push(QueueLink::new(alloc))?;
+    let mut node = agent(alloc)?;
+    greet_by_another_name(&rt, &mut node, &mut links)
 }
 
 /// The second send from now on fails on the link of a session.
@@ -237,26 +263,36 @@ fn second_fails(links: &mut Links<FailingLink>, session: u16) -> Result<(), Fail
     Ok(())
 }
 
+/// The link of the second session fails as the agent publishes.
+fn publish_over_a_break(
+    rt: &impl Abort,
+    alloc: Global,
+    node: &mut AgentNode,
+    links: &mut Links<FailingLink>,
+) -> Result<(), Fail> {
+    let done = Some(Ok(Stepped::Done));
+    assert_eq!(rt; open(node, links, 0), done);
+    assert_eq!(rt; bring(node, links, 0, FIRST), done);
+    let before = node.rows(alloc)?;
+    second_fails(links, 1)?;
+    let failed = NodeFault::LinkFailed { session: 1 };
+    assert_eq!(rt; open(node, links, 1), Some(Err(failed)));
+    assert!(rt; is_up(node, 0));
+    assert_eq!(rt; bring(node, links, 1, SECOND), None);
+    assert_eq!(rt; node.rows(alloc)?, before);
+    assert!(rt; !node.failed());
+    assert_eq!(rt; open(node, links, 1), done);
+    Ok(())
+}
+
 #[test]
 fn a_publication_that_fails_closes_its_session_alone(rt: HostRuntime) -> Result<(), Fail> {
     let alloc = rt.alloc();
-    let mut node = agent(alloc)?;
     let mut links = Links::new(alloc);
     links.push(FailingLink::new(alloc))?;
     links.push(FailingLink::new(alloc))?;
-    let done = Some(Ok(Stepped::Done));
-    assert_eq!(rt; open(&mut node, &mut links, 0), done);
-    assert_eq!(rt; bring(&mut node, &mut links, 0, FIRST), done);
-    let before = node.rows(alloc)?;
-    second_fails(&mut links, 1)?;
-    let failed = NodeFault::LinkFailed { session: 1 };
-    assert_eq!(rt; open(&mut node, &mut links, 1), Some(Err(failed)));
-    assert!(rt; is_up(&node, 0));
-    assert_eq!(rt; bring(&mut node, &mut links, 1, SECOND), None);
-    assert_eq!(rt; node.rows(alloc)?, before);
-    assert!(rt; !node.failed());
-    assert_eq!(rt; open(&mut node, &mut links, 1), done);
-    Ok(())
+    let mut node = agent(alloc)?;
+    publish_over_a_break(&rt, alloc, &mut node, &mut links)
 }
 
 const N1: Addr = Addr(0xc000_020b);
@@ -345,13 +381,8 @@ fn hop(node: Addr, instance: u16) -> Hop {
     }
 }
 
-#[test]
-fn both_packets_pass_the_chain(rt: HostRuntime) -> Result<(), Fail> {
-    let alloc = rt.alloc();
-    let mut agents = [
-        filled(alloc, N1, &TOLD_AT_N1)?,
-        filled(alloc, N2, &TOLD_AT_N2)?,
-    ];
+/// Traces a packet each way.
+fn pass_both_ways(rt: &impl Abort, agents: &mut [AgentNode]) -> Result<(), Fail> {
     let there = [hop(N1, 16384), hop(N1, 16385), hop(N2, 16386)];
     let back = [hop(N2, 16386), hop(N2, 16385), hop(N1, 16384)];
     for (source, destination, to, visited, hops) in [
@@ -370,7 +401,7 @@ fn both_packets_pass_the_chain(rt: HostRuntime) -> Result<(), Fail> {
             back,
         ),
     ] {
-        let trace = trace(&mut agents, packet(source, destination));
+        let trace = trace(agents, packet(source, destination));
         assert_eq!(rt; trace.hops.as_slice(), hops.as_slice());
         match trace.outcome {
             Outcome::Delivered { port, services } => {
@@ -381,4 +412,12 @@ fn both_packets_pass_the_chain(rt: HostRuntime) -> Result<(), Fail> {
         }
     }
     Ok(())
+}
+
+#[test]
+fn both_packets_pass_the_chain(rt: HostRuntime) -> Result<(), Fail> {
+    let alloc = rt.alloc();
+    let near = filled(alloc, N1, &TOLD_AT_N1)?;
+    let mut agents = [near, filled(alloc, N2, &TOLD_AT_N2)?];
+    pass_both_ways(&rt, &mut agents)
 }

@@ -6,6 +6,7 @@ use ov_link::{FailingLink, Input, Link, Links, NodeFault, QueueLink, Stepped};
 use ov_types::{Addr, Items, Name, NodeId};
 use std::alloc::Global;
 use std::fmt::Write;
+use std::process::Abort;
 use std::test::Fail;
 
 type Answer = Result<Stepped<NodeCause>, NodeFault>;
@@ -184,58 +185,68 @@ fn relay(
     Err("fewer messages".into())
 }
 
+/// Brings two control nodes up, publishes at the near one and withdraws, and looks at the rows of the far one.
+fn publish_and_withdraw(
+    rt: &impl Abort,
+    alloc: Global,
+    near: &mut ControlNode,
+    near_links: &mut Links<QueueLink>,
+    far: &mut ControlNode,
+    far_links: &mut Links<QueueLink>,
+) -> Result<(), Fail> {
+    greeted(
+        alloc,
+        near,
+        near_links,
+        0,
+        [CONFIG_HELLO, INSTANCE].as_slice(),
+    )?;
+    greeted(
+        alloc,
+        far,
+        far_links,
+        0,
+        [CONFIG_HELLO, INSTANCE].as_slice(),
+    )?;
+    greeted(alloc, near, near_links, 2, [A1_HELLO, PUBLISH].as_slice())?;
+    assert_eq!(rt; open(near, near_links, 1)?, Ok(Stepped::Done));
+    assert_eq!(rt; open(far, far_links, 1)?, Ok(Stepped::Done));
+    for _ in 0..3 {
+        relay(near_links, 1, far, far_links, 1)?;
+        relay(far_links, 1, near, near_links, 1)?;
+    }
+    assert_eq!(rt; shown(alloc, far)?.as_str(), OWN_ROW);
+    let gone = record(alloc, UNPUBLISH)?;
+    assert_eq!(rt;
+        hear(near, near_links, 2, gone.as_slice())?,
+        Ok(Stepped::Done)
+    );
+    relay(near_links, 1, far, far_links, 1)?;
+    assert_eq!(rt; shown(alloc, far)?.as_str(), "");
+    Ok(())
+}
+
 #[test]
 fn a_publication_goes_to_a_peer_and_is_withdrawn(rt: HostRuntime) -> Result<(), Fail> {
     let alloc = rt.alloc();
     let (c1, c2) = (id("c1", 0xc000_0201)?, id("c2", 0xc000_0202)?);
     let agents = [id("a1", 0xc000_020b)?];
-    let mut near = node(alloc, c1, [c2].as_slice(), agents.as_slice())?;
-    let mut far = node(alloc, c2, [c1].as_slice(), &[])?;
     let mut near_links = queues(alloc, 3)?;
     let mut far_links = queues(alloc, 2)?;
-    greeted(
+    let mut near = node(alloc, c1, [c2].as_slice(), agents.as_slice())?;
+    let mut far = node(alloc, c2, [c1].as_slice(), &[])?;
+    publish_and_withdraw(
+        &rt,
         alloc,
         &mut near,
         &mut near_links,
-        0,
-        [CONFIG_HELLO, INSTANCE].as_slice(),
-    )?;
-    greeted(
-        alloc,
         &mut far,
         &mut far_links,
-        0,
-        [CONFIG_HELLO, INSTANCE].as_slice(),
-    )?;
-    greeted(
-        alloc,
-        &mut near,
-        &mut near_links,
-        2,
-        [A1_HELLO, PUBLISH].as_slice(),
-    )?;
-    assert_eq!(rt; open(&mut near, &mut near_links, 1)?, Ok(Stepped::Done));
-    assert_eq!(rt; open(&mut far, &mut far_links, 1)?, Ok(Stepped::Done));
-    for _ in 0..3 {
-        relay(&mut near_links, 1, &mut far, &mut far_links, 1)?;
-        relay(&mut far_links, 1, &mut near, &mut near_links, 1)?;
-    }
-    assert_eq!(rt; shown(alloc, &far)?.as_str(), OWN_ROW);
-    let gone = record(alloc, UNPUBLISH)?;
-    assert_eq!(rt;
-        hear(&mut near, &mut near_links, 2, gone.as_slice())?,
-        Ok(Stepped::Done)
-    );
-    relay(&mut near_links, 1, &mut far, &mut far_links, 1)?;
-    assert_eq!(rt; shown(alloc, &far)?.as_str(), "");
-    Ok(())
+    )
 }
 
-#[test]
-fn a_failed_send_closes_its_session_alone(rt: HostRuntime) -> Result<(), Fail> {
-    let alloc = rt.alloc();
-    let agents = [id("a1", 0xc000_020b)?, id("a2", 0xc000_020c)?];
-    let mut node = node(alloc, id("c1", 0xc000_0201)?, &[], agents.as_slice())?;
+/// Links of which the second send on the last fails.
+fn breaking(alloc: Global) -> Result<Links<FailingLink>, Fail> {
     let mut links = Links::new(alloc);
     for _ in 0..3 {
         if links.len() == 65535 {
@@ -243,31 +254,28 @@ fn a_failed_send_closes_its_session_alone(rt: HostRuntime) -> Result<(), Fail> {
         }
         links.push(FailingLink::new(alloc))?;
     }
-    if links.len() <= 2 {
+    if links.len() <= 2 || links.get_mut(2).add_break(2) != Ok(()) {
         return Err("three links".into());
     }
-    assert_eq!(rt; links.get_mut(2).add_break(2), Ok(()));
-    greeted(
-        alloc,
-        &mut node,
-        &mut links,
-        0,
-        [CONFIG_HELLO, INSTANCE].as_slice(),
-    )?;
-    greeted(alloc, &mut node, &mut links, 1, [A1_HELLO].as_slice())?;
-    greeted(
-        alloc,
-        &mut node,
-        &mut links,
-        2,
-        [A2_HELLO, SUBSCRIBE].as_slice(),
-    )?;
+    Ok(links)
+}
+
+/// Publishes where the session of another agent breaks as it is told.
+fn publish_over_a_break(
+    rt: &impl Abort,
+    alloc: Global,
+    node: &mut ControlNode,
+    links: &mut Links<FailingLink>,
+) -> Result<(), Fail> {
+    greeted(alloc, node, links, 0, [CONFIG_HELLO, INSTANCE].as_slice())?;
+    greeted(alloc, node, links, 1, [A1_HELLO].as_slice())?;
+    greeted(alloc, node, links, 2, [A2_HELLO, SUBSCRIBE].as_slice())?;
     let octets = record(alloc, PUBLISH)?;
     assert_eq!(rt;
-        hear(&mut node, &mut links, 1, octets.as_slice())?,
+        hear(node, links, 1, octets.as_slice())?,
         Err(NodeFault::LinkFailed { session: 2 })
     );
-    assert_eq!(rt; shown(alloc, &node)?.as_str(), OWN_ROW);
+    assert_eq!(rt; shown(alloc, node)?.as_str(), OWN_ROW);
     for (session, is_up) in [(0, true), (1, true), (2, false)] {
         if session >= node.sessions() {
             return Err("three sessions".into());
@@ -280,67 +288,91 @@ fn a_failed_send_closes_its_session_alone(rt: HostRuntime) -> Result<(), Fail> {
 }
 
 #[test]
-fn a_malformed_update_empties_its_session_alone(rt: HostRuntime) -> Result<(), Fail> {
+fn a_failed_send_closes_its_session_alone(rt: HostRuntime) -> Result<(), Fail> {
     let alloc = rt.alloc();
-    let agents = [id("a1", 0xc000_020b)?];
-    let peers = [id("c2", 0xc000_0202)?];
-    let mut node = node(
-        alloc,
-        id("c1", 0xc000_0201)?,
-        peers.as_slice(),
-        agents.as_slice(),
-    )?;
-    let mut links = queues(alloc, 3)?;
-    greeted(
-        alloc,
-        &mut node,
-        &mut links,
-        0,
-        [CONFIG_HELLO, INSTANCE].as_slice(),
-    )?;
-    greeted(
-        alloc,
-        &mut node,
-        &mut links,
-        2,
-        [A1_HELLO, PUBLISH].as_slice(),
-    )?;
-    assert_eq!(rt; open(&mut node, &mut links, 1)?, Ok(Stepped::Done));
+    let agents = [id("a1", 0xc000_020b)?, id("a2", 0xc000_020c)?];
+    let mut links = breaking(alloc)?;
+    let mut node = node(alloc, id("c1", 0xc000_0201)?, &[], agents.as_slice())?;
+    publish_over_a_break(&rt, alloc, &mut node, &mut links)
+}
+
+/// Whether what was sent on a session is these octets alone.
+fn only_sent(links: &mut Links<QueueLink>, session: u16, octets: &[u8]) -> Result<bool, Fail> {
+    if session >= links.len() {
+        return Err("a known session".into());
+    }
+    let link = links.get_mut(session);
+    let is_sent = match link.pop() {
+        Some(sent) => sent.as_slice() == octets,
+        None => false,
+    };
+    Ok(is_sent && link.pop().is_none())
+}
+
+/// Lets what was sent on a session be.
+fn forget(links: &mut Links<QueueLink>, session: u16) -> Result<(), Fail> {
+    if session >= links.len() {
+        return Err("a known session".into());
+    }
+    links.get_mut(session).clear();
+    Ok(())
+}
+
+/// A peer tells a route, beside the route of an agent.
+fn hear_a_peer(
+    rt: &impl Abort,
+    alloc: Global,
+    node: &mut ControlNode,
+    links: &mut Links<QueueLink>,
+) -> Result<(), Fail> {
+    greeted(alloc, node, links, 0, [CONFIG_HELLO, INSTANCE].as_slice())?;
+    greeted(alloc, node, links, 2, [A1_HELLO, PUBLISH].as_slice())?;
+    assert_eq!(rt; open(node, links, 1)?, Ok(Stepped::Done));
     for rest in [OPEN, KEEPALIVE, UPDATE] {
         let octets = message(alloc, rest)?;
-        assert_eq!(rt;
-            hear(&mut node, &mut links, 1, octets.as_slice())?,
-            Ok(Stepped::Done)
-        );
+        assert_eq!(rt; hear(node, links, 1, octets.as_slice())?, Ok(Stepped::Done));
     }
     assert_eq!(rt;
-        shown(alloc, &node)?.as_str(),
+        shown(alloc, node)?.as_str(),
         "1 10.1.0.5/32 192.0.2.11:1 192.0.2.11 23\n1 10.1.0.6/32 192.0.2.11:1 192.0.2.11 17\n"
     );
-    if links.len() <= 2 {
-        return Err("three links".into());
-    }
-    links.get_mut(1).clear();
+    forget(links, 1)
+}
+
+/// The peer's next UPDATE is malformed.
+fn hear_a_malformed_update(
+    rt: &impl Abort,
+    alloc: Global,
+    node: &mut ControlNode,
+    links: &mut Links<QueueLink>,
+) -> Result<(), Fail> {
     let fault = WireFault {
         code: 3,
         subcode: 6,
     };
     let wrong = message(alloc, WRONG_ORIGIN)?;
     assert_eq!(rt;
-        hear(&mut node, &mut links, 1, wrong.as_slice())?,
+        hear(node, links, 1, wrong.as_slice())?,
         Ok(Stepped::Closed {
             session: 1,
             cause: NodeCause::Peer(Cause::Wire(fault)),
         })
     );
-    if links.len() <= 2 {
-        return Err("three links".into());
-    }
-    let sent = links.get_mut(1).pop().ok_or("a notification")?;
-    assert_eq!(rt; sent.as_slice(), message(alloc, NOTIFICATION)?.as_slice());
-    assert_eq!(rt; shown(alloc, &node)?.as_str(), OWN_ROW);
-    assert_eq!(rt; lose(&mut node, &mut links, 2)?, Ok(Stepped::Done));
-    assert_eq!(rt; shown(alloc, &node)?.as_str(), "");
+    let notification = message(alloc, NOTIFICATION)?;
+    assert!(rt; only_sent(links, 1, notification.as_slice())?);
+    assert_eq!(rt; shown(alloc, node)?.as_str(), OWN_ROW);
+    Ok(())
+}
+
+/// The agent's session is lost, and then the node is started again.
+fn lose_the_rest(
+    rt: &impl Abort,
+    alloc: Global,
+    node: &mut ControlNode,
+    links: &mut Links<QueueLink>,
+) -> Result<(), Fail> {
+    assert_eq!(rt; lose(node, links, 2)?, Ok(Stepped::Done));
+    assert_eq!(rt; shown(alloc, node)?.as_str(), "");
     node.restart();
     for session in 0..node.sessions() {
         assert!(rt; !node.is_live(session));
@@ -349,39 +381,41 @@ fn a_malformed_update_empties_its_session_alone(rt: HostRuntime) -> Result<(), F
 }
 
 #[test]
+fn a_malformed_update_empties_its_session_alone(rt: HostRuntime) -> Result<(), Fail> {
+    let alloc = rt.alloc();
+    let agents = [id("a1", 0xc000_020b)?];
+    let peers = [id("c2", 0xc000_0202)?];
+    let me = id("c1", 0xc000_0201)?;
+    let mut links = queues(alloc, 3)?;
+    let mut node = node(alloc, me, peers.as_slice(), agents.as_slice())?;
+    hear_a_peer(&rt, alloc, &mut node, &mut links)?;
+    hear_a_malformed_update(&rt, alloc, &mut node, &mut links)?;
+    lose_the_rest(&rt, alloc, &mut node, &mut links)
+}
+
+/// A publication is told on to an agent that subscribed.
+fn publish_to_a_subscriber(
+    rt: &impl Abort,
+    alloc: Global,
+    node: &mut ControlNode,
+    links: &mut Links<QueueLink>,
+) -> Result<(), Fail> {
+    greeted(alloc, node, links, 0, [CONFIG_HELLO, INSTANCE].as_slice())?;
+    greeted(alloc, node, links, 1, [A1_HELLO, SUBSCRIBE].as_slice())?;
+    forget(links, 1)?;
+    let octets = record(alloc, PUBLISH)?;
+    assert_eq!(rt; hear(node, links, 1, octets.as_slice())?, Ok(Stepped::Done));
+    let route = record(alloc, ROUTE)?;
+    assert!(rt; only_sent(links, 1, route.as_slice())?);
+    Ok(())
+}
+
+#[test]
 fn an_agent_is_told_the_rows_that_it_subscribed(rt: HostRuntime) -> Result<(), Fail> {
     let alloc = rt.alloc();
     let agents = [id("a1", 0xc000_020b)?];
-    let mut node = node(alloc, id("c1", 0xc000_0201)?, &[], agents.as_slice())?;
+    let me = id("c1", 0xc000_0201)?;
     let mut links = queues(alloc, 2)?;
-    greeted(
-        alloc,
-        &mut node,
-        &mut links,
-        0,
-        [CONFIG_HELLO, INSTANCE].as_slice(),
-    )?;
-    greeted(
-        alloc,
-        &mut node,
-        &mut links,
-        1,
-        [A1_HELLO, SUBSCRIBE].as_slice(),
-    )?;
-    if links.len() <= 1 {
-        return Err("two links".into());
-    }
-    links.get_mut(1).clear();
-    let octets = record(alloc, PUBLISH)?;
-    assert_eq!(rt;
-        hear(&mut node, &mut links, 1, octets.as_slice())?,
-        Ok(Stepped::Done)
-    );
-    if links.len() <= 1 {
-        return Err("two links".into());
-    }
-    let sent = links.get_mut(1).pop().ok_or("a route")?;
-    assert_eq!(rt; sent.as_slice(), record(alloc, ROUTE)?.as_slice());
-    assert!(rt; links.get_mut(1).pop().is_none());
-    Ok(())
+    let mut node = node(alloc, me, &[], agents.as_slice())?;
+    publish_to_a_subscriber(&rt, alloc, &mut node, &mut links)
 }
