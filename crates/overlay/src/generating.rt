@@ -54,7 +54,7 @@ fn prepare(alloc: Global, n: u16) -> Result<Prepared, Unfit>
         events,
         packets,
     } = scenario(alloc, n)?;
-    let events = with_traces(events.into_vec(), packets.as_slice())?;
+    let events = with_traces(events.into_vec(), packets.into_vec())?;
     let networks = config.networks.len();
     let ports = config.ports.len();
     let valid = valid_of(alloc, CompileInput { topology, config })?;

@@ -1,16 +1,21 @@
 -- Counting on: over the events that follow others, and over traces in a settled network.
-use Rattle.std.specs.Prelude.{◌≡◌, ℕ, suc, ◌+◌, List, [], ◌∷◌, ◌++◌, map, length, true}
-use Rattle.std.proofs.Common.{refl, sym, ap, ◌∙◌, arith}
+use Rattle.std.specs.Prelude.{◌≡◌, ◌≤◌, ℕ, suc, ◌+◌, Bool, true, false, List, [], ◌∷◌, ◌++◌, map, length}
+use Rattle.std.proofs.Common.{refl, sym, ap, subst, ◌∙◌, arith}
+use Rattle.std.proofs.lemmas.List.{append_assoc}
 use Rattle.ov_types.specs.declared.packet.Packet.{Packet}
 use Rattle.config_model.specs.declared.event.Event.{Event}
-use Rattle.config_model.specs.declared.event.Event.TheVariants.{Trace}
+use Rattle.config_model.specs.declared.event.Event.TheVariants.{Edit, Deliver, Lose, Connect, Restart, Round, Settle, Show, Trace}
+use Rattle.config_check.specs.Checked.{Checked}
+use Rattle.schedule_script.specs.declared.answer.Answer.{Answer}
+use Rattle.schedule_script.specs.declared.answer.Answer.TheVariants.{Did, Idle, EditRefused, Rounds, Shown, Traced}
 use Rattle.reach_plain.specs.Reachability.{reachability}
 use Rattle.route_targets.specs.Forwarding.{forwarding}
-use Rattle.network_model.specs.Network.{Network}
+use Rattle.network_model.specs.Network.{Network, start}
 use Rattle.network_model.specs.Events.{after, answer_to, event_of, forwarders, next}
-use Rattle.net_model.specs.Stands.{any_size}
+use Rattle.net_model.specs.Stands.{any_size, moment}
+use Rattle.net_machine.proofs.Ran.{moment_more}
 use Rattle.scenario_run.specs.declared.tally.Tally.{Tally}
-use Rattle.scenario_run.specs.Tallies.{counted, one_if, same_outcome, tally_from}
+use Rattle.scenario_run.specs.Tallies.{counted, is_delivered, nothing, one_if, same_outcome, settled, tally, tally_from, traced}
 use Rattle.scenario_run.proofs.Sameness.{outcome_self}
 
 pub tally_more : (w : Network) (es fs : List Event) (t : Tally)
@@ -35,5 +40,85 @@ traces_agree w delivers [] t = nothing_more t.agreed
 traces_agree w delivers (p ∷ ps) t =
     traces_agree w delivers ps (counted w.setup (Trace p) (answer_to w (event_of (Trace p))) t)
     ∙ ap (λ b. (t.agreed + one_if b) + length ps)
-      (ap (λ o. same_outcome o (reachability w.setup.config p)) (delivers p) ∙ outcome_self (reachability w.setup.config p))
+    (ap (λ o. same_outcome o (reachability w.setup.config p)) (delivers p) ∙ outcome_self (reachability w.setup.config p))
     ∙ one_more t.agreed (length ps)
+
+-- ---- one event more
+pub tally_one_more : (x : Checked) (ys : List Event) (e : Event)
+    → tally x (ys ++ e ∷ [])
+    ≡ counted (moment x (ys ++ e ∷ [])).setup e (answer_to (moment x ys) (event_of e)) (tally x ys)
+unfolding tally
+tally_one_more x ys e =
+    tally_more (start x) ys (e ∷ []) nothing
+    ∙ ap (λ (w : Network). counted w.setup e (answer_to (moment x ys) (event_of e)) (tally_from (start x) ys nothing))
+    (sym (moment_more x ys e))
+
+-- so many packets at most were counted
+pub record IsFew (t : Tally) (n : ℕ) : Type 0 where
+  pub delivered : t.delivered ≤ n
+  pub agreed : t.agreed ≤ n
+
+one_at_most : (b : Bool) → one_if b ≤ 1
+one_at_most true = omega arith
+one_at_most false = omega arith
+
+plain : (t : Tally) (n : ℕ) → IsFew t n → IsFew t (n + 1)
+plain t n few = record { delivered = omega (arith, few.delivered); agreed = omega (arith, few.agreed) }
+
+settled_few : (answer : Answer) (t : Tally) (n : ℕ) → IsFew t n → IsFew (settled answer t) (n + 1)
+settled_few (Rounds rounds is) t n few = record { delivered = omega (arith, few.delivered); agreed = omega (arith, few.agreed) }
+settled_few Did t n few = plain t n few
+settled_few Idle t n few = plain t n few
+settled_few (EditRefused f) t n few = plain t n few
+settled_few (Shown rows) t n few = plain t n few
+settled_few (Traced o) t n few = plain t n few
+
+traced_few : (y : Checked) (p : Packet) (answer : Answer) (t : Tally) (n : ℕ) → IsFew t n → IsFew (traced y p answer t) (n + 1)
+traced_few y p (Traced o) t n few = record {
+  delivered = omega (arith, few.delivered, one_at_most (is_delivered o));
+  agreed = omega (arith, few.agreed, one_at_most (same_outcome o (reachability y.config p)));
+}
+traced_few y p Did t n few = plain t n few
+traced_few y p Idle t n few = plain t n few
+traced_few y p (EditRefused f) t n few = plain t n few
+traced_few y p (Shown rows) t n few = plain t n few
+traced_few y p (Rounds rounds is) t n few = plain t n few
+
+pub few_more : (y : Checked) (e : Event) (answer : Answer) (t : Tally) (n : ℕ) → IsFew t n → IsFew (counted y e answer t) (n + 1)
+few_more y Settle answer t n few = settled_few answer t n few
+few_more y (Trace p) answer t n few = traced_few y p answer t n few
+few_more y (Edit d) answer t n few = plain t n few
+few_more y (Deliver from to k) answer t n few = plain t n few
+few_more y (Lose a b) answer t n few = plain t n few
+few_more y (Connect a b) answer t n few = plain t n few
+few_more y (Restart name) answer t n few = plain t n few
+few_more y Round answer t n few = plain t n few
+few_more y (Show name) answer t n few = plain t n few
+
+-- the count so far goes on, where the network's opening and events are those of the schedule so far
+pub counted_on : (x o o' : Checked) (ys es es' : List Event) (e : Event) (t t' : Tally)
+    → o ≡ x → o' ≡ x → es ≡ ys → es' ≡ ys ++ e ∷ [] → t ≡ tally x ys
+    → t' ≡ counted (moment o' es').setup e (answer_to (moment o es) (event_of e)) t → t' ≡ tally x (ys ++ e ∷ [])
+counted_on x o o' ys es es' e t t' opened opens taken takes counts counts_on =
+    counts_on
+    ∙ ap (λ z. counted (moment z es').setup e (answer_to (moment o es) (event_of e)) t) opens
+    ∙ ap (λ z. counted (moment x z).setup e (answer_to (moment o es) (event_of e)) t) takes
+    ∙ ap (λ z. counted (moment x (ys ++ e ∷ [])).setup e (answer_to (moment z es) (event_of e)) t) opened
+    ∙ ap (λ z. counted (moment x (ys ++ e ∷ [])).setup e (answer_to (moment x z) (event_of e)) t) taken
+    ∙ ap (λ z. counted (moment x (ys ++ e ∷ [])).setup e (answer_to (moment x ys) (event_of e)) z) counts
+    ∙ sym (tally_one_more x ys e)
+
+length_more : (ys : List Event) (e : Event) → length (ys ++ e ∷ []) ≡ length ys + 1
+length_more [] e = refl
+length_more (y ∷ ys) e = let more = length_more ys e in omega (arith, more)
+
+pub few_on : (y : Checked) (e : Event) (answer : Answer) (t t' : Tally) (ys : List Event) → t' ≡ counted y e answer t
+    → IsFew t (length ys) → IsFew t' (length (ys ++ e ∷ []))
+few_on y e answer t t' ys counts few =
+    subst (λ n. IsFew t' n) (sym (length_more ys e))
+    (subst (λ t. IsFew t (length ys + 1)) (sym counts) (few_more y e answer t (length ys) few))
+
+-- what was taken and what is left is all
+pub one_by_one : (ys : List Event) (e : Event) (old rest all : List Event) → old ≡ e ∷ rest → ys ++ old ≡ all
+    → (ys ++ e ∷ []) ++ rest ≡ all
+one_by_one ys e old rest all is whole = append_assoc ys (e ∷ []) rest ∙ ap (λ es. ys ++ es) (sym is) ∙ whole

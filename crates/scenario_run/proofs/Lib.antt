@@ -2,3 +2,4 @@
 pub mod Sameness
 pub mod Counting
 pub mod Agreeing
+pub mod Tracing

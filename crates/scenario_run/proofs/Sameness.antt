@@ -1,5 +1,5 @@
 -- Outcomes are counted as one exactly where they are.
-use Rattle.std.specs.Prelude.{◌≡◌, ◌==◌, ◌&&◌, ℕ, List, [], ◌∷◌, true}
+use Rattle.std.specs.Prelude.{◌≡◌, ◌↔◌, ◌==◌, ◌&&◌, ℕ, List, [], ◌∷◌, true}
 use Rattle.std.specs.declared.option.Option.TheVariants.{Some, None}
 use Rattle.std.specs.Cmp.Lexicographic.{pointwise}
 use Rattle.std.proofs.Common.{refl, sym, ap, ◌∙◌, arith}
@@ -51,3 +51,17 @@ services_are_one (s ∷ ss) (t ∷ ts) h =
 
 why_is_one : (v w : Why) → same_why v w ≡ true → v ≡ w
 why_is_one v w h = grind arith
+
+one_of_outcomes : (o p : Outcome) → same_outcome o p ≡ true → o ≡ p
+one_of_outcomes (Delivered port services) (Delivered port' services') h =
+    let parts = and_parts (port.0 == port'.0) (pointwise (λ s t. s.0 == t.0) services services') h in
+    let ports : port ≡ port' = ap (λ n. record { 0 = n }) (numbers_are_one port.0 port'.0 parts.0) in
+    let lists = services_are_one services services' parts.1 in
+    λ i. Delivered (ports i) (lists i)
+one_of_outcomes (Delivered port services) (Dropped why) h = absurd cc
+one_of_outcomes (Dropped why) (Delivered port services) h = absurd cc
+one_of_outcomes (Dropped why) (Dropped why') h = ap Dropped (why_is_one why why' h)
+
+pub same_is_one : (one other : Outcome) → (same_outcome one other ≡ true) ↔ (one ≡ other)
+same_is_one one other =
+    (one_of_outcomes one other, λ is. ap (λ o. same_outcome one o) (sym is) ∙ outcome_self one)

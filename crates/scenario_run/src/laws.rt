@@ -1,5 +1,5 @@
 //! What is promised of scenarios that are run, as laws: each is the contract of a function that does nothing.
-ghost use Rattle.std.specs.Prelude.{◌≡◌, ◌≤◌, ℕ};
+ghost use Rattle.std.specs.Prelude.{◌≡◌, ◌≤◌, ◌↔◌, ℕ, true};
 ghost use Rattle.std.specs.declared.option.Option.TheVariants.{None};
 ghost use Rattle.ov_types.specs.declared.packet.Outcome.{Outcome};
 ghost use Rattle.config_check.specs.Rules.{first_broken};

@@ -9,15 +9,15 @@ use config_model::Event;
 use ov_types::{NoMemory, Packet};
 
 /// Events, and then one trace for each packet.
-pub fn with_traces(events: Vec<Event>, packets: &[Packet]) -> Result<Vec<Event>, NoMemory>
+pub fn with_traces(events: Vec<Event>, packets: Vec<Packet>) -> Result<Vec<Event>, NoMemory>
     requires events { IsTrue (list_all has_event_form events.items) }
-    requires packets { IsTrue (list_all has_packet_form packets.now) }
-    ensures all { IfOk result (λ all. all.items ≡ events.items ++ map Trace packets.now) }
+    requires packets { IsTrue (list_all has_packet_form packets.items) }
+    ensures all { IfOk result (λ all. all.items ≡ events.items ++ map Trace packets.items) }
     ensures form { IfOk result (λ all. IsTrue (list_all has_event_form all.items)) }
 {
     let mut all = events;
     for packet in packets {
-        all.push(Event::Trace(*packet))?;
+        all.push(Event::Trace(packet))?;
     }
     Ok(all)
 }

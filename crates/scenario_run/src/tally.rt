@@ -1,7 +1,8 @@
 //! Counting answers.
 ghost use Rattle.std.specs.Prelude.{◌≡◌, ◌+◌, ◌≤◌, ◌<◌, ◌^◌};
+ghost use Rattle.reach_plain.specs.Reachability.{reachability};
 ghost use Rattle.scenario_run.specs.Tallies as tallies;
-ghost use Rattle.scenario_run.specs.Tallies.{counted, nothing, one_if, traced};
+ghost use Rattle.scenario_run.specs.Tallies.{counted, nothing, one_if};
 
 use config_check::Valid;
 use config_model::Event;
@@ -60,9 +61,9 @@ impl Tally {
         requires delivered { self.delivered < 2 ^ 31 }
         requires agreed { self.agreed < 2 ^ 31 }
         ensures { result ≡ record {
-            rounds = self.rounds;
-            delivered = self.delivered + one_if (tallies.is_delivered outcome.now);
-            agreed = self.agreed + one_if (tallies.same_outcome outcome.now (reachability valid.now.config packet));
+          rounds = self.rounds;
+          delivered = self.delivered + one_if (tallies.is_delivered outcome.now);
+          agreed = self.agreed + one_if (tallies.same_outcome outcome.now (reachability valid.now.config packet));
         } }
     {
         Tally {

@@ -1,0 +1,16 @@
+use Rattle.std.proofs.Common.{◌≡◌, ◌++◌, length, false}
+use Rattle.net_model.specs.Stands.{StandsFor, moment}
+use Rattle.scenario_run.specs.Tallies.{tally}
+use Rattle.scenario_run.proofs.Counting.{IsFew}
+use Rattle.scenario_run.proofs.running.count_all.Given as goal
+
+abbrev pub invariant-loop-event : goal.invariant-loop-event
+invariant-loop-event l = record {
+  rest : l.yielded ++ l.event-iterator.rest.items ≡ l.fn.events.items;
+  tally : l.tally ≡ tally l.fn.net.opening l.yielded;
+  few : IsFew l.tally (length l.yielded);
+  opening : l.net.opening ≡ l.fn.net.opening;
+  events : l.net.events ≡ l.yielded;
+  works : l.net.failed ≡ false;
+  state : StandsFor l.net.seats (moment l.net.opening l.net.events);
+}
