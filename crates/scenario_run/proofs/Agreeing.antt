@@ -1,9 +1,8 @@
 -- In a scenario that is valid each packet has the outcome that policies give.
-use Rattle.std.specs.Prelude.{◌≡◌, ◌<◌, ◌≤◌, ℕ, ◌+◌, List, map, take, length, IsTrue, true}
+use Rattle.std.specs.Prelude.{◌≡◌, ◌<◌, ℕ, ◌+◌, List, map, take, length, true}
 use Rattle.std.specs.declared.option.Option.TheVariants.{None}
-use Rattle.std.proofs.Common.{refl, sym, ap, ◌∙◌, arith}
+use Rattle.std.proofs.Common.{refl, ap, ◌∙◌, arith}
 use Rattle.ov_types.specs.declared.packet.Packet.{Packet}
-use Rattle.config_model.specs.declared.event.Event.{Event as Written}
 use Rattle.config_model.specs.declared.event.Event.TheVariants.{Trace}
 use Rattle.config_check.specs.Rules.{first_broken}
 use Rattle.reach_plain.specs.Reachability.{reachability}
@@ -16,7 +15,7 @@ use Rattle.network_laws.specs.Settling.{EditsAreValid}
 use Rattle.headline_laws.specs.Headline.{IsOfForm, IsWritten}
 use Rattle.headline_laws.proofs.Delivers.{written_delivers}
 use Rattle.headline_laws.proofs.Written.{written_settle_settles}
-use Rattle.net_model.specs.Stands.{any_size, moment}
+use Rattle.net_model.specs.Stands.{any_size}
 use Rattle.schedule_laws.proofs.AsCompiled.{edits_of_form, forms_of_front}
 use Rattle.scenario_gen.specs.Scenario.{scenario}
 use Rattle.scenario_gen.specs.Schedule.{events, packets}
@@ -24,7 +23,7 @@ use Rattle.scenario_gen.proofs.NodeForms.{topology_has_form}
 use Rattle.scenario_gen.proofs.WholeForm.{config_has_form, events_have_form}
 use Rattle.scenario_run.specs.declared.tally.Tally.{Tally}
 use Rattle.scenario_run.specs.Agreed.{PacketsAgree}
-use Rattle.scenario_run.specs.Scheduled.{opening, schedule}
+use Rattle.scenario_run.specs.Scheduled.{opening}
 use Rattle.scenario_run.specs.Tallies.{nothing, tally, tally_from}
 use Rattle.scenario_run.proofs.Counting.{tally_more, traces_agree}
 

@@ -1,7 +1,5 @@
 -- What is promised of the scenarios that are valid.
-use Rattle.std.specs.Prelude.{◌≡◌, ◌≤◌, ℕ, length}
-use Rattle.std.specs.declared.option.Option.TheVariants.{None}
-use Rattle.config_check.specs.Rules.{first_broken}
+use Rattle.std.specs.Prelude.{◌≡◌, ℕ, length}
 use Rattle.scenario_gen.specs.Scenario.{scenario}
 use Rattle.scenario_run.specs.Scheduled.{opening, schedule}
 use Rattle.scenario_run.specs.Tallies.{tally}

@@ -1,5 +1,5 @@
 //! Counting answers.
-ghost use Rattle.std.specs.Prelude.{◌≡◌, ◌+◌, ◌≤◌, ◌<◌, ◌^◌};
+ghost use Rattle.std.specs.Prelude.{◌≡◌, ◌+◌, ◌<◌, ◌^◌};
 ghost use Rattle.reach_plain.specs.Reachability.{reachability};
 ghost use Rattle.scenario_run.specs.Tallies as tallies;
 ghost use Rattle.scenario_run.specs.Tallies.{counted, nothing, one_if};
