@@ -18,6 +18,7 @@ USAGE = b"""usage: overlay compile < DOCUMENT
        overlay reach < DOCUMENT
        overlay run < DOCUMENT
        overlay decode < DIGITS
+       overlay gen NUMBER
        overlay --help | --version
 """
 TEXT = b"""instance 1 imports 1
@@ -33,6 +34,10 @@ OVERLAP = b"""{"topology":
    "nodes":[{"name":"n1","address":"192.0.2.11","controllers":["c1"]}]},
  "configuration":
   {"networks":[{"name":"red","id":1,"subnets":["10.1.0.0/24"]},{"name":"red","id":2,"subnets":["10.2.0.0/24"]}]}}"""
+SUMMARY = b"""gen 3 controllers 3 nodes 20 networks 12 ports 192 uses 3
+rounds 6 5
+traces 40 delivered 8 agreed 40
+"""
 KEEPALIVE = b"ffffffffffffffffffffffffffffffff001304\n"
 
 
@@ -46,12 +51,15 @@ RUNS = [
     ([b"compile"], example("one.json"), 0, TEXT, b""),
     ([b"decode"], b"", 0, b"", b""),
     ([b"decode"], KEEPALIVE * 10_000, 0, b"keepalive\n" * 10_000, b""),
+    ([b"gen", b"3"], b"", 0, SUMMARY, b""),
     ([b"--help"], b"", 0, USAGE, b""),
     ([b"--version"], b"", 0, b"overlay 0.1.0\n", b""),
     ([], b"", 2, b"", USAGE),
     ([b"show"], b"", 2, b"", USAGE),
     ([b"compile", b"reach"], example("one.json"), 2, b"", USAGE),
     ([b"--help", b"compile"], b"", 2, b"", USAGE),
+    ([b"gen"], b"", 2, b"", USAGE),
+    ([b"gen", b"03"], b"", 2, b"", USAGE),
     ([b"\xff"], b"", 2, b"", USAGE),
     ([b"compile"], b" " * 16_777_217, 4, b"", b""),
     ([b"compile"], b"{", 5, b"not json\n", b""),

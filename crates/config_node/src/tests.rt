@@ -10,6 +10,7 @@ use ov_link::{FailingLink, Input, Link, Links, NodeFault, QueueLink, Stepped};
 use ov_types::{Addr, Name};
 use serde_json::Value;
 use std::alloc::Global;
+use std::process::Abort;
 use std::test::Fail;
 
 /// The control node c1, and the network red with port 7 at 10.1.0.5 on the compute node n1.
@@ -212,13 +213,27 @@ fn address(node: &ConfigNode) -> Option<Addr> {
     Some(port.address)
 }
 
+/// Does each deed in turn.
+fn each_comes(
+    rt: &impl Abort,
+    alloc: Global,
+    node: &mut ConfigNode,
+    links: &mut Links<QueueLink>,
+    rows: &[Row],
+) {
+    for (deed, outcome, sent) in rows.iter() {
+        assert_eq!(rt; act(alloc, node, links, deed), *outcome);
+        assert!(rt; were_sent(links, sent));
+    }
+}
+
 #[test]
 fn a_control_node_is_told_the_objects_and_what_an_edit_changes(
     rt: HostRuntime,
 ) -> Result<(), Fail> {
     let alloc = rt.alloc();
-    let mut node = node(alloc)?;
     let mut links = queue(alloc)?;
+    let mut node = node(alloc)?;
     let rows: [Row; 6] = [
         (Deed::Open, Outcome::Done, ALL),
         (Deed::Hear(FROM_CONTROLLER), Outcome::Done, &[]),
@@ -227,10 +242,7 @@ fn a_control_node_is_told_the_objects_and_what_an_edit_changes(
         (Deed::Edit(DELETE), Outcome::Done, &[GONE]),
         (Deed::Edit(MOVE), Outcome::Done, &[MOVED]),
     ];
-    for (deed, outcome, sent) in rows.iter() {
-        assert_eq!(rt; act(alloc, &mut node, &mut links, deed), *outcome);
-        assert!(rt; were_sent(&mut links, sent));
-    }
+    each_comes(&rt, alloc, &mut node, &mut links, &rows);
     assert!(rt; is_up(&node));
     assert_eq!(rt; address(&node), Some(Addr(0x0a01_0006)));
     Ok(())
@@ -239,9 +251,9 @@ fn a_control_node_is_told_the_objects_and_what_an_edit_changes(
 #[test]
 fn an_edit_with_a_fault_changes_nothing(rt: HostRuntime) -> Result<(), Fail> {
     let alloc = rt.alloc();
-    let mut node = node(alloc)?;
-    let mut links = queue(alloc)?;
     let port = Name::new("vm1").ok_or("a name")?;
+    let mut links = queue(alloc)?;
+    let mut node = node(alloc)?;
     let outside = EditFault::Rule(Refusal::AddressOutside { port });
     let missing = EditFault::Missing { name: port };
     let rows: [Row; 5] = [
@@ -251,18 +263,15 @@ fn an_edit_with_a_fault_changes_nothing(rt: HostRuntime) -> Result<(), Fail> {
         (Deed::Edit(DELETE), Outcome::Done, &[GONE]),
         (Deed::Edit(DELETE), Outcome::Refused(missing), &[]),
     ];
-    for (deed, outcome, sent) in rows.iter() {
-        assert_eq!(rt; act(alloc, &mut node, &mut links, deed), *outcome);
-        assert!(rt; were_sent(&mut links, sent));
-    }
+    each_comes(&rt, alloc, &mut node, &mut links, &rows);
     Ok(())
 }
 
 #[test]
 fn a_record_of_a_control_node_closes_the_session(rt: HostRuntime) -> Result<(), Fail> {
     let alloc = rt.alloc();
-    let mut node = node(alloc)?;
     let mut links = queue(alloc)?;
+    let mut node = node(alloc)?;
     let closed = Outcome::Closed(ItemCause::Order);
     let rows: [Row; 6] = [
         (Deed::Open, Outcome::Done, ALL),
@@ -272,18 +281,15 @@ fn a_record_of_a_control_node_closes_the_session(rt: HostRuntime) -> Result<(), 
         (Deed::Edit(MOVE), Outcome::Done, &[]),
         (Deed::Open, Outcome::Done, ALL_MOVED),
     ];
-    for (deed, outcome, sent) in rows.iter() {
-        assert_eq!(rt; act(alloc, &mut node, &mut links, deed), *outcome);
-        assert!(rt; were_sent(&mut links, sent));
-    }
+    each_comes(&rt, alloc, &mut node, &mut links, &rows);
     Ok(())
 }
 
 #[test]
 fn a_restart_closes_the_session_and_keeps_what_is_valid(rt: HostRuntime) -> Result<(), Fail> {
     let alloc = rt.alloc();
-    let mut node = node(alloc)?;
     let mut links = queue(alloc)?;
+    let mut node = node(alloc)?;
     assert_eq!(rt; open(&mut node, &mut links), Outcome::Done);
     assert_eq!(rt; change(alloc, &mut node, &mut links, MOVE), Outcome::Done);
     node.restart();
@@ -304,12 +310,13 @@ fn fails(links: &mut Links<FailingLink>, n: u32) -> Result<(), Fail> {
     Ok(())
 }
 
-#[test]
-fn a_link_that_fails_closes_its_session_and_the_edit_stays(rt: HostRuntime) -> Result<(), Fail> {
-    let alloc = rt.alloc();
-    let mut node = node(alloc)?;
-    let mut links = Links::new(alloc);
-    links.push(FailingLink::new(alloc))?;
+/// Opens the session and makes an edit while the link fails at times.
+fn go_over_breaks(
+    rt: &impl Abort,
+    alloc: Global,
+    node: &mut ConfigNode,
+    links: &mut Links<FailingLink>,
+) -> Result<(), Fail> {
     for (breaks, deed, outcome) in [
         (3, Deed::Open, Outcome::LinkFailed),
         (0, Deed::Hear(FROM_CONTROLLER), Outcome::NotAsked),
@@ -318,10 +325,19 @@ fn a_link_that_fails_closes_its_session_and_the_edit_stays(rt: HostRuntime) -> R
         (0, Deed::Hear(FROM_CONTROLLER), Outcome::NotAsked),
         (0, Deed::Open, Outcome::Done),
     ] {
-        fails(&mut links, breaks)?;
-        assert_eq!(rt; act(alloc, &mut node, &mut links, &deed), outcome);
+        fails(links, breaks)?;
+        assert_eq!(rt; act(alloc, node, links, &deed), outcome);
     }
     assert!(rt; !node.failed());
-    assert_eq!(rt; address(&node), Some(Addr(0x0a01_0006)));
+    assert_eq!(rt; address(node), Some(Addr(0x0a01_0006)));
     Ok(())
+}
+
+#[test]
+fn a_link_that_fails_closes_its_session_and_the_edit_stays(rt: HostRuntime) -> Result<(), Fail> {
+    let alloc = rt.alloc();
+    let mut links = Links::new(alloc);
+    links.push(FailingLink::new(alloc))?;
+    let mut node = node(alloc)?;
+    go_over_breaks(&rt, alloc, &mut node, &mut links)
 }
