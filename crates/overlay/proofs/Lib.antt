@@ -9,3 +9,4 @@ pub mod SomeText
 pub mod Scheduled
 pub mod Unfit
 pub mod Left
+pub mod Summed

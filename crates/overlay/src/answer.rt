@@ -49,16 +49,6 @@ pub(crate) enum Unfit {
     NoMemory,
 }
 
-impl From<NoMemory> for Unfit {
-    ghost use Rattle.overlay.specs.declared.answer.Unfit.TheVariants as unfit;
-
-    ghost from_gives = { λ _ u. u ≡ unfit.NoMemory };
-
-    fn from(_: NoMemory) -> Unfit {
-        Unfit::NoMemory
-    }
-}
-
 /// The value that octets write as JSON.
 pub(crate) fn value_of(alloc: Global, octets: &[u8]) -> Result<Option<Value>, NoMemory>
     ensures { IfOk result (λ o. option_map view o ≡ json_of octets.now) }

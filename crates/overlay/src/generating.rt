@@ -4,6 +4,7 @@ ghost use Rattle.std.specs.List.{list_all};
 ghost use Rattle.std.specs.Io.KnownBytes.{Appends};
 ghost use Rattle.config_check.specs.Rules.{first_broken};
 ghost use Rattle.config_model.specs.Event.{has_event_form};
+ghost use Rattle.config_model.specs.Form.{has_config_form, has_topology_form};
 ghost use Rattle.ov_io.specs.Inputs.{TookFront};
 ghost use Rattle.ov_io.specs.Pieces.{HasWriteCause};
 ghost use Rattle.scenario_gen.specs.Scenario.{scenario};
@@ -24,29 +25,27 @@ use scenario_gen::{Scenario, scenario, tenants};
 use scenario_run::{Ran, Tally, run_counted, with_traces};
 use std::alloc::Global;
 
-/// A scenario that is valid, and how many networks and ports it has.
+/// A scenario: what is checked of it, what is run, and how many networks and ports it has.
 #[derive(Drop)]
-struct Prepared {
-    valid: Valid,
+struct Made {
+    input: CompileInput,
     events: Vec<Event>,
     networks: usize,
     ports: usize,
 }
 
-/// What `gen` takes: the scenario of a number, where it is valid.
-#[tactic(auto, unfolding(crate::specs::Answers::gen_answer))]
-fn prepare(alloc: Global, n: u16) -> Result<Prepared, Unfit>
+/// The scenario of a number. Only want of memory keeps it from being made.
+fn make(alloc: Global, n: u16) -> Result<Made, NoMemory>
     requires first { 1 ≤ n }
     requires last { n ≤ 999 }
-    ensures fit { IfOk result (λ p. gen_answer n ≡ answer_good (summary_text n)) }
-    ensures broken { OnOk result (first_broken (scenario n).topology (scenario n).config ≡ None) }
-    ensures valid { IfOk result (λ p. p.valid ≡ opening n) }
-    ensures events { IfOk result (λ p. p.events.items ≡ schedule n) }
-    ensures form { IfOk result (λ p. IsTrue (list_all has_event_form p.events.items)) }
-    ensures few { IfOk result (λ p. length p.events.items ≤ 1000) }
-    ensures networks { IfOk result (λ p. p.networks ≡ length (scenario n).config.networks) }
-    ensures ports { IfOk result (λ p. p.ports ≡ length (scenario n).config.ports) }
-    ensures unfit { IfErr result (λ unfit. IsAnswered unfit (gen_answer n)) }
+    ensures topology { IfOk result (λ m. m.input.topology ≡ (scenario n).topology) }
+    ensures config { IfOk result (λ m. m.input.config ≡ (scenario n).config) }
+    ensures topology_form { IfOk result (λ m. IsTrue (has_topology_form m.input.topology)) }
+    ensures config_form { IfOk result (λ m. IsTrue (has_config_form m.input.config)) }
+    ensures events { IfOk result (λ m. m.events.items ≡ schedule n) }
+    ensures form { IfOk result (λ m. IsTrue (list_all has_event_form m.events.items)) }
+    ensures networks { IfOk result (λ m. m.networks ≡ length (scenario n).config.networks) }
+    ensures ports { IfOk result (λ m. m.ports ≡ length (scenario n).config.ports) }
 {
     let Scenario {
         topology,
@@ -54,12 +53,12 @@ fn prepare(alloc: Global, n: u16) -> Result<Prepared, Unfit>
         events,
         packets,
     } = scenario(alloc, n)?;
-    let events = with_traces(events.into_vec(), packets.into_vec())?;
     let networks = config.networks.len();
     let ports = config.ports.len();
-    let valid = valid_of(alloc, CompileInput { topology, config })?;
-    Ok(Prepared {
-        valid,
+    let input = CompileInput { topology, config };
+    let events = with_traces(events.into_vec(), packets.into_vec())?;
+    Ok(Made {
+        input,
         events,
         networks,
         ports,
@@ -100,6 +99,26 @@ fn write_summary<K: Sink>(
     Ok(())
 }
 
+/// The configuration of a scenario, with its topology, where it is valid.
+#[tactic(auto, unfolding(crate::specs::Answers::gen_answer))]
+fn valid_scenario(alloc: Global, n: u16, input: CompileInput) -> Result<Valid, Unfit>
+    requires topology { input.topology ≡ (scenario n).topology }
+    requires config { input.config ≡ (scenario n).config }
+    requires topology_form { IsTrue (has_topology_form input.topology) }
+    requires config_form { IsTrue (has_config_form input.config) }
+    ensures valid { IfOk result (λ valid. valid ≡ opening n) }
+    ensures kept { OnOk result (first_broken (scenario n).topology (scenario n).config ≡ None) }
+    ensures fit { OnOk result (gen_answer n ≡ answer_good (summary_text n)) }
+    ensures unfit { IfErr result (λ unfit. IsAnswered unfit (gen_answer n)) }
+{
+    valid_of(alloc, input)
+}
+
+/// A scenario's schedule has few events.
+fn know_short(n: u16)
+    ensures { length (schedule n) ≤ 1000 }
+{}
+
 /// Writes what `gen` answers. The network that took the scenario's events is left where all was written.
 pub(crate) fn answer_gen<K: Sink>(
     alloc: Global,
@@ -116,15 +135,15 @@ pub(crate) fn answer_gen<K: Sink>(
     ensures promise { (octets : List ℕ) → PromisesOn (Gen n) octets result (K.taken sink.old) (K.taken sink.new) }
 {
     *net = None;
-    match prepare(alloc, n) {
-        Ok(
-            Prepared {
-                valid,
-                events,
-                networks,
-                ports,
-            },
-        ) => {
+    let Made {
+        input,
+        events,
+        networks,
+        ports,
+    } = make(alloc, n)?;
+    match valid_scenario(alloc, n, input) {
+        Ok(valid) => {
+            know_short(n);
             let Ran { net: made, tally } = run_counted(alloc, valid, events)?;
             write_summary(alloc, n, networks, ports, &tally, sink)?;
             *net = Some(made);
