@@ -1,4 +1,4 @@
-use Rattle.std.proofs.Common.{refl, subst, sym, IsTrue, ◌∙◌}
+use Rattle.std.proofs.Common.{refl, subst, IsTrue}
 use Rattle.std.specs.List.{list_all}
 use Rattle.config_model.specs.Event.{has_event_form}
 use Rattle.ov_io.proofs.PieceLemmas.{on_err}
@@ -18,26 +18,26 @@ returns-in-Err-clause-promise g c = λ octets.
 
 pub returns-in_err-write_summary-in-Ok-clause-front : goal.returns-in_err-write_summary-in-Ok-clause-front
 returns-in_err-write_summary-in-Ok-clause-front g c =
-    let is = summed c.args.n c.in_ok-made-in-Ok.tally c.in-Ok.valid c.in_ok-input.field-0.events.items
-    (sym c.in_ok-made-in-Ok.tally-is ∙ c.in_ok-made-in-Ok.ensures.tally) c.in-Ok.ensures.valid
+    let is = summed c.args.n c.in_ok-made-in-Ok.field-0.tally c.in-Ok.valid c.in_ok-input.field-0.events.items
+    c.in_ok-made-in-Ok.ensures.tally c.in-Ok.ensures.valid
     c.in_ok-input.ensures.events in
     on_err c.from_residual-in_err-write_summary-in-Ok.result _
-    (summary_front c.args.n c.in_ok-made-in-Ok.tally _ _ is c.in-Ok.ensures.fit
+    (summary_front c.args.n c.in_ok-made-in-Ok.field-0.tally _ _ is c.in-Ok.ensures.fit
     c.in_err-write_summary-in-Ok.ensures.front)
 
 pub returns-in_ok-write_summary-in-Ok-clause-given : goal.returns-in_ok-write_summary-in-Ok-clause-given
 returns-in_ok-write_summary-in-Ok-clause-given g c =
-    let is = summed c.args.n c.in_ok-made-in-Ok.tally c.in-Ok.valid c.in_ok-input.field-0.events.items
-    (sym c.in_ok-made-in-Ok.tally-is ∙ c.in_ok-made-in-Ok.ensures.tally) c.in-Ok.ensures.valid
+    let is = summed c.args.n c.in_ok-made-in-Ok.field-0.tally c.in-Ok.valid c.in_ok-input.field-0.events.items
+    c.in_ok-made-in-Ok.ensures.tally c.in-Ok.ensures.valid
     c.in_ok-input.ensures.events in
-    summary_given c.args.n c.in_ok-made-in-Ok.tally _ _ is c.in-Ok.ensures.fit c.in_ok-write_summary-in-Ok.ensures.ok
+    summary_given c.args.n c.in_ok-made-in-Ok.field-0.tally _ _ is c.in-Ok.ensures.fit c.in_ok-write_summary-in-Ok.ensures.ok
 
 pub returns-in_ok-write_summary-in-Ok-clause-promise : goal.returns-in_ok-write_summary-in-Ok-clause-promise
 returns-in_ok-write_summary-in-Ok-clause-promise g c =
-    let is = summed c.args.n c.in_ok-made-in-Ok.tally c.in-Ok.valid c.in_ok-input.field-0.events.items
-    (sym c.in_ok-made-in-Ok.tally-is ∙ c.in_ok-made-in-Ok.ensures.tally) c.in-Ok.ensures.valid
+    let is = summed c.args.n c.in_ok-made-in-Ok.field-0.tally c.in-Ok.valid c.in_ok-input.field-0.events.items
+    c.in_ok-made-in-Ok.ensures.tally c.in-Ok.ensures.valid
     c.in_ok-input.ensures.events in
     let forms = subst (λ es. IsTrue (list_all has_event_form es)) c.in_ok-input.ensures.events
     c.in_ok-input.ensures.form in
-    λ octets. took_summary octets c.args.n _ _ c.in_ok-made-in-Ok.tally c.in-Ok.ensures.kept forms is
+    λ octets. took_summary octets c.args.n _ _ c.in_ok-made-in-Ok.field-0.tally c.in-Ok.ensures.kept forms is
     c.in_ok-write_summary-in-Ok.ensures.ok
