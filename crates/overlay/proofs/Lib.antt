@@ -10,3 +10,4 @@ pub mod Scheduled
 pub mod Unfit
 pub mod Left
 pub mod Summed
+pub mod Numbers

@@ -1,5 +1,5 @@
 -- The words of the command line.
-use Rattle.std.specs.Prelude.{◌≤◌, ◌&&◌, ◌+◌, ◌-◌, ◌*◌, ℕ, Bool, List, [], ◌∷◌, codes, nat_eq, nat_le, Option, Some, None, ⊤}
+use Rattle.std.specs.Prelude.{◌≡◌, ◌≤◌, ◌&&◌, ◌+◌, ◌-◌, ◌*◌, ℕ, Bool, List, [], ◌∷◌, codes, nat_eq, nat_le, decimal, Option, Some, None, ⊤}
 use Rattle.std.specs.Prelude.{String, string_bytes, if◌then◌else◌}
 use Rattle.std.specs.Option.{option_map}
 use Rattle.std.specs.declared.alloc.Global.{Global}
@@ -32,6 +32,12 @@ scenario_number (a ∷ b ∷ []) =
 scenario_number (a ∷ b ∷ c ∷ []) =
     if is_first_digit a && (is_digit b && is_digit c) then Some (100 * (a - 48) + (10 * (b - 48) + (c - 48))) else None
 scenario_number _ = None
+
+-- a number 1 to 999, and its decimal text
+pub record IsInDecimal (n : ℕ) (text : List ℕ) : Type 0 where
+  pub first : 1 ≤ n
+  pub last : n ≤ 999
+  pub is : text ≡ decimal n
 
 -- the command of a name with a number
 abbrev pub command_numbered : List ℕ → List ℕ → Option Command

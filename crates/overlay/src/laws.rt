@@ -1,8 +1,9 @@
 //! What the definitions of a report and of what is written promise.
-ghost use Rattle.std.specs.Prelude.{◌≡◌, ℕ, List};
+ghost use Rattle.std.specs.Prelude.{◌≡◌, ◌↔◌, ℕ, List, Some};
 ghost use Rattle.bgp_wire.specs.Messages.{AreOctets};
 ghost use Rattle.overlay.specs.declared.command.Command.{Command};
 ghost use Rattle.overlay.specs.Answers.{Writes};
+ghost use Rattle.overlay.specs.Commands.{IsInDecimal, scenario_number};
 ghost use Rattle.overlay.specs.Decoding.{IsReport};
 
 /// Octets are always told: some text is a report of them.
@@ -18,4 +19,9 @@ pub fn octets_have_one_report()
 /// Each command has a text for each input.
 pub fn each_input_has_a_text()
     ensures { (command : Command) (octets : List ℕ) → (text : List ℕ) × Writes command octets text }
+{}
+
+/// A word is read as the number of a scenario exactly where it is that number in decimal, and the number is 1 to 999.
+pub fn numbers_are_decimal()
+    ensures { (text : List ℕ) (n : ℕ) → (scenario_number text ≡ Some n) ↔ IsInDecimal n text }
 {}
