@@ -3,3 +3,4 @@ pub mod Sameness
 pub mod Counting
 pub mod Agreeing
 pub mod Tracing
+pub mod Counted

@@ -2,3 +2,4 @@
 pub mod Scheduled
 pub mod Tallies
 pub mod Agreed
+pub mod Counts
