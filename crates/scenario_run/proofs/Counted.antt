@@ -7,6 +7,7 @@ use Rattle.std.specs.declared.option.Option.TheVariants.{Some, None}
 use Rattle.std.proofs.Common.{refl, sym, ap, subst, ◌∙◌, arith}
 use Rattle.std.proofs.lemmas.Option.{same_Some}
 use Rattle.ov_types.specs.declared.packet.Outcome.{Outcome}
+use Rattle.ov_types.specs.declared.packet.Outcome.TheVariants.{Delivered, Dropped}
 use Rattle.ov_types.specs.declared.packet.Packet.{Packet}
 use Rattle.config_check.specs.Checked.{Checked}
 use Rattle.config_check.specs.Edits.{edit_fault}
@@ -69,6 +70,10 @@ stays t answer plain = record {
   rounds = ap (λ o. later t.rounds o) (sym plain.rounds);
 }
 
+delivery_is : (o : Outcome) → is_delivered o ≡ is_delivery (Traced o)
+delivery_is (Delivered port services) = refl
+delivery_is (Dropped why) = refl
+
 counts_one : (y : Checked) (w : Network) (e : Event) (t : Tally)
     → CountsOne t (answer_to w (event_of e)) (counted y e (answer_to w (event_of e)) t)
 counts_one y w (written.Edit e) t = stays t _ (plain_edit (edit_fault w.setup e))
@@ -79,7 +84,10 @@ counts_one y w (written.Restart name) t = stays t _ (plain_unless (not (is_node 
 counts_one y w written.Round t = stays t Did (record { delivery = refl; rounds = refl })
 counts_one y w written.Settle t = record { delivered = nothing_more t.delivered; rounds = refl }
 counts_one y w (written.Show name) t = stays t _ (plain_show w name (is_node w name))
-counts_one y w (written.Trace p) t = record { delivered = refl; rounds = refl }
+counts_one y w (written.Trace p) t = record {
+  delivered = ap (λ b. t.delivered + one_if b) (delivery_is (forwarding (forwarders w) p));
+  rounds = refl;
+}
 
 -- ---- what was delivered
 one_delivered : (b : Bool) (x : Answer) (xs : List Answer) → is_delivery x ≡ b

@@ -4,6 +4,7 @@ use Rattle.std.specs.List.{filter, filter_map}
 use Rattle.std.specs.declared.option.Option.{Option}
 use Rattle.std.specs.declared.option.Option.TheVariants.{Some, None}
 use Rattle.ov_types.specs.declared.packet.Outcome.{Outcome}
+use Rattle.ov_types.specs.declared.packet.Outcome.TheVariants.{Delivered}
 use Rattle.ov_types.specs.declared.packet.Packet.{Packet}
 use Rattle.config_check.specs.Checked.{Checked}
 use Rattle.config_model.specs.declared.event.Event.{Event}
@@ -14,7 +15,6 @@ use Rattle.schedule_script.specs.declared.answer.Answer.TheVariants.{Rounds, Tra
 use Rattle.net_model.specs.Stands.{moment}
 use Rattle.schedule_laws.specs.Compiled.{StandsAt, answers}
 use Rattle.scenario_run.specs.declared.tally.Tally.{Tally}
-use Rattle.scenario_run.specs.Tallies.{is_delivered}
 
 abbrev pub is_trace : Event → Bool
 is_trace (Trace p) = true
@@ -22,7 +22,7 @@ is_trace event = false
 
 -- whether an answer is that a packet was delivered
 abbrev pub is_delivery : Answer → Bool
-is_delivery (Traced outcome) = is_delivered outcome
+is_delivery (Traced (Delivered port services)) = true
 is_delivery answer = false
 
 -- the rounds that a settle took, where the answer is that of a settle
