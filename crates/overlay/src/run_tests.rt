@@ -1,24 +1,37 @@
 //! Whole runs of `run`, over memory.
 use crate::run_cases::{
-    AGGREGATE_GOES, CHAIN_SETTLES, CHAIN_SHOWN_BY_THE_OTHER, CONNECT_AND_LOSE, EDITS_ANSWERED,
+    ACROSS, AGGREGATE_GOES, CHAIN_SETTLES, CHAIN_SHOWN_BY_THE_OTHER, CONNECT_AND_LOSE, EDITS_ANSWERED,
     EQUAL_ADDRESSES_STAY_APART, LOST_SESSION, NO_EVENTS, SEVENTH_ROUND, SIX_ROUNDS, Schedule,
     TWO_CONTROL_NODES,
 };
-use crate::tests::{Case, ran, run_over, words_of};
+use crate::tests::{Case, TWO_NODES, ran, run_over, words_of};
 use crate::top::{Status, overlay};
 use config_model::Event;
 use net_machine::Net;
 use ov_io::{MemSink, MemSource};
-use std::alloc::Global;
+use std::alloc::{AllocError, Global};
 use std::process::Abort;
 use std::test::Fail;
 
-/// Runs each document.
+/// A document of a topology, a configuration and events.
+fn script(
+    alloc: Global,
+    topology: &str,
+    configuration: &str,
+    events: &str,
+) -> Result<String, AllocError> {
+    format!(in alloc;
+        r#"{{"topology":{topology},"configuration":{configuration},"events":{events}}}"#
+    )
+}
+
+/// Runs each schedule.
 fn each_runs(rt: &impl Abort, alloc: Global, schedules: &[Schedule]) -> Result<(), Fail> {
-    for (document, answers) in schedules {
+    for (topology, configuration, events, answers) in schedules {
+        let document = script(alloc, topology, configuration, events)?;
         let (ended, sink) = ran(alloc, "run", document.as_bytes())?;
-        assert_eq!(rt; ended, Status::Done, "{document}");
-        assert_eq!(rt; sink.taken(), answers.as_bytes(), "{document}");
+        assert_eq!(rt; ended, Status::Done, "{events}");
+        assert_eq!(rt; sink.taken(), answers.as_bytes(), "{events}");
     }
     Ok(())
 }
@@ -72,8 +85,9 @@ fn is_settled(net: &Net) -> bool {
 #[test]
 fn rounds_that_go_backwards_need_seven_for_a_chain_of_two(rt: HostRuntime) -> Result<(), Fail> {
     let alloc = rt.alloc();
-    for (rest, settled) in [("]}", false), (SEVENTH_ROUND, true)] {
-        let document = format!(in alloc; "{SIX_ROUNDS}{rest}")?;
+    for (rest, settled) in [("", false), (SEVENTH_ROUND, true)] {
+        let events = format!(in alloc; "[{SIX_ROUNDS}{rest}]")?;
+        let document = script(alloc, TWO_NODES, ACROSS, events.as_str())?;
         assert_eq!(rt;
             ends_settled(alloc, document.as_str())?,
             Some(settled),
@@ -102,6 +116,13 @@ traces 40 delivered 8 agreed 40
     Ok(())
 }
 
+/// How a run of the chain that settles ended, and the network that it left, where these writes fail.
+fn left_by_the_chain(alloc: Global, failing: &[u64]) -> Result<(Status, Option<Net>), Fail> {
+    let (topology, configuration, events, _) = CHAIN_SETTLES;
+    let document = script(alloc, topology, configuration, events)?;
+    left(alloc, document.as_str(), failing)
+}
+
 /// Whether a network is settled, and took the four events of a chain that settles.
 fn took_the_chain(net: &Net) -> bool {
     if net.failed() || net.opening().topology().asn != 64512 {
@@ -119,7 +140,7 @@ fn took_the_chain(net: &Net) -> bool {
 
 #[test]
 fn the_network_that_took_the_events_is_left(rt: HostRuntime) -> Result<(), Fail> {
-    let (ended, net) = left(rt.alloc(), CHAIN_SETTLES.0, &[])?;
+    let (ended, net) = left_by_the_chain(rt.alloc(), &[])?;
     let took = match &net {
         Some(net) => took_the_chain(net),
         None => false,
@@ -130,7 +151,7 @@ fn the_network_that_took_the_events_is_left(rt: HostRuntime) -> Result<(), Fail>
 
 #[test]
 fn no_network_is_left_of_a_run_that_fails(rt: HostRuntime) -> Result<(), Fail> {
-    let (ended, net) = left(rt.alloc(), CHAIN_SETTLES.0, &[1])?;
+    let (ended, net) = left_by_the_chain(rt.alloc(), &[1])?;
     assert!(rt; net.is_none() && ended == Status::WriteFault);
     Ok(())
 }
