@@ -63,5 +63,5 @@ pub(crate) fn label_of(route: &Route<'_>) -> Label
     requires { IsRoute (fields_of route.now) }
     ensures { result ≡ label_of (fields_of route.now) }
 {
-    Label(BigEndian::read_u24(route.octets) / 16)
+    Label(BigEndian::read_u24(route.octets) >> 4)
 }

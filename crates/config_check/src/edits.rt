@@ -10,20 +10,25 @@ use crate::valid::{Valid, check};
 use config_model::{Config, Edit, Object, ObjectKind, Topology};
 use ov_types::{Name, NoMemory};
 use std::alloc::{AllocError, Global};
+use thiserror::Error;
 
 /// Why an edit is not made.
-#[derive(Clone, Copy, Debug, PartialEq, Eq)]
+#[derive(Clone, Copy, Debug, PartialEq, Eq, Error)]
 pub enum EditFault {
     /// No object of the kind has the deleted name.
+    #[error("Missing {name}")]
     Missing { name: Name },
     /// The edited configuration would break a rule.
+    #[error(transparent)]
     Rule(Refusal),
 }
 
 /// Why an edited configuration was not answered.
-#[derive(Clone, Copy, Debug, PartialEq, Eq)]
+#[derive(Clone, Copy, Debug, PartialEq, Eq, Error)]
 pub enum EditRefusal {
+    #[error(transparent)]
     Edit(EditFault),
+    #[error("no memory")]
     NoMemory,
 }
 

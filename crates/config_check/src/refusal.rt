@@ -1,5 +1,6 @@
 //! What breaks a rule of valid configurations.
 use ov_types::{Name, NoMemory, Prefix, RuleNo};
+use thiserror::Error;
 
 /// What is counted against a limit, in the order of the tests.
 #[derive(Clone, Copy, Debug, PartialEq, Eq)]
@@ -29,7 +30,7 @@ pub enum IdKind {
 }
 
 /// A broken rule, with the objects that its line names. The rules are tried in this order.
-#[derive(Clone, Copy, Debug, PartialEq, Eq)]
+#[derive(Clone, Copy, Debug, PartialEq, Eq, Error)]
 pub enum Refusal {
     Limit {
         what: LimitKind,
@@ -83,9 +84,11 @@ pub enum Refusal {
 }
 
 /// Why a configuration was not found valid.
-#[derive(Clone, Copy, Debug, PartialEq, Eq)]
+#[derive(Clone, Copy, Debug, PartialEq, Eq, Error)]
 pub enum CheckRefusal {
+    #[error(transparent)]
     Rule(Refusal),
+    #[error("no memory")]
     NoMemory,
 }
 

@@ -220,8 +220,10 @@ between "protocol":"any","source_ports":[2,1] => policies[0].rules[0].source_por
 between "protocol":"any","source_ports":[0,65535] => policies[0].rules[0].destination_ports Missing;
 between "protocol":0,"source_ports":[0,0],"destination_ports":{} => policies[0].rules[0].destination_ports Kind;
 between "protocol":0,"source_ports":[0,0],"destination_ports":[] => policies[0].rules[0].destination_ports Range;
-between "protocol":0,"source_ports":[0,0],"destination_ports":[null,1] => policies[0].rules[0].destination_ports[0] Kind;
-between "protocol":0,"source_ports":[0,0],"destination_ports":[-1,1] => policies[0].rules[0].destination_ports[0] Range;
+between "protocol":0,"source_ports":[0,0],"destination_ports":[null,1]
+    => policies[0].rules[0].destination_ports[0] Kind;
+between "protocol":0,"source_ports":[0,0],"destination_ports":[-1,1]
+    => policies[0].rules[0].destination_ports[0] Range;
 between "protocol":0,"source_ports":[0,0],"destination_ports":[9,8] => policies[0].rules[0].destination_ports Range;
 does "chain":"c" => policies[0].rules[0].action Missing;
 does "action":null => policies[0].rules[0].action Kind;

@@ -19,8 +19,8 @@ use ov_link::Input;
 use ov_types::{Name, NoMemory, NodeRows, Outcome, Packet};
 
 /// The nodes of a network by their numbers: the configuration node is 0, then come the control nodes and then the
-/// agents, both in the order of the topology. Each has a link for each of its sessions, and at each end a notice of loss
-/// may wait.
+/// agents, both in the order of the topology. Each has a link for each of its sessions, and at each end a notice of
+/// loss may wait.
 pub trait Stations {
     /// What each node has.
     ghost seats: { Self → List Seat };

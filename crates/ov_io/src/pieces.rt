@@ -9,14 +9,17 @@ use crate::sink::{Sink, SinkFault, write_all};
 use crate::text::TextOut;
 use ov_types::NoMemory;
 use std::alloc::AllocError;
+use thiserror::Error;
 
 /// How many octets are gathered before they are written.
 const PIECE_OCTETS: usize = 65_536;
 
 /// Why a text was not written whole.
-#[derive(Clone, Copy, Debug, PartialEq, Eq)]
+#[derive(Clone, Copy, Debug, PartialEq, Eq, Error)]
 pub enum WriteRefusal {
+    #[error("a write failed")]
     Fault,
+    #[error("no memory")]
     NoMemory,
 }
 

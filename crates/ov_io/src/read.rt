@@ -6,12 +6,16 @@ ghost use Rattle.ov_io.specs.declared.read.InputRefusal.TheVariants.{NoMemory};
 
 use crate::source::Source;
 use std::alloc::{AllocError, Global};
+use thiserror::Error;
 
 /// Why a source was not read to its end.
-#[derive(Clone, Copy, Debug, PartialEq, Eq)]
+#[derive(Clone, Copy, Debug, PartialEq, Eq, Error)]
 pub enum InputRefusal {
+    #[error("a read failed")]
     Fault,
+    #[error("the input is too long")]
     TooLong,
+    #[error("no memory")]
     NoMemory,
 }
 

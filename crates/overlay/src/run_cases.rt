@@ -255,8 +255,8 @@ pub(crate) const ACROSS: &str = r#"{
             "source_ports":[0,65535],"destination_ports":[0,65535],"action":"chain","chain":"pair","use":0}]}]
 }"#;
 
-/// One of the two networks loses its port once all is settled; then six rounds, each of exactly what was in flight as it
-/// began, in the order opposite to that of a round.
+/// One of the two networks loses its port once all is settled; then six rounds, each of exactly what was in flight as
+/// it began, in the order opposite to that of a round.
 pub(crate) const SIX_ROUNDS: &str = r#""settle",{"edit":{"delete":{"port":"vm2"}}},
     {"deliver":["config","c2",1]},{"deliver":["config","c1",1]},
     {"deliver":["c2","n2",3]},

@@ -3,13 +3,13 @@ ghost use Rattle.std.specs.Prelude.{◌≡◌, ◌≤◌, length, map, reverse};
 ghost use Rattle.chain_expand.specs.Expansion.{expansion};
 ghost use Rattle.reach_plain.specs.Reachability.{services_through};
 
-use chain_expand::expand_straight;
+use chain_expand::{MOST_SERVICES, expand_straight};
 use config_check::Valid;
 use ov_types::{Name, ServiceNo, Services};
 
 /// The numbers of a chain's services, of which a valid configuration has at most 15.
 #[tactic(auto, using(crate::proofs::Kept::short_chains))]
-fn expanded(valid: &Valid, chain: &Name) -> Services<15>
+fn expanded(valid: &Valid, chain: &Name) -> Services<MOST_SERVICES>
     ensures numbers { result ≡ map (λ s. s.id) (expansion valid.now.config chain.now) }
     ensures short { length result ≤ 15 }
 {

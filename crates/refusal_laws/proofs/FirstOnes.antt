@@ -23,23 +23,9 @@ pub or_none : {A : Type 0} (o : Option A) → (o <|> None) ≡ o
 or_none None = refl
 or_none (Some x) = refl
 
-pub or_assoc : {A : Type 0} (a b c : Option A) → ((a <|> b) <|> c) ≡ (a <|> (b <|> c))
-or_assoc None b c = refl
-or_assoc (Some x) b c = refl
-
-pub first_of-append : {A B : Type 0} (f : A → Option B) (xs ys : List A) → first_of f (xs ++ ys) ≡ (first_of f xs <|> first_of f ys)
-first_of-append f [] ys = refl
-first_of-append {A} {B} f (x ∷ xs) ys =
-    ap (λ (o : Option B). f x <|> o) (first_of-append f xs ys) ∙ sym (or_assoc (f x) (first_of f xs) (first_of f ys))
-
 pub first_of-map : {A B C : Type 0} (f : B → Option C) (g : A → B) (xs : List A) → first_of f (map g xs) ≡ first_of (λ x. f (g x)) xs
 first_of-map f g [] = refl
 first_of-map {A} {B} {C} f g (x ∷ xs) = ap (λ (o : Option C). f (g x) <|> o) (first_of-map f g xs)
-
-pub first_of-flat_map : {A B C : Type 0} (f : B → Option C) (g : A → List B) (xs : List A) → first_of f (flat_map g xs) ≡ first_of (λ x. first_of f (g x)) xs
-first_of-flat_map f g [] = refl
-first_of-flat_map {A} {B} {C} f g (x ∷ xs) =
-    first_of-append f (g x) (flat_map g xs) ∙ ap (λ (o : Option C). first_of f (g x) <|> o) (first_of-flat_map f g xs)
 
 pub first_of-same : {A B : Type 0} (f g : A → Option B) → ((x : A) → f x ≡ g x) → (xs : List A) → first_of f xs ≡ first_of g xs
 first_of-same f g same [] = refl

@@ -20,7 +20,8 @@ use Rattle.config_check.specs.declared.refusal.Refusal.TheVariants.{BadReference
 use Rattle.config_check.specs.Rules.{controller_names, node_names, network_names, policy_names, service_names, chain_names, missing, missing_end, missing_chain, missing_in_node, missing_in_network, missing_in_port, missing_in_rule, missing_in_service, missing_in_chain, broken_reference}
 use Rattle.config_check.proofs.Meanings.{exists_iff}
 use Rattle.refusal_laws.specs.Named.{IsFirst, Reference, Dangles, end_references, action_references, node_references, network_references, port_references, rule_references, chain_references, references}
-use Rattle.refusal_laws.proofs.FirstOnes.{or_none, first_of-append, first_of-map, first_of-flat_map, first_of-same, answers_first}
+use Rattle.ov_types.proofs.FirstLemmas.{first_append, first_flat}
+use Rattle.refusal_laws.proofs.FirstOnes.{or_none, first_of-map, first_of-same, answers_first}
 
 answer : Reference → Option Refusal
 answer r = missing r.0 r.1
@@ -50,10 +51,10 @@ of_rule c r =
     let one : List Reference = end_references networks r.rule.source in
     let two : List Reference = end_references networks r.rule.destination in
     let three : List Reference = action_references (chain_names c) r.rule.action in
-    first_of-append answer one (two ++ three)
+    first_append answer one (two ++ three)
     ∙ ap (λ (o : Option Refusal). o <|> first_of answer (two ++ three)) (of_end networks r.rule.source)
     ∙ ap (λ (o : Option Refusal). missing_end networks r.rule.source <|> o)
-    (first_of-append answer two three
+    (first_append answer two three
     ∙ ap (λ (o : Option Refusal). o <|> first_of answer three) (of_end networks r.rule.destination)
     ∙ ap (λ (o : Option Refusal). missing_end networks r.rule.destination <|> o) (of_action (chain_names c) r.rule.action))
 
@@ -63,11 +64,11 @@ of_service t services = first_of-map answer (λ (s : Service). (node_names t, s.
 
 -- the answers of objects are those of their references
 of_all : {A : Type 0} (refs : A → List Reference) (f : A → Option Refusal) → ((x : A) → first_of answer (refs x) ≡ f x) → (xs : List A) → first_of answer (flat_map refs xs) ≡ first_of f xs
-of_all refs f same xs = first_of-flat_map answer refs xs ∙ first_of-same (λ x. first_of answer (refs x)) f same xs
+of_all refs f same xs = first_flat answer refs xs ∙ first_of-same (λ x. first_of answer (refs x)) f same xs
 
 two_of : (xs ys : List Reference) (a b : Option Refusal) → first_of answer xs ≡ a → first_of answer ys ≡ b → first_of answer (xs ++ ys) ≡ (a <|> b)
 two_of xs ys a b ea eb =
-    first_of-append answer xs ys ∙ ap (λ (o : Option Refusal). o <|> first_of answer ys) ea ∙ ap (λ (o : Option Refusal). a <|> o) eb
+    first_append answer xs ys ∙ ap (λ (o : Option Refusal). o <|> first_of answer ys) ea ∙ ap (λ (o : Option Refusal). a <|> o) eb
 
 all_references : (t : Topology) (c : Config) → first_of answer (references t c) ≡ broken_reference t c
 unfolding broken_reference

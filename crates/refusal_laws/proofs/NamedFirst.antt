@@ -28,8 +28,8 @@ use Rattle.config_check.proofs.Meanings.{distinct_names, distinct_ids, networks_
 use Rattle.config_check.proofs.Straight.{no_loop, too_long_is}
 use Rattle.refusal_laws.specs.Breaks.{LiesOutside, namespaces, numbers_of}
 use Rattle.refusal_laws.specs.Named.{IsFirst, IsFirstPair, IsFirstByFirst, HasPair, IsSame, id_kinds, OverlapsAround, IsReserved, SharesAddress, LacksNetwork, TurnsBack, SharesNumber, NamesFirst}
-use Rattle.ov_types.proofs.FirstLemmas.{any_of, answered, of_either, of_mapped, contains_at, same_name_iff}
-use Rattle.refusal_laws.proofs.FirstOnes.{some_case, then_some, found_first, answers_first, first_pair_is, by_first, or_none, or_assoc}
+use Rattle.ov_types.proofs.FirstLemmas.{any_of, answered, of_either, of_mapped, contains_at, same_name_iff, or_apart}
+use Rattle.refusal_laws.proofs.FirstOnes.{some_case, then_some, found_first, answers_first, first_pair_is, by_first, or_none}
 use Rattle.refusal_laws.proofs.FirstLimits.{first_above}
 use Rattle.refusal_laws.proofs.FirstReferences.{first_dangling}
 use Rattle.refusal_laws.proofs.Invalid.{no_any, pair_of, held, against_any}
@@ -270,11 +270,11 @@ name_parts t c =
     let s4 : Option Refusal = r4 <|> s5 in
     let s3 : Option Refusal = r3 <|> s4 in
     let s2 : Option Refusal = r2 <|> s3 in
-    let e5 : (s5 <|> r6) ≡ (r5 <|> r6) = or_assoc r5 None r6 in
-    let e4 : (s4 <|> r6) ≡ (r4 <|> (r5 <|> r6)) = or_assoc r4 s5 r6 ∙ ap (λ (o : Option Refusal). r4 <|> o) e5 in
-    let e3 : (s3 <|> r6) ≡ (r3 <|> (r4 <|> (r5 <|> r6))) = or_assoc r3 s4 r6 ∙ ap (λ (o : Option Refusal). r3 <|> o) e4 in
-    let e2 : (s2 <|> r6) ≡ (r2 <|> (r3 <|> (r4 <|> (r5 <|> r6)))) = or_assoc r2 s3 r6 ∙ ap (λ (o : Option Refusal). r2 <|> o) e3 in
-    or_assoc r1 s2 r6 ∙ ap (λ (o : Option Refusal). r1 <|> o) e2
+    let e5 : (s5 <|> r6) ≡ (r5 <|> r6) = or_apart r5 None r6 in
+    let e4 : (s4 <|> r6) ≡ (r4 <|> (r5 <|> r6)) = or_apart r4 s5 r6 ∙ ap (λ (o : Option Refusal). r4 <|> o) e5 in
+    let e3 : (s3 <|> r6) ≡ (r3 <|> (r4 <|> (r5 <|> r6))) = or_apart r3 s4 r6 ∙ ap (λ (o : Option Refusal). r3 <|> o) e4 in
+    let e2 : (s2 <|> r6) ≡ (r2 <|> (r3 <|> (r4 <|> (r5 <|> r6)))) = or_apart r2 s3 r6 ∙ ap (λ (o : Option Refusal). r2 <|> o) e3 in
+    or_apart r1 s2 r6 ∙ ap (λ (o : Option Refusal). r1 <|> o) e2
 
 name_never : (names : List (List ℕ)) → repeated_name names ≡ None → ¬ HasPair IsSame names
 name_never names none h = pair_of (λ (a : List ℕ) (b : List ℕ). a ≢ b) names h.0 h.1 ((distinct_names names).0 none) h.2 h.3

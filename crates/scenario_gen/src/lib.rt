@@ -12,8 +12,8 @@
 //!   n(1 + (3t + n) mod 20) and n(1 + (3t + n + 1) mod 20), and the chain kt of ft and lt.
 //! - Its policies have sequences 3t + 1 to 3t + 3, and each network lists its own in that order. All rules are of both
 //!   directions and about TCP from any port. `pft` of wt and at denies port 23 from any to any, and sends port 80
-//!   between wt and at through kt, by use t. `pbt` of at and dt passes port 5432 between them. `pmt` of all four passes port 22
-//!   between mt and any.
+//!   between wt and at through kt, by use t. `pbt` of at and dt passes port 5432 between them. `pmt` of all four passes
+//!   port 22 between mt and any.
 //! - The events are a settle, the loss of the session of c1 and c2, a restart of node n(1 + n mod 20), a delete of port
 //!   v5, and a settle.
 //! - There are forty packets. Packet q leaves port (17q + n) mod 64T for 10.(q mod 4).0.(1 + q mod 16), from TCP port

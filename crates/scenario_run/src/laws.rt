@@ -21,8 +21,8 @@ pub fn outcomes_that_are_one()
     ensures { (one other : Outcome) → (same_outcome one other ≡ true) ↔ (one ≡ other) }
 {}
 
-/// What a schedule is counted to be is what its answers say: how many packets were delivered, whether all agree, and the
-/// rounds of the last two settles.
+/// What a schedule is counted to be is what its answers say: how many packets were delivered, whether all agree, and
+/// the rounds of the last two settles.
 pub fn counts_are_of_answers()
     ensures { (x : Checked) (es : List Event) → CountsAnswers x es (tally x es) }
 {}
