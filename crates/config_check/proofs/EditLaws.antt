@@ -1,6 +1,6 @@
 -- What an edit does to the list of its kind.
-use Rattle.std.proofs.Common.{◌≡◌, ◌≢◌, ℕ, suc, ◌+◌, ◌<◌, ◌≤◌, Bool, true, false, ltb, List, [], ◌∷◌, ◌++◌, length, map, take, drop, set, get_or, Option, Some, None, is_some, refl, sym, subst, ap, ◌∙◌, arith, add-one, drop-cons, length-take-le, inl, inr}
-use Rattle.std.specs.Prelude.{◌⊎◌, ◌↔◌, position, if◌then◌else◌}
+use Rattle.std.proofs.Common.{◌≡◌, ◌≢◌, ℕ, suc, ◌<◌, Bool, false, ltb, List, [], ◌∷◌, ◌++◌, length, map, take, drop, set, get_or, Option, Some, None, is_some, refl, sym, subst, ap, ◌∙◌, arith, add-one, drop-cons, length-take-le, inl, inr}
+use Rattle.std.specs.Prelude.{◌⊎◌, ◌↔◌, if◌then◌else◌}
 use Rattle.std.specs.List.{All, remove, position_or_len}
 use Rattle.std.specs.Option.{option_map_or}
 use Rattle.std.specs.Cmp.Lexicographic.{same_text, other_text}
@@ -11,12 +11,10 @@ use Rattle.std.proofs.lemmas.List.Quantifiers.{position-Some}
 use Rattle.std.proofs.lemmas.List.Elements.{All-append}
 use Rattle.ov_types.specs.First.{same_name}
 use Rattle.ov_types.proofs.FirstLemmas.{all_head, all_tail, all_cons, pairs_head, pairs_tail}
-use Rattle.config_model.specs.declared.config.Config.{Config}
-use Rattle.config_model.specs.declared.edit.Edit.TheVariants.{Put, Delete}
 use Rattle.config_model.specs.declared.edit.Object.TheVariants as Objects
 use Rattle.config_model.specs.declared.edit.ObjectKind.TheVariants as Kinds
 use Rattle.config_check.specs.Sentences.{AreDistinct}
-use Rattle.config_check.specs.Edits.{place_of, with_put, without, network_name, port_name, policy_name, service_name, chain_name, has_object, edited, missing_name}
+use Rattle.config_check.specs.Edits.{place_of, with_put, without, network_name, port_name, policy_name, service_name, chain_name, edited, missing_name}
 use Rattle.config_check.specs.EditLaws.{Replaces, Appends, Removes, PutIs, DeleteIs, MissingIs, networks_of, ports_of, policies_of, services_of, chains_of, with_networks, with_ports, with_policies, with_services, with_chains}
 
 -- a list with its item at a place apart

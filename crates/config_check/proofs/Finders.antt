@@ -1,6 +1,6 @@
 -- In a valid configuration each finder finds exactly the one object that has the name, the number or the address.
-use Rattle.std.proofs.Common.{◌≡◌, ◌≢◌, ◌↔◌, ◌<◌, ◌++◌, ◌&&◌, ◌==◌, ℕ, zero, suc, Bool, true, false, cond, IsTrue, List, [], ◌∷◌, Some, find, map, length, get_or, refl, sym, ap, ◌∙◌, arith}
-use Rattle.std.specs.List.{All, AllPairs, Contains}
+use Rattle.std.proofs.Common.{◌≡◌, ◌≢◌, ◌↔◌, ◌<◌, ◌++◌, ◌&&◌, ◌==◌, ℕ, zero, suc, Bool, true, false, IsTrue, List, [], ◌∷◌, Some, find, map, length, get_or, sym, ap, ◌∙◌, arith}
+use Rattle.std.specs.List.{All, AllPairs}
 use Rattle.std.proofs.lemmas.Bool.{false_from_ne_true}
 use Rattle.std.proofs.lemmas.List.Kept.{AllPairs-cons}
 use Rattle.config_model.specs.declared.config.Config.{Config}
@@ -13,18 +13,8 @@ use Rattle.config_check.specs.Finding.{Finds, network_named, network_numbered, p
 use Rattle.config_check.specs.Rules.{controller_names}
 use Rattle.config_check.specs.Sentences.{AreDistinct, IsValid}
 use Rattle.config_check.proofs.Iffs.{iff_then, all_iff, find_none, all_cons, all_head, all_tail, pairs_head, pairs_tail}
-use Rattle.ov_types.proofs.FirstLemmas.{same_name_iff}
+use Rattle.ov_types.proofs.FirstLemmas.{found_is, same_name_iff}
 use Rattle.config_check.proofs.Meanings.{fails_iff, and_iff, number_iff}
-
--- what is found stands in the list and passes
-
-found_there : {A : Type 0} (p : A → Bool) (xs : List A) (x : A) → find p xs ≡ Some x → Contains xs x × (p x ≡ true)
-found_there p [] x h = cc
-found_there {A} p (y ∷ ys) x h =
-    elim (p y) as (λ b. (p y ≡ b) → cond b (Some y) (find p ys) ≡ Some x → Contains (y ∷ ys) x × (p x ≡ true)) [
-      | true ↦ λ e here. let same : y ≡ x = cc in ((0, omega arith, same), ap p (sym same) ∙ e)
-      | false ↦ λ e later. let f = found_there p ys x later in let within : f.0.0 < length ys = f.0.1 in ((suc f.0.0, omega arith, f.0.2), f.1)
-    ] refl h
 
 -- what passes alone is found
 
@@ -45,7 +35,7 @@ finds {A} p IsIt same xs apart =
     apart i j d lt within ((same (get_or xs i d)).0 e1) ((same (get_or xs j d)).0 e2) in
     record {
       some = λ x. (
-        λ h. let f = found_there p xs x h in (f.0, (same x).0 f.1),
+        λ h. let f = found_is p xs x h in (f.1, (same x).0 f.0),
         λ h. only_one p xs alone x h.0.0 h.0.1 h.0.2 ((same x).1 h.1),
       );
       none = iff_then (find_none p xs) (all_iff (λ x. p x ≡ false) (λ x. ¬ IsIt x) (λ x. fails_iff (p x) (same x)) xs);

@@ -9,12 +9,9 @@ use Rattle.config_model.specs.declared.config.Port.{Port}
 use Rattle.config_model.specs.declared.config.Service.{Service}
 use Rattle.config_model.specs.declared.edit.Edit.TheVariants.{Put, Delete}
 use Rattle.config_model.specs.declared.edit.Object.{Object}
-use Rattle.config_model.specs.declared.edit.Object.TheVariants as Objects
 use Rattle.config_model.specs.declared.edit.ObjectKind.{ObjectKind}
-use Rattle.config_model.specs.declared.edit.ObjectKind.TheVariants as Kinds
 use Rattle.config_check.specs.Sentences.{AreDistinct}
-use Rattle.config_check.specs.Edits.{edited, missing_name, network_name, port_name, policy_name, service_name}
-use Rattle.config_check.specs.Edits.{chain_name}
+use Rattle.config_check.specs.Edits.{edited, missing_name}
 
 -- a list has x in the place of one of its name, and each other object as it was; where names were distinct, none of
 -- these has the name

@@ -57,8 +57,8 @@ one_read a n h =
     let is = chosen (is_first_digit a) (a - 48) n h in
     let x = first a is.0 in
     let text : a ∷ [] ≡ decimal n =
-        sym (ap decimal (sym is.1) ∙ decimal_digit (a - 48) (omega (arith, x.0, x.1))
-        ∙ ap (λ (b : ℕ). b ∷ []) (back a (omega (arith, x.0)))) in
+    sym (ap decimal (sym is.1) ∙ decimal_digit (a - 48) (omega (arith, x.0, x.1))
+    ∙ ap (λ (b : ℕ). b ∷ []) (back a (omega (arith, x.0)))) in
     record { first = omega (arith, x.0, is.1); last = omega (arith, x.1, is.1); is = text }
 
 two_read : (a b n : ℕ) → scenario_number (a ∷ b ∷ []) ≡ Some n → IsInDecimal n (a ∷ b ∷ [])
@@ -69,10 +69,10 @@ two_read a b n h =
     let x = first a digits.0 in
     let y = digit b digits.1 in
     let text : a ∷ b ∷ [] ≡ decimal n =
-        sym (ap decimal (sym is.1)
-        ∙ two_digits (a - 48) (b - 48) (omega (arith, x.0)) (omega (arith, x.1)) (omega (arith, y.1))
-        ∙ ap (λ (c : ℕ). c ∷ (48 + (b - 48)) ∷ []) (back a (omega (arith, x.0)))
-        ∙ ap (λ (c : ℕ). a ∷ c ∷ []) (back b y.0)) in
+    sym (ap decimal (sym is.1)
+    ∙ two_digits (a - 48) (b - 48) (omega (arith, x.0)) (omega (arith, x.1)) (omega (arith, y.1))
+    ∙ ap (λ (c : ℕ). c ∷ (48 + (b - 48)) ∷ []) (back a (omega (arith, x.0)))
+    ∙ ap (λ (c : ℕ). a ∷ c ∷ []) (back b y.0)) in
     record { first = omega (arith, x.0, is.1); last = omega (arith, x.1, y.1, is.1); is = text }
 
 three_read : (a b c n : ℕ) → scenario_number (a ∷ b ∷ c ∷ []) ≡ Some n → IsInDecimal n (a ∷ b ∷ c ∷ [])
@@ -85,12 +85,12 @@ three_read a b c n h =
     let y = digit b later.0 in
     let z = digit c later.1 in
     let text : a ∷ b ∷ c ∷ [] ≡ decimal n =
-        sym (ap decimal (sym is.1)
-        ∙ three_digits (a - 48) (b - 48) (c - 48) (omega (arith, x.0)) (omega (arith, x.1)) (omega (arith, y.1))
-        (omega (arith, z.1))
-        ∙ ap (λ (d : ℕ). d ∷ (48 + (b - 48)) ∷ (48 + (c - 48)) ∷ []) (back a (omega (arith, x.0)))
-        ∙ ap (λ (d : ℕ). a ∷ d ∷ (48 + (c - 48)) ∷ []) (back b y.0)
-        ∙ ap (λ (d : ℕ). a ∷ b ∷ d ∷ []) (back c z.0)) in
+    sym (ap decimal (sym is.1)
+    ∙ three_digits (a - 48) (b - 48) (c - 48) (omega (arith, x.0)) (omega (arith, x.1)) (omega (arith, y.1))
+    (omega (arith, z.1))
+    ∙ ap (λ (d : ℕ). d ∷ (48 + (b - 48)) ∷ (48 + (c - 48)) ∷ []) (back a (omega (arith, x.0)))
+    ∙ ap (λ (d : ℕ). a ∷ d ∷ (48 + (c - 48)) ∷ []) (back b y.0)
+    ∙ ap (λ (d : ℕ). a ∷ b ∷ d ∷ []) (back c z.0)) in
     record { first = omega (arith, x.0, is.1); last = omega (arith, x.1, y.1, z.1, is.1); is = text }
 
 pub read : (text : List ℕ) (n : ℕ) → scenario_number text ≡ Some n → IsInDecimal n text
@@ -139,9 +139,9 @@ number_is_read n least most =
     elim (cases_Bool (nat_lt n 10)) [
       | inl few ↦ one_is_read n least (ltb-true n 10 few)
       | inr more ↦ elim (cases_Bool (nat_lt n 100)) [
-          | inl few ↦ two_are_read n (ltb-false n 10 more) (ltb-true n 100 few)
-          | inr many ↦ three_are_read n (ltb-false n 100 many) (omega (arith, most))
-        ]
+        | inl few ↦ two_are_read n (ltb-false n 10 more) (ltb-true n 100 few)
+        | inr many ↦ three_are_read n (ltb-false n 100 many) (omega (arith, most))
+      ]
     ]
 
 pub is_read : (text : List ℕ) (n : ℕ) → IsInDecimal n text → scenario_number text ≡ Some n

@@ -33,7 +33,7 @@ use std::str;
 
 /// What an input is found to be.
 #[derive(Clone, Copy, Debug, PartialEq, Eq)]
-pub enum Verdict {
+pub(crate) enum Verdict {
     Good,
     NotJson,
     BadDocument,

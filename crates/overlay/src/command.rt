@@ -5,7 +5,7 @@ ghost use Rattle.overlay.specs.Commands.{IsCommand, command_named, command_numbe
 
 /// What the program is asked to do.
 #[derive(Clone, Copy, Debug, PartialEq, Eq)]
-pub enum Command {
+pub(crate) enum Command {
     /// The tables that a configuration asks for.
     Compile,
     /// What becomes of packets.

@@ -18,12 +18,7 @@ const ONE_PORT: &str = r#"{
 }"#;
 
 /// No events.
-pub(crate) const NO_EVENTS: Schedule = (
-    ONE_NODE,
-    ONE,
-    "[]",
-    "",
-);
+pub(crate) const NO_EVENTS: Schedule = (ONE_NODE, ONE, "[]", "");
 
 /// Two networks of equal addresses that no policy relates.
 pub(crate) const EQUAL_ADDRESSES_STAY_APART: Schedule = (

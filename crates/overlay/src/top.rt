@@ -15,11 +15,11 @@ use ov_io::{InputRefusal, Sink, Source, WriteRefusal, read_all};
 use std::alloc::Global;
 
 /// The most octets that an input may have.
-pub const MAX_INPUT_OCTETS: usize = 16_777_216;
+pub(crate) const MAX_INPUT_OCTETS: usize = 16_777_216;
 
 /// How a run ended. Its number is the exit status of the program.
 #[derive(Clone, Copy, Debug, PartialEq, Eq)]
-pub enum Status {
+pub(crate) enum Status {
     Done,
     Usage,
     ReadFault,
@@ -33,7 +33,7 @@ pub enum Status {
 
 impl Status {
     /// The exit status.
-    pub fn number(self) -> u8
+    pub(crate) fn number(self) -> u8
         ensures { result ≡ number_of self }
     {
         match self {
@@ -53,7 +53,7 @@ impl Status {
 /// All that the program does: what its words ask for, from a source to a sink. The answer is written as it is made,
 /// once the source is read and what it holds is found good. `gen` reads nothing. `run` and `gen` leave the network that
 /// took the events in `net`, where all was written; in every other case `net` is None.
-pub fn overlay<S: Source, K: Sink>(
+pub(crate) fn overlay<S: Source, K: Sink>(
     alloc: Global,
     words: &[String],
     source: &mut S,

@@ -219,8 +219,8 @@ here w (written.Show name) counts p o is answered = absurd cc
 here w (written.Trace q) counts p o is answered =
     let outcome = forwarding (forwarders w) q in
     let one : outcome ≡ reachability w.setup.config q =
-        (same_is_one outcome (reachability w.setup.config q)).0
-        (is_one (same_outcome outcome (reachability w.setup.config q)) counts) in
+    (same_is_one outcome (reachability w.setup.config q)).0
+    (is_one (same_outcome outcome (reachability w.setup.config q)) counts) in
     let same : q ≡ p = cc in
     let told : outcome ≡ o = cc in
     sym told ∙ one ∙ ap (reachability w.setup.config) same
@@ -274,7 +274,8 @@ counts_answers x es = record {
   delivered = deliveries (start x) es nothing;
   agreed = (
     (λ counts place p o at. all_agree (start x) es nothing counts place p o at.event at.answer),
-    (λ agrees. all_count (start x) es nothing (λ place p o is answered. agrees place p o (record { event = is; answer = answered }))));
+    (λ agrees. all_count (start x) es nothing (λ place p o is answered. agrees place p o (record { event = is; answer = answered }))),
+  );
   rounds = λ before one other is.
       rounds_so_far (start x) es nothing ∙ ap (all_later (0, 0)) is ∙ the_last_two (0, 0) before one other;
 }
