@@ -1,9 +1,11 @@
 use crate::writer::json_of;
 use crate::{
-    Field, Item, ItemCause, ItemEvent, ItemFault, ItemFrom, ItemRefusal, ItemSession, ItemState,
-    TooLong, frame, read_item, write_item,
+    Item, ItemCause, ItemEvent, ItemFault, ItemFrom, ItemRefusal, ItemSession, ItemState, TooLong,
+    frame, read_item, write_item,
 };
 use ov_types::{AclAction, AclRule, Addr, InstanceId, Items, Label, Name, Prefix, Range16, RuleNo};
+use std::alloc::Global;
+use std::process::Abort;
 use std::test::Fail;
 
 #[test]
@@ -39,206 +41,97 @@ fn each_record_is_read_and_written(rt: HostRuntime) -> Result<(), Fail> {
     Ok(())
 }
 
-#[test]
-fn the_first_fault_is_told(rt: HostRuntime) {
-    for (text, fault) in [
-        ("{\"op\":\"hello\"", ItemFault::NotJson),
-        ("7", ItemFault::Member { name: Field::Op }),
-        ("{\"op\":7}", ItemFault::Member { name: Field::Op }),
-        ("{\"op\":\"bye\"}", ItemFault::Range { name: Field::Op }),
-        (
-            "{\"op\":\"hello\"}",
-            ItemFault::Member { name: Field::Name },
-        ),
-        (
-            "{\"op\":\"hello\",\"name\":\"C1\"}",
-            ItemFault::Range { name: Field::Name },
-        ),
-        (
-            "{\"op\":\"instance\",\"imports\":[],\"instance\":1}",
-            ItemFault::Range {
-                name: Field::Imports,
-            },
-        ),
-        (
-            "{\"op\":\"instance\",\"imports\":[1,\"2\"],\"instance\":1}",
-            ItemFault::Range {
-                name: Field::Imports,
-            },
-        ),
-        (
-            "{\"op\":\"instance\",\"imports\":[1],\"instance\":1.5}",
-            ItemFault::Member {
-                name: Field::Instance,
-            },
-        ),
-        (
-            "{\"op\":\"instance\",\"imports\":[1],\"instance\":16384}",
-            ItemFault::Range {
-                name: Field::Instance,
-            },
-        ),
-        (
-            "{\"op\":\"instance\",\"imports\":[1],\"instance\":-1}",
-            ItemFault::Range {
-                name: Field::Instance,
-            },
-        ),
-        (
-            "{\"op\":\"port\",\"address\":\"10.1.0.05\"}",
-            ItemFault::Range {
-                name: Field::Address,
-            },
-        ),
-        (
-            "{\"op\":\"port\",\"address\":\"10.1.0.5\",\"instance\":1,\"node\":\"224.0.0.0\"}",
-            ItemFault::Range { name: Field::Node },
-        ),
-        (
-            "{\"op\":\"circuit\",\"circuit\":32768}",
-            ItemFault::Range {
-                name: Field::Circuit,
-            },
-        ),
-        (
-            "{\"op\":\"acl\",\"from\":1,\"rules\":[[256,0,65535,0,65535,\"pass\",20]]}",
-            ItemFault::Range { name: Field::Rules },
-        ),
-        (
-            "{\"op\":\"acl\",\"from\":1,\"rules\":[[256,0,65535,9,8,\"pass\",20,1]]}",
-            ItemFault::Range { name: Field::Rules },
-        ),
-        (
-            "{\"op\":\"use\",\"hops\":[]}",
-            ItemFault::Range { name: Field::Hops },
-        ),
-        (
-            "{\"op\":\"publish\",\"instance\":1,\"label\":5}",
-            ItemFault::Range { name: Field::Label },
-        ),
-    ] {
-        assert_eq!(rt;
-            read_item(rt.alloc(), text.as_bytes()),
-            Err(ItemRefusal::Fault(fault)),
-            "{text}"
-        );
+/// Texts, each with its first fault.
+const FAULTS: &str = r#"{"op":"hello" => NotJson
+7 => Member { name: Op }
+{"op":7} => Member { name: Op }
+{"op":"bye"} => Range { name: Op }
+{"op":"hello"} => Member { name: Name }
+{"op":"hello","name":"C1"} => Range { name: Name }
+{"op":"instance","imports":[],"instance":1} => Range { name: Imports }
+{"op":"instance","imports":[1,"2"],"instance":1} => Range { name: Imports }
+{"op":"instance","imports":[1],"instance":1.5} => Member { name: Instance }
+{"op":"instance","imports":[1],"instance":16384} => Range { name: Instance }
+{"op":"instance","imports":[1],"instance":-1} => Range { name: Instance }
+{"op":"port","address":"10.1.0.05"} => Range { name: Address }
+{"op":"port","address":"10.1.0.5","instance":1,"node":"224.0.0.0"} => Range { name: Node }
+{"op":"circuit","circuit":32768} => Range { name: Circuit }
+{"op":"acl","from":1,"rules":[[256,0,65535,0,65535,"pass",20]]} => Range { name: Rules }
+{"op":"acl","from":1,"rules":[[256,0,65535,9,8,"pass",20,1]]} => Range { name: Rules }
+{"op":"use","hops":[]} => Range { name: Hops }
+{"op":"publish","instance":1,"label":5} => Range { name: Label }"#;
+
+/// The first member of each op: missing, of another kind, and out of its range.
+const FIRST_MEMBERS: &str = r#"{"op":"hello"} => Member { name: Name }
+{"op":"hello","name":7} => Member { name: Name }
+{"op":"hello","name":""} => Range { name: Name }
+{"op":"instance"} => Member { name: Imports }
+{"op":"instance","imports":"1"} => Member { name: Imports }
+{"op":"instance","imports":[]} => Range { name: Imports }
+{"op":"port"} => Member { name: Address }
+{"op":"port","address":167837701} => Member { name: Address }
+{"op":"port","address":"10.1.0.256"} => Range { name: Address }
+{"op":"circuit"} => Member { name: Circuit }
+{"op":"circuit","circuit":"32769"} => Member { name: Circuit }
+{"op":"circuit","circuit":131071} => Range { name: Circuit }
+{"op":"acl"} => Member { name: From }
+{"op":"acl","from":1.0} => Member { name: From }
+{"op":"acl","from":0} => Range { name: From }
+{"op":"use"} => Member { name: Hops }
+{"op":"use","hops":{}} => Member { name: Hops }
+{"op":"use","hops":[[1,"0.255.255.255"]]} => Range { name: Hops }
+{"op":"no-instance"} => Member { name: Instance }
+{"op":"no-instance","instance":null} => Member { name: Instance }
+{"op":"no-instance","instance":16384} => Range { name: Instance }
+{"op":"no-attach"} => Member { name: Label }
+{"op":"no-attach","label":[16]} => Member { name: Label }
+{"op":"no-attach","label":15} => Range { name: Label }
+{"op":"no-acl"} => Member { name: From }
+{"op":"no-acl","from":true} => Member { name: From }
+{"op":"no-acl","from":16384} => Range { name: From }
+{"op":"no-use"} => Member { name: Use }
+{"op":"no-use","use":1e3} => Member { name: Use }
+{"op":"no-use","use":3072} => Range { name: Use }
+{"op":"publish"} => Member { name: Instance }
+{"op":"publish","instance":"1"} => Member { name: Instance }
+{"op":"publish","instance":65536} => Range { name: Instance }
+{"op":"unpublish"} => Member { name: Instance }
+{"op":"unpublish","instance":1.5} => Member { name: Instance }
+{"op":"unpublish","instance":0} => Range { name: Instance }
+{"op":"subscribe"} => Member { name: Instance }
+{"op":"subscribe","instance":{}} => Member { name: Instance }
+{"op":"subscribe","instance":65536} => Range { name: Instance }
+{"op":"unsubscribe"} => Member { name: Instance }
+{"op":"unsubscribe","instance":[]} => Member { name: Instance }
+{"op":"unsubscribe","instance":0} => Range { name: Instance }
+{"op":"route"} => Member { name: Instance }
+{"op":"route","instance":false} => Member { name: Instance }
+{"op":"route","instance":65536} => Range { name: Instance }
+{"op":"unroute"} => Member { name: Instance }
+{"op":"unroute","instance":"0"} => Member { name: Instance }
+{"op":"unroute","instance":-1} => Range { name: Instance }"#;
+
+/// Each text has its fault.
+fn each_has_its_fault(rt: &impl Abort, alloc: Global, cases: &str) -> Result<(), Fail> {
+    for case in cases.split("\n") {
+        let (text, want) = case.split_once(" => ").ok_or("a case has no fault")?;
+        let Err(ItemRefusal::Fault(fault)) = read_item(alloc, text.as_bytes()) else {
+            return Err("a text has no fault".into());
+        };
+        let told = format!(in alloc; "{fault:?}")?;
+        assert_eq!(rt; told.as_str(), want, "{text}");
     }
+    Ok(())
 }
 
 #[test]
-fn each_op_tells_its_first_member(rt: HostRuntime) {
-    for (missing, other_kind, out_of_range, name) in [
-        (
-            "{\"op\":\"hello\"}",
-            "{\"op\":\"hello\",\"name\":7}",
-            "{\"op\":\"hello\",\"name\":\"\"}",
-            Field::Name,
-        ),
-        (
-            "{\"op\":\"instance\"}",
-            "{\"op\":\"instance\",\"imports\":\"1\"}",
-            "{\"op\":\"instance\",\"imports\":[]}",
-            Field::Imports,
-        ),
-        (
-            "{\"op\":\"port\"}",
-            "{\"op\":\"port\",\"address\":167837701}",
-            "{\"op\":\"port\",\"address\":\"10.1.0.256\"}",
-            Field::Address,
-        ),
-        (
-            "{\"op\":\"circuit\"}",
-            "{\"op\":\"circuit\",\"circuit\":\"32769\"}",
-            "{\"op\":\"circuit\",\"circuit\":131071}",
-            Field::Circuit,
-        ),
-        (
-            "{\"op\":\"acl\"}",
-            "{\"op\":\"acl\",\"from\":1.0}",
-            "{\"op\":\"acl\",\"from\":0}",
-            Field::From,
-        ),
-        (
-            "{\"op\":\"use\"}",
-            "{\"op\":\"use\",\"hops\":{}}",
-            "{\"op\":\"use\",\"hops\":[[1,\"0.255.255.255\"]]}",
-            Field::Hops,
-        ),
-        (
-            "{\"op\":\"no-instance\"}",
-            "{\"op\":\"no-instance\",\"instance\":null}",
-            "{\"op\":\"no-instance\",\"instance\":16384}",
-            Field::Instance,
-        ),
-        (
-            "{\"op\":\"no-attach\"}",
-            "{\"op\":\"no-attach\",\"label\":[16]}",
-            "{\"op\":\"no-attach\",\"label\":15}",
-            Field::Label,
-        ),
-        (
-            "{\"op\":\"no-acl\"}",
-            "{\"op\":\"no-acl\",\"from\":true}",
-            "{\"op\":\"no-acl\",\"from\":16384}",
-            Field::From,
-        ),
-        (
-            "{\"op\":\"no-use\"}",
-            "{\"op\":\"no-use\",\"use\":1e3}",
-            "{\"op\":\"no-use\",\"use\":3072}",
-            Field::Use,
-        ),
-        (
-            "{\"op\":\"publish\"}",
-            "{\"op\":\"publish\",\"instance\":\"1\"}",
-            "{\"op\":\"publish\",\"instance\":65536}",
-            Field::Instance,
-        ),
-        (
-            "{\"op\":\"unpublish\"}",
-            "{\"op\":\"unpublish\",\"instance\":1.5}",
-            "{\"op\":\"unpublish\",\"instance\":0}",
-            Field::Instance,
-        ),
-        (
-            "{\"op\":\"subscribe\"}",
-            "{\"op\":\"subscribe\",\"instance\":{}}",
-            "{\"op\":\"subscribe\",\"instance\":65536}",
-            Field::Instance,
-        ),
-        (
-            "{\"op\":\"unsubscribe\"}",
-            "{\"op\":\"unsubscribe\",\"instance\":[]}",
-            "{\"op\":\"unsubscribe\",\"instance\":0}",
-            Field::Instance,
-        ),
-        (
-            "{\"op\":\"route\"}",
-            "{\"op\":\"route\",\"instance\":false}",
-            "{\"op\":\"route\",\"instance\":65536}",
-            Field::Instance,
-        ),
-        (
-            "{\"op\":\"unroute\"}",
-            "{\"op\":\"unroute\",\"instance\":\"0\"}",
-            "{\"op\":\"unroute\",\"instance\":-1}",
-            Field::Instance,
-        ),
-    ] {
-        let member = ItemFault::Member { name };
-        let range = ItemFault::Range { name };
-        for (text, fault) in [
-            (missing, member),
-            (other_kind, member),
-            (out_of_range, range),
-        ] {
-            assert_eq!(rt;
-                read_item(rt.alloc(), text.as_bytes()),
-                Err(ItemRefusal::Fault(fault)),
-                "{text}"
-            );
-        }
-    }
+fn the_first_fault_is_told(rt: HostRuntime) -> Result<(), Fail> {
+    each_has_its_fault(&rt, rt.alloc(), FAULTS)
+}
+
+#[test]
+fn each_op_tells_its_first_member(rt: HostRuntime) -> Result<(), Fail> {
+    each_has_its_fault(&rt, rt.alloc(), FIRST_MEMBERS)
 }
 
 /// An entry of an access list that is as long as one can be.
