@@ -6,64 +6,75 @@ use ov_types::{AclAction, AclRule, InstanceId, LowValue, Prefix, Range16};
 use serde_json::Value;
 use std::alloc::{AllocError, Global};
 
-/// Red and blue, two nodes with a service each, and a chain of both.
-const CHAIN: &str = r#"{"topology":{"as":64512,
-"controllers":[{"name":"c1","address":"192.0.2.1"}],
-"nodes":[{"name":"n1","address":"192.0.2.11","controllers":["c1"]},
-{"name":"n2","address":"192.0.2.12","controllers":["c1"]}]},
-"configuration":{
-"networks":[{"name":"red","id":1,"subnets":["10.1.0.0/24"],"policies":["sec"]},
-{"name":"blue","id":2,"subnets":["10.2.0.0/24"],"policies":["sec"]}],
-"services":[{"name":"s1","id":1,"node":"n1"},{"name":"s2","id":2,"node":"n2"}],
-"chains":[{"name":"pair","hops":["s1","s2"]}],
-"policies":[{"name":"sec","sequence":20,"rules":[
-{"direction":"<>","source":"red","destination":"blue","protocol":"any",
-"source_ports":[0,65535],"destination_ports":[0,65535],"action":"chain","chain":"pair","use":0}]}]}}"#;
+/// One control node and one compute node.
+const ONE_NODE: &str = r#"{
+    "as":64512,
+    "controllers":[{"name":"c1","address":"192.0.2.1"}],
+    "nodes":[{"name":"n1","address":"192.0.2.11","controllers":["c1"]}]
+}"#;
+
+/// One control node and two compute nodes.
+const TWO_NODES: &str = r#"{
+    "as":64512,
+    "controllers":[{"name":"c1","address":"192.0.2.1"}],
+    "nodes":[{"name":"n1","address":"192.0.2.11","controllers":["c1"]},
+        {"name":"n2","address":"192.0.2.12","controllers":["c1"]}]
+}"#;
+
+/// Red and blue, a service at each of two nodes, and a chain of both.
+const CHAIN: &str = r#"{
+    "networks":[{"name":"red","id":1,"subnets":["10.1.0.0/24"],"policies":["sec"]},
+        {"name":"blue","id":2,"subnets":["10.2.0.0/24"],"policies":["sec"]}],
+    "services":[{"name":"s1","id":1,"node":"n1"},{"name":"s2","id":2,"node":"n2"}],
+    "chains":[{"name":"pair","hops":["s1","s2"]}],
+    "policies":[{"name":"sec","sequence":20,"rules":[
+        {"direction":"<>","source":"red","destination":"blue","protocol":"any",
+            "source_ports":[0,65535],"destination_ports":[0,65535],"action":"chain","chain":"pair","use":0}]}]
+}"#;
 
 /// Sixteen rules: fifteen of one policy, and one of another that comes later in the document, but before by sequence.
-const MIXED: &str = r#"{"topology":{"as":64512,
-"controllers":[{"name":"c1","address":"192.0.2.1"}],
-"nodes":[{"name":"n1","address":"192.0.2.11","controllers":["c1"]}]},
-"configuration":{
-"networks":[{"name":"red","id":1,"subnets":["10.1.4.0/24","10.1.0.0/24"],"policies":["mixed","first"]},
-{"name":"blue","id":2,"subnets":["10.2.1.0/24","10.2.0.0/24"],"policies":["first","mixed"]},
-{"name":"green","id":3,"subnets":["10.3.0.0/24"]}],
-"services":[{"name":"s1","id":1,"node":"n1"},{"name":"s2","id":2,"node":"n1"}],
-"chains":[{"name":"pair","hops":["s1","s2"]},{"name":"one","hops":["s2"]}],
-"policies":[{"name":"mixed","sequence":30,"rules":[
-{"direction":">","source":"red","destination":"blue","protocol":6,
-"source_ports":[1,2],"destination_ports":[3,4],"action":"pass"},
-{"direction":">","source":"red","destination":"blue","protocol":"any",
-"source_ports":[1,2],"destination_ports":[5,6],"action":"deny"},
-{"direction":">","source":"red","destination":"blue","protocol":17,
-"source_ports":[7,7],"destination_ports":[8,9],"action":"chain","chain":"pair","use":0},
-{"direction":"<>","source":"red","destination":"blue","protocol":6,
-"source_ports":[10,11],"destination_ports":[12,13],"action":"pass"},
-{"direction":"<>","source":"red","destination":"blue","protocol":"any",
-"source_ports":[14,15],"destination_ports":[16,17],"action":"deny"},
-{"direction":"<>","source":"red","destination":"blue","protocol":17,
-"source_ports":[18,19],"destination_ports":[20,21],"action":"chain","chain":"pair","use":1},
-{"direction":">","source":"blue","destination":"red","protocol":"any",
-"source_ports":[0,65535],"destination_ports":[22,22],"action":"pass"},
-{"direction":"<>","source":"blue","destination":"red","protocol":1,
-"source_ports":[23,24],"destination_ports":[25,26],"action":"chain","chain":"one","use":2},
-{"direction":">","source":"any","destination":"blue","protocol":"any",
-"source_ports":[27,27],"destination_ports":[28,28],"action":"deny"},
-{"direction":"<>","source":"any","destination":"any","protocol":"any",
-"source_ports":[29,30],"destination_ports":[31,32],"action":"pass"},
-{"direction":">","source":"any","destination":"any","protocol":255,
-"source_ports":[33,33],"destination_ports":[34,34],"action":"deny"},
-{"direction":"<>","source":"red","destination":"any","protocol":"any",
-"source_ports":[35,35],"destination_ports":[36,36],"action":"deny"},
-{"direction":">","source":"red","destination":"green","protocol":"any",
-"source_ports":[0,65535],"destination_ports":[0,65535],"action":"pass"},
-{"direction":"<>","source":"any","destination":"red","protocol":0,
-"source_ports":[37,38],"destination_ports":[39,40],"action":"pass"},
-{"direction":"<>","source":"red","destination":"red","protocol":"any",
-"source_ports":[41,41],"destination_ports":[42,42],"action":"pass"}]},
-{"name":"first","sequence":20,"rules":[
-{"direction":"<>","source":"red","destination":"blue","protocol":"any",
-"source_ports":[0,65535],"destination_ports":[443,443],"action":"chain","chain":"one","use":3071}]}]}}"#;
+const MIXED: &str = r#"{
+    "networks":[{"name":"red","id":1,"subnets":["10.1.4.0/24","10.1.0.0/24"],"policies":["mixed","first"]},
+        {"name":"blue","id":2,"subnets":["10.2.1.0/24","10.2.0.0/24"],"policies":["first","mixed"]},
+        {"name":"green","id":3,"subnets":["10.3.0.0/24"]}],
+    "services":[{"name":"s1","id":1,"node":"n1"},{"name":"s2","id":2,"node":"n1"}],
+    "chains":[{"name":"pair","hops":["s1","s2"]},{"name":"one","hops":["s2"]}],
+    "policies":[
+        {"name":"mixed","sequence":30,"rules":[
+            {"direction":">","source":"red","destination":"blue","protocol":6,
+                "source_ports":[1,2],"destination_ports":[3,4],"action":"pass"},
+            {"direction":">","source":"red","destination":"blue","protocol":"any",
+                "source_ports":[1,2],"destination_ports":[5,6],"action":"deny"},
+            {"direction":">","source":"red","destination":"blue","protocol":17,
+                "source_ports":[7,7],"destination_ports":[8,9],"action":"chain","chain":"pair","use":0},
+            {"direction":"<>","source":"red","destination":"blue","protocol":6,
+                "source_ports":[10,11],"destination_ports":[12,13],"action":"pass"},
+            {"direction":"<>","source":"red","destination":"blue","protocol":"any",
+                "source_ports":[14,15],"destination_ports":[16,17],"action":"deny"},
+            {"direction":"<>","source":"red","destination":"blue","protocol":17,
+                "source_ports":[18,19],"destination_ports":[20,21],"action":"chain","chain":"pair","use":1},
+            {"direction":">","source":"blue","destination":"red","protocol":"any",
+                "source_ports":[0,65535],"destination_ports":[22,22],"action":"pass"},
+            {"direction":"<>","source":"blue","destination":"red","protocol":1,
+                "source_ports":[23,24],"destination_ports":[25,26],"action":"chain","chain":"one","use":2},
+            {"direction":">","source":"any","destination":"blue","protocol":"any",
+                "source_ports":[27,27],"destination_ports":[28,28],"action":"deny"},
+            {"direction":"<>","source":"any","destination":"any","protocol":"any",
+                "source_ports":[29,30],"destination_ports":[31,32],"action":"pass"},
+            {"direction":">","source":"any","destination":"any","protocol":255,
+                "source_ports":[33,33],"destination_ports":[34,34],"action":"deny"},
+            {"direction":"<>","source":"red","destination":"any","protocol":"any",
+                "source_ports":[35,35],"destination_ports":[36,36],"action":"deny"},
+            {"direction":">","source":"red","destination":"green","protocol":"any",
+                "source_ports":[0,65535],"destination_ports":[0,65535],"action":"pass"},
+            {"direction":"<>","source":"any","destination":"red","protocol":0,
+                "source_ports":[37,38],"destination_ports":[39,40],"action":"pass"},
+            {"direction":"<>","source":"red","destination":"red","protocol":"any",
+                "source_ports":[41,41],"destination_ports":[42,42],"action":"pass"}]},
+        {"name":"first","sequence":20,"rules":[
+            {"direction":"<>","source":"red","destination":"blue","protocol":"any",
+                "source_ports":[0,65535],"destination_ports":[443,443],"action":"chain","chain":"one","use":3071}]}]
+}"#;
 
 /// The entries of the sixteen rules from red to blue, and back.
 const THERE: [&str; 14] = [
@@ -97,14 +108,26 @@ const BACK: [&str; 11] = [
     "30/14 0 37-38 39-40 pass",
 ];
 
-fn valid_of(alloc: Global, document: &str) -> Option<Valid> {
-    let value = Value::from_str(alloc, document).ok()?;
+/// A document of a topology and a configuration.
+fn document(alloc: Global, topology: &str, configuration: &str) -> Result<String, AllocError> {
+    format!(in alloc; r#"{{"topology":{topology},"configuration":{configuration}}}"#)
+}
+
+fn valid_of(alloc: Global, topology: &str, configuration: &str) -> Option<Valid> {
+    let text = document(alloc, topology, configuration).ok()?;
+    let value = Value::from_str(alloc, text.as_str()).ok()?;
     let plan = read_compile(alloc, &value).ok()?;
     check(alloc, plan.topology, plan.config).ok()
 }
 
-fn list_of(alloc: Global, document: &str, from: u16, to: u16) -> Option<LowValue> {
-    let valid = valid_of(alloc, document)?;
+fn list_of(
+    alloc: Global,
+    topology: &str,
+    configuration: &str,
+    from: u16,
+    to: u16,
+) -> Option<LowValue> {
+    let valid = valid_of(alloc, topology, configuration)?;
     let from = InstanceId(from);
     let to = InstanceId(to);
     if network_numbered(valid.config(), from).is_none() {
@@ -197,7 +220,7 @@ fn has(alloc: Global, list: Option<LowValue>, subnets: &[&str], entries: &[&str]
 #[test]
 fn packets_enter_a_chain_at_either_end(rt: HostRuntime) {
     let alloc = rt.alloc();
-    let there = list_of(alloc, CHAIN, 1, 2);
+    let there = list_of(alloc, TWO_NODES, CHAIN, 1, 2);
     assert!(rt;
         has(
             alloc,
@@ -206,7 +229,7 @@ fn packets_enter_a_chain_at_either_end(rt: HostRuntime) {
             &["20/1 any 0-65535 0-65535 enter 16384"]
         )
     );
-    let back = list_of(alloc, CHAIN, 2, 1);
+    let back = list_of(alloc, TWO_NODES, CHAIN, 2, 1);
     assert!(rt;
         has(
             alloc,
@@ -222,7 +245,7 @@ fn rules_are_oriented(rt: HostRuntime) {
     let alloc = rt.alloc();
     let red = ["10.1.0.0/24", "10.1.4.0/24"];
     let blue = ["10.2.0.0/24", "10.2.1.0/24"];
-    assert!(rt; has(alloc, list_of(alloc, MIXED, 1, 2), &blue, &THERE));
-    assert!(rt; has(alloc, list_of(alloc, MIXED, 2, 1), &red, &BACK));
-    assert!(rt; has(alloc, list_of(alloc, MIXED, 1, 1), &red, &[]));
+    assert!(rt; has(alloc, list_of(alloc, ONE_NODE, MIXED, 1, 2), &blue, &THERE));
+    assert!(rt; has(alloc, list_of(alloc, ONE_NODE, MIXED, 2, 1), &red, &BACK));
+    assert!(rt; has(alloc, list_of(alloc, ONE_NODE, MIXED, 1, 1), &red, &[]));
 }

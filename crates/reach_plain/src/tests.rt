@@ -6,65 +6,65 @@ use ov_types::{Addr, InstanceId, Outcome, Packet, PortNo, RuleNo, Tuple, Why};
 use serde_json::Value;
 use std::alloc::{AllocError, Global};
 
+/// One control node and one compute node.
+const ONE_NODE: &str = r#"{
+    "as":64512,
+    "controllers":[{"name":"c1","address":"192.0.2.1"}],
+    "nodes":[{"name":"n1","address":"192.0.2.11","controllers":["c1"]}]
+}"#;
+
 /// Red and blue attach `web`, which denies tcp to port 22 and passes the rest.
-const WEB: &str = r#"{"topology":{"as":64512,
-"controllers":[{"name":"c1","address":"192.0.2.1"}],
-"nodes":[{"name":"n1","address":"192.0.2.11","controllers":["c1"]}]},
-"configuration":{
-"networks":[{"name":"red","id":1,"subnets":["10.1.0.0/24"],"policies":["web"]},
-{"name":"blue","id":2,"subnets":["10.2.0.0/24"],"policies":["web"]}],
-"ports":[{"name":"vm1","id":1,"network":"red","address":"10.1.0.1","node":"n1"},
-{"name":"vm2","id":2,"network":"blue","address":"10.2.0.2","node":"n1"}],
-"policies":[{"name":"web","sequence":10,"rules":[
-{"direction":"<>","source":"any","destination":"any","protocol":6,
-"source_ports":[0,65535],"destination_ports":[22,22],"action":"deny"},
-{"direction":"<>","source":"any","destination":"any","protocol":"any",
-"source_ports":[0,65535],"destination_ports":[0,65535],"action":"pass"}]}]}}"#;
+const WEB: &str = r#"{
+    "networks":[{"name":"red","id":1,"subnets":["10.1.0.0/24"],"policies":["web"]},
+        {"name":"blue","id":2,"subnets":["10.2.0.0/24"],"policies":["web"]}],
+    "ports":[{"name":"vm1","id":1,"network":"red","address":"10.1.0.1","node":"n1"},
+        {"name":"vm2","id":2,"network":"blue","address":"10.2.0.2","node":"n1"}],
+    "policies":[{"name":"web","sequence":10,"rules":[
+        {"direction":"<>","source":"any","destination":"any","protocol":6,
+            "source_ports":[0,65535],"destination_ports":[22,22],"action":"deny"},
+        {"direction":"<>","source":"any","destination":"any","protocol":"any",
+            "source_ports":[0,65535],"destination_ports":[0,65535],"action":"pass"}]}]
+}"#;
 
 /// The same, but blue attaches nothing.
-const ALONE: &str = r#"{"topology":{"as":64512,
-"controllers":[{"name":"c1","address":"192.0.2.1"}],
-"nodes":[{"name":"n1","address":"192.0.2.11","controllers":["c1"]}]},
-"configuration":{
-"networks":[{"name":"red","id":1,"subnets":["10.1.0.0/24"],"policies":["web"]},
-{"name":"blue","id":2,"subnets":["10.2.0.0/24"]}],
-"ports":[{"name":"vm1","id":1,"network":"red","address":"10.1.0.1","node":"n1"},
-{"name":"vm2","id":2,"network":"blue","address":"10.2.0.2","node":"n1"}],
-"policies":[{"name":"web","sequence":10,"rules":[
-{"direction":"<>","source":"any","destination":"any","protocol":"any",
-"source_ports":[0,65535],"destination_ports":[0,65535],"action":"pass"}]}]}}"#;
+const ALONE: &str = r#"{
+    "networks":[{"name":"red","id":1,"subnets":["10.1.0.0/24"],"policies":["web"]},
+        {"name":"blue","id":2,"subnets":["10.2.0.0/24"]}],
+    "ports":[{"name":"vm1","id":1,"network":"red","address":"10.1.0.1","node":"n1"},
+        {"name":"vm2","id":2,"network":"blue","address":"10.2.0.2","node":"n1"}],
+    "policies":[{"name":"web","sequence":10,"rules":[
+        {"direction":"<>","source":"any","destination":"any","protocol":"any",
+            "source_ports":[0,65535],"destination_ports":[0,65535],"action":"pass"}]}]
+}"#;
 
 /// Both attach `shop`, which passes tcp from red's ports 1024 to 2000 to blue's ports 80 to 90, and not the answers.
-const SHOP: &str = r#"{"topology":{"as":64512,
-"controllers":[{"name":"c1","address":"192.0.2.1"}],
-"nodes":[{"name":"n1","address":"192.0.2.11","controllers":["c1"]}]},
-"configuration":{
-"networks":[{"name":"red","id":1,"subnets":["10.1.0.0/24"],"policies":["shop"]},
-{"name":"blue","id":2,"subnets":["10.2.0.0/24"],"policies":["shop"]}],
-"ports":[{"name":"vm1","id":1,"network":"red","address":"10.1.0.1","node":"n1"},
-{"name":"vm2","id":2,"network":"blue","address":"10.2.0.2","node":"n1"}],
-"policies":[{"name":"shop","sequence":10,"rules":[
-{"direction":">","source":"red","destination":"blue","protocol":6,
-"source_ports":[1024,2000],"destination_ports":[80,90],"action":"pass"}]}]}}"#;
+const SHOP: &str = r#"{
+    "networks":[{"name":"red","id":1,"subnets":["10.1.0.0/24"],"policies":["shop"]},
+        {"name":"blue","id":2,"subnets":["10.2.0.0/24"],"policies":["shop"]}],
+    "ports":[{"name":"vm1","id":1,"network":"red","address":"10.1.0.1","node":"n1"},
+        {"name":"vm2","id":2,"network":"blue","address":"10.2.0.2","node":"n1"}],
+    "policies":[{"name":"shop","sequence":10,"rules":[
+        {"direction":">","source":"red","destination":"blue","protocol":6,
+            "source_ports":[1024,2000],"destination_ports":[80,90],"action":"pass"}]}]
+}"#;
 
 /// Both attach `sec`, which leads packets between them through two services, and before it by sequence, but after it
 /// in the document, `ssh`, which denies tcp to port 22 from red to blue.
-const SECURE: &str = r#"{"topology":{"as":64512,
-"controllers":[{"name":"c1","address":"192.0.2.1"}],
-"nodes":[{"name":"n1","address":"192.0.2.11","controllers":["c1"]}]},
-"configuration":{
-"networks":[{"name":"red","id":1,"subnets":["10.1.0.0/24"],"policies":["sec","ssh"]},
-{"name":"blue","id":2,"subnets":["10.2.0.0/24"],"policies":["ssh","sec"]}],
-"ports":[{"name":"vm1","id":1,"network":"red","address":"10.1.0.1","node":"n1"},
-{"name":"vm2","id":2,"network":"blue","address":"10.2.0.2","node":"n1"}],
-"policies":[{"name":"sec","sequence":20,"rules":[
-{"direction":"<>","source":"red","destination":"blue","protocol":"any",
-"source_ports":[0,65535],"destination_ports":[0,1023],"action":"chain","chain":"pair","use":0}]},
-{"name":"ssh","sequence":10,"rules":[
-{"direction":">","source":"red","destination":"blue","protocol":6,
-"source_ports":[0,65535],"destination_ports":[22,22],"action":"deny"}]}],
-"services":[{"name":"s1","id":1,"node":"n1"},{"name":"s2","id":2,"node":"n1"}],
-"chains":[{"name":"pair","hops":["s1","s2"]}]}}"#;
+const SECURE: &str = r#"{
+    "networks":[{"name":"red","id":1,"subnets":["10.1.0.0/24"],"policies":["sec","ssh"]},
+        {"name":"blue","id":2,"subnets":["10.2.0.0/24"],"policies":["ssh","sec"]}],
+    "ports":[{"name":"vm1","id":1,"network":"red","address":"10.1.0.1","node":"n1"},
+        {"name":"vm2","id":2,"network":"blue","address":"10.2.0.2","node":"n1"}],
+    "policies":[
+        {"name":"sec","sequence":20,"rules":[
+            {"direction":"<>","source":"red","destination":"blue","protocol":"any",
+                "source_ports":[0,65535],"destination_ports":[0,1023],"action":"chain","chain":"pair","use":0}]},
+        {"name":"ssh","sequence":10,"rules":[
+            {"direction":">","source":"red","destination":"blue","protocol":6,
+                "source_ports":[0,65535],"destination_ports":[22,22],"action":"deny"}]}],
+    "services":[{"name":"s1","id":1,"node":"n1"},{"name":"s2","id":2,"node":"n1"}],
+    "chains":[{"name":"pair","hops":["s1","s2"]}]
+}"#;
 
 const RED: u32 = 0x0a01_0001;
 
@@ -72,7 +72,7 @@ const BLUE: u32 = 0x0a02_0002;
 
 const NOBODY: u32 = 0x0a02_0009;
 
-/// The document, the source port, the destination, the source and destination ports of tcp, and the outcome.
+/// The configuration, the source port, the destination, the source and destination ports of tcp, and the outcome.
 const CASES: [(&str, u32, u32, u16, u16, &str); 20] = [
     (WEB, 1, BLUE, 40000, 22, "denied by 10/1"),
     (WEB, 1, BLUE, 40000, 80, "to 2"),
@@ -96,8 +96,15 @@ const CASES: [(&str, u32, u32, u16, u16, &str); 20] = [
     (SHOP, 2, RED, 80, 1024, "denied"),
 ];
 
-fn valid_of(alloc: Global, document: &str) -> Option<Valid> {
-    let value = Value::from_str(alloc, document).ok()?;
+/// A document of one node and a configuration.
+fn document(alloc: Global, configuration: &str) -> Result<String, AllocError> {
+    let topology = ONE_NODE;
+    format!(in alloc; r#"{{"topology":{topology},"configuration":{configuration}}}"#)
+}
+
+fn valid_of(alloc: Global, configuration: &str) -> Option<Valid> {
+    let text = document(alloc, configuration).ok()?;
+    let value = Value::from_str(alloc, text.as_str()).ok()?;
     let plan = read_compile(alloc, &value).ok()?;
     check(alloc, plan.topology, plan.config).ok()
 }
@@ -135,9 +142,9 @@ fn tuple_of(sport: u16, dport: u16) -> Tuple {
     }
 }
 
-/// Whether a packet of a document has this outcome.
-fn is_outcome(alloc: Global, document: &str, packet: Packet, want: &str) -> bool {
-    let Some(valid) = valid_of(alloc, document) else {
+/// Whether a packet of a configuration has this outcome.
+fn is_outcome(alloc: Global, configuration: &str, packet: Packet, want: &str) -> bool {
+    let Some(valid) = valid_of(alloc, configuration) else {
         return false;
     };
     match line_of(alloc, &reach(&valid, packet)) {
@@ -149,12 +156,12 @@ fn is_outcome(alloc: Global, document: &str, packet: Packet, want: &str) -> bool
 /// The decision on a packet from one network to another, of the networks 1 and 2.
 fn decision_in(
     alloc: Global,
-    document: &str,
+    configuration: &str,
     from: u16,
     to: u16,
     tuple: Tuple,
 ) -> Option<Decision> {
-    let valid = valid_of(alloc, document)?;
+    let valid = valid_of(alloc, configuration)?;
     if !is_network(&valid, InstanceId(from)) {
         return None;
     }
@@ -175,13 +182,16 @@ fn by_rule(position: u16, mirrored: bool) -> Option<Decision> {
 
 #[test]
 fn packets_have_their_outcomes(rt: HostRuntime) {
-    for (document, port, to, sport, dport, want) in CASES {
+    for (configuration, port, to, sport, dport, want) in CASES {
         let packet = Packet {
             source: PortNo(port),
             destination: Addr(to),
             tuple: tuple_of(sport, dport),
         };
-        assert!(rt; is_outcome(rt.alloc(), document, packet, want), "{want}");
+        assert!(rt;
+            is_outcome(rt.alloc(), configuration, packet, want),
+            "{want}"
+        );
     }
 }
 
