@@ -26,7 +26,7 @@ const WEB: &str = r#"{
             "source_ports":[0,65535],"destination_ports":[0,65535],"action":"pass"}]}]
 }"#;
 
-/// The same, but blue attaches nothing.
+/// Red alone attaches a policy, which passes all.
 const ALONE: &str = r#"{
     "networks":[{"name":"red","id":1,"subnets":["10.1.0.0/24"],"policies":["web"]},
         {"name":"blue","id":2,"subnets":["10.2.0.0/24"]}],
