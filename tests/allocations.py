@@ -1,7 +1,7 @@
 #!/usr/bin/env python3
 """Makes each allocation of a run fail, one in each run, and says how the runs ended.
 
-Runs the built program on the shipped examples, and on messages of which it tells in several pieces. A run in which an
+Runs the built program on the shipped examples of `compile`, `reach` and `decode`, and on messages of which it tells in several pieces. A run in which an
 allocation fails has to end with status 9 and to write a front of the text, or else as the run in which none fails. The failing allocation is made by a library that is loaded before the C
 library; it is compiled by `cc` to a temporary folder. A run is stopped after 60 seconds, and has then ended otherwise.
 

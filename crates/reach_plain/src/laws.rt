@@ -20,8 +20,8 @@ ghost use Rattle.reach_plain.specs.Reachability.{network_towards, reachability};
 ghost use Rattle.reach_plain.specs.Outcomes.{IsTowards, Becomes};
 
 /// In a valid configuration, where all rules between two networks are of both directions, a packet that is decided by
-/// a chain rule and its answer are decided in opposite directions, so that they pass the same services in opposite
-/// order.
+/// a chain rule and its answer are decided in opposite directions. (That one rule decides both, so that they pass the
+/// same services in opposite order, is `answers_are_decided_alike` of `network_rules`.)
 pub fn chains_are_passed_back()
     ensures { (topology : Topology) (c : Config) (a b : Network) (t : Tuple) (m n : Match) (chain : List ℕ) (use_no : ℕ)
         → first_broken topology c ≡ None → SpeakBothWays c a b
@@ -43,7 +43,8 @@ pub fn packets_have_one_outcome()
 {}
 
 /// In a valid configuration of the written form the network that an address is of, for packets from a network, is the
-/// one that is that network itself or related to it and has a subnet that holds the address; none where there is none.
+/// one that is that network itself or related to it and has a subnet that holds the address. In any configuration none
+/// is found where there is none.
 pub fn destinations_are_found()
     ensures network { (topology : Topology) (c : Config) (own target : Network) (address : ℕ)
         → IsTrue (has_config_form c) → first_broken topology c ≡ None → Contains c.networks own

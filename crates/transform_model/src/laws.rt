@@ -1,4 +1,5 @@
-//! What a configuration is transformed into, as laws: each is the contract of a function that does nothing.
+//! What a configuration is transformed into, as laws: each is the contract of a function that does nothing. Where one
+//! asks for `has_config_form`, the valid configuration that it speaks of has the written form too, as each that is read.
 ghost use Rattle.std.specs.Prelude.{◌≡◌, ◌≢◌, ◌↔◌, ◌<◌, ℕ, IsTrue, List, flat_map};
 ghost use Rattle.std.specs.List.{AllPairs, Contains};
 ghost use Rattle.std.specs.List.Sorted.{IsPermutation};
