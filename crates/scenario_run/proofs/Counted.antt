@@ -1,32 +1,31 @@
 -- The counts of a schedule are those of its answers.
-use Rattle.std.specs.Prelude.{◌≡◌, ◌≤◌, ◌↔◌, ◌==◌, ℕ, zero, suc, ◌+◌, Bool, true, false, not, List, [], ◌∷◌, ◌++◌, map, take, length}
-use Rattle.std.specs.Prelude.{is_some, slice_get, if◌then◌else◌}
+use Rattle.std.specs.Prelude.{◌≡◌, ◌≤◌, ◌==◌, ℕ, zero, suc, ◌+◌, Bool, true, false, not, List, [], ◌∷◌, ◌++◌, map, take, length}
+use Rattle.std.specs.Prelude.{slice_get, if◌then◌else◌}
 use Rattle.std.specs.List.{cons_option, filter, filter_map}
 use Rattle.std.specs.declared.option.Option.{Option}
 use Rattle.std.specs.declared.option.Option.TheVariants.{Some, None}
-use Rattle.std.proofs.Common.{refl, sym, ap, subst, ◌∙◌, arith}
-use Rattle.std.proofs.lemmas.Option.{same_Some}
+use Rattle.std.proofs.Common.{refl, sym, ap, ◌∙◌, arith}
 use Rattle.ov_types.specs.declared.packet.Outcome.{Outcome}
 use Rattle.ov_types.specs.declared.packet.Outcome.TheVariants.{Delivered, Dropped}
 use Rattle.ov_types.specs.declared.packet.Packet.{Packet}
 use Rattle.config_check.specs.Checked.{Checked}
 use Rattle.config_check.specs.Edits.{edit_fault}
 use Rattle.config_check.specs.declared.edits.EditFault.{EditFault}
-use Rattle.config_model.specs.declared.edit.Edit.{Edit}
 use Rattle.config_model.specs.declared.event.Event.{Event}
 use Rattle.config_model.specs.declared.event.Event.TheVariants as written
 use Rattle.reach_plain.specs.Reachability.{reachability}
 use Rattle.route_targets.specs.Forwarding.{forwarding}
 use Rattle.schedule_script.specs.declared.answer.Answer.{Answer}
-use Rattle.schedule_script.specs.declared.answer.Answer.TheVariants.{Did, Idle, EditRefused, Rounds, Shown, Traced}
+use Rattle.schedule_script.specs.declared.answer.Answer.TheVariants.{Did, Idle, Shown, Traced}
 use Rattle.network_model.specs.Session.{Session}
 use Rattle.network_model.specs.Network.{Network, start}
-use Rattle.network_model.specs.Steps.{in_flight, is_broken, is_settled, may_connect, session_of, settle}
-use Rattle.network_model.specs.Events.{after, answer_to, edit_answer, event_of, forwarders, is_node, next, run, unless}
-use Rattle.net_model.specs.Stands.{any_size, moment}
-use Rattle.schedule_laws.specs.Compiled.{StandsAt, answers}
+use Rattle.network_model.specs.Steps.{in_flight, is_broken, may_connect, session_of}
+use Rattle.network_model.specs.Events.{after, answer_to, edit_answer, event_of, forwarders, is_node, next, run, shown}
+use Rattle.network_model.specs.Events.{unless}
+use Rattle.net_model.specs.Stands.{any_size}
+use Rattle.schedule_laws.specs.Compiled.{answers}
 use Rattle.scenario_run.specs.declared.tally.Tally.{Tally}
-use Rattle.scenario_run.specs.Counts.{CountsAnswers, EachAgrees, is_delivery, is_trace, rounds_of}
+use Rattle.scenario_run.specs.Counts.{CountsAnswers, is_delivery, is_trace, rounds_of}
 use Rattle.scenario_run.specs.Tallies.{counted, is_delivered, nothing, one_if, same_outcome, tally, tally_from}
 use Rattle.scenario_run.proofs.Sameness.{same_is_one}
 
@@ -92,8 +91,8 @@ counts_one y w (written.Trace p) t = record {
 -- ---- what was delivered
 one_delivered : (b : Bool) (x : Answer) (xs : List Answer) → is_delivery x ≡ b
     → one_if b + length (filter is_delivery xs) ≡ length (filter is_delivery (x ∷ xs))
-one_delivered true x xs is = rw is refl
-one_delivered false x xs is = rw is refl
+one_delivered true x xs is = rw is (omega arith)
+one_delivered false x xs is = rw is (omega arith)
 
 sums : (a b c d e : ℕ) → a ≡ b + c → c + d ≡ e → a + d ≡ b + e
 sums a b c d e one more = omega (arith, one, more)
@@ -177,8 +176,8 @@ traces_at_most w (written.Trace p) = one_at_most (same_outcome (forwarding (forw
 
 one_traced : (b : Bool) (e : Event) (es : List Event) → is_trace e ≡ b
     → length (filter is_trace (e ∷ es)) ≡ one_if b + length (filter is_trace es)
-one_traced true e es is = rw is refl
-one_traced false e es is = rw is refl
+one_traced true e es is = rw is (omega arith)
+one_traced false e es is = rw is (omega arith)
 
 traces : List Event → ℕ
 traces es = length (filter is_trace es)
@@ -268,13 +267,20 @@ all_count w (e ∷ es) t agrees =
     omega (arith, one, same, more, sum)
 
 -- ---- of a schedule
+none_before : (n : ℕ) → 0 + n ≡ n
+none_before n = omega arith
+
 pub counts_answers : (x : Checked) (es : List Event) → CountsAnswers x es (tally x es)
 unfolding tally traces
 counts_answers x es = record {
-  delivered = deliveries (start x) es nothing;
+  delivered = deliveries (start x) es nothing ∙ none_before (length (filter is_delivery (answers x es)));
   agreed = (
-    (λ counts place p o at. all_agree (start x) es nothing counts place p o at.event at.answer),
-    (λ agrees. all_count (start x) es nothing (λ place p o is answered. agrees place p o (record { event = is; answer = answered }))),
+    (λ counts place p o at.
+        all_agree (start x) es nothing (counts ∙ sym (none_before (traces es))) place p o at.event at.answer),
+    (λ agrees.
+        all_count (start x) es nothing (λ place p o is answered.
+        agrees place p o (record { event = is; answer = answered }))
+        ∙ none_before (traces es)),
   );
   rounds = λ before one other is.
       rounds_so_far (start x) es nothing ∙ ap (all_later (0, 0)) is ∙ the_last_two (0, 0) before one other;
