@@ -1,5 +1,5 @@
 -- How a step of an agent begins.
-use Rattle.std.specs.Prelude.{◌≡◌, ◌<◌, ℕ, List, [], ◌∷◌, map, length}
+use Rattle.std.specs.Prelude.{◌≡◌, ◌<◌, ℕ, List, [], ◌∷◌, length}
 use Rattle.std.specs.List.{filter_map, slice_index_or, slice_set}
 use Rattle.std.specs.declared.option.Option.{Option}
 use Rattle.std.specs.declared.option.Option.TheVariants.{Some, None}
@@ -8,7 +8,6 @@ use Rattle.std.proofs.lemmas.List.{get_or-map, set-set}
 use Rattle.ov_link.specs.declared.step.Input.{Input}
 use Rattle.ov_link.specs.declared.step.Input.TheVariants as In
 use Rattle.ov_sync.specs.Keyed.{after}
-use Rattle.ov_types.specs.declared.rows.NodeId.{NodeId}
 use Rattle.item_wire.specs.Happenings.{SessionFields}
 use Rattle.item_wire.specs.Records.{spelling}
 use Rattle.item_wire.specs.declared.event.ItemCause.{ItemCause}
@@ -20,8 +19,8 @@ use Rattle.node_core.specs.Begun.{HasBegun}
 use Rattle.node_core.specs.Whole.{session_of}
 use Rattle.node_items.specs.Beginning.{left_by, phase_of}
 use Rattle.node_items.specs.Hearing.{Hears, heard}
-use Rattle.node_items.specs.Told.{change_of, down_of, up_of}
-use Rattle.node_model.specs.Step.{Begun, Idle, Opened, Phase, Post, end_of, nothing, post}
+use Rattle.node_items.specs.Told.{change_of, up_of}
+use Rattle.node_model.specs.Step.{Begun, Idle, Opened, Post, end_of, nothing, post}
 use Rattle.agent_tables.specs.declared.hearing.Hearing.{Hearing}
 use Rattle.agent_node.specs.Applying.{HasHeard, HasTaken}
 use Rattle.agent_node.specs.Beginning.{Begins, controller_at, no_node, session_at, state_at}

@@ -1,8 +1,8 @@
 -- The changes that a session is told.
 use Rattle.std.specs.Prelude.{◌≡◌, ◌<◌, ℕ, List, map, length}
 use Rattle.std.specs.List.{All}
-use Rattle.std.proofs.Common.{refl, sym, ◌∙◌, ap, subst, get_or, arith}
-use Rattle.std.proofs.lemmas.List.{get_or-map, get_or_read, length-map}
+use Rattle.std.proofs.Common.{refl, sym, ◌∙◌, ap, subst, get_or}
+use Rattle.std.proofs.lemmas.List.{get_or-map, length-map}
 use Rattle.std.proofs.lemmas.List.Elements.{All-from_recursion}
 use Rattle.ov_sync.specs.declared.Delta.{Delta}
 use Rattle.ov_sync.specs.Keyed.{map_of, difference as difference_by}

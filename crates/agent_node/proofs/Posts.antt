@@ -1,13 +1,12 @@
 -- The ends as they are seen, from those that are kept.
-use Rattle.std.specs.Prelude.{◌≡◌, ◌<◌, ◌≤◌, ◌+◌, ℕ, zero, suc, List, [], ◌∷◌, ◌++◌, map, take, drop, length}
+use Rattle.std.specs.Prelude.{◌≡◌, ◌<◌, ◌≤◌, ℕ, zero, suc, List, [], ◌∷◌, ◌++◌, map, take, drop, length}
 use Rattle.std.specs.Prelude.{Bool, true, false, not, if◌then◌else◌}
 use Rattle.std.specs.FinMap.{entries, from_entries}
 use Rattle.std.specs.List.{All, AllByRecursion, filter, filter_map, flat_map, slice_index_or}
-use Rattle.std.proofs.Common.{refl, sym, ◌∙◌, ap, subst, get_or, set, arith, inl, inr}
+use Rattle.std.proofs.Common.{refl, sym, ◌∙◌, ap, subst, set, arith}
 use Rattle.std.proofs.lemmas.List.Elements.{All-from_recursion, All-set, All-map, recursion_from_All}
 use Rattle.std.proofs.Math.Seq.{map-set_same}
-use Rattle.std.proofs.lemmas.List.{get_or-set_other, get_or-set_same, length-map, length-set, take_at}
-use Rattle.std.proofs.lemmas.Bool.{cases_eq}
+use Rattle.std.proofs.lemmas.List.{length-map, length-set, take_at}
 use Rattle.ov_sync.proofs.Ascending.{entries-empty}
 use Rattle.ov_sync.proofs.KeyedLaws.{empty_values}
 use Rattle.ov_types.specs.Keys.{row_key_cmp}
@@ -224,25 +223,6 @@ fresh_ends plan few = record {
   held = All-from_recursion HeldFits (map fresh_hearing plan.controllers) (fresh_held plan.controllers);
   sent = All-from_recursion SentFits (map fresh_sent plan.controllers) (no_sent plan.controllers);
 }
-
-pub all_closed : (posts : List Post) (n : ℕ) → length posts ≡ n → ((i : ℕ) → i < n → post posts i ≡ nothing)
-    → posts ≡ nothings n
-all_closed [] zero e h = refl
-all_closed [] (suc n) e h = absurd (omega arith)
-all_closed (p ∷ posts) zero e h = absurd (omega arith)
-all_closed (p ∷ posts) (suc n) e h =
-    let first : p ≡ nothing = h 0 (omega arith) in
-    let rest : posts ≡ nothings n = all_closed posts n (omega arith) (λ i lt. h (suc i) (omega arith)) in
-    λ i. first i ∷ rest i
-
-pub closed_more : (posts posts' : List Post) (n : ℕ) → n < length posts → posts' ≡ set posts n nothing
-    → ((i : ℕ) → i < n → post posts i ≡ nothing) → (i : ℕ) → i < n + 1 → post posts' i ≡ nothing
-closed_more posts posts' n lt e below i in_i =
-    ap (λ (ps : List Post). post ps i) e
-    ∙ elim (cases_eq i n) [
-      | inl here ↦ rw here (get_or-set_same posts n nothing nothing lt)
-      | inr other ↦ get_or-set_other posts n i nothing nothing other ∙ below i (omega arith)
-    ]
 
 -- ---- an agent whose ends are all closed forwards nothing
 no_slice : (n : ℕ) → slice_in_use (holdings (nothings n)) ≡ []

@@ -1,10 +1,11 @@
 -- What is seen of an agent: its plan, its ends, what it forwards by, and whether it failed.
-use Rattle.std.specs.Prelude.{ℕ, zero, suc, List, [], ◌∷◌, map, length, Bool, true, false, not}
+use Rattle.std.specs.Prelude.{ℕ, List, [], map, length, Bool, false, not}
 use Rattle.ov_types.specs.declared.rows.AgentRows.{AgentRows}
 use Rattle.node_items.specs.Told.{spelled}
 use Rattle.node_model.specs.Agent.{Heard, Holdings, wanted as wanted_of}
 use Rattle.node_model.specs.Maps.{Map}
-use Rattle.node_model.specs.Step.{Kind, Phase, Post, Idle, Up, nothing}
+pub use Rattle.node_core.specs.Resting.{is_idle, is_up, nothings}
+use Rattle.node_model.specs.Step.{Kind, Phase, Post}
 use Rattle.agent_node.specs.declared.plan.AgentPlan.{AgentPlan}
 
 -- its ends are those of the control nodes, in the order in which it lists them
@@ -16,14 +17,6 @@ pub record Core : Type 0 where
 
 abbrev pub sessions : AgentPlan → ℕ
 sessions plan = length plan.controllers
-
-abbrev pub is_idle : Phase → Bool
-is_idle Idle = true
-is_idle _ = false
-
-abbrev pub is_up : Phase → Bool
-is_up Up = true
-is_up _ = false
 
 -- ---- what it holds, from its ends
 abbrev pub heard_at : Post → Heard
@@ -43,10 +36,6 @@ abbrev pub kind : Kind
 kind = record { wanted = wanted; may_send = may_send; spelled = λ i c. spelled c }
 
 -- ---- an agent whose ends are all closed
-abbrev pub nothings : ℕ → List Post
-nothings zero = []
-nothings (suc n) = nothing ∷ nothings n
-
 abbrev pub fresh : AgentPlan → Core
 fresh plan = record {
   plan = plan;

@@ -4,4 +4,4 @@ pub mod Beginning
 pub mod Ends
 pub mod Planning
 pub mod Applying
-pub mod Advancing
+pub mod Codes

@@ -9,7 +9,7 @@ ghost use Rattle.item_wire.specs.declared.item.Item.TheVariants.{Hello};
 ghost use Rattle.node_core.specs.Begun.{HasBegun};
 ghost use Rattle.node_core.specs.Whole.{Comes, session_of};
 ghost use Rattle.node_items.specs.Told.{AllFit, IsWritable, change_of, down_of};
-ghost use Rattle.node_model.specs.Step.{Begun as BegunOf, Idle, Opened, post};
+ghost use Rattle.node_model.specs.Step.{Begun, Idle, Opened, post};
 ghost use Rattle.agent_node.specs.Beginning.{Begins};
 ghost use Rattle.agent_node.specs.Core.{is_idle, sessions};
 ghost use Rattle.agent_node.specs.Ends.{HeldFits, whom};
@@ -18,7 +18,7 @@ ghost use Rattle.agent_node.specs.Applying.{HasHeard, HasTaken, changed_by};
 use crate::ends::AgentEnds;
 use agent_tables::Hearing;
 use item_wire::{Item, ItemCause};
-use node_core::Ends;
+use node_core::{Ends, Started};
 use node_items::{Heard, down_change, greet, hear};
 use ov_link::Input;
 use ov_sync::SyncIn;
@@ -26,15 +26,6 @@ use ov_types::{DownKey, DownValue, Items, NoMemory};
 use std::alloc::Global;
 
 type Held = SyncIn<DownKey, DownValue>;
-
-/// What an input came to at its end.
-#[derive(Drop)]
-pub(crate) struct Begun {
-    /// The octets that are to be sent on the session, message by message.
-    pub(crate) replies: Items<Items<u8>>,
-    /// Why the octets took the session down, where they did.
-    pub(crate) cause: Option<ItemCause>,
-}
 
 /// Applies a record of a control node to what is held of it.
 fn apply(held: &mut Held, item: Item) -> Result<(), NoMemory>
@@ -114,35 +105,35 @@ impl AgentEnds {
     }
 
     /// Applies an input to the end of its session.
-    pub(crate) fn begin(&mut self, input: Input<'_>) -> Result<Begun, NoMemory>
+    pub(crate) fn apply(&mut self, input: Input<'_>) -> Result<Started<ItemCause>, NoMemory>
         requires known { session_of input < sessions self.old.plan }
         requires comes { Comes (λ i. is_idle (post self.old.posts i).phase ≡ false)
             (λ i. is_idle (post self.old.posts i).phase ≡ true) input }
         ensures plan { self.new.plan ≡ self.old.plan }
-        ensures begins { IfOk result (λ begun. (given : BegunOf)
+        ensures begins { IfOk result (λ started. (given : Begun)
             × Begins self.old.plan (session_of input.entry) (post self.old.posts (session_of input.entry)) input.entry
-            given begun.cause
-            × HasBegun self.old.posts (session_of input.entry) given begun.replies self.new.posts) }
+            given started.cause
+            × HasBegun self.old.posts (session_of input.entry) given started.replies self.new.posts) }
     {
         let alloc = self.alloc;
         match input {
             Input::Opened { session } => {
                 let replies = self.greet_at(session)?;
-                Ok(Begun {
+                Ok(Started {
                     replies,
                     cause: None,
                 })
             }
             Input::Bytes { session, bytes } => {
                 let cause = self.hear_on(session, bytes)?;
-                Ok(Begun {
+                Ok(Started {
                     replies: Items::new(alloc),
                     cause,
                 })
             }
             Input::Closed { session } => {
                 self.close(session);
-                Ok(Begun {
+                Ok(Started {
                     replies: Items::new(alloc),
                     cause: None,
                 })

@@ -2,16 +2,17 @@
 ghost use Rattle.std.specs.Prelude.{◌≡◌, ◌≤◌, ◌<◌, [], length, IfOk};
 ghost use Rattle.item_wire.specs.Happenings.{after};
 ghost use Rattle.item_wire.specs.declared.input.Came.TheVariants.{Closed};
+ghost use Rattle.node_core.specs.Resting.{end_at};
 ghost use Rattle.node_items.specs.Beginning.{phase_of};
 ghost use Rattle.node_model.specs.Agent.{rows as rows_of};
-ghost use Rattle.node_model.specs.Step.{post};
 ghost use Rattle.agent_node.specs.Core.{holdings, nothings, sessions};
 
 use crate::plan::AgentPlan;
 use crate::planning::plan_all;
 use agent_tables::{Hearing, Tables, wanted};
-use item_wire::{ItemFrom, ItemSession, ItemState};
-use node_core::{Ends, Plan};
+use item_wire::{ItemCause, ItemFrom, ItemSession, ItemState};
+use node_core::{End, Ends, Plan, Started};
+use ov_link::Input;
 use ov_sync::{SyncIn, SyncOut};
 use ov_types::{Addr, Label, NoMemory, UpKey};
 use std::alloc::Global;
@@ -50,16 +51,50 @@ fn shut(hearing: &mut Hearing, sent: &mut SyncOut<UpKey, Label>)
     sent.reset();
 }
 
+/// The end whose session is in this state.
+fn end_in(state: ItemState) -> End
+    ensures { result ≡ end_at (phase_of state) }
+{
+    match state {
+        ItemState::Idle => End::Idle,
+        ItemState::Opened => End::Opened,
+        ItemState::Up => End::Up,
+    }
+}
+
 impl Ends for AgentEnds {
     ghost use Rattle.std.specs.Prelude.{◌≡◌, refl};
     ghost use Rattle.std.proofs.Common.{◌∙◌};
+    ghost use Rattle.agent_node.specs.Beginning.{Begins};
     ghost use Rattle.agent_node.specs.Core.{kind};
+
+    type Cause = ItemCause;
 
     ghost kind = { λ _. kind };
 
     ghost posts = { λ e. e.posts };
 
     ghost stays = { λ before after. after.plan ≡ before.plan };
+
+    ghost begins = { λ e. Begins e.plan };
+
+    fn sessions(&self) -> u16
+        ensures posts { result ≡ length self.now.posts }
+        ensures plan { result ≡ sessions self.now.plan }
+    {
+        self.hearings.len() as u16
+    }
+
+    fn state(&self, session: u16) -> End {
+        end_in(self.hearings[usize::from(session)].session.state())
+    }
+
+    fn begin(&mut self, input: Input<'_>) -> Result<Started<ItemCause>, NoMemory> {
+        let _before = self.sessions();
+        let started = self.apply(input);
+        let _after = self.sessions();
+        started
+    }
 
     fn plan(&mut self) -> Result<Vec<Plan>, NoMemory> {
         let wanted = wanted(self.alloc, &self.hearings)?;
@@ -103,14 +138,6 @@ impl AgentEnds {
         })
     }
 
-    /// How many sessions there are.
-    pub(crate) fn sessions(&self) -> u16
-        ensures sessions { result ≡ sessions self.now.plan }
-        ensures posts { length self.now.posts ≡ sessions self.now.plan }
-    {
-        self.hearings.len() as u16
-    }
-
     /// Where its memory comes from.
     pub(crate) fn alloc(&self) -> Global {
         self.alloc
@@ -121,24 +148,6 @@ impl AgentEnds {
         ensures { result ≡ self.now.plan.me.address }
     {
         self.plan.me.address
-    }
-
-    /// The state of a session.
-    pub(crate) fn state(&self, session: u16) -> ItemState
-        requires { session < sessions self.now.plan }
-        ensures { phase_of result ≡ (post self.now.posts session).phase }
-    {
-        self.hearings[usize::from(session)].session.state()
-    }
-
-    /// Closes every end. It takes no memory.
-    pub(crate) fn close_all(&mut self)
-        ensures plan { self.new.plan ≡ self.old.plan }
-        ensures posts { self.new.posts ≡ nothings (sessions self.old.plan) }
-    {
-        for session in 0..self.sessions() {
-            self.close(session);
-        }
     }
 
     /// What the sessions give the agent to forward by.

@@ -2,10 +2,9 @@
 use Rattle.std.specs.Prelude.{◌≡◌, ◌<◌, ◌≤◌, ◌+◌, ℕ, zero, suc, List, [], ◌∷◌, ◌++◌, map, length, true, false, not}
 use Rattle.std.specs.Prelude.{if◌then◌else◌}
 use Rattle.std.specs.List.{AllByRecursion, slice_index_or}
-use Rattle.std.proofs.Common.{refl, sym, ◌∙◌, ap, subst, set, get_or, take, drop, arith, inl, inr}
+use Rattle.std.proofs.Common.{refl, sym, ◌∙◌, ap, subst, set, get_or, take, drop, arith}
 use Rattle.std.proofs.Math.Seq.{map-set_same}
-use Rattle.std.proofs.lemmas.List.{get_or-map, get_or-set_other, get_or-set_same, length-map, map_more, take_at}
-use Rattle.std.proofs.lemmas.Bool.{cases_eq}
+use Rattle.std.proofs.lemmas.List.{get_or-map, length-map, map_more, take_at}
 use Rattle.ov_sync.proofs.KeyedLaws.{empty_values}
 use Rattle.ov_types.specs.declared.rows.NodeId.{NodeId}
 use Rattle.item_wire.specs.Happenings.{SessionFields, after, next_state}
@@ -158,25 +157,6 @@ fresh_ends x wants one few is fits = record {
   fits = fits;
   sent = no_sent x.topology.controllers;
 }
-
-pub all_closed : (posts : List Post) (n : ℕ) → length posts ≡ n → ((i : ℕ) → i < n → post posts i ≡ nothing)
-    → posts ≡ nothings n
-all_closed [] zero e h = refl
-all_closed [] (suc n) e h = absurd (omega arith)
-all_closed (p ∷ posts) zero e h = absurd (omega arith)
-all_closed (p ∷ posts) (suc n) e h =
-    let first : p ≡ nothing = h 0 (omega arith) in
-    let rest : posts ≡ nothings n = all_closed posts n (omega arith) (λ i lt. h (suc i) (omega arith)) in
-    λ i. first i ∷ rest i
-
-pub closed_more : (posts posts' : List Post) (n : ℕ) → n < length posts → posts' ≡ set posts n nothing
-    → ((i : ℕ) → i < n → post posts i ≡ nothing) → (i : ℕ) → i < n + 1 → post posts' i ≡ nothing
-closed_more posts posts' n lt e below i in_i =
-    ap (λ (ps : List Post). post ps i) e
-    ∙ elim (cases_eq i n) [
-      | inl here ↦ rw here (get_or-set_same posts n nothing nothing lt)
-      | inr other ↦ get_or-set_other posts n i nothing nothing other ∙ below i (omega arith)
-    ]
 
 -- ---- the plans of a pass
 -- an end that is told

@@ -1,12 +1,13 @@
 -- What is seen of the configuration node: what is valid now, its ends, and whether it failed.
-use Rattle.std.specs.Prelude.{ℕ, zero, suc, List, [], ◌∷◌, length, Bool, true, false, not, refl}
+use Rattle.std.specs.Prelude.{ℕ, List, length, Bool, false, not, refl}
 use Rattle.std.specs.Coded.{Coded, code_by, coded×, coded_bool, coded_list}
 use Rattle.config_check.specs.Checked.{Checked}
 use Rattle.config_check.specs.contracts.valid.Valid as valid
 use Rattle.node_items.specs.Told.{spelled}
 use Rattle.node_model.specs.Codes.{coded_post}
 use Rattle.node_model.specs.Maps.{Map}
-use Rattle.node_model.specs.Step.{Kind, Phase, Post, Idle, Up, nothing}
+pub use Rattle.node_core.specs.Resting.{is_idle, is_up, nothings}
+use Rattle.node_model.specs.Step.{Kind, Phase, Post}
 use Rattle.network_model.specs.Setup.{low}
 
 -- its ends are those of the control nodes, in the order of the topology
@@ -17,14 +18,6 @@ pub record Core : Type 0 where
 
 abbrev pub sessions : Checked → ℕ
 sessions x = length x.topology.controllers
-
-abbrev pub is_idle : Phase → Bool
-is_idle Idle = true
-is_idle _ = false
-
-abbrev pub is_up : Phase → Bool
-is_up Up = true
-is_up _ = false
 
 -- ---- what it wants its sessions to have been told: the low-level objects of the configuration, from their opening on
 abbrev pub wanted : Checked → List Post → ℕ → Map
@@ -37,10 +30,6 @@ abbrev pub kind : Checked → Kind
 kind x = record { wanted = wanted x; may_send = may_send; spelled = λ i c. spelled c }
 
 -- ---- a configuration node whose ends are all closed
-abbrev pub nothings : ℕ → List Post
-nothings zero = []
-nothings (suc n) = nothing ∷ nothings n
-
 abbrev pub fresh : Checked → Core
 fresh x = record { setup = x; posts = nothings (sessions x); failed = false }
 

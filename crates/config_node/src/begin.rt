@@ -5,7 +5,7 @@ ghost use Rattle.item_wire.specs.declared.event.ItemFrom.TheVariants.{Nothing};
 ghost use Rattle.item_wire.specs.declared.item.Item.TheVariants.{Hello};
 ghost use Rattle.node_core.specs.Begun.{HasBegun};
 ghost use Rattle.node_core.specs.Whole.{Comes, session_of};
-ghost use Rattle.node_model.specs.Step.{Begun as BegunOf, Idle, Opened, post};
+ghost use Rattle.node_model.specs.Step.{Begun, Idle, Opened, post};
 ghost use Rattle.network_model.specs.Network.{config};
 ghost use Rattle.config_node.specs.Beginning.{Begins};
 ghost use Rattle.config_node.specs.Core.{is_idle, sessions};
@@ -14,20 +14,11 @@ ghost use Rattle.config_node.specs.Taking.{HasHeard, HasTaken};
 
 use crate::ends::ConfigEnds;
 use item_wire::{ItemCause, ItemSession};
-use node_core::Ends;
+use node_core::{Ends, Started};
 use node_items::{Heard, greet, hear};
 use ov_link::Input;
 use ov_types::{Items, Name, NoMemory};
 use std::alloc::Global;
-
-/// What an input came to at its end.
-#[derive(Drop)]
-pub(crate) struct Begun {
-    /// The octets that are to be sent on the session, message by message.
-    pub(crate) replies: Items<Items<u8>>,
-    /// Why the octets took the session down, where they did.
-    pub(crate) cause: Option<ItemCause>,
-}
 
 /// The configuration node's name.
 fn config_name() -> Name
@@ -86,35 +77,35 @@ impl ConfigEnds {
     }
 
     /// Applies an input to the end of its session.
-    pub(crate) fn begin(&mut self, input: Input<'_>) -> Result<Begun, NoMemory>
+    pub(crate) fn apply(&mut self, input: Input<'_>) -> Result<Started<ItemCause>, NoMemory>
         requires known { session_of input < sessions self.old.setup }
         requires comes { Comes (λ i. is_idle (post self.old.posts i).phase ≡ false)
             (λ i. is_idle (post self.old.posts i).phase ≡ true) input }
         ensures setup { self.new.setup ≡ self.old.setup }
-        ensures begins { IfOk result (λ begun. (given : BegunOf)
+        ensures begins { IfOk result (λ started. (given : Begun)
             × Begins self.old.setup (session_of input.entry) (post self.old.posts (session_of input.entry)) input.entry
-            given begun.cause
-            × HasBegun self.old.posts (session_of input.entry) given begun.replies self.new.posts) }
+            given started.cause
+            × HasBegun self.old.posts (session_of input.entry) given started.replies self.new.posts) }
     {
         let alloc = self.alloc;
         match input {
             Input::Opened { session } => {
                 let replies = self.greet_at(session)?;
-                Ok(Begun {
+                Ok(Started {
                     replies,
                     cause: None,
                 })
             }
             Input::Bytes { session, bytes } => {
                 let cause = self.hear_on(session, bytes)?;
-                Ok(Begun {
+                Ok(Started {
                     replies: Items::new(alloc),
                     cause,
                 })
             }
             Input::Closed { session } => {
                 self.close(session);
-                Ok(Begun {
+                Ok(Started {
                     replies: Items::new(alloc),
                     cause: None,
                 })

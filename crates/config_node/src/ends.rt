@@ -7,7 +7,6 @@ ghost use Rattle.config_check.specs.Rules.{first_broken};
 ghost use Rattle.item_wire.specs.Happenings.{after};
 ghost use Rattle.item_wire.specs.declared.input.Came.TheVariants.{Closed};
 ghost use Rattle.node_items.specs.Beginning.{phase_of};
-ghost use Rattle.node_model.specs.Step.{post};
 ghost use Rattle.network_model.specs.Setup.{edited};
 ghost use Rattle.config_node.specs.Core.{is_idle, nothings, sessions};
 ghost use Rattle.config_node.specs.Ends.{new_end};
@@ -16,8 +15,9 @@ use crate::planning::plan_all;
 use crate::wants::{Objects, wanted};
 use config_check::{EditFault, EditRefusal, Valid, apply_edit};
 use config_model::Edit;
-use item_wire::{ItemFrom, ItemSession, ItemState};
-use node_core::{Ends, Plan};
+use item_wire::{ItemCause, ItemFrom, ItemSession, ItemState};
+use node_core::{End, Ends, Plan, Started};
+use ov_link::Input;
 use ov_sync::SyncOut;
 use ov_types::{LowKey, LowValue, NoMemory, NodeId};
 use std::alloc::Global;
@@ -71,13 +71,41 @@ impl Model for ConfigEnds {
 impl Ends for ConfigEnds {
     ghost use Rattle.std.specs.Prelude.{◌≡◌, refl};
     ghost use Rattle.std.proofs.Common.{◌∙◌};
+    ghost use Rattle.config_node.specs.Beginning.{Begins};
     ghost use Rattle.config_node.specs.Core.{kind};
+
+    type Cause = ItemCause;
 
     ghost kind = { λ e. kind e.setup };
 
     ghost posts = { λ e. e.posts };
 
     ghost stays = { λ before after. after.setup ≡ before.setup };
+
+    ghost begins = { λ e. Begins e.setup };
+
+    fn sessions(&self) -> u16
+        ensures posts { result ≡ length self.now.posts }
+        ensures setup { result ≡ sessions self.now.setup }
+        ensures some { 0 < sessions self.now.setup }
+    {
+        self.ends.len() as u16
+    }
+
+    fn state(&self, session: u16) -> End {
+        match self.ends[usize::from(session)].session.state() {
+            ItemState::Idle => End::Idle,
+            ItemState::Opened => End::Opened,
+            ItemState::Up => End::Up,
+        }
+    }
+
+    fn begin(&mut self, input: Input<'_>) -> Result<Started<ItemCause>, NoMemory> {
+        let _before = self.sessions();
+        let started = self.apply(input);
+        let _after = self.sessions();
+        started
+    }
 
     fn plan(&mut self) -> Result<Vec<Plan>, NoMemory> {
         let plans = plan_all(self.alloc, &mut self.ends, &self.wants)?;
@@ -134,33 +162,6 @@ impl ConfigEnds {
     {
         let _topology = self.valid.topology();
         &self.valid
-    }
-
-    /// How many sessions there are.
-    pub(crate) fn sessions(&self) -> u16
-        ensures sessions { result ≡ sessions self.now.setup }
-        ensures posts { length self.now.posts ≡ sessions self.now.setup }
-        ensures some { 0 < sessions self.now.setup }
-    {
-        self.ends.len() as u16
-    }
-
-    /// The state of a session.
-    pub(crate) fn state(&self, session: u16) -> ItemState
-        requires { session < sessions self.now.setup }
-        ensures { phase_of result ≡ (post self.now.posts session).phase }
-    {
-        self.ends[usize::from(session)].session.state()
-    }
-
-    /// Closes every end. It takes no memory.
-    pub(crate) fn close_all(&mut self)
-        ensures setup { self.new.setup ≡ self.old.setup }
-        ensures posts { self.new.posts ≡ nothings (sessions self.old.setup) }
-    {
-        for session in 0..self.sessions() {
-            self.close(session);
-        }
     }
 
     /// Makes an edit of what is valid, unless it has a fault.

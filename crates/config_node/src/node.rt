@@ -8,62 +8,20 @@ ghost use Rattle.config_check.specs.Rules.{first_broken};
 ghost use Rattle.node_core.specs.Whole.{Comes, IsWholeStep, session_of};
 ghost use Rattle.node_model.specs.Step.{post};
 ghost use Rattle.network_model.specs.Setup.{edited};
-ghost use Rattle.config_node.specs.Advancing.{Advances, Remakes};
+ghost use Rattle.config_node.specs.Advancing.{Remakes};
 ghost use Rattle.config_node.specs.Beginning.{Begins};
 ghost use Rattle.config_node.specs.Core.{fresh, is_idle, is_up, kind, sessions};
 ghost use Rattle.config_node.specs.Editing.{IsEdited, failed_link, fault_in};
 
-use crate::begin::Begun;
 use crate::ends::ConfigEnds;
 use config_check::{EditFault, Valid};
 use config_model::Edit;
-use item_wire::{ItemCause, ItemState};
-use node_core::{answer, tell};
+use item_wire::ItemCause;
+use node_core::{Ends, Node, tell};
 use ov_link::{Input, Link, Links, NodeFault, Stepped};
 use ov_types::NoMemory;
 use std::alloc::Global;
 use std::marker::Model;
-
-/// The session of an input.
-fn session_of(input: &Input<'_>) -> u16
-    ensures { result ≡ session_of input.now }
-{
-    match input {
-        Input::Opened { session } => *session,
-        Input::Bytes { session, .. } => *session,
-        Input::Closed { session } => *session,
-    }
-}
-
-/// What a step came to, before it is answered.
-struct Advanced {
-    /// The lowest session whose link failed.
-    lowest: Option<u16>,
-    /// Why the octets of the input took their session down, where they did.
-    cause: Option<ItemCause>,
-}
-
-/// Applies the input to its end, sends what is replied, and tells each session what has changed for it.
-fn advance<L: Link>(
-    ends: &mut ConfigEnds,
-    input: Input<'_>,
-    links: &mut Links<L>,
-) -> Result<Advanced, NoMemory>
-    requires known { session_of input < sessions ends.old.setup }
-    requires linked { length links.old ≡ sessions ends.old.setup }
-    requires comes { Comes (λ i. is_idle (post ends.old.posts i).phase ≡ false)
-        (λ i. is_idle (post ends.old.posts i).phase ≡ true) input }
-    ensures setup { ends.new.setup ≡ ends.old.setup }
-    ensures links { length links.new ≡ length links.old }
-    ensures advances { IfOk result (λ a. Advances L.accepted L.breaks L.faults ends.old.setup input.entry ends.old.posts
-        ends.new.posts links.old links.new a.lowest a.cause) }
-{
-    let session = session_of(&input);
-    let Begun { replies, cause } = ends.begin(input)?;
-    let _sessions = ends.sessions();
-    let lowest = tell(ends, links, session, replies.as_slice())?;
-    Ok(Advanced { lowest, cause })
-}
 
 /// What an edit came to, before it is answered.
 enum Remade {
@@ -97,8 +55,7 @@ fn remake<L: Link>(
 /// The configuration node: a valid configuration, and the ends of its sessions with the control nodes.
 #[derive(Drop)]
 pub struct ConfigNode {
-    ends: ConfigEnds,
-    failed: bool,
+    node: Node<ConfigEnds>,
 }
 
 impl Model for ConfigNode {
@@ -108,7 +65,7 @@ impl Model for ConfigNode {
 
     ghost coded = { coded_core };
 
-    ghost view = { λ n. record { setup = n.ends.setup; posts = n.ends.posts; failed = n.failed } };
+    ghost view = { λ n. record { setup = n.node.ends.setup; posts = n.node.ends.posts; failed = n.node.failed } };
 }
 
 impl ConfigNode {
@@ -118,8 +75,7 @@ impl ConfigNode {
     {
         let ends = ConfigEnds::new(alloc, valid)?;
         Ok(ConfigNode {
-            ends,
-            failed: false,
+            node: Node::new(ends),
         })
     }
 
@@ -130,14 +86,14 @@ impl ConfigNode {
         ensures config_form { IsTrue (has_config_form self.now.setup.config) }
         ensures valid { first_broken self.now.setup.topology self.now.setup.config ≡ None }
     {
-        self.ends.valid()
+        self.node.ends.valid()
     }
 
     /// How many sessions there are. It takes no memory.
     pub fn sessions(&self) -> u16
         ensures { result ≡ sessions self.now.setup }
     {
-        self.ends.sessions()
+        self.node.ends.sessions()
     }
 
     /// Whether an end is not idle. It takes no memory.
@@ -145,10 +101,8 @@ impl ConfigNode {
         requires { session < sessions self.now.setup }
         ensures { result ≡ not (is_idle (post self.now.posts session).phase) }
     {
-        match self.ends.state(session) {
-            ItemState::Idle => false,
-            ItemState::Opened | ItemState::Up => true,
-        }
+        let _sessions = self.node.ends.sessions();
+        self.node.is_live(session)
     }
 
     /// Whether an end is up. It takes no memory.
@@ -156,25 +110,23 @@ impl ConfigNode {
         requires { session < sessions self.now.setup }
         ensures { result ≡ is_up (post self.now.posts session).phase }
     {
-        match self.ends.state(session) {
-            ItemState::Up => true,
-            ItemState::Idle | ItemState::Opened => false,
-        }
+        let _sessions = self.node.ends.sessions();
+        self.node.is_up(session)
     }
 
     /// Whether memory was wanting in a step or an edit since the node was made or restarted. It takes no memory.
     pub fn failed(&self) -> bool
         ensures { result ≡ self.now.failed }
     {
-        self.failed
+        self.node.failed
     }
 
     /// Closes every end. What is valid stays. It takes no memory.
     pub fn restart(&mut self)
         ensures { self.new ≡ fresh self.old.setup }
     {
-        self.ends.close_all();
-        self.failed = false;
+        let _sessions = self.node.ends.sessions();
+        self.node.restart();
     }
 
     /// One step: the input is applied to its session, its replies are sent, and then each session is told what has
@@ -198,17 +150,8 @@ impl ConfigNode {
         ensures failed { (self.new.failed ≡ true) ↔ (result ≡ Err NodeFault.NoMemory) }
         ensures until_restart { self.old.failed ≡ true → result ≡ Err NodeFault.NoMemory }
     {
-        if self.failed {
-            return Err(NodeFault::NoMemory);
-        }
-        let session = session_of(&input);
-        match advance(&mut self.ends, input, links) {
-            Ok(Advanced { lowest, cause }) => answer(lowest, session, cause),
-            Err(_) => {
-                self.failed = true;
-                Err(NodeFault::NoMemory)
-            }
-        }
+        let _sessions = self.node.ends.sessions();
+        self.node.step(input, links)
     }
 
     /// Makes an edit of what is valid, and then tells each session what has changed for it. A fault is answered, and
@@ -233,15 +176,15 @@ impl ConfigNode {
         ensures failed { (self.new.failed ≡ true) ↔ (result ≡ Err NodeFault.NoMemory) }
         ensures until_restart { self.old.failed ≡ true → result ≡ Err NodeFault.NoMemory }
     {
-        if self.failed {
+        if self.node.failed {
             return Err(NodeFault::NoMemory);
         }
-        match remake(&mut self.ends, edit, links) {
+        match remake(&mut self.node.ends, edit, links) {
             Ok(Remade::Refused(fault)) => Ok(Some(fault)),
             Ok(Remade::Made(None)) => Ok(None),
             Ok(Remade::Made(Some(session))) => Err(NodeFault::LinkFailed { session }),
             Err(_) => {
-                self.failed = true;
+                self.node.failed = true;
                 Err(NodeFault::NoMemory)
             }
         }

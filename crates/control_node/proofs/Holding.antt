@@ -4,7 +4,6 @@ use Rattle.std.proofs.Common.{refl, sym, ◌∙◌, ap, arith}
 use Rattle.std.proofs.Math.Seq.{drop-append_seam, take-append_seam}
 use Rattle.std.proofs.lemmas.List.{length-map}
 use Rattle.item_wire.specs.Happenings.{SessionFields}
-use Rattle.item_wire.specs.declared.event.ItemState.{ItemState}
 use Rattle.node_model.specs.Maps.{Map}
 use Rattle.node_model.specs.Paths.{Holdings, Told}
 use Rattle.node_model.specs.Step.{Post}
@@ -14,7 +13,7 @@ use Rattle.control_node.specs.Core.{holdings, told_from}
 use Rattle.control_node.specs.Ends.{AreEnds, agent_posts, peer_posts, plan_of, posts_of, seat, seats}
 use Rattle.control_node.specs.declared.ends.AgentEnd.{AgentEnd}
 use Rattle.control_node.specs.declared.ends.PeerEnd.{PeerEnd}
-use Rattle.control_node.proofs.Posts.{peer_posts-length, peer_post}
+use Rattle.control_node.proofs.Posts.{peer_posts-length}
 
 peers_held : (es : List PeerEnd) (ms : List Map) → length ms ≡ length es
     → map (λ (p : Post). p.held) (peer_posts es ms) ≡ ms

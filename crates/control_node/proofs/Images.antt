@@ -1,9 +1,8 @@
 -- What is told of a peer and of an agent, among the keys and values of all sessions.
-use Rattle.std.specs.Prelude.{◌≡◌, Bool, List, [], ◌∷◌, map, Some}
-use Rattle.std.specs.declared.cmp.Ordering.{Ordering}
+use Rattle.std.specs.Prelude.{◌≡◌, List, [], ◌∷◌, map, Some}
 use Rattle.std.specs.Cmp.{IsTotalOrder, on_total}
 use Rattle.std.specs.List.{AllByRecursion}
-use Rattle.std.specs.FinMap.{FinMap, IsAntisymmetric, get}
+use Rattle.std.specs.FinMap.{IsAntisymmetric, get}
 use Rattle.std.specs.Option.{option_map}
 use Rattle.std.proofs.Common.{refl, sym, ◌∙◌, ap, subst, rules}
 use Rattle.ov_sync.specs.declared.Delta.{Delta}
@@ -27,8 +26,8 @@ use Rattle.ov_types.specs.declared.vpn.VpnRoute.{VpnRoute}
 use Rattle.bgp_vpn.specs.Written.{IfPut}
 use Rattle.node_items.specs.Told.{ChangeFits, down_of, down_order, down_value}
 use Rattle.node_model.specs.Keys.{Key, Low, Row, Vpn, key_cmp, of_down}
-use Rattle.node_model.specs.Maps.{Change, Map, difference}
-use Rattle.node_model.specs.Values.{Value, Route, same_value}
+use Rattle.node_model.specs.Maps.{difference}
+use Rattle.node_model.specs.Values.{Route, same_value}
 use Rattle.node_model.proofs.Images as images
 use Rattle.node_model.proofs.Orders.{key_total, key_exact}
 use Rattle.node_peers.specs.Told.{IsWritable}

@@ -1,10 +1,8 @@
 -- What the pass keeps of the ends.
-use Rattle.std.specs.Prelude.{◌≡◌, ℕ, suc, ◌+◌, ◌<◌, List, [], ◌∷◌, ◌++◌, map, take, drop, length, get_or, Result, Ok, Err, IfOk}
+use Rattle.std.specs.Prelude.{◌≡◌, ℕ, suc, ◌+◌, List, [], ◌∷◌, ◌++◌, map, take, drop, length, get_or, Result, Ok, Err, IfOk}
 use Rattle.std.specs.List.{AllByRecursion}
-use Rattle.std.proofs.Common.{refl, sym, ◌∙◌, ap, subst, arith}
+use Rattle.std.proofs.Common.{refl, sym, ◌∙◌, ap, arith}
 use Rattle.std.proofs.lemmas.List.{length-map, take-append-le, take_all}
-use Rattle.ov_types.specs.declared.items.NoMemory.{NoMemory}
-use Rattle.ov_types.specs.declared.prefix.Addr.{Addr}
 use Rattle.ov_types.specs.declared.rows.NodeId.{NodeId}
 use Rattle.bgp_session.specs.Happenings as session
 use Rattle.item_wire.specs.Happenings.{SessionFields}
@@ -12,7 +10,6 @@ use Rattle.node_model.specs.Paths.{Holdings}
 use Rattle.control_node.specs.Ends.{AreEnds, IsAgentEnd, plan_of, posts_of, seats}
 use Rattle.control_node.specs.declared.ends.AgentEnd.{AgentEnd}
 use Rattle.control_node.specs.declared.ends.PeerEnd.{PeerEnd}
-use Rattle.control_node.specs.declared.plan.ControlPlan.{ControlPlan}
 use Rattle.control_node.proofs.Planned.{map_twice, sessions_of}
 use Rattle.control_node.proofs.Posts.{posts-length}
 

@@ -1,24 +1,23 @@
 -- Ends that are made.
-use Rattle.std.specs.Prelude.{◌≡◌, ◌≢◌, ℕ, zero, suc, ◌+◌, ◌<◌, ◌≤◌, List, [], ◌∷◌, ◌++◌, map, take, drop, length, get_or}
+use Rattle.std.specs.Prelude.{◌≡◌, ◌≢◌, ℕ, zero, suc, ◌+◌, ◌<◌, ◌≤◌, List, [], ◌∷◌, ◌++◌, map, take, length, get_or}
 use Rattle.std.specs.Prelude.{nat_lt, cond, true, false, None, replicate}
 use Rattle.std.specs.Ordering.{eq_by_cmp}
-use Rattle.std.specs.List.{AllByRecursion, slice_set}
+use Rattle.std.specs.List.{AllByRecursion}
 use Rattle.std.specs.FinMap.{empty, get, get-empty, get-remove, remove, same_map}
-use Rattle.std.proofs.Common.{refl, sym, ◌∙◌, ap, subst, arith, set}
+use Rattle.std.proofs.Common.{refl, sym, ◌∙◌, ap, subst, arith}
 use Rattle.std.proofs.lemmas.Bool.Decides.{nat_tests}
-use Rattle.std.proofs.lemmas.List.{append-nil, drop_all, length-append, length-drop, length-map}
+use Rattle.std.proofs.lemmas.List.{length-map}
 use Rattle.ov_sync.specs.Keyed.{Values}
 use Rattle.ov_sync.proofs.KeyedLaws.{empty_values}
 use Rattle.ov_sync.specs.declared.Delta.TheVariants.{Drop}
 use Rattle.ov_types.specs.declared.prefix.Addr.{Addr}
 use Rattle.ov_types.specs.declared.rows.NodeId.{NodeId}
 use Rattle.ov_types.specs.declared.vpn.VpnKey.{VpnKey}
-use Rattle.bgp_session.specs.declared.event.State.TheVariants as State
 use Rattle.item_wire.specs.Happenings.{SessionFields, idle_session}
 use Rattle.item_wire.specs.declared.event.ItemFrom.TheVariants as From
 use Rattle.item_wire.specs.declared.event.ItemState.TheVariants as ItemState
 use Rattle.control_wants.specs.Held.{RouteFits}
-use Rattle.node_items.specs.Told.{AllFit, down_of}
+use Rattle.node_items.specs.Told.{AllFit}
 use Rattle.node_model.specs.Keys.{Key, Vpn, key_cmp}
 use Rattle.node_model.specs.Maps.{Map}
 use Rattle.node_model.specs.Paths.{Holdings, Told}
@@ -26,11 +25,10 @@ use Rattle.node_model.specs.Step.{Post, nothing}
 use Rattle.node_model.specs.Values.{Value}
 use Rattle.node_model.proofs.Orders.{key_exact, key_total}
 use Rattle.vpn_tables.specs.Changes.{changed_at, named, with_nothing, with_route}
-use Rattle.vpn_tables.specs.Views.{peer_of}
 use Rattle.vpn_tables.proofs.Images.{peer-empty}
 use Rattle.control_node.specs.Beginning.{config}
-use Rattle.control_node.specs.Core.{nothings, sessions, told_from}
-use Rattle.control_node.specs.Ends.{AreEnds, Ends, IsAgentEnd, agent_posts, peer_posts, plan_of, posts_of, seat, seats}
+use Rattle.control_node.specs.Core.{nothings, told_from}
+use Rattle.control_node.specs.Ends.{AreEnds, IsAgentEnd, agent_posts, peer_posts, plan_of, posts_of, seat, seats}
 use Rattle.control_node.specs.Made.{new_agent, new_ends, new_peer, none_told}
 use Rattle.control_node.specs.declared.ends.AgentEnd.{AgentEnd}
 use Rattle.control_node.specs.declared.ends.PeerEnd.{PeerEnd}
@@ -192,23 +190,3 @@ module _ (plan : ControlPlan) (feed : SessionFields) (peers : List PeerEnd) (age
         posts = posts_of (f i).state (p i) (a i) (t i);
       })
       ∙ made_seen plan.me plan.asn plan.peers plan.agents
-
--- ---- closed one after another
-length-nothings : (n : ℕ) → length (nothings n) ≡ n
-length-nothings zero = refl
-length-nothings (suc n) = (let e = length-nothings n in omega (arith, e))
-
-pub closed_long : (ps : List Post) (i : ℕ) → i ≤ length ps → length (nothings i ++ drop i ps) ≡ length ps
-closed_long ps i le =
-    let a = length-append (nothings i) (drop i ps) in let b = length-nothings i in let c = length-drop i ps in
-    omega (arith, a, b, c, le)
-
-pub closed_more : (ps : List Post) (i : ℕ) → i < length ps
-    → set (nothings i ++ drop i ps) i nothing ≡ nothings (suc i) ++ drop (suc i) ps
-closed_more [] i lt = absurd (omega (arith, lt))
-closed_more (p ∷ ps) zero lt = refl
-closed_more (p ∷ ps) (suc i) lt = ap (λ (l : List Post). nothing ∷ l) (closed_more ps i (omega (arith, lt)))
-
-pub closed_all : (ps : List Post) (n : ℕ) → length ps ≡ n → nothings n ++ drop n ps ≡ nothings n
-closed_all ps n e =
-    ap (λ (l : List Post). nothings n ++ l) (drop_all n ps (omega (arith, e))) ∙ append-nil (nothings n)

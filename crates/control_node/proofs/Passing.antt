@@ -8,7 +8,6 @@ use Rattle.std.proofs.lemmas.Bool.{cases_lt}
 use Rattle.std.proofs.lemmas.Bool.Decides.{nat_tests}
 use Rattle.std.proofs.lemmas.List.{get_or-append-add, get_or-map, get_or_append_left, length-map, length-append}
 use Rattle.ov_sync.proofs.KeyedLaws.{difference-itself}
-use Rattle.ov_types.specs.declared.prefix.Addr.{Addr}
 use Rattle.ov_types.specs.declared.rows.NodeId.{NodeId}
 use Rattle.ov_types.specs.declared.vpn.VpnKey.{VpnKey}
 use Rattle.ov_types.specs.declared.vpn.VpnRoute.{VpnRoute}
@@ -22,23 +21,21 @@ use Rattle.node_items.specs.Beginning as item
 use Rattle.node_items.specs.Told as items
 use Rattle.node_model.specs.Maps.{Map, Change, difference}
 use Rattle.node_model.specs.Paths.{Holdings, Told}
-use Rattle.node_model.specs.Step.{Kind, Post, changes, nothing, post, told_all}
+use Rattle.node_model.specs.Step.{Kind, Post, changes, post, told_all}
 use Rattle.node_model.specs.Values.{same_value}
 use Rattle.node_model.specs.Wants.{wanted_by_agent, wanted_by_peers}
 use Rattle.node_model.proofs.Alike.{same_value_decides}
-use Rattle.node_peers.specs.Beginning as route
 use Rattle.node_peers.specs.Told as routes
 use Rattle.vpn_tables.specs.Views.{peer_of}
 use Rattle.control_node.specs.Core.{holdings, is_peer}
 use Rattle.control_node.specs.Ends.{AreEnds, Ends, plan_of, posts_of}
 use Rattle.control_node.specs.Planning.{AreAgentsTold, ArePlanned, IsAgentTold, agent_plan, agent_plans, agent_sends}
-use Rattle.control_node.specs.Planning.{feed_plan, peer_plan, peer_sends, peer_told, wanted_on}
+use Rattle.control_node.specs.Planning.{peer_plan, peer_sends, peer_told, wanted_on}
 use Rattle.control_node.specs.Wanting.{is_idle, is_up, kind, may_send, wanted}
 use Rattle.control_node.specs.declared.ends.AgentEnd.{AgentEnd}
 use Rattle.control_node.specs.declared.ends.PeerEnd.{PeerEnd}
 use Rattle.control_node.specs.declared.plan.ControlPlan.{ControlPlan}
 use Rattle.control_node.proofs.Holding.{holdings_are}
-use Rattle.control_node.proofs.Keeping.{many}
 use Rattle.control_node.proofs.Posts.{agent_post, peer_post, post-agent, post-peer, posts-length, seated-length}
 
 -- ---- the feed

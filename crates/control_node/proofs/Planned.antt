@@ -2,7 +2,6 @@
 use Rattle.std.specs.Prelude.{◌≡◌, ℕ, zero, suc, ◌+◌, ◌<◌, ◌==◌, List, [], ◌∷◌, ◌++◌, map, take, drop, length, get_or}
 use Rattle.std.specs.Prelude.{Bool, true, false, if◌then◌else◌}
 use Rattle.std.specs.List.{AllByRecursion}
-use Rattle.std.specs.FinMap.{empty}
 use Rattle.std.proofs.Common.{refl, sym, ◌∙◌, ap, subst, arith, set, append_assoc}
 use Rattle.std.proofs.lemmas.List.{drop-set-lt, get_or-drop, map_more}
 use Rattle.ov_sync.specs.declared.Delta.{Delta}

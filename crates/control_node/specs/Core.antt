@@ -1,10 +1,11 @@
 -- What is seen of a control node: its plan, its ends, and whether it failed.
-use Rattle.std.specs.Prelude.{ℕ, zero, suc, ◌+◌, List, [], ◌∷◌, map, length, take, drop, Bool, false, ◌&&◌}
+use Rattle.std.specs.Prelude.{ℕ, suc, ◌+◌, List, [], ◌∷◌, map, length, take, drop, Bool, false, ◌&&◌}
 use Rattle.std.specs.Prelude.{nat_lt, nat_le}
 use Rattle.std.specs.FinMap.{empty}
 use Rattle.ov_types.specs.declared.rows.NodeId.{NodeId}
 use Rattle.node_model.specs.Paths.{Holdings, Told}
-use Rattle.node_model.specs.Step.{Post, nothing, post}
+pub use Rattle.node_core.specs.Resting.{nothings}
+use Rattle.node_model.specs.Step.{Post, post}
 use Rattle.control_node.specs.declared.plan.ControlPlan.{ControlPlan}
 
 -- its ends are the feed's, then the peers', then the agents'
@@ -38,9 +39,5 @@ holdings plan posts = record {
 }
 
 -- ---- a node whose ends are all closed
-abbrev pub nothings : ℕ → List Post
-nothings zero = []
-nothings (suc n) = nothing ∷ nothings n
-
 abbrev pub fresh : ControlPlan → Core
 fresh plan = record { plan = plan; posts = nothings (sessions plan); failed = false }

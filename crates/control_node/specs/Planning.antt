@@ -8,7 +8,6 @@ use Rattle.node_items.specs.Beginning as item
 use Rattle.node_items.specs.Told as items
 use Rattle.node_model.specs.Maps.{Map, Change, difference}
 use Rattle.node_model.specs.Paths.{Holdings}
-use Rattle.node_model.specs.Step.{Phase}
 use Rattle.node_model.specs.Wants.{wanted_by_agent, wanted_by_peers}
 use Rattle.node_peers.specs.Beginning as route
 use Rattle.node_peers.specs.Told as routes

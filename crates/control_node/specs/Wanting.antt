@@ -4,19 +4,12 @@ use Rattle.std.specs.FinMap.{empty}
 use Rattle.control_wants.specs.Held.{told_in}
 use Rattle.node_items.specs.Told as items
 use Rattle.node_model.specs.Maps.{Map, Change}
-use Rattle.node_model.specs.Step.{Kind, Phase, Post, Idle, Up}
+pub use Rattle.node_core.specs.Resting.{is_idle, is_up}
+use Rattle.node_model.specs.Step.{Kind, Phase, Post, Idle}
 use Rattle.node_model.specs.Wants.{wanted_by_agent, wanted_by_peers}
 use Rattle.node_peers.specs.Told as routes
 use Rattle.control_node.specs.Core.{holdings, is_peer}
 use Rattle.control_node.specs.declared.plan.ControlPlan.{ControlPlan}
-
-abbrev pub is_idle : Phase → Bool
-is_idle Idle = true
-is_idle _ = false
-
-abbrev pub is_up : Phase → Bool
-is_up Up = true
-is_up _ = false
 
 -- nothing on the feed; on every other session what its holdings make it want there
 abbrev pub wanted : ControlPlan → List Post → ℕ → Map

@@ -14,17 +14,11 @@ use crate::ends::ControlEnds;
 use crate::inputs::{greet_agent, greet_peer, hear_from_agent, hear_from_feed, hear_from_peer};
 use bgp_session::Cause;
 use item_wire::ItemCause;
+use node_core::Started;
 use ov_link::Input;
 use ov_types::{Items, NoMemory};
 
-/// What an input made of its end.
-#[derive(Drop)]
-pub(crate) struct Begun {
-    /// The octets of each message that is to be sent on the session, in order.
-    pub(crate) replies: Items<Items<u8>>,
-    /// Why the session went down, where it did.
-    pub(crate) cause: Option<NodeCause>,
-}
+type Begun = Started<NodeCause>;
 
 fn item_cause(cause: Option<ItemCause>) -> Option<NodeCause>
     ensures { result ≡ option_map Because.Item cause }
@@ -53,7 +47,7 @@ impl ControlEnds {
             begun.replies begun.cause self.new.posts) }
     {
         let replies = node_items::greet(self.alloc, &mut self.feed, &self.me.name)?;
-        Ok(Begun {
+        Ok(Started {
             replies,
             cause: None,
         })
@@ -69,7 +63,7 @@ impl ControlEnds {
     {
         let end = &mut self.peers[place];
         let replies = greet_peer(self.alloc, end, self.asn, self.me.address)?;
-        Ok(Begun {
+        Ok(Started {
             replies,
             cause: None,
         })
@@ -85,7 +79,7 @@ impl ControlEnds {
     {
         let end = &mut self.agents[place];
         let replies = greet_agent(self.alloc, end, &self.me.name)?;
-        Ok(Begun {
+        Ok(Started {
             replies,
             cause: None,
         })
@@ -112,7 +106,7 @@ impl ControlEnds {
             (input.Bytes session bytes.entry) begun.replies begun.cause self.new.posts) }
     {
         let cause = hear_from_feed(self.alloc, &mut self.feed, &mut self.tables, bytes)?;
-        Ok(Begun {
+        Ok(Started {
             replies: Items::new(self.alloc),
             cause: item_cause(cause),
         })
@@ -136,7 +130,7 @@ impl ControlEnds {
             me,
             bytes,
         )?;
-        Ok(Begun {
+        Ok(Started {
             replies: heard.replies,
             cause: peer_cause(heard.cause),
         })
@@ -151,7 +145,7 @@ impl ControlEnds {
     {
         let end = &mut self.agents[place];
         let cause = hear_from_agent(self.alloc, end, &mut self.tables, session, bytes)?;
-        Ok(Begun {
+        Ok(Started {
             replies: Items::new(self.alloc),
             cause: item_cause(cause),
         })
@@ -189,7 +183,7 @@ impl ControlEnds {
 
     /// Applies an input to the end of its session, and says what is to be replied. Where octets bring a cause for which
     /// the session goes down, its end is closed. Where memory is wanting, the ends stay those of the plan.
-    pub(crate) fn begin(&mut self, input: Input<'_>) -> Result<Begun, NoMemory>
+    pub(crate) fn apply(&mut self, input: Input<'_>) -> Result<Begun, NoMemory>
         requires known { session_of input < length self.old.posts }
         requires comes { Comes (λ i. is_idle (post self.old.posts i).phase ≡ false)
             (λ i. is_idle (post self.old.posts i).phase ≡ true) input }
@@ -202,7 +196,7 @@ impl ControlEnds {
             Input::Bytes { session, bytes } => self.hear(session, bytes),
             Input::Closed { session } => {
                 self.close_end(session);
-                Ok(Begun {
+                Ok(Started {
                     replies: Items::new(self.alloc),
                     cause: None,
                 })

@@ -1,14 +1,20 @@
 //! The ends of a control node's sessions.
-ghost use Rattle.std.specs.Prelude.{◌≡◌, not, refl};
+ghost use Rattle.std.specs.Prelude.{◌≡◌, length, not, refl};
 ghost use Rattle.std.proofs.Common.{◌∙◌};
 ghost use Rattle.node_items.specs.Beginning as item;
 ghost use Rattle.node_peers.specs.Beginning as route;
+ghost use Rattle.control_node.specs.Beginning.{Begins};
+ghost use Rattle.control_node.specs.Core.{sessions};
 ghost use Rattle.control_node.specs.Wanting.{idle_is_silent, is_idle, is_up, kind};
 
+use crate::cause::NodeCause;
+use crate::closing::{Place, place_of};
+use crate::looking::{item_end, peer_end};
 use crate::planning::plan_all;
 use bgp_session::{Session, State};
 use item_wire::{ItemSession, ItemState};
-use node_core::{Ends, Plan};
+use node_core::{End, Ends, Plan, Started};
+use ov_link::Input;
 use ov_sync::SyncOut;
 use ov_types::{DownKey, DownValue, NoMemory, NodeId, VpnKey, VpnRoute};
 use std::alloc::Global;
@@ -23,12 +29,6 @@ pub(crate) struct PeerEnd {
 }
 
 impl PeerEnd {
-    pub(crate) fn is_live(&self) -> bool
-        ensures { result ≡ not (is_idle (route.phase_of self.now.session.state)) }
-    {
-        !matches!(self.session.state(), State::Idle)
-    }
-
     pub(crate) fn is_up(&self) -> bool
         ensures { result ≡ is_up (route.phase_of self.now.session.state) }
     {
@@ -49,12 +49,6 @@ impl AgentEnd {
         ensures { result ≡ not (is_idle (item.phase_of self.now.session.state)) }
     {
         !matches!(self.session.state(), ItemState::Idle)
-    }
-
-    pub(crate) fn is_up(&self) -> bool
-        ensures { result ≡ is_up (item.phase_of self.now.session.state) }
-    {
-        matches!(self.session.state(), ItemState::Up)
     }
 }
 
@@ -88,17 +82,44 @@ impl Model for ControlEnds {
 }
 
 impl Ends for ControlEnds {
+    type Cause = NodeCause;
+
     ghost kind = { λ e. kind e.plan };
 
     ghost posts = { λ e. e.posts };
 
     ghost stays = { λ before after. after.plan ≡ before.plan };
 
+    ghost begins = { λ e. Begins e.plan };
+
     ghost stays_itself = { λ _. refl };
 
     ghost stays_on = { λ _ _ _ first then. then ∙ first };
 
     ghost idle_is_silent = { λ e session. idle_is_silent e.plan session };
+
+    fn sessions(&self) -> u16
+        ensures posts { result ≡ length self.now.posts }
+        ensures plan { result ≡ sessions self.now.plan }
+    {
+        1 + self.peers.len() as u16 + self.agents.len() as u16
+    }
+
+    fn state(&self, session: u16) -> End {
+        match place_of(session, self.peers.len()) {
+            Place::Feed => item_end(self.feed.state()),
+            Place::Peer(place) => peer_end(self.peers[place].session.state()),
+            Place::Agent(place) => item_end(self.agents[place].session.state()),
+        }
+    }
+
+    fn begin(&mut self, input: Input<'_>) -> Result<Started<NodeCause>, NoMemory> {
+        let _before = self.sessions();
+        let applied = self.apply(input);
+        let _after = self.sessions();
+        let started = applied?;
+        Ok(started)
+    }
 
     fn plan(&mut self) -> Result<Vec<Plan>, NoMemory> {
         plan_all(self.alloc, &self.tables, &mut self.peers, &mut self.agents)

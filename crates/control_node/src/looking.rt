@@ -1,49 +1,41 @@
 //! What is seen of the ends of sessions.
-ghost use Rattle.std.specs.Prelude.{◌≡◌, ◌<◌, length, not, IfOk};
-ghost use Rattle.node_model.specs.Step.{post};
+ghost use Rattle.std.specs.Prelude.{◌≡◌, IfOk};
+ghost use Rattle.node_core.specs.Resting.{end_at};
+ghost use Rattle.node_items.specs.Beginning as item;
 ghost use Rattle.node_model.specs.Tables.{rows as rows_of};
-ghost use Rattle.control_node.specs.Core.{holdings, sessions};
-ghost use Rattle.control_node.specs.Wanting.{is_idle, is_up};
+ghost use Rattle.node_peers.specs.Beginning as route;
+ghost use Rattle.control_node.specs.Core.{holdings};
 
-use crate::closing::{Place, place_of};
 use crate::ends::ControlEnds;
+use bgp_session::State;
 use item_wire::ItemState;
+use node_core::End;
 use ov_types::{ControlRows, NoMemory};
 use std::alloc::Global;
 
+/// The end whose session of items is in this state.
+pub(crate) fn item_end(state: ItemState) -> End
+    ensures { result ≡ end_at (item.phase_of state) }
+{
+    match state {
+        ItemState::Idle => End::Idle,
+        ItemState::Opened => End::Opened,
+        ItemState::Up => End::Up,
+    }
+}
+
+/// The end whose session of routes is in this state.
+pub(crate) fn peer_end(state: State) -> End
+    ensures { result ≡ end_at (route.phase_of state) }
+{
+    match state {
+        State::Idle => End::Idle,
+        State::OpenSent | State::OpenConfirm => End::Opened,
+        State::Established => End::Up,
+    }
+}
+
 impl ControlEnds {
-    /// How many sessions there are.
-    pub(crate) fn sessions(&self) -> u16
-        ensures posts { result ≡ length self.now.posts }
-        ensures plan { result ≡ sessions self.now.plan }
-    {
-        1 + self.peers.len() as u16 + self.agents.len() as u16
-    }
-
-    /// Whether an end is not idle.
-    pub(crate) fn is_live(&self, session: u16) -> bool
-        requires { session < sessions self.now.plan }
-        ensures { result ≡ not (is_idle (post self.now.posts session).phase) }
-    {
-        match place_of(session, self.peers.len()) {
-            Place::Feed => !matches!(self.feed.state(), ItemState::Idle),
-            Place::Peer(place) => self.peers[place].is_live(),
-            Place::Agent(place) => self.agents[place].is_live(),
-        }
-    }
-
-    /// Whether an end is up.
-    pub(crate) fn is_up(&self, session: u16) -> bool
-        requires { session < sessions self.now.plan }
-        ensures { result ≡ is_up (post self.now.posts session).phase }
-    {
-        match place_of(session, self.peers.len()) {
-            Place::Feed => matches!(self.feed.state(), ItemState::Up),
-            Place::Peer(place) => self.peers[place].is_up(),
-            Place::Agent(place) => self.agents[place].is_up(),
-        }
-    }
-
     /// The table of every known instance, in the order of keys.
     pub(crate) fn rows(&self, alloc: Global) -> Result<ControlRows, NoMemory>
         ensures { IfOk result (λ rows. rows ≡ rows_of (holdings self.now.plan self.now.posts)) }

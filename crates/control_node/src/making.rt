@@ -1,4 +1,4 @@
-//! Ends of sessions that are made, and closed again.
+//! Ends of sessions, as they are made.
 ghost use Rattle.std.specs.Prelude.{◌≡◌, ◌≢◌, ◌≤◌, ◌<◌, ◌+◌, ◌∷◌, [], length, map, replicate, IfOk, OnOk};
 ghost use Rattle.std.specs.FinMap.{empty};
 ghost use Rattle.control_node.specs.Beginning.{config};
@@ -118,14 +118,5 @@ impl ControlEnds {
             agents,
             alloc,
         })
-    }
-
-    /// Closes every end. It takes no memory.
-    pub(crate) fn restart(&mut self)
-        ensures { self.new ≡ new_ends self.old.plan }
-    {
-        for session in 0..self.sessions() {
-            self.close_end(session);
-        }
     }
 }

@@ -10,7 +10,7 @@ ghost use Rattle.control_node.specs.Beginning.{Begins};
 use crate::cause::NodeCause;
 use crate::ends::ControlEnds;
 use crate::plan::ControlPlan;
-use node_core::{answer, tell};
+use node_core::{Ends, Node};
 use ov_link::{Input, Link, Links, NodeFault, Stepped};
 use ov_types::{ControlRows, NoMemory};
 use std::alloc::Global;
@@ -19,8 +19,7 @@ use std::marker::Model;
 /// A control node, which contracts see as its plan, its ends, and whether it failed.
 #[derive(Drop)]
 pub struct ControlNode {
-    ends: ControlEnds,
-    failed: bool,
+    node: Node<ControlEnds>,
 }
 
 impl Model for ControlNode {
@@ -31,48 +30,7 @@ impl Model for ControlNode {
 
     ghost coded = { coded_core };
 
-    ghost view = { λ n. record { plan = n.ends.plan; posts = n.ends.posts; failed = n.failed } };
-}
-
-/// The session of an input.
-fn session_of(input: Input<'_>) -> u16
-    ensures { result ≡ session_of input.entry }
-{
-    match input {
-        Input::Opened { session } => session,
-        Input::Bytes { session, .. } => session,
-        Input::Closed { session } => session,
-    }
-}
-
-/// One step of the ends: the input is applied to the end of its session, and then all sessions are told.
-fn advance<L: Link>(
-    ends: &mut ControlEnds,
-    input: Input<'_>,
-    links: &mut Links<L>,
-) -> Result<Stepped<NodeCause>, NodeFault>
-    requires known { session_of input < sessions ends.old.plan }
-    requires linked { length links.old ≡ sessions ends.old.plan }
-    requires comes { Comes (λ i. is_idle (post ends.old.posts i).phase ≡ false)
-        (λ i. is_idle (post ends.old.posts i).phase ≡ true) input }
-    ensures plan { ends.new.plan ≡ ends.old.plan }
-    ensures links { length links.new ≡ length links.old }
-    ensures step { result ≢ Err NodeFault.NoMemory
-        → IsWholeStep L.accepted L.breaks L.faults (kind ends.old.plan)
-        (Begins ends.old.plan (session_of input.entry) (post ends.old.posts (session_of input.entry)) input.entry)
-        ends.old.posts ends.new.posts (session_of input.entry) links.old links.new result }
-{
-    let session = session_of(input);
-    let sessions = ends.sessions();
-    prove!(session < sessions);
-    let begun = match ends.begin(input) {
-        Ok(begun) => begun,
-        Err(NoMemory) => return Err(NodeFault::NoMemory),
-    };
-    match tell(ends, links, session, begun.replies.as_slice()) {
-        Ok(lowest) => answer(lowest, session, begun.cause),
-        Err(NoMemory) => Err(NodeFault::NoMemory),
-    }
+    ghost view = { λ n. record { plan = n.node.ends.plan; posts = n.node.ends.posts; failed = n.node.failed } };
 }
 
 impl ControlNode {
@@ -83,9 +41,9 @@ impl ControlNode {
         requires autonomous_system { plan.asn ≤ 65535 }
         ensures { IfOk result (λ node. node ≡ fresh plan) }
     {
+        let ends = ControlEnds::new(alloc, plan)?;
         Ok(ControlNode {
-            ends: ControlEnds::new(alloc, plan)?,
-            failed: false,
+            node: Node::new(ends),
         })
     }
 
@@ -93,7 +51,7 @@ impl ControlNode {
     pub fn sessions(&self) -> u16
         ensures { result ≡ sessions self.now.plan }
     {
-        self.ends.sessions()
+        self.node.ends.sessions()
     }
 
     /// Whether an end is not idle. It takes no memory.
@@ -101,7 +59,8 @@ impl ControlNode {
         requires { session < sessions self.now.plan }
         ensures { result ≡ not (is_idle (post self.now.posts session).phase) }
     {
-        self.ends.is_live(session)
+        let _sessions = self.node.ends.sessions();
+        self.node.is_live(session)
     }
 
     /// Whether an end is up. It takes no memory.
@@ -109,29 +68,30 @@ impl ControlNode {
         requires { session < sessions self.now.plan }
         ensures { result ≡ is_up (post self.now.posts session).phase }
     {
-        self.ends.is_up(session)
+        let _sessions = self.node.ends.sessions();
+        self.node.is_up(session)
     }
 
     /// Whether memory was wanting in a step since the node was made or restarted. It takes no memory.
     pub fn failed(&self) -> bool
         ensures { result ≡ self.now.failed }
     {
-        self.failed
+        self.node.failed
     }
 
     /// Closes every end, and holds nothing. It takes no memory.
     pub fn restart(&mut self)
         ensures { self.new ≡ fresh self.old.plan }
     {
-        self.ends.restart();
-        self.failed = false;
+        let _sessions = self.node.ends.sessions();
+        self.node.restart();
     }
 
     /// The table of every known instance, in the order of keys.
     pub fn rows(&self, alloc: Global) -> Result<ControlRows, NoMemory>
         ensures { IfOk result (λ rows. rows ≡ rows_of (holdings self.now.plan self.now.posts)) }
     {
-        self.ends.rows(alloc)
+        self.node.ends.rows(alloc)
     }
 
     /// One step: the input is applied to its session, its replies are sent, and then each session is told what has
@@ -155,11 +115,7 @@ impl ControlNode {
         ensures failed { (self.new.failed ≡ true) ↔ (result ≡ Err NodeFault.NoMemory) }
         ensures until_restart { self.old.failed ≡ true → result ≡ Err NodeFault.NoMemory }
     {
-        if self.failed {
-            return Err(NodeFault::NoMemory);
-        }
-        let stepped = advance(&mut self.ends, input, links);
-        self.failed = matches!(stepped, Err(NodeFault::NoMemory));
-        stepped
+        let _sessions = self.node.ends.sessions();
+        self.node.step(input, links)
     }
 }

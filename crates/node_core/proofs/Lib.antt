@@ -1,4 +1,5 @@
 -- Lemmas.
+pub mod Resting
 pub mod Counting
 pub mod Deliveries
 pub mod Passing

@@ -1,4 +1,5 @@
 -- The files of definitions, in the order in which they stand on each other.
+pub mod Resting
 pub mod Plans
 pub mod Passing
 pub mod Begun

@@ -1,8 +1,14 @@
 //! The ends of a node's sessions.
-ghost use Rattle.std.specs.Prelude.{◌≡◌, ◌<◌, ℕ, List, false, length, slice_set, IfOk};
-ghost use Rattle.node_model.specs.Step.{Kind, Post, nothing, Idle};
+ghost use Rattle.std.specs.Prelude.{◌≡◌, ◌<◌, ℕ, List, true, false, length, slice_set, IfOk};
+ghost use Rattle.std.specs.declared.option.Option.{Option};
+ghost use Rattle.ov_link.specs.declared.step.Input.{Input as Came};
+ghost use Rattle.node_model.specs.Step.{Begun, Kind, Post, nothing, post, Idle};
+ghost use Rattle.node_core.specs.Begun.{HasBegun};
 ghost use Rattle.node_core.specs.Plans.{ArePlans};
+ghost use Rattle.node_core.specs.Resting.{end_at, is_idle};
+ghost use Rattle.node_core.specs.Whole.{Comes, session_of};
 
+use ov_link::Input;
 use ov_types::{Items, NoMemory};
 
 /// What one session is to be told in a pass.
@@ -12,8 +18,28 @@ pub struct Plan {
     pub messages: Items<Items<u8>>,
 }
 
+/// What an input came to at its end.
+#[derive(Drop)]
+pub struct Started<C> {
+    /// The octets that are to be sent on the session, message by message.
+    pub replies: Items<Items<u8>>,
+    /// Why the octets took the session down, where they did.
+    pub cause: Option<C>,
+}
+
+/// How an end is.
+pub enum End {
+    Idle,
+    /// It was opened, and is not up yet.
+    Opened,
+    Up,
+}
+
 /// The ends of a node's sessions, by their numbers: the state of each, what was sent on it and what is held of it.
 pub trait Ends {
+    /// Why octets take a session down.
+    type Cause: Drop;
+
     /// What kind of node this is: what it wants, where it may send, and how it spells a change.
     ghost kind: { Self → Kind };
 
@@ -22,6 +48,31 @@ pub trait Ends {
 
     /// What stays as it is from some ends to later ones, as who is at them.
     ghost stays: { Self → Self → Type 0 };
+
+    /// What an input makes of the end of its session, and the cause for which that goes down.
+    ghost begins: { Self → ℕ → Post → Came → Begun → Option Self.Cause → Type 0 };
+
+    /// How many sessions there are.
+    fn sessions(&self) -> u16
+        ensures { result ≡ length (posts self.now) };
+
+    /// How the end of a session is.
+    fn state(&self, session: u16) -> End
+        requires { session < length (posts self.now) }
+        ensures { result ≡ end_at (post (posts self.now) session).phase };
+
+    /// Applies an input to the end of its session, which is closed where octets bring a cause for which it goes down.
+    fn begin(&mut self, input: Input<'_>) -> Result<Started<Self::Cause>, NoMemory>
+        requires known { session_of input < length (posts self.old) }
+        requires comes { Comes (λ i. is_idle (post (posts self.old) i).phase ≡ false)
+            (λ i. is_idle (post (posts self.old) i).phase ≡ true) input }
+        ensures kept { kind self.new ≡ kind self.old }
+        ensures stays { stays self.old self.new }
+        ensures long { length (posts self.new) ≡ length (posts self.old) }
+        ensures begins { IfOk result (λ started. (given : Begun)
+            × begins self.old (session_of input.entry) (post (posts self.old) (session_of input.entry)) input.entry
+            given started.cause
+            × HasBegun (posts self.old) (session_of input.entry) given started.replies (posts self.new)) };
 
     /// The plan of every session: the changes from what was sent to what is wanted now, each as its octets, and none
     /// where the session may not send. What is wanted counts as sent from then on, where the session may send.

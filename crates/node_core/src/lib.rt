@@ -1,10 +1,12 @@
-//! The part of a step that every kind of node shares: what its sessions are told, over links that may fail.
+//! What every kind of node shares: its step over the ends of its sessions, over links that may fail.
 #![tactic(auto)]
 
 mod answers;
 mod ends;
+mod node;
 mod telling;
 
 pub use answers::answer;
-pub use ends::{Ends, Plan};
+pub use ends::{End, Ends, Plan, Started};
+pub use node::Node;
 pub use telling::tell;

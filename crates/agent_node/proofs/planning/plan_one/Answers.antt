@@ -1,4 +1,4 @@
-use Rattle.std.proofs.Common.{◌≡◌, ◌∙◌, Bool, true, false, List, ℕ, map, sym, refl, ap, if◌then◌else◌, not, []}
+use Rattle.std.proofs.Common.{◌≡◌, ◌∙◌, false, map, sym, refl, ap}
 use denote.Enum.Bare.{sameb}
 use Rattle.item_wire.specs.contracts.event.ItemState.{the_type}
 use Rattle.item_wire.specs.declared.event.ItemState.{ItemState}

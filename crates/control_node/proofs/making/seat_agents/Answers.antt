@@ -1,4 +1,4 @@
-use Rattle.std.proofs.Common.{◌<◌, length, arith, ◌∙◌, ap}
+use Rattle.std.proofs.Common.{◌<◌, length, arith, ◌∙◌}
 use Rattle.vpn_tables.specs.Changes.{with_agent}
 use Rattle.control_node.proofs.Made.{agents_seated}
 use Rattle.control_node.proofs.making.seat_agents.Goals as goal

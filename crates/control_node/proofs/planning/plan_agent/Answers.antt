@@ -8,7 +8,6 @@ use Rattle.control_wants.specs.Held.{HoldingsFit, told_in}
 use Rattle.node_items.specs.Told.{AllFit, ChangeFits, down_of, down_value}
 use Rattle.node_items.proofs.Maps.{difference_fits}
 use Rattle.node_model.specs.Keys.{of_down}
-use Rattle.node_model.specs.Maps.{Map}
 use Rattle.node_model.specs.Paths.{Holdings}
 use Rattle.control_node.specs.Ends.{IsAgentEnd}
 use Rattle.control_node.specs.Planning.{wanted_on}

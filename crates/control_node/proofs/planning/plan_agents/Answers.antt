@@ -1,4 +1,4 @@
-use Rattle.std.proofs.Common.{◌≡◌, ◌+◌, ◌++◌, ◌<◌, ℕ, suc, length, take, drop, sym, ◌∙◌, ap, subst, set, arith, rules, List}
+use Rattle.std.proofs.Common.{◌≡◌, ◌+◌, ◌++◌, ◌<◌, suc, length, take, drop, sym, ◌∙◌, subst, set, arith}
 use Rattle.std.proofs.Math.Seq.{map-set_same}
 use Rattle.control_node.specs.Ends.{IsAgentEnd}
 use Rattle.control_node.specs.Planning.{AreAgentsTold, IsAgentTold, agent_plan, agent_plans}

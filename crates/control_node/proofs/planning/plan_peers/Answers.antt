@@ -1,7 +1,6 @@
 use Rattle.std.proofs.Common.{◌<◌, length, sym, ◌∙◌, ap, set, arith}
 use Rattle.std.proofs.Math.Seq.{map-set_same}
 use Rattle.std.proofs.lemmas.List.Edits.{map_over_more}
-use Rattle.std.proofs.lemmas.List.{take_all}
 use Rattle.control_node.specs.Planning.{peer_plan, peer_told}
 use Rattle.control_node.specs.declared.ends.PeerEnd.{PeerEnd}
 use Rattle.control_node.proofs.Planned.{peers_plans_more, sessions_of, sessions_stay}

@@ -1,11 +1,9 @@
-use Rattle.std.proofs.Common.{◌≡◌, ◌<◌, ℕ, length, slice_index_or, slice_set, set, subst, sym}
+use Rattle.std.proofs.Common.{◌<◌, ℕ, length, slice_set, set, subst, sym}
 use Rattle.std.proofs.Common.{ap, ◌∙◌, arith, Some, None}
 use Rattle.std.proofs.lemmas.List.{length-set}
-use Rattle.item_wire.specs.declared.event.ItemFrom.TheVariants.{Control}
-use Rattle.node_model.specs.Step.{Post, nothing, post}
-use Rattle.agent_tables.specs.declared.hearing.Hearing.{Hearing}
+use Rattle.node_model.specs.Step.{nothing}
 use Rattle.agent_node.specs.Applying.{HasTaken}
-use Rattle.agent_node.specs.Ends.{Ends, posts_of, whom}
+use Rattle.agent_node.specs.Ends.{Ends, posts_of}
 use Rattle.agent_node.proofs.Begins.{taken_down, taken_on, whom_at}
 use Rattle.agent_node.proofs.Posts.{ends_long, posts_long}
 use Rattle.agent_node.proofs.ends.AgentEnds.hear_on.Goals as goal

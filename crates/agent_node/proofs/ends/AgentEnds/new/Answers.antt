@@ -1,9 +1,7 @@
-use Rattle.std.proofs.Common.{◌≡◌, ◌≤◌, List, ℕ, length, map, take, ap, ◌∙◌, sym, arith}
+use Rattle.std.proofs.Common.{◌≡◌, ◌≤◌, List, ℕ, length, map, take, ap, ◌∙◌}
 use Rattle.std.proofs.lemmas.List.{take_all}
 use Rattle.ov_types.specs.declared.rows.NodeId.{NodeId}
 use Rattle.agent_tables.specs.declared.hearing.Hearing.{Hearing}
-use Rattle.node_model.specs.Step.{Post}
-use Rattle.agent_node.specs.Core.{nothings}
 use Rattle.agent_node.specs.Ends.{AreEnds, Sent, posts_of}
 use Rattle.agent_node.specs.declared.plan.AgentPlan.{AgentPlan}
 use Rattle.agent_node.proofs.Posts.{fresh_ends, fresh_hearing, fresh_posts, fresh_sent}

@@ -1,10 +1,8 @@
-use Rattle.std.proofs.Common.{◌≡◌, List, map, sym, ap, ◌∙◌, subst}
+use Rattle.std.proofs.Common.{◌≡◌, map, sym, ap, ◌∙◌, subst}
 use Rattle.ov_types.specs.declared.rows.AgentRows.{AgentRows}
 use Rattle.std.specs.Result.{IfOk}
 use Rattle.node_model.specs.Agent.{Holdings, rows as rows_of}
-use Rattle.node_model.specs.Step.{Post}
 use Rattle.agent_tables.specs.Views.{heard_of}
-use Rattle.agent_tables.specs.declared.hearing.Hearing.{Hearing}
 use Rattle.agent_node.specs.Core.{holdings}
 use Rattle.agent_node.specs.Ends.{Ends}
 use Rattle.agent_node.proofs.Posts.{held_fits, holdings_as}

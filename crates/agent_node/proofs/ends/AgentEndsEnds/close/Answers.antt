@@ -1,7 +1,6 @@
 use Rattle.std.proofs.Common.{◌≡◌, ◌<◌, length, slice_set, ap, ◌∙◌, arith}
 use Rattle.item_wire.specs.Happenings.{SessionFields}
 use Rattle.node_model.specs.Step.{nothing}
-use Rattle.agent_tables.specs.declared.hearing.Hearing.{Hearing}
 use Rattle.agent_node.specs.Ends.{Ends, posts_of, whom}
 use Rattle.agent_node.proofs.Posts.{ends_long, ends_set, nothing_held, nothing_sent, posts_long, posts_set, shut_at}
 use Rattle.agent_node.proofs.ends.AgentEndsEnds.close.Goals as goal

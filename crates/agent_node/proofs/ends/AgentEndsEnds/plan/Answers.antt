@@ -1,4 +1,4 @@
-use Rattle.std.proofs.Common.{◌≡◌, length, subst, sym, ap, ◌∙◌, List, ℕ, map, take, drop, ◌++◌}
+use Rattle.std.proofs.Common.{◌≡◌, length, subst, sym, ap, ◌∙◌, List, map, take, drop, ◌++◌}
 use Rattle.node_core.specs.Plans.{ArePlans}
 use Rattle.node_items.specs.Told.{AllFit, up_of}
 use Rattle.node_model.specs.Agent.{wanted}

@@ -1,4 +1,4 @@
-use Rattle.std.proofs.Common.{◌≡◌, List, length, arith, sym, ◌∙◌, ap, subst}
+use Rattle.std.proofs.Common.{List, length, arith, ◌∙◌, ap, subst}
 use Rattle.control_node.specs.Ends.{Ends, plan_of, posts_of}
 use Rattle.control_node.specs.Planning.{ArePlanned}
 use Rattle.control_node.specs.Wanting.{kind}

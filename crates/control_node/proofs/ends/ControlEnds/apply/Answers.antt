@@ -4,7 +4,7 @@ use Rattle.node_core.specs.Whole.{session_of}
 use Rattle.node_model.specs.Step.{post}
 use Rattle.control_node.specs.Begun.{IsBegun}
 use Rattle.control_node.proofs.Starting.{closed-begins}
-use Rattle.control_node.proofs.ends.ControlEnds.begin.Goals as goal
+use Rattle.control_node.proofs.ends.ControlEnds.apply.Goals as goal
 
 pub returns-in-Closed-clause-begun : goal.returns-in-Closed-clause-begun
 returns-in-Closed-clause-begun c =

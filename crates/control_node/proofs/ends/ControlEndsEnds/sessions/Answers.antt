@@ -1,7 +1,7 @@
 use Rattle.std.proofs.Common.{length, arith, ap}
 use Rattle.control_node.specs.Ends.{Ends}
 use Rattle.control_node.proofs.Posts.{posts-length}
-use Rattle.control_node.proofs.ends.ControlEnds.sessions.Goals as goal
+use Rattle.control_node.proofs.ends.ControlEndsEnds.sessions.Goals as goal
 
 pub returns-clause-posts : goal.returns-clause-posts
 returns-clause-posts c =
