@@ -23,7 +23,9 @@ use Rattle.seat_laws.proofs.Seating.{root_at, seat_found, who_above}
 use Rattle.seat_laws.proofs.Written.{seats_are_nodes, shows_at, written_apart, written_named}
 use Rattle.told_laws.specs.Moments.{IsMoment}
 use Rattle.told_laws.proofs.Moments.{moment_asked, moment_sessions, moment_written}
+use Rattle.schedule_laws.specs.Compiled.{AnswersCompiled}
 use Rattle.schedule_laws.specs.Ends.{SettlesAtOnce}
+use Rattle.schedule_laws.proofs.AsCompiled.{compiled_at}
 use Rattle.net_machine.specs.Shown.{ShowsCompiled, compiled_for}
 
 positive : ArePositive any_size
@@ -63,6 +65,16 @@ settles_at_once w m (Restart name) a w' answers leads = tt
 settles_at_once w m Round a w' answers leads = tt
 settles_at_once w m (Show name) a w' answers leads = tt
 settles_at_once w m (Trace p) a w' answers leads = tt
+
+-- what is answered at a settled moment
+moment_compiled : (w : Network) → IsMoment w → is_settled w ≡ true → (e : Event) → AnswersCompiled w.setup e (answer_to w (event_of e))
+moment_compiled w m =
+    subst (λ w. is_settled w ≡ true → (e : Event) → AnswersCompiled w.setup e (answer_to w (event_of e))) (sym m.is)
+    (compiled_at m.opening m.written m.events (moment_asked w m))
+
+pub answers_compiled : (w : Network) → IsMoment w → (e : Event) (a : Answer) → a ≡ answer_to w (event_of e)
+    → is_settled w ≡ true → AnswersCompiled w.setup e a
+answers_compiled w m e a is settled = subst (AnswersCompiled w.setup e) (sym is) (moment_compiled w m settled e)
 
 moment_controls : (w : Network) → IsMoment w → ControlNodesShowTables w
 moment_controls w m =

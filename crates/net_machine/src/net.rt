@@ -6,6 +6,7 @@ ghost use Rattle.network_model.specs.Events.{answer_to, event_of};
 ghost use Rattle.network_model.specs.Steps.{is_settled};
 ghost use Rattle.compiled_laws.specs.Moments.{SettlesInTime};
 ghost use Rattle.net_model.specs.Stands.{StandsFor, any_size, moment};
+ghost use Rattle.schedule_laws.specs.Compiled.{AnswersCompiled};
 ghost use Rattle.schedule_laws.specs.Ends.{SettlesAtOnce};
 ghost use Rattle.net_machine.specs.Shown.{ShowsCompiled};
 
@@ -111,6 +112,8 @@ impl Net {
         ensures rounds { OnOk result (SettlesInTime any_size (moment self.new.opening self.new.events)) }
         ensures settles { IfOk result (λ a. SettlesAtOnce (moment self.old.opening self.old.events) event a
             (moment self.new.opening self.new.events)) }
+        ensures compiled { IfOk result (λ a. is_settled (moment self.old.opening self.old.events) ≡ true
+            → AnswersCompiled (moment self.old.opening self.old.events).setup event a) }
 
         ensures opening { self.new.opening ≡ self.old.opening }
         ensures events { OnOk result (self.new.events ≡ self.old.events ++ event ∷ []) }

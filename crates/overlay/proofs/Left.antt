@@ -42,11 +42,9 @@ is_left octets x es n read opening events works state = record {
 pub took_answers : (octets : List ℕ) (old new : Option (List ℕ)) (x o : Checked) (es : List Event)
     → AreReadAs octets (input_of x es) → IsWritten x → IsTrue (list_all has_event_form es) → o ≡ x
     → Appends old new (run_text o es) → PromisesOn Run octets (Ok Good) old new
-unfolding run_text
 took_answers octets old new x o es read valid forms same taken = record {
   input = input_of x es;
   read = read;
-  answered = answers x es;
   taken = subst (λ y. Appends old new (run_text y es)) same taken;
   compiled = as_compiled x valid es forms;
 }

@@ -11,7 +11,6 @@ use Rattle.config_model.specs.declared.event.Event.{Event}
 use Rattle.config_model.specs.declared.event.RunInput.{RunInput}
 use Rattle.config_model.specs.Event.{run_at}
 use Rattle.ov_io.specs.declared.pieces.WriteRefusal.{WriteRefusal}
-use Rattle.schedule_script.specs.declared.answer.Answer.{Answer}
 use Rattle.net_machine.specs.NetState.{NetState}
 use Rattle.net_model.specs.Stands.{StandsFor, moment}
 use Rattle.overlay.specs.declared.answer.Verdict.{Verdict}
@@ -23,7 +22,7 @@ use Rattle.schedule_laws.specs.Compiled.{AreAsCompiled, answers}
 use Rattle.scenario_run.specs.Agreed.{PacketsAgree}
 use Rattle.scenario_run.specs.Scheduled.{opening, schedule}
 use Rattle.overlay.specs.Generating.{summary_text}
-use Rattle.overlay.specs.Schedules.{lines_from}
+use Rattle.overlay.specs.Schedules.{run_text}
 
 -- the opening configuration of an input, with its topology
 abbrev pub opening_of : RunInput → Checked
@@ -66,18 +65,23 @@ Leaves Run octets left = IsLeftOf octets left
 Leaves (Gen n) octets left = IsLeftOfScenario n left
 Leaves command octets left = left ≡ None
 
+-- a command that may leave a network
+abbrev pub MayLeave : Option Command → Type 0
+MayLeave (Some Run) = ⊤
+MayLeave (Some (Gen n)) = ⊤
+MayLeave _ = ⊥
+
 -- and only where all was written
 abbrev pub LeavesOn : Command → List ℕ → Result Verdict WriteRefusal → Option NetState → Type 0
 LeavesOn command octets (Ok Good) left = Leaves command octets left
 LeavesOn command octets result left = left ≡ None
 
--- what was taken is the lines of answers that are as compiled
+-- what was taken is the lines of what the events answer, which is as compiled
 pub record TookAnswers (octets : List ℕ) (old new : Option (List ℕ)) : Type 0 where
   pub input : RunInput
   pub read : AreReadAs octets input
-  pub answered : List Answer
-  pub taken : Appends old new (lines_from 1 input.events answered)
-  pub compiled : AreAsCompiled (opening_of input) input.events answered
+  pub taken : Appends old new (run_text (opening_of input) input.events)
+  pub compiled : AreAsCompiled (opening_of input) input.events (answers (opening_of input) input.events)
 
 -- what was taken is the summary of a scenario, whose answers are as compiled: each of its packets has the outcome that
 -- policies give

@@ -4,7 +4,7 @@ ghost use Rattle.ov_io.specs.Causes.{Rose};
 ghost use Rattle.ov_io.specs.Pieces.{TookFrontOf, TookText};
 ghost use Rattle.overlay.specs.Answers.{verdict_of, Writes};
 ghost use Rattle.overlay.specs.Commands.{command_of};
-ghost use Rattle.overlay.specs.Networks.{Leaves, Promises};
+ghost use Rattle.overlay.specs.Networks.{Leaves, MayLeave, Promises};
 ghost use Rattle.overlay.specs.Runs.{IfInput, IsCut, IsFound, IsSilent, IsWritten, OfInput, OfOctets, Reads};
 ghost use Rattle.overlay.specs.Runs.{ReadsInput, ReadsWhole, input_to, number_of, status_of};
 
@@ -90,7 +90,7 @@ pub(crate) fn overlay<S: Source, K: Sink>(
         (λ command octets. Promises command octets (K.taken sink.old) (K.taken sink.new)) }
     ensures network { result ≡ Status.Done → OfInput (command_of words.now) (S.left source.old)
         (λ command octets. Leaves command octets net.new) }
-    ensures no_network { result ≢ Status.Done → net.new ≡ None }
+    ensures no_network { (result ≢ Status.Done) ⊎ (¬ MayLeave (command_of words.now)) → net.new ≡ None }
 
     // What is read.
     ensures read_whole { IsWritten result ⊎ (result ≡ Status.WriteFault)

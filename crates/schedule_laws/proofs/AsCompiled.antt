@@ -7,6 +7,9 @@ use Rattle.std.proofs.Common.{refl, sym, ap, subst, ◌∙◌, arith}
 use Rattle.std.proofs.lemmas.Bool.{and_from, and_parts, or_left, or_right}
 use Rattle.std.proofs.lemmas.Option.{same_Some}
 use Rattle.ov_types.specs.First.{same_name}
+use Rattle.ov_types.specs.declared.packet.Outcome.{Outcome}
+use Rattle.ov_types.specs.declared.packet.Outcome.TheVariants.{Delivered, Dropped}
+use Rattle.ov_types.specs.declared.packet.Packet.{Packet}
 use Rattle.ov_types.specs.declared.rows.NodeId.{NodeId}
 use Rattle.ov_types.specs.declared.rows.NodeRows.{NodeRows}
 use Rattle.ov_types.specs.declared.rows.NodeRows.TheVariants as Rows
@@ -40,8 +43,18 @@ use Rattle.headline_laws.proofs.Configured.{agents_show_rows, control_nodes_show
 use Rattle.headline_laws.proofs.Delivers.{found, written_delivers}
 use Rattle.headline_laws.proofs.Written.{compiled_now, written_now, written_settle_settles}
 use Rattle.net_model.specs.Stands.{any_size, moment}
-use Rattle.schedule_laws.specs.Compiled.{AnswersCompiled, AreAsCompiled, StandsAt, answers}
+use Rattle.reach_plain.specs.Reachability.{reachability}
+use Rattle.reach_plain.proofs.Once.{passed_once}
+use Rattle.schedule_laws.specs.Compiled.{AnswersCompiled, AreAsCompiled, PassesEachOnce, StandsAt, answers}
 use Rattle.schedule_laws.specs.Ends.{SettlesAtOnce}
+
+-- ---- no packet is led through a service twice
+each_once_as : (x : Checked) → IsWritten x → (p : Packet) (o : Outcome) → reachability x.config p ≡ o → PassesEachOnce o
+each_once_as x valid p (Delivered number services) is = passed_once x.topology x.config p number services valid.valid is
+each_once_as x valid p (Dropped why) is = tt
+
+pub each_once : (x : Checked) → IsWritten x → (p : Packet) → PassesEachOnce (reachability x.config p)
+each_once x valid p = each_once_as x valid p (reachability x.config p) refl
 
 -- ---- the answer of a place is that to its event, at the moment before it
 at_place : (es : List Written) (w : Network) (place : ℕ) (e : Written) (a : Answer)
@@ -122,16 +135,10 @@ forms_of_front (suc place) (e ∷ es) forms =
 positive : (n : List ℕ) (m : Message) → 0 < any_size n m
 positive n m = omega arith
 
--- ---- a moment of the schedule
-module _ (x : Checked) (valid : IsWritten x) (es : List Written) (forms : IsTrue (list_all has_event_form es)) (place : ℕ) where
-  abbrev before : List Event
-  before = map event_of (take place es)
-
+-- ---- a moment of any schedule
+module _ (x : Checked) (valid : IsWritten x) (before : List Event) (asked : EditsAreValid any_size IsOfForm (start x) before) where
   abbrev w : Network
-  w = moment x (take place es)
-
-  asked : EditsAreValid any_size IsOfForm (start x) before
-  asked = edits_of_form (take place es) (start x) (forms_of_front place es forms) valid.config
+  w = after any_size (start x) before
 
   -- what shows, where a name is a node's
   shown_there : (name : List ℕ) (rows : NodeRows) → is_node w name ≡ true → shown w name ≡ rows → answer_to w (Show name) ≡ Shown rows
@@ -155,9 +162,11 @@ module _ (x : Checked) (valid : IsWritten x) (es : List Written) (forms : IsTrue
       (ap is_some (found w (written_now any_size positive x valid before asked) (compiled_now any_size positive x valid before asked) settled n among)))
       (agents_show_rows any_size positive x valid before asked settled n among))
 
-  compiled_at : is_settled w ≡ true → (e : Written) → AnswersCompiled w.setup e (answer_to w (event_of e))
+  pub compiled_at : is_settled w ≡ true → (e : Written) → AnswersCompiled w.setup e (answer_to w (event_of e))
   compiled_at settled (written.Show name) = (at_control settled name, at_agent settled name)
-  compiled_at settled (written.Trace p) = ap Traced (written_delivers any_size positive x valid before asked settled p)
+  compiled_at settled (written.Trace p) =
+      (ap Traced (written_delivers any_size positive x valid before asked settled p),
+      each_once w.setup (written_now any_size positive x valid before asked) p)
   compiled_at settled (written.Edit d) = tt
   compiled_at settled (written.Deliver from to n) = tt
   compiled_at settled (written.Lose a b) = tt
@@ -166,13 +175,24 @@ module _ (x : Checked) (valid : IsWritten x) (es : List Written) (forms : IsTrue
   compiled_at settled written.Round = tt
   compiled_at settled written.Settle = tt
 
-  settles_at : (e : Written) (w' : Network) → w' ≡ next any_size w (event_of e) → SettlesAtOnce w e (answer_to w (event_of e)) w'
+-- ---- a moment of the schedule
+module _ (x : Checked) (valid : IsWritten x) (es : List Written) (forms : IsTrue (list_all has_event_form es)) (place : ℕ) where
+  abbrev before_it : List Event
+  before_it = map event_of (take place es)
+
+  abbrev w_there : Network
+  w_there = moment x (take place es)
+
+  asked_there : EditsAreValid any_size IsOfForm (start x) before_it
+  asked_there = edits_of_form (take place es) (start x) (forms_of_front place es forms) valid.config
+
+  settles_at : (e : Written) (w' : Network) → w' ≡ next any_size w_there (event_of e) → SettlesAtOnce w_there e (answer_to w_there (event_of e)) w'
   unfolding next
   settles_at written.Settle w' leads =
-      let s = written_settle_settles any_size positive x valid before asked in
+      let s = written_settle_settles any_size positive x valid before_it asked_there in
       record {
-        rounds = (settle w).0;
-        is = ap (λ b. Rounds (settle w).0 b) s.0;
+        rounds = (settle w_there).0;
+        is = ap (λ b. Rounds (settle w_there).0 b) s.0;
         few = s.1;
         settled = ap is_settled leads ∙ s.0;
       }
@@ -185,14 +205,14 @@ module _ (x : Checked) (valid : IsWritten x) (es : List Written) (forms : IsTrue
   settles_at (written.Restart name) w' leads = tt
   settles_at written.Round w' leads = tt
 
-  answer_there : (e : Written) (a : Answer) → StandsAt es (answers x es) place e a → a ≡ answer_to w (event_of e)
+  answer_there : (e : Written) (a : Answer) → StandsAt es (answers x es) place e a → a ≡ answer_to w_there (event_of e)
   answer_there e a at = at_place es (start x) place e a at.event at.answer
 
 -- the answers of a schedule are as its configurations compile to
 pub as_compiled : (x : Checked) → IsWritten x → (es : List Written) → IsTrue (list_all has_event_form es) → AreAsCompiled x es (answers x es)
 as_compiled x valid es forms = record {
   settled = λ place e a at settled.
-      subst (AnswersCompiled (moment x (take place es)).setup e) (sym (answer_there x valid es forms place e a at)) (compiled_at x valid es forms place settled e);
+      subst (AnswersCompiled (moment x (take place es)).setup e) (sym (answer_there x valid es forms place e a at)) (compiled_at x valid (map event_of (take place es)) (asked_there x valid es forms place) settled e);
   settles = λ place e a at.
       subst (λ a. SettlesAtOnce (moment x (take place es)) e a (moment x (take (suc place) es))) (sym (answer_there x valid es forms place e a at))
       (settles_at x valid es forms place e (moment x (take (suc place) es)) (moment_there es (start x) place e at.event));

@@ -1,6 +1,9 @@
 -- What is promised of the answers of a schedule.
-use Rattle.std.specs.Prelude.{◌≡◌, ℕ, suc, List, map, take, slice_get, true, ⊤}
+use Rattle.std.specs.Prelude.{◌≡◌, ◌≢◌, ℕ, suc, List, map, take, slice_get, true, ⊤}
+use Rattle.std.specs.List.{AllPairs}
 use Rattle.std.specs.declared.option.Option.TheVariants.{Some}
+use Rattle.ov_types.specs.declared.packet.Outcome.{Outcome}
+use Rattle.ov_types.specs.declared.packet.Outcome.TheVariants.{Delivered, Dropped}
 use Rattle.ov_types.specs.declared.rows.NodeId.{NodeId}
 use Rattle.ov_types.specs.declared.rows.NodeRows.TheVariants as rows
 use Rattle.config_model.specs.declared.event.Event.{Event}
@@ -23,6 +26,11 @@ use Rattle.schedule_laws.specs.Ends.{SettlesAtOnce}
 abbrev pub answers : Checked → List Event → List Answer
 answers x es = run any_size (start x) (map event_of es)
 
+-- no service is passed twice
+abbrev pub PassesEachOnce : Outcome → Type 0
+PassesEachOnce (Delivered port services) = AllPairs (λ s u. s.0 ≢ u.0) services
+PassesEachOnce (Dropped why) = ⊤
+
 -- of a settled network with this configuration, a control node shows the tables of all instances, an agent the rows of
 -- its node's address, and a packet goes where policies permit it
 abbrev pub AnswersCompiled : Checked → Event → Answer → Type 0
@@ -31,7 +39,8 @@ AnswersCompiled y (Show name) answer =
     → answer ≡ Shown (rows.Control (control_rows y.topology y.config)))
     × ((n : Node) → Member n y.topology.nodes → n.name ≡ name
     → answer ≡ Shown (rows.Agent (agent_rows y.topology y.config n.address)))
-AnswersCompiled y (Trace p) answer = answer ≡ Traced (reachability y.config p)
+AnswersCompiled y (Trace p) answer =
+    (answer ≡ Traced (reachability y.config p)) × PassesEachOnce (reachability y.config p)
 AnswersCompiled y e answer = ⊤
 
 -- the event of a place, and its answer
