@@ -98,7 +98,7 @@ fn event_of(act: Act, input: Input) -> Event
 }
 
 /// One end of a session with a peer.
-#[derive(Clone, Copy, Debug)]
+#[derive(Clone, Copy)]
 pub struct Session {
     asn: u32,
     peer: NodeId,

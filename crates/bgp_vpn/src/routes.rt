@@ -9,14 +9,14 @@ use ov_types::{Label, VpnKey};
 use std::marker::Model;
 
 /// A route that an UPDATE announces or withdraws: its key and its label.
-#[derive(Clone, Copy, Debug)]
+#[derive(Clone, Copy)]
 pub struct Labeled {
     pub key: VpnKey,
     pub label: Label,
 }
 
 /// The routes of one attribute of an UPDATE, in order.
-#[derive(Debug, Drop)]
+#[derive(Drop)]
 pub struct Routes<'a> {
     rest: &'a [u8],
 }

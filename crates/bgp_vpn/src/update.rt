@@ -24,7 +24,7 @@ use std::marker::Model;
 
 /// What an UPDATE says of VPN-IPv4 routes: those that it withdraws and those that it announces, where they lie in the
 /// message, and the next hop and the targets of all that it announces.
-#[derive(Debug, Drop)]
+#[derive(Drop)]
 pub struct VpnUpdate<'a> {
     next_hop: Addr,
     targets: Targets,

@@ -11,7 +11,7 @@ use std::marker::Model;
 const EXTENDED_LENGTH: u8 = 0x10;
 
 /// A path attribute as it lies in the message: its flags, its type and its value (RFC 4271, section 4.3).
-#[derive(Clone, Copy, Debug)]
+#[derive(Clone, Copy)]
 pub struct Attribute<'a> {
     pub flags: u8,
     pub kind: u8,
@@ -19,7 +19,7 @@ pub struct Attribute<'a> {
 }
 
 /// The path attributes of an UPDATE, in order. An attribute that is cut is a fault, and the last item.
-#[derive(Debug, Drop)]
+#[derive(Drop)]
 pub struct Attributes<'a> {
     rest: &'a [u8],
 }

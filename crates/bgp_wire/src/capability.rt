@@ -7,14 +7,14 @@ use crate::part::{Front, split_part};
 use std::marker::Model;
 
 /// A capability as it lies in the message: its code and its value (RFC 5492, section 4).
-#[derive(Clone, Copy, Debug)]
+#[derive(Clone, Copy)]
 pub struct Capability<'a> {
     pub kind: u8,
     pub value: &'a [u8],
 }
 
 /// The capabilities of an OPEN, in order: those that are left of one parameter, and those of the parameters behind it.
-#[derive(Debug, Drop)]
+#[derive(Drop)]
 pub struct Capabilities<'a> {
     rest: &'a [u8],
     parameters: &'a [u8],

@@ -5,7 +5,7 @@ ghost use Rattle.bgp_wire.specs.Frames.{octet_of, kind_of, least, greatest};
 use crate::frame::{HEAD_SIZE, MAX_MESSAGE_SIZE};
 
 /// The types of messages (RFC 4271, section 4.1).
-#[derive(Clone, Copy, Debug, PartialEq, Eq)]
+#[derive(Clone, Copy, PartialEq, Eq)]
 pub(crate) enum Kind {
     Open,
     Update,

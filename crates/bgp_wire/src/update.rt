@@ -9,7 +9,7 @@ use crate::fault::{MALFORMED_ATTRIBUTES, WireFault};
 use byteorder::{BigEndian, ByteOrder};
 
 /// The parts of an UPDATE as they lie in the message (RFC 4271, section 4.3).
-#[derive(Clone, Copy, Debug)]
+#[derive(Clone, Copy)]
 pub struct UpdatePart<'a> {
     pub withdrawn: &'a [u8],
     pub attributes: &'a [u8],

@@ -13,7 +13,7 @@ use ov_types::{Addr, NoMemory};
 use std::alloc::Global;
 
 /// What a speaker says of itself in its OPEN: the number of its autonomous system and its identifier.
-#[derive(Clone, Copy, Debug, PartialEq, Eq)]
+#[derive(Clone, Copy, PartialEq, Eq)]
 pub struct OpenOut {
     pub asn: u32,
     pub id: Addr,

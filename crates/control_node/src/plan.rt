@@ -3,7 +3,7 @@ use ov_types::{Items, NodeId};
 
 /// Who a control node is, and who is at the other ends of its sessions: session 0 is the feed, then come the peers and
 /// then the agents, each in the order of the topology.
-#[derive(Clone, Debug, Drop, PartialEq, Eq)]
+#[derive(Clone, Drop, PartialEq, Eq)]
 pub struct ControlPlan {
     pub me: NodeId,
     pub asn: u32,

@@ -14,7 +14,7 @@ pub enum ItemState {
 }
 
 /// Which records, besides its hello, the other end may send.
-#[derive(Clone, Copy, Debug, PartialEq, Eq)]
+#[derive(Clone, Copy, PartialEq, Eq)]
 pub enum ItemFrom {
     /// Low-level objects, from the configuration node.
     Feed,

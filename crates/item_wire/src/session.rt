@@ -46,7 +46,7 @@ fn event_of(act: Act, came: Came) -> ItemEvent
 }
 
 /// One end of a session with a node. None of its calls takes memory.
-#[derive(Clone, Copy, Debug)]
+#[derive(Clone, Copy)]
 pub struct ItemSession {
     peer: Name,
     from: ItemFrom,

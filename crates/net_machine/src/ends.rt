@@ -8,7 +8,7 @@ use net_model::{Place, Stations};
 use ov_types::Name;
 
 /// A session, by its two ends.
-#[derive(Clone, Copy, Debug, PartialEq, Eq)]
+#[derive(Clone, Copy, PartialEq, Eq)]
 pub struct SessionEnds {
     pub near: Place,
     pub far: Place,

@@ -11,7 +11,7 @@ use ov_types::NoMemory;
 use std::alloc::Global;
 
 /// What waits towards the near end of a session as a round begins: whether it is a notice, and how many there are.
-#[derive(Clone, Copy, Debug, PartialEq, Eq)]
+#[derive(Clone, Copy, PartialEq, Eq)]
 pub struct Due {
     pub ends: SessionEnds,
     pub is_notice: bool,

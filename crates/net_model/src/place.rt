@@ -1,7 +1,7 @@
 //! Places in a network.
 
 /// One end of a session, by the number of its node and the number of the session there.
-#[derive(Clone, Copy, Debug, PartialEq, Eq)]
+#[derive(Clone, Copy, PartialEq, Eq)]
 pub struct Place {
     pub node: u16,
     pub session: u16,

@@ -3,7 +3,7 @@ ghost use Rattle.std.specs.Prelude.{◌≡◌};
 ghost use Rattle.net_seats.specs.Cores.{IsWithin, number_of};
 
 /// A node by its kind, and its place among the nodes of that kind.
-#[derive(Clone, Copy, Debug)]
+#[derive(Clone, Copy)]
 pub(crate) enum Kind {
     Configuration,
     Control(usize),

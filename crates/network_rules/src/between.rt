@@ -8,7 +8,7 @@ use crate::fitting::{attaches, fits};
 use config_model::{Action, Config, Network, Policy, Rule};
 
 /// What is wanted of a rule between two networks.
-#[derive(Clone, Copy, Debug, PartialEq, Eq)]
+#[derive(Clone, Copy, PartialEq, Eq)]
 enum Wanted {
     /// It passes packets.
     Passing,

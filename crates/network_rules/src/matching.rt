@@ -10,7 +10,7 @@ use config_model::{Direction, Network, Protocol, Rule};
 use ov_types::{Range16, RuleNo, Tuple};
 
 /// A rule that matches a packet, and whether mirrored.
-#[derive(Clone, Copy, Debug, PartialEq, Eq)]
+#[derive(Clone, Copy, PartialEq, Eq)]
 pub struct Match {
     pub rule: NumberedRule,
     pub mirrored: bool,

@@ -8,7 +8,7 @@ use ov_types::{NoMemory, RuleNo};
 use std::alloc::Global;
 
 /// A rule, with the number that names it.
-#[derive(Clone, Copy, Debug, PartialEq, Eq)]
+#[derive(Clone, Copy, PartialEq, Eq)]
 pub struct NumberedRule {
     pub number: RuleNo,
     pub rule: Rule,

@@ -63,7 +63,7 @@ fn close_all<E: Ends>(ends: &mut E)
 }
 
 /// A node: the ends of its sessions, and whether memory was wanting.
-#[derive(Drop)]
+#[derive(Debug, Drop)]
 pub struct Node<E> {
     pub ends: E,
     /// Whether memory was wanting in a step since the node was made or restarted.

@@ -20,7 +20,7 @@ use std::alloc::Global;
 const LENGTH_SIZE: usize = 4;
 
 /// What octets brought to a session.
-#[derive(Debug, Drop)]
+#[derive(Drop)]
 pub struct Heard {
     /// The records that were handed out, in order.
     pub records: Vec<Item>,

@@ -17,7 +17,7 @@ use ov_types::{Addr, Items, NoMemory, VpnKey, VpnRoute};
 use std::alloc::Global;
 
 /// What octets brought to a session.
-#[derive(Debug, Drop)]
+#[derive(Drop)]
 pub struct Heard {
     /// The octets of each message that is to be sent, in order.
     pub replies: Items<Items<u8>>,

@@ -48,7 +48,7 @@ pub fn write_all<K: Sink>(sink: &mut K, text: &[u8]) -> Result<(), SinkFault>
 
 /// A sink over memory. The calls of `write` whose numbers are listed fail, counted from 1; a write that finds
 /// no memory takes nothing and is a fault too.
-#[derive(Debug, Drop)]
+#[derive(Drop)]
 pub struct MemSink {
     octets: Vec<u8>,
     failing: Vec<u64>,

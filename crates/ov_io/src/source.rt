@@ -31,7 +31,7 @@ pub trait Source {
 }
 
 /// A source over memory. The calls of `read` whose numbers are listed fail, counted from 1.
-#[derive(Debug, Drop)]
+#[derive(Drop)]
 pub struct MemSource {
     octets: Vec<u8>,
     at: usize,

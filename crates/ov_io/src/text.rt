@@ -8,7 +8,7 @@ use std::fmt::Display;
 use std::marker::Model;
 
 /// A builder of text.
-#[derive(Debug, Drop)]
+#[derive(Drop)]
 pub struct TextOut {
     octets: Vec<u8>,
     line: String,

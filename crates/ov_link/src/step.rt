@@ -2,7 +2,7 @@
 use thiserror::Error;
 
 /// What happened on a session.
-#[derive(Clone, Copy, Debug, PartialEq, Eq)]
+#[derive(Clone, Copy, PartialEq, Eq)]
 pub enum Input<'a> {
     /// The session was opened at this end.
     Opened { session: u16 },

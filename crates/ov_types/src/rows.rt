@@ -14,7 +14,7 @@ pub struct NodeId {
 }
 
 /// Where a control node's table leads for one prefix.
-#[derive(Clone, Copy, Debug, PartialEq, Eq)]
+#[derive(Clone, Copy, PartialEq, Eq)]
 pub struct TableRow {
     pub rd: Rd,
     pub next_hop: Addr,
@@ -62,7 +62,7 @@ pub struct AgentRows {
 }
 
 /// The rows of a node.
-#[derive(Clone, Debug, Drop, PartialEq, Eq)]
+#[derive(Clone, Drop, PartialEq, Eq)]
 pub enum NodeRows {
     Control(ControlRows),
     Agent(AgentRows),

@@ -41,7 +41,7 @@ pub(crate) enum Verdict {
 }
 
 /// Why a document is not answered with lines of its own: what its one line tells, or want of memory.
-#[derive(Debug, Drop)]
+#[derive(Drop)]
 pub(crate) enum Unfit {
     NotJson,
     BadDocument(DocFault),

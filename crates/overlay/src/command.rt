@@ -4,7 +4,7 @@ ghost use Rattle.overlay.specs.Commands as commands;
 ghost use Rattle.overlay.specs.Commands.{IsCommand, command_named, command_numbered, command_of};
 
 /// What the program is asked to do.
-#[derive(Clone, Copy, Debug, PartialEq, Eq)]
+#[derive(Clone, Copy, PartialEq, Eq)]
 pub(crate) enum Command {
     /// The tables that a configuration asks for.
     Compile,

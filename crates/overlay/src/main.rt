@@ -46,7 +46,7 @@ const USAGE: &str = "usage: overlay compile < DOCUMENT
 const VERSION: &str = "overlay 0.1.0\n";
 
 /// What is asked of `main` itself, before the top call.
-#[derive(Clone, Copy, Debug, PartialEq, Eq)]
+#[derive(Clone, Copy, PartialEq, Eq)]
 enum Request {
     Help,
     Version,

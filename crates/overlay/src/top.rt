@@ -18,7 +18,7 @@ use std::alloc::Global;
 pub(crate) const MAX_INPUT_OCTETS: usize = 16_777_216;
 
 /// How a run ended. Its number is the exit status of the program.
-#[derive(Clone, Copy, Debug, PartialEq, Eq)]
+#[derive(Clone, Copy, PartialEq, Eq)]
 pub(crate) enum Status {
     Done,
     Usage,

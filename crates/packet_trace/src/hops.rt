@@ -22,7 +22,7 @@ impl Default for Hop {
 }
 
 /// At most 64 lookups, in place.
-#[derive(Debug, Drop)]
+#[derive(Drop)]
 pub struct Hops {
     inner: ArrayVec<Hop, 64>,
 }
@@ -63,7 +63,7 @@ impl Hops {
 }
 
 /// What becomes of a packet, and its lookups.
-#[derive(Debug, Drop)]
+#[derive(Drop)]
 pub struct Trace {
     pub outcome: Outcome,
     pub hops: Hops,

@@ -13,14 +13,14 @@ use ov_types::{Addr, Attached, InstanceId, Label, Packet, PortNo, ServiceNo, Ver
 use route_targets::{other_side, port_label};
 
 /// A lookup: at the agent in a place of the list, in an instance.
-#[derive(Clone, Copy, Debug)]
+#[derive(Clone, Copy)]
 pub(crate) struct Place {
     pub(crate) agent: usize,
     pub(crate) instance: InstanceId,
 }
 
 /// What a lookup leads to: a port, a reason to drop the packet, or a service, behind which is the next lookup.
-#[derive(Clone, Copy, Debug)]
+#[derive(Clone, Copy)]
 pub(crate) enum Step {
     Arrives(PortNo),
     Stops(Why),

@@ -5,7 +5,7 @@ ghost use Rattle.path_select.specs.Selection.{is_better, IsFirstOfLeast};
 use ov_types::{Addr, Label, Rd};
 
 /// Where a path to a prefix leads, and the session that told it.
-#[derive(Clone, Copy, Debug, PartialEq, Eq)]
+#[derive(Clone, Copy, PartialEq, Eq)]
 pub struct Path {
     pub session: u16,
     pub rd: Rd,

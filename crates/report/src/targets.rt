@@ -9,7 +9,7 @@ use ov_types::{NoMemory, Targets, VpnKey, VpnRoute};
 use std::alloc::Global;
 
 /// Targets and their text, which is made once for routes that have the same.
-#[derive(Debug, Drop)]
+#[derive(Drop)]
 pub struct TargetsText {
     targets: Targets,
     text: String,

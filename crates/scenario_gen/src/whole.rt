@@ -6,7 +6,7 @@ use ov_types::{Items, NoMemory, Packet};
 use std::alloc::Global;
 
 /// A topology and a configuration, the events of a run, and the packets that are traced after them.
-#[derive(Debug, Drop)]
+#[derive(Drop)]
 pub struct Scenario {
     pub topology: Topology,
     pub config: Config,

@@ -11,7 +11,7 @@ use reach_plain::reach;
 use schedule_script::Answer;
 
 /// What the answers of a schedule were counted to be.
-#[derive(Clone, Copy, Debug, PartialEq, Eq)]
+#[derive(Clone, Copy, PartialEq, Eq)]
 pub struct Tally {
     /// The rounds of the last settle but one, and of the last.
     pub rounds: (u32, u32),

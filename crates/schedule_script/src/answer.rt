@@ -3,7 +3,7 @@ use config_check::EditFault;
 use ov_types::{NodeRows, Outcome};
 
 /// What an event answers.
-#[derive(Debug, Drop)]
+#[derive(Drop)]
 pub enum Answer {
     /// It was done, and there is nothing to tell.
     Did,

@@ -4,7 +4,7 @@ ghost use Rattle.std.specs.Prelude.{◌≤◌};
 use config_model::Service;
 
 /// What attaches one side of a service to the instance there: a circuit's number, and the service.
-#[derive(Clone, Copy, Debug, PartialEq, Eq)]
+#[derive(Clone, Copy, PartialEq, Eq)]
 pub(crate) struct Attachment {
     pub(crate) number: u32,
     pub(crate) service: Service,

@@ -9,7 +9,7 @@ use ov_types::Items;
 
 /// A use of a chain that is in effect: its number, the networks that its rule names, the services of its chain, and
 /// their circuits.
-#[derive(Debug, Drop)]
+#[derive(Drop)]
 pub(crate) struct ChainUse {
     pub(crate) number: u16,
     pub(crate) left: Network,

@@ -18,7 +18,7 @@ use path_select::Path;
 use route_targets::{rd, target};
 
 /// A route of this control node's own: its prefix, where it leads, and its one target.
-#[derive(Clone, Copy, Debug, PartialEq, Eq)]
+#[derive(Clone, Copy, PartialEq, Eq)]
 pub struct Route {
     pub prefix: Prefix,
     pub path: Path,
