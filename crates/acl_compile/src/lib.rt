@@ -12,6 +12,3 @@ mod subnets;
 pub use access::acl_between;
 pub use numbered::acl;
 pub use subnets::ascending;
-
-#[cfg(test)]
-mod tests;

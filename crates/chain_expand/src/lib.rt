@@ -11,8 +11,6 @@ mod laws;
 mod links;
 mod loops;
 mod numbers;
-#[cfg(test)]
-mod tests;
 
 pub use bounds::{MOST_CHAINS, MOST_SERVICES};
 pub use expansion::{expand, expand_straight};

@@ -1,11 +1,10 @@
 -- Of two prefixes that hold one address, one is inside the other.
-use Rattle.std.proofs.Common.{◌≡◌, ℕ, ◌+◌, ◌-◌, ◌*◌, ◌/◌, ◌%◌, ◌^◌, ◌≤◌, ◌<◌, ◌==◌, inl, inr, ltb, true, IsTrue, ap, ◌∙◌, arith}
+use Rattle.std.proofs.Common.{◌≡◌, ℕ, ◌+◌, ◌-◌, ◌*◌, ◌/◌, ◌%◌, ◌^◌, ◌≤◌, ◌<◌, ◌==◌, inl, inr, ltb, nat_lt, ◌&&◌, true, IsTrue, ap, ◌∙◌, arith}
 use Rattle.std.proofs.Math.Nat.{mul-add, mul-one, mul_assoc, mul-le-mul_left, lt_of_mul-lt-mul_left, div-add-mod}
 use Rattle.std.proofs.lemmas.Bool.{cases_lt, and_parts, eqb-true, ltb-true}
 use Rattle.std.proofs.lemmas.Nat.{pow-add}
-use Rattle.ov_types.specs.Prefix.{Block, contains, size_of}
+use Rattle.ov_types.specs.Prefix.{Block, is_block, is_prefix, contains, size_of}
 use Rattle.ov_types.proofs.Blocks.{Ranges, ranges, inside}
-use Rattle.config_model.specs.Form.{is_block}
 use Rattle.config_check.specs.Sentences.{IsWithin, Overlap}
 
 -- a range of numbers lies in another
@@ -36,7 +35,8 @@ record Aligned (b : Block) : Type 0 where
 
 aligned : (b : Block) → IsTrue (is_block b) → Aligned b
 aligned b h =
-    let parts = and_parts (ltb b.len 33) (b.addr % size_of b.len == 0) h in
+    let prefix = and_parts (is_prefix b.addr b.len) (nat_lt b.addr (2 ^ 32)) h in
+    let parts = and_parts (ltb b.len 33) (b.addr % size_of b.len == 0) prefix.0 in
     let none_left : b.addr % size_of b.len ≡ 0 = eqb-true _ _ parts.1 in
     let whole : size_of b.len * (b.addr / size_of b.len) + b.addr % size_of b.len ≡ b.addr = div-add-mod b.addr (size_of b.len) in
     record { short = ltb-true _ _ parts.0; multiple = omega arith }

@@ -6,8 +6,8 @@ ghost use Rattle.config_check.specs.Edits.{RefusesEdit};
 
 use crate::named::{place_of, with_put, without};
 use crate::refusal::{CheckRefusal, Refusal};
-use crate::valid::{Valid, check};
-use config_model::{Config, Edit, Object, ObjectKind, Topology};
+use crate::valid::{Valid, check, copied_config, copied_topology};
+use config_model::{Config, Edit, Object, ObjectKind};
 use ov_types::{Name, NoMemory};
 use std::alloc::{AllocError, Global};
 use thiserror::Error;
@@ -136,18 +136,6 @@ fn without_object(config: Config, kind: ObjectKind, name: Name) -> Config
             ..config
         },
     }
-}
-
-fn copied_topology(topology: &Topology) -> Result<Topology, AllocError>
-    ensures { IfOk result (λ t. t ≡ topology.now) }
-{
-    topology.clone()
-}
-
-fn copied_config(config: &Config) -> Result<Config, AllocError>
-    ensures { IfOk result (λ c. c ≡ config.now) }
-{
-    config.clone()
 }
 
 fn copied_object(object: &Object) -> Result<Object, AllocError>

@@ -26,6 +26,3 @@ pub use finding::{network_named, network_numbered, node_named, port_at, port_num
 pub use ports::holds_address;
 pub use refusal::{CheckRefusal, IdKind, LimitKind, Refusal};
 pub use valid::{Valid, check};
-
-#[cfg(test)]
-mod tests;

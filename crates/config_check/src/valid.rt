@@ -18,7 +18,7 @@ use chain_expand::MOST_CHAINS;
 use config_model::{Config, Topology};
 use network_rules::{NumberedRule, all_rules};
 use ov_types::NoMemory;
-use std::alloc::Global;
+use std::alloc::{AllocError, Global};
 use std::marker::Model;
 
 /// A topology and a configuration that break no rule. Only `check` makes one.
@@ -62,6 +62,27 @@ impl Valid {
     {
         &self.config
     }
+
+    /// Another of the same, which need not be checked.
+    pub fn copy(&self) -> Result<Valid, NoMemory>
+        ensures { IfOk result (λ copy. copy ≡ self.now) }
+    {
+        let topology = copied_topology(&self.topology)?;
+        let config = copied_config(&self.config)?;
+        Ok(Valid { topology, config })
+    }
+}
+
+pub(crate) fn copied_topology(topology: &Topology) -> Result<Topology, AllocError>
+    ensures { IfOk result (λ t. t ≡ topology.now) }
+{
+    topology.clone()
+}
+
+pub(crate) fn copied_config(config: &Config) -> Result<Config, AllocError>
+    ensures { IfOk result (λ c. c ≡ config.now) }
+{
+    config.clone()
 }
 
 /// The first of the rules of subnets and ports that is broken.

@@ -11,14 +11,14 @@ use Rattle.config_model.specs.declared.edit.ObjectKind.{ObjectKind}
 use Rattle.config_model.specs.declared.edit.ObjectKind.TheVariants as Kinds
 use Rattle.config_model.specs.declared.event.Event.TheVariants as Events
 use Rattle.config_model.specs.declared.fields.Count.TheVariants.{AnyNumber, Two}
-use Rattle.config_model.specs.Form.{is_from_to, has_topology_form}
+use Rattle.config_model.specs.Form.{is_from_to, has_topology_form, has_config_form}
 use Rattle.config_model.specs.Fields.{in_member, member_at, object_at, name_at, only_at}
 use Rattle.config_model.specs.OneMember.{one_member_at}
 use Rattle.config_model.specs.Edit.{object_of_kind_at, put_at, delete_at, edit_at}
 use Rattle.config_model.specs.Event.{two_names_at, three_at, deliver_at, event_from, event_at, run_at, has_event_form}
 use Rattle.config_model.specs.EventDocuments.{object_document, edit_document, two_names_document, deliver_document, event_document, run_document}
 use Rattle.config_model.specs.EventLaws.{object_form, edit_form, event_form, run_form}
-use Rattle.config_model.specs.Laws.{IsRead, config_form, compile_form}
+use Rattle.config_model.specs.Laws.{IsRead, compile_form}
 use Rattle.config_model.proofs.Read.{name_is_read, whole_is_read, list_is_read, topology_is_read, network_is_read, port_is_read, policy_is_read, service_is_read, chain_is_read, config_is_read, packet_is_read}
 
 put_is_read : (x : Object) → IsTrue (object_form x) → (path : List ℕ) → put_at path (object_document x) ≡ Ok (Put x)
@@ -72,7 +72,7 @@ pub run_is_read : IsRead run_at run_form run_document
 unfolding run_at in_member member_at object_at only_at
 run_is_read r h path =
     let o = and_parts (compile_form r.input) (list_all event_form r.events) h in
-    let p = and_parts (has_topology_form r.input.topology) (config_form r.input.config) o.0 in
+    let p = and_parts (has_topology_form r.input.topology) (has_config_form r.input.config) o.0 in
     rw (
       topology_is_read r.input.topology p.0,
       config_is_read r.input.config p.1,

@@ -8,7 +8,7 @@ use Rattle.ov_types.specs.Name.{is_name}
 use Rattle.ov_types.specs.Prefix.{Block}
 use Rattle.config_model.specs.declared.fault.DocKind.TheVariants.{Range}
 use Rattle.config_model.specs.Faults.{Fault, wanted}
-use Rattle.config_model.specs.Written.{address_of, block_of}
+use Rattle.ov_types.specs.Written.{address_of, block_of}
 use Rattle.config_model.specs.Fields.{Reads, in_member, member_at, text_at, whole_at, name_at, address_at, prefix_at, list_at, all_at}
 use Rattle.config_model.specs.Rule.{direction_at, end_at, protocol_at, action_at, action_from}
 use Rattle.config_model.specs.Laws.{fault_at, is_among, OtherTextIsRange, OtherValueIsKind, OtherActionIsRange, OtherNumberIsRange, NegativeIsRange, FractionIsKind, NoNumberIsKind, NoListIsKind, OtherCountIsRange}

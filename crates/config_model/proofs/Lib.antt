@@ -1,10 +1,7 @@
 pub mod Members
 pub mod Lists
-pub mod Addresses
-pub mod Lengths
 pub mod Counts
 pub mod HasJust
-pub mod OneText
 pub mod Missed
 pub mod FaultKinds
 pub mod Read

@@ -24,7 +24,7 @@ use Rattle.config_model.specs.declared.config.Protocol.{Protocol}
 use Rattle.config_model.specs.declared.config.Protocol.TheVariants as protocol
 use Rattle.config_model.specs.declared.config.Rule.{Rule}
 use Rattle.config_model.specs.Paths.{item_path}
-use Rattle.config_model.specs.Written.{address_of, block_of}
+use Rattle.ov_types.specs.Written.{address_of, block_of}
 use Rattle.config_model.specs.Form.{is_from_to, is_as_number, is_node_name, is_node_address, is_network_name, is_range, has_end_form, has_protocol_form, has_action_form, has_controller_form, has_node_form, has_topology_form, has_network_form, has_port_form, has_policy_form, has_rule_form, has_service_form, has_chain_form, has_config_form, has_packet_form, is_block}
 use Rattle.config_model.specs.Fields.{Reads, in_member, member_at, object_at, text_at, whole_at, name_at, name_but_at, address_at, prefix_at, only_at, allows, list_at, items_at, all_at, optional_all}
 use Rattle.config_model.specs.Topology.{as_at, node_address_at, node_name_at, controller_at, node_at, topology_at}
@@ -32,8 +32,8 @@ use Rattle.config_model.specs.Rule.{direction_at, end_at, protocol_at, port_numb
 use Rattle.config_model.specs.Config.{network_name_at, network_at, port_at, policy_at, service_at, chain_at, config_at}
 use Rattle.config_model.specs.Input.{packet_at, compile_at, reach_at}
 use Rattle.config_model.specs.Documents.{items_of, list_document, number_document, prefix_document, controller_document, node_document, topology_document, network_document, port_document, direction_document, end_document, protocol_document, range_document, rule_document, policy_document, service_document, chain_document, config_document, packet_document, compile_document, reach_document}
-use Rattle.config_model.specs.Laws.{IsRead, subnets_fit, network_form, config_form, compile_form, reach_form}
-use Rattle.config_model.proofs.OneText.{address_has_one_text, prefix_has_one_text}
+use Rattle.config_model.specs.Laws.{IsRead, compile_form, reach_form}
+use Rattle.ov_types.proofs.OneText.{address_has_one_text, prefix_has_one_text}
 
 zero_le : (n : ℕ) → leb 0 n ≡ true
 zero_le n = le-leb 0 n (omega arith)
@@ -73,10 +73,7 @@ node_address_is_read a h path =
     let p = and_parts (nat_le 0x0100_0000 a.0) (nat_le a.0 0xdfff_ffff) h in
     address_is_read 0x0100_0000 0xdfff_ffff a (omega (arith, leb-true a.0 0xdfff_ffff p.1)) h path
 
-abbrev block_fits : Block → Bool
-block_fits b = is_block b && nat_lt b.addr (2 ^ 32)
-
-prefix_is_read : IsRead prefix_at block_fits prefix_document
+prefix_is_read : IsRead prefix_at is_block prefix_document
 unfolding prefix_at text_at
 prefix_is_read b h path =
     let p = and_parts (is_prefix b.addr b.len) (nat_lt b.addr (2 ^ 32)) h in
@@ -100,13 +97,6 @@ pub list_is_read : {A : Type 0} (reads : Reads A) (form : A → Bool) (document 
 unfolding all_at list_at
 list_is_read reads form document each count xs h allowed path =
     rw (items_counted document xs, allowed, items_are_read reads form document each path 0 xs h) refl
-
-both_hold : {A : Type 0} (p q : A → Bool) (xs : List A) → list_all p xs ≡ true → list_all q xs ≡ true → list_all (λ x. p x && q x) xs ≡ true
-both_hold p q [] h k = refl
-both_hold p q (x ∷ xs) h k =
-    let a = and_parts (p x) (list_all p xs) h in
-    let b = and_parts (q x) (list_all q xs) k in
-    rw (a.0, b.0, both_hold p q xs a.1 b.1) refl
 
 pub controller_is_read : IsRead controller_at has_controller_form controller_document
 unfolding controller_at in_member member_at object_at only_at has_controller_form
@@ -141,17 +131,16 @@ topology_is_read t h path =
       list_is_read node_at has_node_form node_document node_is_read AtLeastOne t.nodes q.1 p.1,
     ) refl
 
-pub network_is_read : IsRead network_at network_form network_document
+pub network_is_read : IsRead network_at has_network_form network_document
 unfolding network_at in_member member_at object_at only_at optional_all has_network_form
 network_is_read n h path =
-    let o = and_parts (is_network_name n.name && is_from_to 1 16383 n.id.0 && list_all is_block n.subnets && list_all is_name n.policies) (subnets_fit n) h in
-    let p = and_parts (is_network_name n.name && is_from_to 1 16383 n.id.0 && list_all is_block n.subnets) (list_all is_name n.policies) o.0 in
+    let p = and_parts (is_network_name n.name && is_from_to 1 16383 n.id.0 && list_all is_block n.subnets) (list_all is_name n.policies) h in
     let q = and_parts (is_network_name n.name && is_from_to 1 16383 n.id.0) (list_all is_block n.subnets) p.0 in
     let r = and_parts (is_network_name n.name) (is_from_to 1 16383 n.id.0) q.0 in
     rw (
       name_but_is_read (codes "any") n.name r.0,
       whole_is_read 1 16383 n.id.0 r.1,
-      list_is_read prefix_at block_fits prefix_document prefix_is_read AnyNumber n.subnets (both_hold is_block (λ b. nat_lt b.addr (2 ^ 32)) n.subnets q.1 o.1) refl,
+      list_is_read prefix_at is_block prefix_document prefix_is_read AnyNumber n.subnets q.1 refl,
       list_is_read name_at is_name string name_is_read AnyNumber n.policies p.1 refl,
     ) refl
 
@@ -269,16 +258,15 @@ chain_is_read n h path =
     let q = and_parts (is_name n.name) (list_all is_name n.hops) p.0 in
     rw (name_is_read n.name q.0, list_is_read name_at is_name string name_is_read AtLeastOne n.hops q.1 p.1) refl
 
-pub config_is_read : IsRead config_at config_form config_document
+pub config_is_read : IsRead config_at has_config_form config_document
 unfolding config_at object_at only_at optional_all has_config_form
 config_is_read c h path =
-    let o = and_parts (list_all has_network_form c.networks && list_all has_port_form c.ports && list_all has_policy_form c.policies && list_all has_service_form c.services && list_all has_chain_form c.chains) (list_all subnets_fit c.networks) h in
-    let p = and_parts (list_all has_network_form c.networks && list_all has_port_form c.ports && list_all has_policy_form c.policies && list_all has_service_form c.services) (list_all has_chain_form c.chains) o.0 in
+    let p = and_parts (list_all has_network_form c.networks && list_all has_port_form c.ports && list_all has_policy_form c.policies && list_all has_service_form c.services) (list_all has_chain_form c.chains) h in
     let q = and_parts (list_all has_network_form c.networks && list_all has_port_form c.ports && list_all has_policy_form c.policies) (list_all has_service_form c.services) p.0 in
     let r = and_parts (list_all has_network_form c.networks && list_all has_port_form c.ports) (list_all has_policy_form c.policies) q.0 in
     let s = and_parts (list_all has_network_form c.networks) (list_all has_port_form c.ports) r.0 in
     rw (
-      list_is_read network_at network_form network_document network_is_read AnyNumber c.networks (both_hold has_network_form subnets_fit c.networks s.0 o.1) refl,
+      list_is_read network_at has_network_form network_document network_is_read AnyNumber c.networks s.0 refl,
       list_is_read port_at has_port_form port_document port_is_read AnyNumber c.ports s.1 refl,
       list_is_read policy_at has_policy_form policy_document policy_is_read AnyNumber c.policies r.1 refl,
       list_is_read service_at has_service_form service_document service_is_read AnyNumber c.services q.1 refl,
@@ -303,14 +291,14 @@ packet_is_read n h path =
 pub compile_is_read : IsRead compile_at compile_form compile_document
 unfolding compile_at in_member member_at object_at only_at
 compile_is_read i h path =
-    let p = and_parts (has_topology_form i.topology) (config_form i.config) h in
+    let p = and_parts (has_topology_form i.topology) (has_config_form i.config) h in
     rw (topology_is_read i.topology p.0, config_is_read i.config p.1) refl
 
 pub reach_is_read : IsRead reach_at reach_form reach_document
 unfolding reach_at in_member member_at object_at only_at
 reach_is_read r h path =
     let o = and_parts (compile_form r.input) (list_all has_packet_form r.packets) h in
-    let p = and_parts (has_topology_form r.input.topology) (config_form r.input.config) o.0 in
+    let p = and_parts (has_topology_form r.input.topology) (has_config_form r.input.config) o.0 in
     rw (
       topology_is_read r.input.topology p.0,
       config_is_read r.input.config p.1,

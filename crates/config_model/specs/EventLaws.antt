@@ -15,15 +15,15 @@ use Rattle.config_model.specs.declared.event.RunInput.{RunInput}
 use Rattle.config_model.specs.declared.fault.DocKind.TheVariants.{Kind, Range, Unknown}
 use Rattle.config_model.specs.Paths.{member_path}
 use Rattle.config_model.specs.Fields.{Reads}
-use Rattle.config_model.specs.Form.{has_port_form, has_policy_form, has_service_form, has_chain_form}
+use Rattle.config_model.specs.Form.{has_network_form, has_port_form, has_policy_form, has_service_form, has_chain_form}
 use Rattle.config_model.specs.Edit.{edit_at}
 use Rattle.config_model.specs.Event.{event_at, run_at, has_event_form}
 use Rattle.config_model.specs.EventDocuments.{one_document, edit_word, event_word}
-use Rattle.config_model.specs.Laws.{HasJust, ReadHasJust, network_form, compile_form, fault_at, is_among}
+use Rattle.config_model.specs.Laws.{HasJust, ReadHasJust, compile_form, fault_at, is_among}
 
--- which objects, edits and events have documents: those of the written form, with the addresses of subnets in 32 bits
+-- which objects, edits and events have documents: those of the written form
 abbrev pub object_form : Object → Bool
-object_form (Objects.Network x) = network_form x
+object_form (Objects.Network x) = has_network_form x
 object_form (Objects.Port x) = has_port_form x
 object_form (Objects.Policy x) = has_policy_form x
 object_form (Objects.Service x) = has_service_form x

@@ -2,8 +2,9 @@
 use Rattle.std.specs.Prelude.{ℕ, List, length, nat_eq, nat_le, Bool, true, not, codes, ◌&&◌, ◌==◌}
 use Rattle.std.specs.List.{list_all}
 use Rattle.std.specs.Cmp.Lexicographic.{pointwise}
+pub use Rattle.ov_types.specs.Bounds.{is_from_to, is_node_address}
 use Rattle.ov_types.specs.Name.{is_name}
-use Rattle.ov_types.specs.Prefix.{Block, is_prefix}
+pub use Rattle.ov_types.specs.Prefix.{is_block}
 use Rattle.ov_types.specs.declared.packet.Packet.{Packet}
 use Rattle.ov_types.specs.declared.packet.Range16.{Range16}
 use Rattle.ov_types.specs.declared.rows.NodeId.{NodeId}
@@ -23,14 +24,6 @@ use Rattle.config_model.specs.declared.config.Service.{Service}
 use Rattle.config_model.specs.declared.topology.Node.{Node}
 use Rattle.config_model.specs.declared.topology.Topology.{Topology}
 
--- a number from low to high
-abbrev pub is_from_to : ℕ → ℕ → ℕ → Bool
-is_from_to low high n = nat_le low n && nat_le n high
-
--- the address of a node: 1.0.0.0 to 223.255.255.255
-abbrev pub is_node_address : ℕ → Bool
-is_node_address n = is_from_to 0x0100_0000 0xdfff_ffff n
-
 -- an autonomous system's number that is not the reserved 23456 (RFC 6793)
 abbrev pub is_as_number : ℕ → Bool
 is_as_number n = is_from_to 1 65534 n && not (n == 23456)
@@ -42,9 +35,6 @@ is_node_name text = is_name text && not (pointwise nat_eq text (codes "config"))
 -- a network's name: rules say `any` for all networks
 abbrev pub is_network_name : List ℕ → Bool
 is_network_name text = is_name text && not (pointwise nat_eq text (codes "any"))
-
-abbrev pub is_block : Block → Bool
-is_block b = is_prefix b.addr b.len
 
 abbrev pub is_range : Range16 → Bool
 is_range r = nat_le r.lo r.hi && nat_le r.hi 65535

@@ -18,9 +18,9 @@ use Rattle.config_model.specs.declared.fields.Count.{Count}
 use Rattle.config_model.specs.declared.input.CompileInput.{CompileInput}
 use Rattle.config_model.specs.declared.input.ReachInput.{ReachInput}
 use Rattle.config_model.specs.Faults.{Fault}
-use Rattle.config_model.specs.Form.{is_from_to, has_topology_form, has_network_form, has_config_form, has_packet_form}
+use Rattle.config_model.specs.Form.{is_from_to, has_topology_form, has_config_form, has_packet_form}
 use Rattle.config_model.specs.Paths.{member_path}
-use Rattle.config_model.specs.Written.{address_of, block_of}
+use Rattle.ov_types.specs.Written.{address_of, block_of}
 use Rattle.config_model.specs.Fields.{Reads, whole_at, all_at, allows}
 use Rattle.config_model.specs.Topology.{controller_at, node_at, topology_at}
 use Rattle.config_model.specs.Rule.{rule_at, action_at, members_with}
@@ -90,19 +90,6 @@ CompileHasJust = ReadHasJust compile_at (codes "topology" ∷ codes "configurati
 abbrev pub ReachHasJust : Type 0
 ReachHasJust = ReadHasJust reach_at (codes "topology" ∷ codes "configuration" ∷ codes "packets" ∷ []) []
 
--- each address has one text, which reads as it, and no other text does
-abbrev pub AddressHasOneText : Type 0
-AddressHasOneText = (text : List ℕ) (n : ℕ) → (address_of text ≡ Some n) ↔ ((n < 2 ^ 32) × (text ≡ address_text n))
-
--- each prefix has one text, which reads as it, and no other text does
-abbrev pub PrefixHasOneText : Type 0
-PrefixHasOneText = (text : List ℕ) (b : Block) → (block_of text ≡ Some b)
-    ↔ ((b.addr < 2 ^ 32) × IsTrue (is_prefix b.addr b.len) × (text ≡ prefix_text b))
-
--- each name is its own text
-abbrev pub NameIsItsText : Type 0
-NameIsItsText = (text name : List ℕ) → (name_of text ≡ Some name) ↔ (IsTrue (is_name name) × (text ≡ name))
-
 -- where this member of an object is absent, the fault is that it is missing, at its path
 abbrev pub FirstIsMissed : {A : Type 0} → Reads A → List ℕ → Type 0
 FirstIsMissed reads name = (path : List ℕ) (d : Data) (members : Members) → as_object d ≡ Some members
@@ -116,14 +103,8 @@ IsRead {A} reads has_form document = (x : A) → IsTrue (has_form x) → (path :
 abbrev pub subnets_fit : Network → Bool
 subnets_fit n = list_all (λ b. nat_lt b.addr (2 ^ 32)) n.subnets
 
-abbrev pub network_form : Network → Bool
-network_form n = has_network_form n && subnets_fit n
-
-abbrev pub config_form : Config → Bool
-config_form c = has_config_form c && list_all subnets_fit c.networks
-
 abbrev pub compile_form : CompileInput → Bool
-compile_form i = has_topology_form i.topology && config_form i.config
+compile_form i = has_topology_form i.topology && has_config_form i.config
 
 abbrev pub reach_form : ReachInput → Bool
 reach_form r = compile_form r.input && list_all has_packet_form r.packets

@@ -1,7 +1,6 @@
 pub mod Form
 pub mod Paths
 pub mod Faults
-pub mod Written
 pub mod Fields
 pub mod Topology
 pub mod Rule

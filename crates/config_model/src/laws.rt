@@ -2,18 +2,17 @@
 ghost use Rattle.config_model.specs.Laws.{ControllerHasJust, NodeHasJust, TopologyHasJust, NetworkHasJust, PortHasJust};
 ghost use Rattle.config_model.specs.Laws.{PolicyHasJust, RuleHasJust, ServiceHasJust, ChainHasJust, ConfigHasJust};
 ghost use Rattle.config_model.specs.Laws.{PacketHasJust, CompileHasJust, ReachHasJust, FirstIsMissed};
-ghost use Rattle.config_model.specs.Laws.{AddressHasOneText, PrefixHasOneText, NameIsItsText};
-ghost use Rattle.config_model.specs.Laws.{IsRead, network_form, config_form, compile_form, reach_form};
+ghost use Rattle.config_model.specs.Laws.{IsRead, compile_form, reach_form};
 ghost use Rattle.config_model.specs.Form.{has_controller_form, has_node_form, has_topology_form, has_port_form};
 ghost use Rattle.config_model.specs.Form.{has_policy_form, has_rule_form, has_service_form, has_chain_form};
-ghost use Rattle.config_model.specs.Form.{has_packet_form};
+ghost use Rattle.config_model.specs.Form.{has_network_form, has_config_form, has_packet_form};
 ghost use Rattle.config_model.specs.Documents.{controller_document, node_document, topology_document, network_document};
 ghost use Rattle.config_model.specs.Documents.{port_document, policy_document, rule_document, service_document};
 ghost use Rattle.config_model.specs.Documents.{chain_document, config_document, packet_document, compile_document};
 ghost use Rattle.config_model.specs.Documents.{reach_document};
 ghost use Rattle.std.specs.Prelude.{ℕ, codes, ◌∷◌, [], is_some};
 ghost use Rattle.ov_types.specs.Name.{is_name};
-ghost use Rattle.config_model.specs.Written.{address_of, block_of};
+ghost use Rattle.ov_types.specs.Written.{address_of, block_of};
 ghost use Rattle.config_model.specs.Fields.{name_at, address_at, prefix_at};
 ghost use Rattle.config_model.specs.Laws.{is_among, OtherTextIsRange, OtherValueIsKind, OtherActionIsRange};
 ghost use Rattle.config_model.specs.Laws.{OtherNumberIsRange, NegativeIsRange, FractionIsKind, NoNumberIsKind};
@@ -64,13 +63,6 @@ pub fn first_members_are_missed()
     ensures reach { FirstIsMissed reach_at (codes "topology") }
 {}
 
-/// Addresses, prefixes and names have one text each.
-pub fn texts_are_one()
-    ensures address { AddressHasOneText }
-    ensures prefix { PrefixHasOneText }
-    ensures name { NameIsItsText }
-{}
-
 /// Each topology, controller and node of the written form has a document, which reads as it.
 pub fn topologies_are_read()
     ensures topology { IsRead topology_at has_topology_form topology_document }
@@ -80,8 +72,8 @@ pub fn topologies_are_read()
 
 /// Each configuration of the written form, and each object of one, has a document, which reads as it.
 pub fn configurations_are_read()
-    ensures config { IsRead config_at config_form config_document }
-    ensures network { IsRead network_at network_form network_document }
+    ensures config { IsRead config_at has_config_form config_document }
+    ensures network { IsRead network_at has_network_form network_document }
     ensures port { IsRead port_at has_port_form port_document }
     ensures policy { IsRead policy_at has_policy_form policy_document }
     ensures rule { IsRead rule_at has_rule_form rule_document }

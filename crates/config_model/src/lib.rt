@@ -18,7 +18,6 @@ mod rule_reader;
 mod topology;
 mod topology_reader;
 mod values;
-mod written;
 
 pub use config::{
     Action, Chain, Config, Direction, End, Network, Policy, Port, Protocol, Rule, Service,
@@ -38,12 +37,7 @@ pub use laws::{
     configurations_are_read, configurations_have_just_their_members, first_members_are_missed,
     inputs_are_read, inputs_have_just_their_members, lists_are_of_allowed_lengths,
     numbers_are_whole_and_within_bounds, other_texts_are_out_of_range, texts_are_of_their_kind,
-    texts_are_one, topologies_are_read, topologies_have_just_their_members,
+    topologies_are_read, topologies_have_just_their_members,
 };
 pub use topology::{Node, Topology};
 pub use topology_reader::read_topology;
-
-#[cfg(test)]
-mod event_tests;
-#[cfg(test)]
-mod tests;

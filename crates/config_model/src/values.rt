@@ -11,7 +11,7 @@ ghost use Rattle.config_model.specs.Fields.{in_member, name_at, name_but_at, add
 
 use crate::fault::{DocKind, Place, ReadRefusal};
 use crate::fields::{FromDocument, member_of, text_of};
-use crate::written::{address_from, prefix_from};
+use ov_types::written::{address_from, prefix_from};
 use ov_types::{Addr, Name, Prefix};
 use serde_json::Value;
 use std::alloc::Global;

@@ -21,14 +21,14 @@ use Rattle.ov_types.specs.declared.packet.Range16.{Range16}
 use Rattle.ov_types.specs.declared.packet.RuleNo.{RuleNo}
 use Rattle.ov_types.specs.declared.prefix.Addr.{Addr}
 use Rattle.item_wire.specs.declared.list.Count.{Count}
-use Rattle.item_wire.specs.Written.{address_of, block_of}
+use Rattle.ov_types.specs.Written.{address_of, block_of}
 use Rattle.item_wire.specs.Entries.{◌>>=◌, kept, is_from_to, number_from, name_from, address_from, any_address_from}
 use Rattle.item_wire.specs.Entries.{node_address_from, prefix_from, all_from, counted, allows, list_from, network_from}
 use Rattle.item_wire.specs.Entries.{counts, has_items, in_place, hop_from, protocol_from, ports_from, action_named}
 use Rattle.item_wire.specs.Entries.{action_of, action_from, rule_number_from, rule_from}
 use Rattle.item_wire.specs.Records.{number_record, address_record, prefix_record, list_record, import_record}
 use Rattle.item_wire.specs.Records.{hop_record, protocol_record, action_record, rule_record}
-use Rattle.item_wire.proofs.OneText.{address_has_one_text, prefix_has_one_text}
+use Rattle.ov_types.proofs.OneText.{address_has_one_text, prefix_has_one_text}
 use Rattle.item_wire.proofs.Weights.{weight, items_weight}
 
 -- ---- steps of a reading that gave something

@@ -9,9 +9,6 @@ pub mod ItemWeights
 pub mod ReadLengths
 pub mod Lists
 pub mod Counts
-pub mod Addresses
-pub mod Lengths
-pub mod OneText
 pub mod TableLemmas
 pub mod Floats
 pub mod Read

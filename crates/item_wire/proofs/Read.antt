@@ -19,13 +19,13 @@ use Rattle.item_wire.specs.declared.item.Item.{Item}
 use Rattle.item_wire.specs.declared.item.Item.TheVariants as I
 use Rattle.item_wire.specs.declared.list.Count.{Count}
 use Rattle.item_wire.specs.declared.list.Count.TheVariants.{AnyNumber, AtLeastOne, OneToFifteen}
-use Rattle.item_wire.specs.Written.{address_of}
+use Rattle.ov_types.specs.Written.{address_of}
 use Rattle.item_wire.specs.Entries.{is_from_to, allows, number_from, name_from, address_from, any_address_from, node_address_from, prefix_from, all_from, list_from, network_from, in_place, hop_from, protocol_from, ports_from, action_from, rule_number_from, rule_from}
 use Rattle.item_wire.specs.Members.{in_member}
 use Rattle.item_wire.specs.Ranges.{is_network, is_instance, is_attached_label, is_address, is_node_address, is_block, is_import, is_hop, is_protocol, are_ports, is_action, is_rule_number, is_rule, is_in_range}
 use Rattle.item_wire.specs.Reading.{hello_of, instance_of, port_of, circuit_of, acl_of, use_of, no_instance_of, no_attach_of, no_acl_of, no_use_of, publish_of, unpublish_of, subscribe_of, unsubscribe_of, route_of, unroute_of, op_from, item_of}
 use Rattle.item_wire.specs.Records.{number_record, address_record, prefix_record, list_record, import_record, hop_record, protocol_record, action_record, rule_record, record_of}
-use Rattle.item_wire.proofs.OneText.{address_has_one_text, prefix_has_one_text}
+use Rattle.ov_types.proofs.OneText.{address_has_one_text, prefix_has_one_text}
 
 zero_le : (n : ℕ) → leb 0 n ≡ true
 zero_le n = le-leb 0 n (omega arith)

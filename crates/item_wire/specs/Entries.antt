@@ -6,6 +6,7 @@ use Rattle.std.specs.Cmp.Lexicographic.{pointwise}
 use Rattle.serde_json.specs.Data.{Num, unsigned, Data, Items, no_items, item}
 use Rattle.serde_json.specs.Events.{items_len}
 use Rattle.serde_json.specs.Find.{at, as_number, as_str, as_array}
+pub use Rattle.ov_types.specs.Bounds.{is_from_to}
 use Rattle.ov_types.specs.Name.{name_of as name_spelled}
 use Rattle.ov_types.specs.Prefix.{Block}
 use Rattle.ov_types.specs.declared.numbers.InstanceId.{InstanceId}
@@ -18,17 +19,13 @@ use Rattle.ov_types.specs.declared.packet.RuleNo.{RuleNo}
 use Rattle.ov_types.specs.declared.prefix.Addr.{Addr}
 use Rattle.item_wire.specs.declared.list.Count.{Count}
 use Rattle.item_wire.specs.declared.list.Count.TheVariants.{AnyNumber, AtLeastOne, OneToFifteen}
-use Rattle.item_wire.specs.Written.{address_of, block_of}
+use Rattle.ov_types.specs.Written.{address_of, block_of}
 
 -- one value goes into the reading of the next, where there is one
 infixl 10 ◌>>=◌
 abbrev pub ◌>>=◌ : {A B : Type 0} → Option A → (A → Option B) → Option B
 (Some x) >>= f = f x
 None >>= f = None
-
--- a number from low to high
-abbrev pub is_from_to : ℕ → ℕ → ℕ → Bool
-is_from_to low high n = nat_le low n && nat_le n high
 
 abbrev pub kept : {A : Type 0} → Bool → A → Option A
 kept passes x = if passes then Some x else None

@@ -1,5 +1,3 @@
-pub mod Written
-pub mod Texts
 pub mod Frames
 pub mod Faults
 pub mod Members

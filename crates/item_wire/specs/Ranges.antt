@@ -1,8 +1,9 @@
 -- The items whose members are within their ranges.
-use Rattle.std.specs.Prelude.{ℕ, length, Bool, true, ◌&&◌, nat_le, nat_lt, ◌^◌, Option, Some, None}
+use Rattle.std.specs.Prelude.{ℕ, length, Bool, true, ◌&&◌, nat_le, Option, Some, None}
 use Rattle.std.specs.List.{list_all}
+use Rattle.ov_types.specs.Bounds as bounds
 use Rattle.ov_types.specs.Name.{is_name}
-use Rattle.ov_types.specs.Prefix.{Block, is_prefix}
+pub use Rattle.ov_types.specs.Prefix.{is_block}
 use Rattle.ov_types.specs.declared.numbers.InstanceId.{InstanceId}
 use Rattle.ov_types.specs.declared.numbers.ServiceNo.{ServiceNo}
 use Rattle.ov_types.specs.declared.objects.AclAction.{AclAction}
@@ -28,12 +29,8 @@ is_attached_label n = is_from_to 16 655358 n
 abbrev pub is_address : Addr → Bool
 is_address a = nat_le a.0 0xffff_ffff
 
--- 1.0.0.0 to 223.255.255.255
 abbrev pub is_node_address : Addr → Bool
-is_node_address a = is_from_to 0x0100_0000 0xdfff_ffff a.0
-
-abbrev pub is_block : Block → Bool
-is_block b = is_prefix b.addr b.len && nat_lt b.addr (2 ^ 32)
+is_node_address a = bounds.is_node_address a.0
 
 abbrev pub is_import : InstanceId → Bool
 is_import i = is_network i.0

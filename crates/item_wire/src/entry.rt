@@ -7,8 +7,7 @@ ghost use Rattle.ov_types.specs.Name.{is_name};
 ghost use Rattle.item_wire.specs.Ranges.{is_address, is_node_address, is_block};
 
 use crate::bounds::{FIRST_NODE_ADDRESS, LAST_NODE_ADDRESS};
-use crate::written;
-use ov_types::{Addr, Name, Prefix};
+use ov_types::{Addr, Name, Prefix, written};
 use serde_json::Value;
 
 /// A whole number from low to high.

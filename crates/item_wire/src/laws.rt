@@ -21,7 +21,6 @@ ghost use Rattle.item_wire.specs.Members.{name_of};
 ghost use Rattle.item_wire.specs.Ranges.{is_in_range};
 ghost use Rattle.item_wire.specs.Reading.{item_of, item_in};
 ghost use Rattle.item_wire.specs.Records.{record_of, json_text, spelling, has_lists};
-ghost use Rattle.item_wire.specs.Texts.{AddressHasOneText, PrefixHasOneText};
 ghost use Rattle.item_wire.specs.Words.{step_of};
 
 /// Each state does with each input what its words say.
@@ -59,12 +58,6 @@ pub fn items_of_one_spelling_are_equal()
 /// An item within its ranges that has no list has few octets of JSON.
 pub fn most_records_are_short()
     ensures { (item : Record) → IsTrue (is_in_range item) → has_lists item ≡ false → length (json_text item) ≤ 128 }
-{}
-
-/// Each address and each prefix has one text.
-pub fn texts_are_one()
-    ensures address { AddressHasOneText }
-    ensures prefix { PrefixHasOneText }
 {}
 
 /// An item is a change of a direction exactly where it may come there, and it is the item of that change.

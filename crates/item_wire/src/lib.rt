@@ -19,7 +19,6 @@ mod rule;
 mod session;
 mod table;
 mod writer;
-mod written;
 
 pub use event::{ItemCause, ItemEvent, ItemFrom, ItemState};
 pub use fault::{Field, ItemFault, ItemRefusal};

@@ -7,8 +7,6 @@ mod link;
 mod links;
 mod queue;
 mod step;
-#[cfg(test)]
-mod tests;
 
 pub use failing::FailingLink;
 pub use link::{Link, LinkFault, send_all};

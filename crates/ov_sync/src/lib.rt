@@ -4,8 +4,6 @@
 pub mod laws;
 mod receiving;
 mod sending;
-#[cfg(test)]
-mod tests;
 
 pub use receiving::SyncIn;
 pub use sending::SyncOut;

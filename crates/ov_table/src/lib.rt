@@ -48,6 +48,3 @@ macro_rules! case_table {
         $crate::CaseTable::from_rows([$([$($cell),+]),+])
     };
 }
-
-#[cfg(test)]
-mod tests;

@@ -3,3 +3,6 @@ pub mod Blocks
 pub mod Places
 pub mod Values
 pub mod FirstLemmas
+pub mod Addresses
+pub mod Lengths
+pub mod OneText

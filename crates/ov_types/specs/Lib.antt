@@ -8,3 +8,6 @@ pub mod Targets
 pub mod Texts
 pub mod Access
 pub mod Routing
+pub mod Written
+pub mod OneText
+pub mod Bounds

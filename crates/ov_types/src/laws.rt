@@ -2,6 +2,7 @@
 ghost use Rattle.std.specs.Prelude.{◌≡◌, ◌↔◌, IsTrue, List};
 ghost use Rattle.ov_types.specs.Prefix.{Block, block_cmp};
 ghost use Rattle.ov_types.specs.Keys.{low_key_cmp, down_key_cmp, up_key_cmp};
+ghost use Rattle.ov_types.specs.OneText.{AddressHasOneText, PrefixHasOneText, NameIsItsText};
 ghost use Rattle.ov_types.specs.declared.keys.DownKey.{DownKey as Down};
 ghost use Rattle.ov_types.specs.declared.keys.UpKey.{UpKey as Up};
 ghost use Rattle.ov_types.specs.declared.objects.AclRule.{AclRule as AclEntry};
@@ -44,4 +45,11 @@ pub fn copies_are_equal()
     ensures targets { (a b : List Number) → ⟦<Targets as Clone>⟧.is_clone a b → a ≡ b }
     ensures routes { (a b : Route) → ⟦<VpnRoute as Clone>⟧.is_clone a b → a ≡ b }
     ensures agents { (a b : Rows) → ⟦<AgentRows as Clone>⟧.is_clone a b → a ≡ b }
+{}
+
+/// Addresses, prefixes and names have one text each.
+pub fn texts_are_one()
+    ensures address { AddressHasOneText }
+    ensures prefix { PrefixHasOneText }
+    ensures name { NameIsItsText }
 {}

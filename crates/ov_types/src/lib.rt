@@ -1,6 +1,7 @@
 //! The plain types that every layer speaks in: names, addresses, prefixes, numbers, rows and outcomes.
 #![tactic(auto)]
 
+pub mod bounds;
 mod items;
 mod keys;
 mod kinded;
@@ -15,6 +16,7 @@ mod services;
 mod targets;
 mod verdict;
 mod vpn;
+pub mod written;
 
 pub use items::{Items, NoMemory};
 pub use keys::{DownKey, DownValue, UpKey};

@@ -143,15 +143,3 @@ impl fmt::Display for Name {
         f.pad(self.text())
     }
 }
-
-#[cfg(test)]
-mod tests {
-    use super::*;
-
-    #[test]
-    fn reads_names(rt: HostRuntime) {
-        for (text, want) in [("red", true), ("", false), ("Red", false), ("a-b_9", true)] {
-            assert_eq!(rt; Name::new(text).is_some(), want, "{text}");
-        }
-    }
-}

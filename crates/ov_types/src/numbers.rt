@@ -79,22 +79,3 @@ impl fmt::Display for Rd {
         write!(f, "{text}")
     }
 }
-
-#[cfg(test)]
-mod tests {
-    use super::*;
-    use std::test::Fail;
-
-    #[test]
-    fn distinguishers_are_printed_by_their_type(rt: HostRuntime) -> Result<(), Fail> {
-        for (octets, text) in [
-            (0x0000_fc00_0000_0001, "64512:1"),
-            (0x0001_c000_020b_0001, "192.0.2.11:1"),
-            (0x0002_0001_0000_0007, "L65536:7"),
-            (0x00ab_0000_0000_0001, "x00ab000000000001"),
-        ] {
-            assert_eq!(rt; format!(in rt.alloc(); "{}", Rd(octets))?.as_str(), text);
-        }
-        Ok(())
-    }
-}

@@ -71,33 +71,3 @@ pub enum AclAction {
 
 /// Low-level objects in the order of their keys.
 pub type Low = Items<(LowKey, LowValue)>;
-
-#[cfg(test)]
-mod tests {
-    use super::*;
-    use crate::{DownKey, UpKey};
-    use std::test::Fail;
-
-    #[test]
-    fn keys_ascend(rt: HostRuntime) -> Result<(), Fail> {
-        let keys = [
-            LowKey::Instance(9),
-            LowKey::Instance(10),
-            LowKey::Attach(1),
-            LowKey::Acl { from: 2, to: 9 },
-            LowKey::Acl { from: 3, to: 1 },
-            LowKey::ChainUse(0),
-        ];
-        for pair in keys.windows(2) {
-            if let [a, b] = pair {
-                assert!(rt; a < b, "{a:?}");
-                assert!(rt; DownKey::Slice(*a) < DownKey::Slice(*b));
-            }
-        }
-        let host = Prefix::host(Addr(0));
-        let last = DownKey::Slice(LowKey::ChainUse(3071));
-        assert!(rt; last < DownKey::Route(InstanceId(1), host));
-        assert!(rt; UpKey::Publish(InstanceId(9), host) < UpKey::Subscribe(InstanceId(1)));
-        Ok(())
-    }
-}

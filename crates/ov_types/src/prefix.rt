@@ -129,31 +129,3 @@ impl fmt::Display for Prefix {
         write!(f, "{addr}/{len}")
     }
 }
-
-#[cfg(test)]
-mod tests {
-    use super::*;
-    use std::test::Fail;
-
-    #[test]
-    fn prefixes_are_read_and_printed(rt: HostRuntime) -> Result<(), Fail> {
-        let net = Prefix::new(Addr(0x0a01_0000), 16).ok_or("10.1.0.0/16")?;
-        assert_eq!(rt; format!(in rt.alloc(); "{net}")?.as_str(), "10.1.0.0/16");
-        assert!(rt; net.contains(Addr(0x0a01_ffff)));
-        assert!(rt; !net.contains(Addr(0x0a02_0000)));
-        assert!(rt; Prefix::host(Addr(0x0a01_0005)).within(&net));
-        assert_eq!(rt; Prefix::new(Addr(0x0a01_0001), 16), None);
-        Ok(())
-    }
-
-    #[test]
-    fn prefixes_ascend_by_address_and_then_length(rt: HostRuntime) -> Result<(), Fail> {
-        let wide = Prefix::new(Addr(0x0a00_0000), 8).ok_or("10.0.0.0/8")?;
-        let narrow = Prefix::new(Addr(0x0a00_0000), 24).ok_or("10.0.0.0/24")?;
-        let next = Prefix::new(Addr(0x0a01_0000), 16).ok_or("10.1.0.0/16")?;
-        assert!(rt; wide < narrow);
-        assert!(rt; narrow < Prefix::host(Addr(0x0a00_0005)));
-        assert!(rt; Prefix::host(Addr(0x0a00_0005)) < next);
-        Ok(())
-    }
-}

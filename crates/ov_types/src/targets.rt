@@ -133,34 +133,3 @@ fn place_of(list: &[Target], target: Target) -> Place
     }
     Place::Before(list.len())
 }
-
-#[cfg(test)]
-mod tests {
-    use super::*;
-    use std::test::Fail;
-
-    #[test]
-    fn targets_are_told_from_other_communities(rt: HostRuntime) {
-        for (community, want) in [
-            (0x0002_fc00_007a_1201, true),
-            (0x0102_c000_020b_0001, true),
-            (0x0202_0001_0000_0007, true),
-            (0x0302_fc00_007a_1201, false),
-            (0x0003_fc00_007a_1201, false),
-            (0x4002_fc00_007a_1201, false),
-        ] {
-            assert_eq!(rt; is_target(community), want, "{community:016x}");
-        }
-    }
-
-    #[test]
-    fn targets_stand_in_order_once(rt: HostRuntime) -> Result<(), Fail> {
-        let mut targets = Targets::new(rt.alloc());
-        for number in [3, 1, 3] {
-            assert_eq!(rt; targets.insert(Target(number)), Ok(()));
-        }
-        assert_eq!(rt; targets.items(), [Target(1), Target(3)].as_slice());
-        assert_eq!(rt; targets.clone()?.items(), [Target(1), Target(3)].as_slice());
-        Ok(())
-    }
-}

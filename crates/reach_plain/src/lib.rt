@@ -10,6 +10,3 @@ mod services;
 pub use decisions::{decide, is_network};
 pub use network_rules::Decision;
 pub use outcomes::reach;
-
-#[cfg(test)]
-mod tests;

@@ -1,16 +1,22 @@
 -- The numbers that the configuration's own numbers determine. A network's instance has the network's number.
-use Rattle.std.specs.Prelude.{ℕ, ◌+◌, ◌-◌, ◌*◌, ◌/◌, ◌%◌, ◌^◌, ◌==◌, if◌then◌else◌}
+use Rattle.std.specs.Prelude.{ℕ, ◌+◌, ◌-◌, ◌*◌, ◌/◌, ◌%◌, ◌^◌, ◌==◌, nat_le, if◌then◌else◌, Option, Some, None}
 use Rattle.ov_types.specs.declared.prefix.Addr.{Addr}
 use Rattle.ov_types.specs.declared.numbers.InstanceId.{InstanceId}
 use Rattle.ov_types.specs.declared.numbers.PortNo.{PortNo}
 use Rattle.ov_types.specs.declared.numbers.Label.{Label}
 use Rattle.ov_types.specs.declared.numbers.Rd.{Rd}
 use Rattle.ov_types.specs.declared.targets.Target.{Target}
+use Rattle.route_targets.specs.declared.numbers.Hop.{Hop}
 
 -- the instance of a hop of a chain's use, where a use has 16 numbers: hop 0 is before the first service, hop j behind
 -- service j
 abbrev pub hop_instance_of : ℕ → ℕ → InstanceId
 hop_instance_of use_no hop = record { 0 = 16384 + 16 * use_no + hop }
+
+-- the hop that an instance is of: none where it is a network's
+abbrev pub hop_of : InstanceId → Option Hop
+hop_of instance = if nat_le instance.0 16383 then None
+    else Some (record { use_no = (instance.0 - 16384) / 16; place = (instance.0 - 16384) % 16 })
 
 -- the target of an instance: the octets 00 and 02, two octets of the AS number, and four of 8000000 and the instance
 abbrev pub target_of : ℕ → InstanceId → Target

@@ -1,5 +1,5 @@
 //! No two things have one number, as laws: each is the contract of a function that does nothing.
-ghost use Rattle.std.specs.Prelude.{◌≡◌, ◌≢◌, ◌≤◌, ◌<◌, ◌-◌, ◌^◌, ℕ, IsTrue};
+ghost use Rattle.std.specs.Prelude.{◌≡◌, ◌≢◌, ◌≤◌, ◌<◌, ◌-◌, ◌^◌, ℕ, IsTrue, Some, None};
 ghost use Rattle.ov_types.specs.Prefix.{contains};
 ghost use Rattle.ov_types.specs.Targets.{is_target};
 ghost use Rattle.ov_types.specs.declared.numbers.InstanceId.{InstanceId};
@@ -7,7 +7,8 @@ ghost use Rattle.ov_types.specs.declared.numbers.PortNo.{PortNo};
 ghost use Rattle.ov_types.specs.declared.prefix.Addr.{Addr};
 ghost use Rattle.route_targets.specs.Numbers.{hop_instance_of, target_of, distinguisher_of, port_label_of};
 ghost use Rattle.route_targets.specs.Numbers.{circuit_label_of, circuit_address_of, other_side_of};
-ghost use Rattle.route_targets.specs.Numbers.{left_circuit_of, right_circuit_of, circuit_instance_of};
+ghost use Rattle.route_targets.specs.Numbers.{left_circuit_of, right_circuit_of, circuit_instance_of, hop_of};
+ghost use Rattle.route_targets.specs.declared.numbers.Hop.{Hop};
 
 /// The instances of different hops, of one use or of two, differ. None is a network's, and each is a number of an
 /// instance.
@@ -15,6 +16,13 @@ pub fn hop_instances_are_distinct()
     ensures distinct { (u v j k : ℕ) → j ≤ 15 → k ≤ 15 → hop_instance_of u j ≡ hop_instance_of v k → (u ≡ v) × (j ≡ k) }
     ensures no_networks { (u j n : ℕ) → n ≤ 16383 → (hop_instance_of u j).0 ≢ n }
     ensures fit { (u j : ℕ) → u ≤ 3071 → j ≤ 15 → (hop_instance_of u j).0 ≤ 65535 }
+{}
+
+/// The instance of a hop is of that hop, an instance that is of a hop is that hop's, and a network's is of none.
+pub fn hops_are_told_by_instances()
+    ensures told { (u j : ℕ) → j ≤ 15 → hop_of (hop_instance_of u j) ≡ Some (record { use_no = u; place = j }) }
+    ensures back { (i : InstanceId) (hop : Hop) → hop_of i ≡ Some hop → hop_instance_of hop.use_no hop.place ≡ i }
+    ensures networks { (i : InstanceId) → i.0 ≤ 16383 → hop_of i ≡ None }
 {}
 
 /// Labels of ports and of circuits never meet, and no two ports or circuits have one. Each is of 20 bits, and none is

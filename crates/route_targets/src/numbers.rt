@@ -1,9 +1,17 @@
 //! Each number from the numbers that determine it.
 ghost use Rattle.std.specs.Prelude.{◌≡◌, ◌≤◌};
-ghost use Rattle.route_targets.specs.Numbers.{hop_instance_of, target_of, distinguisher_of, port_label_of};
+ghost use Rattle.route_targets.specs.Numbers.{hop_instance_of, hop_of, target_of, distinguisher_of, port_label_of};
 ghost use Rattle.route_targets.specs.Numbers.{circuit_label_of, circuit_address_of, other_side_of};
+ghost use Rattle.route_targets.specs.Numbers.{left_circuit_of, right_circuit_of, circuit_instance_of};
 
 use ov_types::{Addr, InstanceId, Label, PortNo, Rd, Target};
+
+/// A hop of a chain's use: the number of the use, and the hop's place, which is 0 before the first service.
+#[derive(Clone, Copy, PartialEq, Eq)]
+pub struct Hop {
+    pub use_no: u16,
+    pub place: u8,
+}
 
 /// The instance of a hop of a chain's use. Hop 0 is before the first service, hop j behind service j.
 pub fn hop_instance(use_no: u16, hop: u8) -> InstanceId
@@ -12,6 +20,20 @@ pub fn hop_instance(use_no: u16, hop: u8) -> InstanceId
     ensures { result ≡ hop_instance_of use_no hop }
 {
     InstanceId(16384 + 16 * use_no + u16::from(hop))
+}
+
+/// The hop that an instance is of. The instance of a network is of none.
+pub fn hop_of(i: InstanceId) -> Option<Hop>
+    ensures { result ≡ hop_of i }
+{
+    if i.0 <= 16383 {
+        return None;
+    }
+    let from_first = i.0 - 16384;
+    Some(Hop {
+        use_no: from_first / 16,
+        place: (from_first % 16) as u8,
+    })
 }
 
 /// The route target of an instance: of type 0x00, subtype 0x02, with the AS number and the instance's number
@@ -38,6 +60,33 @@ pub fn port_label(p: PortNo) -> Label
     Label(16 + p.0)
 }
 
+/// The left circuit of a service of a use, by the service's place, which counts from 1.
+pub fn left_circuit(use_no: u16, place: u8) -> u32
+    requires last_use { use_no ≤ 3071 }
+    requires first_place { 1 ≤ place }
+    requires last_place { place ≤ 15 }
+    ensures { result ≡ left_circuit_of use_no place }
+{
+    2 * u32::from(hop_instance(use_no, place - 1).0) + 1
+}
+
+/// The right circuit of a service of a use, by the service's place, which counts from 1.
+pub fn right_circuit(use_no: u16, place: u8) -> u32
+    requires last_use { use_no ≤ 3071 }
+    requires last_place { place ≤ 15 }
+    ensures { result ≡ right_circuit_of use_no place }
+{
+    2 * u32::from(hop_instance(use_no, place).0)
+}
+
+/// The instance that a circuit is in.
+pub fn circuit_instance(n: u32) -> InstanceId
+    requires { n ≤ 131071 }
+    ensures { result ≡ circuit_instance_of n }
+{
+    InstanceId((n / 2) as u16)
+}
+
 /// The label of a circuit, past those of ports.
 pub fn circuit_label(n: u32) -> Label
     requires { n ≤ 131070 }
@@ -61,61 +110,4 @@ pub fn other_side(n: u32) -> u32
     ensures { result ≡ other_side_of n }
 {
     if n % 2 == 0 { n - 1 } else { n + 1 }
-}
-
-#[cfg(test)]
-mod tests {
-    use super::*;
-    use std::test::Fail;
-
-    #[test]
-    fn numbers_of_the_first_use(rt: HostRuntime) -> Result<(), Fail> {
-        assert_eq!(rt; hop_instance(0, 0), InstanceId(16384));
-        assert_eq!(rt; hop_instance(0, 2), InstanceId(16386));
-        for (circuit, label, address, side) in [
-            (32_769, 557_057, "250.0.128.1", 32_770),
-            (32_770, 557_058, "250.0.128.2", 32_769),
-            (32_771, 557_059, "250.0.128.3", 32_772),
-            (32_772, 557_060, "250.0.128.4", 32_771),
-        ] {
-            assert_eq!(rt; circuit_label(circuit), Label(label));
-            assert_eq!(rt;
-                format!(in rt.alloc(); "{}", circuit_address(circuit))?.as_str(),
-                address
-            );
-            assert_eq!(rt; other_side(circuit), side);
-        }
-        Ok(())
-    }
-
-    #[test]
-    fn numbers_at_the_ends_of_the_ranges(rt: HostRuntime) -> Result<(), Fail> {
-        let alloc = rt.alloc();
-        assert_eq!(rt; port_label(PortNo(0)), Label(16));
-        assert_eq!(rt; port_label(PortNo(524_271)), Label(524_287));
-        let last = hop_instance(3071, 15);
-        assert_eq!(rt; last, InstanceId(65535));
-        assert_eq!(rt;
-            format!(in alloc; "{}", target(64512, last))?.as_str(),
-            "64512:8065535"
-        );
-        assert_eq!(rt; target(65535, InstanceId(1)), Target(0x0002_ffff_007a_1201));
-        let distinguisher = rd(Addr(0xdfff_ffff), last);
-        assert_eq!(rt;
-            format!(in alloc; "{distinguisher}")?.as_str(),
-            "223.255.255.255:65535"
-        );
-        for (circuit, label, address, side) in [
-            (131_069, 655_357, "250.1.255.253", 131_070),
-            (131_070, 655_358, "250.1.255.254", 131_069),
-        ] {
-            assert_eq!(rt; circuit_label(circuit), Label(label));
-            assert_eq!(rt;
-                format!(in alloc; "{}", circuit_address(circuit))?.as_str(),
-                address
-            );
-            assert_eq!(rt; other_side(circuit), side);
-        }
-        Ok(())
-    }
 }

@@ -38,6 +38,3 @@ mod whole;
 pub use making::scenario;
 pub use tenancy::tenants;
 pub use whole::Scenario;
-
-#[cfg(test)]
-mod tests;

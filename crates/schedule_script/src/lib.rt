@@ -2,8 +2,6 @@
 #![tactic(auto)]
 
 mod answer;
-#[cfg(test)]
-mod tests;
 
 pub use answer::Answer;
 pub use config_model::{Event, RunInput, read_events, read_run};

@@ -20,6 +20,7 @@ use ov_types::{
     AclAction, AclRule, Addr, AgentRows, Attached, Entry, InstanceId, Items, Label, Low, LowKey,
     LowValue, NoMemory, Prefix, TableRow,
 };
+use route_targets::circuit_instance;
 use std::alloc::Global;
 use std::collections::{BTreeMap, BTreeSet};
 
@@ -199,7 +200,7 @@ fn put_needed_for(value: &LowValue, needed: &mut BTreeSet<InstanceId>) -> Result
             Ok(())
         }
         LowValue::AttachCircuit { circuit, .. } => {
-            needed.insert(InstanceId((*circuit / 2) as u16))?;
+            needed.insert(circuit_instance(*circuit))?;
             Ok(())
         }
         LowValue::Acl { rules, .. } => put_entered(rules.as_slice(), needed),

@@ -1,33 +1,13 @@
 //! The circuits of a use of a chain.
 ghost use Rattle.std.specs.Prelude.{◌≡◌, ◌≤◌, ◌+◌, ◌++◌, ℕ, length, map, IfOk, OnOk};
-ghost use Rattle.route_targets.specs.Numbers.{left_circuit_of, right_circuit_of};
 ghost use Rattle.transform_model.specs.Uses.{left_circuits_from, right_circuits_from};
 ghost use Rattle.schema_transform.specs.Held.{circuit_of};
 
 use crate::attachment::Attachment;
 use config_model::Service;
 use ov_types::{Items, NoMemory};
-use route_targets::hop_instance;
+use route_targets::{left_circuit, right_circuit};
 use std::alloc::Global;
-
-/// The left circuit of a service of a use, by the service's place, which counts from 1.
-fn left_circuit(number: u16, place: u8) -> u32
-    requires last_use { number ≤ 3071 }
-    requires first_place { 1 ≤ place }
-    requires last_place { place ≤ 15 }
-    ensures { result ≡ left_circuit_of number place }
-{
-    2 * u32::from(hop_instance(number, place - 1).0) + 1
-}
-
-/// The right circuit of a service of a use, by the service's place, which counts from 1.
-fn right_circuit(number: u16, place: u8) -> u32
-    requires last_use { number ≤ 3071 }
-    requires last_place { place ≤ 15 }
-    ensures { result ≡ right_circuit_of number place }
-{
-    2 * u32::from(hop_instance(number, place).0)
-}
 
 /// The left circuits of the services of a use.
 pub(crate) fn left_circuits(

@@ -13,6 +13,3 @@ mod uses;
 
 pub use transform::{compiled, low};
 pub use transform_model::Compiled;
-
-#[cfg(test)]
-mod tests;

@@ -1,0 +1,23 @@
+//! Tests of documents, of what is checked in them and of what is made of them, by the public calls.
+#![tactic(auto)]
+
+#[cfg(test)]
+mod acls;
+#[cfg(test)]
+mod chains;
+#[cfg(test)]
+mod documents;
+#[cfg(test)]
+mod edits;
+#[cfg(test)]
+mod event_documents;
+#[cfg(test)]
+mod packets;
+#[cfg(test)]
+mod rules;
+#[cfg(test)]
+mod scenarios;
+#[cfg(test)]
+mod second_scenario;
+#[cfg(test)]
+mod transforming;

@@ -1,0 +1,31 @@
+//! Tables of cells.
+ghost use Rattle.std.specs.Prelude.{◌≡◌, ◌+◌, ◌*◌, ◌<◌};
+
+use ov_table::case_table;
+
+// A caller knows each number that it wrote.
+fn middle(row: usize) -> u16
+    requires { row < 2 }
+    ensures { result ≡ 2 + 3 * row }
+{
+    let table = case_table![[1, 2, 3], [4, 5, 6]];
+    table.cell(row, 1)
+}
+
+#[test]
+fn cells_are_the_written_ones(rt: HostRuntime) {
+    let table = case_table![[17, 0, 3], [16, 65535, 5]];
+    for (row, column, cell) in [
+        (0, 0, 17),
+        (0, 1, 0),
+        (0, 2, 3),
+        (1, 0, 16),
+        (1, 1, 65535),
+        (1, 2, 5),
+    ] {
+        assert!(rt; row < 2 && column < 3);
+        assert_eq!(rt; table.cell(row, column), cell);
+    }
+    assert_eq!(rt; middle(0), 2);
+    assert_eq!(rt; middle(1), 5);
+}

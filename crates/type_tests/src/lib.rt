@@ -1,0 +1,13 @@
+//! Tests of the plain types and of what stands on them alone, by their public calls.
+#![tactic(auto)]
+
+#[cfg(test)]
+mod cells;
+#[cfg(test)]
+mod links;
+#[cfg(test)]
+mod numbers;
+#[cfg(test)]
+mod sync;
+#[cfg(test)]
+mod types;

@@ -1,0 +1,85 @@
+//! The numbers that follow from the configuration's own.
+use ov_types::{Addr, InstanceId, Label, PortNo, Target};
+use route_targets::{
+    circuit_address, circuit_instance, circuit_label, hop_instance, hop_of, left_circuit,
+    other_side, port_label, rd, right_circuit, target,
+};
+use std::test::Fail;
+
+#[test]
+fn numbers_of_the_first_use(rt: HostRuntime) -> Result<(), Fail> {
+    assert_eq!(rt; hop_instance(0, 0), InstanceId(16384));
+    assert_eq!(rt; hop_instance(0, 2), InstanceId(16386));
+    for (circuit, label, address, side) in [
+        (32_769, 557_057, "250.0.128.1", 32_770),
+        (32_770, 557_058, "250.0.128.2", 32_769),
+        (32_771, 557_059, "250.0.128.3", 32_772),
+        (32_772, 557_060, "250.0.128.4", 32_771),
+    ] {
+        assert_eq!(rt; circuit_label(circuit), Label(label));
+        assert_eq!(rt;
+            format!(in rt.alloc(); "{}", circuit_address(circuit))?.as_str(),
+            address
+        );
+        assert_eq!(rt; other_side(circuit), side);
+    }
+    Ok(())
+}
+
+#[test]
+fn numbers_at_the_ends_of_the_ranges(rt: HostRuntime) -> Result<(), Fail> {
+    let alloc = rt.alloc();
+    assert_eq!(rt; port_label(PortNo(0)), Label(16));
+    assert_eq!(rt; port_label(PortNo(524_271)), Label(524_287));
+    let last = hop_instance(3071, 15);
+    assert_eq!(rt; last, InstanceId(65535));
+    assert_eq!(rt;
+        format!(in alloc; "{}", target(64512, last))?.as_str(),
+        "64512:8065535"
+    );
+    assert_eq!(rt; target(65535, InstanceId(1)), Target(0x0002_ffff_007a_1201));
+    let distinguisher = rd(Addr(0xdfff_ffff), last);
+    assert_eq!(rt;
+        format!(in alloc; "{distinguisher}")?.as_str(),
+        "223.255.255.255:65535"
+    );
+    for (circuit, label, address, side) in [
+        (131_069, 655_357, "250.1.255.253", 131_070),
+        (131_070, 655_358, "250.1.255.254", 131_069),
+    ] {
+        assert_eq!(rt; circuit_label(circuit), Label(label));
+        assert_eq!(rt;
+            format!(in alloc; "{}", circuit_address(circuit))?.as_str(),
+            address
+        );
+        assert_eq!(rt; other_side(circuit), side);
+    }
+    Ok(())
+}
+
+#[test]
+fn hops_and_circuits_go_back_and_forth(rt: HostRuntime) {
+    for (instance, hop) in [
+        (1, None),
+        (16_383, None),
+        (16_384, Some((0, 0))),
+        (16_385, Some((0, 1))),
+        (16_399, Some((0, 15))),
+        (16_400, Some((1, 0))),
+        (65_535, Some((3071, 15))),
+    ] {
+        let found = hop_of(InstanceId(instance)).map(|hop| (hop.use_no, hop.place));
+        assert_eq!(rt; found, hop, "{instance}");
+    }
+    for (use_no, place, left, right) in [
+        (0, 1, 32_769, 32_770),
+        (0, 2, 32_771, 32_772),
+        (1, 1, 32_801, 32_802),
+        (3071, 15, 131_069, 131_070),
+    ] {
+        assert_eq!(rt; left_circuit(use_no, place), left);
+        assert_eq!(rt; right_circuit(use_no, place), right);
+        assert_eq!(rt; other_side(left), right);
+        assert_eq!(rt; circuit_instance(right), hop_instance(use_no, place));
+    }
+}
