@@ -3,7 +3,5 @@
 
 pub mod laws;
 mod routes;
-#[cfg(test)]
-mod tests;
 
 pub use routes::{reoriginated, told_route};

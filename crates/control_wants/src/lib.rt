@@ -4,8 +4,6 @@
 mod entries;
 mod first;
 pub mod laws;
-#[cfg(test)]
-mod tests;
 mod wants;
 
 pub use wants::{rows, wanted_by_agent, wanted_by_peers};

@@ -3,8 +3,6 @@
 
 mod acls;
 pub mod laws;
-#[cfg(test)]
-mod tests;
 mod verdicts;
 
 pub use acls::Acls;

@@ -8,6 +8,3 @@ mod telling;
 
 pub use hearing::{Heard, greet, hear};
 pub use telling::{down_change, low_change, spell_down, spell_low, spell_up, up_change};
-
-#[cfg(test)]
-mod tests;

@@ -7,6 +7,3 @@ mod telling;
 
 pub use hearing::{Heard, greet, hear};
 pub use telling::spell;
-
-#[cfg(test)]
-mod tests;

@@ -4,8 +4,6 @@
 mod hops;
 pub mod laws;
 mod step;
-#[cfg(test)]
-mod tests;
 mod tracing;
 mod vrouter;
 

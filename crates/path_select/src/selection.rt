@@ -45,38 +45,3 @@ pub fn select(paths: &[Path]) -> Option<usize>
     }
     Some(place)
 }
-
-#[cfg(test)]
-mod tests {
-    use super::*;
-
-    fn path(next_hop: u32, label: u32, rd: u64, session: u16) -> Path {
-        Path {
-            session,
-            rd: Rd(rd),
-            next_hop: Addr(next_hop),
-            label: Label(label),
-        }
-    }
-
-    #[test]
-    fn the_first_of_the_least_is_selected(rt: HostRuntime) {
-        let paths = [
-            path(2, 1, 1, 1),
-            path(1, 2, 1, 1),
-            path(1, 1, 2, 1),
-            path(1, 1, 1, 9),
-            path(1, 1, 1, 9),
-        ];
-        for count in 0..paths.len() + 1 {
-            let want = if count < 5 {
-                count.checked_sub(1)
-            } else {
-                Some(3)
-            };
-            assert_eq!(rt; select(&paths[..count]), want, "{count}");
-        }
-        assert!(rt; better(&paths[1], &paths[0]));
-        assert!(rt; !better(&paths[3], &paths[4]));
-    }
-}

@@ -13,3 +13,4 @@ pub mod Leads
 pub mod Uses
 pub mod Farther
 pub mod Listed
+pub mod NoneLed

@@ -10,8 +10,6 @@ mod routes;
 mod sessions;
 mod table;
 mod tables;
-#[cfg(test)]
-mod tests;
 
 pub use routes::Route;
 pub use tables::VpnTables;

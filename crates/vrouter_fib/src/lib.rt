@@ -4,8 +4,6 @@
 mod fib;
 mod labels;
 pub mod laws;
-#[cfg(test)]
-mod tests;
 
 pub use fib::Fib;
 pub use labels::Labels;

@@ -1,0 +1,376 @@
+ghost use Rattle.std.specs.Prelude.{◌≤◌};
+
+use crate::links::{add_queues, were_sent};
+use agent_node::{AgentNode, AgentPlan};
+use item_wire::ItemCause;
+use ov_link::{FailingLink, Input, Link, Links, NodeFault, QueueLink, Stepped};
+use ov_types::{
+    Addr, AgentRows, Attached, Entry, InstanceId, Items, Label, Name, NodeId, Outcome, Packet,
+    PortNo, Prefix, ServiceNo, Tuple, Verdict,
+};
+use packet_trace::{Hop, Trace, Vrouter, trace};
+use std::alloc::Global;
+use std::process::Abort;
+
+const HELLO: &[u8] = b"\0\0\0\x1a{\"name\":\"a1\",\"op\":\"hello\"}";
+
+const PUBLISH: &[u8] =
+    b"\0\0\0\x3f{\"instance\":1,\"label\":23,\"op\":\"publish\",\"prefix\":\"10.1.0.5/32\"}";
+
+const PUBLISH_OTHER: &[u8] =
+    b"\0\0\0\x3f{\"instance\":1,\"label\":23,\"op\":\"publish\",\"prefix\":\"10.1.0.6/32\"}";
+
+const UNPUBLISH: &[u8] =
+    b"\0\0\0\x36{\"instance\":1,\"op\":\"unpublish\",\"prefix\":\"10.1.0.5/32\"}";
+
+const SUBSCRIBE: &[u8] = b"\0\0\0\x1f{\"instance\":1,\"op\":\"subscribe\"}";
+
+/// The first control node says who it is, and tells port 7 at 10.1.0.5.
+const FIRST: &[u8] = b"\0\0\0\x1a{\"name\":\"c1\",\"op\":\"hello\"}\
+    \0\0\0\x4c{\"address\":\"10.1.0.5\",\"instance\":1,\"node\":\"192.0.2.11\",\"op\":\"port\",\"port\":7}";
+
+/// The second says who it is, tells port 7 at 10.1.0.6, and leads 10.1.0.9 to 192.0.2.12.
+const SECOND: &[u8] = b"\0\0\0\x1a{\"name\":\"c2\",\"op\":\"hello\"}\
+    \0\0\0\x4c{\"address\":\"10.1.0.6\",\"instance\":1,\"node\":\"192.0.2.11\",\"op\":\"port\",\"port\":7}\
+    \0\0\0\x55{\"instance\":1,\"label\":24,\"next_hop\":\"192.0.2.12\",\"op\":\"route\",\
+    \"prefix\":\"10.1.0.9/32\"}";
+
+const SECOND_HELLO: &[u8] = b"\0\0\0\x1a{\"name\":\"c2\",\"op\":\"hello\"}";
+
+fn id(rt: &impl Abort, name: &str, address: u32) -> NodeId {
+    NodeId {
+        name: Name::new(name).expect(rt, "a name"),
+        address: Addr(address),
+    }
+}
+
+/// The agent a1, with these control nodes.
+fn agent(rt: &impl Abort, alloc: Global, address: Addr, controllers: &[NodeId]) -> AgentNode {
+    let controllers = Vec::from_slice(alloc, controllers).expect(rt, "memory");
+    let plan = AgentPlan {
+        me: id(rt, "a1", address.0),
+        controllers: Items::from_vec(controllers),
+    };
+    assert!(rt; plan.controllers.len() <= 2);
+    AgentNode::new(alloc, plan).expect(rt, "memory")
+}
+
+/// The agent a1 at 192.0.2.11, with control nodes c1 and c2.
+fn with_two(rt: &impl Abort, alloc: Global) -> AgentNode {
+    let controllers = [id(rt, "c1", 0xc000_0201), id(rt, "c2", 0xc000_0202)];
+    agent(rt, alloc, N1, &controllers)
+}
+
+/// What comes of opening a session that is closed.
+fn opened<L: Link>(
+    rt: &impl Abort,
+    node: &mut AgentNode,
+    links: &mut Links<L>,
+    session: u16,
+) -> Result<Stepped<ItemCause>, NodeFault> {
+    assert!(rt; links.len() == node.sessions());
+    assert!(rt; session < node.sessions());
+    assert!(rt; !node.is_live(session));
+    node.step(Input::Opened { session }, links)
+}
+
+/// The session is opened, and nothing else comes of it.
+fn open<L: Link>(rt: &impl Abort, node: &mut AgentNode, links: &mut Links<L>, session: u16) {
+    let answer = opened(rt, node, links, session);
+    assert!(rt; matches!(answer, Ok(Stepped::Done)), "{session}");
+}
+
+/// What comes of octets.
+fn told<L: Link>(
+    rt: &impl Abort,
+    node: &mut AgentNode,
+    links: &mut Links<L>,
+    session: u16,
+    bytes: &[u8],
+) -> Result<Stepped<ItemCause>, NodeFault> {
+    assert!(rt; links.len() == node.sessions());
+    assert!(rt; session < node.sessions());
+    assert!(rt; node.is_live(session));
+    node.step(Input::Bytes { session, bytes }, links)
+}
+
+/// Octets come, and nothing else comes of them.
+fn bring<L: Link>(
+    rt: &impl Abort,
+    node: &mut AgentNode,
+    links: &mut Links<L>,
+    session: u16,
+    bytes: &[u8],
+) {
+    let answer = told(rt, node, links, session, bytes);
+    assert!(rt; matches!(answer, Ok(Stepped::Done)), "{session}");
+}
+
+/// The session is lost, and nothing else comes of it.
+fn close<L: Link>(rt: &impl Abort, node: &mut AgentNode, links: &mut Links<L>, session: u16) {
+    assert!(rt; links.len() == node.sessions());
+    assert!(rt; session < node.sessions());
+    assert!(rt; node.is_live(session));
+    let answer = node.step(Input::Closed { session }, links);
+    assert!(rt; matches!(answer, Ok(Stepped::Done)), "{session}");
+}
+
+/// How far a session is.
+fn stands(rt: &impl Abort, node: &AgentNode, session: u16, is_live: bool, is_up: bool) {
+    assert!(rt; session < node.sessions());
+    assert!(rt; node.is_live(session) == is_live, "{session}");
+    assert!(rt; node.is_up(session) == is_up, "{session}");
+}
+
+const PORT_7: Attached = Attached::Port {
+    port: PortNo(7),
+    instance: InstanceId(1),
+};
+
+/// The first control node comes, then the second, and then the first is lost.
+fn change_control_nodes(rt: &impl Abort, node: &mut AgentNode, links: &mut Links<QueueLink>) {
+    open(rt, node, links, 0);
+    were_sent(rt, links, 0, &[HELLO]);
+    stands(rt, node, 0, true, false);
+    bring(rt, node, links, 0, FIRST);
+    stands(rt, node, 0, true, true);
+    were_sent(rt, links, 0, &[PUBLISH, SUBSCRIBE]);
+
+    open(rt, node, links, 1);
+    were_sent(rt, links, 1, &[HELLO, PUBLISH, SUBSCRIBE]);
+    bring(rt, node, links, 1, SECOND);
+    were_sent(rt, links, 0, &[]);
+    were_sent(rt, links, 1, &[]);
+
+    close(rt, node, links, 0);
+    were_sent(rt, links, 0, &[]);
+    were_sent(rt, links, 1, &[UNPUBLISH, PUBLISH_OTHER]);
+    assert!(rt; node.find(Label(23)) == Some(PORT_7));
+}
+
+#[test]
+fn an_agent_comes_up_and_goes_on_with_the_second_control_node(rt: HostRuntime) {
+    let mut links = Links::new(rt.alloc());
+    add_queues(&rt, rt.alloc(), &mut links, 2);
+    let mut node = with_two(&rt, rt.alloc());
+    change_control_nodes(&rt, &mut node, &mut links);
+}
+
+const TO_9: Entry = Entry {
+    next_hop: N2,
+    label: Label(24),
+};
+
+const AT_9: Addr = Addr(0x0a01_0009);
+
+/// The label of port 7 and the route of 10.1.0.9 are all that is shown.
+fn shows_both(rt: &impl Abort, rows: &AgentRows) {
+    assert!(rt; rows.labels.as_slice() == [(Label(23), PORT_7)].as_slice());
+    assert!(rt; rows.acls.is_empty());
+    let route = ((InstanceId(1), Prefix::host(AT_9)), TO_9);
+    assert!(rt; rows.routes.as_slice() == [route].as_slice());
+}
+
+fn forwards(rt: &impl Abort, node: &mut AgentNode) {
+    assert!(rt; node.address() == N1);
+    assert!(rt; node.find(Label(23)) == Some(PORT_7));
+    assert!(rt; node.find(Label(24)).is_none());
+    assert!(rt; node.route(InstanceId(1), AT_9) == Some(TO_9));
+    assert!(rt; node.route(InstanceId(2), AT_9).is_none());
+    let verdict = node.verdict(InstanceId(1), &packet(7, AT_9.0));
+    assert!(rt; verdict == Verdict::NoDestination);
+}
+
+/// The second control node tells its rows, and then the agent is started again.
+fn show_and_restart(
+    rt: &impl Abort,
+    alloc: Global,
+    node: &mut AgentNode,
+    links: &mut Links<QueueLink>,
+) {
+    open(rt, node, links, 1);
+    bring(rt, node, links, 1, SECOND);
+    shows_both(rt, &node.rows(alloc).expect(rt, "memory"));
+    forwards(rt, node);
+    node.restart();
+    assert!(rt; !node.failed());
+    stands(rt, node, 1, false, false);
+    assert!(rt; node.rows(alloc).expect(rt, "memory").labels.is_empty());
+    assert!(rt; node.route(InstanceId(1), AT_9).is_none());
+}
+
+#[test]
+fn rows_are_shown_and_forwarded_by(rt: HostRuntime) {
+    let mut links = Links::new(rt.alloc());
+    add_queues(&rt, rt.alloc(), &mut links, 2);
+    let mut node = with_two(&rt, rt.alloc());
+    show_and_restart(&rt, rt.alloc(), &mut node, &mut links);
+}
+
+/// The second control node greets on the session of the first.
+fn greet_by_another_name(rt: &impl Abort, node: &mut AgentNode, links: &mut Links<QueueLink>) {
+    open(rt, node, links, 0);
+    match told(rt, node, links, 0, SECOND_HELLO) {
+        Ok(Stepped::Closed { session, cause }) => {
+            assert!(rt; session == 0);
+            assert!(rt; cause == ItemCause::WrongName);
+        }
+        _ => assert!(rt; false, "another node's hello is heard"),
+    }
+    stands(rt, node, 0, false, false);
+    open(rt, node, links, 0);
+    were_sent(rt, links, 0, &[HELLO, HELLO]);
+}
+
+#[test]
+fn a_hello_of_another_node_closes_the_session(rt: HostRuntime) {
+    let mut links = Links::new(rt.alloc());
+    add_queues(&rt, rt.alloc(), &mut links, 2);
+    let mut node = with_two(&rt, rt.alloc());
+    greet_by_another_name(&rt, &mut node, &mut links);
+}
+
+/// The link of the second session fails as the agent publishes.
+fn publish_over_a_break(
+    rt: &impl Abort,
+    alloc: Global,
+    node: &mut AgentNode,
+    links: &mut Links<FailingLink>,
+) {
+    open(rt, node, links, 0);
+    bring(rt, node, links, 0, FIRST);
+    assert!(rt; 1 < links.len());
+    links.get_mut(1).add_break(2).expect(rt, "memory");
+    let answer = opened(rt, node, links, 1);
+    assert!(rt; matches!(answer, Err(NodeFault::LinkFailed { session: 1 })));
+    stands(rt, node, 0, true, true);
+    stands(rt, node, 1, false, false);
+    let rows = node.rows(alloc).expect(rt, "memory");
+    assert!(rt; rows.labels.as_slice() == [(Label(23), PORT_7)].as_slice());
+    assert!(rt; rows.acls.is_empty());
+    assert!(rt; rows.routes.is_empty());
+    assert!(rt; !node.failed());
+    open(rt, node, links, 1);
+}
+
+#[test]
+fn a_publication_that_fails_closes_its_session_alone(rt: HostRuntime) {
+    let mut links = Links::new(rt.alloc());
+    links
+        .push(FailingLink::new(rt.alloc()))
+        .expect(&rt, "memory");
+    links
+        .push(FailingLink::new(rt.alloc()))
+        .expect(&rt, "memory");
+    let mut node = with_two(&rt, rt.alloc());
+    publish_over_a_break(&rt, rt.alloc(), &mut node, &mut links);
+}
+
+const N1: Addr = Addr(0xc000_020b);
+
+const N2: Addr = Addr(0xc000_020c);
+
+/// The slice of 192.0.2.11, and the rows that its packets need, where port 1 of network 1 and port 2 of network 2 are
+/// joined by a chain of a service here and one at 192.0.2.12.
+const TOLD_AT_N1: [&[u8]; 10] = [
+    b"{\"name\":\"c1\",\"op\":\"hello\"}",
+    b"{\"address\":\"10.1.0.1\",\"instance\":1,\"node\":\"192.0.2.11\",\"op\":\"port\",\"port\":1}",
+    b"{\"circuit\":32769,\"node\":\"192.0.2.11\",\"op\":\"circuit\",\"service\":1}",
+    b"{\"circuit\":32770,\"node\":\"192.0.2.11\",\"op\":\"circuit\",\"service\":1}",
+    b"{\"from\":1,\"op\":\"acl\",\"rules\":[],\"subnets\":[\"10.1.0.0/24\"],\"to\":1}",
+    b"{\"from\":1,\"op\":\"acl\",\"rules\":[[256,0,65535,0,65535,16384,20,1]],\"subnets\":[\"10.2.0.0/24\"],\"to\":2}",
+    b"{\"instance\":16384,\"label\":17,\"next_hop\":\"192.0.2.11\",\"op\":\"route\",\"prefix\":\"10.1.0.1/32\"}",
+    b"{\"instance\":16384,\"label\":557057,\"next_hop\":\"192.0.2.11\",\"op\":\"route\",\"prefix\":\"10.2.0.0/24\"}",
+    b"{\"instance\":16385,\"label\":557059,\"next_hop\":\"192.0.2.12\",\"op\":\"route\",\"prefix\":\"10.2.0.0/24\"}",
+    b"{\"instance\":16385,\"label\":557058,\"next_hop\":\"192.0.2.11\",\"op\":\"route\",\"prefix\":\"10.1.0.0/24\"}",
+];
+
+/// And those of 192.0.2.12.
+const TOLD_AT_N2: [&[u8]; 10] = [
+    b"{\"name\":\"c1\",\"op\":\"hello\"}",
+    b"{\"address\":\"10.2.0.2\",\"instance\":2,\"node\":\"192.0.2.12\",\"op\":\"port\",\"port\":2}",
+    b"{\"circuit\":32771,\"node\":\"192.0.2.12\",\"op\":\"circuit\",\"service\":2}",
+    b"{\"circuit\":32772,\"node\":\"192.0.2.12\",\"op\":\"circuit\",\"service\":2}",
+    b"{\"from\":2,\"op\":\"acl\",\"rules\":[[256,0,65535,0,65535,16386,20,1]],\"subnets\":[\"10.1.0.0/24\"],\"to\":1}",
+    b"{\"from\":2,\"op\":\"acl\",\"rules\":[],\"subnets\":[\"10.2.0.0/24\"],\"to\":2}",
+    b"{\"instance\":16386,\"label\":18,\"next_hop\":\"192.0.2.12\",\"op\":\"route\",\"prefix\":\"10.2.0.2/32\"}",
+    b"{\"instance\":16386,\"label\":557060,\"next_hop\":\"192.0.2.12\",\"op\":\"route\",\"prefix\":\"10.1.0.0/24\"}",
+    b"{\"instance\":16385,\"label\":557059,\"next_hop\":\"192.0.2.12\",\"op\":\"route\",\"prefix\":\"10.2.0.0/24\"}",
+    b"{\"instance\":16385,\"label\":557058,\"next_hop\":\"192.0.2.11\",\"op\":\"route\",\"prefix\":\"10.1.0.0/24\"}",
+];
+
+/// Records, each behind its length, which has one octet.
+fn framed(rt: &impl Abort, alloc: Global, records: &[&[u8]]) -> Vec<u8> {
+    let mut octets = Vec::new(alloc);
+    for json in records {
+        let length = u8::try_from(json.len()).ok().expect(rt, "a short record");
+        octets
+            .extend_from_slice(&[0, 0, 0, length])
+            .expect(rt, "memory");
+        octets.extend_from_slice(json).expect(rt, "memory");
+    }
+    octets
+}
+
+/// The one control node tells these records.
+fn fill(rt: &impl Abort, alloc: Global, node: &mut AgentNode, records: &[&[u8]]) {
+    let mut links = Links::new(alloc);
+    add_queues(rt, alloc, &mut links, 1);
+    open(rt, node, &mut links, 0);
+    let octets = framed(rt, alloc, records);
+    bring(rt, node, &mut links, 0, octets.as_slice());
+}
+
+fn packet(source: u16, destination: u32) -> Packet
+    ensures { result.source.0 ≤ 524271 }
+{
+    Packet {
+        source: PortNo(u32::from(source)),
+        destination: Addr(destination),
+        tuple: Tuple {
+            proto: 6,
+            sport: 50_000,
+            dport: 80,
+        },
+    }
+}
+
+fn hop(node: Addr, instance: u16) -> Hop {
+    Hop {
+        node,
+        instance: InstanceId(instance),
+    }
+}
+
+/// The hops are these, and the packet arrives at a port past these services.
+fn arrived(rt: &impl Abort, trace: &Trace, to: u32, visited: &[ServiceNo], hops: &[Hop]) {
+    assert!(rt; trace.hops.as_slice() == hops);
+    match &trace.outcome {
+        Outcome::Delivered { port, services } => {
+            assert!(rt; port.0 == to);
+            assert!(rt; services.as_slice() == visited);
+        }
+        Outcome::Dropped { .. } => assert!(rt; false, "dropped"),
+    }
+}
+
+/// Traces a packet each way.
+fn pass_both_ways(rt: &impl Abort, agents: &mut [AgentNode]) {
+    let there = trace(agents, packet(1, 0x0a02_0002));
+    let hops = [hop(N1, 16384), hop(N1, 16385), hop(N2, 16386)];
+    arrived(rt, &there, 2, &[ServiceNo(1), ServiceNo(2)], &hops);
+    let back = trace(agents, packet(2, 0x0a01_0001));
+    let hops = [hop(N2, 16386), hop(N2, 16385), hop(N1, 16384)];
+    arrived(rt, &back, 1, &[ServiceNo(2), ServiceNo(1)], &hops);
+}
+
+#[test]
+fn both_packets_pass_the_chain(rt: HostRuntime) {
+    let alloc = rt.alloc();
+    let controllers = [id(&rt, "c1", 0xc000_0201)];
+    let mut near = agent(&rt, alloc, N1, &controllers);
+    let mut far = agent(&rt, alloc, N2, &controllers);
+    fill(&rt, alloc, &mut near, &TOLD_AT_N1);
+    fill(&rt, alloc, &mut far, &TOLD_AT_N2);
+    pass_both_ways(&rt, &mut [near, far]);
+}

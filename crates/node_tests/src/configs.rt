@@ -1,0 +1,304 @@
+ghost use Rattle.std.specs.Prelude.{IfSome, IsTrue};
+ghost use Rattle.config_model.specs.Edit.{has_edit_form};
+
+use crate::links::{add_queues, were_sent};
+use config_check::{EditFault, Refusal, Valid, check};
+use config_model::{Edit, read_compile, read_edit};
+use config_node::ConfigNode;
+use item_wire::ItemCause;
+use ov_link::{FailingLink, Input, Link, Links, NodeFault, QueueLink, Stepped};
+use ov_types::{Addr, Name};
+use serde_json::Value;
+use std::alloc::Global;
+use std::process::Abort;
+
+/// The control node c1, and the network red with port 7 at 10.1.0.5 on the compute node n1.
+const DOCUMENT: &str = r#"{"topology":{"as":64512,
+"controllers":[{"name":"c1","address":"192.0.2.1"}],
+"nodes":[{"name":"n1","address":"192.0.2.11","controllers":["c1"]}]},
+"configuration":{
+"networks":[{"name":"red","id":1,"subnets":["10.1.0.0/24"],"policies":[]}],
+"ports":[{"name":"vm1","id":7,"network":"red","address":"10.1.0.5","node":"n1"}],
+"services":[],"chains":[],"policies":[]}}"#;
+
+/// The port moves to 10.1.0.6.
+const MOVE: &str =
+    r#"{"put":{"port":{"name":"vm1","id":7,"network":"red","address":"10.1.0.6","node":"n1"}}}"#;
+
+/// The port leaves its network's subnet.
+const STRAY: &str =
+    r#"{"put":{"port":{"name":"vm1","id":7,"network":"red","address":"10.9.0.1","node":"n1"}}}"#;
+
+const DELETE: &str = r#"{"delete":{"port":"vm1"}}"#;
+
+const HELLO: &[u8] = b"\0\0\0\x1e{\"name\":\"config\",\"op\":\"hello\"}";
+
+const INSTANCE: &[u8] = b"\0\0\0\x2c{\"imports\":[1],\"instance\":1,\"op\":\"instance\"}";
+
+const PORT: &[u8] =
+    b"\0\0\0\x4c{\"address\":\"10.1.0.5\",\"instance\":1,\"node\":\"192.0.2.11\",\"op\":\"port\",\"port\":7}";
+
+const MOVED: &[u8] =
+    b"\0\0\0\x4c{\"address\":\"10.1.0.6\",\"instance\":1,\"node\":\"192.0.2.11\",\"op\":\"port\",\"port\":7}";
+
+const GONE: &[u8] = b"\0\0\0\x1d{\"label\":23,\"op\":\"no-attach\"}";
+
+const ACL: &[u8] =
+    b"\0\0\0\x41{\"from\":1,\"op\":\"acl\",\"rules\":[],\"subnets\":[\"10.1.0.0/24\"],\"to\":1}";
+
+const FROM_CONTROLLER: &[u8] = b"\0\0\0\x1a{\"name\":\"c1\",\"op\":\"hello\"}";
+
+const SUBSCRIBE: &[u8] = b"\0\0\0\x1f{\"instance\":1,\"op\":\"subscribe\"}";
+
+/// What is sent where a session is opened, from the start and once the port moved.
+const ALL: Messages = &[HELLO, INSTANCE, PORT, ACL];
+
+const ALL_MOVED: Messages = &[HELLO, INSTANCE, MOVED, ACL];
+
+type Messages = &'static [&'static [u8]];
+
+fn valid_of(alloc: Global, text: &str) -> Option<Valid> {
+    let value = Value::from_str(alloc, text).ok()?;
+    let input = read_compile(alloc, &value).ok()?;
+    check(alloc, input.topology, input.config).ok()
+}
+
+fn node(rt: &impl Abort, alloc: Global) -> ConfigNode {
+    let valid = valid_of(alloc, DOCUMENT).expect(rt, "a valid document");
+    ConfigNode::new(alloc, valid).expect(rt, "memory")
+}
+
+fn edit_of(alloc: Global, text: &str) -> Option<Edit>
+    ensures { IfSome result (λ edit. IsTrue (has_edit_form edit)) }
+{
+    let value = Value::from_str(alloc, text).ok()?;
+    read_edit(alloc, &value).ok()
+}
+
+/// What comes of opening the one session, which is closed.
+fn opened<L: Link>(
+    rt: &impl Abort,
+    node: &mut ConfigNode,
+    links: &mut Links<L>,
+) -> Result<Stepped<ItemCause>, NodeFault> {
+    assert!(rt; links.len() == node.sessions());
+    assert!(rt; node.sessions() > 0);
+    assert!(rt; !node.is_live(0));
+    node.step(Input::Opened { session: 0 }, links)
+}
+
+/// The session is opened, and nothing else comes of it.
+fn open<L: Link>(rt: &impl Abort, node: &mut ConfigNode, links: &mut Links<L>) {
+    let answer = opened(rt, node, links);
+    assert!(rt; matches!(answer, Ok(Stepped::Done)));
+}
+
+/// What comes of octets.
+fn told<L: Link>(
+    rt: &impl Abort,
+    node: &mut ConfigNode,
+    links: &mut Links<L>,
+    bytes: &[u8],
+) -> Result<Stepped<ItemCause>, NodeFault> {
+    assert!(rt; links.len() == node.sessions());
+    assert!(rt; node.sessions() > 0);
+    assert!(rt; node.is_live(0));
+    node.step(Input::Bytes { session: 0, bytes }, links)
+}
+
+/// The control node says who it is, and nothing else comes of it.
+fn be_greeted<L: Link>(rt: &impl Abort, node: &mut ConfigNode, links: &mut Links<L>) {
+    let answer = told(rt, node, links, FROM_CONTROLLER);
+    assert!(rt; matches!(answer, Ok(Stepped::Done)));
+}
+
+/// What comes of an edit.
+fn edited<L: Link>(
+    rt: &impl Abort,
+    alloc: Global,
+    node: &mut ConfigNode,
+    links: &mut Links<L>,
+    text: &str,
+) -> Result<Option<EditFault>, NodeFault> {
+    let edit = edit_of(alloc, text).expect(rt, "an edit");
+    assert!(rt; links.len() == node.sessions());
+    node.edit(&edit, links)
+}
+
+/// The edit is made, and these messages are sent.
+fn change(
+    rt: &impl Abort,
+    alloc: Global,
+    node: &mut ConfigNode,
+    links: &mut Links<QueueLink>,
+    text: &str,
+    sent: &[&[u8]],
+) {
+    let answer = edited(rt, alloc, node, links, text);
+    assert!(rt; matches!(answer, Ok(None)), "{text}");
+    were_sent(rt, links, 0, sent);
+}
+
+/// The edit has this fault, and nothing is sent.
+fn refuse(
+    rt: &impl Abort,
+    alloc: Global,
+    node: &mut ConfigNode,
+    links: &mut Links<QueueLink>,
+    text: &str,
+    fault: EditFault,
+) {
+    match edited(rt, alloc, node, links, text) {
+        Ok(Some(found)) => assert!(rt; found == fault, "{text}"),
+        _ => assert!(rt; false, "{text} is made"),
+    }
+    were_sent(rt, links, 0, &[]);
+}
+
+/// The session is open, or is up too.
+fn stands(rt: &impl Abort, node: &ConfigNode, is_live: bool, is_up: bool) {
+    assert!(rt; node.sessions() > 0);
+    assert!(rt; node.is_live(0) == is_live);
+    assert!(rt; node.is_up(0) == is_up);
+}
+
+/// The first port that is valid has this address.
+fn port_is_at(rt: &impl Abort, node: &ConfigNode, address: u32) {
+    let port = node.valid().config().ports.get(0).expect(rt, "a port");
+    assert!(rt; port.address == Addr(address));
+}
+
+fn be_told_changes(
+    rt: &impl Abort,
+    alloc: Global,
+    node: &mut ConfigNode,
+    links: &mut Links<QueueLink>,
+) {
+    open(rt, node, links);
+    were_sent(rt, links, 0, ALL);
+    stands(rt, node, true, false);
+    be_greeted(rt, node, links);
+    were_sent(rt, links, 0, &[]);
+    change(rt, alloc, node, links, MOVE, &[MOVED]);
+    change(rt, alloc, node, links, MOVE, &[]);
+    change(rt, alloc, node, links, DELETE, &[GONE]);
+    change(rt, alloc, node, links, MOVE, &[MOVED]);
+    stands(rt, node, true, true);
+    port_is_at(rt, node, 0x0a01_0006);
+}
+
+#[test]
+fn a_control_node_is_told_the_objects_and_what_an_edit_changes(rt: HostRuntime) {
+    let mut links = Links::new(rt.alloc());
+    add_queues(&rt, rt.alloc(), &mut links, 1);
+    let mut node = node(&rt, rt.alloc());
+    be_told_changes(&rt, rt.alloc(), &mut node, &mut links);
+}
+
+fn be_refused(rt: &impl Abort, alloc: Global, node: &mut ConfigNode, links: &mut Links<QueueLink>) {
+    let port = Name::new("vm1").expect(rt, "a name");
+    let outside = EditFault::Rule(Refusal::AddressOutside { port });
+    let missing = EditFault::Missing { name: port };
+    open(rt, node, links);
+    were_sent(rt, links, 0, ALL);
+    refuse(rt, alloc, node, links, STRAY, outside);
+    be_greeted(rt, node, links);
+    change(rt, alloc, node, links, DELETE, &[GONE]);
+    refuse(rt, alloc, node, links, DELETE, missing);
+}
+
+#[test]
+fn an_edit_with_a_fault_changes_nothing(rt: HostRuntime) {
+    let mut links = Links::new(rt.alloc());
+    add_queues(&rt, rt.alloc(), &mut links, 1);
+    let mut node = node(&rt, rt.alloc());
+    be_refused(&rt, rt.alloc(), &mut node, &mut links);
+}
+
+fn close_at_a_record(
+    rt: &impl Abort,
+    alloc: Global,
+    node: &mut ConfigNode,
+    links: &mut Links<QueueLink>,
+) {
+    open(rt, node, links);
+    were_sent(rt, links, 0, ALL);
+    be_greeted(rt, node, links);
+    match told(rt, node, links, SUBSCRIBE) {
+        Ok(Stepped::Closed { cause, .. }) => assert!(rt; cause == ItemCause::Order),
+        _ => assert!(rt; false, "a record is heard"),
+    }
+    stands(rt, node, false, false);
+    change(rt, alloc, node, links, MOVE, &[]);
+    open(rt, node, links);
+    were_sent(rt, links, 0, ALL_MOVED);
+}
+
+#[test]
+fn a_record_of_a_control_node_closes_the_session(rt: HostRuntime) {
+    let mut links = Links::new(rt.alloc());
+    add_queues(&rt, rt.alloc(), &mut links, 1);
+    let mut node = node(&rt, rt.alloc());
+    close_at_a_record(&rt, rt.alloc(), &mut node, &mut links);
+}
+
+fn keep_what_is_valid(
+    rt: &impl Abort,
+    alloc: Global,
+    node: &mut ConfigNode,
+    links: &mut Links<QueueLink>,
+) {
+    open(rt, node, links);
+    were_sent(rt, links, 0, ALL);
+    change(rt, alloc, node, links, MOVE, &[MOVED]);
+    node.restart();
+    assert!(rt; !node.failed());
+    stands(rt, node, false, false);
+    port_is_at(rt, node, 0x0a01_0006);
+}
+
+#[test]
+fn a_restart_closes_the_session_and_keeps_what_is_valid(rt: HostRuntime) {
+    let mut links = Links::new(rt.alloc());
+    add_queues(&rt, rt.alloc(), &mut links, 1);
+    let mut node = node(&rt, rt.alloc());
+    keep_what_is_valid(&rt, rt.alloc(), &mut node, &mut links);
+}
+
+/// Of the sends on the link the nth from now on fails.
+fn fail_at(rt: &impl Abort, links: &mut Links<FailingLink>, n: u32) {
+    assert!(rt; n > 0);
+    assert!(rt; links.len() > 0);
+    links.get_mut(0).add_break(n).expect(rt, "memory");
+}
+
+/// Opens the session and makes an edit while the link fails at times.
+fn go_over_breaks(
+    rt: &impl Abort,
+    alloc: Global,
+    node: &mut ConfigNode,
+    links: &mut Links<FailingLink>,
+) {
+    fail_at(rt, links, 3);
+    let answer = opened(rt, node, links);
+    assert!(rt; matches!(answer, Err(NodeFault::LinkFailed { session: 0 })));
+    stands(rt, node, false, false);
+    open(rt, node, links);
+    fail_at(rt, links, 1);
+    let answer = edited(rt, alloc, node, links, MOVE);
+    assert!(rt; matches!(answer, Err(NodeFault::LinkFailed { session: 0 })));
+    stands(rt, node, false, false);
+    open(rt, node, links);
+    assert!(rt; !node.failed());
+    port_is_at(rt, node, 0x0a01_0006);
+}
+
+#[test]
+fn a_link_that_fails_closes_its_session_and_the_edit_stays(rt: HostRuntime) {
+    let mut links = Links::new(rt.alloc());
+    links
+        .push(FailingLink::new(rt.alloc()))
+        .expect(&rt, "memory");
+    let mut node = node(&rt, rt.alloc());
+    go_over_breaks(&rt, rt.alloc(), &mut node, &mut links);
+}

@@ -1,0 +1,11 @@
+//! Tests of nodes over their links, by public calls: of the configuration node, of control nodes and of agents.
+#![tactic(auto)]
+
+#[cfg(test)]
+mod agents;
+#[cfg(test)]
+mod configs;
+#[cfg(test)]
+mod controls;
+#[cfg(test)]
+mod links;

@@ -1,0 +1,226 @@
+ghost use Rattle.std.specs.Prelude.{◌≡◌};
+ghost use Rattle.bgp_session.specs.declared.event.State.TheVariants.{Idle};
+
+use bgp_session::{Cause, Session, State};
+use bgp_wire::WireFault;
+use node_peers::laws::{
+    differences_can_be_written, route_changes, updates_are_heard, what_is_heard_is_one,
+};
+use node_peers::{Heard, greet, hear, spell};
+use ov_sync::Delta;
+use ov_types::{Addr, Items, Label, Name, NodeId, Prefix, Rd, Targets, VpnKey, VpnRoute};
+use std::alloc::Global;
+use std::process::Abort;
+
+fn nibble(digit: u8) -> u8 {
+    match digit {
+        b'0'..=b'9' => digit - b'0',
+        b'a'..=b'f' => digit - b'a' + 10,
+        _ => 0,
+    }
+}
+
+// Pairs of hexadecimal digits; M stands for a marker.
+fn octets(rt: &impl Abort, alloc: Global, text: &str) -> Vec<u8> {
+    let mut octets = Vec::new(alloc);
+    let mut high = None;
+    for c in text.bytes() {
+        if c == b'M' {
+            octets.extend_from_slice(&[255; 16]).expect(rt, "memory");
+        } else if c != b' ' && c != b'\n' {
+            let digit = nibble(c);
+            high = match high {
+                None => Some(digit),
+                Some(first) => {
+                    octets.push((first << 4) | digit).expect(rt, "memory");
+                    None
+                }
+            };
+        }
+    }
+    octets
+}
+
+const ME: Addr = Addr(0xc000_0201);
+
+// The OPENs of 192.0.2.1 and of its peer, 192.0.2.2, which has no parameters.
+const OWN_OPEN: &str = "M 0025 01 04 fc00 0000 c0000201 08 0206 0104 0001 00 80";
+
+const OPEN: &str = "M 001d 01 04 fc00 0000 c0000202 00";
+
+const KEEPALIVE: &str = "M 0013 04";
+
+// It puts 10.1.0.5/32 of the distinguisher 192.0.2.11:1 with label 23 and the target 64512:8000001.
+const UPDATE: &str = "M 0054 02 0000 003d 40010100 400200 40050400000064
+    800e21 000180 0c 0000000000000000 c000020b 00 78 000171 0001c000020b0001 0a010005
+    c01008 0002fc00007a1201";
+
+fn peer(rt: &impl Abort) -> NodeId {
+    NodeId {
+        name: Name::new("c2").expect(rt, "a name"),
+        address: Addr(0xc000_0202),
+    }
+}
+
+fn hear_text(rt: &impl Abort, alloc: Global, session: &mut Session, text: &str) -> Heard
+    requires { session.old.asn ≡ 64512 }
+    ensures { session.new.asn ≡ session.old.asn }
+{
+    let bytes = octets(rt, alloc, text);
+    hear(alloc, session, 64512, ME, bytes.as_slice()).expect(rt, "memory")
+}
+
+/// The session comes up.
+fn establish(rt: &impl Abort, alloc: Global, session: &mut Session)
+    requires system { session.old.asn ≡ 64512 }
+    requires idle { session.old.state ≡ Idle }
+    ensures { session.new.asn ≡ session.old.asn }
+{
+    let _hello = greet(alloc, session, 64512, ME).expect(rt, "memory");
+    let _open = hear_text(rt, alloc, session, OPEN);
+    let _keepalive = hear_text(rt, alloc, session, KEEPALIVE);
+}
+
+// The replies are this one message, or none.
+fn check_reply(rt: &impl Abort, alloc: Global, replies: &Items<Items<u8>>, wanted: Option<&str>) {
+    match (replies.as_slice(), wanted) {
+        ([], None) => {}
+        ([reply], Some(text)) => {
+            assert!(rt; reply.as_slice() == octets(rt, alloc, text).as_slice())
+        }
+        _ => assert!(rt; false, "another number of replies"),
+    }
+}
+
+fn be_greeted(rt: &impl Abort, alloc: Global, session: &mut Session)
+    requires system { session.old.asn ≡ 64512 }
+    requires idle { session.old.state ≡ Idle }
+{
+    let replies = greet(alloc, session, 64512, ME).expect(rt, "memory");
+    check_reply(rt, alloc, &replies, Some(OWN_OPEN));
+    assert!(rt; session.state() == State::OpenSent);
+}
+
+#[test]
+fn an_end_that_is_opened_greets(rt: HostRuntime) {
+    let mut session = Session::new(64512, peer(&rt));
+    be_greeted(&rt, rt.alloc(), &mut session);
+}
+
+fn come_up(rt: &impl Abort, alloc: Global, session: &mut Session)
+    requires system { session.old.asn ≡ 64512 }
+    requires idle { session.old.state ≡ Idle }
+{
+    let _hello = greet(alloc, session, 64512, ME).expect(rt, "memory");
+    let both = "M 001d 01 04 fc00 0000 c0000202 00 M 0013 04";
+    let heard = hear_text(rt, alloc, session, both);
+    check_reply(rt, alloc, &heard.replies, Some(KEEPALIVE));
+    assert!(rt; heard.changes.is_empty());
+    assert!(rt; heard.cause.is_none());
+    assert!(rt; session.state() == State::Established);
+}
+
+#[test]
+fn a_session_comes_up_at_an_open_and_a_keepalive(rt: HostRuntime) {
+    let mut session = Session::new(64512, peer(&rt));
+    come_up(&rt, rt.alloc(), &mut session);
+}
+
+fn hear_an_update(rt: &impl Abort, alloc: Global, session: &mut Session)
+    requires system { session.old.asn ≡ 64512 }
+    requires idle { session.old.state ≡ Idle }
+{
+    establish(rt, alloc, session);
+    let heard = hear_text(rt, alloc, session, UPDATE);
+    assert!(rt; heard.changes.len() == 1);
+    for change in heard.changes.as_slice() {
+        let Delta::Put(key, route) = change else {
+            assert!(rt; false, "a put");
+            return;
+        };
+        assert!(rt; key.rd.0 == 0x0001_c000_020b_0001);
+        assert!(rt; key.prefix == Prefix::host(Addr(0x0a01_0005)));
+        assert!(rt; route.next_hop.0 == 0xc000_020b && route.label.0 == 23);
+    }
+    check_reply(rt, alloc, &heard.replies, None);
+    assert!(rt; heard.cause.is_none());
+    assert!(rt; session.state() == State::Established);
+}
+
+#[test]
+fn an_update_is_heard(rt: HostRuntime) {
+    let mut session = Session::new(64512, peer(&rt));
+    hear_an_update(&rt, rt.alloc(), &mut session);
+}
+
+// The KEEPALIVE behind it is not heard.
+fn go_down(rt: &impl Abort, alloc: Global, session: &mut Session)
+    requires system { session.old.asn ≡ 64512 }
+    requires idle { session.old.state ≡ Idle }
+{
+    establish(rt, alloc, session);
+    let more = "M 001b 02 0000 0004 40010103 M 0013 04";
+    let heard = hear_text(rt, alloc, session, more);
+    check_reply(rt, alloc, &heard.replies, Some("M 0015 03 0306"));
+    let fault = WireFault {
+        code: 3,
+        subcode: 6,
+    };
+    assert!(rt; heard.cause == Some(Cause::Wire(fault)));
+    assert!(rt; heard.changes.is_empty());
+    assert!(rt; session.state() == State::Idle);
+}
+
+#[test]
+fn a_malformed_update_takes_the_session_down(rt: HostRuntime) {
+    let mut session = Session::new(64512, peer(&rt));
+    go_down(&rt, rt.alloc(), &mut session);
+}
+
+fn pass_over_a_part(rt: &impl Abort, alloc: Global, session: &mut Session)
+    requires system { session.old.asn ≡ 64512 }
+    requires idle { session.old.state ≡ Idle }
+{
+    establish(rt, alloc, session);
+    let heard = hear_text(rt, alloc, session, "M 0013 04 M 0013");
+    check_reply(rt, alloc, &heard.replies, None);
+    assert!(rt; heard.cause.is_none());
+    assert!(rt; session.state() == State::Established);
+}
+
+#[test]
+fn a_part_of_a_message_is_passed_over(rt: HostRuntime) {
+    let mut session = Session::new(64512, peer(&rt));
+    pass_over_a_part(&rt, rt.alloc(), &mut session);
+    route_changes();
+    differences_can_be_written();
+    updates_are_heard();
+    what_is_heard_is_one();
+}
+
+// A key of the distinguisher 192.0.2.11:1.
+fn key(rt: &impl Abort, addr: u32, len: u8) -> VpnKey {
+    VpnKey {
+        rd: Rd(0x0001_c000_020b_0001),
+        prefix: Prefix::new(Addr(addr), len).expect(rt, "a prefix"),
+    }
+}
+
+#[test]
+fn changes_are_spelled(rt: HostRuntime) {
+    let alloc = rt.alloc();
+    let route = VpnRoute {
+        next_hop: Addr(0xc000_020b),
+        label: Label(23),
+        targets: Targets::new(alloc),
+    };
+    let change = Delta::Put(key(&rt, 0x0a01_0000, 16), route);
+    let put = spell(alloc, &change).expect(&rt, "memory");
+    let wanted = "M 0047 02 0000 0030 40010100 400200 40050400000064
+        800e1f 000180 0c 0000000000000000 c000020b 00 68 000171 0001c000020b0001 0a01";
+    assert!(rt; put.as_slice() == octets(&rt, alloc, wanted).as_slice());
+    let change = Delta::Drop(key(&rt, 0x0a01_0005, 32));
+    let gone = spell(alloc, &change).expect(&rt, "memory");
+    let wanted = "M 002d 02 0000 0016 800f13 000180 78 800000 0001c000020b0001 0a010005";
+    assert!(rt; gone.as_slice() == octets(&rt, alloc, wanted).as_slice());
+}
