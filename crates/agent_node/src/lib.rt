@@ -7,8 +7,6 @@ pub mod laws;
 mod node;
 mod plan;
 mod planning;
-#[cfg(test)]
-mod tests;
 
 pub use node::AgentNode;
 pub use plan::AgentPlan;

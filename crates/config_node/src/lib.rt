@@ -5,8 +5,6 @@ mod begin;
 mod ends;
 mod node;
 mod planning;
-#[cfg(test)]
-mod tests;
 mod wants;
 
 pub use node::ConfigNode;

@@ -7,7 +7,6 @@ ghost use Rattle.network_model.specs.Setup.{low};
 ghost use Rattle.config_node.specs.Ends.{low_of};
 
 use config_check::Valid;
-use object_laws::know_subnets;
 use ov_types::{LowKey, LowValue, NoMemory};
 use schema_transform::low;
 use std::alloc::Global;
@@ -35,7 +34,7 @@ pub(crate) fn wanted(alloc: Global, valid: &Valid) -> Result<Objects, NoMemory>
     ensures wanted { IfOk result (λ objects. low_of objects.entries ≡ low valid.now) }
     ensures fits { AllFit (low valid.now) }
 {
-    know_subnets(valid.config());
+    let _config = valid.config();
     let objects = low(alloc, valid)?;
     let wants = by_keys(alloc, objects.into_vec())?;
     Ok(wants)

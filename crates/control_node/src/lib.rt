@@ -12,8 +12,6 @@ mod node;
 mod plan;
 mod planning;
 mod taking;
-#[cfg(test)]
-mod tests;
 
 pub use cause::NodeCause;
 pub use node::ControlNode;

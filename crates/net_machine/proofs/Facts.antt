@@ -17,11 +17,11 @@ use Rattle.net_model.specs.Seats.{Seat, notice_at, seat, seat_named}
 use Rattle.net_model.specs.Stands.{StandsFor, any_size}
 use Rattle.net_model.specs.Steps.{forwarders_of, shown_by}
 use Rattle.net_machine.specs.declared.ends.SessionEnds.{SessionEnds}
-use Rattle.net_machine.specs.Fitting.{edit_fits}
 use Rattle.net_machine.specs.Connections.{Connects, may_connect}
 use Rattle.net_machine.specs.Deliveries.{Delivers}
 use Rattle.net_machine.specs.Happenings.{Edits}
-use Rattle.net_machine.specs.Losses.{lost, restarted}
+use Rattle.net_steps.specs.Losing.{restarted}
+use Rattle.net_machine.specs.Losses.{lost}
 use Rattle.net_machine.specs.Seating.{ends_of, is_down, turned, waiting}
 use Rattle.net_machine.specs.Settling.{is_rested}
 
@@ -52,9 +52,9 @@ abbrev pub IsNotAfter : Option ℕ → Type 0
 IsNotAfter (Some (suc k)) = ⊥
 IsNotAfter _ = Unit {0}
 
--- an edit is of the written form, and of its types
+-- an edit is of the written form
 abbrev pub MayHappen : Event → Type 0
-MayHappen (Changes e) = IsTrue (has_edit_form e) × IsTrue (edit_fits e)
+MayHappen (Changes e) = IsTrue (has_edit_form e)
 MayHappen _ = Unit {0}
 
 -- ---- all of it, where M are the moments

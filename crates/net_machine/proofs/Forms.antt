@@ -1,14 +1,24 @@
 -- What the form of an event says of what it holds.
 use Rattle.std.specs.Prelude.{◌≡◌, ◌≤◌, ◌&&◌, ℕ, true, nat_le, IsTrue}
-use Rattle.std.proofs.Common.{arith}
+use Rattle.std.specs.declared.option.Option.{Option}
+use Rattle.std.specs.declared.option.Option.TheVariants.{Some, None}
+use Rattle.std.proofs.Common.{arith, subst}
 use Rattle.std.proofs.lemmas.Bool.{and_parts}
 use Rattle.std.proofs.lemmas.Bool.Decides.{nat_tests}
+use Rattle.std.proofs.lemmas.Option.{same_Some}
 use Rattle.ov_types.specs.declared.packet.Packet.{Packet}
 use Rattle.config_model.specs.declared.edit.Edit.{Edit as Change}
 use Rattle.config_model.specs.declared.event.Event.TheVariants.{Edit, Trace}
 use Rattle.config_model.specs.Edit.{has_edit_form}
 use Rattle.config_model.specs.Event.{has_event_form}
-use Rattle.config_model.specs.Form.{has_packet_form}
+use Rattle.config_model.specs.Form.{has_config_form, has_packet_form}
+use Rattle.config_check.specs.Checked.{Checked}
+use Rattle.config_check.specs.Edits as edits
+use Rattle.config_check.specs.Edits.{edit_fault}
+use Rattle.config_check.specs.declared.edits.EditFault.{EditFault}
+use Rattle.config_check.proofs.Edited.{form_is_kept}
+use Rattle.network_model.specs.Setup.{edited, edited_without}
+use Rattle.headline_laws.specs.Headline.{IsOfForm}
 
 pub edit_form : (e : Change) → IsTrue (has_event_form (Edit e)) → IsTrue (has_edit_form e)
 unfolding has_event_form
@@ -27,3 +37,15 @@ trace_source p h =
     let three = and_parts (a && b && nat_le t.proto 255) (nat_le t.sport 65535) four.0 in
     let two = and_parts (a && b) (nat_le t.proto 255) three.0 in
     within p.source.0 (and_parts a b two.0).0
+
+-- an edit of the written form keeps the form of a configuration
+form_without : (o : Option EditFault) (x y : Checked) (e : Change) → IsTrue (has_edit_form e)
+    → IsTrue (has_config_form x.config) → edited_without o x e ≡ Some y → IsOfForm y
+form_without (Some f) x y e form whole is = cc
+form_without None x y e form whole is =
+    subst IsOfForm (same_Some (record { topology = x.topology; config = edits.edited e x.config }) y is)
+    (form_is_kept e x.config form whole)
+
+pub edited_form : (x y : Checked) (e : Change) → IsTrue (has_edit_form e) → IsTrue (has_config_form x.config)
+    → edited x e ≡ Some y → IsOfForm y
+edited_form x y e form whole is = form_without (edit_fault x e) x y e form whole is

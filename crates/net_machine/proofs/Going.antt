@@ -7,7 +7,7 @@ use Rattle.net_machine.specs.declared.ends.SessionEnds.{SessionEnds}
 use Rattle.net_machine.specs.declared.round.Due.{Due}
 use Rattle.net_machine.specs.Connections.{Connects, ConnectsAll}
 use Rattle.net_machine.specs.Deliveries.{Delivers, DeliversIf, DeliversMany, DeliversTo}
-use Rattle.net_machine.specs.Losses.{all_told}
+use Rattle.net_steps.specs.Losing.{all_told}
 use Rattle.net_machine.specs.Rounds.{DeliversAll, DeliversDue, DeliversDues, IsRound}
 use Rattle.net_machine.specs.Seating.{waiting}
 use Rattle.net_machine.specs.Settling.{RoundsFrom, is_quiet}

@@ -23,29 +23,29 @@ use Rattle.network_model.specs.Events.{Round, Settle, Show, Trace, is_node, next
 use Rattle.network_model.proofs.NetworkFact.{found}
 use Rattle.network_model.proofs.Twins.{itself}
 use Rattle.network_laws.specs.Settling.{EditIsValid}
+use Rattle.headline_laws.specs.Headline.{IsOfForm}
 use Rattle.net_model.specs.Seats.{Seat, far_of, is_down_at, is_live, link_at, live_at, name_of, notice_at, seat, seat_named}
 use Rattle.net_model.specs.Seats.{whole_at, whole_there}
 use Rattle.net_model.specs.Steps.{IsDiscarded, MakesEdit, Takes, emptied, shown_by, with_link, with_notice, with_seat}
 use Rattle.net_model.specs.Stands.{StandsFor, any_size}
 use Rattle.net_model.specs.declared.place.Place.{Place}
-use Rattle.told_laws.specs.Moments.{IsMoment, IsOfTypedForm}
-use Rattle.told_laws.proofs.Moments.{moment_next, moment_sessions, moment_subnets, moment_written}
+use Rattle.told_laws.specs.Moments.{IsMoment}
+use Rattle.told_laws.proofs.Moments.{moment_next, moment_sessions, moment_written}
 use Rattle.seat_laws.specs.Wiring.{name_at, other_at}
 use Rattle.seat_laws.proofs.Written.{forwarders_are, has_far, has_session, names_differ, no_node_above, place_is, shows_at}
 use Rattle.net_steps.specs.Connecting.{OpensBoth}
 use Rattle.net_steps.specs.Delivering as deliveries
-use Rattle.net_steps.specs.Losing as losses
+use Rattle.net_steps.specs.Losing.{cut, restarted}
 use Rattle.net_machine.specs.declared.ends.SessionEnds.{SessionEnds}
 use Rattle.net_machine.specs.Connections.{ConnectsAt, ConnectsIf, OpensSecond, may_connect}
 use Rattle.net_machine.specs.Deliveries.{DeliversIf, DeliversTo, TakesAt}
 use Rattle.net_machine.specs.Happenings.{DiscardsUnless}
-use Rattle.net_machine.specs.Losses.{all_told, cut, restarted, told_of_loss}
 use Rattle.net_machine.specs.Seating.{ends_of, is_down}
 use Rattle.net_machine.proofs.Facts.{Facts, IsNotAfter, MayHappen}
 use Rattle.net_machine.proofs.Kept.{with_there}
 use Rattle.net_machine.proofs.KnownEnds.{all_stood, all_unbroken, closed_waits, ends_are_at, ends_turn, fact_of, no_session_of, says_of}
 use Rattle.net_machine.proofs.Proved.{Proved}
-use Rattle.net_machine.proofs.Subnets.{edited_typed}
+use Rattle.net_machine.proofs.Forms.{edited_form}
 
 -- ---- the same, as it is said there
 takes_there : (seats : List Seat) (q : Place) (input : Input) (after : List Seat) → TakesAt seats q.node input after
@@ -57,15 +57,6 @@ takes_there seats q input after h = record {
   discarded = h.discards.discarded;
   is = h.discards.is;
 }
-
-told_there : (n k i : ℕ) (seats : List Seat) → losses.all_told n k i seats ≡ all_told n k i seats
-told_there zero k i seats = refl
-told_there (suc n) k i seats =
-    elim (far_of seats (record { node = k; session = i })) as (λ o. losses.all_told n k (i + 1) (losses.told_of_loss seats o)
-    ≡ all_told n k (i + 1) (told_of_loss seats o)) [
-      | None ↦ told_there n k (i + 1) seats
-      | Some q ↦ told_there n k (i + 1) (with_link q [] (with_notice q (live_at seats q) seats))
-    ]
 
 opens_there : (seats : List Seat) (p q : Place) (n : Seat) (one : List Seat) (m : Seat) (two : List Seat) (near far : Seat)
     (three four : List Seat) → Takes (seat seats p.node) n (Opened p.session) → one ≡ with_seat p.node n seats
@@ -185,7 +176,7 @@ module _ (p : Proved) (seats : List Seat) (w : Network) (m : IsMoment w) (st : S
       ap (λ o. not (whole_at seats e.near && whole_there seats o)) (ends_are_at seats a b e is).1
 
   loses_if : (a b : Name) (e : SessionEnds) → ends_of seats a b ≡ Some e → (c : Bool) → is_down seats e ≡ c
-      → StandsFor (cond c seats (cut seats e)) (next any_size w (Lose a b))
+      → StandsFor (cond c seats (cut e.near e.far seats)) (next any_size w (Lose a b))
   loses_if a b e is true down =
       let at = ends_are_at seats a b e is in
       let none = (p.no_loss seats w m st a b (λ q there. subst (λ q. is_down_at seats q ≡ true)
@@ -197,10 +188,7 @@ module _ (p : Proved) (seats : List Seat) (w : Network) (m : IsMoment w) (st : S
   -- ---- restarts, edits, and what is shown
   restarts_at : (name : Name) (k : ℕ) → seat_named seats name ≡ Some (suc k)
       → StandsFor (restarted seats (suc k)) (next any_size w (Restart name))
-  restarts_at name k is =
-      subst (λ ss. StandsFor ss (next any_size w (Restart name)))
-      (told_there (length (seat seats (suc k)).posts) (suc k) 0
-      (with_seat (suc k) (emptied (seat seats (suc k))) seats)) (p.restarts seats w m st name k is).0
+  restarts_at name k is = (p.restarts seats w m st name k is).0
 
   edits_if : (after made : List Seat) (e : Edit) → MayHappen (Changes e) → (o : Option EditFault)
       → edit_fault w.setup e ≡ o → MakesEdit seats w.setup e o made → DiscardsUnless o made after
@@ -211,7 +199,7 @@ module _ (p : Proved) (seats : List Seat) (w : Network) (m : IsMoment w) (st : S
   edits_if after made e may None is makes d =
       subst (λ s. StandsFor s (next any_size w (Changes e))) (sym d.is)
       (p.edits seats w m st e
-      (λ y at. edited_typed w.setup y e may.0 may.1 (moment_written w m).config (moment_subnets w m) at)
+      (λ y at. edited_form w.setup y e may (moment_written w m).config at)
       is made makes d.node d.discarded).0
 
   node_at : (name : Name) (k : ℕ) → seat_named seats name ≡ Some (suc k)
@@ -242,9 +230,9 @@ module _ (p : Proved) (seats : List Seat) (w : Network) (m : IsMoment w) (st : S
       not_after (suc k) above off = off
 
 -- what may happen leads on
-asked_of : (w : Network) (e : Event) → IsMoment w → MayHappen e → EditIsValid IsOfTypedForm w e
+asked_of : (w : Network) (e : Event) → IsMoment w → MayHappen e → EditIsValid IsOfForm w e
 asked_of w (Changes e) m may =
-    λ y at. edited_typed w.setup y e may.0 may.1 (moment_written w m).config (moment_subnets w m) at
+    λ y at. edited_form w.setup y e may (moment_written w m).config at
 asked_of w (Deliver from to n) m may = tt
 asked_of w (DeliverOctets from to n) m may = tt
 asked_of w (Lose a b) m may = tt

@@ -9,12 +9,12 @@ use Rattle.headline_laws.specs.Headline.{IsWritten}
 use Rattle.headline_laws.proofs.Written.{sound_setup}
 use Rattle.network_model.specs.Setup.{Name}
 use Rattle.network_model.specs.Session as session
-use Rattle.network_model.specs.Session.{Message, Session, is_idle, is_peering}
+use Rattle.network_model.specs.Session.{Session, is_idle, is_peering}
 use Rattle.network_model.specs.Network.{Network, start}
 use Rattle.network_model.specs.Steps as steps
 use Rattle.network_model.specs.Steps.{session_of, without_breaks}
 use Rattle.network_model.specs.Events as events
-use Rattle.network_model.specs.Moments.{ArePositive, Each, nodes}
+use Rattle.network_model.specs.Moments.{Each, nodes}
 use Rattle.network_model.proofs.Apart.{no_twins}
 use Rattle.network_model.proofs.NetworkFact.{after_sound, found}
 use Rattle.network_model.proofs.SessionFact.{Fact, Fact-turned, live_receiver}
@@ -23,6 +23,7 @@ use Rattle.network_model.proofs.Twins.{Found, NoTwins, found_each}
 use Rattle.net_model.specs.Seats.{Seat, far_of, place_of, seat, whole_at, whole_there}
 use Rattle.net_model.specs.Stands.{StandsFor, any_size}
 use Rattle.net_model.specs.declared.place.Place.{Place}
+use Rattle.net_model.proofs.Sizes.{positive}
 use Rattle.told_laws.specs.Moments.{IsMoment}
 use Rattle.told_laws.proofs.Moments.{moment_sessions, moment_written}
 use Rattle.seat_laws.specs.Wiring.{AreSeats, HasSessions, IsFound, IsPlace, name_at, other_at}
@@ -54,12 +55,6 @@ pub at_are_ends : (seats : List Seat) (a b : Name) (p q : Place) → AreAt seats
 at_are_ends seats a b p q at = ap (ends_at seats) at.0 ∙ ap (ends_from p) at.1
 
 -- ---- a session that is down is one of which no end is live, or where a notice waits
-positive : ArePositive any_size
-positive n m = one
-  where
-    one : 0 < 1
-    one = omega arith
-
 pub sound_now : (w : Network) → IsMoment w → Each (Fact any_size) w.sessions
 sound_now w m =
     subst (λ (w : Network). Each (Fact any_size) w.sessions) (sym m.is)

@@ -16,7 +16,6 @@ pub mod Resting
 pub mod Settled
 pub mod Named
 pub mod Happening
-pub mod Subnets
 pub mod Proved
 pub mod KnownEnds
 pub mod Known

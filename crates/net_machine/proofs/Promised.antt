@@ -9,7 +9,6 @@ use Rattle.config_model.specs.declared.event.Event.TheVariants.{Edit, Deliver, L
 use Rattle.schedule_script.specs.declared.answer.Answer.{Answer}
 use Rattle.schedule_script.specs.declared.answer.Answer.TheVariants.{Rounds}
 use Rattle.network_model.specs.Events.{answer_to, event_of, next, shown}
-use Rattle.network_model.specs.Moments.{ArePositive}
 use Rattle.network_model.specs.Steps.{is_settled, settle}
 use Rattle.compiled_laws.specs.Moments.{SettleSettles, SettlesInTime}
 use Rattle.headline_laws.specs.Headline.{AgentsShowRows, ControlNodesShowTables}
@@ -18,6 +17,7 @@ use Rattle.headline_laws.proofs.Written.{written_rounds_settle, written_settle_s
 use Rattle.net_model.specs.Seats.{Configuring, Seat, Who, name_of, seat}
 use Rattle.net_model.specs.Stands.{StandsFor, any_size}
 use Rattle.net_model.specs.Steps.{shown_by}
+use Rattle.net_model.proofs.Sizes.{positive}
 use Rattle.seat_laws.proofs.Parties.{by_node}
 use Rattle.seat_laws.proofs.Seating.{root_at, seat_found, who_above}
 use Rattle.seat_laws.proofs.Written.{seats_are_nodes, shows_at, written_apart, written_named}
@@ -27,12 +27,6 @@ use Rattle.schedule_laws.specs.Compiled.{AnswersCompiled}
 use Rattle.schedule_laws.specs.Ends.{SettlesAtOnce}
 use Rattle.schedule_laws.proofs.AsCompiled.{compiled_at}
 use Rattle.net_machine.specs.Shown.{ShowsCompiled, compiled_for}
-
-positive : ArePositive any_size
-positive n m = one
-  where
-    one : 0 < 1
-    one = omega arith
 
 -- ---- what all schedules promise, at a moment
 pub moment_rounds : (w : Network) → IsMoment w → SettlesInTime any_size w

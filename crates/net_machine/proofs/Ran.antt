@@ -17,12 +17,11 @@ use Rattle.network_model.specs.Steps as machine
 use Rattle.network_model.proofs.NodesFact.{after_nodes}
 use Rattle.net_model.specs.Seats.{Configuring, Seat, Who, seat, whos}
 use Rattle.net_model.specs.Stands.{StandsFor, any_size, moment}
-use Rattle.told_laws.specs.Moments.{HasSubnets, IsMoment}
-use Rattle.net_seats.specs.Fresh.{fresh_seat}
+use Rattle.told_laws.specs.Moments.{IsMoment}
+use Rattle.net_model.specs.Steps.{fresh_seat}
 use Rattle.net_steps.proofs.Given.{given}
 use Rattle.net_steps.proofs.Started.{fresh_seats_stand}
 use Rattle.net_machine.specs.declared.ends.SessionEnds.{SessionEnds}
-use Rattle.net_machine.specs.Fitting.{event_fits}
 use Rattle.net_machine.specs.Happenings.{Happens}
 use Rattle.net_machine.specs.Running.{IsRunning}
 use Rattle.net_machine.specs.Seating.{AreLong, AreSeated, IsConfigured, Keeps, ends_of, order_among, order_of}
@@ -63,16 +62,16 @@ pub moment_more : (x : Checked) (es : List Event) (e : Event)
     → moment x (es ++ e ∷ []) ≡ next any_size (moment x es) (event_of e)
 moment_more x es e = after_more (start x) es e
 
-may_happen : (e : Event) → IsTrue (has_event_form e) → IsTrue (event_fits e) → MayHappen (event_of e)
-may_happen (Edit e) form fits = (edit_form e form, fits)
-may_happen (Deliver from to n) form fits = tt
-may_happen (Lose a b) form fits = tt
-may_happen (Connect a b) form fits = tt
-may_happen (Restart name) form fits = tt
-may_happen Round form fits = tt
-may_happen Settle form fits = tt
-may_happen (Show name) form fits = tt
-may_happen (Trace p) form fits = tt
+may_happen : (e : Event) → IsTrue (has_event_form e) → MayHappen (event_of e)
+may_happen (Edit e) form = edit_form e form
+may_happen (Deliver from to n) form = tt
+may_happen (Lose a b) form = tt
+may_happen (Connect a b) form = tt
+may_happen (Restart name) form = tt
+may_happen Round form = tt
+may_happen Settle form = tt
+may_happen (Show name) form = tt
+may_happen (Trace p) form = tt
 
 -- ---- a network that runs
 module _ (x : Checked) (es : List Event) (seats : List Seat) (order : List SessionEnds) (r : IsRunning x es seats order) where
@@ -98,14 +97,13 @@ module _ (x : Checked) (es : List Event) (seats : List Seat) (order : List Sessi
       settled_is IsMoment facts seats (moment x es) order (record { moment = r.moment_is; stands = r.stands }) run_ordered
 
   module _ (e : Event) (answer : Answer) (then_seats : List Seat) (form : IsTrue (has_event_form e))
-      (fits : IsTrue (event_fits e))
       (h : (y : Checked) → (seat seats 0).who ≡ Configuring y → Happens y order e seats answer then_seats)
       (k : Keeps seats then_seats) where
     makes : Makes IsMoment facts (moment x es) (next any_size (moment x es) (event_of e)) answer
         (answer_to (moment x es) (event_of e)) then_seats
     makes =
         happens IsMoment facts seats then_seats (moment x es) (moment x es).setup order e answer
-        (record { moment = r.moment_is; stands = r.stands }) refl run_ordered (may_happen e form fits)
+        (record { moment = r.moment_is; stands = r.stands }) refl run_ordered (may_happen e form)
         (h (moment x es).setup run_first.1)
 
     pub step_answers : answer ≡ answer_to (moment x es) (event_of e)
@@ -120,17 +118,17 @@ module _ (x : Checked) (es : List Event) (seats : List Seat) (order : List Sessi
         })
 
 -- ---- a network that begins
-module _ (x : Checked) (seats : List Seat) (written : IsWritten x) (small : HasSubnets x)
+module _ (x : Checked) (seats : List Seat) (written : IsWritten x)
     (is : seats ≡ map fresh_seat (whos x)) where
   pub start_stands : StandsFor seats (moment x [])
-  start_stands = subst (λ ss. StandsFor ss (start x)) (sym is) (fresh_seats_stand given x written small).0
+  start_stands = subst (λ ss. StandsFor ss (start x)) (sym is) (fresh_seats_stand given x written).0
 
   pub start_long : AreLong seats
   start_long = start_stands.seats_are.long
 
   pub start_runs : (order : List SessionEnds) → order ≡ order_of seats x → IsRunning x [] seats order
   start_runs order ordered = record {
-    moment_is = (fresh_seats_stand given x written small).1;
+    moment_is = (fresh_seats_stand given x written).1;
     stands = start_stands;
     ordered = ordered;
   }

@@ -18,7 +18,8 @@ use Rattle.net_model.specs.Steps.{MakesEdit, forwarders_of, shown_by}
 use Rattle.net_machine.specs.declared.ends.SessionEnds.{SessionEnds}
 use Rattle.net_machine.specs.Connections.{Connects, may_connect}
 use Rattle.net_machine.specs.Deliveries.{DeliversMany}
-use Rattle.net_machine.specs.Losses.{lost, restarted}
+use Rattle.net_steps.specs.Losing.{restarted}
+use Rattle.net_machine.specs.Losses.{lost}
 use Rattle.net_machine.specs.Rounds.{IsRound}
 use Rattle.net_machine.specs.Seating.{Discards, ends_of, is_down, is_earlier, turned, waiting}
 use Rattle.net_machine.specs.Settling.{Settles, is_settled}

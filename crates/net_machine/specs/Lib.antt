@@ -1,6 +1,5 @@
 -- The files of definitions, in the order in which they stand on each other.
 pub mod NetState
-pub mod Fitting
 pub mod Seating
 pub mod Deliveries
 pub mod Rounds

@@ -7,28 +7,29 @@ ghost use Rattle.net_machine.specs.Seating.{AreLong, AreSeated, IsSeated, Keeps}
 
 use crate::discard::discard;
 use crate::ends::SessionEnds;
-use net_model::{Place, Stations};
+use net_model::Place;
+use net_seats::Nodes;
 use ov_link::Input;
 use ov_types::NoMemory;
 
 /// Whether both ends are closed.
-pub(crate) fn may_connect<S: Stations>(stations: &S, ends: SessionEnds) -> bool
-    requires { AreSeated (S.seats stations.now) ends }
-    ensures { result ≡ may_connect (S.seats stations.now) ends }
+pub(crate) fn may_connect(nodes: &Nodes, ends: SessionEnds) -> bool
+    requires { AreSeated nodes.now.seats ends }
+    ensures { result ≡ may_connect nodes.now.seats ends }
 {
-    !stations.is_live(ends.near) && !stations.is_live(ends.far)
+    !nodes.is_live(ends.near) && !nodes.is_live(ends.far)
 }
 
 /// A node opens its end.
-fn open<S: Stations>(stations: &mut S, place: Place) -> Result<(), NoMemory>
-    requires long { AreLong (S.seats stations.old) }
-    requires seated { IsSeated (S.seats stations.old) place }
-    requires closed { live_at (S.seats stations.old) place ≡ false }
-    ensures opens { IfOk result (λ _. Opens (S.seats stations.old) place (S.seats stations.new)) }
-    ensures keeps { IfOk result (λ _. Keeps (S.seats stations.old) (S.seats stations.new)) }
-    ensures failed { IfOk result (λ _. S.failed stations.new ≡ S.failed stations.old) }
+fn open(nodes: &mut Nodes, place: Place) -> Result<(), NoMemory>
+    requires long { AreLong nodes.old.seats }
+    requires seated { IsSeated nodes.old.seats place }
+    requires closed { live_at nodes.old.seats place ≡ false }
+    ensures opens { IfOk result (λ _. Opens nodes.old.seats place nodes.new.seats) }
+    ensures keeps { IfOk result (λ _. Keeps nodes.old.seats nodes.new.seats) }
+    ensures failed { IfOk result (λ _. nodes.new.failed ≡ nodes.old.failed) }
 {
-    stations.take(
+    nodes.take(
         place.node,
         Input::Opened {
             session: place.session,
@@ -37,64 +38,61 @@ fn open<S: Stations>(stations: &mut S, place: Place) -> Result<(), NoMemory>
 }
 
 /// The far node opens, after the near one.
-fn open_far<S: Stations>(stations: &mut S, ends: SessionEnds) -> Result<(), NoMemory>
-    requires long { AreLong (S.seats stations.old) }
-    requires seated { AreSeated (S.seats stations.old) ends }
-    requires closed { live_at (S.seats stations.old) ends.far ≡ false }
-    ensures opens { IfOk result (λ _. OpensFar (S.seats stations.old) ends (S.seats stations.new)) }
-    ensures keeps { IfOk result (λ _. Keeps (S.seats stations.old) (S.seats stations.new)) }
-    ensures failed { IfOk result (λ _. S.failed stations.new ≡ S.failed stations.old) }
+fn open_far(nodes: &mut Nodes, ends: SessionEnds) -> Result<(), NoMemory>
+    requires long { AreLong nodes.old.seats }
+    requires seated { AreSeated nodes.old.seats ends }
+    requires closed { live_at nodes.old.seats ends.far ≡ false }
+    ensures opens { IfOk result (λ _. OpensFar nodes.old.seats ends nodes.new.seats) }
+    ensures keeps { IfOk result (λ _. Keeps nodes.old.seats nodes.new.seats) }
+    ensures failed { IfOk result (λ _. nodes.new.failed ≡ nodes.old.failed) }
 {
-    open(stations, ends.far)?;
-    discard(stations, ends.near.node);
-    discard(stations, ends.far.node);
+    open(nodes, ends.far)?;
+    discard(nodes, ends.near.node);
+    discard(nodes, ends.far.node);
     Ok(())
 }
 
 /// Both nodes open, the near one first.
-fn open_both<S: Stations>(stations: &mut S, ends: SessionEnds) -> Result<(), NoMemory>
-    requires long { AreLong (S.seats stations.old) }
-    requires seated { AreSeated (S.seats stations.old) ends }
-    requires closed { live_at (S.seats stations.old) ends.near ≡ false }
-    ensures connects { IfOk result (λ _. ConnectsAt (S.seats stations.old) ends (S.seats stations.new)) }
-    ensures keeps { IfOk result (λ _. Keeps (S.seats stations.old) (S.seats stations.new)) }
-    ensures failed { IfOk result (λ _. S.failed stations.new ≡ S.failed stations.old) }
+fn open_both(nodes: &mut Nodes, ends: SessionEnds) -> Result<(), NoMemory>
+    requires long { AreLong nodes.old.seats }
+    requires seated { AreSeated nodes.old.seats ends }
+    requires closed { live_at nodes.old.seats ends.near ≡ false }
+    ensures connects { IfOk result (λ _. ConnectsAt nodes.old.seats ends nodes.new.seats) }
+    ensures keeps { IfOk result (λ _. Keeps nodes.old.seats nodes.new.seats) }
+    ensures failed { IfOk result (λ _. nodes.new.failed ≡ nodes.old.failed) }
 {
-    open(stations, ends.near)?;
-    if stations.is_live(ends.far) {
+    open(nodes, ends.near)?;
+    if nodes.is_live(ends.far) {
         return Ok(());
     }
-    open_far(stations, ends)
+    open_far(nodes, ends)
 }
 
 /// A session is connected, where both its ends are closed.
-pub(crate) fn connect<S: Stations>(stations: &mut S, ends: SessionEnds) -> Result<(), NoMemory>
-    requires long { AreLong (S.seats stations.old) }
-    requires seated { AreSeated (S.seats stations.old) ends }
-    ensures connects { IfOk result (λ _. Connects (S.seats stations.old) ends (S.seats stations.new)) }
-    ensures keeps { IfOk result (λ _. Keeps (S.seats stations.old) (S.seats stations.new)) }
-    ensures failed { IfOk result (λ _. S.failed stations.new ≡ S.failed stations.old) }
+pub(crate) fn connect(nodes: &mut Nodes, ends: SessionEnds) -> Result<(), NoMemory>
+    requires long { AreLong nodes.old.seats }
+    requires seated { AreSeated nodes.old.seats ends }
+    ensures connects { IfOk result (λ _. Connects nodes.old.seats ends nodes.new.seats) }
+    ensures keeps { IfOk result (λ _. Keeps nodes.old.seats nodes.new.seats) }
+    ensures failed { IfOk result (λ _. nodes.new.failed ≡ nodes.old.failed) }
 {
-    if may_connect(stations, ends) {
-        open_both(stations, ends)
+    if may_connect(nodes, ends) {
+        open_both(nodes, ends)
     } else {
         Ok(())
     }
 }
 
 /// Each session is connected that may be, one after the other.
-pub(crate) fn connect_all<S: Stations>(
-    stations: &mut S,
-    order: &[SessionEnds],
-) -> Result<(), NoMemory>
-    requires long { AreLong (S.seats stations.old) }
-    requires seated { All (AreSeated (S.seats stations.old)) order.now }
-    ensures connects { IfOk result (λ _. ConnectsAll order.now (S.seats stations.old) (S.seats stations.new)) }
-    ensures keeps { IfOk result (λ _. Keeps (S.seats stations.old) (S.seats stations.new)) }
-    ensures failed { IfOk result (λ _. S.failed stations.new ≡ S.failed stations.old) }
+pub(crate) fn connect_all(nodes: &mut Nodes, order: &[SessionEnds]) -> Result<(), NoMemory>
+    requires long { AreLong nodes.old.seats }
+    requires seated { All (AreSeated nodes.old.seats) order.now }
+    ensures connects { IfOk result (λ _. ConnectsAll order.now nodes.old.seats nodes.new.seats) }
+    ensures keeps { IfOk result (λ _. Keeps nodes.old.seats nodes.new.seats) }
+    ensures failed { IfOk result (λ _. nodes.new.failed ≡ nodes.old.failed) }
 {
     for ends in order {
-        connect(stations, *ends)?;
+        connect(nodes, *ends)?;
     }
     Ok(())
 }

@@ -4,7 +4,8 @@ ghost use Rattle.net_model.specs.Seats.{whole_at};
 ghost use Rattle.net_machine.specs.Seating.{AreLong, AreSeated, IsSeated, ends_of, is_down, is_earlier, same_ends};
 ghost use Rattle.net_machine.specs.Seating.{same_place, turned, waiting};
 
-use net_model::{Place, Stations};
+use net_model::Place;
+use net_seats::Nodes;
 use ov_types::Name;
 
 /// A session, by its two ends.
@@ -25,15 +26,15 @@ pub(crate) fn turned(ends: SessionEnds) -> SessionEnds
 }
 
 /// The session of two nodes, with the first one's end near.
-pub(crate) fn ends_of<S: Stations>(stations: &S, a: &Name, b: &Name) -> Option<SessionEnds>
-    requires { AreLong (S.seats stations.now) }
-    ensures ends { result ≡ ends_of (S.seats stations.now) a.now b.now }
-    ensures seated { IfSome result (λ e. AreSeated (S.seats stations.now) e) }
+pub(crate) fn ends_of(nodes: &Nodes, a: &Name, b: &Name) -> Option<SessionEnds>
+    requires { AreLong nodes.now.seats }
+    ensures ends { result ≡ ends_of nodes.now.seats a.now b.now }
+    ensures seated { IfSome result (λ e. AreSeated nodes.now.seats e) }
 {
-    let Some(near) = stations.place_of(a, b) else {
+    let Some(near) = nodes.place_of(a, b) else {
         return None;
     };
-    let Some(far) = stations.far_of(near) else {
+    let Some(far) = nodes.far_of(near) else {
         return None;
     };
     Some(SessionEnds { near, far })
@@ -67,29 +68,29 @@ pub(crate) fn is_earlier(order: &[SessionEnds], ends: SessionEnds) -> bool
 }
 
 /// Whether an end is live, with no notice.
-pub(crate) fn is_whole<S: Stations>(stations: &S, place: Place) -> bool
-    requires { IsSeated (S.seats stations.now) place }
-    ensures { result ≡ whole_at (S.seats stations.now) place }
+pub(crate) fn is_whole(nodes: &Nodes, place: Place) -> bool
+    requires { IsSeated nodes.now.seats place }
+    ensures { result ≡ whole_at nodes.now.seats place }
 {
-    stations.is_live(place) && !stations.has_notice(place)
+    nodes.is_live(place) && !nodes.has_notice(place)
 }
 
 /// Whether a session is down: an end is not live, or a notice waits there.
-pub(crate) fn is_down<S: Stations>(stations: &S, ends: SessionEnds) -> bool
-    requires { AreSeated (S.seats stations.now) ends }
-    ensures { result ≡ is_down (S.seats stations.now) ends }
+pub(crate) fn is_down(nodes: &Nodes, ends: SessionEnds) -> bool
+    requires { AreSeated nodes.now.seats ends }
+    ensures { result ≡ is_down nodes.now.seats ends }
 {
-    !(is_whole(stations, ends.near) && is_whole(stations, ends.far))
+    !(is_whole(nodes, ends.near) && is_whole(nodes, ends.far))
 }
 
 /// How many messages and notices wait to be taken at the near end.
-pub(crate) fn waiting<S: Stations>(stations: &S, ends: SessionEnds) -> usize
-    requires { AreSeated (S.seats stations.now) ends }
-    ensures { result ≡ waiting (S.seats stations.now) ends }
+pub(crate) fn waiting(nodes: &Nodes, ends: SessionEnds) -> usize
+    requires { AreSeated nodes.now.seats ends }
+    ensures { result ≡ waiting nodes.now.seats ends }
 {
-    if stations.has_notice(ends.near) {
+    if nodes.has_notice(ends.near) {
         1
     } else {
-        stations.sent(ends.far)
+        nodes.sent(ends.far)
     }
 }

@@ -24,7 +24,7 @@ use crate::round::round;
 use crate::settle::{is_settled, settle};
 use config_check::EditFault;
 use config_model::{Edit, Event};
-use net_model::Stations;
+use net_seats::Nodes;
 use ov_types::{Name, NoMemory};
 use schedule_script::Answer;
 use std::alloc::Global;
@@ -46,59 +46,54 @@ fn edit_answer(fault: Option<EditFault>) -> Answer
 }
 
 /// Makes an edit, unless it has a fault, and discards what the configuration node sent on sessions that are down.
-fn edited<S: Stations>(stations: &mut S, edit: &Edit) -> Result<Answer, NoMemory>
+fn edited(nodes: &mut Nodes, edit: &Edit) -> Result<Answer, NoMemory>
     requires form { IsTrue (has_edit_form edit.now) }
-    requires long { AreLong (S.seats stations.old) }
-    requires configured { IsConfigured (S.seats stations.old) }
-    ensures answer { IfOk result (λ a. (x : Checked) → (seat (S.seats stations.old) 0).who ≡ Configuring x
+    requires long { AreLong nodes.old.seats }
+    requires configured { IsConfigured nodes.old.seats }
+    ensures answer { IfOk result (λ a. (x : Checked) → (seat nodes.old.seats 0).who ≡ Configuring x
         → a ≡ edit_answer (edit_fault x edit.now)) }
     ensures plain { IfOk result (λ a. (event : Written) → IsAnswerTo event a) }
-    ensures edits { IfOk result (λ _. (x : Checked) → (seat (S.seats stations.old) 0).who ≡ Configuring x
-        → Edits (S.seats stations.old) x edit.now (S.seats stations.new)) }
-    ensures keeps { IfOk result (λ _. Keeps (S.seats stations.old) (S.seats stations.new)) }
-    ensures failed { IfOk result (λ _. S.failed stations.new ≡ S.failed stations.old) }
+    ensures edits { IfOk result (λ _. (x : Checked) → (seat nodes.old.seats 0).who ≡ Configuring x
+        → Edits nodes.old.seats x edit.now nodes.new.seats) }
+    ensures keeps { IfOk result (λ _. Keeps nodes.old.seats nodes.new.seats) }
+    ensures failed { IfOk result (λ _. nodes.new.failed ≡ nodes.old.failed) }
 {
-    let fault = stations.edit(edit)?;
+    let fault = nodes.edit(edit)?;
     if fault.is_none() {
-        discard(stations, 0);
+        discard(nodes, 0);
     }
     Ok(edit_answer(fault))
 }
 
 /// Delivers up to so many messages from one node to another.
-fn delivered<S: Stations>(
-    stations: &mut S,
-    from: &Name,
-    to: &Name,
-    n: u32,
-) -> Result<Answer, NoMemory>
-    requires { AreLong (S.seats stations.old) }
-    ensures delivers { IfOk result (λ a. DeliversOn (ends_of (S.seats stations.old) to.now from.now) n
-        (S.seats stations.old) a (S.seats stations.new)) }
-    ensures keeps { IfOk result (λ _. Keeps (S.seats stations.old) (S.seats stations.new)) }
-    ensures failed { IfOk result (λ _. S.failed stations.new ≡ S.failed stations.old) }
+fn delivered(nodes: &mut Nodes, from: &Name, to: &Name, n: u32) -> Result<Answer, NoMemory>
+    requires { AreLong nodes.old.seats }
+    ensures delivers { IfOk result (λ a. DeliversOn (ends_of nodes.old.seats to.now from.now) n
+        nodes.old.seats a nodes.new.seats) }
+    ensures keeps { IfOk result (λ _. Keeps nodes.old.seats nodes.new.seats) }
+    ensures failed { IfOk result (λ _. nodes.new.failed ≡ nodes.old.failed) }
 {
-    let Some(ends) = ends_of(stations, to, from) else {
+    let Some(ends) = ends_of(nodes, to, from) else {
         return Ok(Answer::Idle);
     };
-    let answer = unless(waiting(stations, ends) == 0);
-    deliver_many(stations, ends, n)?;
+    let answer = unless(waiting(nodes, ends) == 0);
+    deliver_many(nodes, ends, n)?;
     Ok(answer)
 }
 
 /// Loses the session of two nodes, where it is not down.
-fn lost<S: Stations>(stations: &mut S, a: &Name, b: &Name) -> Answer
-    requires { AreLong (S.seats stations.old) }
-    ensures loses { LosesOn (ends_of (S.seats stations.old) a.now b.now) (S.seats stations.old) result
-        (S.seats stations.new) }
-    ensures keeps { Keeps (S.seats stations.old) (S.seats stations.new) }
-    ensures failed { S.failed stations.new ≡ S.failed stations.old }
+fn lost(nodes: &mut Nodes, a: &Name, b: &Name) -> Answer
+    requires { AreLong nodes.old.seats }
+    ensures loses { LosesOn (ends_of nodes.old.seats a.now b.now) nodes.old.seats result
+        nodes.new.seats }
+    ensures keeps { Keeps nodes.old.seats nodes.new.seats }
+    ensures failed { nodes.new.failed ≡ nodes.old.failed }
 {
-    let Some(ends) = ends_of(stations, a, b) else {
+    let Some(ends) = ends_of(nodes, a, b) else {
         return Answer::Idle;
     };
-    let answer = unless(is_down(stations, ends));
-    lose(stations, ends);
+    let answer = unless(is_down(nodes, ends));
+    lose(nodes, ends);
     answer
 }
 
@@ -114,110 +109,106 @@ fn earlier_first(order: &[SessionEnds], ends: SessionEnds) -> SessionEnds
 }
 
 /// Connects two nodes, where both ends are closed.
-fn connected<S: Stations>(
-    stations: &mut S,
+fn connected(
+    nodes: &mut Nodes,
     order: &[SessionEnds],
     a: &Name,
     b: &Name,
 ) -> Result<Answer, NoMemory>
-    requires { AreLong (S.seats stations.old) }
-    ensures connects { IfOk result (λ answer. ConnectsOn (ends_of (S.seats stations.old) a.now b.now) order.now
-        (S.seats stations.old) answer (S.seats stations.new)) }
-    ensures keeps { IfOk result (λ _. Keeps (S.seats stations.old) (S.seats stations.new)) }
-    ensures failed { IfOk result (λ _. S.failed stations.new ≡ S.failed stations.old) }
+    requires { AreLong nodes.old.seats }
+    ensures connects { IfOk result (λ answer. ConnectsOn (ends_of nodes.old.seats a.now b.now) order.now
+        nodes.old.seats answer nodes.new.seats) }
+    ensures keeps { IfOk result (λ _. Keeps nodes.old.seats nodes.new.seats) }
+    ensures failed { IfOk result (λ _. nodes.new.failed ≡ nodes.old.failed) }
 {
-    let Some(ends) = ends_of(stations, a, b) else {
+    let Some(ends) = ends_of(nodes, a, b) else {
         return Ok(Answer::Idle);
     };
-    let answer = unless(!may_connect(stations, ends));
-    connect(stations, earlier_first(order, ends))?;
+    let answer = unless(!may_connect(nodes, ends));
+    connect(nodes, earlier_first(order, ends))?;
     Ok(answer)
 }
 
 /// Restarts a control node or an agent.
-fn restarted<S: Stations>(stations: &mut S, name: &Name) -> Answer
-    requires { AreLong (S.seats stations.old) }
-    ensures restarts { RestartsAt (seats_of.seat_named (S.seats stations.old) name.now) (S.seats stations.old) result
-        (S.seats stations.new) }
-    ensures keeps { Keeps (S.seats stations.old) (S.seats stations.new) }
-    ensures failed { S.failed stations.old ≡ false → S.failed stations.new ≡ false }
+fn restarted(nodes: &mut Nodes, name: &Name) -> Answer
+    requires { AreLong nodes.old.seats }
+    ensures restarts { RestartsAt (seats_of.seat_named nodes.old.seats name.now) nodes.old.seats result
+        nodes.new.seats }
+    ensures keeps { Keeps nodes.old.seats nodes.new.seats }
+    ensures failed { nodes.old.failed ≡ false → nodes.new.failed ≡ false }
 {
-    match stations.seat_named(name) {
+    match nodes.seat_named(name) {
         None => Answer::Idle,
         Some(0) => Answer::Idle,
         Some(node) => {
-            restart(stations, node);
+            restart(nodes, node);
             Answer::Did
         }
     }
 }
 
 /// Settles the network.
-fn settled<S: Stations>(
-    alloc: Global,
-    stations: &mut S,
-    order: &[SessionEnds],
-) -> Result<Answer, NoMemory>
-    requires long { AreLong (S.seats stations.old) }
-    requires seated { All (AreSeated (S.seats stations.old)) order.now }
+fn settled(alloc: Global, nodes: &mut Nodes, order: &[SessionEnds]) -> Result<Answer, NoMemory>
+    requires long { AreLong nodes.old.seats }
+    requires seated { All (AreSeated nodes.old.seats) order.now }
     ensures plain { IfOk result (λ a. (event : Written) → IsAnswerTo event a) }
-    ensures settles { IfOk result (λ a. (x : Checked) → (seat (S.seats stations.old) 0).who ≡ Configuring x
-        → SettlesAs x order.now (S.seats stations.old) a (S.seats stations.new)) }
-    ensures keeps { IfOk result (λ _. Keeps (S.seats stations.old) (S.seats stations.new)) }
-    ensures failed { IfOk result (λ _. S.failed stations.new ≡ S.failed stations.old) }
+    ensures settles { IfOk result (λ a. (x : Checked) → (seat nodes.old.seats 0).who ≡ Configuring x
+        → SettlesAs x order.now nodes.old.seats a nodes.new.seats) }
+    ensures keeps { IfOk result (λ _. Keeps nodes.old.seats nodes.new.seats) }
+    ensures failed { IfOk result (λ _. nodes.new.failed ≡ nodes.old.failed) }
 {
-    let longest = longest(stations.valid());
-    let rounds = settle(alloc, stations, order, longest)?;
-    let settled = is_settled(stations, order);
+    let longest = longest(nodes.valid());
+    let rounds = settle(alloc, nodes, order, longest)?;
+    let settled = is_settled(nodes, order);
     Ok(Answer::Rounds { rounds, settled })
 }
 
 /// The tables of a control node or of an agent.
-fn shown<S: Stations>(stations: &S, name: &Name) -> Result<Answer, NoMemory>
-    requires { S.failed stations.now ≡ false }
+fn shown(nodes: &Nodes, name: &Name) -> Result<Answer, NoMemory>
+    requires { nodes.now.failed ≡ false }
     ensures { IfOk result (λ a. a
-        ≡ shown_at (seats_of.seat_named (S.seats stations.now) name.now) (S.seats stations.now)) }
+        ≡ shown_at (seats_of.seat_named nodes.now.seats name.now) nodes.now.seats) }
 {
-    match stations.seat_named(name) {
+    match nodes.seat_named(name) {
         None => Ok(Answer::Idle),
         Some(0) => Ok(Answer::Idle),
         Some(node) => {
-            let rows = stations.rows(node)?;
+            let rows = nodes.rows(node)?;
             Ok(Answer::Shown(rows))
         }
     }
 }
 
 /// An event happens.
-pub(crate) fn happen<S: Stations>(
+pub(crate) fn happen(
     alloc: Global,
-    stations: &mut S,
+    nodes: &mut Nodes,
     order: &[SessionEnds],
     event: &Event,
 ) -> Result<Answer, NoMemory>
     requires form { IsTrue (has_event_form event.now) }
-    requires long { AreLong (S.seats stations.old) }
-    requires configured { IsConfigured (S.seats stations.old) }
-    requires seated { All (AreSeated (S.seats stations.old)) order.now }
-    requires works { S.failed stations.old ≡ false }
-    ensures happens { IfOk result (λ a. (x : Checked) → (seat (S.seats stations.old) 0).who ≡ Configuring x
-        → Happens x order.now event.now (S.seats stations.old) a (S.seats stations.new)) }
-    ensures keeps { IfOk result (λ _. Keeps (S.seats stations.old) (S.seats stations.new)) }
-    ensures works { IfOk result (λ _. S.failed stations.new ≡ false) }
+    requires long { AreLong nodes.old.seats }
+    requires configured { IsConfigured nodes.old.seats }
+    requires seated { All (AreSeated nodes.old.seats) order.now }
+    requires works { nodes.old.failed ≡ false }
+    ensures happens { IfOk result (λ a. (x : Checked) → (seat nodes.old.seats 0).who ≡ Configuring x
+        → Happens x order.now event.now nodes.old.seats a nodes.new.seats) }
+    ensures keeps { IfOk result (λ _. Keeps nodes.old.seats nodes.new.seats) }
+    ensures works { IfOk result (λ _. nodes.new.failed ≡ false) }
     ensures shown { IfOk result (λ a. IsAnswerTo event.now a) }
 {
     match event {
-        Event::Edit(edit) => edited(stations, edit),
-        Event::Deliver { from, to, n } => delivered(stations, from, to, *n),
-        Event::Lose { a, b } => Ok(lost(stations, a, b)),
-        Event::Connect { a, b } => connected(stations, order, a, b),
-        Event::Restart { node } => Ok(restarted(stations, node)),
+        Event::Edit(edit) => edited(nodes, edit),
+        Event::Deliver { from, to, n } => delivered(nodes, from, to, *n),
+        Event::Lose { a, b } => Ok(lost(nodes, a, b)),
+        Event::Connect { a, b } => connected(nodes, order, a, b),
+        Event::Restart { node } => Ok(restarted(nodes, node)),
         Event::Round => {
-            round(alloc, stations, order)?;
+            round(alloc, nodes, order)?;
             Ok(Answer::Did)
         }
-        Event::Settle => settled(alloc, stations, order),
-        Event::Show { node } => shown(stations, node),
-        Event::Trace(packet) => Ok(Answer::Traced(stations.trace(*packet))),
+        Event::Settle => settled(alloc, nodes, order),
+        Event::Show { node } => shown(nodes, node),
+        Event::Trace(packet) => Ok(Answer::Traced(nodes.trace(*packet))),
     }
 }

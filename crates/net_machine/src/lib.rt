@@ -12,7 +12,6 @@ mod net;
 mod order;
 mod round;
 mod settle;
-mod typed;
 
 pub use ends::SessionEnds;
 pub use net::Net;

@@ -2,87 +2,89 @@
 ghost use Rattle.std.specs.Prelude.{◌≡◌, ◌<◌, [], length, false};
 ghost use Rattle.net_model.specs.Seats as seats_of;
 ghost use Rattle.net_model.specs.Steps.{with_link, with_notice};
-ghost use Rattle.net_machine.specs.Losses.{cut, lost, restarted, told_of_loss};
+ghost use Rattle.net_steps.specs.Losing.{cut, restarted, told_of_loss};
+ghost use Rattle.net_machine.specs.Losses.{lost};
 ghost use Rattle.net_machine.specs.Seating.{AreLong, AreSeated, IsSeated, Keeps};
 
 use crate::ends::{SessionEnds, is_down};
-use net_model::{Place, Stations};
+use net_model::Place;
+use net_seats::Nodes;
 
-fn set_notice<S: Stations>(stations: &mut S, place: Place, waits: bool)
-    requires long { AreLong (S.seats stations.old) }
-    requires seated { IsSeated (S.seats stations.old) place }
-    ensures set { S.seats stations.new ≡ with_notice place waits (S.seats stations.old) }
-    ensures keeps { Keeps (S.seats stations.old) (S.seats stations.new) }
-    ensures failed { S.failed stations.new ≡ S.failed stations.old }
+fn set_notice(nodes: &mut Nodes, place: Place, waits: bool)
+    requires long { AreLong nodes.old.seats }
+    requires seated { IsSeated nodes.old.seats place }
+    ensures set { nodes.new.seats ≡ with_notice place waits nodes.old.seats }
+    ensures keeps { Keeps nodes.old.seats nodes.new.seats }
+    ensures failed { nodes.new.failed ≡ nodes.old.failed }
 {
-    stations.set_notice(place, waits);
+    nodes.set_notice(place, waits);
 }
 
-fn clear<S: Stations>(stations: &mut S, place: Place)
-    requires long { AreLong (S.seats stations.old) }
-    requires seated { IsSeated (S.seats stations.old) place }
-    ensures cleared { S.seats stations.new ≡ with_link place [] (S.seats stations.old) }
-    ensures keeps { Keeps (S.seats stations.old) (S.seats stations.new) }
-    ensures failed { S.failed stations.new ≡ S.failed stations.old }
+fn clear(nodes: &mut Nodes, place: Place)
+    requires long { AreLong nodes.old.seats }
+    requires seated { IsSeated nodes.old.seats place }
+    ensures cleared { nodes.new.seats ≡ with_link place [] nodes.old.seats }
+    ensures keeps { Keeps nodes.old.seats nodes.new.seats }
+    ensures failed { nodes.new.failed ≡ nodes.old.failed }
 {
-    stations.clear(place);
+    nodes.clear(place);
 }
 
 /// A notice waits at each end then, and nothing is in flight.
-fn cut<S: Stations>(stations: &mut S, ends: SessionEnds)
-    requires long { AreLong (S.seats stations.old) }
-    requires seated { AreSeated (S.seats stations.old) ends }
-    ensures cut { S.seats stations.new ≡ cut (S.seats stations.old) ends }
-    ensures keeps { Keeps (S.seats stations.old) (S.seats stations.new) }
-    ensures failed { S.failed stations.new ≡ S.failed stations.old }
+fn cut(nodes: &mut Nodes, ends: SessionEnds)
+    requires long { AreLong nodes.old.seats }
+    requires seated { AreSeated nodes.old.seats ends }
+    ensures cut { nodes.new.seats ≡ cut ends.near ends.far nodes.old.seats }
+    ensures keeps { Keeps nodes.old.seats nodes.new.seats }
+    ensures failed { nodes.new.failed ≡ nodes.old.failed }
 {
-    set_notice(stations, ends.near, true);
-    set_notice(stations, ends.far, true);
-    clear(stations, ends.near);
-    clear(stations, ends.far);
+    set_notice(nodes, ends.near, true);
+    set_notice(nodes, ends.far, true);
+    clear(nodes, ends.near);
+    clear(nodes, ends.far);
 }
 
 /// A session that is not down is lost.
-pub(crate) fn lose<S: Stations>(stations: &mut S, ends: SessionEnds)
-    requires long { AreLong (S.seats stations.old) }
-    requires seated { AreSeated (S.seats stations.old) ends }
-    ensures lost { S.seats stations.new ≡ lost (S.seats stations.old) ends }
-    ensures keeps { Keeps (S.seats stations.old) (S.seats stations.new) }
-    ensures failed { S.failed stations.new ≡ S.failed stations.old }
+pub(crate) fn lose(nodes: &mut Nodes, ends: SessionEnds)
+    requires long { AreLong nodes.old.seats }
+    requires seated { AreSeated nodes.old.seats ends }
+    ensures lost { nodes.new.seats ≡ lost nodes.old.seats ends }
+    ensures keeps { Keeps nodes.old.seats nodes.new.seats }
+    ensures failed { nodes.new.failed ≡ nodes.old.failed }
 {
-    if !is_down(stations, ends) {
-        cut(stations, ends);
+    if !is_down(nodes, ends) {
+        cut(nodes, ends);
     }
 }
 
 /// The other end of a session is told of its loss, where it is live, and what left it is gone.
-fn tell_of_loss<S: Stations>(stations: &mut S, place: Place)
-    requires long { AreLong (S.seats stations.old) }
-    requires seated { IsSeated (S.seats stations.old) place }
-    ensures told { S.seats stations.new
-        ≡ told_of_loss (S.seats stations.old) (seats_of.far_of (S.seats stations.old) place) }
-    ensures keeps { Keeps (S.seats stations.old) (S.seats stations.new) }
-    ensures failed { S.failed stations.new ≡ S.failed stations.old }
+fn tell_of_loss(nodes: &mut Nodes, place: Place)
+    requires long { AreLong nodes.old.seats }
+    requires seated { IsSeated nodes.old.seats place }
+    ensures told { nodes.new.seats
+        ≡ told_of_loss nodes.old.seats (seats_of.far_of nodes.old.seats place) }
+    ensures keeps { Keeps nodes.old.seats nodes.new.seats }
+    ensures failed { nodes.new.failed ≡ nodes.old.failed }
 {
-    if let Some(far) = stations.far_of(place) {
-        let is_live = stations.is_live(far);
-        set_notice(stations, far, is_live);
-        clear(stations, far);
+    if let Some(far) = nodes.far_of(place) {
+        let is_live = nodes.is_live(far);
+        set_notice(nodes, far, is_live);
+        clear(nodes, far);
     }
 }
 
 /// A node loses all that it has, and then the other end of each of its sessions is told.
-pub(crate) fn restart<S: Stations>(stations: &mut S, node: u16)
+pub(crate) fn restart(nodes: &mut Nodes, node: u16)
     requires above { 0 < node }
-    requires node { node < length (S.seats stations.old) }
-    requires long { AreLong (S.seats stations.old) }
-    ensures restarted { S.seats stations.new ≡ restarted (S.seats stations.old) node }
-    ensures keeps { Keeps (S.seats stations.old) (S.seats stations.new) }
-    ensures failed { S.failed stations.old ≡ false → S.failed stations.new ≡ false }
+    requires node { node < length nodes.old.seats }
+    requires long { AreLong nodes.old.seats }
+    ensures restarted { nodes.new.seats ≡ restarted nodes.old.seats node }
+    ensures keeps { Keeps nodes.old.seats nodes.new.seats }
+    ensures failed { nodes.old.failed ≡ false → nodes.new.failed ≡ false }
 {
-    let sessions = stations.sessions(node);
-    stations.restart(node);
+    let sessions = nodes.sessions(node);
+    nodes.restart(node);
     for session in 0..sessions {
-        tell_of_loss(stations, Place { node, session });
+        tell_of_loss(nodes, Place { node, session });
     }
 }

@@ -1,11 +1,13 @@
 //! A network that runs: it takes the events of a schedule.
-ghost use Rattle.std.specs.Prelude.{◌≡◌, ◌++◌, ◌∷◌, [], true, false, IfOk, IsErr, IsTrue, OnErr, OnOk};
+ghost use Rattle.std.specs.Prelude.{◌≡◌, ◌++◌, ◌∷◌, [], map, true, false, IfOk, IsErr, IsTrue, OnErr, OnOk};
 ghost use Rattle.report.specs.Answers.{IsAnswerTo};
 ghost use Rattle.config_model.specs.Event.{has_event_form};
 ghost use Rattle.network_model.specs.Events.{answer_to, event_of};
 ghost use Rattle.network_model.specs.Steps.{is_settled};
 ghost use Rattle.compiled_laws.specs.Moments.{SettlesInTime};
+ghost use Rattle.net_model.specs.Seats.{whos};
 ghost use Rattle.net_model.specs.Stands.{StandsFor, any_size, moment};
+ghost use Rattle.net_model.specs.Steps.{fresh_seat};
 ghost use Rattle.schedule_laws.specs.Compiled.{AnswersCompiled};
 ghost use Rattle.schedule_laws.specs.Ends.{SettlesAtOnce};
 ghost use Rattle.net_machine.specs.Shown.{ShowsCompiled};
@@ -14,39 +16,13 @@ use crate::ends::SessionEnds;
 use crate::happen::happen;
 use crate::order::order_of;
 use crate::settle::is_settled;
-use crate::typed::know_subnets;
-use config_check::{Valid, check};
-use config_model::{Config, Event, Topology};
-use net_model::Stations;
+use config_check::Valid;
+use config_model::Event;
 use net_seats::Nodes;
 use ov_types::{Items, NoMemory};
 use schedule_script::Answer;
-use std::alloc::{AllocError, Global};
+use std::alloc::Global;
 use std::marker::Model;
-
-fn copied_topology(topology: &Topology) -> Result<Topology, AllocError>
-    ensures { IfOk result (λ copy. copy ≡ topology.now) }
-{
-    topology.clone()
-}
-
-fn copied_config(config: &Config) -> Result<Config, AllocError>
-    ensures { IfOk result (λ copy. copy ≡ config.now) }
-{
-    config.clone()
-}
-
-/// A copy of a valid configuration, with its topology.
-fn copied(alloc: Global, valid: &Valid) -> Result<Valid, NoMemory>
-    ensures { IfOk result (λ copy. copy ≡ valid.now) }
-{
-    let topology = copied_topology(valid.topology())?;
-    let config = copied_config(valid.config())?;
-    match check(alloc, topology, config) {
-        Ok(copy) => Ok(copy),
-        Err(_) => Err(NoMemory),
-    }
-}
 
 /// The nodes of a topology over queue links, with the events that they took. Contracts see the opening configuration,
 /// the events, the nodes' seats, and whether memory was wanting in an event: after that every event fails. The seats
@@ -78,6 +54,28 @@ impl Model for Net {
         → IsRunning n.opening n.events n.nodes.seats n.order.items × (n.nodes.failed ≡ false) };
 }
 
+/// A network of nodes that have nothing of each other.
+fn with_nodes(alloc: Global, nodes: Nodes, opening: Valid) -> Result<Net, NoMemory>
+    requires seats { nodes.seats ≡ map fresh_seat (whos opening) }
+    requires works { nodes.failed ≡ false }
+    ensures opening { IfOk result (λ net. net.opening ≡ opening) }
+    ensures events { IfOk result (λ net. net.events ≡ []) }
+    ensures works { IfOk result (λ net. net.failed ≡ false) }
+    ensures state { IfOk result (λ net. StandsFor net.seats (moment opening [])) }
+    ensures rounds { IfOk result (λ net. SettlesInTime any_size (moment net.opening net.events)) }
+{
+    let _config = opening.config();
+    let order = order_of(alloc, &nodes, &opening)?;
+    Ok(Net {
+        alloc,
+        nodes,
+        order,
+        opening,
+        events: Items::new(alloc),
+        failed: false,
+    })
+}
+
 impl Net {
     /// A network in which nothing has happened: no session is open, and no node has anything of another.
     pub fn new(alloc: Global, valid: Valid) -> Result<Net, NoMemory>
@@ -87,18 +85,9 @@ impl Net {
         ensures state { IfOk result (λ net. StandsFor net.seats (moment valid [])) }
         ensures rounds { IfOk result (λ net. SettlesInTime any_size (moment net.opening net.events)) }
     {
-        let opening = copied(alloc, &valid)?;
-        object_laws::know_subnets(opening.config());
+        let opening = valid.copy()?;
         let nodes = Nodes::new(alloc, valid)?;
-        let order = order_of(alloc, &nodes, &opening)?;
-        Ok(Net {
-            alloc,
-            nodes,
-            order,
-            opening,
-            events: Items::new(alloc),
-            failed: false,
-        })
+        with_nodes(alloc, nodes, opening)
     }
 
     /// The network takes an event. Where memory is wanting, what its nodes have then is not said, and every later event
@@ -126,7 +115,6 @@ impl Net {
             return Err(NoMemory);
         }
         self.failed = true;
-        know_subnets(&event);
         let answer = happen(self.alloc, &mut self.nodes, self.order.as_slice(), &event)?;
         self.events.push(event)?;
         self.failed = false;

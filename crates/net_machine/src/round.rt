@@ -6,7 +6,7 @@ ghost use Rattle.net_machine.specs.Seating.{AreLong, AreSeated, Keeps, turned as
 
 use crate::deliver::deliver;
 use crate::ends::{SessionEnds, turned, waiting};
-use net_model::Stations;
+use net_seats::Nodes;
 use ov_types::NoMemory;
 use std::alloc::Global;
 
@@ -18,94 +18,82 @@ pub struct Due {
     pub count: usize,
 }
 
-fn due_at<S: Stations>(stations: &S, ends: SessionEnds) -> Due
-    requires { AreSeated (S.seats stations.now) ends }
-    ensures { result ≡ due_at (S.seats stations.now) ends }
+fn due_at(nodes: &Nodes, ends: SessionEnds) -> Due
+    requires { AreSeated nodes.now.seats ends }
+    ensures { result ≡ due_at nodes.now.seats ends }
 {
     Due {
         ends,
-        is_notice: stations.has_notice(ends.near),
-        count: waiting(stations, ends),
+        is_notice: nodes.has_notice(ends.near),
+        count: waiting(nodes, ends),
     }
 }
 
 /// Appends what waits in a session, from its near node to its far one, and then back.
-fn push_dues<S: Stations>(
-    stations: &S,
-    ends: SessionEnds,
-    due: &mut Vec<Due>,
-) -> Result<(), NoMemory>
-    requires { AreSeated (S.seats stations.now) ends }
+fn push_dues(nodes: &Nodes, ends: SessionEnds, due: &mut Vec<Due>) -> Result<(), NoMemory>
+    requires { AreSeated nodes.now.seats ends }
     ensures { OnOk result (due.new.items
-        ≡ due.old.items ++ due_at (S.seats stations.now) (turned_ends ends) ∷ due_at (S.seats stations.now) ends ∷ []) }
+        ≡ due.old.items ++ due_at nodes.now.seats (turned_ends ends) ∷ due_at nodes.now.seats ends ∷ []) }
 {
-    due.push(due_at(stations, turned(ends)))?;
-    due.push(due_at(stations, ends))?;
+    due.push(due_at(nodes, turned(ends)))?;
+    due.push(due_at(nodes, ends))?;
     Ok(())
 }
 
 /// What waits as a round begins.
-fn dues<S: Stations>(
-    alloc: Global,
-    stations: &S,
-    order: &[SessionEnds],
-) -> Result<Vec<Due>, NoMemory>
-    requires { All (AreSeated (S.seats stations.now)) order.now }
-    ensures dues { IfOk result (λ due. due.items ≡ dues (S.seats stations.now) order.now) }
-    ensures seated { IfOk result (λ due. All (IsDueSeated (S.seats stations.now)) due.items) }
+fn dues(alloc: Global, nodes: &Nodes, order: &[SessionEnds]) -> Result<Vec<Due>, NoMemory>
+    requires { All (AreSeated nodes.now.seats) order.now }
+    ensures dues { IfOk result (λ due. due.items ≡ dues nodes.now.seats order.now) }
+    ensures seated { IfOk result (λ due. All (IsDueSeated nodes.now.seats) due.items) }
 {
     let mut due = Vec::new(alloc);
     for ends in order {
-        push_dues(stations, *ends, &mut due)?;
+        push_dues(nodes, *ends, &mut due)?;
     }
     Ok(due)
 }
 
 /// One of those that waited is delivered, where it is still there.
-fn deliver_due<S: Stations>(stations: &mut S, due: &Due) -> Result<(), NoMemory>
-    requires long { AreLong (S.seats stations.old) }
-    requires seated { AreSeated (S.seats stations.old) due.now.ends }
-    ensures delivers { IfOk result (λ _. DeliversDue due.now (S.seats stations.old) (S.seats stations.new)) }
-    ensures keeps { IfOk result (λ _. Keeps (S.seats stations.old) (S.seats stations.new)) }
-    ensures failed { IfOk result (λ _. S.failed stations.new ≡ S.failed stations.old) }
+fn deliver_due(nodes: &mut Nodes, due: &Due) -> Result<(), NoMemory>
+    requires long { AreLong nodes.old.seats }
+    requires seated { AreSeated nodes.old.seats due.now.ends }
+    ensures delivers { IfOk result (λ _. DeliversDue due.now nodes.old.seats nodes.new.seats) }
+    ensures keeps { IfOk result (λ _. Keeps nodes.old.seats nodes.new.seats) }
+    ensures failed { IfOk result (λ _. nodes.new.failed ≡ nodes.old.failed) }
 {
-    if stations.has_notice(due.ends.near) == due.is_notice {
-        deliver(stations, due.ends)
+    if nodes.has_notice(due.ends.near) == due.is_notice {
+        deliver(nodes, due.ends)
     } else {
         Ok(())
     }
 }
 
 /// All that waited in one direction.
-fn deliver_dues<S: Stations>(stations: &mut S, due: &Due) -> Result<(), NoMemory>
-    requires long { AreLong (S.seats stations.old) }
-    requires seated { AreSeated (S.seats stations.old) due.now.ends }
-    ensures delivers { IfOk result (λ _. DeliversDues due.now.count due.now (S.seats stations.old)
-        (S.seats stations.new)) }
-    ensures keeps { IfOk result (λ _. Keeps (S.seats stations.old) (S.seats stations.new)) }
-    ensures failed { IfOk result (λ _. S.failed stations.new ≡ S.failed stations.old) }
+fn deliver_dues(nodes: &mut Nodes, due: &Due) -> Result<(), NoMemory>
+    requires long { AreLong nodes.old.seats }
+    requires seated { AreSeated nodes.old.seats due.now.ends }
+    ensures delivers { IfOk result (λ _. DeliversDues due.now.count due.now nodes.old.seats
+        nodes.new.seats) }
+    ensures keeps { IfOk result (λ _. Keeps nodes.old.seats nodes.new.seats) }
+    ensures failed { IfOk result (λ _. nodes.new.failed ≡ nodes.old.failed) }
 {
     for _ in 0..due.count {
-        deliver_due(stations, due)?;
+        deliver_due(nodes, due)?;
     }
     Ok(())
 }
 
 /// All that waits as the round begins is taken, each direction in its turn.
-pub(crate) fn round<S: Stations>(
-    alloc: Global,
-    stations: &mut S,
-    order: &[SessionEnds],
-) -> Result<(), NoMemory>
-    requires long { AreLong (S.seats stations.old) }
-    requires seated { All (AreSeated (S.seats stations.old)) order.now }
-    ensures round { IfOk result (λ _. IsRound order.now (S.seats stations.old) (S.seats stations.new)) }
-    ensures keeps { IfOk result (λ _. Keeps (S.seats stations.old) (S.seats stations.new)) }
-    ensures failed { IfOk result (λ _. S.failed stations.new ≡ S.failed stations.old) }
+pub(crate) fn round(alloc: Global, nodes: &mut Nodes, order: &[SessionEnds]) -> Result<(), NoMemory>
+    requires long { AreLong nodes.old.seats }
+    requires seated { All (AreSeated nodes.old.seats) order.now }
+    ensures round { IfOk result (λ _. IsRound order.now nodes.old.seats nodes.new.seats) }
+    ensures keeps { IfOk result (λ _. Keeps nodes.old.seats nodes.new.seats) }
+    ensures failed { IfOk result (λ _. nodes.new.failed ≡ nodes.old.failed) }
 {
-    let due = dues(alloc, stations, order)?;
+    let due = dues(alloc, nodes, order)?;
     for one in &due {
-        deliver_dues(stations, one)?;
+        deliver_dues(nodes, one)?;
     }
     Ok(())
 }

@@ -7,24 +7,24 @@ ghost use Rattle.net_machine.specs.Settling.{RoundsFrom, Settles, is_quiet, is_r
 use crate::connect::connect_all;
 use crate::ends::{SessionEnds, turned, waiting};
 use crate::round::round;
-use net_model::Stations;
+use net_seats::Nodes;
 use ov_types::NoMemory;
 use std::alloc::Global;
 
 /// Whether nothing is in flight on a session.
-fn is_still<S: Stations>(stations: &S, ends: SessionEnds) -> bool
-    requires { AreSeated (S.seats stations.now) ends }
-    ensures { result ≡ is_still (S.seats stations.now) ends }
+fn is_still(nodes: &Nodes, ends: SessionEnds) -> bool
+    requires { AreSeated nodes.now.seats ends }
+    ensures { result ≡ is_still nodes.now.seats ends }
 {
-    waiting(stations, ends) == 0 && waiting(stations, turned(ends)) == 0
+    waiting(nodes, ends) == 0 && waiting(nodes, turned(ends)) == 0
 }
 
-fn is_quiet<S: Stations>(stations: &S, order: &[SessionEnds]) -> bool
-    requires { All (AreSeated (S.seats stations.now)) order.now }
-    ensures { result ≡ is_quiet (S.seats stations.now) order.now }
+fn is_quiet(nodes: &Nodes, order: &[SessionEnds]) -> bool
+    requires { All (AreSeated nodes.now.seats) order.now }
+    ensures { result ≡ is_quiet nodes.now.seats order.now }
 {
     for ends in order {
-        if !is_still(stations, *ends) {
+        if !is_still(nodes, *ends) {
             return false;
         }
     }
@@ -32,19 +32,19 @@ fn is_quiet<S: Stations>(stations: &S, order: &[SessionEnds]) -> bool
 }
 
 /// Whether a session is up at both ends, and nothing is in flight on it.
-fn is_rested<S: Stations>(stations: &S, ends: SessionEnds) -> bool
-    requires { AreSeated (S.seats stations.now) ends }
-    ensures { result ≡ is_rested (S.seats stations.now) ends }
+fn is_rested(nodes: &Nodes, ends: SessionEnds) -> bool
+    requires { AreSeated nodes.now.seats ends }
+    ensures { result ≡ is_rested nodes.now.seats ends }
 {
-    stations.is_up(ends.near) && stations.is_up(ends.far) && is_still(stations, ends)
+    nodes.is_up(ends.near) && nodes.is_up(ends.far) && is_still(nodes, ends)
 }
 
-pub(crate) fn is_settled<S: Stations>(stations: &S, order: &[SessionEnds]) -> bool
-    requires { All (AreSeated (S.seats stations.now)) order.now }
-    ensures { result ≡ is_settled (S.seats stations.now) order.now }
+pub(crate) fn is_settled(nodes: &Nodes, order: &[SessionEnds]) -> bool
+    requires { All (AreSeated nodes.now.seats) order.now }
+    ensures { result ≡ is_settled nodes.now.seats order.now }
 {
     for ends in order {
-        if !is_rested(stations, *ends) {
+        if !is_rested(nodes, *ends) {
             return false;
         }
     }
@@ -52,25 +52,25 @@ pub(crate) fn is_settled<S: Stations>(stations: &S, order: &[SessionEnds]) -> bo
 }
 
 /// Rounds until nothing is in flight, at most so many. Answers their number, after the one that was done before.
-fn rounds<S: Stations>(
+fn rounds(
     alloc: Global,
-    stations: &mut S,
+    nodes: &mut Nodes,
     order: &[SessionEnds],
     most: u32,
 ) -> Result<u32, NoMemory>
     requires most { most < 2 ^ 31 }
-    requires long { AreLong (S.seats stations.old) }
-    requires seated { All (AreSeated (S.seats stations.old)) order.now }
-    ensures rounds { IfOk result (λ n. RoundsFrom most 1 order.now (S.seats stations.old) n (S.seats stations.new)) }
-    ensures keeps { IfOk result (λ _. Keeps (S.seats stations.old) (S.seats stations.new)) }
-    ensures failed { IfOk result (λ _. S.failed stations.new ≡ S.failed stations.old) }
+    requires long { AreLong nodes.old.seats }
+    requires seated { All (AreSeated nodes.old.seats) order.now }
+    ensures rounds { IfOk result (λ n. RoundsFrom most 1 order.now nodes.old.seats n nodes.new.seats) }
+    ensures keeps { IfOk result (λ _. Keeps nodes.old.seats nodes.new.seats) }
+    ensures failed { IfOk result (λ _. nodes.new.failed ≡ nodes.old.failed) }
 {
     let mut done = 1;
     for _ in 0..most {
-        if is_quiet(stations, order) {
+        if is_quiet(nodes, order) {
             return Ok(done);
         }
-        round(alloc, stations, order)?;
+        round(alloc, nodes, order)?;
         done += 1;
     }
     Ok(done)
@@ -78,20 +78,20 @@ fn rounds<S: Stations>(
 
 /// One round, then every session that may be is connected, and then rounds until nothing is in flight, at most 6 more
 /// in all than the longest chain in effect has services. Answers the number of rounds.
-pub(crate) fn settle<S: Stations>(
+pub(crate) fn settle(
     alloc: Global,
-    stations: &mut S,
+    nodes: &mut Nodes,
     order: &[SessionEnds],
     longest: u32,
 ) -> Result<u32, NoMemory>
     requires longest { longest ≤ 15 }
-    requires long { AreLong (S.seats stations.old) }
-    requires seated { All (AreSeated (S.seats stations.old)) order.now }
-    ensures settles { IfOk result (λ n. Settles longest order.now (S.seats stations.old) n (S.seats stations.new)) }
-    ensures keeps { IfOk result (λ _. Keeps (S.seats stations.old) (S.seats stations.new)) }
-    ensures failed { IfOk result (λ _. S.failed stations.new ≡ S.failed stations.old) }
+    requires long { AreLong nodes.old.seats }
+    requires seated { All (AreSeated nodes.old.seats) order.now }
+    ensures settles { IfOk result (λ n. Settles longest order.now nodes.old.seats n nodes.new.seats) }
+    ensures keeps { IfOk result (λ _. Keeps nodes.old.seats nodes.new.seats) }
+    ensures failed { IfOk result (λ _. nodes.new.failed ≡ nodes.old.failed) }
 {
-    round(alloc, stations, order)?;
-    connect_all(stations, order)?;
-    rounds(alloc, stations, order, longest + 5)
+    round(alloc, nodes, order)?;
+    connect_all(nodes, order)?;
+    rounds(alloc, nodes, order, longest + 5)
 }

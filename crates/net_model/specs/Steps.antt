@@ -22,8 +22,8 @@ use Rattle.control_node.specs.Core as controls
 use Rattle.control_node.specs.declared.cause.NodeCause.{NodeCause}
 use Rattle.agent_node.specs.Beginning as agent
 use Rattle.agent_node.specs.Core as agents
-use Rattle.net_model.specs.Seats.{Who, Configuring, Controlling, Forwarding, Seat, kind_of, link, seat}
-use Rattle.net_model.specs.Seats.{is_down_at}
+use Rattle.net_model.specs.Seats.{Who, Configuring, Controlling, Forwarding, Seat, is_down_at, kind_of, link}
+use Rattle.net_model.specs.Seats.{others_of, seat}
 use Rattle.net_model.specs.declared.place.Place.{Place}
 
 -- ---- an input makes this of its end
@@ -88,6 +88,15 @@ emptied n = record {
   posts = all_of nothing n.posts;
   links = all_of [] n.links;
   notices = all_of false n.notices;
+}
+
+-- a seat of which every session is idle, with nothing in flight and no notice
+abbrev pub fresh_seat : Who → Seat
+fresh_seat who = record {
+  who = who;
+  posts = all_of nothing (others_of who);
+  links = all_of [] (others_of who);
+  notices = all_of false (others_of who);
 }
 
 -- ---- an edit at the configuration node, whose number is 0: a fault changes nothing, and else every control node is

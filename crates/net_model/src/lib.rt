@@ -3,7 +3,5 @@
 #![tactic(auto)]
 
 mod place;
-mod stations;
 
 pub use place::Place;
-pub use stations::Stations;

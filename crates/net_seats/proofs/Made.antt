@@ -13,11 +13,11 @@ use Rattle.config_node.specs.Core as configuration
 use Rattle.control_node.specs.Core as control
 use Rattle.agent_node.specs.Core as agent
 use Rattle.net_model.specs.Seats.{Configuring, Controlling, Forwarding, Seat, Who, agent_plan, control_plan, controller_named, id_of, names_of, others_of, whos}
-use Rattle.net_model.specs.Steps.{all_of}
+use Rattle.net_model.specs.Steps.{all_of, fresh_seat}
 use Rattle.net_seats.specs.Cores.{configured, controlled, forwarded, inners}
-use Rattle.net_seats.specs.Fresh.{IsSetUp, fresh_inner, fresh_outer, fresh_seat}
+use Rattle.net_seats.specs.Fresh.{IsSetUp, fresh_inner, fresh_outer}
 use Rattle.net_seats.specs.Halves.{AreAllHalves, Inner, Outer, joined}
-use Rattle.net_seats.proofs.Stepping.{as_long, named, nothing_agent, nothing_config, nothing_control, sessions_of_agent, sessions_of_config, sessions_of_control}
+use Rattle.net_seats.proofs.Stepping.{as_long, named, nothings_are, sessions_of_agent, sessions_of_config, sessions_of_control}
 
 -- ---- one more at the end
 one_right : {A : Type 0} (P : A → Type 0) (y : A) → P y → All P (y ∷ [])
@@ -26,6 +26,9 @@ one_right P y p (suc k) d lt = absurd (omega arith)
 
 pub all_right : {A : Type 0} (P : A → Type 0) (xs ys : List A) (y : A) → All P xs → ys ≡ xs ++ y ∷ [] → P y → All P ys
 all_right {A} P xs ys y h is p = subst (λ (zs : List A). All P zs) (sym is) (All-append P xs (y ∷ []) h (one_right P y p))
+
+pub none_right : {A : Type 0} (P : A → Type 0) (xs : List A) → xs ≡ [] → All P xs
+none_right {A} P xs is = subst (λ (ys : List A). All P ys) (sym is) (λ k d lt. absurd (omega arith))
 
 -- ---- how many sessions there are
 mapped_long : {A B : Type 0} (f : A → B) (xs : List A) → length (map f xs) ≡ length xs
@@ -103,7 +106,7 @@ fresh_joined (w ∷ ws) = ap (λ (seats : List Seat). fresh_seat w ∷ seats) (f
 -- ---- what was made
 inner_config : (x : Checked) → configured (configuration.fresh x) ≡ fresh_inner (Configuring x)
 inner_config x =
-    ap (λ (ps : List Post). let n : Inner = record { who = Configuring x; posts = ps } in n) (nothing_config (configuration.sessions x) (others_of (Configuring x)) (sessions_of_config x))
+    ap (λ (ps : List Post). let n : Inner = record { who = Configuring x; posts = ps } in n) (nothings_are (configuration.sessions x) (others_of (Configuring x)) (sessions_of_config x))
 
 inner_controls : (t : Topology) (cs : List NodeId)
     → map controlled (map (λ (c : NodeId). control.fresh (control_plan t c)) cs) ≡ map fresh_inner (map (λ (c : NodeId). Controlling (control_plan t c)) cs)
@@ -111,7 +114,7 @@ inner_controls t [] = refl
 inner_controls t (c ∷ cs) =
     let plan = control_plan t c in
     ap (λ (ps : List Post). let n : Inner = record { who = Controlling plan; posts = ps } in n ∷ map controlled (map (λ (c : NodeId). control.fresh (control_plan t c)) cs))
-    (nothing_control (control.sessions plan) (others_of (Controlling plan)) (sessions_of_control plan))
+    (nothings_are (control.sessions plan) (others_of (Controlling plan)) (sessions_of_control plan))
     ∙ ap (λ (ns : List Inner). fresh_inner (Controlling plan) ∷ ns) (inner_controls t cs)
 
 inner_agents : (t : Topology) (ns : List Node)
@@ -120,7 +123,7 @@ inner_agents t [] = refl
 inner_agents t (n ∷ ns) =
     let plan = agent_plan t n in
     ap (λ (ps : List Post). let m : Inner = record { who = Forwarding plan; posts = ps } in m ∷ map forwarded (map (λ (n : Node). agent.fresh (agent_plan t n)) ns))
-    (nothing_agent (agent.sessions plan) (others_of (Forwarding plan)) (sessions_of_agent plan))
+    (nothings_are (agent.sessions plan) (others_of (Forwarding plan)) (sessions_of_agent plan))
     ∙ ap (λ (ms : List Inner). fresh_inner (Forwarding plan) ∷ ms) (inner_agents t ns)
 
 map_both : {A B : Type 0} (f : A → B) (xs ys : List A) → map f xs ++ map f ys ≡ map f (xs ++ ys)

@@ -58,6 +58,11 @@ module _ {A B C : Type 0} (f : A → C) (g : B → C) where
   many (x ∷ xs) ys = let rest = many xs ys in omega arith
 
 -- ---- the node of a number
+pub config_is : (v : List Inner) (x : configuration.Core) (cs : List control.Core) (agents : List agent.Core) (node : ℕ)
+    → inners x cs agents ≡ v → 0 ≡ node → inner v node ≡ configured x
+config_is v x cs agents node view number =
+    ap (λ (ns : List Inner). inner ns node) (sym view) ∙ ap (λ (k : ℕ). inner (inners x cs agents) k) (sym number)
+
 module _ (v : List Inner) (x : configuration.Core) (cs : List control.Core) (agents : List agent.Core) (node n i : ℕ)
     (view : inners x cs agents ≡ v) (len : n ≡ length cs) where
   pub control_is : (y : control.Core) → 1 + i ≡ node → i < n → y ≡ get_or cs i y → inner v node ≡ controlled y

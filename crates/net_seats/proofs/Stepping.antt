@@ -9,6 +9,7 @@ use Rattle.config_check.specs.declared.edits.EditFault.{EditFault}
 use Rattle.config_model.specs.declared.edit.Edit.{Edit}
 use Rattle.config_model.specs.declared.topology.Topology.{Topology}
 use Rattle.network_model.specs.Setup.{Name, edited}
+use Rattle.node_core.specs.Resting.{nothings}
 use Rattle.node_core.specs.Whole.{IsWholeStep, session_of}
 use Rattle.node_model.specs.Step.{Begun, Post, Steps, nothing, post}
 use Rattle.config_node.specs.Core as configuration
@@ -56,23 +57,11 @@ pub sessions_of_agent : (plan : AgentPlan) → length (others_of (Forwarding pla
 sessions_of_agent plan = named plan.controllers
 
 -- ---- a node with nothing
-pub nothing_config : {A : Type 0} (n : ℕ) (xs : List A) → length xs ≡ n → configuration.nothings n ≡ all_of nothing xs
-nothing_config zero [] h = refl
-nothing_config zero (x ∷ xs) h = absurd (omega arith)
-nothing_config (suc n) [] h = absurd (omega arith)
-nothing_config (suc n) (x ∷ xs) h = ap (λ (ps : List Post). nothing ∷ ps) (nothing_config n xs (omega arith))
-
-pub nothing_control : {A : Type 0} (n : ℕ) (xs : List A) → length xs ≡ n → control.nothings n ≡ all_of nothing xs
-nothing_control zero [] h = refl
-nothing_control zero (x ∷ xs) h = absurd (omega arith)
-nothing_control (suc n) [] h = absurd (omega arith)
-nothing_control (suc n) (x ∷ xs) h = ap (λ (ps : List Post). nothing ∷ ps) (nothing_control n xs (omega arith))
-
-pub nothing_agent : {A : Type 0} (n : ℕ) (xs : List A) → length xs ≡ n → agent.nothings n ≡ all_of nothing xs
-nothing_agent zero [] h = refl
-nothing_agent zero (x ∷ xs) h = absurd (omega arith)
-nothing_agent (suc n) [] h = absurd (omega arith)
-nothing_agent (suc n) (x ∷ xs) h = ap (λ (ps : List Post). nothing ∷ ps) (nothing_agent n xs (omega arith))
+pub nothings_are : {A : Type 0} (n : ℕ) (xs : List A) → length xs ≡ n → nothings n ≡ all_of nothing xs
+nothings_are zero [] h = refl
+nothings_are zero (x ∷ xs) h = absurd (omega arith)
+nothings_are (suc n) [] h = absurd (omega arith)
+nothings_are (suc n) (x ∷ xs) h = ap (λ (ps : List Post). nothing ∷ ps) (nothings_are n xs (omega arith))
 
 pub as_long : {A B : Type 0} (b : B) (xs : List A) → length (all_of b xs) ≡ length xs
 as_long b [] = refl
@@ -80,15 +69,15 @@ as_long b (x ∷ xs) = ap suc (as_long b xs)
 
 pub config_posts : (x : Checked) (posts : List Post) → length posts ≡ length (others_of (Configuring x))
     → (configuration.fresh x).posts ≡ all_of nothing posts
-config_posts x posts long = nothing_config (configuration.sessions x) posts (long ∙ sessions_of_config x)
+config_posts x posts long = nothings_are (configuration.sessions x) posts (long ∙ sessions_of_config x)
 
 pub control_posts : (plan : ControlPlan) (posts : List Post) → length posts ≡ length (others_of (Controlling plan))
     → (control.fresh plan).posts ≡ all_of nothing posts
-control_posts plan posts long = nothing_control (control.sessions plan) posts (long ∙ sessions_of_control plan)
+control_posts plan posts long = nothings_are (control.sessions plan) posts (long ∙ sessions_of_control plan)
 
 pub agent_posts : (plan : AgentPlan) (posts : List Post) → length posts ≡ length (others_of (Forwarding plan))
     → (agent.fresh plan).posts ≡ all_of nothing posts
-agent_posts plan posts long = nothing_agent (agent.sessions plan) posts (long ∙ sessions_of_agent plan)
+agent_posts plan posts long = nothings_are (agent.sessions plan) posts (long ∙ sessions_of_agent plan)
 
 pub control_emptied : (c c' : control.Core) → c' ≡ control.fresh c.plan → length c.posts ≡ length (others_of (Controlling c.plan))
     → controlled c' ≡ emptied_inner (controlled c)

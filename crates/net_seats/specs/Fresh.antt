@@ -4,20 +4,11 @@ use Rattle.std.specs.List.{All, Contains}
 use Rattle.config_check.specs.Rules.{controller_names}
 use Rattle.config_model.specs.declared.topology.Topology.{Topology}
 use Rattle.node_model.specs.Step.{nothing}
-use Rattle.net_model.specs.Seats.{Seat, Who, name_of, others_of}
+use Rattle.net_model.specs.Seats.{Who, name_of, others_of}
 use Rattle.net_model.specs.Steps.{all_of}
 use Rattle.net_seats.specs.Halves.{Inner, Outer}
 
--- a seat of which every session is idle, with nothing in flight and no notice
-abbrev pub fresh_seat : Who → Seat
-fresh_seat who = record {
-  who = who;
-  posts = all_of nothing (others_of who);
-  links = all_of [] (others_of who);
-  notices = all_of false (others_of who);
-}
-
--- its halves
+-- the halves of a fresh seat
 abbrev pub fresh_inner : Who → Inner
 fresh_inner who = record { who = who; posts = all_of nothing (others_of who) }
 

@@ -9,8 +9,10 @@ ghost use Rattle.net_model.specs.Seats.{Configuring, is_up, others_of};
 ghost use Rattle.net_seats.specs.Changes.{ChangesOne, EditsOver, TakesOver, emptied_inner, forwarders, shown};
 ghost use Rattle.net_seats.specs.Halves.{inner, live, seated};
 
+use crate::acting::{
+    edit_config, restart_agent, show_agent, show_control, take_agent, take_config, take_control,
+};
 use crate::kinds::{Kind, kind_of};
-use crate::{agents, config, controls};
 use agent_node::AgentNode;
 use config_check::{EditFault, Valid};
 use config_model::Edit;
@@ -55,9 +57,9 @@ impl Cores {
         ensures { result ≡ live (inner self.now node) session }
     {
         match kind_of(self.controls.len(), node) {
-            Kind::Configuration => config::is_live(&self.config, session),
-            Kind::Control(place) => controls::is_live(&self.controls[place], session),
-            Kind::Agent(place) => agents::is_live(&self.agents[place], session),
+            Kind::Configuration => self.config.is_live(session),
+            Kind::Control(place) => self.controls[place].is_live(session),
+            Kind::Agent(place) => self.agents[place].is_live(session),
         }
     }
 
@@ -68,9 +70,9 @@ impl Cores {
         ensures { result ≡ is_up (seated (inner self.now node) [] []) session }
     {
         match kind_of(self.controls.len(), node) {
-            Kind::Configuration => config::is_up(&self.config, session),
-            Kind::Control(place) => controls::is_up(&self.controls[place], session),
-            Kind::Agent(place) => agents::is_up(&self.agents[place], session),
+            Kind::Configuration => self.config.is_up(session),
+            Kind::Control(place) => self.controls[place].is_up(session),
+            Kind::Agent(place) => self.agents[place].is_up(session),
         }
     }
 
@@ -94,9 +96,9 @@ impl Cores {
             input.entry) }
     {
         match kind_of(self.controls.len(), node) {
-            Kind::Configuration => config::take(&mut self.config, input, links),
-            Kind::Control(place) => controls::take(&mut self.controls[place], input, links),
-            Kind::Agent(place) => agents::take(&mut self.agents[place], input, links),
+            Kind::Configuration => take_config(&mut self.config, input, links),
+            Kind::Control(place) => take_control(&mut self.controls[place], input, links),
+            Kind::Agent(place) => take_agent(&mut self.agents[place], input, links),
         }
     }
 
@@ -109,8 +111,8 @@ impl Cores {
     {
         match kind_of(self.controls.len(), node) {
             Kind::Configuration => (),
-            Kind::Control(place) => controls::restart(&mut self.controls[place]),
-            Kind::Agent(place) => agents::restart(&mut self.agents[place]),
+            Kind::Control(place) => self.controls[place].restart(),
+            Kind::Agent(place) => restart_agent(&mut self.agents[place]),
         }
     }
 
@@ -138,7 +140,7 @@ impl Cores {
         ensures fault { IfOk result (λ fault. (x : Checked) → (inner self.old 0).who ≡ Configuring x
             → fault ≡ edit_fault x edit.now) }
     {
-        config::edit(&mut self.config, edit, links)
+        edit_config(&mut self.config, edit, links)
     }
 
     /// The tables of a control node or of an agent.
@@ -149,8 +151,8 @@ impl Cores {
     {
         match kind_of(self.controls.len(), node) {
             Kind::Configuration => Err(NoMemory),
-            Kind::Control(place) => controls::rows(&self.controls[place], alloc),
-            Kind::Agent(place) => agents::rows(&self.agents[place], alloc),
+            Kind::Control(place) => show_control(&self.controls[place], alloc),
+            Kind::Agent(place) => show_agent(&self.agents[place], alloc),
         }
     }
 

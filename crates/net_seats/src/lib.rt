@@ -1,9 +1,7 @@
 //! The nodes of a network, joined by links that keep their messages until they are taken.
 #![tactic(auto)]
 
-mod agents;
-mod config;
-mod controls;
+mod acting;
 mod cores;
 mod edges;
 mod finding;
@@ -12,4 +10,6 @@ mod making;
 mod nodes;
 mod plans;
 
+pub use making::config_name;
 pub use nodes::Nodes;
+pub use plans::lists;

@@ -5,7 +5,7 @@ ghost use Rattle.config_check.specs.Rules.{controller_names};
 ghost use Rattle.agent_node.specs.Core.{fresh as fresh_agent};
 ghost use Rattle.control_node.specs.Core.{fresh as fresh_control};
 ghost use Rattle.network_model.specs.Network.{config};
-ghost use Rattle.net_model.specs.Seats.{Configuring, Controlling, Forwarding, agent_plan, control_plan};
+ghost use Rattle.net_model.specs.Seats.{Configuring, Controlling, Forwarding, agent_plan, control_plan, whos};
 ghost use Rattle.net_seats.specs.Cores.{IsRight};
 ghost use Rattle.net_seats.specs.Fresh.{IsSetUp, fresh_outer};
 
@@ -21,7 +21,7 @@ use ov_types::{Name, NoMemory, NodeId};
 use std::alloc::Global;
 
 /// The name of the configuration node.
-fn config_name() -> Name
+pub fn config_name() -> Name
     ensures { result ≡ config }
 {
     match Name::new("config") {
@@ -31,12 +31,22 @@ fn config_name() -> Name
 }
 
 /// The edge of the configuration node.
-pub(crate) fn config_edge(alloc: Global, valid: &Valid) -> Result<Edge, NoMemory>
+fn config_edge(alloc: Global, valid: &Valid) -> Result<Edge, NoMemory>
     requires { IsSetUp valid.now.topology }
     ensures { IfOk result (λ edge. edge ≡ fresh_outer (Configuring valid.now)) }
 {
     let others = others_of_config(alloc, valid.topology())?;
     Edge::new(alloc, config_name(), others)
+}
+
+/// The edge of the configuration node, after those that are there.
+fn add_config(alloc: Global, valid: &Valid, edges: &mut Vec<Edge>) -> Result<(), NoMemory>
+    requires { IsSetUp valid.now.topology }
+    ensures { IfOk result (λ _. edges.new.items ≡ edges.old.items ++ fresh_outer (Configuring valid.now) ∷ []) }
+{
+    let edge = config_edge(alloc, valid)?;
+    edges.push(edge)?;
+    Ok(())
 }
 
 /// One more control node, with its edge.
@@ -63,23 +73,23 @@ fn add_control(
     Ok(())
 }
 
-/// The control nodes, in the order of the topology, whose edges come after those that are there.
-pub(crate) fn add_controls(
+/// The control nodes, in the order of the topology, and their edges come after those that are there.
+fn add_controls(
     alloc: Global,
     topology: &Topology,
+    controls: &mut Vec<ControlNode>,
     edges: &mut Vec<Edge>,
-) -> Result<Vec<ControlNode>, NoMemory>
+) -> Result<(), NoMemory>
     requires { IsSetUp topology.now }
-    ensures controls { IfOk result (λ controls. controls.items
-        ≡ map (λ c. fresh_control (control_plan topology.now c)) topology.now.controllers) }
+    ensures controls { IfOk result (λ _. controls.new.items ≡ controls.old.items
+        ++ map (λ c. fresh_control (control_plan topology.now c)) topology.now.controllers) }
     ensures edges { IfOk result (λ _. edges.new.items ≡ edges.old.items
         ++ map (λ c. fresh_outer (Controlling (control_plan topology.now c))) topology.now.controllers) }
 {
-    let mut controls = Vec::new(alloc);
     for controller in topology.controllers.as_slice() {
-        add_control(alloc, topology, controller, &mut controls, edges)?;
+        add_control(alloc, topology, controller, controls, edges)?;
     }
-    Ok(controls)
+    Ok(())
 }
 
 /// One more agent, with its edge.
@@ -108,22 +118,49 @@ fn add_agent(
     Ok(())
 }
 
-/// The agents, in the order of the topology, whose edges come after those that are there.
-pub(crate) fn add_agents(
+/// The agents, in the order of the topology, and their edges come after those that are there.
+fn add_agents(
     alloc: Global,
     topology: &Topology,
+    agents: &mut Vec<AgentNode>,
     edges: &mut Vec<Edge>,
-) -> Result<Vec<AgentNode>, NoMemory>
-    requires { IsSetUp topology.now }
-    ensures agents { IfOk result (λ agents. agents.items
-        ≡ map (λ n. fresh_agent (agent_plan topology.now n)) topology.now.nodes) }
-    ensures right { IfOk result (λ agents. All IsRight agents.items) }
+) -> Result<(), NoMemory>
+    requires set_up { IsSetUp topology.now }
+    requires right { All IsRight agents.old.items }
+    ensures agents { IfOk result (λ _. agents.new.items ≡ agents.old.items
+        ++ map (λ n. fresh_agent (agent_plan topology.now n)) topology.now.nodes) }
+    ensures right { IfOk result (λ _. All IsRight agents.new.items) }
     ensures edges { IfOk result (λ _. edges.new.items ≡ edges.old.items
         ++ map (λ n. fresh_outer (Forwarding (agent_plan topology.now n))) topology.now.nodes) }
 {
-    let mut agents = Vec::new(alloc);
     for node in topology.nodes.as_slice() {
-        add_agent(alloc, topology, node, &mut agents, edges)?;
+        add_agent(alloc, topology, node, agents, edges)?;
     }
-    Ok(agents)
+    Ok(())
+}
+
+/// The control nodes and the agents of a valid topology, and the edges of all its nodes.
+pub(crate) fn add_all(
+    alloc: Global,
+    valid: &Valid,
+    controls: &mut Vec<ControlNode>,
+    agents: &mut Vec<AgentNode>,
+    edges: &mut Vec<Edge>,
+) -> Result<(), NoMemory>
+    requires controls { controls.old.items ≡ [] }
+    requires agents { agents.old.items ≡ [] }
+    requires edges { edges.old.items ≡ [] }
+    ensures set_up { IfOk result (λ _. IsSetUp valid.now.topology) }
+    ensures controls { IfOk result (λ _. controls.new.items
+        ≡ map (λ c. fresh_control (control_plan valid.now.topology c)) valid.now.topology.controllers) }
+    ensures agents { IfOk result (λ _. agents.new.items
+        ≡ map (λ n. fresh_agent (agent_plan valid.now.topology n)) valid.now.topology.nodes) }
+    ensures right { IfOk result (λ _. All IsRight agents.new.items) }
+    ensures edges { IfOk result (λ _. edges.new.items ≡ map fresh_outer (whos valid.now)) }
+{
+    let topology = valid.topology();
+    add_config(alloc, valid, edges)?;
+    add_controls(alloc, topology, controls, edges)?;
+    add_agents(alloc, topology, agents, edges)?;
+    Ok(())
 }

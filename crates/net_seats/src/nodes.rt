@@ -4,21 +4,24 @@ ghost use Rattle.std.specs.Prelude.{IfOk, IsTrue, slice_set};
 ghost use Rattle.config_check.specs.Checked.{Checked};
 ghost use Rattle.config_check.specs.Edits.{edit_fault};
 ghost use Rattle.config_model.specs.Edit.{has_edit_form};
+ghost use Rattle.config_node.specs.Core.{fresh as fresh_config};
 ghost use Rattle.node_core.specs.Whole.{Comes, session_of};
-ghost use Rattle.net_model.specs.Seats.{Configuring, Seat, is_live, seat, whos};
-ghost use Rattle.net_model.specs.Steps.{MakesEdit, Takes, emptied, with_seat};
-ghost use Rattle.net_seats.specs.Fresh.{fresh_seat};
+ghost use Rattle.route_targets.specs.Forwarding.{forwarding};
+ghost use Rattle.net_model.specs.Seats as seats_of;
+ghost use Rattle.net_model.specs.Seats.{Configuring, Seat, is_live, link_at, live_at, notice_at, seat, up_at, whos};
+ghost use Rattle.net_model.specs.Steps.{MakesEdit, Takes, emptied, forwarders_of, fresh_seat, shown_by};
+ghost use Rattle.net_model.specs.Steps.{with_link, with_notice, with_seat};
 ghost use Rattle.net_seats.specs.Halves.{AreAllHalves, joined};
 
 use crate::cores::Cores;
 use crate::edges::Edge;
 use crate::finding::edge_named;
-use crate::making::{add_agents, add_controls, config_edge};
+use crate::making::add_all;
 use bytes::Bytes;
 use config_check::{EditFault, Valid};
 use config_model::Edit;
 use config_node::ConfigNode;
-use net_model::{Place, Stations};
+use net_model::Place;
 use ov_link::Input;
 use ov_types::{Name, NoMemory, NodeRows, Outcome, Packet};
 use std::alloc::Global;
@@ -100,53 +103,57 @@ impl Model for Nodes {
     ghost invariant = { λ n. AreAllHalves n.cores n.edges.items × (length n.edges.items < 2 ^ 16) };
 }
 
+/// The nodes of what is valid at the configuration node, which has nothing.
+fn with_config(alloc: Global, config: ConfigNode) -> Result<Nodes, NoMemory>
+    requires { config ≡ fresh_config config.setup }
+    ensures seats { IfOk result (λ nodes. nodes.seats ≡ map fresh_seat (whos config.setup)) }
+    ensures works { IfOk result (λ nodes. nodes.failed ≡ false) }
+{
+    let mut controls = Vec::new(alloc);
+    let mut agents = Vec::new(alloc);
+    let mut edges = Vec::new(alloc);
+    add_all(
+        alloc,
+        config.valid(),
+        &mut controls,
+        &mut agents,
+        &mut edges,
+    )?;
+    let cores = Cores {
+        config,
+        controls,
+        agents,
+    };
+    Ok(Nodes {
+        cores,
+        edges,
+        failed: false,
+        alloc,
+    })
+}
+
 impl Nodes {
     /// The nodes of a valid topology. Every session is idle, and nothing is in flight.
     pub fn new(alloc: Global, valid: Valid) -> Result<Nodes, NoMemory>
         ensures seats { IfOk result (λ nodes. nodes.seats ≡ map fresh_seat (whos valid)) }
         ensures works { IfOk result (λ nodes. nodes.failed ≡ false) }
     {
-        let topology = valid.topology();
-        let mut edges = Vec::new(alloc);
-        edges.push(config_edge(alloc, &valid)?)?;
-        let controls = add_controls(alloc, topology, &mut edges)?;
-        let agents = add_agents(alloc, topology, &mut edges)?;
         let config = ConfigNode::new(alloc, valid)?;
-        let cores = Cores {
-            config,
-            controls,
-            agents,
-        };
-        Ok(Nodes {
-            cores,
-            edges,
-            failed: false,
-            alloc,
-        })
+        with_config(alloc, config)
     }
 
-    /// Whether memory was wanting in a step of a node. It takes no memory.
-    pub fn failed(&self) -> bool
-        ensures { result ≡ self.now.failed }
+    /// How many sessions a node has.
+    pub fn sessions(&self, node: u16) -> u16
+        requires { node < length self.now.seats }
+        ensures { result ≡ length (seat self.now.seats node).posts }
     {
-        self.failed
-    }
-}
-
-impl Stations for Nodes {
-    ghost seats = { λ n. n.seats };
-
-    ghost failed = { λ n. n.failed };
-
-    fn nodes(&self) -> u16 {
-        self.edges.len() as u16
-    }
-
-    fn sessions(&self, node: u16) -> u16 {
         self.edges[usize::from(node)].sessions()
     }
 
-    fn place_of(&self, a: &Name, b: &Name) -> Option<Place> {
+    /// The first node's end of its session with the second.
+    pub fn place_of(&self, a: &Name, b: &Name) -> Option<Place>
+        ensures { result ≡ seats_of.place_of self.now.seats a.now b.now }
+    {
         match edge_named(&self.edges, a) {
             None => None,
             Some(node) => match self.edges[usize::from(node)].session_with(b) {
@@ -156,44 +163,97 @@ impl Stations for Nodes {
         }
     }
 
-    fn far_of(&self, place: Place) -> Option<Place> {
+    /// The other end of a session.
+    pub fn far_of(&self, place: Place) -> Option<Place>
+        requires node { place.node < length self.now.seats }
+        requires session { place.session < length (seat self.now.seats place.node).posts }
+        ensures { result ≡ seats_of.far_of self.now.seats place }
+    {
         let edge = &self.edges[usize::from(place.node)];
         self.place_of(edge.other(place.session), edge.name())
     }
 
-    fn seat_named(&self, name: &Name) -> Option<u16> {
+    /// The number of the node of this name.
+    pub fn seat_named(&self, name: &Name) -> Option<u16>
+        ensures { result ≡ seats_of.seat_named self.now.seats name.now }
+    {
         edge_named(&self.edges, name)
     }
 
-    fn is_live(&self, place: Place) -> bool {
+    pub fn is_live(&self, place: Place) -> bool
+        requires node { place.node < length self.now.seats }
+        requires session { place.session < length (seat self.now.seats place.node).posts }
+        ensures { result ≡ live_at self.now.seats place }
+    {
         self.cores.is_live(place.node, place.session)
     }
 
-    fn is_up(&self, place: Place) -> bool {
+    pub fn is_up(&self, place: Place) -> bool
+        requires node { place.node < length self.now.seats }
+        requires session { place.session < length (seat self.now.seats place.node).posts }
+        ensures { result ≡ up_at self.now.seats place }
+    {
         self.cores.is_up(place.node, place.session)
     }
 
-    fn has_notice(&self, place: Place) -> bool {
+    /// Whether a notice of loss waits at an end.
+    pub fn has_notice(&self, place: Place) -> bool
+        requires node { place.node < length self.now.seats }
+        requires session { place.session < length (seat self.now.seats place.node).posts }
+        ensures { result ≡ notice_at self.now.seats place }
+    {
         self.edges[usize::from(place.node)].has_notice(place.session)
     }
 
-    fn sent(&self, place: Place) -> usize {
+    /// How many messages left an end and were not taken.
+    pub fn sent(&self, place: Place) -> usize
+        requires node { place.node < length self.now.seats }
+        requires session { place.session < length (seat self.now.seats place.node).posts }
+        ensures { result ≡ length (link_at self.now.seats place) }
+    {
         self.edges[usize::from(place.node)].sent(place.session)
     }
 
-    fn set_notice(&mut self, place: Place, waits: bool) {
+    pub fn set_notice(&mut self, place: Place, waits: bool)
+        requires node { place.node < length self.old.seats }
+        requires session { place.session < length (seat self.old.seats place.node).posts }
+        ensures set { self.new.seats ≡ with_notice place waits self.old.seats }
+        ensures failed { self.new.failed ≡ self.old.failed }
+    {
         self.edges[usize::from(place.node)].set_notice(place.session, waits);
     }
 
-    fn pop(&mut self, place: Place) -> Option<Bytes> {
+    /// Takes out the first message that left an end.
+    pub fn pop(&mut self, place: Place) -> Option<Bytes>
+        requires node { place.node < length self.old.seats }
+        requires session { place.session < length (seat self.old.seats place.node).posts }
+        ensures first { result ≡ slice_get (link_at self.old.seats place) 0 }
+        ensures rest { self.new.seats ≡ with_link place (drop 1 (link_at self.old.seats place)) self.old.seats }
+        ensures failed { self.new.failed ≡ self.old.failed }
+    {
         self.edges[usize::from(place.node)].pop(place.session)
     }
 
-    fn clear(&mut self, place: Place) {
+    /// Takes out all messages that left an end.
+    pub fn clear(&mut self, place: Place)
+        requires node { place.node < length self.old.seats }
+        requires session { place.session < length (seat self.old.seats place.node).posts }
+        ensures cleared { self.new.seats ≡ with_link place [] self.old.seats }
+        ensures failed { self.new.failed ≡ self.old.failed }
+    {
         self.edges[usize::from(place.node)].clear(place.session);
     }
 
-    fn take(&mut self, node: u16, input: Input<'_>) -> Result<(), NoMemory> {
+    /// A node takes an input, and tells each of its sessions what it wants then.
+    pub fn take(&mut self, node: u16, input: Input<'_>) -> Result<(), NoMemory>
+        requires node { node < length self.old.seats }
+        requires session { session_of input < length (seat self.old.seats node).posts }
+        requires comes { Comes (λ i. is_live (seat self.old.seats node) i ≡ true)
+            (λ i. is_live (seat self.old.seats node) i ≡ false) input }
+        ensures takes { IfOk result (λ _. (n' : Seat) × Takes (seat self.old.seats node) n' input.entry
+            × (self.new.seats ≡ with_seat node n' self.old.seats)) }
+        ensures failed { IfOk result (λ _. self.new.failed ≡ self.old.failed) }
+    {
         match take_at(&mut self.cores, &mut self.edges, node, input) {
             Ok(()) => Ok(()),
             Err(NoMemory) => {
@@ -203,15 +263,34 @@ impl Stations for Nodes {
         }
     }
 
-    fn restart(&mut self, node: u16) {
+    /// A node that is not the configuration node loses all that it has, with the messages that left it and the notices
+    /// at its ends.
+    pub fn restart(&mut self, node: u16)
+        requires above { 0 < node }
+        requires node { node < length self.old.seats }
+        ensures emptied { self.new.seats ≡ with_seat node (emptied (seat self.old.seats node)) self.old.seats }
+        ensures failed { self.old.failed ≡ false → self.new.failed ≡ false }
+    {
         restart_at(&mut self.cores, &mut self.edges, node);
     }
 
-    fn valid(&self) -> &Valid {
+    /// The configuration that is valid now, with its topology.
+    pub fn valid(&self) -> &Valid
+        ensures { (seat self.now.seats 0).who ≡ Configuring result.now }
+    {
         self.cores.valid()
     }
 
-    fn edit(&mut self, edit: &Edit) -> Result<Option<EditFault>, NoMemory> {
+    /// Makes an edit at the configuration node, unless it has a fault, and tells each control node what the
+    /// configuration wants then.
+    pub fn edit(&mut self, edit: &Edit) -> Result<Option<EditFault>, NoMemory>
+        requires form { IsTrue (has_edit_form edit.now) }
+        ensures made { IfOk result (λ fault. (x : Checked) → (seat self.old.seats 0).who ≡ Configuring x
+            → MakesEdit self.old.seats x edit.now fault self.new.seats) }
+        ensures fault { IfOk result (λ fault. (x : Checked) → (seat self.old.seats 0).who ≡ Configuring x
+            → fault ≡ edit_fault x edit.now) }
+        ensures failed { IfOk result (λ _. self.new.failed ≡ self.old.failed) }
+    {
         match edit_at(&mut self.cores, &mut self.edges, edit) {
             Ok(fault) => Ok(fault),
             Err(NoMemory) => {
@@ -221,11 +300,24 @@ impl Stations for Nodes {
         }
     }
 
-    fn rows(&self, node: u16) -> Result<NodeRows, NoMemory> {
+    /// The tables of a control node or of an agent.
+    pub fn rows(&self, node: u16) -> Result<NodeRows, NoMemory>
+        requires above { 0 < node }
+        requires node { node < length self.now.seats }
+        requires works { self.now.failed ≡ false }
+        ensures { IfOk result (λ rows. rows ≡ shown_by (seat self.now.seats node)) }
+    {
         self.cores.rows(self.alloc, node)
     }
 
-    fn trace(&mut self, packet: Packet) -> Outcome {
+    /// Where the agents send a packet.
+    pub fn trace(&mut self, packet: Packet) -> Outcome
+        requires source { packet.source.0 ≤ 524271 }
+        requires works { self.old.failed ≡ false }
+        ensures outcome { result ≡ forwarding (forwarders_of self.old.seats) packet }
+        ensures same { self.new.seats ≡ self.old.seats }
+        ensures failed { self.new.failed ≡ self.old.failed }
+    {
         self.cores.trace(packet)
     }
 }

@@ -22,8 +22,8 @@ fn id_of(node: &Node) -> NodeId
     }
 }
 
-/// Whether a node lists a control node.
-fn lists(node: &Node, controller: &NodeId) -> bool
+/// Whether a compute node lists a control node.
+pub fn lists(node: &Node, controller: &NodeId) -> bool
     ensures { result ≡ lists node.now controller.now }
 {
     node.controllers

@@ -18,7 +18,7 @@ use Rattle.network_model.specs.Moments.{Each, cell, nodes}
 use Rattle.network_laws.specs.Settling.{EditIsValid}
 use Rattle.network_model.proofs.Apart.{no_twins}
 use Rattle.network_model.proofs.Twins.{NoTwins}
-use Rattle.headline_laws.specs.Headline.{IsWritten}
+use Rattle.headline_laws.specs.Headline.{IsOfForm, IsWritten}
 use Rattle.headline_laws.proofs.Written.{sound_setup}
 use Rattle.net_model.specs.Seats.{Seat, Who, name_of, others_of, place_of, role_of, seat, whos}
 use Rattle.net_model.specs.Steps.{BeginsAt}
@@ -26,7 +26,7 @@ use Rattle.net_model.specs.Stands.{Seats, any_size, octets_of}
 use Rattle.net_model.specs.Taking.{closed, opened, taken}
 use Rattle.net_model.specs.Telling.{CanBeHeard, CanSend}
 use Rattle.net_model.specs.declared.place.Place.{Place}
-use Rattle.told_laws.specs.Moments.{IsMoment, IsOfTypedForm}
+use Rattle.told_laws.specs.Moments.{IsMoment}
 use Rattle.seat_laws.specs.Wiring.{AreSeats, GoesBy, HasFar, HasSession, HasSessions, IsFound, IsPlace, IsPlaceOf, ShowsAt, name_at, other_at}
 use Rattle.net_steps.proofs.Quiet.{IsQuiet}
 
@@ -69,7 +69,7 @@ pub record Heard : Type 0 where
 pub record Moments : Type 0 where
   pub written : (w : Network) → IsMoment w → IsWritten w.setup
   pub sessions : (w : Network) → IsMoment w → HasSessions w
-  pub after : (w : Network) (e : Event) → IsMoment w → EditIsValid IsOfTypedForm w e → IsMoment (next any_size w e)
+  pub after : (w : Network) (e : Event) → IsMoment w → EditIsValid IsOfForm w e → IsMoment (next any_size w e)
   pub heard : (w : Network) → IsMoment w → AllByRecursion CanBeHeard w.sessions
 
 pub record Facts : Type 0 where

@@ -12,12 +12,12 @@ use Rattle.network_model.proofs.NetworkFact.{found}
 use Rattle.network_model.proofs.Start.{start_each}
 use Rattle.headline_laws.specs.Headline.{IsWritten}
 use Rattle.net_model.specs.Seats.{Seat, Who, others_of, seat, whos}
-use Rattle.net_model.specs.Steps.{all_of}
+use Rattle.net_model.specs.Steps.{all_of, fresh_seat}
 use Rattle.net_model.specs.Stands.{HasEnd, IsEnd, IsLong, Seats, octets_of}
 use Rattle.net_model.specs.declared.place.Place.{Place}
-use Rattle.told_laws.specs.Moments.{HasSubnets, IsMoment}
+use Rattle.told_laws.specs.Moments.{IsMoment}
 use Rattle.seat_laws.specs.Wiring.{IsPlace, name_at, other_at}
-use Rattle.net_steps.specs.Starting.{FreshSeatsStandForTheStart, fresh}
+use Rattle.net_steps.specs.Starting.{FreshSeatsStandForTheStart}
 use Rattle.net_steps.proofs.AtMoments.{moment_right}
 use Rattle.net_steps.proofs.Building.{seats_by_places}
 use Rattle.net_steps.proofs.Delivered.{stands_at}
@@ -32,11 +32,11 @@ all_alike b (x ∷ xs) (suc i) = all_alike b xs i
 pub all_long : {A B : Type 0} (b : B) (xs : List A) → length (all_of b xs) ≡ length xs
 all_long b xs = length-map xs (λ _. b)
 
-whos_again : (xs : List Who) → map (λ (n : Seat). n.who) (map fresh xs) ≡ xs
+whos_again : (xs : List Who) → map (λ (n : Seat). n.who) (map fresh_seat xs) ≡ xs
 whos_again [] = refl
 whos_again (x ∷ xs) = ap (λ ys. x ∷ ys) (whos_again xs)
 
-fresh_at : (xs : List Who) (k : ℕ) → k < length (map fresh xs) → (x : Who) × (seat (map fresh xs) k ≡ fresh x)
+fresh_at : (xs : List Who) (k : ℕ) → k < length (map fresh_seat xs) → (x : Who) × (seat (map fresh_seat xs) k ≡ fresh_seat x)
 fresh_at [] k lt = absurd (omega (arith, lt))
 fresh_at (x ∷ xs) zero lt = (x, refl)
 fresh_at (x ∷ xs) (suc k) lt = fresh_at xs k (omega (arith, lt))
@@ -45,7 +45,7 @@ fresh_at (x ∷ xs) (suc k) lt = fresh_at xs k (omega (arith, lt))
 pub record HasNothing (e : End) : Type 0 where
   pub is : e ≡ fresh_end e.name e.role
 
-nothing_end : (who : Who) (i : ℕ) (s : Session) → HasNothing s.near → IsEnd (fresh who) i s
+nothing_end : (who : Who) (i : ℕ) (s : Session) → HasNothing s.near → IsEnd (fresh_seat who) i s
 nothing_end who i s h =
     let none = all_alike nothing (others_of who) i in
     record {
@@ -58,12 +58,12 @@ nothing_end who i s h =
       breaks = ap (λ (e : End). e.breaks) h.is;
     }
 
-module _ (facts : Facts) (x : Checked) (written : IsWritten x) (subnets : HasSubnets x) where
+module _ (facts : Facts) (x : Checked) (written : IsWritten x) where
   start_moment : IsMoment (start x)
-  start_moment = record { opening = x; written = written; subnets = subnets; events = []; edits = tt; is = refl }
+  start_moment = record { opening = x; written = written; events = []; edits = tt; is = refl }
 
   abbrev seats : List Seat
-  seats = map fresh (whos x)
+  seats = map fresh_seat (whos x)
 
   abbrev BothNothing : Session → Type 0
   BothNothing s = HasNothing s.near × HasNothing s.far
@@ -94,5 +94,5 @@ module _ (facts : Facts) (x : Checked) (written : IsWritten x) (subnets : HasSub
   start_seats = seats_by_places seats (start x) (whos_again (whos x)) fresh_long end_is
 
 pub fresh_seats_stand : Facts → FreshSeatsStandForTheStart
-fresh_seats_stand facts x written subnets =
-    (stands_at (map fresh (whos x)) (start x) (start_moment facts x written subnets) (start_seats facts x written subnets), start_moment facts x written subnets)
+fresh_seats_stand facts x written =
+    (stands_at (map fresh_seat (whos x)) (start x) (start_moment facts x written) (start_seats facts x written), start_moment facts x written)

@@ -8,16 +8,17 @@ use Rattle.schedule_script.specs.declared.answer.Answer.TheVariants.{Did, EditRe
 use Rattle.network_model.specs.Network.{Network}
 use Rattle.network_model.specs.Events.{Edits, answer_to, next}
 use Rattle.network_laws.specs.Settling.{EditIsValid}
+use Rattle.headline_laws.specs.Headline.{IsOfForm}
 use Rattle.net_model.specs.Seats.{Seat}
 use Rattle.net_model.specs.Steps.{IsDiscarded, MakesEdit, with_seat}
 use Rattle.net_model.specs.Stands.{StandsFor, any_size}
-use Rattle.told_laws.specs.Moments.{IsMoment, IsOfTypedForm}
+use Rattle.told_laws.specs.Moments.{IsMoment}
 
 -- an edit without a fault is made, and what the configuration node sent on sessions that are down is discarded
 abbrev pub EditsAreMade : Type 0
 EditsAreMade =
     (seats : List Seat) (w : Network) → IsMoment w → StandsFor seats w → (e : Edit)
-    → EditIsValid IsOfTypedForm w (Edits e) → edit_fault w.setup e ≡ None
+    → EditIsValid IsOfForm w (Edits e) → edit_fault w.setup e ≡ None
     → (made : List Seat) → MakesEdit seats w.setup e None made
     → (left : Seat) → IsDiscarded made 0 left
     → StandsFor (with_seat 0 left made) (next any_size w (Edits e)) × IsMoment (next any_size w (Edits e))

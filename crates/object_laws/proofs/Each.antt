@@ -12,7 +12,6 @@ use Rattle.ov_types.specs.declared.objects.LowValue.TheVariants as Value
 use Rattle.ov_types.specs.declared.prefix.Addr.{Addr}
 use Rattle.route_targets.specs.Numbers.{circuit_label_of, port_label_of}
 use Rattle.config_model.specs.Form.{has_config_form, has_topology_form}
-use Rattle.config_model.specs.Laws.{subnets_fit}
 use Rattle.config_model.specs.declared.config.Config.{Config}
 use Rattle.config_model.specs.declared.config.Network.{Network}
 use Rattle.config_model.specs.declared.config.Port.{Port}
@@ -56,9 +55,9 @@ plain i range none = record { in_range = range; short = let few = most_are_short
 told : (k : LowKey) (w : LowValue) (i : Item) → IsTrue (is_in_range (item_of_key k)) → item_of_object k w ≡ Some i → IsWritable i → Fits (Low k) (Object w)
 told k w i key is writable = (key, record { item = i; is = is; writable = writable })
 
-module _ (t : Topology) (c : Config) (nodes : IsTrue (has_topology_form t)) (form : IsTrue (has_config_form c)) (small : list_all subnets_fit c.networks ≡ true) (v : IsValid t c) where
+module _ (t : Topology) (c : Config) (nodes : IsTrue (has_topology_form t)) (form : IsTrue (has_config_form c)) (v : IsValid t c) where
   network_number : (n : Network) → Contains c.networks n → is_network n.id.0 ≡ true
-  network_number n at = (network_fits c form small n at).number
+  network_number n at = (network_fits c form n at).number
 
   -- ---- instances
   instance_told : (n : Network) (is : List InstanceId) → Contains c.networks n → AreImports c n is → Fits (Low (Key.Instance n.id.0)) (Object (Value.Instance is))
@@ -124,7 +123,7 @@ module _ (t : Topology) (c : Config) (nodes : IsTrue (has_topology_form t)) (for
   blocks_pass n at =
       each_passes is_block (ascending n.subnets)
       (λ b in_b.
-      (network_fits c form small n at).blocks b
+      (network_fits c form n at).blocks b
       (Contains-permutation (ascending n.subnets) n.subnets b (IsPermutation-sym n.subnets (ascending n.subnets) (ascending_permutes n.subnets)) in_b))
 
   list_told : (a b : Network) → Contains c.networks a → Contains c.networks b → Fits (Low (Key.Acl a.id.0 b.id.0)) (Object (acl_value c a b))

@@ -3,10 +3,8 @@ use Rattle.std.proofs.Common.{◌≡◌, ◌≤◌, ◌^◌, ◌&&◌, true, IsT
 use Rattle.std.specs.List.{Contains, list_all}
 use Rattle.std.proofs.lemmas.Bool.{and_from, and_parts, leb-true}
 use Rattle.ov_types.specs.Name.{is_name}
-use Rattle.ov_types.specs.Prefix.{Block, is_prefix}
+use Rattle.ov_types.specs.Prefix.{Block, is_block}
 use Rattle.config_model.specs.Form.{has_chain_form, has_config_form, has_controller_form, has_end_form, has_network_form, has_node_form, has_policy_form, has_port_form, has_protocol_form, has_action_form, has_rule_form, has_service_form, has_topology_form, is_as_number, is_from_to, is_network_name, is_node_address, is_node_name, is_range}
-use Rattle.config_model.specs.Form as form
-use Rattle.config_model.specs.Laws.{subnets_fit}
 use Rattle.config_model.specs.declared.config.Chain.{Chain}
 use Rattle.config_model.specs.declared.config.Config.{Config}
 use Rattle.config_model.specs.declared.config.Network.{Network}
@@ -16,7 +14,7 @@ use Rattle.config_model.specs.declared.config.Rule.{Rule}
 use Rattle.config_model.specs.declared.config.Service.{Service}
 use Rattle.config_model.specs.declared.topology.Node.{Node}
 use Rattle.config_model.specs.declared.topology.Topology.{Topology}
-use Rattle.item_wire.specs.Ranges.{are_ports, is_block, is_network}
+use Rattle.item_wire.specs.Ranges.{are_ports, is_network}
 use Rattle.object_laws.proofs.Lists.{passes_at}
 
 -- ---- the five lists of a configuration
@@ -43,23 +41,17 @@ pub record NetworkFits (n : Network) : Type 0 where
   pub number : is_network n.id.0 ≡ true
   pub blocks : (b : Block) → Contains n.subnets b → is_block b ≡ true
 
-network_parts : (n : Network) → has_network_form n ≡ true → (is_network n.id.0 ≡ true) × (list_all form.is_block n.subnets ≡ true)
+network_parts : (n : Network) → has_network_form n ≡ true → (is_network n.id.0 ≡ true) × (list_all is_block n.subnets ≡ true)
 unfolding has_network_form
 network_parts n h =
-    let a = and_parts (is_network_name n.name && is_from_to 1 16383 n.id.0 && list_all form.is_block n.subnets) (list_all is_name n.policies) h in
-    let b = and_parts (is_network_name n.name && is_from_to 1 16383 n.id.0) (list_all form.is_block n.subnets) a.0 in
+    let a = and_parts (is_network_name n.name && is_from_to 1 16383 n.id.0 && list_all is_block n.subnets) (list_all is_name n.policies) h in
+    let b = and_parts (is_network_name n.name && is_from_to 1 16383 n.id.0) (list_all is_block n.subnets) a.0 in
     ((and_parts (is_network_name n.name) (is_from_to 1 16383 n.id.0) b.0).1, b.1)
 
-pub network_fits : (c : Config) → IsTrue (has_config_form c) → list_all subnets_fit c.networks ≡ true → (n : Network) → Contains c.networks n → NetworkFits n
-network_fits c h small n at =
+pub network_fits : (c : Config) → IsTrue (has_config_form c) → (n : Network) → Contains c.networks n → NetworkFits n
+network_fits c h n at =
     let parts = network_parts n (passes_at has_network_form c.networks n (lists c h).networks at) in
-    let addresses = passes_at subnets_fit c.networks n small at in
-    record {
-      number = parts.0;
-      blocks = λ b in_n.
-          and_from (is_prefix b.addr b.len) (nat_lt b.addr (2 ^ 32)) (passes_at form.is_block n.subnets b parts.1 in_n)
-          (passes_at (λ b. nat_lt b.addr (2 ^ 32)) n.subnets b addresses in_n);
-    }
+    record { number = parts.0; blocks = λ b in_n. passes_at is_block n.subnets b parts.1 in_n }
 
 -- ---- ports
 pub record PortFits (p : Port) : Type 0 where

@@ -1,13 +1,12 @@
 -- In a scenario that is valid each packet has the outcome that policies give.
-use Rattle.std.specs.Prelude.{◌≡◌, ◌<◌, ℕ, ◌+◌, List, map, take, length, true}
+use Rattle.std.specs.Prelude.{◌≡◌, ℕ, ◌+◌, List, map, take, length, true}
 use Rattle.std.specs.declared.option.Option.TheVariants.{None}
-use Rattle.std.proofs.Common.{refl, ap, ◌∙◌, arith}
+use Rattle.std.proofs.Common.{refl, ap, ◌∙◌}
 use Rattle.ov_types.specs.declared.packet.Packet.{Packet}
 use Rattle.config_model.specs.declared.event.Event.TheVariants.{Trace}
 use Rattle.config_check.specs.Rules.{first_broken}
 use Rattle.reach_plain.specs.Reachability.{reachability}
 use Rattle.route_targets.specs.Forwarding.{forwarding}
-use Rattle.network_model.specs.Session.{Message}
 use Rattle.network_model.specs.Network.{Network, start}
 use Rattle.network_model.specs.Steps.{is_settled}
 use Rattle.network_model.specs.Events.{after, event_of, forwarders, next}
@@ -16,6 +15,7 @@ use Rattle.headline_laws.specs.Headline.{IsOfForm, IsWritten}
 use Rattle.headline_laws.proofs.Delivers.{written_delivers}
 use Rattle.headline_laws.proofs.Written.{written_settle_settles}
 use Rattle.net_model.specs.Stands.{any_size}
+use Rattle.net_model.proofs.Sizes.{positive}
 use Rattle.schedule_laws.proofs.AsCompiled.{edits_of_form, forms_of_front}
 use Rattle.scenario_gen.specs.Scenario.{scenario}
 use Rattle.scenario_gen.specs.Schedule.{events, packets}
@@ -26,9 +26,6 @@ use Rattle.scenario_run.specs.Agreed.{PacketsAgree}
 use Rattle.scenario_run.specs.Scheduled.{opening}
 use Rattle.scenario_run.specs.Tallies.{nothing, tally, tally_from}
 use Rattle.scenario_run.proofs.Counting.{tally_more, traces_agree}
-
-positive : (n : List ℕ) (m : Message) → 0 < any_size n m
-positive n m = omega arith
 
 -- what is written of a scenario
 pub scenario_is_written : (n : ℕ) → first_broken (scenario n).topology (scenario n).config ≡ None → IsWritten (opening n)

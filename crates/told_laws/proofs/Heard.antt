@@ -74,9 +74,9 @@ module _ (w : Network) (m : IsMoment w) where
   sent_now : Each (AllSent opening) (after any_size (start opening) m.events).sessions
   sent_now =
       (after_keeps any_size (Follows opening) (AllSent opening) (λ s k. EntriesOf (IsFit s.near.role s.far.role) k)
-      (sent_keeps IsFit (HasRoles opening) (back opening) any_size (Follows opening) (wants_fit opening (Follows opening) (λ y f. (f.written.topology, low_fits y f.written.topology f.written.config f.subnets f.written.valid))))
-      (start opening) m.events (all_follow opening m.written m.subnets m.events m.edits)
-      (at_first opening m.written m.subnets m.events m.edits, start_sent opening m.written)).1
+      (sent_keeps IsFit (HasRoles opening) (back opening) any_size (Follows opening) (wants_fit opening (Follows opening) (λ y f. (f.written.topology, low_fits y f.written.topology f.written.config f.written.valid))))
+      (start opening) m.events (all_follow opening m.written m.events m.edits)
+      (at_first opening m.written m.events m.edits, start_sent opening m.written)).1
 
   pub heard : AllByRecursion CanBeHeard w.sessions
   heard = subst (λ (w : Network). AllByRecursion CanBeHeard w.sessions) (sym m.is) (all_heard opening (after any_size (start opening) m.events).sessions sent_now)

@@ -1,9 +1,9 @@
 -- What a moment's configuration and sessions are, and the moment after the next event.
 use Rattle.std.specs.Option.{option_map}
-use Rattle.std.specs.Prelude.{IsTrue, List, map, [], ◌++◌, ◌<◌, ◌∷◌, ◌≡◌}
+use Rattle.std.specs.Prelude.{IsTrue, List, map, [], ◌++◌, ◌∷◌, ◌≡◌}
 use Rattle.std.specs.declared.option.Option.TheVariants.{None, Some}
 use Rattle.std.specs.declared.option.Option.{Option}
-use Rattle.std.proofs.Common.{ap, arith, refl, subst, sym, ◌∙◌}
+use Rattle.std.proofs.Common.{ap, refl, subst, sym, ◌∙◌}
 use Rattle.std.proofs.lemmas.Option.{same_Some}
 use Rattle.ov_types.proofs.FirstLemmas.{both_none, mapped_none}
 use Rattle.config_model.specs.Form.{has_topology_form}
@@ -19,24 +19,23 @@ use Rattle.node_model.specs.Keys.{Key}
 use Rattle.node_model.specs.Values.{Value}
 use Rattle.node_model.proofs.Members.{none_some}
 use Rattle.network_model.specs.Events.{Event, after, next}
-use Rattle.network_model.specs.Moments.{ArePositive, Each, nodes}
+use Rattle.network_model.specs.Moments.{Each, nodes}
 use Rattle.network_model.specs.Network.{Network, View, accesses, feeds, peerings, sessions_of, start, view, views_of, wanted}
 use Rattle.network_model.specs.Session.{Session}
 use Rattle.network_model.specs.Setup.{edited, edited_without}
 use Rattle.network_model.proofs.NodesFact.{after_nodes}
 use Rattle.network_laws.specs.Settling.{EditIsValid, EditsAreValid, FairMap, WantsFair}
-use Rattle.network_laws.proofs.EachFact.{edits_valid}
 use Rattle.network_laws.proofs.RanksSettle.{kept, stay_valid}
 use Rattle.compiled_laws.specs.Goal.{Party}
 use Rattle.headline_laws.specs.Headline.{IsOfForm, IsWritten}
 use Rattle.net_model.specs.Stands.{any_size}
-use Rattle.told_laws.specs.Moments.{HasSubnets, IsMoment, IsOfTypedForm}
+use Rattle.net_model.proofs.Sizes.{positive}
+use Rattle.told_laws.specs.Moments.{IsMoment}
 
--- a valid configuration of the written form and of its types, with the topology of the opening one
+-- a valid configuration of the written form, with the topology of the opening one
 pub record Follows (x y : Checked) : Type 0 where
   pub topology : y.topology ≡ x.topology
   pub written : IsWritten y
-  pub subnets : HasSubnets y
 
 -- an edit without a fault breaks no rule
 none_broken : (y : Checked) (d : Edit) → edit_fault y d ≡ None → first_broken y.topology (edits.edited d y.config) ≡ None
@@ -45,7 +44,7 @@ none_broken y d e =
     let made = first_broken y.topology (edits.edited d y.config) in
     (mapped_none (λ r. Rule r) made).0 ((both_none (option_map (λ name. Missing name) (edits.missing_name d y.config)) (option_map (λ r. Rule r) made)).0 e).1
 
-follows : (x y : Checked) (d : Edit) (z : Checked) → Follows x y → edited y d ≡ Some z → IsOfTypedForm z → Follows x z
+follows : (x y : Checked) (d : Edit) (z : Checked) → Follows x y → edited y d ≡ Some z → IsOfForm z → Follows x z
 follows x y d z f e form = by_fault (edit_fault y d) refl e
   where
     by_fault : (o : Option EditFault) → edit_fault y d ≡ o → edited_without o y d ≡ Some z → Follows x z
@@ -56,17 +55,10 @@ follows x y d z f e form = by_fault (edit_fault y d) refl e
           topology = subst (λ (z : Checked). z.topology ≡ x.topology) s f.topology;
           written = record {
             topology = subst (λ (z : Checked). IsTrue (has_topology_form z.topology)) s f.written.topology;
-            config = form.0;
+            config = form;
             valid = subst (λ (z : Checked). first_broken z.topology z.config ≡ None) s (none_broken y d is);
           };
-          subnets = form.1;
         }
-
-positive : ArePositive any_size
-positive n m = one
-  where
-    one : 0 < 1
-    one = omega arith
 
 -- nothing is asked of what is told
 abbrev anything : Party → Party → Key → Value → Type 0
@@ -76,31 +68,28 @@ each_anything : (x : Checked) (vs : List View) (own : List Session) → Each (λ
 each_anything x vs [] = tt
 each_anything x vs (s ∷ own) = ((λ k v e. tt), each_anything x vs own)
 
-module _ (x : Checked) (written : IsWritten x) (subnets : HasSubnets x) (es : List Event) (asked : EditsAreValid any_size IsOfTypedForm (start x) es) where
+module _ (x : Checked) (written : IsWritten x) (es : List Event) (asked : EditsAreValid any_size IsOfForm (start x) es) where
   anything_wants : WantsFair anything (Follows x)
   anything_wants y ss n f e = each_anything y (views_of n ss) (sessions_of n ss)
 
   pub at_first : Follows x x
-  at_first = record { topology = refl; written = written; subnets = subnets }
+  at_first = record { topology = refl; written = written }
 
   pub all_follow : EditsAreValid any_size (Follows x) (start x) es
-  all_follow = stay_valid any_size positive x (Follows x) anything anything_wants IsOfTypedForm (follows x) at_first es asked
+  all_follow = stay_valid any_size positive x (Follows x) anything anything_wants IsOfForm (follows x) at_first es asked
 
   pub follows_after : Follows x (after any_size (start x) es).setup
   follows_after = (kept any_size positive x (Follows x) anything anything_wants at_first es all_follow).0
 
 pub follows_now : (w : Network) (m : IsMoment w) → Follows m.opening w.setup
-follows_now w m = subst (λ (w : Network). Follows m.opening w.setup) (sym m.is) (follows_after m.opening m.written m.subnets m.events m.edits)
+follows_now w m = subst (λ (w : Network). Follows m.opening w.setup) (sym m.is) (follows_after m.opening m.written m.events m.edits)
 
 pub moment_written : (w : Network) → IsMoment w → IsWritten w.setup
 moment_written w m = (follows_now w m).written
 
-pub moment_subnets : (w : Network) → IsMoment w → HasSubnets w.setup
-moment_subnets w m = (follows_now w m).subnets
-
 -- the schedule that led there, as the laws of all schedules ask of it
 pub moment_asked : (w : Network) (m : IsMoment w) → EditsAreValid any_size IsOfForm (start m.opening) m.events
-moment_asked w m = edits_valid any_size IsOfTypedForm IsOfForm (λ y f. f.0) (start m.opening) m.events m.edits
+moment_asked w m = m.edits
 
 pub same_start : (x y : Checked) → y.topology ≡ x.topology → map nodes (start y).sessions ≡ map nodes (start x).sessions
 same_start x y e = ap (λ (t : Topology). map nodes (feeds t.controllers ++ peerings t.controllers ++ accesses t.controllers t.nodes)) e
@@ -112,23 +101,22 @@ moment_sessions w m =
     ∙ sym (same_start m.opening w.setup (follows_now w m).topology)
 
 -- ---- the first moment, and the next event
-pub moment_start : (x : Checked) → IsWritten x → HasSubnets x → IsMoment (start x)
-moment_start x written subnets = record { opening = x; written = written; subnets = subnets; events = []; edits = tt; is = refl }
+pub moment_start : (x : Checked) → IsWritten x → IsMoment (start x)
+moment_start x written = record { opening = x; written = written; events = []; edits = tt; is = refl }
 
 after_one_more : (w : Network) (es : List Event) (e : Event) → after any_size w (es ++ e ∷ []) ≡ next any_size (after any_size w es) e
 after_one_more w [] e = refl
 after_one_more w (f ∷ es) e = after_one_more (next any_size w f) es e
 
-one_more_valid : (w : Network) (es : List Event) (e : Event) → EditsAreValid any_size IsOfTypedForm w es → EditIsValid IsOfTypedForm (after any_size w es) e → EditsAreValid any_size IsOfTypedForm w (es ++ e ∷ [])
+one_more_valid : (w : Network) (es : List Event) (e : Event) → EditsAreValid any_size IsOfForm w es → EditIsValid IsOfForm (after any_size w es) e → EditsAreValid any_size IsOfForm w (es ++ e ∷ [])
 one_more_valid w [] e a v = (v, tt)
 one_more_valid w (f ∷ es) e a v = (a.0, one_more_valid (next any_size w f) es e a.1 v)
 
-pub moment_next : (w : Network) (e : Event) → IsMoment w → EditIsValid IsOfTypedForm w e → IsMoment (next any_size w e)
+pub moment_next : (w : Network) (e : Event) → IsMoment w → EditIsValid IsOfForm w e → IsMoment (next any_size w e)
 moment_next w e m v = record {
   opening = m.opening;
   written = m.written;
-  subnets = m.subnets;
   events = m.events ++ e ∷ [];
-  edits = one_more_valid (start m.opening) m.events e m.edits (subst (λ (w : Network). EditIsValid IsOfTypedForm w e) m.is v);
+  edits = one_more_valid (start m.opening) m.events e m.edits (subst (λ (w : Network). EditIsValid IsOfForm w e) m.is v);
   is = ap (λ (w : Network). next any_size w e) m.is ∙ sym (after_one_more (start m.opening) m.events e);
 }

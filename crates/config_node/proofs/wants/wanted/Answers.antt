@@ -1,9 +1,5 @@
-use Rattle.std.proofs.Common.{◌∙◌, ap, subst}
+use Rattle.std.proofs.Common.{◌∙◌, ap}
 use Rattle.std.specs.FinMap.{from_entries}
-use Rattle.std.specs.List.{list_all}
-use Rattle.std.specs.Prelude.{IsTrue}
-use Rattle.config_model.specs.Laws.{subnets_fit}
-use Rattle.config_model.specs.declared.config.Config.{Config}
 use Rattle.object_laws.proofs.Law.{low_fits}
 use Rattle.config_node.specs.Ends.{Objects}
 use Rattle.config_node.proofs.Wanted.{as_wanted}
@@ -11,21 +7,18 @@ use Rattle.config_node.proofs.wants.wanted.Goals as goal
 
 pub returns-in_err-objects-clause-fits : goal.returns-in_err-objects-clause-fits
 returns-in_err-objects-clause-fits c =
-    let e = c.config.ensures in
-    low_fits c.args.valid.now e.topology_form e.config_form
-    (subst (λ (d : Config). IsTrue (list_all subnets_fit d.networks)) e.part c.know_subnets.ensures.fit) e.valid
+    let e = c.config-config.ensures in
+    low_fits c.args.valid.now e.topology_form e.config_form e.valid
 
 pub returns-in_err-wants-clause-fits : goal.returns-in_err-wants-clause-fits
 returns-in_err-wants-clause-fits c =
-    let e = c.config.ensures in
-    low_fits c.args.valid.now e.topology_form e.config_form
-    (subst (λ (d : Config). IsTrue (list_all subnets_fit d.networks)) e.part c.know_subnets.ensures.fit) e.valid
+    let e = c.config-config.ensures in
+    low_fits c.args.valid.now e.topology_form e.config_form e.valid
 
 pub returns-clause-fits : goal.returns-clause-fits
 returns-clause-fits c =
-    let e = c.config.ensures in
-    low_fits c.args.valid.now e.topology_form e.config_form
-    (subst (λ (d : Config). IsTrue (list_all subnets_fit d.networks)) e.part c.know_subnets.ensures.fit) e.valid
+    let e = c.config-config.ensures in
+    low_fits c.args.valid.now e.topology_form e.config_form e.valid
 
 pub returns-clause-wanted : goal.returns-clause-wanted
 returns-clause-wanted c =

@@ -5,9 +5,9 @@ use Rattle.net_machine.specs.Seating.{Keeps}
 use Rattle.net_machine.proofs.connect.connect_all.Given as goal
 
 abbrev pub invariant-loop-ends : goal.invariant-loop-ends
-invariant-loop-ends g l = record {
-  connects : (after : List Seat) → ConnectsAll (drop l.ends-index l.order) (g.S.Stations.seats l.stations) after
-      → ConnectsAll l.order (g.S.Stations.seats l.fn.stations) after;
-  keeps : Keeps (g.S.Stations.seats l.fn.stations) (g.S.Stations.seats l.stations);
-  failed : g.S.Stations.failed l.stations ≡ g.S.Stations.failed l.fn.stations;
+invariant-loop-ends l = record {
+  connects : (after : List Seat) → ConnectsAll (drop l.ends-index l.order) l.nodes.seats after
+      → ConnectsAll l.order l.fn.nodes.seats after;
+  keeps : Keeps l.fn.nodes.seats l.nodes.seats;
+  failed : l.nodes.failed ≡ l.fn.nodes.failed;
 }

@@ -4,15 +4,15 @@ use Rattle.net_machine.proofs.Kept.{seated_kept}
 use Rattle.net_machine.proofs.discard.discard.Goals as goal
 
 pub loop-session-init : goal.loop-session-init
-loop-session-init g c = record { discarded = none_discarded _ c.args.node; failed = refl }
+loop-session-init c = record { discarded = none_discarded _ c.args.node; failed = refl }
 
 pub discard_at-requires-clause-long : goal.discard_at-requires-clause-long
-discard_at-requires-clause-long g c =
+discard_at-requires-clause-long c =
     (discarded_keeps _ c.args.node c.loop-session.session _ c.requires.long c.requires.node
     c.loop-session.invariant.discarded).long
 
 pub discard_at-requires-clause-seated : goal.discard_at-requires-clause-seated
-discard_at-requires-clause-seated g c =
+discard_at-requires-clause-seated c =
     let there = c.loop-session-test.true in
     let count = c.sessions-session-end.ensures in
     seated_kept _ _ _ (discarded_keeps _ c.args.node c.loop-session.session _ c.requires.long c.requires.node
@@ -20,7 +20,7 @@ discard_at-requires-clause-seated g c =
     (record { node = c.requires.node; session = omega (arith, there, count) })
 
 pub loop-session-preserved : goal.loop-session-preserved
-loop-session-preserved g c =
+loop-session-preserved c =
     let there = c.loop-session-test.true in
     let count = c.sessions-session-end.ensures in
     record {
@@ -31,15 +31,15 @@ loop-session-preserved g c =
     }
 
 pub returns-clause-discards : goal.returns-clause-discards
-returns-clause-discards g c =
+returns-clause-discards c =
     let last = c.loop-session-test.false in
     let count = c.sessions-session-end.ensures in
     all_discarded _ c.args.node c.loop-session.session _ (omega (arith, last, count)) c.loop-session.invariant.discarded
 
 pub returns-clause-keeps : goal.returns-clause-keeps
-returns-clause-keeps g c =
+returns-clause-keeps c =
     discarded_keeps _ c.args.node c.loop-session.session _ c.requires.long c.requires.node
     c.loop-session.invariant.discarded
 
 pub returns-clause-failed : goal.returns-clause-failed
-returns-clause-failed g c = c.loop-session.invariant.failed
+returns-clause-failed c = c.loop-session.invariant.failed

@@ -3,7 +3,7 @@ use Rattle.net_machine.proofs.Discarding.{Discarded}
 use Rattle.net_machine.proofs.discard.discard.Given as goal
 
 abbrev pub invariant-loop-session : goal.invariant-loop-session
-invariant-loop-session g l = record {
-  discarded : Discarded (g.S.Stations.seats l.fn.stations) l.node l.session (g.S.Stations.seats l.stations);
-  failed : g.S.Stations.failed l.stations ≡ g.S.Stations.failed l.fn.stations;
+invariant-loop-session l = record {
+  discarded : Discarded l.fn.nodes.seats l.node l.session l.nodes.seats;
+  failed : l.nodes.failed ≡ l.fn.nodes.failed;
 }

@@ -1,4 +1,5 @@
 use Rattle.std.proofs.Common.{sym, ◌∙◌, ap, subst, arith, not}
+use Rattle.net_seats.specs.Halves.{Standing}
 use Rattle.net_machine.specs.Happenings.{Edits}
 use Rattle.net_machine.specs.Seating.{Keeps}
 use Rattle.net_machine.proofs.Editing.{edit_keeps, edit_made, edit_refused}
@@ -7,7 +8,7 @@ use Rattle.net_machine.proofs.happen.edited.Goals as goal
 use Rattle.net_machine.proofs.happen.edited.Goals.{then-is_none, else-is_none}
 
 pub discard-requires-clause-node : goal.discard-requires-clause-node
-discard-requires-clause-node g c =
+discard-requires-clause-node c =
     let i = c.requires.configured in
     let k = edit_keeps _ i.setup c.args.edit.now c.in_ok-fault.fault _ c.requires.long i.some i.is
     (c.in_ok-fault.ensures.made i.setup i.is) in
@@ -16,31 +17,31 @@ discard-requires-clause-node g c =
     omega (arith, count, some)
 
 pub discard-requires-clause-long : goal.discard-requires-clause-long
-discard-requires-clause-long g c =
+discard-requires-clause-long c =
     let i = c.requires.configured in
     (edit_keeps _ i.setup c.args.edit.now c.in_ok-fault.fault _ c.requires.long i.some i.is
     (c.in_ok-fault.ensures.made i.setup i.is)).long
 
 pub returns-clause-edits : goal.returns-clause-edits
-returns-clause-edits g c = λ x is.
-    let before = g.S.Stations.seats c.args.stations.now in
+returns-clause-edits c = λ x is.
+    let before = c.args.nodes.now.seats in
     elim c.if-is_none.branch [
-      | then-is_none w ↦ subst (λ s. Edits before x c.args.edit.now (g.S.Stations.seats s)) (sym w.stations-is)
+      | then-is_none w ↦ subst (λ (s : Standing). Edits before x c.args.edit.now s.seats) (sym w.nodes-is)
           (edit_made before x c.args.edit.now c.in_ok-fault.fault _ _ (c.in_ok-fault.ensures.fault x is)
           (c.in_ok-fault.ensures.made x is) (c.is_none.ensures ∙ ap not w.if-is_none.true) w.discard.ensures.discards)
-      | else-is_none w ↦ subst (λ s. Edits before x c.args.edit.now (g.S.Stations.seats s)) (sym w.stations-is)
+      | else-is_none w ↦ subst (λ (s : Standing). Edits before x c.args.edit.now s.seats) (sym w.nodes-is)
           (edit_refused before x c.args.edit.now c.in_ok-fault.fault _ (c.in_ok-fault.ensures.fault x is)
           (c.in_ok-fault.ensures.made x is) (c.is_none.ensures ∙ ap not w.if-is_none.false))
     ]
 
 pub returns-clause-keeps : goal.returns-clause-keeps
-returns-clause-keeps g c =
-    let before = g.S.Stations.seats c.args.stations.now in
+returns-clause-keeps c =
+    let before = c.args.nodes.now.seats in
     let i = c.requires.configured in
     let made = edit_keeps before i.setup c.args.edit.now c.in_ok-fault.fault _ c.requires.long i.some i.is
     (c.in_ok-fault.ensures.made i.setup i.is) in
     elim c.if-is_none.branch [
-      | then-is_none w ↦ subst (λ s. Keeps before (g.S.Stations.seats s)) (sym w.stations-is)
+      | then-is_none w ↦ subst (λ (s : Standing). Keeps before s.seats) (sym w.nodes-is)
           (keeps_both before _ _ made w.discard.ensures.keeps)
-      | else-is_none w ↦ subst (λ s. Keeps before (g.S.Stations.seats s)) (sym w.stations-is) made
+      | else-is_none w ↦ subst (λ (s : Standing). Keeps before s.seats) (sym w.nodes-is) made
     ]

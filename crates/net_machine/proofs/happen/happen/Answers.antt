@@ -5,9 +5,9 @@ use Rattle.net_machine.proofs.Forms.{edit_form, trace_source}
 use Rattle.net_machine.proofs.happen.happen.Goals as goal
 
 pub edited-requires-clause-form : goal.edited-requires-clause-form
-edited-requires-clause-form g c =
+edited-requires-clause-form c =
     edit_form c.in-Edit.edit (subst (λ (e : Event). IsTrue (has_event_form e)) c.in-Edit.is c.requires.form)
 
 pub trace-requires-clause-source : goal.trace-requires-clause-source
-trace-requires-clause-source g c =
+trace-requires-clause-source c =
     trace_source c.in-Trace.packet (subst (λ (e : Event). IsTrue (has_event_form e)) c.in-Trace.is c.requires.form)

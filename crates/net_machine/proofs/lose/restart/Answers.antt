@@ -1,5 +1,5 @@
 use Rattle.std.proofs.Common.{sym, ◌∙◌, ap, subst, arith, ◌+◌, ◌-◌}
-use Rattle.net_machine.specs.Losses.{all_told}
+use Rattle.net_steps.specs.Losing.{all_told}
 use Rattle.net_machine.specs.Seating.{Keeps}
 use Rattle.net_machine.proofs.Changes.{emptied_keeps}
 use Rattle.net_machine.proofs.Going.{all_left, told_more, told_none}
@@ -7,26 +7,26 @@ use Rattle.net_machine.proofs.Kept.{keeps_both, seated_kept}
 use Rattle.net_machine.proofs.lose.restart.Goals as goal
 
 pub loop-session-init : goal.loop-session-init
-loop-session-init g c = record {
-  told = ap (λ n. all_told n c.args.node 0 (g.S.Stations.seats c.restart.new.self))
+loop-session-init c = record {
+  told = ap (λ n. all_told n c.args.node 0 (c.restart.new.self.seats))
       (all_left c.sessions-sessions.result);
-  keeps = subst (Keeps (g.S.Stations.seats c.args.stations.now)) (sym c.restart.ensures.emptied)
+  keeps = subst (Keeps c.args.nodes.now.seats) (sym c.restart.ensures.emptied)
       (emptied_keeps _ c.args.node c.requires.long c.requires.node);
   failed = c.restart.ensures.failed;
 }
 
 pub tell_of_loss-requires-clause-long : goal.tell_of_loss-requires-clause-long
-tell_of_loss-requires-clause-long g c = c.loop-session.invariant.keeps.long
+tell_of_loss-requires-clause-long c = c.loop-session.invariant.keeps.long
 
 pub tell_of_loss-requires-clause-seated : goal.tell_of_loss-requires-clause-seated
-tell_of_loss-requires-clause-seated g c =
+tell_of_loss-requires-clause-seated c =
     let there = c.loop-session-test.true in
     let count = c.sessions-sessions.ensures in
     seated_kept _ _ _ c.loop-session.invariant.keeps
     (record { node = c.requires.node; session = omega (arith, there, count) })
 
 pub loop-session-preserved : goal.loop-session-preserved
-loop-session-preserved g c = record {
+loop-session-preserved c = record {
   told = ap (all_told (c.sessions-sessions.result - (c.loop-session.session + 1)) c.args.node (c.loop-session.session + 1))
       c.tell_of_loss.ensures.told
       ∙ sym (told_more c.sessions-sessions.result c.loop-session.session c.args.node _ c.loop-session-test.true)
@@ -36,13 +36,13 @@ loop-session-preserved g c = record {
 }
 
 pub returns-clause-restarted : goal.returns-clause-restarted
-returns-clause-restarted g c =
+returns-clause-restarted c =
     sym (told_none c.sessions-sessions.result c.loop-session.session c.args.node _ c.loop-session-test.false)
     ∙ c.loop-session.invariant.told
     ∙ (λ j. all_told (c.sessions-sessions.ensures j) c.args.node 0 (c.restart.ensures.emptied j))
 
 pub returns-clause-keeps : goal.returns-clause-keeps
-returns-clause-keeps g c = c.loop-session.invariant.keeps
+returns-clause-keeps c = c.loop-session.invariant.keeps
 
 pub returns-clause-failed : goal.returns-clause-failed
-returns-clause-failed g c = c.loop-session.invariant.failed
+returns-clause-failed c = c.loop-session.invariant.failed

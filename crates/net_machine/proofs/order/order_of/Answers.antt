@@ -2,8 +2,8 @@ use Rattle.net_machine.proofs.Ordering.{order_parts}
 use Rattle.net_machine.proofs.order.order_of.Goals as goal
 
 pub returns-clause-order : goal.returns-clause-order
-returns-clause-order g c =
-    let seats = g.S.Stations.seats c.args.stations.now in
+returns-clause-order c =
+    let seats = c.args.nodes.now.seats in
     let t = c.topology-topology.result.now in
     order_parts seats c.args.valid.now t c.as_slice-controllers.result.now c.as_slice.result.now c.new-order.result.items
     c.push_feeds.new.order.items c.push_peerings.new.order.items c.push_accesses.new.order.items

@@ -5,8 +5,8 @@ use Rattle.net_machine.specs.Seating.{AreSeated, order_among}
 use Rattle.net_machine.proofs.order.push_accesses_of.Given as goal
 
 abbrev pub invariant-loop-controller : goal.invariant-loop-controller
-invariant-loop-controller g l = record {
-  pushed : l.order.items ++ order_among (g.S.Stations.seats l.stations) (accesses_of (drop l.controller-index l.controllers) l.node)
-      ≡ l.fn.order.items ++ order_among (g.S.Stations.seats l.stations) (accesses_of l.controllers l.node);
-  seated : All (AreSeated (g.S.Stations.seats l.stations)) l.order.items;
+invariant-loop-controller l = record {
+  pushed : l.order.items ++ order_among l.nodes.seats (accesses_of (drop l.controller-index l.controllers) l.node)
+      ≡ l.fn.order.items ++ order_among l.nodes.seats (accesses_of l.controllers l.node);
+  seated : All (AreSeated l.nodes.seats) l.order.items;
 }

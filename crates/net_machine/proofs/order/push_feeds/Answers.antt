@@ -7,14 +7,14 @@ use Rattle.net_machine.proofs.Ordering.{pushed_all, pushed_one}
 use Rattle.net_machine.proofs.order.push_feeds.Goals as goal
 
 pub loop-controller-init : goal.loop-controller-init
-loop-controller-init g c = record { pushed = refl; seated = c.requires.seated }
+loop-controller-init c = record { pushed = refl; seated = c.requires.seated }
 
 pub push_ends-requires-clause-seated : goal.push_ends-requires-clause-seated
-push_ends-requires-clause-seated g c = c.loop-controller.invariant.seated
+push_ends-requires-clause-seated c = c.loop-controller.invariant.seated
 
 pub loop-controller-preserved : goal.loop-controller-preserved
-loop-controller-preserved g c =
-    let seats = g.S.Stations.seats c.args.stations.now in
+loop-controller-preserved c =
+    let seats = c.args.nodes.now.seats in
     let pushed : c.push_ends.new.order.items
     ≡ c.loop-controller.order.items ++ option_to_list (ends_of seats config c.controller-item.result.name) =
     c.in_ok-push_ends.ensures.pushed
@@ -29,9 +29,9 @@ loop-controller-preserved g c =
     }
 
 pub returns-clause-pushed : goal.returns-clause-pushed
-returns-clause-pushed g c =
-    pushed_all (λ cs. order_among (g.S.Stations.seats c.args.stations.now) (feeds cs)) refl c.args.controllers.now
+returns-clause-pushed c =
+    pushed_all (λ cs. order_among c.args.nodes.now.seats (feeds cs)) refl c.args.controllers.now
     c.loop-controller.controller-index _ _ c.loop-controller-test.false c.loop-controller.invariant.pushed
 
 pub returns-clause-seated : goal.returns-clause-seated
-returns-clause-seated g c = c.loop-controller.invariant.seated
+returns-clause-seated c = c.loop-controller.invariant.seated

@@ -5,14 +5,14 @@ use Rattle.net_machine.proofs.Ordering.{peerings_step, pushed_all, pushed_some}
 use Rattle.net_machine.proofs.order.push_peerings.Goals as goal
 
 pub loop-i-init : goal.loop-i-init
-loop-i-init g c = record { pushed = refl; seated = c.requires.seated }
+loop-i-init c = record { pushed = refl; seated = c.requires.seated }
 
 pub push_peerings_of-requires-clause-seated : goal.push_peerings_of-requires-clause-seated
-push_peerings_of-requires-clause-seated g c = c.loop-i.invariant.seated
+push_peerings_of-requires-clause-seated c = c.loop-i.invariant.seated
 
 pub loop-i-preserved : goal.loop-i-preserved
-loop-i-preserved g c =
-    let seats = g.S.Stations.seats c.args.stations.now in
+loop-i-preserved c =
+    let seats = c.args.nodes.now.seats in
     let controllers = c.args.controllers.now in
     let controller = c.index-controllers-i.result in
     let pushed : c.push_peerings_of.new.order.items
@@ -28,9 +28,9 @@ loop-i-preserved g c =
     }
 
 pub returns-clause-pushed : goal.returns-clause-pushed
-returns-clause-pushed g c =
-    pushed_all (λ cs. order_among (g.S.Stations.seats c.args.stations.now) (peerings cs)) refl c.args.controllers.now
+returns-clause-pushed c =
+    pushed_all (λ cs. order_among c.args.nodes.now.seats (peerings cs)) refl c.args.controllers.now
     c.loop-i.i _ _ c.loop-i-test.false c.loop-i.invariant.pushed
 
 pub returns-clause-seated : goal.returns-clause-seated
-returns-clause-seated g c = c.loop-i.invariant.seated
+returns-clause-seated c = c.loop-i.invariant.seated

@@ -5,9 +5,9 @@ use Rattle.net_machine.specs.Seating.{Keeps}
 use Rattle.net_machine.proofs.round.round.Given as goal
 
 abbrev pub invariant-loop-one : goal.invariant-loop-one
-invariant-loop-one g l = record {
-  delivers : (after : List Seat) → DeliversAll (drop l.one-index l.one-items) (g.S.Stations.seats l.stations) after
-      → DeliversAll l.one-items (g.S.Stations.seats l.fn.stations) after;
-  keeps : Keeps (g.S.Stations.seats l.fn.stations) (g.S.Stations.seats l.stations);
-  failed : g.S.Stations.failed l.stations ≡ g.S.Stations.failed l.fn.stations;
+invariant-loop-one l = record {
+  delivers : (after : List Seat) → DeliversAll (drop l.one-index l.one-items) l.nodes.seats after
+      → DeliversAll l.one-items l.fn.nodes.seats after;
+  keeps : Keeps l.fn.nodes.seats l.nodes.seats;
+  failed : l.nodes.failed ≡ l.fn.nodes.failed;
 }

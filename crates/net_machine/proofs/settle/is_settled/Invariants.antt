@@ -4,6 +4,6 @@ use Rattle.net_machine.specs.Settling.{is_rested}
 use Rattle.net_machine.proofs.settle.is_settled.Given as goal
 
 abbrev pub invariant-loop-ends : goal.invariant-loop-ends
-invariant-loop-ends g l =
-    list_all (is_rested (g.S.Stations.seats l.stations)) (drop l.ends-index l.order)
-    ≡ list_all (is_rested (g.S.Stations.seats l.stations)) l.order
+invariant-loop-ends l =
+    list_all (is_rested l.nodes.seats) (drop l.ends-index l.order)
+    ≡ list_all (is_rested l.nodes.seats) l.order

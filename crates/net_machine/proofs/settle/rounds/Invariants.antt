@@ -5,11 +5,11 @@ use Rattle.net_machine.specs.Seating.{Keeps}
 use Rattle.net_machine.proofs.settle.rounds.Given as goal
 
 abbrev pub invariant-loop : goal.invariant-loop
-invariant-loop g l = record {
+invariant-loop l = record {
   rounds : (n : ℕ) (after : List Seat)
-      → RoundsFrom (l.most - l.counter) l.done l.order (g.S.Stations.seats l.stations) n after
-      → RoundsFrom l.most 1 l.order (g.S.Stations.seats l.fn.stations) n after;
+      → RoundsFrom (l.most - l.counter) l.done l.order l.nodes.seats n after
+      → RoundsFrom l.most 1 l.order l.fn.nodes.seats n after;
   done : l.done ≡ 1 + l.counter;
-  keeps : Keeps (g.S.Stations.seats l.fn.stations) (g.S.Stations.seats l.stations);
-  failed : g.S.Stations.failed l.stations ≡ g.S.Stations.failed l.fn.stations;
+  keeps : Keeps l.fn.nodes.seats l.nodes.seats;
+  failed : l.nodes.failed ≡ l.fn.nodes.failed;
 }

@@ -8,7 +8,7 @@ use Rattle.net_seats.proofs.making.add_agents.Given as goal
 
 abbrev pub invariant-loop-node : goal.invariant-loop-node
 invariant-loop-node l = record {
-  made : l.agents.items ≡ map (λ x. fresh (agent_plan l.topology x)) (take l.node-index l.node-items);
+  made : l.agents.items ≡ l.initial.agents.items ++ map (λ x. fresh (agent_plan l.topology x)) (take l.node-index l.node-items);
   edges : l.edges.items ≡ l.initial.edges.items ++ map (λ x. fresh_outer (Forwarding (agent_plan l.topology x))) (take l.node-index l.node-items);
   right : All IsRight l.agents.items;
 }

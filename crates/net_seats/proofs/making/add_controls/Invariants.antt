@@ -6,6 +6,6 @@ use Rattle.net_seats.proofs.making.add_controls.Given as goal
 
 abbrev pub invariant-loop-controller : goal.invariant-loop-controller
 invariant-loop-controller l = record {
-  made : l.controls.items ≡ map (λ x. fresh (control_plan l.topology x)) (take l.controller-index l.controller-items);
+  made : l.controls.items ≡ l.initial.controls.items ++ map (λ x. fresh (control_plan l.topology x)) (take l.controller-index l.controller-items);
   edges : l.edges.items ≡ l.initial.edges.items ++ map (λ x. fresh_outer (Controlling (control_plan l.topology x))) (take l.controller-index l.controller-items);
 }

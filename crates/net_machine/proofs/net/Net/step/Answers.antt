@@ -29,9 +29,9 @@ pub invariant_of-self-2 : goal.invariant_of-self-2
 invariant_of-self-2 c = λ _.
     let n = c.self.inside in (
       step_runs n.opening n.events n.nodes.seats n.order.items (c.self.invariant c.if-self.false).0 c.args.event
-          c.in_ok-answer.answer c.happen.new.stations.seats c.requires.form c.know_subnets.ensures
+          c.in_ok-answer.answer c.happen.new.nodes.seats c.requires.form
           (λ y is. subst (λ (es : List SessionEnds). Happens y es c.args.event n.nodes.seats c.in_ok-answer.answer
-          c.happen.new.stations.seats) c.as_slice.ensures.value (c.in_ok-answer.ensures.happens y is))
+          c.happen.new.nodes.seats) c.as_slice.ensures.value (c.in_ok-answer.ensures.happens y is))
           c.in_ok-answer.ensures.keeps c.push.new.self c.in_ok-push.ensures.ok,
       c.in_ok-answer.ensures.works,
     )
@@ -40,9 +40,9 @@ pub returns-clause-answer : goal.returns-clause-answer
 returns-clause-answer c =
     let n = c.self.inside in
     step_answers n.opening n.events n.nodes.seats n.order.items (c.self.invariant c.if-self.false).0 c.args.event
-    c.in_ok-answer.answer c.happen.new.stations.seats c.requires.form c.know_subnets.ensures
+    c.in_ok-answer.answer c.happen.new.nodes.seats c.requires.form
     (λ y is. subst (λ (es : List SessionEnds). Happens y es c.args.event n.nodes.seats c.in_ok-answer.answer
-    c.happen.new.stations.seats) c.as_slice.ensures.value (c.in_ok-answer.ensures.happens y is))
+    c.happen.new.nodes.seats) c.as_slice.ensures.value (c.in_ok-answer.ensures.happens y is))
     c.in_ok-answer.ensures.keeps
     ∙ ap (λ (s : NetState). answer_to (moment s.opening s.events) (event_of c.args.event)) c.self.view_is
 
@@ -50,9 +50,9 @@ pub returns-clause-state : goal.returns-clause-state
 returns-clause-state c =
     let n = c.self.inside in
     (step_runs n.opening n.events n.nodes.seats n.order.items (c.self.invariant c.if-self.false).0 c.args.event
-    c.in_ok-answer.answer c.happen.new.stations.seats c.requires.form c.know_subnets.ensures
+    c.in_ok-answer.answer c.happen.new.nodes.seats c.requires.form
     (λ y is. subst (λ (es : List SessionEnds). Happens y es c.args.event n.nodes.seats c.in_ok-answer.answer
-    c.happen.new.stations.seats) c.as_slice.ensures.value (c.in_ok-answer.ensures.happens y is))
+    c.happen.new.nodes.seats) c.as_slice.ensures.value (c.in_ok-answer.ensures.happens y is))
     c.in_ok-answer.ensures.keeps c.push.new.self c.in_ok-push.ensures.ok).stands
 
 pub returns-clause-rounds : goal.returns-clause-rounds
@@ -60,9 +60,9 @@ returns-clause-rounds c =
     let n = c.self.inside in
     moment_rounds (moment n.opening c.push.new.self)
     (step_runs n.opening n.events n.nodes.seats n.order.items (c.self.invariant c.if-self.false).0 c.args.event
-    c.in_ok-answer.answer c.happen.new.stations.seats c.requires.form c.know_subnets.ensures
+    c.in_ok-answer.answer c.happen.new.nodes.seats c.requires.form
     (λ y is. subst (λ (es : List SessionEnds). Happens y es c.args.event n.nodes.seats c.in_ok-answer.answer
-    c.happen.new.stations.seats) c.as_slice.ensures.value (c.in_ok-answer.ensures.happens y is))
+    c.happen.new.nodes.seats) c.as_slice.ensures.value (c.in_ok-answer.ensures.happens y is))
     c.in_ok-answer.ensures.keeps c.push.new.self c.in_ok-push.ensures.ok).moment_is
 
 pub returns-clause-settles : goal.returns-clause-settles
@@ -70,9 +70,9 @@ returns-clause-settles c =
     let n = c.self.inside in
     let before = moment n.opening n.events in
     let answers = step_answers n.opening n.events n.nodes.seats n.order.items (c.self.invariant c.if-self.false).0
-    c.args.event c.in_ok-answer.answer c.happen.new.stations.seats c.requires.form c.know_subnets.ensures
+    c.args.event c.in_ok-answer.answer c.happen.new.nodes.seats c.requires.form
     (λ y is. subst (λ (es : List SessionEnds). Happens y es c.args.event n.nodes.seats c.in_ok-answer.answer
-    c.happen.new.stations.seats) c.as_slice.ensures.value (c.in_ok-answer.ensures.happens y is))
+    c.happen.new.nodes.seats) c.as_slice.ensures.value (c.in_ok-answer.ensures.happens y is))
     c.in_ok-answer.ensures.keeps in
     subst (λ (s : NetState). SettlesAtOnce (moment s.opening s.events) c.args.event c.in_ok-answer.answer
     (moment n.opening c.push.new.self)) c.self.view_is
@@ -84,9 +84,9 @@ pub returns-clause-compiled : goal.returns-clause-compiled
 returns-clause-compiled c =
     let n = c.self.inside in
     let answers = step_answers n.opening n.events n.nodes.seats n.order.items (c.self.invariant c.if-self.false).0
-    c.args.event c.in_ok-answer.answer c.happen.new.stations.seats c.requires.form c.know_subnets.ensures
+    c.args.event c.in_ok-answer.answer c.happen.new.nodes.seats c.requires.form
     (λ y is. subst (λ (es : List SessionEnds). Happens y es c.args.event n.nodes.seats c.in_ok-answer.answer
-    c.happen.new.stations.seats) c.as_slice.ensures.value (c.in_ok-answer.ensures.happens y is))
+    c.happen.new.nodes.seats) c.as_slice.ensures.value (c.in_ok-answer.ensures.happens y is))
     c.in_ok-answer.ensures.keeps in
     subst (λ (s : NetState). is_settled (moment s.opening s.events) ≡ true
     → AnswersCompiled (moment s.opening s.events).setup c.args.event c.in_ok-answer.answer) c.self.view_is

@@ -6,5 +6,5 @@ use Rattle.net_seats.proofs.cores.Cores.edit.Goals as goal
 
 pub returns-clause-edits : goal.returns-clause-edits
 returns-clause-edits c =
-    edits_there c.edit.result (inner c.args.self.now 0) c.self.inside.config (configured c.edit.new.node) c.args.links.now c.edit.new.links c.args.edit.now
-    (ap (λ (ns : List Inner). inner ns 0) (sym c.self.view_is)) c.edit.ensures.edits
+    edits_there c.edit_config.result (inner c.args.self.now 0) c.self.inside.config (configured c.edit_config.new.node) c.args.links.now c.edit_config.new.links c.args.edit.now
+    (ap (λ (ns : List Inner). inner ns 0) (sym c.self.view_is)) c.edit_config.ensures.edits

@@ -1,20 +1,36 @@
 use Rattle.std.proofs.Common.{arith, [], ap, subst, sym, ◌∙◌, ◌<◌, length}
-use Rattle.net_model.specs.Seats.{is_up, others_of}
+use Rattle.net_model.specs.Seats.{Configuring, Controlling, Forwarding, is_up, others_of}
 use Rattle.net_seats.specs.Halves.{Inner, seated}
-use Rattle.net_seats.proofs.Numbers.{agent_is, control_is}
+use Rattle.net_seats.proofs.Numbers.{agent_is, config_is, control_is}
+use Rattle.net_seats.proofs.Stepping.{sessions_of_agent, sessions_of_config, sessions_of_control}
 use Rattle.net_seats.proofs.cores.Cores.is_up.Goals as goal
+
+pub is_up-requires : goal.is_up-requires
+is_up-requires c =
+    let here : c.args.session < length (others_of (Configuring c.self.inside.config.setup)) =
+    subst (λ (n : Inner). c.args.session < length (others_of n.who))
+    (config_is c.args.self.now c.self.inside.config c.self.inside.controls.items c.self.inside.agents.items c.args.node c.self.view_is c.in-Configuration.ensures.number)
+    c.requires.session in
+    let many = sessions_of_config c.self.inside.config.setup in
+    omega (arith, here, many)
 
 pub is_up-requires-in-Control : goal.is_up-requires-in-Control
 is_up-requires-in-Control c =
+    let here : c.args.session < length (others_of (Controlling c.index.result.now.plan)) =
     subst (λ (n : Inner). c.args.session < length (others_of n.who))
     (control_is c.args.self.now c.self.inside.config c.self.inside.controls.items c.self.inside.agents.items c.args.node c.len.result c.in-Control.place c.self.view_is (omega (arith, c.len.ensures, c.self.inside.controls.ok.0)) c.index.result.now c.in-Control.ensures.number c.in-Control.ensures.within c.index.ensures)
-    c.requires.session
+    c.requires.session in
+    let many = sessions_of_control c.index.result.now.plan in
+    omega (arith, here, many)
 
 pub is_up-requires-in-Agent : goal.is_up-requires-in-Agent
 is_up-requires-in-Agent c =
+    let here : c.args.session < length (others_of (Forwarding c.index-in-Agent.result.now.plan)) =
     subst (λ (n : Inner). c.args.session < length (others_of n.who))
     (agent_is c.args.self.now c.self.inside.config c.self.inside.controls.items c.self.inside.agents.items c.args.node c.len.result c.in-Agent.place c.self.view_is (omega (arith, c.len.ensures, c.self.inside.controls.ok.0)) c.index-in-Agent.result.now c.in-Agent.ensures.number c.requires.node c.index-in-Agent.ensures)
-    c.requires.session
+    c.requires.session in
+    let many = sessions_of_agent c.index-in-Agent.result.now.plan in
+    omega (arith, here, many)
 
 pub returns-in-Control : goal.returns-in-Control
 returns-in-Control c =

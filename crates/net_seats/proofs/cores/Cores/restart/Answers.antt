@@ -3,28 +3,27 @@ use Rattle.net_model.specs.Seats.{others_of}
 use Rattle.net_seats.specs.Changes.{emptied_inner}
 use Rattle.net_seats.specs.Halves.{Inner}
 use Rattle.net_seats.proofs.Numbers.{agent_is, agent_set, control_is, control_set}
+use Rattle.net_seats.proofs.Stepping.{control_emptied}
 use Rattle.net_seats.proofs.cores.Cores.restart.Goals as goal
 
-pub restart-requires : goal.restart-requires
-restart-requires c =
-    subst (λ (n : Inner). length n.posts ≡ length (others_of n.who))
-    (control_is c.args.self.now c.self.inside.config c.self.inside.controls.items c.self.inside.agents.items c.args.node c.len.result c.in-Control.place c.self.view_is (omega (arith, c.len.ensures, c.self.inside.controls.ok.0)) c.index_mut.result.now c.in-Control.ensures.number c.in-Control.ensures.within c.index_mut.ensures.value)
-    c.requires.long
-
-pub restart-requires-in-Agent : goal.restart-requires-in-Agent
-restart-requires-in-Agent c =
+pub restart_agent-requires : goal.restart_agent-requires
+restart_agent-requires c =
     subst (λ (n : Inner). length n.posts ≡ length (others_of n.who))
     (agent_is c.args.self.now c.self.inside.config c.self.inside.controls.items c.self.inside.agents.items c.args.node c.len.result c.in-Agent.place c.self.view_is (omega (arith, c.len.ensures, c.self.inside.controls.ok.0)) c.index_mut-in-Agent.result.now c.in-Agent.ensures.number c.requires.node c.index_mut-in-Agent.ensures.value)
     c.requires.long
 
 pub returns-in-Control : goal.returns-in-Control
 returns-in-Control c =
-    control_set c.args.self.now c.self.inside.config c.self.inside.controls.items c.self.inside.agents.items c.args.node c.len.result c.in-Control.place c.self.view_is (omega (arith, c.len.ensures, c.self.inside.controls.ok.0)) c.restart.new.node c.in-Control.ensures.number c.in-Control.ensures.within
-    ∙ ap (λ (n : Inner). set c.args.self.now c.args.node n) (c.restart.ensures ∙ ap emptied_inner (sym
+    control_set c.args.self.now c.self.inside.config c.self.inside.controls.items c.self.inside.agents.items c.args.node c.len.result c.in-Control.place c.self.view_is (omega (arith, c.len.ensures, c.self.inside.controls.ok.0)) c.restart.new.self c.in-Control.ensures.number c.in-Control.ensures.within
+    ∙ ap (λ (n : Inner). set c.args.self.now c.args.node n) (control_emptied c.index_mut.result.now c.restart.new.self c.restart.ensures
+    (subst (λ (n : Inner). length n.posts ≡ length (others_of n.who))
+    (control_is c.args.self.now c.self.inside.config c.self.inside.controls.items c.self.inside.agents.items c.args.node c.len.result c.in-Control.place c.self.view_is (omega (arith, c.len.ensures, c.self.inside.controls.ok.0)) c.index_mut.result.now c.in-Control.ensures.number c.in-Control.ensures.within c.index_mut.ensures.value)
+    c.requires.long)
+    ∙ ap emptied_inner (sym
     (control_is c.args.self.now c.self.inside.config c.self.inside.controls.items c.self.inside.agents.items c.args.node c.len.result c.in-Control.place c.self.view_is (omega (arith, c.len.ensures, c.self.inside.controls.ok.0)) c.index_mut.result.now c.in-Control.ensures.number c.in-Control.ensures.within c.index_mut.ensures.value)))
 
 pub returns-in-Agent : goal.returns-in-Agent
 returns-in-Agent c =
-    agent_set c.args.self.now c.self.inside.config c.self.inside.controls.items c.self.inside.agents.items c.args.node c.len.result c.in-Agent.place c.self.view_is (omega (arith, c.len.ensures, c.self.inside.controls.ok.0)) c.restart-in-Agent.new.node c.in-Agent.ensures.number
-    ∙ ap (λ (n : Inner). set c.args.self.now c.args.node n) (c.restart-in-Agent.ensures.emptied ∙ ap emptied_inner (sym
+    agent_set c.args.self.now c.self.inside.config c.self.inside.controls.items c.self.inside.agents.items c.args.node c.len.result c.in-Agent.place c.self.view_is (omega (arith, c.len.ensures, c.self.inside.controls.ok.0)) c.restart_agent.new.node c.in-Agent.ensures.number
+    ∙ ap (λ (n : Inner). set c.args.self.now c.args.node n) (c.restart_agent.ensures.emptied ∙ ap emptied_inner (sym
     (agent_is c.args.self.now c.self.inside.config c.self.inside.controls.items c.self.inside.agents.items c.args.node c.len.result c.in-Agent.place c.self.view_is (omega (arith, c.len.ensures, c.self.inside.controls.ok.0)) c.index_mut-in-Agent.result.now c.in-Agent.ensures.number c.requires.node c.index_mut-in-Agent.ensures.value)))

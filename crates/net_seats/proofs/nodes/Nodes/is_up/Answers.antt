@@ -1,0 +1,23 @@
+use Rattle.std.proofs.Common.{[], List, Bool, IfOk, ap, arith, drop, false, get_or, length, set, subst, sym, ◌<◌, ◌≡◌, ◌∙◌, ℕ, zero, suc, refl}
+use Rattle.std.specs.List.{slice_get}
+use Rattle.std.proofs.lemmas.List.{length-set}
+use Rattle.net_model.specs.Seats.{Seat, seat, is_live, is_up}
+use Rattle.net_seats.specs.Halves.{AreAllHalves, Inner, IsEven, Outer, Standing, inner, joined, outer, whole}
+use Rattle.net_seats.proofs.Halves.{as_many_seats, forwarded_by, halves_at, seat_at}
+use Rattle.net_seats.proofs.Standing.{below_all, below_inner, edge_changed, edge_kept, even_links, even_notices, halves_are, others_are, posts_are, whole_is}
+use Rattle.net_seats.proofs.nodes.Nodes.is_up.Goals as goal
+
+pub is_up-requires-clause-node : goal.is_up-requires-clause-node
+is_up-requires-clause-node c = below_inner c.self.inside.cores c.self.inside.edges.items c.args.place.node c.self.invariant.0 (below_all c.self.inside.cores c.self.inside.edges.items c.args.self.now.seats c.args.place.node c.self.invariant.0 (ap (λ (s : Standing). s.seats) c.self.view_is) c.requires.node)
+
+pub is_up-requires-clause-session : goal.is_up-requires-clause-session
+is_up-requires-clause-session c =
+    let was = posts_are c.self.inside.cores c.self.inside.edges.items c.self.invariant.0 c.args.place.node c.args.place.node refl (below_all c.self.inside.cores c.self.inside.edges.items c.args.self.now.seats c.args.place.node c.self.invariant.0 (ap (λ (s : Standing). s.seats) c.self.view_is) c.requires.node) in
+    let same : length (seat (joined c.self.inside.cores c.self.inside.edges.items) c.args.place.node).posts ≡ length (seat c.args.self.now.seats c.args.place.node).posts = ap (λ (ss : List Seat). length (seat ss c.args.place.node).posts) (ap (λ (s : Standing). s.seats) c.self.view_is) in
+    omega (arith, c.requires.session)
+
+pub returns : goal.returns
+returns c =
+    c.is_up.ensures
+    ∙ (ap (λ (n : Seat). is_up n c.args.place.session) (sym (seat_at c.self.inside.cores c.self.inside.edges.items c.args.place.node c.self.invariant.0 (below_all c.self.inside.cores c.self.inside.edges.items c.args.self.now.seats c.args.place.node c.self.invariant.0 (ap (λ (s : Standing). s.seats) c.self.view_is) c.requires.node)))
+    ∙ ap (λ (ss : List Seat). is_up (seat ss c.args.place.node) c.args.place.session) (ap (λ (s : Standing). s.seats) c.self.view_is))

@@ -1,0 +1,15 @@
+use Rattle.std.proofs.Common.{[], List, ap, arith, get_or, length, sym, ◌<◌, ◌≡◌, ◌∙◌, ℕ, Some, None, refl}
+use Rattle.std.specs.declared.option.Option.{Option}
+use Rattle.std.specs.Option.{option_map}
+use Rattle.ov_types.specs.First.{same_name}
+use Rattle.network_model.specs.Setup.{Name}
+use Rattle.net_model.specs.Seats.{Seat, index_from, name_of, other, others_of, place_at, place_of, seat, seat_named, session_with}
+use Rattle.net_model.specs.declared.place.Place.{Place}
+use Rattle.net_seats.specs.Halves.{Outer, Standing}
+use Rattle.net_seats.proofs.Found.{found_below}
+use Rattle.net_seats.proofs.Halves.{named_at}
+use Rattle.net_seats.proofs.Standing.{below_all, halves_are, others_are, whole_is}
+use Rattle.net_seats.proofs.nodes.Nodes.seat_named.Goals as goal
+
+pub returns : goal.returns
+returns c = (c.edge_named.ensures ∙ (ap (λ (os : List Outer). index_from 0 (λ (o : Outer). same_name o.name c.args.name.now) os) c.deref.ensures.value ∙ (named_at c.self.inside.cores c.self.inside.edges.items 0 c.args.name.now c.self.invariant.0 ∙ ap (λ (ss : List Seat). seat_named ss c.args.name.now) (ap (λ (s : Standing). s.seats) c.self.view_is))))
