@@ -1,11 +1,1 @@
-pub mod Json
-pub mod Lines
-pub mod Outcomes
-pub mod Schedules
-pub mod Generating
-pub mod Decoding
-pub mod Reporting
-pub mod Answers
-pub mod Networks
-pub mod Commands
-pub mod Runs
+pub mod Requests

@@ -6,34 +6,14 @@ ghost use Rattle.std.specs.Prelude.{◌≡◌, ◌≢◌, ◌↔◌, ◌⊎◌};
 ghost use Rattle.std.specs.IoError.{error_kind};
 ghost use Rattle.std.specs.declared.io.ErrorKind.TheVariants.{OutOfMemory};
 ghost use Rattle.std.specs.Process.{exit_status};
-ghost use Rattle.overlay.specs.Commands.{request_named, request_of};
-ghost use Rattle.overlay.specs.Runs.{number_of};
-
-mod answer;
-mod command;
-#[cfg(test)]
-mod decode_tests;
-mod decoding;
-#[cfg(test)]
-mod end_tests;
-mod generating;
-mod laws;
-mod lines;
-mod outcomes;
-#[cfg(test)]
-mod run_cases;
-#[cfg(test)]
-mod run_tests;
-mod running;
-#[cfg(test)]
-mod tests;
-mod top;
+ghost use Rattle.overlay.specs.Requests.{request_named, request_of};
+ghost use Rattle.top_call.specs.Runs.{number_of};
 
 use ov_io::{StdSink, StdSource};
 use std::env::Env;
 use std::process::ExitCode;
 use std::{env, io};
-use top::{Status, overlay};
+use top_call::{Status, overlay};
 
 const USAGE: &str = "usage: overlay compile < DOCUMENT
        overlay reach < DOCUMENT

@@ -2,7 +2,8 @@
 ghost use Rattle.std.specs.Prelude.{◌≡◌, ◌++◌, OnOk, OnErr};
 ghost use Rattle.report.specs.Answers.{IsAnswerTo, answer_lines, settled_text, shown_lines};
 
-use crate::outcomes::outcome_lines;
+use crate::lined::LinesOf;
+use crate::outcomes::OutcomeLines;
 use crate::refusals::EditFaultText;
 use crate::rows::node_lines;
 use ov_io::TextOut;
@@ -61,6 +62,6 @@ pub fn answer_lines(
             Event::Show { node } => shown_lines(alloc, number, node, rows, out),
             _ => unreachable!(),
         },
-        Answer::Traced(outcome) => outcome_lines(alloc, number, outcome, out),
+        Answer::Traced(outcome) => OutcomeLines { number }.append(alloc, outcome, out),
     }
 }

@@ -112,7 +112,7 @@ fn objects_are_printed_in_order(rt: HostRuntime) -> Result<(), Fail> {
     low_lines(alloc, &first_objects(alloc)?, &mut out)?;
     low_lines(alloc, &acls_of(alloc, 1, 16384)?, &mut out)?;
     low_lines(alloc, &acls_of(alloc, 2, 16386)?, &mut out)?;
-    object_lines(alloc, &use_object(alloc)?, &mut out)?;
+    ObjectLines.append(alloc, &use_object(alloc)?, &mut out)?;
     assert_eq!(rt;
         out.octets(),
         "\

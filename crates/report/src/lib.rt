@@ -5,6 +5,7 @@
 mod answers;
 #[cfg(test)]
 mod chain_tests;
+mod lined;
 mod lines;
 mod lists;
 mod objects;
@@ -17,16 +18,17 @@ mod targets;
 mod tests;
 
 pub use answers::answer_lines;
+pub use lined::LinesOf;
 pub use lines::{
     drop_lines, fault_lines, incomplete_lines, notification_lines, open_lines, put_lines,
     route_lines,
 };
-pub use objects::{low_lines, object_lines};
-pub use outcomes::outcome_lines;
+pub use objects::{ObjectLines, low_lines};
+pub use outcomes::OutcomeLines;
 pub use refusals::{doc_fault_lines, refusal_lines};
 pub use rows::{
-    agent_acl_lines, agent_label_line, agent_lines, agent_row_line, control_lines,
-    control_row_line, node_lines,
+    AgentAclLines, AgentLabelLines, AgentRowLines, ControlRowLines, agent_lines, control_lines,
+    node_lines,
 };
 pub use summaries::summary_lines;
 pub use targets::{TargetsText, put_lines_after};

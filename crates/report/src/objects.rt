@@ -1,11 +1,12 @@
 //! The lines of low-level objects.
-ghost use Rattle.std.specs.Prelude.{◌≡◌, ◌++◌, Some, IfOk, OnOk, OnErr, flat_map, string_bytes};
+ghost use Rattle.std.specs.Prelude.{◌≡◌, ◌++◌, Some, IfOk, OnOk, OnErr, string_bytes};
 ghost use Rattle.ov_types.specs.Texts.{address_text};
 ghost use Rattle.report.specs.Objects.{action_text, entry_line, entry_text, home_text, key_text, lines_behind};
 ghost use Rattle.report.specs.Objects.{low_lines, object_line, object_lines, protocol_text, range_text, rules_of};
 ghost use Rattle.report.specs.Objects.{said_text, side_text};
 ghost use Rattle.route_targets.specs.Numbers.{circuit_address_of};
 
+use crate::lined::{LinesOf, append_each};
 use crate::lists::joined;
 use ov_io::TextOut;
 use ov_types::{
@@ -138,29 +139,23 @@ fn append_line(front: &str, key: LowKey, said: &str, out: &mut TextOut) -> Resul
     write!(out, "{front}{key} {said}\n")
 }
 
-/// Appends the line of an entry of an access list.
-#[tactic(auto, unfolding(crate::specs::Objects::object_line, crate::specs::Objects::entry_line))]
-fn append_entry(front: &str, key: LowKey, rule: AclRule, out: &mut TextOut) -> Result<(), NoMemory>
-    ensures { OnOk result (out.new ≡ out.old ++ entry_line front.now key rule) }
-{
-    let key = KeyText(key);
-    let entry = EntryText(rule);
-    write!(out, "{front}{key} rule {entry}\n")
+/// The lines of the entries of an access list, each behind a front.
+#[derive(Clone, Copy)]
+struct EntryLines<'a> {
+    front: &'a str,
+    key: LowKey,
 }
 
-/// Appends the lines of the entries of an access list.
-fn append_entries(
-    front: &str,
-    key: LowKey,
-    rules: &[AclRule],
-    out: &mut TextOut,
-) -> Result<(), NoMemory>
-    ensures { OnOk result (out.new ≡ out.old ++ flat_map (entry_line front.now key) rules.now) }
-{
-    for rule in rules {
-        append_entry(front, key, *rule, out)?;
+impl LinesOf<AclRule> for EntryLines<'_> {
+    ghost lines = { λ w rule. entry_line w.front.now w.key rule };
+
+    #[tactic(auto, unfolding(crate::specs::Objects::object_line, crate::specs::Objects::entry_line))]
+    fn append(&self, _alloc: Global, rule: &AclRule, out: &mut TextOut) -> Result<(), NoMemory> {
+        let front = self.front;
+        let key = KeyText(self.key);
+        let entry = EntryText(*rule);
+        write!(out, "{front}{key} rule {entry}\n")
     }
-    Ok(())
 }
 
 /// One side of a chain's use: its network, and the subnets there.
@@ -240,34 +235,30 @@ pub(crate) fn lines_behind(
     let said = said_of(alloc, &object.1)?;
     let mut lines = TextOut::new(alloc);
     append_line(front, object.0, said.as_str(), &mut lines)?;
-    append_entries(front, object.0, rules_of(&object.1), &mut lines)?;
+    let entries = EntryLines {
+        front,
+        key: object.0,
+    };
+    append_each(alloc, &entries, rules_of(&object.1), &mut lines)?;
     out.push(lines.octets())
 }
 
-/// Appends the lines of one low-level object: what names it, and what is said of it. An access list has a line of its
-/// subnets, and then one for each entry.
-pub fn object_lines(
-    alloc: Global,
-    object: &(LowKey, LowValue),
-    out: &mut TextOut,
-) -> Result<(), NoMemory>
-    ensures ok { OnOk result (out.new ≡ out.old ++ object_lines object.now) }
-    ensures err { OnErr result (out.new ≡ out.old) }
-{
-    lines_behind(alloc, "", object, out)
-}
+/// The lines of low-level objects: what names each, and what is said of it. An access list has a line of its subnets, and
+/// then one for each entry.
+#[derive(Clone, Copy)]
+pub struct ObjectLines;
 
-fn append_objects(
-    alloc: Global,
-    objects: &[(LowKey, LowValue)],
-    out: &mut TextOut,
-) -> Result<(), NoMemory>
-    ensures { OnOk result (out.new ≡ out.old ++ low_lines objects.now) }
-{
-    for object in objects {
-        object_lines(alloc, object, out)?;
+impl LinesOf<(LowKey, LowValue)> for ObjectLines {
+    ghost lines = { λ _ object. object_lines object };
+
+    fn append(
+        &self,
+        alloc: Global,
+        object: &(LowKey, LowValue),
+        out: &mut TextOut,
+    ) -> Result<(), NoMemory> {
+        lines_behind(alloc, "", object, out)
     }
-    Ok(())
 }
 
 /// Appends the lines of low-level objects, in order.
@@ -276,6 +267,6 @@ pub fn low_lines(alloc: Global, low: &Low, out: &mut TextOut) -> Result<(), NoMe
     ensures err { OnErr result (out.new ≡ out.old) }
 {
     let mut lines = TextOut::new(alloc);
-    append_objects(alloc, low.as_slice(), &mut lines)?;
+    append_each(alloc, &ObjectLines, low.as_slice(), &mut lines)?;
     out.push(lines.octets())
 }

@@ -1,7 +1,8 @@
 //! The lines of outcomes.
-ghost use Rattle.std.specs.Prelude.{◌≡◌, ◌++◌, IfOk, OnOk, OnErr, Some, string_bytes};
+ghost use Rattle.std.specs.Prelude.{Some};
 ghost use Rattle.report.specs.Outcomes.{outcome_line, why_text};
 
+use crate::lined::LinesOf;
 use crate::lists::joined;
 use ov_io::TextOut;
 use ov_types::{NoMemory, Outcome, Why};
@@ -28,25 +29,27 @@ impl fmt::Display for WhyText {
     }
 }
 
-/// Appends the line of an outcome, behind the number of its packet or its event.
-#[tactic(auto, unfolding(crate::specs::Outcomes::outcome_line))]
-pub fn outcome_lines(
-    alloc: Global,
-    number: usize,
-    outcome: &Outcome,
-    out: &mut TextOut,
-) -> Result<(), NoMemory>
-    ensures ok { OnOk result (out.new ≡ out.old ++ outcome_line number outcome.now) }
-    ensures err { OnErr result (out.new ≡ out.old) }
-{
-    match outcome {
-        Outcome::Delivered { port, services } => {
-            let services = joined(alloc, services.as_slice())?;
-            write!(out, "{number} delivered port {port} services {services}\n")
-        }
-        Outcome::Dropped { why } => {
-            let why = WhyText(*why);
-            write!(out, "{number} dropped {why}\n")
+/// The line of an outcome, behind the number of its packet or its event.
+#[derive(Clone, Copy)]
+pub struct OutcomeLines {
+    pub number: usize,
+}
+
+impl LinesOf<Outcome> for OutcomeLines {
+    ghost lines = { λ w outcome. outcome_line w.number outcome };
+
+    #[tactic(auto, unfolding(crate::specs::Outcomes::outcome_line))]
+    fn append(&self, alloc: Global, outcome: &Outcome, out: &mut TextOut) -> Result<(), NoMemory> {
+        let number = self.number;
+        match outcome {
+            Outcome::Delivered { port, services } => {
+                let services = joined(alloc, services.as_slice())?;
+                write!(out, "{number} delivered port {port} services {services}\n")
+            }
+            Outcome::Dropped { why } => {
+                let why = WhyText(*why);
+                write!(out, "{number} dropped {why}\n")
+            }
         }
     }
 }

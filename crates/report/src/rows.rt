@@ -1,8 +1,9 @@
 //! The lines of the rows of nodes.
-ghost use Rattle.std.specs.Prelude.{◌≡◌, ◌++◌, Some, OnOk, OnErr, flat_map};
+ghost use Rattle.std.specs.Prelude.{◌≡◌, ◌++◌, Some, OnOk, OnErr};
 ghost use Rattle.report.specs.Rows.{agent_acl_lines, agent_label_line, agent_lines, agent_row_line, attached_text};
 ghost use Rattle.report.specs.Rows.{control_lines, control_row_line, node_lines};
 
+use crate::lined::{LinesOf, append_each};
 use crate::objects::lines_behind;
 use ov_io::TextOut;
 use ov_types::{
@@ -12,35 +13,28 @@ use ov_types::{
 use std::alloc::Global;
 use std::fmt;
 
-/// Appends the line of one row of a control node.
-#[tactic(auto, unfolding(crate::specs::Rows::control_row_line))]
-pub fn control_row_line(
-    _alloc: Global,
-    node: &Name,
-    row: &((InstanceId, Prefix), TableRow),
-    out: &mut TextOut,
-) -> Result<(), NoMemory>
-    ensures ok { OnOk result (out.new ≡ out.old ++ control_row_line node.now row.now) }
-    ensures err { OnErr result (out.new ≡ out.old) }
-{
-    let instance = row.0.0;
-    let prefix = row.0.1;
-    let leads = row.1;
-    write!(out, "control {node} table {instance} {prefix} {leads}\n")
+/// The lines of the rows of a control node.
+#[derive(Clone, Copy)]
+pub struct ControlRowLines {
+    pub node: Name,
 }
 
-fn append_control_rows(
-    alloc: Global,
-    node: &Name,
-    rows: &[((InstanceId, Prefix), TableRow)],
-    out: &mut TextOut,
-) -> Result<(), NoMemory>
-    ensures { OnOk result (out.new ≡ out.old ++ control_lines node.now rows.now) }
-{
-    for row in rows {
-        control_row_line(alloc, node, row, out)?;
+impl LinesOf<((InstanceId, Prefix), TableRow)> for ControlRowLines {
+    ghost lines = { λ w row. control_row_line w.node row };
+
+    #[tactic(auto, unfolding(crate::specs::Rows::control_row_line))]
+    fn append(
+        &self,
+        _alloc: Global,
+        row: &((InstanceId, Prefix), TableRow),
+        out: &mut TextOut,
+    ) -> Result<(), NoMemory> {
+        let node = self.node;
+        let instance = row.0.0;
+        let prefix = row.0.1;
+        let leads = row.1;
+        write!(out, "control {node} table {instance} {prefix} {leads}\n")
     }
-    Ok(())
 }
 
 /// Appends the lines of the rows of a control node, in order.
@@ -54,7 +48,12 @@ pub fn control_lines(
     ensures err { OnErr result (out.new ≡ out.old) }
 {
     let mut lines = TextOut::new(alloc);
-    append_control_rows(alloc, node, rows.as_slice(), &mut lines)?;
+    append_each(
+        alloc,
+        &ControlRowLines { node: *node },
+        rows.as_slice(),
+        &mut lines,
+    )?;
     out.push(lines.octets())
 }
 
@@ -75,98 +74,77 @@ impl fmt::Display for AttachedText {
     }
 }
 
-/// Appends the line of one label of an agent.
-#[tactic(auto, unfolding(crate::specs::Rows::agent_label_line))]
-pub fn agent_label_line(
-    _alloc: Global,
-    node: &Name,
-    attached: &(Label, Attached),
-    out: &mut TextOut,
-) -> Result<(), NoMemory>
-    ensures ok { OnOk result (out.new ≡ out.old ++ agent_label_line node.now attached.now) }
-    ensures err { OnErr result (out.new ≡ out.old) }
-{
-    let label = attached.0;
-    let attached = AttachedText(attached.1);
-    write!(out, "agent {node} label {label} {attached}\n")
+/// The lines of the labels of an agent.
+#[derive(Clone, Copy)]
+pub struct AgentLabelLines {
+    pub node: Name,
 }
 
-/// Appends the lines of one access list of an agent: those of the object, each behind the agent's name.
-#[tactic(auto, unfolding(crate::specs::Rows::agent_acl_lines))]
-pub fn agent_acl_lines(
-    alloc: Global,
-    node: &Name,
-    object: &(LowKey, LowValue),
-    out: &mut TextOut,
-) -> Result<(), NoMemory>
-    ensures ok { OnOk result (out.new ≡ out.old ++ agent_acl_lines node.now object.now) }
-    ensures err { OnErr result (out.new ≡ out.old) }
-{
-    let front = format!(in alloc; "agent {node} ")?;
-    lines_behind(alloc, front.as_str(), object, out)
-}
+impl LinesOf<(Label, Attached)> for AgentLabelLines {
+    ghost lines = { λ w attached. agent_label_line w.node attached };
 
-/// Appends the line of one row of an agent.
-#[tactic(auto, unfolding(crate::specs::Rows::agent_row_line))]
-pub fn agent_row_line(
-    _alloc: Global,
-    node: &Name,
-    row: &((InstanceId, Prefix), Entry),
-    out: &mut TextOut,
-) -> Result<(), NoMemory>
-    ensures ok { OnOk result (out.new ≡ out.old ++ agent_row_line node.now row.now) }
-    ensures err { OnErr result (out.new ≡ out.old) }
-{
-    let instance = row.0.0;
-    let prefix = row.0.1;
-    let next_hop = row.1.next_hop;
-    let label = row.1.label;
-    write!(
-        out,
-        "agent {node} table {instance} {prefix} {next_hop} {label}\n"
-    )
-}
-
-fn append_labels(
-    alloc: Global,
-    node: &Name,
-    labels: &[(Label, Attached)],
-    out: &mut TextOut,
-) -> Result<(), NoMemory>
-    ensures { OnOk result (out.new ≡ out.old ++ flat_map (agent_label_line node.now) labels.now) }
-{
-    for attached in labels {
-        agent_label_line(alloc, node, attached, out)?;
+    #[tactic(auto, unfolding(crate::specs::Rows::agent_label_line))]
+    fn append(
+        &self,
+        _alloc: Global,
+        attached: &(Label, Attached),
+        out: &mut TextOut,
+    ) -> Result<(), NoMemory> {
+        let node = self.node;
+        let label = attached.0;
+        let attached = AttachedText(attached.1);
+        write!(out, "agent {node} label {label} {attached}\n")
     }
-    Ok(())
 }
 
-fn append_acls(
-    alloc: Global,
-    node: &Name,
-    acls: &[(LowKey, LowValue)],
-    out: &mut TextOut,
-) -> Result<(), NoMemory>
-    ensures { OnOk result (out.new ≡ out.old ++ flat_map (agent_acl_lines node.now) acls.now) }
-{
-    for object in acls {
-        agent_acl_lines(alloc, node, object, out)?;
-    }
-    Ok(())
+/// The lines of the access lists of an agent: those of each object, behind the agent's name.
+#[derive(Clone, Copy)]
+pub struct AgentAclLines {
+    pub node: Name,
 }
 
-fn append_agent_rows(
-    alloc: Global,
-    node: &Name,
-    rows: &[((InstanceId, Prefix), Entry)],
-    out: &mut TextOut,
-) -> Result<(), NoMemory>
-    ensures { OnOk result (out.new ≡ out.old ++ flat_map (agent_row_line node.now) rows.now) }
-{
-    for row in rows {
-        agent_row_line(alloc, node, row, out)?;
+impl LinesOf<(LowKey, LowValue)> for AgentAclLines {
+    ghost lines = { λ w object. agent_acl_lines w.node object };
+
+    #[tactic(auto, unfolding(crate::specs::Rows::agent_acl_lines))]
+    fn append(
+        &self,
+        alloc: Global,
+        object: &(LowKey, LowValue),
+        out: &mut TextOut,
+    ) -> Result<(), NoMemory> {
+        let node = self.node;
+        let front = format!(in alloc; "agent {node} ")?;
+        lines_behind(alloc, front.as_str(), object, out)
     }
-    Ok(())
+}
+
+/// The lines of the rows of an agent.
+#[derive(Clone, Copy)]
+pub struct AgentRowLines {
+    pub node: Name,
+}
+
+impl LinesOf<((InstanceId, Prefix), Entry)> for AgentRowLines {
+    ghost lines = { λ w row. agent_row_line w.node row };
+
+    #[tactic(auto, unfolding(crate::specs::Rows::agent_row_line))]
+    fn append(
+        &self,
+        _alloc: Global,
+        row: &((InstanceId, Prefix), Entry),
+        out: &mut TextOut,
+    ) -> Result<(), NoMemory> {
+        let node = self.node;
+        let instance = row.0.0;
+        let prefix = row.0.1;
+        let next_hop = row.1.next_hop;
+        let label = row.1.label;
+        write!(
+            out,
+            "agent {node} table {instance} {prefix} {next_hop} {label}\n"
+        )
+    }
 }
 
 /// Appends the lines of an agent: its labels, then its access lists, and then its rows, each in order.
@@ -179,10 +157,14 @@ pub fn agent_lines(
     ensures ok { OnOk result (out.new ≡ out.old ++ agent_lines node.now rows.now) }
     ensures err { OnErr result (out.new ≡ out.old) }
 {
+    let node = *node;
+    let labels = rows.labels.as_slice();
+    let acls = rows.acls.as_slice();
+    let routes = rows.routes.as_slice();
     let mut lines = TextOut::new(alloc);
-    append_labels(alloc, node, rows.labels.as_slice(), &mut lines)?;
-    append_acls(alloc, node, rows.acls.as_slice(), &mut lines)?;
-    append_agent_rows(alloc, node, rows.routes.as_slice(), &mut lines)?;
+    append_each(alloc, &AgentLabelLines { node }, labels, &mut lines)?;
+    append_each(alloc, &AgentAclLines { node }, acls, &mut lines)?;
+    append_each(alloc, &AgentRowLines { node }, routes, &mut lines)?;
     out.push(lines.octets())
 }
 

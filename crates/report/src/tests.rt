@@ -103,7 +103,7 @@ fn two_entries(alloc: Global) -> Result<(LowKey, LowValue), NoMemory> {
 fn entries_and_empty_lists_are_printed(rt: HostRuntime) -> Result<(), Fail> {
     let alloc = rt.alloc();
     let mut out = TextOut::new(alloc);
-    object_lines(alloc, &two_entries(alloc)?, &mut out)?;
+    ObjectLines.append(alloc, &two_entries(alloc)?, &mut out)?;
     assert_eq!(rt;
         out.octets(),
         "\

@@ -1,9 +1,9 @@
 -- The answers of a schedule are as its configurations compile to, at its settled moments; and settling ends settled.
-use Rattle.std.specs.Prelude.{◌≡◌, ◌≢◌, ◌<◌, ℕ, zero, suc, List, [], ◌∷◌, map, take, IsTrue, true, cond, is_some}
+use Rattle.std.specs.Prelude.{◌≡◌, ◌≢◌, ℕ, zero, suc, List, [], ◌∷◌, map, take, IsTrue, true, cond, is_some}
 use Rattle.std.specs.declared.option.Option.{Option}
 use Rattle.std.specs.declared.option.Option.TheVariants.{Some, None}
 use Rattle.std.specs.List.{list_all, list_any, slice_get}
-use Rattle.std.proofs.Common.{refl, sym, ap, subst, ◌∙◌, arith}
+use Rattle.std.proofs.Common.{refl, sym, ap, subst, ◌∙◌}
 use Rattle.std.proofs.lemmas.Bool.{and_from, and_parts, or_left, or_right}
 use Rattle.std.proofs.lemmas.Option.{same_Some}
 use Rattle.ov_types.specs.First.{same_name}
@@ -32,7 +32,6 @@ use Rattle.transform_model.specs.Tables.{control_rows}
 use Rattle.node_model.specs.Members.{Member}
 use Rattle.node_model.proofs.Members.{any_in}
 use Rattle.network_model.specs.Setup.{edited_without}
-use Rattle.network_model.specs.Session.{Message}
 use Rattle.network_model.specs.Network.{Network, start}
 use Rattle.network_model.specs.Steps.{is_settled, settle}
 use Rattle.network_model.specs.Events.{Event, Edits, Show, after, answer_to, edits as edits_of, event_of, is_node, next, run, shown}
@@ -43,6 +42,7 @@ use Rattle.headline_laws.proofs.Configured.{agents_show_rows, control_nodes_show
 use Rattle.headline_laws.proofs.Delivers.{found, written_delivers}
 use Rattle.headline_laws.proofs.Written.{compiled_now, written_now, written_settle_settles}
 use Rattle.net_model.specs.Stands.{any_size, moment}
+use Rattle.net_model.proofs.Sizes.{positive}
 use Rattle.reach_plain.specs.Reachability.{reachability}
 use Rattle.reach_plain.proofs.Once.{passed_once}
 use Rattle.schedule_laws.specs.Compiled.{AnswersCompiled, AreAsCompiled, PassesEachOnce, StandsAt, answers}
@@ -132,9 +132,6 @@ forms_of_front (suc place) (e ∷ es) forms =
     let parts = and_parts (has_event_form e) (list_all has_event_form es) forms in
     and_from (has_event_form e) (list_all has_event_form (take place es)) parts.0 (forms_of_front place es parts.1)
 
-positive : (n : List ℕ) (m : Message) → 0 < any_size n m
-positive n m = omega arith
-
 -- ---- a moment of any schedule
 module _ (x : Checked) (valid : IsWritten x) (before : List Event) (asked : EditsAreValid any_size IsOfForm (start x) before) where
   abbrev w : Network
@@ -164,9 +161,10 @@ module _ (x : Checked) (valid : IsWritten x) (before : List Event) (asked : Edit
 
   pub compiled_at : is_settled w ≡ true → (e : Written) → AnswersCompiled w.setup e (answer_to w (event_of e))
   compiled_at settled (written.Show name) = (at_control settled name, at_agent settled name)
-  compiled_at settled (written.Trace p) =
-      (ap Traced (written_delivers any_size positive x valid before asked settled p),
-      each_once w.setup (written_now any_size positive x valid before asked) p)
+  compiled_at settled (written.Trace p) = (
+    ap Traced (written_delivers any_size positive x valid before asked settled p),
+    each_once w.setup (written_now any_size positive x valid before asked) p,
+  )
   compiled_at settled (written.Edit d) = tt
   compiled_at settled (written.Deliver from to n) = tt
   compiled_at settled (written.Lose a b) = tt

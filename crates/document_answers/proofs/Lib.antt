@@ -1,0 +1,3 @@
+pub mod JsonLaws
+pub mod LineLemmas
+pub mod Ways

@@ -1,0 +1,5 @@
+pub mod Reports
+pub mod OneReport
+pub mod SomeReport
+pub mod Spelled
+pub mod Telling

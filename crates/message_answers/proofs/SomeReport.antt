@@ -1,0 +1,93 @@
+-- Octets have a report.
+use Rattle.std.proofs.Common.{◌≡◌, ◌≢◌, ◌<◌, ◌≤◌, ◌+◌, ℕ, zero, suc, List, [], ◌∷◌, ◌++◌, length, take, drop, refl, ap, sym, ◌∙◌, subst, arith, ◌⊎◌, inl, inr}
+use Rattle.std.proofs.lemmas.List.{length-append}
+use Rattle.std.proofs.Math.Seq.{take-append_seam, drop-append_seam}
+use Rattle.byteorder.specs.Endian.{big_bytes}
+use Rattle.bgp_wire.specs.declared.fault.WireFault.{WireFault}
+use Rattle.bgp_wire.specs.Content.{Content, Opens, Updates, Notifies, KeepsAlive, UpdateFields}
+use Rattle.bgp_wire.specs.Frames.{IsProperPrefix, head}
+use Rattle.bgp_wire.specs.Messages.{AreOctets, BeginsWith, HasFault}
+use Rattle.bgp_wire.proofs.Octets.{AreOctets-drop, AreOctets-take}
+use Rattle.bgp_wire.proofs.Readings as readings
+use Rattle.bgp_vpn.specs.Updates.{Changes, HasUpdateFault}
+use Rattle.bgp_vpn.proofs.UpdateLemmas as updates
+use Rattle.report.specs.Lines.{open_line, notification_line, fault_line, incomplete_line}
+use Rattle.message_answers.specs.Decoding.{Says, update_lines, keepalive_line, BeginsWithFaultyUpdate, IsReport, of_nothing, of_a_prefix, of_a_fault, of_a_message}
+use Rattle.message_answers.proofs.Reports.{fewer_left}
+
+-- a text that is a report of the octets
+abbrev pub HasReport : List ℕ → Type 0
+HasReport octets = (text : List ℕ) × IsReport octets text
+
+front_octets : (xs ys : List ℕ) → AreOctets (xs ++ ys) → AreOctets xs
+front_octets xs ys h = subst AreOctets (take-append_seam xs ys) (AreOctets-take (length xs) (xs ++ ys) h)
+
+rest_octets : (xs ys : List ℕ) → AreOctets (xs ++ ys) → AreOctets ys
+rest_octets xs ys h = subst AreOctets (drop-append_seam xs ys) (AreOctets-drop (length xs) (xs ++ ys) h)
+
+-- the attributes of an UPDATE are octets
+attribute_octets : (octets : List ℕ) (parts : UpdateFields) (count : ℕ) → AreOctets octets → BeginsWith octets (Updates parts) count
+    → AreOctets parts.attributes
+attribute_octets octets parts count h begins =
+    let frame = begins.message.frame in
+    let body = begins.message.body in
+    let taken : AreOctets (take count octets) = AreOctets-take count octets h in
+    let whole : AreOctets (head (19 + length body) begins.message.kind ++ body) = subst AreOctets frame.spelled taken in
+    let within : AreOctets body = rest_octets (head (19 + length body) begins.message.kind) body whole in
+    let spelled = begins.message.says.1.spelled in
+    let parted : AreOctets (big_bytes 2 (length parts.withdrawn) ++ parts.withdrawn
+    ++ (big_bytes 2 (length parts.attributes) ++ parts.attributes ++ parts.routes)) = subst AreOctets spelled within in
+    let behind : AreOctets (big_bytes 2 (length parts.attributes) ++ parts.attributes ++ parts.routes) =
+    rest_octets (big_bytes 2 (length parts.withdrawn) ++ parts.withdrawn) (big_bytes 2 (length parts.attributes) ++ parts.attributes ++ parts.routes) parted in
+    rest_octets (big_bytes 2 (length parts.attributes)) parts.attributes
+    (front_octets (big_bytes 2 (length parts.attributes) ++ parts.attributes) parts.routes behind)
+
+-- octets that begin with a message that says something, and of whose rest there is a report
+said_first : (octets said : List ℕ) (content : Content) (count : ℕ) → BeginsWith octets content count → Says content said
+    → HasReport (drop count octets) → HasReport octets
+said_first octets said content count begins says rest =
+    (said ++ rest.0, of_a_message said rest.0 content count begins says rest.1 refl)
+
+report_of_update : (octets : List ℕ) (parts : UpdateFields) (count : ℕ) → BeginsWith octets (Updates parts) count
+    → ((deltas : List _) × Changes parts deltas) ⊎ ((f : WireFault) × HasUpdateFault parts f) → HasReport (drop count octets) → HasReport octets
+report_of_update octets parts count begins (inl made) rest =
+    said_first octets (update_lines made.0) (Updates parts) count begins (made.0, made.1, refl) rest
+report_of_update octets parts count begins (inr faulty) rest =
+    let f = faulty.0 in (
+      fault_line f.code f.subcode,
+      of_a_fault f (inr (record { parts = parts; count = count; begins = begins; faulty = faulty.1 })) refl,
+    )
+
+report_of_content : (octets : List ℕ) (content : Content) (count : ℕ) → AreOctets octets → BeginsWith octets content count
+    → HasReport (drop count octets) → HasReport octets
+report_of_content octets (Opens fields) count h begins rest = said_first octets _ (Opens fields) count begins refl rest
+report_of_content octets (Updates parts) count h begins rest =
+    report_of_update octets parts count begins (updates.one_of_two parts (attribute_octets octets parts count h begins)) rest
+report_of_content octets (Notifies code subcode) count h begins rest = said_first octets _ (Notifies code subcode) count begins refl rest
+report_of_content octets KeepsAlive count h begins rest = said_first octets _ KeepsAlive count begins refl rest
+
+report_of_some : (most : ℕ) (x : ℕ) (xs : List ℕ) → AreOctets (x ∷ xs)
+    → ((octets : List ℕ) → AreOctets octets → length octets ≤ most → HasReport octets) → length xs ≤ most
+    → ((content : Content) × (n : ℕ) × BeginsWith (x ∷ xs) content n) ⊎ (IsProperPrefix (x ∷ xs) ⊎ ((f : WireFault) × HasFault (x ∷ xs) f))
+    → HasReport (x ∷ xs)
+report_of_some most x xs h shorter fits (inl message) =
+    let content = message.0 in
+    let count = message.1 in
+    let begins = message.2 in
+    let left = fewer_left (x ∷ xs) content count begins in
+    report_of_content (x ∷ xs) content count h begins (shorter (drop count (x ∷ xs)) (AreOctets-drop count (x ∷ xs) h) (omega arith))
+report_of_some most x xs h shorter fits (inr (inl proper)) =
+    let some : (x ∷ xs) ≢ [] = λ e. absurd cc in
+    (incomplete_line (length (x ∷ xs)), of_a_prefix some proper refl)
+report_of_some most x xs h shorter fits (inr (inr fault)) =
+    (fault_line fault.0.code fault.0.subcode, of_a_fault fault.0 (inl fault.1) refl)
+
+report_within : (most : ℕ) (octets : List ℕ) → AreOctets octets → length octets ≤ most → HasReport octets
+report_within most [] h fits = ([], of_nothing refl refl)
+report_within zero (x ∷ xs) h fits = absurd (omega arith)
+report_within (suc most) (x ∷ xs) h fits =
+    report_of_some most x xs h (report_within most) (omega arith) (readings.read (x ∷ xs) h)
+
+-- octets have a report
+pub some_report : (octets : List ℕ) → AreOctets octets → HasReport octets
+some_report octets h = report_within (length octets) octets h (omega arith)

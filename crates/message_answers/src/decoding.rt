@@ -1,0 +1,222 @@
+//! Messages that are spelled in hexadecimal digits.
+ghost use Rattle.std.specs.Prelude.{◌≡◌, ◌≢◌, ◌++◌, [], IfOk, OnOk, OnErr, option_map};
+ghost use Rattle.bgp_wire.specs.Content.{Updates};
+ghost use Rattle.bgp_wire.specs.Messages.{content_of};
+ghost use Rattle.bgp_vpn.specs.Updates.{parts_of};
+ghost use Rattle.message_answers.specs.Decoding.{change_line, change_lines, decode_verdict, is_blank, spelled};
+ghost use Rattle.message_answers.specs.Decoding.{without_blanks, IsReport, WritesSpelled};
+ghost use Rattle.message_answers.specs.Reporting.{IsReportBehind, Moves, Progress, Tells};
+ghost use Rattle.ov_io.specs.Pieces.{HasWriteCause, TookFrontOf, TookText};
+
+use bgp_vpn::{UpdateFault, read_update};
+use bgp_wire::{Message, UpdatePart, WireFault, read_message};
+use document_answers::Verdict;
+use hex::FromHexError;
+use ov_io::{Sink, TextOut, WriteRefusal, write_all, write_gathered, write_piece};
+use ov_sync::Delta;
+use ov_types::{NoMemory, VpnKey, VpnRoute};
+use report::{
+    TargetsText, drop_lines, fault_lines, incomplete_lines, notification_lines, open_lines,
+    put_lines_after,
+};
+use std::alloc::Global;
+
+fn is_blank(octet: u8) -> bool
+    ensures { result ≡ is_blank octet }
+{
+    octet == b' ' || octet == b'\t' || octet == b'\n' || octet == b'\r'
+}
+
+/// The digits of a text.
+fn digits_of(alloc: Global, text: &[u8]) -> Result<Vec<u8>, NoMemory>
+    ensures { IfOk result (λ digits. digits.items ≡ without_blanks text.now) }
+{
+    let mut digits = Vec::with_capacity(alloc, text.len())?;
+    for octet in text {
+        if !is_blank(*octet) {
+            digits.push(*octet)?;
+        }
+    }
+    Ok(digits)
+}
+
+/// The octets that a text spells.
+#[tactic(auto, unfolding(crate::specs::Decoding::spelled))]
+fn octets_of(alloc: Global, text: &[u8]) -> Result<Option<Vec<u8>>, NoMemory>
+    ensures { IfOk result (λ found. option_map (λ octets. octets.items) found ≡ spelled text.now) }
+{
+    let digits = digits_of(alloc, text)?;
+    match hex::decode(alloc, digits.as_slice()) {
+        Ok(octets) => Ok(Some(octets)),
+        Err(FromHexError::OutOfMemory) => Err(NoMemory),
+        Err(_) => Ok(None),
+    }
+}
+
+fn push_change(
+    alloc: Global,
+    change: &Delta<VpnKey, VpnRoute>,
+    known: &mut TargetsText,
+    out: &mut TextOut,
+) -> Result<(), NoMemory>
+    ensures { OnOk result (out.new ≡ out.old ++ change_line change.now) }
+{
+    match change {
+        Delta::Put(key, route) => put_lines_after(alloc, key, route, known, out),
+        Delta::Drop(key) => drop_lines(alloc, key, out),
+    }
+}
+
+fn push_changes(
+    alloc: Global,
+    changes: &[Delta<VpnKey, VpnRoute>],
+    known: &mut TargetsText,
+    out: &mut TextOut,
+) -> Result<(), NoMemory>
+    ensures { OnOk result (out.new ≡ out.old ++ change_lines changes.now) }
+{
+    for change in changes {
+        push_change(alloc, change, known, out)?;
+    }
+    Ok(())
+}
+
+/// What was told of a message.
+enum Told {
+    /// All that it says.
+    Whole,
+    /// That it has a fault.
+    Faulty,
+}
+
+fn push_update(
+    alloc: Global,
+    part: &UpdatePart<'_>,
+    known: &mut TargetsText,
+    out: &mut TextOut,
+) -> Result<Told, NoMemory>
+    ensures { IfOk result (λ told. Tells (Updates (parts_of part.now)) out.old out.new told) }
+{
+    match read_update(alloc, part) {
+        Ok(changes) => {
+            out.push(b"update\n")?;
+            push_changes(alloc, changes.as_slice(), known, out)?;
+            Ok(Told::Whole)
+        }
+        Err(UpdateFault::Wire(fault)) => {
+            fault_lines(alloc, fault.code, fault.subcode, out)?;
+            Ok(Told::Faulty)
+        }
+        Err(UpdateFault::NoMemory) => Err(NoMemory),
+    }
+}
+
+fn push_message(
+    alloc: Global,
+    message: &Message<'_>,
+    known: &mut TargetsText,
+    out: &mut TextOut,
+) -> Result<Told, NoMemory>
+    ensures { IfOk result (λ told. Tells (content_of message.now) out.old out.new told) }
+{
+    match message {
+        Message::Hello(part) => open_lines(alloc, part.asn(), part.hold(), part.id(), out)?,
+        Message::Update(part) => return push_update(alloc, part, known, out),
+        Message::Notification { code, subcode } => {
+            notification_lines(alloc, *code, *subcode, out)?;
+        }
+        Message::Keepalive => out.push(b"keepalive\n")?,
+    }
+    Ok(Told::Whole)
+}
+
+/// Tells the first message, and says how many octets it has. `None` where nothing is left to tell.
+#[tactic(auto, using(crate::proofs::Reports::report_ends))]
+fn push_report(
+    alloc: Global,
+    octets: &[u8],
+    known: &mut TargetsText,
+    out: &mut TextOut,
+) -> Result<Option<usize>, NoMemory>
+    requires { octets.now ≢ [] }
+    ensures { IfOk result (λ found. Progress octets.now out.old out.new found) }
+{
+    match read_message(octets) {
+        Ok(Some((message, count))) => match push_message(alloc, &message, known, out)? {
+            Told::Whole => Ok(Some(count)),
+            Told::Faulty => Ok(None),
+        },
+        Ok(None) => {
+            incomplete_lines(alloc, octets.len(), out)?;
+            Ok(None)
+        }
+        Err(fault) => {
+            fault_lines(alloc, fault.code, fault.subcode, out)?;
+            Ok(None)
+        }
+    }
+}
+
+/// Hands on what is told of the first message, and says how many octets that has. `None` where nothing is left to tell.
+fn write_first<K: Sink>(
+    alloc: Global,
+    octets: &[u8],
+    sink: &mut K,
+    known: &mut TargetsText,
+    gathered: &mut TextOut,
+) -> Result<Option<usize>, WriteRefusal>
+    requires { octets.now ≢ [] }
+    ensures told { IfOk result (λ found. Moves octets.now
+        (K.taken sink.old) (K.taken sink.new) gathered.old gathered.new found) }
+    ensures front { OnErr result (TookFrontOf (IsReportBehind gathered.old octets.now)
+        (K.taken sink.old) (K.taken sink.new)) }
+    ensures cause { HasWriteCause (K.faults sink.old) (K.faults sink.new) result }
+{
+    let found = push_report(alloc, octets, known, gathered)?;
+    write_piece(sink, gathered)?;
+    Ok(found)
+}
+
+/// Writes the report of messages that lie one after the other.
+#[tactic(auto, using(crate::proofs::Reports::fewer_left))]
+fn write_report<K: Sink>(alloc: Global, octets: &[u8], sink: &mut K) -> Result<(), WriteRefusal>
+    ensures ok { OnOk result (TookText (IsReport octets.now) (K.taken sink.old) (K.taken sink.new)) }
+    ensures front { OnErr result (TookFrontOf (IsReport octets.now) (K.taken sink.old) (K.taken sink.new)) }
+    ensures cause { HasWriteCause (K.faults sink.old) (K.faults sink.new) result }
+{
+    let mut gathered = TextOut::new(alloc);
+    let mut known = TargetsText::new(alloc)?;
+    let mut rest = octets;
+    while !rest.is_empty() {
+        let Some(count) = write_first(alloc, rest, sink, &mut known, &mut gathered)? else {
+            return write_gathered(sink, &mut gathered);
+        };
+        (_, rest) = rest.split_at(count);
+    }
+    write_gathered(sink, &mut gathered)
+}
+
+/// Writes what `decode` answers to an input.
+pub fn answer_decode<K: Sink>(
+    alloc: Global,
+    text: &[u8],
+    sink: &mut K,
+) -> Result<Verdict, WriteRefusal>
+    ensures verdict { IfOk result (λ verdict. verdict ≡ decode_verdict (spelled text.now)) }
+    ensures digits { IfOk result (λ verdict. (verdict ≢ Verdict.BadDocument) × (verdict ≢ Verdict.Refused)) }
+    ensures written { OnOk result (TookText (WritesSpelled (spelled text.now)) (K.taken sink.old) (K.taken sink.new)) }
+    ensures front { OnErr result (TookFrontOf (WritesSpelled (spelled text.now))
+        (K.taken sink.old) (K.taken sink.new)) }
+    ensures cause { HasWriteCause (K.faults sink.old) (K.faults sink.new) result }
+{
+    match octets_of(alloc, text)? {
+        None => {
+            write_all(sink, b"not hex\n")?;
+            Ok(Verdict::NotJson)
+        }
+        Some(octets) => {
+            write_report(alloc, octets.as_slice(), sink)?;
+            Ok(Verdict::Good)
+        }
+    }
+}

@@ -1,0 +1,8 @@
+//! The answer of `decode`: what BGP messages say that are spelled in hexadecimal digits.
+#![tactic(auto)]
+
+mod decoding;
+mod laws;
+
+pub use decoding::answer_decode;
+pub use laws::{octets_have_a_report, octets_have_one_report};

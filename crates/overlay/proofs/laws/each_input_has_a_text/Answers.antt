@@ -1,5 +1,0 @@
-use Rattle.overlay.proofs.SomeText.{some_text}
-use Rattle.overlay.proofs.laws.each_input_has_a_text.Goals as goal
-
-pub returns : goal.returns
-returns c = some_text

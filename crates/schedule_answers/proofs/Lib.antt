@@ -1,0 +1,4 @@
+pub mod Scheduled
+pub mod Unfit
+pub mod Ending
+pub mod Summed

@@ -1,0 +1,4 @@
+pub mod Schedules
+pub mod Generating
+pub mod Answers
+pub mod Networks

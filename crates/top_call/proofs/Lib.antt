@@ -1,0 +1,2 @@
+pub mod SomeText
+pub mod Numbers

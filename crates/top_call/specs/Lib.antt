@@ -1,0 +1,4 @@
+pub mod Answers
+pub mod Networks
+pub mod Commands
+pub mod Runs
