@@ -1,0 +1,4 @@
+pub mod Choice
+pub mod Form
+pub mod Groups
+pub mod Spread
