@@ -18,6 +18,4 @@ mod rules;
 #[cfg(test)]
 mod scenarios;
 #[cfg(test)]
-mod second_scenario;
-#[cfg(test)]
 mod transforming;

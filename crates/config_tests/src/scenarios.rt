@@ -1,15 +1,9 @@
 //! Scenarios that are valid, and what scenario 3 has, written by hand.
-use crate::second_scenario::SECOND;
 use config_check::check;
-use config_model::{
-    Action, Edit, Event, Network, Node, ObjectKind, Port, RunInput, Service, read_run,
-};
+use config_model::{Action, Edit, Event, Network, Node, ObjectKind, Port, Service};
 use ov_types::{Name, Packet};
 use scenario_gen::{Scenario, scenario, tenants};
-use serde_json::Value;
 use std::alloc::{AllocError, Global};
-use std::fmt::Debug;
-use std::process::Abort;
 use std::test::Fail;
 
 /// Scenarios that are valid, and how many networks each has.
@@ -245,67 +239,4 @@ fn events_and_packets_are_as_written(rt: HostRuntime) -> Result<(), Fail> {
         assert_eq!(rt; packet_line(alloc, packet)?.as_str(), *want);
     }
     Ok(())
-}
-
-/// Whether the events past the first of a document are traces of these packets.
-fn are_traced(first: usize, packets: &[Packet], written: &[Event]) -> bool {
-    for (packet, event) in packets.iter().zip(written.iter().skip(first)) {
-        match event {
-            Event::Trace(wanted) if packet == wanted => {}
-            _ => return false,
-        }
-    }
-    Some(written.len()) == first.checked_add(packets.len())
-}
-
-fn read_second(alloc: Global) -> Result<RunInput, Fail> {
-    let value = Value::from_str(alloc, SECOND)?;
-    Ok(read_run(alloc, &value).ok().ok_or("a document")?)
-}
-
-/// The text of a value, with each part.
-fn shown<T: Debug>(alloc: Global, value: &T) -> Result<String, AllocError> {
-    format!(in alloc; "{value:?}")
-}
-
-/// What is configured is as the document has it.
-fn is_configured(
-    rt: &impl Abort,
-    alloc: Global,
-    made: &Scenario,
-    written: &RunInput,
-) -> Result<(), Fail> {
-    let topology = shown(alloc, &written.input.topology)?;
-    assert_eq!(rt; shown(alloc, &made.topology)?.as_str(), topology.as_str());
-    let config = shown(alloc, &written.input.config)?;
-    assert_eq!(rt; shown(alloc, &made.config)?.as_str(), config.as_str());
-    Ok(())
-}
-
-/// What happens and is traced is as the document has it.
-fn happens(
-    rt: &impl Abort,
-    alloc: Global,
-    made: &Scenario,
-    written: &RunInput,
-) -> Result<(), Fail> {
-    let first = made.events.len();
-    let events = written.events.as_slice();
-    for (event, want) in made.events.as_slice().iter().zip(events) {
-        assert_eq!(rt; shown(alloc, event)?.as_str(), shown(alloc, want)?.as_str());
-    }
-    assert!(rt; are_traced(first, made.packets.as_slice(), events));
-    Ok(())
-}
-
-fn is_second(rt: &impl Abort, alloc: Global, made: &Scenario) -> Result<(), Fail> {
-    let written = read_second(alloc)?;
-    is_configured(rt, alloc, made, &written)?;
-    happens(rt, alloc, made, &written)
-}
-
-#[test]
-fn each_part_is_that_of_the_document(rt: HostRuntime) -> Result<(), Fail> {
-    let made = made(rt.alloc(), 2)?;
-    is_second(&rt, rt.alloc(), &made)
 }
