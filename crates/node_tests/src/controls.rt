@@ -254,13 +254,16 @@ fn publish_and_withdraw(
 #[test]
 fn a_publication_goes_to_a_peer_and_is_withdrawn(rt: HostRuntime) {
     let alloc = rt.alloc();
-    let (c1, c2) = (id(&rt, "c1", 0xc000_0201), id(&rt, "c2", 0xc000_0202));
+    let near_peers = [id(&rt, "c2", 0xc000_0202)];
+    let far_peers = [id(&rt, "c1", 0xc000_0201)];
     let agents = [id(&rt, "a1", 0xc000_020b)];
     let (mut near_links, mut far_links) = (Links::new(alloc), Links::new(alloc));
     add_queues(&rt, alloc, &mut near_links, 3);
     add_queues(&rt, alloc, &mut far_links, 2);
-    let mut near = node(&rt, alloc, c1, &[c2], &agents);
-    let mut far = node(&rt, alloc, c2, &[c1], &[]);
+    let near_id = id(&rt, "c1", 0xc000_0201);
+    let far_id = id(&rt, "c2", 0xc000_0202);
+    let mut near = node(&rt, alloc, near_id, &near_peers, &agents);
+    let mut far = node(&rt, alloc, far_id, &far_peers, &[]);
     publish_and_withdraw(
         &rt,
         alloc,
