@@ -8,6 +8,7 @@ use Rattle.bgp_wire.specs.declared.fault.WireFault.{WireFault}
 use Rattle.bgp_wire.specs.Faults.{fault_if, ◌then_check◌, malformed_attributes}
 use Rattle.bgp_wire.specs.Attributes.{AttributeFields, AreAttributes, BeginsWithAttribute, IsCut}
 use Rattle.bgp_wire.proofs.Attributing.{behind, nothing_behind, cut_behind}
+use Rattle.bgp_vpn.specs.declared.reading.Reading.{Reading}
 use Rattle.bgp_vpn.specs.Checks.{has_kind, own_fault, attribute_fault, attributes_fault}
 
 -- the types of these attributes are marked, and no others
@@ -16,17 +17,17 @@ pub record Marks (marked : List Bool) (others : List AttributeFields) : Type 0 w
   pub each : (k : ℕ) → k < 256 → get_or marked k false ≡ has_kind others k
 
 -- these attributes passed, so that the first fault is one of those that are left
-abbrev pub FaultsLeft : Bool → List ℕ → List ℕ → List AttributeFields → Type 0
-FaultsLeft routes_follow octets rest others = (all : List AttributeFields) (tail : List ℕ) → AreAttributes octets all tail
-    → (left : List AttributeFields) × AreAttributes rest left tail × (attributes_fault routes_follow [] all ≡ attributes_fault routes_follow others left)
+abbrev pub FaultsLeft : Reading → List ℕ → List ℕ → List AttributeFields → Type 0
+FaultsLeft reading octets rest others = (all : List AttributeFields) (tail : List ℕ) → AreAttributes octets all tail
+    → (left : List AttributeFields) × AreAttributes rest left tail × (attributes_fault reading [] all ≡ attributes_fault reading others left)
     × (all ≡ others ++ left)
 
-pub record Passed (routes_follow : Bool) (octets rest : List ℕ) (others : List AttributeFields) (marked : List Bool) : Type 0 where
+pub record Passed (reading : Reading) (octets rest : List ℕ) (others : List AttributeFields) (marked : List Bool) : Type 0 where
   pub marks : Marks marked others
-  pub faults : FaultsLeft routes_follow octets rest others
+  pub faults : FaultsLeft reading octets rest others
 
-pub passed_none : (routes_follow : Bool) (octets rest : List ℕ) (marked : List Bool) → marked ≡ replicate 256 false → octets ≡ rest → Passed routes_follow octets rest [] marked
-passed_none routes_follow octets rest marked is same = record {
+pub passed_none : (reading : Reading) (octets rest : List ℕ) (marked : List Bool) → marked ≡ replicate 256 false → octets ≡ rest → Passed reading octets rest [] marked
+passed_none reading octets rest marked is same = record {
   marks = record {
     size = ap length is ∙ length-replicate 256 false;
     each = λ k below. ap (λ (m : List Bool). get_or m k false) is ∙ get_or-replicate 256 k false false below;
@@ -66,8 +67,8 @@ marks_more marked others a small marks = record {
 }
 
 -- the whole check on attributes and the tail behind them
-abbrev pub whole_fault : Bool → List AttributeFields → List ℕ → Option WireFault
-whole_fault routes_follow all tail = attributes_fault routes_follow [] all then_check fault_if (not (length tail == 0)) malformed_attributes
+abbrev pub whole_fault : Reading → List AttributeFields → List ℕ → Option WireFault
+whole_fault reading all tail = attributes_fault reading [] all then_check fault_if (not (length tail == 0)) malformed_attributes
 
 some_first : (a b : Option WireFault) (f : WireFault) → a ≡ Some f → (a then_check b) ≡ Some f
 some_first (Some g) b f h = h
@@ -83,63 +84,63 @@ long (x ∷ xs) h =
     ap (λ (b : Bool). fault_if (not b) malformed_attributes) (ne_eqb (length (x ∷ xs)) 0 (λ e. omega arith))
 
 -- a cut attribute ends the checks
-pub cut_ends : (routes_follow : Bool) (octets rest : List ℕ) (others : List AttributeFields) (f : WireFault) → FaultsLeft routes_follow octets rest others
+pub cut_ends : (reading : Reading) (octets rest : List ℕ) (others : List AttributeFields) (f : WireFault) → FaultsLeft reading octets rest others
     → IsCut rest → f ≡ malformed_attributes → (all : List AttributeFields) (tail : List ℕ) → AreAttributes octets all tail
-    → whole_fault routes_follow all tail ≡ Some f
-cut_ends routes_follow octets rest others f faults cut is all tail are =
+    → whole_fault reading all tail ≡ Some f
+cut_ends reading octets rest others f faults cut is all tail are =
     let now = faults all tail are in
     let none = cut_behind rest tail now.0 now.1 cut in
-    let passes : attributes_fault routes_follow [] all ≡ None = now.2 ∙ ap (attributes_fault routes_follow others) none.0 in
+    let passes : attributes_fault reading [] all ≡ None = now.2 ∙ ap (attributes_fault reading others) none.0 in
     none_first _ _ passes ∙ long tail (subst IsCut (sym none.1) cut) ∙ ap (λ (g : WireFault). Some g) (sym is)
 
 -- so does a fault of an attribute
-pub fault_ends : (routes_follow : Bool) (octets rest after : List ℕ) (others : List AttributeFields) (a : AttributeFields) (f : WireFault)
-    → FaultsLeft routes_follow octets rest others → BeginsWithAttribute rest a after → attribute_fault routes_follow others a ≡ Some f
-    → (all : List AttributeFields) (tail : List ℕ) → AreAttributes octets all tail → whole_fault routes_follow all tail ≡ Some f
-fault_ends routes_follow octets rest after others a f faults begins fails all tail are =
+pub fault_ends : (reading : Reading) (octets rest after : List ℕ) (others : List AttributeFields) (a : AttributeFields) (f : WireFault)
+    → FaultsLeft reading octets rest others → BeginsWithAttribute rest a after → attribute_fault reading others a ≡ Some f
+    → (all : List AttributeFields) (tail : List ℕ) → AreAttributes octets all tail → whole_fault reading all tail ≡ Some f
+fault_ends reading octets rest after others a f faults begins fails all tail are =
     let now = faults all tail are in
     let less = behind rest after tail now.0 a now.1 begins in
-    some_first _ _ f (now.2 ∙ ap (attributes_fault routes_follow others) less.is ∙ some_first _ _ f fails)
+    some_first _ _ f (now.2 ∙ ap (attributes_fault reading others) less.is ∙ some_first _ _ f fails)
 
 -- no fault where all have passed and nothing is left
-pub all_pass : (routes_follow : Bool) (octets rest : List ℕ) (others : List AttributeFields) → FaultsLeft routes_follow octets rest others → rest ≡ []
-    → (all : List AttributeFields) (tail : List ℕ) → AreAttributes octets all tail → whole_fault routes_follow all tail ≡ None
-all_pass routes_follow octets rest others faults end all tail are =
+pub all_pass : (reading : Reading) (octets rest : List ℕ) (others : List AttributeFields) → FaultsLeft reading octets rest others → rest ≡ []
+    → (all : List AttributeFields) (tail : List ℕ) → AreAttributes octets all tail → whole_fault reading all tail ≡ None
+all_pass reading octets rest others faults end all tail are =
     let now = faults all tail are in
     let none = nothing_behind rest tail now.0 now.1 end in
-    none_first _ _ (now.2 ∙ ap (attributes_fault routes_follow others) none.0)
+    none_first _ _ (now.2 ∙ ap (attributes_fault reading others) none.0)
     ∙ ap (λ (t : List ℕ). fault_if (not (length t == 0)) malformed_attributes) none.1
 
 -- and these are all
-pub all_passed : (routes_follow : Bool) (octets rest : List ℕ) (others : List AttributeFields) → FaultsLeft routes_follow octets rest others → rest ≡ []
+pub all_passed : (reading : Reading) (octets rest : List ℕ) (others : List AttributeFields) → FaultsLeft reading octets rest others → rest ≡ []
     → (all : List AttributeFields) (tail : List ℕ) → AreAttributes octets all tail → others ≡ all
-all_passed routes_follow octets rest others faults end all tail are =
+all_passed reading octets rest others faults end all tail are =
     let now = faults all tail are in
     let none = nothing_behind rest tail now.0 now.1 end in
     sym (now.3 ∙ ap (λ (xs : List AttributeFields). others ++ xs) none.0 ∙ append-nil others)
 
-pub twice_fails : (routes_follow : Bool) (others : List AttributeFields) (a : AttributeFields) → has_kind others a.kind ≡ true
-    → attribute_fault routes_follow others a ≡ Some malformed_attributes
-twice_fails routes_follow others a twice =
-    ap (λ (b : Bool). fault_if b malformed_attributes then_check own_fault routes_follow a) twice
+-- the checks on an attribute, by the marks of those before it
+pub next_fails : {marked : Bool} (reading : Reading) (others : List AttributeFields) (a : AttributeFields) → marked ≡ has_kind others a.kind
+    → attribute_fault reading others a ≡ (fault_if marked malformed_attributes then_check own_fault reading a)
+next_fails reading others a is = ap (λ (b : Bool). fault_if b malformed_attributes then_check own_fault reading a) (sym is)
 
-pub own_fails : (routes_follow : Bool) (others : List AttributeFields) (a : AttributeFields) → has_kind others a.kind ≡ false
-    → attribute_fault routes_follow others a ≡ own_fault routes_follow a
-own_fails routes_follow others a once =
-    ap (λ (b : Bool). fault_if b malformed_attributes then_check own_fault routes_follow a) once
+own_fails : (reading : Reading) (others : List AttributeFields) (a : AttributeFields) → has_kind others a.kind ≡ false
+    → attribute_fault reading others a ≡ own_fault reading a
+own_fails reading others a once =
+    ap (λ (b : Bool). fault_if b malformed_attributes then_check own_fault reading a) once
 
-pub passed_more : (routes_follow : Bool) (octets rest after : List ℕ) (others : List AttributeFields) (marked : List Bool) (a : AttributeFields)
-    → a.kind < 256 → Passed routes_follow octets rest others marked → BeginsWithAttribute rest a after → has_kind others a.kind ≡ false
-    → own_fault routes_follow a ≡ None → (new : List Bool) → new ≡ set marked a.kind true → Passed routes_follow octets after (others ++ a ∷ []) new
-passed_more routes_follow octets rest after others marked a small passed begins once passes new is = record {
+pub passed_more : (reading : Reading) (octets rest after : List ℕ) (others : List AttributeFields) (marked : List Bool) (a : AttributeFields)
+    → a.kind < 256 → Passed reading octets rest others marked → BeginsWithAttribute rest a after → has_kind others a.kind ≡ false
+    → own_fault reading a ≡ None → (new : List Bool) → new ≡ set marked a.kind true → Passed reading octets after (others ++ a ∷ []) new
+passed_more reading octets rest after others marked a small passed begins once passes new is = record {
   marks = subst (λ (m : List Bool). Marks m (others ++ a ∷ [])) (sym is) (marks_more marked others a small passed.marks);
   faults = λ all tail are.
       let now = passed.faults all tail are in
       let less = behind rest after tail now.0 a now.1 begins in (
         less.others,
         less.are,
-        now.2 ∙ ap (attributes_fault routes_follow others) less.is
-            ∙ none_first _ _ (own_fails routes_follow others a once ∙ passes),
+        now.2 ∙ ap (attributes_fault reading others) less.is
+            ∙ none_first _ _ (own_fails reading others a once ∙ passes),
         now.3 ∙ ap (λ (xs : List AttributeFields). others ++ xs) less.is ∙ sym (append_assoc others (a ∷ []) less.others),
       );
 }

@@ -68,53 +68,53 @@ kind_passes x (inr two) = ap (λ (n : ℕ). n == 1 || n == 2) two
 abbrev good : ℕ → List ℕ → Bool
 good kind behind = (kind == 1 || kind == 2) && nat_lt 0 (get_or behind 0 0)
 
-abbrev len : ℕ → List ℕ → ℕ
-len kind behind = 1 + 2 * get_or behind 0 0
+abbrev len : ℕ → ℕ → List ℕ → ℕ
+len size kind behind = 1 + size * get_or behind 0 0
 
 abbrev segment : ℕ → ℕ → List ℕ → SegmentFields
 segment kind count numbers = record { kind = kind; count = count; numbers = numbers }
 
-segments_behind : (n : ℕ) (xs : List ℕ) → are_pieces_behind good len n xs ≡ true
-    → (n ≤ length xs) × ((segments : List SegmentFields) × AreSegments (drop n xs) segments)
-segments_behind zero [] h = (omega arith, ([], record { spelled = refl; each = tt }))
-segments_behind (suc n) [] h = absurd cc
-segments_behind (suc n) (x ∷ xs) h = let less = segments_behind n xs h in (omega arith, less.1)
-segments_behind zero (x ∷ []) h =
-    let begins = and_parts (good x []) (are_pieces_behind good len (len x []) []) h in
+segments_behind : (size : ℕ) (n : ℕ) (xs : List ℕ) → are_pieces_behind good (len size) n xs ≡ true
+    → (n ≤ length xs) × ((segments : List SegmentFields) × AreSegments size (drop n xs) segments)
+segments_behind size zero [] h = (omega arith, ([], record { spelled = refl; each = tt }))
+segments_behind size (suc n) [] h = absurd cc
+segments_behind size (suc n) (x ∷ xs) h = let less = segments_behind size n xs h in (omega arith, less.1)
+segments_behind size zero (x ∷ []) h =
+    let begins = and_parts (good x []) (are_pieces_behind good (len size) (len size x []) []) h in
     let parts = and_parts (x == 1 || x == 2) (nat_lt 0 0) begins.0 in
     let some = ltb-true 0 0 parts.1 in
     absurd (omega arith)
-segments_behind zero (x ∷ c ∷ ys) h =
-    let parts = and_parts (good x (c ∷ ys)) (are_pieces_behind good len (len x (c ∷ ys)) (c ∷ ys)) h in
+segments_behind size zero (x ∷ c ∷ ys) h =
+    let parts = and_parts (good x (c ∷ ys)) (are_pieces_behind good (len size) (len size x (c ∷ ys)) (c ∷ ys)) h in
     let first = and_parts (x == 1 || x == 2) (nat_lt 0 c) parts.0 in
-    let less = segments_behind (1 + 2 * c) (c ∷ ys) parts.1 in
-    let next : drop (1 + 2 * c) (c ∷ ys) ≡ drop (2 * c) ys = let e : 1 + 2 * c ≡ suc (2 * c) = omega arith in ap (λ (n : ℕ). drop n (c ∷ ys)) e in
-    let enough : 2 * c ≤ length ys = let l = less.0 in omega arith in (
+    let less = segments_behind size (1 + size * c) (c ∷ ys) parts.1 in
+    let next : drop (1 + size * c) (c ∷ ys) ≡ drop (size * c) ys = let e : 1 + size * c ≡ suc (size * c) = omega arith in ap (λ (n : ℕ). drop n (c ∷ ys)) e in
+    let enough : size * c ≤ length ys = let l = less.0 in omega arith in (
       omega arith,
       (
-        segment x c (take (2 * c) ys) ∷ less.1.0,
+        segment x c (take (size * c) ys) ∷ less.1.0,
         record {
           spelled =
-              ap (λ (r : List ℕ). x ∷ c ∷ r) (sym (take-append-drop (2 * c) ys))
-              ∙ ap (λ (r : List ℕ). x ∷ c ∷ (take (2 * c) ys ++ r)) (sym next ∙ less.1.1.spelled);
-          each = (record { kind = kind_of x first.0; some = ltb-true 0 c first.1; whole = length-take-le (2 * c) ys enough }, less.1.1.each);
+              ap (λ (r : List ℕ). x ∷ c ∷ r) (sym (take-append-drop (size * c) ys))
+              ∙ ap (λ (r : List ℕ). x ∷ c ∷ (take (size * c) ys ++ r)) (sym next ∙ less.1.1.spelled);
+          each = (record { kind = kind_of x first.0; some = ltb-true 0 c first.1; whole = length-take-le (size * c) ys enough }, less.1.1.each);
         },
       ),
     )
 
-segments_pass : (segments : List SegmentFields) → AllByRecursion IsSegment segments → are_segments (flat_map segment_octets segments) ≡ true
-segments_pass [] each = refl
-segments_pass (s ∷ ss) each =
+segments_pass : (size : ℕ) (segments : List SegmentFields) → AllByRecursion (IsSegment size) segments → are_segments size (flat_map segment_octets segments) ≡ true
+segments_pass size [] each = refl
+segments_pass size (s ∷ ss) each =
     let rest = flat_map segment_octets ss in
     let begins : ((s.kind == 1 || s.kind == 2) && nat_lt 0 s.count) ≡ true = both _ _ (kind_passes s.kind each.0.kind) (lt-ltb 0 s.count each.0.some) in
-    let long : 1 + 2 * s.count ≤ length (s.count ∷ (s.numbers ++ rest)) = omega (arith, length-append s.numbers rest, each.0.whole) in
-    let skip = skipped good len (1 + 2 * s.count) (s.count ∷ (s.numbers ++ rest)) long in
-    let next : drop (1 + 2 * s.count) (s.count ∷ (s.numbers ++ rest)) ≡ drop (2 * s.count) (s.numbers ++ rest) =
-    let e : 1 + 2 * s.count ≡ suc (2 * s.count) = omega arith in ap (λ (n : ℕ). drop n (s.count ∷ (s.numbers ++ rest))) e in
-    both _ _ begins (skip ∙ ap are_segments (next ∙ drop_at s.numbers rest (2 * s.count) each.0.whole) ∙ segments_pass ss each.1)
+    let long : 1 + size * s.count ≤ length (s.count ∷ (s.numbers ++ rest)) = omega (arith, length-append s.numbers rest, each.0.whole) in
+    let skip = skipped good (len size) (1 + size * s.count) (s.count ∷ (s.numbers ++ rest)) long in
+    let next : drop (1 + size * s.count) (s.count ∷ (s.numbers ++ rest)) ≡ drop (size * s.count) (s.numbers ++ rest) =
+    let e : 1 + size * s.count ≡ suc (size * s.count) = omega arith in ap (λ (n : ℕ). drop n (s.count ∷ (s.numbers ++ rest))) e in
+    both _ _ begins (skip ∙ ap (are_segments size) (next ∙ drop_at s.numbers rest (size * s.count) each.0.whole) ∙ segments_pass size ss each.1)
 
-pub segments_found : (octets : List ℕ) → are_segments octets ≡ true → (segments : List SegmentFields) × AreSegments octets segments
-segments_found octets h = (segments_behind 0 octets h).1
+pub segments_found : (size : ℕ) (octets : List ℕ) → are_segments size octets ≡ true → (segments : List SegmentFields) × AreSegments size octets segments
+segments_found size octets h = (segments_behind size 0 octets h).1
 
-pub segments_test : (octets : List ℕ) (segments : List SegmentFields) → AreSegments octets segments → are_segments octets ≡ true
-segments_test octets segments are = ap are_segments are.spelled ∙ segments_pass segments are.each
+pub segments_test : (size : ℕ) (octets : List ℕ) (segments : List SegmentFields) → AreSegments size octets segments → are_segments size octets ≡ true
+segments_test size octets segments are = ap (are_segments size) are.spelled ∙ segments_pass size segments are.each

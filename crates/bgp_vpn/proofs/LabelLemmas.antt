@@ -97,9 +97,9 @@ put_fit : (next_hop : Addr) (targets : List Target) (reached : List RouteFields)
 put_fit next_hop targets [] all = tt
 put_fit next_hop targets (r ∷ reached) all = (label_fits r all.0, put_fit next_hop targets reached all.1)
 
-pub labels_fit : (parts : UpdateFields) (deltas : List (Delta VpnKey VpnRoute)) → AreOctets parts.attributes → Changes parts deltas
+pub labels_fit : (wide : Bool) (parts : UpdateFields) (deltas : List (Delta VpnKey VpnRoute)) → AreOctets parts.attributes → Changes wide parts deltas
     → LabelsFit deltas
-labels_fit parts deltas octets c =
+labels_fit wide parts deltas octets c =
     let each = values c.attributes [] (subst AreOctets c.are.spelled octets) in
     let reached = behind_octets 17 (value_at 14 c.attributes) (value_octets 14 c.attributes each) in
     let all = routes c.reached (subst AreOctets c.reached_are.spelled reached) in

@@ -12,3 +12,4 @@ pub mod WrittenTargets
 pub mod WrittenUpdates
 pub mod SaidLemmas
 pub mod LabelLemmas
+pub mod AlikeLemmas

@@ -17,12 +17,6 @@ cut good len zero xs h = absurd (omega arith)
 cut good len (suc n) [] h = refl
 cut good len (suc n) (x ∷ xs) h = cut good len n xs (omega arith)
 
--- a piece that is no good
-pub bad_piece : (good : ℕ → List ℕ → Bool) (len : ℕ → List ℕ → ℕ) (xs : List ℕ) → 0 < length xs
-    → good (get_or xs 0 0) (drop 1 xs) ≡ false → are_pieces_behind good len 0 xs ≡ false
-bad_piece good len [] h bad = absurd (omega arith)
-bad_piece good len (x ∷ xs) h bad = ap (λ (b : Bool). b && are_pieces_behind good len (len x xs) xs) bad
-
 pub cut_piece : (good : ℕ → List ℕ → Bool) (len : ℕ → List ℕ → ℕ) (xs : List ℕ) → 0 < length xs
     → good (get_or xs 0 0) (drop 1 xs) ≡ true → length (drop 1 xs) < len (get_or xs 0 0) (drop 1 xs) → are_pieces_behind good len 0 xs ≡ false
 cut_piece good len [] h ok few = absurd (omega arith)

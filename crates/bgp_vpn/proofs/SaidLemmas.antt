@@ -1,11 +1,10 @@
 -- The routes that octets hold, as a list, and the changes that they make.
-use Rattle.std.proofs.Common.{◌≡◌, ◌≤◌, ℕ, zero, suc, List, [], ◌∷◌, ◌++◌, length, take, drop, map, refl, ap, sym, ◌∙◌, arith, Bool, true, false, cond, ◌&&◌, nat_le, Option, Some}
+use Rattle.std.proofs.Common.{◌≡◌, ◌≤◌, ℕ, zero, suc, List, [], ◌∷◌, ◌++◌, length, take, drop, map, refl, ap, sym, ◌∙◌, arith, Bool, true, false, cond, Option}
 use Rattle.std.proofs.lemmas.List.{append_assoc, append-nil, length-append, length-drop, length-take-le, take-append-drop, take_at, drop_at}
 use Rattle.std.proofs.lemmas.Bool.{and_parts, leb-true, le-leb}
-use Rattle.std.specs.Prelude.{unwrap_or, option_copied}
+use Rattle.std.specs.Prelude.{option_copied}
 use Rattle.std.specs.List.{flat_map, AllByRecursion}
 use Rattle.ov_types.specs.declared.prefix.Addr.{Addr}
-use Rattle.ov_types.specs.declared.numbers.Label.{Label}
 use Rattle.ov_types.specs.declared.targets.Target.{Target}
 use Rattle.ov_types.specs.declared.vpn.VpnKey.{VpnKey}
 use Rattle.ov_types.specs.declared.vpn.VpnRoute.{VpnRoute}
@@ -14,8 +13,8 @@ use Rattle.bgp_wire.specs.Attributes.{AttributeFields}
 use Rattle.bgp_vpn.specs.declared.routes.Labeled.{Labeled}
 use Rattle.bgp_vpn.specs.declared.found.Found.{Found}
 use Rattle.bgp_vpn.specs.Pieces.{octets_for}
-use Rattle.bgp_vpn.specs.Routes.{RouteFields, route_octets, IsRoute, AreRoutes, BeginsWithRoute, is_whole_route, routes_below, routes_in, key_of, label_of, drop_of, put_of}
-use Rattle.bgp_vpn.specs.Values.{next_hop_of, routes_behind, targets_among, withdrawn_octets, reached_octets, next_hop_in, targets_in, value_at}
+use Rattle.bgp_vpn.specs.Routes.{RouteFields, route_octets, IsRoute, AreRoutes, BeginsWithRoute, is_whole_route, routes_below, routes_in, drop_of, put_of}
+use Rattle.bgp_vpn.specs.Values.{withdrawn_octets, reached_octets, next_hop_in, targets_in, value_at}
 use Rattle.bgp_vpn.specs.Found.{IsFound}
 use Rattle.bgp_vpn.specs.Said.{labeled_of, labeled_in, said_in, dropped, put_to, changes_said}
 use Rattle.bgp_vpn.specs.Updates.{changes_of}

@@ -1,5 +1,5 @@
 -- Extended communities, and the first bits of an address.
-use Rattle.std.proofs.Common.{◌≡◌, ◌≤◌, ◌<◌, ◌*◌, ◌/◌, ◌%◌, ◌-◌, ◌^◌, ◌==◌, ◌&&◌, nat_lt, ℕ, List, [], ◌∷◌, length, take, drop, refl, ap, sym, ◌∙◌, arith, Bool, true, cond, Some, None}
+use Rattle.std.proofs.Common.{◌≡◌, ◌≤◌, ◌*◌, ◌/◌, ◌%◌, ◌-◌, ◌^◌, ◌==◌, ◌&&◌, nat_lt, ℕ, List, [], ◌∷◌, length, take, drop, refl, ap, sym, ◌∙◌, arith, Bool, true, cond, Some, None}
 use Rattle.std.specs.List.{fold}
 use Rattle.std.proofs.Math.Nat.{mul-mod_left, pow-le-pow_right}
 use Rattle.std.proofs.lemmas.Bool.{lt-ltb, eq-eqb}
@@ -13,10 +13,6 @@ use Rattle.bgp_vpn.specs.Values.{communities, with_community}
 pub next_community : (xs : List ℕ) → 8 ≤ length xs → communities xs ≡ big_number 8 xs ∷ communities (drop 8 xs)
 next_community (a ∷ b ∷ c ∷ d ∷ e ∷ f ∷ g ∷ h ∷ rest) enough = refl
 next_community _ enough = absurd (omega arith)
-
-pub no_community : (xs : List ℕ) → length xs < 8 → communities xs ≡ []
-no_community (a ∷ b ∷ c ∷ d ∷ e ∷ f ∷ g ∷ h ∷ rest) few = absurd (omega arith)
-no_community _ few = refl
 
 -- one community more is put among the targets
 pub next_target : (targets new goal : List Target) (rest : List ℕ) (n : ℕ) → 8 ≤ length rest → n ≡ big_number 8 rest → new ≡ with_community targets n

@@ -1,6 +1,6 @@
 -- Octets that are pieces, one after the other, each of which says by its first octets how long it is.
 use Rattle.std.specs.Prelude.{ℕ, zero, suc, ◌+◌, ◌*◌, ◌/◌, ◌==◌, ◌&&◌, ◌||◌, nat_lt, nat_le, List, [], ◌∷◌, slice_index}
-use Rattle.std.specs.Prelude.{Bool, true, false}
+use Rattle.std.specs.Prelude.{Bool, true, false, if◌then◌else◌}
 
 -- octets that are n octets of a piece and then pieces: good says whether a piece may begin with an octet and those
 -- behind it, and len how many octets it has behind its first
@@ -19,9 +19,13 @@ abbrev pub are_prefixes : ℕ → ℕ → List ℕ → Bool
 are_prefixes least greatest =
     are_pieces_behind (λ bits behind. nat_le least bits && nat_le bits greatest) (λ bits behind. octets_for bits) 0
 
--- segments of an AS_PATH: each a type, AS_SET or AS_SEQUENCE, a count of at least one, and as many numbers of two
+-- how many octets the number of an autonomous system has, by whether it is read wide (RFC 6793, section 4.1)
+abbrev pub number_size : Bool → ℕ
+number_size wide = if wide then 4 else 2
+
+-- segments of an AS_PATH: each a type, AS_SET or AS_SEQUENCE, a count of at least one, and as many numbers of so many
 -- octets (RFC 4271, section 4.3)
-abbrev pub are_segments : List ℕ → Bool
-are_segments =
+abbrev pub are_segments : ℕ → List ℕ → Bool
+are_segments size =
     are_pieces_behind (λ kind behind. (kind == 1 || kind == 2) && nat_lt 0 (slice_index behind 0))
-    (λ kind behind. 1 + 2 * slice_index behind 0) 0
+    (λ kind behind. 1 + size * slice_index behind 0) 0

@@ -1,5 +1,5 @@
--- What an UPDATE says of VPN-IPv4 routes, and what is wrong with one.
-use Rattle.std.specs.Prelude.{◌≡◌, ℕ, List, [], ◌++◌, map, Some, None}
+-- What an UPDATE says of VPN-IPv4 routes, and what is wrong with one, by whether it is read wide.
+use Rattle.std.specs.Prelude.{Bool, ◌≡◌, ℕ, List, [], ◌++◌, map, Some, None}
 use Rattle.ov_types.specs.declared.vpn.VpnKey.{VpnKey}
 use Rattle.ov_types.specs.declared.vpn.VpnRoute.{VpnRoute}
 use Rattle.ov_sync.specs.declared.Delta.{Delta}
@@ -22,22 +22,22 @@ changes_of attributes withdrawn reached =
     map drop_of withdrawn ++ map (put_of (next_hop_in attributes) (targets_in attributes)) reached
 
 -- an UPDATE that passes all checks makes these changes
-pub record Changes (parts : UpdateFields) (deltas : List (Delta VpnKey VpnRoute)) : Type 0 where
+pub record Changes (wide : Bool) (parts : UpdateFields) (deltas : List (Delta VpnKey VpnRoute)) : Type 0 where
   pub attributes : List AttributeFields
   pub withdrawn : List RouteFields
   pub reached : List RouteFields
   pub are : AreAttributes parts.attributes attributes []
-  pub passes : update_fault parts attributes [] ≡ None
+  pub passes : update_fault wide parts attributes [] ≡ None
   pub withdrawn_are : AreRoutes (withdrawn_octets attributes) withdrawn
   pub reached_are : AreRoutes (reached_octets attributes) reached
   pub made : deltas ≡ changes_of attributes withdrawn reached
 
 -- the first check that fails on an UPDATE gives this fault
-pub record HasUpdateFault (parts : UpdateFields) (f : WireFault) : Type 0 where
+pub record HasUpdateFault (wide : Bool) (parts : UpdateFields) (f : WireFault) : Type 0 where
   pub attributes : List AttributeFields
   pub tail : List ℕ
   pub are : AreAttributes parts.attributes attributes tail
-  pub fails : update_fault parts attributes tail ≡ Some f
+  pub fails : update_fault wide parts attributes tail ≡ Some f
 
 -- a fault of the message, and not want of memory
 abbrev pub IfWire : UpdateFault → (WireFault → Type 0) → Type 0

@@ -1,5 +1,5 @@
 -- What is written of a change: an UPDATE of one route.
-use Rattle.std.specs.Prelude.{ℕ, ◌<◌, ◌+◌, ◌*◌, ◌^◌, IsTrue, List, [], ◌∷◌, take, replicate}
+use Rattle.std.specs.Prelude.{ℕ, Bool, ◌<◌, ◌+◌, ◌*◌, ◌^◌, IsTrue, List, [], ◌∷◌, take, replicate}
 use Rattle.std.specs.List.{flat_map}
 use Rattle.byteorder.specs.Endian.{big_bytes}
 use Rattle.ov_types.specs.Prefix.{Block, is_prefix}
@@ -15,6 +15,7 @@ use Rattle.bgp_wire.specs.Spelling.{attributes_alone}
 use Rattle.bgp_vpn.specs.Pieces.{octets_for}
 use Rattle.bgp_vpn.specs.Routes.{RouteFields, route_octets}
 use Rattle.bgp_vpn.specs.Spellings.{spelled_route, reach_value}
+use Rattle.bgp_vpn.specs.Updates.{Changes}
 
 -- what a change says of the value that it puts, where it puts one
 abbrev pub IfPut : Delta VpnKey VpnRoute → (VpnRoute → Type 0) → Type 0
@@ -85,6 +86,10 @@ attributes_of (Drop key) = attribute 0x80 15 (written_unreach key) ∷ []
 -- the parts of the UPDATE of a change
 abbrev pub written_parts : Delta VpnKey VpnRoute → UpdateFields
 written_parts delta = attributes_alone (flat_map attribute_octets (attributes_of delta))
+
+-- the UPDATE of a change makes that change, whether it is read wide or not
+pub record MakesIt (delta : Delta VpnKey VpnRoute) : Type 0 where
+  pub change : (wide : Bool) → Changes wide (written_parts delta) (delta ∷ [])
 
 -- what the message of a change says
 abbrev pub written : Delta VpnKey VpnRoute → Content

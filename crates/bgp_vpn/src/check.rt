@@ -15,6 +15,7 @@ use crate::found::Found;
 use crate::known::{EXTENDED_COMMUNITIES, OPTIONAL, OPTIONAL_AND_TRANSITIVE};
 use crate::pieces::are_prefixes;
 use crate::profile::{flags_in, greatest_in, least_in, row_of, subcode_in};
+use crate::reading::Reading;
 use bgp_wire::{Attribute, MALFORMED_ATTRIBUTES, UpdatePart, WireFault, attributes};
 use std::mem;
 
@@ -25,9 +26,9 @@ fn is_wrong_length(row: usize, kind: u8, len: usize) -> bool
     len < least_in(row) || len > greatest_in(row) || (kind == EXTENDED_COMMUNITIES && len % 8 != 0)
 }
 
-fn check_known(routes_follow: bool, row: usize, attribute: &Attribute<'_>) -> Result<(), WireFault>
+fn check_known(reading: Reading, row: usize, attribute: &Attribute<'_>) -> Result<(), WireFault>
     requires { row < 9 }
-    ensures { Checks result (known_fault routes_follow row (fields_of attribute.now)) }
+    ensures { Checks result (known_fault reading row (fields_of attribute.now)) }
 {
     if u16::from(attribute.flags & OPTIONAL_AND_TRANSITIVE) != flags_in(row) {
         return Err(ATTRIBUTE_FLAGS);
@@ -38,15 +39,15 @@ fn check_known(routes_follow: bool, row: usize, attribute: &Attribute<'_>) -> Re
             subcode: subcode_in(row),
         });
     }
-    check_value(routes_follow, attribute.kind, attribute.value)
+    check_value(reading, attribute.kind, attribute.value)
 }
 
 /// The checks on an attribute alone.
-fn check_attribute(routes_follow: bool, attribute: &Attribute<'_>) -> Result<(), WireFault>
-    ensures { Checks result (own_fault routes_follow (fields_of attribute.now)) }
+fn check_attribute(reading: Reading, attribute: &Attribute<'_>) -> Result<(), WireFault>
+    ensures { Checks result (own_fault reading (fields_of attribute.now)) }
 {
     match row_of(attribute.kind) {
-        Some(row) => check_known(routes_follow, row, attribute),
+        Some(row) => check_known(reading, row, attribute),
         None => {
             if attribute.flags & OPTIONAL == 0 {
                 return Err(UNRECOGNIZED_WELL_KNOWN);
@@ -65,11 +66,28 @@ fn mark(marked: &mut [bool; 256], kind: u8) -> bool
     mem::replace(&mut marked[usize::from(kind)], true)
 }
 
+/// The checks on an attribute behind those whose types are marked, of which it may be none. Its own type is then marked.
+fn check_next(
+    reading: Reading,
+    marked: &mut [bool; 256],
+    attribute: &Attribute<'_>,
+) -> Result<(), WireFault>
+    ensures checks { Checks result (fault_if (slice_index_or marked.old attribute.now.kind false) malformed_attributes
+        then_check own_fault reading (fields_of attribute.now)) }
+    ensures marked { marked.new ≡ slice_set marked.old attribute.now.kind true }
+    ensures octet { attribute.now.kind < 256 }
+{
+    if mark(marked, attribute.kind) {
+        return Err(MALFORMED_ATTRIBUTES);
+    }
+    check_attribute(reading, attribute)
+}
+
 /// The attributes one after the other, each wholly before the next.
-fn check_attributes<'a>(routes_follow: bool, part: &UpdatePart<'a>) -> Result<Found<'a>, WireFault>
+fn check_attributes<'a>(reading: Reading, part: &UpdatePart<'a>) -> Result<Found<'a>, WireFault>
     ensures octets { AreOctets part.now.attributes.now }
     ensures checks { (all : List AttributeFields) (tail : List ℕ) → AreAttributes part.now.attributes.now all tail
-        → Checks result (attributes_fault routes_follow [] all
+        → Checks result (attributes_fault reading [] all
         then_check fault_if (not (length tail == 0)) malformed_attributes) }
     ensures found { IfOk result (λ found. (all : List AttributeFields) (tail : List ℕ)
         → AreAttributes part.now.attributes.now all tail → IsFound found all) }
@@ -78,10 +96,7 @@ fn check_attributes<'a>(routes_follow: bool, part: &UpdatePart<'a>) -> Result<Fo
     let mut found = Found::nothing();
     for item in attributes(part) {
         let attribute = item?;
-        if mark(&mut marked, attribute.kind) {
-            return Err(MALFORMED_ATTRIBUTES);
-        }
-        check_attribute(routes_follow, &attribute)?;
+        check_next(reading, &mut marked, &attribute)?;
         found.add(&attribute);
     }
     Ok(found)
@@ -116,15 +131,19 @@ fn check_missing(routes_follow: bool, found: &Found<'_>) -> Result<(), WireFault
 }
 
 /// All checks, in order, and the attributes that were found on the way.
-pub(crate) fn check_update<'a>(part: &UpdatePart<'a>) -> Result<Found<'a>, WireFault>
+pub(crate) fn check_update<'a>(wide: bool, part: &UpdatePart<'a>) -> Result<Found<'a>, WireFault>
     ensures octets { AreOctets part.now.attributes.now }
     ensures checks { (all : List AttributeFields) (tail : List ℕ) → AreAttributes part.now.attributes.now all tail
-        → Checks result (update_fault (parts_of part.now) all tail) }
+        → Checks result (update_fault wide (parts_of part.now) all tail) }
     ensures found { IfOk result (λ found. (all : List AttributeFields) (tail : List ℕ)
         → AreAttributes part.now.attributes.now all tail → IsFound found all) }
 {
     let routes_follow = !part.routes.is_empty();
-    let found = check_attributes(routes_follow, part)?;
+    let reading = Reading {
+        wide,
+        routes_follow,
+    };
+    let found = check_attributes(reading, part)?;
     if !are_prefixes(part.withdrawn, 0, 32) {
         return Err(INVALID_NETWORK);
     }

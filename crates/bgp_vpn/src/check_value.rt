@@ -1,6 +1,7 @@
 //! The checks on the values of attributes.
 ghost use Rattle.std.specs.Prelude.{◌≡◌, ◌≤◌, ◌&&◌, not, drop, length, true};
 ghost use Rattle.bgp_wire.specs.Faults.{Checks, fault_if};
+ghost use Rattle.bgp_vpn.specs.Pieces.{number_size};
 ghost use Rattle.bgp_vpn.specs.Values.{is_vpn, is_reach, are_routes};
 ghost use Rattle.bgp_vpn.specs.Checks.{is_host, value_fault};
 
@@ -11,6 +12,7 @@ use crate::known::{
 };
 use crate::octets::{address_in, octet_at};
 use crate::pieces::{are_prefixes, are_segments};
+use crate::reading::Reading;
 use bgp_wire::WireFault;
 
 /// Whether the family of a value of MP_REACH_NLRI or MP_UNREACH_NLRI is that of VPN-IPv4 routes.
@@ -64,15 +66,25 @@ fn is_bad_unreach(value: &[u8]) -> bool
     is_vpn(value) && !are_routes(&value[UNREACH_SIZE..])
 }
 
+/// How many octets the number of an autonomous system has.
+fn number_size(wide: bool) -> u8
+    ensures { result ≡ number_size wide }
+{
+    if wide { 4 } else { 2 }
+}
+
 /// A NEXT_HOP is looked at only where plain routes follow the attributes.
-pub(crate) fn check_value(routes_follow: bool, kind: u8, value: &[u8]) -> Result<(), WireFault>
-    ensures { Checks result (value_fault routes_follow kind value.now) }
+pub(crate) fn check_value(reading: Reading, kind: u8, value: &[u8]) -> Result<(), WireFault>
+    ensures { Checks result (value_fault reading kind value.now) }
 {
     match kind {
         ORIGIN => fail_if(octet_at(value, 0) > 2, INVALID_ORIGIN),
-        AS_PATH => fail_if(!are_segments(value), MALFORMED_AS_PATH),
+        AS_PATH => fail_if(
+            !are_segments(value, number_size(reading.wide)),
+            MALFORMED_AS_PATH,
+        ),
         NEXT_HOP => fail_if(
-            routes_follow && !is_host(address_in(value)),
+            reading.routes_follow && !is_host(address_in(value)),
             INVALID_NEXT_HOP,
         ),
         MP_REACH_NLRI => fail_if(is_bad_reach(value), OPTIONAL_ATTRIBUTE),

@@ -1,6 +1,6 @@
 //! What the grammar of UPDATEs promises.
 ghost use Rattle.std.specs.Prelude.{◌≡◌, ◌<◌, ◌+◌, ◌*◌, ◌-◌, ◌^◌, ◌⊎◌, ◌↔◌, ℕ, List, Some, length, map, Contains};
-ghost use Rattle.std.specs.Prelude.{IsTrue};
+ghost use Rattle.std.specs.Prelude.{IsTrue, Bool, true, false, []};
 ghost use Rattle.std.specs.List.{AllByRecursion};
 ghost use Rattle.ov_types.specs.declared.vpn.VpnKey.{VpnKey};
 ghost use Rattle.ov_types.specs.declared.vpn.VpnRoute.{VpnRoute};
@@ -8,27 +8,29 @@ ghost use Rattle.ov_sync.specs.declared.Delta.{Delta};
 ghost use Rattle.bgp_wire.specs.declared.fault.WireFault.{WireFault};
 ghost use Rattle.ov_types.specs.declared.targets.Target.{Target};
 ghost use Rattle.ov_types.specs.Targets.{is_target, IsAscending};
-ghost use Rattle.bgp_wire.specs.Attributes.{AttributeFields};
+ghost use Rattle.bgp_wire.specs.Attributes.{AttributeFields, AreAttributes};
 ghost use Rattle.bgp_wire.specs.Content.{UpdateFields};
 ghost use Rattle.bgp_wire.specs.Messages.{AreOctets};
 ghost use Rattle.bgp_vpn.specs.Pieces.{are_prefixes, are_segments};
-ghost use Rattle.bgp_vpn.specs.Segments.{SegmentFields, AreSegments};
+ghost use Rattle.bgp_vpn.specs.Segments.{SegmentFields, AreSegments, ReadsAlike};
+ghost use Rattle.bgp_vpn.specs.Checks.{update_fault};
 ghost use Rattle.bgp_vpn.specs.Routes.{RouteFields, ArePrefixes, label_of, distinguisher_of, key_of, drop_of};
 ghost use Rattle.bgp_vpn.specs.Values.{next_hop_of, routes_behind, next_hop_in, targets_in, communities, targets_among};
+ghost use Rattle.bgp_vpn.specs.Values.{value_at};
 ghost use Rattle.bgp_vpn.specs.Spellings.{spelled_route, AgreeIn, reach_value};
 ghost use Rattle.bgp_vpn.specs.Updates.{changes_of, Changes, HasUpdateFault};
 ghost use Rattle.bgp_vpn.specs.Written.{IfPut};
 
 /// An UPDATE makes changes or has a fault: always one of the two, only one, and in one way.
 pub fn an_update_says_one_thing()
-    ensures some { (parts : UpdateFields) → AreOctets parts.attributes
-        → ((deltas : List (Delta VpnKey VpnRoute)) × Changes parts deltas)
-        ⊎ ((f : WireFault) × HasUpdateFault parts f) }
-    ensures never_both { (parts : UpdateFields) (deltas : List (Delta VpnKey VpnRoute)) (f : WireFault)
-        → Changes parts deltas → HasUpdateFault parts f → ⊥ }
-    ensures changes { (parts : UpdateFields) (a b : List (Delta VpnKey VpnRoute)) → Changes parts a → Changes parts b
+    ensures some { (wide : Bool) (parts : UpdateFields) → AreOctets parts.attributes
+        → ((deltas : List (Delta VpnKey VpnRoute)) × Changes wide parts deltas)
+        ⊎ ((f : WireFault) × HasUpdateFault wide parts f) }
+    ensures never_both { (wide : Bool) (parts : UpdateFields) (deltas : List (Delta VpnKey VpnRoute)) (f : WireFault)
+        → Changes wide parts deltas → HasUpdateFault wide parts f → ⊥ }
+    ensures changes { (wide : Bool) (parts : UpdateFields) (a b : List (Delta VpnKey VpnRoute)) → Changes wide parts a → Changes wide parts b
         → a ≡ b }
-    ensures fault { (parts : UpdateFields) (f g : WireFault) → HasUpdateFault parts f → HasUpdateFault parts g → f ≡ g }
+    ensures fault { (wide : Bool) (parts : UpdateFields) (f g : WireFault) → HasUpdateFault wide parts f → HasUpdateFault wide parts g → f ≡ g }
 {}
 
 /// What a route says does not depend on what its spelling leaves open.
@@ -76,14 +78,45 @@ pub fn tests_hold_of_exactly_the_lists()
         → (prefixes : List RouteFields) × ArePrefixes least greatest octets prefixes }
     ensures no_other_prefixes { (least greatest : ℕ) (octets : List ℕ) (prefixes : List RouteFields)
         → ArePrefixes least greatest octets prefixes → IsTrue (are_prefixes least greatest octets) }
-    ensures segments { (octets : List ℕ) → IsTrue (are_segments octets)
-        → (segments : List SegmentFields) × AreSegments octets segments }
-    ensures no_other_segments { (octets : List ℕ) (segments : List SegmentFields) → AreSegments octets segments
-        → IsTrue (are_segments octets) }
+    ensures segments { (size : ℕ) (octets : List ℕ) → IsTrue (are_segments size octets)
+        → (segments : List SegmentFields) × AreSegments size octets segments }
+    ensures no_other_segments { (size : ℕ) (octets : List ℕ) (segments : List SegmentFields)
+        → AreSegments size octets segments → IsTrue (are_segments size octets) }
 {}
 
 /// Where octets are below 256, the label of each route that is put has 20 bits (RFC 3032, section 2.1).
 pub fn labels_have_20_bits()
-    ensures { (parts : UpdateFields) (deltas : List (Delta VpnKey VpnRoute)) → AreOctets parts.attributes
-        → Changes parts deltas → AllByRecursion (λ d. IfPut d (λ route. route.label.0 < 2 ^ 20)) deltas }
+    ensures { (wide : Bool) (parts : UpdateFields) (deltas : List (Delta VpnKey VpnRoute)) → AreOctets parts.attributes
+        → Changes wide parts deltas → AllByRecursion (λ d. IfPut d (λ route. route.label.0 < 2 ^ 20)) deltas }
+{}
+
+/// What an UPDATE says wide and what it says otherwise differ in segments alone: where the value of each AS_PATH is
+/// segments of numbers of four octets exactly where it is segments of numbers of two, the first check that fails is the
+/// same, and so are the changes.
+pub fn readings_differ_in_segments_alone()
+    ensures first_check { (parts : UpdateFields) (attributes : List AttributeFields) (tail : List ℕ)
+        → AllByRecursion ReadsAlike attributes
+        → update_fault true parts attributes tail ≡ update_fault false parts attributes tail }
+    ensures changes { (parts : UpdateFields) (attributes : List AttributeFields) (tail : List ℕ)
+        (deltas : List (Delta VpnKey VpnRoute)) → AreAttributes parts.attributes attributes tail
+        → AllByRecursion ReadsAlike attributes → Changes true parts deltas ↔ Changes false parts deltas }
+    ensures fault { (parts : UpdateFields) (attributes : List AttributeFields) (tail : List ℕ) (f : WireFault)
+        → AreAttributes parts.attributes attributes tail → AllByRecursion ReadsAlike attributes
+        → HasUpdateFault true parts f ↔ HasUpdateFault false parts f }
+{}
+
+/// An AS_PATH without segments reads alike both ways, and so does every attribute that is none.
+pub fn a_path_without_segments_reads_alike()
+    ensures { (a : AttributeFields) → (a.kind ≡ 2 → a.value ≡ []) → ReadsAlike a }
+{}
+
+/// The AS_PATH of an UPDATE that passes all checks is segments: of numbers of four octets where it is read wide, and of
+/// two otherwise.
+pub fn a_path_is_segments_of_its_reading()
+    ensures wide { (parts : UpdateFields) (deltas : List (Delta VpnKey VpnRoute)) (attributes : List AttributeFields)
+        (path : List ℕ) → Changes true parts deltas → AreAttributes parts.attributes attributes []
+        → value_at 2 attributes ≡ Some path → (segments : List SegmentFields) × AreSegments 4 path segments }
+    ensures narrow { (parts : UpdateFields) (deltas : List (Delta VpnKey VpnRoute)) (attributes : List AttributeFields)
+        (path : List ℕ) → Changes false parts deltas → AreAttributes parts.attributes attributes []
+        → value_at 2 attributes ≡ Some path → (segments : List SegmentFields) × AreSegments 2 path segments }
 {}

@@ -10,6 +10,7 @@ pub mod laws;
 mod octets;
 mod pieces;
 mod profile;
+mod reading;
 mod route;
 mod routes;
 mod targets;
@@ -20,6 +21,3 @@ pub use fault::UpdateFault;
 pub use routes::{Labeled, Routes};
 pub use update::{VpnUpdate, read_routes, read_update};
 pub use write::write_update;
-
-#[cfg(test)]
-mod tests;

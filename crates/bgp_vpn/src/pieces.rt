@@ -55,31 +55,31 @@ fn is_segment(kind: u8, behind: &[u8]) -> bool
     (kind == 1 || kind == 2) && octet_at(behind, 0) > 0
 }
 
-/// The octets behind the first segment of an AS_PATH. None where there is none whole.
-fn behind_segment(octets: &[u8]) -> Option<&[u8]>
+/// The octets behind the first segment of an AS_PATH, whose numbers have so many octets. None where there is none whole.
+fn behind_segment(octets: &[u8], size: u8) -> Option<&[u8]>
     requires { 0 < length octets.now }
-    ensures same { IfSome result (λ after. are_segments octets.now ≡ are_segments after.now) }
+    ensures same { IfSome result (λ after. are_segments size octets.now ≡ are_segments size after.now) }
     ensures shorter { IfSome result (λ after. length after.now < length octets.now) }
-    ensures none { IfNone result (are_segments octets.now ≡ false) }
+    ensures none { IfNone result (are_segments size octets.now ≡ false) }
 {
     let behind = &octets[1..];
     if !is_segment(octets[0], behind) {
         return None;
     }
-    let len = 1 + 2 * usize::from(octet_at(behind, 0));
+    let len = 1 + usize::from(size) * usize::from(octet_at(behind, 0));
     if behind.len() < len {
         return None;
     }
     Some(&behind[len..])
 }
 
-/// Whether the octets are segments of an AS_PATH.
-pub(crate) fn are_segments(octets: &[u8]) -> bool
-    ensures { result ≡ are_segments octets.now }
+/// Whether the octets are segments of an AS_PATH, whose numbers have so many octets.
+pub(crate) fn are_segments(octets: &[u8], size: u8) -> bool
+    ensures { result ≡ are_segments size octets.now }
 {
     let mut rest = octets;
     while !rest.is_empty() {
-        let Some(after) = behind_segment(rest) else {
+        let Some(after) = behind_segment(rest, size) else {
             return false;
         };
         rest = after;

@@ -1,6 +1,5 @@
 //! VPN-IPv4 routes as they are spelled (RFC 4364, section 4.3.4; RFC 8277, section 2).
-ghost use Rattle.std.specs.Prelude.{◌≡◌, ◌≤◌, ◌-◌, ℕ, List, ◌++◌, drop, length, IfSome, IfNone};
-ghost use Rattle.byteorder.specs.Endian.{big_number};
+ghost use Rattle.std.specs.Prelude.{◌≡◌, ◌≤◌, ◌-◌, ℕ, List, IfSome, IfNone};
 ghost use Rattle.bgp_vpn.specs.Routes.{RouteFields, IsRoute, BeginsWithRoute, first_bits, key_of, label_of};
 ghost use Rattle.bgp_vpn.specs.Spelled.{fields_of};
 

@@ -1,5 +1,5 @@
 //! What an UPDATE says, and what it changes.
-ghost use Rattle.std.specs.Prelude.{◌≡◌, ◌++◌, ℕ, List, [], map, option_copied, IfOk, OnOk, IfErr, MatchResult};
+ghost use Rattle.std.specs.Prelude.{◌≡◌, ◌++◌, List, [], map, option_copied, IfOk, OnOk, IfErr, MatchResult};
 ghost use Rattle.ov_types.specs.declared.vpn.VpnKey.{VpnKey};
 ghost use Rattle.ov_types.specs.declared.vpn.VpnRoute.{VpnRoute};
 ghost use Rattle.ov_sync.specs.declared.Delta.{Delta};
@@ -150,38 +150,45 @@ fn said_in<'a>(alloc: Global, found: &Found<'a>) -> Result<VpnUpdate<'a>, NoMemo
     })
 }
 
-/// What an UPDATE says of VPN-IPv4 routes, read where it lies.
+/// What an UPDATE says of VPN-IPv4 routes, read where it lies: wide, where numbers of autonomous systems have four octets
+/// and not two (RFC 6793, section 4.1).
 ///
 /// Plain routes, other address families, unknown optional attributes and extended communities that are no route targets
 /// are passed over. The first check that fails is the fault (RFC 4271, section 6.3; RFC 4760, section 7).
-pub fn read_routes<'a>(alloc: Global, part: &UpdatePart<'a>) -> Result<VpnUpdate<'a>, UpdateFault>
-    ensures said { IfOk result (λ said. Changes (parts_of part.now) (changes_said said)) }
-    ensures fault { IfErr result (λ e. IfWire e (λ f. HasUpdateFault (parts_of part.now) f)) }
+pub fn read_routes<'a>(
+    alloc: Global,
+    part: &UpdatePart<'a>,
+    wide: bool,
+) -> Result<VpnUpdate<'a>, UpdateFault>
+    ensures said { IfOk result (λ said. Changes wide (parts_of part.now) (changes_said said)) }
+    ensures fault { IfErr result (λ e. IfWire e (λ f. HasUpdateFault wide (parts_of part.now) f)) }
 
     // Each fault is found. Want of memory alone is free.
-    ensures every_change { (deltas : List (Delta VpnKey VpnRoute)) → Changes (parts_of part.now) deltas
+    ensures every_change { (deltas : List (Delta VpnKey VpnRoute)) → Changes wide (parts_of part.now) deltas
         → MatchResult result (λ said. changes_said said ≡ deltas) (λ e. e ≡ UpdateFault.NoMemory) }
-    ensures every_fault { (f : WireFault) → HasUpdateFault (parts_of part.now) f → result ≡ Err (UpdateFault.Wire f) }
+    ensures every_fault { (f : WireFault) → HasUpdateFault wide (parts_of part.now) f → result ≡ Err (UpdateFault.Wire f) }
 {
-    let found = check_update(part)?;
+    let found = check_update(wide, part)?;
     Ok(said_in(alloc, &found)?)
 }
 
 /// What an UPDATE changes: the routes that MP_UNREACH_NLRI withdraws are dropped, and then those that MP_REACH_NLRI
-/// announces are put, in the order of the message (RFC 4760, section 4; RFC 4364).
+/// announces are put, in the order of the message (RFC 4760, section 4; RFC 4364). It is read wide, where numbers of
+/// autonomous systems have four octets and not two.
 pub fn read_update(
     alloc: Global,
     part: &UpdatePart<'_>,
+    wide: bool,
 ) -> Result<Vec<Delta<VpnKey, VpnRoute>>, UpdateFault>
-    ensures changes { IfOk result (λ deltas. Changes (parts_of part.now) deltas.items) }
-    ensures fault { IfErr result (λ e. IfWire e (λ f. HasUpdateFault (parts_of part.now) f)) }
+    ensures changes { IfOk result (λ deltas. Changes wide (parts_of part.now) deltas.items) }
+    ensures fault { IfErr result (λ e. IfWire e (λ f. HasUpdateFault wide (parts_of part.now) f)) }
 
     // Each change and each fault is found. Want of memory alone is free.
-    ensures every_change { (deltas : List (Delta VpnKey VpnRoute)) → Changes (parts_of part.now) deltas
+    ensures every_change { (deltas : List (Delta VpnKey VpnRoute)) → Changes wide (parts_of part.now) deltas
         → MatchResult result (λ found. found.items ≡ deltas) (λ e. e ≡ UpdateFault.NoMemory) }
-    ensures every_fault { (f : WireFault) → HasUpdateFault (parts_of part.now) f → result ≡ Err (UpdateFault.Wire f) }
+    ensures every_fault { (f : WireFault) → HasUpdateFault wide (parts_of part.now) f → result ≡ Err (UpdateFault.Wire f) }
 {
-    match read_routes(alloc, part) {
+    match read_routes(alloc, part, wide) {
         Ok(said) => Ok(said.changes(alloc)?),
         Err(fault) => Err(fault),
     }

@@ -1,15 +1,15 @@
 //! Changes, written as UPDATEs of one route each.
-ghost use Rattle.std.specs.Prelude.{◌≡◌, ◌≤◌, ◌<◌, ◌^◌, ◌++◌, [], ◌∷◌, length, false, IsTrue, OnOk, OnErr, IfOk};
+ghost use Rattle.std.specs.Prelude.{◌≡◌, ◌≤◌, ◌<◌, ◌^◌, ◌++◌, [], ◌∷◌, length, Bool, false, IsTrue, OnOk, OnErr, IfOk};
 ghost use Rattle.std.specs.List.{flat_map, AllByRecursion};
 ghost use Rattle.byteorder.specs.Endian.{big_bytes};
-ghost use Rattle.ov_types.specs.Targets.{is_target, IsAscending};
+ghost use Rattle.ov_types.specs.Targets.{is_target};
 ghost use Rattle.bgp_wire.specs.Attributes.{is_extended, attribute_octets};
 ghost use Rattle.bgp_wire.specs.Spelling.{spelling, IsReadAgain};
 ghost use Rattle.bgp_vpn.specs.Routes.{route_octets};
 ghost use Rattle.bgp_vpn.specs.Updates.{Changes};
 ghost use Rattle.bgp_vpn.specs.Written.{IfPut, FitsItsTypes, route_of, attribute, origin, as_path, local_preference};
 ghost use Rattle.bgp_vpn.specs.Written.{written_reach, written_unreach, target_octets, communities_of, attributes_of};
-ghost use Rattle.bgp_vpn.specs.Written.{written, written_parts};
+ghost use Rattle.bgp_vpn.specs.Written.{written, written_parts, MakesIt};
 
 use crate::known::{
     AS_PATH, EXTENDED_COMMUNITIES, LEAST_BITS, LOCAL_PREF, MP_REACH_NLRI, MP_UNREACH_NLRI,
@@ -145,14 +145,14 @@ fn push_well_known(out: &mut Vec<u8>) -> Result<(), NoMemory>
 }
 
 /// The attributes of a route that is put.
-#[tactic(auto, using(crate::proofs::WrittenUpdates::put_changes, crate::proofs::WrittenUpdates::put_length))]
+#[tactic(auto, using(crate::proofs::WrittenUpdates::put_makes, crate::proofs::WrittenUpdates::put_length))]
 fn put_attributes(alloc: Global, key: &VpnKey, route: &VpnRoute) -> Result<Vec<u8>, NoMemory>
     requires few_targets { length route.now.targets ≤ 31 }
     requires route_targets { AllByRecursion (λ t. IsTrue (is_target t.0)) route.now.targets }
     requires label { route.now.label.0 < 2 ^ 20 }
     ensures octets { IfOk result (λ octets. octets.items
         ≡ flat_map attribute_octets (attributes_of (Delta.Put key.now route.now))) }
-    ensures change { Changes (written_parts (Delta.Put key.now route.now)) (Delta.Put key.now route.now ∷ []) }
+    ensures change { MakesIt (Delta.Put key.now route.now) }
     ensures length { length (flat_map attribute_octets (attributes_of (Delta.Put key.now route.now))) ≤ 512 }
 {
     let targets = route.targets.items();
@@ -165,11 +165,11 @@ fn put_attributes(alloc: Global, key: &VpnKey, route: &VpnRoute) -> Result<Vec<u
 }
 
 /// The attributes of a route that is dropped.
-#[tactic(auto, using(crate::proofs::WrittenUpdates::drop_changes, crate::proofs::WrittenUpdates::drop_length))]
+#[tactic(auto, using(crate::proofs::WrittenUpdates::drop_makes, crate::proofs::WrittenUpdates::drop_length))]
 fn drop_attributes(alloc: Global, key: &VpnKey) -> Result<Vec<u8>, NoMemory>
     ensures octets { IfOk result (λ octets. octets.items
         ≡ flat_map attribute_octets (attributes_of (Delta.Drop key.now))) }
-    ensures change { Changes (written_parts (Delta.Drop key.now)) (Delta.Drop key.now ∷ []) }
+    ensures change { MakesIt (Delta.Drop key.now) }
     ensures length { length (flat_map attribute_octets (attributes_of (Delta.Drop key.now))) ≤ 512 }
 {
     let value = unreach_value(alloc, key)?;
@@ -184,7 +184,7 @@ fn attributes_of(alloc: Global, delta: &Delta<VpnKey, VpnRoute>) -> Result<Vec<u
     requires route_targets { IfPut delta.now (λ route. AllByRecursion (λ t. IsTrue (is_target t.0)) route.targets) }
     requires label { IfPut delta.now (λ route. route.label.0 < 2 ^ 20) }
     ensures octets { IfOk result (λ octets. octets.items ≡ flat_map attribute_octets (attributes_of delta.now)) }
-    ensures change { Changes (written_parts delta.now) (delta.now ∷ []) }
+    ensures change { MakesIt delta.now }
     ensures length { length (flat_map attribute_octets (attributes_of delta.now)) ≤ 512 }
 {
     match delta {
@@ -209,9 +209,9 @@ pub fn write_update(
     ensures ok { OnOk result (out.new.items ≡ out.old.items ++ spelling (written delta.now)) }
     ensures err { OnErr result (out.new.items ≡ out.old.items) }
 
-    // What is written is read again, as that one change.
+    // What is written is read again, as that one change, in both readings.
     ensures read_again { IsReadAgain (written delta.now) }
-    ensures change { Changes (written_parts delta.now) (delta.now ∷ []) }
+    ensures change { (wide : Bool) → Changes wide (written_parts delta.now) (delta.now ∷ []) }
     ensures length { length (spelling (written delta.now)) ≤ 4096 }
 {
     let attributes = attributes_of(alloc, delta)?;

@@ -9,18 +9,21 @@ use Rattle.bgp_wire.specs.declared.fault.WireFault.{WireFault}
 use Rattle.bgp_wire.specs.declared.kind.Kind.{Kind}
 use Rattle.bgp_wire.specs.declared.kind.Kind.TheVariants.{Open, Update, Notification, Keepalive}
 use Rattle.bgp_wire.specs.Content.{OpenFields, UpdateFields, Content, Opens, Updates, Notifies, KeepsAlive}
-use Rattle.bgp_wire.specs.Opens.{HasFaultyParameter, IsOpen, open_fault, version_at, my_as_at, hold_at, id_at, parameters_length_at, HasOpenFault}
+use Rattle.bgp_wire.specs.Parts.{Part}
+use Rattle.bgp_wire.specs.Capabilities.{parameters_in}
+use Rattle.bgp_wire.specs.Opens.{parameters_octets, HasFaultyParameter, IsOpen, open_fault, version_at, my_as_at, hold_at, id_at, parameters_length_at, HasOpenFault}
 use Rattle.bgp_wire.specs.Updates.{IsUpdate, update_fault, withdrawn_length_at, attributes_length_at}
 use Rattle.bgp_wire.specs.Frames.{least, greatest}
 use Rattle.bgp_wire.specs.Messages.{AreOctets, IsBody, HasBodyFault}
 use Rattle.bgp_wire.proofs.Checking.{pass_both, both_pass, fault_if-None, fault_if-false}
+use Rattle.bgp_wire.proofs.WholeParts.{parameters_held, are_parameters}
 use Rattle.bgp_wire.proofs.OpenBodies.{shape, Passes, open_is}
 use Rattle.bgp_wire.proofs.UpdateBodies.{update_is}
 use Rattle.bgp_wire.proofs.Exclusion.{never_both_parameters, one_faulty_parameter, parameters_or_fault}
 
 -- the octets of an OPEN's body with these fields
 abbrev spelled_open : OpenFields → List ℕ
-spelled_open p = shape 4 (big_bytes 2 p.my_as) (big_bytes 2 p.hold) (big_bytes 4 p.id) (length p.parameters) p.parameters
+spelled_open p = shape 4 (big_bytes 2 p.my_as) (big_bytes 2 p.hold) (big_bytes 4 p.id) (length (parameters_octets p.parameters)) (parameters_octets p.parameters)
 
 asn_back : (p : OpenFields) → p.my_as < 2 ^ 16 → my_as_at (spelled_open p) ≡ p.my_as
 asn_back p small = big_number-reads_back 2 p.my_as (drop 3 (spelled_open p)) small
@@ -37,7 +40,7 @@ record OpenBack (body : List ℕ) (p : OpenFields) : Type 0 where
   my_as : my_as_at body ≡ p.my_as
   hold : hold_at body ≡ p.hold
   id : id_at body ≡ p.id
-  parameters : drop 10 body ≡ p.parameters
+  parameters : drop 10 body ≡ parameters_octets p.parameters
 
 open_none : (body : List ℕ) → Passes body → open_fault body ≡ None
 open_none body passes =
@@ -68,17 +71,19 @@ spelled_back body p is =
 open_back : (body : List ℕ) (p : OpenFields) → IsOpen body p → OpenBack body p
 open_back body p is = subst (λ (b : List ℕ). OpenBack b p) (sym is.spelled) (spelled_back body p is)
 
-abbrev fields_of : ℕ → ℕ → ℕ → List ℕ → OpenFields
+abbrev fields_of : ℕ → ℕ → ℕ → List (List Part) → OpenFields
 fields_of asn hold id parameters = record { my_as = asn; hold = hold; id = id; parameters = parameters }
 
 one_open : (body : List ℕ) (p q : OpenFields) → IsOpen body p → IsOpen body q → p ≡ q
 one_open body p q a b =
     let x = open_back body p a in
     let y = open_back body q b in
+    let octets : parameters_octets p.parameters ≡ parameters_octets q.parameters = sym x.parameters ∙ y.parameters in
+    let parameters = sym (parameters_held p.parameters) ∙ ap parameters_in octets ∙ parameters_held q.parameters in
     ap (λ (n : ℕ). fields_of n p.hold p.id p.parameters) (sym x.my_as ∙ y.my_as)
     ∙ ap (λ (n : ℕ). fields_of q.my_as n p.id p.parameters) (sym x.hold ∙ y.hold)
     ∙ ap (λ (n : ℕ). fields_of q.my_as q.hold n p.parameters) (sym x.id ∙ y.id)
-    ∙ ap (fields_of q.my_as q.hold q.id) (sym x.parameters ∙ y.parameters)
+    ∙ ap (fields_of q.my_as q.hold q.id) parameters
 
 -- where no check fails, a fault is one of the parameters
 faulty_parameters : (body : List ℕ) (f : WireFault) → open_fault body ≡ None → HasOpenFault body f → HasFaultyParameter (drop 10 body) f
@@ -94,7 +99,7 @@ first_fault body f g some fault =
 never_open_and_fault : (body : List ℕ) (p : OpenFields) (f : WireFault) → IsOpen body p → HasOpenFault body f → ⊥
 never_open_and_fault body p f is fault =
     let back = open_back body p is in
-    never_both_parameters p.parameters f is.parameters
+    never_both_parameters (parameters_octets p.parameters) f (are_parameters p.parameters is.parameters)
     (subst (λ (r : List ℕ). HasFaultyParameter r f) back.parameters (faulty_parameters body f back.none fault))
 
 one_open_fault_of : (body : List ℕ) (f g : WireFault) (o : Option WireFault) → open_fault body ≡ o → HasOpenFault body f → HasOpenFault body g → f ≡ g
@@ -108,7 +113,7 @@ open_or_fault_of body (Some f) octets ten is =
     inr (f, subst P (sym is) refl)
 open_or_fault_of body None octets ten is = elim (parameters_or_fault (drop 10 body)) [
   | inl whole ↦
-      let p = fields_of (my_as_at body) (hold_at body) (id_at body) (drop 10 body) in
+      let p = fields_of (my_as_at body) (hold_at body) (id_at body) (parameters_in (drop 10 body)) in
       inl (p, open_is body p octets ten is whole refl refl refl refl)
   | inr faulty ↦
       let P : Option WireFault → Type 0 = λ o. MatchOption o (HasFaultyParameter (drop 10 body) faulty.0) (λ first. first ≡ faulty.0) in

@@ -4,7 +4,7 @@ use Rattle.std.proofs.lemmas.Bool.{cases_eq}
 use Rattle.bgp_wire.specs.declared.fault.WireFault.{WireFault}
 use Rattle.bgp_wire.specs.Faults.{unspecific_open, unsupported_parameter}
 use Rattle.bgp_wire.specs.Parts.{Part, IsOverrun, BeginsWithPart, PartsThen}
-use Rattle.bgp_wire.specs.Opens.{IsCapability, IsMalformedCapability, AreCapabilities, AreBrokenCapabilities, IsParameter, AreParameters, IsFaultyParameter, overruns, has_another_type, has_broken_capabilities, HasFaultyParameter}
+use Rattle.bgp_wire.specs.Opens.{HasFourOctets, IsCapability, IsMalformedCapability, AreCapabilities, AreBrokenCapabilities, IsParameter, AreParameters, IsFaultyParameter, overruns, has_another_type, has_broken_capabilities, HasFaultyParameter}
 use Rattle.bgp_wire.proofs.Splitting.{HasNoPart, same_part, same_rest, nil_has_none, overrun_has_none, part_or_overrun, parts_or_end}
 
 -- the part at the front is one
@@ -71,10 +71,23 @@ one_faulty_parameter octets f g a b =
     let same = same_rest IsParameter (λ rest. IsFaultyParameter rest f) (λ rest. IsFaultyParameter rest g) octets (faulty_has_none f) (faulty_has_none g) a b in
     same_fault f g b.rest (subst (λ (r : List ℕ). IsFaultyParameter r f) same a.ends) b.ends
 
+neither : (n : ℕ) → n ≢ 1 → n ≢ 65 → (n ≡ 1) ⊎ (n ≡ 65) → ⊥
+neither n a b (inl e) = a e
+neither n a b (inr e) = b e
+
+four_or_not : (c : Part) → HasFourOctets c ⊎ (HasFourOctets c → ⊥)
+four_or_not c = elim (cases_eq c.kind 1) [
+  | inl one ↦ inl (inl one)
+  | inr other ↦ elim (cases_eq c.kind 65) [
+    | inl number ↦ inl (inr number)
+    | inr third ↦ inr (neither c.kind other third)
+  ]
+]
+
 capability_or_break : (rest : List ℕ) → rest ≢ [] → BeginsWithPart IsCapability rest ⊎ BreaksCapabilities rest
 capability_or_break rest some = elim (part_or_overrun rest some) [
   | inr over ↦ inr (inl over)
-  | inl begins ↦ elim (cases_eq begins.first.kind 1) [
+  | inl begins ↦ elim (four_or_not begins.first) [
     | inr other ↦ inl (record { first = begins.first; after = begins.after; spelled = begins.spelled; holds = λ e. absurd (other e) })
     | inl one ↦ elim (cases_eq (length begins.first.value) 4) [
       | inl four ↦ inl (record { first = begins.first; after = begins.after; spelled = begins.spelled; holds = λ e. four })

@@ -79,9 +79,6 @@ least_is Update = omega arith
 least_is Notification = omega arith
 least_is Keepalive = omega arith
 
-length-head : (len : ℕ) (kind : Kind) → length (head len kind) ≡ 19
-length-head len kind = refl
-
 -- the octets begin with the head of a frame
 head_is : (octets : List ℕ) (kind : Kind) (len : ℕ) → AreOctets octets → HeadPasses octets kind len → IsHeadOf octets kind len
     → octets ≡ head len kind ++ drop 19 octets

@@ -10,3 +10,4 @@ pub mod Bodies
 pub mod Readings
 pub mod Attributing
 pub mod Spelling
+pub mod Numbering

@@ -5,11 +5,14 @@ use Rattle.byteorder.specs.Endian.{big_bytes, big_number}
 use Rattle.bgp_wire.specs.Content.{OpenFields}
 use Rattle.bgp_wire.specs.Faults.{unspecific_open, unsupported_parameter}
 use Rattle.bgp_wire.specs.Parts.{Part, octets_of, IsOverrun, BeginsWithPart}
-use Rattle.bgp_wire.specs.Opens.{IsCapability, IsMalformedCapability, AreBrokenCapabilities, IsParameter, AreParameters, IsFaultyParameter, has_another_type, has_broken_capabilities, HasFaultyParameter, IsOpen, open_fault, version_at, my_as_at, hold_at, id_at, parameters_length_at}
+use Rattle.bgp_wire.specs.Capabilities.{parameters_in}
+use Rattle.bgp_wire.specs.Opens.{parameters_octets, IsCapability, IsMalformedCapability, AreBrokenCapabilities, IsParameter, AreParameters, IsFaultyParameter, has_another_type, has_broken_capabilities, HasFaultyParameter, IsOpen, open_fault, version_at, my_as_at, hold_at, id_at, parameters_length_at}
 use Rattle.bgp_wire.specs.Messages.{AreOctets}
 use Rattle.bgp_wire.proofs.Octets.{bytes_of_two, bytes_of_four, number_below_two, number_below_four, AreOctets-drop}
 use Rattle.bgp_wire.proofs.Checking.{pass_both, fault_if-None}
 use Rattle.bgp_wire.proofs.Splitting.{Leaves, leaves_end}
+use Rattle.bgp_wire.proofs.WholeParts.{some_held}
+use Rattle.std.specs.List.{AllByRecursion}
 
 -- a malformed capability ends the capabilities
 pub capabilities_end : (octets rest after : List ℕ) (c : Part) → Leaves IsCapability octets rest
@@ -84,18 +87,20 @@ spelled_open _ octets ten passes = absurd (omega arith)
 -- the fields of a body that passes
 pub open_is : (body : List ℕ) (fields : OpenFields) → AreOctets body → 10 ≤ length body → open_fault body ≡ None
     → AreParameters (drop 10 body) → fields.my_as ≡ my_as_at body → fields.hold ≡ hold_at body → fields.id ≡ id_at body
-    → fields.parameters ≡ drop 10 body → IsOpen body fields
+    → fields.parameters ≡ parameters_in (drop 10 body) → IsOpen body fields
 open_is body fields octets ten none parameters asn hold id rest =
     let passes = open_passes body none in
+    let held = some_held (drop 10 body) parameters in
+    let spelled = spelled_open body octets ten passes ∙ ap (λ (r : List ℕ). shape 4 (big_bytes 2 (my_as_at body)) (big_bytes 2 (hold_at body)) (big_bytes 4 (id_at body)) (length r) r) (held.spelled ∙ ap parameters_octets (sym rest)) in
     let two = number_below_two (drop 1 body) (AreOctets-drop 1 body octets) in
     let three = number_below_two (drop 3 body) (AreOctets-drop 3 body octets) in
     let five = number_below_four (drop 5 body) (AreOctets-drop 5 body octets) in
     record {
-      spelled = rw (asn, hold, id, rest) (spelled_open body octets ten passes);
+      spelled = rw (asn, hold, id) spelled;
       my_as = omega arith;
       hold = omega arith;
       id = omega arith;
       hold_time = ((λ e. passes.no_one (sym hold ∙ e)), (λ e. passes.no_two (sym hold ∙ e)));
       identifier = λ e. passes.identifier (sym id ∙ e);
-      parameters = subst AreParameters (sym rest) parameters;
+      parameters = subst (AllByRecursion (AllByRecursion IsCapability)) (sym rest) held.well_formed;
     }

@@ -246,14 +246,6 @@ whole_message octets c is =
     let same : octets ≡ take (length octets) octets = sym (take_all (length octets) octets (omega arith)) in
     record { within = omega arith; message = subst (λ (o : List ℕ). IsMessage o c) same is }
 
--- no message begins another
-pub nothing_follows : (octets more : List ℕ) (c d : Content) → IsMessage octets c → IsMessage (octets ++ more) d → more ≡ []
-nothing_follows octets more c d a b =
-    let short = message_stays octets more c (length octets) (whole_message octets c a) in
-    let long = whole_message (octets ++ more) d b in
-    let same = one_message (octets ++ more) c d (length octets) (length (octets ++ more)) short long in
-    nil_from_length more (let lengths = same.1 in omega (arith, length-append octets more))
-
 -- checks whose octets are there stay as they are, whatever follows
 marker_same : (octets more : List ℕ) → 16 ≤ length octets → marker_fault (octets ++ more) ≡ marker_fault octets
 marker_same octets more there =

@@ -1,5 +1,7 @@
 -- Spellings, read again.
-use Rattle.std.proofs.Common.{◌≢◌, ◌≤◌, ◌<◌, ◌^◌, ℕ, ◌+◌, List, [], ◌∷◌, length, refl, sym, ap, subst, arith}
+use Rattle.std.proofs.Common.{◌≡◌, ◌≢◌, ◌≤◌, ◌<◌, ◌^◌, ℕ, ◌+◌, List, [], ◌∷◌, length, refl, sym, ap, subst, arith, Bool, true, false, cond, nat_le}
+use Rattle.std.specs.List.{AllByRecursion}
+use Rattle.std.proofs.lemmas.Bool.{leb-true}
 use Rattle.std.proofs.lemmas.List.{length-append}
 use Rattle.std.proofs.Math.Seq.{take-append_seam}
 use Rattle.bgp_wire.specs.declared.kind.Kind.TheVariants.{Open, Update, Notification, Keepalive}
@@ -7,9 +9,8 @@ use Rattle.bgp_wire.specs.declared.write.OpenOut.{OpenOut}
 use Rattle.bgp_wire.specs.Content.{Content, Opens, Updates, Notifies, KeepsAlive}
 use Rattle.bgp_wire.specs.Frames.{least, greatest}
 use Rattle.bgp_wire.specs.Messages.{IsMessage}
-use Rattle.bgp_wire.specs.Opens.{AreCapabilities, AreParameters, open_octets}
-use Rattle.bgp_wire.specs.Parts.{octets_of}
-use Rattle.bgp_wire.specs.Spelling.{spelling, IsReadAgain, vpn_capability, vpn_parameter, open_fields, attributes_alone}
+use Rattle.bgp_wire.specs.Opens.{IsCapability, open_octets}
+use Rattle.bgp_wire.specs.Spelling.{spelling, IsReadAgain, vpn_capability, four_octet_capability, my_as_of, open_fields, attributes_alone}
 use Rattle.bgp_wire.specs.Updates.{update_octets}
 
 pub notification_says : (code subcode : ℕ) → IsMessage (spelling (Notifies code subcode)) (Notifies code subcode)
@@ -59,18 +60,23 @@ read_again content m more = record {
   message = subst (λ (octets : List ℕ). IsMessage octets content) (sym (take-append_seam (spelling content) more)) m;
 }
 
-capabilities : AreCapabilities (octets_of vpn_capability)
-capabilities = record { parts = vpn_capability ∷ []; each = (λ _. refl, tt); rest = []; spelled = refl; ends = refl }
+capabilities : (asn : ℕ) → AllByRecursion IsCapability (vpn_capability ∷ four_octet_capability asn ∷ [])
+capabilities asn = (λ _. refl, (λ _. refl, tt))
 
-parameters : AreParameters (octets_of vpn_parameter)
-parameters = record { parts = vpn_parameter ∷ []; each = ((refl, capabilities), tt); rest = []; spelled = refl; ends = refl }
+-- My Autonomous System has room
+small_of : (asn : ℕ) (b : Bool) → nat_le asn 65535 ≡ b → cond b asn 23456 < 65536
+small_of asn true is = let low = leb-true asn 65535 is in omega arith
+small_of asn false is = omega arith
 
-pub open_says : (part : OpenOut) → part.asn < 2 ^ 16 → part.id.0 < 2 ^ 32 → part.id.0 ≢ 0 → IsMessage (spelling (Opens (open_fields part))) (Opens (open_fields part))
-open_says part asn id some = record {
+my_as_small : (asn : ℕ) → my_as_of asn < 65536
+my_as_small asn = small_of asn (nat_le asn 65535) refl
+
+pub open_says : (part : OpenOut) → part.id.0 < 2 ^ 32 → part.id.0 ≢ 0 → IsMessage (spelling (Opens (open_fields part))) (Opens (open_fields part))
+open_says part id some = record {
   kind = Open;
   body = open_octets (open_fields part);
   frame = record { spelled = refl; least_length = omega arith; greatest_length = omega arith };
-  says = (refl, record { spelled = refl; my_as = asn; hold = omega arith; id = id; hold_time = (λ e. absurd (omega (arith, e)), λ e. absurd (omega (arith, e))); identifier = some; parameters = parameters });
+  says = (refl, record { spelled = refl; my_as = my_as_small part.asn; hold = omega arith; id = id; hold_time = (λ e. absurd (omega (arith, e)), λ e. absurd (omega (arith, e))); identifier = some; parameters = (capabilities part.asn, tt) });
 }
 
 pub attributes_say : (attributes : List ℕ) → 23 + length attributes ≤ 4096 → IsMessage (spelling (Updates (attributes_alone attributes))) (Updates (attributes_alone attributes))

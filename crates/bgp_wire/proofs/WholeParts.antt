@@ -3,11 +3,11 @@ use Rattle.std.proofs.Common.{◌≡◌, ◌≤◌, ℕ, zero, suc, List, [], �
 use Rattle.std.specs.Prelude.{IfSome, IfNone}
 use Rattle.bgp_wire.specs.declared.part.Front.{Front}
 use Rattle.std.specs.List.{flat_map, AllByRecursion}
-use Rattle.std.proofs.lemmas.List.{append-nil, append_assoc, length-append, length-drop, take_at, drop_at}
+use Rattle.std.proofs.lemmas.List.{append-nil, length-append, length-drop, take_at, drop_at}
 use Rattle.std.proofs.lemmas.Bool.{le-leb, lt-leb}
-use Rattle.bgp_wire.specs.Parts.{Part, octets_of, IsOverrun, parts_below, parts_in, AreParts}
-use Rattle.bgp_wire.specs.Opens.{IsCapability, IsParameter, AreCapabilities, AreParameters}
-use Rattle.bgp_wire.specs.Capabilities.{capabilities_in, parameter_of, HoldCapabilities}
+use Rattle.bgp_wire.specs.Parts.{Part, octets_of, IsOverrun, parts_below, parts_in}
+use Rattle.bgp_wire.specs.Opens.{IsCapability, IsParameter, AreCapabilities, AreParameters, parameter_of, parameters_octets}
+use Rattle.bgp_wire.specs.Capabilities.{parameters_in}
 
 abbrev part : ℕ → List ℕ → Part
 part kind value = record { kind = kind; value = value }
@@ -82,31 +82,27 @@ parts_in-parts [] = parts_in-nil
 parts_in-parts (p ∷ ps) =
     parts_in-front p (flat_map octets_of ps) ∙ ap (λ (qs : List Part). p ∷ qs) (parts_in-parts ps)
 
-abbrev parameter_octets : List Part → List ℕ
-parameter_octets capabilities = octets_of (parameter_of capabilities)
+abbrev AreAll : List (List Part) → Type 0
+AreAll = AllByRecursion (AllByRecursion IsCapability)
 
-spelled_parameters : (each : List (List Part)) → parts_in (flat_map parameter_octets each) ≡ map parameter_of each
-spelled_parameters [] = parts_in-nil
-spelled_parameters (cs ∷ each) =
-    parts_in-front (parameter_of cs) (flat_map parameter_octets each)
-    ∙ ap (λ (ps : List Part). parameter_of cs ∷ ps) (spelled_parameters each)
+parameters_spelled : (each : List (List Part)) → parts_in (parameters_octets each) ≡ map parameter_of each
+parameters_spelled [] = parts_in-nil
+parameters_spelled (cs ∷ each) =
+    parts_in-front (parameter_of cs) (parameters_octets each) ∙ ap (λ (ps : List Part). parameter_of cs ∷ ps) (parameters_spelled each)
 
-held_in_all : (each : List (List Part)) → flat_map (λ p. parts_in p.value) (map parameter_of each) ≡ flat_map (λ cs. cs) each
-held_in_all [] = refl
-held_in_all (cs ∷ each) =
-    ap (λ (ps : List Part). ps ++ flat_map (λ p. parts_in p.value) (map parameter_of each)) (parts_in-parts cs)
-    ∙ ap (λ (ps : List Part). cs ++ ps) (held_in_all each)
+held_in_each : (each : List (List Part)) → map (λ p. parts_in p.value) (map parameter_of each) ≡ each
+held_in_each [] = refl
+held_in_each (cs ∷ each) =
+    ap (λ (ps : List Part). ps ∷ map (λ p. parts_in p.value) (map parameter_of each)) (parts_in-parts cs)
+    ∙ ap (λ (ps : List (List Part)). cs ∷ ps) (held_in_each each)
 
--- the capabilities in parameters are those that these hold
-pub all_held : (octets : List ℕ) (each : List (List Part)) → HoldCapabilities octets each
-    → capabilities_in octets ≡ flat_map (λ cs. cs) each
-all_held octets each held =
-    ap (λ (ps : List Part). flat_map (λ p. parts_in p.value) ps) (ap parts_in held.spelled ∙ spelled_parameters each)
-    ∙ held_in_all each
+-- parameters are those that their octets hold
+pub parameters_held : (each : List (List Part)) → parameters_in (parameters_octets each) ≡ each
+parameters_held each = ap (map (λ p. parts_in p.value)) (parameters_spelled each) ∙ held_in_each each
 
 -- parameters of an OPEN hold some
 abbrev Held : List Part → Type 0
-Held ps = (each : List (List Part)) × (ps ≡ map parameter_of each) × AllByRecursion (AllByRecursion IsCapability) each
+Held ps = (each : List (List Part)) × (ps ≡ map parameter_of each) × AreAll each
 
 held_of : (ps : List Part) → AllByRecursion IsParameter ps → Held ps
 held_of [] all = ([], refl, tt)
@@ -121,18 +117,49 @@ held_of (p ∷ ps) all =
       (inner.each, others.2),
     )
 
-flat_of : (each : List (List Part)) → flat_map octets_of (map parameter_of each) ≡ flat_map parameter_octets each
+flat_of : (each : List (List Part)) → flat_map octets_of (map parameter_of each) ≡ parameters_octets each
 flat_of [] = refl
-flat_of (cs ∷ each) = ap (λ (r : List ℕ). parameter_octets cs ++ r) (flat_of each)
+flat_of (cs ∷ each) = ap (λ (r : List ℕ). octets_of (parameter_of cs) ++ r) (flat_of each)
 
-pub some_held : (octets : List ℕ) → AreParameters octets → (each : List (List Part)) × HoldCapabilities octets each
+-- the octets of parameters are those of the capabilities that they hold, which are well formed
+pub record AreHeld (octets : List ℕ) : Type 0 where
+  pub spelled : octets ≡ parameters_octets (parameters_in octets)
+  pub well_formed : AreAll (parameters_in octets)
+
+pub some_held : (octets : List ℕ) → AreParameters octets → AreHeld octets
 some_held octets are =
-    let held = held_of are.parts are.each in (
-      held.0,
-      record {
-        spelled =
-            are.spelled ∙ ap (λ (r : List ℕ). flat_map octets_of are.parts ++ r) are.ends
-            ∙ append-nil (flat_map octets_of are.parts) ∙ ap (flat_map octets_of) held.1 ∙ flat_of held.0;
-        well_formed = held.2;
-      },
-    )
+    let held = held_of are.parts are.each in
+    let spelled : octets ≡ parameters_octets held.0 =
+    are.spelled ∙ ap (λ (r : List ℕ). flat_map octets_of are.parts ++ r) are.ends ∙ append-nil (flat_map octets_of are.parts)
+    ∙ ap (flat_map octets_of) held.1 ∙ flat_of held.0 in
+    let same : parameters_in octets ≡ held.0 = ap parameters_in spelled ∙ parameters_held held.0 in
+    record { spelled = spelled ∙ ap parameters_octets (sym same); well_formed = subst AreAll (sym same) held.2 }
+
+-- and the other way round
+each_parameter : (each : List (List Part)) → AreAll each → AllByRecursion IsParameter (map parameter_of each)
+each_parameter [] all = tt
+each_parameter (cs ∷ each) all =
+    let capabilities : AreCapabilities (flat_map octets_of cs) =
+    record { parts = cs; each = all.0; rest = []; spelled = sym (append-nil (flat_map octets_of cs)); ends = refl } in
+    ((refl, capabilities), each_parameter each all.1)
+
+pub are_parameters : (each : List (List Part)) → AreAll each → AreParameters (parameters_octets each)
+are_parameters each all = record {
+  parts = map parameter_of each;
+  each = each_parameter each all;
+  rest = [];
+  spelled = sym (flat_of each) ∙ sym (append-nil (flat_map octets_of (map parameter_of each)));
+  ends = refl;
+}
+
+-- all capabilities of all parameters are well formed
+all_of_both : (xs bs : List Part) → AllByRecursion IsCapability xs → AllByRecursion IsCapability bs → AllByRecursion IsCapability (xs ++ bs)
+all_of_both [] bs ha hb = hb
+all_of_both (a ∷ xs) bs ha hb = (ha.0, all_of_both xs bs ha.1 hb)
+
+all_of_each : (each : List (List Part)) → AreAll each → AllByRecursion IsCapability (flat_map (λ cs. cs) each)
+all_of_each [] all = tt
+all_of_each (cs ∷ each) all = all_of_both cs (flat_map (λ ds. ds) each) all.0 (all_of_each each all.1)
+
+pub all_well_formed : (octets : List ℕ) → AreParameters octets → AllByRecursion IsCapability (flat_map (λ cs. cs) (parameters_in octets))
+all_well_formed octets are = all_of_each (parameters_in octets) (some_held octets are).well_formed

@@ -1,12 +1,13 @@
 -- What messages say, whatever octets they lie in.
 use Rattle.std.specs.Prelude.{ℕ, List}
+use Rattle.bgp_wire.specs.Parts.{Part}
 
--- the fields of an OPEN
+-- the fields of an OPEN; of each of its parameters, the capabilities
 pub record OpenFields : Type 0 where
   pub my_as : ℕ
   pub hold : ℕ
   pub id : ℕ
-  pub parameters : List ℕ
+  pub parameters : List (List Part)
 
 -- the parts of an UPDATE
 pub record UpdateFields : Type 0 where

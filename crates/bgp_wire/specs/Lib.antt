@@ -1,6 +1,6 @@
+pub mod Parts
 pub mod Content
 pub mod Faults
-pub mod Parts
 pub mod Opens
 pub mod Capabilities
 pub mod Updates

@@ -1,19 +1,26 @@
--- The body of an OPEN (RFC 4271, sections 4.2 and 6.2).
+-- The body of an OPEN (RFC 4271, sections 4.2 and 6.2), with its capabilities (RFC 5492, section 4).
 use Rattle.std.specs.Prelude.{◌≡◌, ◌≢◌, ◌<◌, ◌^◌, ◌+◌, ◌==◌, ◌||◌, not, ℕ, List, [], ◌∷◌, ◌++◌, length, drop}
-use Rattle.std.specs.Prelude.{slice_index, Option, MatchOption, ◌⊎◌}
+use Rattle.std.specs.Prelude.{slice_index, Bool, Option, MatchOption, ◌⊎◌, find, is_some, unwrap_or}
+use Rattle.std.specs.List.{flat_map, AllByRecursion}
+use Rattle.std.specs.Option.{option_map}
 use Rattle.byteorder.specs.Endian.{big_bytes, big_number}
 use Rattle.bgp_wire.specs.declared.fault.WireFault.{WireFault}
 use Rattle.bgp_wire.specs.Content.{OpenFields}
 use Rattle.bgp_wire.specs.Faults.{fault_if, ◌then_check◌, unspecific_open, unsupported_version, bad_identifier}
 use Rattle.bgp_wire.specs.Faults.{unsupported_parameter, unacceptable_hold_time}
-use Rattle.bgp_wire.specs.Parts.{Part, IsOverrun, BeginsWithPart, PartsThen, AreParts}
+use Rattle.bgp_wire.specs.Parts.{Part, octets_of, IsOverrun, BeginsWithPart, PartsThen, AreParts}
 
--- capability 1, of an address family, has four octets; others are passed over
+-- capability 1, of an address family, and 65, of a number of four octets, have four octets (RFC 4760, section 8; RFC
+-- 6793, section 3)
+abbrev pub HasFourOctets : Part → Type 0
+HasFourOctets c = (c.kind ≡ 1) ⊎ (c.kind ≡ 65)
+
+-- others are passed over
 abbrev pub IsCapability : Part → Type 0
-IsCapability c = c.kind ≡ 1 → length c.value ≡ 4
+IsCapability c = HasFourOctets c → length c.value ≡ 4
 
 abbrev pub IsMalformedCapability : Part → Type 0
-IsMalformedCapability c = (c.kind ≡ 1) × (length c.value ≢ 4)
+IsMalformedCapability c = HasFourOctets c × (length c.value ≢ 4)
 
 abbrev pub AreCapabilities : List ℕ → Type 0
 AreCapabilities = AreParts IsCapability
@@ -40,15 +47,36 @@ pub data IsFaultyParameter (rest : List ℕ) (f : WireFault) : Type 0 where
 abbrev pub HasFaultyParameter : List ℕ → WireFault → Type 0
 HasFaultyParameter octets f = PartsThen IsParameter (λ rest. IsFaultyParameter rest f) octets
 
+-- a parameter of these capabilities
+abbrev pub parameter_of : List Part → Part
+parameter_of capabilities = record { kind = 2; value = flat_map octets_of capabilities }
+
+-- parameters, by the capabilities of each
+abbrev pub parameters_octets : List (List Part) → List ℕ
+parameters_octets parameters = flat_map (λ capabilities. octets_of (parameter_of capabilities)) parameters
+
 -- the version, which is 4, My Autonomous System, the Hold Time, the identifier, and the parameters behind their length
 abbrev pub open_octets : OpenFields → List ℕ
 open_octets fields =
     4 ∷ [] ++ big_bytes 2 fields.my_as ++ big_bytes 2 fields.hold ++ big_bytes 4 fields.id
-    ++ length fields.parameters ∷ [] ++ fields.parameters
+    ++ length (parameters_octets fields.parameters) ∷ [] ++ parameters_octets fields.parameters
 
--- the number of the autonomous system that a session goes by: that of My Autonomous System
+-- the capabilities of an OPEN, those of each parameter behind those of the ones before it
+abbrev pub capabilities_of : OpenFields → List Part
+capabilities_of fields = flat_map (λ capabilities. capabilities) fields.parameters
+
+-- the number in the first capability 65, where there is one
+abbrev pub four_octet_number : List Part → Option ℕ
+four_octet_number capabilities = option_map (λ c. big_number 4 c.value) (find (λ c. c.kind == 65) capabilities)
+
+-- the speaker says that it has numbers of autonomous systems of four octets
+abbrev pub is_wide : OpenFields → Bool
+is_wide fields = is_some (four_octet_number (capabilities_of fields))
+
+-- the number of the speaker's autonomous system: that of the first capability 65, or My Autonomous System where there is
+-- none (RFC 6793, section 4.1)
 abbrev pub asn_of : OpenFields → ℕ
-asn_of fields = fields.my_as
+asn_of fields = unwrap_or (four_octet_number (capabilities_of fields)) fields.my_as
 
 -- the body of an OPEN, by its fields
 pub record IsOpen (body : List ℕ) (fields : OpenFields) : Type 0 where
@@ -58,7 +86,7 @@ pub record IsOpen (body : List ℕ) (fields : OpenFields) : Type 0 where
   pub id : fields.id < 2 ^ 32
   pub hold_time : (fields.hold ≢ 1) × (fields.hold ≢ 2)
   pub identifier : fields.id ≢ 0
-  pub parameters : AreParameters fields.parameters
+  pub parameters : AllByRecursion (AllByRecursion IsCapability) fields.parameters
 
 -- the fields that stand at fixed places of the body
 abbrev pub version_at : List ℕ → ℕ

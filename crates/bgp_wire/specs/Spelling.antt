@@ -1,5 +1,6 @@
 -- The one spelling of what a message says, and what is written.
-use Rattle.std.specs.Prelude.{ℕ, List, [], ◌∷◌, ◌++◌, ◌+◌, length}
+use Rattle.std.specs.Prelude.{ℕ, List, [], ◌∷◌, ◌++◌, ◌+◌, length, nat_le, if◌then◌else◌}
+use Rattle.byteorder.specs.Endian.{big_bytes}
 use Rattle.bgp_wire.specs.declared.kind.Kind.{Kind}
 use Rattle.bgp_wire.specs.declared.kind.Kind.TheVariants.{Open, Update, Notification, Keepalive}
 use Rattle.bgp_wire.specs.declared.write.OpenOut.{OpenOut}
@@ -7,7 +8,7 @@ use Rattle.bgp_wire.specs.Content.{OpenFields, UpdateFields, Content, Opens, Upd
 use Rattle.bgp_wire.specs.Frames.{head}
 use Rattle.bgp_wire.specs.Messages.{BeginsWith}
 use Rattle.bgp_wire.specs.Opens.{open_octets}
-use Rattle.bgp_wire.specs.Parts.{Part, octets_of}
+use Rattle.bgp_wire.specs.Parts.{Part}
 use Rattle.bgp_wire.specs.Updates.{update_octets}
 
 -- a body in its frame
@@ -30,13 +31,26 @@ IsReadAgain content = (more : List ℕ) → BeginsWith (spelling content ++ more
 abbrev pub vpn_capability : Part
 vpn_capability = record { kind = 1; value = 0 ∷ 1 ∷ 0 ∷ 128 ∷ [] }
 
--- one parameter, capabilities, with that one (RFC 5492, section 4)
-abbrev pub vpn_parameter : Part
-vpn_parameter = record { kind = 2; value = octets_of vpn_capability }
+-- the capability of numbers of four octets: that of the speaker's autonomous system (RFC 6793, section 3)
+abbrev pub four_octet_capability : ℕ → Part
+four_octet_capability asn = record { kind = 65; value = big_bytes 4 asn }
 
--- what a speaker without timers says of itself: its Hold Time is 0
+-- what stands in two octets for a number of four: AS_TRANS (RFC 6793, section 9)
+abbrev pub as_trans : ℕ
+as_trans = 23456
+
+-- My Autonomous System of a speaker
+abbrev pub my_as_of : ℕ → ℕ
+my_as_of asn = if nat_le asn 65535 then asn else as_trans
+
+-- what a speaker without timers says of itself: its Hold Time is 0, and one parameter has both capabilities
 abbrev pub open_fields : OpenOut → OpenFields
-open_fields part = record { my_as = part.asn; hold = 0; id = part.id.0; parameters = octets_of vpn_parameter }
+open_fields part = record {
+  my_as = my_as_of part.asn;
+  hold = 0;
+  id = part.id.0;
+  parameters = (vpn_capability ∷ four_octet_capability part.asn ∷ []) ∷ [];
+}
 
 -- attributes, and no plain routes
 abbrev pub attributes_alone : List ℕ → UpdateFields

@@ -1,6 +1,6 @@
 //! The path attributes of an UPDATE.
-ghost use Rattle.std.specs.Prelude.{◌≡◌, ◌≤◌, ◌<◌, ◌^◌, ◌++◌, length, IfNone, IfSome};
-ghost use Rattle.bgp_wire.specs.Attributes.{fields_of, length_size, is_extended, sized_value, IsShort, IsCut};
+ghost use Rattle.std.specs.Prelude.{◌≡◌, ◌<◌, ◌^◌, ◌++◌, length, IfNone, IfSome};
+ghost use Rattle.bgp_wire.specs.Attributes.{fields_of, length_size, sized_value, IsShort, IsCut};
 ghost use Rattle.bgp_wire.specs.Attributes.{BeginsWithAttribute};
 
 use crate::fault::{MALFORMED_ATTRIBUTES, WireFault};

@@ -6,6 +6,12 @@ ghost use Rattle.bgp_wire.specs.Capabilities.{part_of, capabilities_in};
 use crate::part::{Front, split_part};
 use std::marker::Model;
 
+/// The code of a capability that names an address family (RFC 4760, section 8), and of the one that says the number of
+/// the speaker's autonomous system (RFC 6793, section 3).
+pub(crate) const FAMILY: u8 = 1;
+
+pub(crate) const FOUR_OCTET_NUMBER: u8 = 65;
+
 /// A capability as it lies in the message: its code and its value (RFC 5492, section 4).
 #[derive(Clone, Copy)]
 pub struct Capability<'a> {

@@ -1,5 +1,5 @@
 //! The types of messages.
-ghost use Rattle.std.specs.Prelude.{◌≡◌, ◌≤◌, ◌^◌, ◌<◌};
+ghost use Rattle.std.specs.Prelude.{◌≡◌, ◌<◌};
 ghost use Rattle.bgp_wire.specs.Frames.{octet_of, kind_of, least, greatest};
 
 use crate::frame::{HEAD_SIZE, MAX_MESSAGE_SIZE};

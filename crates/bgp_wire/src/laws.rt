@@ -1,17 +1,18 @@
 //! What the grammar of messages promises.
-ghost use Rattle.std.specs.Prelude.{◌≡◌, ◌≢◌, ◌<◌, ◌++◌, ◌⊎◌, ℕ, List, [], length};
+ghost use Rattle.std.specs.Prelude.{◌≡◌, ◌≢◌, ◌<◌, ◌^◌, ◌∷◌, ◌++◌, ◌⊎◌, ℕ, List, [], length, true, false};
 ghost use Rattle.bgp_wire.specs.declared.fault.WireFault.{WireFault};
-ghost use Rattle.bgp_wire.specs.Content.{Content};
+ghost use Rattle.bgp_wire.specs.declared.write.OpenOut.{OpenOut};
+ghost use Rattle.bgp_wire.specs.Content.{Content, OpenFields};
 ghost use Rattle.bgp_wire.specs.Frames.{IsProperPrefix};
-ghost use Rattle.std.specs.Prelude.{Option, Result, None, map};
-ghost use Rattle.std.specs.List.{flat_map};
+ghost use Rattle.std.specs.Prelude.{Result, None};
+ghost use Rattle.std.specs.List.{AllByRecursion};
 ghost use Rattle.std.specs.Iterator.{YieldsThen};
+ghost use Rattle.byteorder.specs.Endian.{big_number};
 ghost use Rattle.bgp_wire.specs.declared.attribute.Attribute.{Attribute};
 ghost use Rattle.bgp_wire.specs.Attributes.{AttributeFields, AreAttributes, NextAttribute, SaysAll};
 ghost use Rattle.bgp_wire.specs.Parts.{Part};
-ghost use Rattle.bgp_wire.specs.Opens.{AreParameters};
-ghost use Rattle.bgp_wire.specs.Capabilities.{capabilities_in, HoldCapabilities};
-ghost use Rattle.bgp_wire.specs.Spelling.{spelling, IsReadAgain};
+ghost use Rattle.bgp_wire.specs.Opens.{asn_of, is_wide, capabilities_of};
+ghost use Rattle.bgp_wire.specs.Spelling.{spelling, IsReadAgain, open_fields};
 ghost use Rattle.bgp_wire.specs.Messages.{AreOctets, IsMessage, BeginsWith, HasFault};
 
 /// Octets begin with a message, or are a proper prefix of a frame, or have a fault: always one of the three, and only
@@ -84,11 +85,19 @@ pub fn the_front_of_a_message_is_a_proper_prefix()
     ensures short { (octets : List ℕ) → IsProperPrefix octets → length octets < 4096 }
 {}
 
-/// The parameters of an OPEN hold well-formed capabilities, and these are its capabilities, in order.
-#[tactic(auto, using(crate::proofs::WholeParts::some_held, crate::proofs::WholeParts::all_held))]
-pub fn capabilities_are_those_of_the_parameters()
-    ensures some { (parameters : List ℕ) → AreParameters parameters
-        → (each : List (List Part)) × HoldCapabilities parameters each }
-    ensures all { (parameters : List ℕ) (each : List (List Part)) → HoldCapabilities parameters each
-        → capabilities_in parameters ≡ flat_map (λ capabilities. capabilities) each }
+/// The number of a speaker's autonomous system is that of its first capability 65, and an OPEN with one is wide; without
+/// one the number is My Autonomous System, and the OPEN is not wide.
+pub fn the_first_four_octet_number_counts()
+    ensures first { (fields : OpenFields) (before after : List Part) (c : Part)
+        → capabilities_of fields ≡ before ++ c ∷ after → AllByRecursion (λ b. b.kind ≢ 65) before → c.kind ≡ 65
+        → (asn_of fields ≡ big_number 4 c.value) × (is_wide fields ≡ true) }
+    ensures none { (fields : OpenFields) → AllByRecursion (λ c. c.kind ≢ 65) (capabilities_of fields)
+        → (asn_of fields ≡ fields.my_as) × (is_wide fields ≡ false) }
+{}
+
+/// What a speaker says of itself is read as that: its number, also where My Autonomous System has no room for it, its
+/// identifier, and that it has numbers of four octets.
+pub fn an_own_open_is_read_as_it_says()
+    ensures { (part : OpenOut) → part.asn < 2 ^ 32 → (asn_of (open_fields part) ≡ part.asn)
+        × ((open_fields part).id ≡ part.id.0) × (is_wide (open_fields part) ≡ true) }
 {}

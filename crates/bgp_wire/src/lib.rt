@@ -20,6 +20,3 @@ pub use message::{Message, read_message};
 pub use open::OpenPart;
 pub use update::{UpdatePart, attributes};
 pub use write::{OpenOut, write_attributes, write_keepalive, write_notification, write_open};
-
-#[cfg(test)]
-mod tests;

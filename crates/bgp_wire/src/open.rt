@@ -1,10 +1,11 @@
 //! The body of an OPEN.
-ghost use Rattle.std.specs.Prelude.{◌≡◌, ◌≤◌, ◌<◌, ◌+◌, ◌==◌, length, drop, IfOk, MatchBool, MatchResult, IfErr, Ok};
+ghost use Rattle.std.specs.Prelude.{◌≡◌, ◌≤◌, ◌<◌, ◌+◌, ◌==◌, length, IfOk, MatchBool, MatchResult, IfErr, Ok};
+ghost use Rattle.std.specs.List.{AllByRecursion};
 ghost use Rattle.bgp_wire.specs.Faults.{Checks};
 ghost use Rattle.bgp_wire.specs.Opens.{IsCapability, IsMalformedCapability, AreCapabilities, AreBrokenCapabilities};
-ghost use Rattle.bgp_wire.specs.Opens.{AreParameters, HasFaultyParameter, open_fault};
+ghost use Rattle.bgp_wire.specs.Opens.{AreParameters, HasFaultyParameter, open_fault, four_octet_number};
 
-use crate::capability::Capabilities;
+use crate::capability::{Capabilities, FAMILY, FOUR_OCTET_NUMBER};
 use crate::fault::{
     BAD_IDENTIFIER, UNACCEPTABLE_HOLD_TIME, UNSPECIFIC_OPEN, UNSUPPORTED_PARAMETER,
     UNSUPPORTED_VERSION, WireFault,
@@ -26,17 +27,22 @@ pub struct OpenPart<'a> {
 impl<'a> Model for OpenPart<'a> {
     ghost use Rattle.bgp_wire.specs.Content.{OpenFields};
     ghost use Rattle.bgp_wire.specs.Opens.{AreParameters};
+    ghost use Rattle.bgp_wire.specs.Capabilities.{parameters_in};
 
     ghost Value = { OpenFields };
 
-    ghost view = { λ p. record { my_as = p.my_as; hold = p.hold; id = p.id.0; parameters = p.parameters.now } };
+    ghost view = { λ p. record {
+      my_as = p.my_as;
+      hold = p.hold;
+      id = p.id.0;
+      parameters = parameters_in p.parameters.now;
+    } };
 
     ghost invariant = { λ p. ∥ AreParameters p.parameters.now ∥₁ };
 }
 
 impl<'a> OpenPart<'a> {
-    ghost use Rattle.bgp_wire.specs.Opens.{asn_of, IsOpen, HasOpenFault};
-    ghost use Rattle.bgp_wire.specs.Capabilities.{capabilities_in};
+    ghost use Rattle.bgp_wire.specs.Opens.{asn_of, is_wide, capabilities_of, IsOpen, HasOpenFault};
 
     /// My Autonomous System, as it is spelled.
     pub fn my_as(&self) -> u16
@@ -45,11 +51,21 @@ impl<'a> OpenPart<'a> {
         self.my_as
     }
 
-    /// The number of the autonomous system that the session goes by.
+    /// The number of the speaker's autonomous system, by which the session goes.
     pub fn asn(&self) -> u32
         ensures { result ≡ asn_of self.now }
     {
-        u32::from(self.my_as)
+        match four_octet_number(self.capabilities()) {
+            Some(number) => number,
+            None => u32::from(self.my_as),
+        }
+    }
+
+    /// Whether the speaker says that it has numbers of four octets (RFC 6793, section 3).
+    pub fn wide(&self) -> bool
+        ensures { result ≡ is_wide self.now }
+    {
+        four_octet_number(self.capabilities()).is_some()
     }
 
     /// The Hold Time in seconds.
@@ -66,17 +82,10 @@ impl<'a> OpenPart<'a> {
         self.id
     }
 
-    /// The optional parameters, one after the other, each a type, a length of one octet and a value.
-    pub fn parameters(&self) -> &'a [u8]
-        ensures { result.now ≡ self.now.parameters }
-    {
-        self.parameters
-    }
-
     /// The capabilities in the parameters, in order.
     pub fn capabilities(&self) -> Capabilities<'a>
-        ensures all { result ≡ capabilities_in self.now.parameters }
-        ensures well_formed { ∥ AreParameters self.now.parameters ∥₁ }
+        ensures all { result ≡ capabilities_of self.now }
+        ensures well_formed { ∥ AllByRecursion IsCapability (capabilities_of self.now) ∥₁ }
     {
         Capabilities::new(self.parameters)
     }
@@ -157,5 +166,21 @@ fn is_capability(kind: u8, value: &[u8]) -> bool
     ensures { MatchBool result (IsCapability (record { kind = kind; value = value.now }))
         (IsMalformedCapability (record { kind = kind; value = value.now })) }
 {
-    kind != 1 || value.len() == 4
+    match kind {
+        FAMILY | FOUR_OCTET_NUMBER => value.len() == 4,
+        _ => true,
+    }
+}
+
+/// The number in the first capability 65.
+fn four_octet_number(capabilities: Capabilities<'_>) -> Option<u32>
+    requires { ∥ AllByRecursion IsCapability capabilities ∥₁ }
+    ensures { result ≡ four_octet_number capabilities.entry }
+{
+    for capability in capabilities {
+        if capability.kind == FOUR_OCTET_NUMBER {
+            return Some(BigEndian::read_u32(capability.value));
+        }
+    }
+    None
 }

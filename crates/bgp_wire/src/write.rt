@@ -1,10 +1,11 @@
 //! Messages, written after the octets that are there.
-ghost use Rattle.std.specs.Prelude.{◌≡◌, ◌≢◌, ◌≤◌, ◌<◌, ◌+◌, ◌^◌, ◌++◌, length, IfOk, OnOk, OnErr};
+ghost use Rattle.std.specs.Prelude.{◌≡◌, ◌≢◌, ◌≤◌, ◌<◌, ◌+◌, ◌^◌, ◌∷◌, ◌++◌, [], length, true, IfOk, OnOk, OnErr};
+ghost use Rattle.byteorder.specs.Endian.{big_bytes};
 ghost use Rattle.bgp_wire.specs.Content.{Opens, Updates, Notifies, KeepsAlive};
 ghost use Rattle.bgp_wire.specs.Frames.{head};
-ghost use Rattle.bgp_wire.specs.Opens.{asn_of, open_octets};
-ghost use Rattle.bgp_wire.specs.Parts.{octets_of};
-ghost use Rattle.bgp_wire.specs.Spelling.{framed, spelling, IsReadAgain, vpn_parameter, open_fields, attributes_alone};
+ghost use Rattle.bgp_wire.specs.Opens.{asn_of, is_wide, parameters_octets};
+ghost use Rattle.bgp_wire.specs.Spelling.{framed, spelling, IsReadAgain, vpn_capability, four_octet_capability, my_as_of};
+ghost use Rattle.bgp_wire.specs.Spelling.{open_fields, attributes_alone};
 
 use crate::frame::{HEAD_SIZE, KIND_AT, MARKER_SIZE};
 use crate::kind::Kind;
@@ -19,8 +20,11 @@ pub struct OpenOut {
     pub id: Addr,
 }
 
-/// One parameter with one capability: VPN-IPv4 routes (RFC 4760, section 8).
-const VPN_PARAMETERS: [u8; 8] = [2, 6, 1, 4, 0, 1, 0, 128];
+/// What stands in two octets for a number of four: AS_TRANS (RFC 6793, section 9).
+const AS_TRANS: u16 = 23456;
+
+/// How many octets the one parameter of an OPEN has.
+const PARAMETERS_SIZE: usize = 14;
 
 /// The octets before a body.
 fn head(kind: Kind, len: u16) -> [u8; HEAD_SIZE]
@@ -62,30 +66,49 @@ fn write_frame(
     Ok(())
 }
 
+/// My Autonomous System, which has two octets (RFC 6793, section 4.2.1).
+fn my_as_of(asn: u32) -> u16
+    ensures { result ≡ my_as_of asn }
+{
+    if asn <= 65535 { asn as u16 } else { AS_TRANS }
+}
+
 /// The fields of an OPEN before its parameters (RFC 4271, section 4.2).
-fn open_start(asn: u16, id: u32) -> [u8; 10]
-    ensures octets { result ++ octets_of vpn_parameter
-        ≡ open_octets (open_fields (record { asn = asn; id = record { 0 = id } })) }
+fn open_start(my_as: u16, id: u32) -> [u8; 10]
+    ensures octets { result ≡ 4 ∷ [] ++ big_bytes 2 my_as ++ big_bytes 2 0 ++ big_bytes 4 id ++ 14 ∷ [] }
     ensures identifier { id < 2 ^ 32 }
 {
-    let mut octets = [4, 0, 0, 0, 0, 0, 0, 0, 0, 8];
-    BigEndian::write_u16(&mut octets[1..], asn);
+    let mut octets = [4, 0, 0, 0, 0, 0, 0, 0, 0, PARAMETERS_SIZE as u8];
+    BigEndian::write_u16(&mut octets[1..], my_as);
     BigEndian::write_u32(&mut octets[5..], id);
     octets
 }
 
-/// Appends the OPEN of a speaker without timers that takes VPN-IPv4 routes, whole or not at all.
+/// One parameter with two capabilities: VPN-IPv4 routes (RFC 4760, section 8), and numbers of four octets (RFC 6793,
+/// section 3).
+fn open_parameters(asn: u32) -> [u8; PARAMETERS_SIZE]
+    ensures octets { result ≡ parameters_octets ((vpn_capability ∷ four_octet_capability asn ∷ []) ∷ []) }
+    ensures number { asn < 2 ^ 32 }
+{
+    let mut octets = [2, 12, 1, 4, 0, 1, 0, 128, 65, 4, 0, 0, 0, 0];
+    BigEndian::write_u32(&mut octets[10..], asn);
+    octets
+}
+
+/// Appends the OPEN of a speaker without timers that takes VPN-IPv4 routes and has numbers of four octets, whole or not
+/// at all.
 pub fn write_open(alloc: Global, part: &OpenOut, out: &mut Vec<u8>) -> Result<(), NoMemory>
-    requires autonomous_system { part.now.asn < 2 ^ 16 }
     requires identifier { part.now.id.0 ≢ 0 }
     ensures ok { OnOk result (out.new.items ≡ out.old.items ++ spelling (Opens (open_fields part.now))) }
     ensures err { OnErr result (out.new.items ≡ out.old.items) }
     ensures read_again { IsReadAgain (Opens (open_fields part.now)) }
     ensures autonomous_system { asn_of (open_fields part.now) ≡ part.now.asn }
+    ensures wide { is_wide (open_fields part.now) ≡ true }
     ensures length { length (spelling (Opens (open_fields part.now))) ≤ 4096 }
 {
-    let start = open_start(part.asn as u16, part.id.0);
-    write_frame(alloc, Kind::Open, &start, &VPN_PARAMETERS, out)
+    let start = open_start(my_as_of(part.asn), part.id.0);
+    let parameters = open_parameters(part.asn);
+    write_frame(alloc, Kind::Open, &start, &parameters, out)
 }
 
 /// Appends an UPDATE of these path attributes, without plain routes, whole or not at all.

@@ -3,3 +3,4 @@ pub mod OneReport
 pub mod SomeReport
 pub mod Spelled
 pub mod Telling
+pub mod Standing

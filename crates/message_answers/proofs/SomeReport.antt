@@ -1,6 +1,5 @@
 -- Octets have a report.
-use Rattle.std.proofs.Common.{◌≡◌, ◌≢◌, ◌<◌, ◌≤◌, ◌+◌, ℕ, zero, suc, List, [], ◌∷◌, ◌++◌, length, take, drop, refl, ap, sym, ◌∙◌, subst, arith, ◌⊎◌, inl, inr}
-use Rattle.std.proofs.lemmas.List.{length-append}
+use Rattle.std.proofs.Common.{◌||◌, Bool, false, ◌≢◌, ◌≤◌, ◌+◌, ℕ, zero, suc, List, [], ◌∷◌, ◌++◌, length, take, drop, refl, subst, arith, ◌⊎◌, inl, inr}
 use Rattle.std.proofs.Math.Seq.{take-append_seam, drop-append_seam}
 use Rattle.byteorder.specs.Endian.{big_bytes}
 use Rattle.bgp_wire.specs.declared.fault.WireFault.{WireFault}
@@ -11,13 +10,13 @@ use Rattle.bgp_wire.proofs.Octets.{AreOctets-drop, AreOctets-take}
 use Rattle.bgp_wire.proofs.Readings as readings
 use Rattle.bgp_vpn.specs.Updates.{Changes, HasUpdateFault}
 use Rattle.bgp_vpn.proofs.UpdateLemmas as updates
-use Rattle.report.specs.Lines.{open_line, notification_line, fault_line, incomplete_line}
-use Rattle.message_answers.specs.Decoding.{Says, update_lines, keepalive_line, BeginsWithFaultyUpdate, IsReport, of_nothing, of_a_prefix, of_a_fault, of_a_message}
+use Rattle.report.specs.Lines.{fault_line, incomplete_line}
+use Rattle.message_answers.specs.Decoding.{is_wide_open, Says, update_lines, IsReport, of_nothing, of_a_prefix, of_a_fault, of_a_message}
 use Rattle.message_answers.proofs.Reports.{fewer_left}
 
 -- a text that is a report of the octets
-abbrev pub HasReport : List ℕ → Type 0
-HasReport octets = (text : List ℕ) × IsReport octets text
+abbrev pub HasReport : Bool → List ℕ → Type 0
+HasReport wide octets = (text : List ℕ) × IsReport wide octets text
 
 front_octets : (xs ys : List ℕ) → AreOctets (xs ++ ys) → AreOctets xs
 front_octets xs ys h = subst AreOctets (take-append_seam xs ys) (AreOctets-take (length xs) (xs ++ ys) h)
@@ -43,51 +42,54 @@ attribute_octets octets parts count h begins =
     (front_octets (big_bytes 2 (length parts.attributes) ++ parts.attributes) parts.routes behind)
 
 -- octets that begin with a message that says something, and of whose rest there is a report
-said_first : (octets said : List ℕ) (content : Content) (count : ℕ) → BeginsWith octets content count → Says content said
-    → HasReport (drop count octets) → HasReport octets
-said_first octets said content count begins says rest =
+said_first : (wide : Bool) (octets said : List ℕ) (content : Content) (count : ℕ) → BeginsWith octets content count → Says wide content said
+    → HasReport (wide || is_wide_open content) (drop count octets) → HasReport wide octets
+said_first wide octets said content count begins says rest =
     (said ++ rest.0, of_a_message said rest.0 content count begins says rest.1 refl)
 
-report_of_update : (octets : List ℕ) (parts : UpdateFields) (count : ℕ) → BeginsWith octets (Updates parts) count
-    → ((deltas : List _) × Changes parts deltas) ⊎ ((f : WireFault) × HasUpdateFault parts f) → HasReport (drop count octets) → HasReport octets
-report_of_update octets parts count begins (inl made) rest =
-    said_first octets (update_lines made.0) (Updates parts) count begins (made.0, made.1, refl) rest
-report_of_update octets parts count begins (inr faulty) rest =
+report_of_update : (wide : Bool) (octets : List ℕ) (parts : UpdateFields) (count : ℕ) → BeginsWith octets (Updates parts) count
+    → ((deltas : List _) × Changes wide parts deltas) ⊎ ((f : WireFault) × HasUpdateFault wide parts f)
+    → HasReport (wide || false) (drop count octets) → HasReport wide octets
+report_of_update wide octets parts count begins (inl made) rest =
+    said_first wide octets (update_lines made.0) (Updates parts) count begins (made.0, made.1, refl) rest
+report_of_update wide octets parts count begins (inr faulty) rest =
     let f = faulty.0 in (
       fault_line f.code f.subcode,
       of_a_fault f (inr (record { parts = parts; count = count; begins = begins; faulty = faulty.1 })) refl,
     )
 
-report_of_content : (octets : List ℕ) (content : Content) (count : ℕ) → AreOctets octets → BeginsWith octets content count
-    → HasReport (drop count octets) → HasReport octets
-report_of_content octets (Opens fields) count h begins rest = said_first octets _ (Opens fields) count begins refl rest
-report_of_content octets (Updates parts) count h begins rest =
-    report_of_update octets parts count begins (updates.one_of_two parts (attribute_octets octets parts count h begins)) rest
-report_of_content octets (Notifies code subcode) count h begins rest = said_first octets _ (Notifies code subcode) count begins refl rest
-report_of_content octets KeepsAlive count h begins rest = said_first octets _ KeepsAlive count begins refl rest
+report_of_content : (wide : Bool) (octets : List ℕ) (content : Content) (count : ℕ) → AreOctets octets → BeginsWith octets content count
+    → HasReport (wide || is_wide_open content) (drop count octets) → HasReport wide octets
+report_of_content wide octets (Opens fields) count h begins rest = said_first wide octets _ (Opens fields) count begins refl rest
+report_of_content wide octets (Updates parts) count h begins rest =
+    report_of_update wide octets parts count begins (updates.one_of_two wide parts (attribute_octets octets parts count h begins)) rest
+report_of_content wide octets (Notifies code subcode) count h begins rest =
+    said_first wide octets _ (Notifies code subcode) count begins refl rest
+report_of_content wide octets KeepsAlive count h begins rest = said_first wide octets _ KeepsAlive count begins refl rest
 
-report_of_some : (most : ℕ) (x : ℕ) (xs : List ℕ) → AreOctets (x ∷ xs)
-    → ((octets : List ℕ) → AreOctets octets → length octets ≤ most → HasReport octets) → length xs ≤ most
+report_of_some : (wide : Bool) (most : ℕ) (x : ℕ) (xs : List ℕ) → AreOctets (x ∷ xs)
+    → ((w : Bool) (octets : List ℕ) → AreOctets octets → length octets ≤ most → HasReport w octets) → length xs ≤ most
     → ((content : Content) × (n : ℕ) × BeginsWith (x ∷ xs) content n) ⊎ (IsProperPrefix (x ∷ xs) ⊎ ((f : WireFault) × HasFault (x ∷ xs) f))
-    → HasReport (x ∷ xs)
-report_of_some most x xs h shorter fits (inl message) =
+    → HasReport wide (x ∷ xs)
+report_of_some wide most x xs h shorter fits (inl message) =
     let content = message.0 in
     let count = message.1 in
     let begins = message.2 in
     let left = fewer_left (x ∷ xs) content count begins in
-    report_of_content (x ∷ xs) content count h begins (shorter (drop count (x ∷ xs)) (AreOctets-drop count (x ∷ xs) h) (omega arith))
-report_of_some most x xs h shorter fits (inr (inl proper)) =
+    report_of_content wide (x ∷ xs) content count h begins
+    (shorter (wide || is_wide_open content) (drop count (x ∷ xs)) (AreOctets-drop count (x ∷ xs) h) (omega arith))
+report_of_some wide most x xs h shorter fits (inr (inl proper)) =
     let some : (x ∷ xs) ≢ [] = λ e. absurd cc in
     (incomplete_line (length (x ∷ xs)), of_a_prefix some proper refl)
-report_of_some most x xs h shorter fits (inr (inr fault)) =
+report_of_some wide most x xs h shorter fits (inr (inr fault)) =
     (fault_line fault.0.code fault.0.subcode, of_a_fault fault.0 (inl fault.1) refl)
 
-report_within : (most : ℕ) (octets : List ℕ) → AreOctets octets → length octets ≤ most → HasReport octets
-report_within most [] h fits = ([], of_nothing refl refl)
-report_within zero (x ∷ xs) h fits = absurd (omega arith)
-report_within (suc most) (x ∷ xs) h fits =
-    report_of_some most x xs h (report_within most) (omega arith) (readings.read (x ∷ xs) h)
+report_within : (most : ℕ) (wide : Bool) (octets : List ℕ) → AreOctets octets → length octets ≤ most → HasReport wide octets
+report_within most wide [] h fits = ([], of_nothing refl refl)
+report_within zero wide (x ∷ xs) h fits = absurd (omega arith)
+report_within (suc most) wide (x ∷ xs) h fits =
+    report_of_some wide most x xs h (report_within most) (omega arith) (readings.read (x ∷ xs) h)
 
 -- octets have a report
-pub some_report : (octets : List ℕ) → AreOctets octets → HasReport octets
-some_report octets h = report_within (length octets) octets h (omega arith)
+pub some_report : (wide : Bool) (octets : List ℕ) → AreOctets octets → HasReport wide octets
+some_report wide octets h = report_within (length octets) wide octets h (omega arith)

@@ -1,5 +1,5 @@
 -- What digits spell has a report, and nothing is a front of what `decode` writes.
-use Rattle.std.proofs.Common.{◌≡◌, ℕ, List, [], ◌∷◌, ◌++◌, Option, Some, None, Result, Ok, Err, codes, refl}
+use Rattle.std.proofs.Common.{false, ◌≡◌, ℕ, List, [], ◌∷◌, ◌++◌, Option, Some, None, Result, Ok, Err, codes, refl}
 use Rattle.std.specs.Result.{result_ok}
 use Rattle.hex.specs.Hex.{decode_of}
 use Rattle.hex.specs.declared.error.FromHexError.{FromHexError}
@@ -23,7 +23,7 @@ octets_spelled text octets e =
 
 pub text_spelled : (text : List ℕ) (o : Option (List ℕ)) → spelled text ≡ o → (said : List ℕ) × WritesSpelled o said
 text_spelled text None e = (codes "not hex" ++ (10 ∷ []), refl)
-text_spelled text (Some octets) e = some_report octets (octets_spelled text octets e)
+text_spelled text (Some octets) e = some_report false octets (octets_spelled text octets e)
 
 -- nothing is a front of what `decode` writes
 pub nothing_spelled : (text : List ℕ) (old : Option (List ℕ)) → TookFrontOf (WritesSpelled (spelled text)) old old

@@ -1,5 +1,5 @@
 -- What `decode` says of hexadecimal digits.
-use Rattle.std.specs.Prelude.{◌≡◌, ◌≢◌, ◌==◌, ◌||◌, not, ℕ, Bool, List, [], ◌∷◌, ◌++◌, length, drop, filter, codes}
+use Rattle.std.specs.Prelude.{◌≡◌, ◌≢◌, ◌==◌, ◌||◌, not, ℕ, Bool, false, List, [], ◌∷◌, ◌++◌, length, drop, filter, codes}
 use Rattle.std.specs.Prelude.{Option, Some, None, ◌⊎◌}
 use Rattle.document_answers.specs.declared.unfit.Verdict.{Verdict}
 use Rattle.document_answers.specs.declared.unfit.Verdict.TheVariants.{Good, NotJson}
@@ -13,7 +13,7 @@ use Rattle.bgp_wire.specs.declared.fault.WireFault.{WireFault}
 use Rattle.bgp_wire.specs.Content.{Content, Opens, Updates, Notifies, KeepsAlive, UpdateFields}
 use Rattle.bgp_wire.specs.Frames.{IsProperPrefix}
 use Rattle.bgp_wire.specs.Messages.{BeginsWith, HasFault}
-use Rattle.bgp_wire.specs.Opens.{asn_of}
+use Rattle.bgp_wire.specs.Opens.{asn_of, is_wide}
 use Rattle.bgp_vpn.specs.Updates.{Changes, HasUpdateFault}
 use Rattle.report.specs.Lines.{open_line, put_line, drop_line, notification_line, fault_line, incomplete_line}
 
@@ -46,39 +46,49 @@ update_lines changes = (codes "update" ++ (10 ∷ [])) ++ change_lines changes
 abbrev pub keepalive_line : List ℕ
 keepalive_line = codes "keepalive" ++ (10 ∷ [])
 
--- what is said of a message without a fault
-abbrev pub Says : Content → List ℕ → Type 0
-Says (Opens fields) text = text ≡ open_line (asn_of fields) fields.hold (record { 0 = fields.id })
-Says (Updates parts) text =
-    (changes : List (Delta VpnKey VpnRoute)) × Changes parts changes × (text ≡ update_lines changes)
-Says (Notifies code subcode) text = text ≡ notification_line code subcode
-Says KeepsAlive text = text ≡ keepalive_line
+-- a message is an OPEN whose speaker has numbers of four octets
+abbrev pub is_wide_open : Content → Bool
+is_wide_open (Opens fields) = is_wide fields
+is_wide_open (Updates parts) = false
+is_wide_open (Notifies code subcode) = false
+is_wide_open KeepsAlive = false
+
+-- what is said of a message without a fault, which is read wide or not
+abbrev pub Says : Bool → Content → List ℕ → Type 0
+Says wide (Opens fields) text = text ≡ open_line (asn_of fields) fields.hold (record { 0 = fields.id })
+Says wide (Updates parts) text =
+    (changes : List (Delta VpnKey VpnRoute)) × Changes wide parts changes × (text ≡ update_lines changes)
+Says wide (Notifies code subcode) text = text ≡ notification_line code subcode
+Says wide KeepsAlive text = text ≡ keepalive_line
 
 -- the octets begin with a whole UPDATE, and that has this fault
-pub record BeginsWithFaultyUpdate (octets : List ℕ) (f : WireFault) : Type 0 where
+pub record BeginsWithFaultyUpdate (wide : Bool) (octets : List ℕ) (f : WireFault) : Type 0 where
   pub parts : UpdateFields
   pub count : ℕ
   pub begins : BeginsWith octets (Updates parts) count
-  pub faulty : HasUpdateFault parts f
+  pub faulty : HasUpdateFault wide parts f
 
 -- the text tells of each message that the octets are, in order, up to the first fault or to octets that are not yet a
--- message
-pub data IsReport : List ℕ → List ℕ → Type 0 where
-  of_nothing : {octets text : List ℕ} → octets ≡ [] → text ≡ [] → IsReport octets text
-  of_a_prefix : {octets text : List ℕ} → octets ≢ [] → IsProperPrefix octets
-      → text ≡ incomplete_line (length octets) → IsReport octets text
-  of_a_fault : {octets text : List ℕ} (f : WireFault) → HasFault octets f ⊎ BeginsWithFaultyUpdate octets f
-      → text ≡ fault_line f.code f.subcode → IsReport octets text
-  of_a_message : {octets text : List ℕ} (said more : List ℕ) (content : Content) (count : ℕ)
-      → BeginsWith octets content count → Says content said → IsReport (drop count octets) more
-      → text ≡ said ++ more → IsReport octets text
+-- message; they are read wide from the start, or from behind the first wide OPEN
+pub data IsReport : Bool → List ℕ → List ℕ → Type 0 where
+  of_nothing : {wide : Bool} {octets text : List ℕ} → octets ≡ [] → text ≡ [] → IsReport wide octets text
+  of_a_prefix : {wide : Bool} {octets text : List ℕ} → octets ≢ [] → IsProperPrefix octets
+      → text ≡ incomplete_line (length octets) → IsReport wide octets text
+  of_a_fault : {wide : Bool} {octets text : List ℕ} (f : WireFault)
+      → HasFault octets f ⊎ BeginsWithFaultyUpdate wide octets f
+      → text ≡ fault_line f.code f.subcode → IsReport wide octets text
+  of_a_message : {wide : Bool} {octets text : List ℕ} (said more : List ℕ) (content : Content) (count : ℕ)
+      → BeginsWith octets content count → Says wide content said
+      → IsReport (wide || is_wide_open content) (drop count octets) more
+      → text ≡ said ++ more → IsReport wide octets text
 
 -- what a text is found to be that spells octets, or none
 abbrev pub decode_verdict : Option (List ℕ) → Verdict
 decode_verdict None = NotJson
 decode_verdict (Some octets) = Good
 
--- of octets that are spelled `decode` writes a report, and of a text that spells none one line
+-- of octets that are spelled `decode` writes a report, which begins before any OPEN, and of a text that spells none one
+-- line
 abbrev pub WritesSpelled : Option (List ℕ) → List ℕ → Type 0
 WritesSpelled None text = text ≡ codes "not hex" ++ (10 ∷ [])
-WritesSpelled (Some octets) text = IsReport octets text
+WritesSpelled (Some octets) text = IsReport false octets text

@@ -1,10 +1,10 @@
 //! Messages that are spelled in hexadecimal digits.
-ghost use Rattle.std.specs.Prelude.{◌≡◌, ◌≢◌, ◌++◌, [], IfOk, OnOk, OnErr, option_map};
+ghost use Rattle.std.specs.Prelude.{◌≡◌, ◌≢◌, ◌++◌, ◌||◌, [], false, IfOk, OnOk, OnErr, option_map};
 ghost use Rattle.bgp_wire.specs.Content.{Updates};
 ghost use Rattle.bgp_wire.specs.Messages.{content_of};
 ghost use Rattle.bgp_vpn.specs.Updates.{parts_of};
 ghost use Rattle.message_answers.specs.Decoding.{change_line, change_lines, decode_verdict, is_blank, spelled};
-ghost use Rattle.message_answers.specs.Decoding.{without_blanks, IsReport, WritesSpelled};
+ghost use Rattle.message_answers.specs.Decoding.{without_blanks, is_wide_open, IsReport, WritesSpelled};
 ghost use Rattle.message_answers.specs.Reporting.{IsReportBehind, Moves, Progress, Tells};
 ghost use Rattle.ov_io.specs.Pieces.{HasWriteCause, TookFrontOf, TookText};
 
@@ -92,12 +92,13 @@ enum Told {
 fn push_update(
     alloc: Global,
     part: &UpdatePart<'_>,
+    wide: bool,
     known: &mut TargetsText,
     out: &mut TextOut,
 ) -> Result<Told, NoMemory>
-    ensures { IfOk result (λ told. Tells (Updates (parts_of part.now)) out.old out.new told) }
+    ensures { IfOk result (λ told. Tells wide (Updates (parts_of part.now)) out.old out.new told) }
 {
-    match read_update(alloc, part) {
+    match read_update(alloc, part, wide) {
         Ok(changes) => {
             out.push(b"update\n")?;
             push_changes(alloc, changes.as_slice(), known, out)?;
@@ -114,14 +115,15 @@ fn push_update(
 fn push_message(
     alloc: Global,
     message: &Message<'_>,
+    wide: bool,
     known: &mut TargetsText,
     out: &mut TextOut,
 ) -> Result<Told, NoMemory>
-    ensures { IfOk result (λ told. Tells (content_of message.now) out.old out.new told) }
+    ensures { IfOk result (λ told. Tells wide (content_of message.now) out.old out.new told) }
 {
     match message {
         Message::Hello(part) => open_lines(alloc, part.asn(), part.hold(), part.id(), out)?,
-        Message::Update(part) => return push_update(alloc, part, known, out),
+        Message::Update(part) => return push_update(alloc, part, wide, known, out),
         Message::Notification { code, subcode } => {
             notification_lines(alloc, *code, *subcode, out)?;
         }
@@ -130,20 +132,41 @@ fn push_message(
     Ok(Told::Whole)
 }
 
-/// Tells the first message, and says how many octets it has. `None` where nothing is left to tell.
+/// Whether a message is an OPEN whose speaker has numbers of four octets.
+fn is_wide_open(message: &Message<'_>) -> bool
+    ensures { result ≡ is_wide_open (content_of message.now) }
+{
+    match message {
+        Message::Hello(part) => part.wide(),
+        _ => false,
+    }
+}
+
+/// The first of the messages: how many octets it has, and whether what stands behind it is read wide.
+#[derive(Clone, Copy)]
+struct First {
+    count: usize,
+    wide: bool,
+}
+
+/// Tells the first message, which is read wide or not. `None` where nothing is left to tell.
 #[tactic(auto, using(crate::proofs::Reports::report_ends))]
 fn push_report(
     alloc: Global,
     octets: &[u8],
+    wide: bool,
     known: &mut TargetsText,
     out: &mut TextOut,
-) -> Result<Option<usize>, NoMemory>
+) -> Result<Option<First>, NoMemory>
     requires { octets.now ≢ [] }
-    ensures { IfOk result (λ found. Progress octets.now out.old out.new found) }
+    ensures { IfOk result (λ found. Progress wide octets.now out.old out.new found) }
 {
     match read_message(octets) {
-        Ok(Some((message, count))) => match push_message(alloc, &message, known, out)? {
-            Told::Whole => Ok(Some(count)),
+        Ok(Some((message, count))) => match push_message(alloc, &message, wide, known, out)? {
+            Told::Whole => Ok(Some(First {
+                count,
+                wide: wide || is_wide_open(&message),
+            })),
             Told::Faulty => Ok(None),
         },
         Ok(None) => {
@@ -157,41 +180,44 @@ fn push_report(
     }
 }
 
-/// Hands on what is told of the first message, and says how many octets that has. `None` where nothing is left to tell.
+/// Hands on what is told of the first message, which is read wide or not. `None` where nothing is left to tell.
 fn write_first<K: Sink>(
     alloc: Global,
     octets: &[u8],
+    wide: bool,
     sink: &mut K,
     known: &mut TargetsText,
     gathered: &mut TextOut,
-) -> Result<Option<usize>, WriteRefusal>
+) -> Result<Option<First>, WriteRefusal>
     requires { octets.now ≢ [] }
-    ensures told { IfOk result (λ found. Moves octets.now
+    ensures told { IfOk result (λ found. Moves wide octets.now
         (K.taken sink.old) (K.taken sink.new) gathered.old gathered.new found) }
-    ensures front { OnErr result (TookFrontOf (IsReportBehind gathered.old octets.now)
+    ensures front { OnErr result (TookFrontOf (IsReportBehind wide gathered.old octets.now)
         (K.taken sink.old) (K.taken sink.new)) }
     ensures cause { HasWriteCause (K.faults sink.old) (K.faults sink.new) result }
 {
-    let found = push_report(alloc, octets, known, gathered)?;
+    let found = push_report(alloc, octets, wide, known, gathered)?;
     write_piece(sink, gathered)?;
     Ok(found)
 }
 
-/// Writes the report of messages that lie one after the other.
+/// Writes the report of messages that lie one after the other. They are read wide from behind the first wide OPEN.
 #[tactic(auto, using(crate::proofs::Reports::fewer_left))]
 fn write_report<K: Sink>(alloc: Global, octets: &[u8], sink: &mut K) -> Result<(), WriteRefusal>
-    ensures ok { OnOk result (TookText (IsReport octets.now) (K.taken sink.old) (K.taken sink.new)) }
-    ensures front { OnErr result (TookFrontOf (IsReport octets.now) (K.taken sink.old) (K.taken sink.new)) }
+    ensures ok { OnOk result (TookText (IsReport false octets.now) (K.taken sink.old) (K.taken sink.new)) }
+    ensures front { OnErr result (TookFrontOf (IsReport false octets.now) (K.taken sink.old) (K.taken sink.new)) }
     ensures cause { HasWriteCause (K.faults sink.old) (K.faults sink.new) result }
 {
     let mut gathered = TextOut::new(alloc);
     let mut known = TargetsText::new(alloc)?;
     let mut rest = octets;
+    let mut wide = false;
     while !rest.is_empty() {
-        let Some(count) = write_first(alloc, rest, sink, &mut known, &mut gathered)? else {
+        let Some(first) = write_first(alloc, rest, wide, sink, &mut known, &mut gathered)? else {
             return write_gathered(sink, &mut gathered);
         };
-        (_, rest) = rest.split_at(count);
+        (_, rest) = rest.split_at(first.count);
+        wide = first.wide;
     }
     write_gathered(sink, &mut gathered)
 }

@@ -5,4 +5,4 @@ mod decoding;
 mod laws;
 
 pub use decoding::answer_decode;
-pub use laws::{octets_have_a_report, octets_have_one_report};
+pub use laws::{a_wide_open_before_counts, octets_have_a_report, octets_have_one_report};

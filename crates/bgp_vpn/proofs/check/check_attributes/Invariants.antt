@@ -8,4 +8,4 @@ abbrev pub invariant-loop-item : goal.invariant-loop-item
 invariant-loop-item l =
     (goal.iterator-loop-item).can_next l.item-iterator ×
     (goal.iterator-loop-item).is_finite l.item-iterator ×
-    ((others : List AttributeFields) × Passed l.routes_follow l.part.attributes.now l.item-iterator others l.marked × IsFound l.found others)
+    ((others : List AttributeFields) × Passed l.reading l.part.attributes.now l.item-iterator others l.marked × IsFound l.found others)

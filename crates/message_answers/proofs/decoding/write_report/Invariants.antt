@@ -4,7 +4,7 @@ use Rattle.message_answers.proofs.decoding.write_report.Given as goal
 
 abbrev pub invariant-loop-rest : goal.invariant-loop-rest
 invariant-loop-rest g l = record {
-  so : IsTold l.octets l.rest (g.K.Sink.taken l.fn.sink) (g.K.Sink.taken l.sink) l.gathered;
+  so : IsTold l.octets l.wide l.rest (g.K.Sink.taken l.fn.sink) (g.K.Sink.taken l.sink) l.gathered;
   kept : g.K.Sink.faults l.sink ≡ g.K.Sink.faults l.fn.sink;
 }
 

@@ -2,6 +2,7 @@ use Rattle.std.proofs.Common.{arith, subst, ap, ◌∙◌}
 use Rattle.std.proofs.lemmas.Grind.{merely}
 use Rattle.byteorder.specs.Endian.{big_number}
 use Rattle.bgp_wire.specs.Opens.{AreParameters}
+use Rattle.bgp_wire.specs.Capabilities.{parameters_in}
 use Rattle.bgp_wire.proofs.Octets.{range_from}
 use Rattle.bgp_wire.proofs.OpenBodies.{open_is}
 use Rattle.bgp_wire.proofs.open.OpenPart.read.Goals as goal
@@ -14,7 +15,7 @@ returns-clause-open c =
     (c.read_u16.ensures ∙ ap (big_number 2) (range_from 1 body))
     (c.read_u16-2.ensures ∙ ap (big_number 2) (range_from 3 body))
     (c.read_u32.ensures ∙ ap (big_number 4) (range_from 5 body))
-    (range_from 10 body)
+    (ap parameters_in (range_from 10 body))
 
 pub invariant_of-result : goal.invariant_of-result
 invariant_of-result c = merely c.in_ok-check_parameters.ensures
