@@ -1,43 +1,26 @@
 -- How a step of an agent begins.
-use Rattle.std.specs.Prelude.{◌≡◌, ◌<◌, ℕ, List, [], ◌∷◌, length}
+use Rattle.std.specs.Prelude.{◌≡◌, ◌<◌, ℕ, List, [], length, false}
 use Rattle.std.specs.List.{filter_map, slice_index_or, slice_set}
-use Rattle.std.specs.declared.option.Option.{Option}
 use Rattle.std.specs.declared.option.Option.TheVariants.{Some, None}
-use Rattle.std.proofs.Common.{refl, sym, ◌∙◌, ap, subst, set, arith, Bor}
+use Rattle.std.proofs.Common.{refl, sym, ◌∙◌, ap, subst, set, arith}
 use Rattle.std.proofs.lemmas.List.{get_or-map, set-set}
-use Rattle.ov_link.specs.declared.step.Input.{Input}
-use Rattle.ov_link.specs.declared.step.Input.TheVariants as In
 use Rattle.ov_sync.specs.Keyed.{after}
 use Rattle.item_wire.specs.Happenings.{SessionFields}
-use Rattle.item_wire.specs.Records.{spelling}
 use Rattle.item_wire.specs.declared.event.ItemCause.{ItemCause}
 use Rattle.item_wire.specs.declared.event.ItemFrom.{ItemFrom}
-use Rattle.item_wire.specs.declared.event.ItemState.{ItemState}
 use Rattle.item_wire.specs.declared.event.ItemState.TheVariants as State
-use Rattle.item_wire.specs.declared.item.Item.TheVariants.{Hello}
-use Rattle.node_core.specs.Begun.{HasBegun}
-use Rattle.node_core.specs.Whole.{session_of}
-use Rattle.node_items.specs.Beginning.{left_by, phase_of}
+use Rattle.node_items.specs.Beginning.{phase_of}
 use Rattle.node_items.specs.Hearing.{Hears, heard}
 use Rattle.node_items.specs.Told.{change_of, up_of}
-use Rattle.node_model.specs.Step.{Begun, Idle, Opened, Post, end_of, nothing, post}
+use Rattle.node_items.proofs.States.{state_again}
+use Rattle.node_model.specs.Step.{Opened, Post, nothing, post}
 use Rattle.agent_tables.specs.declared.hearing.Hearing.{Hearing}
 use Rattle.agent_node.specs.Applying.{HasHeard, HasTaken}
-use Rattle.agent_node.specs.Beginning.{Begins, controller_at, no_node, session_at, state_at}
+use Rattle.agent_node.specs.Beginning.{controller_at, no_node, session_at, state_at}
 use Rattle.agent_node.specs.Ends.{AreEnds, Sent, controller, end_at, posts_of, whom}
 use Rattle.agent_node.specs.Planning.{sent_at}
 use Rattle.agent_node.specs.declared.plan.AgentPlan.{AgentPlan}
 use Rattle.agent_node.proofs.Posts.{ends_long, post_at, posts_hear}
-
-pub idle_state : (state : ItemState) → phase_of state ≡ Idle → state ≡ State.Idle
-idle_state State.Idle e = refl
-idle_state State.Opened e = cc
-idle_state State.Up e = cc
-
-state_again : (state : ItemState) → state_at (phase_of state) ≡ state
-state_again State.Idle = refl
-state_again State.Opened = refl
-state_again State.Up = refl
 
 module _ (plan : AgentPlan) (hs : List Hearing) (ss : List Sent) (ends : AreEnds plan hs ss) (i : ℕ) (h : Hearing)
     (lt : i < length hs) (is : h ≡ slice_index_or hs i h) where
@@ -66,7 +49,7 @@ module _ (plan : AgentPlan) (hs : List Hearing) (ss : List Sent) (ends : AreEnds
   greeted s e =
       posts_hear hs ss i (record { session = s; held = h.held })
       ∙ (λ j. set (posts_of hs ss) i
-      (record { phase = phase_of (e j).state; sent = (here j).sent; held = (here j).held }))
+      (record { phase = phase_of (e j).state; sent = (here j).sent; held = (here j).held; wide = (here j).wide }))
 
   module _ (octets : List ℕ) (h' : Hearing) where
     pub taken_on : HasHeard h octets h' None → HasTaken plan i octets (posts_of hs ss) (posts_of (set hs i h') ss) None
@@ -81,11 +64,13 @@ module _ (plan : AgentPlan) (hs : List Hearing) (ss : List Sent) (ends : AreEnds
                 phase = phase_of (t.state j);
                 sent = up_of (sent_at ss i);
                 held = t.held refl j;
+                wide = false;
               }))
               ∙ (λ j. set (posts_of hs ss) i (record {
                 phase = phase_of (heard (session_is j) t.inputs).state;
                 sent = (here j).sent;
                 held = after (here j).held (filter_map change_of (heard (session_is j) t.inputs).records);
+                wide = (here j).wide;
               }));
         }
 
@@ -100,49 +85,3 @@ module _ (plan : AgentPlan) (hs : List Hearing) (ss : List Sent) (ends : AreEnds
           left = e ∙ ap (λ (ps : List Post). slice_set ps i nothing) (posts_hear hs ss i h')
               ∙ set-set (posts_of hs ss) i (end_at h' (sent_at ss i)) nothing;
         }
-
--- ---- the input of a step
-module _ (plan : AgentPlan) (posts posts' : List Post) (input : Input) where
-  abbrev pub BeginsBy : Option ItemCause → List (List ℕ) → Type 0
-  BeginsBy cause replies =
-      (given : Begun)
-      × Begins plan (session_of input) (post posts (session_of input)) input given cause
-      × HasBegun posts (session_of input) given replies posts'
-
-module _ (plan : AgentPlan) (posts posts' : List Post) (input : Input) (session : ℕ) (replies : List (List ℕ)) where
-  pub begun_opened : input ≡ In.Opened session → replies ≡ spelling (Hello plan.me.name) ∷ []
-      → posts' ≡ slice_set posts session (record (post posts session) { phase = Opened })
-      → BeginsBy plan posts posts' input None replies
-  begun_opened is hello e =
-      let given : Begun = record {
-        replies = spelling (Hello plan.me.name) ∷ [];
-        after = Some (record (post posts session) { phase = Opened });
-      } in
-      subst (λ (x : Input). BeginsBy plan posts posts' x None replies) (sym is)
-      (given, (refl, refl), record { replied = hello; applied = e })
-
-  pub begun_bytes : (bytes : Bor (List ℕ)) (cause : Option ItemCause) → input ≡ In.Bytes session bytes → replies ≡ []
-      → HasTaken plan session bytes.now posts posts' cause → BeginsBy plan posts posts' input cause replies
-  begun_bytes bytes cause is none t =
-      let s = session_at plan session (post posts session).phase in
-      let given : Begun = record {
-        replies = [];
-        after = left_by (post posts session) (heard s t.inputs) (heard s t.inputs).cause;
-      } in
-      subst (λ (x : Input). BeginsBy plan posts posts' x cause replies) (sym is) (
-        given,
-        (t.inputs, t.hears, refl, t.why),
-        record {
-          replied = none;
-          applied = t.left
-              ∙ ap (λ (w : Option ItemCause).
-              slice_set posts session (end_of (left_by (post posts session) (heard s t.inputs) w))) t.why;
-        },
-      )
-
-  pub begun_closed : input ≡ In.Closed session → replies ≡ [] → posts' ≡ slice_set posts session nothing
-      → BeginsBy plan posts posts' input None replies
-  begun_closed is none e =
-      let given : Begun = record { replies = []; after = None } in
-      subst (λ (x : Input). BeginsBy plan posts posts' x None replies) (sym is)
-      (given, (refl, refl), record { replied = none; applied = e })

@@ -18,7 +18,7 @@ use Rattle.node_model.specs.Maps.{Change, difference}
 use Rattle.node_model.specs.Values.{Label, same_value}
 use Rattle.node_model.proofs.Orders.{key_total}
 use Rattle.agent_node.specs.Ends.{Sent, SentFits}
-use Rattle.agent_tables.proofs.Images.{up_exact, up_keeps, up_total}
+use Rattle.node_model.proofs.Directions.{up_exact, up_keeps, up_total}
 
 pub fits_at : (ds : List (Delta UpKey LabelNo)) (i : ℕ) (d : Delta UpKey LabelNo) → i < length ds → d ≡ get_or ds i d
     → All ChangeFits (map (moved_delta of_up Label) ds) → ChangeFits (moved_delta of_up Label d)

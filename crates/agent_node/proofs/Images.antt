@@ -15,7 +15,7 @@ use Rattle.node_items.specs.Told.{down_of, down_order, down_value, up_of, up_ord
 use Rattle.node_model.specs.Keys.{key_cmp, of_down, of_up}
 use Rattle.node_model.specs.Values.{Label}
 use Rattle.node_model.proofs.Orders.{key_exact, key_total}
-use Rattle.agent_tables.proofs.Images.{down_exact, down_keeps, down_total}
+use Rattle.node_model.proofs.Directions.{down_exact, down_keeps, down_total}
 
 pub up-empty : up_of [] ≡ empty
 up-empty =

@@ -1,24 +1,22 @@
 -- The ends as they are seen, from those that are kept.
-use Rattle.std.specs.Prelude.{◌≡◌, ◌<◌, ◌≤◌, ℕ, zero, suc, List, [], ◌∷◌, ◌++◌, map, take, drop, length}
+use Rattle.std.specs.Prelude.{◌≡◌, ◌<◌, ◌≤◌, ℕ, zero, suc, List, [], ◌∷◌, map, length}
 use Rattle.std.specs.Prelude.{Bool, true, false, not, if◌then◌else◌}
 use Rattle.std.specs.FinMap.{entries, from_entries}
 use Rattle.std.specs.List.{All, AllByRecursion, filter, filter_map, flat_map, slice_index_or}
 use Rattle.std.proofs.Common.{refl, sym, ◌∙◌, ap, subst, set, arith}
 use Rattle.std.proofs.lemmas.List.Elements.{All-from_recursion, All-set, All-map, recursion_from_All}
 use Rattle.std.proofs.Math.Seq.{map-set_same}
-use Rattle.std.proofs.lemmas.List.{length-map, length-set, take_at}
+use Rattle.std.proofs.lemmas.List.{length-map, length-set}
 use Rattle.ov_sync.proofs.Ascending.{entries-empty}
 use Rattle.ov_sync.proofs.KeyedLaws.{empty_values}
 use Rattle.ov_types.specs.Keys.{row_key_cmp}
-use Rattle.ov_types.specs.Prefix.{Block}
-use Rattle.ov_types.specs.declared.numbers.InstanceId.{InstanceId}
 use Rattle.ov_types.specs.declared.objects.LowKey.{LowKey}
 use Rattle.ov_types.specs.declared.objects.LowValue.{LowValue}
 use Rattle.ov_types.specs.declared.rows.Entry.{Entry as Hop}
 use Rattle.item_wire.specs.declared.event.ItemState.{ItemState}
 use Rattle.item_wire.specs.declared.event.ItemState.TheVariants.{Idle, Opened, Up}
 use Rattle.item_wire.specs.declared.input.Came.TheVariants.{Closed}
-use Rattle.item_wire.specs.Happenings.{SessionFields, after, idle_session, next_state}
+use Rattle.item_wire.specs.Happenings.{SessionFields, after, idle_session}
 use Rattle.item_wire.specs.declared.event.ItemFrom.{ItemFrom}
 use Rattle.item_wire.specs.declared.event.ItemFrom.TheVariants.{Control}
 use Rattle.ov_types.specs.declared.rows.AgentRows.{AgentRows}
@@ -32,9 +30,11 @@ use Rattle.node_model.specs.Agent.{rows as rows_of, slice_in_use, wanted as want
 use Rattle.node_model.specs.Keys.{Key, key_cmp}
 use Rattle.node_model.specs.Maps.{Map}
 use Rattle.node_model.specs.Values.{Value}
+use Rattle.node_items.proofs.States.{closes}
 use Rattle.node_model.specs.Step.{Phase, Post, nothing, post}
 use Rattle.agent_tables.specs.Views.{heard_of, is_up as is_heard_up}
 use Rattle.agent_tables.specs.declared.hearing.Hearing.{Hearing}
+use Rattle.agent_tables.proofs.Routes.{Routed}
 use Rattle.agent_node.specs.Core.{heard_at, holdings, is_idle, is_up, kind, nothings}
 use Rattle.agent_node.specs.Ends.{AreEnds, HeldFits, Sent, SentFits, controller, end_at, posts_of, whom}
 use Rattle.agent_node.specs.Planning.{ArePlanned, messages_of, sent_at, told_of}
@@ -91,11 +91,6 @@ held_fits hs all =
     (All-map (λ (s : Heard). AllFit s.map) heard_of hs all)
 
 -- ---- an end that is closed
-pub closes : (state : ItemState) → next_state state Closed ≡ Idle
-closes Idle = refl
-closes Opened = refl
-closes Up = refl
-
 pub nothing_held : (h : Hearing) → h.held ≡ [] → HeldFits h
 nothing_held h e = subst AllFit (sym (ap down_of e ∙ down-empty)) (empty_values key_cmp Fits)
 
@@ -108,6 +103,7 @@ nothing_at h s idle held sent =
       phase = phase_of (idle i);
       sent = (ap up_of sent ∙ up-empty) i;
       held = (ap down_of held ∙ down-empty) i;
+      wide = false;
     }
 
 pub shut_at : (h : Hearing) (s : Sent) (before : SessionFields) → h.session ≡ after before Closed → h.held ≡ []
@@ -141,21 +137,17 @@ pub ends_long : (plan : AgentPlan) (hs : List Hearing) (ss : List Sent) → AreE
     → length hs ≡ length plan.controllers
 ends_long plan hs ss e = sym (length-map hs whom) ∙ ap length e.whose ∙ length-map plan.controllers controller
 
--- a vector that was lent as a slice, and written
-pub written : {X : Type 0} (n : ℕ) (new old : List X) → length new ≡ n → take n (new ++ drop (length new) old) ≡ new
-written n new old e = take_at new (drop (length new) old) n e
-
 -- ---- the plans of a pass
 told_post : Map → Post → Post
 told_post wants p = if not (is_idle p.phase) then record p { sent = wants } else p
 
 told_end : (b : Bool) (phase : Phase) (sent sent' held wants : Map) → sent' ≡ (if b then wants else sent)
-    → let p : Post = record { phase = phase; sent = sent'; held = held } in
-    let all : Post = record { phase = phase; sent = wants; held = held } in
-    let same : Post = record { phase = phase; sent = sent; held = held } in
+    → let p : Post = record { phase = phase; sent = sent'; held = held; wide = false } in
+    let all : Post = record { phase = phase; sent = wants; held = held; wide = false } in
+    let same : Post = record { phase = phase; sent = sent; held = held; wide = false } in
     p ≡ (if b then all else same)
-told_end true phase sent sent' held wants e = λ i. record { phase = phase; sent = e i; held = held }
-told_end false phase sent sent' held wants e = λ i. record { phase = phase; sent = e i; held = held }
+told_end true phase sent sent' held wants e = λ i. record { phase = phase; sent = e i; held = held; wide = false }
+told_end false phase sent sent' held wants e = λ i. record { phase = phase; sent = e i; held = held; wide = false }
 
 told_here : (h : Hearing) (s s' : Sent) (wants : Map)
     → up_of s' ≡ told_of (phase_of h.session.state) (up_of s) wants → end_at h s' ≡ told_post wants (end_at h s)
@@ -232,9 +224,6 @@ no_slice (suc n) = no_slice n
 none_up : (n : ℕ) → filter (λ (s : Heard). s.is_up) (holdings (nothings n)) ≡ []
 none_up zero = refl
 none_up (suc n) = none_up n
-
-abbrev Routed : Type 0
-Routed = (InstanceId × Block) × Hop
 
 abbrev rows_from : List Heard → List Routed
 rows_from hs = flat_map (λ (s : Heard). filter_map (λ (e : Key × Value). row_entry e.0 e.1) (entries s.map)) hs

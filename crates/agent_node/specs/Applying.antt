@@ -1,14 +1,14 @@
 -- What octets make of what is held at an end.
 use Rattle.std.specs.Prelude.{◌≡◌, ℕ, List, Option, Some, None}
-use Rattle.std.specs.List.{filter_map, slice_set}
+use Rattle.std.specs.List.{filter_map}
 use Rattle.ov_sync.specs.Keyed.{after, changed}
 use Rattle.item_wire.specs.declared.event.ItemCause.{ItemCause}
 use Rattle.item_wire.specs.declared.input.Came.{Came}
-use Rattle.node_items.specs.Beginning.{left_by}
 use Rattle.node_items.specs.Hearing.{Hears, heard}
+use Rattle.node_items.specs.Taking as item
 use Rattle.node_items.specs.Told.{change_of, down_of}
 use Rattle.node_model.specs.Maps.{Change, Map}
-use Rattle.node_model.specs.Step.{Post, end_of, post}
+use Rattle.node_model.specs.Step.{Post}
 use Rattle.agent_tables.specs.declared.hearing.Hearing.{Hearing}
 use Rattle.agent_node.specs.Beginning.{session_at}
 use Rattle.agent_node.specs.declared.plan.AgentPlan.{AgentPlan}
@@ -27,10 +27,5 @@ pub record HasHeard (h : Hearing) (octets : List ℕ) (h' : Hearing) (cause : Op
       → down_of h'.held ≡ after (down_of h.held) (filter_map change_of (heard h.session inputs).records)
 
 -- the end of a session once octets came on it
-pub record HasTaken (plan : AgentPlan) (session : ℕ) (octets : List ℕ) (posts posts' : List Post)
-    (cause : Option ItemCause) : Type 0 where
-  pub inputs : List Came
-  pub hears : Hears (session_at plan session (post posts session).phase) octets inputs
-  pub why : cause ≡ (heard (session_at plan session (post posts session).phase) inputs).cause
-  pub left : posts' ≡ slice_set posts session
-      (end_of (left_by (post posts session) (heard (session_at plan session (post posts session).phase) inputs) cause))
+abbrev pub HasTaken : AgentPlan → ℕ → List ℕ → List Post → List Post → Option ItemCause → Type 0
+HasTaken plan = item.HasTaken (session_at plan)

@@ -1,11 +1,11 @@
 -- What is seen of an agent: its plan, its ends, what it forwards by, and whether it failed.
-use Rattle.std.specs.Prelude.{ℕ, List, [], map, length, Bool, false, not}
+use Rattle.std.specs.Prelude.{ℕ, List, [], map, length, Bool, false}
 use Rattle.ov_types.specs.declared.rows.AgentRows.{AgentRows}
 use Rattle.node_items.specs.Told.{spelled}
 use Rattle.node_model.specs.Agent.{Heard, Holdings, wanted as wanted_of}
 use Rattle.node_model.specs.Maps.{Map}
-pub use Rattle.node_core.specs.Resting.{is_idle, is_up, nothings}
-use Rattle.node_model.specs.Step.{Kind, Phase, Post}
+pub use Rattle.node_core.specs.Resting.{is_idle, is_up, may_send, nothings}
+use Rattle.node_model.specs.Step.{Kind, Post}
 use Rattle.agent_node.specs.declared.plan.AgentPlan.{AgentPlan}
 
 -- its ends are those of the control nodes, in the order in which it lists them
@@ -28,9 +28,6 @@ holdings posts = map heard_at posts
 -- ---- what it wants its sessions to have been told: the same everywhere, from their opening on
 abbrev pub wanted : List Post → ℕ → Map
 wanted posts i = wanted_of (holdings posts)
-
-abbrev pub may_send : ℕ → Phase → Bool
-may_send i phase = not (is_idle phase)
 
 abbrev pub kind : Kind
 kind = record { wanted = wanted; may_send = may_send; spelled = λ i c. spelled c }

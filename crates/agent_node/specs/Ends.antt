@@ -1,5 +1,5 @@
 -- The ends of an agent's sessions, and what always holds of them.
-use Rattle.std.specs.Prelude.{◌≡◌, ◌≤◌, ℕ, List, [], ◌∷◌, map, length, refl}
+use Rattle.std.specs.Prelude.{◌≡◌, ◌≤◌, ℕ, List, [], ◌∷◌, map, length, false, refl}
 use Rattle.std.specs.Coded.{Coded, code_by, coded×, coded_list}
 use Rattle.std.specs.List.{All}
 use Rattle.ov_types.specs.declared.keys.UpKey.{UpKey}
@@ -19,12 +19,12 @@ pub record Ends : Type 0 where
   pub plan : AgentPlan
   pub posts : List Post
 
--- ---- the ends, with what was sent on each session
+-- ---- the ends, with what was sent on each session. No OPEN comes
 abbrev pub Sent : Type 0
 Sent = List (UpKey × LabelNo)
 
 abbrev pub end_at : Hearing → Sent → Post
-end_at h s = record { phase = phase_of h.session.state; sent = up_of s; held = down_of h.held }
+end_at h s = record { phase = phase_of h.session.state; sent = up_of s; held = down_of h.held; wide = false }
 
 abbrev pub posts_of : List Hearing → List Sent → List Post
 posts_of [] sents = []

@@ -1,5 +1,5 @@
 //! What an input makes of the end of its session.
-ghost use Rattle.std.specs.Prelude.{◌≡◌, ◌<◌, ◌∷◌, [], List, IfOk, IsTrue, OnOk, slice_set, true, false};
+ghost use Rattle.std.specs.Prelude.{◌≡◌, ◌<◌, ◌∷◌, [], IfOk, IsTrue, OnOk, slice_set, true, false};
 ghost use Rattle.std.specs.List.{AllByRecursion, filter_map};
 ghost use Rattle.ov_sync.specs.Keyed.{after};
 ghost use Rattle.item_wire.specs.Inputs.{is_of_control};

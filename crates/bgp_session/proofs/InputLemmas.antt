@@ -64,14 +64,14 @@ other_identifier asn peer fields = (
       ∙ ap (refusal_by true) (ne_eqb fields.id peer.0 e.1),
 )
 
-one_by_update : (parts : UpdateFields) (a b : Came) → BringsUpdate parts a → BringsUpdate parts b → a ≡ b
-one_by_update parts a b (right d c e) (right d' c' e') = e ∙ ap RightUpdate (one_changes parts d d' c c') ∙ sym e'
-one_by_update parts a b (right d c e) (wrong f h e') = absurd (never_both parts d f c h)
-one_by_update parts a b (wrong f h e) (right d c e') = absurd (never_both parts d f c h)
-one_by_update parts a b (wrong f h e) (wrong g k e') = e ∙ ap WrongUpdate (one_fault parts f g h k) ∙ sym e'
+one_by_update : (wide : Bool) (parts : UpdateFields) (a b : Came) → BringsUpdate wide parts a → BringsUpdate wide parts b → a ≡ b
+one_by_update wide parts a b (right d c e) (right d' c' e') = e ∙ ap RightUpdate (one_changes wide parts d d' c c') ∙ sym e'
+one_by_update wide parts a b (right d c e) (wrong f h e') = absurd (never_both wide parts d f c h)
+one_by_update wide parts a b (wrong f h e) (right d c e') = absurd (never_both wide parts d f c h)
+one_by_update wide parts a b (wrong f h e) (wrong g k e') = e ∙ ap WrongUpdate (one_fault wide parts f g h k) ∙ sym e'
 
-pub brings_one : (asn : ℕ) (peer : Addr) (message : Content) (a b : Came) → Brings asn peer message a → Brings asn peer message b → a ≡ b
-brings_one asn peer (Opens fields) a b x y = x ∙ sym y
-brings_one asn peer (Updates parts) a b x y = one_by_update parts a b x y
-brings_one asn peer (Notifies code subcode) a b x y = x ∙ sym y
-brings_one asn peer KeepsAlive a b x y = x ∙ sym y
+pub brings_one : (asn : ℕ) (peer : Addr) (wide : Bool) (message : Content) (a b : Came) → Brings asn peer wide message a → Brings asn peer wide message b → a ≡ b
+brings_one asn peer wide (Opens fields) a b x y = x ∙ sym y
+brings_one asn peer wide (Updates parts) a b x y = one_by_update wide parts a b x y
+brings_one asn peer wide (Notifies code subcode) a b x y = x ∙ sym y
+brings_one asn peer wide KeepsAlive a b x y = x ∙ sym y

@@ -1,5 +1,5 @@
 -- What an input makes of a session.
-use Rattle.std.specs.Prelude.{◌≡◌, ℕ, List, Option, Some, None}
+use Rattle.std.specs.Prelude.{◌≡◌, ℕ, List, Bool, false, Option, Some, None}
 use Rattle.std.specs.Option.{option_map}
 use Rattle.ov_types.specs.declared.rows.NodeId.{NodeId}
 use Rattle.ov_types.specs.declared.vpn.VpnKey.{VpnKey}
@@ -19,7 +19,7 @@ use Rattle.bgp_session.specs.declared.event.Event.TheVariants as events
 use Rattle.bgp_session.specs.declared.table.Act.{Act}
 use Rattle.bgp_session.specs.declared.table.Act.TheVariants.{Nothing, SendOpen, SendKeepalive, ComeUp, HandOut}
 use Rattle.bgp_session.specs.declared.table.Act.TheVariants.{AnswerFault, AnswerOrder, GoDown}
-use Rattle.bgp_session.specs.Inputs.{Came, RightUpdate, fault_of, cause_of, Brings}
+use Rattle.bgp_session.specs.Inputs.{Came, RightOpen, RightUpdate, fault_of, cause_of, Brings}
 use Rattle.bgp_session.specs.Table.{cell_at, state_in, act_in}
 
 -- an event, with a NOTIFICATION by its code and subcode
@@ -68,14 +68,15 @@ happening AnswerFault came = refusal_of (fault_of came)
 happening AnswerOrder came = refusal out_of_order
 happening GoDown came = end_of (cause_of came)
 
--- a session: its autonomous system, its peer, its state
+-- a session: its autonomous system, its peer, its state, and whether it reads wide: numbers of four octets in UPDATEs
 pub record SessionFields : Type 0 where
   pub asn : ℕ
   pub peer : NodeId
   pub state : State
+  pub wide : Bool
 
 abbrev pub idle_session : ℕ → NodeId → SessionFields
-idle_session asn peer = record { asn = asn; peer = peer; state = Idle }
+idle_session asn peer = record { asn = asn; peer = peer; state = Idle; wide = false }
 
 -- the state and the event that the cell of a state and an input says
 abbrev pub next_state : State → Came → State
@@ -84,9 +85,20 @@ next_state state came = state_in (cell_at state came)
 abbrev pub next_happening : State → Came → Happening
 next_happening state came = happening (act_in (cell_at state came)) came
 
+-- a right OPEN says how to read
+abbrev pub wide_by : Came → Bool → Bool
+wide_by (RightOpen wide) before = wide
+wide_by _ before = before
+
+-- and it says so until the session is over
+abbrev pub wide_in : State → Came → Bool → Bool
+wide_in Idle came before = false
+wide_in _ came before = wide_by came before
+
 -- a session after an input, and what the input makes of it
 abbrev pub after : SessionFields → Came → SessionFields
-after s came = record s { state = next_state s.state came }
+after s came =
+    record s { state = next_state s.state came; wide = wide_in (next_state s.state came) came s.wide }
 
 abbrev pub answer : SessionFields → Came → Happening
 answer s came = next_happening s.state came
@@ -94,6 +106,6 @@ answer s came = next_happening s.state came
 -- a session takes a message: it is an input, and the cell of its state and that input says the rest
 pub record Takes (old : SessionFields) (message : Content) (new : SessionFields) (event : Event) : Type 0 where
   pub came : Came
-  pub brings : Brings old.asn old.peer.address message came
+  pub brings : Brings old.asn old.peer.address old.wide message came
   pub state : new ≡ after old came
   pub happens : happening_of event ≡ answer old came

@@ -2,3 +2,4 @@ pub mod Inputs
 pub mod Table
 pub mod Happenings
 pub mod Words
+pub mod Reading

@@ -27,7 +27,7 @@ row_of Established = 3
 
 abbrev pub column_of : Came → ℕ
 column_of Opened = 0
-column_of RightOpen = 1
+column_of (RightOpen wide) = 1
 column_of (WrongOpen f) = 2
 column_of KeepaliveCame = 3
 column_of (RightUpdate deltas) = 4

@@ -32,7 +32,7 @@ in_idle _ = (Idle, Passes)
 -- then it waits for a right OPEN, which it answers by a KEEPALIVE
 abbrev in_open_sent : Came → Step
 in_open_sent Opened = (OpenSent, Passes)
-in_open_sent RightOpen = (OpenConfirm, Sends Keepalive)
+in_open_sent (RightOpen wide) = (OpenConfirm, Sends Keepalive)
 in_open_sent (WrongUpdate f) = does_not_belong
 in_open_sent came = ends came
 

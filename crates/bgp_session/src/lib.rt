@@ -9,6 +9,3 @@ mod table;
 
 pub use event::{Cause, Event, Reply, State};
 pub use session::Session;
-
-#[cfg(test)]
-mod tests;

@@ -1,7 +1,7 @@
 //! Sessions.
 ghost use Rattle.std.specs.Prelude.{◌≡◌};
 ghost use Rattle.bgp_session.specs.Inputs.{came_of, fault_of, cause_of};
-ghost use Rattle.bgp_session.specs.Happenings.{happening_of, happening, refusal};
+ghost use Rattle.bgp_session.specs.Happenings.{happening_of, happening, refusal, wide_by, wide_in};
 
 use crate::event::{Cause, Event, Reply, State};
 use crate::input::{Input, input_of};
@@ -27,6 +27,16 @@ impl Input {
                 Some(*fault)
             }
             _ => None,
+        }
+    }
+
+    /// How a session reads after it: as a right OPEN says, and else as before.
+    fn wide_by(&self, before: bool) -> bool
+        ensures { result ≡ wide_by (came_of self.now) before }
+    {
+        match self {
+            Input::RightOpen { wide } => *wide,
+            _ => before,
         }
     }
 
@@ -97,12 +107,24 @@ fn event_of(act: Act, input: Input) -> Event
     }
 }
 
+/// Whether a session reads wide once this input led to this state.
+fn wide_in(state: State, input: &Input, before: bool) -> bool
+    ensures { result ≡ wide_in state (came_of input.now) before }
+{
+    match state {
+        State::Idle => false,
+        _ => input.wide_by(before),
+    }
+}
+
 /// One end of a session with a peer.
 #[derive(Clone, Copy)]
 pub struct Session {
     asn: u32,
     peer: NodeId,
     state: State,
+    /// Whether the peer's OPEN said that it has numbers of four octets, which are read in its UPDATEs from then on.
+    wide: bool,
 }
 
 impl Model for Session {
@@ -110,9 +132,9 @@ impl Model for Session {
 
     ghost Value = { SessionFields };
 
-    ghost view = { λ s. record { asn = s.asn; peer = s.peer; state = s.state } };
+    ghost view = { λ s. record { asn = s.asn; peer = s.peer; state = s.state; wide = s.wide } };
 
-    ghost inverse = { λ s. record { asn = s.asn; peer = s.peer; state = s.state } };
+    ghost inverse = { λ s. record { asn = s.asn; peer = s.peer; state = s.state; wide = s.wide } };
 }
 
 impl Session {
@@ -129,6 +151,7 @@ impl Session {
             asn,
             peer,
             state: State::Idle,
+            wide: false,
         }
     }
 
@@ -151,7 +174,7 @@ impl Session {
         ensures ok { IfOk result (λ event. Takes self.old (content_of message.now) self.new event) }
         ensures no_memory { OnErr result (self.new ≡ self.old) }
     {
-        let input = input_of(alloc, self.asn, self.peer.address, message)?;
+        let input = input_of(alloc, self.asn, self.peer.address, self.wide, message)?;
         Ok(self.take(input))
     }
 
@@ -177,6 +200,7 @@ impl Session {
     {
         let cell = cell_at(self.state, &input);
         self.state = state_in(cell);
+        self.wide = wide_in(self.state, &input, self.wide);
         event_of(act_in(cell), input)
     }
 }

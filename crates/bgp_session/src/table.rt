@@ -52,7 +52,7 @@ fn column_of(input: &Input) -> usize
 {
     match input {
         Input::Opened => 0,
-        Input::RightOpen => 1,
+        Input::RightOpen { .. } => 1,
         Input::WrongOpen(_) => 2,
         Input::Keepalive => 3,
         Input::RightUpdate(_) => 4,

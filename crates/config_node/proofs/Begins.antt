@@ -2,46 +2,28 @@
 use Rattle.std.specs.Prelude.{◌≡◌, ◌<◌, ℕ, List, [], ◌∷◌, length, IsTrue, true, false}
 use Rattle.std.specs.FinMap.{empty}
 use Rattle.std.specs.List.{AllByRecursion, filter_map, slice_index_or, slice_set}
-use Rattle.std.specs.declared.option.Option.{Option}
 use Rattle.std.specs.declared.option.Option.TheVariants.{Some, None}
-use Rattle.std.proofs.Common.{refl, sym, ◌∙◌, ap, subst, set, arith, Bor}
+use Rattle.std.proofs.Common.{refl, sym, ◌∙◌, ap, subst, set, arith}
 use Rattle.std.proofs.lemmas.List.{get_or-map, set-set}
-use Rattle.ov_link.specs.declared.step.Input.{Input}
-use Rattle.ov_link.specs.declared.step.Input.TheVariants as In
 use Rattle.ov_sync.specs.Keyed.{after}
 use Rattle.item_wire.specs.Happenings.{SessionFields}
 use Rattle.item_wire.specs.Inputs.{may_send}
-use Rattle.item_wire.specs.Records.{spelling}
 use Rattle.item_wire.specs.declared.event.ItemCause.{ItemCause}
 use Rattle.item_wire.specs.declared.event.ItemFrom.{ItemFrom}
 use Rattle.item_wire.specs.declared.event.ItemFrom.TheVariants as From
-use Rattle.item_wire.specs.declared.event.ItemState.{ItemState}
 use Rattle.item_wire.specs.declared.event.ItemState.TheVariants as State
 use Rattle.item_wire.specs.declared.item.Item.{Item}
-use Rattle.item_wire.specs.declared.item.Item.TheVariants.{Hello}
 use Rattle.config_check.specs.Checked.{Checked}
-use Rattle.node_core.specs.Begun.{HasBegun}
-use Rattle.node_core.specs.Whole.{session_of}
-use Rattle.node_items.specs.Beginning.{left_by, phase_of}
+use Rattle.node_items.specs.Beginning.{phase_of}
 use Rattle.node_items.specs.Hearing.{Hears, heard}
 use Rattle.node_items.specs.Told.{change_of}
-use Rattle.node_model.specs.Step.{Begun, Idle, Opened, Post, end_of, nothing, post}
-use Rattle.network_model.specs.Network.{config}
-use Rattle.config_node.specs.Beginning.{Begins, controller_at, no_node, session_at, state_at}
+use Rattle.node_items.proofs.States.{state_again}
+use Rattle.node_model.specs.Step.{Opened, Post, nothing, post}
+use Rattle.config_node.specs.Beginning.{controller_at, no_node, session_at, state_at}
 use Rattle.config_node.specs.Ends.{AreEnds, Objects, controller, end_at, low_of, posts_of, whom_at}
 use Rattle.config_node.specs.Taking.{HasHeard, HasTaken}
 use Rattle.config_node.specs.declared.ends.FeedEnd.{FeedEnd}
 use Rattle.config_node.proofs.Posts.{ends_long, post_at, posts_set}
-
-pub idle_state : (state : ItemState) → phase_of state ≡ Idle → state ≡ State.Idle
-idle_state State.Idle e = refl
-idle_state State.Opened e = cc
-idle_state State.Up e = cc
-
-state_again : (state : ItemState) → state_at (phase_of state) ≡ state
-state_again State.Idle = refl
-state_again State.Opened = refl
-state_again State.Up = refl
 
 -- where none may be sent, none is handed out
 pub none_of : (items : List Item) → AllByRecursion (λ (i : Item). IsTrue (may_send From.Nothing i)) items → items ≡ []
@@ -73,7 +55,7 @@ module _ (x : Checked) (wants : Objects) (es : List FeedEnd) (are : AreEnds x wa
   greeted s opened =
       posts_set es i (record e { session = s })
       ∙ (λ j. set (posts_of es) i
-      (record { phase = phase_of (opened j).state; sent = (here j).sent; held = (here j).held }))
+      (record { phase = phase_of (opened j).state; sent = (here j).sent; held = (here j).held; wide = (here j).wide }))
 
   module _ (octets : List ℕ) (s : SessionFields) where
     pub taken_on : HasHeard e.session octets s None
@@ -87,11 +69,13 @@ module _ (x : Checked) (wants : Objects) (es : List FeedEnd) (are : AreEnds x wa
             phase = phase_of (t.state j);
             sent = low_of e.sent;
             held = after empty (filter_map change_of (sym t.none j));
+            wide = false;
           }))
           ∙ (λ j. set (posts_of es) i (record {
             phase = phase_of (heard (session_is j) t.inputs).state;
             sent = (here j).sent;
             held = after (here j).held (filter_map change_of (heard (session_is j) t.inputs).records);
+            wide = (here j).wide;
           }));
     }
 
@@ -106,49 +90,3 @@ module _ (x : Checked) (wants : Objects) (es : List FeedEnd) (are : AreEnds x wa
           ∙ ap (λ (ps : List Post). slice_set ps i nothing) (posts_set es i (record e { session = s }))
           ∙ set-set (posts_of es) i (end_at (record e { session = s })) nothing;
     }
-
--- ---- the input of a step
-module _ (x : Checked) (posts posts' : List Post) (input : Input) where
-  abbrev pub BeginsBy : Option ItemCause → List (List ℕ) → Type 0
-  BeginsBy cause replies =
-      (given : Begun)
-      × Begins x (session_of input) (post posts (session_of input)) input given cause
-      × HasBegun posts (session_of input) given replies posts'
-
-module _ (x : Checked) (posts posts' : List Post) (input : Input) (session : ℕ) (replies : List (List ℕ)) where
-  pub begun_opened : input ≡ In.Opened session → replies ≡ spelling (Hello config) ∷ []
-      → posts' ≡ slice_set posts session (record (post posts session) { phase = Opened })
-      → BeginsBy x posts posts' input None replies
-  begun_opened is hello e =
-      let given : Begun = record {
-        replies = spelling (Hello config) ∷ [];
-        after = Some (record (post posts session) { phase = Opened });
-      } in
-      subst (λ (given_input : Input). BeginsBy x posts posts' given_input None replies) (sym is)
-      (given, (refl, refl), record { replied = hello; applied = e })
-
-  pub begun_bytes : (bytes : Bor (List ℕ)) (cause : Option ItemCause) → input ≡ In.Bytes session bytes → replies ≡ []
-      → HasTaken x session bytes.now posts posts' cause → BeginsBy x posts posts' input cause replies
-  begun_bytes bytes cause is none t =
-      let s = session_at x session (post posts session).phase in
-      let given : Begun = record {
-        replies = [];
-        after = left_by (post posts session) (heard s t.inputs) (heard s t.inputs).cause;
-      } in
-      subst (λ (given_input : Input). BeginsBy x posts posts' given_input cause replies) (sym is) (
-        given,
-        (t.inputs, t.hears, refl, t.why),
-        record {
-          replied = none;
-          applied = t.left
-              ∙ ap (λ (w : Option ItemCause).
-              slice_set posts session (end_of (left_by (post posts session) (heard s t.inputs) w))) t.why;
-        },
-      )
-
-  pub begun_closed : input ≡ In.Closed session → replies ≡ [] → posts' ≡ slice_set posts session nothing
-      → BeginsBy x posts posts' input None replies
-  begun_closed is none e =
-      let given : Begun = record { replies = []; after = None } in
-      subst (λ (given_input : Input). BeginsBy x posts posts' given_input None replies) (sym is)
-      (given, (refl, refl), record { replied = none; applied = e })

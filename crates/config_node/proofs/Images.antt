@@ -1,8 +1,7 @@
 -- Low-level objects among the keys and values of all sessions.
 use Rattle.std.specs.Prelude.{◌≡◌, List, [], ◌∷◌, map}
-use Rattle.std.specs.Cmp.{IsTotalOrder, on_total}
-use Rattle.std.specs.FinMap.{FinMap, IsAntisymmetric, empty, from_entries, insert}
-use Rattle.std.proofs.Common.{refl, sym, ◌∙◌, ap, subst, rules}
+use Rattle.std.specs.FinMap.{FinMap, empty, from_entries, insert}
+use Rattle.std.proofs.Common.{refl, sym, ◌∙◌, ap}
 use Rattle.ov_sync.specs.declared.Delta.{Delta}
 use Rattle.ov_sync.specs.declared.Delta.TheVariants.{Put}
 use Rattle.ov_sync.specs.Keyed as keyed
@@ -10,53 +9,15 @@ use Rattle.ov_sync.specs.Keyed.{map_of}
 use Rattle.ov_sync.specs.Embed.{embedded, moved_delta, moved_entry}
 use Rattle.ov_sync.proofs.Ascending.{entries-empty}
 use Rattle.ov_sync.proofs.EmbedLaws.{changed-embedded, difference-embedded}
-use Rattle.ov_types.specs.Keys.{low_key_cmp}
 use Rattle.ov_types.specs.contracts.objects.LowValuePartialEq.TheImpl as low_values
 use Rattle.ov_types.specs.declared.objects.LowKey.{LowKey}
-use Rattle.ov_types.specs.declared.objects.LowKey.TheVariants.{Instance, Attach, Acl, ChainUse}
 use Rattle.ov_types.specs.declared.objects.LowValue.{LowValue}
-use Rattle.node_model.specs.Keys.{Key, Low, key_cmp}
+use Rattle.node_model.specs.Keys.{Low, key_cmp}
 use Rattle.node_model.specs.Maps.{Map, difference}
 use Rattle.node_model.specs.Values.{Object, same_value}
-use Rattle.node_model.proofs.Images as images
+use Rattle.node_model.proofs.Directions.{low_keeps, low_total, low_exact}
 use Rattle.node_model.proofs.Orders.{key_exact, key_total}
 use Rattle.config_node.specs.Ends.{Objects, low_of, low_order}
-
-low_same : (a b : LowKey) → low_key_cmp a b ≡ low_order a b
-low_same (Instance m) (Instance n) = search rules
-low_same (Attach m) (Attach n) = search rules
-low_same (Acl a b) (Acl c d) = search rules
-low_same (ChainUse m) (ChainUse n) = search rules
-low_same (Instance m) (Attach n) = refl
-low_same (Instance m) (Acl c d) = refl
-low_same (Instance m) (ChainUse n) = refl
-low_same (Attach m) (Instance n) = refl
-low_same (Attach m) (Acl c d) = refl
-low_same (Attach m) (ChainUse n) = refl
-low_same (Acl a b) (Instance n) = refl
-low_same (Acl a b) (Attach n) = refl
-low_same (Acl a b) (ChainUse n) = refl
-low_same (ChainUse m) (Instance n) = refl
-low_same (ChainUse m) (Attach n) = refl
-low_same (ChainUse m) (Acl c d) = refl
-
-low_keeps : (a b : LowKey) → key_cmp (Low a) (Low b) ≡ low_order a b
-low_keeps a b = images.low_keeps a b ∙ low_same a b
-
-pub low_total : IsTotalOrder low_order
-low_total = subst IsTotalOrder (λ i x y. low_keeps x y i) (on_total Low key_total)
-
-a_low : LowKey → Key → LowKey
-a_low d (Low k) = k
-a_low d _ = d
-
-low_again : (d k : LowKey) → a_low d (Low k) ≡ k
-unfolding a_low
-low_again d k = refl
-
-low_exact : IsAntisymmetric low_order
-low_exact x y e =
-    sym (low_again x x) ∙ ap (a_low x) (key_exact (Low x) (Low y) (low_keeps x y ∙ e)) ∙ low_again x y
 
 pub low-empty : low_of [] ≡ empty
 low-empty =

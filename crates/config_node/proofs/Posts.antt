@@ -4,15 +4,13 @@ use Rattle.std.specs.Prelude.{if◌then◌else◌}
 use Rattle.std.specs.List.{AllByRecursion, slice_index_or}
 use Rattle.std.proofs.Common.{refl, sym, ◌∙◌, ap, subst, set, get_or, take, drop, arith}
 use Rattle.std.proofs.Math.Seq.{map-set_same}
-use Rattle.std.proofs.lemmas.List.{get_or-map, length-map, map_more, take_at}
+use Rattle.std.proofs.lemmas.List.{get_or-map, length-map, map_more}
 use Rattle.ov_sync.proofs.KeyedLaws.{empty_values}
 use Rattle.ov_types.specs.declared.rows.NodeId.{NodeId}
-use Rattle.item_wire.specs.Happenings.{SessionFields, after, next_state}
-use Rattle.item_wire.specs.declared.event.ItemState.{ItemState}
-use Rattle.item_wire.specs.declared.event.ItemState.TheVariants.{Idle, Opened, Up}
+use Rattle.item_wire.specs.Happenings.{SessionFields, after}
+use Rattle.item_wire.specs.declared.event.ItemState.TheVariants.{Idle}
 use Rattle.item_wire.specs.declared.event.ItemFrom.{ItemFrom}
 use Rattle.item_wire.specs.declared.input.Came.TheVariants.{Closed}
-use Rattle.config_model.specs.declared.topology.Topology.{Topology}
 use Rattle.config_check.specs.Checked.{Checked}
 use Rattle.node_core.specs.Plans.{ArePlans}
 use Rattle.node_core.specs.declared.ends.Plan.{Plan}
@@ -20,6 +18,8 @@ use Rattle.node_items.specs.Beginning.{phase_of}
 use Rattle.node_items.specs.Told.{AllFit, Fits, spelled}
 use Rattle.node_model.specs.Keys.{key_cmp}
 use Rattle.node_model.specs.Maps.{difference}
+use Rattle.node_items.proofs.States.{closes}
+use Rattle.node_core.proofs.Lists.{all-at, all-set}
 use Rattle.node_model.specs.Step.{Post, changes, nothing, post, told_all}
 use Rattle.network_model.specs.Setup.{low}
 use Rattle.config_node.specs.Beginning.{no_node}
@@ -44,11 +44,6 @@ posts_set (x ∷ es) zero e = refl
 posts_set (x ∷ es) (suc i) e = ap (λ (ps : List Post). end_at x ∷ ps) (posts_set es i e)
 
 -- ---- an end that is closed
-closes : (state : ItemState) → next_state state Closed ≡ Idle
-closes Idle = refl
-closes Opened = refl
-closes Up = refl
-
 pub nothing_sent : (e : FeedEnd) → e.sent ≡ [] → SentFits e
 nothing_sent e is = subst AllFit (sym (ap low_of is ∙ low-empty)) (empty_values key_cmp Fits)
 
@@ -60,18 +55,6 @@ pub shut_at : (e : FeedEnd) (before : SessionFields) → e.session ≡ after bef
 shut_at e before is sent = nothing_at e (ap (λ (s : SessionFields). s.state) is ∙ closes before.state) sent
 
 -- ---- what always holds, after one end changed
-pub all-set : {X : Type 0} (P : X → Type 0) (xs : List X) (i : ℕ) (x : X) → AllByRecursion P xs → P x
-    → AllByRecursion P (set xs i x)
-all-set P [] i x all h = all
-all-set P (y ∷ xs) zero x all h = (h, all.1)
-all-set P (y ∷ xs) (suc i) x all h = (all.0, all-set P xs i x all.1 h)
-
-pub all-at : {X : Type 0} (P : X → Type 0) (xs : List X) (i : ℕ) (d : X) → AllByRecursion P xs → i < length xs
-    → P (slice_index_or xs i d)
-all-at P [] i d all lt = absurd (omega (arith, lt))
-all-at P (x ∷ xs) zero d all lt = all.0
-all-at P (x ∷ xs) (suc i) d all lt = all-at P xs i d all.1 (omega (arith, lt))
-
 pub ends_set : (x : Checked) (wants : Objects) (es : List FeedEnd) (i : ℕ) (e d : FeedEnd) → AreEnds x wants es
     → whom_at e ≡ whom_at (slice_index_or es i d) → SentFits e → AreEnds x wants (set es i e)
 ends_set x wants es i e d are same sent = record {
@@ -104,22 +87,6 @@ ends_told x wants es es' are same sent = record {
   fits = are.fits;
   sent = sent;
 }
-
--- other objects are to be told of another configuration, with the same control nodes
-pub ends_edited : (x y : Checked) (wants wants' : Objects) (es : List FeedEnd) → AreEnds x wants es
-    → y.topology ≡ x.topology → low_of wants' ≡ low y → AllFit (low y) → AreEnds y wants' es
-ends_edited x y wants wants' es are same is fits = record {
-  some = subst (λ (t : Topology). 1 ≤ length t.controllers) (sym same) are.some;
-  few = subst (λ (t : Topology). length t.controllers ≤ 8) (sym same) are.few;
-  whose = are.whose ∙ ap (λ (t : Topology). map controller t.controllers) (sym same);
-  wanted = is;
-  fits = fits;
-  sent = are.sent;
-}
-
--- a vector that was lent as a slice, and written
-pub written : {X : Type 0} (n : ℕ) (new old : List X) → length new ≡ n → take n (new ++ drop (length new) old) ≡ new
-written n new old e = take_at new (drop (length new) old) n e
 
 pub ends_long : (x : Checked) (wants : Objects) (es : List FeedEnd) → AreEnds x wants es
     → length es ≡ length x.topology.controllers

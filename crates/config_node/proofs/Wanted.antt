@@ -1,9 +1,8 @@
 -- What the control nodes are to be told: the low-level objects of what is valid.
-use Rattle.std.specs.Prelude.{◌≡◌, ◌≤◌, List, [], ◌∷◌, ◌++◌, ◌&&◌, map, nat_le, length, IsTrue, None}
+use Rattle.std.specs.Prelude.{◌≡◌, ◌≤◌, [], ◌&&◌, map, nat_le, length, IsTrue, None}
 use Rattle.std.specs.List.{list_all}
-use Rattle.std.specs.declared.cmp.Ordering.{Ordering}
-use Rattle.std.specs.FinMap.{FinMap, from_entries, insert}
-use Rattle.std.proofs.Common.{sym, ◌∙◌, ap}
+use Rattle.std.specs.FinMap.{from_entries}
+use Rattle.std.proofs.Common.{◌∙◌, ap}
 use Rattle.std.proofs.lemmas.Bool.{and_parts, leb-true}
 use Rattle.ov_sync.specs.Embed.{embedded}
 use Rattle.ov_sync.specs.Keyed.{map_of}
@@ -20,19 +19,6 @@ use Rattle.node_model.specs.Wants.{slice_entry}
 use Rattle.network_model.specs.Setup.{low}
 use Rattle.config_node.specs.Ends.{Objects, low_of, low_order}
 use Rattle.config_node.proofs.Images.{low-entries}
-
--- ---- entries go into a map, the last first
-put_last : {K V : Type 0} (R : K → K → Ordering) (rest es fs : List (K × V)) (e : K × V)
-    → map_of R fs ≡ insert (map_of R es) e.0 e.1 → map_of R (rest ++ fs) ≡ map_of R ((rest ++ e ∷ []) ++ es)
-put_last R [] es fs e h = h
-put_last {V = V} R (x ∷ rest) es fs e h =
-    ap (λ (m : FinMap R V). insert m x.0 x.1) (put_last R rest es fs e h)
-
-pub turn : {K V : Type 0} (R : K → K → Ordering) (rest before es fs : List (K × V)) (e : K × V) (whole : FinMap R V)
-    → before ≡ rest ++ e ∷ [] → map_of R fs ≡ insert (map_of R es) e.0 e.1 → map_of R (before ++ es) ≡ whole
-    → map_of R (rest ++ fs) ≡ whole
-turn {K = K} {V = V} R rest before es fs e whole is h all =
-    put_last R rest es fs e h ∙ ap (λ (l : List (K × V)). map_of R (l ++ es)) (sym is) ∙ all
 
 -- ---- they are those of the model
 pub as_wanted : (x : Checked) (objects held : Objects) → objects ≡ low_objects x.topology x.config

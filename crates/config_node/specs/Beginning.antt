@@ -7,24 +7,16 @@ use Rattle.ov_types.specs.declared.rows.NodeId.{NodeId}
 use Rattle.item_wire.specs.Happenings.{SessionFields}
 use Rattle.item_wire.specs.declared.event.ItemCause.{ItemCause}
 use Rattle.item_wire.specs.declared.event.ItemFrom.TheVariants as From
-use Rattle.item_wire.specs.declared.event.ItemState.{ItemState}
-use Rattle.item_wire.specs.declared.event.ItemState.TheVariants as State
 use Rattle.config_check.specs.Checked.{Checked}
 use Rattle.node_items.specs.Beginning as item
-use Rattle.node_model.specs.Step.{Begun, Phase, Idle, Up, Post}
+pub use Rattle.node_items.specs.Beginning.{state_at}
+pub use Rattle.node_model.specs.Naming.{no_node}
+use Rattle.node_model.specs.Step.{Begun, Phase, Post}
 use Rattle.network_model.specs.Network.{config}
-
-abbrev pub no_node : NodeId
-no_node = record { name = []; address = record { 0 = 0 } }
 
 -- the control node at the other end of a session
 abbrev pub controller_at : Checked → ℕ → NodeId
 controller_at x i = slice_index_or x.topology.controllers i no_node
-
-abbrev pub state_at : Phase → ItemState
-state_at Idle = State.Idle
-state_at Up = State.Up
-state_at _ = State.Opened
 
 -- the session of an end in this state. A control node sends its hello there, and nothing else
 abbrev pub session_at : Checked → ℕ → Phase → SessionFields

@@ -1,13 +1,13 @@
 -- What is seen of the configuration node: what is valid now, its ends, and whether it failed.
-use Rattle.std.specs.Prelude.{ℕ, List, length, Bool, false, not, refl}
+use Rattle.std.specs.Prelude.{ℕ, List, length, Bool, false, refl}
 use Rattle.std.specs.Coded.{Coded, code_by, coded×, coded_bool, coded_list}
 use Rattle.config_check.specs.Checked.{Checked}
 use Rattle.config_check.specs.contracts.valid.Valid as valid
 use Rattle.node_items.specs.Told.{spelled}
 use Rattle.node_model.specs.Codes.{coded_post}
 use Rattle.node_model.specs.Maps.{Map}
-pub use Rattle.node_core.specs.Resting.{is_idle, is_up, nothings}
-use Rattle.node_model.specs.Step.{Kind, Phase, Post}
+pub use Rattle.node_core.specs.Resting.{is_idle, is_up, may_send, nothings}
+use Rattle.node_model.specs.Step.{Kind, Post}
 use Rattle.network_model.specs.Setup.{low}
 
 -- its ends are those of the control nodes, in the order of the topology
@@ -22,9 +22,6 @@ sessions x = length x.topology.controllers
 -- ---- what it wants its sessions to have been told: the low-level objects of the configuration, from their opening on
 abbrev pub wanted : Checked → List Post → ℕ → Map
 wanted x posts i = low x
-
-abbrev pub may_send : ℕ → Phase → Bool
-may_send i phase = not (is_idle phase)
 
 abbrev pub kind : Checked → Kind
 kind x = record { wanted = wanted x; may_send = may_send; spelled = λ i c. spelled c }

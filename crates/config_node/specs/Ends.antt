@@ -1,12 +1,10 @@
 -- The ends of the configuration node's sessions, and what always holds of them.
-use Rattle.std.specs.Prelude.{◌≡◌, ◌≤◌, ℕ, List, [], map, length, refl}
+use Rattle.std.specs.Prelude.{◌≡◌, ◌≤◌, ℕ, List, [], map, length, false, refl}
 use Rattle.std.specs.Coded.{Coded, code_by, coded×, coded_list}
 use Rattle.std.specs.FinMap.{empty}
 use Rattle.std.specs.List.{AllByRecursion}
-use Rattle.std.specs.declared.cmp.Ordering.{Ordering}
 use Rattle.ov_sync.specs.Embed.{embedded}
 use Rattle.ov_sync.specs.Keyed.{map_of}
-use Rattle.ov_types.specs.contracts.objects.LowKeyOrd.TheImpl as low_keys
 use Rattle.ov_types.specs.declared.objects.LowKey.{LowKey}
 use Rattle.ov_types.specs.declared.objects.LowValue.{LowValue}
 use Rattle.ov_types.specs.declared.rows.NodeId.{NodeId}
@@ -18,6 +16,7 @@ use Rattle.config_check.specs.contracts.valid.Valid as valid
 use Rattle.node_items.specs.Beginning.{phase_of}
 use Rattle.node_items.specs.Told.{AllFit}
 use Rattle.node_model.specs.Codes.{coded_post}
+pub use Rattle.node_model.specs.Directions.{low_order}
 use Rattle.node_model.specs.Keys.{Low, key_cmp}
 use Rattle.node_model.specs.Maps.{Map}
 use Rattle.node_model.specs.Step.{Post}
@@ -33,15 +32,12 @@ pub record Ends : Type 0 where
 abbrev pub Objects : Type 0
 Objects = List (LowKey × LowValue)
 
-abbrev pub low_order : LowKey → LowKey → Ordering
-low_order = low_keys.ghosts.cmp
-
 abbrev pub low_of : Objects → Map
 low_of es = embedded {S = key_cmp} Low Object (map_of low_order es)
 
--- ---- an end, with what was sent on its session. Nothing is held of a control node
+-- ---- an end, with what was sent on its session. Nothing is held of a control node, and no OPEN comes
 abbrev pub end_at : FeedEnd → Post
-end_at e = record { phase = phase_of e.session.state; sent = low_of e.sent; held = empty }
+end_at e = record { phase = phase_of e.session.state; sent = low_of e.sent; held = empty; wide = false }
 
 abbrev pub posts_of : List FeedEnd → List Post
 posts_of es = map end_at es

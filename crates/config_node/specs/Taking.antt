@@ -1,13 +1,12 @@
 -- What octets make of an end.
 use Rattle.std.specs.Prelude.{◌≡◌, ℕ, List, [], Option}
-use Rattle.std.specs.List.{slice_set}
 use Rattle.item_wire.specs.Happenings.{SessionFields}
 use Rattle.item_wire.specs.declared.event.ItemCause.{ItemCause}
 use Rattle.item_wire.specs.declared.input.Came.{Came}
 use Rattle.config_check.specs.Checked.{Checked}
-use Rattle.node_items.specs.Beginning.{left_by}
 use Rattle.node_items.specs.Hearing.{Hears, heard}
-use Rattle.node_model.specs.Step.{Post, end_of, post}
+use Rattle.node_items.specs.Taking as item
+use Rattle.node_model.specs.Step.{Post}
 use Rattle.config_node.specs.Beginning.{session_at}
 
 -- a session once it heard octets. No record is handed out
@@ -19,10 +18,5 @@ pub record HasHeard (s : SessionFields) (octets : List ℕ) (s' : SessionFields)
   pub none : (heard s inputs).records ≡ []
 
 -- the end of a session once octets came on it
-pub record HasTaken (x : Checked) (session : ℕ) (octets : List ℕ) (posts posts' : List Post) (cause : Option ItemCause)
-    : Type 0 where
-  pub inputs : List Came
-  pub hears : Hears (session_at x session (post posts session).phase) octets inputs
-  pub why : cause ≡ (heard (session_at x session (post posts session).phase) inputs).cause
-  pub left : posts' ≡ slice_set posts session
-      (end_of (left_by (post posts session) (heard (session_at x session (post posts session).phase) inputs) cause))
+abbrev pub HasTaken : Checked → ℕ → List ℕ → List Post → List Post → Option ItemCause → Type 0
+HasTaken x = item.HasTaken (session_at x)

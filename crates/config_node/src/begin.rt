@@ -15,20 +15,10 @@ ghost use Rattle.config_node.specs.Taking.{HasHeard, HasTaken};
 use crate::ends::ConfigEnds;
 use item_wire::{ItemCause, ItemSession};
 use node_core::{Ends, Started};
-use node_items::{Heard, greet, hear};
+use node_items::{Heard, config_name, greet, hear};
 use ov_link::Input;
-use ov_types::{Items, Name, NoMemory};
+use ov_types::{Items, NoMemory};
 use std::alloc::Global;
-
-/// The configuration node's name.
-fn config_name() -> Name
-    ensures { result ≡ config }
-{
-    match Name::new("config") {
-        Some(name) => name,
-        None => unreachable!(),
-    }
-}
 
 /// Hears octets at an end. A control node sends its hello alone, so that any other record takes the session down.
 fn hear_at(

@@ -1,5 +1,5 @@
 //! What the sessions of the configuration node are to be told in a pass.
-ghost use Rattle.std.specs.Prelude.{◌≡◌, IfOk, OnOk, map, not};
+ghost use Rattle.std.specs.Prelude.{◌≡◌, IfOk, map};
 ghost use Rattle.std.specs.List.{All, AllByRecursion};
 ghost use Rattle.ov_sync.specs.Embed.{moved_delta};
 ghost use Rattle.node_items.specs.Told.{AllFit, ChangeFits, spelled};

@@ -1,12 +1,11 @@
 //! What the control nodes are to be told of a configuration.
 ghost use Rattle.std.specs.Prelude.{◌≡◌, IfOk};
-ghost use Rattle.std.specs.FinMap.{from_entries};
-ghost use Rattle.ov_sync.specs.Keyed.{map_of};
 ghost use Rattle.node_items.specs.Told.{AllFit};
 ghost use Rattle.network_model.specs.Setup.{low};
 ghost use Rattle.config_node.specs.Ends.{low_of};
 
 use config_check::Valid;
+use ov_sync::first_of_each;
 use ov_types::{LowKey, LowValue, NoMemory};
 use schema_transform::low;
 use std::alloc::Global;
@@ -15,20 +14,6 @@ use std::collections::BTreeMap;
 /// Low-level objects by their keys.
 pub(crate) type Objects = BTreeMap<LowKey, LowValue>;
 
-/// The map of entries. Of those of one key the first counts.
-fn by_keys<K: Ord + Drop, V: Drop>(
-    alloc: Global,
-    mut entries: Vec<(K, V)>,
-) -> Result<BTreeMap<K, V>, NoMemory>
-    ensures { IfOk result (λ map. map_of K.cmp map.entries ≡ from_entries entries.items) }
-{
-    let mut map = BTreeMap::new(alloc);
-    while let Some((key, value)) = entries.pop() {
-        map.insert(key, value)?;
-    }
-    Ok(map)
-}
-
 /// The low-level objects of a valid configuration.
 pub(crate) fn wanted(alloc: Global, valid: &Valid) -> Result<Objects, NoMemory>
     ensures wanted { IfOk result (λ objects. low_of objects.entries ≡ low valid.now) }
@@ -36,6 +21,6 @@ pub(crate) fn wanted(alloc: Global, valid: &Valid) -> Result<Objects, NoMemory>
 {
     let _config = valid.config();
     let objects = low(alloc, valid)?;
-    let wants = by_keys(alloc, objects.into_vec())?;
+    let wants = first_of_each(alloc, objects.into_vec())?;
     Ok(wants)
 }

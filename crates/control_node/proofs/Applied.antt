@@ -116,22 +116,10 @@ within (Put (K.ChainUse n) (V.ChainUse left right lefts rights hops)) h =
     of_uses n hops h.1.item left right lefts rights (sym (same_Some (I.Use hops left lefts right rights n) h.1.item h.1.is)) h.1.writable
 within (Put k v) h = tt
 
-pub object_within : (i : Item) (d : Delta LowKey LowValue) → IsWritable i → Some (moved_delta Low Object d) ≡ change_of i → PutOf ranges.Fits d
-object_within i d w e = within d (subst (λ (o : Option Change). IfSome o ChangeFits) (sym e) (read_fits i w))
-
 -- ---- the feed
 pub feed-changed : (h h' : Holdings) (i : Item) (d : Delta LowKey LowValue) → h' ≡ with_low h d → Some (moved_delta Low Object d) ≡ change_of i
     → h' ≡ feed_by (λ m. changed_by m (change_of i)) h
 feed-changed h h' i d e o = e ∙ ap (λ (o : Option Change). feed_by (λ m. changed_by m o) h) o
-
-pub feed-kept : (h : Holdings) (i : Item) → None ≡ change_of i → h ≡ feed_by (λ m. changed_by m (change_of i)) h
-feed-kept h i o = ap (λ (o : Option Change). feed_by (λ m. changed_by m o) h) o
-
-pub feed-next : (h h' : Holdings) (i : Item) (is : List Item) → h' ≡ feed_by (λ m. changed_by m (change_of i)) h
-    → feed_by (λ m. after m (filter_map change_of is)) h' ≡ feed_by (λ m. after m (filter_map change_of (i ∷ is))) h
-feed-next h h' i is e =
-    ap (feed_by (λ m. after m (filter_map change_of is))) e
-    ∙ ap (λ (m : Map). record h { feed = m }) (after-cons h.feed (change_of i) (filter_map change_of is))
 
 -- ---- an agent
 at_session-twice : (f g : Map → Map) (ts : List Told) (session : ℕ) → at_session f (at_session g ts session) session ≡ at_session (λ m. f (g m)) ts session
@@ -162,9 +150,6 @@ at_session-same (a ∷ ts) session =
 
 pub agent-same : (h : Holdings) (session : ℕ) → agent_by (λ m. m) h session ≡ h
 agent-same h session = ap (λ (l : List Told). record h { agents = l }) (at_session-same h.agents session)
-
-pub agent-kept : (h : Holdings) (session : ℕ) (i : Item) → None ≡ change_of i → h ≡ agent_by (λ m. changed_by m (change_of i)) h session
-agent-kept h session i o = sym (agent-same h session) ∙ ap (λ (o : Option Change). agent_by (λ m. changed_by m o) h session) o
 
 pub agent-next : (h h' : Holdings) (session : ℕ) (i : Item) (is : List Item) → h' ≡ agent_by (λ m. changed_by m (change_of i)) h session
     → agent_by (λ m. after m (filter_map change_of is)) h' session ≡ agent_by (λ m. after m (filter_map change_of (i ∷ is))) h session

@@ -12,7 +12,7 @@ use Rattle.node_items.proofs.Maps.{nothing_fits}
 use Rattle.node_model.specs.Keys.{key_cmp, of_down}
 use Rattle.node_model.specs.Maps.{Map}
 use Rattle.node_model.specs.Paths.{Holdings, Told}
-use Rattle.node_model.specs.Step.{Idle, nothing}
+use Rattle.node_model.specs.Step.{nothing}
 use Rattle.vpn_tables.specs.Changes.{emptied_at, without}
 use Rattle.vpn_tables.proofs.Images.{peer-empty}
 use Rattle.control_node.specs.declared.ends.AgentEnd.{AgentEnd}
@@ -42,7 +42,7 @@ module _ (feed : ItemState) (es : List PeerEnd) (ts : List AgentEnd) (h : Holdin
       let none = at_session-none (λ m. empty) h.agents ts (1 + length es) (suc i) agents (omega (arith, lt)) in
       (λ k. posts_of feed (set es i (closed_peer e)) ts (record h { peers = emptied-set h.peers i k; agents = none k }))
       ∙ posts-peer feed es ts h i (closed_peer e) empty lt (omega (arith, lt, peers))
-      ∙ ap (λ (m : Map). set (posts_of feed es ts h) (suc i) (record { phase = Idle; sent = m; held = empty })) peer-empty
+      ∙ ap (λ (m : Map). set (posts_of feed es ts h) (suc i) (record nothing { sent = m })) peer-empty
 
   pub peer-closed : (session i : ℕ) (e : PeerEnd) → session ≡ suc i → i < length es
       → posts_of feed (set es i (closed_peer e)) ts (without h session) ≡ set (posts_of feed es ts h) session nothing
@@ -56,7 +56,7 @@ module _ (feed : ItemState) (es : List PeerEnd) (ts : List AgentEnd) (h : Holdin
       let past = emptied-past h.peers (length es + i) (omega (arith, peers)) in
       (λ k. posts_of feed es (set ts i (closed_agent e)) (record h { peers = past k; agents = there k }))
       ∙ posts-agent feed es ts h i (closed_agent e) (record (get_or h.agents i d) { map = empty }) lt (omega (arith, lt, long))
-      ∙ ap (λ (m : Map). set (posts_of feed es ts h) (suc (length es + i)) (record { phase = Idle; sent = m; held = empty })) down-empty
+      ∙ ap (λ (m : Map). set (posts_of feed es ts h) (suc (length es + i)) (record nothing { sent = m })) down-empty
 
   pub agent-closed : (session i : ℕ) (e : AgentEnd) (d : Told) → session ≡ suc (length es + i) → i < length ts
       → posts_of feed es (set ts i (closed_agent e)) (without h session) ≡ set (posts_of feed es ts h) session nothing

@@ -1,10 +1,9 @@
 -- What is told of a peer and of an agent, among the keys and values of all sessions.
 use Rattle.std.specs.Prelude.{◌≡◌, List, [], ◌∷◌, map, Some}
-use Rattle.std.specs.Cmp.{IsTotalOrder, on_total}
 use Rattle.std.specs.List.{AllByRecursion}
-use Rattle.std.specs.FinMap.{IsAntisymmetric, get}
+use Rattle.std.specs.FinMap.{get}
 use Rattle.std.specs.Option.{option_map}
-use Rattle.std.proofs.Common.{refl, sym, ◌∙◌, ap, subst, rules}
+use Rattle.std.proofs.Common.{refl, ◌∙◌, ap, subst}
 use Rattle.ov_sync.specs.declared.Delta.{Delta}
 use Rattle.ov_sync.specs.declared.Delta.TheVariants.{Put, Drop}
 use Rattle.ov_sync.specs.Keyed as keyed
@@ -12,32 +11,25 @@ use Rattle.ov_sync.specs.Keyed.{Values, PutOf, map_of}
 use Rattle.ov_sync.specs.Embed.{moved_delta}
 use Rattle.ov_sync.proofs.EmbedLaws.{difference-embedded, get_embedded}
 use Rattle.ov_sync.proofs.KeyedLaws.{difference_puts}
-use Rattle.ov_types.specs.Keys.{down_key_cmp}
 use Rattle.ov_types.specs.contracts.keys.DownValuePartialEq.TheImpl as down_values
 use Rattle.ov_types.specs.contracts.vpn.VpnRoutePartialEq.TheImpl as vpn_routes
 use Rattle.ov_types.specs.declared.keys.DownKey.{DownKey}
-use Rattle.ov_types.specs.declared.keys.DownKey.TheVariants as Down
 use Rattle.ov_types.specs.declared.keys.DownValue.{DownValue}
 use Rattle.ov_types.specs.declared.keys.DownValue.TheVariants as Told
-use Rattle.ov_types.specs.declared.objects.LowKey.{LowKey}
 use Rattle.ov_types.specs.declared.objects.LowKey.TheVariants as Object
 use Rattle.ov_types.specs.declared.vpn.VpnKey.{VpnKey}
 use Rattle.ov_types.specs.declared.vpn.VpnRoute.{VpnRoute}
 use Rattle.bgp_vpn.specs.Written.{IfPut}
 use Rattle.node_items.specs.Told.{ChangeFits, down_of, down_order, down_value}
-use Rattle.node_model.specs.Keys.{Key, Low, Row, Vpn, key_cmp, of_down}
+use Rattle.node_model.specs.Keys.{Row, Vpn, of_down}
 use Rattle.node_model.specs.Maps.{difference}
 use Rattle.node_model.specs.Values.{Route, same_value}
-use Rattle.node_model.proofs.Images as images
-use Rattle.node_model.proofs.Orders.{key_total, key_exact}
+use Rattle.node_model.proofs.Directions.{vpn_keeps, vpn_total, vpn_exact, down_keeps, down_total, down_exact}
+use Rattle.node_model.proofs.Orders.{key_total}
 use Rattle.node_peers.specs.Told.{IsWritable}
 use Rattle.vpn_tables.specs.Views.{peer_of, vpn_order}
-use Rattle.vpn_tables.proofs.Images.{vpn_exact, vpn_total}
 
 -- ---- routes
-vpn_keeps : (a b : VpnKey) → key_cmp (Vpn a) (Vpn b) ≡ vpn_order a b
-vpn_keeps a b = images.vpn_keeps a b ∙ search rules
-
 abbrev pub route_changes : List (VpnKey × VpnRoute) → List (VpnKey × VpnRoute) → List (Delta VpnKey VpnRoute)
 route_changes sent wanted =
     keyed.difference vpn_routes.ghosts.eq (map_of vpn_order sent) (map_of vpn_order wanted)
@@ -70,50 +62,6 @@ changes_of_routes_fit sent wanted f =
     (map_of vpn_order sent) (map_of vpn_order wanted) f)
 
 -- ---- items
-low_same : (a b : LowKey) → down_key_cmp (Down.Slice a) (Down.Slice b) ≡ down_order (Down.Slice a) (Down.Slice b)
-low_same (Object.Instance m) (Object.Instance n) = search rules
-low_same (Object.Attach m) (Object.Attach n) = search rules
-low_same (Object.Acl a b) (Object.Acl c d) = search rules
-low_same (Object.ChainUse m) (Object.ChainUse n) = search rules
-low_same (Object.Instance m) (Object.Attach n) = refl
-low_same (Object.Instance m) (Object.Acl c d) = refl
-low_same (Object.Instance m) (Object.ChainUse n) = refl
-low_same (Object.Attach m) (Object.Instance n) = refl
-low_same (Object.Attach m) (Object.Acl c d) = refl
-low_same (Object.Attach m) (Object.ChainUse n) = refl
-low_same (Object.Acl a b) (Object.Instance n) = refl
-low_same (Object.Acl a b) (Object.Attach n) = refl
-low_same (Object.Acl a b) (Object.ChainUse n) = refl
-low_same (Object.ChainUse m) (Object.Instance n) = refl
-low_same (Object.ChainUse m) (Object.Attach n) = refl
-low_same (Object.ChainUse m) (Object.Acl c d) = refl
-
-down_same : (a b : DownKey) → down_key_cmp a b ≡ down_order a b
-down_same (Down.Slice a) (Down.Slice b) = low_same a b
-down_same (Down.Slice a) (Down.Route i p) = refl
-down_same (Down.Route i p) (Down.Slice b) = refl
-down_same (Down.Route i p) (Down.Route j q) = search rules
-
-down_keeps : (a b : DownKey) → key_cmp (of_down a) (of_down b) ≡ down_order a b
-down_keeps a b = images.down_keeps a b ∙ down_same a b
-
-pub down_total : IsTotalOrder down_order
-down_total = subst IsTotalOrder (λ i x y. down_keeps x y i) (on_total of_down key_total)
-
-a_down : DownKey → Key → DownKey
-a_down d (Low k) = Down.Slice k
-a_down d (Row i p) = Down.Route i p
-a_down d _ = d
-
-down_again : (d k : DownKey) → a_down d (of_down k) ≡ k
-unfolding a_down
-down_again d (Down.Slice k) = refl
-down_again d (Down.Route i p) = refl
-
-pub down_exact : IsAntisymmetric down_order
-down_exact x y e =
-    sym (down_again x x) ∙ ap (a_down x) (key_exact (of_down x) (of_down y) (down_keeps x y ∙ e)) ∙ down_again x y
-
 agree : (v w : DownValue) → same_value (down_value v) (down_value w) ≡ down_values.ghosts.eq v w
 agree (Told.Object a) (Told.Object b) = refl
 agree (Told.Object a) (Told.Row b) = refl

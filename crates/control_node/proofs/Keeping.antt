@@ -72,7 +72,7 @@ module _ (me : NodeId) (asn : ℕ) (feed : SessionFields) (peers : List PeerEnd)
   pub ends-feed : (s : SessionFields) → s.peer ≡ feed.peer → s.from ≡ feed.from → AreEnds me asn s peers agents h'
   ends-feed s peer from = record {
     address = are.address;
-    asn_small = are.asn_small;
+    asn_fits = are.asn_fits;
     few = are.few;
     feed_peer = peer ∙ are.feed_peer;
     feed_from = from ∙ are.feed_from;
@@ -87,7 +87,7 @@ module _ (me : NodeId) (asn : ℕ) (feed : SessionFields) (peers : List PeerEnd)
   pub ends-peer : (i : ℕ) (e : PeerEnd) → e.session.asn ≡ asn → AreEnds me asn feed (set peers i e) agents h'
   ends-peer i e same = let long = length-set peers i e in record {
     address = are.address;
-    asn_small = are.asn_small;
+    asn_fits = are.asn_fits;
     few = (let few = are.few in omega (arith, long, few));
     feed_peer = are.feed_peer;
     feed_from = are.feed_from;
@@ -102,7 +102,7 @@ module _ (me : NodeId) (asn : ℕ) (feed : SessionFields) (peers : List PeerEnd)
   pub ends-agent : (i : ℕ) (e d : AgentEnd) → i < length agents → e.id ≡ (get_or agents i d).id → IsAgentEnd e → AreEnds me asn feed peers (set agents i e) h'
   ends-agent i e d lt same is = let long = length-set agents i e in record {
     address = are.address;
-    asn_small = are.asn_small;
+    asn_fits = are.asn_fits;
     few = (let few = are.few in omega (arith, long, few));
     feed_peer = are.feed_peer;
     feed_from = are.feed_from;

@@ -71,7 +71,7 @@ module _ (me : NodeId) (asn : ℕ) (feed : SessionFields) (peers peers' : List P
   pub ends_kept : AreEnds me asn feed peers agents h → AllByRecursion IsAgentEnd agents' → AreEnds me asn feed peers' agents' h
   ends_kept are all = record {
     address = are.address;
-    asn_small = are.asn_small;
+    asn_fits = are.asn_fits;
     few = (let few = are.few in omega (arith, peers_many, agents_many, few));
     feed_peer = are.feed_peer;
     feed_from = are.feed_from;

@@ -1,5 +1,5 @@
 -- Ends that are made.
-use Rattle.std.specs.Prelude.{◌≡◌, ◌≢◌, ℕ, zero, suc, ◌+◌, ◌<◌, ◌≤◌, List, [], ◌∷◌, ◌++◌, map, take, length, get_or}
+use Rattle.std.specs.Prelude.{◌≡◌, ◌≢◌, ℕ, zero, suc, ◌+◌, ◌^◌, ◌<◌, List, [], ◌∷◌, ◌++◌, map, take, length, get_or}
 use Rattle.std.specs.Prelude.{nat_lt, cond, true, false, None, replicate}
 use Rattle.std.specs.Ordering.{eq_by_cmp}
 use Rattle.std.specs.List.{AllByRecursion}
@@ -102,14 +102,14 @@ are_seats : (n : ℕ) (ids : List NodeId) → map seat (told_from n ids []) ≡ 
 are_seats n [] = refl
 are_seats n (x ∷ ids) = ap (λ (l : List (ℕ × Addr)). (n, x.address) ∷ l) (are_seats (suc n) ids)
 
-pub made_are : (me : NodeId) (asn : ℕ) (peers agents : List NodeId) → me.address.0 ≢ 0 → asn ≤ 65535
+pub made_are : (me : NodeId) (asn : ℕ) (peers agents : List NodeId) → me.address.0 ≢ 0 → asn < 2 ^ 32
     → length peers + length agents < 65535
     → AreEnds me asn (idle_session config From.Feed) (map (new_peer asn) peers) (map new_agent agents)
     (none_told asn peers agents)
 made_are me asn peers agents address small few =
     let p = length-map peers (new_peer asn) in let a = length-map agents new_agent in record {
       address = address;
-      asn_small = small;
+      asn_fits = small;
       few = omega (arith, p, a, few);
       feed_peer = refl;
       feed_from = refl;
@@ -171,7 +171,7 @@ made_seen me asn peers agents =
 module _ (plan : ControlPlan) (feed : SessionFields) (peers : List PeerEnd) (agents : List AgentEnd) (h : Holdings)
     (f : feed ≡ idle_session config From.Feed) (p : peers ≡ map (new_peer plan.asn) plan.peers)
     (a : agents ≡ map new_agent plan.agents) (t : h ≡ none_told plan.asn plan.peers plan.agents) where
-  pub ends_made : plan.me.address.0 ≢ 0 → plan.asn ≤ 65535 → length plan.peers + length plan.agents < 65535
+  pub ends_made : plan.me.address.0 ≢ 0 → plan.asn < 2 ^ 32 → length plan.peers + length plan.agents < 65535
       → AreEnds plan.me plan.asn feed peers agents h
   ends_made address small few =
       subst (λ (s : SessionFields). AreEnds plan.me plan.asn s peers agents h) (sym f)

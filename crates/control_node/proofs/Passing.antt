@@ -28,7 +28,7 @@ use Rattle.node_model.proofs.Alike.{same_value_decides}
 use Rattle.node_peers.specs.Told as routes
 use Rattle.vpn_tables.specs.Views.{peer_of}
 use Rattle.control_node.specs.Core.{holdings, is_peer}
-use Rattle.control_node.specs.Ends.{AreEnds, Ends, plan_of, posts_of}
+use Rattle.control_node.specs.Ends.{AreEnds, Ends, agent_post, peer_post, plan_of, posts_of}
 use Rattle.control_node.specs.Planning.{AreAgentsTold, ArePlanned, IsAgentTold, agent_plan, agent_plans, agent_sends}
 use Rattle.control_node.specs.Planning.{peer_plan, peer_sends, peer_told, wanted_on}
 use Rattle.control_node.specs.Wanting.{is_idle, is_up, kind, may_send, wanted}
@@ -36,7 +36,7 @@ use Rattle.control_node.specs.declared.ends.AgentEnd.{AgentEnd}
 use Rattle.control_node.specs.declared.ends.PeerEnd.{PeerEnd}
 use Rattle.control_node.specs.declared.plan.ControlPlan.{ControlPlan}
 use Rattle.control_node.proofs.Holding.{holdings_are}
-use Rattle.control_node.proofs.Posts.{agent_post, peer_post, post-agent, post-peer, posts-length, seated-length}
+use Rattle.control_node.proofs.Posts.{post-agent, post-peer, posts-length, seated-length}
 
 -- ---- the feed
 none_differ : difference empty empty ≡ []
@@ -64,9 +64,9 @@ agent_tells : (h : Holdings) (session : ℕ) (e e' : AgentEnd) (m : Map) → IsA
     → agent_post e' m
     ≡ (if not (is_idle (agent_post e m).phase) then record (agent_post e m) { sent = wanted_on h session } else agent_post e m)
 agent_tells h session e e' m is =
-    (λ i. record { phase = item.phase_of (is.session_stays i).state; sent = is.sent i; held = m })
+    (λ i. record (agent_post e' m) { phase = item.phase_of (is.session_stays i).state; sent = is.sent i })
     ∙ elim (agent_sends e) as (λ b.
-    record { phase = item.phase_of e.session.state; sent = if b then wanted_on h session else items.down_of e.sent; held = m }
+    record (agent_post e m) { sent = if b then wanted_on h session else items.down_of e.sent }
     ≡ (if b then record (agent_post e m) { sent = wanted_on h session } else agent_post e m)) [ true ↦ refl | false ↦ refl ]
 
 agents_told-at : (h : Holdings) (n : ℕ) (es es' : List AgentEnd) (i : ℕ) (d : AgentEnd) → AreAgentsTold h n es es'

@@ -6,27 +6,13 @@ use Rattle.std.proofs.lemmas.Bool.Decides.{nat_tests}
 use Rattle.std.proofs.lemmas.List.{set-append_left, set-append_right, get_or_append_left, get_or-append-add}
 use Rattle.ov_types.specs.declared.prefix.Addr.{Addr}
 use Rattle.item_wire.specs.declared.event.ItemState.{ItemState}
-use Rattle.node_items.specs.Beginning as item
-use Rattle.node_items.specs.Told.{down_of}
 use Rattle.node_model.specs.Maps.{Map}
 use Rattle.node_model.specs.Paths.{Holdings, Told}
 use Rattle.node_model.specs.Step.{Post, nothing, post}
-use Rattle.node_peers.specs.Beginning as route
 use Rattle.vpn_tables.specs.Changes.{at_session}
-use Rattle.vpn_tables.specs.Views.{peer_of}
 use Rattle.control_node.specs.declared.ends.AgentEnd.{AgentEnd}
 use Rattle.control_node.specs.declared.ends.PeerEnd.{PeerEnd}
-use Rattle.control_node.specs.Ends.{peer_posts, agent_posts, posts_of, seat, seats}
-
--- ---- one end, with what is held of it
-abbrev pub feed_post : ItemState → Map → Post
-feed_post feed m = record { phase = item.phase_of feed; sent = empty; held = m }
-
-abbrev pub peer_post : PeerEnd → Map → Post
-peer_post e m = record { phase = route.phase_of e.session.state; sent = peer_of e.sent; held = m }
-
-abbrev pub agent_post : AgentEnd → Map → Post
-agent_post e m = record { phase = item.phase_of e.session.state; sent = down_of e.sent; held = m }
+use Rattle.control_node.specs.Ends.{agent_post, agent_posts, feed_post, peer_post, peer_posts, posts_of, seat, seats}
 
 -- ---- the peers'
 pub peer_posts-length : (es : List PeerEnd) (ms : List Map) → length (peer_posts es ms) ≡ length es

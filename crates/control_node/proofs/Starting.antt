@@ -1,5 +1,5 @@
 -- What begins at the end of a session, from what its calls ensure.
-use Rattle.std.specs.Prelude.{◌≡◌, ◌≢◌, ◌+◌, ◌<◌, ℕ, suc, List, [], ◌∷◌, length, map, true, false, Option, Some, None}
+use Rattle.std.specs.Prelude.{◌≡◌, ◌≢◌, ◌+◌, ◌<◌, ℕ, suc, List, [], ◌∷◌, length, map, Bool, true, false, Option, Some, None}
 use Rattle.std.specs.List.{filter_map}
 use Rattle.std.specs.Option.{option_map}
 use Rattle.std.proofs.Common.{refl, sym, ◌∙◌, ap, subst, Bor, get_or, set, set-set}
@@ -42,7 +42,7 @@ use Rattle.control_node.specs.declared.ends.PeerEnd.{PeerEnd}
 use Rattle.control_node.specs.declared.plan.ControlPlan.{ControlPlan}
 use Rattle.control_node.proofs.Applied.{agent-same, peer-same}
 use Rattle.control_node.proofs.Keeping.{all-at}
-use Rattle.control_node.proofs.Turning.{agent-begins, agent-turned, feed-begins, peer-begins, peer-turned}
+use Rattle.control_node.proofs.Turning.{agent-begins, agent-turned, feed-begins, peer-begins, peer-turned, peer-wide}
 
 -- ---- causes
 caused : {C D : Type 0} (f : C → D) (c : Option C) → option_map f c ≡ None → c ≡ None
@@ -61,12 +61,17 @@ items_fell p H None h = absurd (h refl)
 items_fell p H (Some c) h = refl
 
 -- ---- where a session stays up
-peer_left : (p : Post) (state : State) (H : route_hearing.Heard) (changes : List (Delta VpnKey VpnRoute)) (c : Option PeerCause) → state ≡ H.state
-    → changes ≡ H.changes → c ≡ H.cause → c ≡ None
-    → route.left_by p H H.cause ≡ Some (record p { phase = route.phase_of state; held = taken c (map (moved_delta Vpn Route) changes) p.held })
-peer_left p state H changes c s cs e none =
+peer_left : (p : Post) (state : State) (wide : Bool) (H : route_hearing.Heard) (changes : List (Delta VpnKey VpnRoute)) (c : Option PeerCause)
+    → state ≡ H.state → wide ≡ H.wide → changes ≡ H.changes → c ≡ H.cause → c ≡ None
+    → route.left_by p H H.cause
+    ≡ Some (record p { phase = route.phase_of state; held = taken c (map (moved_delta Vpn Route) changes) p.held; wide = wide })
+peer_left p state wide H changes c s w cs e none =
     ap (route.left_by p H) (sym e ∙ none)
-    ∙ (λ k. Some (record p { phase = route.phase_of (sym s k); held = taken (sym none k) (map (moved_delta Vpn Route) (sym cs k)) p.held }))
+    ∙ (λ k. Some (record p {
+      phase = route.phase_of (sym s k);
+      held = taken (sym none k) (map (moved_delta Vpn Route) (sym cs k)) p.held;
+      wide = sym w k;
+    }))
 
 item_left : (p : Post) (state : ItemState) (H : item_hearing.Heard) (changes : List Change) (c : Option ItemCause) → state ≡ H.state
     → changes ≡ filter_map change_of H.records → c ≡ H.cause → c ≡ None
@@ -96,13 +101,6 @@ heard_is e e' is id sent peer from = record {
 }
 
 -- ---- octets that were heard
-pub heard-stays : (plan : ControlPlan) (posts : List Post) (session : ℕ) (i : Input) (replies : List (List ℕ)) (cause : Option NodeCause) (posts' : List Post)
-    → IsHeard plan posts session i replies cause posts' → cause ≡ None → IsBegun plan posts session i replies cause posts'
-heard-stays plan posts session i replies cause posts' h none = record {
-  given = h.given;
-  begins = h.begins;
-  begun = record { replied = h.replied; applied = h.applied ∙ ap (λ (a : Option Post). set posts session (end_of a)) (sym (h.stays none)) };
-}
 
 pub heard-falls : (plan : ControlPlan) (posts : List Post) (session : ℕ) (i : Input) (replies : List (List ℕ)) (cause : Option NodeCause) (posts' closed : List Post)
     → IsHeard plan posts session i replies cause posts' → cause ≢ None → closed ≡ set posts' session nothing → IsBegun plan posts session i replies cause closed
@@ -147,7 +145,10 @@ module _ (me : NodeId) (asn : ℕ) (feed : items.SessionFields) (es : List PeerE
           applied =
               ap (λ (h : Holdings). posts_of feed.state (set es i e) ts h) (sym (peer-same h session))
               ∙ peer-turned me asn feed es ts h are (λ m. m) session i e d at lt (ap (λ (e : PeerEnd). e.sent) is)
-              ∙ ap (λ (e : PeerEnd). set posts session (record p { phase = route.phase_of e.session.state })) is;
+              ∙ (λ k. set posts session (record p {
+                phase = route.phase_of (is k).session.state;
+                wide = (ap (λ (e : PeerEnd). e.session.wide) is ∙ peer-wide me asn feed es ts h are session i d at lt) k;
+              }));
         };
       }
 
@@ -196,9 +197,9 @@ module _ (me : NodeId) (asn : ℕ) (feed : items.SessionFields) (es : List PeerE
         given = record { replies = H.replies; after = route.left_by p H H.cause };
         begins = peer-begins me asn feed es ts h are session i d (input.Bytes session b) _ c cause at lt is (heard.inputs, heard.hears, refl, heard.cause_is);
         replied = heard.replied;
-        left = record p { phase = route.phase_of e.session.state; held = taken c (map (moved_delta Vpn Route) changes) p.held };
+        left = record p { phase = route.phase_of e.session.state; held = taken c (map (moved_delta Vpn Route) changes) p.held; wide = e.session.wide };
         applied = ap (λ (h : Holdings). posts_of feed.state (set es i e) ts h) by ∙ peer-turned me asn feed es ts h are (taken c (map (moved_delta Vpn Route) changes)) session i e d at lt sent;
-        stays = λ none. peer_left p e.session.state H changes c heard.state heard.changes_are heard.cause_is (caused Cause.Peer c (sym is ∙ none));
+        stays = λ none. peer_left p e.session.state e.session.wide H changes c heard.state heard.wide heard.changes_are heard.cause_is (caused Cause.Peer c (sym is ∙ none));
         falls = λ some. ap (route.left_by p H) (sym heard.cause_is) ∙ routes_fell p H c (uncaused Cause.Peer c (λ e. some (is ∙ e)));
       }
 

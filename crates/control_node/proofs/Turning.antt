@@ -25,7 +25,7 @@ use Rattle.node_model.specs.Step.{Begun, Post, post}
 use Rattle.node_peers.specs.Beginning as route
 use Rattle.control_node.specs.Beginning.{Begins, BeginsBy, agent_at, config, item_session, item_state, no_node, peer_session, peer_state}
 use Rattle.control_node.specs.Core.{is_peer}
-use Rattle.control_node.specs.Ends.{AreEnds, IsAgentEnd, plan_of, posts_of}
+use Rattle.control_node.specs.Ends.{AreEnds, IsAgentEnd, agent_post, peer_post, plan_of, posts_of}
 use Rattle.control_node.specs.Taking.{agent_by, at_place, peer_by}
 use Rattle.control_node.specs.Wanting.{is_idle}
 use Rattle.control_node.specs.declared.cause.NodeCause.{NodeCause}
@@ -34,7 +34,7 @@ use Rattle.control_node.specs.declared.ends.AgentEnd.{AgentEnd}
 use Rattle.control_node.specs.declared.ends.PeerEnd.{PeerEnd}
 use Rattle.control_node.specs.declared.plan.ControlPlan.{ControlPlan}
 use Rattle.control_node.proofs.Keeping.{all-at}
-use Rattle.control_node.proofs.Posts.{agent_post, at_session-there, peer_post, post-agent, post-peer, posts-agent, posts-peer, seated-length}
+use Rattle.control_node.proofs.Posts.{at_session-there, post-agent, post-peer, posts-agent, posts-peer, seated-length}
 
 -- ---- states and phases
 peer_state-of : (s : State) → peer_state (route.phase_of s) ≡ s
@@ -88,13 +88,13 @@ module _ (me : NodeId) (asn : ℕ) (feed : items.SessionFields) (es : List PeerE
   -- ---- the ends
   pub peer-turned : (f : Map → Map) (session i : ℕ) (e d : PeerEnd) → session ≡ suc i → i < length es → e.sent ≡ (get_or es i d).sent
       → posts_of feed.state (set es i e) ts (peer_by f h session)
-      ≡ set posts session (record (post posts session) { phase = route.phase_of e.session.state; held = f (post posts session).held })
+      ≡ set posts session (record (post posts session) { phase = route.phase_of e.session.state; held = f (post posts session).held; wide = e.session.wide })
   peer-turned f session i e d at lt sent =
       subst (λ s. posts_of feed.state (set es i e) ts (peer_by f h s)
-      ≡ set posts s (record (post posts s) { phase = route.phase_of e.session.state; held = f (post posts s).held })) (sym at) there
+      ≡ set posts s (record (post posts s) { phase = route.phase_of e.session.state; held = f (post posts s).held; wide = e.session.wide })) (sym at) there
     where
       there : posts_of feed.state (set es i e) ts (peer_by f h (suc i))
-          ≡ set posts (suc i) (record (post posts (suc i)) { phase = route.phase_of e.session.state; held = f (post posts (suc i)).held })
+          ≡ set posts (suc i) (record (post posts (suc i)) { phase = route.phase_of e.session.state; held = f (post posts (suc i)).held; wide = e.session.wide })
       there =
           let m = get_or h.peers i empty in
           let is = post-peer feed.state es ts h i d lt in
@@ -102,7 +102,7 @@ module _ (me : NodeId) (asn : ℕ) (feed : items.SessionFields) (es : List PeerE
           ∙ posts-peer feed.state es ts h i e (f m) lt (let long = are.peers_held in omega (arith, lt, long))
           ∙ ap (λ (p : Post). set posts (suc i) p) (
           ap (λ (s : List (VpnKey × VpnRoute)). peer_post (record e { sent = s }) (f m)) sent
-          ∙ ap (λ (p : Post). record p { phase = route.phase_of e.session.state; held = f p.held }) (sym is))
+          ∙ ap (λ (p : Post). record p { phase = route.phase_of e.session.state; held = f p.held; wide = e.session.wide }) (sym is))
 
   pub agent-turned : (f : Map → Map) (session i : ℕ) (e d : AgentEnd) → session ≡ suc (length es + i) → i < length ts → e.sent ≡ (get_or ts i d).sent
       → posts_of feed.state es (set ts i e) (agent_by f h session)
@@ -130,15 +130,21 @@ module _ (me : NodeId) (asn : ℕ) (feed : items.SessionFields) (es : List PeerE
 
   -- ---- what begins
   peer-session : (session i : ℕ) (d : PeerEnd) → session ≡ suc i → i < length es
-      → peer_session plan session (post posts session).phase ≡ (get_or es i d).session
+      → peer_session plan session (post posts session) ≡ (get_or es i d).session
   peer-session session i d at lt =
-      subst (λ s. peer_session plan s (post posts s).phase ≡ (get_or es i d).session) (sym at) (
+      subst (λ s. peer_session plan s (post posts s) ≡ (get_or es i d).session) (sym at) (
       let e = get_or es i d in
       let back : suc i - 1 ≡ i = omega arith in
       let peer = ap (λ n. get_or plan.peers n no_node) back ∙ get_or-map (λ (e : PeerEnd). e.session.peer) es i d no_node lt in
       let number = all-at (λ (e : PeerEnd). e.session.asn ≡ asn) es i d are.peer_ends lt in
-      let state = ap (λ (p : Post). peer_state p.phase) (post-peer feed.state es ts h i d lt) ∙ peer_state-of e.session.state in
-      (λ k. record { asn = sym number k; peer = peer k; state = state k }))
+      let is = post-peer feed.state es ts h i d lt in
+      let state = ap (λ (p : Post). peer_state p.phase) is ∙ peer_state-of e.session.state in
+      (λ k. record { asn = sym number k; peer = peer k; state = state k; wide = (is k).wide }))
+
+  -- how the session of an end reads
+  pub peer-wide : (session i : ℕ) (d : PeerEnd) → session ≡ suc i → i < length es → (get_or es i d).session.wide ≡ (post posts session).wide
+  peer-wide session i d at lt =
+      ap (λ (p : Post). p.wide) (sym (post-peer feed.state es ts h i d lt)) ∙ ap (λ n. (post posts n).wide) (sym at)
 
   pub peer-begins : (session i : ℕ) (d : PeerEnd) (input : Input) (given : Begun) (c : Option PeerCause) (cause : Option NodeCause)
       → session ≡ suc i → i < length es → cause ≡ option_map Cause.Peer c

@@ -1,5 +1,5 @@
 -- What an input makes of an end of a control node.
-use Rattle.std.specs.Prelude.{◌≡◌, ℕ, ◌∷◌, ◌-◌, ◌+◌, List, [], length, if◌then◌else◌, ◌==◌, Bool, true, false}
+use Rattle.std.specs.Prelude.{◌≡◌, ℕ, ◌-◌, ◌+◌, [], length, if◌then◌else◌, ◌==◌, Bool, true, false}
 use Rattle.std.specs.declared.option.Option.{Option}
 use Rattle.std.specs.Option.{option_map}
 use Rattle.std.specs.List.{slice_index_or}
@@ -14,18 +14,12 @@ use Rattle.item_wire.specs.declared.event.ItemFrom.TheVariants as From
 use Rattle.item_wire.specs.declared.event.ItemState.{ItemState}
 use Rattle.node_items.specs.Beginning as item
 use Rattle.node_peers.specs.Beginning as route
+pub use Rattle.node_model.specs.Naming.{config, no_node}
 use Rattle.node_model.specs.Step.{Begun, Phase, Idle, Opened, Confirmed, Up, Post}
 use Rattle.control_node.specs.Core.{is_peer}
 use Rattle.control_node.specs.declared.cause.NodeCause.{NodeCause}
 use Rattle.control_node.specs.declared.cause.NodeCause.TheVariants as Cause
 use Rattle.control_node.specs.declared.plan.ControlPlan.{ControlPlan}
-
--- the configuration node's name: config
-abbrev pub config : List ℕ
-config = 99 ∷ 111 ∷ 110 ∷ 102 ∷ 105 ∷ 103 ∷ []
-
-abbrev pub no_node : NodeId
-no_node = record { name = []; address = record { 0 = 0 } }
 
 -- the node at the other end of a peer's or an agent's session
 abbrev pub peer_at : ControlPlan → ℕ → NodeId
@@ -41,8 +35,8 @@ peer_state Opened = State.OpenSent
 peer_state Confirmed = State.OpenConfirm
 peer_state Up = State.Established
 
-abbrev pub peer_session : ControlPlan → ℕ → Phase → peers.SessionFields
-peer_session plan i phase = record { asn = plan.asn; peer = peer_at plan i; state = peer_state phase }
+abbrev pub peer_session : ControlPlan → ℕ → Post → peers.SessionFields
+peer_session plan i p = record { asn = plan.asn; peer = peer_at plan i; state = peer_state p.phase; wide = p.wide }
 
 abbrev pub item_state : Phase → ItemState
 item_state Idle = ItemState.Idle
@@ -59,7 +53,7 @@ item_session plan i phase =
 abbrev pub PeerBegins : ControlPlan → ℕ → Post → Input → Begun → Option NodeCause → Type 0
 PeerBegins plan i p input given cause =
     (c : Option PeerCause) × (cause ≡ option_map Cause.Peer c)
-    × route.Begins plan.me.address (peer_session plan i p.phase) p input given c
+    × route.Begins plan.me.address (peer_session plan i p) p input given c
 
 abbrev pub ItemBegins : ControlPlan → ℕ → Post → Input → Begun → Option NodeCause → Type 0
 ItemBegins plan i p input given cause =

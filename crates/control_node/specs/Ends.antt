@@ -1,5 +1,5 @@
 -- The ends of a control node's sessions, and what always holds of them.
-use Rattle.std.specs.Prelude.{◌≡◌, ◌≢◌, ◌≤◌, ◌<◌, ◌+◌, ℕ, suc, List, [], ◌∷◌, ◌++◌, map, length, refl}
+use Rattle.std.specs.Prelude.{◌≡◌, ◌≢◌, ◌<◌, ◌+◌, ◌^◌, ℕ, suc, List, [], ◌∷◌, ◌++◌, map, length, false, refl}
 use Rattle.std.specs.Coded.{Coded, code_by, coded×, coded_list}
 use Rattle.std.specs.FinMap.{empty}
 use Rattle.std.specs.List.{AllByRecursion}
@@ -36,25 +36,31 @@ plan_of me asn peers agents = record {
   agents = map (λ (e : AgentEnd). e.id) agents;
 }
 
--- ---- the ends, with what the tables hold of each
+-- ---- one end, with what the tables hold of it. An OPEN comes from peers alone
+abbrev pub feed_post : ItemState → Map → Post
+feed_post feed m = record { phase = item.phase_of feed; sent = empty; held = m; wide = false }
+
+abbrev pub peer_post : PeerEnd → Map → Post
+peer_post e m =
+    record { phase = route.phase_of e.session.state; sent = peer_of e.sent; held = m; wide = e.session.wide }
+
+abbrev pub agent_post : AgentEnd → Map → Post
+agent_post e m = record { phase = item.phase_of e.session.state; sent = down_of e.sent; held = m; wide = false }
+
+-- ---- all of them
 abbrev pub peer_posts : List PeerEnd → List Map → List Post
 peer_posts [] maps = []
-peer_posts (e ∷ es) [] =
-    record { phase = route.phase_of e.session.state; sent = peer_of e.sent; held = empty } ∷ peer_posts es []
-peer_posts (e ∷ es) (m ∷ maps) =
-    record { phase = route.phase_of e.session.state; sent = peer_of e.sent; held = m } ∷ peer_posts es maps
+peer_posts (e ∷ es) [] = peer_post e empty ∷ peer_posts es []
+peer_posts (e ∷ es) (m ∷ maps) = peer_post e m ∷ peer_posts es maps
 
 abbrev pub agent_posts : List AgentEnd → List Told → List Post
 agent_posts [] agents = []
-agent_posts (e ∷ es) [] =
-    record { phase = item.phase_of e.session.state; sent = down_of e.sent; held = empty } ∷ agent_posts es []
-agent_posts (e ∷ es) (a ∷ agents) =
-    record { phase = item.phase_of e.session.state; sent = down_of e.sent; held = a.map } ∷ agent_posts es agents
+agent_posts (e ∷ es) [] = agent_post e empty ∷ agent_posts es []
+agent_posts (e ∷ es) (a ∷ agents) = agent_post e a.map ∷ agent_posts es agents
 
 abbrev pub posts_of : ItemState → List PeerEnd → List AgentEnd → Holdings → List Post
 posts_of feed peers agents h =
-    record { phase = item.phase_of feed; sent = empty; held = h.feed }
-    ∷ (peer_posts peers h.peers ++ agent_posts agents h.agents)
+    feed_post feed h.feed ∷ (peer_posts peers h.peers ++ agent_posts agents h.agents)
 
 -- ---- what always holds
 -- each agent has its session's number and its address in the tables
@@ -74,7 +80,7 @@ pub record IsAgentEnd (e : AgentEnd) : Type 0 where
 pub record AreEnds (me : NodeId) (asn : ℕ) (feed : SessionFields) (peers : List PeerEnd) (agents : List AgentEnd)
     (h : Holdings) : Type 0 where
   pub address : me.address.0 ≢ 0
-  pub asn_small : asn ≤ 65535
+  pub asn_fits : asn < 2 ^ 32
   pub few : length peers + length agents < 65535
   pub feed_peer : feed.peer ≡ config
   pub feed_from : feed.from ≡ From.Feed
@@ -93,7 +99,7 @@ coded_ends =
 
 -- ---- closed ends
 abbrev pub closed_peer : PeerEnd → PeerEnd
-closed_peer e = record { session = record e.session { state = State.Idle }; sent = [] }
+closed_peer e = record { session = record e.session { state = State.Idle; wide = false }; sent = [] }
 
 abbrev pub closed_agent : AgentEnd → AgentEnd
 closed_agent e = record e { session = record e.session { state = ItemState.Idle }; sent = [] }

@@ -65,4 +65,5 @@ pub record RoutesHeard (id : Addr) (s s' : peers.SessionFields) (octets : List �
   pub replied : replies ≡ (route.heard id s inputs).replies
   pub changes_are : changes ≡ (route.heard id s inputs).changes
   pub state : s'.state ≡ (route.heard id s inputs).state
+  pub wide : s'.wide ≡ (route.heard id s inputs).wide
   pub cause_is : cause ≡ (route.heard id s inputs).cause

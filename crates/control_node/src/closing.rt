@@ -1,6 +1,5 @@
 //! Ends that are closed.
 ghost use Rattle.std.specs.Prelude.{◌≡◌, ◌<◌, ◌+◌, suc, length, slice_set};
-ghost use Rattle.bgp_session.specs.declared.event.State.TheVariants as State;
 ghost use Rattle.item_wire.specs.declared.event.ItemState.TheVariants as ItemState;
 ghost use Rattle.node_model.specs.Step.{nothing};
 ghost use Rattle.control_node.specs.Places.{IsPlace};

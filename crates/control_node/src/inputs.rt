@@ -1,5 +1,5 @@
 //! What inputs make of one end, and of what is held of its session.
-ghost use Rattle.std.specs.Prelude.{◌≡◌, ◌≢◌, ◌≤◌, ◌<◌, ◌^◌, ◌∷◌, [], List, length, map, IfOk};
+ghost use Rattle.std.specs.Prelude.{◌≡◌, ◌≢◌, ◌≤◌, ◌∷◌, [], List, length, map, IfOk};
 ghost use Rattle.ov_sync.specs.Embed.{moved_delta};
 ghost use Rattle.ov_sync.specs.declared.Delta.{Delta as DeltaOf};
 ghost use Rattle.ov_types.specs.declared.vpn.VpnKey.{VpnKey as KeyOf};
@@ -33,7 +33,6 @@ pub(crate) fn greet_peer(
     me: Addr,
 ) -> Result<Items<Items<u8>>, NoMemory>
     requires idle { end.old.session.state ≡ State.Idle }
-    requires autonomous_system { asn < 2 ^ 16 }
     requires identifier { me.0 ≢ 0 }
     ensures opened { end.new ≡ opened_peer end.old }
     ensures hello { IfOk result (λ replies. replies ≡ open_octets asn me ∷ []) }
@@ -124,7 +123,6 @@ pub(crate) fn hear_from_peer(
     me: Addr,
     bytes: &[u8],
 ) -> Result<HeardPeer, NoMemory>
-    requires autonomous_system { asn < 2 ^ 16 }
     requires own { end.old.session.asn ≡ asn }
     requires identifier { me.0 ≢ 0 }
     requires known { session ≤ length tables.old.peers }

@@ -1,7 +1,6 @@
 //! Ends of sessions, as they are made.
-ghost use Rattle.std.specs.Prelude.{◌≡◌, ◌≢◌, ◌≤◌, ◌<◌, ◌+◌, ◌∷◌, [], length, map, replicate, IfOk, OnOk};
+ghost use Rattle.std.specs.Prelude.{◌≡◌, ◌≢◌, ◌≤◌, ◌<◌, ◌+◌, [], length, map, replicate, IfOk, OnOk};
 ghost use Rattle.std.specs.FinMap.{empty};
-ghost use Rattle.control_node.specs.Beginning.{config};
 ghost use Rattle.control_node.specs.Core.{told_from};
 ghost use Rattle.control_node.specs.Made.{new_agent, new_ends, new_peer, none_told};
 
@@ -9,20 +8,11 @@ use crate::ends::{AgentEnd, ControlEnds, PeerEnd};
 use crate::plan::ControlPlan;
 use bgp_session::Session;
 use item_wire::{ItemFrom, ItemSession};
+use node_items::config_name;
 use ov_sync::{Delta, SyncOut};
-use ov_types::{Addr, Name, NoMemory, NodeId, Prefix, Rd, VpnKey};
+use ov_types::{Addr, NoMemory, NodeId, Prefix, Rd, VpnKey};
 use std::alloc::Global;
 use vpn_tables::VpnTables;
-
-/// The configuration node's name.
-fn config_name() -> Name
-    ensures { result ≡ config }
-{
-    match Name::new("config") {
-        Some(name) => name,
-        None => unreachable!(),
-    }
-}
 
 fn new_peers(alloc: Global, asn: u32, ids: &[NodeId]) -> Result<Vec<PeerEnd>, NoMemory>
     ensures { IfOk result (λ ends. ends.items ≡ map (new_peer asn) ids.now) }
@@ -86,7 +76,6 @@ fn new_tables(
     agents: &[NodeId],
 ) -> Result<VpnTables, NoMemory>
     requires few { length peers.now + length agents.now < 65535 }
-    requires autonomous_system { asn ≤ 65535 }
     ensures { IfOk result (λ tables. tables ≡ none_told asn peers.now agents.now) }
 {
     let mut tables = VpnTables::new(alloc, asn);
@@ -101,7 +90,6 @@ impl ControlEnds {
     pub(crate) fn new(alloc: Global, plan: ControlPlan) -> Result<ControlEnds, NoMemory>
         requires few { length plan.peers + length plan.agents < 65535 }
         requires address { plan.me.address.0 ≢ 0 }
-        requires autonomous_system { plan.asn ≤ 65535 }
         ensures { IfOk result (λ ends. ends ≡ new_ends plan) }
     {
         let ids = plan.peers.as_slice();

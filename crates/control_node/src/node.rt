@@ -1,5 +1,5 @@
 //! A control node and its step.
-ghost use Rattle.std.specs.Prelude.{◌≡◌, ◌≢◌, ◌≤◌, ◌<◌, ◌↔◌, ◌+◌, length, not, false, true, IfOk};
+ghost use Rattle.std.specs.Prelude.{◌≡◌, ◌≢◌, ◌<◌, ◌↔◌, ◌+◌, length, not, false, true, IfOk};
 ghost use Rattle.node_core.specs.Whole.{Comes, IsWholeStep, session_of};
 ghost use Rattle.node_model.specs.Step.{post};
 ghost use Rattle.node_model.specs.Tables.{rows as rows_of};
@@ -38,7 +38,6 @@ impl ControlNode {
     pub fn new(alloc: Global, plan: ControlPlan) -> Result<ControlNode, NoMemory>
         requires few { length plan.peers + length plan.agents < 65535 }
         requires address { plan.me.address.0 ≢ 0 }
-        requires autonomous_system { plan.asn ≤ 65535 }
         ensures { IfOk result (λ node. node ≡ fresh plan) }
     {
         let ends = ControlEnds::new(alloc, plan)?;

@@ -1,5 +1,5 @@
 //! The plans of a pass: what each session is to be told.
-ghost use Rattle.std.specs.Prelude.{◌≡◌, ◌<◌, ◌≤◌, ◌+◌, ◌++◌, ◌∷◌, [], length, map, IfOk};
+ghost use Rattle.std.specs.Prelude.{◌≡◌, ◌<◌, ◌≤◌, ◌+◌, ◌^◌, ◌++◌, [], length, map, IfOk};
 ghost use Rattle.std.specs.List.{AllByRecursion};
 ghost use Rattle.ov_sync.specs.Embed.{moved_delta};
 ghost use Rattle.ov_sync.specs.Keyed.{Values, map_of};
@@ -162,7 +162,7 @@ pub(crate) fn plan_all(
     agents: &mut [AgentEnd],
 ) -> Result<Vec<Plan>, NoMemory>
     requires few { length peers.old + length agents.old < 65535 }
-    requires asn { tables.now.asn ≤ 65535 }
+    requires asn { tables.now.asn < 2 ^ 32 }
     requires held { HoldingsFit tables.now }
     requires agents { AllByRecursion IsAgentEnd agents.old }
     ensures sessions { map (λ e. e.session) peers.new ≡ map (λ e. e.session) peers.old }

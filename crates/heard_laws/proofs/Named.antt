@@ -1,6 +1,5 @@
 -- The names and numbers of the nodes of a valid configuration.
-use Rattle.std.specs.Prelude.{◌≡◌, ◌≢◌, ◌<◌, ◌≤◌, ◌^◌, ℕ, suc, List, [], ◌∷◌, ◌++◌, length, map, Bool, true, not, ◌&&◌, IsTrue, nat_le}
-use Rattle.std.specs.Prelude.{slice_index_or, ◌==◌}
+use Rattle.std.specs.Prelude.{◌≡◌, ◌≢◌, ◌<◌, ◌≤◌, ◌^◌, ℕ, List, [], ◌∷◌, ◌++◌, length, map, Bool, true, not, ◌&&◌, IsTrue, nat_le}
 use Rattle.std.specs.List.{All, Contains, list_all}
 use Rattle.std.specs.declared.option.Option.TheVariants.{None}
 use Rattle.std.proofs.Common.{sym, ◌∙◌, ap, subst, inl, inr, arith}
@@ -8,45 +7,20 @@ use Rattle.std.proofs.lemmas.Bool.{and_parts, leb-true, not-true, true≢false}
 use Rattle.ov_types.specs.First.{same_name}
 use Rattle.ov_types.specs.Name.{is_name}
 use Rattle.ov_types.specs.declared.rows.NodeId.{NodeId}
-use Rattle.ov_types.proofs.FirstLemmas.{all_head, all_tail, contains_cases, same_name_self}
-use Rattle.config_model.specs.Form.{has_controller_form, has_node_form, has_topology_form, is_as_number, is_from_to, is_node_address, is_node_name}
+use Rattle.ov_types.proofs.FirstLemmas.{all_head, all_tail, same_name_self}
+use Rattle.config_model.specs.Form.{has_controller_form, has_node_form, has_topology_form, is_as_number, is_from_to, is_reserved_as, is_node_address, is_node_name}
 use Rattle.config_model.specs.declared.topology.Node.{Node}
 use Rattle.config_model.specs.declared.topology.Topology.{Topology}
 use Rattle.config_check.specs.Checked.{Checked}
 use Rattle.config_check.specs.Rules.{controller_names, node_names, first_broken}
-use Rattle.config_check.specs.Sentences.{AreDistinct}
 use Rattle.config_check.proofs.Validity.{valid_iff}
 use Rattle.node_model.specs.Members.{Member}
-use Rattle.node_model.proofs.Members.{in_left, in_map, in_right}
+use Rattle.node_model.proofs.Members.{in_map, member_of}
 use Rattle.network_model.specs.Network.{config}
 use Rattle.network_model.specs.Setup.{Name}
+use Rattle.network_model.proofs.Apart.{Apart, apart_of, apart_left, apart_between}
 
 -- ---- names that are apart
-abbrev Apart : List Name → Type 0
-Apart [] = Unit {0}
-Apart (n ∷ ns) = ((m : Name) → Member m ns → n ≡ m → ⊥) × Apart ns
-
-member_at : (m : Name) (ns : List Name) (d : Name) → Member m ns → (j : ℕ) × (j < length ns) × (slice_index_or ns j d ≡ m)
-member_at m [] d i = absurd i
-member_at m (n ∷ ns) d (inl e) = (0, omega arith, e)
-member_at m (n ∷ ns) d (inr i) = let q = member_at m ns d i in (suc q.0, omega (arith, q.1), q.2)
-
-apart_of : (ns : List Name) → AreDistinct ns → Apart ns
-apart_of [] h = tt
-apart_of (n ∷ ns) h = (
-  (λ m i e. let q = member_at m ns n i in h 0 (suc q.0) n (omega arith) (omega (arith, q.1)) (e ∙ sym q.2)),
-  apart_of ns (λ i j d less within. h (suc i) (suc j) d (omega (arith, less)) (omega (arith, within))),
-)
-
-apart_left : (ms ns : List Name) → Apart (ms ++ ns) → Apart ms
-apart_left [] ns a = tt
-apart_left (m ∷ ms) ns a = ((λ n i. a.0 n (in_left n ms ns i)), apart_left ms ns a.1)
-
-apart_between : (ms ns : List Name) → Apart (ms ++ ns) → (m n : Name) → Member m ms → Member n ns → m ≡ n → ⊥
-apart_between [] ns a m n i j is = absurd i
-apart_between (k ∷ ms) ns a m n (inl e) j is = a.0 n (in_right n ms ns j) (e ∙ is)
-apart_between (k ∷ ms) ns a m n (inr i) j is = apart_between ms ns a.1 m n i j is
-
 abbrev name : NodeId → Name
 name c = c.name
 
@@ -63,11 +37,6 @@ all_of : {A : Type 0} (P : A → Type 0) (xs : List A) (x : A) → All P xs → 
 all_of P [] x h m = absurd m
 all_of P (y ∷ ys) x h (inl e) = subst P e (all_head P y ys h)
 all_of P (y ∷ ys) x h (inr m) = all_of P ys x (all_tail P y ys h) m
-
-contained : {A : Type 0} (xs : List A) (x : A) → Contains xs x → Member x xs
-contained [] x h = absurd (omega (arith, h.1))
-contained (y ∷ ys) x h =
-    elim (contains_cases y ys x h) as (λ _. Member x (y ∷ ys)) [ inl e ↦ inl e | inr later ↦ inr (contained ys x later) ]
 
 -- ---- the written form
 all_true : {A : Type 0} (p : A → Bool) (xs : List A) (y : A) → list_all p xs ≡ true → Member y xs → p y ≡ true
@@ -112,10 +81,10 @@ node_name n h =
     let abc = and_parts (a && b && c) (is_from_to 1 2 (length n.controllers)) h in
     (and_parts a b (and_parts (a && b) c abc.0).0).0
 
-below_system : (asn : ℕ) → is_as_number asn ≡ true → asn < 2 ^ 16
+below_system : (asn : ℕ) → is_as_number asn ≡ true → asn < 2 ^ 32
 below_system asn h =
-    let range = (and_parts (is_from_to 1 65534 asn) (not (asn == 23456)) h).0 in
-    let most : asn ≤ 65534 = leb-true asn 65534 (and_parts (nat_le 1 asn) (nat_le asn 65534) range).1 in
+    let range = (and_parts (is_from_to 1 4294967294 asn) (not (is_reserved_as asn)) h).0 in
+    let most : asn ≤ 4294967294 = leb-true asn 4294967294 (and_parts (nat_le 1 asn) (nat_le asn 4294967294) range).1 in
     omega (arith, most)
 
 pub record IsAddress (n : ℕ) : Type 0 where
@@ -131,7 +100,7 @@ address_parts n h =
 
 -- ---- all that tells the nodes apart
 pub record AreNodes (t : Topology) : Type 0 where
-  pub asn : t.asn < 2 ^ 16
+  pub asn : t.asn < 2 ^ 32
   pub site_address : (c : NodeId) → Member c t.controllers → IsAddress c.address.0
   pub site_name : (c : NodeId) → Member c t.controllers → IsTrue (is_name c.name)
   pub agent_name : (n : Node) → Member n t.nodes → IsTrue (is_name n.name)
@@ -163,5 +132,5 @@ are_nodes x form valid =
       one_site = one_of_name t.controllers (apart_left (controller_names t) (node_names t) names);
       listed = λ n k m i.
           let each = all_of (λ (n : Node). All (Contains (controller_names t)) n.controllers) t.nodes n v.references.controllers k in
-          contained (controller_names t) m (all_of (Contains (controller_names t)) n.controllers m each i);
+          member_of (controller_names t) m (all_of (Contains (controller_names t)) n.controllers m each i);
     }

@@ -1,5 +1,5 @@
 -- What the octets of one message make of an end of a session between control nodes.
-use Rattle.std.specs.Prelude.{◌≡◌, ◌≢◌, ◌<◌, ◌^◌, ℕ, List, [], ◌∷◌, ◌++◌, map, true, false}
+use Rattle.std.specs.Prelude.{◌≡◌, ◌≢◌, ◌<◌, ◌^◌, ℕ, List, [], ◌∷◌, ◌++◌, map, Bool, true, false}
 use Rattle.std.specs.Borrow.{Bor}
 use Rattle.std.specs.declared.option.Option.{Option}
 use Rattle.std.specs.declared.option.Option.TheVariants.{Some, None}
@@ -33,7 +33,7 @@ use Rattle.network_model.specs.Session.{Message, Open, Keepalive, Hello, Carries
 use Rattle.network_model.specs.Moments.{cell}
 use Rattle.net_model.specs.Seats.{Who}
 use Rattle.net_model.specs.Stands.{octets_of}
-use Rattle.net_model.specs.Taking.{held_after, replies_to}
+use Rattle.net_model.specs.Taking.{held_after, replies_to, wide_after}
 use Rattle.net_model.specs.Telling.{IsRouteChange}
 
 nothing_left : IsProperPrefix []
@@ -42,26 +42,27 @@ nothing_left = record { passes = refl; short = inl (lit< tt) }
 -- what these octets say on a session of this system with the peer of this address
 abbrev pub SaysRoute : ℕ → Addr → Message → List ℕ → Type 0
 SaysRoute asn address Open octets =
-    (octets ≡ open_octets asn address) × (asn < 2 ^ 16) × (address.0 < 2 ^ 32) × (address.0 ≢ 0)
+    (octets ≡ open_octets asn address) × (asn < 2 ^ 32) × (address.0 < 2 ^ 32) × (address.0 ≢ 0)
 SaysRoute asn address Keepalive octets = octets ≡ wire.spelling KeepsAlive
 SaysRoute asn address (Carries c) octets = (octets ≡ routes.spelled c) × IsRouteChange c
 SaysRoute asn address Hello octets = Unit {0}
 
-module _ (who : Who) (id : Addr) (asn : ℕ) (peer : NodeId) (sent held : Map) (i : ℕ) (octets : Bor (List ℕ))
-    (given : Begun) (cause : Option Cause) where
+module _ (who : Who) (id : Addr) (asn : ℕ) (peer : NodeId) (sent held : Map) (wide : Bool) (i : ℕ)
+    (octets : Bor (List ℕ)) (given : Begun) (cause : Option Cause) where
   abbrev session_in : Phase → SessionFields
-  session_in phase = record { asn = asn; peer = peer; state = peer_state phase }
+  session_in phase = record { asn = asn; peer = peer; state = peer_state phase; wide = wide }
+
+  abbrev post_in : Phase → Post
+  post_in phase = record { phase = phase; sent = sent; held = held; wide = wide }
 
   abbrev Begins : Phase → Type 0
-  Begins phase =
-      route.Begins id (session_in phase) (record { phase = phase; sent = sent; held = held }) (input.Bytes i octets)
-      given cause
+  Begins phase = route.Begins id (session_in phase) (post_in phase) (input.Bytes i octets) given cause
 
   -- the end is as a message makes it, with what is replied
   abbrev as_route : Phase → Phase → Message → Begun
   as_route phase next m = record {
     replies = map (octets_of who true) (replies_to true phase m);
-    after = Some (record { phase = next; sent = sent; held = held_after m held });
+    after = Some (record { phase = next; sent = sent; held = held_after m held; wide = wide_after m wide });
   }
 
   abbrev Becomes : Phase → Phase → Message → Type 0
@@ -71,7 +72,7 @@ module _ (who : Who) (id : Addr) (asn : ℕ) (peer : NodeId) (sent held : Map) (
   abbrev made_by : Phase → List Came → Begun
   made_by phase inputs = record {
     replies = (heard id (session_in phase) inputs).replies;
-    after = route.left_by (record { phase = phase; sent = sent; held = held }) (heard id (session_in phase) inputs)
+    after = route.left_by (post_in phase) (heard id (session_in phase) inputs)
         (heard id (session_in phase) inputs).cause;
   }
 
@@ -95,8 +96,8 @@ module _ (who : Who) (id : Addr) (asn : ℕ) (peer : NodeId) (sent held : Map) (
 
   open_taken : SaysRoute asn peer.address Open octets.now → Begins Opened → Becomes Opened Confirmed Open
   open_taken says b =
-      made Opened RightOpen
-      (alone Opened RightOpen (open_octets asn peer.address) says.0
+      made Opened (RightOpen true)
+      (alone Opened (RightOpen true) (open_octets asn peer.address) says.0
       (open_first (session_in Opened) [] says.1 says.2 says.3)) (λ e. e) b
 
   keepalive_up : SaysRoute asn peer.address Keepalive octets.now → Begins Confirmed → Becomes Confirmed Up Keepalive
@@ -120,7 +121,7 @@ module _ (who : Who) (id : Addr) (asn : ℕ) (peer : NodeId) (sent held : Map) (
       let m = made Up came first (λ e. e) b in (
         m.0 ∙ ap (λ (x : Change). record {
           replies = [];
-          after = Some (record { phase = Up; sent = sent; held = changed held x });
+          after = Some (record { phase = Up; sent = sent; held = changed held x; wide = wide });
         }) (sym says.1.is),
         m.1,
       )
@@ -142,11 +143,11 @@ module _ (who : Who) (id : Addr) (asn : ℕ) (peer : NodeId) (sent held : Map) (
 pub message_taken : (who : Who) (id : Addr) (asn : ℕ) (peer : NodeId) (p : Post) (i : ℕ) (octets : Bor (List ℕ))
     (given : Begun) (cause : Option Cause) (m : Message) (next : Phase) → is_idle p.phase ≡ false
     → cell true p.phase m ≡ Some next → SaysRoute asn peer.address m octets.now
-    → route.Begins id (record { asn = asn; peer = peer; state = peer_state p.phase }) p (input.Bytes i octets) given
-    cause
+    → route.Begins id (record { asn = asn; peer = peer; state = peer_state p.phase; wide = p.wide }) p
+    (input.Bytes i octets) given cause
     → (given ≡ record {
       replies = map (octets_of who true) (replies_to true p.phase m);
-      after = Some (record { phase = next; sent = p.sent; held = held_after m p.held });
+      after = Some (record { phase = next; sent = p.sent; held = held_after m p.held; wide = wide_after m p.wide });
     }) × (cause ≡ None)
 message_taken who id asn peer p i octets given cause m next live e says b =
-    by_cell who id asn peer p.sent p.held i octets given cause p.phase m next live e says b
+    by_cell who id asn peer p.sent p.held p.wide i octets given cause p.phase m next live e says b

@@ -1,5 +1,5 @@
 -- What the octets of one record make of an end of a session of items.
-use Rattle.std.specs.Prelude.{◌≡◌, ℕ, List, [], ◌∷◌, false, IsTrue}
+use Rattle.std.specs.Prelude.{◌≡◌, ℕ, List, [], ◌∷◌, Bool, false, IsTrue}
 use Rattle.std.specs.List.{cons_option}
 use Rattle.std.specs.Borrow.{Bor}
 use Rattle.std.specs.declared.option.Option.{Option}
@@ -32,7 +32,7 @@ use Rattle.node_items.proofs.Records.{change_heard, hello_heard}
 use Rattle.control_node.specs.Beginning.{item_state}
 use Rattle.network_model.specs.Session.{Message, Hello, Carries, is_idle}
 use Rattle.network_model.specs.Moments.{cell}
-use Rattle.net_model.specs.Taking.{held_after}
+use Rattle.net_model.specs.Taking.{held_after, wide_after}
 use Rattle.net_model.specs.Telling.{IsRecordChange}
 
 -- ---- one record is one input
@@ -69,31 +69,34 @@ SaysItem peer from (Carries c) octets = (octets ≡ items.spelled c) × IsRecord
 SaysItem peer from m octets = Unit {0}
 
 -- the end is as a message makes it, and nothing is replied
-abbrev as_item : Phase → Map → Map → Message → Begun
-as_item next sent held m = record {
+abbrev as_item : Phase → Map → Map → Bool → Message → Begun
+as_item next sent held wide m = record {
   replies = [];
-  after = Some (record { phase = next; sent = sent; held = held_after m held });
+  after = Some (record { phase = next; sent = sent; held = held_after m held; wide = wide_after m wide });
 }
 
 abbrev session_in : List ℕ → ItemFrom → ItemState → SessionFields
 session_in peer from state = record { peer = peer; from = from; state = state }
 
-module _ (me peer : List ℕ) (from : ItemFrom) (sent held : Map) (i : ℕ) (octets : Bor (List ℕ)) (given : Begun)
+module _ (me peer : List ℕ) (from : ItemFrom) (sent held : Map) (wide : Bool) (i : ℕ) (octets : Bor (List ℕ)) (given : Begun)
     (cause : Option ItemCause) where
+  abbrev post_in : Phase → Post
+  post_in phase = record { phase = phase; sent = sent; held = held; wide = wide }
+
   abbrev Begins : Phase → Type 0
   Begins phase =
-      item.Begins me (session_in peer from (item_state phase)) (record { phase = phase; sent = sent; held = held })
+      item.Begins me (session_in peer from (item_state phase)) (post_in phase)
       (input.Bytes i octets) given cause
 
   abbrev Becomes : Phase → Message → Type 0
-  Becomes next m = (given ≡ as_item next sent held m) × (cause ≡ None)
+  Becomes next m = (given ≡ as_item next sent held wide m) × (cause ≡ None)
 
   -- by the one input that the octets bring
   made : (phase : Phase) (came : Came) → next_in (session_in peer from (item_state phase)) octets.now ≡ Some (came, [])
       → cause_in (answer (session_in peer from (item_state phase)) came) ≡ None → Begins phase
       → (given ≡ record {
         replies = [];
-        after = item.left_by (record { phase = phase; sent = sent; held = held })
+        after = item.left_by (post_in phase)
             (heard (session_in peer from (item_state phase)) (came ∷ []))
             (heard (session_in peer from (item_state phase)) (came ∷ [])).cause;
       })
@@ -103,7 +106,7 @@ module _ (me peer : List ℕ) (from : ItemFrom) (sent held : Map) (i : ℕ) (oct
       let one : b.0 ≡ came ∷ [] = one_record s octets.now came next on b.0 b.1 in (
         b.2 ∙ ap (λ (inputs : List Came). record {
           replies = [];
-          after = item.left_by (record { phase = phase; sent = sent; held = held }) (heard s inputs)
+          after = item.left_by (post_in phase) (heard s inputs)
               (heard s inputs).cause;
         }) one,
         b.3 ∙ ap (λ (inputs : List Came). (heard s inputs).cause) one,
@@ -126,7 +129,7 @@ module _ (me peer : List ℕ) (from : ItemFrom) (sent held : Map) (i : ℕ) (oct
       let is : items.change_of told.item ≡ Some c = change_of_what_is_told c told in (
         m.0 ∙ ap (λ (o : Option Change). record {
           replies = [];
-          after = Some (record { phase = Up; sent = sent; held = keyed.after held (cons_option o []) });
+          after = Some (record { phase = Up; sent = sent; held = keyed.after held (cons_option o []); wide = wide });
         }) is,
         m.1,
       )
@@ -147,9 +150,9 @@ pub record_taken : (me peer : List ℕ) (from : ItemFrom) (state : ItemState) (p
     → item.Begins me (record { peer = peer; from = from; state = state }) p (input.Bytes i octets) given cause
     → (given ≡ record {
       replies = [];
-      after = Some (record { phase = next; sent = p.sent; held = held_after m p.held });
+      after = Some (record { phase = next; sent = p.sent; held = held_after m p.held; wide = wide_after m p.wide });
     }) × (cause ≡ None)
 record_taken me peer from state p i octets given cause m next at live e says b =
-    by_cell me peer from p.sent p.held i octets given cause p.phase m next live e says
+    by_cell me peer from p.sent p.held p.wide i octets given cause p.phase m next live e says
     (subst
     (λ (q : ItemState). item.Begins me (session_in peer from q) p (input.Bytes i octets) given cause) at b)

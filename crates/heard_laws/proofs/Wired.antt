@@ -41,7 +41,7 @@ each_who x P first sites agents who (inr m) =
 
 -- what is known of a node by itself
 abbrev pub HasNumbers : Who → Type 0
-HasNumbers (Controlling plan) = (plan.asn < 2 ^ 16) × IsAddress plan.me.address.0
+HasNumbers (Controlling plan) = (plan.asn < 2 ^ 32) × IsAddress plan.me.address.0
 HasNumbers _ = Unit {0}
 
 pub record IsSound (who : Who) : Type 0 where

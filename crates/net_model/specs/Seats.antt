@@ -10,6 +10,7 @@ use Rattle.ov_types.specs.declared.rows.NodeId.{NodeId}
 use Rattle.config_model.specs.declared.topology.Node.{Node}
 use Rattle.config_model.specs.declared.topology.Topology.{Topology}
 use Rattle.config_check.specs.Checked.{Checked}
+pub use Rattle.node_model.specs.Naming.{no_node}
 use Rattle.node_model.specs.Step.{Kind, Post, post}
 use Rattle.network_model.specs.Setup.{Name}
 use Rattle.network_model.specs.Network.{config, lists}
@@ -66,9 +67,6 @@ control_plan t c = record {
   peers = filter (λ (d : NodeId). not (same_name d.name c.name)) t.controllers;
   agents = map id_of (filter (λ n. lists n c) t.nodes);
 }
-
-abbrev pub no_node : NodeId
-no_node = record { name = []; address = record { 0 = 0 } }
 
 abbrev pub controller_named : Topology → Name → NodeId
 controller_named t name = unwrap_or (find (λ (c : NodeId). same_name c.name name) t.controllers) no_node

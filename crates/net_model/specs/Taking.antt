@@ -17,6 +17,11 @@ abbrev pub held_after : Message → Map → Map
 held_after (Carries c) held = changed held c
 held_after m held = held
 
+-- the OPEN of a control node says that it has numbers of four octets
+abbrev pub wide_after : Message → Bool → Bool
+wide_after Open wide = true
+wide_after m wide = wide
+
 abbrev pub greeting_of : Bool → Message
 greeting_of peering = if peering then Open else Hello
 
@@ -24,7 +29,7 @@ greeting_of peering = if peering then Open else Hello
 abbrev pub taken : Who → Bool → Post → Message → Phase → Begun
 taken who peering p m next = record {
   replies = map (octets_of who peering) (replies_to peering p.phase m);
-  after = Some (record { phase = next; sent = p.sent; held = held_after m p.held });
+  after = Some (record { phase = next; sent = p.sent; held = held_after m p.held; wide = wide_after m p.wide });
 }
 
 abbrev pub opened : Who → Bool → Post → Begun

@@ -1,5 +1,5 @@
 -- A list of which one item after another is replaced by the same one.
-use Rattle.std.proofs.Common.{◌≡◌, ◌<◌, ◌≤◌, ◌+◌, ℕ, zero, suc, Bool, false, List, [], ◌∷◌, length, set, ap, refl, arith, add-one, ◌∙◌}
+use Rattle.std.proofs.Common.{◌≡◌, ◌≤◌, ◌+◌, ℕ, zero, suc, Bool, false, List, [], ◌∷◌, length, set, ap, refl, arith, add-one, ◌∙◌}
 use Rattle.net_model.specs.Steps.{all_of}
 use Rattle.net_seats.specs.Halves.{Outer}
 

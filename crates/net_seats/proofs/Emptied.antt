@@ -1,11 +1,9 @@
 -- A node that loses all that it has keeps who it is and how many sessions it has.
-use Rattle.std.proofs.Common.{◌≡◌, ◌<◌, ℕ, List, [], false, length, set, sym, ◌∙◌, ap, subst, refl}
-use Rattle.std.proofs.lemmas.List.{get_or-set_same}
+use Rattle.std.proofs.Common.{◌≡◌, ◌<◌, ℕ, List, [], false, length, set, sym, ◌∙◌, subst, refl}
 use Rattle.node_model.specs.Step.{nothing}
-use Rattle.net_model.specs.Seats.{name_of, others_of}
 use Rattle.net_model.specs.Steps.{all_of}
 use Rattle.net_seats.specs.Changes.{ChangesOne, emptied_inner}
-use Rattle.net_seats.specs.Halves.{Inner, IsEven, Outer, inner, no_inner}
+use Rattle.net_seats.specs.Halves.{Inner, IsEven, Outer, inner}
 use Rattle.net_seats.proofs.Stepping.{as_long}
 use Rattle.net_seats.proofs.Numbers.{changes_one}
 

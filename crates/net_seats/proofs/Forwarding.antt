@@ -1,5 +1,5 @@
 -- What the agents forward by, and an edit at the first node.
-use Rattle.std.proofs.Common.{◌≡◌, ◌<◌, ℕ, zero, suc, List, [], ◌∷◌, ◌++◌, Result, Ok, Err, IfOk, Option, length, map, get_or, sym, ◌∙◌, ap, refl, subst, arith}
+use Rattle.std.proofs.Common.{◌≡◌, suc, List, [], ◌∷◌, ◌++◌, Result, Ok, Err, IfOk, Option, map, sym, ◌∙◌, ap, refl, subst, arith}
 use Rattle.std.specs.List.{All}
 use Rattle.ov_types.specs.declared.rows.AgentRows.{AgentRows}
 use Rattle.config_check.specs.Checked.{Checked}
@@ -10,7 +10,7 @@ use Rattle.node_model.specs.Agent.{rows as node_rows}
 use Rattle.config_node.specs.Core as configuration
 use Rattle.control_node.specs.Core as control
 use Rattle.agent_node.specs.Core as agent
-use Rattle.net_model.specs.Seats.{Configuring, Who}
+use Rattle.net_model.specs.Seats.{Configuring}
 use Rattle.net_seats.specs.Changes.{EditsOver, forwarders}
 use Rattle.net_seats.specs.Cores.{IsRight, configured, controlled, forwarded, inners}
 use Rattle.net_seats.specs.Halves.{Inner}

@@ -1,13 +1,13 @@
 -- Seats and their halves, by number.
-use Rattle.std.proofs.Common.{◌≡◌, ◌<◌, ◌≤◌, ◌+◌, ℕ, zero, suc, Bool, if◌then◌else◌, Option, Some, List, [], ◌∷◌, length, map, get_or, set, sym, ◌∙◌, ap, refl, arith}
+use Rattle.std.proofs.Common.{◌≡◌, ◌<◌, ℕ, zero, suc, if◌then◌else◌, Option, Some, List, [], ◌∷◌, length, get_or, set, ◌∙◌, ap, refl, arith}
 use Rattle.std.specs.List.{cons_option}
 use Rattle.ov_types.specs.First.{same_name}
 use Rattle.route_targets.specs.Forwarding.{Forwarder}
 use Rattle.network_model.specs.Setup.{Name}
-use Rattle.net_model.specs.Seats.{Seat, index_from, name_of, nobody, others_of}
+use Rattle.net_model.specs.Seats.{Seat, index_from, name_of, nobody}
 use Rattle.net_model.specs.Steps.{forwarder_of, forwarders_of}
 use Rattle.net_seats.specs.Changes.{forwarders}
-use Rattle.net_seats.specs.Halves.{AreAllHalves, AreHalves, Inner, Outer, inner, joined, no_inner, no_outer, outer, whole}
+use Rattle.net_seats.specs.Halves.{AreAllHalves, AreHalves, Inner, Outer, inner, joined, outer, whole}
 
 -- ---- lengths
 pub as_many : (ns : List Inner) (os : List Outer) → AreAllHalves ns os → length ns ≡ length os

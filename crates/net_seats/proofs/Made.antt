@@ -1,5 +1,5 @@
 -- The nodes that are made of a valid topology, with nothing of each other.
-use Rattle.std.proofs.Common.{◌≡◌, ◌<◌, ◌≤◌, ◌+◌, ◌^◌, ℕ, zero, suc, Bool, true, false, cond, not, List, [], ◌∷◌, ◌++◌, length, map, get_or, sym, ◌∙◌, ap, refl, subst, arith, length-append}
+use Rattle.std.proofs.Common.{◌≡◌, ◌<◌, ◌≤◌, ◌+◌, ◌^◌, zero, suc, Bool, true, false, cond, not, List, [], ◌∷◌, ◌++◌, length, map, sym, ◌∙◌, ap, refl, subst, arith, length-append}
 use Rattle.std.proofs.lemmas.List.Elements.{All-append}
 use Rattle.std.specs.List.{All, AllByRecursion, filter}
 use Rattle.ov_types.specs.First.{same_name}
@@ -13,7 +13,7 @@ use Rattle.config_node.specs.Core as configuration
 use Rattle.control_node.specs.Core as control
 use Rattle.agent_node.specs.Core as agent
 use Rattle.net_model.specs.Seats.{Configuring, Controlling, Forwarding, Seat, Who, agent_plan, control_plan, controller_named, id_of, names_of, others_of, whos}
-use Rattle.net_model.specs.Steps.{all_of, fresh_seat}
+use Rattle.net_model.specs.Steps.{fresh_seat}
 use Rattle.net_seats.specs.Cores.{configured, controlled, forwarded, inners}
 use Rattle.net_seats.specs.Fresh.{IsSetUp, fresh_inner, fresh_outer}
 use Rattle.net_seats.specs.Halves.{AreAllHalves, Inner, Outer, joined}

@@ -1,5 +1,5 @@
 -- Nodes by their numbers: the configuration node, the control nodes and the agents.
-use Rattle.std.proofs.Common.{◌≡◌, ◌<◌, ◌≤◌, ◌+◌, ℕ, zero, suc, Bool, List, [], ◌∷◌, ◌++◌, Result, Ok, Err, IfOk, length, map, get_or, set, sym, ◌∙◌, ap, refl, subst, arith, zero-add}
+use Rattle.std.proofs.Common.{◌≡◌, ◌<◌, ◌+◌, ℕ, zero, suc, List, [], ◌∷◌, ◌++◌, length, map, get_or, set, sym, ◌∙◌, ap, refl, arith, zero-add}
 use Rattle.std.proofs.lemmas.List.{get_or-set_same}
 use Rattle.config_node.specs.Core as configuration
 use Rattle.control_node.specs.Core as control

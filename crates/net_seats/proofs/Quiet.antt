@@ -1,5 +1,5 @@
 -- Over queues no send fails, and so a step tells every session all that was planned for it.
-use Rattle.std.proofs.Common.{◌≡◌, ◌<◌, ◌≤◌, ◌+◌, ℕ, zero, suc, Bool, true, false, IsTrue, Option, Some, List, [], ◌++◌, length, take, if◌then◌else◌, sym, ◌∙◌, ap, refl, subst, arith, length-append, nat_lt}
+use Rattle.std.proofs.Common.{◌≡◌, ◌<◌, ◌≤◌, ◌+◌, ℕ, zero, suc, Bool, true, false, IsTrue, Option, Some, List, [], ◌++◌, length, take, if◌then◌else◌, sym, ◌∙◌, ap, refl, subst, arith, length-append}
 use Rattle.std.proofs.lemmas.Bool.{ltb-false, le-ltb}
 use Rattle.std.proofs.lemmas.List.{take_all}
 use Rattle.std.specs.List.{slice_index_or}

@@ -1,5 +1,5 @@
 -- What a valid topology of the written form gives.
-use Rattle.std.proofs.Common.{◌≡◌, ◌≢◌, ◌<◌, ◌≤◌, ℕ, Bool, true, IsTrue, None, length, get_or, ◌&&◌, not, nat_le, arith, ◌==◌, ap}
+use Rattle.std.proofs.Common.{◌≡◌, ◌≢◌, ◌<◌, ◌≤◌, ℕ, true, IsTrue, None, length, get_or, ◌&&◌, nat_le, arith}
 use Rattle.std.proofs.lemmas.Bool.{and_parts, leb-true}
 use Rattle.std.specs.List.{list_all}
 use Rattle.ov_types.specs.Name.{is_name}
@@ -9,13 +9,11 @@ use Rattle.config_model.specs.declared.config.Config.{Config}
 use Rattle.config_model.specs.declared.topology.Node.{Node}
 use Rattle.config_model.specs.declared.topology.Topology.{Topology}
 use Rattle.config_check.specs.Rules.{first_broken}
-use Rattle.config_check.specs.Sentences.{IsValid}
 use Rattle.config_check.proofs.Iffs.{list_all_true}
 use Rattle.config_check.proofs.Validity.{valid_iff}
 use Rattle.net_seats.specs.Fresh.{IsSetUp}
 
 record Forms (t : Topology) : Type 0 where
-  asn : is_as_number t.asn ≡ true
   controllers : list_all has_controller_form t.controllers ≡ true
   some : nat_le 1 (length t.controllers) ≡ true
   nodes : list_all has_node_form t.nodes ≡ true
@@ -31,7 +29,7 @@ forms t h =
     let abc = and_parts (a && b && c) d abcd in
     let ab = and_parts (a && b) c abc.0 in
     let first = and_parts a b ab.0 in
-    record { asn = first.0; controllers = first.1; some = ab.1; nodes = abc.1 }
+    record { controllers = first.1; some = ab.1; nodes = abc.1 }
 
 -- there is a control node
 pub some_control : (t : Topology) → IsTrue (has_topology_form t) → 0 < length t.controllers
@@ -57,9 +55,7 @@ pub set_up : (t : Topology) (c : Config) → IsTrue (has_topology_form t) → fi
 set_up t c form none =
     let f = forms t form in
     let valid = (valid_iff t c).0 none in
-    let number : t.asn ≤ 65534 = (within 1 65534 t.asn (and_parts (is_from_to 1 65534 t.asn) (not (t.asn == 23456)) f.asn).0).1 in
     record {
-      asn = omega arith;
       addresses = λ k d lt. address (get_or t.controllers k d) ((list_all_true has_controller_form t.controllers).0 f.controllers k d lt);
       controllers = valid.limits.controllers;
       nodes = valid.limits.nodes;

@@ -1,5 +1,5 @@
 -- The seats of all nodes, where one of them is looked at or changed.
-use Rattle.std.proofs.Common.{◌≡◌, ◌<◌, ℕ, Bool, Result, Ok, Err, IfOk, Option, Some, None, List, length, get_or, set, sym, ◌∙◌, ap, refl, subst, arith}
+use Rattle.std.proofs.Common.{◌≡◌, ◌<◌, ℕ, Bool, Result, Ok, Err, IfOk, Option, Some, None, List, length, get_or, set, sym, ◌∙◌, ap, subst, arith}
 use Rattle.ov_link.specs.declared.step.Input.{Input}
 use Rattle.config_check.specs.Checked.{Checked}
 use Rattle.config_check.specs.declared.edits.EditFault.{EditFault}
@@ -8,7 +8,7 @@ use Rattle.network_model.specs.Setup.{Name}
 use Rattle.net_model.specs.Seats.{Seat, Configuring, nobody, others_of, seat}
 use Rattle.net_model.specs.Steps.{IsStepped, MakesEdit, Takes, as_it_is, with_seat}
 use Rattle.net_seats.specs.Changes.{ChangesOne, EditsOver, TakesOver}
-use Rattle.net_seats.specs.Halves.{AreAllHalves, AreHalves, Inner, IsEven, Outer, Standing, inner, joined, no_inner, no_outer, outer, seated, whole}
+use Rattle.net_seats.specs.Halves.{AreAllHalves, AreHalves, Inner, IsEven, Outer, inner, joined, no_inner, no_outer, outer, seated, whole}
 use Rattle.net_seats.proofs.Halves.{as_many, as_many_seats, halves_at, halves_set, joined_set, same_at, seat_at, set_itself}
 
 -- ---- one seat of them, at place k, which is j by another count

@@ -1,5 +1,5 @@
 -- What a step over queues, an edit and a restart come to at a seat, for each kind of node.
-use Rattle.std.proofs.Common.{◌≡◌, ◌<◌, ◌≤◌, ℕ, zero, suc, Bool, true, false, Option, Some, None, Result, Ok, Err, List, [], ◌∷◌, ◌++◌, length, map, sym, ◌∙◌, ap, refl, subst, arith, length-append}
+use Rattle.std.proofs.Common.{◌≡◌, ◌<◌, ℕ, zero, suc, Option, Some, None, Result, List, [], ◌∷◌, length, sym, ◌∙◌, ap, refl, arith, length-append}
 use Rattle.ov_link.specs.declared.step.Input.{Input}
 use Rattle.ov_link.specs.declared.step.NodeFault.{NodeFault}
 use Rattle.ov_link.specs.declared.step.Stepped.{Stepped}
@@ -8,10 +8,9 @@ use Rattle.config_check.specs.Checked.{Checked}
 use Rattle.config_check.specs.declared.edits.EditFault.{EditFault}
 use Rattle.config_model.specs.declared.edit.Edit.{Edit}
 use Rattle.config_model.specs.declared.topology.Topology.{Topology}
-use Rattle.network_model.specs.Setup.{Name, edited}
 use Rattle.node_core.specs.Resting.{nothings}
 use Rattle.node_core.specs.Whole.{IsWholeStep, session_of}
-use Rattle.node_model.specs.Step.{Begun, Post, Steps, nothing, post}
+use Rattle.node_model.specs.Step.{Begun, Post, nothing, post}
 use Rattle.config_node.specs.Core as configuration
 use Rattle.control_node.specs.Core as control
 use Rattle.control_node.specs.declared.plan.ControlPlan.{ControlPlan}
@@ -20,7 +19,7 @@ use Rattle.agent_node.specs.declared.plan.AgentPlan.{AgentPlan}
 use Rattle.net_model.specs.Seats.{Who, Configuring, Controlling, Forwarding, kind_of, names_of, others_of}
 use Rattle.net_model.specs.Steps.{BeginsAt, all_of}
 use Rattle.net_seats.specs.Changes.{EditsOver, TakesOver, emptied_inner}
-use Rattle.net_seats.specs.Cores.{configured, controlled, forwarded}
+use Rattle.net_seats.specs.Cores.{controlled, forwarded}
 use Rattle.net_seats.specs.Halves.{Inner}
 use Rattle.config_node.specs.Editing.{IsEdited, as_it_is}
 use Rattle.net_seats.proofs.Quiet.{Queue, quiet_steps}

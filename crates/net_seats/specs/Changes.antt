@@ -11,7 +11,7 @@ use Rattle.ov_types.specs.declared.rows.NodeRows.{NodeRows}
 use Rattle.route_targets.specs.Forwarding.{Forwarder}
 use Rattle.node_model.specs.Step.{nothing}
 use Rattle.network_model.specs.Setup.{edited}
-use Rattle.net_model.specs.Seats.{Configuring, Seat, name_of, others_of}
+use Rattle.net_model.specs.Seats.{Configuring, name_of, others_of}
 use Rattle.net_model.specs.Steps.{IsStepped, Takes, all_of, as_it_is, forwarder_of, shown_by}
 use Rattle.net_seats.specs.Halves.{Inner, inner, seated}
 

@@ -1,6 +1,5 @@
 -- The cores of the nodes: the configuration node's, and those of the control nodes and of the agents.
-use Rattle.std.specs.Prelude.{◌≡◌, ◌<◌, ℕ, ◌+◌, List, [], ◌∷◌, ◌++◌, map, length, Bool, false}
-use Rattle.std.specs.List.{All}
+use Rattle.std.specs.Prelude.{◌≡◌, ◌<◌, ℕ, ◌+◌, List, [], ◌∷◌, ◌++◌, map, false}
 use Rattle.node_model.specs.Agent.{rows as rows_of}
 use Rattle.config_node.specs.Core as configuration
 use Rattle.control_node.specs.Core as control

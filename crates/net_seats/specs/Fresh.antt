@@ -1,5 +1,5 @@
 -- Nodes that have nothing of each other.
-use Rattle.std.specs.Prelude.{◌≡◌, ◌≢◌, ◌≤◌, ℕ, List, [], map, length, false}
+use Rattle.std.specs.Prelude.{◌≢◌, ◌≤◌, [], length, false}
 use Rattle.std.specs.List.{All, Contains}
 use Rattle.config_check.specs.Rules.{controller_names}
 use Rattle.config_model.specs.declared.topology.Topology.{Topology}
@@ -22,7 +22,6 @@ fresh_outer who = record {
 
 -- what a valid topology gives to those that make its nodes
 pub record IsSetUp (t : Topology) : Type 0 where
-  pub asn : t.asn ≤ 65535
   pub addresses : All (λ c. c.address.0 ≢ 0) t.controllers
   pub controllers : length t.controllers ≤ 8
   pub nodes : length t.nodes ≤ 64

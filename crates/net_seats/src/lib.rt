@@ -10,6 +10,5 @@ mod making;
 mod nodes;
 mod plans;
 
-pub use making::config_name;
 pub use nodes::Nodes;
 pub use plans::lists;

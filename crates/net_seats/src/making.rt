@@ -4,7 +4,6 @@ ghost use Rattle.std.specs.List.{All, Contains};
 ghost use Rattle.config_check.specs.Rules.{controller_names};
 ghost use Rattle.agent_node.specs.Core.{fresh as fresh_agent};
 ghost use Rattle.control_node.specs.Core.{fresh as fresh_control};
-ghost use Rattle.network_model.specs.Network.{config};
 ghost use Rattle.net_model.specs.Seats.{Configuring, Controlling, Forwarding, agent_plan, control_plan, whos};
 ghost use Rattle.net_seats.specs.Cores.{IsRight};
 ghost use Rattle.net_seats.specs.Fresh.{IsSetUp, fresh_outer};
@@ -17,18 +16,9 @@ use agent_node::AgentNode;
 use config_check::Valid;
 use config_model::{Node, Topology};
 use control_node::ControlNode;
-use ov_types::{Name, NoMemory, NodeId};
+use node_items::config_name;
+use ov_types::{NoMemory, NodeId};
 use std::alloc::Global;
-
-/// The name of the configuration node.
-pub fn config_name() -> Name
-    ensures { result ≡ config }
-{
-    match Name::new("config") {
-        Some(name) => name,
-        None => unreachable!(),
-    }
-}
 
 /// The edge of the configuration node.
 fn config_edge(alloc: Global, valid: &Valid) -> Result<Edge, NoMemory>

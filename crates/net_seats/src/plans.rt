@@ -1,11 +1,11 @@
 //! The plans of the nodes of a topology.
 ghost use Rattle.std.specs.Prelude.{◌≡◌, ◌∷◌, ◌++◌, map, not, IfOk};
-ghost use Rattle.std.specs.List.{All, Contains, filter, list_any};
+ghost use Rattle.std.specs.List.{All, Contains, filter};
 ghost use Rattle.ov_types.specs.First.{same_name};
 ghost use Rattle.config_check.specs.Rules.{controller_names};
 ghost use Rattle.network_model.specs.Network.{lists};
 ghost use Rattle.net_model.specs.Seats.{agent_plan, control_plan, controller_named, id_of, names_of, others_of};
-ghost use Rattle.net_model.specs.Seats.{Configuring, Controlling, Forwarding};
+ghost use Rattle.net_model.specs.Seats.{Forwarding};
 
 use agent_node::AgentPlan;
 use config_model::{Node, Topology};

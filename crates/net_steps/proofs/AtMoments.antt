@@ -1,12 +1,12 @@
 -- What holds at a moment: of its sessions, and of a session that is found.
-use Rattle.std.specs.Prelude.{◌≡◌, ◌<◌, Bool, true, false, not, ◌&&◌}
+use Rattle.std.specs.Prelude.{◌≡◌, Bool, true, false, not, ◌&&◌}
 use Rattle.std.specs.declared.option.Option.TheVariants.{Some}
-use Rattle.std.proofs.Common.{refl, sym, ◌∙◌, ap, subst, inl, inr, arith}
+use Rattle.std.proofs.Common.{refl, sym, ◌∙◌, ap, subst, inl, inr}
 use Rattle.network_model.specs.Setup.{Name}
 use Rattle.network_model.specs.Session.{Session, is_idle, is_live, is_peering, turned}
 use Rattle.network_model.specs.Network.{Network, start}
 use Rattle.network_model.specs.Steps.{session_of}
-use Rattle.network_model.specs.Moments.{ArePositive, Each, IsFlowing, IsJoined}
+use Rattle.network_model.specs.Moments.{Each, IsFlowing, IsJoined}
 use Rattle.network_model.proofs.EveryMoment.{whole_are_joined}
 use Rattle.network_model.proofs.NetworkFact.{after_sound, found}
 use Rattle.network_model.proofs.SessionFact.{Fact, Fact-turned, are_peers-turned, live_receiver}
@@ -15,14 +15,9 @@ use Rattle.network_model.proofs.Twins.{each_weaker}
 use Rattle.net_model.specs.Stands.{IsDownWhere, any_size, is_whole_end}
 use Rattle.net_model.specs.Telling.{CanBeHeard}
 use Rattle.told_laws.specs.Moments.{IsMoment}
+use Rattle.net_model.proofs.Sizes.{positive}
 use Rattle.net_steps.proofs.Facts.{IsRight, Moments}
 use Rattle.net_steps.proofs.Quiet.{IsQuiet, quiet_of}
-
-pub positive : ArePositive any_size
-positive n m = one
-  where
-    one : 0 < 1
-    one = omega arith
 
 abbrev pub IsSound : Network → Type 0
 IsSound w = Each (Fact any_size) w.sessions

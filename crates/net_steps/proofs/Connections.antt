@@ -22,7 +22,8 @@ use Rattle.told_laws.specs.Moments.{IsMoment}
 use Rattle.seat_laws.specs.Wiring.{HasFar, IsPlaceOf}
 use Rattle.net_steps.specs.Connecting.{ConnectionsAreMade, EarlierConnectionsAreEvents, NearIsEarlier, NothingIsConnected, OpensBoth}
 use Rattle.net_steps.proofs.Asked.{places_say}
-use Rattle.net_steps.proofs.AtMoments.{IsSound, all_down_where, moment_right, moment_sound, positive}
+use Rattle.net_model.proofs.Sizes.{positive}
+use Rattle.net_steps.proofs.AtMoments.{IsSound, all_down_where, moment_right, moment_sound}
 use Rattle.net_steps.proofs.Connected.{connected_seats, connects}
 use Rattle.net_steps.proofs.Facts.{Facts, IsRight, right_twins}
 use Rattle.net_steps.proofs.Here.{here}

@@ -83,29 +83,11 @@ pub took_is : (m : Message) (next : Phase) (s : Session) → s.is_down ≡ false
 took_is m next s whole breaks live e = by_cell (is_peering s) s.near.phase m next s refl whole breaks live e
 
 -- ---- what arrives
--- a notice closes the end
-pub notice_arrives : (s : Session) → s.near.notice ≡ true → arrived s ≡ record s { near = closed s.near }
-unfolding arrived
-notice_arrives s e =
-    ap (λ (b : Bool). cond b (record s { near = closed s.near }) (took_first s.far.flight s)) e
 
 -- the first message is taken, and the others stay in flight
 pub first_arrives : (m : Message) (ms : List Message) (s : Session) → s.near.notice ≡ false → s.far.flight ≡ m ∷ ms
     → arrived s ≡ took m (without_first ms s)
 unfolding arrived
 first_arrives m ms s e flight =
-    ap (λ (b : Bool). cond b (record s { near = closed s.near }) (took_first s.far.flight s)) e
-    ∙ ap (λ (f : List Message). took_first f s) flight
-
-pub message_arrives : (m : Message) (ms : List Message) (next : Phase) (s : Session) → s.is_down ≡ false
-    → s.near.notice ≡ false → s.near.breaks ≡ [] → is_idle s.near.phase ≡ false → s.far.flight ≡ m ∷ ms
-    → cell (is_peering s) s.near.phase m ≡ Some next → arrived s ≡ after_taking m next (without_first ms s)
-message_arrives m ms next s whole notice breaks live flight e =
-    first_arrives m ms s notice flight ∙ took_is m next (without_first ms s) whole breaks live e
-
--- nothing arrives where nothing is in flight
-pub nothing_arrives : (s : Session) → s.near.notice ≡ false → s.far.flight ≡ [] → arrived s ≡ s
-unfolding arrived
-nothing_arrives s e flight =
     ap (λ (b : Bool). cond b (record s { near = closed s.near }) (took_first s.far.flight s)) e
     ∙ ap (λ (f : List Message). took_first f s) flight

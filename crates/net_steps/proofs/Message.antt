@@ -20,12 +20,13 @@ use Rattle.network_model.proofs.SessionFact.{Fact, Fact-turned, are_peers-turned
 use Rattle.net_model.specs.Seats.{Seat, link, link_at, name_of, notice_at, role_of, seat, seat_named}
 use Rattle.net_model.specs.Steps.{BeginsAt, IsDiscarded, Takes, with_link, with_seat}
 use Rattle.net_model.specs.Stands.{IsEnd, Seats, any_size, octets_of}
-use Rattle.net_model.specs.Taking.{held_after, replies_to, taken}
+use Rattle.net_model.specs.Taking.{held_after, replies_to, taken, wide_after}
 use Rattle.net_model.specs.Telling.{CanSend}
 use Rattle.net_model.specs.declared.place.Place.{Place}
 use Rattle.told_laws.specs.Moments.{IsMoment}
 use Rattle.seat_laws.specs.Wiring.{IsPlace, name_at, other_at}
-use Rattle.net_steps.proofs.AtMoments.{IsSound, all_down_where, all_quiet, found_heard, found_joined, moment_right, moment_sound, positive}
+use Rattle.net_model.proofs.Sizes.{positive}
+use Rattle.net_steps.proofs.AtMoments.{IsSound, all_down_where, all_quiet, found_heard, found_joined, moment_right, moment_sound}
 use Rattle.net_steps.proofs.Building.{AllBut, end_refl, end_trans, moved, put_but, stored_begun, stored_link}
 use Rattle.net_steps.proofs.Changing.{changed_right, changes_at}
 use Rattle.net_steps.proofs.Facts.{Facts, IsRight}
@@ -59,7 +60,12 @@ first_of g (m ∷ ms) octets rest e = record {
 module _ (n : Seat) (i : ℕ) (given : Begun) (s t : Session) (m : Message) (next : Phase) (lt : i < length n.posts)
     (linked : i < length n.links) (is : IsEnd n i s) (step : IsTakenAs (is_peering s) s.near.phase m next s t)
     (given_is : given ≡ taken n.who (is_peering s) (post n.posts i) m next) where
-  post_then : post (begun_seat n i given).posts i ≡ record { phase = next; sent = (post n.posts i).sent; held = held_after m (post n.posts i).held }
+  post_then : post (begun_seat n i given).posts i ≡ record {
+    phase = next;
+    sent = (post n.posts i).sent;
+    held = held_after m (post n.posts i).held;
+    wide = wide_after m (post n.posts i).wide;
+  }
   post_then = get_or-set_same n.posts i (end_of given.after) nothing lt ∙ ap (λ (g : Begun). end_of g.after) given_is
 
   link_then : link (begun_seat n i given) i ≡ map (octets_of n.who (is_peering s)) t.near.flight

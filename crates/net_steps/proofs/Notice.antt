@@ -21,7 +21,8 @@ use Rattle.net_model.specs.Taking.{closed}
 use Rattle.net_model.specs.declared.place.Place.{Place}
 use Rattle.told_laws.specs.Moments.{IsMoment}
 use Rattle.seat_laws.specs.Wiring.{IsPlace, name_at, other_at}
-use Rattle.net_steps.proofs.AtMoments.{IsSound, all_down_where, all_quiet, found_sound, moment_right, moment_sound, positive}
+use Rattle.net_model.proofs.Sizes.{positive}
+use Rattle.net_steps.proofs.AtMoments.{IsSound, all_down_where, all_quiet, found_sound, moment_right, moment_sound}
 use Rattle.net_steps.proofs.Building.{AllBut, end_refl, end_trans, moved, put_but, stored_begun, stored_notice}
 use Rattle.net_steps.proofs.Changing.{changed_right, changes_at}
 use Rattle.net_steps.proofs.Facts.{Facts, IsRight}

@@ -1,4 +1,5 @@
 -- Lemmas.
+pub mod Lists
 pub mod Resting
 pub mod Counting
 pub mod Deliveries

@@ -1,5 +1,5 @@
 //! The replies of a step, and then one pass over all sessions.
-ghost use Rattle.std.specs.Prelude.{◌≡◌, ◌<◌, ℕ, List, length, IfOk};
+ghost use Rattle.std.specs.Prelude.{◌≡◌, ◌<◌, List, length, IfOk};
 ghost use Rattle.node_model.specs.Step.{Begun, Post, Steps};
 ghost use Rattle.node_core.specs.Passing.{Passes, Serves, closed_if, earlier, noted};
 ghost use Rattle.node_core.specs.Begun.{HasBegun};

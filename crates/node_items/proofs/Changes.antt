@@ -20,11 +20,9 @@ use Rattle.item_wire.proofs.Spelled.{one_item}
 use Rattle.node_model.specs.Keys.{Low, Row, Publish, Subscribe}
 use Rattle.node_model.specs.Values.{Object, Entry, Label}
 use Rattle.node_model.specs.Maps.{Change}
+use Rattle.item_wire.proofs.ChangeLemmas.{itself}
 use Rattle.node_items.specs.Told.{is_hello, change_of, item_of, spelled, spelling_of, IsWritable, CanBeTold, KeyFits, ChangeFits, IsTyped}
 use Rattle.node_items.proofs.Fitting.{without_lists}
-
-itself : (n : ℕ) → (n == n) ≡ true
-itself n = eq-eqb n n refl
 
 pub changes_but_hellos : (i : Item) → is_some (change_of i) ≡ not (is_hello i)
 changes_but_hellos (I.Hello name) = refl

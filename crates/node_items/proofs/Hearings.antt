@@ -77,9 +77,6 @@ pub record Wholes (start : SessionFields) (octets : List ℕ) (records : List It
 abbrev pub LeadsFrom : SessionFields → List ℕ → List Item → SessionFields → List ℕ → Type 0
 LeadsFrom start octets records s rest = (inputs : List Came) → Hears s rest inputs → Wholes start octets records s inputs
 
-pub leads_start : (start : SessionFields) (octets : List ℕ) → LeadsFrom start octets [] start octets
-leads_start start octets inputs h = record { all = inputs; hears = h; records_are = refl; state_is = refl; cause_is = refl }
-
 -- what an event makes of what is heard after it
 abbrev with_event : ItemEvent → ItemState → Heard → Heard
 with_event event state more = elim event [

@@ -4,3 +4,5 @@ pub mod Changes
 pub mod Maps
 pub mod Records
 pub mod Hearings
+pub mod States
+pub mod Begun

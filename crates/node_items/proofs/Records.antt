@@ -7,7 +7,7 @@ use Rattle.std.proofs.lemmas.Slice.Eq.{bytes_eq-Decides}
 use Rattle.ov_types.specs.Name.{is_name}
 use Rattle.item_wire.specs.Frames.{framed}
 use Rattle.item_wire.specs.Happenings.{SessionFields}
-use Rattle.item_wire.specs.Inputs.{may_send, came_by, came_by_other}
+use Rattle.item_wire.specs.Inputs.{may_send, came_by}
 use Rattle.item_wire.specs.Records.{json_text, spelling}
 use Rattle.item_wire.specs.declared.event.ItemCause.TheVariants.{WrongName}
 use Rattle.item_wire.specs.declared.event.ItemFrom.{ItemFrom}
@@ -32,10 +32,6 @@ pub first_heard : (s : SessionFields) (i : Item) (more : List ℕ) → IsWritabl
 first_heard s i more w =
     ap (next_of s (spelling i ++ more)) (framed_is_read (json_text i) more w.short)
     ∙ (λ k. Some (came_with s (item_reads i w.in_range k), past_the_record (json_text i) more k))
-
--- a record that may be sent is no hello
-other_came : (peer : List ℕ) (from : ItemFrom) (i : Item) → IsTrue (may_send from i) → came_by_other from i ≡ Comes.OtherRecord i
-other_came peer from i h = rw h refl
 
 never_sent : (from : ItemFrom) (name : List ℕ) → IsTrue (may_send from (I.Hello name)) → ⊥
 never_sent Feed name h = cc

@@ -20,6 +20,11 @@ phase_of State.Idle = Idle
 phase_of State.Opened = Opened
 phase_of State.Up = Up
 
+abbrev pub state_at : Phase → ItemState
+state_at Idle = State.Idle
+state_at Up = State.Up
+state_at _ = State.Opened
+
 -- an end after what was heard: the records that were handed out are applied in order, and nothing is left where the
 -- session went down
 abbrev pub left_by : Post → Heard → Option ItemCause → Option Post

@@ -2,3 +2,4 @@
 pub mod Told
 pub mod Hearing
 pub mod Beginning
+pub mod Taking

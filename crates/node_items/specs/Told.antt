@@ -8,9 +8,6 @@ use Rattle.std.specs.Option.{option_map}
 use Rattle.ov_sync.specs.declared.Delta.TheVariants.{Put, Drop}
 use Rattle.ov_sync.specs.Embed.{embedded, moved_delta}
 use Rattle.ov_sync.specs.Keyed.{Values, map_of}
-use Rattle.std.specs.declared.cmp.Ordering.{Ordering}
-use Rattle.ov_types.specs.contracts.keys.DownKeyOrd.TheImpl as down_keys
-use Rattle.ov_types.specs.contracts.keys.UpKeyOrd.TheImpl as up_keys
 use Rattle.ov_types.specs.declared.keys.DownKey.{DownKey}
 use Rattle.ov_types.specs.declared.keys.DownValue.{DownValue}
 use Rattle.ov_types.specs.declared.keys.DownValue.TheVariants as Told
@@ -21,6 +18,7 @@ use Rattle.item_wire.specs.Ranges.{is_in_range, is_instance, is_attached_label, 
 use Rattle.item_wire.specs.Records.{json_text, spelling}
 use Rattle.item_wire.specs.declared.item.Item.{Item}
 use Rattle.item_wire.specs.declared.item.Item.TheVariants as I
+pub use Rattle.node_model.specs.Directions.{down_order, up_order}
 use Rattle.node_model.specs.Keys.{Key, Low, Vpn, Row, Publish, Subscribe, key_cmp, of_down, of_up}
 use Rattle.node_model.specs.Values.{Value, Object, Entry, Label}
 use Rattle.node_model.specs.Maps.{Map, Change}
@@ -107,13 +105,6 @@ AllFit m = Values Fits m
 abbrev pub down_value : DownValue → Value
 down_value (Told.Object v) = Object v
 down_value (Told.Row hop) = Entry hop
-
--- the orders of the keys of a direction
-abbrev pub down_order : DownKey → DownKey → Ordering
-down_order = down_keys.ghosts.cmp
-
-abbrev pub up_order : UpKey → UpKey → Ordering
-up_order = up_keys.ghosts.cmp
 
 -- what an agent is told, and what an agent tells
 abbrev pub down_of : List (DownKey × DownValue) → Map

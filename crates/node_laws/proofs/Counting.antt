@@ -17,7 +17,7 @@ use Rattle.ov_types.specs.declared.vpn.VpnKey.{VpnKey}
 use Rattle.ov_types.specs.declared.vpn.VpnRoute.{VpnRoute}
 use Rattle.route_targets.specs.Numbers.{target_of, distinguisher_of}
 use Rattle.node_model.specs.Members.{Member}
-use Rattle.node_model.specs.Keys.{Key, Low, Vpn, Row, Publish, Subscribe, key_cmp}
+use Rattle.node_model.specs.Keys.{Key, Vpn, Publish, key_cmp}
 use Rattle.node_model.specs.Values.{Value, Object, Route, Entry, Label}
 use Rattle.node_model.specs.Uses.{Use, uses}
 use Rattle.node_model.specs.Paths.{Holdings, Told, Path, own_path, own_paths, IsOwnRoute}
@@ -32,22 +32,11 @@ use Rattle.node_model.proofs.Places.{instance_in-distinguisher}
 use Rattle.node_model.proofs.Unknown.{place_at, place_at-within, le_trans}
 use Rattle.node_model.proofs.Routes.{in_below, from_below, own_route_from, own_route_in}
 use Rattle.node_model.proofs.Wanted.{told, as_route}
+use Rattle.node_model.proofs.Local.{as_vpn}
+use Rattle.node_model.proofs.Locality.{vpn_key, vpn_route}
 use Rattle.node_laws.specs.Counts.{AreListed, AreNumbered, HasKey, HasRoute, HasNoOwn, LeadsRight, Counts, as_own, as_right, as_left, IsCounted}
 
 -- ---- the first path of a key
-as_vpn : Key → Option VpnKey
-as_vpn (Vpn k) = Some k
-as_vpn (Low k) = None
-as_vpn (Row i p) = None
-as_vpn (Publish i p) = None
-as_vpn (Subscribe i) = None
-
-abbrev key_of : Path → VpnKey
-key_of p = record { rd = p.rd; prefix = p.prefix }
-
-abbrev route_of : Path → VpnRoute
-route_of p = record { next_hop = p.next_hop; label = p.label; targets = p.targets }
-
 abbrev first_of : VpnKey → List Path → Option Value
 first_of k ps = find key_cmp (Vpn k) (map route_entry ps)
 
@@ -64,13 +53,13 @@ record First (k : VpnKey) (ps : List Path) (v : Value) : Type 0 where
   path : Path
   member : Member path ps
   key_is : HasKey k path
-  value_is : Route (route_of path) ≡ v
+  value_is : Route (vpn_route path) ≡ v
 
 first_from : (k : VpnKey) (ps : List Path) (v : Value) → first_of k ps ≡ Some v → First k ps v
 unfolding as_vpn
 first_from k ps v e =
     let q = from_map route_entry (told (Vpn k) v) ps (from_find key_total key_exact (Vpn k) v (map route_entry ps) e) in
-    record { path = q.0; member = q.1; key_is = same_Some (key_of q.0) k (ap (λ (e : Key × Value). as_vpn e.0) q.2); value_is = ap (λ (e : Key × Value). e.1) q.2 }
+    record { path = q.0; member = q.1; key_is = same_Some (vpn_key q.0) k (ap (λ (e : Key × Value). as_vpn e.0) q.2); value_is = ap (λ (e : Key × Value). e.1) q.2 }
 
 first_found : (k : VpnKey) (ps : List Path) (p : Path) → Member p ps → HasKey k p → (v : Value) × (first_of k ps ≡ Some v)
 first_found k ps p m e =
@@ -161,7 +150,7 @@ same_instance_there address i j e = λ k. record { 0 = number address.0 i.0 j.0 
     number a i j e = omega arith
 
 -- own routes of one key and one session are told alike
-own_alike : (h : Holdings) → AreListed h.agents → (p q : Path) (o : IsOwnRoute h p) (r : IsOwnRoute h q) → key_of p ≡ key_of q → p.session ≡ q.session → route_of p ≡ route_of q
+own_alike : (h : Holdings) → AreListed h.agents → (p q : Path) (o : IsOwnRoute h p) (r : IsOwnRoute h q) → vpn_key p ≡ vpn_key q → p.session ≡ q.session → vpn_route p ≡ vpn_route q
 unfolding label_number
 own_alike h listed p q o r key same =
     let agents : o.agent ≡ r.agent = one_agent h.agents listed o.agent r.agent o.told r.told (sym o.session ∙ same ∙ r.session) in
@@ -290,7 +279,7 @@ module _ (h : Holdings) where
       chains : o.side.chain ≡ r.side.chain
       places : place_at o.side (suc o.depth) ≡ place_at r.side (suc r.depth)
 
-    one_place : (p q : Path) (o : IsReoriginated h p) (r : IsReoriginated h q) → key_of p ≡ key_of q → OnePlace p q o r
+    one_place : (p q : Path) (o : IsReoriginated h p) (r : IsReoriginated h q) → vpn_key p ≡ vpn_key q → OnePlace p q o r
     one_place p q o r key =
         let at : (hop_at o.side (suc o.depth)).0 ≡ (hop_at r.side (suc r.depth)).0 = ap (λ (i : InstanceId). i.0) (sym (instance_is p o) ∙ ap (λ (k : VpnKey). instance_in k.rd) key ∙ instance_is q r) in
         record {
@@ -314,7 +303,7 @@ module _ (h : Holdings) where
         (sym (ap (λ b. cond b (o.side.chain.services - suc o.depth) (suc o.depth)) e) ∙ one.places ∙ ap (λ b. cond b (r.side.chain.services - suc r.depth) (suc r.depth)) f)
 
     -- routes of one key and one side are told alike
-    led_alike : (p q : Path) (o : IsReoriginated h p) (r : IsReoriginated h q) (b : Bool) → key_of p ≡ key_of q → o.side.is_right ≡ b → r.side.is_right ≡ b → route_of p ≡ route_of q
+    led_alike : (p q : Path) (o : IsReoriginated h p) (r : IsReoriginated h q) (b : Bool) → vpn_key p ≡ vpn_key q → o.side.is_right ≡ b → r.side.is_right ≡ b → vpn_route p ≡ vpn_route q
     led_alike p q o r b key e f =
         let one = one_place p q o r key in
         let turns : o.side.is_right ≡ r.side.is_right = e ∙ sym f in
@@ -330,8 +319,8 @@ module _ (h : Holdings) where
         by_own (first_of k (own_paths h)) refl
         (sym (first_either k (own_paths h) (reoriginated h)) ∙ sym (get-from_entries key_total (map route_entry (own_paths h ++ reoriginated h)) (Vpn k)) ∙ e)
       where
-        route_is : (p : Path) → Route (route_of p) ≡ Route r → HasRoute r p
-        route_is p e = same_Some (route_of p) r (ap as_route e)
+        route_is : (p : Path) → Route (vpn_route p) ≡ Route r → HasRoute r p
+        route_is p e = same_Some (vpn_route p) r (ap as_route e)
 
         by_side : HasNoOwn h k → Sided k (Route r) (uses h.feed) → IsCounted h k r
         by_side none (on_right u m f) =
@@ -356,7 +345,7 @@ module _ (h : Holdings) where
     both_ways : (m n : ℕ) → m ≤ n → n ≤ m → m ≡ n
     both_ways m n a b = omega arith
 
-    counts_alike : AreListed h.agents → (k : VpnKey) (p q : Path) → HasKey k p → HasKey k q → Counts h k p → Counts h k q → route_of p ≡ route_of q
+    counts_alike : AreListed h.agents → (k : VpnKey) (p q : Path) → HasKey k p → HasKey k q → Counts h k p → Counts h k q → vpn_route p ≡ vpn_route q
     counts_alike listed k p q kp kq (as_own o low) (as_own r low') = own_alike h listed p q o r (kp ∙ sym kq) (both_ways p.session q.session (low q r kq) (low' p o kp))
     counts_alike listed k p q kp kq (as_own o low) (as_right none l) = absurd (none p o kp)
     counts_alike listed k p q kp kq (as_own o low) (as_left none no_right l) = absurd (none p o kp)
@@ -379,11 +368,11 @@ module _ (h : Holdings) where
     counts_to listed k r c =
         let f = first_found k (own_paths h ++ reoriginated h) c.0 (counts_member k c.0 c.3) c.1 in
         let first = first_from k (own_paths h ++ reoriginated h) f.0 f.1 in
-        let here : get (wanted_by_peers h) (Vpn k) ≡ Some (Route (route_of first.path)) = get-from_entries key_total (map route_entry (own_paths h ++ reoriginated h)) (Vpn k) ∙ f.1 ∙ ap Some (sym first.value_is) in
-        let q = counts_from listed k (route_of first.path) here in
-        let there : route_of q.0 ≡ route_of first.path = q.2 in
-        let one : route_of c.0 ≡ route_of q.0 = counts_alike listed k c.0 q.0 c.1 q.1 c.3 q.3 in
-        let same : route_of first.path ≡ r = sym {a = route_of q.0} there ∙ sym {a = route_of c.0} one ∙ c.2 in
+        let here : get (wanted_by_peers h) (Vpn k) ≡ Some (Route (vpn_route first.path)) = get-from_entries key_total (map route_entry (own_paths h ++ reoriginated h)) (Vpn k) ∙ f.1 ∙ ap Some (sym first.value_is) in
+        let q = counts_from listed k (vpn_route first.path) here in
+        let there : vpn_route q.0 ≡ vpn_route first.path = q.2 in
+        let one : vpn_route c.0 ≡ vpn_route q.0 = counts_alike listed k c.0 q.0 c.1 q.1 c.3 q.3 in
+        let same : vpn_route first.path ≡ r = sym {a = vpn_route q.0} there ∙ sym {a = vpn_route c.0} one ∙ c.2 in
         here ∙ ap (λ (r : VpnRoute). Some (Route r)) same
 
 pub counted_is : (h : Holdings) → AreListed h.agents → AreNumbered h.feed → (k : VpnKey) (r : VpnRoute) → (get (wanted_by_peers h) (Vpn k) ≡ Some (Route r)) ↔ IsCounted h k r
@@ -392,4 +381,4 @@ counted_is h listed numbered k r = (counts_from h numbered listed k r, counts_to
 pub nothing_but_routes : (h : Holdings) (k : Key) (v : Value) → get (wanted_by_peers h) k ≡ Some v → ((at : VpnKey) × (k ≡ Vpn at)) × ((r : VpnRoute) × (v ≡ Route r))
 nothing_but_routes h k v e =
     let q = from_map route_entry (told k v) (own_paths h ++ reoriginated h) (from_entry key_total key_exact k v (map route_entry (own_paths h ++ reoriginated h)) e) in
-    ((key_of q.0, sym (ap (λ (e : Key × Value). e.0) q.2)), (route_of q.0, sym (ap (λ (e : Key × Value). e.1) q.2)))
+    ((vpn_key q.0, sym (ap (λ (e : Key × Value). e.0) q.2)), (vpn_route q.0, sym (ap (λ (e : Key × Value). e.1) q.2)))

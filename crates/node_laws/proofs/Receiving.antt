@@ -27,14 +27,14 @@ use Rattle.node_model.specs.Reaching.{AreShort, below}
 use Rattle.node_model.specs.Step.{At}
 use Rattle.node_model.specs.Tables.{network_of, known_instances}
 use Rattle.node_model.specs.Agent as agent
-use Rattle.node_model.specs.Agent.{publication, needed_for, needed_by, slice_in_use, wanted, IsNeeded}
+use Rattle.node_model.specs.Agent.{publication, needed_by, slice_in_use, wanted, IsNeeded}
 use Rattle.node_model.proofs.Members.{none_some, in_left, in_right, in_either, in_map, from_map, in_filter, from_filter, in_filter_map, from_filter_map, in_flat_map, from_flat_map, any_in, from_any, get_member, member_get, entry_in, from_entry}
 use Rattle.node_model.proofs.Orders.{key_total, key_exact}
 use Rattle.node_model.proofs.Objects.{object_of, in_objects, known_hop}
 use Rattle.node_model.proofs.Places.{is_hop-network, use_found}
 use Rattle.node_model.proofs.Routes.{in_below, from_below, own_route_from, own_route_in}
 use Rattle.node_model.proofs.Wanted.{told, named}
-use Rattle.node_model.proofs.Needed.{needed_is}
+use Rattle.node_model.proofs.Needed.{needed_is, same_instance}
 use Rattle.node_laws.specs.Received.{IsPeerRoute, HasImportedTarget, IsReceived, IsKnown, of_network, of_place, AreNetworks}
 use Rattle.node_laws.specs.Labelled.{IsToldUp}
 
@@ -294,9 +294,6 @@ module _ (slice : List (LowKey × LowValue)) where
     | inl l ↦ let q = from_flat_map (λ (x : LowKey × LowValue). publication x.0 x.1) e slice l in inl (publishes_key q.0.0 q.0.1 e q.2)
     | inr r ↦ inr (from_map subscription e (needed_by slice) r)
   ]
-
-same_instance : (i j : InstanceId) → (i.0 == j.0) ≡ true → i ≡ j
-same_instance i j e = λ k. record { 0 = eqb-true i.0 j.0 e k }
 
 needed_member : (h : agent.Holdings) (i : InstanceId) → IsNeeded (slice_in_use h) i → Member i (needed_by (slice_in_use h))
 needed_member h i n =

@@ -1,8 +1,8 @@
 -- What nodes show, and in which order.
 use Rattle.std.specs.Prelude.{◌≡◌, ◌↔◌, ℕ, zero, suc, ◌+◌, ◌*◌, ◌<◌, ◌≤◌, List, [], ◌∷◌, ◌++◌, map, Bool, true, false, cond, T}
 use Rattle.std.specs.declared.cmp.Ordering.{Ordering}
-use Rattle.std.specs.declared.cmp.Ordering.TheVariants.{Less, Equal, Greater}
-use Rattle.std.specs.Ordering.{nat_cmp, is_lt, ordering_then}
+use Rattle.std.specs.declared.cmp.Ordering.TheVariants.{Less, Equal}
+use Rattle.std.specs.Ordering.{nat_cmp, ordering_then}
 use Rattle.std.specs.Cmp.{IsTotalOrder, ranked, nat_cmp_is}
 use Rattle.std.specs.declared.option.Option.{Option}
 use Rattle.std.specs.declared.option.Option.TheVariants.{Some, None}
@@ -39,7 +39,8 @@ use Rattle.node_model.proofs.Objects.{object_of}
 use Rattle.node_model.proofs.Images.{low_keeps}
 use Rattle.node_model.proofs.Published.{IsBefore, Rise, rise_from, rise_slice}
 use Rattle.node_model.proofs.Heard.{row_total, first_rows}
-use Rattle.node_model.proofs.Wanted.{named}
+use Rattle.node_model.proofs.Wanted.{named, at_path}
+use Rattle.node_model.proofs.Local.{less_is}
 use Rattle.node_laws.specs.Received.{AreNetworks, IsShown}
 use Rattle.node_laws.specs.Labelled.{LeadsTo, to_port, to_circuit, IsAccessList}
 use Rattle.node_laws.proofs.Receiving.{known_from, known_in, network_is, networks, hops, places, places_within}
@@ -102,18 +103,10 @@ unfolding IsStrictlySortedBy
 in_order f R [] r = tt
 in_order f R (x ∷ xs) r = (all_above f R x xs r.0, in_order f R xs r.1)
 
-less_of : (r : Ordering) → T (is_lt r) → r ≡ Less
-less_of Less h = refl
-less_of Equal h = absurd h
-less_of Greater h = absurd h
-
-abbrev key_in : {K V : Type 0} → K × V → K
-key_in e = e.0
-
 -- the entries of a map are in order
 entries_rise : {K V : Type 0} {R : K → K → Ordering} (o : IsTotalOrder R) (es : List (K × V)) → T (is_sorted R es) → Rises (by_key (λ (e : K × V). e.0) R) es
 entries_rise o [] s = tt
-entries_rise {R = R} o (e ∷ es) s = ((λ f m. less_of (R e.0 f.0) (first_below o e f es s m)), entries_rise o es (search (second_of_and, s)))
+entries_rise {R = R} o (e ∷ es) s = ((λ f m. less_is (R e.0 f.0) (first_below o e f es s m)), entries_rise o es (search (second_of_and, s)))
 
 -- objects are in the order of their keys
 abbrev object_before : LowKey × LowValue → LowKey × LowValue → Type 0
@@ -124,7 +117,7 @@ objects_rise [] r = tt
 objects_rise (e ∷ es) r = (r.0, objects_rise es r.1)
 
 before_is : (a b : LowKey) → IsBefore a b → low_key_cmp a b ≡ Less
-before_is a b h = sym (low_keeps a b) ∙ less_of (key_cmp (Low a) (Low b)) h
+before_is a b h = sym (low_keeps a b) ∙ less_is (key_cmp (Low a) (Low b)) h
 
 nat_less : (m n : ℕ) → m < n → nat_cmp m n ≡ Less
 nat_less m n h = sym (nat_cmp_is m n Less h)
@@ -142,9 +135,6 @@ row_of i e = ((i, e.0), table_row e.1)
 abbrev shown_at : InstanceId → Block → TableRow → (InstanceId × Block) × TableRow
 shown_at i prefix row = ((i, prefix), row)
 
-abbrev at_prefix : Block → Path → Block × Path
-at_prefix prefix p = (prefix, p)
-
 pub shown_is : (h : Holdings) (i : InstanceId) (prefix : Block) (row : TableRow) → Member (shown_at i prefix row) (rows h) ↔ IsShown h i prefix row
 shown_is h i prefix row = (
   (λ m.
@@ -159,8 +149,8 @@ shown_is h i prefix row = (
       }),
   (λ s.
       subst (λ (r : TableRow). Member (shown_at i prefix r) (rows h)) (sym s.row_is)
-      (in_flat_map (λ (i : InstanceId). map (row_of i) (entries (table h i))) i (row_of i (at_prefix prefix s.path)) (known_instances h.feed) (known_in h.feed i s.known)
-      (in_map (row_of i) (at_prefix prefix s.path) (entries (table h i)) (member_get prefix_total prefix_exact (table h i) prefix s.path s.selected)))),
+      (in_flat_map (λ (i : InstanceId). map (row_of i) (entries (table h i))) i (row_of i (at_path prefix s.path)) (known_instances h.feed) (known_in h.feed i s.known)
+      (in_map (row_of i) (at_path prefix s.path) (entries (table h i)) (member_get prefix_total prefix_exact (table h i) prefix s.path s.selected)))),
 )
 
 -- ---- the order of known instances

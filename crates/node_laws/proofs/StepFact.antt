@@ -41,6 +41,7 @@ module _ (k : Kind) (posts : List Post) (session : ℕ) (given : Begun) where
     closed = λ f. e ∙ ap (λ b. cond b nothing (told_all k start i)) f;
     phase = λ f. ap (λ (x : Post). x.phase) (open_end f) ∙ elim (k.may_send i (post start i).phase) as (λ b. (cond b (record (post start i) { sent = k.wanted start i }) (post start i)).phase ≡ (post start i).phase) [ true ↦ refl | false ↦ refl ];
     held = λ f. ap (λ (x : Post). x.held) (open_end f) ∙ elim (k.may_send i (post start i).phase) as (λ b. (cond b (record (post start i) { sent = k.wanted start i }) (post start i)).held ≡ (post start i).held) [ true ↦ refl | false ↦ refl ];
+    wide = λ f. ap (λ (x : Post). x.wide) (open_end f) ∙ elim (k.may_send i (post start i).phase) as (λ b. (cond b (record (post start i) { sent = k.wanted start i }) (post start i)).wide ≡ (post start i).wide) [ true ↦ refl | false ↦ refl ];
     sent = λ f m. ap (λ (x : Post). x.sent) (open_end f) ∙ ap (λ b. (cond b (record (post start i) { sent = k.wanted start i }) (post start i)).sent) m;
     silent = λ f m. ap (λ (x : Post). x.sent) (open_end f) ∙ ap (λ b. (cond b (record (post start i) { sent = k.wanted start i }) (post start i)).sent) m;
   }
@@ -241,8 +242,8 @@ module _ {L : Type 0} (accepted : L → Option (List (List ℕ))) (breaks : L �
     end_is : (start : List Post) (i : ℕ) (failed : Bool) (p : Post) → IsLeft k start i failed p → p ≡ cond failed nothing (told_all k start i)
     end_is start i true p l = l.closed refl
     end_is start i false p l = elim (k.may_send i (post start i).phase) as (λ b. k.may_send i (post start i).phase ≡ b → p ≡ cond b (record (post start i) { sent = k.wanted start i }) (post start i)) [
-      | true ↦ λ e. (λ x. record { phase = l.phase refl x; sent = l.sent refl e x; held = l.held refl x })
-      | false ↦ λ e. (λ x. record { phase = l.phase refl x; sent = l.silent refl e x; held = l.held refl x })
+      | true ↦ λ e. (λ x. record { phase = l.phase refl x; sent = l.sent refl e x; held = l.held refl x; wide = l.wide refl x })
+      | false ↦ λ e. (λ x. record { phase = l.phase refl x; sent = l.silent refl e x; held = l.held refl x; wide = l.wide refl x })
     ] refl
 
     start_is : (start : List Post) (fails : Bool) → IsPassStart posts start session given fails → start ≡ begun posts session given fails

@@ -21,7 +21,6 @@ use Rattle.node_model.specs.Maps.{as_object, low_entry, object, objects}
 use Rattle.node_model.specs.Uses.{Use, as_use, use_from, uses, is_hop, use_of, place_of}
 use Rattle.node_model.specs.Paths.{Told}
 use Rattle.node_model.specs.Agent as agent
-use Rattle.node_model.specs.Agent.{Heard}
 use Rattle.node_model.specs.Ranks.{instance_in, depth_in, peer_rank, AreOrdered, IsTargeted, AgreeBelow, SameTold, Agree, SameSlice}
 use Rattle.node_model.proofs.Members.{none_some, from_find}
 use Rattle.node_model.proofs.Orders.{key_total, key_exact}

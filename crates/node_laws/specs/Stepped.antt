@@ -32,6 +32,7 @@ pub record IsLeft (k : Kind) (start : List Post) (i : ℕ) (failed : Bool) (p : 
   pub closed : failed ≡ true → p ≡ nothing
   pub phase : failed ≡ false → p.phase ≡ (post start i).phase
   pub held : failed ≡ false → p.held ≡ (post start i).held
+  pub wide : failed ≡ false → p.wide ≡ (post start i).wide
   pub sent : failed ≡ false → k.may_send i (post start i).phase ≡ true → p.sent ≡ k.wanted start i
   pub silent : failed ≡ false → k.may_send i (post start i).phase ≡ false → p.sent ≡ (post start i).sent
 

@@ -11,7 +11,7 @@ use Rattle.ov_types.specs.declared.rows.Entry.{Entry as Hop}
 use Rattle.node_model.specs.Values.{Value, Object, Route, Entry, Label, same_value}
 use Rattle.node_model.proofs.Wanted.{as_route, as_entry, as_low_value}
 
-abbrev as_label_no : Value → Option LabelNo
+abbrev pub as_label_no : Value → Option LabelNo
 as_label_no (Label l) = Some l
 as_label_no (Object v) = None
 as_label_no (Route r) = None

@@ -11,6 +11,7 @@ pub mod Heard
 pub mod Published
 pub mod Spelled
 pub mod Images
+pub mod Directions
 pub mod Alike
 pub mod Places
 pub mod Locality

@@ -46,7 +46,7 @@ use Rattle.node_model.proofs.Published.{IsBefore, Rise, rise_from}
 use Rattle.node_model.proofs.Locality.{local_by_peers}
 
 -- ---- the routes that are wanted have the target of their distinguisher's instance
-known_small : (feed : Map) (i : InstanceId) → AreOrdered feed → is_known feed i ≡ true → i.0 < 65536
+pub known_small : (feed : Map) (i : InstanceId) → AreOrdered feed → is_known feed i ≡ true → i.0 < 65536
 known_small feed i ordered known =
     elim (is_hop i) as (λ b. is_hop i ≡ b → cond b (is_place (place_of i) (held_use feed i)) (is_some (object feed (key.Instance i.0))) ≡ true → i.0 < 65536) [
       | true ↦ λ _ e. of_use (held_use feed i) refl e
@@ -80,7 +80,7 @@ path_targeted h ordered p m =
           targeted_by h.asn p.rd p.targets _ (ap instance_in o.rd ∙ instance_in-distinguisher p.next_hop _ (place_small h.feed o.side (suc o.depth) ordered o.held (next o.depth o.side.chain.services o.within))) o.targets
     ]
 
-as_vpn : Key → Option VpnKey
+unfoldable pub as_vpn : Key → Option VpnKey
 as_vpn (Vpn k) = Some k
 as_vpn (Low k) = None
 as_vpn (Row i p) = None
@@ -181,16 +181,16 @@ local_slices h g a b feed address k = same_options (get (wanted_by_agent h a) (L
     (moved_slice h g a b feed address k) (moved_slice g h b a (sym feed) (sym address) k)
 
 -- ---- of agents
-abbrev low_cmp : LowKey → LowKey → Ordering
+abbrev pub low_cmp : LowKey → LowKey → Ordering
 low_cmp a b = key_cmp (Low a) (Low b)
 
-low_total : IsTotalOrder low_cmp
+pub low_total : IsTotalOrder low_cmp
 low_total = on_total (λ (k : LowKey). numbers (Low k)) nat_list_cmp_total
 
-low_exact : IsAntisymmetric low_cmp
+pub low_exact : IsAntisymmetric low_cmp
 low_exact a b e = same_Some a b (ap as_low (key_exact (Low a) (Low b) e))
 
-less_is : (r : Ordering) → T (is_lt r) → r ≡ Less
+pub less_is : (r : Ordering) → T (is_lt r) → r ≡ Less
 less_is Less h = refl
 less_is Equal h = absurd h
 less_is Greater h = absurd h

@@ -49,10 +49,10 @@ each_member P n (y ∷ xs) x a (inl e) = subst P (ap (λ (x : ℕ × _). x.1) e)
 each_member P n (y ∷ xs) x a (inr m) = each_member P (n + 1) xs x a.1 m
 
 -- the key of a path between control nodes
-abbrev vpn_key : Path → VpnKey
+abbrev pub vpn_key : Path → VpnKey
 vpn_key p = record { rd = p.rd; prefix = p.prefix }
 
-abbrev vpn_route : Path → VpnRoute
+abbrev pub vpn_route : Path → VpnRoute
 vpn_route p = record { next_hop = p.next_hop; label = p.label; targets = p.targets }
 
 peer_path_parts : (session : ℕ) (k : Key) (v : Value) (p : Path) → peer_path session k v ≡ Some p → (k ≡ Vpn (vpn_key p)) × (v ≡ Route (vpn_route p))
@@ -67,7 +67,7 @@ peer_path_parts session (Row i prefix) v p e = absurd (none_some p e)
 peer_path_parts session (Publish i prefix) v p e = absurd (none_some p e)
 peer_path_parts session (Subscribe i) v p e = absurd (none_some p e)
 
-abbrev towards_of : ℕ → InstanceId → Block → Addr × LabelNo → Path
+abbrev pub towards_of : ℕ → InstanceId → Block → Addr × LabelNo → Path
 towards_of asn i subnet by = record { prefix = subnet; rd = distinguisher_of by.0 i; next_hop = by.0; label = by.1; targets = target_of asn i ∷ []; session = 65535 }
 
 -- ---- one control node with two lists of peers' maps

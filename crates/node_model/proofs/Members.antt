@@ -3,14 +3,25 @@ use Rattle.std.specs.Prelude.{◌≡◌, ◌⊎◌, List, [], ◌∷◌, ◌++�
 use Rattle.std.specs.declared.option.Option.{Option}
 use Rattle.std.specs.declared.cmp.Ordering.{Ordering}
 use Rattle.std.specs.declared.cmp.Ordering.TheVariants.{Less, Equal, Greater}
-use Rattle.std.specs.List.{filter, filter_map, cons_option, flat_map, list_any}
+use Rattle.std.specs.List.{Contains, filter, filter_map, cons_option, flat_map, list_any}
 use Rattle.std.specs.Ordering.{eq_by_cmp, is_eq, is_lt, ordering_reverse}
 use Rattle.std.specs.Cmp.{IsTotalOrder, tied_itself}
 use Rattle.std.specs.FinMap.{FinMap, IsAntisymmetric, get, entries, from_entries, find, is_sorted, entries_sorted, get-entries, get-from_entries}
 use Rattle.std.proofs.lemmas.Bool.{true≢false, or_cases, or_left, or_right}
 use Rattle.std.proofs.lemmas.Option.{same_Some}
-use Rattle.std.proofs.Common.{refl, sym, ◌∙◌, ap, subst, inl, inr}
+use Rattle.std.proofs.Common.{refl, sym, ◌∙◌, ap, subst, inl, inr, arith}
+use Rattle.ov_types.proofs.FirstLemmas.{contains_cases, contains_here, contains_later}
 use Rattle.node_model.specs.Members.{Member}
+
+-- what a list contains are its members
+pub member_of : {A : Type 0} (xs : List A) (x : A) → Contains xs x → Member x xs
+member_of [] x h = absurd (omega (arith, h.1))
+member_of (y ∷ ys) x h = elim (contains_cases y ys x h) as (λ _. Member x (y ∷ ys)) [ inl e ↦ inl e | inr later ↦ inr (member_of ys x later) ]
+
+pub contains_of : {A : Type 0} (xs : List A) (x : A) → Member x xs → Contains xs x
+contains_of [] x m = absurd m
+contains_of (y ∷ ys) x (inl e) = subst (Contains (y ∷ ys)) e (contains_here y ys)
+contains_of (y ∷ ys) x (inr m) = contains_later x y ys (contains_of ys x m)
 
 pub none_some : {A : Type 0} (x : A) → None ≡ Some x → ⊥
 none_some x e = cc

@@ -36,7 +36,7 @@ needed_to i (low.Acl subnets rules) q = in_filter_map (λ (r : AclRule). entered
 needed_to i (low.Instance imports) m = m
 needed_to i (low.ChainUse left right ls rs hops) m = m
 
-same_instance : (i j : InstanceId) → (i.0 == j.0) ≡ true → i ≡ j
+pub same_instance : (i j : InstanceId) → (i.0 == j.0) ≡ true → i ≡ j
 same_instance i j e = λ k. record { 0 = eqb-true i.0 j.0 e k }
 
 pub needed_is : (h : Holdings) (i : InstanceId) → (is_needed h i ≡ true) ↔ IsNeeded (slice_in_use h) i

@@ -95,14 +95,14 @@ own_route_in h p o =
     (ap (λ b. cond b (Some (record { prefix = p.prefix; rd = distinguisher_of a.address i; next_hop = a.address; label = p.label; targets = target_of h.asn i ∷ []; session = a.session })) None) o.known ∙ ap Some is))
 
 -- ---- circuits that are published here
-label_is : (o : Option Value) (l : LabelNo) → as_label o ≡ Some l → o ≡ Some (Label l)
+pub label_is : (o : Option Value) (l : LabelNo) → as_label o ≡ Some l → o ≡ Some (Label l)
 label_is (Some (Label m)) l e = ap (λ (x : LabelNo). Some (Label x)) (same_Some m l e)
 label_is (Some (Object v)) l e = absurd (none_some l e)
 label_is (Some (Route r)) l e = absurd (none_some l e)
 label_is (Some (Entry r)) l e = absurd (none_some l e)
 label_is None l e = absurd (none_some l e)
 
-abbrev led_by : Addr → LabelNo → Addr × LabelNo
+abbrev pub led_by : Addr → LabelNo → Addr × LabelNo
 led_by address label = (address, label)
 
 abbrev or_else : Addr → List Told → ℕ → Option LabelNo → Option (Addr × LabelNo)

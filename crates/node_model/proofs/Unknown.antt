@@ -1,9 +1,10 @@
 -- An instance that is not known has no paths.
-use Rattle.std.specs.Prelude.{◌≡◌, ℕ, suc, ◌+◌, ◌*◌, ◌^◌, ◌-◌, ◌<◌, ◌≤◌, List, [], ◌∷◌, ◌++◌, map, Bool, true, false, cond, ◌==◌}
+use Rattle.std.specs.Prelude.{◌≡◌, ℕ, suc, ◌-◌, ◌<◌, ◌≤◌, List, [], ◌∷◌, ◌++◌, map, Bool, true, false, cond, ◌==◌}
 use Rattle.std.specs.List.{filter, list_any}
 use Rattle.std.specs.FinMap.{entries}
 use Rattle.std.proofs.lemmas.Bool.{true≢false, or_cases, or_left, eqb-true, eq-eqb}
 use Rattle.std.proofs.Common.{refl, sym, ◌∙◌, ap, inl, inr, arith}
+use Rattle.std.proofs.lemmas.Grind.{common_steps}
 use Rattle.ov_types.specs.Prefix.{block_cmp}
 use Rattle.ov_types.specs.declared.numbers.InstanceId.{InstanceId}
 use Rattle.ov_types.specs.declared.targets.Target.{Target}
@@ -22,8 +23,8 @@ use Rattle.node_model.proofs.Routes.{reoriginated_from}
 pub same_target : (asn : ℕ) (i j : InstanceId) → (target_of asn i).0 ≡ (target_of asn j).0 → i ≡ j
 same_target asn i j e = λ k. record { 0 = number asn i.0 j.0 e k }
   where
-    number : (asn i j : ℕ) → 2 * 2 ^ 48 + asn * 2 ^ 32 + (8000000 + i) ≡ 2 * 2 ^ 48 + asn * 2 ^ 32 + (8000000 + j) → i ≡ j
-    number asn i j e = omega arith
+    number : (asn i j : ℕ) → (target_of asn (record { 0 = i })).0 ≡ (target_of asn (record { 0 = j })).0 → i ≡ j
+    number asn i j e = grind (arith, common_steps)
 
 -- ---- the one target of a path
 pub target_in : (asn : ℕ) (n : InstanceId) (ns : List InstanceId) (p : Path) → p.targets ≡ target_of asn n ∷ [] → Member n ns → has_target (map (target_of asn) ns) p ≡ true

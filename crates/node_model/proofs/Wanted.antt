@@ -61,7 +61,7 @@ next_hop_here h k r e =
     subst (λ (x : VpnRoute). IsPublishedHere h x.next_hop x.label) is (published_path h q.0 q.1)
 
 -- ---- slices
-address_is : (a b : Addr) → (a.0 == b.0) ≡ true → a ≡ b
+pub address_is : (a b : Addr) → (a.0 == b.0) ≡ true → a ≡ b
 address_is a b e = λ i. record { 0 = eqb-true a.0 b.0 e i }
 
 at_from : (address : Addr) (v : LowValue) → is_at address v ≡ true → IsAttachedAt address v
@@ -148,7 +148,7 @@ as_low_value (Route r) = None
 as_low_value (Entry r) = None
 as_low_value (Label l) = None
 
-subscribed_is : (k : Key) (i : InstanceId) → subscribed k ≡ Some i → k ≡ Subscribe i
+pub subscribed_is : (k : Key) (i : InstanceId) → subscribed k ≡ Some i → k ≡ Subscribe i
 subscribed_is (Subscribe j) i e = ap Subscribe (same_Some j i e)
 subscribed_is (Low k) i e = absurd (none_some i e)
 subscribed_is (Vpn k) i e = absurd (none_some i e)
@@ -173,7 +173,7 @@ subscription_in m i h =
 abbrev pub row_of_path : InstanceId → Block × Path → Key × Value
 row_of_path i e = (Row i e.0, Entry (record { next_hop = e.1.next_hop; label = e.1.label }))
 
-abbrev at_path : Block → Path → Block × Path
+abbrev pub at_path : Block → Path → Block × Path
 at_path prefix p = (prefix, p)
 
 abbrev pub instance_at : InstanceId → Block → InstanceId × Block

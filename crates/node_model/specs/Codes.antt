@@ -1,6 +1,6 @@
 -- How values, maps and ends are told apart: by the codes of their parts.
-use Rattle.std.specs.Prelude.{◌≡◌, ◌⊎◌, ℕ, zero, suc, refl}
-use Rattle.std.specs.Coded.{Coded, code_by, coded×, coded⊎, coded_ℕ}
+use Rattle.std.specs.Prelude.{◌≡◌, ◌⊎◌, ℕ, zero, suc, refl, Bool}
+use Rattle.std.specs.Coded.{Coded, code_by, coded×, coded⊎, coded_ℕ, coded_bool}
 use Rattle.std.specs.FinMap as finite
 use Rattle.std.proofs.Common.{inl, inr}
 use Rattle.ov_types.specs.declared.numbers.Label.{Label as LabelNo}
@@ -70,5 +70,6 @@ coded_phase = code_by ℕ coded_ℕ phase_number phase_at phases_tell
 
 abbrev pub coded_post : Coded Post
 coded_post =
-    code_by (Phase × (Map × Map)) (coded× coded_phase (coded× coded_map coded_map))
-    (λ p. (p.phase, (p.sent, p.held))) (λ c. record { phase = c.0; sent = c.1.0; held = c.1.1 }) (λ _. refl)
+    code_by (Phase × (Map × (Map × Bool))) (coded× coded_phase (coded× coded_map (coded× coded_map coded_bool)))
+    (λ p. (p.phase, (p.sent, (p.held, p.wide))))
+    (λ c. record { phase = c.0; sent = c.1.0; held = c.1.1.0; wide = c.1.1.1 }) (λ _. refl)

@@ -1,6 +1,8 @@
 -- The files of definitions, in the order in which they stand on each other.
 pub mod Members
+pub mod Naming
 pub mod Keys
+pub mod Directions
 pub mod Values
 pub mod Maps
 pub mod Uses

@@ -17,14 +17,24 @@ pub data Phase : Type 0 where
   Confirmed : Phase
   Up : Phase
 
--- what a node keeps of a session
+abbrev pub is_idle : Phase → Bool
+is_idle Idle = true
+is_idle _ = false
+
+abbrev pub is_up : Phase → Bool
+is_up Up = true
+is_up _ = false
+
+-- what a node keeps of a session, and whether the OPEN that came on it said that its speaker has numbers of four octets
+-- (RFC 6793); false where none came
 pub record Post : Type 0 where
   pub phase : Phase
   pub sent : Map
   pub held : Map
+  pub wide : Bool
 
 abbrev pub nothing : Post
-nothing = record { phase = Idle; sent = empty; held = empty }
+nothing = record { phase = Idle; sent = empty; held = empty; wide = false }
 
 abbrev pub post : List Post → ℕ → Post
 post posts i = slice_index_or posts i nothing

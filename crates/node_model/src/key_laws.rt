@@ -1,5 +1,5 @@
 //! Laws of the one key and the one value of all sessions: each is the contract of a function that does nothing.
-ghost use Rattle.std.specs.Prelude.{◌≡◌, ◌↔◌, IsTrue, map, Option};
+ghost use Rattle.std.specs.Prelude.{◌≡◌, ◌↔◌, IsTrue, map};
 ghost use Rattle.std.specs.Option.{option_map};
 ghost use Rattle.std.specs.FinMap.{FinMap, IsAntisymmetric, get};
 ghost use Rattle.ov_sync.specs.declared.Delta.{Delta};

@@ -1,9 +1,10 @@
 -- The labels of routes that are heard have 20 bits where octets are below 256.
-use Rattle.std.proofs.Common.{ℕ, List, [], ◌∷◌, Option, Some, None, take, sym, ap, subst, arith}
+use Rattle.std.proofs.Common.{ℕ, Bool, List, [], ◌∷◌, Option, Some, None, take, sym, ap, subst, arith}
 use Rattle.ov_types.specs.declared.prefix.Addr.{Addr}
 use Rattle.bgp_wire.specs.declared.fault.WireFault.{WireFault}
 use Rattle.bgp_wire.specs.Content.{Content, UpdateFields, Opens, Updates, Notifies, KeepsAlive}
 use Rattle.bgp_wire.specs.Messages.{AreOctets, IsMessage}
+use Rattle.bgp_wire.specs.Opens.{is_wide}
 use Rattle.bgp_wire.proofs.Octets.{AreOctets-take, AreOctets-drop}
 use Rattle.bgp_vpn.proofs.LabelLemmas.{attributes_octets, LabelsFit, labels_fit, labels_fit_both}
 use Rattle.bgp_session.specs.declared.event.State.{State}
@@ -22,24 +23,26 @@ abbrev CameFits : Came → Type 0
 CameFits (RightUpdate deltas) = LabelsFit deltas
 CameFits _ = Unit {0}
 
-by_update : (parts : UpdateFields) (came : Came) → AreOctets parts.attributes → BringsUpdate parts came → CameFits came
-by_update parts came h (right deltas changes is) = subst CameFits (sym is) (labels_fit parts deltas h changes)
-by_update parts came h (wrong f has is) = subst CameFits (sym is) tt
+by_update : (wide : Bool) (parts : UpdateFields) (came : Came) → AreOctets parts.attributes → BringsUpdate wide parts came → CameFits came
+by_update wide parts came h (right deltas changes is) = subst CameFits (sym is) (labels_fit wide parts deltas h changes)
+by_update wide parts came h (wrong f has is) = subst CameFits (sym is) tt
 
-by_open : (o : Option WireFault) → CameFits (came_by_open o)
-by_open None = tt
-by_open (Some f) = tt
+by_open : (wide : Bool) (o : Option WireFault) → CameFits (came_by_open wide o)
+by_open wide None = tt
+by_open wide (Some f) = tt
 
-by_message : (asn : ℕ) (peer : Addr) (octets : List ℕ) (content : Content) (came : Came) → AreOctets octets → IsMessage octets content
-    → Brings asn peer content came → CameFits came
-by_message asn peer octets (Opens fields) came h m is = subst CameFits (sym is) (by_open (open_refusal asn peer fields))
-by_message asn peer octets (Updates parts) came h m brings = by_update parts came (attributes_octets octets parts h m) brings
-by_message asn peer octets (Notifies code subcode) came h m is = subst CameFits (sym is) tt
-by_message asn peer octets KeepsAlive came h m is = subst CameFits (sym is) tt
+by_message : (asn : ℕ) (peer : Addr) (wide : Bool) (octets : List ℕ) (content : Content) (came : Came) → AreOctets octets
+    → IsMessage octets content → Brings asn peer wide content came → CameFits came
+by_message asn peer wide octets (Opens fields) came h m is =
+    subst CameFits (sym is) (by_open (is_wide fields) (open_refusal asn peer fields))
+by_message asn peer wide octets (Updates parts) came h m brings =
+    by_update wide parts came (attributes_octets octets parts h m) brings
+by_message asn peer wide octets (Notifies code subcode) came h m is = subst CameFits (sym is) tt
+by_message asn peer wide octets KeepsAlive came h m is = subst CameFits (sym is) tt
 
 next_fits : (s : SessionFields) (octets : List ℕ) (came : Came) (rest : List ℕ) → AreOctets octets → IsNext s octets came rest → CameFits came
 next_fits s octets came rest h (message m) =
-    by_message s.asn s.peer.address (take m.length octets) m.content came (AreOctets-take m.length octets h) m.begins.message m.brings
+    by_message s.asn s.peer.address s.wide (take m.length octets) m.content came (AreOctets-take m.length octets h) m.begins.message m.brings
 next_fits s octets came rest h (fault f) = subst CameFits (sym f.came_is) tt
 
 no_octets : AreOctets []
@@ -93,6 +96,6 @@ labels_heard id s octets (came ∷ more) h hears =
     (handed_fit s came (next_fits s octets came hears.0 h hears.1)) hears.2
     (labels_heard id (after s came) hears.0 more (rest_octets s octets came hears.0 h hears.1))
 
-pub labels_of : (id : Addr) (s : SessionFields) (octets : List ℕ) (w : HeardSoFar) (state : State) → AreOctets octets
-    → Outcome id s octets w state → LabelsFit w.changes.items
-labels_of id s octets w state h o = subst LabelsFit (sym o.3) (labels_heard id s octets o.0 h o.1)
+pub labels_of : (id : Addr) (s : SessionFields) (octets : List ℕ) (w : HeardSoFar) (state : State) (wide : Bool) → AreOctets octets
+    → Outcome id s octets w state wide → LabelsFit w.changes.items
+labels_of id s octets w state wide h o = subst LabelsFit (sym o.3) (labels_heard id s octets o.0 h o.1)

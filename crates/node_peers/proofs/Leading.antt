@@ -1,5 +1,5 @@
 -- What is heard from one place on, and what was heard before it.
-use Rattle.std.proofs.Common.{◌≡◌, ℕ, List, [], ◌∷◌, ◌++◌, Option, Some, None, true, false, is_some, refl, sym, ◌∙◌, ap, subst, append_assoc}
+use Rattle.std.proofs.Common.{◌≡◌, ℕ, List, [], ◌∷◌, ◌++◌, Bool, Option, Some, None, true, false, is_some, refl, sym, ◌∙◌, ap, subst, append_assoc}
 use Rattle.std.proofs.lemmas.List.{append-nil}
 use Rattle.ov_types.specs.declared.prefix.Addr.{Addr}
 use Rattle.ov_types.specs.declared.vpn.VpnKey.{VpnKey}
@@ -35,9 +35,6 @@ pub record Leads (id : Addr) (start : SessionFields) (octets : List ℕ) (now : 
     (replies : Replies) (changes : Deltas) : Type 0 where
   pub whole : (inputs : List Came) → Hears now rest inputs → IsHeard id start octets (behind replies changes (heard id now inputs))
 
-pub leads_at_start : (id : Addr) (s : SessionFields) (octets : List ℕ) → Leads id s octets s octets [] []
-leads_at_start id s octets = record { whole = λ inputs hears. (inputs, hears, refl) }
-
 -- one input, and the others
 abbrev pub by_happening : Addr → SessionFields → Came → List Came → Happening → Heard
 by_happening id s came more h =
@@ -50,6 +47,7 @@ by_happening id s came more h =
         replies = notification code;
         changes = [];
         state = (after s came).state;
+        wide = (after s came).wide;
         cause = Some cause;
       }
     ]
@@ -64,9 +62,9 @@ one_and_more id s came more (GoesDown cause code) up = absurd cc
 
 last_one : (id : Addr) (s : SessionFields) (came : Came) (cause : Cause) (h : Happening) → cause_of h ≡ Some cause
     → by_happening id s came [] h
-    ≡ record { replies = replied s.asn id h; changes = handed h; state = (after s came).state; cause = Some cause }
+    ≡ record { replies = replied s.asn id h; changes = handed h; state = (after s came).state; wide = (after s came).wide; cause = Some cause }
 last_one id s came cause (GoesDown why code) down =
-    ap (λ (c : Option Cause). record { replies = notification code; changes = []; state = (after s came).state; cause = c }) down
+    ap (λ (c : Option Cause). record { replies = notification code; changes = []; state = (after s came).state; wide = (after s came).wide; cause = c }) down
 last_one id s came cause Passes down = absurd cc
 last_one id s came cause (Sends r) down = absurd cc
 last_one id s came cause ComesUp down = absurd cc
@@ -110,6 +108,7 @@ pub leads_down : (id : Addr) (start now : SessionFields) (octets rest rest' : Li
       replies = replies ++ replied now.asn id (answer now came);
       changes = changes ++ handed (answer now came);
       state = (after now came).state;
+      wide = (after now came).wide;
       cause = Some cause;
     })
 leads_down id start now octets rest rest' replies changes came cause leads next down =
@@ -118,45 +117,44 @@ leads_down id start now octets rest rest' replies changes came cause leads next 
 
 pub leads_to_end : (id : Addr) (start now : SessionFields) (octets rest : List ℕ) (replies : Replies) (changes : Deltas)
     → Leads id start octets now rest replies changes → IsProperPrefix rest
-    → IsHeard id start octets (record { replies = replies; changes = changes; state = now.state; cause = None })
+    → IsHeard id start octets (record { replies = replies; changes = changes; state = now.state; wide = now.wide; cause = None })
 leads_to_end id start now octets rest replies changes leads prefix =
     let before = leads.whole [] prefix in (
       before.0,
       before.1,
-      before.2 ∙ ap (λ (x : Replies). record { replies = x; changes = changes ++ []; state = now.state; cause = None }) (append-nil replies)
-          ∙ ap (λ (y : Deltas). record { replies = replies; changes = y; state = now.state; cause = None }) (append-nil changes),
+      before.2 ∙ ap (λ (x : Replies). record { replies = x; changes = changes ++ []; state = now.state; wide = now.wide; cause = None }) (append-nil replies)
+          ∙ ap (λ (y : Deltas). record { replies = replies; changes = y; state = now.state; wide = now.wide; cause = None }) (append-nil changes),
     )
 
--- what a call says that heard this and left the session in this state
-abbrev pub Outcome : Addr → SessionFields → List ℕ → HeardSoFar → State → Type 0
-Outcome id s octets w state =
+-- what a call says that heard this and left the session in this state, reading wide or not
+abbrev pub Outcome : Addr → SessionFields → List ℕ → HeardSoFar → State → Bool → Type 0
+Outcome id s octets w state wide =
     (inputs : List Came) × Hears s octets inputs
     × (w.replies ≡ (heard id s inputs).replies) × (w.changes.items ≡ (heard id s inputs).changes)
-    × (w.cause ≡ (heard id s inputs).cause) × (state ≡ (heard id s inputs).state)
+    × (w.cause ≡ (heard id s inputs).cause) × (state ≡ (heard id s inputs).state) × (wide ≡ (heard id s inputs).wide)
 
-abbrev seen_in : HeardSoFar → State → Heard
-seen_in w state = record { replies = w.replies; changes = w.changes.items; state = state; cause = w.cause }
+abbrev seen_in : HeardSoFar → State → Bool → Heard
+seen_in w state wide =
+    record { replies = w.replies; changes = w.changes.items; state = state; wide = wide; cause = w.cause }
 
-outcome : (id : Addr) (s : SessionFields) (octets : List ℕ) (w : HeardSoFar) (state : State) → IsHeard id s octets (seen_in w state)
-    → Outcome id s octets w state
-outcome id s octets w state is = (
+outcome : (id : Addr) (s : SessionFields) (octets : List ℕ) (w : HeardSoFar) (state : State) (wide : Bool)
+    → IsHeard id s octets (seen_in w state wide) → Outcome id s octets w state wide
+outcome id s octets w state wide is = (
   is.0,
   is.1,
   sym (ap (λ (h : Heard). h.replies) is.2),
   sym (ap (λ (h : Heard). h.changes) is.2),
   sym (ap (λ (h : Heard). h.cause) is.2),
   sym (ap (λ (h : Heard). h.state) is.2),
+  sym (ap (λ (h : Heard). h.wide) is.2),
 )
 
-heard_as : (replies replies' : Replies) (changes changes' : Deltas) (state state' : State) (cause cause' : Option Cause)
-    → replies ≡ replies' → changes ≡ changes' → state ≡ state' → cause ≡ cause'
-    → (let h : Heard = record { replies = replies; changes = changes; state = state; cause = cause } in h)
-    ≡ record { replies = replies'; changes = changes'; state = state'; cause = cause' }
-heard_as replies replies' changes changes' state state' cause cause' r c s w =
-    ap (λ (x : Replies). record { replies = x; changes = changes; state = state; cause = cause }) r
-    ∙ ap (λ (x : Deltas). record { replies = replies'; changes = x; state = state; cause = cause }) c
-    ∙ ap (λ (x : State). record { replies = replies'; changes = changes'; state = x; cause = cause }) s
-    ∙ ap (λ (x : Option Cause). record { replies = replies'; changes = changes'; state = state'; cause = x }) w
+heard_as : (replies replies' : Replies) (changes changes' : Deltas) (state state' : State) (wide wide' : Bool) (cause cause' : Option Cause)
+    → replies ≡ replies' → changes ≡ changes' → state ≡ state' → wide ≡ wide' → cause ≡ cause'
+    → (let h : Heard = record { replies = replies; changes = changes; state = state; wide = wide; cause = cause } in h)
+    ≡ record { replies = replies'; changes = changes'; state = state'; wide = wide'; cause = cause' }
+heard_as replies replies' changes changes' state state' wide wide' cause cause' r c s n w =
+    λ i. record { replies = r i; changes = c i; state = s i; wide = n i; cause = w i }
 
 -- one step of hearing
 pub record Step (id : Addr) (start now now' : SessionFields) (octets rest rest' : List ℕ) (old new : HeardSoFar) : Type 0 where
@@ -188,15 +186,16 @@ module _ (id : Addr) (start now now' : SessionFields) (octets rest rest' : List 
   new_cause : cause_of said ≡ new.cause
   new_cause = ap cause_of (sym s.takes.happens) ∙ sym s.adds.cause
 
-  pub goes_down : is_some new.cause ≡ true → Outcome id start octets new now'.state
+  pub goes_down : is_some new.cause ≡ true → Outcome id start octets new now'.state now'.wide
   goes_down is =
       let why = some_cause new.cause is in
       let down = leads_down id start now octets rest rest' old.replies old.changes.items s.takes.came why.0 s.leads s.takes.next
       (new_cause ∙ why.1) in
-      outcome id start octets new now'.state (
+      outcome id start octets new now'.state now'.wide (
         down.0,
         down.1,
-        down.2 ∙ heard_as _ _ _ _ _ _ _ _ new_replies new_changes (sym (ap (λ (x : SessionFields). x.state) s.takes.state)) (sym why.1),
+        down.2 ∙ heard_as _ _ _ _ _ _ _ _ _ _ new_replies new_changes (sym (ap (λ (x : SessionFields). x.state) s.takes.state))
+            (sym (ap (λ (x : SessionFields). x.wide) s.takes.state)) (sym why.1),
       )
 
   pub stays_up : is_some new.cause ≡ false → Leads id start octets now' rest' new.replies new.changes.items
@@ -210,9 +209,9 @@ module _ (id : Addr) (start now now' : SessionFields) (octets rest rest' : List 
       subst (λ (x : Replies). Leads id start octets now' rest' x (old.changes.items ++ handed said)) new_replies first in
       subst (λ (x : Deltas). Leads id start octets now' rest' new.replies x) new_changes second
 
-pub ends : (id : Addr) (start now : SessionFields) (octets rest : List ℕ) (w : HeardSoFar) (state : State)
+pub ends : (id : Addr) (start now : SessionFields) (octets rest : List ℕ) (w : HeardSoFar) (state : State) (wide : Bool)
     → Leads id start octets now rest w.replies w.changes.items → IsProperPrefix rest → w.cause ≡ None → now.state ≡ state
-    → Outcome id start octets w state
-ends id start now octets rest w state leads prefix up is =
+    → now.wide ≡ wide → Outcome id start octets w state wide
+ends id start now octets rest w state wide leads prefix up is reads =
     let all = leads_to_end id start now octets rest w.replies w.changes.items leads prefix in
-    outcome id start octets w state (all.0, all.1, all.2 ∙ heard_as _ _ _ _ _ _ _ _ refl refl is (sym up))
+    outcome id start octets w state wide (all.0, all.1, all.2 ∙ heard_as _ _ _ _ _ _ _ _ _ _ refl refl is reads (sym up))

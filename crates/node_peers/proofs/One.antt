@@ -1,5 +1,5 @@
 -- What octets bring is one thing.
-use Rattle.std.proofs.Common.{◌≡◌, ◌≢◌, ◌<◌, ◌≤◌, ◌^◌, ℕ, List, [], ◌∷◌, ◌++◌, length, drop, refl, sym, ◌∙◌, ap, subst, arith}
+use Rattle.std.proofs.Common.{◌≡◌, ◌≢◌, ◌<◌, ◌≤◌, ◌^◌, Bool, true, ℕ, List, [], ◌∷◌, ◌++◌, length, drop, refl, sym, ◌∙◌, ap, subst, arith}
 use Rattle.std.proofs.Math.Seq.{drop-append_seam}
 use Rattle.std.specs.List.{flat_map}
 use Rattle.ov_types.specs.declared.vpn.VpnKey.{VpnKey}
@@ -11,8 +11,10 @@ use Rattle.bgp_wire.specs.Attributes.{attribute_octets}
 use Rattle.bgp_wire.specs.Content.{Content, Opens, Notifies, KeepsAlive}
 use Rattle.bgp_wire.specs.Frames.{IsProperPrefix}
 use Rattle.bgp_wire.specs.Messages.{IsMessage}
+use Rattle.bgp_wire.specs.declared.write.OpenOut.{OpenOut}
 use Rattle.bgp_wire.specs.Spelling.{spelling, open_fields}
 use Rattle.bgp_wire.proofs.Readings.{one_message, one_fault, never_message_and_prefix, never_message_and_fault, never_prefix_and_fault}
+use Rattle.bgp_wire.proofs.Numbering.{own_asn}
 use Rattle.bgp_wire.proofs.Spelling.{read_again, keepalive_says, notification_says, open_says, attributes_say}
 use Rattle.bgp_vpn.specs.Updates.{Changes}
 use Rattle.bgp_vpn.specs.Written.{IfPut, written, written_parts, attributes_of}
@@ -29,7 +31,7 @@ use Rattle.node_peers.specs.Told.{IsWritable, spelled}
 next_one : (s : SessionFields) (octets : List ℕ) (a b : Came) (r q : List ℕ) → IsNext s octets a r → IsNext s octets b q → (a ≡ b) × (r ≡ q)
 next_one s octets a b r q (message m) (message n) =
     let same = one_message octets m.content n.content m.length n.length m.begins n.begins in (
-      brings_one s.asn s.peer.address n.content a b (subst (λ (c : Content). Brings s.asn s.peer.address c a) same.0 m.brings) n.brings,
+      brings_one s.asn s.peer.address s.wide n.content a b (subst (λ (c : Content). Brings s.asn s.peer.address s.wide c a) same.0 m.brings) n.brings,
       m.rest_is ∙ ap (λ (k : ℕ). drop k octets) same.1 ∙ sym n.rest_is,
     )
 next_one s octets a b r q (message m) (fault f) = absurd (never_message_and_fault octets m.content m.length f.fault m.begins f.has)
@@ -63,7 +65,7 @@ hears_one s octets (c ∷ a) (d ∷ b) x y =
     (goes_one (answer s d) a b (Hears (after s d) y.0 a) (Hears (after s d) y.0 b) (hears_one (after s d) y.0 a b) second y.2)
 
 brings_first : (s : SessionFields) (content : Content) (came : Came) (more : List ℕ) → IsMessage (spelling content) content
-    → Brings s.asn s.peer.address content came → BringFirst s (spelling content ++ more) came more
+    → Brings s.asn s.peer.address s.wide content came → BringFirst s (spelling content ++ more) came more
 brings_first s content came more says brings =
     let next : IsNext s (spelling content ++ more) came more = message (record {
       content = content;
@@ -82,16 +84,16 @@ pub notification_first : (s : SessionFields) (code subcode : ℕ) (more : List �
 notification_first s code subcode more =
     brings_first s (Notifies code subcode) (NotificationCame code subcode) more (notification_says code subcode) refl
 
-pub open_first : (s : SessionFields) (more : List ℕ) → s.asn < 2 ^ 16 → s.peer.address.0 < 2 ^ 32 → s.peer.address.0 ≢ 0
-    → BringFirst s (open_octets s.asn s.peer.address ++ more) RightOpen more
+pub open_first : (s : SessionFields) (more : List ℕ) → s.asn < 2 ^ 32 → s.peer.address.0 < 2 ^ 32 → s.peer.address.0 ≢ 0
+    → BringFirst s (open_octets s.asn s.peer.address ++ more) (RightOpen true) more
 open_first s more asn id some =
-    let fields = open_fields (record { asn = s.asn; id = s.peer.address }) in
-    brings_first s (Opens fields) RightOpen more (open_says (record { asn = s.asn; id = s.peer.address }) asn id some)
-    (sym (ap came_by_open ((right_open s.asn s.peer.address fields).1 (refl, refl))))
+    let part : OpenOut = record { asn = s.asn; id = s.peer.address } in
+    brings_first s (Opens (open_fields part)) (RightOpen true) more (open_says part id some)
+    (sym (ap (came_by_open true) ((right_open s.asn s.peer.address (open_fields part)).1 (own_asn part asn, refl))))
 
-changes_again : (d : Delta VpnKey VpnRoute) → IfPut d IsWritable → ChangeFitsItsTypes d → Changes (written_parts d) (d ∷ [])
-changes_again (Put k r) w fits = put_changes k r fits.0 fits.1.next_hop w.label fits.1.ascending w.few w.targets
-changes_again (Drop k) w fits = drop_changes k fits
+changes_again : (wide : Bool) (d : Delta VpnKey VpnRoute) → IfPut d IsWritable → ChangeFitsItsTypes d → Changes wide (written_parts d) (d ∷ [])
+changes_again wide (Put k r) w fits = put_changes wide k r fits.0 fits.1.next_hop w.label fits.1.ascending w.few w.targets
+changes_again wide (Drop k) w fits = drop_changes wide k fits
 
 is_short : (d : Delta VpnKey VpnRoute) → IfPut d IsWritable → ChangeFitsItsTypes d → length (flat_map attribute_octets (attributes_of d)) ≤ 512
 is_short (Put k r) w fits = put_length k r fits.0 w.few
@@ -102,7 +104,7 @@ written_first : (s : SessionFields) (d : Delta VpnKey VpnRoute) (more : List ℕ
 written_first s d more w fits =
     brings_first s (written d) (RightUpdate (d ∷ [])) more
     (attributes_say (flat_map attribute_octets (attributes_of d)) (omega (arith, is_short d w fits)))
-    (right (d ∷ []) (changes_again d w fits) refl)
+    (right (d ∷ []) (changes_again s.wide d w fits) refl)
 
 pub update_first : (s : SessionFields) (d : Delta VpnKey VpnRoute) (more : List ℕ) → IfPut d IsWritable → ChangeFitsItsTypes d
     → BringFirst s (spelled (moved_delta Vpn Route d) ++ more) (RightUpdate (d ∷ [])) more

@@ -1,8 +1,9 @@
 -- Octets always bring a list of inputs.
-use Rattle.std.proofs.Common.{◌<◌, ◌+◌, ℕ, zero, suc, List, [], ◌∷◌, length, take, drop, inl, inr, refl, arith}
+use Rattle.std.proofs.Common.{◌<◌, ◌+◌, Bool, ℕ, zero, suc, List, [], ◌∷◌, length, take, drop, inl, inr, refl, arith}
 use Rattle.ov_types.specs.declared.prefix.Addr.{Addr}
 use Rattle.bgp_wire.specs.Content.{Content, Opens, Updates, Notifies, KeepsAlive}
 use Rattle.bgp_wire.specs.Messages.{AreOctets, IsMessage, BeginsWith, HasFault}
+use Rattle.bgp_wire.specs.Opens.{is_wide}
 use Rattle.bgp_wire.proofs.Octets.{AreOctets-take}
 use Rattle.bgp_wire.proofs.Readings.{read}
 use Rattle.bgp_vpn.proofs.LabelLemmas.{attributes_octets}
@@ -14,16 +15,16 @@ use Rattle.node_peers.specs.Hearing.{IsNext, message, fault, GoesOn, Hears}
 use Rattle.node_peers.proofs.Labels.{rest_octets}
 use Rattle.node_peers.proofs.Steps.{message_shortens, fault_shortens}
 
-brings_some : (asn : ℕ) (peer : Addr) (octets : List ℕ) (content : Content) → AreOctets octets → IsMessage octets content
-    → (came : Came) × Brings asn peer content came
-brings_some asn peer octets (Opens fields) h m = (came_by_open (open_refusal asn peer fields), refl)
-brings_some asn peer octets (Updates parts) h m =
-    elim (one_of_two parts (attributes_octets octets parts h m)) [
+brings_some : (asn : ℕ) (peer : Addr) (wide : Bool) (octets : List ℕ) (content : Content) → AreOctets octets → IsMessage octets content
+    → (came : Came) × Brings asn peer wide content came
+brings_some asn peer wide octets (Opens fields) h m = (came_by_open (is_wide fields) (open_refusal asn peer fields), refl)
+brings_some asn peer wide octets (Updates parts) h m =
+    elim (one_of_two wide parts (attributes_octets octets parts h m)) [
       | inl makes ↦ (RightUpdate makes.0, right makes.0 makes.1 refl)
       | inr fails ↦ (WrongUpdate fails.0, wrong fails.0 fails.1 refl)
     ]
-brings_some asn peer octets (Notifies code subcode) h m = (NotificationCame code subcode, refl)
-brings_some asn peer octets KeepsAlive h m = (KeepaliveCame, refl)
+brings_some asn peer wide octets (Notifies code subcode) h m = (NotificationCame code subcode, refl)
+brings_some asn peer wide octets KeepsAlive h m = (KeepaliveCame, refl)
 
 -- what octets bring first, with fewer octets behind it
 record SomeNext (s : SessionFields) (octets : List ℕ) : Type 0 where
@@ -34,7 +35,7 @@ record SomeNext (s : SessionFields) (octets : List ℕ) : Type 0 where
 
 message_next : (s : SessionFields) (octets : List ℕ) (content : Content) (n : ℕ) → AreOctets octets → BeginsWith octets content n → SomeNext s octets
 message_next s octets content n h begins =
-    let brought = brings_some s.asn s.peer.address (take n octets) content (AreOctets-take n octets h) begins.message in
+    let brought = brings_some s.asn s.peer.address s.wide (take n octets) content (AreOctets-take n octets h) begins.message in
     record {
       came = brought.0;
       rest = drop n octets;

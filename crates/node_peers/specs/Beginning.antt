@@ -20,11 +20,15 @@ phase_of State.OpenSent = Opened
 phase_of State.OpenConfirm = Confirmed
 phase_of State.Established = Up
 
--- an end after what was heard: the changes of routes are applied in order, and nothing is left where the session went
--- down
+-- an end after what was heard: the changes of routes are applied in order, the session reads as the OPEN that came said,
+-- and nothing is left where the session went down
 abbrev pub left_by : Post → Heard → Option Cause → Option Post
 left_by p h None =
-    Some (record p { phase = phase_of h.state; held = keyed.after p.held (map (moved_delta Vpn Route) h.changes) })
+    Some (record p {
+      phase = phase_of h.state;
+      held = keyed.after p.held (map (moved_delta Vpn Route) h.changes);
+      wide = h.wide;
+    })
 left_by p h (Some cause) = None
 
 -- the speaker at this address opens the end and sends its OPEN, hears octets on it, or closes it

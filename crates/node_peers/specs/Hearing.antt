@@ -1,5 +1,5 @@
 -- What octets bring to one end of a session between control nodes, message by message.
-use Rattle.std.specs.Prelude.{◌≡◌, ℕ, List, [], ◌∷◌, ◌++◌, drop, Option, Some, None}
+use Rattle.std.specs.Prelude.{◌≡◌, ℕ, List, [], ◌∷◌, ◌++◌, drop, Bool, Option, Some, None}
 use Rattle.ov_types.specs.declared.prefix.Addr.{Addr}
 use Rattle.ov_types.specs.declared.vpn.VpnKey.{VpnKey}
 use Rattle.ov_types.specs.declared.vpn.VpnRoute.{VpnRoute}
@@ -23,7 +23,7 @@ pub record IsMessageNext (s : SessionFields) (octets : List ℕ) (came : Came) (
   pub content : Content
   pub length : ℕ
   pub begins : BeginsWith octets content length
-  pub brings : Brings s.asn s.peer.address content came
+  pub brings : Brings s.asn s.peer.address s.wide content came
   pub rest_is : rest ≡ drop length octets
 
 -- they begin with none, and have this fault
@@ -69,6 +69,8 @@ pub record Heard : Type 0 where
   -- the changes of routes that were handed out, in order
   pub changes : List (Delta VpnKey VpnRoute)
   pub state : State
+  -- whether the session reads numbers of four octets in UPDATEs from then on
+  pub wide : Bool
   -- why the session went down, where it did
   pub cause : Option Cause
 
@@ -80,7 +82,7 @@ and_changes changes h = record h { changes = changes ++ h.changes }
 
 -- by a session of the speaker at this address. Before it goes down it notifies, where there is something to notify
 abbrev pub heard : Addr → SessionFields → List Came → Heard
-heard id s [] = record { replies = []; changes = []; state = s.state; cause = None }
+heard id s [] = record { replies = []; changes = []; state = s.state; wide = s.wide; cause = None }
 heard id s (came ∷ more) =
     elim (answer s came) [
       | Passes ↦ heard id (after s came) more
@@ -91,6 +93,7 @@ heard id s (came ∷ more) =
         replies = notification code;
         changes = [];
         state = (after s came).state;
+        wide = (after s came).wide;
         cause = Some cause;
       }
     ]

@@ -29,7 +29,6 @@ pub struct Heard {
 
 /// The OPEN of the speaker of this system at this address.
 fn hello(alloc: Global, asn: u32, me: Addr) -> Result<Items<u8>, NoMemory>
-    requires autonomous_system { asn < 2 ^ 16 }
     requires identifier { me.0 ≢ 0 }
     ensures { IfOk result (λ octets. octets ≡ open_octets asn me) }
 {
@@ -40,7 +39,6 @@ fn hello(alloc: Global, asn: u32, me: Addr) -> Result<Items<u8>, NoMemory>
 
 /// The octets of a reply.
 fn reply_octets(alloc: Global, asn: u32, me: Addr, reply: Reply) -> Result<Items<u8>, NoMemory>
-    requires autonomous_system { asn < 2 ^ 16 }
     requires identifier { me.0 ≢ 0 }
     ensures { IfOk result (λ octets. octets ≡ reply_octets asn me reply) }
 {
@@ -72,7 +70,6 @@ fn push_notification(
 
 /// Adds what an event says.
 fn add(alloc: Global, asn: u32, me: Addr, event: Event, heard: &mut Heard) -> Result<(), NoMemory>
-    requires autonomous_system { asn < 2 ^ 16 }
     requires identifier { me.0 ≢ 0 }
     requires up { heard.old.cause ≡ None }
     ensures { OnOk result (IsAdded asn me (happening_of event) heard.old heard.new) }
@@ -120,7 +117,6 @@ pub fn greet(
     me: Addr,
 ) -> Result<Items<Items<u8>>, NoMemory>
     requires idle { session.old.state ≡ Idle }
-    requires autonomous_system { asn < 2 ^ 16 }
     requires identifier { me.0 ≢ 0 }
     ensures opened { session.new ≡ record session.old { state = OpenSent } }
     ensures hello { IfOk result (λ replies. replies ≡ open_octets asn me ∷ []) }
@@ -140,13 +136,13 @@ pub fn hear(
     me: Addr,
     bytes: &[u8],
 ) -> Result<Heard, NoMemory>
-    requires autonomous_system { asn < 2 ^ 16 }
     requires own { session.old.asn ≡ asn }
     requires identifier { me.0 ≢ 0 }
     ensures heard { IfOk result (λ w. (inputs : List Came) × Hears session.old bytes.now inputs
         × (w.replies ≡ (heard me session.old inputs).replies)
         × (w.changes.items ≡ (heard me session.old inputs).changes)
-        × (w.cause ≡ (heard me session.old inputs).cause) × (session.new.state ≡ (heard me session.old inputs).state)) }
+        × (w.cause ≡ (heard me session.old inputs).cause) × (session.new.state ≡ (heard me session.old inputs).state)
+        × (session.new.wide ≡ (heard me session.old inputs).wide)) }
     ensures asn { session.new.asn ≡ session.old.asn }
     ensures peer { session.new.peer ≡ session.old.peer }
 

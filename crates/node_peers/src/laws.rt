@@ -1,5 +1,5 @@
 //! What the definitions of hearing and of telling promise.
-ghost use Rattle.std.specs.Prelude.{◌≡◌, ◌≢◌, ◌<◌, ◌^◌, ◌++◌, ◌∷◌, [], ℕ, Bool, List, Some, IfSome};
+ghost use Rattle.std.specs.Prelude.{◌≡◌, ◌≢◌, ◌<◌, ◌^◌, ◌++◌, ◌∷◌, [], ℕ, Bool, true, List, Some, IfSome};
 ghost use Rattle.std.specs.declared.cmp.Ordering.{Ordering};
 ghost use Rattle.std.specs.List.{AllByRecursion};
 ghost use Rattle.std.specs.FinMap.{FinMap, get};
@@ -37,14 +37,14 @@ pub fn differences_can_be_written()
         → AllByRecursion (λ d. IfPut d IsWritable) (keyed.difference same sent wanted) }
 {}
 
-/// What is told is heard, and nothing else: an UPDATE as its change, the OPEN of the peer as a right one, a KEEPALIVE
-/// and a NOTIFICATION as such. What follows is left.
+/// What is told is heard, and nothing else: an UPDATE as its change, however the session reads, the OPEN of the peer as a
+/// right one with numbers of four octets, a KEEPALIVE and a NOTIFICATION as such. What follows is left.
 pub fn updates_are_heard()
     ensures update { (s : SessionFields) (d : Delta VpnKey VpnRoute) (more : List ℕ) → IfPut d IsWritable
         → ChangeFitsItsTypes d
         → BringFirst s (spelled (moved_delta Vpn Route d) ++ more) (RightUpdate (d ∷ [])) more }
-    ensures hello { (s : SessionFields) (more : List ℕ) → s.asn < 2 ^ 16 → s.peer.address.0 < 2 ^ 32
-        → s.peer.address.0 ≢ 0 → BringFirst s (open_octets s.asn s.peer.address ++ more) RightOpen more }
+    ensures hello { (s : SessionFields) (more : List ℕ) → s.asn < 2 ^ 32 → s.peer.address.0 < 2 ^ 32
+        → s.peer.address.0 ≢ 0 → BringFirst s (open_octets s.asn s.peer.address ++ more) (RightOpen true) more }
     ensures keepalive { (s : SessionFields) (more : List ℕ)
         → BringFirst s (spelling KeepsAlive ++ more) KeepaliveCame more }
     ensures notification { (s : SessionFields) (code subcode : ℕ) (more : List ℕ)

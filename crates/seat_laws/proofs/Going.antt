@@ -18,7 +18,8 @@ use Rattle.network_model.specs.Session.{Agent, Carries, Configuration, Controlle
 use Rattle.network_model.proofs.Twins.{Found}
 use Rattle.compiled_laws.specs.Goal.{Party, others}
 use Rattle.compiled_laws.specs.Setups.{IsNamed}
-use Rattle.compiled_laws.proofs.Names.{NamesApart, apart_names}
+use Rattle.network_model.proofs.Apart.{NamesApart}
+use Rattle.compiled_laws.proofs.Names.{apart_names}
 use Rattle.compiled_laws.proofs.Views.{far, fars_are}
 use Rattle.config_node.specs.Core as configuration
 use Rattle.control_node.specs.Core.{holdings, is_peer}

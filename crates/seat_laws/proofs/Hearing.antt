@@ -19,7 +19,7 @@ use Rattle.network_model.specs.Session.{Session, is_up_phase, turned}
 use Rattle.network_model.specs.Setup.{Name}
 use Rattle.network_model.specs.Steps.{session_in}
 use Rattle.network_model.proofs.Twins.{itself}
-use Rattle.compiled_laws.proofs.Names.{Apart, same_false}
+use Rattle.network_model.proofs.Apart.{Apart, same_false}
 use Rattle.agent_node.specs.Core.{heard_at, holdings, is_up}
 
 abbrev pub heard_as : Session → Heard

@@ -2,7 +2,7 @@
 use Rattle.std.specs.Cmp.Lexicographic.{bytes_decides}
 use Rattle.std.specs.List.{filter}
 use Rattle.std.specs.Prelude.{List, map, true, [], ◌++◌, ◌∷◌, ◌≡◌, ◌⊎◌}
-use Rattle.std.proofs.Common.{ap, inl, inr, refl, subst, sym, ◌∙◌}
+use Rattle.std.proofs.Common.{inl, inr, refl, subst, sym, ◌∙◌}
 use Rattle.std.proofs.lemmas.Bool.{true≢false}
 use Rattle.ov_types.specs.declared.rows.NodeId.{NodeId}
 use Rattle.config_model.specs.declared.topology.Node.{Node}
@@ -12,28 +12,17 @@ use Rattle.node_model.proofs.Members.{from_filter, from_flat_map, from_map, in_e
 use Rattle.network_model.specs.Moments.{Nodes, nodes}
 use Rattle.network_model.specs.Network.{accesses, feeds, lists, peerings, start}
 use Rattle.network_model.specs.Session.{Session}
-use Rattle.network_model.proofs.Apart.{no_twins}
+use Rattle.network_model.proofs.Apart.{no_twins, access_session, feed_session, from_peerings, peer_session}
 use Rattle.network_model.proofs.Twins.{IsProper, NoTwins}
 use Rattle.compiled_laws.specs.Goal.{Party}
 use Rattle.compiled_laws.specs.Setups.{IsNamed}
-use Rattle.compiled_laws.proofs.Placing.{access_session, feed_session, from_peerings, peer_session}
+use Rattle.compiled_laws.proofs.Placing.{in_peerings}
 use Rattle.seat_laws.proofs.Parties.{Feed, Fed, Peers, Serves, Served, Ties}
 
 abbrev pub links : Checked → List Nodes
 links x = map nodes (start x).sessions
 
 -- ---- where they stand
-in_peerings : (cs : List NodeId) (c d : NodeId) → Member c cs → Member d cs → (c.name ≡ d.name → ⊥) → Member (peer_session c d) (peerings cs) ⊎ Member (peer_session d c) (peerings cs)
-in_peerings [] c d m n h = absurd m
-in_peerings (e ∷ cs) c d (inl p) (inl q) h = absurd (h (ap (λ (c : NodeId). c.name) (sym p ∙ q)))
-in_peerings (e ∷ cs) c d (inl p) (inr n) h = inl (in_left (peer_session c d) (map (peer_session e) cs) (peerings cs) (subst (λ c. Member (peer_session c d) (map (peer_session e) cs)) p (in_map (peer_session e) d cs n)))
-in_peerings (e ∷ cs) c d (inr m) (inl q) h = inr (in_left (peer_session d c) (map (peer_session e) cs) (peerings cs) (subst (λ d. Member (peer_session d c) (map (peer_session e) cs)) q (in_map (peer_session e) c cs m)))
-in_peerings (e ∷ cs) c d (inr m) (inr n) h =
-    elim (in_peerings cs c d m n h) as (λ _. Member (peer_session c d) (peerings (e ∷ cs)) ⊎ Member (peer_session d c) (peerings (e ∷ cs))) [
-      | inl l ↦ inl (in_right (peer_session c d) (map (peer_session e) cs) (peerings cs) l)
-      | inr l ↦ inr (in_right (peer_session d c) (map (peer_session e) cs) (peerings cs) l)
-    ]
-
 module _ (x : Checked) (named : IsNamed x.topology) where
   abbrev cs : List NodeId
   cs = x.topology.controllers

@@ -11,7 +11,7 @@ use Rattle.node_model.specs.Members.{Member}
 use Rattle.node_model.proofs.Members.{from_filter, from_map, in_either, in_map, none_some}
 use Rattle.network_model.specs.Setup.{Name}
 use Rattle.network_model.proofs.Twins.{itself}
-use Rattle.compiled_laws.proofs.Names.{Apart, same_false}
+use Rattle.network_model.proofs.Apart.{Apart, same_false}
 use Rattle.net_model.specs.Seats.{index_from}
 
 pub some_none : {A : Type 0} (x : A) → Some x ≡ None → ⊥
@@ -58,13 +58,6 @@ zip_from R [] [] d e l h = tt
 zip_from R [] (b ∷ ys) d e l h = absurd (omega (arith, l))
 zip_from R (a ∷ xs) [] d e l h = absurd (omega (arith, l))
 zip_from R (a ∷ xs) (b ∷ ys) d e l h = (h 0 (omega arith), zip_from R xs ys d e (omega (arith, l)) (λ i less. h (suc i) (omega (arith, less))))
-
-pub zip_at : {A B : Type 0} (R : A → B → Type 0) (xs : List A) (ys : List B) (d : A) (e : B) (i : ℕ) → AllZip R xs ys → i < length ys → R (slice_index_or xs i d) (slice_index_or ys i e)
-zip_at R [] [] d e i z h = absurd (omega (arith, h))
-zip_at R [] (b ∷ ys) d e i z h = absurd z
-zip_at R (a ∷ xs) [] d e i z h = absurd z
-zip_at R (a ∷ xs) (b ∷ ys) d e zero z h = z.0
-zip_at R (a ∷ xs) (b ∷ ys) d e (suc i) z h = zip_at R xs ys d e i z.1 (omega (arith, h))
 
 pub mapped_length : {A B : Type 0} (f : A → B) (xs : List A) (ys : List B) → map f xs ≡ ys → length xs ≡ length ys
 mapped_length {A = A} f xs ys e = sym (long xs) ∙ ap length e

@@ -6,6 +6,7 @@ use Rattle.std.specs.declared.option.Option.TheVariants.{None, Some}
 use Rattle.std.specs.declared.option.Option.{Option}
 use Rattle.std.proofs.Common.{ap, inl, inr, refl, sym, ◌∙◌}
 use Rattle.std.proofs.lemmas.Bool.{true≢false}
+use Rattle.std.proofs.lemmas.List.{append-nil}
 use Rattle.ov_types.specs.First.{same_name}
 use Rattle.ov_types.specs.declared.rows.NodeId.{NodeId}
 use Rattle.config_model.specs.declared.topology.Node.{Node}
@@ -18,16 +19,13 @@ use Rattle.network_model.specs.Session.{Session}
 use Rattle.network_model.specs.Setup.{Name}
 use Rattle.compiled_laws.specs.Goal.{Party, other_end, others}
 use Rattle.compiled_laws.specs.Setups.{IsNamed}
-use Rattle.compiled_laws.proofs.Names.{Apart, NamesApart, apart_names, same_false}
-use Rattle.compiled_laws.proofs.Placing.{access_link, access_session, feed_link, feed_session, peer_link, peer_session}
+use Rattle.network_model.proofs.Apart.{Apart, NamesApart, same_false, access_link, access_session, feed_session, peer_link, peer_session}
+use Rattle.compiled_laws.proofs.Names.{apart_names}
+use Rattle.compiled_laws.proofs.Placing.{feed_link}
 use Rattle.net_model.specs.Seats.{Controlling, control_plan, id_of}
 use Rattle.seat_laws.proofs.Links.{links}
 use Rattle.seat_laws.proofs.Lists.{apart_kept, map_both, map_twice}
 use Rattle.seat_laws.proofs.Parties.{client, computer, parties_of, root, site}
-
-nothing_after : {A : Type 0} (xs : List A) → xs ++ [] ≡ xs
-nothing_after [] = refl
-nothing_after (x ∷ xs) = ap (λ ys. x ∷ ys) (nothing_after xs)
 
 cons_before : {A : Type 0} (o : Option A) (xs ys : List A) → cons_option o (xs ++ ys) ≡ cons_option o xs ++ ys
 cons_before None xs ys = refl
@@ -112,7 +110,7 @@ module _ (c : NodeId) where
   peerings_seen (d ∷ ds) a (inl e) =
       others_joined c.name (map (peer_session d) ds) (peerings ds)
       ∙ (λ i. (ap (others c.name) (map_twice nodes (peer_session d) ds) ∙ own_peerings d e ds) i ++ none_peering ds (without d ds a e) i)
-      ∙ nothing_after (map site ds)
+      ∙ append-nil (map site ds)
       ∙ ap (map site) (sym (all_peers ds (without d ds a e)))
       ∙ ap (λ b. map site (cond (not b) (d ∷ filter is_peer_of ds) (filter is_peer_of ds))) (sym (same_self d e))
   peerings_seen (d ∷ ds) a (inr m) =

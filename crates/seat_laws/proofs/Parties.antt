@@ -17,7 +17,7 @@ use Rattle.network_model.specs.Session.{Agent, Configuration, Controller}
 use Rattle.network_model.specs.Setup.{Name}
 use Rattle.compiled_laws.specs.Goal.{Party}
 use Rattle.compiled_laws.specs.Setups.{IsNamed}
-use Rattle.compiled_laws.proofs.Names.{same_false}
+use Rattle.network_model.proofs.Apart.{same_false}
 use Rattle.net_model.specs.Seats.{Configuring, Controlling, Forwarding, Who, agent_plan, control_plan, controller_named, id_of, name_of, names_of, no_node, others_of, role_of, whos}
 use Rattle.seat_laws.proofs.Lists.{map_both, map_twice}
 

@@ -9,7 +9,7 @@ use Rattle.node_model.proofs.Members.{from_map}
 use Rattle.network_model.specs.Moments.{Nodes, nodes}
 use Rattle.network_model.specs.Network.{Network, accesses, feeds, lists, peerings, start}
 use Rattle.compiled_laws.specs.Setups.{IsNamed}
-use Rattle.compiled_laws.proofs.Placing.{access_session, feed_session, peer_session}
+use Rattle.network_model.proofs.Apart.{access_session, feed_session, peer_session}
 use Rattle.net_model.specs.Seats.{Seat}
 use Rattle.seat_laws.specs.Wired.{HasPlace, Pair, access_pairs, names_of, pairs, peer_pairs}
 use Rattle.seat_laws.specs.Wiring.{AreSeats, HasSessions}

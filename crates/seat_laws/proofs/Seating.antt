@@ -20,7 +20,8 @@ use Rattle.network_model.specs.Session.{Agent}
 use Rattle.network_model.specs.Setup.{Name}
 use Rattle.compiled_laws.specs.Goal.{Party}
 use Rattle.compiled_laws.specs.Setups.{IsNamed}
-use Rattle.compiled_laws.proofs.Names.{Apart, NamesApart, apart_names}
+use Rattle.network_model.proofs.Apart.{Apart, NamesApart}
+use Rattle.compiled_laws.proofs.Names.{apart_names}
 use Rattle.net_model.specs.Seats.{Configuring, Controlling, Forwarding, Seat, Who, agent_plan, control_plan, far_of, id_of, index_from, name_of, names_of, nobody, others_of, place_at, place_of, role_of, seat, seat_named, session_with, whos}
 use Rattle.net_model.specs.declared.place.Place.{Place}
 use Rattle.seat_laws.specs.Wiring.{AreSeats, HasFar, IsPlace, IsPlaceOf, name_at, other_at}

@@ -19,7 +19,8 @@ use Rattle.network_model.specs.Network.{Network}
 use Rattle.network_model.specs.Session.{Configuration, Controller, Agent}
 use Rattle.network_model.specs.Setup.{Name}
 use Rattle.compiled_laws.specs.Setups.{IsNamed}
-use Rattle.compiled_laws.proofs.Names.{NamesApart, apart_names, same_false}
+use Rattle.network_model.proofs.Apart.{NamesApart, same_false}
+use Rattle.compiled_laws.proofs.Names.{apart_names}
 use Rattle.control_node.specs.Core as control
 use Rattle.agent_node.specs.Core as agent
 use Rattle.net_model.specs.Seats.{Controlling, Forwarding, Seat, Who, agent_plan, control_plan, name_of, role_of, seat, seat_named}

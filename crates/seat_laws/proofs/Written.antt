@@ -16,7 +16,7 @@ use Rattle.network_model.specs.Setup.{Name}
 use Rattle.network_model.specs.Steps.{session_of}
 use Rattle.compiled_laws.specs.Setups.{IsNamed}
 use Rattle.headline_laws.specs.Headline.{IsWritten}
-use Rattle.headline_laws.proofs.Lists.{contains_of}
+use Rattle.node_model.proofs.Members.{contains_of}
 use Rattle.headline_laws.proofs.Names.{is_named}
 use Rattle.net_model.specs.Seats.{Seat, far_of, name_of, place_of, seat, seat_named}
 use Rattle.net_model.specs.Stands.{Seats}

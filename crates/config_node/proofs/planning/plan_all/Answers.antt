@@ -4,7 +4,8 @@ use Rattle.std.proofs.lemmas.List.Edits.{map_over_more}
 use Rattle.config_node.specs.Ends.{SentFits}
 use Rattle.config_node.specs.Planning.{plan_of, told}
 use Rattle.config_node.specs.declared.ends.FeedEnd.{FeedEnd}
-use Rattle.config_node.proofs.Posts.{all-at, all-set, plans_more}
+use Rattle.node_core.proofs.Lists.{all-at, all-set}
+use Rattle.config_node.proofs.Posts.{plans_more}
 use Rattle.config_node.proofs.planning.plan_all.Goals as goal
 
 pub plan_one-requires-clause-sent : goal.plan_one-requires-clause-sent

@@ -6,6 +6,6 @@ pub returns-in-Some-clause-heard : goal.returns-in-Some-clause-heard
 returns-in-Some-clause-heard c =
     let h = c.in_ok-heard.ensures.heard in (
       c.in_ok-heard.heard.changes.items,
-      record { inputs = h.0; hears = h.1; replied = h.2; changes_are = h.3; state = h.5; cause_is = sym c.in-Some.is ∙ h.4 },
+      record { inputs = h.0; hears = h.1; replied = h.2; changes_are = h.3; state = h.5; wide = h.6; cause_is = sym c.in-Some.is ∙ h.4 },
       sym (peer-same c.args.tables.now c.args.session),
     )

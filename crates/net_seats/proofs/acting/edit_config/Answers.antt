@@ -1,13 +1,8 @@
-use Rattle.std.proofs.Common.{ap, subst, sym, ◌∙◌, ◌<◌, ◌≡◌, IsTrue, Some, None, Option, length, arith, refl}
+use Rattle.std.proofs.Common.{ap, subst, sym, ◌∙◌, ◌<◌, ◌≡◌, Some, Option, length, arith}
 use Rattle.std.specs.Option.{IfSome}
-use Rattle.config_model.specs.Form.{has_topology_form}
-use Rattle.config_check.specs.Checked.{Checked}
 use Rattle.config_check.specs.Edits.{edit_fault}
 use Rattle.config_check.specs.declared.edits.EditFault.{EditFault}
-use Rattle.net_model.specs.Seats.{Configuring, others_of}
 use Rattle.config_node.specs.Core as configuration
-use Rattle.net_seats.specs.Changes.{EditsOver}
-use Rattle.net_seats.specs.Cores.{configured}
 use Rattle.net_seats.proofs.SetUp.{some_control}
 use Rattle.net_seats.proofs.Stepping.{config_again_long, edits_over, sessions_of_config}
 use Rattle.net_seats.proofs.acting.edit_config.Goals as goal

@@ -3,11 +3,10 @@ use Rattle.std.proofs.lemmas.List.{append-nil}
 use Rattle.std.specs.List.{All, Contains}
 use Rattle.config_check.specs.Rules.{controller_names}
 use Rattle.config_model.specs.declared.topology.Node.{Node}
-use Rattle.agent_node.specs.Core.{Core, fresh}
+use Rattle.agent_node.specs.Core.{fresh}
 use Rattle.net_model.specs.Seats.{Forwarding, agent_plan}
 use Rattle.net_seats.specs.Cores.{IsRight}
 use Rattle.net_seats.specs.Fresh.{fresh_outer}
-use Rattle.net_seats.specs.Halves.{Outer}
 use Rattle.net_seats.proofs.Made.{all_right}
 use Rattle.net_seats.proofs.Pushed.{all_pushed, pushed}
 use Rattle.net_seats.proofs.making.add_agents.Goals as goal

@@ -1,4 +1,4 @@
-use Rattle.std.proofs.Common.{ap, length, ◌≡◌, ◌∙◌, arith, List}
+use Rattle.std.proofs.Common.{ap, length, ◌≡◌, ◌∙◌, arith}
 use Rattle.control_node.specs.declared.plan.ControlPlan.{ControlPlan}
 use Rattle.net_model.specs.Seats.{Controlling, control_plan, others_of}
 use Rattle.net_seats.proofs.Made.{few_others}

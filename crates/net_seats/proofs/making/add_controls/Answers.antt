@@ -1,14 +1,9 @@
-use Rattle.std.proofs.Common.{ap, subst, sym, ◌<◌, ◌≤◌, ◌≡◌, ◌++◌, ◌∙◌, [], List, get_or, length, map, refl, arith}
+use Rattle.std.proofs.Common.{ap, sym, ◌≤◌, ◌++◌, ◌∙◌, [], List, length, map, refl, arith}
 use Rattle.std.proofs.lemmas.List.{append-nil}
-use Rattle.std.specs.List.{All, Contains}
-use Rattle.config_check.specs.Rules.{controller_names}
 use Rattle.ov_types.specs.declared.rows.NodeId.{NodeId}
-use Rattle.control_node.specs.Core.{Core, fresh}
+use Rattle.control_node.specs.Core.{fresh}
 use Rattle.net_model.specs.Seats.{Controlling, control_plan}
-use Rattle.net_seats.specs.Cores.{IsRight}
 use Rattle.net_seats.specs.Fresh.{fresh_outer}
-use Rattle.net_seats.specs.Halves.{Outer}
-use Rattle.net_seats.proofs.Made.{all_right}
 use Rattle.net_seats.proofs.Pushed.{all_pushed, pushed}
 use Rattle.net_seats.proofs.making.add_controls.Goals as goal
 

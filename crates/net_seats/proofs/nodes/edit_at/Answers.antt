@@ -1,13 +1,7 @@
-use Rattle.std.proofs.Common.{[], List, Bool, IfOk, ap, arith, true, false, get_or, length, set, subst, sym, ◌<◌, ◌≡◌, ◌∙◌, ℕ, refl}
-use Rattle.std.proofs.lemmas.List.{get_or-set_same}
-use Rattle.node_core.specs.Whole.{Comes, session_of}
-use Rattle.net_model.specs.Seats.{Seat, is_live, seat, name_of, others_of}
-use Rattle.net_model.specs.Steps.{all_of, emptied}
-use Rattle.net_seats.specs.Changes.{TakesOver, emptied_inner}
-use Rattle.net_seats.specs.Halves.{AreAllHalves, Inner, IsEven, Outer, inner, joined, no_inner, outer, whole}
-use Rattle.net_seats.proofs.Halves.{as_many, as_many_seats, halves_at, seat_at}
-use Rattle.net_seats.proofs.Stepping.{as_long}
-use Rattle.net_seats.proofs.Standing.{below_inner, edits_at, halves_are, links_are, posts_are, seat_changed, seat_kept, takes_at, whole_is}
+use Rattle.std.proofs.Common.{[], IfOk, ap, arith, length, subst, sym, ◌<◌, ◌≡◌, ◌∙◌, refl}
+use Rattle.net_seats.specs.Halves.{Outer, inner}
+use Rattle.net_seats.proofs.Halves.{as_many}
+use Rattle.net_seats.proofs.Standing.{edits_at}
 use Rattle.std.specs.declared.option.Option.{Option}
 use Rattle.config_check.specs.Checked.{Checked}
 use Rattle.config_check.specs.declared.edits.EditFault.{EditFault}

@@ -1,13 +1,11 @@
-use Rattle.std.proofs.Common.{[], List, Bool, IfOk, ap, arith, true, false, get_or, length, set, subst, sym, ◌<◌, ◌≡◌, ◌∙◌, ℕ, refl}
+use Rattle.std.proofs.Common.{[], List, ap, arith, length, set, sym, ◌<◌, ◌≡◌, ◌∙◌}
 use Rattle.std.proofs.lemmas.List.{get_or-set_same}
-use Rattle.node_core.specs.Whole.{Comes, session_of}
-use Rattle.net_model.specs.Seats.{Seat, is_live, seat, name_of, others_of}
-use Rattle.net_model.specs.Steps.{all_of, emptied}
-use Rattle.net_seats.specs.Changes.{TakesOver, emptied_inner}
-use Rattle.net_seats.specs.Halves.{AreAllHalves, Inner, IsEven, Outer, inner, joined, no_inner, outer, whole}
-use Rattle.net_seats.proofs.Halves.{as_many, as_many_seats, halves_at, seat_at}
-use Rattle.net_seats.proofs.Stepping.{as_long}
-use Rattle.net_seats.proofs.Standing.{below_inner, edits_at, halves_are, links_are, posts_are, seat_changed, seat_kept, takes_at, whole_is}
+use Rattle.net_model.specs.Seats.{Seat}
+use Rattle.net_model.specs.Steps.{emptied}
+use Rattle.net_seats.specs.Changes.{emptied_inner}
+use Rattle.net_seats.specs.Halves.{Inner, Outer, inner, joined, no_inner, whole}
+use Rattle.net_seats.proofs.Halves.{as_many_seats, halves_at}
+use Rattle.net_seats.proofs.Standing.{below_inner, halves_are, seat_changed, seat_kept, whole_is}
 use Rattle.net_seats.proofs.Emptied.{emptied_even, emptied_one, emptied_outer}
 use Rattle.net_seats.proofs.nodes.restart_at.Goals as goal
 

@@ -1,4 +1,4 @@
-use Rattle.std.proofs.Common.{ap, subst, ◌∙◌, List, map}
+use Rattle.std.proofs.Common.{ap, subst, ◌∙◌, map}
 use Rattle.config_check.specs.Checked.{Checked}
 use Rattle.net_model.specs.Seats.{whos}
 use Rattle.net_seats.specs.Cores.{inners}

@@ -17,7 +17,7 @@ returns-then-is_some-clause-heard c =
 
 pub returns-then-is_some-clause-labels : goal.returns-then-is_some-clause-labels
 returns-then-is_some-clause-labels c =
-    labels_of c.args.me c.args.session.now c.args.bytes.now c.add.new.heard _ (λ k. (c.type_inv.bytes k).fits)
+    labels_of c.args.me c.args.session.now c.args.bytes.now c.add.new.heard _ _ (λ k. (c.type_inv.bytes k).fits)
     (returns-then-is_some-clause-heard c)
 
 pub messages-preserved : goal.messages-preserved
@@ -38,9 +38,10 @@ messages-preserved c = record {
 pub returns-clause-heard : goal.returns-clause-heard
 returns-clause-heard c =
     let next = rw c.in_default.is at c.in_ok-event.ensures.next in
-    ends c.args.me c.args.session.now c.messages.session c.args.bytes.now c.messages.rest.now c.messages.heard _ c.messages.invariant.leads
+    ends c.args.me c.args.session.now c.messages.session c.args.bytes.now c.messages.rest.now c.messages.heard _ _ c.messages.invariant.leads
     next.1 c.messages.invariant.up (sym (ap (λ (s : SessionFields). s.state) next.0))
+    (sym (ap (λ (s : SessionFields). s.wide) next.0))
 
 pub returns-clause-labels : goal.returns-clause-labels
 returns-clause-labels c =
-    labels_of c.args.me c.args.session.now c.args.bytes.now c.messages.heard _ (λ k. (c.type_inv.bytes k).fits) (returns-clause-heard c)
+    labels_of c.args.me c.args.session.now c.args.bytes.now c.messages.heard _ _ (λ k. (c.type_inv.bytes k).fits) (returns-clause-heard c)

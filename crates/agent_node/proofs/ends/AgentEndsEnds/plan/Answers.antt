@@ -8,7 +8,8 @@ use Rattle.agent_tables.specs.declared.hearing.Hearing.{Hearing}
 use Rattle.agent_node.specs.Core.{kind}
 use Rattle.agent_node.specs.Ends.{Ends, Sent, posts_of}
 use Rattle.agent_node.specs.Planning.{ArePlanned}
-use Rattle.agent_node.proofs.Posts.{held_fits, are_plans, posts_long, written}
+use Rattle.agent_node.proofs.Posts.{held_fits, are_plans, posts_long}
+use Rattle.node_core.proofs.Lists.{written}
 use Rattle.agent_tables.proofs.Telling.{can_be_told}
 use Rattle.agent_node.proofs.ends.AgentEndsEnds.plan.Goals as goal
 

@@ -1,18 +1,20 @@
-use Rattle.config_node.proofs.Begins.{begun_bytes, begun_closed, begun_opened}
+use Rattle.node_items.proofs.Begun.{begun_bytes, begun_closed, begun_opened}
+use Rattle.node_model.specs.Naming.{config}
+use Rattle.config_node.specs.Beginning.{session_at}
 use Rattle.config_node.proofs.ends.ConfigEnds.apply.Goals as goal
 
 pub returns-in_ok-replies-in-Opened-clause-begins : goal.returns-in_ok-replies-in-Opened-clause-begins
 returns-in_ok-replies-in-Opened-clause-begins c =
-    begun_opened c.args.self.now.setup c.args.self.now.posts c.greet_at.new.self.posts c.args.input c.in-Opened.session
+    begun_opened config (session_at c.args.self.now.setup) c.args.self.now.posts c.greet_at.new.self.posts c.args.input c.in-Opened.session
     c.in_ok-replies-in-Opened.replies c.in-Opened.is c.in_ok-replies-in-Opened.ensures.hello c.greet_at.ensures.opened
 
 pub returns-in_ok-cause-in-Bytes-clause-begins : goal.returns-in_ok-cause-in-Bytes-clause-begins
 returns-in_ok-cause-in-Bytes-clause-begins c =
-    begun_bytes c.args.self.now.setup c.args.self.now.posts c.hear_on.new.self.posts c.args.input c.in-Bytes.session
+    begun_bytes config (session_at c.args.self.now.setup) c.args.self.now.posts c.hear_on.new.self.posts c.args.input c.in-Bytes.session
     c.new.result c.in-Bytes.bytes c.in_ok-cause-in-Bytes.cause c.in-Bytes.is c.new.ensures
     c.in_ok-cause-in-Bytes.ensures.heard
 
 pub returns-in-Closed-clause-begins : goal.returns-in-Closed-clause-begins
 returns-in-Closed-clause-begins c =
-    begun_closed c.args.self.now.setup c.args.self.now.posts c.close.new.self.posts c.args.input c.in-Closed.session
+    begun_closed config (session_at c.args.self.now.setup) c.args.self.now.posts c.close.new.self.posts c.args.input c.in-Closed.session
     c.new-in-Closed.result c.in-Closed.is c.new-in-Closed.ensures c.close.ensures.closed

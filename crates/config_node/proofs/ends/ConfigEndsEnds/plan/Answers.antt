@@ -4,7 +4,8 @@ use Rattle.config_node.specs.Core.{kind}
 use Rattle.config_node.specs.Ends.{AreEnds, Ends, posts_of}
 use Rattle.config_node.specs.Planning.{plan_of, told}
 use Rattle.config_node.specs.declared.ends.FeedEnd.{FeedEnd}
-use Rattle.config_node.proofs.Posts.{are_plans, ends_told, written}
+use Rattle.config_node.proofs.Posts.{are_plans, ends_told}
+use Rattle.node_core.proofs.Lists.{written}
 use Rattle.config_node.proofs.ends.ConfigEndsEnds.plan.Goals as goal
 
 pub invariant_of-self : goal.invariant_of-self

@@ -1,4 +1,4 @@
-use Rattle.std.proofs.Common.{◌∙◌, ap, map}
+use Rattle.std.proofs.Common.{◌∙◌, ap, map, arith}
 use Rattle.item_wire.specs.Happenings.{idle_session}
 use Rattle.item_wire.specs.declared.event.ItemFrom.TheVariants as From
 use Rattle.control_node.specs.Made.{new_agent, new_peer, none_told}
@@ -13,7 +13,7 @@ invariant_of-result c =
     (c.in_ok-peers.ensures ∙ ap (map (new_peer plan.asn)) c.as_slice-ids.ensures)
     (c.in_ok-agents.ensures ∙ ap (map new_agent) c.as_slice-agent_ids.ensures)
     (c.in_ok-tables.ensures ∙ (λ i. none_told plan.asn (c.as_slice-ids.ensures i) (c.as_slice-agent_ids.ensures i)))
-    c.requires.address c.requires.autonomous_system c.requires.few
+    c.requires.address (omega arith) c.requires.few
 
 pub returns : goal.returns
 returns c =

@@ -1,4 +1,4 @@
-use Rattle.std.proofs.Common.{arith, ap, subst, sym, ◌∙◌, ◌≡◌, IfOk}
+use Rattle.std.proofs.Common.{arith, subst, sym, ◌≡◌, IfOk}
 use Rattle.ov_types.specs.declared.rows.NodeRows.{NodeRows}
 use Rattle.net_seats.specs.Changes.{shown}
 use Rattle.net_seats.specs.Halves.{Inner}

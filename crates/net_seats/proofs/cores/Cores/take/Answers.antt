@@ -1,4 +1,4 @@
-use Rattle.std.proofs.Common.{arith, ap, subst, sym, ◌∙◌, ◌≡◌, ◌<◌, IfOk, Bool, true, false, length, set}
+use Rattle.std.proofs.Common.{arith, ap, subst, sym, ◌≡◌, ◌<◌, IfOk, true, false, length, set}
 use Rattle.node_core.specs.Whole.{Comes, session_of}
 use Rattle.control_node.specs.declared.plan.ControlPlan.{ControlPlan}
 use Rattle.agent_node.specs.declared.plan.AgentPlan.{AgentPlan}

@@ -1,4 +1,4 @@
-use Rattle.std.proofs.Common.{ap, sym, ◌∙◌, ◌≡◌, List, map}
+use Rattle.std.proofs.Common.{ap, ◌∙◌, List, map}
 use Rattle.agent_node.specs.Core.{Core}
 use Rattle.route_targets.specs.Forwarding.{Forwarder, forwarding}
 use Rattle.net_seats.specs.Changes.{forwarders}

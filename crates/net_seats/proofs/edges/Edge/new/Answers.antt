@@ -1,4 +1,4 @@
-use Rattle.std.proofs.Common.{ap, sym, ◌∙◌, ◌<◌, ◌≤◌, ◌≡◌, ℕ, Bool, false, List, [], length, take, refl, arith}
+use Rattle.std.proofs.Common.{ap, ◌∙◌, ◌≤◌, ◌≡◌, ℕ, Bool, false, List, [], length, take, refl, arith}
 use Rattle.std.proofs.lemmas.List.{length-take-le}
 use Rattle.network_model.specs.Setup.{Name}
 use Rattle.net_model.specs.Steps.{all_of}

@@ -1,4 +1,4 @@
-use Rattle.std.proofs.Common.{ap, subst, sym, ◌<◌, ◌≤◌, ◌≡◌, ◌∙◌, length, refl, arith}
+use Rattle.std.proofs.Common.{ap, ◌≤◌, ◌≡◌, length, refl, arith}
 use Rattle.net_seats.specs.Halves.{Outer}
 use Rattle.net_seats.proofs.Cleared.{both_all, both_more}
 use Rattle.net_seats.proofs.edges.Edge.restart.Goals as goal

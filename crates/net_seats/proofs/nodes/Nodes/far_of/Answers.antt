@@ -1,13 +1,7 @@
-use Rattle.std.proofs.Common.{[], List, ap, arith, get_or, length, sym, ◌<◌, ◌≡◌, ◌∙◌, ℕ, Some, None, refl}
-use Rattle.std.specs.declared.option.Option.{Option}
-use Rattle.std.specs.Option.{option_map}
-use Rattle.ov_types.specs.First.{same_name}
+use Rattle.std.proofs.Common.{[], List, ap, arith, get_or, length, sym, ◌<◌, ◌≡◌, ◌∙◌}
 use Rattle.network_model.specs.Setup.{Name}
-use Rattle.net_model.specs.Seats.{Seat, index_from, name_of, other, others_of, place_at, place_of, seat, seat_named, session_with}
-use Rattle.net_model.specs.declared.place.Place.{Place}
-use Rattle.net_seats.specs.Halves.{Outer, Standing}
-use Rattle.net_seats.proofs.Found.{found_below}
-use Rattle.net_seats.proofs.Halves.{named_at}
+use Rattle.net_model.specs.Seats.{Seat, name_of, other, place_of, seat}
+use Rattle.net_seats.specs.Halves.{Standing}
 use Rattle.net_seats.proofs.Standing.{below_all, halves_are, others_are, whole_is}
 use Rattle.net_seats.proofs.nodes.Nodes.far_of.Goals as goal
 

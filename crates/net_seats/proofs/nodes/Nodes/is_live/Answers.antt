@@ -1,10 +1,8 @@
-use Rattle.std.proofs.Common.{[], List, Bool, IfOk, ap, arith, drop, false, get_or, length, set, subst, sym, ◌<◌, ◌≡◌, ◌∙◌, ℕ, zero, suc, refl}
-use Rattle.std.specs.List.{slice_get}
-use Rattle.std.proofs.lemmas.List.{length-set}
-use Rattle.net_model.specs.Seats.{Seat, seat, is_live, is_up}
-use Rattle.net_seats.specs.Halves.{AreAllHalves, Inner, IsEven, Outer, Standing, inner, joined, outer, whole}
-use Rattle.net_seats.proofs.Halves.{as_many_seats, forwarded_by, halves_at, seat_at}
-use Rattle.net_seats.proofs.Standing.{below_all, below_inner, edge_changed, edge_kept, even_links, even_notices, halves_are, others_are, posts_are, whole_is}
+use Rattle.std.proofs.Common.{[], List, ap, arith, length, sym, ◌≡◌, ◌∙◌, refl}
+use Rattle.net_model.specs.Seats.{Seat, seat, is_live}
+use Rattle.net_seats.specs.Halves.{Standing, joined}
+use Rattle.net_seats.proofs.Halves.{seat_at}
+use Rattle.net_seats.proofs.Standing.{below_all, below_inner, posts_are}
 use Rattle.net_seats.proofs.nodes.Nodes.is_live.Goals as goal
 
 pub is_live-requires-clause-node : goal.is_live-requires-clause-node

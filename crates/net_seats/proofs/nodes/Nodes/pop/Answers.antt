@@ -1,10 +1,9 @@
-use Rattle.std.proofs.Common.{[], List, Bool, IfOk, ap, arith, drop, false, get_or, length, set, subst, sym, ◌<◌, ◌≡◌, ◌∙◌, ℕ, zero, suc, refl}
+use Rattle.std.proofs.Common.{[], List, ap, arith, drop, get_or, length, set, subst, sym, ◌≡◌, ◌∙◌}
 use Rattle.std.specs.List.{slice_get}
 use Rattle.std.proofs.lemmas.List.{length-set}
-use Rattle.net_model.specs.Seats.{Seat, seat, is_live, is_up}
-use Rattle.net_seats.specs.Halves.{AreAllHalves, Inner, IsEven, Outer, Standing, inner, joined, outer, whole}
-use Rattle.net_seats.proofs.Halves.{as_many_seats, forwarded_by, halves_at, seat_at}
-use Rattle.net_seats.proofs.Standing.{below_all, below_inner, edge_changed, edge_kept, even_links, even_notices, halves_are, others_are, posts_are, whole_is}
+use Rattle.net_model.specs.Seats.{Seat, seat}
+use Rattle.net_seats.specs.Halves.{IsEven, Outer, Standing, inner, joined, whole}
+use Rattle.net_seats.proofs.Standing.{below_all, edge_changed, edge_kept, even_links, halves_are, others_are, whole_is}
 use Rattle.net_seats.proofs.nodes.Nodes.pop.Goals as goal
 
 pub index_mut-requires : goal.index_mut-requires

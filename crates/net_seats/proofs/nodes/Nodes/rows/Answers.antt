@@ -1,10 +1,8 @@
-use Rattle.std.proofs.Common.{[], List, Bool, IfOk, ap, arith, drop, false, get_or, length, set, subst, sym, ◌<◌, ◌≡◌, ◌∙◌, ℕ, zero, suc, refl}
-use Rattle.std.specs.List.{slice_get}
-use Rattle.std.proofs.lemmas.List.{length-set}
-use Rattle.net_model.specs.Seats.{Seat, seat, is_live, is_up}
-use Rattle.net_seats.specs.Halves.{AreAllHalves, Inner, IsEven, Outer, Standing, inner, joined, outer, whole}
-use Rattle.net_seats.proofs.Halves.{as_many_seats, forwarded_by, halves_at, seat_at}
-use Rattle.net_seats.proofs.Standing.{below_all, below_inner, edge_changed, edge_kept, even_links, even_notices, halves_are, others_are, posts_are, whole_is}
+use Rattle.std.proofs.Common.{[], List, IfOk, ap, subst, sym, ◌≡◌, ◌∙◌}
+use Rattle.net_model.specs.Seats.{Seat, seat}
+use Rattle.net_seats.specs.Halves.{Standing}
+use Rattle.net_seats.proofs.Halves.{seat_at}
+use Rattle.net_seats.proofs.Standing.{below_all, below_inner}
 use Rattle.ov_types.specs.declared.rows.NodeRows.{NodeRows}
 use Rattle.net_model.specs.Steps.{shown_by}
 use Rattle.net_seats.proofs.nodes.Nodes.rows.Goals as goal
