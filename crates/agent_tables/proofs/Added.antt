@@ -30,7 +30,8 @@ use Rattle.node_model.proofs.Heard.{find_either}
 use Rattle.node_model.proofs.Orders.{key_total, key_exact}
 use Rattle.node_items.specs.Told.{up_order, up_of}
 use Rattle.agent_tables.specs.Kept.{added}
-use Rattle.agent_tables.proofs.Images.{up_keeps, up_total, up_exact, up-get}
+use Rattle.node_model.proofs.Directions.{up_keeps, up_total, up_exact}
+use Rattle.agent_tables.proofs.Images.{up-get}
 use Rattle.agent_tables.proofs.Lists.{or_none, or_assoc, or_there}
 
 get-added : (m : Map) (es : List (Key × Value)) (q : Key) → get (added m es) q ≡ first_some (get m q) (find key_cmp q es)

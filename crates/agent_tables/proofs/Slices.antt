@@ -1,10 +1,8 @@
 -- The labels and access lists of a slice stand in the order of their keys.
-use Rattle.std.specs.Prelude.{◌≡◌, List, [], ◌∷◌, map, T, IsTrue}
-use Rattle.std.specs.declared.cmp.Ordering.{Ordering}
-use Rattle.std.specs.declared.cmp.Ordering.TheVariants.{Less, Equal, Greater}
+use Rattle.std.specs.Prelude.{◌≡◌, List, [], ◌∷◌, map, IsTrue}
+use Rattle.std.specs.declared.cmp.Ordering.TheVariants.{Less}
 use Rattle.std.specs.declared.option.Option.{Option}
 use Rattle.std.specs.declared.option.Option.TheVariants.{Some, None}
-use Rattle.std.specs.Ordering.{is_lt}
 use Rattle.std.specs.Cmp.{IsTotalOrder, on_total, nat_cmp_total}
 use Rattle.std.specs.List.{All, AllByRecursion, filter_map, cons_option}
 use Rattle.std.specs.List.Sorted.{IsStrictlySortedBy}
@@ -26,23 +24,19 @@ use Rattle.node_model.specs.Keys.{Low, key_cmp}
 use Rattle.node_model.specs.Members.{Member}
 use Rattle.node_model.proofs.Images as images
 use Rattle.node_model.proofs.Members.{none_some}
+use Rattle.node_model.proofs.Orders.{key_total}
 use Rattle.node_model.proofs.Published.{IsBefore, Rise, rise_slice}
+use Rattle.node_model.proofs.Local.{less_is}
 use Rattle.agent_tables.specs.Kept.{label_order}
 use Rattle.agent_tables.specs.Objects.{is_of_a_use}
 use Rattle.agent_tables.specs.Slice.{pairs_of}
 use Rattle.agent_tables.specs.declared.object.SliceObject.{SliceObject}
-use Rattle.agent_tables.proofs.Images.{low_total}
 use Rattle.agent_tables.proofs.Ordered.{all_with, all_in_order, ascends_kept}
 
 -- ---- the slice
-less : (r : Ordering) → T (is_lt r) → r ≡ Less
-less Less h = refl
-less Equal h = absurd h
-less Greater h = absurd h
-
 all_below : (k : LowKey) (es : List (LowKey × LowValue)) → ((f : LowKey × LowValue) → Member f es → IsBefore k f.0) → AllByRecursion (λ y. low_key_cmp k y ≡ Less) (map (λ e. e.0) es)
 all_below k [] h = tt
-all_below k (e ∷ es) h = (sym (images.low_keeps k e.0) ∙ less (key_cmp (Low k) (Low e.0)) (h e (inl refl)), all_below k es (λ f m. h f (inr m)))
+all_below k (e ∷ es) h = (sym (images.low_keeps k e.0) ∙ less_is (key_cmp (Low k) (Low e.0)) (h e (inl refl)), all_below k es (λ f m. h f (inr m)))
 
 sorted_from : (es : List (LowKey × LowValue)) → Rise es → IsStrictlySortedBy low_key_cmp (map (λ e. e.0) es)
 unfolding IsStrictlySortedBy
@@ -108,6 +102,9 @@ lists_keep d e x y p q h = sym (λ i. low_key_cmp (acl_key d.0 d.1 x p i) (acl_k
 
 abbrev pub lists_in : List (LowKey × LowValue) → List (LowKey × LowValue)
 lists_in slice = filter_map (λ e. acl_entry e.0 e.1) slice
+
+low_total : IsTotalOrder low_key_cmp
+low_total = subst IsTotalOrder (λ i x y. images.low_keeps x y i) (on_total Low key_total)
 
 pub lists_in_order : (slice : List (LowKey × LowValue)) → IsStrictlySortedBy low_key_cmp (map (λ e. e.0) slice) → all_with low_key_cmp [] (lists_in slice) ≡ lists_in slice
 lists_in_order slice sorted =

@@ -113,7 +113,7 @@ publication_fits (key.Acl from to) v e f m = absurd m
 publication_fits (key.ChainUse n) v e f m = absurd m
 
 -- ---- of all that is held
-slice_fits : (h : Holdings) → AllByRecursion (λ (s : Heard). AllFit s.map) h → (e : LowKey × LowValue) → Member e (slice_in_use h) → Fits (Low e.0) (Object e.1)
+pub slice_fits : (h : Holdings) → AllByRecursion (λ (s : Heard). AllFit s.map) h → (e : LowKey × LowValue) → Member e (slice_in_use h) → Fits (Low e.0) (Object e.1)
 slice_fits [] fit e m = absurd m
 slice_fits (s ∷ h) fit e m =
     elim s.is_up as (λ b. Member e (cond b (objects s.map) (slice_in_use h)) → Fits (Low e.0) (Object e.1)) [
@@ -121,7 +121,7 @@ slice_fits (s ∷ h) fit e m =
       | false ↦ slice_fits h fit.1 e
     ] m
 
-abbrev subscription : InstanceId → Key × Value
+abbrev pub subscription : InstanceId → Key × Value
 subscription i = (Subscribe i, Label (record { 0 = 0 }))
 
 pub can_be_told : (h : Holdings) → AllByRecursion (λ (s : Heard). AllFit s.map) h → AllFit (wanted h)

@@ -1,12 +1,12 @@
 //! The instances that an agent needs.
-ghost use Rattle.std.specs.Prelude.{◌≡◌, ◌≤◌, ◌++◌, IfOk, OnOk};
+ghost use Rattle.std.specs.Prelude.{◌≡◌, ◌++◌, IfOk, OnOk};
 ghost use Rattle.std.specs.List.{filter_map};
-ghost use Rattle.route_targets.specs.Numbers.{circuit_instance_of};
 ghost use Rattle.node_model.specs.Agent.{entered_by, needed_by, needed_for};
 ghost use Rattle.agent_tables.specs.Slice.{pairs_of};
 
 use crate::object::SliceObject;
 use ov_types::{AclAction, AclRule, InstanceId, LowValue, NoMemory};
+use route_targets::circuit_instance;
 use std::alloc::Global;
 
 /// The instances that the objects of a slice make the agent need, object by object. One may occur more than once.
@@ -48,12 +48,4 @@ fn need_entered(needed: &mut Vec<InstanceId>, rules: &[AclRule]) -> Result<(), N
         }
     }
     Ok(())
-}
-
-/// The instance that a circuit lies in.
-pub(crate) fn circuit_instance(circuit: u32) -> InstanceId
-    requires { circuit ≤ 131070 }
-    ensures { result ≡ circuit_instance_of circuit }
-{
-    InstanceId((circuit / 2) as u16)
 }

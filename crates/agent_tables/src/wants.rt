@@ -10,11 +10,11 @@ ghost use Rattle.agent_tables.specs.Slice.{pairs_of};
 ghost use Rattle.agent_tables.specs.Views.{heard_of};
 
 use crate::hearing::Hearing;
-use crate::needs::{circuit_instance, needed};
+use crate::needs::needed;
 use crate::object::SliceObject;
 use crate::slice::slice_in_use;
 use ov_types::{InstanceId, Label, LowKey, LowValue, NoMemory, Prefix, UpKey};
-use route_targets::circuit_address;
+use route_targets::{circuit_address, circuit_instance};
 use std::alloc::Global;
 use std::collections::BTreeMap;
 

@@ -1,13 +1,12 @@
 -- The first of each key counts.
-use Rattle.std.specs.Prelude.{◌≡◌, ◌≢◌, ◌↔◌, List, [], ◌∷◌, ◌++◌, map, Bool, true, false, cond}
-use Rattle.std.specs.declared.cmp.Ordering.{Ordering}
+use Rattle.std.specs.Prelude.{◌≡◌, ◌≢◌, ◌↔◌, List, [], ◌∷◌, ◌++◌, map, true, false, cond}
 use Rattle.std.specs.declared.cmp.Ordering.TheVariants.{Less}
-use Rattle.std.specs.declared.option.Option.TheVariants.{Some, None}
+use Rattle.std.specs.declared.option.Option.TheVariants.{Some}
 use Rattle.std.specs.Ordering.{eq_by_cmp, is_eq}
 use Rattle.std.specs.Cmp.{Equal-is, tied_itself}
 use Rattle.std.specs.List.{AllByRecursion}
 use Rattle.std.specs.List.Sorted.{IsStrictlySortedBy}
-use Rattle.std.specs.FinMap.{FinMap, entries, from_entries, find, get-from_entries}
+use Rattle.std.specs.FinMap.{entries, from_entries, find, get-from_entries}
 use Rattle.std.proofs.Common.{refl, sym, ◌∙◌, ap, inl, inr}
 use Rattle.std.proofs.lemmas.Bool.{true≢false}
 use Rattle.std.proofs.lemmas.Option.{same_Some}
@@ -18,7 +17,7 @@ use Rattle.node_model.specs.Members.{Member}
 use Rattle.node_model.specs.Paths.{Path}
 use Rattle.node_model.proofs.Members.{none_some, get_member, member_get}
 use Rattle.vpn_tables.specs.Views.{vpn_order}
-use Rattle.vpn_tables.proofs.Images.{vpn_total, vpn_exact}
+use Rattle.node_model.proofs.Directions.{vpn_total, vpn_exact}
 use Rattle.chain_reorigin.specs.Told.{told_key, told_path}
 use Rattle.chain_reorigin.specs.Laws.{IsFirst}
 

@@ -4,7 +4,7 @@ use Rattle.std.specs.List.{flat_map}
 use Rattle.std.proofs.Common.{refl, sym, ◌∙◌, ap, inl, inr}
 use Rattle.node_model.specs.Members.{Member}
 use Rattle.node_model.specs.Paths.{Holdings, Path}
-use Rattle.node_model.specs.Reaching.{Side, sides_of}
+use Rattle.node_model.specs.Reaching.{sides_of}
 use Rattle.node_model.specs.Uses.{Use, uses}
 use Rattle.vpn_tables.specs.Leading.{leads}
 use Rattle.chain_reorigin.specs.Laws.{RightFirst}

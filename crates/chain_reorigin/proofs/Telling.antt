@@ -1,11 +1,10 @@
 -- Of each key one route, as the entries of a map.
 use Rattle.std.specs.Prelude.{◌≡◌, List, [], ◌∷◌, ◌++◌, map}
 use Rattle.std.specs.declared.cmp.Ordering.{Ordering}
-use Rattle.std.specs.declared.cmp.Ordering.TheVariants.{Less, Equal, Greater}
 use Rattle.std.specs.Cmp.{IsTotalOrder}
 use Rattle.std.specs.List.Sorted.{IsStrictlySortedBy}
 use Rattle.std.specs.FinMap.{FinMap, entries, from_entries, insert, put, entries-insert}
-use Rattle.std.proofs.Common.{refl, sym, ◌∙◌, ap, rules, arith}
+use Rattle.std.proofs.Common.{refl, sym, ◌∙◌, ap, arith}
 use Rattle.ov_sync.specs.Keyed.{map_of}
 use Rattle.ov_sync.specs.Embed.{moved_entry}
 use Rattle.ov_sync.proofs.Ascending.{entries-empty, entries-map_of, ascends}
@@ -16,12 +15,11 @@ use Rattle.node_model.specs.Values as values
 use Rattle.node_model.specs.Values.{Value}
 use Rattle.node_model.specs.Paths.{Path}
 use Rattle.node_model.specs.Wants.{route_entry}
-use Rattle.node_model.proofs.Images as images
+use Rattle.node_model.proofs.Directions.{vpn_keeps, vpn_total}
 use Rattle.node_model.proofs.Orders.{key_total}
 use Rattle.vpn_tables.specs.declared.routes.Route.{Route}
 use Rattle.vpn_tables.specs.Routes.{path_of}
 use Rattle.vpn_tables.specs.Views.{vpn_order}
-use Rattle.vpn_tables.proofs.Images.{vpn_total}
 use Rattle.chain_reorigin.specs.Told.{told_path}
 use Rattle.chain_reorigin.specs.Counting.{keyed, told_of, told_entry}
 
@@ -56,9 +54,6 @@ told_is rs es ps sorted e led =
     ap (map told_entry) (sym (entries-map_of vpn_order vpn_total es (ascends vpn_order es sorted)) ∙ ap entries e)
     ∙ sym (entries_moved (λ (k : VpnKey). k) told_of vpn_total vpn_total (λ x y. refl) (map keyed rs))
     ∙ ap (λ (l : List (VpnKey × VpnRoute)). entries (from_entries {R = vpn_order} l)) (sym (told_all rs) ∙ ap (map told_path) led)
-
-pub vpn_keeps : (a b : VpnKey) → key_cmp (Vpn a) (Vpn b) ≡ vpn_order a b
-vpn_keeps a b = images.vpn_keeps a b ∙ search rules
 
 pub entries_all : (ps : List Path) → map (moved_entry Vpn values.Route) (map told_path ps) ≡ map route_entry ps
 entries_all [] = refl

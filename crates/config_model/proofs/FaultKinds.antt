@@ -1,17 +1,12 @@
 -- Which kind of fault a value is that does not read.
-use Rattle.std.proofs.Common.{◌≡◌, ℕ, ◌||◌, ◌&&◌, Bool, true, false, not, nat_eq, List, [], ◌∷◌, Option, Some, None, is_some, Result, Err, refl, codes}
-use Rattle.std.specs.List.{list_any}
+use Rattle.std.proofs.Common.{◌≡◌, ℕ, false, nat_eq, [], ◌∷◌, Option, Some, None, is_some, refl, codes}
 use Rattle.std.specs.Cmp.Lexicographic.{pointwise}
 use Rattle.std.proofs.lemmas.Bool.{or_parts}
-use Rattle.serde_json.specs.Data.{Data, string}
 use Rattle.ov_types.specs.Name.{is_name}
-use Rattle.ov_types.specs.Prefix.{Block}
-use Rattle.config_model.specs.declared.fault.DocKind.TheVariants.{Range}
-use Rattle.config_model.specs.Faults.{Fault, wanted}
 use Rattle.ov_types.specs.Written.{address_of, block_of}
 use Rattle.config_model.specs.Fields.{Reads, in_member, member_at, text_at, whole_at, name_at, address_at, prefix_at, list_at, all_at}
-use Rattle.config_model.specs.Rule.{direction_at, end_at, protocol_at, action_at, action_from}
-use Rattle.config_model.specs.Laws.{fault_at, is_among, OtherTextIsRange, OtherValueIsKind, OtherActionIsRange, OtherNumberIsRange, NegativeIsRange, FractionIsKind, NoNumberIsKind, NoListIsKind, OtherCountIsRange}
+use Rattle.config_model.specs.Rule.{direction_at, end_at, protocol_at, action_at}
+use Rattle.config_model.specs.Laws.{is_among, OtherTextIsRange, OtherValueIsKind, OtherActionIsRange, OtherNumberIsRange, NegativeIsRange, FractionIsKind, NoNumberIsKind, NoListIsKind, OtherCountIsRange}
 
 none_of : {A : Type 0} (o : Option A) → is_some o ≡ false → o ≡ None
 none_of None h = refl

@@ -1,14 +1,13 @@
 -- Each value of the written form has a document, which reads as it.
-use Rattle.std.proofs.Common.{◌≡◌, ℕ, ◌+◌, ◌<◌, ◌^◌, ◌&&◌, ◌==◌, Bool, true, false, not, nat_eq, nat_le, nat_lt, leb, List, [], ◌∷◌, length, Some, Ok, IsTrue, refl, sym, codes, arith}
+use Rattle.std.proofs.Common.{◌≡◌, ℕ, ◌+◌, ◌<◌, ◌^◌, ◌&&◌, Bool, true, false, not, nat_eq, nat_le, nat_lt, leb, List, [], ◌∷◌, length, Some, Ok, IsTrue, refl, sym, codes, arith}
 use Rattle.std.specs.List.{list_all}
 use Rattle.std.specs.Cmp.Lexicographic.{pointwise}
 use Rattle.std.proofs.lemmas.Bool.{and_parts, leb-true, le-leb, ltb-true}
 use Rattle.serde_json.specs.Data.{Data, string}
 use Rattle.serde_json.specs.Events.{items_len}
 use Rattle.ov_types.specs.Name.{is_name}
-use Rattle.ov_types.specs.Prefix.{Block, is_prefix}
+use Rattle.ov_types.specs.Prefix.{is_prefix}
 use Rattle.ov_types.specs.Texts.{address_text, prefix_text}
-use Rattle.ov_types.specs.declared.packet.Packet.{Packet}
 use Rattle.ov_types.specs.declared.packet.Range16.{Range16}
 use Rattle.ov_types.specs.declared.prefix.Addr.{Addr}
 use Rattle.config_model.specs.declared.fields.Count.{Count}
@@ -19,17 +18,16 @@ use Rattle.config_model.specs.declared.config.Direction.{Direction}
 use Rattle.config_model.specs.declared.config.Direction.TheVariants.{OneWay, BothWays}
 use Rattle.config_model.specs.declared.config.End.{End}
 use Rattle.config_model.specs.declared.config.End.TheVariants.{Any, Named}
-use Rattle.config_model.specs.declared.config.Network.{Network}
 use Rattle.config_model.specs.declared.config.Protocol.{Protocol}
 use Rattle.config_model.specs.declared.config.Protocol.TheVariants as protocol
 use Rattle.config_model.specs.declared.config.Rule.{Rule}
 use Rattle.config_model.specs.Paths.{item_path}
 use Rattle.ov_types.specs.Written.{address_of, block_of}
-use Rattle.config_model.specs.Form.{is_from_to, is_as_number, is_node_name, is_node_address, is_network_name, is_range, has_end_form, has_protocol_form, has_action_form, has_controller_form, has_node_form, has_topology_form, has_network_form, has_port_form, has_policy_form, has_rule_form, has_service_form, has_chain_form, has_config_form, has_packet_form, is_block}
+use Rattle.config_model.specs.Form.{is_from_to, is_as_number, is_reserved_as, is_node_name, is_node_address, is_network_name, is_range, has_end_form, has_protocol_form, has_action_form, has_controller_form, has_node_form, has_topology_form, has_network_form, has_port_form, has_policy_form, has_rule_form, has_service_form, has_chain_form, has_config_form, has_packet_form, is_block}
 use Rattle.config_model.specs.Fields.{Reads, in_member, member_at, object_at, text_at, whole_at, name_at, name_but_at, address_at, prefix_at, only_at, allows, list_at, items_at, all_at, optional_all}
-use Rattle.config_model.specs.Topology.{as_at, node_address_at, node_name_at, controller_at, node_at, topology_at}
+use Rattle.config_model.specs.Topology.{as_at, node_address_at, controller_at, node_at, topology_at}
 use Rattle.config_model.specs.Rule.{direction_at, end_at, protocol_at, port_number_at, range_at, through_at, action_at, rule_at}
-use Rattle.config_model.specs.Config.{network_name_at, network_at, port_at, policy_at, service_at, chain_at, config_at}
+use Rattle.config_model.specs.Config.{network_at, port_at, policy_at, service_at, chain_at, config_at}
 use Rattle.config_model.specs.Input.{packet_at, compile_at, reach_at}
 use Rattle.config_model.specs.Documents.{items_of, list_document, number_document, prefix_document, controller_document, node_document, topology_document, network_document, port_document, direction_document, end_document, protocol_document, range_document, rule_document, policy_document, service_document, chain_document, config_document, packet_document, compile_document, reach_document}
 use Rattle.config_model.specs.Laws.{IsRead, compile_form, reach_form}
@@ -115,8 +113,8 @@ node_is_read n h path =
 as_is_read : (n : ℕ) → is_as_number n ≡ true → (path : List ℕ) → as_at path (number_document n) ≡ Ok n
 unfolding as_at
 as_is_read n h path =
-    let p = and_parts (is_from_to 1 65534 n) (not (n == 23456)) h in
-    rw (whole_is_read 1 65534 n p.0, p.1) refl
+    let p = and_parts (is_from_to 1 4294967294 n) (not (is_reserved_as n)) h in
+    rw (whole_is_read 1 4294967294 n p.0, p.1) refl
 
 pub topology_is_read : IsRead topology_at has_topology_form topology_document
 unfolding topology_at in_member member_at object_at only_at has_topology_form

@@ -1,5 +1,5 @@
 -- The written form, as it shows in values: which topologies, configurations and packets a document can write.
-use Rattle.std.specs.Prelude.{ℕ, List, length, nat_eq, nat_le, Bool, true, not, codes, ◌&&◌, ◌==◌}
+use Rattle.std.specs.Prelude.{ℕ, List, length, nat_eq, nat_le, Bool, true, not, codes, ◌&&◌, ◌||◌, ◌==◌}
 use Rattle.std.specs.List.{list_all}
 use Rattle.std.specs.Cmp.Lexicographic.{pointwise}
 pub use Rattle.ov_types.specs.Bounds.{is_from_to, is_node_address}
@@ -24,9 +24,14 @@ use Rattle.config_model.specs.declared.config.Service.{Service}
 use Rattle.config_model.specs.declared.topology.Node.{Node}
 use Rattle.config_model.specs.declared.topology.Topology.{Topology}
 
--- an autonomous system's number that is not the reserved 23456 (RFC 6793)
+-- the numbers within the bounds that no autonomous system has: 23456 stands in for those of four octets (RFC 6793), and
+-- 65535 is the last of two octets (RFC 7300)
+abbrev pub is_reserved_as : ℕ → Bool
+is_reserved_as n = n == 23456 || n == 65535
+
+-- the number of an autonomous system, of two octets or of four: the last of four is reserved too
 abbrev pub is_as_number : ℕ → Bool
-is_as_number n = is_from_to 1 65534 n && not (n == 23456)
+is_as_number n = is_from_to 1 4294967294 n && not (is_reserved_as n)
 
 -- a node's name: the configuration node has the name `config`
 abbrev pub is_node_name : List ℕ → Bool

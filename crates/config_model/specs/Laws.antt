@@ -1,16 +1,11 @@
 -- What is said of the written form.
-use Rattle.std.specs.Prelude.{◌≡◌, ◌↔◌, ℕ, ◌<◌, ◌^◌, ◌∷◌, [], ◌++◌, ◌&&◌, List, Bool, false, IsTrue, nat_lt, ℤ, Float}
+use Rattle.std.specs.Prelude.{◌≡◌, ℕ, ◌∷◌, [], ◌++◌, ◌&&◌, List, Bool, false, IsTrue, ℤ, Float}
 use Rattle.std.specs.Prelude.{is_some, nat_eq, codes, Some, None, Ok, Err}
 use Rattle.std.specs.List.{list_any, list_all}
 use Rattle.std.specs.Cmp.Lexicographic.{pointwise}
-use Rattle.serde_json.specs.Data.{Num, unsigned, negative, float, Data, string, Items, Members, no_members, member}
+use Rattle.serde_json.specs.Data.{unsigned, negative, float, Data, string, Items, Members, no_members, member}
 use Rattle.serde_json.specs.Events.{items_len}
 use Rattle.serde_json.specs.Find.{get, as_number, as_str, as_array, as_object}
-use Rattle.ov_types.specs.Name.{is_name, name_of}
-use Rattle.ov_types.specs.Prefix.{Block, is_prefix}
-use Rattle.ov_types.specs.Texts.{address_text, prefix_text}
-use Rattle.config_model.specs.declared.config.Config.{Config}
-use Rattle.config_model.specs.declared.config.Network.{Network}
 use Rattle.config_model.specs.declared.config.Rule.{Rule}
 use Rattle.config_model.specs.declared.fault.DocKind.{DocKind}
 use Rattle.config_model.specs.declared.fault.DocKind.TheVariants.{Missing, Kind, Range}
@@ -20,7 +15,6 @@ use Rattle.config_model.specs.declared.input.ReachInput.{ReachInput}
 use Rattle.config_model.specs.Faults.{Fault}
 use Rattle.config_model.specs.Form.{is_from_to, has_topology_form, has_config_form, has_packet_form}
 use Rattle.config_model.specs.Paths.{member_path}
-use Rattle.ov_types.specs.Written.{address_of, block_of}
 use Rattle.config_model.specs.Fields.{Reads, whole_at, all_at, allows}
 use Rattle.config_model.specs.Topology.{controller_at, node_at, topology_at}
 use Rattle.config_model.specs.Rule.{rule_at, action_at, members_with}
@@ -98,10 +92,6 @@ FirstIsMissed reads name = (path : List ℕ) (d : Data) (members : Members) → 
 -- each value of this form has a document, which reads as it wherever it stands
 abbrev pub IsRead : {A : Type 0} → Reads A → (A → Bool) → (A → Data) → Type 0
 IsRead {A} reads has_form document = (x : A) → IsTrue (has_form x) → (path : List ℕ) → reads path (document x) ≡ Ok x
-
--- the addresses of a network's subnets are of 32 bits, as their type has them
-abbrev pub subnets_fit : Network → Bool
-subnets_fit n = list_all (λ b. nat_lt b.addr (2 ^ 32)) n.subnets
 
 abbrev pub compile_form : CompileInput → Bool
 compile_form i = has_topology_form i.topology && has_config_form i.config

@@ -1,19 +1,20 @@
 -- The written form of a topology.
-use Rattle.std.specs.Prelude.{ℕ, ◌∷◌, [], List, ◌==◌, not, codes, Result, Ok}
+use Rattle.std.specs.Prelude.{ℕ, ◌∷◌, [], List, not, codes, Result, Ok}
 use Rattle.serde_json.specs.Data.{Data}
 use Rattle.ov_types.specs.declared.prefix.Addr.{Addr}
 use Rattle.ov_types.specs.declared.rows.NodeId.{NodeId}
 use Rattle.config_model.specs.declared.fields.Count.TheVariants.{AtLeastOne, OneOrTwo}
 use Rattle.config_model.specs.declared.topology.Node.{Node}
 use Rattle.config_model.specs.declared.topology.Topology.{Topology}
+use Rattle.config_model.specs.Form.{is_reserved_as}
 use Rattle.config_model.specs.Faults.{Fault, ◌>>=◌, kept}
 use Rattle.config_model.specs.Fields.{object_at, in_member, whole_at, name_at, name_but_at, address_at, only_at, all_at}
 
--- the number of an autonomous system, 23456 being reserved (RFC 6793)
+-- the number of an autonomous system
 unfoldable pub as_at : List ℕ → Data → Result ℕ Fault
 as_at path d = do
-  n ← whole_at 1 65534 path d
-  kept path (not (n == 23456)) n
+  n ← whole_at 1 4294967294 path d
+  kept path (not (is_reserved_as n)) n
 
 -- the address of a node: 1.0.0.0 to 223.255.255.255
 abbrev pub node_address_at : List ℕ → Data → Result Addr Fault

@@ -1,9 +1,7 @@
 //! Reading configurations.
-ghost use Rattle.std.specs.Prelude.{◌≡◌, [], codes, List, ℕ, Bool, IsTrue, Result, IfOk};
-ghost use Rattle.serde_json.specs.Data.{Data};
+ghost use Rattle.std.specs.Prelude.{[], IsTrue, Result, IfOk};
 ghost use Rattle.serde_json.specs.View.{view};
-ghost use Rattle.config_model.specs.Paths.{place_text};
-ghost use Rattle.config_model.specs.Faults.{Gives, Fault};
+ghost use Rattle.config_model.specs.Faults.{Gives};
 ghost use Rattle.config_model.specs.Form.{has_network_form, has_port_form, has_policy_form, has_service_form};
 ghost use Rattle.config_model.specs.Form.{has_chain_form, has_config_form};
 ghost use Rattle.config_model.specs.Config.{network_at, port_at, policy_at, service_at, chain_at, config_at};

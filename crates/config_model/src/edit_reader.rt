@@ -1,10 +1,8 @@
 //! Reading edits.
-ghost use Rattle.std.specs.Prelude.{◌≡◌, [], List, ℕ, Bool, IsTrue, Result, IfOk};
-ghost use Rattle.serde_json.specs.Data.{Data};
+ghost use Rattle.std.specs.Prelude.{◌≡◌, [], IsTrue, Result, IfOk};
 ghost use Rattle.serde_json.specs.View.{view};
-ghost use Rattle.ov_types.specs.Name.{is_name};
 ghost use Rattle.config_model.specs.Paths.{place_text};
-ghost use Rattle.config_model.specs.Faults.{Gives, Fault};
+ghost use Rattle.config_model.specs.Faults.{Gives};
 ghost use Rattle.config_model.specs.Edit.{kind_named, kind_at, object_of_kind_at, put_at, delete_at, edit_at};
 ghost use Rattle.config_model.specs.Edit.{has_object_form, has_edit_form};
 

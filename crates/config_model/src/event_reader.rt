@@ -1,11 +1,10 @@
 //! Reading events, and what `run` takes.
-ghost use Rattle.std.specs.Prelude.{◌≡◌, [], List, ℕ, Bool, IsTrue, Result, IfOk, option_map, ◌&&◌};
+ghost use Rattle.std.specs.Prelude.{◌≡◌, [], IsTrue, Result, IfOk, option_map, ◌&&◌};
 ghost use Rattle.std.specs.List.{list_all};
-ghost use Rattle.serde_json.specs.Data.{Data};
 ghost use Rattle.serde_json.specs.View.{view, items_view};
 ghost use Rattle.ov_types.specs.Name.{is_name};
 ghost use Rattle.config_model.specs.Paths.{place_text};
-ghost use Rattle.config_model.specs.Faults.{Gives, Fault};
+ghost use Rattle.config_model.specs.Faults.{Gives};
 ghost use Rattle.config_model.specs.Form.{has_topology_form, has_config_form};
 ghost use Rattle.config_model.specs.Event.{two_names_at, three_of, three_at, deliver_at, event_from, event_named};
 ghost use Rattle.config_model.specs.Event.{event_of_text, event_at, events_at, run_at, has_event_form};

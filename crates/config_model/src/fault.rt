@@ -68,7 +68,7 @@ impl<T: Drop> From<AllocFailed<T>> for ReadRefusal {
 
 /// Where a value stands: the whole value, a member of the object at a place, or an item of the list at a place.
 #[derive(Clone, Copy)]
-pub(crate) enum Place<'a> {
+pub enum Place<'a> {
     Whole,
     Member(&'a Place<'a>, &'a str),
     Item(&'a Place<'a>, usize),
@@ -93,7 +93,7 @@ impl Place<'_> {
     }
 
     /// The refusal of what stands here. Only now is the path made.
-    pub(crate) fn fault(&self, alloc: Global, kind: DocKind) -> ReadRefusal
+    pub fn fault(&self, alloc: Global, kind: DocKind) -> ReadRefusal
         ensures { IsFault result (record { path = place_text self.now; kind = kind }) }
     {
         match self.text(alloc) {

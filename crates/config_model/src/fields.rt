@@ -1,11 +1,11 @@
 //! Members of objects and items of lists.
-ghost use Rattle.std.specs.Prelude.{◌≡◌, ◌&&◌, not, ⊤, ◌∷◌, [], List, ℕ, Bool, IsTrue, length, map, string_bytes};
+ghost use Rattle.std.specs.Prelude.{◌≡◌, ◌&&◌, ⊤, [], List, ℕ, Bool, IsTrue, length, map};
 ghost use Rattle.std.specs.Prelude.{option_map, nat_eq, Result, IfOk, ◌≤◌};
 ghost use Rattle.std.specs.Cmp.Lexicographic.{pointwise};
 ghost use Rattle.std.specs.List.{list_any, list_all};
 ghost use Rattle.serde_json.specs.Data.{Data};
 ghost use Rattle.serde_json.specs.View.{view, members_view, items_view};
-ghost use Rattle.config_model.specs.Paths.{place_text, member_path, item_path};
+ghost use Rattle.config_model.specs.Paths.{place_text};
 ghost use Rattle.config_model.specs.Faults.{Gives, Fault};
 ghost use Rattle.config_model.specs.Form.{is_from_to};
 ghost use Rattle.config_model.specs.Fields.{member_at, in_member, object_at, text_at, list_at, whole_at, only_at};
@@ -17,7 +17,7 @@ use serde_json::{Map, Value};
 use std::alloc::Global;
 
 /// What is read from a value of a document.
-pub(crate) trait FromDocument: Drop {
+pub trait FromDocument: Drop {
     /// What is read from a value at a path.
     ghost reads: { List ℕ → Data → Result Self Fault };
 
@@ -31,7 +31,7 @@ pub(crate) trait FromDocument: Drop {
 
 /// How many items a list may have.
 #[derive(Clone, Copy)]
-pub(crate) enum Count {
+pub enum Count {
     AnyNumber,
     AtLeastOne,
     OneOrTwo,
@@ -53,7 +53,7 @@ impl Count {
 
 /// A member that has to be there.
 #[tactic(auto, unfolding(crate::specs::Fields::member_at))]
-pub(crate) fn member_of<'v>(
+pub fn member_of<'v>(
     alloc: Global,
     place: &Place<'_>,
     name: &str,
@@ -69,7 +69,7 @@ pub(crate) fn member_of<'v>(
 
 /// What is read from a member that has to be there.
 #[tactic(auto, unfolding(crate::specs::Fields::in_member))]
-pub(crate) fn read_member<T: FromDocument>(
+pub fn read_member<T: FromDocument>(
     alloc: Global,
     place: &Place<'_>,
     name: &str,
@@ -82,8 +82,9 @@ pub(crate) fn read_member<T: FromDocument>(
     T::read(alloc, &Place::Member(place, name), found)
 }
 
+/// The members of an object.
 #[tactic(auto, unfolding(crate::specs::Fields::object_at))]
-pub(crate) fn object_of<'v>(
+pub fn object_of<'v>(
     alloc: Global,
     place: &Place<'_>,
     value: &'v Value,
@@ -96,8 +97,9 @@ pub(crate) fn object_of<'v>(
     }
 }
 
+/// A text.
 #[tactic(auto, unfolding(crate::specs::Fields::text_at))]
-pub(crate) fn text_of<'v>(
+pub fn text_of<'v>(
     alloc: Global,
     place: &Place<'_>,
     value: &'v Value,
@@ -112,7 +114,7 @@ pub(crate) fn text_of<'v>(
 
 /// A whole number from low to high.
 #[tactic(auto, unfolding(crate::specs::Fields::whole_at))]
-pub(crate) fn whole_of(
+pub fn whole_of(
     alloc: Global,
     place: &Place<'_>,
     low: u64,
@@ -144,8 +146,9 @@ pub(crate) fn whole_of(
     }
 }
 
+/// A whole number from low to high, in a member that has to be there.
 #[tactic(auto, unfolding(crate::specs::Fields::in_member))]
-pub(crate) fn whole_member(
+pub fn whole_member(
     alloc: Global,
     place: &Place<'_>,
     name: &str,
@@ -164,7 +167,7 @@ pub(crate) fn whole_member(
 
 /// The first member that is none of these is a fault.
 #[tactic(auto, unfolding(crate::specs::Fields::only_at))]
-pub(crate) fn check_others(
+pub fn check_others(
     alloc: Global,
     place: &Place<'_>,
     known: &[&str],
@@ -197,9 +200,9 @@ fn is_among(known: &[&str], name: &str) -> bool
     known.iter().any(|k| *k == name)
 }
 
-/// A list of a number of items that is allowed.
+/// The items of a list of a number that is allowed, unread.
 #[tactic(auto, unfolding(crate::specs::Fields::list_at))]
-fn list_of<'v>(
+pub fn list_of<'v>(
     alloc: Global,
     place: &Place<'_>,
     count: Count,
@@ -223,7 +226,7 @@ fn list_of<'v>(
 
 /// Each item of a list, in order.
 #[tactic(auto, unfolding(crate::specs::Fields::all_at))]
-pub(crate) fn read_list<T: FromDocument>(
+pub fn read_list<T: FromDocument>(
     alloc: Global,
     place: &Place<'_>,
     count: Count,
@@ -237,8 +240,9 @@ pub(crate) fn read_list<T: FromDocument>(
     items_of(alloc, place, values)
 }
 
+/// A list in a member that has to be there.
 #[tactic(auto, unfolding(crate::specs::Fields::in_member))]
-pub(crate) fn list_member<T: FromDocument>(
+pub fn list_member<T: FromDocument>(
     alloc: Global,
     place: &Place<'_>,
     name: &str,
@@ -256,7 +260,7 @@ pub(crate) fn list_member<T: FromDocument>(
 
 /// A list that may be absent, which is read as empty.
 #[tactic(auto, unfolding(crate::specs::Fields::optional_all))]
-pub(crate) fn optional_list_member<T: FromDocument>(
+pub fn optional_list_member<T: FromDocument>(
     alloc: Global,
     place: &Place<'_>,
     name: &str,
@@ -271,7 +275,8 @@ pub(crate) fn optional_list_member<T: FromDocument>(
     }
 }
 
-fn items_of<T: FromDocument>(
+/// Each of these items, in order.
+pub fn items_of<T: FromDocument>(
     alloc: Global,
     place: &Place<'_>,
     values: &[Value],

@@ -1,10 +1,9 @@
 //! Reading packets, and what the commands take.
-ghost use Rattle.std.specs.Prelude.{◌≡◌, [], codes, List, ℕ, Bool, IsTrue, Result, IfOk};
+ghost use Rattle.std.specs.Prelude.{[], IsTrue, Result, IfOk};
 ghost use Rattle.std.specs.List.{list_all};
-ghost use Rattle.serde_json.specs.Data.{Data};
 ghost use Rattle.serde_json.specs.View.{view};
 ghost use Rattle.config_model.specs.Paths.{place_text};
-ghost use Rattle.config_model.specs.Faults.{Gives, Fault};
+ghost use Rattle.config_model.specs.Faults.{Gives};
 ghost use Rattle.config_model.specs.Form.{has_topology_form, has_config_form, has_packet_form};
 ghost use Rattle.config_model.specs.Input.{packet_at, compile_at, reach_at};
 

@@ -14,6 +14,7 @@ mod fields;
 mod input;
 mod laws;
 mod one_member;
+pub mod reading;
 mod rule_reader;
 mod topology;
 mod topology_reader;

@@ -1,5 +1,5 @@
 //! Objects that have exactly one member.
-ghost use Rattle.std.specs.Prelude.{◌≡◌, string_bytes, option_map};
+ghost use Rattle.std.specs.Prelude.{◌≡◌, option_map};
 ghost use Rattle.serde_json.specs.View.{view, members_view};
 ghost use Rattle.config_model.specs.Paths.{place_text};
 ghost use Rattle.config_model.specs.Faults.{Gives};
@@ -24,7 +24,7 @@ fn only_member<'v>(members: &'v Map<String, Value>) -> Option<(&'v str, &'v Valu
 
 /// The name and the value of the one member of an object.
 #[tactic(auto, unfolding(crate::specs::OneMember::one_member_at))]
-pub(crate) fn one_member_of<'v>(
+pub fn one_member_of<'v>(
     alloc: Global,
     place: &Place<'_>,
     value: &'v Value,

@@ -1,9 +1,8 @@
 //! Reading rules.
-ghost use Rattle.std.specs.Prelude.{◌≡◌, codes, true, List, ℕ, Bool, IsTrue, Result, IfOk, nat_le, map};
-ghost use Rattle.serde_json.specs.Data.{Data};
+ghost use Rattle.std.specs.Prelude.{◌≡◌, true, IsTrue, Result, IfOk, nat_le};
 ghost use Rattle.serde_json.specs.View.{view, members_view};
 ghost use Rattle.config_model.specs.Paths.{place_text};
-ghost use Rattle.config_model.specs.Faults.{Gives, Fault};
+ghost use Rattle.config_model.specs.Faults.{Gives};
 ghost use Rattle.config_model.specs.Form.{is_range, has_end_form, has_protocol_form, has_action_form, has_rule_form};
 ghost use Rattle.config_model.specs.Fields.{in_member, text_at, only_at};
 ghost use Rattle.config_model.specs.Rule.{direction_of, direction_at, end_at, protocol_at, port_number_at, range_at};

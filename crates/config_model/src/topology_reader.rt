@@ -1,14 +1,13 @@
 //! Reading topologies.
-ghost use Rattle.std.specs.Prelude.{◌≡◌, [], codes, List, ℕ, Bool, IsTrue, Result, IfOk, ◌≤◌};
-ghost use Rattle.serde_json.specs.Data.{Data};
+ghost use Rattle.std.specs.Prelude.{◌≡◌, [], IsTrue, Result, IfOk};
 ghost use Rattle.serde_json.specs.View.{view};
 ghost use Rattle.config_model.specs.Paths.{place_text};
-ghost use Rattle.config_model.specs.Faults.{Gives, Fault};
-ghost use Rattle.config_model.specs.Form.{is_as_number, has_controller_form, has_node_form, has_topology_form};
+ghost use Rattle.config_model.specs.Faults.{Gives};
+ghost use Rattle.config_model.specs.Form.{is_as_number, is_reserved_as, has_controller_form, has_node_form, has_topology_form};
 ghost use Rattle.config_model.specs.Fields.{in_member};
 ghost use Rattle.config_model.specs.Topology.{as_at, controller_at, node_at, topology_at};
 
-use crate::bounds::{FIRST_NODE_ADDRESS, LAST_AS, LAST_NODE_ADDRESS, RESERVED_AS};
+use crate::bounds::{FIRST_NODE_ADDRESS, LAST_AS, LAST_NODE_ADDRESS, LAST_SHORT_AS, STAND_IN_AS};
 use crate::fault::{DocKind, Place, ReadRefusal};
 use crate::fields::{
     Count, FromDocument, check_others, list_member, member_of, object_of, whole_of,
@@ -19,6 +18,13 @@ use ov_types::{Name, NodeId};
 use serde_json::Value;
 use std::alloc::Global;
 
+/// Whether no autonomous system has a number, although it lies within the bounds.
+fn is_reserved_as(n: u64) -> bool
+    ensures { result ≡ is_reserved_as n }
+{
+    n == STAND_IN_AS || n == LAST_SHORT_AS
+}
+
 /// The number of an autonomous system.
 #[tactic(auto, unfolding(crate::specs::Topology::as_at))]
 fn as_of(alloc: Global, place: &Place<'_>, value: &Value) -> Result<u32, ReadRefusal>
@@ -26,7 +32,7 @@ fn as_of(alloc: Global, place: &Place<'_>, value: &Value) -> Result<u32, ReadRef
     ensures form { IfOk result (λ n. IsTrue (is_as_number n)) }
 {
     let number = whole_of(alloc, place, 1, LAST_AS, value)?;
-    if number == RESERVED_AS {
+    if is_reserved_as(number) {
         return Err(place.fault(alloc, DocKind::Range));
     }
     Ok(number as u32)

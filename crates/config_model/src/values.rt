@@ -1,11 +1,10 @@
 //! Names, addresses and prefixes.
-ghost use Rattle.std.specs.Prelude.{◌≡◌, ◌&&◌, not, List, ℕ, Bool, IsTrue, Result, IfOk, nat_eq};
+ghost use Rattle.std.specs.Prelude.{◌&&◌, not, IsTrue, Result, IfOk, nat_eq};
 ghost use Rattle.std.specs.Cmp.Lexicographic.{pointwise};
-ghost use Rattle.serde_json.specs.Data.{Data};
 ghost use Rattle.serde_json.specs.View.{view};
 ghost use Rattle.ov_types.specs.Name.{is_name};
 ghost use Rattle.config_model.specs.Paths.{place_text};
-ghost use Rattle.config_model.specs.Faults.{Gives, Fault};
+ghost use Rattle.config_model.specs.Faults.{Gives};
 ghost use Rattle.config_model.specs.Form.{is_from_to, is_block};
 ghost use Rattle.config_model.specs.Fields.{in_member, name_at, name_but_at, address_at, prefix_at};
 
@@ -49,8 +48,9 @@ fn name_but_of(
     Ok(name)
 }
 
+/// A name that is not the reserved one, in a member that has to be there.
 #[tactic(auto, unfolding(crate::specs::Fields::in_member))]
-pub(crate) fn name_but_member(
+pub fn name_but_member(
     alloc: Global,
     place: &Place<'_>,
     name: &str,
@@ -84,8 +84,9 @@ fn address_of(
     }
 }
 
+/// An address from low to high, in a member that has to be there.
 #[tactic(auto, unfolding(crate::specs::Fields::in_member))]
-pub(crate) fn address_member(
+pub fn address_member(
     alloc: Global,
     place: &Place<'_>,
     name: &str,

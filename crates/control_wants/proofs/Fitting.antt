@@ -1,5 +1,5 @@
 -- What is wanted can be told where what is held can.
-use Rattle.std.specs.Prelude.{◌≡◌, ◌≤◌, ◌<◌, ◌^◌, ◌+◌, ◌*◌, ◌-◌, ◌&&◌, ◌==◌, ℕ, suc, List, [], ◌∷◌, ◌++◌, map, length, Bool, true, false, nat_le, is_some, IsTrue}
+use Rattle.std.specs.Prelude.{◌≡◌, ◌≤◌, ◌<◌, ◌^◌, ◌+◌, ◌*◌, ◌-◌, ◌&&◌, ℕ, suc, List, [], ◌∷◌, ◌++◌, map, length, Bool, true, false, nat_le, is_some, IsTrue}
 use Rattle.std.specs.declared.option.Option.{Option}
 use Rattle.std.specs.declared.option.Option.TheVariants.{Some, None}
 use Rattle.std.specs.List.{AllByRecursion, filter, filter_map, flat_map, enumerate_from}
@@ -9,7 +9,6 @@ use Rattle.std.proofs.lemmas.Grind.{common_steps}
 use Rattle.std.proofs.lemmas.Option.{same_Some}
 use Rattle.std.proofs.Common.{refl, sym, ◌∙◌, ap, subst, inl, inr, arith}
 use Rattle.ov_sync.specs.Keyed.{Values}
-use Rattle.ov_sync.specs.declared.Delta.TheVariants.{Put}
 use Rattle.ov_types.specs.Prefix.{Block}
 use Rattle.ov_types.specs.Targets.{is_target}
 use Rattle.ov_types.specs.declared.numbers.InstanceId.{InstanceId}
@@ -27,14 +26,14 @@ use Rattle.item_wire.specs.Ranges.{is_in_range, is_instance, is_attached_label}
 use Rattle.item_wire.specs.Entries.{is_from_to}
 use Rattle.item_wire.specs.declared.item.Item.{Item}
 use Rattle.item_wire.specs.declared.item.Item.TheVariants as I
-use Rattle.node_items.specs.Told.{AllFit, Fits, KeyFits, CanBeTold}
+use Rattle.node_items.specs.Told.{AllFit, Fits}
 use Rattle.node_model.specs.Members.{Member}
 use Rattle.node_model.specs.Keys.{Key, Low, Vpn, Row, Publish, Subscribe}
 use Rattle.node_model.specs.Values.{Value, Object, Route, Entry, Label}
 use Rattle.node_model.specs.Maps.{Map, objects}
 use Rattle.node_model.specs.Uses.{Use, as_use, imports, uses}
 use Rattle.node_model.specs.Paths.{Holdings, Told, Path, IsPublishedHere, has_target, own_paths, peer_path, peer_paths, received}
-use Rattle.node_model.specs.Reaching.{Side, circuit_at, hop_at, reoriginated, sides}
+use Rattle.node_model.specs.Reaching.{Side, circuit_at, hop_at, reoriginated}
 use Rattle.node_model.specs.Tables.{paths_of, table}
 use Rattle.node_model.specs.Wants.{route_entry, rows_of, slice, slice_entry, subscriptions, wanted_by_agent, wanted_by_peers}
 use Rattle.node_model.proofs.Members.{none_some, in_either, from_map, from_filter, from_filter_map, from_flat_map, get_member, from_entry}
@@ -47,27 +46,27 @@ use Rattle.node_peers.specs.Told.{IsWritable}
 use Rattle.control_wants.specs.Held.{HoldingsFit, RouteFits}
 
 -- ---- members of what is held
-all_at : {X : Type 0} (P : X → Type 0) (x : X) (xs : List X) → AllByRecursion P xs → Member x xs → P x
+pub all_at : {X : Type 0} (P : X → Type 0) (x : X) (xs : List X) → AllByRecursion P xs → Member x xs → P x
 all_at P x [] all m = absurd m
 all_at P x (y ∷ xs) all (inl e) = subst P e all.0
 all_at P x (y ∷ xs) all (inr m) = all_at P x xs all.1 m
 
-numbered : {X : Type 0} (n : ℕ) (xs : List X) (p : ℕ × X) → Member p (enumerate_from n xs) → Member p.1 xs
+pub numbered : {X : Type 0} (n : ℕ) (xs : List X) (p : ℕ × X) → Member p (enumerate_from n xs) → Member p.1 xs
 numbered n [] p m = absurd m
 numbered n (x ∷ xs) p (inl e) = inl (λ i. (e i).1)
 numbered n (x ∷ xs) p (inr m) = inr (numbered (n + 1) xs p m)
 
 -- ---- numbers within their ranges
-within : (low high n : ℕ) → is_from_to low high n ≡ true → n ≤ high
+pub within : (low high n : ℕ) → is_from_to low high n ≡ true → n ≤ high
 within low high n e = leb-true n high (and_parts (nat_le low n) (nat_le n high) e).1
 
-instance_small : (i : InstanceId) → IsTrue (is_instance i.0) → i.0 < 2 ^ 16
+pub instance_small : (i : InstanceId) → IsTrue (is_instance i.0) → i.0 < 2 ^ 16
 instance_small i h = let small : i.0 ≤ 65535 = within 1 65535 i.0 h in omega arith
 
 label_small : (l : LabelNo) → IsTrue (is_attached_label l.0) → l.0 < 2 ^ 20
 label_small l h = let small : l.0 ≤ 655358 = within 16 655358 l.0 h in omega arith
 
-targets_are : (asn : ℕ) (i : InstanceId) → asn ≤ 65535 → i.0 < 2 ^ 16 → IsTrue (is_target (target_of asn i).0)
+targets_are : (asn : ℕ) (i : InstanceId) → asn < 2 ^ 32 → i.0 < 2 ^ 16 → IsTrue (is_target (target_of asn i).0)
 targets_are asn i a h = grind (arith, common_steps)
 
 -- ---- publications
@@ -109,7 +108,7 @@ use_fits feed u fit m =
     let q = from_filter_map (λ (e : LowKey × LowValue). as_use e.0 e.1) u (objects feed) m in
     use_parts q.0.0 q.0.1 u q.2 (fit (Low q.0.0) (Object q.0.1) (object_of feed q.0.0 q.0.1 q.1))
 
-hop_small : (s : Side) (d : ℕ) → s.chain.number ≤ 3071 → s.chain.services ≤ 15 → d ≤ s.chain.services → (hop_at s d).0 < 2 ^ 16
+pub hop_small : (s : Side) (d : ℕ) → s.chain.number ≤ 3071 → s.chain.services ≤ 15 → d ≤ s.chain.services → (hop_at s d).0 < 2 ^ 16
 hop_small s d number services h =
     elim s.is_right as (λ b. (hop_at (record { chain = s.chain; is_right = b }) d).0 < 2 ^ 16) [
       | true ↦ bound s.chain.number (s.chain.services - d) number (omega arith)
@@ -160,7 +159,7 @@ as_route (Label l) = None
 told_route : Path → VpnRoute
 told_route p = record { next_hop = p.next_hop; label = p.label; targets = p.targets }
 
-writable : (asn : ℕ) (p : Path) → asn ≤ 65535 → IsTellable asn p → IsWritable (told_route p)
+writable : (asn : ℕ) (p : Path) → asn < 2 ^ 32 → IsTellable asn p → IsWritable (told_route p)
 unfolding told_route
 writable asn p small t = record {
   few = subst (λ (l : List _). length l ≤ 31) (sym t.targets) (omega arith);
@@ -168,7 +167,7 @@ writable asn p small t = record {
   label = t.label;
 }
 
-pub peers_fit : (h : Holdings) → h.asn ≤ 65535 → HoldingsFit h → (k : VpnKey) (r : VpnRoute) → get (wanted_by_peers h) (Vpn k) ≡ Some (Route r) → IsWritable r
+pub peers_fit : (h : Holdings) → h.asn < 2 ^ 32 → HoldingsFit h → (k : VpnKey) (r : VpnRoute) → get (wanted_by_peers h) (Vpn k) ≡ Some (Route r) → IsWritable r
 unfolding told_route as_route
 peers_fit h small fit k r e =
     let m = from_entry key_total key_exact (Vpn k) (Route r) (map route_entry (own_paths h ++ reoriginated h)) e in

@@ -1,16 +1,12 @@
 -- What is wanted, from the typed entries.
 use Rattle.std.specs.Prelude.{◌≡◌, List, [], ◌∷◌, ◌++◌, map}
-use Rattle.std.specs.declared.cmp.Ordering.{Ordering}
-use Rattle.std.specs.Cmp.{IsTotalOrder, on_total}
 use Rattle.std.specs.List.{flat_map}
 use Rattle.std.specs.FinMap.{FinMap, entries, from_entries}
-use Rattle.std.proofs.Common.{refl, sym, ◌∙◌, ap, subst, rules}
+use Rattle.std.proofs.Common.{refl, sym, ◌∙◌, ap}
 use Rattle.ov_sync.specs.Embed.{embedded, moved_entry}
 use Rattle.ov_sync.specs.Keyed.{map_of}
-use Rattle.ov_types.specs.Keys.{down_key_cmp}
 use Rattle.ov_types.specs.Prefix.{Block}
 use Rattle.ov_types.specs.declared.keys.DownKey.{DownKey}
-use Rattle.ov_types.specs.declared.keys.DownKey.TheVariants as Down
 use Rattle.ov_types.specs.declared.keys.DownValue.{DownValue}
 use Rattle.ov_types.specs.declared.numbers.InstanceId.{InstanceId}
 use Rattle.ov_types.specs.declared.objects.LowKey.{LowKey}
@@ -26,12 +22,11 @@ use Rattle.node_model.specs.Paths.{Holdings, Path, Told, own_paths}
 use Rattle.node_model.specs.Reaching.{reoriginated}
 use Rattle.node_model.specs.Tables.{table, table_row}
 use Rattle.node_model.specs.Wants.{route_entry, rows_of, slice, slice_entry, subscriptions, wanted_by_agent, wanted_by_peers}
-use Rattle.node_model.proofs.Images as images
+use Rattle.node_model.proofs.Directions.{down_keeps, down_total, vpn_total, vpn_keeps}
 use Rattle.node_model.proofs.Orders.{key_total}
 use Rattle.vpn_tables.specs.Views.{peer_of, vpn_order}
-use Rattle.vpn_tables.proofs.Images.{vpn_total}
 use Rattle.chain_reorigin.specs.Told.{told_path}
-use Rattle.chain_reorigin.proofs.Telling.{entries_all, vpn_keeps}
+use Rattle.chain_reorigin.proofs.Telling.{entries_all}
 use Rattle.control_wants.specs.Entries.{shown_row, shown_rows, told_object, told_row, told_rows}
 use Rattle.control_wants.proofs.Counting.{embedded_first, put_again}
 
@@ -52,18 +47,6 @@ peers_wanted h es own led first own_is led_is =
     ∙ ap (λ (l : List (Key × Value)). from_entries {R = key_cmp} l) (sym (map-append route_entry (own_paths h) (reoriginated h)))
 
 -- ---- towards an agent
-down_same : (a b : DownKey) → down_key_cmp a b ≡ down_order a b
-down_same (Down.Slice a) (Down.Slice b) = search rules
-down_same (Down.Slice a) (Down.Route j q) = refl
-down_same (Down.Route i p) (Down.Slice b) = refl
-down_same (Down.Route i p) (Down.Route j q) = search rules
-
-down_keeps : (a b : DownKey) → key_cmp (of_down a) (of_down b) ≡ down_order a b
-down_keeps a b = images.down_keeps a b ∙ down_same a b
-
-down_total : IsTotalOrder down_order
-down_total = subst IsTotalOrder (λ i x y. down_keeps x y i) (on_total of_down key_total)
-
 objects_moved : (es : List (LowKey × LowValue)) → map (moved_entry of_down down_value) (map told_object es) ≡ map slice_entry es
 objects_moved [] = refl
 objects_moved (e ∷ es) = ap (λ (l : List (Key × Value)). slice_entry e ∷ l) (objects_moved es)

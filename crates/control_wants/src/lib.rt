@@ -2,7 +2,6 @@
 #![tactic(auto)]
 
 mod entries;
-mod first;
 pub mod laws;
 mod wants;
 

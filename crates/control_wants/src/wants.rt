@@ -7,8 +7,8 @@ ghost use Rattle.vpn_tables.specs.Views.{peer_of};
 ghost use Rattle.control_wants.specs.Held.{told_in};
 
 use crate::entries::{push_shown, push_tables, told_objects, told_routes};
-use crate::first::first_of_each;
 use chain_reorigin::reoriginated;
+use ov_sync::first_of_each;
 use ov_types::{ControlRows, DownKey, DownValue, Items, NoMemory, VpnKey, VpnRoute};
 use std::alloc::Global;
 use std::collections::BTreeMap;

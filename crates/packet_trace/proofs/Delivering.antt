@@ -1,5 +1,5 @@
 -- Delivered packets: their services, their lookups, and the ports that they reach.
-use Rattle.std.proofs.Common.{◌≡◌, ◌==◌, ℕ, zero, suc, ◌+◌, ◌<◌, ◌≤◌, ◌++◌, Bool, List, [], ◌∷◌, Option, Some, None, option_map, map, length, find, refl, sym, ap, ◌∙◌, subst, append_assoc, append-nil, length-append, arith}
+use Rattle.std.proofs.Common.{◌≡◌, ◌==◌, ℕ, zero, suc, ◌+◌, ◌≤◌, ◌++◌, Bool, List, [], ◌∷◌, Option, Some, None, option_map, length, find, refl, sym, ap, ◌∙◌, append_assoc, append-nil, length-append, arith}
 use Rattle.std.proofs.lemmas.List.{length-map}
 use Rattle.std.specs.List.{Any, Contains, filter_map}
 use Rattle.ov_types.specs.Access.{verdict}
@@ -8,8 +8,7 @@ use Rattle.ov_types.specs.declared.numbers.InstanceId.{InstanceId}
 use Rattle.ov_types.specs.declared.numbers.Label.{Label}
 use Rattle.ov_types.specs.declared.numbers.PortNo.{PortNo}
 use Rattle.ov_types.specs.declared.numbers.ServiceNo.{ServiceNo}
-use Rattle.ov_types.specs.declared.packet.Outcome.{Outcome}
-use Rattle.ov_types.specs.declared.packet.Outcome.TheVariants.{Delivered, Dropped}
+use Rattle.ov_types.specs.declared.packet.Outcome.TheVariants.{Delivered}
 use Rattle.ov_types.specs.declared.packet.Packet.{Packet}
 use Rattle.ov_types.specs.declared.prefix.Addr.{Addr}
 use Rattle.ov_types.specs.declared.rows.AgentRows.{AgentRows}
@@ -19,7 +18,7 @@ use Rattle.ov_types.specs.declared.rows.Entry.{Entry}
 use Rattle.ov_types.specs.declared.verdict.Verdict.{Verdict}
 use Rattle.ov_types.specs.declared.verdict.Verdict.TheVariants as Says
 use Rattle.ov_types.proofs.FirstLemmas.{any_of, found_is}
-use Rattle.route_targets.specs.Forwarding.{Forwarder, admitted, agent_at, attached, departed, followed, forwarding, looked_up, source_at, walk}
+use Rattle.route_targets.specs.Forwarding.{Forwarder, admitted, agent_at, attached, departed, forwarding, looked_up, source_at, walk}
 use Rattle.packet_trace.specs.Lookups.{Arrives, Leading, Lookup, Passes, Stops, hop_of, hops_of, leading, leading_at, leading_by, leading_to, lookups, lookups_at, lookups_by, lookups_from, on_from, service_of}
 use Rattle.packet_trace.specs.Ports.{HasPort}
 use Rattle.packet_trace.proofs.Walks.{by_route, outcome_by}

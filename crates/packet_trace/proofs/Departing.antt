@@ -1,11 +1,11 @@
 -- A packet that leaves its source.
-use Rattle.std.proofs.Common.{◌≡◌, ℕ, List, [], ◌∷◌, Option, Some, None, option_map, map, refl, sym, ap, ◌∙◌, subst}
+use Rattle.std.proofs.Common.{◌≡◌, List, [], Option, Some, None, option_map, map, sym, ap, ◌∙◌, subst}
 use Rattle.std.specs.List.{slice_get}
 use Rattle.ov_types.specs.Access.{verdict}
 use Rattle.ov_types.specs.First.{first_of}
 use Rattle.ov_types.specs.declared.numbers.InstanceId.{InstanceId}
 use Rattle.ov_types.specs.declared.packet.Outcome.{Outcome}
-use Rattle.ov_types.specs.declared.packet.Outcome.TheVariants.{Delivered, Dropped}
+use Rattle.ov_types.specs.declared.packet.Outcome.TheVariants.{Dropped}
 use Rattle.ov_types.specs.declared.packet.Packet.{Packet}
 use Rattle.ov_types.specs.declared.packet.RuleNo.{RuleNo}
 use Rattle.ov_types.specs.declared.packet.Why.TheVariants as Why

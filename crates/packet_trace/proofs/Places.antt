@@ -1,7 +1,7 @@
 -- Places of a list, and the first of its items.
-use Rattle.std.proofs.Common.{◌≡◌, ℕ, zero, suc, ◌+◌, ◌<◌, ◌≤◌, Bool, true, false, cond, List, [], ◌∷◌, Option, Some, None, option_map, map, find, length, get_or, set, drop, refl, sym, ap, ◌∙◌, ◌++◌, length-append, add-one, arith}
+use Rattle.std.proofs.Common.{◌≡◌, ℕ, zero, suc, ◌+◌, ◌<◌, ◌≤◌, Bool, true, false, List, [], ◌∷◌, Option, Some, None, map, find, length, get_or, set, drop, refl, sym, ap, ◌∙◌, ◌++◌, length-append, add-one, arith}
 use Rattle.std.specs.List.{slice_get}
-use Rattle.ov_types.specs.First.{◌<|>◌, first_of}
+use Rattle.ov_types.specs.First.{first_of}
 
 pub mapped_at : {A B : Type 0} (f : A → B) (xs : List A) (k : ℕ) (x : A) → k < length xs → x ≡ get_or xs k x → slice_get (map f xs) k ≡ Some (f x)
 mapped_at f [] k x lt is = absurd (omega arith)

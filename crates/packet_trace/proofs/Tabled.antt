@@ -1,5 +1,5 @@
 -- The tables of instances, and entries put among others.
-use Rattle.std.proofs.Common.{◌≡◌, ◌==◌, ℕ, zero, suc, ◌<◌, ◌≤◌, ◌+◌, ◌++◌, Bool, true, false, cond, not, List, [], ◌∷◌, Option, Some, None, option_map, map, filter, length, drop, get_or, refl, sym, ap, ◌∙◌, subst, eq-eqb, append-nil, add-one, drop-cons, arith}
+use Rattle.std.proofs.Common.{◌≡◌, ◌==◌, ℕ, ◌<◌, ◌≤◌, ◌+◌, ◌++◌, true, false, cond, not, List, [], ◌∷◌, Option, Some, None, option_map, length, drop, get_or, refl, sym, ap, ◌∙◌, subst, append-nil, drop-cons, arith}
 use Rattle.std.specs.List.{All, filter_map, cons_option}
 use Rattle.std.specs.Prelude.{OnOk, OnErr}
 use Rattle.std.specs.declared.result.Result.{Result}
@@ -91,9 +91,6 @@ by_table a i ts = ap (λ (l : List (Block × Entry)). option_map (λ (r : Block 
 
 pub here_is : (i : InstanceId) (ts : List (InstanceId × List (Block × Entry))) (k : ℕ) (t : InstanceId × List (Block × Entry)) → k < length ts → t ≡ get_or ts k t → (t.0.0 == i.0) ≡ true → table_of (drop k ts) i ≡ t.1
 here_is i ts k t lt at e = rw (drop-cons ts k t lt, sym at, e) refl
-
-pub not_here : (i : InstanceId) (ts : List (InstanceId × List (Block × Entry))) (k : ℕ) (t : InstanceId × List (Block × Entry)) → k < length ts → t ≡ get_or ts k t → (t.0.0 == i.0) ≡ false → table_of (drop k ts) i ≡ table_of (drop (k + 1) ts) i
-not_here i ts k t lt at e = rw (add-one, drop-cons ts k t lt, sym at, e) refl
 
 -- a walk over the tables
 

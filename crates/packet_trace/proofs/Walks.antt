@@ -1,5 +1,5 @@
 -- A lookup of the walk, and those behind it.
-use Rattle.std.proofs.Common.{leb, ◌≤◌, Bool, ◌==◌, length, ◌<◌, subst, append-nil, ◌≡◌, ℕ, zero, suc, ◌++◌, List, [], ◌∷◌, Option, Some, None, option_map, map, refl, sym, ap, ◌∙◌, append_assoc}
+use Rattle.std.proofs.Common.{leb, ◌≤◌, Bool, ◌==◌, subst, append-nil, ◌≡◌, ℕ, suc, ◌++◌, List, [], ◌∷◌, Option, Some, None, option_map, map, refl, sym, ap, ◌∙◌, append_assoc}
 use Rattle.std.specs.List.{All, Contains, find}
 use Rattle.std.specs.List.{slice_get}
 use Rattle.std.proofs.lemmas.Bool.{and_parts, leb-true}

@@ -10,7 +10,7 @@ ghost use Rattle.packet_trace.specs.Steps.{IsWithin, as_leading, forwarder_at, l
 use crate::hops::Hop;
 use crate::vrouter::Vrouter;
 use ov_types::{Addr, Attached, InstanceId, Label, Packet, PortNo, ServiceNo, Verdict, Why};
-use route_targets::{other_side, port_label};
+use route_targets::{circuit_instance, other_side, port_label};
 
 /// A lookup: at the agent in a place of the list, in an instance.
 #[derive(Clone, Copy)]
@@ -79,7 +79,7 @@ fn behind(agent: usize, circuit: u32) -> Place
 {
     Place {
         agent,
-        instance: InstanceId((other_side(circuit) / 2) as u16),
+        instance: circuit_instance(other_side(circuit)),
     }
 }
 

@@ -1,5 +1,5 @@
 -- The numbers that the configuration's own numbers determine. A network's instance has the network's number.
-use Rattle.std.specs.Prelude.{ℕ, ◌+◌, ◌-◌, ◌*◌, ◌/◌, ◌%◌, ◌^◌, ◌==◌, nat_le, if◌then◌else◌, Option, Some, None}
+use Rattle.std.specs.Prelude.{ℕ, ◌+◌, ◌-◌, ◌*◌, ◌/◌, ◌%◌, ◌^◌, ◌==◌, Bool, true, false, nat_le, if◌then◌else◌, Option, Some, None}
 use Rattle.ov_types.specs.declared.prefix.Addr.{Addr}
 use Rattle.ov_types.specs.declared.numbers.InstanceId.{InstanceId}
 use Rattle.ov_types.specs.declared.numbers.PortNo.{PortNo}
@@ -18,9 +18,15 @@ abbrev pub hop_of : InstanceId → Option Hop
 hop_of instance = if nat_le instance.0 16383 then None
     else Some (record { use_no = (instance.0 - 16384) / 16; place = (instance.0 - 16384) % 16 })
 
--- the target of an instance: the octets 00 and 02, two octets of the AS number, and four of 8000000 and the instance
+-- the target of an instance. Where the AS number is short: the octets 00 and 02, two octets of the AS number, and four of
+-- 8000000 and the instance (RFC 4360). Else the octets 02 and 02, four of the AS number, and two of the instance (RFC 5668)
+abbrev target_by : Bool → ℕ → InstanceId → Target
+target_by true asn instance = record { 0 = 0x0002 * 2 ^ 48 + asn * 2 ^ 32 + (8000000 + instance.0) }
+target_by false asn instance = record { 0 = 0x0202 * 2 ^ 48 + asn * 2 ^ 16 + instance.0 }
+
+-- an AS number is short where it is at most the last of two octets that is not reserved
 abbrev pub target_of : ℕ → InstanceId → Target
-target_of asn instance = record { 0 = 2 * 2 ^ 48 + asn * 2 ^ 32 + (8000000 + instance.0) }
+target_of asn instance = target_by (nat_le asn 65534) asn instance
 
 -- the distinguisher of an instance's routes at a node: type 1, the node's address, the instance's number
 abbrev pub distinguisher_of : Addr → InstanceId → Rd

@@ -42,11 +42,11 @@ pub fn circuit_addresses_are_distinct()
         → IsTrue (contains (record { addr = 0xfa00_0000; len = 15 }) (circuit_address_of n).0) }
 {}
 
-/// Targets of different instances differ, and each is a route target.
+/// Targets of different instances or AS numbers differ, both types together, and each is a route target.
 pub fn targets_are_distinct()
     ensures distinct { (a b : ℕ) (i j : InstanceId) → i.0 < 2 ^ 16 → j.0 < 2 ^ 16
         → target_of a i ≡ target_of b j → (a ≡ b) × (i ≡ j) }
-    ensures targets { (a : ℕ) (i : InstanceId) → a < 2 ^ 16 → i.0 < 2 ^ 16 → IsTrue (is_target (target_of a i).0) }
+    ensures targets { (a : ℕ) (i : InstanceId) → a < 2 ^ 32 → i.0 < 2 ^ 16 → IsTrue (is_target (target_of a i).0) }
 {}
 
 /// Distinguishers of different addresses or instances differ.

@@ -36,13 +36,19 @@ pub fn hop_of(i: InstanceId) -> Option<Hop>
     })
 }
 
-/// The route target of an instance: of type 0x00, subtype 0x02, with the AS number and the instance's number
-/// (RFC 4360, section 4).
+/// The greatest AS number of two octets that is not reserved (RFC 7300).
+const LAST_SHORT_AS: u32 = 65_534;
+
+/// The route target of an instance, with the AS number and the instance's number: of type 0x00, subtype 0x02, where the
+/// AS number has two octets (RFC 4360, section 4), else of type 0x02, subtype 0x02 (RFC 5668, section 2).
 pub fn target(asn: u32, i: InstanceId) -> Target
-    requires { asn ≤ 65535 }
     ensures { result ≡ target_of asn i }
 {
-    Target(0x0002_0000_0000_0000 + (u64::from(asn) << 32) + 8_000_000 + u64::from(i.0))
+    if asn <= LAST_SHORT_AS {
+        Target(0x0002_0000_0000_0000 + (u64::from(asn) << 32) + 8_000_000 + u64::from(i.0))
+    } else {
+        Target(0x0202_0000_0000_0000 + (u64::from(asn) << 16) + u64::from(i.0))
+    }
 }
 
 /// The distinguisher of an instance's routes at a node's address: of type 1 (RFC 4364, section 4.2).
@@ -60,11 +66,12 @@ pub fn port_label(p: PortNo) -> Label
     Label(16 + p.0)
 }
 
-/// The left circuit of a service of a use, by the service's place, which counts from 1.
+/// The left circuit of a service of a use, by the service's place, which counts from 1. Place 16 is that of a service
+/// behind the last hop.
 pub fn left_circuit(use_no: u16, place: u8) -> u32
     requires last_use { use_no ≤ 3071 }
     requires first_place { 1 ≤ place }
-    requires last_place { place ≤ 15 }
+    requires last_place { place ≤ 16 }
     ensures { result ≡ left_circuit_of use_no place }
 {
     2 * u32::from(hop_instance(use_no, place - 1).0) + 1
@@ -97,7 +104,7 @@ pub fn circuit_label(n: u32) -> Label
 
 /// The host address of a circuit, in the block that is reserved for circuits.
 pub fn circuit_address(n: u32) -> Addr
-    requires { n ≤ 131070 }
+    requires { n ≤ 131071 }
     ensures { result ≡ circuit_address_of n }
 {
     Addr(0xfa00_0000 + n)

@@ -1,7 +1,7 @@
 -- What a control node wants its sessions to have been told is fit where what it holds is.
 use Rattle.std.specs.FinMap.{entries, get}
 use Rattle.std.specs.List.{AllByRecursion, enumerate_from, filter, filter_map, flat_map, list_all}
-use Rattle.std.specs.Prelude.{Bool, IsTrue, List, cond, false, length, map, nat_le, nat_lt, suc, true, ℕ, [], ◌&&◌, ◌*◌, ◌++◌, ◌+◌, ◌-◌, ◌<◌, ◌^◌, ◌∷◌, ◌≡◌, ◌≤◌}
+use Rattle.std.specs.Prelude.{Bool, IsTrue, List, cond, false, length, map, nat_lt, suc, true, ℕ, [], ◌&&◌, ◌++◌, ◌+◌, ◌-◌, ◌<◌, ◌^◌, ◌∷◌, ◌≡◌, ◌≤◌}
 use Rattle.std.specs.declared.option.Option.TheVariants.{Some}
 use Rattle.std.proofs.Common.{ap, arith, inl, inr, subst, sym, ◌∙◌}
 use Rattle.std.proofs.lemmas.Bool.{and_from, and_parts, le-leb, leb-true, lt-ltb, ltb-true, true≢false}
@@ -23,8 +23,7 @@ use Rattle.ov_types.specs.declared.vpn.VpnKey.{VpnKey}
 use Rattle.ov_types.specs.declared.vpn.VpnRoute.{VpnRoute}
 use Rattle.route_targets.specs.Numbers.{distinguisher_of, target_of}
 use Rattle.bgp_vpn.specs.Written.{FitsItsTypes}
-use Rattle.item_wire.specs.Entries.{is_from_to}
-use Rattle.item_wire.specs.Ranges.{is_address, is_block, is_in_range, is_instance}
+use Rattle.item_wire.specs.Ranges.{is_address, is_block, is_in_range}
 use Rattle.item_wire.specs.declared.event.ItemFrom.TheVariants as From
 use Rattle.item_wire.specs.declared.item.Item.TheVariants as I
 use Rattle.item_wire.specs.declared.item.Item.{Item}
@@ -47,7 +46,7 @@ use Rattle.node_model.proofs.Wanted.{row_of_path}
 use Rattle.node_peers.specs.First.{RouteFitsItsTypes}
 use Rattle.node_peers.specs.Told.{IsWritable}
 use Rattle.control_wants.specs.Held.{HoldingsFit, RouteFits}
-use Rattle.control_wants.proofs.Fitting.{agents_fit, peers_fit}
+use Rattle.control_wants.proofs.Fitting.{agents_fit, peers_fit, hop_small, all_at, numbered, within, instance_small}
 use Rattle.told_laws.proofs.Fitness.{FitsItem, FitsPeer, MayTell}
 
 -- ---- what is held
@@ -56,7 +55,7 @@ pub record AgentFits (a : Told) : Type 0 where
   pub address : a.address.0 < 2 ^ 32
 
 pub record HeldFit (h : Holdings) : Type 0 where
-  pub asn : h.asn ≤ 65535
+  pub asn : h.asn < 2 ^ 32
   pub feed : AllFit h.feed
   pub peers : AllByRecursion (Values {R = key_cmp} FitsPeer) h.peers
   pub agents : AllByRecursion AgentFits h.agents
@@ -65,20 +64,10 @@ all_weaker : {X : Type 0} (P Q : X → Type 0) → ((x : X) → P x → Q x) →
 all_weaker P Q h [] a = tt
 all_weaker P Q h (x ∷ xs) a = (h x a.0, all_weaker P Q h xs a.1)
 
-all_member : {X : Type 0} (P : X → Type 0) (x : X) (xs : List X) → AllByRecursion P xs → Member x xs → P x
-all_member P x [] all m = absurd m
-all_member P x (y ∷ xs) all (inl e) = subst P e all.0
-all_member P x (y ∷ xs) all (inr m) = all_member P x xs all.1 m
-
 pub list_member : {X : Type 0} (p : X → Bool) (x : X) (xs : List X) → list_all p xs ≡ true → Member x xs → p x ≡ true
 list_member p x [] e m = absurd m
 list_member p x (y ∷ xs) e (inl is) = ap p (sym is) ∙ (and_parts (p y) (list_all p xs) e).0
 list_member p x (y ∷ xs) e (inr m) = list_member p x xs (and_parts (p y) (list_all p xs) e).1 m
-
-numbered : {X : Type 0} (n : ℕ) (xs : List X) (p : ℕ × X) → Member p (enumerate_from n xs) → Member p.1 xs
-numbered n [] p m = absurd m
-numbered n (x ∷ xs) p (inl e) = inl (λ i. (e i).1)
-numbered n (x ∷ xs) p (inr m) = inr (numbered (n + 1) xs p m)
 
 route_fits : (k : Key) (v : Value) → FitsPeer k v → RouteFits k v
 route_fits (Vpn k) (Route r) f = f.0.label
@@ -92,12 +81,6 @@ holdings_fit h f = record {
 }
 
 -- ---- numbers within their ranges
-within : (low high n : ℕ) → is_from_to low high n ≡ true → n ≤ high
-within low high n e = leb-true n high (and_parts (nat_le low n) (nat_le n high) e).1
-
-instance_small : (i : InstanceId) → IsTrue (is_instance i.0) → i.0 < 2 ^ 16
-instance_small i h = let small : i.0 ≤ 65535 = within 1 65535 i.0 h in omega arith
-
 distinguisher_small : (a : Addr) (i : InstanceId) → a.0 < 2 ^ 32 → i.0 < 2 ^ 16 → (distinguisher_of a i).0 < 2 ^ 64
 distinguisher_small a i h j = omega (arith, h, j)
 
@@ -142,16 +125,6 @@ use_fits feed u fit m =
     let q = from_filter_map (λ (e : LowKey × LowValue). as_use e.0 e.1) u (objects feed) m in
     use_parts q.0.0 q.0.1 u q.2 (fit (Low q.0.0) (Object q.0.1) (object_of feed q.0.0 q.0.1 q.1))
 
-hop_small : (s : Side) (d : ℕ) → s.chain.number ≤ 3071 → s.chain.services ≤ 15 → d ≤ s.chain.services → (hop_at s d).0 < 2 ^ 16
-hop_small s d number services h =
-    elim s.is_right as (λ b. (hop_at (record { chain = s.chain; is_right = b }) d).0 < 2 ^ 16) [
-      | true ↦ bound s.chain.number (s.chain.services - d) number (omega arith)
-      | false ↦ bound s.chain.number d number (omega arith)
-    ]
-  where
-    bound : (u j : ℕ) → u ≤ 3071 → j ≤ 15 → 16384 + 16 * u + j < 2 ^ 16
-    bound u j a b = omega arith
-
 side_blocks : (s : Side) → UseFits s.chain → list_all is_block (subnets s) ≡ true
 side_blocks s u = elim s.is_right as (λ b. list_all is_block (cond b s.chain.right_subnets s.chain.left_subnets) ≡ true) [ true ↦ u.right | false ↦ u.left ]
 
@@ -170,7 +143,7 @@ module _ (h : Holdings) (f : HeldFit h) where
   own_typed : (p : Path) → Member p (own_paths h) → IsTypedRoute p
   own_typed p m =
       let o = own_route_from h p m in
-      let a = all_member AgentFits o.agent h.agents f.agents o.told in
+      let a = all_at AgentFits o.agent h.agents f.agents o.told in
       let e = a.map (Publish o.instance p.prefix) (Label p.label) o.publishes in
       record {
         path = record { prefix = e.typed; next_hop = subst (λ (x : Addr). x.0 < 2 ^ 32) (sym o.next_hop) a.address };
@@ -184,7 +157,7 @@ module _ (h : Holdings) (f : HeldFit h) where
       let o = reoriginated_from h p m in
       let u = use_fits h.feed o.side.chain f.feed (side_use h.feed o.side o.held) in
       let by : IsPublishedHere h p.next_hop p.label = published_here h (circuit_at o.side (suc o.depth)) p.next_hop p.label o.published in
-      let a = all_member AgentFits by.agent h.agents f.agents by.told in
+      let a = all_at AgentFits by.agent h.agents f.agents by.told in
       let next_hop : p.next_hop.0 < 2 ^ 32 = subst (λ (x : Addr). x.0 < 2 ^ 32) by.at a.address in
       record {
         path = record { prefix = list_member is_block p.prefix (subnets o.side) (side_blocks o.side u) o.subnet; next_hop = next_hop };
@@ -220,7 +193,7 @@ module _ (h : Holdings) (f : HeldFit h) where
       let q = from_flat_map (λ (p : ℕ × Map). filter_map (λ e. peer_path p.0 e.0 e.1) (entries p.1)) p (enumerate_from 1 h.peers) m in
       let e = from_filter_map (λ (e : Key × Value). peer_path q.0.0 e.0 e.1) p (entries q.0.1) q.2 in
       of_route q.0.0 e.0.0 e.0.1 p e.2
-      (all_member (Values {R = key_cmp} FitsPeer) q.0.1 h.peers f.peers (numbered 1 h.peers q.0 q.1) e.0.0 e.0.1 (get_member key_total q.0.1 e.0.0 e.0.1 e.1))
+      (all_at (Values {R = key_cmp} FitsPeer) q.0.1 h.peers f.peers (numbered 1 h.peers q.0 q.1) e.0.0 e.0.1 (get_member key_total q.0.1 e.0.0 e.0.1 e.1))
     where
       of_route : (session : ℕ) (k : Key) (v : Value) (p : Path) → peer_path session k v ≡ Some p → FitsPeer k v → IsTypedPath p
       of_route session (Vpn k) (Route r) p e t = subst IsTypedPath (same_Some _ p e) (record { prefix = and_from _ _ t.1.0.prefix (lt k.prefix.addr t.1.0.address); next_hop = t.1.1.next_hop })

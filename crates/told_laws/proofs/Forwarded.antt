@@ -1,6 +1,6 @@
 -- What an agent wants its control nodes to have been told is fit where what it holds is.
 use Rattle.std.specs.List.{AllByRecursion, flat_map}
-use Rattle.std.specs.Prelude.{Bool, IsTrue, cond, false, map, nat_le, nat_lt, true, ℕ, [], ◌%◌, ◌&&◌, ◌++◌, ◌<◌, ◌==◌, ◌^◌, ◌∷◌, ◌≡◌, ◌≤◌}
+use Rattle.std.specs.Prelude.{Bool, IsTrue, cond, false, map, nat_le, nat_lt, true, ℕ, [], ◌%◌, ◌&&◌, ◌++◌, ◌<◌, ◌==◌, ◌^◌, ◌≡◌, ◌≤◌}
 use Rattle.std.specs.declared.option.Option.TheVariants.{None, Some}
 use Rattle.std.proofs.Common.{ap, arith, inl, inr, refl, subst, ◌∙◌}
 use Rattle.std.proofs.lemmas.Bool.{and_from, and_parts, eq-eqb, leb-true, lt-ltb}
@@ -23,15 +23,13 @@ use Rattle.item_wire.specs.declared.item.Item.TheVariants as I
 use Rattle.item_wire.specs.declared.item.Item.{Item}
 use Rattle.node_items.specs.Told.{AllFit, Fits, IsTyped}
 use Rattle.node_model.specs.Agent.{Heard, Holdings, needed_by, publication, slice_in_use, wanted}
-use Rattle.node_model.specs.Keys.{Key, Low, Subscribe, key_cmp}
-use Rattle.node_model.specs.Maps.{objects}
+use Rattle.node_model.specs.Keys.{Key, Low, key_cmp}
 use Rattle.node_model.specs.Members.{Member}
-use Rattle.node_model.specs.Values.{Label, Object, Value}
+use Rattle.node_model.specs.Values.{Object, Value}
 use Rattle.node_model.proofs.Members.{from_entry, from_flat_map, from_map, in_either, none_some}
-use Rattle.node_model.proofs.Objects.{object_of}
 use Rattle.node_model.proofs.Orders.{key_exact, key_total}
 use Rattle.agent_tables.proofs.Objects.{circuit}
-use Rattle.agent_tables.proofs.Telling.{can_be_told}
+use Rattle.agent_tables.proofs.Telling.{can_be_told, subscription, slice_fits}
 use Rattle.told_laws.proofs.Fitness.{FitsItem, MayTell}
 
 -- the prefix of one address is a block
@@ -68,17 +66,6 @@ published (key.Acl from to) v e f m = absurd m
 published (key.ChainUse n) v e f m = absurd m
 
 -- ---- of all that is held
-slice_fits : (h : Holdings) → AllByRecursion (λ (s : Heard). AllFit s.map) h → (e : LowKey × LowValue) → Member e (slice_in_use h) → Fits (Low e.0) (Object e.1)
-slice_fits [] fit e m = absurd m
-slice_fits (s ∷ h) fit e m =
-    elim s.is_up as (λ b. Member e (cond b (objects s.map) (slice_in_use h)) → Fits (Low e.0) (Object e.1)) [
-      | true ↦ λ m. fit.0 (Low e.0) (Object e.1) (object_of s.map e.0 e.1 m)
-      | false ↦ slice_fits h fit.1 e
-    ] m
-
-abbrev subscription : InstanceId → Key × Value
-subscription i = (Subscribe i, Label (record { 0 = 0 }))
-
 pub agent_tells : (h : Holdings) → AllByRecursion (λ (s : Heard). AllFit s.map) h → Values {R = key_cmp} (FitsItem From.Agent) (wanted h)
 agent_tells h fit k v e =
     let slice = slice_in_use h in

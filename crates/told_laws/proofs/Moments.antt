@@ -1,11 +1,9 @@
 -- What a moment's configuration and sessions are, and the moment after the next event.
-use Rattle.std.specs.Option.{option_map}
 use Rattle.std.specs.Prelude.{IsTrue, List, map, [], ◌++◌, ◌∷◌, ◌≡◌}
 use Rattle.std.specs.declared.option.Option.TheVariants.{None, Some}
 use Rattle.std.specs.declared.option.Option.{Option}
 use Rattle.std.proofs.Common.{ap, refl, subst, sym, ◌∙◌}
 use Rattle.std.proofs.lemmas.Option.{same_Some}
-use Rattle.ov_types.proofs.FirstLemmas.{both_none, mapped_none}
 use Rattle.config_model.specs.Form.{has_topology_form}
 use Rattle.config_model.specs.declared.edit.Edit.{Edit}
 use Rattle.config_model.specs.declared.topology.Topology.{Topology}
@@ -13,36 +11,25 @@ use Rattle.config_check.specs.Checked.{Checked}
 use Rattle.config_check.specs.Edits as edits
 use Rattle.config_check.specs.Edits.{edit_fault}
 use Rattle.config_check.specs.Rules.{first_broken}
-use Rattle.config_check.specs.declared.edits.EditFault.TheVariants.{Missing, Rule}
 use Rattle.config_check.specs.declared.edits.EditFault.{EditFault}
-use Rattle.node_model.specs.Keys.{Key}
-use Rattle.node_model.specs.Values.{Value}
 use Rattle.node_model.proofs.Members.{none_some}
 use Rattle.network_model.specs.Events.{Event, after, next}
-use Rattle.network_model.specs.Moments.{Each, nodes}
-use Rattle.network_model.specs.Network.{Network, View, accesses, feeds, peerings, sessions_of, start, view, views_of, wanted}
-use Rattle.network_model.specs.Session.{Session}
+use Rattle.network_model.specs.Moments.{nodes}
+use Rattle.network_model.specs.Network.{Network, accesses, feeds, peerings, sessions_of, start, views_of}
 use Rattle.network_model.specs.Setup.{edited, edited_without}
 use Rattle.network_model.proofs.NodesFact.{after_nodes}
-use Rattle.network_laws.specs.Settling.{EditIsValid, EditsAreValid, FairMap, WantsFair}
+use Rattle.network_laws.specs.Settling.{EditIsValid, EditsAreValid, WantsFair}
 use Rattle.network_laws.proofs.RanksSettle.{kept, stay_valid}
-use Rattle.compiled_laws.specs.Goal.{Party}
 use Rattle.headline_laws.specs.Headline.{IsOfForm, IsWritten}
 use Rattle.net_model.specs.Stands.{any_size}
 use Rattle.net_model.proofs.Sizes.{positive}
+use Rattle.headline_laws.proofs.Written.{none_broken, anything, each_anything}
 use Rattle.told_laws.specs.Moments.{IsMoment}
 
 -- a valid configuration of the written form, with the topology of the opening one
 pub record Follows (x y : Checked) : Type 0 where
   pub topology : y.topology ≡ x.topology
   pub written : IsWritten y
-
--- an edit without a fault breaks no rule
-none_broken : (y : Checked) (d : Edit) → edit_fault y d ≡ None → first_broken y.topology (edits.edited d y.config) ≡ None
-unfolding edit_fault
-none_broken y d e =
-    let made = first_broken y.topology (edits.edited d y.config) in
-    (mapped_none (λ r. Rule r) made).0 ((both_none (option_map (λ name. Missing name) (edits.missing_name d y.config)) (option_map (λ r. Rule r) made)).0 e).1
 
 follows : (x y : Checked) (d : Edit) (z : Checked) → Follows x y → edited y d ≡ Some z → IsOfForm z → Follows x z
 follows x y d z f e form = by_fault (edit_fault y d) refl e
@@ -59,14 +46,6 @@ follows x y d z f e form = by_fault (edit_fault y d) refl e
             valid = subst (λ (z : Checked). first_broken z.topology z.config ≡ None) s (none_broken y d is);
           };
         }
-
--- nothing is asked of what is told
-abbrev anything : Party → Party → Key → Value → Type 0
-anything p q k v = Unit {0}
-
-each_anything : (x : Checked) (vs : List View) (own : List Session) → Each (λ s. FairMap anything (s.near.name, s.near.role) (s.far.name, s.far.role) (wanted x vs (view s))) own
-each_anything x vs [] = tt
-each_anything x vs (s ∷ own) = ((λ k v e. tt), each_anything x vs own)
 
 module _ (x : Checked) (written : IsWritten x) (es : List Event) (asked : EditsAreValid any_size IsOfForm (start x) es) where
   anything_wants : WantsFair anything (Follows x)
@@ -101,9 +80,6 @@ moment_sessions w m =
     ∙ sym (same_start m.opening w.setup (follows_now w m).topology)
 
 -- ---- the first moment, and the next event
-pub moment_start : (x : Checked) → IsWritten x → IsMoment (start x)
-moment_start x written = record { opening = x; written = written; events = []; edits = tt; is = refl }
-
 after_one_more : (w : Network) (es : List Event) (e : Event) → after any_size w (es ++ e ∷ []) ≡ next any_size (after any_size w es) e
 after_one_more w [] e = refl
 after_one_more w (f ∷ es) e = after_one_more (next any_size w f) es e

@@ -2,7 +2,7 @@
 use Rattle.std.specs.FinMap.{get}
 use Rattle.std.specs.List.{AllByRecursion, enumerate_from, list_all}
 use Rattle.std.specs.Option.{option_map, unwrap_or}
-use Rattle.std.specs.Prelude.{IsTrue, List, cond, false, length, map, nat_le, not, true, ℕ, [], ◌&&◌, ◌+◌, ◌<◌, ◌==◌, ◌^◌, ◌∷◌, ◌≡◌, ◌≤◌}
+use Rattle.std.specs.Prelude.{IsTrue, List, cond, false, length, map, nat_le, not, true, ℕ, [], ◌&&◌, ◌+◌, ◌<◌, ◌^◌, ◌∷◌, ◌≡◌, ◌≤◌}
 use Rattle.std.specs.declared.option.Option.TheVariants.{None, Some}
 use Rattle.std.specs.declared.option.Option.{Option}
 use Rattle.std.proofs.Common.{ap, arith, refl, subst, sym, ◌∙◌}
@@ -12,7 +12,7 @@ use Rattle.ov_sync.proofs.KeyedLaws.{empty_values}
 use Rattle.ov_types.specs.First.{same_name}
 use Rattle.ov_types.specs.Name.{is_name}
 use Rattle.item_wire.specs.declared.event.ItemFrom.TheVariants as From
-use Rattle.config_model.specs.Form.{has_controller_form, has_node_form, has_topology_form, is_as_number, is_from_to, is_node_address, is_node_name}
+use Rattle.config_model.specs.Form.{has_controller_form, has_node_form, has_topology_form, is_as_number, is_from_to, is_reserved_as, is_node_address, is_node_name}
 use Rattle.config_model.specs.declared.topology.Node.{Node}
 use Rattle.config_model.specs.declared.topology.Topology.{Topology}
 use Rattle.config_check.specs.Checked.{Checked}
@@ -27,7 +27,7 @@ use Rattle.node_model.specs.Maps.{Map}
 use Rattle.node_model.specs.Members.{Member}
 use Rattle.node_model.specs.Values.{Value}
 use Rattle.node_model.specs.Wants.{slice_entry}
-use Rattle.node_model.proofs.Members.{from_map, member_get}
+use Rattle.node_model.proofs.Members.{from_map, member_get, member_of}
 use Rattle.node_model.proofs.Orders.{key_exact, key_total}
 use Rattle.network_model.specs.Moments.{Each, Nodes}
 use Rattle.network_model.specs.Network.{address_of, agent_holdings, control_holdings, first_held, heard_from, same_role, sessions_of, told_by_agent, view, views_of, wanted, wanted_from, with_role}
@@ -37,7 +37,6 @@ use Rattle.network_model.proofs.Feed.{entries-low}
 use Rattle.network_model.proofs.Twins.{all_to_own, each_and, each_weaker}
 use Rattle.compiled_laws.specs.Goal.{HasRoles, role_of}
 use Rattle.compiled_laws.proofs.Views.{all_have, own_named, peers_have, views}
-use Rattle.headline_laws.proofs.Lists.{member_of}
 use Rattle.told_laws.proofs.Controlled.{AgentFits, HeldFit, agent_wants, list_member, peers_want}
 use Rattle.told_laws.proofs.Fitness.{FitsItem, FitsPeer, IsFit}
 use Rattle.told_laws.proofs.Forwarded.{agent_tells}
@@ -56,10 +55,10 @@ topology_parts t h =
     let ab = and_parts (a && b) c abc.0 in
     ((and_parts a b ab.0).0, abc.1)
 
-small_number : (t : Topology) → IsTrue (has_topology_form t) → t.asn ≤ 65535
+small_number : (t : Topology) → IsTrue (has_topology_form t) → t.asn < 2 ^ 32
 small_number t h =
-    let range = and_parts (is_from_to 1 65534 t.asn) (not (t.asn == 23456)) (topology_parts t h).0 in
-    let small : t.asn ≤ 65534 = leb-true t.asn 65534 (and_parts (nat_le 1 t.asn) (nat_le t.asn 65534) range.0).1 in
+    let range = and_parts (is_from_to 1 4294967294 t.asn) (not (is_reserved_as t.asn)) (topology_parts t h).0 in
+    let small : t.asn ≤ 4294967294 = leb-true t.asn 4294967294 (and_parts (nat_le 1 t.asn) (nat_le t.asn 4294967294) range.0).1 in
     omega (arith, small)
 
 node_address : (n : Node) → has_node_form n ≡ true → n.address.0 < 2 ^ 32

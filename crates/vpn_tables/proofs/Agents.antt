@@ -1,10 +1,9 @@
 -- What agents told, session by session.
-use Rattle.std.specs.Prelude.{◌≡◌, ◌==◌, ℕ, zero, suc, ◌+◌, ◌<◌, ◌≤◌, List, [], ◌∷◌, map, length, insert, true, false, Bool, cond, Some, nat_lt}
+use Rattle.std.specs.Prelude.{◌≡◌, ◌==◌, ℕ, zero, suc, List, [], ◌∷◌, map, length, insert, true, false, cond, Some, nat_lt}
 use Rattle.std.specs.List.{slice_get, slice_set}
-use Rattle.std.specs.FinMap.{empty}
 use Rattle.std.proofs.lemmas.Option.{same_Some, slice_get_within, slice_get_read}
 use Rattle.std.proofs.lemmas.Bool.{true≢false, eq-eqb}
-use Rattle.std.proofs.Common.{refl, sym, ◌∙◌, ap, subst, arith, get_or}
+use Rattle.std.proofs.Common.{refl, sym, ◌∙◌, ap, arith, get_or}
 use Rattle.ov_types.specs.declared.keys.UpKey.{UpKey}
 use Rattle.ov_types.specs.declared.numbers.Label.{Label as LabelNo}
 use Rattle.ov_types.specs.declared.prefix.Addr.{Addr}
@@ -13,7 +12,7 @@ use Rattle.node_model.specs.Paths.{Told}
 use Rattle.vpn_tables.specs.declared.tables.Agent.{Agent}
 use Rattle.vpn_tables.specs.Views.{told_of, agent_of}
 use Rattle.vpn_tables.specs.Changes.{with_nothing, named, at_session}
-use Rattle.vpn_tables.specs.Seats.{seat_of, IsTaken, IsFree}
+use Rattle.vpn_tables.specs.Seats.{seat_of, IsTaken}
 use Rattle.vpn_tables.proofs.Images.{told-empty}
 
 abbrev at_front : Agent → List Told → List Told

@@ -1,8 +1,8 @@
 -- The objects, the subscriptions and the places that are held, from the typed entries.
-use Rattle.std.specs.Prelude.{◌≡◌, List, [], ◌∷◌, ◌++◌, map, Bool, true, false, cond}
+use Rattle.std.specs.Prelude.{◌≡◌, List, [], ◌∷◌, ◌++◌, map}
 use Rattle.std.specs.declared.option.Option.{Option}
 use Rattle.std.specs.declared.option.Option.TheVariants.{Some, None}
-use Rattle.std.specs.List.{cons_option, filter, filter_map, flat_map}
+use Rattle.std.specs.List.{cons_option, filter_map, flat_map}
 use Rattle.std.specs.List.Sorted.{IsStrictlySortedBy}
 use Rattle.std.specs.FinMap.{empty}
 use Rattle.std.proofs.Common.{refl, sym, ◌∙◌, ap}
@@ -44,17 +44,6 @@ pub none_subscribed : subscriptions empty ≡ []
 none_subscribed = ap (filter_map (λ (x : Key × Value). subscribed x.0)) (entries-empty {V = Value} key_cmp)
 
 -- ---- a slice, object by object
-pub slice_turn : (p : Entry → Bool) (e : Entry) (rest objects new : List Entry) → p e ≡ true → new ≡ objects ++ e ∷ [] → new ++ filter p rest ≡ objects ++ filter p (e ∷ rest)
-slice_turn p e rest objects new t is =
-    ap (λ (l : List Entry). l ++ filter p rest) is ∙ joined objects (filter p rest)
-    ∙ ap (λ b. objects ++ cond b (e ∷ filter p rest) (filter p rest)) (sym t)
-  where
-    joined : (xs ys : List Entry) → (xs ++ e ∷ []) ++ ys ≡ xs ++ e ∷ ys
-    joined [] ys = refl
-    joined (x ∷ xs) ys = ap (λ (l : List Entry). x ∷ l) (joined xs ys)
-
-pub slice_pass : (p : Entry → Bool) (e : Entry) (rest objects : List Entry) → p e ≡ false → objects ++ filter p rest ≡ objects ++ filter p (e ∷ rest)
-slice_pass p e rest objects t = ap (λ b. objects ++ cond b (e ∷ filter p rest) (filter p rest)) (sym t)
 
 -- ---- the places of held uses
 abbrev pub places : List Entry → List InstanceId

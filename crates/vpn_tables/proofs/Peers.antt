@@ -1,9 +1,8 @@
 -- What peers told, place by place.
 use Rattle.std.specs.Prelude.{◌≡◌, ℕ, zero, suc, ◌+◌, ◌<◌, ◌≤◌, ◌-◌, List, [], ◌∷◌, ◌++◌, map, length, Some}
 use Rattle.std.specs.List.{slice_get, slice_set}
-use Rattle.std.specs.FinMap.{empty}
 use Rattle.std.proofs.lemmas.Option.{same_Some}
-use Rattle.std.proofs.Common.{refl, sym, ◌∙◌, ap, subst, arith}
+use Rattle.std.proofs.Common.{refl, sym, ◌∙◌, ap, arith}
 use Rattle.ov_sync.specs.declared.Delta.{Delta}
 use Rattle.ov_sync.specs.Keyed.{changed, map_of}
 use Rattle.ov_sync.specs.Embed.{moved_delta}
@@ -36,12 +35,6 @@ changed_within [] place es fs d h e = cc
 changed_within (p ∷ ps) zero es fs d h e =
     ap (λ (m : Map). m ∷ map peer_of ps) (peer-changed es fs d e ∙ ap (λ (q : Peer). changed (peer_of q) (moved_delta Vpn Route d)) (sym (same_Some p es h)))
 changed_within (p ∷ ps) (suc place) es fs d h e = ap (λ (ms : List Map). peer_of p ∷ ms) (changed_within ps place es fs d h e)
-
--- a peer that stays as it was
-pub set_same : (ps : List Peer) (place : ℕ) (es : Peer) → slice_get ps place ≡ Some es → slice_set ps place es ≡ ps
-set_same [] place es h = refl
-set_same (p ∷ ps) zero es h = ap (λ (q : Peer). q ∷ ps) (sym (same_Some p es h))
-set_same (p ∷ ps) (suc place) es h = ap (λ (qs : List Peer). p ∷ qs) (set_same ps place es h)
 
 from_nothing : (n : ℕ) (fs : Peer) (d : Delta VpnKey VpnRoute) → map_of vpn_order fs ≡ changed (map_of vpn_order []) d
     → map peer_of (nothings n ++ fs ∷ []) ≡ changed_at [] n (moved_delta Vpn Route d)
@@ -94,9 +87,6 @@ fit_changed old new place n d e lt h =
     let a = length-changed (map peer_of old) place n d (let b = length-map old in omega (arith, b, h)) lt in
     let c = sym (length-map new) ∙ ap length e in
     omega (arith, a, c)
-
-pub fit_same : (old new : List Peer) (n : ℕ) → map peer_of new ≡ map peer_of old → length old ≤ n → length new ≤ n
-fit_same old new n e h = let a = length-map old in let c = sym (length-map new) ∙ ap length e in omega (arith, a, c, h)
 
 pub fit_emptied : (old new : List Peer) (place n : ℕ) → map peer_of new ≡ emptied_at (map peer_of old) place → length old ≤ n → length new ≤ n
 fit_emptied old new place n e h =

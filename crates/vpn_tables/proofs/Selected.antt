@@ -1,18 +1,15 @@
 -- One path after another, the least of each prefix is selected.
-use Rattle.std.specs.Prelude.{◌≡◌, List, [], ◌∷◌, ◌++◌, map, Bool, true, false, cond}
-use Rattle.std.specs.declared.cmp.Ordering.{Ordering}
+use Rattle.std.specs.Prelude.{◌≡◌, List, [], ◌∷◌, map, Bool, true, false, cond}
 use Rattle.std.specs.declared.option.Option.{Option}
 use Rattle.std.specs.declared.option.Option.TheVariants.{Some, None}
 use Rattle.std.specs.Option.{option_map}
 use Rattle.std.specs.Ordering.{eq_by_cmp, is_eq}
 use Rattle.std.specs.Cmp.{IsTotalOrder, Equal-is, tied_itself}
-use Rattle.std.specs.List.{filter}
 use Rattle.std.specs.List.Sorted.{IsStrictlySortedBy}
-use Rattle.std.specs.FinMap.{FinMap, IsAntisymmetric, get, insert, entries, from_entries, empty, find, get-empty, get-insert, get-from_entries, same_map}
+use Rattle.std.specs.FinMap.{FinMap, IsAntisymmetric, get, insert, entries, empty, find, get-empty, get-insert, get-from_entries, same_map}
 use Rattle.std.proofs.Common.{refl, sym, ◌∙◌, ap, subst, rules, inl}
-use Rattle.ov_sync.specs.Keyed.{map_of}
 use Rattle.ov_sync.specs.Embed.{embedded, moved_entry}
-use Rattle.ov_sync.proofs.Ascending.{entries-map_of, ascends, entries-empty}
+use Rattle.ov_sync.proofs.Ascending.{entries-map_of, ascends}
 use Rattle.ov_sync.proofs.EmbedLaws.{entries-embedded, get_embedded}
 use Rattle.ov_types.specs.Prefix.{Block, block_cmp}
 use Rattle.ov_types.specs.declared.rows.TableRow.{TableRow}

@@ -2,12 +2,9 @@
 use Rattle.std.specs.Prelude.{◌≡◌, List, [], ◌∷◌, ◌++◌, map}
 use Rattle.std.specs.declared.option.Option.{Option}
 use Rattle.std.specs.declared.option.Option.TheVariants.{Some, None}
-use Rattle.std.specs.Option.{option_map}
 use Rattle.std.specs.List.{flat_map, filter_map, cons_option, AllByRecursion}
 use Rattle.std.specs.List.Sorted.{IsStrictlySortedBy}
-use Rattle.std.specs.FinMap.{entries, get}
-use Rattle.std.proofs.lemmas.Option.{same_Some}
-use Rattle.std.proofs.Common.{refl, sym, ◌∙◌, ap, subst, inl, inr, true, false}
+use Rattle.std.proofs.Common.{refl, sym, ◌∙◌, ap, subst, inl, inr}
 use Rattle.ov_sync.specs.Keyed.{map_of}
 use Rattle.ov_sync.specs.Embed.{moved_entry}
 use Rattle.ov_sync.proofs.Ascending.{entries-map_of, ascends}
@@ -16,16 +13,16 @@ use Rattle.ov_types.specs.declared.objects.LowKey.TheVariants as key
 use Rattle.ov_types.specs.declared.objects.LowValue.{LowValue}
 use Rattle.node_model.specs.Keys.{Key, Low}
 use Rattle.node_model.specs.Values.{Value, Object}
-use Rattle.node_model.specs.Maps.{Map, object, objects, low_entry}
+use Rattle.node_model.specs.Maps.{Map, object, low_entry}
 use Rattle.node_model.specs.Members.{Member}
-use Rattle.node_model.specs.Uses.{Use, as_use, use_from, uses}
+use Rattle.node_model.specs.Uses.{Use, as_use, use_from}
 use Rattle.node_model.specs.Paths.{Holdings, Path}
 use Rattle.node_model.specs.Reaching.{Side, sides_of, sides, reoriginated}
 use Rattle.node_model.proofs.Members.{get_member}
-use Rattle.vpn_tables.specs.Answers.{seen_from}
 use Rattle.vpn_tables.specs.Leading.{leads, use_at, sides_of_held}
 use Rattle.vpn_tables.specs.Views.{low_order, feed_of}
-use Rattle.vpn_tables.proofs.Images.{low_total, feed-entries, feed-object}
+use Rattle.node_model.proofs.Directions.{low_total}
+use Rattle.vpn_tables.proofs.Images.{feed-entries, feed-object}
 
 abbrev Entry : Type 0
 Entry = LowKey × LowValue
@@ -63,17 +60,6 @@ led_turn h k v rest routes new held e =
     ∙ ap (flat_map (leads h)) (sym (sides_first (as_use k v) (filter_map (λ e. as_use e.0 e.1) rest))))
 
 -- ---- the two sides of a use
-pub both_led : (h : Holdings) (o : Option Use) (s t : Side) (routes mid new : List Path) → option_map (seen_from true) o ≡ Some s → option_map (seen_from false) o ≡ Some t
-    → mid ≡ routes ++ leads h s → new ≡ mid ++ leads h t → new ≡ routes ++ flat_map (leads h) (sides_of_held o)
-both_led h None s t routes mid new a b e f = cc
-both_led h (Some u) s t routes mid new a b e f =
-    f ∙ ap (λ (l : List Path). l ++ leads h t) e ∙ assoc routes (leads h s) (leads h t)
-    ∙ (λ i. routes ++ (leads h (sym (same_Some (seen_from true u) s a) i) ++ leads h (sym (same_Some (seen_from false u) t b) i)))
-    ∙ ap (λ (l : List Path). routes ++ (leads h (seen_from true u) ++ l)) (sym (none_more (leads h (seen_from false u))))
-  where
-    none_more : (xs : List Path) → xs ++ [] ≡ xs
-    none_more [] = refl
-    none_more (x ∷ xs) = ap (λ (l : List Path). x ∷ l) (none_more xs)
 
 -- ---- the entries
 pub objects_typed : (es : List Entry) → filter_map (λ e. low_entry e.0 e.1) (map (moved_entry Low Object) es) ≡ es

@@ -10,7 +10,7 @@ use Rattle.vpn_tables.specs.Views.{low_order}
 use Rattle.ov_types.specs.declared.objects.LowKey.{LowKey}
 use Rattle.ov_types.specs.declared.objects.LowValue.{LowValue}
 use Rattle.vpn_tables.specs.Ranges.{Fits}
-use Rattle.vpn_tables.proofs.Images.{low_total, low_exact}
+use Rattle.node_model.proofs.Directions.{low_total, low_exact}
 
 pub values_after : (es fs : List (LowKey × LowValue)) (d : Delta LowKey LowValue) → map_of low_order fs ≡ changed (map_of low_order es) d
     → Values Fits (map_of low_order es) → PutOf Fits d → Values Fits (map_of low_order fs)

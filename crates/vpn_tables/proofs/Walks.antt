@@ -23,7 +23,7 @@ use Rattle.node_model.specs.Reaching.{has_path_within}
 use Rattle.node_model.specs.Uses.{imports}
 use Rattle.vpn_tables.specs.Answers.{leads_within}
 use Rattle.vpn_tables.specs.declared.tables.Agent.{Agent}
-use Rattle.vpn_tables.specs.Views.{agent_of, told_of, peer_of, up_order, vpn_order}
+use Rattle.vpn_tables.specs.Views.{agent_of, peer_of, up_order, vpn_order}
 use Rattle.vpn_tables.proofs.Images.{told-entries, peer-entries}
 
 abbrev pub own_of : Holdings → Told → List Path
@@ -77,9 +77,6 @@ part_without p xs ys whole e h = sym (any-append p xs ys ∙ ap (λ b. b || list
 
 pub part_with : (p : Path → Bool) (xs ys : List Path) (whole : Bool) → list_any p xs ≡ true → list_any p (xs ++ ys) ≡ whole → true ≡ whole
 part_with p xs ys whole e h = sym (any-append p xs ys ∙ ap (λ b. b || list_any p ys) e) ∙ h
-
-pub one_without : (p : Path → Bool) (o : Option Path) (x : Path) (ys : List Path) (whole : Bool) → o ≡ Some x → p x ≡ false → list_any p (cons_option o ys) ≡ whole → list_any p ys ≡ whole
-one_without p o x ys whole is e h = sym (ap (λ (o : Option Path). list_any p (cons_option o ys)) is ∙ ap (λ b. b || list_any p ys) e) ∙ h
 
 pub one_with : (p : Path → Bool) (o : Option Path) (x : Path) (ys : List Path) (whole : Bool) → o ≡ Some x → p x ≡ true → list_any p (cons_option o ys) ≡ whole → true ≡ whole
 one_with p o x ys whole is e h = sym (ap (λ (o : Option Path). list_any p (cons_option o ys)) is ∙ ap (λ b. b || list_any p ys) e) ∙ h

@@ -1,32 +1,19 @@
 -- What is held of a session, among the keys and values of all sessions.
 use Rattle.std.specs.Prelude.{List}
-use Rattle.std.specs.declared.cmp.Ordering.{Ordering}
 use Rattle.ov_sync.specs.Keyed.{map_of}
 use Rattle.ov_sync.specs.Embed.{embedded}
-use Rattle.ov_types.specs.contracts.keys.UpKeyOrd.TheImpl as up_keys
-use Rattle.ov_types.specs.contracts.objects.LowKeyOrd.TheImpl as low_keys
-use Rattle.ov_types.specs.contracts.vpn.VpnKeyOrd.TheImpl as vpn_keys
 use Rattle.ov_types.specs.declared.keys.UpKey.{UpKey}
 use Rattle.ov_types.specs.declared.numbers.Label.{Label as LabelNo}
 use Rattle.ov_types.specs.declared.objects.LowKey.{LowKey}
 use Rattle.ov_types.specs.declared.objects.LowValue.{LowValue}
 use Rattle.ov_types.specs.declared.vpn.VpnKey.{VpnKey}
 use Rattle.ov_types.specs.declared.vpn.VpnRoute.{VpnRoute}
+pub use Rattle.node_model.specs.Directions.{low_order, vpn_order, up_order}
 use Rattle.node_model.specs.Keys.{Low, Vpn, key_cmp, of_up}
 use Rattle.node_model.specs.Values.{Object, Route, Label}
 use Rattle.node_model.specs.Maps.{Map}
 use Rattle.node_model.specs.Paths.{Told}
 use Rattle.vpn_tables.specs.declared.tables.Agent.{Agent}
-
--- the orders of the keys of a direction
-abbrev pub low_order : LowKey → LowKey → Ordering
-low_order = low_keys.ghosts.cmp
-
-abbrev pub vpn_order : VpnKey → VpnKey → Ordering
-vpn_order = vpn_keys.ghosts.cmp
-
-abbrev pub up_order : UpKey → UpKey → Ordering
-up_order = up_keys.ghosts.cmp
 
 abbrev pub feed_of : List (LowKey × LowValue) → Map
 feed_of es = embedded {S = key_cmp} Low Object (map_of low_order es)

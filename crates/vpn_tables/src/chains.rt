@@ -8,7 +8,7 @@ ghost use Rattle.vpn_tables.specs.Answers.{distance, seen_from, side_at};
 
 use crate::tables::VpnTables;
 use ov_types::{InstanceId, LowKey, LowValue, Prefix};
-use route_targets::hop_instance;
+use route_targets::{hop_instance, left_circuit, right_circuit};
 use std::marker::Model;
 
 /// A held use, seen from one of its ends. A distance counts places from that end.
@@ -99,8 +99,11 @@ impl<'a> Side<'a> {
         ensures circuit { result ≡ circuit_at self.now distance }
         ensures at_most { result ≤ 131071 }
     {
-        let hop = u32::from(self.hop_at(distance).0);
-        if self.is_right { 2 * hop + 1 } else { 2 * hop }
+        if self.is_right {
+            left_circuit(self.number, self.services - distance + 1)
+        } else {
+            right_circuit(self.number, distance)
+        }
     }
 
     /// How far a place of the use is from the end.

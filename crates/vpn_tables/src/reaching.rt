@@ -14,6 +14,7 @@ use crate::routes::{Route, is_within};
 use crate::tables::{Agent, VpnTables};
 use ov_sync::SyncIn;
 use ov_types::{InstanceId, NoMemory, Prefix, VpnKey, VpnRoute};
+use route_targets::{Hop, hop_of};
 
 /// Whether a subnet is among some.
 fn is_among(subnet: &Prefix, subnets: &[Prefix]) -> bool
@@ -33,11 +34,10 @@ impl VpnTables {
     pub fn up(&self, hop: InstanceId, subnet: &Prefix, right: bool) -> bool
         ensures { result ≡ is_up_at self.now hop subnet.now right }
     {
-        if hop.0 <= 16383 {
+        let Some(Hop { use_no, place }) = hop_of(hop) else {
             return false;
-        }
-        let place = ((hop.0 - 16384) % 16) as u8;
-        let Some(side) = self.side((hop.0 - 16384) / 16, right) else {
+        };
+        let Some(side) = self.side(use_no, right) else {
             return false;
         };
         if place > side.services() {

@@ -1,9 +1,9 @@
 //! What instances import, and the routes of the agents' publications.
-ghost use Rattle.std.specs.Prelude.{◌≡◌, ◌≤◌, ◌==◌, ◌<◌, None, map};
+ghost use Rattle.std.specs.Prelude.{◌≡◌, ◌≤◌, ◌==◌, ◌<◌, Some, None, map};
 ghost use Rattle.std.specs.List.{list_any};
 ghost use Rattle.std.specs.Option.{option_map};
 ghost use Rattle.ov_types.specs.Prefix.{is_inside as is_inside_of};
-ghost use Rattle.route_targets.specs.Numbers.{target_of};
+ghost use Rattle.route_targets.specs.Numbers.{hop_of, target_of};
 ghost use Rattle.node_model.specs.Keys.{of_up};
 ghost use Rattle.node_model.specs.Values.{Label as LabelOf};
 ghost use Rattle.node_model.specs.Reaching.{published_by, publisher};
@@ -15,7 +15,7 @@ ghost use Rattle.vpn_tables.specs.Views.{agent_of};
 use crate::tables::{Agent, VpnTables};
 use ov_types::{Addr, InstanceId, Label, LowKey, LowValue, Prefix, Target, UpKey};
 use path_select::Path;
-use route_targets::{rd, target};
+use route_targets::{Hop, circuit_address, circuit_instance, hop_of, rd, target};
 
 /// A route of this control node's own: its prefix, where it leads, and its one target.
 #[derive(Clone, Copy, PartialEq, Eq)]
@@ -33,7 +33,6 @@ pub(crate) fn is_within(prefix: &Prefix, subnet: &Prefix) -> bool
 
 /// Whether one of these instances has a target.
 fn is_of_any(asn: u32, instances: &[InstanceId], wanted: Target) -> bool
-    requires { asn ≤ 65535 }
     ensures { result ≡ list_any (λ u. wanted.0 == u.0) (map (target_of asn) instances.now) }
 {
     for instance in instances {
@@ -50,8 +49,8 @@ impl Agent {
         requires { circuit ≤ 131071 }
         ensures { result ≡ published_by (agent_of self.now) circuit }
     {
-        let instance = InstanceId((circuit / 2) as u16);
-        let host = Prefix::host(Addr(0xfa00_0000 + circuit));
+        let instance = circuit_instance(circuit);
+        let host = Prefix::host(circuit_address(circuit));
         self.told.get(&UpKey::Publish(instance, host)).copied()
     }
 }
@@ -77,12 +76,11 @@ impl VpnTables {
     pub(crate) fn is_known(&self, i: InstanceId) -> bool
         ensures { result ≡ is_known self.now.feed i }
     {
-        if i.0 <= 16383 {
+        let Some(hop) = hop_of(i) else {
             return self.low(&LowKey::Instance(i.0)).is_some();
-        }
-        let place = (i.0 - 16384) % 16;
-        match self.side((i.0 - 16384) / 16, true) {
-            Some(side) => place <= u16::from(side.services()),
+        };
+        match self.side(hop.use_no, true) {
+            Some(side) => hop.place <= side.services(),
             None => false,
         }
     }
@@ -91,8 +89,8 @@ impl VpnTables {
     pub(crate) fn imports_target(&self, i: InstanceId, wanted: Target) -> bool
         ensures { result ≡ list_any (λ u. wanted.0 == u.0) (map (target_of self.now.asn) (imports self.now.feed i)) }
     {
-        if i.0 > 16383 {
-            return self.hop_imports_target(i, wanted);
+        if let Some(hop) = hop_of(i) {
+            return self.hop_imports_target(i, hop, wanted);
         }
         match self.low(&LowKey::Instance(i.0)) {
             Some(LowValue::Instance { imports }) => is_of_any(self.asn, imports.as_slice(), wanted),
@@ -100,25 +98,23 @@ impl VpnTables {
         }
     }
 
-    fn hop_imports_target(&self, i: InstanceId, wanted: Target) -> bool
-        requires { 16383 < i.0 }
+    fn hop_imports_target(&self, i: InstanceId, hop: Hop, wanted: Target) -> bool
+        requires { hop_of i ≡ Some hop }
         ensures { result ≡ list_any (λ u. wanted.0 == u.0) (map (target_of self.now.asn) (imports self.now.feed i)) }
     {
-        let place = (i.0 - 16384) % 16;
-        let Some(side) = self.side((i.0 - 16384) / 16, true) else {
+        let Some(side) = self.side(hop.use_no, true) else {
             return false;
         };
-        let services = u16::from(side.services());
-        if place > services {
+        if hop.place > side.services() {
             return false;
         }
         if wanted.0 == target(self.asn, i).0 {
             return true;
         }
-        if place == 0 && wanted.0 == target(self.asn, side.left()).0 {
+        if hop.place == 0 && wanted.0 == target(self.asn, side.left()).0 {
             return true;
         }
-        place == services && wanted.0 == target(self.asn, side.right()).0
+        hop.place == side.services() && wanted.0 == target(self.asn, side.right()).0
     }
 
     /// Whether an import of an instance has one of these targets.

@@ -1,5 +1,5 @@
 //! The table of an instance: one walk over its paths, with the least of each prefix.
-ghost use Rattle.std.specs.Prelude.{◌≡◌, ◌≤◌, [], ◌∷◌, OnOk, IfOk, map};
+ghost use Rattle.std.specs.Prelude.{◌≡◌, [], ◌∷◌, OnOk, IfOk, map};
 ghost use Rattle.std.specs.List.{filter, filter_map};
 ghost use Rattle.std.specs.FinMap.{entries};
 ghost use Rattle.route_targets.specs.Numbers.{target_of};

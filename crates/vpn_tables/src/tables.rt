@@ -1,5 +1,5 @@
 //! What a control node holds.
-ghost use Rattle.std.specs.Prelude.{◌≡◌, ◌≤◌, OnOk, OnErr, IfSome, option_copied};
+ghost use Rattle.std.specs.Prelude.{◌≡◌, OnOk, OnErr, IfSome, option_copied};
 ghost use Rattle.ov_sync.specs.Keyed.{PutOf, IsPut};
 ghost use Rattle.node_model.specs.Maps.{object};
 ghost use Rattle.vpn_tables.specs.Ranges.{Fits};
@@ -53,14 +53,12 @@ impl Model for VpnTables {
       agents = map agent_of s.agents.items;
     } };
 
-    ghost invariant = { λ s.
-        (s.asn ≤ 65535) × Values Fits (map_of low_order s.low) × (length s.peers.items ≤ 65535) };
+    ghost invariant = { λ s. Values Fits (map_of low_order s.low) × (length s.peers.items ≤ 65535) };
 }
 
 impl VpnTables {
     /// Nothing is held. It takes no memory.
     pub fn new(alloc: Global, asn: u32) -> VpnTables
-        requires { asn ≤ 65535 }
         ensures { result ≡ nothing asn }
     {
         VpnTables {
@@ -143,8 +141,7 @@ impl VpnTables {
 
     /// The AS number. It takes no memory.
     pub fn asn(&self) -> u32
-        ensures number { result ≡ self.now.asn }
-        ensures at_most { result ≤ 65535 }
+        ensures { result ≡ self.now.asn }
     {
         self.asn
     }

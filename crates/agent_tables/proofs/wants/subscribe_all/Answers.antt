@@ -1,15 +1,10 @@
 use Rattle.std.proofs.Common.{ap, ◌+◌, ◌∷◌, [], drop, map, get_or}
 use Rattle.node_items.specs.Told.{up_of}
-use Rattle.node_model.specs.Keys.{Key, Subscribe}
-use Rattle.node_model.specs.Values.{Value, Label}
-use Rattle.ov_types.specs.declared.numbers.InstanceId.{InstanceId}
 use Rattle.agent_tables.specs.Kept.{added}
 use Rattle.agent_tables.proofs.Added.{added_turn, added_end}
 use Rattle.agent_tables.proofs.Lists.{turn_at, rest_none}
 use Rattle.agent_tables.proofs.wants.subscribe_all.Goals as goal
-
-abbrev subscription : InstanceId → Key × Value
-subscription i = (Subscribe i, Label (record { 0 = 0 }))
+use Rattle.agent_tables.proofs.Telling.{subscription}
 
 pub loop-instance-preserved : goal.loop-instance-preserved
 loop-instance-preserved c =

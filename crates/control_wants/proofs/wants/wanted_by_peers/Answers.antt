@@ -1,4 +1,4 @@
-use Rattle.std.proofs.Common.{ap, ◌∙◌, List, ◌++◌, map}
+use Rattle.std.proofs.Common.{ap, ◌∙◌, List, map}
 use Rattle.std.specs.FinMap.{from_entries}
 use Rattle.ov_types.specs.declared.vpn.VpnKey.{VpnKey}
 use Rattle.ov_types.specs.declared.vpn.VpnRoute.{VpnRoute}

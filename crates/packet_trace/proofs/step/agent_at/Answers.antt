@@ -1,4 +1,4 @@
-use Rattle.std.proofs.Common.{◌==◌, ◌∙◌, ap, sym, map, Bool}
+use Rattle.std.proofs.Common.{◌==◌, ◌∙◌, ap, sym, map}
 use Rattle.ov_types.specs.declared.prefix.Addr.{Addr}
 use Rattle.route_targets.specs.Forwarding.{Forwarder}
 use Rattle.packet_trace.proofs.Places.{found_here, found_later, mapped_at}

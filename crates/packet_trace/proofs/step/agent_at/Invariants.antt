@@ -1,4 +1,4 @@
-use Rattle.std.proofs.Common.{◌≡◌, ◌==◌, find, map, drop}
+use Rattle.std.proofs.Common.{◌≡◌, map, drop}
 use Rattle.route_targets.specs.Forwarding.{agent_at}
 use Rattle.packet_trace.proofs.step.agent_at.Given as goal
 

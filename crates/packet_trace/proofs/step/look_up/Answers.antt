@@ -1,4 +1,4 @@
-use Rattle.std.proofs.Common.{◌∙◌, ◌≡◌, sym, map, ap, subst, Some, Option}
+use Rattle.std.proofs.Common.{◌∙◌, sym, map, ap, subst, Some, Option}
 use Rattle.ov_types.specs.declared.rows.Attached.{Attached}
 use Rattle.ov_types.specs.declared.rows.Attached.TheVariants.{Port, Circuit}
 use Rattle.packet_trace.specs.Circuits.{IsOfAUse}

@@ -1,5 +1,4 @@
-use Rattle.std.proofs.Common.{◌∙◌, ap, sym, map, option_map, Option, Some, None}
-use Rattle.ov_types.specs.declared.numbers.InstanceId.{InstanceId}
+use Rattle.std.proofs.Common.{◌∙◌, ap, sym, map, option_map, Some, None}
 use Rattle.route_targets.specs.Forwarding.{Forwarder, source_at}
 use Rattle.packet_trace.proofs.Places.{first_here, first_later, mapped_at}
 use Rattle.packet_trace.proofs.Walks.{source_is}

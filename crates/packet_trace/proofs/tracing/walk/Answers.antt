@@ -1,4 +1,4 @@
-use Rattle.std.proofs.Common.{◌≡◌, ◌<◌, ◌≤◌, ◌+◌, ◌-◌, ◌++◌, ℕ, zero, suc, ap, sym, ◌∙◌, map, length, List, [], ◌∷◌, Some, Option, append-nil, length-append, arith}
+use Rattle.std.proofs.Common.{◌≡◌, ◌<◌, ◌≤◌, ◌+◌, ◌-◌, ◌++◌, ℕ, suc, ap, sym, ◌∙◌, map, List, [], ◌∷◌, Some, Option, append-nil, arith}
 use Rattle.packet_trace.specs.declared.hops.Hop.{Hop}
 use Rattle.packet_trace.specs.declared.step.Step.TheVariants as Does
 use Rattle.packet_trace.proofs.Places.{one_more, some_mapped}

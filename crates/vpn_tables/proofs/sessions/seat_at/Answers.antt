@@ -1,4 +1,3 @@
-use Rattle.std.proofs.Common.{◌≤◌, length, arith}
 use Rattle.vpn_tables.proofs.Seating.{taken, free, free_end}
 use Rattle.vpn_tables.proofs.sessions.seat_at.Goals as goal
 

@@ -11,7 +11,7 @@ use Rattle.vpn_tables.proofs.Peers.{fit_emptied}
 use Rattle.vpn_tables.proofs.tables.VpnTables.drop_session.Goals as goal
 
 pub invariant_of-self : goal.invariant_of-self
-invariant_of-self c = (c.self.invariant.0, rw c.reset.ensures (empty_values low_order Fits), c.self.invariant.2)
+invariant_of-self c = (rw c.reset.ensures (empty_values low_order Fits), c.self.invariant.1)
 
 pub returns-then-session-eq0 : goal.returns-then-session-eq0
 returns-then-session-eq0 c =
@@ -21,4 +21,4 @@ returns-then-session-eq0 c =
 
 pub invariant_of-self-2 : goal.invariant_of-self-2
 invariant_of-self-2 c =
-    (c.self.invariant.0, c.self.invariant.1, fit_emptied c.self.inside.peers.items c.empty_at.new.peers.items c.from.result 65535 c.empty_at.ensures c.self.invariant.2)
+    (c.self.invariant.0, fit_emptied c.self.inside.peers.items c.empty_at.new.peers.items c.from.result 65535 c.empty_at.ensures c.self.invariant.1)

@@ -1,7 +1,5 @@
 use Rattle.std.proofs.Common.{◌≡◌, map, drop}
-use Rattle.std.specs.List.{list_any, flat_map, filter_map}
-use Rattle.std.specs.FinMap.{entries}
-use Rattle.node_model.specs.Paths.{own_path}
+use Rattle.std.specs.List.{list_any, flat_map}
 use Rattle.vpn_tables.specs.Answers.{leads_within}
 use Rattle.vpn_tables.specs.Views.{agent_of}
 use Rattle.vpn_tables.proofs.Walks.{own_of}

@@ -1,4 +1,4 @@
-use Rattle.std.proofs.Common.{ap, sym, ◌∙◌, map, ℕ}
+use Rattle.std.proofs.Common.{ap, sym, ◌∙◌, map}
 use Rattle.node_model.specs.Reaching.{publisher}
 use Rattle.vpn_tables.specs.Routes.{path_of}
 use Rattle.vpn_tables.proofs.Leads.{none_led}

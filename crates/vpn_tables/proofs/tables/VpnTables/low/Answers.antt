@@ -9,4 +9,4 @@ pub returns-clause-object : goal.returns-clause-object
 returns-clause-object c = c.get.ensures ∙ sym (feed-object c.self.inside.low c.args.key.now) ∙ ap (λ (h : Holdings). object h.feed c.args.key.now) c.self.view_is
 
 pub returns-clause-fits : goal.returns-clause-fits
-returns-clause-fits c = fits_at c.self.inside.low c.args.key.now c.get.result c.self.invariant.1 c.get.ensures
+returns-clause-fits c = fits_at c.self.inside.low c.args.key.now c.get.result c.self.invariant.0 c.get.ensures

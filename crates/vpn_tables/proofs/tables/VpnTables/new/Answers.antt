@@ -1,5 +1,4 @@
 use Rattle.std.proofs.Common.{ap, ◌∙◌, map, arith}
-use Rattle.ov_sync.specs.Keyed.{map_of, Values}
 use Rattle.ov_sync.proofs.KeyedLaws.{empty_values}
 use Rattle.vpn_tables.specs.Views.{low_order}
 use Rattle.vpn_tables.specs.Ranges.{Fits}
@@ -8,7 +7,7 @@ use Rattle.vpn_tables.proofs.Images.{feed-empty}
 use Rattle.vpn_tables.proofs.tables.VpnTables.new.Goals as goal
 
 pub invariant_of-result : goal.invariant_of-result
-invariant_of-result c = (c.requires, rw c.new.ensures (empty_values low_order Fits), rw c.new-2.ensures.items (omega arith))
+invariant_of-result c = (rw c.new.ensures (empty_values low_order Fits), rw c.new-2.ensures.items (omega arith))
 
 pub returns : goal.returns
 returns c = λ i. record { asn = c.args.asn; feed = (ap feed_of c.new.ensures ∙ feed-empty) i; peers = map peer_of (c.new-2.ensures.items i); agents = map agent_of (c.new-3.ensures.items i) }

@@ -1,17 +1,14 @@
 use Rattle.std.proofs.Common.{ap, ◌∙◌}
-use Rattle.ov_sync.proofs.KeyedLaws.{changed_values}
 use Rattle.node_model.specs.Maps.{Map}
 use Rattle.node_model.specs.Paths.{Holdings}
-use Rattle.vpn_tables.specs.Ranges.{Fits}
 use Rattle.vpn_tables.specs.Changes.{with_low}
-use Rattle.vpn_tables.specs.Views.{peer_of, agent_of}
 use Rattle.vpn_tables.specs.contracts.tables.VpnTables.{the_view}
-use Rattle.vpn_tables.proofs.Images.{low_total, low_exact, feed-changed}
+use Rattle.vpn_tables.proofs.Images.{feed-changed}
 use Rattle.vpn_tables.proofs.Values.{values_after}
 use Rattle.vpn_tables.proofs.tables.VpnTables.set_low.Goals as goal
 
 pub invariant_of-self-2 : goal.invariant_of-self-2
-invariant_of-self-2 c = (c.self.invariant.0, values_after c.self.inside.low c.apply.new.self c.args.delta (c.in_ok-apply.ensures.ok) c.self.invariant.1 c.requires, c.self.invariant.2)
+invariant_of-self-2 c = (values_after c.self.inside.low c.apply.new.self c.args.delta (c.in_ok-apply.ensures.ok) c.self.invariant.0 c.requires, c.self.invariant.1)
 
 pub returns-clause-ok : goal.returns-clause-ok
 returns-clause-ok c =
