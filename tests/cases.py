@@ -1,10 +1,12 @@
 #!/usr/bin/env python3
-"""Runs a built program on the cases of a folder, and prints how many agree: cases.py PROGRAM FOLDER [NAMES]
+"""Runs a built program on cases, and prints how many agree: cases.py PROGRAM CASES [NAMES]
 
-A case is four files: NAME.args (the words, one a line or parted by blanks), NAME.in (standard input), NAME.out (what is
-written, exactly) and NAME.status (the exit status). With NAMES only cases whose name contains one of them are run. Ends
-with status 1 where a case differs.
+CASES is a file of lines, each an object with `name`, `words`, `input`, `output` (what is written, exactly) and `status` (the
+exit status), as `tests/scale.jsonl` is; or a folder, in which a case is four files: NAME.args (the words, parted by blanks),
+NAME.in, NAME.out and NAME.status. With NAMES only cases whose name contains one of them are run. Needs Python 3.8. Ends with
+status 1 where a case differs.
 """
+import json
 import pathlib
 import subprocess
 import sys
@@ -12,18 +14,35 @@ import sys
 SECONDS = 120
 
 
+def cases_of(path):
+    """The cases of a file or of a folder."""
+    if path.is_file():
+        return [json.loads(line) for line in path.read_text(encoding="utf-8").splitlines()]
+    return [
+        {
+            "name": case.stem,
+            "words": case.read_text().split(),
+            "input": case.with_suffix(".in").read_bytes(),
+            "output": case.with_suffix(".out").read_bytes(),
+            "status": int(case.with_suffix(".status").read_text()),
+        }
+        for case in sorted(path.glob("*.args"))
+    ]
+
+
+def octets(value):
+    return value.encode() if isinstance(value, str) else value
+
+
 def differs(program, case):
     """Returns what differs in a case, or an empty text."""
-    words = case.read_text().split()
-    taken = case.with_suffix(".in").read_bytes()
-    wanted = case.with_suffix(".out").read_bytes()
-    status = int(case.with_suffix(".status").read_text())
+    words, taken, wanted = case["words"], octets(case["input"]), octets(case["output"])
     try:
         ran = subprocess.run([program, *words], input=taken, stdout=subprocess.PIPE, stderr=subprocess.DEVNULL, timeout=SECONDS)
     except subprocess.TimeoutExpired:
         return f"no answer in {SECONDS} seconds"
-    if ran.returncode != status:
-        return f"status {ran.returncode} in place of {status}"
+    if ran.returncode != case["status"]:
+        return f"status {ran.returncode} in place of {case['status']}"
     if ran.stdout != wanted:
         got, want = ran.stdout.splitlines(), wanted.splitlines()
         place = next((i for i, (a, b) in enumerate(zip(got, want)) if a != b), min(len(got), len(want)))
@@ -31,15 +50,15 @@ def differs(program, case):
     return ""
 
 
-def main(program, folder, *names):
-    cases = sorted(pathlib.Path(folder).glob("*.args"))
-    cases = [it for it in cases if not names or any(name in it.stem for name in names)]
+def main(program, path, *names):
+    cases = cases_of(pathlib.Path(path))
+    cases = [it for it in cases if not names or any(name in it["name"] for name in names)]
     agree = 0
     for case in cases:
         said = differs(program, case)
         agree += not said
         if said:
-            print(f"{case.stem}: {said}")
+            print(f"{case['name']}: {said}")
     print(f"{agree} of {len(cases)} cases agree")
     return 0 if cases and agree == len(cases) else 1
 

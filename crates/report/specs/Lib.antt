@@ -6,3 +6,4 @@ pub mod Outcomes
 pub mod Refusals
 pub mod Answers
 pub mod Summaries
+pub mod Restarts

@@ -8,6 +8,9 @@ use Rattle.ov_types.specs.declared.packet.Why.{Why}
 use Rattle.ov_types.specs.declared.packet.Why.TheVariants.{NoSourcePort, NoDestination, NoRoute, Denied, NoLabel}
 use Rattle.ov_types.specs.declared.packet.Why.TheVariants.{TtlExpired}
 use Rattle.report.specs.Lists.{list_text}
+use Rattle.scale_out.specs.declared.visits.Spread.{Spread}
+use Rattle.scale_out.specs.declared.visits.Spread.TheVariants as spread
+use Rattle.scale_out.specs.declared.visits.Visit.{Visit}
 
 abbrev pub services_text : List ServiceNo → List ℕ
 services_text services = list_text (λ s. decimal s.0) services
@@ -27,3 +30,14 @@ outcome_line n (Delivered port services) =
     decimal n ++ (codes " delivered port " ++ (decimal port.0 ++ (codes " services " ++ (services_text services
     ++ (10 ∷ [])))))
 outcome_line n (Dropped why) = decimal n ++ (codes " dropped " ++ (why_text why ++ (10 ∷ [])))
+
+-- a service, and the member of it that is visited
+abbrev pub visit_text : Visit → List ℕ
+visit_text v = decimal v.service.0 ++ (codes ":" ++ decimal v.member)
+
+-- the number of a packet and its outcome, with the member of each service that it visits
+unfoldable pub spread_line : ℕ → Spread → List ℕ
+spread_line n (spread.Delivered port visits) =
+    decimal n ++ (codes " delivered port " ++ (decimal port.0 ++ (codes " services " ++ (list_text visit_text visits
+    ++ (10 ∷ [])))))
+spread_line n (spread.Dropped why) = decimal n ++ (codes " dropped " ++ (why_text why ++ (10 ∷ [])))

@@ -3,19 +3,16 @@
 #![tactic(auto)]
 
 mod answers;
-#[cfg(test)]
-mod chain_tests;
 mod lined;
 mod lines;
 mod lists;
 mod objects;
 mod outcomes;
 mod refusals;
+mod restarts;
 mod rows;
 mod summaries;
 mod targets;
-#[cfg(test)]
-mod tests;
 
 pub use answers::answer_lines;
 pub use lined::LinesOf;
@@ -24,8 +21,9 @@ pub use lines::{
     route_lines,
 };
 pub use objects::{ObjectLines, low_lines};
-pub use outcomes::OutcomeLines;
+pub use outcomes::{OutcomeLines, SpreadLines};
 pub use refusals::{doc_fault_lines, refusal_lines};
+pub use restarts::{did_lines, faulty_lines, held_lines, idle_lines, show_lines};
 pub use rows::{
     AgentAclLines, AgentLabelLines, AgentRowLines, ControlRowLines, agent_lines, control_lines,
     node_lines,

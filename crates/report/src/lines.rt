@@ -27,7 +27,7 @@ pub fn open_lines(
 
 /// What names a route, as it is printed.
 #[derive(Clone, Copy)]
-struct KeyText(VpnKey);
+pub(crate) struct KeyText(pub(crate) VpnKey);
 
 impl fmt::Display for KeyText {
     ghost output = { λ k. Some (key_text k.0) };

@@ -3,8 +3,10 @@ ghost use Rattle.std.specs.Prelude.{◌≡◌, ◌++◌, ℕ, List, IfOk, OnOk, 
 ghost use Rattle.ov_types.specs.Texts.{prefix_text, target_text};
 ghost use Rattle.report.specs.Lists.{list_text, more_text};
 ghost use Rattle.report.specs.Objects.{hop_text};
+ghost use Rattle.report.specs.Outcomes.{visit_text};
 
 use ov_types::{Addr, InstanceId, Prefix, ServiceNo, Target};
+use scale_out::Visit;
 use std::alloc::{AllocError, Global};
 
 /// What stands in lists that are printed.
@@ -57,6 +59,16 @@ impl Listed for (ServiceNo, Addr) {
         let service = self.0;
         let address = self.1;
         write!(text, "{service}@{address}")
+    }
+}
+
+impl Listed for Visit {
+    ghost item_text = { visit_text };
+
+    fn append_to(&self, text: &mut String) -> Result<(), AllocError> {
+        let service = self.service;
+        let member = self.member;
+        write!(text, "{service}:{member}")
     }
 }
 

@@ -1,11 +1,12 @@
-//! The lines of outcomes.
+//! The lines of outcomes, and of outcomes with the members that are visited.
 ghost use Rattle.std.specs.Prelude.{Some};
-ghost use Rattle.report.specs.Outcomes.{outcome_line, why_text};
+ghost use Rattle.report.specs.Outcomes.{outcome_line, spread_line, why_text};
 
 use crate::lined::LinesOf;
 use crate::lists::joined;
 use ov_io::TextOut;
 use ov_types::{NoMemory, Outcome, Why};
+use scale_out::Spread;
 use std::alloc::Global;
 use std::fmt;
 
@@ -47,6 +48,31 @@ impl LinesOf<Outcome> for OutcomeLines {
                 write!(out, "{number} delivered port {port} services {services}\n")
             }
             Outcome::Dropped { why } => {
+                let why = WhyText(*why);
+                write!(out, "{number} dropped {why}\n")
+            }
+        }
+    }
+}
+
+/// The line of an outcome, behind the number of its packet, with each visit as its service and the member.
+#[derive(Clone, Copy)]
+pub struct SpreadLines {
+    pub number: usize,
+}
+
+impl LinesOf<Spread> for SpreadLines {
+    ghost lines = { λ w spread. spread_line w.number spread };
+
+    #[tactic(auto, unfolding(crate::specs::Outcomes::spread_line))]
+    fn append(&self, alloc: Global, spread: &Spread, out: &mut TextOut) -> Result<(), NoMemory> {
+        let number = self.number;
+        match spread {
+            Spread::Delivered { port, visits } => {
+                let visits = joined(alloc, visits.as_slice())?;
+                write!(out, "{number} delivered port {port} services {visits}\n")
+            }
+            Spread::Dropped { why } => {
                 let why = WhyText(*why);
                 write!(out, "{number} dropped {why}\n")
             }

@@ -1,6 +1,6 @@
 -- What groups of the form keep that choices rest on.
-use Rattle.std.proofs.Common.{◌≡◌, ℕ, zero, suc, ◌+◌, ◌<◌, ◌≤◌, Bool, true, false, ltb, leb, IsTrue, List, [], ◌∷◌, length, get_or, Option, Some, None, find, refl, sym, ◌∙◌, ap, subst, arith, ◌&&◌}
-use Rattle.std.specs.List.{All, AllPairs, list_all}
+use Rattle.std.proofs.Common.{◌≡◌, ℕ, ◌+◌, ◌<◌, ◌≤◌, Bool, true, false, ltb, leb, IsTrue, List, [], ◌∷◌, length, get_or, Option, Some, None, refl, sym, ap, arith, ◌&&◌}
+use Rattle.std.specs.List.{list_all}
 use Rattle.std.specs.List.Sorted.{IsStrictlyIncreasing}
 use Rattle.std.specs.Option.{option_map_or}
 use Rattle.std.specs.Prelude.{option_and_then}

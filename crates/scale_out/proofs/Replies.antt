@@ -19,11 +19,10 @@ use Rattle.reach_plain.specs.Reachability.{reachability}
 use Rattle.reach_plain.proofs.Becoming.{becomes}
 use Rattle.reach_plain.proofs.Kept.{valid}
 use Rattle.scale_out.specs.declared.groups.Group.{Group}
-use Rattle.scale_out.specs.declared.visits.Spread.{Spread}
 use Rattle.scale_out.specs.declared.visits.Spread.TheVariants.{Delivered, Dropped}
 use Rattle.scale_out.specs.declared.visits.Visit.{Visit}
-use Rattle.scale_out.specs.Spread.{source_address, key, visit_by, visiting, spread, services_of, reply}
-use Rattle.scale_out.proofs.Visiting.{services_again, outcome_again}
+use Rattle.scale_out.specs.Spread.{source_address, key, visit_by, visiting, spread, reply}
+use Rattle.scale_out.proofs.Visiting.{services_again}
 
 -- the port that a packet is delivered to has the packet's destination as its address
 pub arrives : (t : Topology) (c : Config) (p : Packet) (port : PortNo) (services : List ServiceNo) → first_broken t c ≡ None → reachability c p ≡ Outcomes.Delivered port services

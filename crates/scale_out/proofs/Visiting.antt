@@ -1,10 +1,10 @@
 -- Visits of the services of an outcome.
-use Rattle.std.proofs.Common.{◌≡◌, ◌≢◌, inl, inr, ℕ, ◌<◌, ◌≤◌, Bool, true, false, IsTrue, List, [], ◌∷◌, map, reverse, length, get_or, None, refl, sym, ap, ◌∙◌, subst, arith}
+use Rattle.std.proofs.Common.{◌≡◌, ◌≢◌, inl, inr, ℕ, ◌≤◌, Bool, true, false, IsTrue, List, [], ◌∷◌, map, length, get_or, None, refl, sym, ap, ◌∙◌, subst, arith}
 use Rattle.std.specs.List.{All, AllPairs, list_all}
 use Rattle.std.proofs.lemmas.List.{length-map, length-reverse}
-use Rattle.std.proofs.lemmas.List.Elements.{All-map, All-from_get_or}
+use Rattle.std.proofs.lemmas.List.Elements.{All-map}
 use Rattle.std.proofs.lemmas.List.Kept.{AllPairs-cons}
-use Rattle.ov_types.proofs.FirstLemmas.{all_head, all_tail, pairs_head, pairs_tail}
+use Rattle.ov_types.proofs.FirstLemmas.{pairs_head, pairs_tail}
 use Rattle.ov_types.specs.declared.numbers.PortNo.{PortNo}
 use Rattle.ov_types.specs.declared.numbers.ServiceNo.{ServiceNo}
 use Rattle.ov_types.specs.declared.packet.Outcome.{Outcome}
@@ -22,10 +22,9 @@ use Rattle.reach_plain.proofs.Becoming.{becomes}
 use Rattle.reach_plain.proofs.Kept.{valid, chain_is_short}
 use Rattle.reach_plain.proofs.Once.{passed_once}
 use Rattle.scale_out.specs.declared.groups.Group.{Group}
-use Rattle.scale_out.specs.declared.visits.Spread.{Spread}
 use Rattle.scale_out.specs.declared.visits.Spread.TheVariants.{Delivered, Dropped}
 use Rattle.scale_out.specs.declared.visits.Visit.{Visit}
-use Rattle.scale_out.specs.Choice.{chosen, IsChosen}
+use Rattle.scale_out.specs.Choice.{IsChosen}
 use Rattle.scale_out.specs.Form.{has_group_form}
 use Rattle.scale_out.specs.Groups.{members_of}
 use Rattle.scale_out.specs.Spread.{key, visit_by, visiting, spread, services_of}

@@ -1,9 +1,17 @@
 //! Groups: the members of services that have several.
 ghost use Rattle.std.specs.Prelude.{◌≡◌, [], IsTrue};
 ghost use Rattle.std.specs.List.{list_all};
+ghost use Rattle.serde_json.specs.View.{view};
+ghost use Rattle.config_model.specs.Paths.{place_text};
+ghost use Rattle.config_model.specs.Faults.{Gives};
 ghost use Rattle.scale_out.specs.Form.{has_group_form};
+ghost use Rattle.scale_out.specs.Reading.{groups_at};
 
+use crate::group_reader::groups_of;
+use config_model::reading::Place;
+use config_model::{Config, ReadRefusal};
 use ov_types::{Items, Name};
+use serde_json::Value;
 use std::alloc::Global;
 use std::marker::Model;
 
@@ -41,6 +49,27 @@ impl Groups {
         Groups {
             inner: Items::new(alloc),
         }
+    }
+
+    /// The groups that a value writes: a list, each of a service that the configuration has and that no earlier group
+    /// names, whether or not the configuration is valid. Paths begin at the value.
+    pub fn read(alloc: Global, value: &Value, config: &Config) -> Result<Groups, ReadRefusal>
+        ensures { Gives (λ groups. groups) result (groups_at config.now [] (view value.now)) }
+    {
+        Groups::read_at(alloc, &Place::Whole, value, config)
+    }
+
+    /// The same, of a value at a place.
+    pub(crate) fn read_at(
+        alloc: Global,
+        place: &Place<'_>,
+        value: &Value,
+        config: &Config,
+    ) -> Result<Groups, ReadRefusal>
+        ensures { Gives (λ groups. groups) result (groups_at config.now (place_text place.now) (view value.now)) }
+    {
+        let inner = groups_of(alloc, place, config, value)?;
+        Ok(Groups { inner })
     }
 
     /// The groups, in order. It takes no memory.

@@ -1,6 +1,8 @@
 //! What choices and visits promise, as laws: each is the contract of a function that does nothing.
-ghost use Rattle.std.specs.Prelude.{◌≡◌, ◌≢◌, ◌<◌, ◌⊎◌, ◌↔◌, ◌++◌, ◌∷◌, ℕ, List, length, map, reverse};
+ghost use Rattle.std.specs.Prelude.{◌≡◌, ◌≢◌, ◌<◌, ◌⊎◌, ◌↔◌, ◌++◌, ◌∷◌, ℕ, List, length, map, reverse, IsTrue, Ok};
+ghost use Rattle.std.specs.List.{All, AllPairs, list_all};
 ghost use Rattle.std.specs.List.Sorted.{IsStrictlyIncreasing};
+ghost use Rattle.serde_json.specs.Data.{Data};
 ghost use Rattle.ov_types.specs.declared.numbers.PortNo.{PortNo};
 ghost use Rattle.ov_types.specs.declared.packet.Outcome.TheVariants as Outcomes;
 ghost use Rattle.ov_types.specs.declared.packet.Packet.{Packet};
@@ -12,6 +14,9 @@ ghost use Rattle.scale_out.specs.declared.groups.Group.{Group as Several};
 ghost use Rattle.scale_out.specs.declared.visits.Spread.TheVariants.{Delivered};
 ghost use Rattle.scale_out.specs.declared.visits.Visit.{Visit as Stop};
 ghost use Rattle.scale_out.specs.Choice.{chosen, IsChosen};
+ghost use Rattle.scale_out.specs.Form.{has_group_form};
+ghost use Rattle.scale_out.specs.GroupDocuments.{groups_document};
+ghost use Rattle.scale_out.specs.Reading.{groups_at, has_service};
 ghost use Rattle.scale_out.specs.Spread.{spread, reply};
 
 /// Of ascending members, of which there are some, exactly one is chosen: the one with the greatest score, and the least
@@ -40,4 +45,18 @@ pub fn replies_visit_in_reverse()
         (visits : List Stop) → first_broken topology c ≡ None → spread c groups p ≡ Delivered port visits
         → reachability c (reply c p port) ≡ Outcomes.Delivered back (reverse (map (λ v. v.service) visits))
         → spread c groups (reply c p port) ≡ Delivered back (reverse visits) }
+{}
+
+/// The groups that are read of a value are of services that the configuration has, no two of one service.
+pub fn groups_are_of_services_of_their_own()
+    ensures { (c : Config) (path : List ℕ) (d : Data) (groups : List Several) → groups_at c path d ≡ Ok groups
+        → All (λ g. IsTrue (has_service c g.service)) groups × AllPairs (λ g h. g.service ≢ h.service) groups }
+{}
+
+/// Each such list of groups of the form has a document, with each member under its own name, and it reads as that list
+/// wherever it stands.
+pub fn groups_are_read()
+    ensures { (c : Config) (groups : List Several) → IsTrue (list_all has_group_form groups)
+        → All (λ g. IsTrue (has_service c g.service)) groups → AllPairs (λ g h. g.service ≢ h.service) groups
+        → (path : List ℕ) → groups_at c path (groups_document groups) ≡ Ok groups }
 {}

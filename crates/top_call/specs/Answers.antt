@@ -3,14 +3,16 @@ use Rattle.std.specs.Prelude.{◌≡◌, ℕ, List}
 use Rattle.document_answers.specs.declared.unfit.Verdict.{Verdict}
 use Rattle.document_answers.specs.Answers.{compile_answer, reach_answer}
 use Rattle.message_answers.specs.Decoding.{WritesSpelled, decode_verdict, spelled}
+use Rattle.scale_answers.specs.Answers.{scale_answer}
 use Rattle.schedule_answers.specs.Answers.{gen_answer, run_answer}
 use Rattle.top_call.specs.declared.command.Command.{Command}
-use Rattle.top_call.specs.declared.command.Command.TheVariants.{Compile, Reach, Run, Decode, Gen}
+use Rattle.top_call.specs.declared.command.Command.TheVariants.{Compile, Reach, Scale, Run, Decode, Gen}
 
 -- what an input is found to be
 unfoldable pub verdict_of : Command → List ℕ → Verdict
 verdict_of Compile octets = (compile_answer octets).verdict
 verdict_of Reach octets = (reach_answer octets).verdict
+verdict_of Scale octets = (scale_answer octets).verdict
 verdict_of Run octets = (run_answer octets).verdict
 verdict_of Decode octets = decode_verdict (spelled octets)
 verdict_of (Gen n) octets = (gen_answer n).verdict
@@ -19,6 +21,7 @@ verdict_of (Gen n) octets = (gen_answer n).verdict
 unfoldable pub Writes : Command → List ℕ → List ℕ → Type 0
 Writes Compile octets text = text ≡ (compile_answer octets).text
 Writes Reach octets text = text ≡ (reach_answer octets).text
+Writes Scale octets text = text ≡ (scale_answer octets).text
 Writes Run octets text = text ≡ (run_answer octets).text
 Writes Decode octets text = WritesSpelled (spelled octets) text
 Writes (Gen n) octets text = text ≡ (gen_answer n).text

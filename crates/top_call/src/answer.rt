@@ -10,6 +10,7 @@ use document_answers::{Verdict, answer_compile, answer_reach};
 use message_answers::answer_decode;
 use net_machine::Net;
 use ov_io::{Sink, WriteRefusal};
+use scale_answers::answer_scale;
 use schedule_answers::{answer_gen, answer_run};
 use std::alloc::Global;
 
@@ -37,6 +38,7 @@ pub(crate) fn answer<K: Sink>(
     match command {
         Command::Compile => answer_compile(alloc, octets, sink),
         Command::Reach => answer_reach(alloc, octets, sink),
+        Command::Scale => answer_scale(alloc, octets, sink),
         Command::Run => answer_run(alloc, octets, sink, net),
         Command::Decode => answer_decode(alloc, octets, sink),
         Command::Gen(n) => answer_gen(alloc, n, sink, net),

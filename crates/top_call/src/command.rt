@@ -10,6 +10,8 @@ pub(crate) enum Command {
     Compile,
     /// What becomes of packets.
     Reach,
+    /// What becomes of packets, with the member of each service that they visit.
+    Scale,
     /// What the events of a schedule answer.
     Run,
     /// What BGP messages say that are spelled in hexadecimal digits.
@@ -38,6 +40,7 @@ fn named(word: &str) -> Option<Command>
     match word {
         "compile" => Some(Command::Compile),
         "reach" => Some(Command::Reach),
+        "scale" => Some(Command::Scale),
         "run" => Some(Command::Run),
         "decode" => Some(Command::Decode),
         _ => None,

@@ -1,4 +1,4 @@
-use Rattle.std.proofs.Common.{◌≡◌, ◌++◌, ◌∙◌, ap, subst}
+use Rattle.std.proofs.Common.{◌≡◌, ◌++◌, ◌∙◌, subst}
 use Rattle.std.specs.Prelude.{OnOk, flat_map}
 use Rattle.std.proofs.lemmas.List.{append_assoc}
 use Rattle.report.specs.Rows.{agent_acl_lines, agent_label_line, agent_lines, agent_row_line}
