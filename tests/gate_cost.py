@@ -46,6 +46,9 @@ def crates_of(top):
     return {name: [it for it in below if it in found] for name, below in found.items()}
 
 
+NAMES = crates_of(TOP)
+
+
 def words_of(pid):
     with open(f"/proc/{pid}/cmdline", "rb") as file:
         return file.read().decode(errors="replace").split("\0")
@@ -67,8 +70,9 @@ def what_is(pid):
             start = words[words.index("--incremental") + 1] if "--incremental" in words else ""
             return crate, "base" if start.endswith("/seed") else "edits"
         return crate, "tests" if "--test" in words else "proof"
-    ran = [it for it in words if "/rt-run-" in it and "/bin/" in it]
-    return (re.sub(r"_tests$", "", os.path.basename(ran[-1])), "runs") if ran else None
+    ran = [os.path.basename(it) for it in words if "/rt-run-" in it and "/bin/" in it]
+    # (the tests of a crate are built to its name and `_tests`; two programs have names that end so themselves)
+    return (ran[-1] if ran[-1] in NAMES else re.sub(r"_tests$", "", ran[-1]), "runs") if ran else None
 
 
 class Watch:

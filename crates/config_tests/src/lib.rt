@@ -2,20 +2,12 @@
 #![tactic(auto)]
 
 #[cfg(test)]
-mod acls;
-#[cfg(test)]
 mod chains;
 #[cfg(test)]
-mod documents;
-#[cfg(test)]
-mod edits;
-#[cfg(test)]
-mod event_documents;
+mod members;
 #[cfg(test)]
 mod packets;
 #[cfg(test)]
 mod rules;
 #[cfg(test)]
 mod scenarios;
-#[cfg(test)]
-mod transforming;

@@ -1,8 +1,8 @@
-//! Worked packets, and their outcomes, written by hand.
+//! Which rule decides on a packet, and how it is taken.
 use config_check::{Valid, check};
 use config_model::read_compile;
-use ov_types::{Addr, InstanceId, Outcome, Packet, PortNo, RuleNo, Tuple, Why};
-use reach_plain::{Decision, decide, is_network, reach};
+use ov_types::{InstanceId, RuleNo, Tuple};
+use reach_plain::{Decision, decide, is_network};
 use serde_json::Value;
 use std::alloc::{AllocError, Global};
 
@@ -26,17 +26,6 @@ const WEB: &str = r#"{
             "source_ports":[0,65535],"destination_ports":[0,65535],"action":"pass"}]}]
 }"#;
 
-/// Red alone attaches a policy, which passes all.
-const ALONE: &str = r#"{
-    "networks":[{"name":"red","id":1,"subnets":["10.1.0.0/24"],"policies":["web"]},
-        {"name":"blue","id":2,"subnets":["10.2.0.0/24"]}],
-    "ports":[{"name":"vm1","id":1,"network":"red","address":"10.1.0.1","node":"n1"},
-        {"name":"vm2","id":2,"network":"blue","address":"10.2.0.2","node":"n1"}],
-    "policies":[{"name":"web","sequence":10,"rules":[
-        {"direction":"<>","source":"any","destination":"any","protocol":"any",
-            "source_ports":[0,65535],"destination_ports":[0,65535],"action":"pass"}]}]
-}"#;
-
 /// Both attach `shop`, which passes tcp from red's ports 1024 to 2000 to blue's ports 80 to 90, and not the answers.
 const SHOP: &str = r#"{
     "networks":[{"name":"red","id":1,"subnets":["10.1.0.0/24"],"policies":["shop"]},
@@ -47,54 +36,6 @@ const SHOP: &str = r#"{
         {"direction":">","source":"red","destination":"blue","protocol":6,
             "source_ports":[1024,2000],"destination_ports":[80,90],"action":"pass"}]}]
 }"#;
-
-/// Both attach `sec`, which leads packets between them through two services, and before it by sequence, but after it
-/// in the document, `ssh`, which denies tcp to port 22 from red to blue.
-const SECURE: &str = r#"{
-    "networks":[{"name":"red","id":1,"subnets":["10.1.0.0/24"],"policies":["sec","ssh"]},
-        {"name":"blue","id":2,"subnets":["10.2.0.0/24"],"policies":["ssh","sec"]}],
-    "ports":[{"name":"vm1","id":1,"network":"red","address":"10.1.0.1","node":"n1"},
-        {"name":"vm2","id":2,"network":"blue","address":"10.2.0.2","node":"n1"}],
-    "policies":[
-        {"name":"sec","sequence":20,"rules":[
-            {"direction":"<>","source":"red","destination":"blue","protocol":"any",
-                "source_ports":[0,65535],"destination_ports":[0,1023],"action":"chain","chain":"pair","use":0}]},
-        {"name":"ssh","sequence":10,"rules":[
-            {"direction":">","source":"red","destination":"blue","protocol":6,
-                "source_ports":[0,65535],"destination_ports":[22,22],"action":"deny"}]}],
-    "services":[{"name":"s1","id":1,"node":"n1"},{"name":"s2","id":2,"node":"n1"}],
-    "chains":[{"name":"pair","hops":["s1","s2"]}]
-}"#;
-
-const RED: u32 = 0x0a01_0001;
-
-const BLUE: u32 = 0x0a02_0002;
-
-const NOBODY: u32 = 0x0a02_0009;
-
-/// The configuration, the source port, the destination, the source and destination ports of tcp, and the outcome.
-const CASES: [(&str, u32, u32, u16, u16, &str); 20] = [
-    (WEB, 1, BLUE, 40000, 22, "denied by 10/1"),
-    (WEB, 1, BLUE, 40000, 80, "to 2"),
-    (WEB, 1, BLUE, 22, 40000, "denied by 10/1"),
-    (WEB, 1, NOBODY, 40000, 80, "no route"),
-    (WEB, 1, NOBODY, 40000, 22, "denied by 10/1"),
-    (WEB, 9, BLUE, 40000, 80, "no source port"),
-    (WEB, 1, RED, 40000, 22, "to 1"),
-    (ALONE, 1, BLUE, 40000, 80, "no destination"),
-    (SECURE, 1, BLUE, 40000, 80, "to 2 by 1 by 2"),
-    (SECURE, 2, RED, 80, 40000, "to 1 by 2 by 1"),
-    (SECURE, 1, BLUE, 40000, 22, "denied by 10/1"),
-    (SECURE, 2, RED, 22, 40000, "to 1 by 2 by 1"),
-    (SECURE, 1, BLUE, 80, 40000, "denied"),
-    (SECURE, 2, RED, 40000, 80, "denied"),
-    (SHOP, 1, BLUE, 1024, 90, "to 2"),
-    (SHOP, 1, BLUE, 2000, 80, "to 2"),
-    (SHOP, 1, BLUE, 2001, 80, "denied"),
-    (SHOP, 1, BLUE, 1024, 79, "denied"),
-    (SHOP, 1, BLUE, 80, 1024, "denied"),
-    (SHOP, 2, RED, 80, 1024, "denied"),
-];
 
 /// A document of one node and a configuration.
 fn document(alloc: Global, configuration: &str) -> Result<String, AllocError> {
@@ -109,47 +50,11 @@ fn valid_of(alloc: Global, configuration: &str) -> Option<Valid> {
     check(alloc, plan.topology, plan.config).ok()
 }
 
-fn reason(alloc: Global, why: Why) -> Result<String, AllocError> {
-    match why {
-        Why::NoSourcePort => String::from_str(alloc, "no source port"),
-        Why::NoDestination => String::from_str(alloc, "no destination"),
-        Why::NoRoute => String::from_str(alloc, "no route"),
-        Why::Denied { rule: Some(rule) } => format!(in alloc; "denied by {rule}"),
-        Why::Denied { rule: None } => String::from_str(alloc, "denied"),
-        _ => String::from_str(alloc, "another"),
-    }
-}
-
-fn line_of(alloc: Global, outcome: &Outcome) -> Result<String, AllocError> {
-    match outcome {
-        Outcome::Dropped { why } => reason(alloc, *why),
-        Outcome::Delivered { port, services } => {
-            let mut line = format!(in alloc; "to {port}")?;
-            for service in services.as_slice() {
-                let part = format!(in alloc; " by {service}")?;
-                line.push_str(part.as_str())?;
-            }
-            Ok(line)
-        }
-    }
-}
-
 fn tuple_of(sport: u16, dport: u16) -> Tuple {
     Tuple {
         proto: 6,
         sport,
         dport,
-    }
-}
-
-/// Whether a packet of a configuration has this outcome.
-fn is_outcome(alloc: Global, configuration: &str, packet: Packet, want: &str) -> bool {
-    let Some(valid) = valid_of(alloc, configuration) else {
-        return false;
-    };
-    match line_of(alloc, &reach(&valid, packet)) {
-        Ok(line) => line.as_str() == want,
-        Err(_) => false,
     }
 }
 
@@ -178,21 +83,6 @@ fn by_rule(position: u16, mirrored: bool) -> Option<Decision> {
         position,
     };
     Some(Decision { rule, mirrored })
-}
-
-#[test]
-fn packets_have_their_outcomes(rt: HostRuntime) {
-    for (configuration, port, to, sport, dport, want) in CASES {
-        let packet = Packet {
-            source: PortNo(port),
-            destination: Addr(to),
-            tuple: tuple_of(sport, dport),
-        };
-        assert!(rt;
-            is_outcome(rt.alloc(), configuration, packet, want),
-            "{want}"
-        );
-    }
 }
 
 #[test]

@@ -52,6 +52,16 @@ const OWN_UPDATE: &[u8] =
     \x80\x0e\x21\x00\x01\x80\x0c\x00\x00\x00\x00\x00\x00\x00\x00\xc0\x00\x02\x0b\x00\x78\x00\x01\x11\
     \x00\x01\xc0\x00\x02\x0b\x00\x01\x0a\x01\x00\x06\xc0\x10\x08\x00\x02\xfc\x00\x00\x7a\x12\x01";
 
+/// The OPEN of 192.0.2.2 in AS 4200000000, and the UPDATE that tells that row there, with the target L4200000000:1.
+const OPEN_IN_A_WIDE_AS: &[u8] =
+    b"\x00\x2b\x01\x04\x5b\xa0\x00\x00\xc0\x00\x02\x02\x0e\x02\x0c\x01\x04\x00\x01\x00\x80\
+    \x41\x04\xfa\x56\xea\x00";
+
+const UPDATE_IN_A_WIDE_AS: &[u8] =
+    b"\x00\x54\x02\x00\x00\x00\x3d\x40\x01\x01\x00\x40\x02\x00\x40\x05\x04\x00\x00\x00\x64\
+    \x80\x0e\x21\x00\x01\x80\x0c\x00\x00\x00\x00\x00\x00\x00\x00\xc0\x00\x02\x0b\x00\x78\x00\x01\x11\
+    \x00\x01\xc0\x00\x02\x0b\x00\x01\x0a\x01\x00\x06\xc0\x10\x08\x02\x02\xfa\x56\xea\x00\x00\x01";
+
 const OWN_ROW: &str = "1 10.1.0.6/32 192.0.2.11:1 192.0.2.11 17\n";
 
 const BOTH_ROWS: &str =
@@ -92,9 +102,21 @@ fn node(
     peers: &[NodeId],
     agents: &[NodeId],
 ) -> ControlNode {
+    node_in(rt, alloc, 64512, me, peers, agents)
+}
+
+/// A control node of an autonomous system with these peers and agents.
+fn node_in(
+    rt: &impl Abort,
+    alloc: Global,
+    asn: u32,
+    me: NodeId,
+    peers: &[NodeId],
+    agents: &[NodeId],
+) -> ControlNode {
     let plan = ControlPlan {
         me,
-        asn: 64512,
+        asn,
         peers: ids(rt, alloc, peers),
         agents: ids(rt, alloc, agents),
     };
@@ -430,4 +452,32 @@ fn both_of_two_peers_are_told_what_is_published(rt: HostRuntime) {
     add_queues(&rt, alloc, &mut links, 4);
     let mut node = node(&rt, alloc, id(&rt, "c1", 0xc000_0201), &peers, &agents);
     tell_both_peers(&rt, alloc, &mut node, &mut links);
+}
+
+/// In AS 4200000000, a publication is told to a peer of that system.
+fn tell_a_peer_in_a_wide_as(
+    rt: &impl Abort,
+    alloc: Global,
+    node: &mut ControlNode,
+    links: &mut Links<QueueLink>,
+) {
+    greeted(rt, alloc, node, links, 0, &[CONFIG_HELLO, INSTANCE]);
+    peered(rt, alloc, node, links, 1, &[OPEN_IN_A_WIDE_AS, KEEPALIVE]);
+    forget(rt, links, 1);
+    greeted(rt, alloc, node, links, 2, &[A1_HELLO, PUBLISH]);
+    are_shown(rt, alloc, node, OWN_ROW);
+    let own = message(rt, alloc, UPDATE_IN_A_WIDE_AS);
+    were_sent(rt, links, 1, &[own.as_slice()]);
+}
+
+#[test]
+fn a_peer_in_an_as_of_four_octets_is_told_what_is_published(rt: HostRuntime) {
+    let alloc = rt.alloc();
+    let peers = [id(&rt, "c2", 0xc000_0202)];
+    let agents = [id(&rt, "a1", 0xc000_020b)];
+    let mut links = Links::new(alloc);
+    add_queues(&rt, alloc, &mut links, 3);
+    let me = id(&rt, "c1", 0xc000_0201);
+    let mut node = node_in(&rt, alloc, 4_200_000_000, me, &peers, &agents);
+    tell_a_peer_in_a_wide_as(&rt, alloc, &mut node, &mut links);
 }

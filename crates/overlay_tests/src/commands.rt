@@ -1,73 +1,10 @@
-//! Whole runs of each command.
-use crate::decode_cases::{MESSAGES, NO_MESSAGES};
-use crate::document_cases::{COMPILED, NOT_HEX, REACHED, UNFIT};
-use crate::driver::{each_is_answered, run_over};
-use crate::run_cases::{
-    AGGREGATE_GOES, CHAIN_SETTLES, CHAIN_SHOWN_BY_THE_OTHER, CONNECT_AND_LOSE, EDITS_ANSWERED,
-    EQUAL_ADDRESSES_STAY_APART, LOST_SESSION, NO_EVENTS, TWO_CONTROL_NODES, UNSETTLED,
-};
+//! Words that are no command, and a command that reads nothing.
+use crate::driver::run_over;
 use ov_io::{MemSink, MemSource};
 use std::alloc::Global;
 use std::process::Abort;
 use std::test::Fail;
 use top_call::Status;
-
-#[test]
-fn documents_are_compiled(rt: HostRuntime) -> Result<(), Fail> {
-    each_is_answered(&rt, rt.alloc(), &COMPILED)
-}
-
-#[test]
-fn packets_are_answered(rt: HostRuntime) -> Result<(), Fail> {
-    each_is_answered(&rt, rt.alloc(), &REACHED)
-}
-
-#[test]
-fn what_is_not_fit_is_answered(rt: HostRuntime) -> Result<(), Fail> {
-    each_is_answered(&rt, rt.alloc(), &UNFIT)
-}
-
-#[test]
-fn messages_are_told(rt: HostRuntime) -> Result<(), Fail> {
-    each_is_answered(&rt, rt.alloc(), &MESSAGES)
-}
-
-#[test]
-fn what_is_no_message_is_told(rt: HostRuntime) -> Result<(), Fail> {
-    each_is_answered(&rt, rt.alloc(), &NO_MESSAGES)
-}
-
-#[test]
-fn documents_are_no_digits(rt: HostRuntime) -> Result<(), Fail> {
-    each_is_answered(&rt, rt.alloc(), &NOT_HEX)
-}
-
-#[test]
-fn sessions_and_edits_are_answered(rt: HostRuntime) -> Result<(), Fail> {
-    let cases = [
-        NO_EVENTS,
-        EQUAL_ADDRESSES_STAY_APART,
-        CONNECT_AND_LOSE,
-        EDITS_ANSWERED,
-    ];
-    each_is_answered(&rt, rt.alloc(), &cases)
-}
-
-#[test]
-fn losses_and_restarts_are_answered(rt: HostRuntime) -> Result<(), Fail> {
-    each_is_answered(&rt, rt.alloc(), &[LOST_SESSION, TWO_CONTROL_NODES])
-}
-
-#[test]
-fn what_is_not_settled_is_answered(rt: HostRuntime) -> Result<(), Fail> {
-    each_is_answered(&rt, rt.alloc(), &[UNSETTLED])
-}
-
-#[test]
-fn a_chain_settles_through_two_control_nodes(rt: HostRuntime) -> Result<(), Fail> {
-    let cases = [CHAIN_SETTLES, CHAIN_SHOWN_BY_THE_OTHER, AGGREGATE_GOES];
-    each_is_answered(&rt, rt.alloc(), &cases)
-}
 
 /// The words of no command.
 const NO_COMMANDS: [(usize, [&str; 3]); 9] = [

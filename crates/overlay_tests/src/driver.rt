@@ -71,12 +71,3 @@ pub(crate) fn answers_from<S: Source>(
     assert!(rt; status == case.status, "{more}");
     Ok(())
 }
-
-/// Runs each case.
-pub(crate) fn each_is_answered(rt: &impl Abort, alloc: Global, cases: &[Case]) -> Result<(), Fail> {
-    for case in cases {
-        let mut source = MemSource::new(alloc, input_of(alloc, case)?, Vec::new(alloc));
-        answers_from(rt, alloc, case, &mut source)?;
-    }
-    Ok(())
-}

@@ -6,8 +6,6 @@ mod commands;
 #[cfg(test)]
 mod compiled_texts;
 #[cfg(test)]
-mod decode_cases;
-#[cfg(test)]
 mod document_cases;
 #[cfg(test)]
 mod documents;

@@ -2,7 +2,8 @@
 use config_check::{IdKind, LimitKind, Refusal};
 use ov_io::TextOut;
 use ov_types::{Outcome, RuleNo, Why};
-use report::{LinesOf, OutcomeLines, refusal_lines};
+use report::{LinesOf, OutcomeLines, SpreadLines, refusal_lines};
+use scale_out::Spread;
 use std::alloc::Global;
 use std::process::Abort;
 use std::test::Fail;
@@ -83,6 +84,9 @@ fn each_reason_has_its_word(rt: HostRuntime) -> Result<(), Fail> {
     for (why, line) in REASONS {
         let mut out = TextOut::new(alloc);
         OutcomeLines { number: 4 }.append(alloc, &Outcome::Dropped { why }, &mut out)?;
+        assert_eq!(rt; out.octets(), line.as_bytes());
+        let mut out = TextOut::new(alloc);
+        SpreadLines { number: 4 }.append(alloc, &Spread::Dropped { why }, &mut out)?;
         assert_eq!(rt; out.octets(), line.as_bytes());
     }
     Ok(())

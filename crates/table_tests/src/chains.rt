@@ -76,10 +76,21 @@ pub fn subscribe(rt: &impl Abort, tables: &mut VpnTables, session: u16, instance
     told.expect(rt, "memory");
 }
 
-/// The peer leads the right subnet into the place between the two services.
+/// In AS 64512 the peer leads the right subnet into the place between the two services.
 pub fn lead_right(rt: &impl Abort, alloc: Global, tables: &mut VpnTables, right: Prefix) {
+    lead_right_to(rt, alloc, tables, right, Target(0x0002_fc00_007a_5201));
+}
+
+/// The peer leads the right subnet into that place, whose target this is.
+pub fn lead_right_to(
+    rt: &impl Abort,
+    alloc: Global,
+    tables: &mut VpnTables,
+    right: Prefix,
+    target: Target,
+) {
     let mut targets = Targets::new(alloc);
-    let added = targets.insert(Target(0x0002_fc00_007a_5201));
+    let added = targets.insert(target);
     added.expect(rt, "memory");
     let key = VpnKey {
         rd: Rd(0x0001_c000_020c_4001),

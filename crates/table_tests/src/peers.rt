@@ -12,46 +12,38 @@ use ov_types::{Addr, Items, Label, Name, NodeId, Prefix, Rd, Targets, VpnKey, Vp
 use std::alloc::Global;
 use std::process::Abort;
 
-fn nibble(digit: u8) -> u8 {
-    match digit {
-        b'0'..=b'9' => digit - b'0',
-        b'a'..=b'f' => digit - b'a' + 10,
-        _ => 0,
-    }
-}
-
 // Pairs of hexadecimal digits; M stands for a marker.
 fn octets(rt: &impl Abort, alloc: Global, text: &str) -> Vec<u8> {
-    let mut octets = Vec::new(alloc);
-    let mut high = None;
+    let mut digits = Vec::new(alloc);
     for c in text.bytes() {
         if c == b'M' {
-            octets.extend_from_slice(&[255; 16]).expect(rt, "memory");
+            digits.extend_from_slice(&[b'f'; 32]).expect(rt, "memory");
         } else if c != b' ' && c != b'\n' {
-            let digit = nibble(c);
-            high = match high {
-                None => Some(digit),
-                Some(first) => {
-                    octets.push((first << 4) | digit).expect(rt, "memory");
-                    None
-                }
-            };
+            digits.push(c).expect(rt, "memory");
         }
     }
-    octets
+    hex::decode(alloc, digits.as_slice()).expect(rt, "hexadecimal digits")
 }
 
 const ME: Addr = Addr(0xc000_0201);
 
 // The OPENs of 192.0.2.1 and of its peer, 192.0.2.2, which has no parameters.
-const OWN_OPEN: &str = "M 0025 01 04 fc00 0000 c0000201 08 0206 0104 0001 00 80";
+const OWN_OPEN: &str = "M 002b 01 04 fc00 0000 c0000201 0e 020c 0104 00010080 4104 0000fc00";
 
 const OPEN: &str = "M 001d 01 04 fc00 0000 c0000202 00";
+
+// The peer's OPEN that says that it has numbers of four octets.
+const WIDE_OPEN: &str = "M 0025 01 04 fc00 0000 c0000202 08 0206 4104 0000fc00";
 
 const KEEPALIVE: &str = "M 0013 04";
 
 // It puts 10.1.0.5/32 of the distinguisher 192.0.2.11:1 with label 23 and the target 64512:8000001.
 const UPDATE: &str = "M 0054 02 0000 003d 40010100 400200 40050400000064
+    800e21 000180 0c 0000000000000000 c000020b 00 78 000171 0001c000020b0001 0a010005
+    c01008 0002fc00007a1201";
+
+// The same, whose AS_PATH has one segment of one number of four octets, 4200000000.
+const WIDE_UPDATE: &str = "M 005a 02 0000 0043 40010100 400206 0201 fa56ea00 40050400000064
     800e21 000180 0c 0000000000000000 c000020b 00 78 000171 0001c000020b0001 0a010005
     c01008 0002fc00007a1201";
 
@@ -70,15 +62,24 @@ fn hear_text(rt: &impl Abort, alloc: Global, session: &mut Session, text: &str) 
     hear(alloc, session, 64512, ME, bytes.as_slice()).expect(rt, "memory")
 }
 
+/// The session comes up by this OPEN.
+fn establish_by(rt: &impl Abort, alloc: Global, session: &mut Session, open_text: &str)
+    requires system { session.old.asn ≡ 64512 }
+    requires idle { session.old.state ≡ Idle }
+    ensures { session.new.asn ≡ session.old.asn }
+{
+    let _hello = greet(alloc, session, 64512, ME).expect(rt, "memory");
+    let _open = hear_text(rt, alloc, session, open_text);
+    let _keepalive = hear_text(rt, alloc, session, KEEPALIVE);
+}
+
 /// The session comes up.
 fn establish(rt: &impl Abort, alloc: Global, session: &mut Session)
     requires system { session.old.asn ≡ 64512 }
     requires idle { session.old.state ≡ Idle }
     ensures { session.new.asn ≡ session.old.asn }
 {
-    let _hello = greet(alloc, session, 64512, ME).expect(rt, "memory");
-    let _open = hear_text(rt, alloc, session, OPEN);
-    let _keepalive = hear_text(rt, alloc, session, KEEPALIVE);
+    establish_by(rt, alloc, session, OPEN);
 }
 
 // The replies are this one message, or none.
@@ -105,6 +106,31 @@ fn be_greeted(rt: &impl Abort, alloc: Global, session: &mut Session)
 fn an_end_that_is_opened_greets(rt: HostRuntime) {
     let mut session = Session::new(64512, peer(&rt));
     be_greeted(&rt, rt.alloc(), &mut session);
+}
+
+/// In AS 4200000000, the OPENs of 192.0.2.1 and of its peer.
+const OWN_OPEN_IN_A_WIDE_AS: &str =
+    "M 002b 01 04 5ba0 0000 c0000201 0e 020c 0104 00010080 4104 fa56ea00";
+
+const OPEN_IN_A_WIDE_AS: &str =
+    "M 002b 01 04 5ba0 0000 c0000202 0e 020c 0104 00010080 4104 fa56ea00";
+
+fn come_up_in_a_wide_as(rt: &impl Abort, alloc: Global, session: &mut Session)
+    requires system { session.old.asn ≡ 4200000000 }
+    requires idle { session.old.state ≡ Idle }
+{
+    let replies = greet(alloc, session, 4_200_000_000, ME).expect(rt, "memory");
+    check_reply(rt, alloc, &replies, Some(OWN_OPEN_IN_A_WIDE_AS));
+    let open = octets(rt, alloc, OPEN_IN_A_WIDE_AS);
+    let heard = hear(alloc, session, 4_200_000_000, ME, open.as_slice()).expect(rt, "memory");
+    check_reply(rt, alloc, &heard.replies, Some(KEEPALIVE));
+    assert!(rt; heard.cause.is_none());
+}
+
+#[test]
+fn an_as_of_four_octets_is_told_and_heard(rt: HostRuntime) {
+    let mut session = Session::new(4_200_000_000, peer(&rt));
+    come_up_in_a_wide_as(&rt, rt.alloc(), &mut session);
 }
 
 fn come_up(rt: &impl Abort, alloc: Global, session: &mut Session)
@@ -151,6 +177,42 @@ fn hear_an_update(rt: &impl Abort, alloc: Global, session: &mut Session)
 fn an_update_is_heard(rt: HostRuntime) {
     let mut session = Session::new(64512, peer(&rt));
     hear_an_update(&rt, rt.alloc(), &mut session);
+}
+
+fn hear_numbers_of_four_octets(rt: &impl Abort, alloc: Global, session: &mut Session)
+    requires system { session.old.asn ≡ 64512 }
+    requires idle { session.old.state ≡ Idle }
+{
+    establish_by(rt, alloc, session, WIDE_OPEN);
+    let heard = hear_text(rt, alloc, session, WIDE_UPDATE);
+    assert!(rt; heard.changes.len() == 1);
+    check_reply(rt, alloc, &heard.replies, None);
+    assert!(rt; heard.cause.is_none());
+    assert!(rt; session.state() == State::Established);
+}
+
+#[test]
+fn numbers_of_four_octets_are_heard_where_the_peers_open_says_so(rt: HostRuntime) {
+    let mut session = Session::new(64512, peer(&rt));
+    hear_numbers_of_four_octets(&rt, rt.alloc(), &mut session);
+}
+
+// Behind a number of two octets, fa56, a segment of type ea would begin.
+fn refuse_numbers_of_four_octets(rt: &impl Abort, alloc: Global, session: &mut Session)
+    requires system { session.old.asn ≡ 64512 }
+    requires idle { session.old.state ≡ Idle }
+{
+    establish(rt, alloc, session);
+    let heard = hear_text(rt, alloc, session, WIDE_UPDATE);
+    check_reply(rt, alloc, &heard.replies, Some("M 0015 03 030b"));
+    assert!(rt; heard.changes.is_empty());
+    assert!(rt; session.state() == State::Idle);
+}
+
+#[test]
+fn numbers_of_four_octets_are_malformed_elsewhere(rt: HostRuntime) {
+    let mut session = Session::new(64512, peer(&rt));
+    refuse_numbers_of_four_octets(&rt, rt.alloc(), &mut session);
 }
 
 // The KEEPALIVE behind it is not heard.

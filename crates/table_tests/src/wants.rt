@@ -1,8 +1,10 @@
-use crate::chains::{NEAR, chain, feed_list, feed_port, lead_right, publish, subnet, subscribe};
+use crate::chains::{
+    NEAR, chain, feed_list, feed_port, lead_right, lead_right_to, publish, subnet, subscribe,
+};
 use chain_reorigin::reoriginated;
 use control_wants::{rows, wanted_by_agent, wanted_by_peers};
 use ov_sync::Delta;
-use ov_types::{Addr, DownKey, DownValue, Label, LowKey, Prefix, Rd, VpnKey, VpnRoute};
+use ov_types::{Addr, DownKey, DownValue, Label, LowKey, Prefix, Rd, Target, VpnKey, VpnRoute};
 use std::alloc::Global;
 use std::fmt::Write;
 use std::process::Abort;
@@ -48,25 +50,49 @@ fn subnets_are_led_into_the_next_place(rt: HostRuntime) {
     tell_led_routes(&rt, rt.alloc(), &mut tables);
 }
 
-fn tell_peers(rt: &impl Abort, alloc: Global, tables: &mut VpnTables) {
-    whole(rt, alloc, tables);
+/// Peers are to be told these routes, a line each.
+fn are_told_to_peers(rt: &impl Abort, alloc: Global, tables: &VpnTables, want: &str) {
     let mut text = String::new(alloc);
     let wanted = wanted_by_peers(alloc, tables).expect(rt, "memory");
     for (key, route) in &wanted {
         route_written(rt, &mut text, key, route);
     }
+    assert!(rt; text.as_str() == want, "{text}");
+}
+
+fn tell_peers(rt: &impl Abort, alloc: Global, tables: &mut VpnTables) {
+    whole(rt, alloc, tables);
     let want = "192.0.2.11:1 10.1.0.1/32 192.0.2.11 17 64512:8000001\n\
 192.0.2.11:16384 10.2.0.0/24 192.0.2.11 557057 64512:8016384\n\
 192.0.2.11:16384 250.0.128.1/32 192.0.2.11 557057 64512:8016384\n\
 192.0.2.11:16385 10.1.0.0/24 192.0.2.11 557058 64512:8016385\n\
 192.0.2.11:16385 250.0.128.2/32 192.0.2.11 557058 64512:8016385\n";
-    assert!(rt; text.as_str() == want, "{text}");
+    are_told_to_peers(rt, alloc, tables, want);
 }
 
 #[test]
 fn peers_are_told_own_and_led_routes(rt: HostRuntime) {
     let mut tables = VpnTables::new(rt.alloc(), 64512);
     tell_peers(&rt, rt.alloc(), &mut tables);
+}
+
+/// In AS 4200000000 a chain settles as in any, and targets have the number whole.
+fn tell_peers_in_a_wide_as(rt: &impl Abort, alloc: Global, tables: &mut VpnTables) {
+    let (left, right) = (subnet(rt, 0x0a01_0000), subnet(rt, 0x0a02_0000));
+    chain(rt, alloc, tables, left, right);
+    lead_right_to(rt, alloc, tables, right, Target(0x0202_fa56_ea00_4001));
+    let want = "192.0.2.11:1 10.1.0.1/32 192.0.2.11 17 L4200000000:1\n\
+192.0.2.11:16384 10.2.0.0/24 192.0.2.11 557057 L4200000000:16384\n\
+192.0.2.11:16384 250.0.128.1/32 192.0.2.11 557057 L4200000000:16384\n\
+192.0.2.11:16385 10.1.0.0/24 192.0.2.11 557058 L4200000000:16385\n\
+192.0.2.11:16385 250.0.128.2/32 192.0.2.11 557058 L4200000000:16385\n";
+    are_told_to_peers(rt, alloc, tables, want);
+}
+
+#[test]
+fn targets_have_as_numbers_of_four_octets(rt: HostRuntime) {
+    let mut tables = VpnTables::new(rt.alloc(), 4_200_000_000);
+    tell_peers_in_a_wide_as(&rt, rt.alloc(), &mut tables);
 }
 
 /// The label under which peers are to know 10.1.0.1/32 of the agent.

@@ -26,6 +26,35 @@ fn numbers_of_the_first_use(rt: HostRuntime) -> Result<(), Fail> {
     Ok(())
 }
 
+/// AS numbers up to 65534 make targets of one type, those above make targets of the other.
+#[test]
+fn targets_are_of_two_types(rt: HostRuntime) -> Result<(), Fail> {
+    let alloc = rt.alloc();
+    for (asn, instance, number, text) in [
+        (1, 1, 0x0002_0001_007a_1201, "1:8000001"),
+        (64512, 65535, 0x0002_fc00_007b_11ff, "64512:8065535"),
+        (65534, 16384, 0x0002_fffe_007a_5200, "65534:8016384"),
+        (65536, 1, 0x0202_0001_0000_0001, "L65536:1"),
+        (
+            4_200_000_000,
+            16384,
+            0x0202_fa56_ea00_4000,
+            "L4200000000:16384",
+        ),
+        (
+            4_294_967_294,
+            65535,
+            0x0202_ffff_fffe_ffff,
+            "L4294967294:65535",
+        ),
+    ] {
+        let made = target(asn, InstanceId(instance));
+        assert_eq!(rt; made, Target(number));
+        assert_eq!(rt; format!(in alloc; "{made}")?.as_str(), text);
+    }
+    Ok(())
+}
+
 #[test]
 fn numbers_at_the_ends_of_the_ranges(rt: HostRuntime) -> Result<(), Fail> {
     let alloc = rt.alloc();
@@ -33,11 +62,6 @@ fn numbers_at_the_ends_of_the_ranges(rt: HostRuntime) -> Result<(), Fail> {
     assert_eq!(rt; port_label(PortNo(524_271)), Label(524_287));
     let last = hop_instance(3071, 15);
     assert_eq!(rt; last, InstanceId(65535));
-    assert_eq!(rt;
-        format!(in alloc; "{}", target(64512, last))?.as_str(),
-        "64512:8065535"
-    );
-    assert_eq!(rt; target(65535, InstanceId(1)), Target(0x0002_ffff_007a_1201));
     let distinguisher = rd(Addr(0xdfff_ffff), last);
     assert_eq!(rt;
         format!(in alloc; "{distinguisher}")?.as_str(),

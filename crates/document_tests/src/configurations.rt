@@ -1,0 +1,87 @@
+//! Which rule a configuration breaks, and what an edit makes of one.
+ghost use Rattle.std.specs.Prelude.{IsTrue};
+ghost use Rattle.config_model.specs.Edit.{has_edit_form};
+
+use crate::fault::CaseFault;
+use config_check::{CheckRefusal, EditFault, EditRefusal, Valid, apply_edit, check};
+use config_model::{Config, Edit, read_compile, read_edit};
+use ov_io::TextOut;
+use ov_types::NoMemory;
+use serde_json::Value;
+use std::alloc::Global;
+
+/// The first rule that the configuration of a document breaks.
+pub(crate) fn tell_check(
+    alloc: Global,
+    document: &str,
+    out: &mut TextOut,
+) -> Result<(), CaseFault> {
+    let value = Value::from_str(alloc, document)?;
+    let input = read_compile(alloc, &value)?;
+    match check(alloc, input.topology, input.config) {
+        Ok(_valid) => out.push(b"valid")?,
+        Err(CheckRefusal::Rule(refusal)) => write!(out, "{refusal}")?,
+        Err(CheckRefusal::NoMemory) => return Err(CaseFault::NoMemory),
+    }
+    Ok(())
+}
+
+fn valid_of(alloc: Global, document: &str) -> Result<Valid, CaseFault> {
+    let value = Value::from_str(alloc, document)?;
+    let input = read_compile(alloc, &value)?;
+    match check(alloc, input.topology, input.config) {
+        Ok(valid) => Ok(valid),
+        Err(_) => Err(CaseFault::Unreadable),
+    }
+}
+
+/// What an edit makes of the configuration of a document, which stays as it was.
+pub(crate) fn tell_edited(
+    alloc: Global,
+    edit: &str,
+    document: &str,
+    out: &mut TextOut,
+) -> Result<(), CaseFault> {
+    let value = Value::from_str(alloc, edit)?;
+    let edit = read_edit(alloc, &value)?;
+    let valid = valid_of(alloc, document)?;
+    push_edited(alloc, &valid, &edit, out)
+}
+
+fn push_edited(
+    alloc: Global,
+    valid: &Valid,
+    edit: &Edit,
+    out: &mut TextOut,
+) -> Result<(), CaseFault>
+    requires { IsTrue (has_edit_form edit.now) }
+{
+    match apply_edit(alloc, valid, edit) {
+        Ok(made) => push_config(made.config(), out)?,
+        Err(EditRefusal::Edit(fault)) => push_fault(&fault, out)?,
+        Err(EditRefusal::NoMemory) => return Err(CaseFault::NoMemory),
+    }
+    Ok(())
+}
+
+/// The names of networks, and the names and addresses of ports.
+fn push_config(config: &Config, out: &mut TextOut) -> Result<(), NoMemory> {
+    for network in config.networks.as_slice() {
+        let name = network.name;
+        write!(out, "{name},")?;
+    }
+    out.push(b" ")?;
+    for port in config.ports.as_slice() {
+        let name = port.name;
+        let address = port.address;
+        write!(out, "{name}@{address},")?;
+    }
+    Ok(())
+}
+
+fn push_fault(fault: &EditFault, out: &mut TextOut) -> Result<(), NoMemory> {
+    match fault {
+        EditFault::Missing { name } => write!(out, "Missing {name}"),
+        EditFault::Rule(refusal) => write!(out, "{refusal}"),
+    }
+}

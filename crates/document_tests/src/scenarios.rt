@@ -1,0 +1,62 @@
+//! Scenarios beside documents.
+
+use crate::fault::CaseFault;
+use config_model::{Event, RunInput, read_run};
+use ov_io::TextOut;
+use ov_types::{NoMemory, Packet};
+use scenario_gen::{Scenario, scenario};
+use serde_json::Value;
+use std::alloc::Global;
+
+/// Whether the scenario of a number is that of a document of `run`: its parts that are others are told.
+pub(crate) fn tell_scenario(
+    alloc: Global,
+    number: &str,
+    document: &str,
+    out: &mut TextOut,
+) -> Result<(), CaseFault> {
+    let n = number.parse().map_err(|_| CaseFault::Unreadable)?;
+    if n < 1 || n > 999 {
+        return Err(CaseFault::Unreadable);
+    }
+    let value = Value::from_str(alloc, document)?;
+    let input = read_run(alloc, &value)?;
+    let made = scenario(alloc, n)?;
+    Ok(push_parts(&made, &input, out)?)
+}
+
+fn push_parts(made: &Scenario, input: &RunInput, out: &mut TextOut) -> Result<(), NoMemory> {
+    push_part(b" topology", made.topology == input.input.topology, out)?;
+    push_part(b" configuration", made.config == input.input.config, out)?;
+    let events = are_events(
+        made.events.as_slice(),
+        made.packets.as_slice(),
+        input.events.as_slice(),
+    );
+    push_part(b" events", events, out)
+}
+
+/// Tells a part that is another.
+fn push_part(part: &[u8], is_same: bool, out: &mut TextOut) -> Result<(), NoMemory> {
+    if is_same {
+        return out.push(b"=");
+    }
+    out.push(part)
+}
+
+/// Whether events are these, and behind them a trace of each packet.
+fn are_events(events: &[Event], packets: &[Packet], given: &[Event]) -> bool {
+    if given.len() < events.len() {
+        return false;
+    }
+    let (first, traces) = given.split_at(events.len());
+    first == events && are_traces(packets, traces)
+}
+
+fn are_traces(packets: &[Packet], traces: &[Event]) -> bool {
+    let mut same = packets.len() == traces.len();
+    for (packet, trace) in packets.iter().zip(traces) {
+        same = same && *trace == Event::Trace(*packet);
+    }
+    same
+}

@@ -1,0 +1,68 @@
+//! The kinds of cases, and how one is held against what it wants.
+
+use crate::fault::CaseFault;
+use crate::octets::{octets, push_octets};
+use crate::{hearings, messages, record_sessions, records, restarts, sessions, updates};
+use ov_io::TextOut;
+use std::alloc::Global;
+
+/// What a case of this kind comes to.
+fn tell(alloc: Global, kind: &str, given: &str, out: &mut TextOut) -> Result<(), CaseFault> {
+    match kind {
+        "message" => messages::tell_message(alloc, given, out),
+        "size" => messages::tell_size(alloc, given, out),
+        "written-open" => messages::tell_written_open(alloc, given, out),
+        "written-rest" => messages::tell_written_rest(alloc, given, out),
+        "update" => updates::tell_update(alloc, false, given, out),
+        "wide-update" => updates::tell_update(alloc, true, given, out),
+        "written-updates" => updates::tell_written_updates(alloc, given, out),
+        "marks" => restarts::tell_marks(alloc, given, out),
+        "restart" => restarts::tell_restart(alloc, given, out),
+        "session" => sessions::tell_session(alloc, given, out),
+        "record" => records::tell_record(alloc, given, out),
+        "frame" => records::tell_frame(alloc, given, out),
+        "records" => record_sessions::tell_session(alloc, given, out),
+        "hearing" => hearings::tell_messages(alloc, given, out),
+        "hearing-records" => hearings::tell_records(alloc, given, out),
+        _ => Err(CaseFault::Unreadable),
+    }
+}
+
+/// What is wanted of a kind, as it is told: octets are spelled in one way.
+fn tell_wanted(
+    alloc: Global,
+    kind: &str,
+    wanted: &str,
+    out: &mut TextOut,
+) -> Result<(), CaseFault> {
+    if kind.starts_with("written") {
+        let octets = octets(alloc, wanted)?;
+        push_octets(octets.as_slice(), out)?;
+    } else {
+        out.push(wanted.as_bytes())?;
+    }
+    Ok(())
+}
+
+/// Whether a line is a case that comes to what it wants; what it comes to is left in `told`.
+///
+/// A line is a kind, what is given, and behind `=>` what is wanted. Where nothing stands there it is what is given.
+pub(crate) fn holds(alloc: Global, line: &str, told: &mut TextOut) -> Result<bool, CaseFault> {
+    let (case, behind) = line.split_once(" => ").unwrap_or((line, ""));
+    let (kind, given) = case.split_once(" ").ok_or(CaseFault::Unreadable)?;
+    let mut wanted = TextOut::new(alloc);
+    tell_wanted(
+        alloc,
+        kind,
+        if behind.is_empty() { given } else { behind },
+        &mut wanted,
+    )?;
+    told.clear();
+    tell(alloc, kind, given, told)?;
+    Ok(told.octets() == wanted.octets())
+}
+
+/// Whether a line has no case.
+pub(crate) fn is_passed_over(line: &str) -> bool {
+    line.is_empty() || line.starts_with("#")
+}

@@ -1,0 +1,120 @@
+//! What messages say that come in octets.
+
+use crate::fault::CaseFault;
+use crate::octets::{octets, push_octets};
+use bgp_wire::{
+    Attribute, Message, OpenOut, OpenPart, UpdatePart, WireFault, attributes, read_message,
+    write_attributes, write_keepalive, write_notification, write_open,
+};
+use ov_io::TextOut;
+use ov_types::{Addr, NoMemory};
+use std::alloc::Global;
+
+pub(crate) fn push_fault(fault: WireFault, out: &mut TextOut) -> Result<(), NoMemory> {
+    let WireFault { code, subcode } = fault;
+    write!(out, "fault {code}/{subcode}")
+}
+
+/// The message that the octets begin with, and how many of them it has.
+pub(crate) fn tell_message(alloc: Global, given: &str, out: &mut TextOut) -> Result<(), CaseFault> {
+    let octets = octets(alloc, given)?;
+    Ok(tell_octets(octets.as_slice(), out)?)
+}
+
+pub(crate) fn tell_octets(octets: &[u8], out: &mut TextOut) -> Result<(), NoMemory> {
+    match read_message(octets) {
+        Ok(Some((message, len))) => push_message(&message, len, out),
+        Ok(None) => out.push(b"more"),
+        Err(fault) => push_fault(fault, out),
+    }
+}
+
+/// Whether the octets are an OPEN or an UPDATE, and their number.
+pub(crate) fn tell_size(alloc: Global, given: &str, out: &mut TextOut) -> Result<(), CaseFault> {
+    let octets = octets(alloc, given)?;
+    match read_message(octets.as_slice()) {
+        Ok(Some((Message::Hello(_), len))) => write!(out, "open {len}")?,
+        Ok(Some((Message::Update(_), len))) => write!(out, "update {len}")?,
+        _ => out.push(b"another")?,
+    }
+    Ok(())
+}
+
+fn push_message(message: &Message<'_>, len: usize, out: &mut TextOut) -> Result<(), NoMemory> {
+    match message {
+        Message::Hello(open) => push_open(open, out)?,
+        Message::Update(part) => push_update(part, out)?,
+        Message::Notification { code, subcode } => write!(out, "notification {code}/{subcode}")?,
+        Message::Keepalive => out.push(b"keepalive")?,
+    }
+    write!(out, " of {len}")
+}
+
+fn push_open(open: &OpenPart<'_>, out: &mut TextOut) -> Result<(), NoMemory> {
+    let my_as = open.my_as();
+    let asn = open.asn();
+    let hold = open.hold();
+    let id = open.id();
+    let wide = if open.wide() { " wide" } else { "" };
+    write!(out, "open {my_as:04x} as {asn}{wide} hold {hold} id {id}")?;
+    for capability in open.capabilities() {
+        let kind = capability.kind;
+        write!(out, " {kind}:")?;
+        push_octets(capability.value, out)?;
+    }
+    Ok(())
+}
+
+fn push_update(part: &UpdatePart<'_>, out: &mut TextOut) -> Result<(), NoMemory> {
+    out.push(b"update ")?;
+    push_octets(part.withdrawn, out)?;
+    out.push(b"|")?;
+    for item in attributes(part) {
+        match item {
+            Ok(attribute) => push_attribute(&attribute, out)?,
+            Err(fault) => push_fault(fault, out)?,
+        }
+    }
+    out.push(b"|")?;
+    push_octets(part.routes, out)
+}
+
+fn push_attribute(attribute: &Attribute<'_>, out: &mut TextOut) -> Result<(), NoMemory> {
+    let flags = attribute.flags;
+    let kind = attribute.kind;
+    write!(out, "{flags:02x}/{kind}:")?;
+    push_octets(attribute.value, out)?;
+    out.push(b" ")
+}
+
+/// The OPEN of a system and an identifier, as two numbers.
+pub(crate) fn tell_written_open(
+    alloc: Global,
+    given: &str,
+    out: &mut TextOut,
+) -> Result<(), CaseFault> {
+    let (asn, id) = given.split_once(" ").ok_or(CaseFault::Unreadable)?;
+    let part = OpenOut {
+        asn: asn.parse()?,
+        id: Addr(id.parse()?),
+    };
+    if part.id.0 == 0 {
+        return Err(CaseFault::Unreadable);
+    }
+    let mut octets = Vec::new(alloc);
+    write_open(alloc, &part, &mut octets)?;
+    Ok(push_octets(octets.as_slice(), out)?)
+}
+
+/// A NOTIFICATION, a KEEPALIVE and an UPDATE of one attribute behind the octets that are given.
+pub(crate) fn tell_written_rest(
+    alloc: Global,
+    given: &str,
+    out: &mut TextOut,
+) -> Result<(), CaseFault> {
+    let mut octets = octets(alloc, given)?;
+    write_notification(alloc, 5, 0, &mut octets)?;
+    write_keepalive(alloc, &mut octets)?;
+    write_attributes(alloc, &[0x40, 1, 1, 0], &mut octets)?;
+    Ok(push_octets(octets.as_slice(), out)?)
+}

@@ -1,0 +1,122 @@
+//! What sessions of records do at their inputs.
+ghost use Rattle.std.specs.Prelude.{◌≡◌, IfOk};
+ghost use Rattle.item_wire.specs.declared.event.ItemState.TheVariants.{Idle};
+
+use crate::fault::CaseFault;
+use crate::records::{push_fault, push_item};
+use item_wire::{
+    Item, ItemCause, ItemEvent, ItemFrom, ItemRefusal, ItemSession, ItemState, TooLong, read_item,
+};
+use ov_io::TextOut;
+use ov_types::{Name, NoMemory};
+use std::alloc::Global;
+
+const HELLO: &str = "{\"name\":\"c1\",\"op\":\"hello\"}";
+
+fn direction(word: &str) -> Option<ItemFrom> {
+    match word {
+        "feed" => Some(ItemFrom::Feed),
+        "control" => Some(ItemFrom::Control),
+        "agent" => Some(ItemFrom::Agent),
+        "nothing" => Some(ItemFrom::Nothing),
+        _ => None,
+    }
+}
+
+/// What a session with `c1` does at the inputs, which stand between semicolons behind the direction of the records, and the
+/// state that it is left in.
+pub(crate) fn tell_session(alloc: Global, given: &str, out: &mut TextOut) -> Result<(), CaseFault> {
+    let (word, inputs) = given.split_once(" ").ok_or(CaseFault::Unreadable)?;
+    let mut session = session_of(word)?;
+    for input in inputs.split(";") {
+        let event = at_input(alloc, &mut session, input.trim())?;
+        push_event(alloc, &event, input.trim(), out)?;
+        out.push(b"; ")?;
+    }
+    Ok(out.push(name_of(session.state()))?)
+}
+
+pub(crate) fn peer() -> Result<Name, CaseFault> {
+    Name::new("c1").ok_or(CaseFault::Unreadable)
+}
+
+/// A session with `c1`, which may send records of this direction.
+pub(crate) fn session_of(word: &str) -> Result<ItemSession, CaseFault>
+    ensures { IfOk result (λ session. session.state ≡ Idle) }
+{
+    let from = direction(word).ok_or(CaseFault::Unreadable)?;
+    Ok(ItemSession::new(peer()?, from))
+}
+
+pub(crate) fn name_of(state: ItemState) -> &'static [u8] {
+    match state {
+        ItemState::Idle => b"Idle",
+        ItemState::Opened => b"Opened",
+        ItemState::Up => b"Up",
+    }
+}
+
+fn at_input(alloc: Global, session: &mut ItemSession, input: &str) -> Result<ItemEvent, CaseFault> {
+    match input {
+        "opened" => Ok(session.opened()),
+        "hello" => at_record(alloc, session, HELLO),
+        "closed" => Ok(session.closed()),
+        "long" => Ok(session.too_long(TooLong { length: 65_537 })),
+        _ => at_record(alloc, session, input),
+    }
+}
+
+fn at_record(
+    alloc: Global,
+    session: &mut ItemSession,
+    input: &str,
+) -> Result<ItemEvent, CaseFault> {
+    match read_item(alloc, input.as_bytes()) {
+        Ok(item) => Ok(session.take_item(item)),
+        Err(ItemRefusal::Fault(fault)) => Ok(session.fault(fault)),
+        Err(ItemRefusal::NoMemory) => Err(CaseFault::NoMemory),
+    }
+}
+
+fn push_event(
+    alloc: Global,
+    event: &ItemEvent,
+    input: &str,
+    out: &mut TextOut,
+) -> Result<(), CaseFault> {
+    match event {
+        ItemEvent::Quiet => out.push(b"-")?,
+        ItemEvent::SendHello => out.push(b"send hello")?,
+        ItemEvent::Up => out.push(b"up")?,
+        ItemEvent::Record(item) => return push_record(alloc, item, input, out),
+        ItemEvent::Down { cause } => push_down(*cause, out)?,
+    }
+    Ok(())
+}
+
+/// Whether the record that is handed out is the one that came.
+fn push_record(
+    alloc: Global,
+    item: &Item,
+    input: &str,
+    out: &mut TextOut,
+) -> Result<(), CaseFault> {
+    let came = read_item(alloc, input.as_bytes()).map_err(|_| CaseFault::Unreadable)?;
+    let word = if came == *item {
+        "record"
+    } else {
+        "another record"
+    };
+    Ok(out.push(word.as_bytes())?)
+}
+
+pub(crate) fn push_down(cause: ItemCause, out: &mut TextOut) -> Result<(), NoMemory> {
+    out.push(b"down ")?;
+    match cause {
+        ItemCause::Item(fault) => push_fault(fault, out),
+        ItemCause::TooLong { length } => write!(out, "too long {length}"),
+        ItemCause::Order => out.push(b"order"),
+        ItemCause::WrongName => out.push(b"wrong name"),
+        ItemCause::Ended => out.push(b"ended"),
+    }
+}

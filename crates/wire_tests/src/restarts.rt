@@ -1,0 +1,134 @@
+//! What becomes of the routes of a peer over the losses of its session.
+
+use crate::fault::CaseFault;
+use crate::messages::push_fault;
+use crate::octets::octets;
+use crate::updates::push_key;
+use bgp_restart::{Restart, is_end, kept, named};
+use bgp_vpn::UpdateFault;
+use bgp_wire::{Message, UpdatePart, read_message};
+use ov_io::TextOut;
+use ov_types::NoMemory;
+use std::alloc::Global;
+
+/// The route of 10.1.0.5/32, distinguisher 192.0.2.11:1, is put, with label 23.
+const PUT: &str =
+    "M 0054 02 0000 003d 40010100 400200 40050400000064 800e21 000180 0c 0000000000000000 c000020b 00 78 000171 0001c000020b0001 0a010005 c01008 0002fc00007a1201";
+
+/// It is put with label 24, and then with label 23.
+const PUT_TWICE: &str =
+    "M 0064 02 0000 004d 40010100 400200 40050400000064 800e31 000180 0c 0000000000000000 c000020b 00 78 000181 0001c000020b0001 0a010005 78 000171 0001c000020b0001 0a010005 c01008 0002fc00007a1201";
+
+/// The route of 10.1.0.6/32 of the same distinguisher is put.
+const PUT_ANOTHER: &str =
+    "M 0054 02 0000 003d 40010100 400200 40050400000064 800e21 000180 0c 0000000000000000 c000020b 00 78 000171 0001c000020b0001 0a010006 c01008 0002fc00007a1201";
+
+/// The first route is dropped.
+const DROP: &str = "M 002d 02 0000 0016 800f13 000180 78 800000 0001c000020b0001 0a010005";
+
+/// It is dropped and put.
+const DROP_AND_PUT: &str =
+    "M 006a 02 0000 0053 40010100 400200 40050400000064 800e21 000180 0c 0000000000000000 c000020b 00 78 000171 0001c000020b0001 0a010005 800f13 000180 78 800000 0001c000020b0001 0a010005 c01008 0002fc00007a1201";
+
+/// The end of the first routes.
+const END: &str = "M 001d 02 0000 0006 800f03 000180";
+
+/// ORIGIN 3.
+const WRONG: &str = "M 001b 02 0000 0004 40010103";
+
+/// Whether an OPEN names the routes, and whether their peer kept them; of an UPDATE, whether it marks their end.
+pub(crate) fn tell_marks(alloc: Global, given: &str, out: &mut TextOut) -> Result<(), CaseFault> {
+    let octets = octets(alloc, given)?;
+    match read_message(octets.as_slice()) {
+        Ok(Some((Message::Hello(part), _))) => {
+            out.push(if named(&part) { b"named" } else { b"-" })?;
+            out.push(if kept(&part) { b" kept" } else { b" -" })?;
+        }
+        Ok(Some((Message::Update(part), _))) => {
+            out.push(if is_end(&part) { b"end" } else { b"no end" })?;
+        }
+        _ => return Err(CaseFault::Unreadable),
+    }
+    Ok(())
+}
+
+/// What is held after each event, which stand between semicolons.
+pub(crate) fn tell_restart(alloc: Global, given: &str, out: &mut TextOut) -> Result<(), CaseFault> {
+    let mut restart = Restart::new(alloc);
+    for event in given.split(";") {
+        take(alloc, &mut restart, event.trim(), out)?;
+        push_held(&restart, out)?;
+        out.push(b"; ")?;
+    }
+    Ok(out.push(if restart.is_up() { b"up" } else { b"down" })?)
+}
+
+/// The octets of an UPDATE that has a name.
+fn spelled(event: &str) -> &str {
+    match event {
+        "put" => PUT,
+        "put twice" => PUT_TWICE,
+        "put another" => PUT_ANOTHER,
+        "drop" => DROP,
+        "drop and put" => DROP_AND_PUT,
+        "end" => END,
+        "wrong" => WRONG,
+        _ => event,
+    }
+}
+
+/// The session is opened or lost only where it is down or up.
+fn take(
+    alloc: Global,
+    restart: &mut Restart,
+    event: &str,
+    out: &mut TextOut,
+) -> Result<(), CaseFault> {
+    match event {
+        "expired" => restart.expired(),
+        "closed" if restart.is_up() => restart.closed(),
+        "opened" if !restart.is_up() => restart.opened(false, false, false),
+        "opened named" if !restart.is_up() => restart.opened(true, false, false),
+        "opened kept" if !restart.is_up() => restart.opened(true, true, false),
+        "opened wide" if !restart.is_up() => restart.opened(true, true, true),
+        _ => {
+            let octets = octets(alloc, spelled(event))?;
+            match read_message(octets.as_slice()) {
+                Ok(Some((Message::Update(part), _))) => hear(restart, &part, out)?,
+                _ => return Err(CaseFault::Unreadable),
+            }
+        }
+    }
+    Ok(())
+}
+
+fn hear(restart: &mut Restart, part: &UpdatePart<'_>, out: &mut TextOut) -> Result<(), CaseFault> {
+    if !restart.is_up() {
+        return Err(CaseFault::Unreadable);
+    }
+    match restart.update(part) {
+        Ok(()) => Ok(()),
+        Err(UpdateFault::Wire(fault)) => Ok(push_fault(fault, out)?),
+        Err(UpdateFault::NoMemory) => Err(CaseFault::NoMemory),
+    }
+}
+
+/// Each route that is held, as `rows` and `held` have it.
+fn push_held(restart: &Restart, out: &mut TextOut) -> Result<(), CaseFault> {
+    let rows = restart.rows()?;
+    for (key, route, is_stale) in rows.as_slice() {
+        let label = route.label;
+        push_key(b"", key, out)?;
+        write!(out, " {label} ")?;
+        push_mark(*is_stale, out)?;
+        if let Some((_, is_stale)) = restart.held(key) {
+            out.push(b"/")?;
+            push_mark(is_stale, out)?;
+        }
+    }
+    Ok(())
+}
+
+fn push_mark(is_stale: bool, out: &mut TextOut) -> Result<(), NoMemory> {
+    out.push(if is_stale { b"stale" } else { b"fresh" })
+}
