@@ -1,36 +1,22 @@
 -- What the bounds that access lists rest on give.
-use Rattle.std.proofs.Common.{◌≡◌, ◌≢◌, ℕ, ◌<◌, ◌≤◌, ◌&&◌, leb, ltb, Bool, true, false, cond, IsTrue, List, [], ◌∷◌, Some, None, Ok, map, filter, length, get_or, refl, sym, ap, ◌∙◌, subst, arith, Bor}
+use Rattle.std.proofs.Common.{◌≡◌, ◌≢◌, ℕ, ◌<◌, ◌≤◌, ◌&&◌, leb, ltb, Bool, true, false, cond, IsTrue, List, [], ◌∷◌, None, Ok, map, filter, length, get_or, refl, sym, ap, ◌∙◌, subst, arith, Bor}
 use Rattle.std.specs.List.{All, AllPairs, list_all}
-use Rattle.std.specs.Cmp.Lexicographic.{same_text}
 use Rattle.std.proofs.lemmas.Bool.{and_parts, le-ltb, leb-true}
-use Rattle.std.proofs.lemmas.Bool.Decides.{nat_tests}
 use Rattle.std.proofs.lemmas.List.{get_or_default, get_or-map, length-map}
-use Rattle.std.proofs.lemmas.List.Elements.{All-contains, All-cons, All-filter}
+use Rattle.std.proofs.lemmas.List.Elements.{All-cons, All-filter}
 use Rattle.ov_types.specs.Name.{is_name}
-use Rattle.ov_types.specs.First.{same_name, first_meeting}
-use Rattle.ov_types.proofs.FirstLemmas.{all_head, all_tail, all_here, found_is, first_meeting_none}
+use Rattle.ov_types.specs.First.{first_meeting}
+use Rattle.ov_types.proofs.FirstLemmas.{all_head, all_tail, all_here, first_meeting_none}
 use Rattle.config_model.specs.Form.{has_end_form, has_protocol_form, is_range, has_action_form, has_rule_form, has_policy_form, has_network_form, has_port_form, has_service_form, has_chain_form, has_config_form}
-use Rattle.config_model.specs.declared.config.Chain.{Chain}
 use Rattle.config_model.specs.declared.config.Config.{Config}
 use Rattle.config_model.specs.declared.config.Policy.{Policy}
 use Rattle.config_model.specs.declared.config.Rule.{Rule}
-use Rattle.config_model.specs.declared.config.Service.{Service}
-use Rattle.chain_expand.specs.Expansion.{chain_named, expansion, same_number, numbers_or_fault}
+use Rattle.chain_expand.specs.Expansion.{expansion, same_number, numbers_or_fault}
+use Rattle.chain_expand.proofs.Each.{of_each_name, numbers_apart}
 use Rattle.network_rules.specs.Related.{put_by_sequence, by_sequence}
 use Rattle.acl_compile.specs.Bounds.{KeepsBounds, IsBounded}
 
 -- chains
-
--- what holds of the expansion of each chain holds of that of each name: where there is no such chain it is empty
-of_each_name : (P : List Service → Type 0) (c : Config) (name : List ℕ) → P [] → All (λ d. P (expansion c d.name)) c.chains → P (expansion c name)
-of_each_name P c name none each =
-    elim (chain_named c name) as (λ o. chain_named c name ≡ o → P (expansion c name)) [
-      | None ↦ λ e. let empty : expansion c name ≡ [] = rw e refl in subst P (sym empty) none
-      | Some d ↦ λ e.
-          let named = found_is (λ (x : Chain). same_name x.name name) c.chains d e in
-          let Q : List ℕ → Type 0 = λ n. P (expansion c n) in
-          subst Q (same_text d.name name (sym named.0)) (All-contains (λ (x : Chain). P (expansion c x.name)) c.chains d each named.1)
-    ] refl
 
 pub few_chains : (c : Config) → KeepsBounds c → length c.chains ≤ 128
 few_chains c h = h.chains
@@ -40,9 +26,6 @@ chain_is_short c name h = of_each_name (λ services. length services ≤ 15) c n
 
 chain_is_once : (c : Config) (name : List ℕ) → KeepsBounds c → AllPairs (λ s u. s.id.0 ≢ u.id.0) (expansion c name)
 chain_is_once c name h = of_each_name (λ services. AllPairs (λ s u. s.id.0 ≢ u.id.0) services) c name (λ i j d lt within. absurd (omega arith)) h.once
-
-numbers_apart : (s u : Service) → s.id.0 ≢ u.id.0 → same_number s u ≡ false
-numbers_apart s u h = grind (arith, nat_tests)
 
 pub chain_expands : (c : Config) (name : List ℕ) → KeepsBounds c → numbers_or_fault name (expansion c name) ≡ Ok (map (λ s. s.id) (expansion c name))
 chain_expands c name h =

@@ -1,10 +1,9 @@
 -- No port of a valid configuration has the address of a circuit.
-use Rattle.std.proofs.Common.{◌≡◌, ◌≢◌, inl, inr, ℕ, ◌+◌, ◌≤◌, true, IsTrue, List, [], ◌∷◌, map, Some, Option, get_or, refl, ap, subst, arith}
+use Rattle.std.proofs.Common.{◌≡◌, ◌≢◌, ℕ, ◌+◌, ◌≤◌, true, IsTrue, [], Some, Option, get_or, refl, ap, subst, arith}
 use Rattle.std.specs.Option.{IfSome}
-use Rattle.std.specs.List.{All, Any, Contains}
+use Rattle.std.specs.List.{All, Any}
 use Rattle.std.proofs.lemmas.List.Elements.{All-contains}
 use Rattle.ov_types.specs.Prefix.{Block, contains}
-use Rattle.ov_types.proofs.FirstLemmas.{contains_here, contains_later, contains_cases}
 use Rattle.ov_types.specs.declared.prefix.Addr.{Addr}
 use Rattle.route_targets.specs.Numbers.{circuit_address_of}
 use Rattle.config_model.specs.Form.{is_block, has_config_form}
@@ -12,6 +11,7 @@ use Rattle.config_model.specs.declared.config.Config.{Config}
 use Rattle.config_model.specs.declared.config.Network.{Network}
 use Rattle.config_model.specs.declared.config.Port.{Port}
 use Rattle.config_model.specs.declared.topology.Topology.{Topology}
+use Rattle.network_rules.proofs.Lists.{mapped_is}
 use Rattle.config_check.specs.Finding.{network_named}
 use Rattle.config_check.specs.Rules.{circuit_addresses}
 use Rattle.config_check.specs.Sentences.{Overlap, IsValid}
@@ -19,14 +19,6 @@ use Rattle.config_check.proofs.Circuits.{circuits_iff}
 use Rattle.config_check.proofs.Finders.{finds_network_named}
 use Rattle.config_check.proofs.Nested.{overlap_at}
 use Rattle.config_check.proofs.OneHome.{HasBlocks, blocks_of}
-
-mapped_from : {A B : Type 0} (f : A → B) (xs : List A) (y : B) → Contains (map f xs) y → (x : A) × Contains xs x × (f x ≡ y)
-mapped_from f [] y h = absurd (omega (arith, h.1))
-mapped_from f (x ∷ xs) y h =
-    elim (contains_cases (f x) (map f xs) y h) [
-      | inl same ↦ (x, contains_here x xs, same)
-      | inr later ↦ let rest = mapped_from f xs y later in (rest.0, contains_later rest.0 x xs rest.1, rest.2)
-    ]
 
 is_circuit : (address : Addr) (n : ℕ) → n ≤ 131070 → address ≡ circuit_address_of n → contains circuit_addresses address.0 ≡ true
 is_circuit address n le same =
@@ -48,7 +40,7 @@ pub no_circuit : (t : Topology) (c : Config) → IsTrue (has_config_form c) → 
 no_circuit t c form v = λ k d lt n le same.
     let p : Port = get_or c.ports k d in
     let named = v.references.ports k d lt in
-    let home = mapped_from (λ (m : Network). m.name) c.networks p.network named.0 in
+    let home = mapped_is (λ (m : Network). m.name) c.networks p.network named.0 in
     let found : network_named c p.network ≡ Some home.0 = ((finds_network_named t c p.network v).some home.0).1 (home.1, home.2) in
     let held : Any (λ s. contains s p.address.0 ≡ true) home.0.subnets =
     subst (λ (o : Option Network). IfSome o (λ m. Any (λ s. contains s p.address.0 ≡ true) m.subnets)) found (v.inside k d lt) in

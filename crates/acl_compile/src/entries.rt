@@ -1,7 +1,7 @@
 //! The entries of rules.
-ghost use Rattle.std.specs.Prelude.{◌≡◌, ◌&&◌, ◌++◌, ◌≤◌, length, flat_map, map, option_to_list, IsTrue, IfOk, OnOk};
+ghost use Rattle.std.specs.Prelude.{◌≡◌, ◌&&◌, ◌++◌, flat_map, map, option_to_list, IsTrue, IfOk, OnOk};
 ghost use Rattle.std.specs.List.{All};
-ghost use Rattle.config_model.specs.Form.{has_action_form, has_rule_form, has_policy_form};
+ghost use Rattle.config_model.specs.Form.{has_action_form, has_rule_form};
 ghost use Rattle.network_rules.specs.Related.{fits, numbered_rules};
 ghost use Rattle.network_rules.specs.Matching.{speaks_both_ways};
 ghost use Rattle.acl_compile.specs.Bounds.{KeepsBounds, IsBounded};

@@ -1,8 +1,8 @@
 -- Leading within a number of steps, and by hops.
-use Rattle.std.proofs.Common.{◌≡◌, ℕ, zero, suc, ◌+◌, ◌⊎◌, inl, inr, ◌&&◌, ◌||◌, Bool, true, false, List, length, refl, sym, ap, ◌∙◌, arith, subst}
+use Rattle.std.proofs.Common.{◌≡◌, ℕ, zero, suc, ◌+◌, inl, inr, ◌&&◌, ◌||◌, true, List, length, sym, ap, ◌∙◌, arith, subst}
 use Rattle.std.specs.List.{Any}
 use Rattle.std.specs.Cmp.Lexicographic.{same_text}
-use Rattle.std.proofs.lemmas.Bool.{and_parts}
+use Rattle.std.proofs.lemmas.Bool.{and_parts, or_cases}
 use Rattle.std.proofs.lemmas.List.Folds.{Any-from_list_any, list_any-from_Any}
 use Rattle.config_model.specs.declared.config.Config.{Config}
 use Rattle.ov_types.specs.First.{same_name}
@@ -10,11 +10,7 @@ use Rattle.ov_types.proofs.FirstLemmas.{same_name_self}
 use Rattle.chain_expand.specs.Expansion.{names_chain, hops_of, leads_within, leads}
 use Rattle.chain_expand.specs.Leading.{HopsTo, Leads}
 use Rattle.chain_expand.specs.Leading.Leads.{direct, onward}
-use Rattle.chain_expand.proofs.Settled.{hop_on, leads_more, settled}
-
-or_cases : (a b : Bool) → (a || b) ≡ true → (a ≡ true) ⊎ (b ≡ true)
-or_cases true b e = inl refl
-or_cases false b e = inr e
+use Rattle.chain_expand.proofs.Settled.{hop_on, leads_more, settled, or_true}
 
 Leads-from_within : (n : ℕ) (c : Config) (from to : List ℕ) → leads_within n c from to ≡ true → Leads c from to
 unfolding leads_within
@@ -35,15 +31,11 @@ hop_within n c from hop to hops e =
     let at = hops.0 in
     list_any-from_Any (hop_on n c to) (hops_of c from) (at.0, hop, at.1, at.2, ap (λ b. b && (same_name hop to || leads_within n c hop to)) hops.1 ∙ e)
 
-or_second : (a : Bool) {b : Bool} → b ≡ true → (a || b) ≡ true
-or_second true h = refl
-or_second false h = h
-
 within_from_Leads : {c : Config} {from to : List ℕ} → Leads c from to → (n : ℕ) × (leads_within n c from to ≡ true)
 within_from_Leads {c} {from} {to} (direct hops) = (1, hop_within 0 c from to to hops (ap (λ b. b || leads_within 0 c to to) (same_name_self to)))
 within_from_Leads {c} {from} {to} (onward {hop = hop} hops way) =
     let rest = within_from_Leads way in
-    (suc rest.0, hop_within rest.0 c from hop to hops (or_second (same_name hop to) rest.1))
+    (suc rest.0, hop_within rest.0 c from hop to hops (or_true (same_name hop to) rest.1))
 
 leads_later : (k n : ℕ) (c : Config) (from to : List ℕ) → leads_within n c from to ≡ true → leads_within (k + n) c from to ≡ true
 leads_later zero n c from to e = subst (λ (m : ℕ). leads_within m c from to ≡ true) (omega arith) e

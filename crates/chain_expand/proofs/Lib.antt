@@ -8,3 +8,4 @@ pub mod Rows
 pub mod Settled
 pub mod Twice
 pub mod TwiceLaw
+pub mod Each

@@ -1,9 +1,9 @@
 -- When a chain has an expansion that a use can have.
-use Rattle.std.proofs.Common.{◌≡◌, ℕ, zero, suc, ◌+◌, ◌<◌, ◌≤◌, ◌≢◌, ◌⊎◌, ◌↔◌, inl, inr, ◌&&◌, ◌||◌, Bool, true, false, cond, List, [], ◌∷◌, ◌++◌, length, get_or, eq-eqb, ltb, Option, Some, None, option_map, Err, refl, sym, ap, ◌∙◌, arith, subst, append_assoc, length-append}
+use Rattle.std.proofs.Common.{◌≡◌, ℕ, zero, suc, ◌+◌, ◌<◌, ◌≤◌, ◌≢◌, ◌↔◌, inl, inr, ◌&&◌, ◌||◌, Bool, true, false, cond, List, [], ◌∷◌, ◌++◌, length, get_or, eq-eqb, ltb, Option, Some, None, option_map, Err, refl, sym, ap, ◌∙◌, arith, subst, append_assoc, length-append}
 use Rattle.std.specs.List.{find, AllPairs}
 use Rattle.std.specs.Result.{IsOk}
 use Rattle.std.specs.Cmp.Lexicographic.{same_text}
-use Rattle.std.proofs.lemmas.Bool.{and_parts, lt-ltb, le-ltb, cases_lt, ne_eqb}
+use Rattle.std.proofs.lemmas.Bool.{and_parts, lt-ltb, le-ltb, cases_lt, ne_eqb, or_cases}
 use Rattle.std.proofs.lemmas.List.{get_or_append_left}
 use Rattle.config_model.specs.declared.config.Chain.{Chain}
 use Rattle.config_model.specs.declared.config.Config.{Config}
@@ -65,10 +65,6 @@ loop_free c name e = λ chain along loop. at chain along loop (place_of c chain)
         let fails_here : ((same_name chain name || leads c name chain) && loops c chain) ≡ false = subst (λ (n : List ℕ). ((same_name n name || leads c name n) && loops c n) ≡ false) named.1 fails in
         let never : true ≡ false = sym (passes chain along loop) ∙ fails_here in
         absurd cc
-
-or_cases : (a b : Bool) → (a || b) ≡ true → (a ≡ true) ⊎ (b ≡ true)
-or_cases true b e = inl refl
-or_cases false b e = inr e
 
 no_loop_found : (c : Config) (name : List ℕ) → IsLoopFree c name → loop_of c name ≡ None
 no_loop_found c name free = by (loop_of c name) refl

@@ -9,7 +9,7 @@ use Rattle.chain_expand.specs.Expansion.{names_chain, hops_of, leads_within, lea
 use Rattle.chain_expand.specs.Links.{place_of}
 use Rattle.chain_expand.proofs.Reached.{leads_none, named_at, no_chain, list_any_same}
 
-or_true : (a : Bool) {b : Bool} → b ≡ true → (a || b) ≡ true
+pub or_true : (a : Bool) {b : Bool} → b ≡ true → (a || b) ≡ true
 or_true true h = refl
 or_true false h = h
 

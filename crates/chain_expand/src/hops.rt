@@ -1,6 +1,5 @@
 //! What the hops of chains name.
 ghost use Rattle.std.specs.Prelude.{◌≡◌, ◌<◌, length, option_copied};
-ghost use Rattle.std.specs.Cmp.Lexicographic.{pointwise};
 ghost use Rattle.chain_expand.specs.Expansion.{service_named, chain_named, hops_of};
 ghost use Rattle.chain_expand.specs.Links.{hops_at};
 

@@ -1,6 +1,6 @@
 //! Loops of chains.
 ghost use Rattle.std.specs.Prelude.{◌≡◌, ℕ, List, ◌≤◌, ◌<◌, ◌-◌, ◌&&◌, ◌||◌, ◌==◌, length, find, option_map};
-ghost use Rattle.std.specs.Prelude.{option_copied, slice_index_or, Some, []};
+ghost use Rattle.std.specs.Prelude.{slice_index_or, Some, []};
 ghost use Rattle.ov_types.specs.First.{same_name};
 ghost use Rattle.chain_expand.specs.Expansion.{leads, loops, loop_of};
 ghost use Rattle.chain_expand.specs.Links.{place_of, meets, IsLinked, IsReached, IsRound};

@@ -15,7 +15,7 @@ use Rattle.ov_types.specs.declared.prefix.Addr.{Addr}
 use Rattle.ov_types.specs.declared.rows.Entry.{Entry as Hop}
 use Rattle.ov_types.specs.declared.rows.TableRow.{TableRow}
 use Rattle.node_model.specs.Agent.{needed_by, publication}
-use Rattle.node_model.specs.Keys.{Key, Low, Publish, Row, Subscribe, Vpn}
+use Rattle.node_model.specs.Keys.{Key, Low, Publish, Row, Subscribe}
 use Rattle.node_model.specs.Maps.{Map, objects}
 use Rattle.node_model.specs.Members.{Member}
 use Rattle.node_model.specs.Paths.{Holdings}
@@ -25,10 +25,11 @@ use Rattle.node_model.specs.Wants.{is_in_slice, rows_of, slice, slice_entry, sub
 use Rattle.node_model.proofs.Members.{entry_in, from_entry, from_filter, from_filter_map, from_flat_map, from_map, get_member, in_either, in_filter_map, in_flat_map, in_left, in_map, in_right, member_get, none_some}
 use Rattle.node_model.proofs.Objects.{in_objects, object_of}
 use Rattle.node_model.proofs.Orders.{key_exact, key_total, prefix_exact, prefix_total}
-use Rattle.node_model.proofs.Wanted.{row_of_path}
+use Rattle.node_model.proofs.Wanted.{row_of_path, subscribed_is}
 use Rattle.compiled_laws.specs.Compiled.{Agents, Attachment, compiled_entries, compiled_holdings, compiled_table, entry_of, told_by_agent, told_to_agent}
 use Rattle.compiled_laws.specs.Sound.{HasOneRow, IsServed, IsSound}
-use Rattle.compiled_laws.proofs.Sorted.{low_exact, low_total, objects_sorted, same_made, same_sorted, slice_sorted}
+use Rattle.node_model.proofs.Local.{low_exact, low_total}
+use Rattle.compiled_laws.proofs.Sorted.{objects_sorted, same_made, same_sorted, slice_sorted}
 use Rattle.compiled_laws.proofs.TableRows.{table_is_compiled}
 use Rattle.compiled_laws.proofs.Tables.{row_of_table}
 use Rattle.compiled_laws.proofs.Told.{pair, publication_of, subscription_of, told_entry, told_map}
@@ -46,13 +47,6 @@ same_subscription i j v e = same i j (ap (λ (x : Key × Value). x.0) e)
     same : (i j : InstanceId) → Subscribe i ≡ Subscribe j → i ≡ j
     same i j e = cc
 
-subscribed_key : (k : Key) (i : InstanceId) → subscribed k ≡ Some i → k ≡ Subscribe i
-subscribed_key (Subscribe j) i e = ap Subscribe (same_Some j i e)
-subscribed_key (Low k) i e = absurd (none_some i e)
-subscribed_key (Vpn k) i e = absurd (none_some i e)
-subscribed_key (Row j p) i e = absurd (none_some i e)
-subscribed_key (Publish j p) i e = absurd (none_some i e)
-
 abbrev subscriptions_at : Map → Addr → List InstanceId
 subscriptions_at feed address = subscriptions (told_map feed address)
 
@@ -62,7 +56,7 @@ slice_told feed address = map slice_entry (slice feed address)
 from_subscribed : (feed : Map) (address : Addr) (i : InstanceId) → Member i (subscriptions_at feed address) → Member i (needed_by (slice feed address))
 from_subscribed feed address i m =
     let q = from_filter_map (λ (e : Key × Value). subscribed e.0) i (entries (told_map feed address)) m in
-    let at = subscribed_key q.0.0 i q.2 in
+    let at = subscribed_is q.0.0 i q.2 in
     elim (told_entry feed address q.0.0 q.0.1 (get_member key_total (told_map feed address) q.0.0 q.0.1 q.1)) as (λ _. Member i (needed_by (slice feed address))) [
       | inl t ↦ absurd (not_publish i t.0 q.0.1 (t.3 ∙ ap (λ k. pair k q.0.1) at))
       | inr t ↦ subst (λ (j : InstanceId). Member j (needed_by (slice feed address))) (same_subscription t.0 i q.0.1 (t.2 ∙ ap (λ k. pair k q.0.1) at)) t.1

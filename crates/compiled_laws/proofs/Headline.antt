@@ -26,14 +26,14 @@ use Rattle.node_model.specs.Tables.{rows as control_rows_of}
 use Rattle.node_model.specs.Wants.{slice}
 use Rattle.network_model.specs.Events.{shown, shown_of}
 use Rattle.network_model.specs.Moments.{Each, IsAtRest, IsAtRestWith, Nodes, nodes}
-use Rattle.network_model.specs.Network.{Network, address_of, agent_holdings, config, control_holdings, heard_from, sessions_of, view, views_of, wanted}
-use Rattle.network_model.specs.Session.{Agent, Configuration, Controller, Role, Session, are_peers, is_up, is_up_phase, turned, waiting}
+use Rattle.network_model.specs.Network.{Network, address_of, agent_holdings, control_holdings, heard_from, sessions_of, view, views_of, wanted}
+use Rattle.network_model.specs.Session.{Agent, Controller, Role, Session, are_peers, is_up, is_up_phase, turned, waiting}
 use Rattle.network_model.specs.Setup.{Name, longest, low}
 use Rattle.network_model.specs.Steps.{is_rested, is_settled}
 use Rattle.network_model.proofs.Twins.{NoTwins, each_and, each_weaker, own_to_all}
 use Rattle.network_laws.specs.Settling as settling
 use Rattle.compiled_laws.specs.Compiled.{agent_rows, compiled, control_rows, rows_for, told_to_agent}
-use Rattle.compiled_laws.specs.Goal.{IsLaid, agents_among, goal, others, rank, role_in, role_of}
+use Rattle.compiled_laws.specs.Goal.{IsLaid, agents_among, goal, others, rank, role_of}
 use Rattle.compiled_laws.proofs.Assembly.{Own, all_held, near_is, own_each, right_by, role_agent, served, slice_right, steps, theirs}
 use Rattle.compiled_laws.proofs.Fair.{fair}
 use Rattle.compiled_laws.proofs.RankBounds.{rank-ge}
@@ -51,9 +51,6 @@ all_up (s ∷ ss) e =
     let a = and_parts (is_up s.near && is_up s.far && (waiting s == 0)) (waiting (turned s) == 0) p.0 in
     let b = and_parts (is_up s.near && is_up s.far) (waiting s == 0) a.0 in
     let c = and_parts (is_up s.near) (is_up s.far) b.0 in ((c.0, c.1), all_up ss p.1)
-
-role_not : (x : Checked) (n : Name) (r : Role) → same_name n config ≡ false → role_in (node_named x.topology n) ≡ r → role_of x n ≡ r
-role_not x n r e h = ap (λ b. cond b Configuration (role_in (node_named x.topology n))) e ∙ h
 
 -- ---- the routes of an agent
 module _ (i : InstanceId) (p : Block) (g : Option Hop) where

@@ -1,20 +1,15 @@
 -- Instances, circuits and what places import.
-use Rattle.std.specs.Prelude.{Bool, cond, false, is_some, nat_lt, not, true, ℕ, ◌+◌, ◌-◌, ◌/◌, ◌<◌, ◌==◌, ◌≡◌, ◌≤◌, ◌⊎◌}
-use Rattle.std.specs.declared.option.Option.TheVariants.{None, Some}
-use Rattle.std.specs.declared.option.Option.{Option}
-use Rattle.std.proofs.Common.{ap, arith, inl, inr, refl, sym, ◌*◌}
+use Rattle.std.specs.Prelude.{Bool, cond, false, not, true, ℕ, ◌+◌, ◌-◌, ◌/◌, ◌<◌, ◌≡◌, ◌≤◌, ◌⊎◌}
+use Rattle.std.proofs.Common.{ap, arith, inl, inr, refl, ◌*◌}
 use Rattle.std.proofs.lemmas.Bool.{eq-eqb, eqb-true, true≢false}
 use Rattle.ov_types.specs.declared.numbers.InstanceId.{InstanceId}
-use Rattle.ov_types.specs.declared.objects.LowKey.TheVariants as key
-use Rattle.ov_types.specs.declared.prefix.Addr.{Addr}
 use Rattle.route_targets.specs.Numbers.{circuit_instance_of, left_circuit_of, right_circuit_of}
-use Rattle.node_model.specs.Maps.{Map, object}
+use Rattle.node_model.specs.Maps.{Map}
 use Rattle.node_model.specs.Members.{Member}
 use Rattle.node_model.specs.Ranks.{AreOrdered}
 use Rattle.node_model.specs.Reaching.{Side, circuit_at, hop_at, network, sides}
-use Rattle.node_model.specs.Uses.{Use, held_use, hop, imports, is_hop, is_known, is_place, place_of, use_of, uses}
+use Rattle.node_model.specs.Uses.{hop, imports, uses}
 use Rattle.node_model.proofs.Objects.{side_use}
-use Rattle.node_model.proofs.Places.{use_found}
 use Rattle.node_model.proofs.Spelled.{import_is}
 use Rattle.node_model.proofs.Unknown.{le_trans, place_at, place_at-within}
 use Rattle.compiled_laws.specs.Compiled.{same_instance}
@@ -26,9 +21,6 @@ instance_is i j e = λ k. record { 0 = eqb-true i.0 j.0 e k }
 
 pub instance_same : (i j : InstanceId) → i ≡ j → same_instance i j ≡ true
 instance_same i j e = eq-eqb i.0 j.0 (ap (λ (x : InstanceId). x.0) e)
-
-pub address_is : (a b : Addr) → (a.0 == b.0) ≡ true → a ≡ b
-address_is a b e = λ i. record { 0 = eqb-true a.0 b.0 e i }
 
 -- the circuit at a place of a side is in the instance there
 pub circuit_at-instance : (s : Side) (d : ℕ) → circuit_instance_of (circuit_at s d) ≡ hop_at s d
@@ -49,24 +41,6 @@ hop_not_network s d n h e = apart s.chain.number (place_at s d) n.0 h (ap (λ (x
   where
     apart : (u j n : ℕ) → n < 16384 → 16384 + 16 * u + j ≡ n → ⊥
     apart u j n h e = omega (arith, h, e)
-
--- known instances are within their range
-pub known_small : (feed : Map) (i : InstanceId) → AreOrdered feed → is_known feed i ≡ true → i.0 < 65536
-known_small feed i ordered known =
-    elim (is_hop i) as (λ b. is_hop i ≡ b → cond b (is_place (place_of i) (held_use feed i)) (is_some (object feed (key.Instance i.0))) ≡ true → i.0 < 65536) [
-      | true ↦ λ _ e. of_use (held_use feed i) refl e
-      | false ↦ λ e _. of_network i.0 e
-    ] refl known
-  where
-    of_network : (n : ℕ) → nat_lt 16383 n ≡ false → n < 65536
-    of_network n e = grind (arith)
-
-    bound : (n u : ℕ) → u ≡ (n - 16384) / 16 → u ≤ 3071 → n < 65536
-    bound n u e h = omega arith
-
-    of_use : (o : Option Use) → held_use feed i ≡ o → is_place (place_of i) o ≡ true → i.0 < 65536
-    of_use None e h = absurd (true≢false (sym h))
-    of_use (Some u) e h = let f = use_found feed (use_of i) u e in bound i.0 u.number f.1 (ordered.numbers u f.0)
 
 -- ---- places of held sides
 module _ (feed : Map) (s : Side) (d : ℕ) (ordered : AreOrdered feed) (m : Member s (sides feed)) (h : d ≤ s.chain.services) where

@@ -28,16 +28,14 @@ use Rattle.node_model.proofs.Members.{entry_in, from_entry, from_filter_map, fro
 use Rattle.node_model.proofs.Orders.{key_exact, key_total}
 use Rattle.node_model.proofs.Places.{instance_in-distinguisher}
 use Rattle.node_model.proofs.Routes.{from_below, in_below}
+use Rattle.node_model.proofs.Locality.{vpn_key, towards_of}
 use Rattle.compiled_laws.specs.Compiled.{Agents, compiled_holdings, compiled_routes, holds, leads_on, local, told_to_peers}
 use Rattle.compiled_laws.specs.Sound.{IsSound}
-use Rattle.compiled_laws.proofs.Numbers.{circuit_at-instance, known_small}
+use Rattle.node_model.proofs.Local.{known_small}
+use Rattle.compiled_laws.proofs.Numbers.{circuit_at-instance}
 use Rattle.compiled_laws.proofs.Told.{IsAggregate, IsTold, own_is_host, pair, publisher_is}
 
 -- ---- re-originated routes
--- towards the circuit of a publication
-abbrev pub towards_of : ℕ → InstanceId → Block → Addr × LabelNo → Path
-towards_of asn i subnet by = record { prefix = subnet; rd = distinguisher_of by.0 i; next_hop = by.0; label = by.1; targets = target_of asn i ∷ []; session = 65535 }
-
 pub towards_is : (h : Holdings) (i : InstanceId) (subnet : Block) (o : Option (Addr × LabelNo)) (p : Path) → Member p (towards h i subnet o) → (by : Addr × LabelNo) × (o ≡ Some by) × (towards_of h.asn i subnet by ≡ p)
 towards_is h i subnet None p m = absurd m
 towards_is h i subnet (Some by) p m = elim m as (λ _. (b : Addr × LabelNo) × (Some by ≡ Some b) × (towards_of h.asn i subnet b ≡ p)) [ inl e ↦ (by, refl, e) | inr n ↦ absurd n ]
@@ -100,11 +98,8 @@ routes_told asn feed agents p m =
     ]
 
 -- ---- what peers tell
-abbrev vpn_of : Path → VpnKey
-vpn_of p = record { rd = p.rd; prefix = p.prefix }
-
 abbrev vpn_at : Path → Key
-vpn_at p = Vpn (vpn_of p)
+vpn_at p = Vpn (vpn_key p)
 
 abbrev as_vpn : Key → Option VpnKey
 as_vpn (Vpn k) = Some k
@@ -115,7 +110,7 @@ as_vpn (Subscribe i) = None
 
 same_vpn : (p q : Path) → vpn_at p ≡ vpn_at q → (p.rd ≡ q.rd) × (p.prefix ≡ q.prefix)
 same_vpn p q e =
-    let s : ◌≡◌ {A = VpnKey} (vpn_of p) (vpn_of q) = same_Some (vpn_of p) (vpn_of q) (ap as_vpn e) in
+    let s : ◌≡◌ {A = VpnKey} (vpn_key p) (vpn_key q) = same_Some (vpn_key p) (vpn_key q) (ap as_vpn e) in
     (ap (λ (x : VpnKey). x.rd) s, ap (λ (x : VpnKey). x.prefix) s)
 
 peer_path_is : (session : ℕ) (k : Key) (v : Value) (p : Path) → peer_path session k v ≡ Some p → (q : Path) → route_entry q ≡ pair k v → record q { session = session } ≡ p

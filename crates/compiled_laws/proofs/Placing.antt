@@ -16,19 +16,19 @@ use Rattle.config_check.specs.Finding.{node_named}
 use Rattle.config_check.specs.Rules.{controller_names, node_names}
 use Rattle.node_model.specs.Keys.{at}
 use Rattle.node_model.specs.Members.{Member}
-use Rattle.node_model.proofs.Members.{any_in, from_any, from_filter, from_filter_map, from_flat_map, from_map, in_either, in_filter, in_filter_map, in_flat_map, in_left, in_map, in_right, none_some}
+use Rattle.node_model.proofs.Members.{any_in, from_any, from_filter_map, from_map, in_either, in_filter, in_filter_map, in_flat_map, in_left, in_map, in_right, none_some}
 use Rattle.network_model.specs.Moments.{Nodes, nodes}
-use Rattle.network_model.specs.Network.{accesses, address_of, config, feeds, fresh, lists, peerings, start}
+use Rattle.network_model.specs.Network.{accesses, address_of, config, feeds, lists, peerings, start}
 use Rattle.network_model.specs.Session.{Agent, Configuration, Controller, Session}
 use Rattle.network_model.specs.Setup.{Name, longest, low}
 use Rattle.network_model.proofs.Twins.{itself}
+use Rattle.network_model.proofs.Apart.{IsPeering, IsAccess, peer_link, access_link, feed_session, peer_session, access_session, from_peerings, from_accesses, Apart, NamesApart, same_false}
 use Rattle.compiled_laws.specs.Compiled.{Agents}
 use Rattle.compiled_laws.specs.Goal.{HasRoles, IsLaid, Party, agents_at, is_in_role, other_end, others, peers_at, role_in, role_of}
 use Rattle.compiled_laws.specs.Setups.{IsSoundSetup}
 use Rattle.compiled_laws.specs.Sound.{IsAmong, IsServed}
-use Rattle.compiled_laws.proofs.Names.{Apart, NamesApart, apart_names, same_false}
+use Rattle.compiled_laws.proofs.Names.{apart_names}
 use Rattle.compiled_laws.proofs.Peers.{in_enumerate}
-use Rattle.compiled_laws.proofs.Views.{far}
 
 -- ---- names
 name_is : (a b : Name) → same_name a b ≡ true → a ≡ b
@@ -47,48 +47,13 @@ computer_found (d ∷ ns) c a (inr m) = ap (λ b. cond b (Some d) (find (λ n. s
 abbrev pub feed_link : NodeId → Nodes
 feed_link c = ((config, Configuration), (c.name, Controller))
 
-abbrev pub peer_link : NodeId → NodeId → Nodes
-peer_link c d = ((c.name, Controller), (d.name, Controller))
-
-abbrev pub access_link : NodeId → Node → Nodes
-access_link c n = ((c.name, Controller), (n.name, Agent))
-
 abbrev IsFeed : List NodeId → Nodes → Type 0
 IsFeed cs p = (c : NodeId) × Member c cs × (feed_link c ≡ p)
-
-abbrev pub IsPeering : List NodeId → Nodes → Type 0
-IsPeering cs p = (c : NodeId) × Member c cs × (d : NodeId) × Member d cs × (peer_link c d ≡ p)
-
-abbrev pub IsAccess : List NodeId → List Node → Nodes → Type 0
-IsAccess cs ns p = (c : NodeId) × Member c cs × (n : Node) × Member n ns × (access_link c n ≡ p)
-
-abbrev pub feed_session : NodeId → Session
-feed_session c = record { is_down = true; near = fresh config Configuration; far = fresh c.name Controller }
-
-abbrev pub peer_session : NodeId → NodeId → Session
-peer_session c d = record { is_down = true; near = fresh c.name Controller; far = fresh d.name Controller }
-
-abbrev pub access_session : NodeId → Node → Session
-access_session c n = record { is_down = true; near = fresh c.name Controller; far = fresh n.name Agent }
-
-pub from_peerings : (cs : List NodeId) (s : Session) → Member s (peerings cs) → IsPeering cs (nodes s)
-from_peerings [] s m = absurd m
-from_peerings (c ∷ cs) s m =
-    elim (in_either s (map (peer_session c) cs) (peerings cs) m) as (λ _. IsPeering (c ∷ cs) (nodes s)) [
-      | inl l ↦ let q = from_map (peer_session c) s cs l in (c, inl refl, q.0, inr q.1, ap nodes q.2)
-      | inr r ↦ let q = from_peerings cs s r in (q.0, inr q.1, q.2, inr q.3, q.4)
-    ]
-
-pub from_accesses : (cs : List NodeId) (ns : List Node) (s : Session) → Member s (accesses cs ns) → IsAccess cs ns (nodes s)
-from_accesses cs ns s m =
-    let q = from_flat_map (λ n. map (λ c. access_session c n) (filter (lists n) cs)) s ns m in
-    let c = from_map (λ c. access_session c q.0) s (filter (lists q.0) cs) q.2 in
-    (c.0, (from_filter (lists q.0) c.0 cs c.1).0, q.0, q.1, ap nodes c.2)
 
 in_accesses : (cs : List NodeId) (ns : List Node) (c : NodeId) (n : Node) → Member c cs → Member n ns → lists n c ≡ true → Member (access_session c n) (accesses cs ns)
 in_accesses cs ns c n m k l = in_flat_map (λ n. map (λ c. access_session c n) (filter (lists n) cs)) n (access_session c n) ns k (in_map (λ c. access_session c n) c (filter (lists n) cs) (in_filter (lists n) c cs m l))
 
-in_peerings : (cs : List NodeId) (c d : NodeId) → Member c cs → Member d cs → (c.name ≡ d.name → ⊥) → Member (peer_session c d) (peerings cs) ⊎ Member (peer_session d c) (peerings cs)
+pub in_peerings : (cs : List NodeId) (c d : NodeId) → Member c cs → Member d cs → (c.name ≡ d.name → ⊥) → Member (peer_session c d) (peerings cs) ⊎ Member (peer_session d c) (peerings cs)
 in_peerings [] c d m n h = absurd m
 in_peerings (e ∷ cs) c d (inl p) (inl q) h = absurd (h (ap (λ (c : NodeId). c.name) (sym p ∙ q)))
 in_peerings (e ∷ cs) c d (inl p) (inr n) h = inl (in_left (peer_session c d) (map (peer_session e) cs) (peerings cs) (subst (λ c. Member (peer_session c d) (map (peer_session e) cs)) p (in_map (peer_session e) d cs n)))

@@ -45,7 +45,7 @@ use Rattle.compiled_laws.proofs.Tables.{row_of_table}
 abbrev row_of_hop : InstanceId → Block → Hop → (InstanceId × Block) × Hop
 row_of_hop i p hop = ((i, p), hop)
 
-abbrev entry_row : InstanceId → Block × TableRow → TableEntry
+abbrev pub entry_row : InstanceId → Block × TableRow → TableEntry
 entry_row i e = ((i, e.0), e.1)
 
 -- ---- a control node

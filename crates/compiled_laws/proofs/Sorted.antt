@@ -1,6 +1,5 @@
 -- Lists of entries in order are equal where they have the same members, and maps of lists are where no key has two values.
-use Rattle.std.specs.Cmp.Lexicographic.{nat_list_cmp_total}
-use Rattle.std.specs.Cmp.{IsTotalOrder, on_total}
+use Rattle.std.specs.Cmp.{IsTotalOrder}
 use Rattle.std.specs.FinMap.{IsAntisymmetric, entries, entries-from_sorted, entries_sorted, find, from_entries, from_sorted, get-from_entries, get-from_sorted, is_sorted, same_map}
 use Rattle.std.specs.List.{filter}
 use Rattle.std.specs.Ordering.{is_lt}
@@ -9,17 +8,13 @@ use Rattle.std.specs.declared.cmp.Ordering.{Ordering}
 use Rattle.std.specs.declared.option.Option.TheVariants.{None, Some}
 use Rattle.std.specs.declared.option.Option.{Option}
 use Rattle.std.proofs.Common.{ap, inl, inr, refl, sym, ◌∙◌}
-use Rattle.std.proofs.lemmas.Option.{same_Some}
-use Rattle.ov_types.specs.declared.objects.LowKey.{LowKey}
 use Rattle.ov_types.specs.declared.prefix.Addr.{Addr}
-use Rattle.node_model.specs.Keys.{Low, key_cmp, numbers}
 use Rattle.node_model.specs.Maps.{Map, objects}
 use Rattle.node_model.specs.Members.{Member}
 use Rattle.node_model.specs.Wants.{is_in_slice, slice}
 use Rattle.node_model.proofs.Members.{both_of_and, find_member, first_below, first_of_and, found, from_filter, from_find, none_some, second_of_and}
-use Rattle.node_model.proofs.Orders.{key_exact}
 use Rattle.node_model.proofs.Published.{rise_from}
-use Rattle.node_model.proofs.Wanted.{as_low}
+use Rattle.node_model.proofs.Local.{low_cmp}
 
 module _ {K V : Type 0} (R : K → K → Ordering) where
   abbrev pub Rises : List (K × V) → Type 0
@@ -74,15 +69,6 @@ rises_filter R p (e ∷ es) r =
     ]
 
 -- ---- low-level objects go by the order of all keys
-abbrev low_cmp : LowKey → LowKey → Ordering
-low_cmp a b = key_cmp (Low a) (Low b)
-
-pub low_total : IsTotalOrder low_cmp
-low_total = on_total (λ (k : LowKey). numbers (Low k)) nat_list_cmp_total
-
-pub low_exact : IsAntisymmetric low_cmp
-low_exact a b e = same_Some a b (ap as_low (key_exact (Low a) (Low b) e))
-
 pub objects_sorted : (m : Map) → T (is_sorted low_cmp (objects m))
 objects_sorted m = sorted_from low_cmp (objects m) (rise_from (entries m) (entries_sorted m))
 

@@ -23,16 +23,16 @@ use Rattle.node_model.specs.Maps.{Map, as_label, objects}
 use Rattle.node_model.specs.Members.{Member}
 use Rattle.node_model.specs.Paths.{Path, Told, own_paths}
 use Rattle.node_model.specs.Reaching.{Side, circuit_at, hop_at, network, published_by, published_in, sides, subnets}
-use Rattle.node_model.specs.Values.{Entry, Label, Object, Route, Value}
+use Rattle.node_model.specs.Values.{Label, Value}
 use Rattle.node_model.specs.Wants.{is_in_slice, slice}
 use Rattle.node_model.proofs.Members.{entry_in, from_entry, from_filter, from_filter_map, from_flat_map, from_map, in_either, in_filter, in_filter_map, in_flat_map, in_left, in_map, none_some}
 use Rattle.node_model.proofs.Orders.{key_exact, key_total}
-use Rattle.node_model.proofs.Routes.{own_route_from, own_route_in}
-use Rattle.node_model.proofs.Wanted.{instance_at}
+use Rattle.node_model.proofs.Routes.{own_route_from, own_route_in, label_is, led_by}
+use Rattle.node_model.proofs.Wanted.{instance_at, address_is}
 use Rattle.network_model.specs.Session.{told}
+use Rattle.node_model.proofs.Alike.{as_label_no}
 use Rattle.compiled_laws.specs.Compiled.{Agents, Attachment, as_attachment, attachments, circuit_prefix, holds, local, told_by_agent}
 use Rattle.compiled_laws.specs.Sound.{IsAmong, IsSound}
-use Rattle.compiled_laws.proofs.Numbers.{address_is}
 
 pub record IsHost (asn : ℕ) (feed : Map) (p : Path) : Type 0 where
   pub to : Attachment
@@ -116,12 +116,6 @@ as_publish (Vpn k) = None
 as_publish (Row i p) = None
 as_publish (Subscribe i) = None
 
-abbrev pub as_label_value : Value → Option LabelNo
-as_label_value (Label l) = Some l
-as_label_value (Object v) = None
-as_label_value (Route r) = None
-as_label_value (Entry r) = None
-
 apart_keys : (i j : InstanceId) (p : Block) → Subscribe i ≡ Publish j p → ⊥
 apart_keys i j p e = none_some (instance_at j p) (ap as_publish e)
 
@@ -131,7 +125,7 @@ same_publish i j p q e =
     (ap (λ (x : InstanceId × Block). x.0) s, ap (λ (x : InstanceId × Block). x.1) s)
 
 pub same_label : (l m : LabelNo) → Label l ≡ Label m → l ≡ m
-same_label l m e = same_Some l m (ap as_label_value e)
+same_label l m e = same_Some l m (ap as_label_no e)
 
 abbrev IsOfAttachment : Map → Addr → Key → Value → Type 0
 IsOfAttachment feed address k v = (a : Attachment) × Member a (attachments feed) × (a.node ≡ address) × (publication_of a ≡ pair k v)
@@ -240,16 +234,6 @@ pub record IsPublished (feed : Map) (circuit : ℕ) (by : Addr × LabelNo) : Typ
   pub prefix : to.prefix ≡ circuit_prefix circuit
   pub node : by.0 ≡ to.node
   pub label : by.1 ≡ to.label
-
-label_is : (o : Option Value) (l : LabelNo) → as_label o ≡ Some l → o ≡ Some (Label l)
-label_is (Some (Label m)) l e = ap (λ (x : LabelNo). Some (Label x)) (same_Some m l e)
-label_is (Some (Object v)) l e = absurd (none_some l e)
-label_is (Some (Route r)) l e = absurd (none_some l e)
-label_is (Some (Entry r)) l e = absurd (none_some l e)
-label_is None l e = absurd (none_some l e)
-
-abbrev led_by : Addr → LabelNo → Addr × LabelNo
-led_by address label = (address, label)
 
 abbrev or_else : Map → Addr → Agents → ℕ → Option LabelNo → Option (Addr × LabelNo)
 or_else feed address agents circuit o = elim o [ Some l ↦ Some (led_by address l) | None ↦ published_in (map (told_by_agent feed) agents) circuit ]

@@ -1,5 +1,5 @@
 -- What low-level objects alone make of each node: its tables and rows, and what is told on each session.
-use Rattle.std.specs.Prelude.{ℕ, suc, List, [], ◌∷◌, ◌++◌, map, Bool, ◌&&◌, ◌==◌, if◌then◌else◌}
+use Rattle.std.specs.Prelude.{ℕ, suc, List, [], ◌++◌, map, Bool, ◌&&◌, ◌==◌, if◌then◌else◌}
 use Rattle.std.specs.declared.option.Option.{Option}
 use Rattle.std.specs.declared.option.Option.TheVariants.{Some, None}
 use Rattle.std.specs.List.{filter, filter_map, flat_map, list_any}

@@ -42,12 +42,12 @@ all_without {A} p name_of name xs all =
     ]
 
 -- the five lists of a configuration
-record Parts (c : Config) : Type 0 where
-  networks : list_all has_network_form c.networks ≡ true
-  ports : list_all has_port_form c.ports ≡ true
-  policies : list_all has_policy_form c.policies ≡ true
-  services : list_all has_service_form c.services ≡ true
-  chains : list_all has_chain_form c.chains ≡ true
+pub record Parts (c : Config) : Type 0 where
+  pub networks : list_all has_network_form c.networks ≡ true
+  pub ports : list_all has_port_form c.ports ≡ true
+  pub policies : list_all has_policy_form c.policies ≡ true
+  pub services : list_all has_service_form c.services ≡ true
+  pub chains : list_all has_chain_form c.chains ≡ true
 
 parts_of : (c : Config) → has_config_form c ≡ true → Parts c
 unfolding has_config_form

@@ -54,7 +54,7 @@ unmapped {A} {B} f (x ∷ xs) h =
     let R : B → B → Type 0 = λ a b. a ≢ b in
     AllPairs-cons (λ y z. f y ≢ f z) x xs (all_unmapped f (R (f x)) xs (pairs_head R (f x) (map f xs) h)) (unmapped f xs (pairs_tail R (f x) (map f xs) h))
 
-back_pairs : {A : Type 0} (R : A → A → Type 0) (xs ys : List A) → AllPairs R (xs ++ ys) → AllPairs R ys
+pub back_pairs : {A : Type 0} (R : A → A → Type 0) (xs ys : List A) → AllPairs R (xs ++ ys) → AllPairs R ys
 back_pairs R [] ys h = h
 back_pairs R (x ∷ xs) ys h = back_pairs R xs ys (pairs_tail R x (xs ++ ys) h)
 

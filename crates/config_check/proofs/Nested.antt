@@ -1,5 +1,5 @@
 -- Of two prefixes that hold one address, one is inside the other.
-use Rattle.std.proofs.Common.{◌≡◌, ℕ, ◌+◌, ◌-◌, ◌*◌, ◌/◌, ◌%◌, ◌^◌, ◌≤◌, ◌<◌, ◌==◌, inl, inr, ltb, nat_lt, ◌&&◌, true, IsTrue, ap, ◌∙◌, arith}
+use Rattle.std.proofs.Common.{◌≡◌, ℕ, ◌+◌, ◌-◌, ◌*◌, ◌/◌, ◌%◌, ◌^◌, ◌≤◌, ◌<◌, ◌==◌, inl, inr, ltb, nat_lt, true, IsTrue, ap, ◌∙◌, arith}
 use Rattle.std.proofs.Math.Nat.{mul-add, mul-one, mul_assoc, mul-le-mul_left, lt_of_mul-lt-mul_left, div-add-mod}
 use Rattle.std.proofs.lemmas.Bool.{cases_lt, and_parts, eqb-true, ltb-true}
 use Rattle.std.proofs.lemmas.Nat.{pow-add}

@@ -55,7 +55,7 @@ blocks_of_network n h =
     (list_all_true is_block n.subnets).0
     (third_of_four (is_network_name n.name) (is_from_to 1 16383 n.id.0) (list_all is_block n.subnets) (list_all is_name n.policies) h)
 
-networks_have_form : (c : Config) → IsTrue (has_config_form c) → All (λ n. IsTrue (has_network_form n)) c.networks
+pub networks_have_form : (c : Config) → IsTrue (has_config_form c) → All (λ n. IsTrue (has_network_form n)) c.networks
 unfolding has_config_form
 networks_have_form c h =
     (list_all_true has_network_form c.networks).0

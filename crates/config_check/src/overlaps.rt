@@ -1,7 +1,6 @@
 //! The rule of addresses: among a network and all that are related to it no two have overlapping subnets.
-ghost use Rattle.std.specs.Prelude.{◌≡◌, filter, find, map, option_copied, option_map, IfOk};
+ghost use Rattle.std.specs.Prelude.{◌≡◌, filter, find, map, option_copied, IfOk};
 ghost use Rattle.std.specs.List.{list_any};
-ghost use Rattle.ov_types.specs.Prefix.{Block};
 ghost use Rattle.network_rules.specs.Related.{attaches};
 ghost use Rattle.config_check.specs.Between.{also_leads, is_in_group};
 ghost use Rattle.config_check.specs.Rules.{overlap, group_of, share_addresses, overlapping, overlapping_around};

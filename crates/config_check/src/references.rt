@@ -1,5 +1,5 @@
 //! The rule of references: each name that is referred to exists.
-ghost use Rattle.std.specs.Prelude.{◌≡◌, ◌++◌, IfOk};
+ghost use Rattle.std.specs.Prelude.{◌≡◌, IfOk};
 ghost use Rattle.std.specs.List.{list_any};
 ghost use Rattle.ov_types.specs.First.{same_name, first_of};
 ghost use Rattle.config_check.specs.Rules.{missing, missing_end, missing_chain, missing_in_node, missing_in_network};

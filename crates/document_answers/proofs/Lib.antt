@@ -1,3 +1,2 @@
-pub mod JsonLaws
 pub mod LineLemmas
 pub mod Ways

@@ -1,5 +1,5 @@
 -- Texts that are handed on one after the other.
-use Rattle.std.proofs.Common.{◌≡◌, ℕ, List, [], ◌++◌, Option, refl, sym, subst}
+use Rattle.std.proofs.Common.{ℕ, List, [], ◌++◌, Option, refl, sym, subst}
 use Rattle.std.proofs.lemmas.List.{append_assoc, append-nil}
 use Rattle.std.specs.Prelude.{OnOk, OnErr, Result, Ok, Err}
 use Rattle.ov_io.specs.Inputs.{TookFront}

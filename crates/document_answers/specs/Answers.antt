@@ -13,7 +13,7 @@ use Rattle.document_answers.specs.declared.unfit.Verdict.{Verdict}
 use Rattle.document_answers.specs.declared.unfit.Verdict.TheVariants.{Good, NotJson, BadDocument, Refused}
 use Rattle.document_answers.specs.declared.unfit.Unfit.{Unfit}
 use Rattle.document_answers.specs.declared.unfit.Unfit.TheVariants as unfit
-use Rattle.document_answers.specs.Json.{json_of}
+use Rattle.ov_json.specs.Json.{json_of}
 use Rattle.document_answers.specs.Lines.{compile_text}
 use Rattle.document_answers.specs.Outcomes.{reach_text}
 

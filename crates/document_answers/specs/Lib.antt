@@ -1,4 +1,3 @@
-pub mod Json
 pub mod Lines
 pub mod Outcomes
 pub mod Answers

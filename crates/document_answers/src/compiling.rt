@@ -7,10 +7,11 @@ ghost use Rattle.document_answers.specs.Answers.{IsAnswered, WasGiven, answer_go
 ghost use Rattle.document_answers.specs.Lines.{compile_text};
 
 use crate::lines::write_tables;
-use crate::unfit::{Unfit, Verdict, valid_of, value_of, write_unfit};
+use crate::unfit::{Unfit, Verdict, valid_of, write_unfit};
 use config_check::Valid;
 use config_model::{ReadRefusal, read_compile};
 use ov_io::{Sink, WriteRefusal};
+use ov_json::value_of;
 use ov_types::NoMemory;
 use serde_json::Value;
 use std::alloc::Global;

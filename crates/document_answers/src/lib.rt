@@ -8,5 +8,6 @@ mod reaching;
 mod unfit;
 
 pub use compiling::answer_compile;
+pub use lines::write_one;
 pub use reaching::answer_reach;
-pub use unfit::{Unfit, Verdict, valid_of, value_of, write_unfit};
+pub use unfit::{Unfit, Verdict, valid_of, write_unfit};

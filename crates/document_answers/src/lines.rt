@@ -19,7 +19,7 @@ use std::alloc::Global;
 
 /// Hands on the lines of one thing.
 #[tactic(auto, using(ov_io::proofs::PieceLemmas::took_nothing))]
-pub(crate) fn write_one<K: Sink, T, W: LinesOf<T>>(
+pub fn write_one<K: Sink, T, W: LinesOf<T>>(
     alloc: Global,
     lines: &W,
     item: &T,

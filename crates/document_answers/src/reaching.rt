@@ -7,10 +7,11 @@ ghost use Rattle.document_answers.specs.Answers.{IsAnswered, WasGiven, answer_go
 ghost use Rattle.document_answers.specs.Outcomes.{reach_text};
 
 use crate::outcomes::write_outcomes;
-use crate::unfit::{Unfit, Verdict, valid_of, value_of, write_unfit};
+use crate::unfit::{Unfit, Verdict, valid_of, write_unfit};
 use config_check::Valid;
 use config_model::{ReachInput, ReadRefusal, read_reach};
 use ov_io::{Sink, WriteRefusal};
+use ov_json::value_of;
 use ov_types::{Items, NoMemory, Packet};
 use serde_json::Value;
 use std::alloc::Global;

@@ -1,21 +1,16 @@
 //! What an input is found to be, and the one line of what is not fit.
-ghost use Rattle.std.specs.Prelude.{◌≡◌, ◌≢◌, ℕ, List, None, IfOk, IfErr, OnOk, OnErr, IsTrue, option_map};
-ghost use Rattle.serde_json.specs.View.{view};
+ghost use Rattle.std.specs.Prelude.{◌≡◌, ◌≢◌, ℕ, List, None, IfOk, IfErr, OnOk, OnErr, IsTrue};
 ghost use Rattle.config_model.specs.Form.{has_topology_form, has_config_form};
 ghost use Rattle.config_check.specs.Rules.{first_broken};
 ghost use Rattle.ov_io.specs.Inputs.{TookFront};
 ghost use Rattle.ov_io.specs.Pieces.{HasWriteCause};
 ghost use Rattle.document_answers.specs.Answers.{Answer, IsAnswered, WasGiven, answer_checked};
-ghost use Rattle.document_answers.specs.Json.{json_of};
 
 use config_check::{CheckRefusal, Refusal, Valid, check};
 use config_model::{CompileInput, DocFault};
 use ov_io::{Sink, TextOut, WriteRefusal, write_all};
-use ov_types::NoMemory;
 use report::{doc_fault_lines, refusal_lines};
-use serde_json::Value;
 use std::alloc::Global;
-use std::str;
 
 /// What an input is found to be.
 #[derive(Clone, Copy)]
@@ -33,25 +28,6 @@ pub enum Unfit {
     BadDocument(DocFault),
     Refused(Refusal),
     NoMemory,
-}
-
-/// The value that octets write as JSON.
-pub fn value_of(alloc: Global, octets: &[u8]) -> Result<Option<Value>, NoMemory>
-    ensures { IfOk result (λ o. option_map view o ≡ json_of octets.now) }
-{
-    let Ok(text) = str::from_utf8(octets) else {
-        return Ok(None);
-    };
-    match Value::from_str(alloc, text) {
-        Ok(value) => Ok(Some(value)),
-        Err(error) => {
-            if error.is_memory() {
-                Err(NoMemory)
-            } else {
-                Ok(None)
-            }
-        }
-    }
 }
 
 /// Writes the one line of what is not fit.

@@ -27,9 +27,11 @@ use Rattle.transform_model.specs.Compiled.{agent_rows, concerns, slice_of, route
 use Rattle.transform_model.specs.IsRow.{IsRow}
 use Rattle.transform_model.specs.Objects.{Object, low_objects, ascending_instances}
 use Rattle.transform_model.specs.Tables.{Row, tables_of}
-use Rattle.transform_model.proofs.Lists.{is_mapped, mapped_is, is_kept, kept_is, gives, given, is_joined}
+use Rattle.network_rules.proofs.Lists.{is_mapped, mapped_is, is_kept, kept_is, is_joined}
+use Rattle.transform_model.proofs.Lists.{gives, given}
 use Rattle.forward_laws.proofs.Held.{instance_of_row, one_object, row_of_table, in_tables}
-use Rattle.forward_laws.proofs.Lists.{only_found, only_longest, no_longest}
+use Rattle.reach_plain.proofs.Found.{finds}
+use Rattle.forward_laws.proofs.Lists.{only_longest, no_longest}
 use Rattle.forward_laws.proofs.Valid.{one_node_at}
 
 -- the agent of a node
@@ -122,7 +124,7 @@ module _ (t : Topology) (c : Config) (form : IsTrue (has_config_form c)) (v : Is
       let inside : Contains labels (label, what) =
       gives (λ (o : Object). listed o.0 o.1) (slice_of (low_objects t c) a) (Key.Attach label.0, w) (label, what) (in_slice (Key.Attach label.0) w h at) is in
       let found : find (λ (e : Label × Attached). e.0.0 == label.0) labels ≡ Some (label, what) =
-      only_found (λ (e : Label × Attached). e.0.0 == label.0) labels (label, what) inside (eq-eqb label.0 label.0 refl)
+      finds (λ (e : Label × Attached). e.0.0 == label.0) labels (label, what) inside (eq-eqb label.0 label.0 refl)
       (λ e in_e passes.
       let from = given (λ (o : Object). listed o.0 o.1) (slice_of (low_objects t c) a) e in_e in
       let o : Object = from.0 in
@@ -181,7 +183,7 @@ module _ (t : Topology) (c : Config) (form : IsTrue (has_config_form c)) (v : Is
 module _ (t : Topology) (c : Config) (v : IsValid t c) where
   pub agent_is : (n : Node) → Contains t.nodes n → agent_at (agents_of t c) n.address ≡ Some (forwarder t c n)
   agent_is n h =
-      only_found (λ (g : Forwarder). g.address.0 == n.address.0) (agents_of t c) (forwarder t c n) (is_mapped (forwarder t c) t.nodes n h) (eq-eqb n.address.0 n.address.0 refl)
+      finds (λ (g : Forwarder). g.address.0 == n.address.0) (agents_of t c) (forwarder t c n) (is_mapped (forwarder t c) t.nodes n h) (eq-eqb n.address.0 n.address.0 refl)
       (λ g in_g passes.
       let from = mapped_is (forwarder t c) t.nodes g in_g in
       let at : from.0.address.0 ≡ n.address.0 = ap (λ (f : Forwarder). f.address.0) from.2 ∙ eqb-true g.address.0 n.address.0 passes in

@@ -23,7 +23,7 @@ use Rattle.transform_model.specs.Objects.{Object, low_objects, ascending_instanc
 use Rattle.transform_model.specs.Tables.{Row, instance_table, tables_of}
 use Rattle.transform_model.proofs.Ascending.{Rises, is_ascending, ascending_rises}
 use Rattle.transform_model.proofs.Kept.{tables_kept}
-use Rattle.transform_model.proofs.Lists.{joined_is, is_joined}
+use Rattle.network_rules.proofs.Lists.{joined_is, is_joined}
 use Rattle.transform_model.proofs.LowKeys.{low_in_order, low_iff}
 use Rattle.transform_model.proofs.Rows.{rows_iff}
 

@@ -55,7 +55,7 @@ use Rattle.node_model.specs.Agent.{entered_by}
 use Rattle.node_model.specs.Wants.{port_at as network_at}
 use Rattle.reach_plain.specs.Outcomes.{IsTowards}
 use Rattle.reach_plain.specs.Reachability.{network_towards, services_through, arrival_at, outcome_of, outcome_by, outcome_between, outcome_towards, outcome_from, outcome_at, reachability}
-use Rattle.reach_plain.proofs.Becoming.{outcome_iff}
+use Rattle.reach_plain.proofs.Becoming.{outcome_iff, apart}
 use Rattle.reach_plain.proofs.Found.{own_exists, target_is, towards_of}
 use Rattle.transform_model.specs.Compiled.{agent_rows, compiled_tables, forwarders, networks_at}
 use Rattle.transform_model.specs.IsObject.IsObject.{of_port, of_networks}
@@ -78,9 +78,6 @@ use Rattle.forward_laws.proofs.Sources.{starts, starts_nowhere}
 use Rattle.forward_laws.proofs.Valid.{node_of_port, holds_port_address}
 use Rattle.forward_laws.proofs.Verdicts.{access_to, towards_nothing, towards_network}
 use Rattle.forward_laws.proofs.Ways.{IsHost, Arrives, Way, walk_way}
-
-apart : (x y : List ℕ) → same_name x y ≡ false → x ≢ y
-apart x y e = λ same. let never : true ≡ false = sym ((same_name_iff x y).1 same) ∙ e in absurd cc
 
 named_end : (e : End) (n : Network) → e ≢ Anyone → IsEnd e n → e ≡ Named n.name
 named_end Anyone n h is = absurd (h refl)

@@ -5,8 +5,8 @@ use Rattle.std.proofs.lemmas.List.Elements.{All-contains, Contains-get_or}
 use Rattle.ov_types.specs.First.{first_of}
 use Rattle.ov_types.specs.Prefix.{Block, contains}
 use Rattle.ov_types.specs.Routing.{longer, longest}
-use Rattle.ov_types.proofs.FirstLemmas.{pairs_head, pairs_tail, contains_here, contains_later, contains_cases, find_none, found_is, first_of_none, of_first, answered}
-use Rattle.transform_model.proofs.Lists.{is_mapped}
+use Rattle.ov_types.proofs.FirstLemmas.{pairs_head, pairs_tail, contains_here, contains_later, contains_cases, found_is, first_of_none, of_first, answered}
+use Rattle.network_rules.proofs.Lists.{is_mapped}
 
 pub nothing_in : {A : Type 0} (P : Type 0) (x : A) → Contains [] x → P
 nothing_in P x h = absurd (omega (arith, h.1))
@@ -30,16 +30,6 @@ one_by_key {A} {B} f (z ∷ zs) apart x y in_x in_y e =
     ]
 
 -- ---- what is found where there is one thing to find
-
-pub only_found : {A : Type 0} (p : A → Bool) (xs : List A) (x : A) → Contains xs x → p x ≡ true → ((y : A) → Contains xs y → p y ≡ true → y ≡ x) → find p xs ≡ Some x
-only_found {A} p xs x inside passes only =
-    elim (find p xs) as (λ o. find p xs ≡ o → o ≡ Some x) [
-      | None ↦ λ e.
-          let fails : p x ≡ false = All-contains (λ y. p y ≡ false) xs x ((find_none p xs).0 e) inside in
-          let never : true ≡ false = sym passes ∙ fails in
-          absurd cc
-      | Some y ↦ λ e. let f = found_is p xs y e in ap Some (only y f.1 f.0)
-    ] refl
 
 pub none_found : {A : Type 0} (p : A → Bool) (xs : List A) → ((y : A) → Contains xs y → p y ≡ true → ⊥) → find p xs ≡ None
 none_found {A} p xs none =

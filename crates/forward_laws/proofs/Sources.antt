@@ -29,7 +29,7 @@ use Rattle.transform_model.specs.IsObject.{IsObject}
 use Rattle.transform_model.specs.IsObject.IsObject.{of_network, of_port, of_left_circuit, of_right_circuit, of_networks, of_use}
 use Rattle.transform_model.specs.IsRow.{IsPort}
 use Rattle.transform_model.specs.Objects.{Object, low_objects, attached_port}
-use Rattle.transform_model.proofs.Lists.{is_mapped, mapped_is}
+use Rattle.network_rules.proofs.Lists.{is_mapped, mapped_is}
 use Rattle.forward_laws.proofs.Agents.{forwarder, agents_of, label_leads, under_label}
 use Rattle.forward_laws.proofs.Held.{object_is, is_object, one_object}
 use Rattle.forward_laws.proofs.Lists.{only_answer, no_answer}

@@ -1,9 +1,9 @@
 -- What names and numbers tell apart in a valid configuration, and what it refers to.
-use Rattle.std.proofs.Common.{◌≡◌, ◌≢◌, ◌++◌, true, IsTrue, List, [], ◌∷◌, Some, IfSome, map, sym, inl, inr}
-use Rattle.std.specs.List.{AllPairs, Any, Contains}
+use Rattle.std.proofs.Common.{◌≡◌, ◌≢◌, true, IsTrue, [], Some, IfSome, map, sym, inl, inr}
+use Rattle.std.specs.List.{Any, Contains}
 use Rattle.std.proofs.lemmas.List.Elements.{All-contains}
 use Rattle.ov_types.specs.Prefix.{Block, contains}
-use Rattle.ov_types.proofs.FirstLemmas.{pairs_tail, answered}
+use Rattle.ov_types.proofs.FirstLemmas.{answered}
 use Rattle.config_model.specs.Form.{is_block, has_config_form}
 use Rattle.config_model.specs.declared.config.Config.{Config}
 use Rattle.config_model.specs.declared.config.Network.{Network}
@@ -15,13 +15,9 @@ use Rattle.config_check.specs.Rules.{controller_names, network_names, node_names
 use Rattle.config_check.specs.Sentences.{IsValid}
 use Rattle.config_check.specs.Finding.{network_named}
 use Rattle.config_check.proofs.OneHome.{HasBlocks, blocks_of, two_among}
-use Rattle.config_check.proofs.Finders.{finds_network_named}
-use Rattle.transform_model.proofs.Lists.{mapped_is}
+use Rattle.config_check.proofs.Finders.{finds_network_named, back_pairs}
+use Rattle.network_rules.proofs.Lists.{mapped_is}
 use Rattle.forward_laws.proofs.Lists.{one_by_key}
-
-back_pairs : {A : Type 0} (R : A → A → Type 0) (xs ys : List A) → AllPairs R (xs ++ ys) → AllPairs R ys
-back_pairs R [] ys h = h
-back_pairs R (x ∷ xs) ys h = back_pairs R xs ys (pairs_tail R x (xs ++ ys) h)
 
 module _ (t : Topology) (c : Config) (v : IsValid t c) where
   pub one_node : (a b : Node) → Contains t.nodes a → Contains t.nodes b → a.name ≡ b.name → a ≡ b

@@ -27,7 +27,8 @@ use Rattle.transform_model.specs.Compiled.{agent_rows, concerns, networks_at, sl
 use Rattle.transform_model.specs.IsObject.{IsObject}
 use Rattle.transform_model.specs.IsObject.IsObject.{of_network, of_port, of_left_circuit, of_right_circuit, of_networks, of_use}
 use Rattle.transform_model.specs.Objects.{Object, low_objects}
-use Rattle.transform_model.proofs.Lists.{is_kept, kept_is, gives, given}
+use Rattle.network_rules.proofs.Lists.{is_kept, kept_is}
+use Rattle.transform_model.proofs.Lists.{gives, given}
 use Rattle.transform_model.proofs.Objects.{one_named, one_numbered}
 use Rattle.forward_laws.proofs.Held.{object_is, is_object}
 use Rattle.forward_laws.proofs.Lists.{nothing_in, in_any, of_any}

@@ -1,7 +1,7 @@
 -- The way of a packet through the services that are left of a chain, and the walk along it.
 use Rattle.std.proofs.Common.{◌≡◌, ◌<◌, ◌++◌, ◌&&◌, ℕ, zero, suc, Bool, true, false, IsTrue, List, [], ◌∷◌, Option, Some, None, find, map, length, refl, sym, ap, ◌∙◌, subst, append_assoc, arith, inl, inr, ◌⊎◌}
 use Rattle.std.specs.List.{Contains}
-use Rattle.std.proofs.lemmas.Bool.{and_parts, eq-eqb}
+use Rattle.std.proofs.lemmas.Bool.{and_parts, eq-eqb, and_from}
 use Rattle.std.proofs.lemmas.List.{append-nil}
 use Rattle.std.proofs.lemmas.List.Elements.{All-contains}
 use Rattle.ov_types.specs.First.{same_name}
@@ -82,10 +82,6 @@ leads_to : (again : Forwarder → List ServiceNo → InstanceId → Outcome) (ag
 leads_to again agents services o e g what p q r =
     ap (followed again agents services) p ∙ ap (handed again services e.label) q ∙ ap (visited (again g) services) r
 
-and_true : (a b : Bool) → a ≡ true → b ≡ true → (a && b) ≡ true
-and_true true b e f = f
-and_true false b e f = cc
-
 -- a subnet of a network that holds a port contains an address, or none does
 aimed : (c : Config) (n : Network) (d : ℕ) → ((prefix : Block) × HoldsPort c n prefix × (contains prefix d ≡ true)) ⊎ ((prefix : Block) → HoldsPort c n prefix → contains prefix d ≡ true → ⊥)
 aimed c n d =
@@ -93,8 +89,8 @@ aimed c n d =
     let of_port : Block → Port → Bool = λ s p. same_name p.network n.name && contains s p.address.0 in
     elim (find test n.subnets) as (λ o. find test n.subnets ≡ o → ((prefix : Block) × HoldsPort c n prefix × (contains prefix d ≡ true)) ⊎ ((prefix : Block) → HoldsPort c n prefix → contains prefix d ≡ true → ⊥)) [
       | None ↦ λ e. inr (λ prefix held hit.
-          let port_passes : of_port prefix held.port ≡ true = and_true (same_name held.port.network n.name) (contains prefix held.port.address.0) ((same_name_iff held.port.network n.name).1 held.home_of) held.holds in
-          let passes : test prefix ≡ true = and_true (contains prefix d) (holds_port c n prefix) hit (in_any (of_port prefix) c.ports held.port held.has_port port_passes) in
+          let port_passes : of_port prefix held.port ≡ true = and_from (same_name held.port.network n.name) (contains prefix held.port.address.0) ((same_name_iff held.port.network n.name).1 held.home_of) held.holds in
+          let passes : test prefix ≡ true = and_from (contains prefix d) (holds_port c n prefix) hit (in_any (of_port prefix) c.ports held.port held.has_port port_passes) in
           let fails : test prefix ≡ false = All-contains (λ (s : Block). test s ≡ false) n.subnets prefix ((find_none test n.subnets).0 e) held.has_subnet in
           let never : true ≡ false = sym passes ∙ fails in
           cc)

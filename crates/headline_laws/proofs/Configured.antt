@@ -17,7 +17,7 @@ use Rattle.transform_model.specs.Compiled.{agent_rows}
 use Rattle.transform_model.specs.Tables.{control_rows}
 use Rattle.transform_model.proofs.Rows.{node_is}
 use Rattle.node_model.specs.Members.{Member}
-use Rattle.node_model.proofs.Members.{any_in, in_map}
+use Rattle.node_model.proofs.Members.{any_in, in_map, member_of}
 use Rattle.network_model.specs.Events.{after, is_node, shown}
 use Rattle.network_model.specs.Network.{Network, start}
 use Rattle.network_model.specs.Setup.{Name, low as low_map}
@@ -28,7 +28,6 @@ use Rattle.compiled_laws.proofs.Names.{apart_names}
 use Rattle.headline_laws.specs.Headline.{AfterAnySchedule, AgentsShowRows, ControlNodesShowTables, IsWritten}
 use Rattle.headline_laws.proofs.Control.{control_is}
 use Rattle.headline_laws.proofs.Delivers.{found}
-use Rattle.headline_laws.proofs.Lists.{member_of}
 use Rattle.headline_laws.proofs.Names.{is_named}
 use Rattle.headline_laws.proofs.Shown.{agent_is}
 use Rattle.headline_laws.proofs.Written.{compiled_now, written_now}

@@ -24,14 +24,15 @@ use Rattle.transform_model.specs.Tables.{Row as TableEntry}
 use Rattle.transform_model.specs.Tables.{instance_table, instances}
 use Rattle.transform_model.proofs.Instances.{instance_is, is_instance}
 use Rattle.transform_model.proofs.Kept.{all_in_order, all_kept, instance_of_row}
-use Rattle.transform_model.proofs.Lists.{is_joined, joined_is, place_within}
+use Rattle.network_rules.proofs.Lists.{is_joined, joined_is}
+use Rattle.transform_model.proofs.Lists.{place_within}
 use Rattle.transform_model.proofs.Rows.{rows_iff}
 use Rattle.node_model.specs.Maps.{Map}
 use Rattle.node_model.specs.Members.{Member}
 use Rattle.node_model.specs.Paths.{Holdings}
 use Rattle.node_model.specs.Tables.{known_instances, rows}
 use Rattle.node_model.proofs.Heard.{row_exact, row_total}
-use Rattle.node_model.proofs.Members.{from_flat_map, from_map, get_member, in_flat_map, in_map, member_get}
+use Rattle.node_model.proofs.Members.{from_flat_map, from_map, get_member, in_flat_map, in_map, member_get, contains_of, member_of}
 use Rattle.node_model.proofs.Orders.{prefix_exact, prefix_total}
 use Rattle.node_laws.specs.Received as received
 use Rattle.node_laws.specs.Received.{AreNetworks}
@@ -41,13 +42,12 @@ use Rattle.network_model.specs.Setup.{low as low_map}
 use Rattle.compiled_laws.specs.Compiled as compiled
 use Rattle.compiled_laws.specs.Compiled.{Agents, Attachment, attachments, compiled_holdings, compiled_table, rows_in}
 use Rattle.compiled_laws.specs.Sound.{IsServed}
-use Rattle.compiled_laws.proofs.Shown.{rows_compiled}
+use Rattle.compiled_laws.proofs.Shown.{rows_compiled, entry_row}
 use Rattle.compiled_laws.proofs.Sorted.{Rises, same_sorted, sorted_from}
 use Rattle.headline_laws.proofs.Hosts.{entry}
 use Rattle.headline_laws.proofs.Imports.{found_object, instance_by, object_of_network, small}
-use Rattle.headline_laws.proofs.Lists.{contains_of, member_of}
 use Rattle.headline_laws.proofs.Objects.{held_of, is_held, object_at, object_is, uses_ordered}
-use Rattle.headline_laws.proofs.Shown.{entry_at, in_table, pairs_rise, table_is}
+use Rattle.headline_laws.proofs.Shown.{in_table, pairs_rise, table_is}
 use Rattle.headline_laws.proofs.Sound.{is_sound}
 
 -- ---- lists in order
@@ -122,7 +122,7 @@ module _ (x : Checked) (form : IsTrue (has_config_form x.config)) (v : IsValid x
   row_there : (e : TableEntry) → Member e (compiled.control_rows feed) → Member e (tables.control_rows x.topology x.config)
   row_there e m =
       let q = from_flat_map (rows_in feed) e (known_instances feed) m in
-      let w = from_map (entry_at q.0) e (entries (compiled_table feed q.0)) q.2 in
+      let w = from_map (entry_row q.0) e (entries (compiled_table feed q.0)) q.2 in
       let stands : IsRow x.topology x.config q.0 e =
       subst (IsRow x.topology x.config q.0) w.2 (table_is x form v q.0 w.0.0 w.0.1 (get_member prefix_total (compiled_table feed q.0) w.0.0 w.0.1 w.1)) in
       let joined : Contains (flat_map (instance_table x.topology x.config) (instances x.config)) e =
@@ -141,7 +141,7 @@ module _ (x : Checked) (form : IsTrue (has_config_form x.config)) (v : IsValid x
       let held = in_table x form v q.0 e.0.1 e.1 (subst (IsRow x.topology x.config q.0) whole ((rows_iff x.topology x.config q.0 e v).0 q.2)) in
       subst (λ (e : TableEntry). Member e (compiled.control_rows feed)) (sym whole)
       (in_flat_map (rows_in feed) q.0 (entry q.0 e.0.1 e.1) (known_instances feed) (instance_known q.0 (instance_is x.config q.0 q.1))
-      (in_map (entry_at q.0) (e.0.1, e.1) (entries (compiled_table feed q.0)) (member_get prefix_total prefix_exact (compiled_table feed q.0) e.0.1 e.1 held)))
+      (in_map (entry_row q.0) (e.0.1, e.1) (entries (compiled_table feed q.0)) (member_get prefix_total prefix_exact (compiled_table feed q.0) e.0.1 e.1 held)))
 
   pub control_is : compiled.control_rows feed ≡ tables.control_rows x.topology x.config
   control_is =

@@ -32,7 +32,7 @@ use Rattle.network_model.specs.Steps.{is_settled}
 use Rattle.compiled_laws.specs.Compiled as compiled
 use Rattle.compiled_laws.specs.Moments.{ShowsCompiled}
 use Rattle.headline_laws.specs.Headline.{AfterAnySchedule, IsWritten, SettledIsReachable}
-use Rattle.headline_laws.proofs.Lists.{contains_of}
+use Rattle.node_model.proofs.Members.{contains_of}
 use Rattle.headline_laws.proofs.Shown.{agent_is}
 use Rattle.headline_laws.proofs.Written.{compiled_now, written_now}
 

@@ -28,7 +28,7 @@ use Rattle.transform_model.specs.Objects.{acl_objects, circuit_objects, imports_
 use Rattle.transform_model.specs.Objects.{objects as made_objects}
 use Rattle.transform_model.specs.Uses.{Use as InEffect}
 use Rattle.transform_model.specs.Uses.{uses as in_effect}
-use Rattle.transform_model.proofs.Lists.{is_mapped}
+use Rattle.network_rules.proofs.Lists.{is_mapped}
 use Rattle.transform_model.proofs.LowKeys.{low_iff, low_kept}
 use Rattle.transform_model.proofs.Objects.{one_numbered}
 use Rattle.transform_model.proofs.Prefixes.{network_number}
@@ -37,13 +37,12 @@ use Rattle.node_model.specs.Maps.{Map, as_object, object, objects}
 use Rattle.node_model.specs.Members.{Member}
 use Rattle.node_model.specs.Uses.{IsImportedAt, Use, held_use, hop, hop_imports, imports, is_hop, is_known, is_place, network_imports, place_of, use_of}
 use Rattle.node_model.specs.Values.{Entry, Label, Object, Route, Value}
-use Rattle.node_model.proofs.Members.{none_some}
+use Rattle.node_model.proofs.Members.{none_some, contains_of, member_of}
 use Rattle.node_model.proofs.Objects.{ends, imports_hop, in_objects, object_of}
 use Rattle.node_model.proofs.Places.{is_hop-network, use_found}
 use Rattle.node_model.proofs.Spelled.{import_is}
 use Rattle.node_model.proofs.Unknown.{le_trans}
 use Rattle.network_model.specs.Setup.{low as low_map}
-use Rattle.headline_laws.proofs.Lists.{contains_of, member_of}
 use Rattle.headline_laws.proofs.Objects.{held_is, held_of, is_held, is_object, object_at, object_is, used_few}
 
 -- an instance is that of a network with what it imports, or a place of a use in effect
@@ -69,9 +68,6 @@ instance_number (key.Instance n) = n
 instance_number (key.Attach l) = 0
 instance_number (key.Acl a b) = 0
 instance_number (key.ChainUse u) = 0
-
-abbrev imports_in : LowObject → List InstanceId
-imports_in o = network_imports (Some o.1)
 
 -- what an instance object is
 pub record IsNetworkObject (x : Checked) (i : ℕ) (w : LowValue) : Type 0 where

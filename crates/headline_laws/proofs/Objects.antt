@@ -47,12 +47,12 @@ use Rattle.node_model.specs.Maps.{objects}
 use Rattle.node_model.specs.Members.{Member}
 use Rattle.node_model.specs.Ranks.{AreOrdered}
 use Rattle.node_model.specs.Uses.{Use, as_use, uses}
-use Rattle.node_model.proofs.Members.{from_filter_map, in_filter_map, none_some}
+use Rattle.node_model.proofs.Members.{from_filter_map, in_filter_map, none_some, contains_of, member_of}
 use Rattle.node_model.proofs.Places.{inside_itself}
 use Rattle.network_model.specs.Setup.{low as low_map}
 use Rattle.network_model.proofs.Feed.{objects-low}
 use Rattle.compiled_laws.specs.Compiled.{Attachment, as_attachment, attachments, circuit_prefix}
-use Rattle.headline_laws.proofs.Lists.{contains_of, member_of, zip_length}
+use Rattle.headline_laws.proofs.Lists.{zip_length}
 
 abbrev pub port_attachment : Port → Network → Node → Attachment
 port_attachment p n d = record { label = port_label_of p.id; instance = n.id; prefix = host_prefix p.address.0; node = d.address }

@@ -29,7 +29,6 @@ use Rattle.transform_model.specs.IsNeeded.{IsRoute}
 use Rattle.transform_model.specs.IsRow.{IsRow}
 use Rattle.transform_model.specs.Objects.{Object as LowObject}
 use Rattle.transform_model.specs.Objects.{low_objects}
-use Rattle.transform_model.specs.Tables.{Row as TableEntry}
 use Rattle.transform_model.proofs.AgentRows.{routes_iff, routes_in_order}
 use Rattle.transform_model.proofs.Needed.{needed_iff}
 use Rattle.node_model.specs.Agent.{acl_entry, attached, needed_by}
@@ -37,7 +36,7 @@ use Rattle.node_model.specs.Maps.{Map, objects}
 use Rattle.node_model.specs.Members.{Member}
 use Rattle.node_model.specs.Wants.{is_in_slice, slice}
 use Rattle.node_model.proofs.Heard.{row_exact, row_total}
-use Rattle.node_model.proofs.Members.{entry_in, from_entry, from_flat_map, from_map, get_member, in_flat_map, in_map, member_get}
+use Rattle.node_model.proofs.Members.{entry_in, from_entry, from_flat_map, from_map, get_member, in_flat_map, in_map, member_get, contains_of, member_of}
 use Rattle.node_model.proofs.Orders.{prefix_exact, prefix_total}
 use Rattle.network_model.specs.Setup.{low as low_map}
 use Rattle.network_model.proofs.Feed.{objects-low}
@@ -45,8 +44,8 @@ use Rattle.compiled_laws.specs.Compiled as compiled
 use Rattle.compiled_laws.specs.Compiled.{compiled_table, row_at, rows_in, table_rows}
 use Rattle.compiled_laws.proofs.OneRow.{has_one_row}
 use Rattle.compiled_laws.proofs.Sorted.{Rises, same_sorted, sorted_from}
+use Rattle.compiled_laws.proofs.Shown.{entry_row}
 use Rattle.headline_laws.proofs.Hosts.{entry}
-use Rattle.headline_laws.proofs.Lists.{contains_of, member_of}
 use Rattle.headline_laws.proofs.Rows.{row_is}
 use Rattle.headline_laws.proofs.RowsIn.{row_in}
 use Rattle.headline_laws.proofs.Sound.{is_sound}
@@ -80,9 +79,6 @@ pairs_rise {V = V} (e ∷ es) h = (
 
 abbrev compiled_map : Map → Addr → FinMap row_key_cmp Hop
 compiled_map feed a = from_entries {R = row_key_cmp} (map route_of (flat_map (rows_in feed) (needed_by (slice feed a))))
-
-abbrev pub entry_at : InstanceId → Block × TableRow → TableEntry
-entry_at i e = ((i, e.0), e.1)
 
 module _ (x : Checked) (form : IsTrue (has_config_form x.config)) (v : IsValid x.topology x.config) where
   abbrev feed : Map
@@ -126,14 +122,14 @@ module _ (x : Checked) (form : IsTrue (has_config_form x.config)) (v : IsValid x
   listed a e m =
       let q = from_map route_of e (flat_map (rows_in feed) (needs a)) m in
       let o = from_flat_map (rows_in feed) q.0 (needs a) q.1 in
-      let w = from_map (entry_at o.0) q.0 (entries (compiled_table feed o.0)) o.2 in
+      let w = from_map (entry_row o.0) q.0 (entries (compiled_table feed o.0)) o.2 in
       record { instance = o.0; prefix = w.0.0; row = w.0.1; needed = o.1; at = get_member prefix_total (compiled_table feed o.0) w.0.0 w.0.1 w.1; is = ap route_of w.2 ∙ q.2 }
 
   is_listed : (a : Addr) (i : InstanceId) (p : Block) (r : TableRow) → Member i (needs a) → get (compiled_table feed i) p ≡ Some r → Member (route_of (entry i p r)) (routes_at a)
   is_listed a i p r m h =
       in_map route_of (entry i p r) (flat_map (rows_in feed) (needs a))
       (in_flat_map (rows_in feed) i (entry i p r) (needs a) m
-      (in_map (entry_at i) (p, r) (entries (compiled_table feed i)) (member_get prefix_total prefix_exact (compiled_table feed i) p r h)))
+      (in_map (entry_row i) (p, r) (entries (compiled_table feed i)) (member_get prefix_total prefix_exact (compiled_table feed i) p r h)))
 
   route_there : (a : Addr) (e : Route') → Member e (entries (compiled_map feed a)) → Member e (compiled_rows.agent_rows x.topology x.config a).routes
   route_there a e m =

@@ -35,10 +35,11 @@ use Rattle.network_model.specs.Setup.{low as low_map}
 use Rattle.network_model.proofs.Feed.{longest_bounds}
 use Rattle.compiled_laws.specs.Compiled.{Attachment, attachments, circuit_prefix}
 use Rattle.compiled_laws.specs.Sound.{IsCircuitAt, IsSound, other}
-use Rattle.compiled_laws.proofs.Numbers.{known_small}
+use Rattle.node_model.proofs.Local.{known_small}
 use Rattle.headline_laws.proofs.Hosts.{apart_number, host_is, one_network, same_host}
 use Rattle.headline_laws.proofs.Imports.{Imported, hop_import, imported_is, network_import, network_known}
-use Rattle.headline_laws.proofs.Lists.{member_of, some_at}
+use Rattle.node_model.proofs.Members.{member_of}
+use Rattle.headline_laws.proofs.Lists.{some_at}
 use Rattle.headline_laws.proofs.Objects.{Kind, ascending_to, attachment_is, circuit_attachment, ends_apart, held_is, held_of, inside_holds, is_held, left_attached, left_kind, no_circuit_in, port_kind, right_attached, right_kind, used_few, uses_ordered}
 
 module _ (x : Checked) (form : IsTrue (has_config_form x.config)) (v : IsValid x.topology x.config) where

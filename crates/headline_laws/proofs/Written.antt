@@ -41,7 +41,7 @@ sound_setup x w =
     record { named = is_named x.topology x.config w.topology v; sound = is_sound x w.config v; within = within_longest x w.config v; homed = homed x w.config v }
 
 -- an edit without a fault breaks no rule
-none_broken : (y : Checked) (d : Edit) → edit_fault y d ≡ None → first_broken y.topology (edits.edited d y.config) ≡ None
+pub none_broken : (y : Checked) (d : Edit) → edit_fault y d ≡ None → first_broken y.topology (edits.edited d y.config) ≡ None
 unfolding edit_fault
 none_broken y d e =
     let made = first_broken y.topology (edits.edited d y.config) in
@@ -61,10 +61,10 @@ edits_keep y d z w e form = by_fault (edit_fault y d) refl e
         }
 
 -- nothing is asked of what is told
-abbrev anything : Party → Party → Key → Value → Type 0
+abbrev pub anything : Party → Party → Key → Value → Type 0
 anything p q k v = Unit {0}
 
-each_anything : (x : Checked) (vs : List View) (own : List Session) → Each (λ s. FairMap anything (s.near.name, s.near.role) (s.far.name, s.far.role) (wanted x vs (view s))) own
+pub each_anything : (x : Checked) (vs : List View) (own : List Session) → Each (λ s. FairMap anything (s.near.name, s.near.role) (s.far.name, s.far.role) (wanted x vs (view s))) own
 each_anything x vs [] = tt
 each_anything x vs (s ∷ own) = ((λ k v e. tt), each_anything x vs own)
 

@@ -1,5 +1,5 @@
 -- Each item of a direction is one change, and each change one item.
-use Rattle.std.proofs.Common.{◌≡◌, ℕ, ◌==◌, Bool, true, false, Option, Some, None, IfSome, is_some, refl, sym, ap, inl, inr}
+use Rattle.std.proofs.Common.{◌≡◌, ℕ, ◌==◌, Bool, true, false, Some, None, IfSome, is_some, refl, sym, ap}
 use Rattle.std.proofs.lemmas.Bool.{eqb-true, eq-eqb}
 use Rattle.ov_types.specs.declared.keys.DownKey.{DownKey}
 use Rattle.ov_types.specs.declared.keys.DownKey.TheVariants as Down
@@ -19,7 +19,7 @@ use Rattle.ov_types.specs.declared.keys.DownValue.{DownValue}
 use Rattle.ov_types.specs.declared.keys.DownValue.TheVariants.{Object, Row}
 use Rattle.item_wire.specs.Changes.{UpValue, Behind, Wanted, has_key, fed, item_fed, told, item_told, said, item_said}
 
-itself : (n : ℕ) → (n == n) ≡ true
+pub itself : (n : ℕ) → (n == n) ≡ true
 itself n = eq-eqb n n refl
 
 -- an item with a change is the item of that change

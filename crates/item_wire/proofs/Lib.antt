@@ -1,4 +1,3 @@
-pub mod JsonLaws
 pub mod Weights
 pub mod ShortRecords
 pub mod Lexemes

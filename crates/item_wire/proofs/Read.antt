@@ -1,5 +1,5 @@
 -- Each item within its ranges has a record, which reads as it.
-use Rattle.std.proofs.Common.{◌≡◌, ℕ, ◌<◌, ◌^◌, ◌&&◌, Bool, true, nat_eq, nat_le, nat_lt, leb, List, [], ◌∷◌, length, map, Option, Some, None, Ok, IsTrue, refl, codes, arith}
+use Rattle.std.proofs.Common.{◌≡◌, ℕ, ◌<◌, ◌^◌, ◌&&◌, Bool, true, nat_eq, nat_le, nat_lt, leb, List, [], ◌∷◌, length, map, Option, Some, None, Ok, IsTrue, refl, arith}
 use Rattle.std.specs.List.{list_all}
 use Rattle.std.proofs.lemmas.Bool.{and_parts, leb-true, le-leb, ltb-true}
 use Rattle.serde_json.specs.Data.{Data, string}

@@ -177,7 +177,7 @@ named : (later : Bool) (k : List ℕ) (ts : List Token)
 named true k ts = omega arith
 named false k ts = omega arith
 
-comma_one : (later : Bool) → comma_weight later ≤ 1
+pub comma_one : (later : Bool) → comma_weight later ≤ 1
 comma_one true = omega arith
 comma_one false = omega arith
 

@@ -1,6 +1,6 @@
 -- What is read from a value: numbers, names, addresses, prefixes, and lists of them.
 use Rattle.std.specs.Prelude.{ℕ, ◌+◌, ◌∷◌, [], List, Bool, true, false}
-use Rattle.std.specs.Prelude.{◌&&◌, ◌==◌, nat_le, nat_eq, codes, Option, Some, None}
+use Rattle.std.specs.Prelude.{◌==◌, nat_le, nat_eq, codes, Option, Some, None}
 use Rattle.std.specs.Prelude.{if◌then◌else◌}
 use Rattle.std.specs.Cmp.Lexicographic.{pointwise}
 use Rattle.serde_json.specs.Data.{Num, unsigned, Data, Items, no_items, item}

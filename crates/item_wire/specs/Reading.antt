@@ -1,10 +1,9 @@
 -- Which item a value is: op first, then its members in order; other members are passed over.
 use Rattle.std.specs.Prelude.{ℕ, List, nat_eq, codes, Option, Some, None, Result, Ok, if◌then◌else◌}
 use Rattle.std.specs.Cmp.Lexicographic.{pointwise}
-use Rattle.std.specs.Str.{is_utf8}
 use Rattle.serde_json.specs.Data.{Data}
 use Rattle.serde_json.specs.Find.{as_str}
-use Rattle.serde_json.specs.Read.{read}
+use Rattle.ov_json.specs.Json.{json_of}
 use Rattle.ov_types.specs.Prefix.{Block}
 use Rattle.ov_types.specs.declared.prefix.Addr.{Addr}
 use Rattle.item_wire.specs.declared.fault.Field.{Field}
@@ -205,10 +204,6 @@ unfoldable pub item_of : Data → Result Item ItemFault
 item_of d = do
   op ← in_member Text op_from F.Op d
   by_op op d
-
--- the value that octets write, where they are text and the text has a reading (RFC 8259)
-unfoldable pub json_of : List ℕ → Option Data
-json_of octets = if is_utf8 octets then read octets else None
 
 -- the item that octets of JSON are
 unfoldable pub item_in : List ℕ → Result Item ItemFault

@@ -1,6 +1,5 @@
 //! The items of lists: instances, prefixes, hops.
-ghost use Rattle.std.specs.Prelude.{◌≡◌, ◌≤◌, Bool, Option, IfOk, IfSome, IsTrue};
-ghost use Rattle.serde_json.specs.Data.{Data};
+ghost use Rattle.std.specs.Prelude.{◌≡◌, ◌≤◌, Option, IfOk, IfSome, IsTrue};
 ghost use Rattle.serde_json.specs.View.{view};
 ghost use Rattle.item_wire.specs.Entries.{network_from, prefix_from, hop_from, has_items, in_place, number_from};
 ghost use Rattle.item_wire.specs.Entries.{node_address_from, is_from_to};

@@ -3,7 +3,7 @@
 use ov_types::{AclRule, Addr, InstanceId, Items, Label, Name, PortNo, Prefix, ServiceNo};
 
 /// One record: the end of a session says who it is, or tells one change of what it wants the other end to hold.
-#[derive(Clone, Debug, Drop, PartialEq, Eq)]
+#[derive(Debug, Drop, PartialEq, Eq)]
 pub enum Item {
     /// The name of the node at this end.
     Hello {

@@ -28,6 +28,3 @@ pub use item::Item;
 pub use reader::read_item;
 pub use session::ItemSession;
 pub use writer::write_item;
-
-#[cfg(test)]
-mod tests;

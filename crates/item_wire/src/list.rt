@@ -1,5 +1,5 @@
 //! Lists, whose items are read and written one by one.
-ghost use Rattle.std.specs.Prelude.{◌≡◌, length, List, Bool, IsTrue, Option, IfSome, IfOk, option_map};
+ghost use Rattle.std.specs.Prelude.{◌≡◌, length, Bool, IsTrue, Option, IfSome, IfOk, option_map};
 ghost use Rattle.std.specs.List.{list_all};
 ghost use Rattle.serde_json.specs.Data.{Data};
 ghost use Rattle.serde_json.specs.Find.{as_array};

@@ -1,11 +1,11 @@
 //! Records, read.
-ghost use Rattle.std.specs.Prelude.{◌≡◌, ◌≤◌, length, IsTrue, IfOk, option_map};
+ghost use Rattle.std.specs.Prelude.{◌≤◌, length, IsTrue, IfOk};
 ghost use Rattle.serde_json.specs.View.{view};
 ghost use Rattle.item_wire.specs.Faults.{IsRead, Gives};
 ghost use Rattle.item_wire.specs.Ranges.{is_in_range};
 ghost use Rattle.item_wire.specs.Reading.{hello_of, instance_of, port_of, circuit_of, acl_of, use_of, no_instance_of};
 ghost use Rattle.item_wire.specs.Reading.{no_attach_of, no_acl_of, no_use_of, publish_of, unpublish_of, subscribe_of};
-ghost use Rattle.item_wire.specs.Reading.{unsubscribe_of, route_of, unroute_of, by_op, item_of, json_of, item_in};
+ghost use Rattle.item_wire.specs.Reading.{unsubscribe_of, route_of, unroute_of, by_op, item_of, item_in};
 ghost use Rattle.item_wire.specs.Records.{json_text};
 
 use crate::bounds::{
@@ -20,10 +20,10 @@ use crate::field::{
 use crate::item::Item;
 use crate::list::Count;
 use crate::op::{Op, op_in};
-use ov_types::{AclRule, Addr, InstanceId, Label, NoMemory, PortNo, Prefix, ServiceNo};
+use ov_json::value_of;
+use ov_types::{AclRule, Addr, InstanceId, Label, PortNo, Prefix, ServiceNo};
 use serde_json::Value;
 use std::alloc::Global;
-use std::str;
 
 #[tactic(auto, unfolding(crate::specs::Reading::hello_of))]
 fn hello_of(value: &Value) -> Result<Item, ItemFault>
@@ -286,26 +286,6 @@ fn item_of(alloc: Global, value: &Value) -> Result<Item, ItemRefusal>
     by_op(alloc, op, value)
 }
 
-/// The value that octets write as JSON.
-#[tactic(auto, unfolding(crate::specs::Reading::json_of))]
-fn json_of(alloc: Global, octets: &[u8]) -> Result<Option<Value>, NoMemory>
-    ensures { IfOk result (λ o. option_map view o ≡ json_of octets.now) }
-{
-    let Ok(text) = str::from_utf8(octets) else {
-        return Ok(None);
-    };
-    match Value::from_str(alloc, text) {
-        Ok(value) => Ok(Some(value)),
-        Err(error) => {
-            if error.is_memory() {
-                Err(NoMemory)
-            } else {
-                Ok(None)
-            }
-        }
-    }
-}
-
 /// The item that octets of JSON are: an object with `op`, and with each member of that record. Other members are passed
 /// over.
 #[tactic(auto, unfolding(crate::specs::Reading::item_in))]
@@ -314,7 +294,7 @@ pub fn read_item(alloc: Global, bytes: &[u8]) -> Result<Item, ItemRefusal>
     ensures form { IfOk result (λ item. IsTrue (is_in_range item)) }
     ensures length { IfOk result (λ item. length (json_text item) ≤ length bytes.now) }
 {
-    match json_of(alloc, bytes)? {
+    match value_of(alloc, bytes)? {
         Some(value) => item_of(alloc, &value),
         None => Err(ItemRefusal::Fault(ItemFault::NotJson)),
     }

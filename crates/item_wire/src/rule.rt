@@ -1,10 +1,9 @@
 //! Entries of access lists.
-ghost use Rattle.std.specs.Prelude.{◌≡◌, ◌+◌, ◌==◌, ◌<◌, Bool, Option, IfOk, IfSome, IsTrue};
-ghost use Rattle.serde_json.specs.Data.{Data};
+ghost use Rattle.std.specs.Prelude.{◌≡◌, ◌+◌, ◌==◌, ◌<◌, Option, IfOk, IfSome, IsTrue};
 ghost use Rattle.serde_json.specs.View.{view};
 ghost use Rattle.item_wire.specs.Entries.{protocol_from, ports_from, action_from, rule_number_from, rule_from};
 ghost use Rattle.item_wire.specs.Entries.{in_place};
-ghost use Rattle.item_wire.specs.Entries.{is_from_to, action_named};
+ghost use Rattle.item_wire.specs.Entries.{action_named};
 ghost use Rattle.item_wire.specs.Ranges.{is_protocol, are_ports, is_action, is_rule_number, is_rule};
 ghost use Rattle.item_wire.specs.Records.{protocol_record, action_record, rule_record};
 

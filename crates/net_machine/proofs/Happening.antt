@@ -20,7 +20,7 @@ use Rattle.network_model.specs.Steps.{connect_found, connect_if, deliver, in_fli
 use Rattle.network_model.specs.Steps.{change_node, pass, change_session}
 use Rattle.network_model.specs.Session.{arrived}
 use Rattle.network_model.specs.Events as events
-use Rattle.network_model.specs.Events.{Connect, Deliver, Edits as Changes, Event, Lose, Restart, answer_to, edit_answer}
+use Rattle.network_model.specs.Events.{Connect, Deliver, Edits as Changes, Lose, Restart, answer_to, edit_answer}
 use Rattle.network_model.specs.Events.{event_of, is_node, lose, next, shown, unless}
 use Rattle.net_model.specs.Seats.{Seat, seat_named}
 use Rattle.net_model.specs.Stands.{any_size}

@@ -1,5 +1,5 @@
 -- What is asked of the seats of a network at a moment is known of them.
-use Rattle.std.specs.Prelude.{◌≡◌, ◌≢◌, ◌<◌, ◌+◌, ◌==◌, ◌&&◌, ℕ, zero, suc, List, [], ◌∷◌, length, Bool, true, false, not, cond}
+use Rattle.std.specs.Prelude.{◌≡◌, ◌≢◌, ◌<◌, ◌==◌, ◌&&◌, ℕ, zero, suc, List, [], ◌∷◌, Bool, true, false, not, cond}
 use Rattle.std.specs.declared.option.Option.{Option}
 use Rattle.std.specs.declared.option.Option.TheVariants.{Some, None}
 use Rattle.std.specs.Option.{option_map, unwrap_or}
@@ -14,19 +14,19 @@ use Rattle.config_check.specs.Edits.{edit_fault}
 use Rattle.config_check.specs.declared.edits.EditFault.{EditFault}
 use Rattle.network_model.specs.Setup.{Name}
 use Rattle.network_model.specs.Session as session
-use Rattle.network_model.specs.Session.{Session, arrived}
+use Rattle.network_model.specs.Session.{arrived}
 use Rattle.network_model.specs.Network.{Network}
 use Rattle.network_model.specs.Steps as machine
-use Rattle.network_model.specs.Steps.{change_session, connect_if, deliver, in_flight, pass, session_of}
+use Rattle.network_model.specs.Steps.{change_session, connect_if, deliver, pass}
 use Rattle.network_model.specs.Events.{Connect, Deliver, DeliverOctets, Break, Event, Edits as Changes, Lose, Restart}
 use Rattle.network_model.specs.Events.{Round, Settle, Show, Trace, is_node, next, shown}
 use Rattle.network_model.proofs.NetworkFact.{found}
 use Rattle.network_model.proofs.Twins.{itself}
 use Rattle.network_laws.specs.Settling.{EditIsValid}
 use Rattle.headline_laws.specs.Headline.{IsOfForm}
-use Rattle.net_model.specs.Seats.{Seat, far_of, is_down_at, is_live, link_at, live_at, name_of, notice_at, seat, seat_named}
+use Rattle.net_model.specs.Seats.{Seat, is_down_at, is_live, link_at, live_at, name_of, notice_at, seat, seat_named}
 use Rattle.net_model.specs.Seats.{whole_at, whole_there}
-use Rattle.net_model.specs.Steps.{IsDiscarded, MakesEdit, Takes, emptied, shown_by, with_link, with_notice, with_seat}
+use Rattle.net_model.specs.Steps.{IsDiscarded, MakesEdit, Takes, shown_by, with_link, with_notice, with_seat}
 use Rattle.net_model.specs.Stands.{StandsFor, any_size}
 use Rattle.net_model.specs.declared.place.Place.{Place}
 use Rattle.told_laws.specs.Moments.{IsMoment}

@@ -7,7 +7,7 @@ use Rattle.network_model.specs.Session as session
 use Rattle.network_model.specs.Session.{Session}
 use Rattle.network_model.specs.Network.{Network}
 use Rattle.network_model.specs.Steps as steps
-use Rattle.network_model.specs.Steps.{Due as Waiting, round}
+use Rattle.network_model.specs.Steps.{round}
 use Rattle.network_model.specs.Moments.{Nodes, nodes}
 use Rattle.net_model.specs.Seats.{Seat}
 use Rattle.net_machine.specs.declared.ends.SessionEnds.{SessionEnds}

@@ -93,10 +93,6 @@ is_earlier (d ∷ order) e =
 abbrev pub waiting : List Seat → SessionEnds → ℕ
 waiting seats e = if notice_at seats e.near then 1 else length (link_at seats e.far)
 
-abbrev pub waiting_there : List Seat → Option SessionEnds → ℕ
-waiting_there seats None = 0
-waiting_there seats (Some e) = waiting seats e
-
 -- a session is down where an end is not live, or a notice waits
 abbrev pub is_down : List Seat → SessionEnds → Bool
 is_down seats e = not (whole_at seats e.near && whole_at seats e.far)

@@ -1,7 +1,6 @@
 //! What a node sent on sessions that are down is discarded.
 ghost use Rattle.std.specs.Prelude.{◌≡◌, ◌<◌, length};
 ghost use Rattle.net_model.specs.Seats as seats_of;
-ghost use Rattle.net_model.specs.Seats.{seat};
 ghost use Rattle.net_machine.specs.Seating.{AreLong, Discards, IsSeated, Keeps, discarded_at};
 
 use crate::ends::is_whole;

@@ -8,7 +8,8 @@ ghost use Rattle.net_machine.specs.Seating.{peerings_of};
 use crate::ends::{SessionEnds, ends_of};
 use config_check::Valid;
 use config_model::Node;
-use net_seats::{Nodes, config_name, lists};
+use net_seats::{Nodes, lists};
+use node_items::config_name;
 use ov_types::{Name, NoMemory, NodeId};
 use std::alloc::Global;
 

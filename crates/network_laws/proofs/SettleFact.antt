@@ -22,6 +22,7 @@ use Rattle.network_model.proofs.ToldNext.{is_among, found_among}
 use Rattle.network_model.proofs.Calm.{told_easy, ArrivalOf, arrives}
 use Rattle.network_model.proofs.Twins.{NoTwins, each_and, each_weaker, Found, found_each, found_changed, Pairs, MaybeBoth, pairs_found, pairs_session, pairs_node}
 use Rattle.network_model.proofs.RoundFact.{IsCalm, AreCalm, fact_joined}
+use Rattle.network_model.proofs.Turns.{notice_of}
 
 -- ---- sends that meet no break
 -- all that a pass leaves of a session as it was
@@ -60,12 +61,9 @@ steady_opened s e =
     let k = steady_told (greeting s ∷ []) (record { is_down = false; near = record s.near { phase = Opened }; far = s.far }) e in
     record { down = k.down; near_notice = k.near_notice; far_notice = k.far_notice; near_breaks = k.near_breaks; far_breaks = k.far_breaks }
 
-abbrev notice_in : Option Session → Bool
-notice_in o = unwrap_or (option_map (λ (s : Session). s.near.notice) o) false
-
 -- whether a notice waits at the first node, of its session with the second
 abbrev pub notice_at : Network → Name → Name → Bool
-notice_at w a b = notice_in (session_in w.sessions a b)
+notice_at w a b = notice_of (session_in w.sessions a b)
 
 module _ (size : Name → Message → ℕ) (positive : (n : Name) (m : Message) → 0 < size n m) where
   -- ---- the first round. No break is pending
@@ -149,7 +147,7 @@ module _ (size : Name → Message → ℕ) (positive : (n : Name) (m : Message) 
   still a b v w p =
       by_both (session_in v.sessions a b) (session_in w.sessions a b) (pairs_found Hushed hushed_both a b v.sessions w.sessions p)
     where
-      by_both : (o q : Option Session) → MaybeBoth (λ s u. (s.near.name ≡ a) × (s.far.name ≡ b) × Hushed s u) o q → notice_in o ≡ false → notice_in q ≡ false
+      by_both : (o q : Option Session) → MaybeBoth (λ s u. (s.near.name ≡ a) × (s.far.name ≡ b) × Hushed s u) o q → notice_of o ≡ false → notice_of q ≡ false
       by_both None None h e = refl
       by_both (Some s) (Some u) h e = h.2.0 e
       by_both None (Some u) h e = absurd h
@@ -177,7 +175,7 @@ module _ (size : Name → Message → ℕ) (positive : (n : Name) (m : Message) 
   still_all ds a b w c e = (all_walk (Still a b) (still_takes a b) ds w (c, e)).1
 
   -- and a delivery leaves none where it is made
-  no_wait : (o : Option Session) → (unwrap_or (option_map waiting o) 0 == 0) ≡ true → notice_in o ≡ false
+  no_wait : (o : Option Session) → (unwrap_or (option_map waiting o) 0 == 0) ≡ true → notice_of o ≡ false
   no_wait None e = refl
   no_wait (Some s) e = elim s.near.notice as (λ b. (cond b 1 (length s.far.flight) == 0) ≡ true → b ≡ false) [ true ↦ λ e. absurd (true≢false (sym e)) | false ↦ λ _. refl ] e
 
@@ -188,8 +186,8 @@ module _ (size : Name → Message → ℕ) (positive : (n : Name) (m : Message) 
         | false ↦ λ _.
             let v = change_session to from arrived w in
             still_pass to to from v (fit_change to from w c)
-            (ap notice_in (found_changed to from arrived arrived_nodes w.sessions)
-            ∙ elim (session_in w.sessions to from) as (λ o. session_in w.sessions to from ≡ o → notice_in (option_map arrived o) ≡ false) [
+            (ap notice_of (found_changed to from arrived arrived_nodes w.sessions)
+            ∙ elim (session_in w.sessions to from) as (λ o. session_in w.sessions to from ≡ o → notice_of (option_map arrived o) ≡ false) [
               | None ↦ λ _. refl
               | Some s ↦ λ is. (hears s (found IsFit fit_turned w.sessions to from c s is)).near_notice
             ] refl)
@@ -235,7 +233,7 @@ module _ (size : Name → Message → ℕ) (positive : (n : Name) (m : Message) 
   awaits_one w s is =
       elim s.near.notice as (λ b. s.near.notice ≡ b → ((b ≡ true) × (1 ≤ cond b 1 (length s.far.flight))) ⊎ (notice_at w s.near.name s.far.name ≡ false)) [
         | true ↦ λ _. inl (refl, omega arith)
-        | false ↦ λ off. inr (ap notice_in is ∙ off)
+        | false ↦ λ off. inr (ap notice_of is ∙ off)
       ] refl
 
   awaits_all : (w : Network) (ss : List Session) → Each (Found w.sessions) ss → AllByRecursion (Awaits w) (flat_map (λ s. due_at (turned s) ∷ due_at s ∷ []) ss)
@@ -259,7 +257,7 @@ module _ (size : Name → Message → ℕ) (positive : (n : Name) (m : Message) 
   all_hush : (w : Network) (ss : List Session) → Each (Found w.sessions) ss → Each IsFit ss → AllByRecursion (BothStill w) (map nodes ss) → Each Hush ss
   all_hush w [] f c h = tt
   all_hush w (s ∷ ss) f c h = (
-    record { near_notice = sym (ap notice_in f.0.0) ∙ h.0.0; far_notice = sym (ap notice_in f.0.1) ∙ h.0.1; near_breaks = c.0.1; far_breaks = c.0.2 },
+    record { near_notice = sym (ap notice_of f.0.0) ∙ h.0.0; far_notice = sym (ap notice_of f.0.1) ∙ h.0.1; near_breaks = c.0.1; far_breaks = c.0.2 },
     all_hush w ss f.1 c.1 h.1,
   )
 

@@ -30,6 +30,7 @@ use Rattle.network_model.specs.Session.{Configuration, Controller, Agent, Messag
 use Rattle.network_model.specs.Network.{Network, AreNamed, config, start, view, views_of, sessions_of, seen_by, wanted, address_of, heard_from}
 use Rattle.network_model.specs.Events.{Event, Edits, Deliver, DeliverOctets, Lose, Connect, Restart, Round, Settle, Show, Trace, Break, next, after}
 use Rattle.network_model.specs.Moments.{ArePositive, Each, Nodes, nodes}
+use Rattle.network_model.proofs.ToldNext.{by_name}
 use Rattle.network_laws.specs.Settling.{EditIsValid, EditsAreValid, FairMap, Fair, WantsFair, Rank, Goal, back, RanksFit, RightAt, WantAt, Steps, Ranked, SettlesIn, SettleSettlesIn}
 use Rattle.network_laws.specs.Small.{control_node, compute_node, small}
 use Rattle.node_model.proofs.Members.{none_some}
@@ -65,9 +66,6 @@ two_sessions [] e = absurd (true≢false (sym (ap has_two e)))
 two_sessions (s ∷ []) e = absurd (true≢false (sym (ap has_two e)))
 two_sessions (s ∷ t ∷ []) e = (s, t, λ i. is_placed feed s (ap (head_of feed) e) i ∷ is_placed access t (ap (λ ps. head_of access (rest_of ps)) e) i ∷ [])
 two_sessions (s ∷ t ∷ u ∷ ss) e = absurd (true≢false (sym (ap has_two e)))
-
-by_name : (P : Name → Type 0) (a m : Name) → P a → (same_name a m ≡ false → P m) → P m
-by_name P a m p q = elim (same_name a m) as (λ c. same_name a m ≡ c → P m) [ true ↦ λ is. subst P ((bytes_decides a m).0 is) p | false ↦ q ] refl
 
 -- a node that is none of the two of a session does not see it
 unseen : (a b m : Name) (s t : Session) → same_name a m ≡ false → same_name b m ≡ false → cond (same_name a m) (Some s) (cond (same_name b m) (Some t) None) ≡ None

@@ -18,47 +18,47 @@ use Rattle.network_model.specs.Network.{start, feeds, peerings, accesses, fresh,
 use Rattle.network_model.specs.Moments.{nodes}
 use Rattle.network_model.proofs.Twins.{IsOther, NoTwins}
 
-same_false : (a b : Name) → (a ≡ b → ⊥) → same_name a b ≡ false
+pub same_false : (a b : Name) → (a ≡ b → ⊥) → same_name a b ≡ false
 same_false a b h = false_from_ne_true (same_name a b) (λ e. h ((bytes_decides a b).0 e))
 
 -- ---- names
-abbrev Apart : List Name → Type 0
+abbrev pub Apart : List Name → Type 0
 Apart [] = Unit {0}
 Apart (n ∷ ns) = ((m : Name) → Member m ns → n ≡ m → ⊥) × Apart ns
 
-member_at : (m : Name) (ns : List Name) (d : Name) → Member m ns → (j : ℕ) × (j < length ns) × (slice_index_or ns j d ≡ m)
+pub member_at : (m : Name) (ns : List Name) (d : Name) → Member m ns → (j : ℕ) × (j < length ns) × (slice_index_or ns j d ≡ m)
 member_at m [] d i = absurd i
 member_at m (n ∷ ns) d (inl e) = (0, omega arith, e)
 member_at m (n ∷ ns) d (inr i) = let q = member_at m ns d i in (suc q.0, omega (arith, q.1), q.2)
 
-apart_of : (ns : List Name) → AreDistinct ns → Apart ns
+pub apart_of : (ns : List Name) → AreDistinct ns → Apart ns
 apart_of [] h = tt
 apart_of (n ∷ ns) h = (
   (λ m i e. let q = member_at m ns n i in h 0 (suc q.0) n (omega arith) (omega (arith, q.1)) (e ∙ sym q.2)),
   apart_of ns (λ i j d less within. h (suc i) (suc j) d (omega (arith, less)) (omega (arith, within))),
 )
 
-apart_left : (ms ns : List Name) → Apart (ms ++ ns) → Apart ms
+pub apart_left : (ms ns : List Name) → Apart (ms ++ ns) → Apart ms
 apart_left [] ns a = tt
 apart_left (m ∷ ms) ns a = ((λ n i. a.0 n (in_left n ms ns i)), apart_left ms ns a.1)
 
-apart_right : (ms ns : List Name) → Apart (ms ++ ns) → Apart ns
+pub apart_right : (ms ns : List Name) → Apart (ms ++ ns) → Apart ns
 apart_right [] ns a = a
 apart_right (m ∷ ms) ns a = apart_right ms ns a.1
 
-apart_between : (ms ns : List Name) → Apart (ms ++ ns) → (m n : Name) → Member m ms → Member n ns → m ≡ n → ⊥
+pub apart_between : (ms ns : List Name) → Apart (ms ++ ns) → (m n : Name) → Member m ms → Member n ns → m ≡ n → ⊥
 apart_between [] ns a m n i j is = absurd i
 apart_between (k ∷ ms) ns a m n (inl e) j is = a.0 n (in_right n ms ns j) (e ∙ is)
 apart_between (k ∷ ms) ns a m n (inr i) j is = apart_between ms ns a.1 m n i j is
 
-record NamesApart (x : Checked) : Type 0 where
+pub record NamesApart (x : Checked) : Type 0 where
   pub sites_apart : Apart (controller_names x.topology)
   pub computers_apart : Apart (node_names x.topology)
   pub kinds_apart : (c n : Name) → Member c (controller_names x.topology) → Member n (node_names x.topology) → c ≡ n → ⊥
   pub no_site_config : (c : Name) → Member c (controller_names x.topology) → c ≡ config → ⊥
   pub no_computer_config : (n : Name) → Member n (node_names x.topology) → n ≡ config → ⊥
 
-names_apart : (x : Checked) → Apart (config ∷ controller_names x.topology ++ node_names x.topology) → NamesApart x
+pub names_apart : (x : Checked) → Apart (config ∷ controller_names x.topology ++ node_names x.topology) → NamesApart x
 names_apart x a = record {
   sites_apart = apart_left (controller_names x.topology) (node_names x.topology) a.1;
   computers_apart = apart_right (controller_names x.topology) (node_names x.topology) a.1;
@@ -71,28 +71,28 @@ names_apart x a = record {
 abbrev Link : Type 0
 Link = (Name × Role) × (Name × Role)
 
-abbrev peer_link : NodeId → NodeId → Link
+abbrev pub peer_link : NodeId → NodeId → Link
 peer_link c d = ((c.name, Controller), (d.name, Controller))
 
-abbrev access_link : NodeId → Node → Link
+abbrev pub access_link : NodeId → Node → Link
 access_link c n = ((c.name, Controller), (n.name, Agent))
 
-abbrev IsPeering : List NodeId → Link → Type 0
+abbrev pub IsPeering : List NodeId → Link → Type 0
 IsPeering cs p = (c : NodeId) × Member c cs × (d : NodeId) × Member d cs × (peer_link c d ≡ p)
 
-abbrev IsAccess : List NodeId → List Node → Link → Type 0
+abbrev pub IsAccess : List NodeId → List Node → Link → Type 0
 IsAccess cs ns p = (c : NodeId) × Member c cs × (n : Node) × Member n ns × (access_link c n ≡ p)
 
-abbrev feed_session : NodeId → Session
+abbrev pub feed_session : NodeId → Session
 feed_session c = record { is_down = true; near = fresh config Configuration; far = fresh c.name Controller }
 
-abbrev peer_session : NodeId → NodeId → Session
+abbrev pub peer_session : NodeId → NodeId → Session
 peer_session c d = record { is_down = true; near = fresh c.name Controller; far = fresh d.name Controller }
 
-abbrev access_session : NodeId → Node → Session
+abbrev pub access_session : NodeId → Node → Session
 access_session c n = record { is_down = true; near = fresh c.name Controller; far = fresh n.name Agent }
 
-from_peerings : (cs : List NodeId) (s : Session) → Member s (peerings cs) → IsPeering cs (nodes s)
+pub from_peerings : (cs : List NodeId) (s : Session) → Member s (peerings cs) → IsPeering cs (nodes s)
 from_peerings [] s m = absurd m
 from_peerings (c ∷ cs) s m =
     elim (in_either s (map (peer_session c) cs) (peerings cs) m) as (λ _. IsPeering (c ∷ cs) (nodes s)) [
@@ -100,7 +100,7 @@ from_peerings (c ∷ cs) s m =
       | inr r ↦ let q = from_peerings cs s r in (q.0, inr q.1, q.2, inr q.3, q.4)
     ]
 
-from_accesses : (cs : List NodeId) (ns : List Node) (s : Session) → Member s (accesses cs ns) → IsAccess cs ns (nodes s)
+pub from_accesses : (cs : List NodeId) (ns : List Node) (s : Session) → Member s (accesses cs ns) → IsAccess cs ns (nodes s)
 from_accesses cs ns s m =
     let q = from_flat_map (λ n. map (λ c. access_session c n) (filter (lists n) cs)) s ns m in
     let c = from_map (λ c. access_session c q.0) s (filter (lists q.0) cs) q.2 in

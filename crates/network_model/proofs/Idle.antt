@@ -3,7 +3,7 @@ use Rattle.std.specs.Prelude.{◌≡◌, ℕ, zero, suc, List, [], ◌∷◌, Bo
 use Rattle.std.specs.declared.option.Option.{Option}
 use Rattle.std.specs.declared.option.Option.TheVariants.{Some, None}
 use Rattle.std.specs.Option.{unwrap_or, option_map}
-use Rattle.std.proofs.lemmas.Bool.{true≢false}
+use Rattle.std.proofs.lemmas.Bool.{true≢false, not-true}
 use Rattle.std.proofs.Common.{refl, sym, ◌∙◌, ap}
 use Rattle.config_check.specs.Edits.{edit_fault}
 use Rattle.config_check.specs.declared.edits.EditFault.{EditFault}
@@ -87,10 +87,6 @@ no_session a b f (s ∷ ss) e =
       ]
     ] e
 
-not_false : (b : Bool) → not b ≡ true → b ≡ false
-not_false true e = absurd (true≢false (sym e))
-not_false false e = refl
-
 edit_not_idle : (o : Option EditFault) → was_idle (edit_answer o) ≡ true → ⊥
 edit_not_idle None e = true≢false (sym e)
 edit_not_idle (Some f) e = true≢false (sym e)
@@ -108,12 +104,12 @@ module _ (size : Name → Message → ℕ) where
         | true ↦ connect_same (session_of w a b) a b w off
         | false ↦ connect_same (session_of w b a) b a w (may_either a b w.sessions ∙ off)
       ]
-  same w (Restart n) e = ap (λ c. cond c (change_node n shut w) w) (not_false (is_node w n) (idle_where (not (is_node w n)) e))
+  same w (Restart n) e = ap (λ c. cond c (change_node n shut w) w) (not-true (is_node w n) (idle_where (not (is_node w n)) e))
   same w Round e = absurd (true≢false (sym e))
   same w Settle e = absurd (true≢false (sym e))
   same w (Show n) e = refl
   same w (Trace p) e = refl
-  same w (Break from to n) e = λ i. record { setup = w.setup; sessions = no_session from to (add_break n) w.sessions (not_false (is_some (session_of w from to)) (idle_where (not (is_some (session_of w from to))) e)) i }
+  same w (Break from to n) e = λ i. record { setup = w.setup; sessions = no_session from to (add_break n) w.sessions (not-true (is_some (session_of w from to)) (idle_where (not (is_some (session_of w from to))) e)) i }
 
   pub idle_same : (w : Network) (e : Event) → answer_to w e ≡ Idle → next size w e ≡ w
   idle_same w e is = same w e (ap was_idle is)

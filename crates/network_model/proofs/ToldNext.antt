@@ -270,7 +270,7 @@ broken_down : (o : Option Session) → is_some o ≡ true → unwrap_or (option_
 broken_down None i e = absurd (true≢false (sym i))
 broken_down (Some t) i e = (t, refl, e)
 
-by_name : (P : Name → Type 0) (a m : Name) → P a → (same_name a m ≡ false → P m) → P m
+pub by_name : (P : Name → Type 0) (a m : Name) → P a → (same_name a m ≡ false → P m) → P m
 by_name P a m p q = elim (same_name a m) as (λ c. same_name a m ≡ c → P m) [ true ↦ λ is. subst P ((bytes_decides a m).0 is) p | false ↦ q ] refl
 
 connect_told : (a b : Name) (w : Network) → AllHaveTold w → is_some (session_in w.sessions a b) ≡ true → AllHaveTold (connect a b w)

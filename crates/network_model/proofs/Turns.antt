@@ -71,7 +71,7 @@ passed_silent m s e =
       | false ↦ e
     ]
 
-abbrev notice_of : Option Session → Bool
+abbrev pub notice_of : Option Session → Bool
 notice_of o = unwrap_or (option_map (λ (s : Session). s.near.notice) o) false
 
 stays_silent : (f : Session → Session) → ((s : Session) → s.near.notice ≡ false → (f s).near.notice ≡ false) → (o : Option Session) → notice_of o ≡ false → notice_of (option_map f o) ≡ false

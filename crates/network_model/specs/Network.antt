@@ -15,6 +15,7 @@ use Rattle.config_check.specs.Finding.{node_named}
 use Rattle.config_check.specs.Rules.{controller_names, node_names}
 use Rattle.config_check.specs.Sentences.{AreDistinct}
 use Rattle.node_model.specs.Maps.{Map}
+pub use Rattle.node_model.specs.Naming.{config}
 use Rattle.node_model.specs.Paths as control
 use Rattle.node_model.specs.Wants.{wanted_by_peers, wanted_by_agent}
 use Rattle.node_model.specs.Agent as agent
@@ -45,10 +46,6 @@ fresh name role = record {
 -- two nodes that have nothing of each other
 abbrev pub between : Name → Role → Name → Role → Session
 between a role b other = record { is_down = true; near = fresh a role; far = fresh b other }
-
--- the configuration node's name: config
-abbrev pub config : Name
-config = 99 ∷ 111 ∷ 110 ∷ 102 ∷ 105 ∷ 103 ∷ []
 
 abbrev pub feeds : List NodeId → List Session
 feeds controllers = map (λ c. between config Configuration c.name Controller) controllers

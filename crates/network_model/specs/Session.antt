@@ -6,6 +6,7 @@ use Rattle.std.specs.List.{filter, list_any}
 use Rattle.std.specs.FinMap.{empty}
 use Rattle.ov_sync.specs.Keyed.{changed}
 use Rattle.node_model.specs.Maps.{Map, Change, difference}
+pub use Rattle.node_model.specs.Step.{is_idle, is_up as is_up_phase}
 use Rattle.node_model.specs.Step.{Phase, Idle, Opened, Confirmed, Up}
 use Rattle.network_model.specs.Setup.{Name}
 
@@ -44,14 +45,6 @@ pub record Session : Type 0 where
 -- as the other end sees it
 abbrev pub turned : Session → Session
 turned s = record { is_down = s.is_down; near = s.far; far = s.near }
-
-abbrev pub is_idle : Phase → Bool
-is_idle Idle = true
-is_idle _ = false
-
-abbrev pub is_up_phase : Phase → Bool
-is_up_phase Up = true
-is_up_phase _ = false
 
 -- from its opening until it takes its notice, is closed by its node or its node restarts
 abbrev pub is_live : End → Bool

@@ -1,4 +1,5 @@
 pub mod AnyRule
+pub mod Lists
 pub mod Answers
 pub mod Deciders
 pub mod Ordered

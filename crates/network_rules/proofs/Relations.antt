@@ -1,8 +1,8 @@
 -- Networks are related, and one imports the other, exactly where rules of the right actions stand between them.
-use Rattle.std.proofs.Common.{◌≡◌, ◌≢◌, ◌↔◌, ◌⊎◌, inl, inr, ◌&&◌, ◌||◌, Bool, true, false, not, IsTrue, List, refl, sym, ap, ◌∙◌}
+use Rattle.std.proofs.Common.{◌≡◌, ◌≢◌, ◌↔◌, ◌⊎◌, inl, inr, ◌||◌, Bool, true, false, not, IsTrue, List, refl, sym, ap, ◌∙◌}
 use Rattle.std.specs.Bool.{Decides}
 use Rattle.std.specs.List.{Any, list_any}
-use Rattle.std.proofs.lemmas.Bool.{and_parts}
+use Rattle.std.proofs.lemmas.Bool.{and_parts, and_from, or_right}
 use Rattle.std.proofs.lemmas.List.Folds.{Any-from_list_any, list_any-from_Any}
 use Rattle.config_model.specs.declared.config.Action.{Action}
 use Rattle.config_model.specs.declared.config.Action.TheVariants.{Pass, Deny, Through}
@@ -44,14 +44,6 @@ differ x y h e = let same : same_name x y ≡ true = (same_name_iff x y).1 e in 
 differ_test : (x y : List _) → x ≢ y → not (same_name x y) ≡ true
 differ_test x y h = elim (same_name x y) as (λ v. same_name x y ≡ v → not v ≡ true) [ true ↦ λ e. absurd (h ((same_name_iff x y).0 e)) | false ↦ λ e. refl ] refl
 
-both : (a b : Bool) → a ≡ true → b ≡ true → (a && b) ≡ true
-both true b e f = f
-both false b e f = cc
-
-or_second : (a b : Bool) → b ≡ true → (a || b) ≡ true
-or_second true b h = refl
-or_second false b h = h
-
 pub related_iff : (c : Config) (a b : Network) → IsTrue (are_related c a b) ↔ AreRelated c a b
 related_iff c a b =
     let some : Bool = list_any (λ r. lets_through r.rule.action) (rules_between c a b) in (
@@ -60,7 +52,7 @@ related_iff c a b =
           let s = some_between c a b lets_through parts.1 in
           record { differ = differ a.name b.name parts.0; rule = s.0; stands = s.1; lets = (lets_iff s.0.rule.action).0 s.2 },
       λ k.
-          both (not (same_name a.name b.name)) some (differ_test a.name b.name k.differ)
+          and_from (not (same_name a.name b.name)) some (differ_test a.name b.name k.differ)
           (from_some c a b lets_through k.rule k.stands ((lets_iff k.rule.rule.action).1 k.lets)),
     )
 
@@ -77,6 +69,6 @@ imports_iff c a b =
             | inl same ↦ let one : same_name a.name b.name ≡ true = (same_name_iff a.name b.name).1 same in rw one refl
             | inr way ↦
                 let by : some ≡ true = from_some c a b passes way.rule way.stands ((passes_iff way.rule.rule.action).1 way.pass) in
-                or_second (same_name a.name b.name) some by
+                or_right (same_name a.name b.name) some by
           ],
     )

@@ -1,11 +1,11 @@
 -- The rules between two networks: which they are, and in which order they stand.
-use Rattle.std.proofs.Common.{◌≡◌, ◌≢◌, ◌↔◌, ◌⊎◌, inl, inr, ℕ, zero, suc, ◌+◌, ◌<◌, ◌&&◌, ◌||◌, ltb, Bool, true, false, cond, List, [], ◌∷◌, ◌++◌, Some, flat_map, filter, get_or, refl, sym, ap, ◌∙◌, subst, arith}
+use Rattle.std.proofs.Common.{◌≡◌, ◌≢◌, ◌↔◌, ◌⊎◌, inl, inr, ℕ, zero, suc, ◌+◌, ◌<◌, ◌&&◌, ◌||◌, ltb, Bool, true, false, cond, List, [], ◌∷◌, ◌++◌, Some, flat_map, filter, get_or, refl, sym, subst, arith}
 use Rattle.std.specs.Bool.{Decides}
 use Rattle.std.specs.Cmp.Lexicographic.{same_text, nat_list_eq_equiv}
 use Rattle.std.specs.List.{All, AllPairs, Contains, slice_get}
 use Rattle.std.proofs.lemmas.Bool.{ltb-true, ltb-false}
 use Rattle.std.proofs.lemmas.Bool.Decides.{Decides-and, Decides-or}
-use Rattle.std.proofs.lemmas.List.Elements.{All-nil, All-cons, All-head, All-tail, All-append, All-weaker, All-contains, All-filter, filter_passes, Contains-get_or, All-contains_itself}
+use Rattle.std.proofs.lemmas.List.Elements.{All-nil, All-cons, All-head, All-tail, All-append, All-weaker, All-contains, Contains-get_or, All-contains_itself}
 use Rattle.std.proofs.lemmas.List.Kept.{AllPairs-cons, AllPairs-filter}
 use Rattle.std.proofs.lemmas.Map.Views.{list_any-from_Contains, Contains-from_any}
 use Rattle.config_model.specs.declared.config.Config.{Config}
@@ -18,40 +18,8 @@ use Rattle.ov_types.proofs.FirstLemmas.{same_name_iff, pairs_head, pairs_tail, c
 use Rattle.network_rules.specs.declared.numbered.NumberedRule.{NumberedRule}
 use Rattle.network_rules.specs.Related.{numbered_from, numbered_rules, attaches, put_by_sequence, by_sequence, end_fits, fits, rules_between}
 use Rattle.network_rules.specs.Standing.{ComesBefore, IsEnd, Fits, IsBetween}
-use Rattle.network_rules.proofs.Deciders.{all_joined, all_parts, all_put, all_ordered}
-
--- those that pass a test
-
-kept_is : {A : Type 0} (g : A → Bool) (xs : List A) (x : A) → Contains (filter g xs) x → Contains xs x × (g x ≡ true)
-kept_is g xs x h = (
-  All-contains (Contains xs) (filter g xs) x (All-filter g (Contains xs) xs (All-contains_itself xs)) h,
-  All-contains (λ y. g y ≡ true) (filter g xs) x (filter_passes g xs) h,
-)
-
-is_kept : {A : Type 0} (g : A → Bool) (xs : List A) (x : A) → Contains xs x → g x ≡ true → Contains (filter g xs) x
-is_kept g [] x h passes = h
-is_kept {A} g (y ∷ ys) x h passes =
-    elim (contains_cases y ys x h) [
-      | inl same ↦
-          let here : g y ≡ true = ap g same ∙ passes in
-          rw here (subst (Contains (y ∷ filter g ys)) same (contains_here y (filter g ys)))
-      | inr later ↦
-          let rest : Contains (filter g ys) x = is_kept g ys x later passes in
-          elim (g y) as (λ b. Contains (cond b (y ∷ filter g ys) (filter g ys)) x) [ true ↦ contains_later x y (filter g ys) rest | false ↦ rest ]
-    ]
-
--- those of the lists that the items of a list give
-
-joined_is : {A B : Type 0} (f : B → List A) (bs : List B) (x : A) → Contains (flat_map f bs) x → (b : B) × Contains bs b × Contains (f b) x
-joined_is {A} {B} f bs x h =
-    let P : A → Type 0 = λ y. (b : B) × Contains bs b × Contains (f b) y in
-    All-contains P (flat_map f bs) x
-    (all_joined P f bs (λ k d lt i e within. (get_or bs k d, Contains-get_or bs k d lt, Contains-get_or (f (get_or bs k d)) i e within))) h
-
-is_joined : {A B : Type 0} (f : B → List A) (bs : List B) (b : B) (x : A) → Contains bs b → Contains (f b) x → Contains (flat_map f bs) x
-is_joined {A} {B} f bs b x inside h =
-    let P : A → Type 0 = Contains (flat_map f bs) in
-    All-contains P (f b) x (All-contains (λ y. All P (f y)) bs b (all_parts P f bs (All-contains_itself (flat_map f bs))) inside) h
+use Rattle.network_rules.proofs.Lists.{joined_is, is_joined, kept_is, is_kept}
+use Rattle.network_rules.proofs.Deciders.{all_put, all_ordered}
 
 -- policies by sequence
 
@@ -127,7 +95,7 @@ is_numbered sequence first (q ∷ qs) (suc place) r h e f =
 
 -- what the tests say
 
-attaches_iff : (n : Network) (p : Policy) → Decides (attaches n p) (Contains n.policies p.name)
+pub attaches_iff : (n : Network) (p : Policy) → Decides (attaches n p) (Contains n.policies p.name)
 attaches_iff n p = (
   Contains-from_any (λ x y h. same_text x y (sym h)) p.name n.policies,
   list_any-from_Contains nat_list_eq_equiv p.name n.policies,

@@ -2,7 +2,7 @@
 use Rattle.std.proofs.Common.{◌≡◌, ◌↔◌, ℕ, zero, suc, ◌<◌, ◌&&◌, leb, Bool, true, false, cond, List, [], ◌∷◌, Option, Some, None, get_or, refl, sym, ap, ◌∙◌, subst, arith}
 use Rattle.std.specs.Bool.{Decides}
 use Rattle.std.specs.List.{All, slice_get}
-use Rattle.std.proofs.lemmas.Bool.{leb-true, le-leb, and_parts, eqb-true, eq-eqb}
+use Rattle.std.proofs.lemmas.Bool.{leb-true, le-leb, and_parts, eqb-true, eq-eqb, and_from}
 use Rattle.ov_types.specs.declared.packet.Range16.{Range16}
 use Rattle.ov_types.specs.declared.packet.Tuple.{Tuple}
 use Rattle.config_model.specs.declared.config.Config.{Config}
@@ -60,14 +60,10 @@ is_first_answer f xs y h = answers_at f xs y h.place h.item h.there h.gives h.fi
 
 -- what the tests say
 
-both : (a b : Bool) → a ≡ true → b ≡ true → (a && b) ≡ true
-both true b e f = f
-both false b e f = cc
-
 in_range_iff : (r : Range16) (n : ℕ) → Decides (in_range r n) (IsInRange r n)
 in_range_iff r n = (
   λ h. let parts = and_parts (leb r.lo n) (leb n r.hi) h in record { from = leb-true r.lo n parts.0; to = leb-true n r.hi parts.1 },
-  λ k. both (leb r.lo n) (leb n r.hi) (le-leb r.lo n k.from) (le-leb n r.hi k.to),
+  λ k. and_from (leb r.lo n) (leb n r.hi) (le-leb r.lo n k.from) (le-leb n r.hi k.to),
 )
 
 has_protocol_iff : (p : Protocol) (n : ℕ) → Decides (has_protocol p n) (IsProtocol p n)
@@ -97,8 +93,8 @@ forwards_iff a b t r =
             destination_port = (in_range_iff r.destination_ports t.dport).0 p4.1;
           },
       λ k.
-          both ((q1 && q2) && q3) q4
-          (both (q1 && q2) q3 (both q1 q2 ((fits_iff r a b).1 (k.source, k.destination)) ((has_protocol_iff r.protocol t.proto).1 k.protocol))
+          and_from ((q1 && q2) && q3) q4
+          (and_from (q1 && q2) q3 (and_from q1 q2 ((fits_iff r a b).1 (k.source, k.destination)) ((has_protocol_iff r.protocol t.proto).1 k.protocol))
           ((in_range_iff r.source_ports t.sport).1 k.source_port))
           ((in_range_iff r.destination_ports t.dport).1 k.destination_port),
     )
@@ -125,9 +121,9 @@ mirrored_iff a b t r =
             destination_port = (in_range_iff r.destination_ports t.sport).0 p4.1;
           },
       λ k.
-          both (((q0 && q1) && q2) && q3) q4
-          (both ((q0 && q1) && q2) q3
-          (both (q0 && q1) q2 (both q0 q1 ((both_ways_iff r.direction).1 k.both_ways) ((fits_iff r b a).1 (k.source, k.destination))) ((has_protocol_iff r.protocol t.proto).1 k.protocol))
+          and_from (((q0 && q1) && q2) && q3) q4
+          (and_from ((q0 && q1) && q2) q3
+          (and_from (q0 && q1) q2 (and_from q0 q1 ((both_ways_iff r.direction).1 k.both_ways) ((fits_iff r b a).1 (k.source, k.destination))) ((has_protocol_iff r.protocol t.proto).1 k.protocol))
           ((in_range_iff r.source_ports t.dport).1 k.source_port))
           ((in_range_iff r.destination_ports t.sport).1 k.destination_port),
     )

@@ -26,7 +26,8 @@ use Rattle.config_check.specs.Sentences.{IsValid}
 use Rattle.acl_compile.specs.Bounds.{KeepsBounds}
 use Rattle.acl_compile.specs.Oriented.{acl_rules, backwards, does, entries_of, forward_entry, forwards, hop_entered, mirrored_entry, oriented, protocol_of}
 use Rattle.acl_compile.proofs.Kept.{chain_is_short}
-use Rattle.transform_model.proofs.Lists.{joined_is, place_within, there_if}
+use Rattle.network_rules.proofs.Lists.{joined_is}
+use Rattle.transform_model.proofs.Lists.{place_within, there_if}
 use Rattle.item_wire.specs.Entries.{is_from_to}
 use Rattle.item_wire.specs.Ranges.{are_ports, is_action, is_protocol, is_rule, is_rule_number}
 use Rattle.object_laws.proofs.Forms.{RuleFits, policy_fits}

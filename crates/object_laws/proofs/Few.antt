@@ -28,7 +28,8 @@ use Rattle.acl_compile.specs.Oriented.{acl_rules, ascending, backwards, entries_
 use Rattle.acl_compile.proofs.Kept.{all_bounded}
 use Rattle.acl_compile.proofs.Orders.{ascending_permutes}
 use Rattle.transform_model.specs.IsObject.{AreImports}
-use Rattle.transform_model.proofs.Lists.{is_mapped, kept_is, mapped_is, pairs_mapped, pairs_of_map, pairs_weaker}
+use Rattle.network_rules.proofs.Lists.{is_mapped, kept_is, mapped_is}
+use Rattle.transform_model.proofs.Lists.{pairs_mapped, pairs_of_map, pairs_weaker}
 use Rattle.object_laws.proofs.Lists.{length_kept, length_sixteen, length_twice, no_more}
 
 -- ---- entries

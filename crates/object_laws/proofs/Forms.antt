@@ -1,7 +1,7 @@
 -- What the written form says of each object of a configuration and of a topology.
-use Rattle.std.proofs.Common.{◌≡◌, ◌≤◌, ◌^◌, ◌&&◌, true, IsTrue, length, nat_le, nat_lt}
+use Rattle.std.proofs.Common.{◌≡◌, ◌≤◌, ◌&&◌, true, IsTrue, length, nat_le}
 use Rattle.std.specs.List.{Contains, list_all}
-use Rattle.std.proofs.lemmas.Bool.{and_from, and_parts, leb-true}
+use Rattle.std.proofs.lemmas.Bool.{and_parts, leb-true}
 use Rattle.ov_types.specs.Name.{is_name}
 use Rattle.ov_types.specs.Prefix.{Block, is_block}
 use Rattle.config_model.specs.Form.{has_chain_form, has_config_form, has_controller_form, has_end_form, has_network_form, has_node_form, has_policy_form, has_port_form, has_protocol_form, has_action_form, has_rule_form, has_service_form, has_topology_form, is_as_number, is_from_to, is_network_name, is_node_address, is_node_name, is_range}

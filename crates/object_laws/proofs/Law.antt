@@ -11,12 +11,11 @@ use Rattle.transform_model.proofs.LowKeys.{low_is}
 use Rattle.node_model.specs.Keys.{Key}
 use Rattle.node_model.specs.Values.{Value}
 use Rattle.node_model.specs.Wants.{slice_entry}
-use Rattle.node_model.proofs.Members.{from_entry, from_map}
+use Rattle.node_model.proofs.Members.{from_entry, from_map, contains_of}
 use Rattle.node_model.proofs.Orders.{key_exact, key_total}
 use Rattle.node_items.specs.Told.{AllFit, Fits}
 use Rattle.network_model.specs.Setup.{low}
 use Rattle.object_laws.proofs.Each.{object_told}
-use Rattle.object_laws.proofs.Lists.{contains_of}
 
 pub low_fits : (x : Checked) → IsTrue (has_topology_form x.topology) → IsTrue (has_config_form x.config)
     → first_broken x.topology x.config ≡ None → AllFit (low x)

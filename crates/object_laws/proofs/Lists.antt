@@ -10,7 +10,6 @@ use Rattle.std.proofs.lemmas.Map.Made.{IsDistinct-from_AllPairs, length-le_from_
 use Rattle.std.proofs.lemmas.Map.Views.{Contains-from_any, list_any-from_Contains}
 use Rattle.ov_types.proofs.FirstLemmas.{contains_cases, contains_here, contains_later}
 use Rattle.config_check.proofs.Iffs.{list_all_true}
-use Rattle.node_model.specs.Members.{Member}
 
 -- ---- tests that each item passes
 pub each_passes : {A : Type 0} (p : A → Bool) (xs : List A) → ((x : A) → Contains xs x → p x ≡ true) → list_all p xs ≡ true
@@ -65,9 +64,3 @@ zipped_at R (x ∷ xs) (w ∷ ys) y z at =
       | inl same ↦ (x, contains_here x xs, subst (R x) same z.0)
       | inr later ↦ let q = zipped_at R xs ys y z.1 later in (q.0, contains_later q.0 x xs q.1, q.2)
     ]
-
--- members of a list are contained in it
-pub contains_of : {A : Type 0} (xs : List A) (x : A) → Member x xs → Contains xs x
-contains_of [] x m = absurd m
-contains_of (y ∷ ys) x (inl e) = subst (Contains (y ∷ ys)) e (contains_here y ys)
-contains_of (y ∷ ys) x (inr m) = contains_later x y ys (contains_of ys x m)

@@ -27,7 +27,7 @@ use Rattle.config_check.proofs.Straight.{no_loop}
 use Rattle.transform_model.specs.IsUse.{IsUse}
 use Rattle.transform_model.specs.Uses.{Use}
 use Rattle.transform_model.proofs.InUse.{among_all, numbered}
-use Rattle.transform_model.proofs.Lists.{mapped_is}
+use Rattle.network_rules.proofs.Lists.{mapped_is}
 use Rattle.object_laws.proofs.Forms.{chain_has_hops}
 
 -- what a list has of a name is found

@@ -1,5 +1,5 @@
 -- How few octets the entries of records take, and lists of them.
-use Rattle.std.proofs.Common.{◌≡◌, ℕ, ◌+◌, ◌*◌, ◌<◌, ◌≤◌, ◌&&◌, Bool, true, false, List, [], ◌∷◌, length, map, nat_le}
+use Rattle.std.proofs.Common.{◌≡◌, ℕ, ◌+◌, ◌*◌, ◌<◌, ◌≤◌, ◌&&◌, Bool, true, List, [], ◌∷◌, length, map, nat_le}
 use Rattle.std.proofs.Common.{Option, Some, None, decimal, arith}
 use Rattle.std.specs.List.{list_all}
 use Rattle.std.proofs.lemmas.Bool.{and_parts, leb-true}
@@ -19,7 +19,8 @@ use Rattle.item_wire.specs.Entries.{is_from_to}
 use Rattle.item_wire.specs.Ranges.{is_node_address, is_block, is_import, is_hop, is_protocol, are_ports, is_action, is_rule_number, is_rule}
 use Rattle.item_wire.specs.Records.{prefix_record, import_record, hop_record, protocol_record, action_record, rule_record}
 use Rattle.item_wire.proofs.ShortRecords.{length_address, length_prefix}
-use Rattle.item_wire.proofs.Weights.{comma_weight, weight, items_weight}
+use Rattle.item_wire.proofs.Weights.{weight, items_weight}
+use Rattle.item_wire.proofs.ValueWeights.{comma_one}
 
 -- ---- numbers
 pub digits : (n : ℕ) → n < 10000000 → length (decimal n) ≤ 7
@@ -83,10 +84,6 @@ rule_small r h =
     omega (arith, protocol, sports.0, sports.1, dports.0, dports.1, action, rule.0, rule.1)
 
 -- ---- lists
-comma_small : (later : Bool) → comma_weight later ≤ 1
-comma_small true = omega arith
-comma_small false = omega arith
-
 pub list_small : {A : Type 0} (is_fit : A → Bool) (value_of : A → Data) → ((x : A) → is_fit x ≡ true → IsSmall (value_of x))
     → (later : Bool) (xs : List A) → list_all is_fit xs ≡ true → items_weight later (items_of (map value_of xs)) ≤ 1 + 66 * length xs
 list_small is_fit value_of each later [] h = omega arith
@@ -94,4 +91,4 @@ list_small is_fit value_of each later (x ∷ xs) h =
     let parts = and_parts (is_fit x) (list_all is_fit xs) h in
     let one = each x parts.0 in
     let others = list_small is_fit value_of each true xs parts.1 in
-    omega (arith, one, others, comma_small later)
+    omega (arith, one, others, comma_one later)

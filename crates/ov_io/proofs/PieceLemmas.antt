@@ -1,5 +1,5 @@
 -- How pieces make the whole text.
-use Rattle.std.proofs.Common.{◌≡◌, ◌≤◌, ◌+◌, ℕ, List, [], ◌++◌, Option, length, take, drop, refl, ap, sym, ◌∙◌, subst, arith}
+use Rattle.std.proofs.Common.{◌≡◌, ◌+◌, ℕ, List, [], ◌++◌, Option, length, take, drop, refl, ap, sym, ◌∙◌, subst, arith}
 use Rattle.std.proofs.lemmas.List.{append_assoc, append-nil, length-append, take-append-drop}
 use Rattle.std.proofs.Math.Seq.{take-append_seam}
 use Rattle.std.specs.Prelude.{OnOk, OnErr, Result, Ok, Err}
@@ -27,18 +27,6 @@ way_taken old new gathered after taken none =
       joined = ap (λ (t : List ℕ). gathered ++ (t ++ [])) none ∙ append-nil gathered;
     }
 
--- a text that was left is gathered
-pub way_gathers : (old new : Option (List ℕ)) (before after text left more whole : List ℕ) → IsOnItsWay old new before left whole
-    → left ≡ text ++ more → after ≡ before ++ text → IsOnItsWay old new after more whole
-way_gathers old new before after text left more whole way split e =
-    let here : after ++ more ≡ before ++ left =
-    ap (λ (t : List ℕ). t ++ more) e ∙ append_assoc before text more ∙ ap (λ (t : List ℕ). before ++ t) (sym split) in
-    record {
-      taken = way.taken;
-      appended = way.appended;
-      joined = ap (λ (t : List ℕ). way.taken ++ t) here ∙ way.joined;
-    }
-
 -- one way goes on where another ends
 pub way_goes_on : (old mid new : Option (List ℕ)) (before after text left more whole : List ℕ) → IsOnItsWay old mid before left whole
     → left ≡ text ++ more → IsOnItsWay mid new after [] (before ++ text) → IsOnItsWay old new after more whole
@@ -52,11 +40,6 @@ way_goes_on old mid new before after text left more whole way split on =
       appended = Appends-trans old mid new way.taken on.taken way.appended on.appended;
       joined = append_assoc way.taken on.taken (after ++ more) ∙ ap (λ (t : List ℕ). way.taken ++ t) here ∙ way.joined;
     }
-
--- nothing is left
-pub way_done : (old new : Option (List ℕ)) (gathered left whole : List ℕ) → IsOnItsWay old new gathered left whole → left ≡ []
-    → IsOnItsWay old new gathered [] whole
-way_done old new gathered left whole way none = subst (λ (t : List ℕ). IsOnItsWay old new gathered t whole) none way
 
 -- more is left than was said
 pub way_lengthens : (old new : Option (List ℕ)) (gathered left more whole : List ℕ) → IsOnItsWay old new gathered left whole
@@ -90,11 +73,6 @@ front_of old new front more taken =
       fits = omega (arith, length-append front more);
       front = subst (λ (t : List ℕ). Appends old new t) (sym (take-append_seam front more)) taken;
     }
-
--- what was taken on the way is a front of the whole
-pub way_stops : (old new : Option (List ℕ)) (gathered left whole : List ℕ) → IsOnItsWay old new gathered left whole → TookFront old new whole
-way_stops old new gathered left whole way =
-    subst (λ (t : List ℕ). TookFront old new t) way.joined (front_of old new way.taken (gathered ++ left) way.appended)
 
 -- and so it is where the next piece stops
 pub way_breaks : (old mid new : Option (List ℕ)) (before text left more whole : List ℕ) → IsOnItsWay old mid before left whole

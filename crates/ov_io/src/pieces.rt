@@ -87,28 +87,3 @@ pub fn write_gathered<K: Sink>(sink: &mut K, gathered: &mut TextOut) -> Result<(
     gathered.clear();
     Ok(())
 }
-
-#[cfg(test)]
-mod tests {
-    use super::*;
-    use crate::sink::MemSink;
-    use std::test::Fail;
-
-    #[test]
-    fn pieces_are_written_once_and_in_order(rt: HostRuntime) -> Result<(), Fail> {
-        let alloc = rt.alloc();
-        let mut sink = MemSink::new(alloc, Vec::new(alloc));
-        let mut gathered = TextOut::new(alloc);
-        let most = vec![in alloc; b'a'; PIECE_OCTETS - 1]?;
-        assert_eq!(rt; gather(&mut sink, &mut gathered, most.as_slice()), Ok(()));
-        assert_eq!(rt; sink.taken().len(), 0);
-        assert_eq!(rt; gather(&mut sink, &mut gathered, b"b"), Ok(()));
-        assert_eq!(rt; sink.taken().len(), PIECE_OCTETS);
-        assert_eq!(rt; gather(&mut sink, &mut gathered, b"c"), Ok(()));
-        assert_eq!(rt; sink.taken().len(), PIECE_OCTETS);
-        assert_eq!(rt; write_gathered(&mut sink, &mut gathered), Ok(()));
-        assert_eq!(rt; sink.taken().len(), PIECE_OCTETS + 1);
-        assert_eq!(rt; sink.taken().last(), Some(&b'c'));
-        Ok(())
-    }
-}

@@ -1,5 +1,5 @@
 //! Where the program's octets go.
-ghost use Rattle.std.specs.Prelude.{◌≡◌, [], ◌<◌, ◌++◌, List, ℕ, Option, Some, length, IfOk, OnOk, OnErr};
+ghost use Rattle.std.specs.Prelude.{◌≡◌, [], ◌<◌, List, ℕ, Option, Some, length, IfOk, OnOk};
 ghost use Rattle.std.specs.Io.{WritesAtMost};
 ghost use Rattle.std.specs.Io.KnownBytes.{WriteAppends, Appends};
 ghost use Rattle.ov_io.specs.Causes.{HasCause};
@@ -106,23 +106,5 @@ impl Sink for MemSink {
                 Err(SinkFault::Failed)
             }
         }
-    }
-}
-
-#[cfg(test)]
-mod tests {
-    use super::*;
-    use std::test::Fail;
-
-    #[test]
-    fn a_listed_write_fails_and_takes_nothing(rt: HostRuntime) -> Result<(), Fail> {
-        let alloc = rt.alloc();
-        let mut sink = MemSink::new(alloc, vec![in alloc; 2]?);
-        assert_eq!(rt; write_all(&mut sink, b"ab"), Ok(()));
-        assert_eq!(rt; write_all(&mut sink, b"cd"), Err(SinkFault::Failed));
-        assert_eq!(rt; sink.taken(), b"ab".as_slice());
-        assert_eq!(rt; write_all(&mut sink, b"ef"), Ok(()));
-        assert_eq!(rt; sink.taken(), b"abef".as_slice());
-        Ok(())
     }
 }

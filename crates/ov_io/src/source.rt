@@ -98,24 +98,3 @@ fn front_into(octets: &[u8], at: usize, into: &mut [u8]) -> usize
     into[..count].copy_from_slice(&rest[..count]);
     count
 }
-
-#[cfg(test)]
-mod tests {
-    use super::*;
-    use std::test::Fail;
-
-    #[test]
-    fn a_listed_read_fails_and_loses_nothing(rt: HostRuntime) -> Result<(), Fail> {
-        let alloc = rt.alloc();
-        let octets = b"abc".to_vec(alloc)?;
-        let mut source = MemSource::new(alloc, octets, vec![in alloc; 2]?);
-        let mut two = [0u8; 2];
-        assert_eq!(rt; source.read(&mut two), Ok(2));
-        assert_eq!(rt; two, *b"ab");
-        assert_eq!(rt; source.read(&mut two), Err(SourceFault::Failed));
-        assert_eq!(rt; source.read(&mut two), Ok(1));
-        assert_eq!(rt; two[0], b'c');
-        assert_eq!(rt; source.read(&mut two), Ok(0));
-        Ok(())
-    }
-}

@@ -67,21 +67,3 @@ impl TextOut {
         self.octets.as_slice()
     }
 }
-
-#[cfg(test)]
-mod tests {
-    use super::*;
-    use std::test::Fail;
-
-    #[test]
-    fn texts_are_appended(rt: HostRuntime) -> Result<(), Fail> {
-        let mut text = TextOut::new(rt.alloc());
-        assert_eq!(rt; text.push(b"ab"), Ok(()));
-        assert_eq!(rt; text.push(b"c"), Ok(()));
-        assert_eq!(rt; text.octets(), b"abc".as_slice());
-        text.clear();
-        assert_eq!(rt; text.push(b"d"), Ok(()));
-        assert_eq!(rt; text.octets(), b"d".as_slice());
-        Ok(())
-    }
-}

@@ -8,9 +8,9 @@ use Rattle.std.specs.Option.{option_map}
 use Rattle.std.specs.List.{filter_map, cons_option}
 use Rattle.std.specs.Ordering.{is_eq}
 use Rattle.std.specs.Cmp.{IsTotalOrder}
-use Rattle.std.specs.FinMap.{FinMap, get, entries, from_entries, find, put, empty, entries-insert, get-entries, get-from_entries, IsAntisymmetric, same_map, insert, remove, same_entries_map}
+use Rattle.std.specs.FinMap.{FinMap, get, entries, from_entries, find, put, entries-insert, get-entries, get-from_entries, IsAntisymmetric, same_map, insert, remove, same_entries_map}
 use Rattle.ov_sync.proofs.Ascending.{entries-empty, without, entries-remove}
-use Rattle.std.proofs.Common.{refl, sym, ◌∙◌, ap, arith, length}
+use Rattle.std.proofs.Common.{refl, sym, ◌∙◌, ap, arith}
 use Rattle.ov_sync.specs.declared.Delta.{Delta}
 use Rattle.ov_sync.specs.declared.Delta.TheVariants.{Put, Drop}
 use Rattle.ov_sync.specs.Keyed.{changed, keys_of_either, change, change_at, difference}

@@ -4,3 +4,4 @@ pub mod Walking
 pub mod Turns
 pub mod KeyedLaws
 pub mod EmbedLaws
+pub mod Firsts

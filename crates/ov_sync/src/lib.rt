@@ -1,10 +1,12 @@
 //! Keyed tables that are kept alike at two ends by sending the changes.
 #![tactic(auto)]
 
+mod first;
 pub mod laws;
 mod receiving;
 mod sending;
 
+pub use first::first_of_each;
 pub use receiving::SyncIn;
 pub use sending::SyncOut;
 

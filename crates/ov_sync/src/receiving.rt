@@ -19,7 +19,6 @@ pub struct SyncIn<K: Ord, V> {
 
 impl<K: Ord, V> Model for SyncIn<K, V> {
     ghost use Rattle.std.specs.Prelude.{List};
-    ghost use Rattle.std.specs.BTreeMap.{IsOrdered};
 
     ghost Value = { List (K × V) };
 

@@ -1,5 +1,5 @@
 //! Names.
-ghost use Rattle.std.specs.Prelude.{◌≡◌, ◌&&◌, ℕ, List, Some, nat_eq, IsTrue, refl};
+ghost use Rattle.std.specs.Prelude.{◌≡◌, ℕ, List, Some, nat_eq, IsTrue, refl};
 ghost use Rattle.std.specs.Ordering.{nat_cmp};
 ghost use Rattle.std.specs.Cmp.{partial_equiv_from_equiv};
 ghost use Rattle.std.specs.Cmp.Lexicographic.{pointwise, slice_cmp, nat_list_eq_equiv, nat_list_cmp_total, texts_po};

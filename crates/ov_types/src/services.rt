@@ -12,7 +12,7 @@ pub struct Services<const N: usize> {
 }
 
 impl<const N: usize> Model for Services<N> {
-    ghost use Rattle.std.specs.Prelude.{List, length, ◌≤◌};
+    ghost use Rattle.std.specs.Prelude.{List, length};
     ghost use Rattle.ov_types.specs.declared.numbers.ServiceNo.{ServiceNo as Number};
 
     ghost Value = { List Number };

@@ -37,7 +37,7 @@ numbered n = record { 0 = n }
 abbrev addressed : ℕ → Addr
 addressed n = record { 0 = n }
 
-apart : (x y : List ℕ) → same_name x y ≡ false → x ≢ y
+pub apart : (x y : List ℕ) → same_name x y ≡ false → x ≢ y
 apart x y e = λ same. let never : true ≡ false = sym ((same_name_iff x y).1 same) ∙ e in absurd cc
 
 differs : (x y : List ℕ) → x ≢ y → same_name x y ≡ false

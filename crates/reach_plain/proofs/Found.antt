@@ -1,12 +1,12 @@
 -- The network of an address, for packets from another, in a valid configuration.
-use Rattle.std.proofs.Common.{◌≡◌, ◌⊎◌, inl, inr, ℕ, ◌&&◌, ◌||◌, Bool, true, false, IsTrue, List, [], ◌∷◌, Some, None, map, refl, sym, ap, ◌∙◌, arith}
+use Rattle.std.proofs.Common.{◌≡◌, ◌⊎◌, inl, inr, ℕ, ◌&&◌, ◌||◌, Bool, true, false, IsTrue, List, [], Some, None, refl, sym, ap, ◌∙◌}
 use Rattle.std.specs.Bool.{Decides}
 use Rattle.std.specs.List.{Any, Contains, find}
 use Rattle.std.proofs.lemmas.Bool.Decides.{Decides-and, Decides-or}
 use Rattle.std.proofs.lemmas.List.Elements.{All-contains}
 use Rattle.ov_types.specs.First.{same_name}
 use Rattle.ov_types.specs.Prefix.{contains}
-use Rattle.ov_types.proofs.FirstLemmas.{same_name_iff, contains_cases, contains_here, contains_later, found_is, find_none}
+use Rattle.ov_types.proofs.FirstLemmas.{same_name_iff, found_is, find_none}
 use Rattle.config_model.specs.Form.{has_config_form}
 use Rattle.config_model.specs.declared.config.Config.{Config}
 use Rattle.config_model.specs.declared.config.Network.{Network}
@@ -14,6 +14,7 @@ use Rattle.config_model.specs.declared.config.Port.{Port}
 use Rattle.config_model.specs.declared.topology.Topology.{Topology}
 use Rattle.network_rules.specs.Related.{are_related}
 use Rattle.network_rules.specs.Standing.{AreRelated}
+use Rattle.network_rules.proofs.Lists.{mapped_is}
 use Rattle.network_rules.proofs.Relations.{related_iff}
 use Rattle.config_check.specs.Rules.{network_names, node_names, holds_address}
 use Rattle.config_check.specs.Sentences.{IsAround, IsValid}
@@ -23,7 +24,7 @@ use Rattle.reach_plain.specs.Outcomes.{IsTowards}
 use Rattle.reach_plain.specs.Reachability.{network_towards}
 
 -- the only item that passes a test is the one that is found
-finds : {A : Type 0} (p : A → Bool) (xs : List A) (x : A) → Contains xs x → p x ≡ true → ((y : A) → Contains xs y → p y ≡ true → y ≡ x) → find p xs ≡ Some x
+pub finds : {A : Type 0} (p : A → Bool) (xs : List A) (x : A) → Contains xs x → p x ≡ true → ((y : A) → Contains xs y → p y ≡ true → y ≡ x) → find p xs ≡ Some x
 finds {A} p xs x inside passes only =
     elim (find p xs) as (λ o. find p xs ≡ o → o ≡ Some x) [
       | None ↦ λ e.
@@ -32,15 +33,6 @@ finds {A} p xs x inside passes only =
           absurd cc
       | Some y ↦ λ e. let f = found_is p xs y e in ap Some (only y f.1 f.0)
     ] refl
-
--- what a list of names or numbers has is of one of its items
-mapped_from : {A B : Type 0} (f : A → B) (xs : List A) (y : B) → Contains (map f xs) y → (x : A) × Contains xs x × (f x ≡ y)
-mapped_from f [] y h = absurd (omega (arith, h.1))
-mapped_from f (x ∷ xs) y h =
-    elim (contains_cases (f x) (map f xs) y h) [
-      | inl same ↦ (x, contains_here x xs, same)
-      | inr later ↦ let rest = mapped_from f xs y later in (rest.0, contains_later rest.0 x xs rest.1, rest.2)
-    ]
 
 -- what the test of a network's address means
 near_iff : (c : Config) (own b : Network) → Decides (same_name b.name own.name || are_related c own b) ((b.name ≡ own.name) ⊎ AreRelated c own b)
@@ -78,7 +70,7 @@ none_towards c own address nowhere =
 pub own_exists : (t : Topology) (c : Config) (q : Port) → IsValid t c → Contains c.ports q → (a : Network) × Contains c.networks a × (a.name ≡ q.network)
 own_exists t c q v inside =
     let named = All-contains (λ (p : Port). Contains (network_names c) p.network × Contains (node_names t) p.node) c.ports q v.references.ports inside in
-    mapped_from (λ (n : Network). n.name) c.networks q.network named.0
+    mapped_is (λ (n : Network). n.name) c.networks q.network named.0
 
 -- an address has one network among a network's relatives
 pub target_is : (t : Topology) (c : Config) (own b : Network) (address : ℕ) → IsTrue (has_config_form c) → IsValid t c

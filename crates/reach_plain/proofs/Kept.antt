@@ -1,19 +1,15 @@
 -- What a valid configuration keeps that decisions and outcomes rest on.
-use Rattle.std.proofs.Common.{◌≡◌, ◌≢◌, ℕ, ◌≤◌, leb, ltb, true, false, List, [], Some, None, Ok, map, length, get_or, refl, sym, subst, arith}
-use Rattle.std.specs.List.{All, AllPairs, list_all}
-use Rattle.std.specs.Cmp.Lexicographic.{same_text}
+use Rattle.std.proofs.Common.{◌≡◌, ◌≢◌, ℕ, ◌≤◌, leb, ltb, true, false, List, [], None, Ok, map, length, get_or, refl, arith}
+use Rattle.std.specs.List.{AllPairs, list_all}
 use Rattle.std.proofs.lemmas.Bool.{le-ltb}
-use Rattle.std.proofs.lemmas.Bool.Decides.{nat_tests}
-use Rattle.config_model.specs.declared.config.Chain.{Chain}
 use Rattle.config_model.specs.declared.config.Config.{Config}
-use Rattle.config_model.specs.declared.config.Service.{Service}
 use Rattle.config_model.specs.declared.topology.Topology.{Topology}
-use Rattle.ov_types.specs.First.{same_name, first_meeting}
-use Rattle.chain_expand.specs.Expansion.{chain_named, expansion, same_number, numbers_or_fault}
+use Rattle.ov_types.specs.First.{first_meeting}
+use Rattle.chain_expand.specs.Expansion.{expansion, same_number, numbers_or_fault}
+use Rattle.chain_expand.proofs.Each.{of_each_name, numbers_apart}
 use Rattle.config_check.specs.Rules.{first_broken}
 use Rattle.config_check.specs.Sentences.{IsValid}
-use Rattle.ov_types.proofs.FirstLemmas.{found_is, first_meeting_none}
-use Rattle.std.proofs.lemmas.List.Elements.{All-contains}
+use Rattle.ov_types.proofs.FirstLemmas.{first_meeting_none}
 use Rattle.config_check.proofs.Few.{few_rules as rules_are_few, first_none}
 use Rattle.config_check.proofs.Validity.{valid_iff}
 
@@ -27,25 +23,11 @@ few_rules t c h = rules_are_few t c (first_none _ _ h)
 pub few_chains : (t : Topology) (c : Config) → first_broken t c ≡ None → length c.chains ≤ 128
 few_chains t c h = (valid t c h).limits.chains
 
--- what holds of the expansion of each chain holds of that of each name: where there is no such chain it is empty
-of_each_name : (P : List Service → Type 0) (c : Config) (name : List ℕ) → P [] → All (λ d. P (expansion c d.name)) c.chains → P (expansion c name)
-of_each_name P c name none each =
-    elim (chain_named c name) as (λ o. chain_named c name ≡ o → P (expansion c name)) [
-      | None ↦ λ e. let empty : expansion c name ≡ [] = rw e refl in subst P (sym empty) none
-      | Some d ↦ λ e.
-          let named = found_is (λ (x : Chain). same_name x.name name) c.chains d e in
-          let Q : List ℕ → Type 0 = λ n. P (expansion c n) in
-          subst Q (same_text d.name name (sym named.0)) (All-contains (λ (x : Chain). P (expansion c x.name)) c.chains d each named.1)
-    ] refl
-
 pub chain_is_short : (t : Topology) (c : Config) (name : List ℕ) → first_broken t c ≡ None → length (expansion c name) ≤ 15
 chain_is_short t c name h = of_each_name (λ services. length services ≤ 15) c name (omega arith) (valid t c h).short
 
 pub chain_is_once : (t : Topology) (c : Config) (name : List ℕ) → first_broken t c ≡ None → AllPairs (λ s u. s.id.0 ≢ u.id.0) (expansion c name)
 chain_is_once t c name h = of_each_name (λ services. AllPairs (λ s u. s.id.0 ≢ u.id.0) services) c name (λ i j d lt within. absurd (omega arith)) (valid t c h).once
-
-numbers_apart : (s u : Service) → s.id.0 ≢ u.id.0 → same_number s u ≡ false
-numbers_apart s u h = grind (arith, nat_tests)
 
 pub chain_expands : (t : Topology) (c : Config) (name : List ℕ) → first_broken t c ≡ None → numbers_or_fault name (expansion c name) ≡ Ok (map (λ s. s.id) (expansion c name))
 chain_expands t c name h =

@@ -1,6 +1,6 @@
 -- Loops over ascending numbers: what is there so far, with what is left.
 use Rattle.std.proofs.Common.{◌≡◌, ℕ, ◌<◌, ◌≤◌, ◌+◌, ◌-◌, ◌++◌, List, [], ◌∷◌, map, suc, refl, ap, sym, ◌∙◌, arith}
-use Rattle.std.proofs.Common.{append_assoc, append-nil}
+use Rattle.std.proofs.Common.{append_assoc}
 use Rattle.std.specs.List.{range_with_len, flat_map}
 
 -- the numbers from a to below b
@@ -21,10 +21,6 @@ numbered_goes_on f items whole x a b h e so_far =
     ∙ sym (ap (λ numbers. items ++ map f numbers) (one_less a b h))
     ∙ so_far
 
-pub numbered_is_done : {X : Type 0} (f : ℕ → X) (items whole : List X) (a b : ℕ) → b ≤ a → items ++ map f (left a b) ≡ whole → items ≡ whole
-numbered_is_done f items whole a b h so_far =
-    sym (append-nil items) ∙ sym (ap (λ numbers. items ++ map f numbers) (none_left a b h)) ∙ so_far
-
 pub appended_goes_on : {X : Type 0} (f : ℕ → List X) (items whole more : List X) (a b : ℕ) → a < b → more ≡ items ++ f a
     → items ++ flat_map f (left a b) ≡ whole → more ++ flat_map f (left (a + 1) b) ≡ whole
 appended_goes_on f items whole more a b h e so_far =
@@ -32,7 +28,3 @@ appended_goes_on f items whole more a b h e so_far =
     ∙ append_assoc items (f a) (flat_map f (left (a + 1) b))
     ∙ sym (ap (λ numbers. items ++ flat_map f numbers) (one_less a b h))
     ∙ so_far
-
-pub appended_is_done : {X : Type 0} (f : ℕ → List X) (items whole : List X) (a b : ℕ) → b ≤ a → items ++ flat_map f (left a b) ≡ whole → items ≡ whole
-appended_is_done f items whole a b h so_far =
-    sym (append-nil items) ∙ sym (ap (λ numbers. items ++ flat_map f numbers) (none_left a b h)) ∙ so_far

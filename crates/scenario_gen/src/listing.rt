@@ -1,5 +1,5 @@
 //! Lists of what a scenario has several of.
-ghost use Rattle.std.specs.Prelude.{◌≡◌, ◌++◌, ◌+◌, ◌*◌, ◌≤◌, ◌<◌, ℕ, List, IfOk, OnOk, map};
+ghost use Rattle.std.specs.Prelude.{◌≡◌, ◌++◌, ◌+◌, ◌≤◌, ◌<◌, ℕ, List, IfOk, OnOk, map};
 ghost use Rattle.std.specs.List.{range_with_len, flat_map};
 ghost use Rattle.scenario_gen.specs.Naming.{below};
 ghost use Rattle.scenario_gen.specs.Tenants.{tenants};

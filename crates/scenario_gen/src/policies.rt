@@ -1,6 +1,6 @@
 //! The policies: three of each tenant.
 ghost use Rattle.std.specs.Prelude.{◌≡◌, IfOk};
-ghost use Rattle.scenario_gen.specs.Policies.{rule_of, policy_of, front_rules, back_rules, management_rules};
+ghost use Rattle.scenario_gen.specs.Policies.{rule_of, front_rules, back_rules, management_rules};
 ghost use Rattle.scenario_gen.specs.Policies.{policies_of};
 
 use crate::listing::OfTenant;

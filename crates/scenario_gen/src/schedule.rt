@@ -1,5 +1,5 @@
 //! The events of a scenario, and the packets that are traced after them.
-ghost use Rattle.std.specs.Prelude.{◌≡◌, ◌≤◌, ◌<◌, IfOk};
+ghost use Rattle.std.specs.Prelude.{◌≡◌, ◌<◌, IfOk};
 ghost use Rattle.scenario_gen.specs.Schedule.{events, asked_port, packet};
 
 use crate::listing::Numbered;

@@ -1,5 +1,4 @@
 //! The services, two of each tenant, and the chains of them.
-ghost use Rattle.std.specs.Prelude.{◌≡◌, IfOk};
 ghost use Rattle.scenario_gen.specs.Services.{services_of, chain};
 
 use crate::listing::{Numbered, OfTenant};

@@ -1,5 +1,4 @@
 //! Whole scenarios.
-ghost use Rattle.std.specs.Prelude.{◌≡◌, ◌≤◌, IfOk, IsTrue};
 
 use config_model::{Config, Event, Topology};
 use ov_types::{Items, NoMemory, Packet};

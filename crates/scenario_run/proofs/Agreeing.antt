@@ -1,5 +1,5 @@
 -- In a scenario that is valid each packet has the outcome that policies give.
-use Rattle.std.specs.Prelude.{◌≡◌, ℕ, ◌+◌, List, map, take, length, true}
+use Rattle.std.specs.Prelude.{◌≡◌, ℕ, ◌+◌, map, take, length, true}
 use Rattle.std.specs.declared.option.Option.TheVariants.{None}
 use Rattle.std.proofs.Common.{refl, ap, ◌∙◌}
 use Rattle.ov_types.specs.declared.packet.Packet.{Packet}

@@ -28,6 +28,7 @@ use Rattle.scenario_run.specs.declared.tally.Tally.{Tally}
 use Rattle.scenario_run.specs.Counts.{CountsAnswers, is_delivery, is_trace, rounds_of}
 use Rattle.scenario_run.specs.Tallies.{counted, is_delivered, nothing, one_if, same_outcome, tally, tally_from}
 use Rattle.scenario_run.proofs.Sameness.{same_is_one}
+use Rattle.scenario_run.proofs.Counting.{one_at_most, nothing_more}
 
 -- ---- an answer that is neither that of a settle nor that of a trace
 pub record IsPlain (answer : Answer) : Type 0 where
@@ -59,9 +60,6 @@ later two (Some n) = (two.1, n)
 record CountsOne (t : Tally) (answer : Answer) (t' : Tally) : Type 0 where
   delivered : t'.delivered ≡ t.delivered + one_if (is_delivery answer)
   rounds : t'.rounds ≡ later t.rounds (rounds_of answer)
-
-nothing_more : (k : ℕ) → k ≡ k + 0
-nothing_more k = omega arith
 
 stays : (t : Tally) (answer : Answer) → IsPlain answer → CountsOne t answer t
 stays t answer plain = record {
@@ -158,10 +156,6 @@ agreed_one w written.Round t = nothing_more t.agreed
 agreed_one w written.Settle t = nothing_more t.agreed
 agreed_one w (written.Show name) t = nothing_more t.agreed
 agreed_one w (written.Trace p) t = refl
-
-one_at_most : (b : Bool) → one_if b ≤ 1
-one_at_most true = omega arith
-one_at_most false = omega arith
 
 traces_at_most : (w : Network) (e : Event) → one_if (agrees_here w e) ≤ one_if (is_trace e)
 traces_at_most w (written.Edit e) = omega arith

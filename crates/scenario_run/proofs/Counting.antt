@@ -25,7 +25,7 @@ tally_more w (e ∷ es) fs t =
     let w' = next any_size w (event_of e) in
     tally_more w' es fs (counted w'.setup e (answer_to w (event_of e)) t)
 
-nothing_more : (k : ℕ) → k ≡ k + 0
+pub nothing_more : (k : ℕ) → k ≡ k + 0
 nothing_more k = omega arith
 
 one_more : (k n : ℕ) → (k + 1) + n ≡ k + suc n
@@ -58,7 +58,7 @@ pub record IsFew (t : Tally) (n : ℕ) : Type 0 where
   pub delivered : t.delivered ≤ n
   pub agreed : t.agreed ≤ n
 
-one_at_most : (b : Bool) → one_if b ≤ 1
+pub one_at_most : (b : Bool) → one_if b ≤ 1
 one_at_most true = omega arith
 one_at_most false = omega arith
 

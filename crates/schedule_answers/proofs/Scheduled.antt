@@ -1,5 +1,5 @@
 -- The text of a schedule, event by event.
-use Rattle.std.proofs.Common.{◌≡◌, ℕ, suc, ◌+◌, List, [], ◌∷◌, ◌++◌, map, length, Option, refl, sym, ap, subst, ◌∙◌, arith}
+use Rattle.std.proofs.Common.{◌≡◌, ℕ, suc, ◌+◌, List, [], ◌∷◌, ◌++◌, map, length, Option, sym, ap, subst, ◌∙◌, arith}
 use Rattle.std.proofs.lemmas.List.{append_assoc, append-nil}
 use Rattle.config_check.specs.Checked.{Checked}
 use Rattle.config_model.specs.declared.event.Event.{Event}
@@ -77,10 +77,6 @@ front_steps old mid new before x o ys es e rest all same events is way stop =
     (front_then old mid new [] before (run_text x ys) line way
     (subst (λ es. TookFront mid new (before ++ line_at (length es + 1) (moment x es) e)) events
     (subst (λ o. TookFront mid new (before ++ line_at (length es + 1) (moment o es) e)) same stop))))
-
--- what was taken and what is left is all
-pub one_by_one : (ys : List Event) (e : Event) (old rest all : List Event) → old ≡ e ∷ rest → ys ++ old ≡ all → (ys ++ e ∷ []) ++ rest ≡ all
-one_by_one ys e old rest all is whole = append_assoc ys (e ∷ []) rest ∙ ap (λ es. ys ++ es) (sym is) ∙ whole
 
 -- where all was taken, its text is that of all
 pub way_of_all : (old new : Option (List ℕ)) (gathered : List ℕ) (x : Checked) {ys all : List Event} → ys ≡ all

@@ -1,13 +1,8 @@
 -- The summary of a scenario that was run.
 use Rattle.std.specs.Prelude.{◌≡◌, ◌≤◌, ℕ, List, length}
 use Rattle.std.specs.declared.option.Option.{Option}
-use Rattle.std.specs.declared.option.Option.TheVariants.{None}
 use Rattle.std.specs.Io.KnownBytes.{Appends}
 use Rattle.std.proofs.Common.{refl, sym, ap, subst, ◌∙◌, arith}
-use Rattle.config_check.specs.Checked.{Checked}
-use Rattle.config_check.specs.Rules.{first_broken}
-use Rattle.config_model.specs.declared.config.Config.{Config}
-use Rattle.config_model.specs.declared.topology.Topology.{Topology}
 use Rattle.ov_io.specs.Inputs.{TookFront}
 use Rattle.scenario_gen.specs.Scenario.{scenario}
 use Rattle.scenario_gen.specs.Schedule.{events}
@@ -15,7 +10,7 @@ use Rattle.scenario_run.specs.declared.tally.Tally.{Tally}
 use Rattle.scenario_run.specs.Scheduled.{opening, schedule}
 use Rattle.scenario_run.specs.Tallies.{tally}
 use Rattle.document_answers.specs.declared.unfit.Verdict.TheVariants.{Good}
-use Rattle.document_answers.specs.Answers.{Answer, WasGiven, answer_checked, answer_good}
+use Rattle.document_answers.specs.Answers.{Answer, WasGiven, answer_good}
 use Rattle.schedule_answers.specs.Answers.{gen_answer}
 use Rattle.schedule_answers.specs.Generating.{summary_of, summary_text}
 use Rattle.schedule_answers.proofs.Ending.{gen_promised}
@@ -26,23 +21,6 @@ unfolding scenario events
 schedules_are_short n = let is : length (schedule n) ≡ 45 = refl in omega (arith, is)
 
 -- ---- where nothing is broken, the answer is the summary
-pub scenario_answer : (n : ℕ) (t : Topology) (c : Config) → t ≡ (scenario n).topology → c ≡ (scenario n).config
-    → gen_answer n ≡ answer_checked (first_broken t c) (summary_text n)
-unfolding gen_answer
-scenario_answer n t c topology config =
-    ap (λ t. answer_checked (first_broken t (scenario n).config) (summary_text n)) (sym topology)
-    ∙ ap (λ c. answer_checked (first_broken t c) (summary_text n)) (sym config)
-
-pub nothing_broken : (n : ℕ) (t : Topology) (c : Config) → t ≡ (scenario n).topology → c ≡ (scenario n).config
-    → first_broken t c ≡ None → first_broken (scenario n).topology (scenario n).config ≡ None
-nothing_broken n t c topology config none =
-    ap (λ t. first_broken t (scenario n).config) (sym topology) ∙ ap (first_broken t) (sym config) ∙ none
-
-pub same_opening : (n : ℕ) (x : Checked) (t : Topology) (c : Config) → x ≡ record { topology = t; config = c }
-    → t ≡ (scenario n).topology → c ≡ (scenario n).config → x ≡ opening n
-same_opening n x t c is topology config =
-    is ∙ (λ i. record { topology = topology i; config = config i })
-
 -- ---- what was counted is the scenario's
 text_is : (n : ℕ) (t : Tally) → t ≡ tally (opening n) (schedule n) → gen_answer n ≡ answer_good (summary_text n)
     → summary_of n t ≡ (gen_answer n).text

@@ -6,7 +6,7 @@ use Rattle.config_model.specs.Faults.{Fault}
 use Rattle.config_model.specs.Event.{run_at}
 use Rattle.config_check.specs.Rules.{first_broken}
 use Rattle.document_answers.specs.Answers.{Answer, answer_bad, answer_checked, of_json}
-use Rattle.document_answers.specs.Json.{json_of}
+use Rattle.ov_json.specs.Json.{json_of}
 use Rattle.scenario_gen.specs.Scenario.{scenario}
 use Rattle.schedule_answers.specs.Generating.{summary_text}
 use Rattle.schedule_answers.specs.Schedules.{run_text}

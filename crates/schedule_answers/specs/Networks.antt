@@ -15,7 +15,7 @@ use Rattle.net_machine.specs.NetState.{NetState}
 use Rattle.net_model.specs.Stands.{StandsFor, moment}
 use Rattle.document_answers.specs.declared.unfit.Verdict.{Verdict}
 use Rattle.document_answers.specs.declared.unfit.Verdict.TheVariants.{Good}
-use Rattle.document_answers.specs.Json.{json_of}
+use Rattle.ov_json.specs.Json.{json_of}
 use Rattle.schedule_laws.specs.Compiled.{AreAsCompiled, answers}
 use Rattle.scenario_run.specs.Agreed.{PacketsAgree}
 use Rattle.scenario_run.specs.Scheduled.{opening, schedule}

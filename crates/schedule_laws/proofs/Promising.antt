@@ -14,7 +14,6 @@ use Rattle.network_model.specs.Setup.{longest}
 use Rattle.network_model.specs.Steps.{is_settled}
 use Rattle.schedule_laws.specs.Compiled.{AnswersCompiled, PassesEachOnce}
 use Rattle.schedule_laws.specs.Ends.{SettlesAtOnce}
-use Rattle.schedule_script.specs.declared.answer.Answer.{Answer}
 use Rattle.schedule_script.specs.declared.answer.Answer.TheVariants.{Rounds, Traced}
 
 same_outcome : (o u : Outcome) → Traced o ≡ Traced u → o ≡ u

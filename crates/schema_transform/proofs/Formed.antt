@@ -1,6 +1,6 @@
 -- What validity gives the transformer.
-use Rattle.std.proofs.Common.{◌≡◌, ◌≢◌, ◌&&◌, ◌<◌, ℕ, Bool, true, false, IsTrue, List, None, get_or, length, sym, subst}
-use Rattle.std.specs.List.{All, AllPairs, list_all}
+use Rattle.std.proofs.Common.{◌≡◌, ◌≢◌, ◌&&◌, ◌<◌, ℕ, IsTrue, List, None, get_or, length, sym, subst}
+use Rattle.std.specs.List.{list_all}
 use Rattle.ov_types.specs.Name.{is_name}
 use Rattle.ov_types.proofs.FirstLemmas.{all_here}
 use Rattle.std.specs.Prelude.{nat_le}
@@ -12,22 +12,13 @@ use Rattle.acl_compile.proofs.Kept.{action_form as acts_formed}
 use Rattle.config_model.specs.declared.config.Config.{Config}
 use Rattle.config_model.specs.declared.topology.Topology.{Topology}
 use Rattle.std.proofs.lemmas.Bool.{and_parts}
-use Rattle.std.proofs.lemmas.List.{get_or_default}
 use Rattle.config_check.specs.Rules.{first_broken}
 use Rattle.config_check.specs.Sentences.{IsValid}
 use Rattle.config_check.proofs.Validity.{valid_iff}
 use Rattle.acl_compile.proofs.Bounded.{keeps_bounds}
 use Rattle.transform_model.proofs.Lists.{pairs_of_map}
+use Rattle.transform_model.proofs.Prefixes.{third_of_five, second_of_five}
 use Rattle.schema_transform.specs.Sound.{IsSound}
-
-second_of_five : (a b p d e : Bool) → IsTrue (a && b && p && d && e) → IsTrue b
-second_of_five true b p d e h = (and_parts b p (and_parts (b && p) d (and_parts (b && p && d) e h).0).0).0
-second_of_five false b p d e h = cc
-
-third_of_five : (a b p d e : Bool) → IsTrue (a && b && p && d && e) → IsTrue p
-third_of_five true true p d e h = (and_parts p d (and_parts (p && d) e h).0).0
-third_of_five true false p d e h = cc
-third_of_five false b p d e h = cc
 
 pub ports_formed : (c : Config) → IsSound c → IsTrue (list_all has_port_form c.ports)
 unfolding has_config_form

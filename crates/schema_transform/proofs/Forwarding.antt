@@ -1,5 +1,5 @@
 -- What the rows of agents do, where they are the compiled ones.
-use Rattle.std.proofs.Common.{◌≡◌, ◌≢◌, ◌∙◌, IsTrue, None, ap, sym, subst}
+use Rattle.std.proofs.Common.{◌≡◌, ◌≢◌, ◌∙◌, IsTrue, None, ap, sym}
 use Rattle.ov_types.specs.declared.packet.Outcome.TheVariants.{Dropped}
 use Rattle.ov_types.specs.declared.packet.Packet.{Packet}
 use Rattle.ov_types.specs.declared.packet.Why.TheVariants.{NoLabel, TtlExpired}

@@ -1,7 +1,6 @@
 -- The circuits of low-level objects are those of services.
-use Rattle.std.proofs.Common.{◌≡◌, ◌≤◌, ◌+◌, ℕ, IsTrue, List, None, length, get_or, refl, sym, subst, arith}
-use Rattle.std.specs.Prelude.{filter}
-use Rattle.std.specs.List.{All, Contains}
+use Rattle.std.proofs.Common.{◌≡◌, IsTrue, List, None, get_or, sym, subst, arith}
+use Rattle.std.specs.List.{All}
 use Rattle.std.proofs.lemmas.List.{get_or_default}
 use Rattle.std.proofs.lemmas.List.Elements.{All-filter}
 use Rattle.ov_types.specs.declared.prefix.Addr.{Addr}
@@ -14,9 +13,7 @@ use Rattle.config_check.proofs.Validity.{valid_iff}
 use Rattle.transform_model.specs.Compiled.{concerns, slice_of}
 use Rattle.transform_model.specs.IsObject.{IsObject, of_left_circuit, of_network, of_networks, of_port, of_right_circuit}
 use Rattle.transform_model.specs.IsObject.{of_use}
-use Rattle.transform_model.specs.IsUse.{IsUse}
 use Rattle.transform_model.specs.Objects.{Object, low_objects}
-use Rattle.transform_model.specs.Uses.{Use}
 use Rattle.transform_model.proofs.InUse.{few_services}
 use Rattle.transform_model.proofs.Lists.{place_within}
 use Rattle.transform_model.proofs.LowKeys.{low_is}

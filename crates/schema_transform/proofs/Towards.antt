@@ -1,5 +1,5 @@
 -- What is kept of a list and then put is put for each item in turn.
-use Rattle.std.proofs.Common.{◌≡◌, ◌==◌, ◌||◌, Bool, true, false, List, [], ◌∷◌, ◌++◌, map, cond, refl, ap, ◌∙◌}
+use Rattle.std.proofs.Common.{◌≡◌, ◌==◌, ◌||◌, Bool, true, false, List, [], ◌∷◌, ◌++◌, map, cond, refl, ap}
 use Rattle.std.specs.Prelude.{filter, flat_map}
 use Rattle.ov_types.specs.First.{same_name}
 use Rattle.ov_types.specs.declared.numbers.InstanceId.{InstanceId}
@@ -8,8 +8,8 @@ use Rattle.config_model.specs.declared.config.Config.{Config}
 use Rattle.config_model.specs.declared.config.Network.{Network}
 use Rattle.config_model.specs.declared.topology.Topology.{Topology}
 use Rattle.network_rules.specs.Related.{are_related}
-use Rattle.transform_model.specs.Objects.{Object, acl_object, acl_objects}
-use Rattle.transform_model.specs.Tables.{Row, circuits_in, subnet_rows}
+use Rattle.transform_model.specs.Objects.{acl_object, acl_objects}
+use Rattle.transform_model.specs.Tables.{circuits_in, subnet_rows}
 use Rattle.transform_model.specs.Uses.{Circuit}
 use Rattle.schema_transform.specs.Towards.{acl_towards, rows_if_in}
 

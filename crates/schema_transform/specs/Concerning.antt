@@ -1,5 +1,5 @@
 -- What concerns an agent, by the networks of its ports.
-use Rattle.std.specs.Prelude.{ℕ, ◌==◌, Bool, false, List}
+use Rattle.std.specs.Prelude.{◌==◌, Bool, false, List}
 use Rattle.std.specs.List.{list_any}
 use Rattle.ov_types.specs.declared.numbers.InstanceId.{InstanceId}
 use Rattle.ov_types.specs.declared.objects.LowKey.{LowKey}

@@ -1,5 +1,5 @@
 //! The circuits of a use of a chain.
-ghost use Rattle.std.specs.Prelude.{◌≡◌, ◌≤◌, ◌+◌, ◌++◌, ℕ, length, map, IfOk, OnOk};
+ghost use Rattle.std.specs.Prelude.{◌≡◌, ◌≤◌, ◌+◌, length, map, IfOk};
 ghost use Rattle.transform_model.specs.Uses.{left_circuits_from, right_circuits_from};
 ghost use Rattle.schema_transform.specs.Held.{circuit_of};
 

@@ -1,13 +1,12 @@
 //! Low-level objects.
-ghost use Rattle.std.specs.Prelude.{◌≡◌, ◌||◌, ◌≤◌, ◌++◌, [], filter, flat_map, map, option_map, IfOk, OnOk, IsTrue};
+ghost use Rattle.std.specs.Prelude.{◌≡◌, ◌||◌, [], flat_map, map, IfOk, OnOk, IsTrue};
 ghost use Rattle.std.specs.BTreeMap.{insert_entry};
 ghost use Rattle.std.specs.List.{filter_map, list_all};
 ghost use Rattle.ov_types.specs.Keys.{low_key_cmp};
 ghost use Rattle.config_model.specs.Form.{has_port_form};
 ghost use Rattle.network_rules.specs.Related.{imports};
-ghost use Rattle.config_check.specs.Rules.{group_of};
 ghost use Rattle.acl_compile.specs.Oriented.{ascending};
-ghost use Rattle.transform_model.specs.Objects.{acl_object, acl_objects, attached_circuit, circuit_object};
+ghost use Rattle.transform_model.specs.Objects.{acl_objects, circuit_object};
 ghost use Rattle.transform_model.specs.Objects.{circuit_objects, hop_of, imports_of, instance_object};
 ghost use Rattle.transform_model.specs.Objects.{low_objects, port_object, use_object, with_objects};
 ghost use Rattle.transform_model.specs.Uses.{uses};

@@ -1,9 +1,9 @@
 //! The rows of instances' tables.
-ghost use Rattle.std.specs.Prelude.{◌≡◌, ◌≤◌, ◌==◌, ◌++◌, [], filter, flat_map, map, IfOk, OnOk, IsTrue};
+ghost use Rattle.std.specs.Prelude.{◌≡◌, ◌==◌, [], flat_map, map, IfOk, OnOk, IsTrue};
 ghost use Rattle.std.specs.List.{filter_map, list_all};
 ghost use Rattle.config_model.specs.Form.{has_port_form};
-ghost use Rattle.transform_model.specs.Tables.{circuit_route, circuit_row, circuits_in, end_row, end_rows, holds_port};
-ghost use Rattle.transform_model.specs.Tables.{host_route, hop_rows, instance_table, network_rows, port_row, row_if};
+ghost use Rattle.transform_model.specs.Tables.{circuit_row, circuits_in, end_row, end_rows, holds_port};
+ghost use Rattle.transform_model.specs.Tables.{host_route, hop_rows, instance_table, network_rows, port_row};
 ghost use Rattle.transform_model.specs.Tables.{row_towards, rows_of, subnet_rows, with_rows};
 ghost use Rattle.config_check.specs.Finding.{network_numbered};
 ghost use Rattle.route_targets.specs.Numbers.{circuit_instance_of};
@@ -19,7 +19,7 @@ use config_check::{network_named, network_numbered, node_named};
 use config_model::{Config, Network, Node, Port, Topology};
 use network_rules::imports;
 use ov_types::{ControlRows, InstanceId, Items, NoMemory, Prefix, TableRow};
-use route_targets::{circuit_address, circuit_label, port_label, rd};
+use route_targets::{circuit_address, circuit_instance, circuit_label, port_label, rd};
 use std::alloc::Global;
 use std::collections::BTreeMap;
 
@@ -99,7 +99,7 @@ fn row_towards(
 fn is_in(circuit: &Attachment, instance: InstanceId) -> bool
     ensures { result ≡ ((circuit_instance_of circuit.now.number).0 == instance.0) }
 {
-    circuit.number / 2 == u32::from(instance.0)
+    circuit_instance(circuit.number).0 == instance.0
 }
 
 /// The host route of a circuit.

@@ -4,9 +4,8 @@ ghost use Rattle.std.specs.Prelude.{IsTrue, option_to_list};
 ghost use Rattle.std.specs.List.{filter_map, list_all};
 ghost use Rattle.config_model.specs.Form.{has_action_form, has_rule_form};
 ghost use Rattle.chain_expand.specs.Expansion.{expansion};
-ghost use Rattle.transform_model.specs.Uses.{left_circuits_from, network_at, right_circuits_from, use_between, use_by};
+ghost use Rattle.transform_model.specs.Uses.{network_at, use_between, use_by};
 ghost use Rattle.transform_model.specs.Uses.{uses, uses_of};
-ghost use Rattle.schema_transform.specs.Held.{circuit_of};
 ghost use Rattle.schema_transform.specs.HeldUses.{use_of};
 ghost use Rattle.schema_transform.specs.Sound.{IsSound};
 

@@ -1,12 +1,9 @@
 -- The uses of a configuration are those in effect, each of its own number.
 use Rattle.std.proofs.Common.{◌≡◌, ◌≢◌, ◌↔◌, inl, inr, ◌&&◌, ◌+◌, ◌≤◌, ℕ, zero, suc, IsTrue, List, [], ◌∷◌, length, map, Option, Some, None, get_or, refl, sym, ap, ◌∙◌, subst, arith}
-use Rattle.std.specs.Bool.{Decides}
-use Rattle.std.specs.Cmp.Lexicographic.{same_text, nat_list_eq_equiv}
 use Rattle.std.specs.List.{AllPairs, Contains, flat_map}
 use Rattle.std.specs.Option.{option_map_or}
 use Rattle.std.proofs.lemmas.Bool.{and_parts, and_from}
 use Rattle.std.proofs.lemmas.List.Elements.{All-contains}
-use Rattle.std.proofs.lemmas.Map.Views.{list_any-from_Contains, Contains-from_any}
 use Rattle.ov_types.specs.First.{same_name}
 use Rattle.ov_types.proofs.FirstLemmas.{same_name_iff, found_is}
 use Rattle.config_model.specs.declared.config.Action.{Action}
@@ -30,21 +27,17 @@ use Rattle.config_check.specs.Rules.{use_of, chain_names, network_names}
 use Rattle.config_check.specs.Sentences.{IsValid, IsAround, NamesTwo, EndExists, ChainExists}
 use Rattle.config_check.proofs.Finders.{finds_network_named}
 use Rattle.config_check.proofs.OneHome.{two_among}
+use Rattle.network_rules.proofs.Standing.{attaches_iff}
 use Rattle.transform_model.specs.IsUse.{IsUse}
 use Rattle.transform_model.specs.Uses.{Use, network_at, use_between, use_by, uses_of, uses}
-use Rattle.transform_model.proofs.Lists.{given, gives, is_joined, joined_is, mapped_is, some_if, is_some, at_place, pairs_joined_by, pairs_given_by, pairs_in_part, pairs_of_parts, pairs_mapped, pairs_ungiven, Across}
+use Rattle.network_rules.proofs.Lists.{is_joined, joined_is, mapped_is}
+use Rattle.transform_model.proofs.Lists.{given, gives, some_if, is_some, at_place, pairs_joined_by, pairs_given_by, pairs_in_part, pairs_of_parts, pairs_mapped, pairs_ungiven, Across}
 
 -- the network of a name
 pub named : (c : Config) (name : List ℕ) (a : Network) → network_named c name ≡ Some a → (a.name ≡ name) × Contains c.networks a
 named c name a h =
     let f = found_is (λ (x : Network). same_name x.name name) c.networks a h in
     ((same_name_iff a.name name).0 f.0, f.1)
-
-attaches_iff : (n : Network) (p : Policy) → Decides (attaches n p) (Contains n.policies p.name)
-attaches_iff n p = (
-  Contains-from_any (λ x y h. same_text x y (sym h)) p.name n.policies,
-  list_any-from_Contains nat_list_eq_equiv p.name n.policies,
-)
 
 -- ---- what is a use is in effect
 

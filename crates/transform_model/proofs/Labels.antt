@@ -1,7 +1,7 @@
 -- In a valid configuration an agent has exactly the labels of the ports and circuits at its node, and rows lead by them.
 use Rattle.std.proofs.Common.{◌≡◌, ◌↔◌, ◌⊎◌, inl, inr, ◌==◌, ℕ, true, IsTrue, Option, Some, None, refl, sym, ap, ◌∙◌, subst}
 use Rattle.std.specs.List.{Contains}
-use Rattle.std.proofs.lemmas.Bool.{eqb-true, eq-eqb}
+use Rattle.std.proofs.lemmas.Bool.{eq-eqb}
 use Rattle.ov_types.specs.Prefix.{Block, host_prefix}
 use Rattle.ov_types.specs.declared.numbers.InstanceId.{InstanceId}
 use Rattle.ov_types.specs.declared.numbers.Label.{Label}
@@ -27,12 +27,11 @@ use Rattle.transform_model.specs.Objects.{Object, attached_port, attached_circui
 use Rattle.transform_model.specs.Tables.{Row, host_route, circuit_route, instance_table}
 use Rattle.transform_model.specs.Uses.{Use, Circuit}
 use Rattle.transform_model.proofs.Circuits.{left_instance, right_instance}
-use Rattle.transform_model.proofs.Lists.{given, gives, kept_is, is_kept}
+use Rattle.network_rules.proofs.Lists.{kept_is, is_kept}
+use Rattle.transform_model.proofs.Lists.{given, gives}
 use Rattle.transform_model.proofs.LowKeys.{low_is, is_low}
 use Rattle.transform_model.proofs.Rows.{row_is, is_row}
-
-same_address : (a b : Addr) → IsTrue (a.0 == b.0) → b ≡ a
-same_address a b h = λ k. record { 0 = sym (eqb-true a.0 b.0 h) k }
+use Rattle.transform_model.proofs.Needed.{same_address}
 
 abbrev told : Object → Option (Label × Attached)
 told o = attached o.0 o.1

@@ -1,10 +1,11 @@
 -- Items of one list, and what a function gives of them.
 use Rattle.std.proofs.Common.{◌≡◌, inl, inr, ◌||◌, ◌<◌, ℕ, zero, suc, Bool, true, false, cond, IsTrue, List, [], ◌∷◌, ◌++◌, length, map, flat_map, Option, Some, None, option_map, get_or, refl, sym, ap, ◌∙◌, subst, arith}
-use Rattle.std.specs.List.{All, AllPairs, Contains, filter, filter_map, cons_option, list_any, slice_get}
+use Rattle.std.specs.List.{All, AllPairs, Contains, filter_map, cons_option, list_any, slice_get}
 use Rattle.std.proofs.lemmas.List.{get_or-map, length-map}
-use Rattle.std.proofs.lemmas.List.Elements.{All-append, All-cons, All-head, All-tail, All-contains, All-filter, filter_passes, Contains-get_or, All-contains_itself, Contains-append_left, Contains-append_right, Contains-append_cases}
+use Rattle.std.proofs.lemmas.List.Elements.{All-append, All-cons, All-head, All-tail, All-contains, Contains-get_or, Contains-append_left, Contains-append_right}
 use Rattle.std.proofs.lemmas.List.Kept.{AllPairs-cons}
 use Rattle.ov_types.proofs.FirstLemmas.{contains_cases, contains_here, contains_later, pairs_head, pairs_tail}
+use Rattle.network_rules.proofs.Lists.{mapped_is, joined_is, is_joined}
 
 pub any_weaker : {A : Type 0} (p q : A → Bool) → ((x : A) → IsTrue (p x) → IsTrue (q x)) → (xs : List A) → IsTrue (list_any p xs) → IsTrue (list_any q xs)
 any_weaker p q weaker [] h = h
@@ -95,66 +96,7 @@ pairs_of_map {A} f R (x ∷ xs) h =
     (λ k d lt. subst (λ y. R (f x) y) (get_or-map f xs k d (f d) lt) (pairs_head R (f x) (map f xs) h k (f d) (simp length-map lt)))
     (pairs_of_map f R xs (pairs_tail R (f x) (map f xs) h))
 
-pub flat_map_map : {A B C : Type 0} (f : B → List C) (g : A → B) (h : A → List C) (xs : List A) → All (λ x. f (g x) ≡ h x) xs
-    → flat_map f (map g xs) ≡ flat_map h xs
-flat_map_map f g h [] all = refl
-flat_map_map {A} f g h (x ∷ xs) all =
-    let S : A → Type 0 = λ y. f (g y) ≡ h y in
-    let first = All-head S x xs all in
-    let rest = flat_map_map f g h xs (All-tail S x xs all) in
-    λ i. first i ++ rest i
-
 -- what stands in lists that are made of others
-
-pub kept_is : {A : Type 0} (g : A → Bool) (xs : List A) (x : A) → Contains (filter g xs) x → Contains xs x × (g x ≡ true)
-kept_is g xs x h = (
-  All-contains (Contains xs) (filter g xs) x (All-filter g (Contains xs) xs (All-contains_itself xs)) h,
-  All-contains (λ y. g y ≡ true) (filter g xs) x (filter_passes g xs) h,
-)
-
-pub is_kept : {A : Type 0} (g : A → Bool) (xs : List A) (x : A) → Contains xs x → g x ≡ true → Contains (filter g xs) x
-is_kept g [] x h passes = h
-is_kept {A} g (y ∷ ys) x h passes =
-    elim (contains_cases y ys x h) [
-      | inl same ↦
-          let here : g y ≡ true = ap g same ∙ passes in
-          rw here (subst (Contains (y ∷ filter g ys)) same (contains_here y (filter g ys)))
-      | inr later ↦
-          let rest : Contains (filter g ys) x = is_kept g ys x later passes in
-          elim (g y) as (λ b. Contains (cond b (y ∷ filter g ys) (filter g ys)) x) [ true ↦ contains_later x y (filter g ys) rest | false ↦ rest ]
-    ]
-
-pub mapped_is : {A B : Type 0} (f : A → B) (xs : List A) (y : B) → Contains (map f xs) y → (x : A) × Contains xs x × (f x ≡ y)
-mapped_is f [] y h = absurd (omega (arith, h.1))
-mapped_is f (x ∷ xs) y h =
-    elim (contains_cases (f x) (map f xs) y h) [
-      | inl same ↦ (x, contains_here x xs, same)
-      | inr later ↦ let q = mapped_is f xs y later in (q.0, contains_later q.0 x xs q.1, q.2)
-    ]
-
-pub is_mapped : {A B : Type 0} (f : A → B) (xs : List A) (x : A) → Contains xs x → Contains (map f xs) (f x)
-is_mapped f [] x h = absurd (omega (arith, h.1))
-is_mapped f (y ∷ ys) x h =
-    elim (contains_cases y ys x h) [
-      | inl same ↦ subst (λ z. Contains (f y ∷ map f ys) (f z)) same (contains_here (f y) (map f ys))
-      | inr later ↦ contains_later (f x) (f y) (map f ys) (is_mapped f ys x later)
-    ]
-
-pub joined_is : {A B : Type 0} (f : B → List A) (bs : List B) (x : A) → Contains (flat_map f bs) x → (b : B) × Contains bs b × Contains (f b) x
-joined_is f [] x h = absurd (omega (arith, h.1))
-joined_is f (b ∷ bs) x h =
-    elim (Contains-append_cases (f b) (flat_map f bs) x h) [
-      | inl here ↦ (b, contains_here b bs, here)
-      | inr later ↦ let q = joined_is f bs x later in (q.0, contains_later q.0 b bs q.1, q.2)
-    ]
-
-pub is_joined : {A B : Type 0} (f : B → List A) (bs : List B) (b : B) (x : A) → Contains bs b → Contains (f b) x → Contains (flat_map f bs) x
-is_joined f [] b x inside h = absurd (omega (arith, inside.1))
-is_joined f (y ∷ ys) b x inside h =
-    elim (contains_cases y ys b inside) [
-      | inl same ↦ Contains-append_left (f y) (flat_map f ys) x (subst (λ z. Contains (f z) x) (sym same) h)
-      | inr later ↦ Contains-append_right (f y) (flat_map f ys) x (is_joined f ys b x later h)
-    ]
 
 -- what stands in a list that is there where a test passes
 pub there_if : {A : Type 0} (b : Bool) (xs : List A) (x : A) → Contains (cond b xs []) x → IsTrue b × Contains xs x

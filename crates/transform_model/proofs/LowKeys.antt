@@ -25,7 +25,8 @@ use Rattle.transform_model.proofs.Circuits as circuit
 use Rattle.transform_model.proofs.InUse.{use_is, uses_differ, few_services}
 use Rattle.transform_model.proofs.InUse as in_use
 use Rattle.transform_model.proofs.Keys.{objects_in_order, objects_added}
-use Rattle.transform_model.proofs.Lists.{given, mapped_is, joined_is, pairs_append_by, pairs_given_by, pairs_joined_by, pairs_mapped, pairs_of_map, pairs_weaker, place_within}
+use Rattle.network_rules.proofs.Lists.{mapped_is, joined_is}
+use Rattle.transform_model.proofs.Lists.{given, pairs_append_by, pairs_given_by, pairs_joined_by, pairs_mapped, pairs_of_map, pairs_weaker, place_within}
 use Rattle.transform_model.proofs.Objects.{from_port, from_circuit, instance_part, port_part, circuit_part, acl_part, use_part, object_is, is_object}
 use Rattle.transform_model.proofs.Prefixes.{port_number}
 

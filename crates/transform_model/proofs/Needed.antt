@@ -46,7 +46,8 @@ use Rattle.transform_model.specs.Objects.{Object, acl_object, attached_circuit, 
 use Rattle.transform_model.specs.Uses.{Use}
 use Rattle.transform_model.proofs.Circuits.{left_instance, right_instance}
 use Rattle.transform_model.proofs.InUse.{numbered, among_all, ends_related}
-use Rattle.transform_model.proofs.Lists.{given, gives, is_joined, joined_is, is_kept, kept_is, is_some, is_there, some_if, at_place, place_within}
+use Rattle.network_rules.proofs.Lists.{is_joined, joined_is, is_kept, kept_is}
+use Rattle.transform_model.proofs.Lists.{given, gives, is_some, is_there, some_if, at_place, place_within}
 use Rattle.transform_model.proofs.LowKeys.{low_is, is_low}
 use Rattle.transform_model.proofs.Objects.{one_numbered}
 

@@ -33,7 +33,8 @@ use Rattle.transform_model.specs.Uses.{Use, Circuit, uses, left_circuits, right_
 use Rattle.transform_model.proofs.Ascending.{ascending_is, is_ascending, ascending_rises, one_list}
 use Rattle.transform_model.proofs.Circuits.{left_is, is_left, right_is, is_right}
 use Rattle.transform_model.proofs.InUse.{named, use_is, is_use, services_are}
-use Rattle.transform_model.proofs.Lists.{given, gives, kept_is, is_kept, mapped_is, is_mapped, joined_is, is_joined, mapped_some}
+use Rattle.network_rules.proofs.Lists.{kept_is, is_kept, mapped_is, is_mapped, joined_is, is_joined}
+use Rattle.transform_model.proofs.Lists.{given, gives, mapped_some}
 use Rattle.transform_model.proofs.Rows.{node_is, is_node}
 
 -- ---- instances

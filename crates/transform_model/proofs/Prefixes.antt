@@ -29,7 +29,7 @@ use Rattle.config_check.proofs.Circuits.{circuits_iff}
 use Rattle.config_check.proofs.Finders.{finds_network_named}
 use Rattle.config_check.proofs.Iffs.{list_all_true}
 use Rattle.config_check.proofs.Nested.{overlap_at}
-use Rattle.config_check.proofs.OneHome.{HasBlocks, blocks_of, meet, one_home, two_among}
+use Rattle.config_check.proofs.OneHome.{HasBlocks, blocks_of, meet, one_home, two_among, networks_have_form}
 use Rattle.transform_model.specs.IsUse.{IsUse}
 use Rattle.transform_model.specs.Tables.{Row, port_row, network_rows, rows_of, row_towards, circuits_in, circuit_row, holds_port, held_subnets, subnet_rows, end_row, end_rows, hop_rows, instance_table}
 use Rattle.transform_model.specs.Uses.{Use, Circuit, uses, first_hop, last_hop, left_circuits, right_circuits}
@@ -37,7 +37,8 @@ use Rattle.transform_model.proofs.Circuits as circuit
 use Rattle.transform_model.proofs.Circuits.{left_number, right_number, lefts_differ, rights_differ, circuits_differ}
 use Rattle.transform_model.proofs.InUse.{named, few_services, ends_differ, around_right, use_is, uses_differ}
 use Rattle.transform_model.proofs.InUse as in_use
-use Rattle.transform_model.proofs.Lists.{given, no_pairs, pairs_append_by, pairs_given_by, pairs_joined_by, place_within, joined_is}
+use Rattle.network_rules.proofs.Lists.{joined_is}
+use Rattle.transform_model.proofs.Lists.{given, no_pairs, pairs_append_by, pairs_given_by, pairs_joined_by, place_within}
 use Rattle.transform_model.proofs.Related.{is_around}
 use Rattle.transform_model.proofs.Rows.{from_port, from_network, towards, LeftIn, RightIn, left_in, right_in, either_in, AtEnd, at_end, TowardsSubnet, towards_subnet, circuit_part, right_part, left_part, first_part, last_part, is_in}
 
@@ -46,7 +47,7 @@ Apart r s = r.0.1 ≢ s.0.1
 
 -- ---- the written form bounds numbers
 
-third_of_five : (a b p d e : Bool) → IsTrue (a && b && p && d && e) → IsTrue p
+pub third_of_five : (a b p d e : Bool) → IsTrue (a && b && p && d && e) → IsTrue p
 third_of_five true true p d e h = (and_parts p d (and_parts (p && d) e h).0).0
 third_of_five true false p d e h = cc
 third_of_five false b p d e h = cc
@@ -55,7 +56,7 @@ first_of_five : (a b p d e : Bool) → IsTrue (a && b && p && d && e) → IsTrue
 first_of_five true b p d e h = refl
 first_of_five false b p d e h = h
 
-second_of_five : (a b p d e : Bool) → IsTrue (a && b && p && d && e) → IsTrue b
+pub second_of_five : (a b p d e : Bool) → IsTrue (a && b && p && d && e) → IsTrue b
 second_of_five true b p d e h = (and_parts b p (and_parts (b && p) d (and_parts (b && p && d) e h).0).0).0
 second_of_five false b p d e h = cc
 
@@ -98,13 +99,6 @@ use_number c u form h =
     let action : IsTrue (has_action_form (Through h.chain u.number)) = subst (λ (a : Action). IsTrue (has_action_form a)) h.leads (action_form h.rule rule) in
     leb-true u.number 3071 (and_parts (is_name h.chain) (nat_le u.number 3071) action).1
 
-networks_form : (c : Config) → IsTrue (has_config_form c) → All (λ n. IsTrue (has_network_form n)) c.networks
-unfolding has_config_form
-networks_form c h =
-    (list_all_true has_network_form c.networks).0
-    (first_of_five (list_all has_network_form c.networks) (list_all has_port_form c.ports) (list_all has_policy_form c.policies)
-    (list_all has_service_form c.services) (list_all has_chain_form c.chains) h)
-
 number_of : (n : Network) → IsTrue (has_network_form n) → n.id.0 ≤ 16383
 unfolding has_network_form
 number_of n h =
@@ -112,7 +106,7 @@ number_of n h =
     leb-true n.id.0 16383 (and_parts (nat_le 1 n.id.0) (nat_le n.id.0 16383) range).1
 
 pub network_number : (c : Config) (n : Network) → IsTrue (has_config_form c) → Contains c.networks n → n.id.0 ≤ 16383
-network_number c n form within = number_of n (All-contains (λ (m : Network). IsTrue (has_network_form m)) c.networks n (networks_form c form) within)
+network_number c n form within = number_of n (All-contains (λ (m : Network). IsTrue (has_network_form m)) c.networks n (networks_have_form c form) within)
 
 ports_form : (c : Config) → IsTrue (has_config_form c) → All (λ p. IsTrue (has_port_form p)) c.ports
 unfolding has_config_form

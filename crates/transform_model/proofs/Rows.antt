@@ -27,7 +27,8 @@ use Rattle.transform_model.specs.Tables.{Row, host_route, row_if, port_row, netw
 use Rattle.transform_model.specs.Uses.{Use, Circuit, uses, first_hop, last_hop, left_circuits, right_circuits}
 use Rattle.transform_model.proofs.Circuits.{left_is, is_left, right_is, is_right, left_instance, right_instance}
 use Rattle.transform_model.proofs.InUse.{named, use_is, is_use}
-use Rattle.transform_model.proofs.Lists.{given, gives, joined_is, is_joined, kept_is, is_kept, there_if, is_there, mapped_some}
+use Rattle.network_rules.proofs.Lists.{joined_is, is_joined, kept_is, is_kept}
+use Rattle.transform_model.proofs.Lists.{given, gives, there_if, is_there, mapped_some}
 
 -- ---- nodes
 

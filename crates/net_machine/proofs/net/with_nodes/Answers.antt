@@ -1,10 +1,7 @@
-use Rattle.std.proofs.Common.{List, [], map, sym, ◌∙◌, ap, subst}
+use Rattle.std.proofs.Common.{List, [], sym, subst}
 use Rattle.config_model.specs.declared.event.Event.{Event}
-use Rattle.config_check.specs.Checked.{Checked}
-use Rattle.net_model.specs.Seats.{whos}
 use Rattle.compiled_laws.specs.Moments.{SettlesInTime}
-use Rattle.net_model.specs.Stands.{StandsFor, any_size, moment}
-use Rattle.net_model.specs.Steps.{fresh_seat}
+use Rattle.net_model.specs.Stands.{any_size, moment}
 use Rattle.net_machine.specs.Running.{IsRunning}
 use Rattle.net_machine.proofs.Promised.{moment_rounds}
 use Rattle.net_machine.proofs.Ran.{start_long, start_runs, start_stands}

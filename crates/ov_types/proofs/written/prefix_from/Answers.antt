@@ -1,4 +1,4 @@
-use Rattle.std.proofs.Common.{◌≡◌, sym, ◌∙◌, None}
+use Rattle.std.proofs.Common.{◌∙◌, None}
 use Rattle.std.proofs.lemmas.Str.Pattern.{split_once_first}
 use Rattle.ov_types.specs.Written.{block_of}
 use Rattle.ov_types.proofs.Lengths.{no_slash}

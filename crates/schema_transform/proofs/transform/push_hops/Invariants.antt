@@ -1,4 +1,4 @@
-use Rattle.std.proofs.Common.{◌≡◌, drop}
+use Rattle.std.proofs.Common.{◌≡◌}
 use Rattle.std.specs.Prelude.{◌++◌}
 use Rattle.transform_model.specs.Uses.{hops_from}
 use Rattle.schema_transform.proofs.transform.push_hops.Given as goal
