@@ -16,6 +16,7 @@ import sys
 EXAMPLES = os.path.join(os.path.dirname(os.path.dirname(os.path.abspath(__file__))), "examples")
 USAGE = b"""usage: overlay compile < DOCUMENT
        overlay reach < DOCUMENT
+       overlay scale < DOCUMENT
        overlay run < DOCUMENT
        overlay decode < DIGITS
        overlay gen NUMBER
