@@ -17,6 +17,7 @@ EXAMPLES = os.path.join(os.path.dirname(os.path.dirname(os.path.abspath(__file__
 USAGE = b"""usage: overlay compile < DOCUMENT
        overlay reach < DOCUMENT
        overlay scale < DOCUMENT
+       overlay graceful < DOCUMENT
        overlay run < DOCUMENT
        overlay decode < DIGITS
        overlay gen NUMBER

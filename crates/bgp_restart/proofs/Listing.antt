@@ -6,6 +6,7 @@ use Rattle.std.specs.Ordering.{eq_by_cmp, is_eq}
 use Rattle.std.specs.Cmp.{Equal-is}
 use Rattle.std.specs.FinMap.{FinMap, get, insert, get-empty, get-insert}
 use Rattle.std.proofs.Common.{refl, sym, ◌∙◌, ap}
+use Rattle.std.proofs.lemmas.List.{append-nil, append_assoc}
 use Rattle.ov_types.specs.declared.vpn.VpnKey.{VpnKey}
 use Rattle.ov_types.specs.declared.vpn.VpnRoute.{VpnRoute}
 use Rattle.ov_sync.proofs.Ascending.{Over}
@@ -58,13 +59,7 @@ if_ok P Q (Err e) f h = h
 -- one row after another
 pub row_more : {A B : Type 0} (f : A → B) (done now : List B) (rest after : List A) (x : A) (w : List B) → rest ≡ x ∷ after → now ≡ done ++ f x ∷ [] → done ++ map f rest ≡ w → now ++ map f after ≡ w
 row_more f done now rest after x w is more so =
-    ap (λ ys. ys ++ map f after) more ∙ append-assoc done (f x ∷ []) (map f after) ∙ ap (λ xs. done ++ map f xs) (sym is) ∙ so where
-      append-assoc : {C : Type 0} (a b c : List C) → (a ++ b) ++ c ≡ a ++ (b ++ c)
-      append-assoc [] b c = refl
-      append-assoc (y ∷ a) b c = ap (λ ys. y ∷ ys) (append-assoc a b c)
+    ap (λ ys. ys ++ map f after) more ∙ append_assoc done (f x ∷ []) (map f after) ∙ ap (λ xs. done ++ map f xs) (sym is) ∙ so
 
 pub rows_done : {A B : Type 0} (f : A → B) (done : List B) (rest : List A) (w : List B) → rest ≡ [] → done ++ map f rest ≡ w → done ≡ w
-rows_done f done rest w is so = sym (none done) ∙ ap (λ xs. done ++ map f xs) (sym is) ∙ so where
-  none : {C : Type 0} (a : List C) → a ++ [] ≡ a
-  none [] = refl
-  none (y ∷ a) = ap (λ ys. y ∷ ys) (none a)
+rows_done f done rest w is so = sym (append-nil done) ∙ ap (λ xs. done ++ map f xs) (sym is) ∙ so

@@ -8,6 +8,7 @@ use Rattle.std.specs.Cmp.{IsTotalOrder, on_total}
 use Rattle.std.specs.Cmp.Lexicographic.{slice_cmp, nat_list_cmp_total}
 use Rattle.std.specs.FinMap.{FinMap, IsAntisymmetric, get, get-insert, get-remove, slice_cmp-IsAntisymmetric, nat_cmp-IsAntisymmetric}
 use Rattle.std.proofs.Common.{refl, sym, ◌∙◌, ap, subst, rules}
+use Rattle.std.proofs.Math.Bool.{or-false}
 use Rattle.ov_types.specs.declared.vpn.VpnKey.{VpnKey}
 use Rattle.ov_types.specs.declared.vpn.VpnRoute.{VpnRoute}
 use Rattle.ov_sync.specs.declared.Delta.{Delta}
@@ -72,10 +73,7 @@ own_none ds k e = none (last_change ds k) (sym (changed_last ds k) ∙ e) where
 
 -- more changes behind
 pub changed-append : (ds es : Deltas) (k : VpnKey) → is_changed key_order (ds ++ es) k ≡ (is_changed key_order es k || is_changed key_order ds k)
-changed-append [] es k = more (is_changed key_order es k) where
-  more : (b : Bool) → b ≡ (b || false)
-  more true = refl
-  more false = refl
+changed-append [] es k = sym (or-false (is_changed key_order es k))
 changed-append (d ∷ ds) es k = ap (λ b. eq_by_cmp key_order k (key_of d) || b) (changed-append ds es k) ∙ turned (eq_by_cmp key_order k (key_of d)) (is_changed key_order es k) (is_changed key_order ds k) where
   turned : (a b c : Bool) → (a || (b || c)) ≡ (b || (a || c))
   turned true true c = refl

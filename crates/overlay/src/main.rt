@@ -1,5 +1,6 @@
 //! The program `overlay`: the tables that a configuration asks for, what becomes of packets and which members of
-//! services they visit, what the events of a schedule answer, what BGP messages say, and what scenarios come to.
+//! services they visit, which routes of a BGP peer are held over its restart, what the events of a schedule answer, what
+//! BGP messages say, and what scenarios come to.
 #![tactic(auto)]
 
 ghost use Rattle.std.specs.Prelude.{◌≡◌, ◌≢◌, ◌↔◌, ◌⊎◌};
@@ -18,6 +19,7 @@ use top_call::{Status, overlay};
 const USAGE: &str = "usage: overlay compile < DOCUMENT
        overlay reach < DOCUMENT
        overlay scale < DOCUMENT
+       overlay graceful < DOCUMENT
        overlay run < DOCUMENT
        overlay decode < DIGITS
        overlay gen NUMBER

@@ -4,11 +4,12 @@ use Rattle.std.specs.declared.option.Option.{Option}
 use Rattle.std.specs.declared.option.Option.TheVariants.{Some, None}
 use Rattle.std.specs.declared.result.Result.{Result}
 use Rattle.ov_io.specs.declared.pieces.WriteRefusal.{WriteRefusal}
+use Rattle.restart_answers.specs.Answers.{TookLog}
 use Rattle.net_machine.specs.NetState.{NetState}
 use Rattle.document_answers.specs.declared.unfit.Verdict.{Verdict}
 use Rattle.schedule_answers.specs.Networks.{IsLeftOf, IsLeftOfScenario, LeftOn, PromisedOn, TookAnswers, TookSummary}
 use Rattle.top_call.specs.declared.command.Command.{Command}
-use Rattle.top_call.specs.declared.command.Command.TheVariants.{Run, Gen}
+use Rattle.top_call.specs.declared.command.Command.TheVariants.{Graceful, Run, Gen}
 
 -- only these two leave a network
 abbrev pub Leaves : Command → List ℕ → Option NetState → Type 0
@@ -27,6 +28,7 @@ abbrev pub LeavesOn : Command → List ℕ → Result Verdict WriteRefusal → O
 LeavesOn command octets result left = LeftOn (Leaves command octets) result left
 
 abbrev pub Promises : Command → List ℕ → Option (List ℕ) → Option (List ℕ) → Type 0
+Promises Graceful octets old new = TookLog octets old new
 Promises Run octets old new = TookAnswers octets old new
 Promises (Gen n) octets old new = TookSummary n old new
 Promises command octets old new = ⊤

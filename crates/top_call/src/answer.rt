@@ -10,6 +10,7 @@ use document_answers::{Verdict, answer_compile, answer_reach};
 use message_answers::answer_decode;
 use net_machine::Net;
 use ov_io::{Sink, WriteRefusal};
+use restart_answers::answer_graceful;
 use scale_answers::answer_scale;
 use schedule_answers::{answer_gen, answer_run};
 use std::alloc::Global;
@@ -29,6 +30,7 @@ pub(crate) fn answer<K: Sink>(
     ensures verdict { IfOk result (λ verdict. verdict ≡ verdict_of command octets.now) }
     ensures digits { command ≡ Command.Decode
         → IfOk result (λ verdict. (verdict ≢ Verdict.BadDocument) × (verdict ≢ Verdict.Refused)) }
+    ensures log { command ≡ Command.Graceful → IfOk result (λ verdict. verdict ≢ Verdict.Refused) }
     ensures written { OnOk result (TookText (Writes command octets.now) (K.taken sink.old) (K.taken sink.new)) }
     ensures front { OnErr result (TookFrontOf (Writes command octets.now) (K.taken sink.old) (K.taken sink.new)) }
     ensures cause { HasWriteCause (K.faults sink.old) (K.faults sink.new) result }
@@ -39,6 +41,7 @@ pub(crate) fn answer<K: Sink>(
         Command::Compile => answer_compile(alloc, octets, sink),
         Command::Reach => answer_reach(alloc, octets, sink),
         Command::Scale => answer_scale(alloc, octets, sink),
+        Command::Graceful => answer_graceful(alloc, octets, sink),
         Command::Run => answer_run(alloc, octets, sink, net),
         Command::Decode => answer_decode(alloc, octets, sink),
         Command::Gen(n) => answer_gen(alloc, n, sink, net),

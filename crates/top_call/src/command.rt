@@ -12,6 +12,8 @@ pub(crate) enum Command {
     Reach,
     /// What becomes of packets, with the member of each service that they visit.
     Scale,
+    /// What the log of a session with a BGP peer answers, and which of its routes are held over a restart.
+    Graceful,
     /// What the events of a schedule answer.
     Run,
     /// What BGP messages say that are spelled in hexadecimal digits.
@@ -41,6 +43,7 @@ fn named(word: &str) -> Option<Command>
         "compile" => Some(Command::Compile),
         "reach" => Some(Command::Reach),
         "scale" => Some(Command::Scale),
+        "graceful" => Some(Command::Graceful),
         "run" => Some(Command::Run),
         "decode" => Some(Command::Decode),
         _ => None,

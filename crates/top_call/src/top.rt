@@ -81,6 +81,7 @@ pub fn overlay<S: Source, K: Sink>(
         → OfInput (command_of words.now) (S.left source.old) (IsFound MAX_INPUT_OCTETS Verdict.Good) }
     ensures digits { command_of words.now ≡ Some Command.Decode
         → (result ≢ Status.BadDocument) × (result ≢ Status.Refused) }
+    ensures log { command_of words.now ≡ Some Command.Graceful → result ≢ Status.Refused }
 
     // What is written.
     ensures written { IsWritten result → OfInput (command_of words.now) (S.left source.old)
@@ -89,7 +90,7 @@ pub fn overlay<S: Source, K: Sink>(
         (λ command octets. TookFrontOf (Writes command octets) (K.taken sink.old) (K.taken sink.new)) }
     ensures silent { IsSilent result → sink.new ≡ sink.old }
 
-    // What `run` and `gen` promise of their answers, and the network that they leave.
+    // What `graceful`, `run` and `gen` promise of their answers, and the network that `run` and `gen` leave.
     ensures promise { result ≡ Status.Done → OfInput (command_of words.now) (S.left source.old)
         (λ command octets. Promises command octets (K.taken sink.old) (K.taken sink.new)) }
     ensures network { result ≡ Status.Done → OfInput (command_of words.now) (S.left source.old)
