@@ -1,0 +1,52 @@
+-- Ties only grow, and a configuration that breaks none is as the ties with it have it.
+use Rattle.std.proofs.Common.{◌≡◌, Option, Some, None, ap, refl}
+use Rattle.std.proofs.lemmas.Bool.{or_left, or_right}
+use Rattle.ov_types.specs.First.{◌<|>◌}
+use Rattle.config_model.specs.declared.config.Config.{Config}
+use Rattle.config_model.specs.declared.topology.Topology.{Topology}
+use Rattle.config_check.specs.Sentences.{IsValid}
+use Rattle.config_ties.specs.Ties.{BreaksNone, Grows, IsTiedBy, Ties}
+use Rattle.config_ties.specs.Tying.{joined, no_ties, port_network, relates, use_networks}
+use Rattle.config_ties.proofs.Having.{port_iff, relates_iff, use_iff}
+
+pub grows_itself : (t : Ties) → Grows t t
+grows_itself t = record { ports = λ p n e. e; uses = λ u n e. e; related = λ a b e. e }
+
+pub grows_on : (r s t : Ties) → Grows r s → Grows s t → Grows r t
+grows_on r s t f g = record { ports = λ p n e. g.ports p n (f.ports p n e); uses = λ u n e. g.uses u n (f.uses u n e); related = λ a b e. g.related a b (f.related a b e) }
+
+first_stays : {A : Type 0} (o r : Option A) (n : A) → o ≡ Some n → (o <|> r) ≡ Some n
+first_stays (Some m) r n e = e
+first_stays None r n e = cc
+
+pub joined_grows : (t : Ties) (c : Config) → Grows t (joined t c)
+joined_grows t c = record {
+  ports = λ p n e. first_stays (t.port p) (port_network c p) n e;
+  uses = λ u n e. first_stays (t.chain_use u) (use_networks c u) n e;
+  related = λ a b e. or_left (t.was_related a b) (relates c a b) e;
+}
+
+pub tied_grows : (s t : Ties) (c : Config) → Grows s t → IsTiedBy s c → IsTiedBy t c
+tied_grows s t c g h = record {
+  ports = λ p n has. g.ports p n (h.ports p n has);
+  uses = λ u pair has. g.uses u pair (h.uses u pair has);
+  related = λ a b has. g.related a b (h.related a b has);
+}
+
+-- a number has the tie that it has by now, or by the configuration
+either_is : {A : Type 0} (o r : Option A) (n : A) → r ≡ Some n → ((m : A) → o ≡ Some m → m ≡ n) → (o <|> r) ≡ Some n
+either_is (Some m) r n e h = ap Some (h m refl)
+either_is None r n e h = e
+
+pub joined_tied : (s : Topology) (t : Ties) (c : Config) → IsValid s c → BreaksNone t c → IsTiedBy (joined t c) c
+joined_tied s t c v keeps = record {
+  ports = λ p n has. either_is (t.port p) (port_network c p) n ((port_iff s c v p n).1 has) (λ m e. keeps.ports p m n e has);
+  uses = λ u pair has. either_is (t.chain_use u) (use_networks c u) pair ((use_iff s c v u pair).1 has) (λ m e. keeps.uses u m pair e has);
+  related = λ a b has. or_right (t.was_related a b) (relates c a b) ((relates_iff c a b).1 has);
+}
+
+pub breaks_nothing : (c : Config) → BreaksNone no_ties c
+breaks_nothing c = record { ports = λ p m n e has. never m e; uses = λ u m n e has. never m e }
+  where
+    never : {A B : Type 0} (m : A) → None ≡ Some m → B
+    never m e = cc

@@ -1,0 +1,5 @@
+-- Lemmas, in the order in which they stand on each other.
+pub mod Lists
+pub mod Having
+pub mod Growing
+pub mod Broken

@@ -1,0 +1,4 @@
+//! Ties: what the configurations of a run agree on.
+#![tactic(auto)]
+
+pub mod laws;

@@ -1,0 +1,21 @@
+-- Lemmas, in the order in which they stand on each other.
+pub mod Labels
+pub mod Imports
+pub mod Control
+pub mod Agents
+pub mod Wants
+pub mod Circuits
+pub mod Entered
+pub mod Objects
+pub mod Edited
+pub mod Moments
+pub mod Found
+pub mod Verdicts
+pub mod Walk
+pub mod Runs
+pub mod Come
+pub mod Refused
+pub mod Yet
+pub mod AtOnce
+pub mod Untied
+pub mod Past
