@@ -143,7 +143,7 @@ module _ {K V : Type 0} (R : K → K → Ordering) where
         same_entries_map _ _ (entries-map_of n.entries (ascends n.entries sorted') ∙ e ∙ put-insert_entry k v m.entries
         ∙ ap (put R k v) (sym (entries-map_of m.entries (ascends m.entries sorted))) ∙ sym (entries-insert o (map_of R m.entries) k v))
 
-    turned : (k q : K) (a b : Option V) → cond (eq_by_cmp R k q) a b ≡ cond (eq_by_cmp R q k) a b
+    pub turned : (k q : K) (a b : Option V) → cond (eq_by_cmp R k q) a b ≡ cond (eq_by_cmp R q k) a b
     turned k q a b = ap (λ t. cond t a b) ((eq_by_cmp_equiv o).symm k q)
 
     -- the entry at a key taken out

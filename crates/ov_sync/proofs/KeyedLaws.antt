@@ -42,7 +42,7 @@ stays : {X : Type 0} (b : Bool) (x y : X) → (b ≡ true → x ≡ y) → x ≡
 stays true x y h = h refl
 stays false x y h = refl
 
-neither : (b c : Bool) → (b || c) ≡ false → (b ≡ false) × (c ≡ false)
+pub neither : (b c : Bool) → (b || c) ≡ false → (b ≡ false) × (c ≡ false)
 neither true c e = absurd (true≢false e)
 neither false c e = (refl, e)
 
@@ -58,7 +58,7 @@ later_wins None (Some w) = refl
 later_wins (Some a) None = refl
 later_wins (Some a) (Some w) = refl
 
-two_steps : {X : Type 0} (b c : Bool) (w m m' : X) → m' ≡ cond b w m → cond c w m' ≡ cond (b || c) w m
+pub two_steps : {X : Type 0} (b c : Bool) (w m m' : X) → m' ≡ cond b w m → cond c w m' ≡ cond (b || c) w m
 two_steps true true w m m' e = refl
 two_steps true false w m m' e = e
 two_steps false c w m m' e = ap (cond c w) e
@@ -95,7 +95,7 @@ module _ {K V : Type 0} {R : K → K → Ordering} (same : V → V → Bool) (o 
       ∙ told_by sent wanted q ks m' next ∙ two_steps (eq_by_cmp R q k) (list_any (eq_by_cmp R q) ks) (get wanted q) (get m q) (get m' q) step
 
   -- whether a key is one of either map
-  is_key : (a b : FinMap R V) (q : K) → list_any (eq_by_cmp R q) (keys_of_either a b) ≡ (is_some (get a q) || is_some (get b q))
+  pub is_key : (a b : FinMap R V) (q : K) → list_any (eq_by_cmp R q) (keys_of_either a b) ≡ (is_some (get a q) || is_some (get b q))
   is_key a b q =
       sym (contains_key-keys (from_entries {R = R} (entries a ++ entries b)) q)
       ∙ ap is_some (get-from_entries o (entries a ++ entries b) q)

@@ -5,3 +5,4 @@ pub mod Turns
 pub mod KeyedLaws
 pub mod EmbedLaws
 pub mod Firsts
+pub mod ByKeys

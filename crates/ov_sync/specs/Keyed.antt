@@ -4,13 +4,16 @@
 --     change_at same sent wanted k      the change that the key k needs, if it needs one
 --     difference same sent wanted      the change of each key that needs one, in the order of the keys
 --     is_changed R ds k      whether one of the changes is of the key k
+--     set_key m k w      the map where the key k has what is wanted of it, a value or none
+--     set_keys wanted m ks, told_keys same wanted m ks      the map where the keys ks, one after the other, have what is wanted of them, and the changes that are told so
+--     AgreeBut ks a b      two maps have the same at every key that is not one of ks
 --     IsInStep held queue sent      what is held, with the changes on their way applied, is what was sent
-use Rattle.std.specs.Prelude.{◌≡◌, Bool, List, [], ◌∷◌, ◌++◌, if◌then◌else◌}
+use Rattle.std.specs.Prelude.{◌≡◌, Bool, false, List, [], ◌∷◌, ◌++◌, if◌then◌else◌}
 use Rattle.std.specs.declared.option.Option.{Option}
 use Rattle.std.specs.declared.option.Option.TheVariants.{Some, None}
 use Rattle.std.specs.declared.cmp.Ordering.{Ordering}
 use Rattle.std.specs.Ordering.{eq_by_cmp}
-use Rattle.std.specs.List.{filter_map, list_any}
+use Rattle.std.specs.List.{cons_option, filter_map, list_any}
 use Rattle.std.specs.FinMap.{FinMap, get, insert, remove, entries, keys, from_entries}
 use Rattle.ov_sync.specs.declared.Delta.{Delta}
 use Rattle.ov_sync.specs.declared.Delta.TheVariants.{Put, Drop}
@@ -63,6 +66,27 @@ module _ {K V : Type 0} {R : K → K → Ordering} (same : V → V → Bool) whe
 
   abbrev pub difference : FinMap R V → FinMap R V → List (Delta K V)
   difference sent wanted = filter_map (change_at sent wanted) (keys_of_either sent wanted)
+
+module _ {K V : Type 0} {R : K → K → Ordering} where
+  -- one key has what is wanted of it
+  abbrev pub set_key : FinMap R V → K → Option V → FinMap R V
+  set_key m k None = remove m k
+  set_key m k (Some v) = insert m k v
+
+  -- some keys, one after the other, have what is wanted of them
+  abbrev pub set_keys : FinMap R V → FinMap R V → List K → FinMap R V
+  set_keys wanted m [] = m
+  set_keys wanted m (k ∷ ks) = set_keys wanted (set_key m k (get wanted k)) ks
+
+  -- the changes that are told so
+  abbrev pub told_keys : (V → V → Bool) → FinMap R V → FinMap R V → List K → List (Delta K V)
+  told_keys same wanted m [] = []
+  told_keys same wanted m (k ∷ ks) =
+      cons_option (change_at same m wanted k) (told_keys same wanted (set_key m k (get wanted k)) ks)
+
+  -- the two have the same at every key that is not one of these
+  abbrev pub AgreeBut : List K → FinMap R V → FinMap R V → Type 0
+  AgreeBut ks a b = (k : K) → list_any (eq_by_cmp R k) ks ≡ false → get a k ≡ get b k
 
 -- a change puts what has P
 abbrev pub PutOf : {K V : Type 0} → (K → V → Type 0) → Delta K V → Type 0

@@ -1,11 +1,12 @@
 //! Laws of keyed maps over a queue.
-ghost use Rattle.std.specs.Prelude.{◌≡◌, ◌≢◌, ◌↔◌, ◌++◌, ◌∷◌, [], List, IsTrue, map};
+ghost use Rattle.std.specs.Prelude.{◌≡◌, ◌≢◌, ◌↔◌, ◌++◌, ◌∷◌, [], List, IsTrue, Option, if◌then◌else◌, map};
 ghost use Rattle.std.specs.Bool.{Decides};
+ghost use Rattle.std.specs.Ordering.{eq_by_cmp};
 ghost use Rattle.std.specs.List.Sorted.{IsStrictlySortedBy};
 ghost use Rattle.std.specs.FinMap.{FinMap, IsAntisymmetric, get};
 ghost use Rattle.ov_sync.specs.declared.Delta.{Delta};
 ghost use Rattle.ov_sync.specs.Embed.{embedded, moved_delta};
-ghost use Rattle.ov_sync.specs.Keyed.{IsInStep, after, changed, difference, is_changed, key_of};
+ghost use Rattle.ov_sync.specs.Keyed.{AgreeBut, IsInStep, after, changed, difference, is_changed, key_of, set_key, set_keys, told_keys};
 
 /// The changes from one map to another, applied in order, lead there.
 pub fn a_difference_leads<K: Ord, V: Eq>()
@@ -54,4 +55,24 @@ pub fn a_difference_embeds<K: Ord, V: Eq, L: Ord, W: Eq>()
     ensures changed { (f : K → L) (g : V → W) → ((x y : K) → L.cmp (f x) (f y) ≡ K.cmp x y)
         → (m : FinMap K.cmp V) (d : Delta K V)
         → changed {R = L.cmp} (embedded f g m) (moved_delta f g d) ≡ embedded f g (changed m d) }
+{}
+
+/// A map that has what is wanted at one key, and is another one at all others, is that one where the key is set.
+pub fn one_key_is_set<K: Ord, V>()
+    requires keys { IsAntisymmetric K.cmp }
+    ensures { (before later : FinMap K.cmp V) (key : K) (wanted : Option V)
+        → ((k : K) → get later k ≡ (if eq_by_cmp K.cmp k key then wanted else get before k))
+        → later ≡ set_key before key wanted }
+{}
+
+/// Where what was sent is what is wanted at all keys but some, telling these keys in their order what is wanted of each
+/// tells the whole difference, and what was sent is what is wanted then.
+pub fn telling_the_keys_that_may_differ_tells_all<K: Ord, V: Eq>()
+    requires keys { IsAntisymmetric K.cmp }
+    requires values { (a b : V) → Decides (V.eq a b) (a ≡ b) }
+    ensures changes { (sent wanted : FinMap K.cmp V) (keys : List K)
+        → IsStrictlySortedBy K.cmp keys → AgreeBut keys sent wanted
+        → told_keys V.eq wanted sent keys ≡ difference V.eq sent wanted }
+    ensures sent { (sent wanted : FinMap K.cmp V) (keys : List K) → AgreeBut keys sent wanted
+        → set_keys wanted sent keys ≡ wanted }
 {}

@@ -1,7 +1,9 @@
 //! The sending end.
-ghost use Rattle.std.specs.Prelude.{◌≡◌, ◌++◌, ◌∷◌, [], if◌then◌else◌, IfOk, OnOk, OnErr};
+ghost use Rattle.std.specs.Prelude.{◌≡◌, ◌++◌, ◌∷◌, [], None, Some, if◌then◌else◌, option_copied, IfOk, OnOk, OnErr};
+ghost use Rattle.std.specs.FinMap.{get};
+ghost use Rattle.std.specs.Ordering.{eq_by_cmp};
 ghost use Rattle.ov_sync.specs.declared.Delta.TheVariants.{Put, Drop};
-ghost use Rattle.ov_sync.specs.Keyed.{map_of, difference};
+ghost use Rattle.ov_sync.specs.Keyed.{map_of, change, difference};
 
 use crate::Delta;
 use ov_types::NoMemory;
@@ -49,6 +51,51 @@ impl<K: Ord + Clone + Drop, V: PartialEq + Clone + Drop> SyncOut<K, V> {
         let sent = desired.clone()?;
         self.sent = sent;
         Ok(deltas)
+    }
+
+    /// Changes one key to what is wanted of it, which is sent then, and answers that change: none exactly where what
+    /// was sent of the key is what is wanted. All else stays.
+    pub fn replace_key(
+        &mut self,
+        key: K,
+        wanted: Option<V>,
+    ) -> Result<Option<Delta<K, V>>, NoMemory>
+        requires keys { (k : K) (c : K) → K.is_clone k c → c ≡ k }
+        requires values { (v : V) (c : V) → V.is_clone v c → c ≡ v }
+        ensures change { IfOk result (λ delta. delta ≡ change V.eq key (get (map_of K.cmp self.old) key) wanted) }
+        ensures sent { OnOk result ((q : K) → get (map_of K.cmp self.new) q
+            ≡ (if eq_by_cmp K.cmp q key then wanted else get (map_of K.cmp self.old) q)) }
+        ensures err { OnErr result (self.new ≡ self.old) }
+    {
+        match wanted {
+            None => Ok(self.drop_key(key)),
+            Some(value) => self.put_key(key, value),
+        }
+    }
+
+    fn drop_key(&mut self, key: K) -> Option<Delta<K, V>>
+        ensures change { result ≡ change V.eq key (get (map_of K.cmp self.old) key) None }
+        ensures sent { (q : K) → get (map_of K.cmp self.new) q
+            ≡ (if eq_by_cmp K.cmp q key then None else get (map_of K.cmp self.old) q) }
+    {
+        match self.sent.remove(&key) {
+            Some(_) => Some(Delta::Drop(key)),
+            None => None,
+        }
+    }
+
+    fn put_key(&mut self, key: K, value: V) -> Result<Option<Delta<K, V>>, NoMemory>
+        requires keys { (k : K) (c : K) → K.is_clone k c → c ≡ k }
+        requires values { (v : V) (c : V) → V.is_clone v c → c ≡ v }
+        ensures change { IfOk result (λ delta. delta
+            ≡ change V.eq key (get (map_of K.cmp self.old) key) (Some value)) }
+        ensures sent { OnOk result ((q : K) → get (map_of K.cmp self.new) q
+            ≡ (if eq_by_cmp K.cmp q key then Some value else get (map_of K.cmp self.old) q)) }
+        ensures err { OnErr result (self.new ≡ self.old) }
+    {
+        let delta = put_change(self.sent.get(&key), &key, &value)?;
+        self.sent.insert(key, value)?;
+        Ok(delta)
     }
 
     /// Nothing was sent. It takes no memory.
@@ -145,4 +192,22 @@ fn push_change<K: Clone + Drop, V: PartialEq + Clone + Drop>(
         return Ok(());
     }
     push_put(deltas, key, value)
+}
+
+/// The change from what was sent of a key to a value.
+fn put_change<K: Clone + Drop, V: PartialEq + Clone + Drop>(
+    sent: Option<&V>,
+    key: &K,
+    value: &V,
+) -> Result<Option<Delta<K, V>>, NoMemory>
+    requires keys { (k : K) (c : K) → K.is_clone k c → c ≡ k }
+    requires values { (v : V) (c : V) → V.is_clone v c → c ≡ v }
+    ensures { IfOk result (λ delta. delta ≡ change V.eq key.now (option_copied sent.entry) (Some value.now)) }
+{
+    if let Some(old) = sent {
+        if old == value {
+            return Ok(None);
+        }
+    }
+    Ok(Some(Delta::Put(key.clone()?, value.clone()?)))
 }

@@ -3,5 +3,7 @@
 
 pub mod laws;
 mod selection;
+mod steps;
 
-pub use selection::{Path, better, select};
+pub use selection::{Path, better, select, select_counted};
+pub use steps::Steps;

@@ -1,8 +1,10 @@
 //! The order of paths, and the first of the least.
-ghost use Rattle.std.specs.Prelude.{◌≡◌, ◌↔◌, [], IsNone, IfSome};
+ghost use Rattle.std.specs.Prelude.{◌≡◌, ◌+◌, ◌↔◌, [], IsNone, IfSome};
 ghost use Rattle.path_select.specs.Selection.{is_better, IsFirstOfLeast};
 
+use crate::steps::Steps;
 use ov_types::{Addr, Label, Rd};
+use std::sync::ledger::Ledger;
 
 /// Where a path to a prefix leads, and the session that told it.
 #[derive(Clone, Copy, PartialEq, Eq)]
@@ -44,4 +46,14 @@ pub fn select(paths: &[Path]) -> Option<usize>
         }
     }
     Some(place)
+}
+
+/// The place that `select` answers. It takes one step.
+pub fn select_counted<L: Ledger>(paths: &[Path], steps: &mut Steps<L>) -> Option<usize>
+    ensures none { IsNone result ↔ (paths.now ≡ []) }
+    ensures first { IfSome result (IsFirstOfLeast paths.now) }
+    ensures step { steps.new ≡ steps.old + 1 }
+{
+    steps.tick();
+    select(paths)
 }

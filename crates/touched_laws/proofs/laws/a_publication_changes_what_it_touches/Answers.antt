@@ -1,0 +1,11 @@
+use Rattle.touched_laws.proofs.Touching.{publication_agents, publication_keys, publication_rows}
+use Rattle.touched_laws.proofs.laws.a_publication_changes_what_it_touches.Goals as goal
+
+pub returns-clause-tables : goal.returns-clause-tables
+returns-clause-tables c = publication_rows
+
+pub returns-clause-agents : goal.returns-clause-agents
+returns-clause-agents c = publication_agents
+
+pub returns-clause-peers : goal.returns-clause-peers
+returns-clause-peers c = publication_keys
