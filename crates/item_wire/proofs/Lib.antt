@@ -16,3 +16,4 @@ pub mod Plain
 pub mod Spelled
 pub mod ChangeLemmas
 pub mod Passing
+pub mod Cutting

@@ -19,7 +19,8 @@ use Rattle.item_wire.specs.declared.input.Came.{Came}
 use Rattle.item_wire.specs.declared.input.Came.TheVariants as Comes
 use Rattle.item_wire.specs.declared.item.Item.{Item}
 use Rattle.item_wire.specs.declared.item.Item.TheVariants as I
-use Rattle.node_items.specs.Hearing.{came_with, next_of, next_in, GoesOn, Hears, Heard, and_record, heard, records_in, cause_in, Brings}
+use Rattle.node_items.specs.Hearing.{came_with, next_of, next_in, Heard, and_record, heard, records_in, cause_in, Brings}
+use Rattle.node_items.specs.Keeping.{GoesOnLeaving, Leaves}
 
 -- ---- one record
 module _ (P : Item → Type 0) where
@@ -67,18 +68,21 @@ module _ (P : Item → Type 0) where
 
 -- ---- one record after another
 -- what is heard from here on is what was heard from the beginning, after the records so far
-pub record Wholes (start : SessionFields) (octets : List ℕ) (records : List Item) (s : SessionFields) (inputs : List Came) : Type 0 where
+pub record Wholes (start : SessionFields) (octets left : List ℕ) (records : List Item) (s : SessionFields) (inputs : List Came) : Type 0 where
   pub all : List Came
-  pub hears : Hears start octets all
+  pub leaves : Leaves start octets all left
   pub records_are : (heard start all).records ≡ records ++ (heard s inputs).records
   pub state_is : (heard start all).state ≡ (heard s inputs).state
   pub cause_is : (heard start all).cause ≡ (heard s inputs).cause
 
 abbrev pub LeadsFrom : SessionFields → List ℕ → List Item → SessionFields → List ℕ → Type 0
-LeadsFrom start octets records s rest = (inputs : List Came) → Hears s rest inputs → Wholes start octets records s inputs
+LeadsFrom start octets records s rest = (inputs : List Came) (left : List ℕ) → Leaves s rest inputs left → Wholes start octets left records s inputs
+
+pub leads_start : (start : SessionFields) (octets : List ℕ) → LeadsFrom start octets [] start octets
+leads_start start octets inputs left h = record { all = inputs; leaves = h; records_are = refl; state_is = refl; cause_is = refl }
 
 -- what an event makes of what is heard after it
-abbrev with_event : ItemEvent → ItemState → Heard → Heard
+abbrev pub with_event : ItemEvent → ItemState → Heard → Heard
 with_event event state more = elim event [
   | Event.Record i ↦ and_record i more
   | Event.Down cause ↦ record { records = []; state = state; cause = Some cause }
@@ -99,22 +103,22 @@ adds Event.Quiet state more h = record { records_are = refl; state_is = refl; ca
 adds Event.SendHello state more h = record { records_are = refl; state_is = refl; cause_is = refl }
 adds Event.Up state more h = record { records_are = refl; state_is = refl; cause_is = refl }
 
-goes_on : (event : ItemEvent) (more : List Came) (Then : Type 0) → cause_in event ≡ None → Then → GoesOn event more Then
-goes_on (Event.Record i) more Then h t = t
-goes_on (Event.Down cause) more Then h t = absurd (cc)
-goes_on Event.Quiet more Then h t = t
-goes_on Event.SendHello more Then h t = t
-goes_on Event.Up more Then h t = t
+goes_on : (event : ItemEvent) (more : List Came) (left : List ℕ) (Then : Type 0) → cause_in event ≡ None → Then → GoesOnLeaving event more left Then
+goes_on (Event.Record i) more left Then h t = t
+goes_on (Event.Down cause) more left Then h t = absurd (cc)
+goes_on Event.Quiet more left Then h t = t
+goes_on Event.SendHello more left Then h t = t
+goes_on Event.Up more left Then h t = t
 
 pub leads_on : (start : SessionFields) (octets : List ℕ) (records : List Item) (s : SessionFields) (rest : List ℕ) (came : Came) (next : List ℕ)
     → LeadsFrom start octets records s rest → next_in s rest ≡ Some (came, next) → cause_in (answer s came) ≡ None
     → LeadsFrom start octets (records ++ records_in (answer s came)) (after s came) next
-leads_on start octets records s rest came next leads brings on inputs h =
-    let w = leads (came ∷ inputs) (next, brings, goes_on (answer s came) inputs (Hears (after s came) next inputs) on h) in
+leads_on start octets records s rest came next leads brings on inputs left h =
+    let w = leads (came ∷ inputs) left (next, brings, goes_on (answer s came) inputs left (Leaves (after s came) next inputs left) on h) in
     let a = adds (answer s came) (after s came).state (heard (after s came) inputs) on in
     record {
       all = w.all;
-      hears = w.hears;
+      leaves = w.leaves;
       records_are = w.records_are ∙ ap (λ (is : List Item). records ++ is) a.records_are ∙ sym (append_assoc records (records_in (answer s came)) (heard (after s came) inputs).records);
       state_is = w.state_is ∙ a.state_is;
       cause_is = w.cause_is ∙ a.cause_is;
@@ -123,10 +127,10 @@ leads_on start octets records s rest came next leads brings on inputs h =
 -- nothing is left that is a whole record
 pub leads_to_end : (start : SessionFields) (octets : List ℕ) (records : List Item) (s : SessionFields) (rest : List ℕ)
     → LeadsFrom start octets records s rest → next_in s rest ≡ None
-    → (inputs : List Came) × Hears start octets inputs × (records ≡ (heard start inputs).records) × (None ≡ (heard start inputs).cause) × (s.state ≡ (heard start inputs).state)
+    → (inputs : List Came) × Leaves start octets inputs rest × (records ≡ (heard start inputs).records) × (None ≡ (heard start inputs).cause) × (s.state ≡ (heard start inputs).state)
 leads_to_end start octets records s rest leads ends =
-    let w = leads [] ends in
-    (w.all, w.hears, sym (w.records_are ∙ append-nil records), sym w.cause_is, sym w.state_is)
+    let w = leads [] rest (ends, refl) in
+    (w.all, w.leaves, sym (w.records_are ∙ append-nil records), sym w.cause_is, sym w.state_is)
 
 -- an event that ends the session is that it went down
 went_down : (event : ItemEvent) (cause : ItemCause) → cause_in event ≡ Some cause → event ≡ Event.Down cause
@@ -139,13 +143,13 @@ went_down Event.Up cause h = absurd (cc)
 -- the session went down
 leads_down : (start : SessionFields) (octets : List ℕ) (records : List Item) (s : SessionFields) (rest : List ℕ) (came : Came) (next : List ℕ) (cause : ItemCause)
     → LeadsFrom start octets records s rest → next_in s rest ≡ Some (came, next) → answer s came ≡ Event.Down cause
-    → (inputs : List Came) × Hears start octets inputs × (records ≡ (heard start inputs).records) × (Some cause ≡ (heard start inputs).cause) × ((after s came).state ≡ (heard start inputs).state)
+    → (inputs : List Came) × Leaves start octets inputs [] × (records ≡ (heard start inputs).records) × (Some cause ≡ (heard start inputs).cause) × ((after s came).state ≡ (heard start inputs).state)
 leads_down start octets records s rest came next cause leads brings down =
-    let last : GoesOn (answer s came) [] (Hears (after s came) next []) = subst (λ (event : ItemEvent). GoesOn event [] (Hears (after s came) next [])) (sym down) refl in
-    let w = leads (came ∷ []) (next, brings, last) in
+    let last : GoesOnLeaving (answer s came) [] [] (Leaves (after s came) next [] []) = subst (λ (event : ItemEvent). GoesOnLeaving event [] [] (Leaves (after s came) next [] [])) (sym down) (refl, refl) in
+    let w = leads (came ∷ []) [] (next, brings, last) in
     let is : heard s (came ∷ []) ≡ record { records = []; state = (after s came).state; cause = Some cause } =
     ap (λ (event : ItemEvent). with_event event (after s came).state (heard (after s came) [])) down in
-    (w.all, w.hears, sym (w.records_are ∙ ap (λ (h : Heard). records ++ h.records) is ∙ append-nil records), sym (w.cause_is ∙ ap (λ (h : Heard). h.cause) is), sym (w.state_is ∙ ap (λ (h : Heard). h.state) is))
+    (w.all, w.leaves, sym (w.records_are ∙ ap (λ (h : Heard). records ++ h.records) is ∙ append-nil records), sym (w.cause_is ∙ ap (λ (h : Heard). h.cause) is), sym (w.state_is ∙ ap (λ (h : Heard). h.state) is))
 
 -- ---- in the words of what was brought
 pub leads_past : (start : SessionFields) (octets : List ℕ) (records : List Item) (s : SessionFields) (rest : List ℕ) (s' : SessionFields) (event : ItemEvent) (size : ℕ)
@@ -159,7 +163,7 @@ leads_past start octets records s rest s' event size leads b on =
 
 pub leads_to_down : (start : SessionFields) (octets : List ℕ) (records : List Item) (s : SessionFields) (rest : List ℕ) (s' : SessionFields) (event : ItemEvent) (size : ℕ) (cause : ItemCause)
     → LeadsFrom start octets records s rest → Brings s rest s' (Some (event, size)) → cause_in event ≡ Some cause
-    → (inputs : List Came) × Hears start octets inputs × (records ++ records_in event ≡ (heard start inputs).records) × (Some cause ≡ (heard start inputs).cause) × (s'.state ≡ (heard start inputs).state)
+    → (inputs : List Came) × Leaves start octets inputs [] × (records ++ records_in event ≡ (heard start inputs).records) × (Some cause ≡ (heard start inputs).cause) × (s'.state ≡ (heard start inputs).state)
 leads_to_down start octets records s rest s' event size cause leads b down =
     let is = went_down event cause down in
     let d = leads_down start octets records s rest b.0 (drop size rest) cause leads b.1 (sym b.3 ∙ is) in

@@ -1,5 +1,5 @@
 -- What an input makes of an end of a session of items.
-use Rattle.std.specs.Prelude.{◌≡◌, ℕ, List, [], ◌∷◌, Option, Some, None}
+use Rattle.std.specs.Prelude.{◌≡◌, ℕ, List, [], ◌∷◌, ◌++◌, Option, Some, None}
 use Rattle.std.specs.List.{filter_map}
 use Rattle.ov_link.specs.declared.step.Input.{Input}
 use Rattle.ov_link.specs.declared.step.Input.TheVariants as input
@@ -14,6 +14,7 @@ use Rattle.item_wire.specs.declared.item.Item.TheVariants.{Hello}
 use Rattle.node_model.specs.Step.{Begun, Phase, Idle, Opened, Up, Post}
 use Rattle.node_items.specs.Told.{change_of}
 use Rattle.node_items.specs.Hearing.{Hears, Heard, heard}
+use Rattle.node_items.specs.Keeping.{Leaves}
 
 abbrev pub phase_of : ItemState → Phase
 phase_of State.Idle = Idle
@@ -40,3 +41,12 @@ Begins me s p (input.Bytes session bytes) given cause =
     × (given ≡ record { replies = []; after = left_by p (heard s inputs) (heard s inputs).cause })
     × (cause ≡ (heard s inputs).cause)
 Begins me s p (input.Closed session) given cause = (given ≡ record { replies = []; after = None }) × (cause ≡ None)
+
+-- the same, where these octets were kept of the session before: they are heard again before those that came. And what
+-- is kept of it then
+abbrev pub BeginsKeeping : List ℕ → SessionFields → Post → List ℕ → Input → Begun → Option ItemCause → List ℕ → Type 0
+BeginsKeeping me s p kept (input.Bytes session bytes) given cause left =
+    (inputs : List Came) × Leaves s (kept ++ bytes.now) inputs left
+    × (given ≡ record { replies = []; after = left_by p (heard s inputs) (heard s inputs).cause })
+    × (cause ≡ (heard s inputs).cause)
+BeginsKeeping me s p kept event given cause left = Begins me s p event given cause × (left ≡ [])

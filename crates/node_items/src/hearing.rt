@@ -9,6 +9,7 @@ ghost use Rattle.item_wire.specs.declared.event.ItemState.TheVariants.{Idle, Ope
 ghost use Rattle.item_wire.specs.declared.input.Came.{Came};
 ghost use Rattle.item_wire.specs.declared.item.Item.TheVariants.{Hello};
 ghost use Rattle.node_items.specs.Told.{IsWritable};
+ghost use Rattle.node_items.specs.Keeping.{Leaves};
 ghost use Rattle.node_items.specs.Hearing.{Brings, Hears, came_with, cause_in, heard, records_in};
 
 use crate::telling::item_octets;
@@ -24,6 +25,9 @@ const LENGTH_SIZE: usize = 4;
 pub struct Heard {
     /// The records that were handed out, in order.
     pub records: Vec<Item>,
+    /// How many octets were taken, from the first on: all of them where the session went down. Those behind them are
+    /// part of a record, which is to be heard once more octets came.
+    pub taken: usize,
     /// Why the session went down, where it did.
     pub cause: Option<ItemCause>,
 }
@@ -113,11 +117,15 @@ fn past(bytes: &[u8], size: usize) -> &[u8]
 }
 
 /// Hears octets: each record of them in order, up to one that takes the session down. Octets at the end that are no
-/// whole record are passed over. Where memory runs out, some of the records may have been heard.
+/// whole record are left. Where memory runs out, some of the records may have been heard.
 pub fn hear(alloc: Global, session: &mut ItemSession, bytes: &[u8]) -> Result<Heard, NoMemory>
     ensures heard { IfOk result (λ w. (inputs : List Came) × Hears session.old bytes.now inputs
         × (w.records.items ≡ (heard session.old inputs).records) × (w.cause ≡ (heard session.old inputs).cause)
         × (session.new.state ≡ (heard session.old inputs).state)) }
+    ensures left { IfOk result (λ w. (inputs : List Came) × Leaves session.old bytes.now inputs (drop w.taken bytes.now)
+        × (w.records.items ≡ (heard session.old inputs).records) × (w.cause ≡ (heard session.old inputs).cause)
+        × (session.new.state ≡ (heard session.old inputs).state)) }
+    ensures taken { IfOk result (λ w. w.taken ≤ length bytes.now) }
     ensures peer { session.new.peer ≡ session.old.peer }
     ensures from { session.new.from ≡ session.old.from }
 
@@ -132,12 +140,14 @@ pub fn hear(alloc: Global, session: &mut ItemSession, bytes: &[u8]) -> Result<He
         if let Some(cause) = keep(&mut records, event)? {
             return Ok(Heard {
                 records,
+                taken: bytes.len(),
                 cause: Some(cause),
             });
         }
     }
     Ok(Heard {
         records,
+        taken: bytes.len() - rest.len(),
         cause: None,
     })
 }

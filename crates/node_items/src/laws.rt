@@ -1,20 +1,23 @@
 //! What items and changes promise each other, as laws: each is the contract of a function that does nothing.
-ghost use Rattle.std.specs.Prelude.{◌≡◌, ◌++◌, ℕ, List, IfSome, IsTrue, is_some, not};
+ghost use Rattle.std.specs.Prelude.{◌≡◌, ◌≢◌, ◌≤◌, ◌++◌, [], ℕ, List, Some, None, length, IfSome, IsTrue, is_some, not};
 ghost use Rattle.std.specs.FinMap.{empty};
-ghost use Rattle.std.specs.List.{AllByRecursion};
+ghost use Rattle.std.specs.List.{AllByRecursion, concat};
 ghost use Rattle.ov_sync.specs.Keyed.{after as after_all, changed};
 ghost use Rattle.ov_types.specs.Name.{is_name};
 ghost use Rattle.item_wire.specs.Happenings.{SessionFields, after, answer};
 ghost use Rattle.item_wire.specs.Inputs.{may_send};
 ghost use Rattle.item_wire.specs.Records.{spelling};
 ghost use Rattle.item_wire.specs.declared.event.ItemEvent.TheVariants.{Record, Up as CameUp};
-ghost use Rattle.item_wire.specs.declared.event.ItemState.TheVariants.{Opened, Up};
+ghost use Rattle.item_wire.specs.declared.event.ItemState.TheVariants.{Idle, Opened, Up};
+ghost use Rattle.item_wire.specs.declared.event.ItemCause.{ItemCause};
+ghost use Rattle.item_wire.specs.declared.input.Came.{Came};
 ghost use Rattle.item_wire.specs.declared.input.Came.TheVariants.{Hello as HelloCame, OtherRecord};
 ghost use Rattle.item_wire.specs.declared.item.Item.{Item};
 ghost use Rattle.item_wire.specs.declared.item.Item.TheVariants.{Hello};
 ghost use Rattle.node_model.specs.Keys.{key_cmp};
 ghost use Rattle.node_model.specs.Maps.{Change, Map, difference};
-ghost use Rattle.node_items.specs.Hearing.{next_in};
+ghost use Rattle.node_items.specs.Hearing.{Hears, heard, next_in};
+ghost use Rattle.node_items.specs.Keeping.{Leaves, PartsLeave, and_then, session_after};
 ghost use Rattle.node_items.specs.Told.{AllFit, CanBeTold, ChangeFits, IsTyped, IsWritable, change_of, is_hello};
 ghost use Rattle.node_items.specs.Told.{item_of, spelled};
 
@@ -74,4 +77,42 @@ pub fn hellos_are_heard()
         → next_in s (spelling (Hello s.peer) ++ more) ≡ Some (HelloCame, more) }
     ensures event { (s : SessionFields) → s.state ≡ Opened → answer s HelloCame ≡ CameUp }
     ensures up { (s : SessionFields) → s.state ≡ Opened → after s HelloCame ≡ record s { state = Up } }
+{}
+
+/// Octets bring inputs and leave octets, and only these: no more than 65,539, which is one fewer than the longest record
+/// has, and none once the session went down.
+pub fn what_is_left_is_one()
+    ensures some { (s : SessionFields) (octets : List ℕ)
+        → (inputs : List Came) × (left : List ℕ) × Leaves s octets inputs left }
+    ensures one { (s : SessionFields) (octets : List ℕ) (i j : List Came) (a b : List ℕ) → Leaves s octets i a
+        → Leaves s octets j b → (i ≡ j) × (a ≡ b) }
+    ensures hears { (s : SessionFields) (octets : List ℕ) (inputs : List Came) (left : List ℕ)
+        → Leaves s octets inputs left → Hears s octets inputs }
+    ensures few { (s : SessionFields) (octets : List ℕ) (inputs : List Came) (left : List ℕ)
+        → Leaves s octets inputs left → length left ≤ 65539 }
+    ensures part { (s : SessionFields) (octets : List ℕ) (inputs : List Came) (left : List ℕ)
+        → Leaves s octets inputs left → (heard s inputs).cause ≡ None
+        → next_in (session_after s inputs) left ≡ None }
+    ensures none { (s : SessionFields) (octets : List ℕ) (inputs : List Came) (left : List ℕ) (cause : ItemCause)
+        → Leaves s octets inputs left → (heard s inputs).cause ≡ Some cause → left ≡ [] }
+{}
+
+/// Octets that come to a session that is not Idle may be cut anywhere. Where the first part leaves the session up, what
+/// is left of it is heard again before the second part, and all that is heard of both is what is heard of the whole:
+/// the records in order, the state, and why the session went down. Where the first part takes the session down, the
+/// second changes nothing.
+pub fn octets_may_be_cut()
+    ensures up { (s : SessionFields) (a b : List ℕ) (first more : List Came) (kept left : List ℕ) → s.state ≢ Idle
+        → Leaves s a first kept → (heard s first).cause ≡ None → Leaves (session_after s first) (kept ++ b) more left
+        → Leaves s (a ++ b) (first ++ more) left }
+    ensures both { (s : SessionFields) (first more : List Came) → (heard s first).cause ≡ None
+        → heard s (first ++ more) ≡ and_then (heard s first) (heard (session_after s first) more) }
+    ensures down { (s : SessionFields) (a b : List ℕ) (inputs : List Came) (left : List ℕ) (cause : ItemCause)
+        → s.state ≢ Idle → Leaves s a inputs left → (heard s inputs).cause ≡ Some cause
+        → Leaves s (a ++ b) inputs left }
+
+    // Any number of parts.
+    ensures parts { (parts : List (List ℕ)) (s : SessionFields) (kept : List ℕ) (inputs : List Came) (left : List ℕ)
+        → s.state ≢ Idle → next_in s kept ≡ None → PartsLeave s kept parts inputs left
+        → Leaves s (kept ++ concat parts) inputs left }
 {}

@@ -12,7 +12,8 @@ use Rattle.bgp_session.specs.declared.event.State.{State}
 use Rattle.bgp_session.specs.Happenings.{SessionFields, Happening, Passes, Sends, ComesUp, HandsOut, GoesDown}
 use Rattle.bgp_session.specs.Happenings.{after, answer, happening_of}
 use Rattle.bgp_session.specs.Inputs.{Came}
-use Rattle.node_peers.specs.Hearing.{IsNext, GoesOn, Hears, Heard, heard, and_reply, and_changes, reply_octets, notification}
+use Rattle.node_peers.specs.Hearing.{IsNext, Hears, Heard, heard, and_reply, and_changes, reply_octets, notification}
+use Rattle.node_peers.specs.Keeping.{GoesOnLeaving, Leaves}
 use Rattle.node_peers.specs.Taking.{TakesNext, replied, handed, cause_of, IsAdded}
 use Rattle.node_peers.specs.declared.hearing.Heard.{Heard as HeardSoFar}
 
@@ -26,14 +27,17 @@ Deltas = List (Delta VpnKey VpnRoute)
 abbrev pub behind : Replies → Deltas → Heard → Heard
 behind replies changes h = record h { replies = replies ++ h.replies; changes = changes ++ h.changes }
 
--- this is heard of octets
-abbrev pub IsHeard : Addr → SessionFields → List ℕ → Heard → Type 0
-IsHeard id s octets h = (inputs : List Came) × Hears s octets inputs × (heard id s inputs ≡ h)
+-- this is heard of octets, and these are left
+abbrev pub IsHeard : Addr → SessionFields → List ℕ → List ℕ → Heard → Type 0
+IsHeard id s octets left h = (inputs : List Came) × Leaves s octets inputs left × (heard id s inputs ≡ h)
 
 -- whatever is heard from here on is heard from the start, behind what was heard before
 pub record Leads (id : Addr) (start : SessionFields) (octets : List ℕ) (now : SessionFields) (rest : List ℕ)
     (replies : Replies) (changes : Deltas) : Type 0 where
-  pub whole : (inputs : List Came) → Hears now rest inputs → IsHeard id start octets (behind replies changes (heard id now inputs))
+  pub whole : (inputs : List Came) (left : List ℕ) → Leaves now rest inputs left → IsHeard id start octets left (behind replies changes (heard id now inputs))
+
+pub leads_at_start : (id : Addr) (s : SessionFields) (octets : List ℕ) → Leads id s octets s octets [] []
+leads_at_start id s octets = record { whole = λ inputs left leaves. (inputs, leaves, refl) }
 
 -- one input, and the others
 abbrev pub by_happening : Addr → SessionFields → Came → List Came → Happening → Heard
@@ -70,15 +74,15 @@ last_one id s came cause (Sends r) down = absurd cc
 last_one id s came cause ComesUp down = absurd cc
 last_one id s came cause (HandsOut changes) down = absurd cc
 
-goes_on : (h : Happening) (more : List Came) (Then : Type 0) → cause_of h ≡ None → Then → GoesOn h more Then
-goes_on Passes more Then up then = then
-goes_on (Sends r) more Then up then = then
-goes_on ComesUp more Then up then = then
-goes_on (HandsOut changes) more Then up then = then
-goes_on (GoesDown cause code) more Then up then = absurd cc
+goes_on : (h : Happening) (more : List Came) (left : List ℕ) (Then : Type 0) → cause_of h ≡ None → Then → GoesOnLeaving h more left Then
+goes_on Passes more left Then up then = then
+goes_on (Sends r) more left Then up then = then
+goes_on ComesUp more left Then up then = then
+goes_on (HandsOut changes) more left Then up then = then
+goes_on (GoesDown cause code) more left Then up then = absurd cc
 
-ends_here : (h : Happening) (cause : Cause) (Then : Type 0) → cause_of h ≡ Some cause → GoesOn h [] Then
-ends_here (GoesDown why code) cause Then down = refl
+ends_here : (h : Happening) (cause : Cause) (Then : Type 0) → cause_of h ≡ Some cause → GoesOnLeaving h [] [] Then
+ends_here (GoesDown why code) cause Then down = (refl, refl)
 ends_here Passes cause Then down = absurd cc
 ends_here (Sends r) cause Then down = absurd cc
 ends_here ComesUp cause Then down = absurd cc
@@ -93,8 +97,8 @@ pub leads_on : (id : Addr) (start now : SessionFields) (octets rest rest' : List
     → Leads id start octets now rest replies changes → IsNext now rest came rest' → cause_of (answer now came) ≡ None
     → Leads id start octets (after now came) rest' (replies ++ replied now.asn id (answer now came)) (changes ++ handed (answer now came))
 leads_on id start now octets rest rest' replies changes came leads next up = record {
-  whole = λ inputs hears.
-      let before = leads.whole (came ∷ inputs) (rest', next, goes_on (answer now came) inputs (Hears (after now came) rest' inputs) up hears) in (
+  whole = λ inputs left leaves.
+      let before = leads.whole (came ∷ inputs) left (rest', next, goes_on (answer now came) inputs left (Leaves (after now came) rest' inputs left) up leaves) in (
         before.0,
         before.1,
         before.2 ∙ ap (behind replies changes) (one_and_more id now came inputs (answer now came) up)
@@ -104,7 +108,7 @@ leads_on id start now octets rest rest' replies changes came leads next up = rec
 
 pub leads_down : (id : Addr) (start now : SessionFields) (octets rest rest' : List ℕ) (replies : Replies) (changes : Deltas) (came : Came)
     (cause : Cause) → Leads id start octets now rest replies changes → IsNext now rest came rest' → cause_of (answer now came) ≡ Some cause
-    → IsHeard id start octets (record {
+    → IsHeard id start octets [] (record {
       replies = replies ++ replied now.asn id (answer now came);
       changes = changes ++ handed (answer now came);
       state = (after now came).state;
@@ -112,21 +116,28 @@ pub leads_down : (id : Addr) (start now : SessionFields) (octets rest rest' : Li
       cause = Some cause;
     })
 leads_down id start now octets rest rest' replies changes came cause leads next down =
-    let before = leads.whole (came ∷ []) (rest', next, ends_here (answer now came) cause (Hears (after now came) rest' []) down) in
+    let before = leads.whole (came ∷ []) [] (rest', next, ends_here (answer now came) cause (Leaves (after now came) rest' [] []) down) in
     (before.0, before.1, before.2 ∙ ap (behind replies changes) (last_one id now came cause (answer now came) down))
 
 pub leads_to_end : (id : Addr) (start now : SessionFields) (octets rest : List ℕ) (replies : Replies) (changes : Deltas)
     → Leads id start octets now rest replies changes → IsProperPrefix rest
-    → IsHeard id start octets (record { replies = replies; changes = changes; state = now.state; wide = now.wide; cause = None })
+    → IsHeard id start octets rest (record { replies = replies; changes = changes; state = now.state; wide = now.wide; cause = None })
 leads_to_end id start now octets rest replies changes leads prefix =
-    let before = leads.whole [] prefix in (
+    let before = leads.whole [] rest (prefix, refl) in (
       before.0,
       before.1,
       before.2 ∙ ap (λ (x : Replies). record { replies = x; changes = changes ++ []; state = now.state; wide = now.wide; cause = None }) (append-nil replies)
           ∙ ap (λ (y : Deltas). record { replies = replies; changes = y; state = now.state; wide = now.wide; cause = None }) (append-nil changes),
     )
 
--- what a call says that heard this and left the session in this state, reading wide or not
+-- what a call says that heard this, left the session in this state, reading wide or not, and left these octets
+abbrev pub OutcomeLeaving : Addr → SessionFields → List ℕ → List ℕ → HeardSoFar → State → Bool → Type 0
+OutcomeLeaving id s octets left w state wide =
+    (inputs : List Came) × Leaves s octets inputs left
+    × (w.replies ≡ (heard id s inputs).replies) × (w.changes.items ≡ (heard id s inputs).changes)
+    × (w.cause ≡ (heard id s inputs).cause) × (state ≡ (heard id s inputs).state) × (wide ≡ (heard id s inputs).wide)
+
+-- what it says of the inputs alone
 abbrev pub Outcome : Addr → SessionFields → List ℕ → HeardSoFar → State → Bool → Type 0
 Outcome id s octets w state wide =
     (inputs : List Came) × Hears s octets inputs
@@ -137,9 +148,9 @@ abbrev seen_in : HeardSoFar → State → Bool → Heard
 seen_in w state wide =
     record { replies = w.replies; changes = w.changes.items; state = state; wide = wide; cause = w.cause }
 
-outcome : (id : Addr) (s : SessionFields) (octets : List ℕ) (w : HeardSoFar) (state : State) (wide : Bool)
-    → IsHeard id s octets (seen_in w state wide) → Outcome id s octets w state wide
-outcome id s octets w state wide is = (
+outcome : (id : Addr) (s : SessionFields) (octets left : List ℕ) (w : HeardSoFar) (state : State) (wide : Bool)
+    → IsHeard id s octets left (seen_in w state wide) → OutcomeLeaving id s octets left w state wide
+outcome id s octets left w state wide is = (
   is.0,
   is.1,
   sym (ap (λ (h : Heard). h.replies) is.2),
@@ -186,12 +197,12 @@ module _ (id : Addr) (start now now' : SessionFields) (octets rest rest' : List 
   new_cause : cause_of said ≡ new.cause
   new_cause = ap cause_of (sym s.takes.happens) ∙ sym s.adds.cause
 
-  pub goes_down : is_some new.cause ≡ true → Outcome id start octets new now'.state now'.wide
+  pub goes_down : is_some new.cause ≡ true → OutcomeLeaving id start octets [] new now'.state now'.wide
   goes_down is =
       let why = some_cause new.cause is in
       let down = leads_down id start now octets rest rest' old.replies old.changes.items s.takes.came why.0 s.leads s.takes.next
       (new_cause ∙ why.1) in
-      outcome id start octets new now'.state now'.wide (
+      outcome id start octets [] new now'.state now'.wide (
         down.0,
         down.1,
         down.2 ∙ heard_as _ _ _ _ _ _ _ _ _ _ new_replies new_changes (sym (ap (λ (x : SessionFields). x.state) s.takes.state))
@@ -211,7 +222,7 @@ module _ (id : Addr) (start now now' : SessionFields) (octets rest rest' : List 
 
 pub ends : (id : Addr) (start now : SessionFields) (octets rest : List ℕ) (w : HeardSoFar) (state : State) (wide : Bool)
     → Leads id start octets now rest w.replies w.changes.items → IsProperPrefix rest → w.cause ≡ None → now.state ≡ state
-    → now.wide ≡ wide → Outcome id start octets w state wide
+    → now.wide ≡ wide → OutcomeLeaving id start octets rest w state wide
 ends id start now octets rest w state wide leads prefix up is reads =
     let all = leads_to_end id start now octets rest w.replies w.changes.items leads prefix in
-    outcome id start octets w state wide (all.0, all.1, all.2 ∙ heard_as _ _ _ _ _ _ _ _ _ _ refl refl is reads (sym up))
+    outcome id start octets rest w state wide (all.0, all.1, all.2 ∙ heard_as _ _ _ _ _ _ _ _ _ _ refl refl is reads (sym up))

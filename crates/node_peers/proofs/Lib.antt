@@ -4,3 +4,5 @@ pub mod Labels
 pub mod One
 pub mod Writable
 pub mod Some
+pub mod Cutting
+pub mod NotEnded

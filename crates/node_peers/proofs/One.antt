@@ -28,7 +28,7 @@ use Rattle.node_peers.specs.Hearing.{IsNext, message, fault, GoesOn, Hears, open
 use Rattle.node_peers.specs.First.{BringFirst, ChangeFitsItsTypes}
 use Rattle.node_peers.specs.Told.{IsWritable, spelled}
 
-next_one : (s : SessionFields) (octets : List ℕ) (a b : Came) (r q : List ℕ) → IsNext s octets a r → IsNext s octets b q → (a ≡ b) × (r ≡ q)
+pub next_one : (s : SessionFields) (octets : List ℕ) (a b : Came) (r q : List ℕ) → IsNext s octets a r → IsNext s octets b q → (a ≡ b) × (r ≡ q)
 next_one s octets a b r q (message m) (message n) =
     let same = one_message octets m.content n.content m.length n.length m.begins n.begins in (
       brings_one s.asn s.peer.address s.wide n.content a b (subst (λ (c : Content). Brings s.asn s.peer.address s.wide c a) same.0 m.brings) n.brings,

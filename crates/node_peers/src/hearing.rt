@@ -1,5 +1,5 @@
 //! What is heard on a session between control nodes.
-ghost use Rattle.std.specs.Prelude.{◌≡◌, ◌≢◌, ◌<◌, ◌^◌, ◌∷◌, ◌++◌, [], List, None, IfOk, OnOk, MatchOption};
+ghost use Rattle.std.specs.Prelude.{◌≡◌, ◌≢◌, ◌<◌, ◌^◌, ◌∷◌, ◌++◌, ◌≤◌, [], List, None, IfOk, OnOk, MatchOption, drop, length};
 ghost use Rattle.std.specs.Option.{option_map};
 ghost use Rattle.std.specs.List.{AllByRecursion};
 ghost use Rattle.bgp_wire.specs.Frames.{IsProperPrefix};
@@ -8,6 +8,7 @@ ghost use Rattle.bgp_session.specs.Happenings.{happening_of};
 ghost use Rattle.bgp_session.specs.declared.event.State.TheVariants.{Idle, OpenSent};
 ghost use Rattle.bgp_vpn.specs.Written.{IfPut};
 ghost use Rattle.node_peers.specs.Hearing.{Hears, heard, open_octets, reply_octets, notification};
+ghost use Rattle.node_peers.specs.Keeping.{Leaves};
 ghost use Rattle.node_peers.specs.Taking.{TakesNext, IsAdded};
 
 use bgp_session::{Cause, Event, Reply, Session};
@@ -23,6 +24,9 @@ pub struct Heard {
     pub replies: Items<Items<u8>>,
     /// The changes of routes that were handed out, in order.
     pub changes: Vec<Delta<VpnKey, VpnRoute>>,
+    /// How many octets were taken, from the first on: all of them where the session went down. Those behind them are
+    /// part of a message, which is to be heard once more octets came.
+    pub taken: usize,
     /// Why the session went down, where it did.
     pub cause: Option<Cause>,
 }
@@ -128,7 +132,7 @@ pub fn greet(
 }
 
 /// Hears octets: each message of them in order, up to one that takes the session down, or to octets that are none.
-/// Octets at the end that are no whole message are passed over.
+/// Octets at the end that are no whole message are left.
 pub fn hear(
     alloc: Global,
     session: &mut Session,
@@ -143,6 +147,12 @@ pub fn hear(
         × (w.changes.items ≡ (heard me session.old inputs).changes)
         × (w.cause ≡ (heard me session.old inputs).cause) × (session.new.state ≡ (heard me session.old inputs).state)
         × (session.new.wide ≡ (heard me session.old inputs).wide)) }
+    ensures left { IfOk result (λ w. (inputs : List Came) × Leaves session.old bytes.now inputs (drop w.taken bytes.now)
+        × (w.replies ≡ (heard me session.old inputs).replies)
+        × (w.changes.items ≡ (heard me session.old inputs).changes)
+        × (w.cause ≡ (heard me session.old inputs).cause) × (session.new.state ≡ (heard me session.old inputs).state)
+        × (session.new.wide ≡ (heard me session.old inputs).wide)) }
+    ensures taken { IfOk result (λ w. w.taken ≤ length bytes.now) }
     ensures asn { session.new.asn ≡ session.old.asn }
     ensures peer { session.new.peer ≡ session.old.peer }
 
@@ -153,15 +163,18 @@ pub fn hear(
     let mut heard = Heard {
         replies: Items::new(alloc),
         changes: Vec::new(alloc),
+        taken: 0,
         cause: None,
     };
     let mut rest = bytes;
     'messages: while let Some((event, after)) = take_next(alloc, session, rest)? {
         add(alloc, asn, me, event, &mut heard)?;
         if heard.cause.is_some() {
+            heard.taken = bytes.len();
             return Ok(heard);
         }
         rest = after;
     }
+    heard.taken = bytes.len() - rest.len();
     Ok(heard)
 }

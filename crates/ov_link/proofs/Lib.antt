@@ -1,2 +1,3 @@
 -- Lemmas.
 pub mod BreakLemmas
+pub mod Ends

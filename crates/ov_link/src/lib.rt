@@ -2,6 +2,7 @@
 #![tactic(auto)]
 
 mod failing;
+mod inbox;
 pub mod laws;
 mod link;
 mod links;
@@ -9,6 +10,7 @@ mod queue;
 mod step;
 
 pub use failing::FailingLink;
+pub use inbox::Inbox;
 pub use link::{Link, LinkFault, send_all};
 pub use links::Links;
 pub use queue::QueueLink;
