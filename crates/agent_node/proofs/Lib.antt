@@ -4,3 +4,4 @@ pub mod Changes
 pub mod Posts
 pub mod Applied
 pub mod Begins
+pub mod AtTheEnd

@@ -67,7 +67,7 @@ fn hear_at(
     ensures whom { whom hearing.new ≡ whom hearing.old }
     ensures fits { HeldFits hearing.new }
 {
-    let Heard { records, cause } = hear(alloc, &mut hearing.session, bytes)?;
+    let Heard { records, cause, .. } = hear(alloc, &mut hearing.session, bytes)?;
     if cause.is_none() {
         apply_all(&mut hearing.held, records)?;
     }

@@ -1,8 +1,11 @@
 //! An agent and its step.
-ghost use Rattle.std.specs.Prelude.{◌≡◌, ◌≢◌, ◌≤◌, ◌<◌, ◌↔◌, length, not, true, false, IfOk};
+ghost use Rattle.std.specs.Prelude.{◌≡◌, ◌≢◌, ◌≤◌, ◌<◌, ◌↔◌, ℕ, length, not, true, false, IfOk};
+ghost use Rattle.ov_link.specs.declared.step.Stepped.TheVariants.{Closed};
+ghost use Rattle.item_wire.specs.declared.event.ItemCause.TheVariants.{Ended};
 ghost use Rattle.node_core.specs.Whole.{Comes, IsWholeStep, session_of};
 ghost use Rattle.node_model.specs.Agent.{rows as rows_of};
 ghost use Rattle.node_model.specs.Step.{post};
+ghost use Rattle.node_laws.specs.Stepped.{AreTold};
 ghost use Rattle.agent_node.specs.Beginning.{Begins};
 ghost use Rattle.agent_node.specs.Core.{fresh, holdings, is_idle, is_up, kind, sessions};
 
@@ -95,11 +98,11 @@ impl AgentNode {
     }
 
     /// What it forwards by: its labels, its access lists and its routes, each in the order of their keys.
-    pub fn rows(&self, alloc: Global) -> Result<AgentRows, NoMemory>
+    pub fn rows(&self) -> Result<AgentRows, NoMemory>
         ensures shown { IfOk result (λ rows. rows ≡ self.now.rows) }
         ensures held { self.now.failed ≡ false → self.now.rows ≡ rows_of (holdings self.now.posts) }
     {
-        self.tables.rows(alloc)
+        self.tables.rows(self.node.ends.alloc())
     }
 
     /// One step: the input is applied to its session, its replies are sent, and then each session is told what has
@@ -118,6 +121,8 @@ impl AgentNode {
             → IsWholeStep L.accepted L.breaks L.faults kind
             (Begins self.old.plan (session_of input.entry) (post self.old.posts (session_of input.entry)) input.entry)
             self.old.posts self.new.posts (session_of input.entry) links.old links.new result }
+        ensures told { IfOk result (λ _. AreTold kind self.new.posts) }
+        ensures never_ended { (session : ℕ) → result ≢ Ok (Closed session Ended) }
         ensures plan { self.new.plan ≡ self.old.plan }
         ensures links { length links.new ≡ length links.old }
         ensures failed { (self.new.failed ≡ true) ↔ (result ≡ Err NodeFault.NoMemory) }

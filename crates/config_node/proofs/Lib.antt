@@ -4,3 +4,4 @@ pub mod Changes
 pub mod Wanted
 pub mod Posts
 pub mod Begins
+pub mod AtTheEnd

@@ -30,7 +30,7 @@ fn hear_at(
     ensures heard { IfOk result (λ cause. HasHeard session.old bytes.now session.new cause) }
     ensures whom { whom session.new ≡ whom session.old }
 {
-    let Heard { records, cause } = hear(alloc, session, bytes)?;
+    let Heard { records, cause, .. } = hear(alloc, session, bytes)?;
     let _none = records;
     Ok(cause)
 }

@@ -1,12 +1,15 @@
 //! The configuration node, its step and its edits.
-ghost use Rattle.std.specs.Prelude.{◌≡◌, ◌≢◌, ◌<◌, ◌↔◌, ◌⊎◌, length, not, true, false};
+ghost use Rattle.std.specs.Prelude.{◌≡◌, ◌≢◌, ◌<◌, ◌↔◌, ◌⊎◌, ℕ, length, not, true, false};
 ghost use Rattle.std.specs.Prelude.{None, Some, IfOk, IfSome, IsTrue};
+ghost use Rattle.ov_link.specs.declared.step.Stepped.TheVariants.{Closed};
+ghost use Rattle.item_wire.specs.declared.event.ItemCause.TheVariants.{Ended};
 ghost use Rattle.config_model.specs.Edit.{has_edit_form};
 ghost use Rattle.config_model.specs.Form.{has_config_form, has_topology_form};
 ghost use Rattle.config_check.specs.Edits.{edit_fault};
 ghost use Rattle.config_check.specs.Rules.{first_broken};
 ghost use Rattle.node_core.specs.Whole.{Comes, IsWholeStep, session_of};
 ghost use Rattle.node_model.specs.Step.{post};
+ghost use Rattle.node_laws.specs.Stepped.{AreTold};
 ghost use Rattle.network_model.specs.Setup.{edited};
 ghost use Rattle.config_node.specs.Advancing.{Remakes};
 ghost use Rattle.config_node.specs.Beginning.{Begins};
@@ -145,6 +148,8 @@ impl ConfigNode {
             → IsWholeStep L.accepted L.breaks L.faults (kind self.old.setup)
             (Begins self.old.setup (session_of input.entry) (post self.old.posts (session_of input.entry)) input.entry)
             self.old.posts self.new.posts (session_of input.entry) links.old links.new result }
+        ensures told { IfOk result (λ _. AreTold (kind self.new.setup) self.new.posts) }
+        ensures never_ended { (session : ℕ) → result ≢ Ok (Closed session Ended) }
         ensures setup { self.new.setup ≡ self.old.setup }
         ensures links { length links.new ≡ length links.old }
         ensures failed { (self.new.failed ≡ true) ↔ (result ≡ Err NodeFault.NoMemory) }

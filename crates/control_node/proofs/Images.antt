@@ -16,12 +16,11 @@ use Rattle.ov_types.specs.contracts.vpn.VpnRoutePartialEq.TheImpl as vpn_routes
 use Rattle.ov_types.specs.declared.keys.DownKey.{DownKey}
 use Rattle.ov_types.specs.declared.keys.DownValue.{DownValue}
 use Rattle.ov_types.specs.declared.keys.DownValue.TheVariants as Told
-use Rattle.ov_types.specs.declared.objects.LowKey.TheVariants as Object
 use Rattle.ov_types.specs.declared.vpn.VpnKey.{VpnKey}
 use Rattle.ov_types.specs.declared.vpn.VpnRoute.{VpnRoute}
 use Rattle.bgp_vpn.specs.Written.{IfPut}
 use Rattle.node_items.specs.Told.{ChangeFits, down_of, down_order, down_value}
-use Rattle.node_model.specs.Keys.{Row, Vpn, of_down}
+use Rattle.node_model.specs.Keys.{Vpn, of_down}
 use Rattle.node_model.specs.Maps.{difference}
 use Rattle.node_model.specs.Values.{Route, same_value}
 use Rattle.node_model.proofs.Directions.{vpn_keeps, vpn_total, vpn_exact, down_keeps, down_total, down_exact}

@@ -22,6 +22,7 @@ use Rattle.control_node.specs.declared.ends.AgentEnd.{AgentEnd}
 use Rattle.control_node.specs.declared.ends.PeerEnd.{PeerEnd}
 use Rattle.control_node.specs.Ends.{AreEnds, IsAgentEnd, plan_of, seat, seats}
 use Rattle.control_node.specs.Stays.{StaysHeld}
+use Rattle.node_core.proofs.Lists.{all-set}
 
 -- ---- as many
 pub many : {X Y : Type 0} (f : X → Y) (xs : List X) (ys : List Y) → map f xs ≡ ys → length ys ≡ length xs
@@ -35,11 +36,6 @@ pub all-at : {X : Type 0} (P : X → Type 0) (xs : List X) (i : ℕ) (d : X) →
 all-at P [] i d all h = absurd (omega (arith, h))
 all-at P (x ∷ xs) zero d all h = all.0
 all-at P (x ∷ xs) (suc i) d all h = all-at P xs i d all.1 (omega (arith, h))
-
-pub all-set : {X : Type 0} (P : X → Type 0) (xs : List X) (i : ℕ) (x : X) → AllByRecursion P xs → P x → AllByRecursion P (set xs i x)
-all-set P [] i x all h = all
-all-set P (y ∷ xs) zero x all h = (h, all.1)
-all-set P (y ∷ xs) (suc i) x all h = (all.0, all-set P xs i x all.1 h)
 
 -- the plan stays where the ends are those of the same nodes
 pub plan-peer : (me : NodeId) (asn : ℕ) (es : List PeerEnd) (ts : List AgentEnd) (i : ℕ) (e d : PeerEnd)

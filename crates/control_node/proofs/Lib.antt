@@ -12,3 +12,5 @@ pub mod Holding
 pub mod Passing
 pub mod Kept
 pub mod Made
+pub mod Shown
+pub mod AtTheEnd

@@ -1,5 +1,7 @@
 //! What is seen of the ends of sessions.
-ghost use Rattle.std.specs.Prelude.{◌≡◌, IfOk};
+ghost use Rattle.std.specs.Prelude.{◌≡◌, map, IfOk};
+ghost use Rattle.std.specs.List.Sorted.{IsStrictlySortedBy};
+ghost use Rattle.ov_types.specs.Keys.{row_key_cmp};
 ghost use Rattle.node_core.specs.Resting.{end_at};
 ghost use Rattle.node_items.specs.Beginning as item;
 ghost use Rattle.node_model.specs.Tables.{rows as rows_of};
@@ -11,7 +13,6 @@ use bgp_session::State;
 use item_wire::ItemState;
 use node_core::End;
 use ov_types::{ControlRows, NoMemory};
-use std::alloc::Global;
 
 /// The end whose session of items is in this state.
 pub(crate) fn item_end(state: ItemState) -> End
@@ -37,9 +38,10 @@ pub(crate) fn peer_end(state: State) -> End
 
 impl ControlEnds {
     /// The table of every known instance, in the order of keys.
-    pub(crate) fn rows(&self, alloc: Global) -> Result<ControlRows, NoMemory>
-        ensures { IfOk result (λ rows. rows ≡ rows_of (holdings self.now.plan self.now.posts)) }
+    pub(crate) fn rows(&self) -> Result<ControlRows, NoMemory>
+        ensures shown { IfOk result (λ rows. rows ≡ rows_of (holdings self.now.plan self.now.posts)) }
+        ensures ascending { IfOk result (λ rows. IsStrictlySortedBy row_key_cmp (map (λ row. row.0) rows)) }
     {
-        control_wants::rows(alloc, &self.tables)
+        control_wants::rows(self.alloc, &self.tables)
     }
 }

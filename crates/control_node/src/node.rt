@@ -1,11 +1,18 @@
 //! A control node and its step.
-ghost use Rattle.std.specs.Prelude.{◌≡◌, ◌≢◌, ◌<◌, ◌↔◌, ◌+◌, length, not, false, true, IfOk};
+ghost use Rattle.std.specs.Prelude.{◌≡◌, ◌≢◌, ◌<◌, ◌↔◌, ◌+◌, ℕ, length, map, not, false, true, IfOk};
+ghost use Rattle.std.specs.List.Sorted.{IsStrictlySortedBy};
+ghost use Rattle.ov_types.specs.Keys.{row_key_cmp};
+ghost use Rattle.ov_link.specs.declared.step.Stepped.TheVariants.{Closed};
+ghost use Rattle.bgp_session.specs.declared.event.Cause.TheVariants.{Ended as PeerEnded};
+ghost use Rattle.item_wire.specs.declared.event.ItemCause.TheVariants.{Ended as ItemEnded};
 ghost use Rattle.node_core.specs.Whole.{Comes, IsWholeStep, session_of};
 ghost use Rattle.node_model.specs.Step.{post};
 ghost use Rattle.node_model.specs.Tables.{rows as rows_of};
+ghost use Rattle.node_laws.specs.Stepped.{AreTold};
 ghost use Rattle.control_node.specs.Core.{fresh, holdings, sessions};
 ghost use Rattle.control_node.specs.Wanting.{is_idle, is_up, kind};
 ghost use Rattle.control_node.specs.Beginning.{Begins};
+ghost use Rattle.control_node.specs.declared.cause.NodeCause.TheVariants as Because;
 
 use crate::cause::NodeCause;
 use crate::ends::ControlEnds;
@@ -87,10 +94,11 @@ impl ControlNode {
     }
 
     /// The table of every known instance, in the order of keys.
-    pub fn rows(&self, alloc: Global) -> Result<ControlRows, NoMemory>
-        ensures { IfOk result (λ rows. rows ≡ rows_of (holdings self.now.plan self.now.posts)) }
+    pub fn rows(&self) -> Result<ControlRows, NoMemory>
+        ensures shown { IfOk result (λ rows. rows ≡ rows_of (holdings self.now.plan self.now.posts)) }
+        ensures ascending { IfOk result (λ rows. IsStrictlySortedBy row_key_cmp (map (λ row. row.0) rows)) }
     {
-        self.node.ends.rows(alloc)
+        self.node.ends.rows()
     }
 
     /// One step: the input is applied to its session, its replies are sent, and then each session is told what has
@@ -109,6 +117,9 @@ impl ControlNode {
             → IsWholeStep L.accepted L.breaks L.faults (kind self.old.plan)
             (Begins self.old.plan (session_of input.entry) (post self.old.posts (session_of input.entry)) input.entry)
             self.old.posts self.new.posts (session_of input.entry) links.old links.new result }
+        ensures told { IfOk result (λ _. AreTold (kind self.new.plan) self.new.posts) }
+        ensures never_ended { (session : ℕ) → (result ≢ Ok (Closed session (Because.Item ItemEnded)))
+            × (result ≢ Ok (Closed session (Because.Peer PeerEnded))) }
         ensures plan { self.new.plan ≡ self.old.plan }
         ensures links { length links.new ≡ length links.old }
         ensures failed { (self.new.failed ≡ true) ↔ (result ≡ Err NodeFault.NoMemory) }

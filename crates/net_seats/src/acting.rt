@@ -16,7 +16,6 @@ use config_node::ConfigNode;
 use control_node::ControlNode;
 use ov_link::{Input, Links, QueueLink};
 use ov_types::{NoMemory, NodeRows};
-use std::alloc::Global;
 
 /// The configuration node takes an input, and tells each session what is wanted then.
 pub(crate) fn take_config(
@@ -112,19 +111,19 @@ pub(crate) fn restart_agent(node: &mut AgentNode)
 }
 
 /// A control node's tables.
-pub(crate) fn show_control(node: &ControlNode, alloc: Global) -> Result<NodeRows, NoMemory>
+pub(crate) fn show_control(node: &ControlNode) -> Result<NodeRows, NoMemory>
     ensures { IfOk result (λ rows. rows ≡ shown (controlled node.now)) }
 {
-    let rows = node.rows(alloc)?;
+    let rows = node.rows()?;
     Ok(NodeRows::Control(rows))
 }
 
 /// What an agent forwards by.
-pub(crate) fn show_agent(node: &AgentNode, alloc: Global) -> Result<NodeRows, NoMemory>
+pub(crate) fn show_agent(node: &AgentNode) -> Result<NodeRows, NoMemory>
     requires { IsRight node.now }
     ensures { IfOk result (λ rows. rows ≡ shown (forwarded node.now)) }
 {
-    let rows = node.rows(alloc)?;
+    let rows = node.rows()?;
     Ok(NodeRows::Agent(rows))
 }
 

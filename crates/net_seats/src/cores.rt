@@ -20,7 +20,6 @@ use config_node::ConfigNode;
 use control_node::ControlNode;
 use ov_link::{Input, Links, QueueLink};
 use ov_types::{NoMemory, NodeRows, Outcome, Packet};
-use std::alloc::Global;
 use std::marker::Model;
 
 /// The nodes by their numbers: the configuration node, then the control nodes, then the agents. Each agent forwards by
@@ -144,15 +143,15 @@ impl Cores {
     }
 
     /// The tables of a control node or of an agent.
-    pub(crate) fn rows(&self, alloc: Global, node: u16) -> Result<NodeRows, NoMemory>
+    pub(crate) fn rows(&self, node: u16) -> Result<NodeRows, NoMemory>
         requires above { 0 < node }
         requires node { node < length self.now }
         ensures { IfOk result (λ rows. rows ≡ shown (inner self.now node)) }
     {
         match kind_of(self.controls.len(), node) {
             Kind::Configuration => Err(NoMemory),
-            Kind::Control(place) => show_control(&self.controls[place], alloc),
-            Kind::Agent(place) => show_agent(&self.agents[place], alloc),
+            Kind::Control(place) => show_control(&self.controls[place]),
+            Kind::Agent(place) => show_agent(&self.agents[place]),
         }
     }
 

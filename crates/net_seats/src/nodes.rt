@@ -86,7 +86,6 @@ pub struct Nodes {
     cores: Cores,
     edges: Vec<Edge>,
     failed: bool,
-    alloc: Global,
 }
 
 impl Model for Nodes {
@@ -128,7 +127,6 @@ fn with_config(alloc: Global, config: ConfigNode) -> Result<Nodes, NoMemory>
         cores,
         edges,
         failed: false,
-        alloc,
     })
 }
 
@@ -307,7 +305,7 @@ impl Nodes {
         requires works { self.now.failed ≡ false }
         ensures { IfOk result (λ rows. rows ≡ shown_by (seat self.now.seats node)) }
     {
-        self.cores.rows(self.alloc, node)
+        self.cores.rows(node)
     }
 
     /// Where the agents send a packet.

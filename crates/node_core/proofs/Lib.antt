@@ -5,3 +5,4 @@ pub mod Counting
 pub mod Deliveries
 pub mod Passing
 pub mod Told
+pub mod Closing

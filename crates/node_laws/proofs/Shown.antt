@@ -44,6 +44,7 @@ use Rattle.node_model.proofs.Local.{less_is}
 use Rattle.node_laws.specs.Received.{AreNetworks, IsShown}
 use Rattle.node_laws.specs.Labelled.{LeadsTo, to_port, to_circuit, IsAccessList}
 use Rattle.node_laws.proofs.Receiving.{known_from, known_in, network_is, networks, hops, places, places_within}
+use Rattle.node_model.proofs.Routes.{from_below}
 
 -- ---- lists that rise
 module _ {X : Type 0} (R : X → X → Type 0) where
@@ -186,25 +187,12 @@ uses_rise feed = rises_filter_map object_before lower_use (λ (e : LowKey × Low
 abbrev less_number : ℕ → ℕ → Type 0
 less_number m n = m < n
 
-from_below_it : (n j : ℕ) → Member j (below n) → j < n
-from_below_it zero j m = absurd m
-from_below_it (suc n) j m = elim (in_either j (below n) (n ∷ []) m) as (λ _. j < suc n) [
-  | inl l ↦ further j n (from_below_it n j l)
-  | inr r ↦ elim r as (λ _. j < suc n) [ inl e ↦ last j n e | inr none ↦ absurd none ]
-]
-  where
-    further : (j n : ℕ) → j < n → j < suc n
-    further j n h = omega arith
-
-    last : (j n : ℕ) → n ≡ j → j < suc n
-    last j n e = omega arith
-
 one_rises : {X : Type 0} (R : X → X → Type 0) (x : X) → Rises R (x ∷ [])
 one_rises R x = ((λ y m. absurd m), tt)
 
 below_rises : (n : ℕ) → Rises less_number (below n)
 below_rises zero = tt
-below_rises (suc n) = rises_append less_number (below n) (n ∷ []) (below_rises n) (one_rises less_number n) (λ x y m r. elim r as (λ _. x < y) [ inl e ↦ subst (λ (y : ℕ). x < y) e (from_below_it n x m) | inr none ↦ absurd none ])
+below_rises (suc n) = rises_append less_number (below n) (n ∷ []) (below_rises n) (one_rises less_number n) (λ x y m r. elim r as (λ _. x < y) [ inl e ↦ subst (λ (y : ℕ). x < y) e (from_below n x m) | inr none ↦ absurd none ])
 
 places_rise : (u : Use) → Rises less_number (places u)
 places_rise u = below_rises (suc u.services)

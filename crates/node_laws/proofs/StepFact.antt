@@ -1,19 +1,19 @@
 -- A step, told by the ends and the links before it and after it.
-use Rattle.std.specs.Prelude.{◌≡◌, ◌≢◌, ◌↔◌, ℕ, ◌+◌, ◌-◌, ◌<◌, ◌≤◌, List, [], ◌∷◌, ◌++◌, map, length, take, drop, Bool, true, false, cond, nat_lt, ◌==◌}
+use Rattle.std.specs.Prelude.{◌≡◌, ◌≢◌, ◌↔◌, ℕ, ◌+◌, ◌-◌, ◌<◌, ◌≤◌, List, [], ◌++◌, map, length, take, drop, Bool, true, false, cond, nat_lt, ◌==◌}
 use Rattle.std.specs.declared.option.Option.{Option}
 use Rattle.std.specs.declared.option.Option.TheVariants.{Some, None}
 use Rattle.std.specs.Option.{IfSome}
 use Rattle.std.specs.List.{slice_index_or}
 use Rattle.std.proofs.lemmas.Bool.{true≢false, eqb-true, eq-eqb, ltb-true, lt-ltb}
 use Rattle.std.proofs.lemmas.Option.{same_Some}
-use Rattle.std.proofs.lemmas.List.{get_or-set_same, get_or-set_other, get_or_default, length-set, take-append-drop, length-drop, length-append, same_lists}
+use Rattle.std.proofs.lemmas.List.{get_or-set_same, get_or-set_other, get_or_default, length-set, take-append-drop, length-drop, length-append, same_lists, nil_from_length}
 use Rattle.std.proofs.Math.ListN.{drop_of_length-le}
 use Rattle.std.proofs.Math.Seq.{take-append_seam}
 use Rattle.std.proofs.Common.{refl, sym, ◌∙◌, ap, subst, arith}
 use Rattle.ov_link.specs.Delivery.{Took, Delivers}
 use Rattle.node_model.specs.Maps.{difference}
 use Rattle.node_model.specs.Step.{Begun, Kind, Post, StepAt, Steps, begun, changes, end_of, nothing, planned, post, replies, told_all}
-use Rattle.node_model.proofs.Members.{none_some}
+use Rattle.node_model.proofs.Members.{none_some, iff_same}
 use Rattle.node_laws.specs.Stepped.{IsPassStart, IsPlan, IsLeft, IsLowest, TakesFront, SteppedAt, Stepped}
 
 module _ (k : Kind) (posts : List Post) (session : ℕ) (given : Begun) where
@@ -70,10 +70,6 @@ length_taken c xs h =
     count_is c (length xs) (length (take c xs)) (length (drop c xs)) h
     (sym (length-append (take c xs) (drop c xs)) ∙ ap length (take-append-drop c xs)) (length-drop c xs)
 
-empty_of_length : {X : Type 0} (xs : List X) → length xs ≡ 0 → xs ≡ []
-empty_of_length [] e = refl
-empty_of_length (x ∷ xs) e = absurd (omega (arith, e))
-
 rest_is : (f n r : ℕ) → n ≡ f + r → n ≤ f → r ≡ 0
 rest_is f n r e h = omega arith
 
@@ -85,11 +81,6 @@ same_when_false : (a b : Bool) → (a ≡ false → b ≡ false) → (b ≡ fals
 same_when_false true true f g = refl
 same_when_false false b f g = sym (f refl)
 same_when_false true false f g = g refl
-
-same_when_true : (a b : Bool) → (a ≡ true → b ≡ true) → (b ≡ true → a ≡ true) → a ≡ b
-same_when_true false false f g = refl
-same_when_true true b f g = sym (f refl)
-same_when_true false true f g = g refl
 
 module _ {L : Type 0} (accepted : L → Option (List (List ℕ))) (breaks : L → Option (List ℕ)) (faults : L → ℕ) where
   takes_of : (messages : List (List ℕ)) (failed : Bool) (link link' : L) (d : Delivers accepted breaks faults messages failed link link')
@@ -113,7 +104,7 @@ module _ {L : Type 0} (accepted : L → Option (List (List ℕ))) (breaks : L �
           within = within_sum (length messages) (length front) (length t.rest) total;
           whole = same_when_false failed (nat_lt (length front) (length messages))
               (λ e. at_least (length front) (length messages) (all_taken (length front) (length messages) (length t.rest) total (ap length (t.whole.0 e))))
-              (λ e. t.whole.1 (empty_of_length t.rest (rest_is (length front) (length messages) (length t.rest) total (not_below (length front) (length messages) e))));
+              (λ e. t.whole.1 (nil_from_length t.rest (rest_is (length front) (length messages) (length t.rest) total (not_below (length front) (length messages) e))));
           took = subst (λ (f : List (List ℕ)). Took accepted breaks faults f failed link link') (sym (ap (take (length front)) t.parts ∙ take-append_seam front t.rest)) t.took;
         },
         refl,
@@ -287,7 +278,7 @@ module _ {L : Type 0} (accepted : L → Option (List (List ℕ))) (breaks : L �
         }
       where
         reply_is : (fails : Bool) (c f r r' : ℕ) → c ≡ f → r ≡ r' → (fails ≡ true) ↔ (f < r) → fails ≡ nat_lt c r'
-        reply_is fails c f r r' e g w = same_when_true fails (nat_lt c r')
+        reply_is fails c f r r' e g w = iff_same fails (nat_lt c r')
             (λ t. lt-ltb c r' (moved c f r r' e g (w.0 t)))
             (λ t. w.1 (moved f c r' r (sym e) (sym g) (ltb-true c r' t)))
           where

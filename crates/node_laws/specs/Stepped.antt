@@ -4,7 +4,7 @@ use Rattle.std.specs.declared.option.Option.{Option}
 use Rattle.std.specs.declared.option.Option.TheVariants.{Some, None}
 use Rattle.ov_link.specs.Delivery.{Took}
 use Rattle.node_model.specs.Maps.{difference}
-use Rattle.node_model.specs.Step.{At, Begun, Kind, Post, end_of, nothing, post}
+use Rattle.node_model.specs.Step.{At, Begun, Idle, Kind, Post, end_of, nothing, post}
 
 -- the ends as the pass begins: each is as it was before the step, but for the input's own. That is what the input made
 -- of it, and closed where a reply failed
@@ -78,3 +78,25 @@ module _ {L : Type 0} (accepted : L → Option (List (List ℕ))) (breaks : L �
           → SteppedAt posts start posts' session given reply_failed (failed i) links links' i
       pub lowest_is : IsLowest (length posts) failed lowest
       pub long : length posts' ≡ length posts
+
+-- ---- what was wanted as the pass began, and what is wanted at the end of the step
+-- the ends are in the same states and hold the same
+abbrev pub HoldTheSame : List Post → List Post → Type 0
+HoldTheSame posts posts' =
+    (i : ℕ) → ((post posts' i).phase ≡ (post posts i).phase) × ((post posts' i).held ≡ (post posts i).held)
+
+-- a kind that wants by the states of ends and by what they hold, and may not send where an end is idle
+pub record WantsByHoldings (k : Kind) : Type 0 where
+  pub wants : (posts posts' : List Post) → length posts' ≡ length posts → HoldTheSame posts posts'
+      → (i : ℕ) → k.wanted posts' i ≡ k.wanted posts i
+  pub silent : (i : ℕ) → k.may_send i Idle ≡ false
+
+-- on each session that may send, what was sent is what these ends want there
+abbrev pub AreTold : Kind → List Post → Type 0
+AreTold k posts =
+    (i : ℕ) → i < length posts → k.may_send i (post posts i).phase ≡ true → (post posts i).sent ≡ k.wanted posts i
+
+-- no send failed in the pass: where a link failed, it is that of the input's session, and a reply failed there
+abbrev pub NoneFailsInPass : ℕ → ℕ → Bool → (ℕ → Bool) → Type 0
+NoneFailsInPass sessions session reply_failed failed =
+    (i : ℕ) → i < sessions → failed i ≡ true → (i ≡ session) × (reply_failed ≡ true)

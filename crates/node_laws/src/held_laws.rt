@@ -2,7 +2,9 @@
 //! does nothing.
 ghost use Rattle.std.specs.Prelude.{◌≡◌, ◌↔◌, Some, IsTrue};
 ghost use Rattle.std.specs.FinMap.{get};
+ghost use Rattle.ov_types.specs.Prefix.{Block};
 ghost use Rattle.ov_types.specs.declared.numbers.InstanceId.{InstanceId};
+ghost use Rattle.ov_types.specs.declared.numbers.Label.{Label as LabelNo};
 ghost use Rattle.ov_types.specs.declared.vpn.VpnKey.{VpnKey};
 ghost use Rattle.ov_types.specs.declared.vpn.VpnRoute.{VpnRoute};
 ghost use Rattle.node_model.specs.Members.{Member};
@@ -10,13 +12,14 @@ ghost use Rattle.node_model.specs.Keys.{Key, Subscribe, Vpn};
 ghost use Rattle.node_model.specs.Values.{Value, Label, Route};
 ghost use Rattle.node_model.specs.Maps.{Map};
 ghost use Rattle.node_model.specs.Uses.{is_known};
-ghost use Rattle.node_model.specs.Paths.{Holdings, Path, peer_paths, received};
+ghost use Rattle.node_model.specs.Paths.{Holdings, Path, Told, peer_paths, received};
 ghost use Rattle.node_model.specs.Reaching.{AreShort};
 ghost use Rattle.node_model.specs.Tables.{known_instances};
 ghost use Rattle.node_model.specs.Wants.{wanted_by_peers};
 ghost use Rattle.node_model.specs.Agent as agent;
 ghost use Rattle.node_model.specs.Agent.{IsNeeded, slice_in_use};
-ghost use Rattle.node_laws.specs.Counts.{AreListed, AreNumbered, IsCounted};
+ghost use Rattle.node_laws.specs.Counts.{AreListed, AreNumbered, IsCounted, IsLowestSession, Publishes};
+ghost use Rattle.node_laws.specs.Counts.{published_key, published_route};
 ghost use Rattle.node_laws.specs.Received.{AreNetworks, IsKnown, IsPeerRoute, IsReceived};
 ghost use Rattle.node_laws.specs.Labelled.{IsToldUp};
 
@@ -54,4 +57,13 @@ pub fn of_equal_keys_the_first_counts()
         → (get (wanted_by_peers h) (Vpn k) ≡ Some (Route r)) ↔ IsCounted h k r }
     ensures alone { (h : Holdings) (k : Key) (v : Value) → get (wanted_by_peers h) k ≡ Some v
         → ((at : VpnKey) × (k ≡ Vpn at)) × ((r : VpnRoute) × (v ≡ Route r)) }
+{}
+
+/// Where agents publish under one key, peers are told what the agent of the lowest session publishes there: its address,
+/// its label, and the target of its instance alone.
+pub fn the_lowest_session_publishes()
+    ensures { (h : Holdings) → AreListed h.agents → AreNumbered h.feed
+        → (a : Told) (i : InstanceId) (prefix : Block) (label : LabelNo) → Publishes h a i prefix label
+        → IsLowestSession h (published_key a i prefix) a.session
+        → get (wanted_by_peers h) (Vpn (published_key a i prefix)) ≡ Some (Route (published_route h a i label)) }
 {}

@@ -1,12 +1,12 @@
 //! Laws of a step of a node, for every kind of node over every kind of link: each is the contract of a function that
 //! does nothing.
-ghost use Rattle.std.specs.Prelude.{◌≡◌, ◌≢◌, ◌↔◌, ℕ, List, Option, IsTrue};
+ghost use Rattle.std.specs.Prelude.{◌≡◌, ◌≢◌, ◌↔◌, ℕ, List, length, Option, IsTrue};
 ghost use Rattle.std.specs.FinMap.{get};
 ghost use Rattle.ov_sync.specs.Keyed.{after, is_changed};
 ghost use Rattle.node_model.specs.Keys.{Key, key_cmp};
 ghost use Rattle.node_model.specs.Maps.{Map, difference};
 ghost use Rattle.node_model.specs.Step.{Begun, Kind, Post, Steps};
-ghost use Rattle.node_laws.specs.Stepped.{Stepped};
+ghost use Rattle.node_laws.specs.Stepped.{AreTold, HoldTheSame, NoneFailsInPass, Stepped, WantsByHoldings};
 
 /// The changes that a session is told lead from what was sent to what is wanted, and are of the keys at which these
 /// differ alone.
@@ -25,4 +25,15 @@ pub fn steps_tell_what_was_wanted<L>()
         → (k : Kind) (posts after : List Post) (session : ℕ) (given : Begun) (links left : List L) (lowest : Option ℕ)
         → Steps k accepted breaks faults posts after session given links left lowest
         ↔ Stepped accepted breaks faults k posts after session given links left lowest }
+{}
+
+/// Where no send fails in the pass of a step, what a node holds at its end is what it wanted by: on each session that
+/// may send, what was sent is what the ends want there once the step is over.
+pub fn what_is_held_at_the_end_is_told<L>()
+    ensures { (accepted : L → Option (List (List ℕ))) (breaks : L → Option (List ℕ)) (faults : L → ℕ)
+        → (k : Kind) (posts after : List Post) (session : ℕ) (given : Begun) (links left : List L) (lowest : Option ℕ)
+        → WantsByHoldings k
+        → (s : Stepped accepted breaks faults k posts after session given links left lowest)
+        → NoneFailsInPass (length posts) session s.reply_failed s.failed
+        → HoldTheSame s.start after × AreTold k after }
 {}

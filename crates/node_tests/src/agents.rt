@@ -182,20 +182,15 @@ fn forwards(rt: &impl Abort, node: &mut AgentNode) {
 }
 
 /// The second control node tells its rows, and then the agent is started again.
-fn show_and_restart(
-    rt: &impl Abort,
-    alloc: Global,
-    node: &mut AgentNode,
-    links: &mut Links<QueueLink>,
-) {
+fn show_and_restart(rt: &impl Abort, node: &mut AgentNode, links: &mut Links<QueueLink>) {
     open(rt, node, links, 1);
     bring(rt, node, links, 1, SECOND);
-    shows_both(rt, &node.rows(alloc).expect(rt, "memory"));
+    shows_both(rt, &node.rows().expect(rt, "memory"));
     forwards(rt, node);
     node.restart();
     assert!(rt; !node.failed());
     stands(rt, node, 1, false, false);
-    assert!(rt; node.rows(alloc).expect(rt, "memory").labels.is_empty());
+    assert!(rt; node.rows().expect(rt, "memory").labels.is_empty());
     assert!(rt; node.route(InstanceId(1), AT_9).is_none());
 }
 
@@ -204,7 +199,7 @@ fn rows_are_shown_and_forwarded_by(rt: HostRuntime) {
     let mut links = Links::new(rt.alloc());
     add_queues(&rt, rt.alloc(), &mut links, 2);
     let mut node = with_two(&rt, rt.alloc());
-    show_and_restart(&rt, rt.alloc(), &mut node, &mut links);
+    show_and_restart(&rt, &mut node, &mut links);
 }
 
 /// The second control node greets on the session of the first.
@@ -231,12 +226,7 @@ fn a_hello_of_another_node_closes_the_session(rt: HostRuntime) {
 }
 
 /// The link of the second session fails as the agent publishes.
-fn publish_over_a_break(
-    rt: &impl Abort,
-    alloc: Global,
-    node: &mut AgentNode,
-    links: &mut Links<FailingLink>,
-) {
+fn publish_over_a_break(rt: &impl Abort, node: &mut AgentNode, links: &mut Links<FailingLink>) {
     open(rt, node, links, 0);
     bring(rt, node, links, 0, FIRST);
     assert!(rt; 1 < links.len());
@@ -245,7 +235,7 @@ fn publish_over_a_break(
     assert!(rt; matches!(answer, Err(NodeFault::LinkFailed { session: 1 })));
     stands(rt, node, 0, true, true);
     stands(rt, node, 1, false, false);
-    let rows = node.rows(alloc).expect(rt, "memory");
+    let rows = node.rows().expect(rt, "memory");
     assert!(rt; rows.labels.as_slice() == [(Label(23), PORT_7)].as_slice());
     assert!(rt; rows.acls.is_empty());
     assert!(rt; rows.routes.is_empty());
@@ -263,40 +253,75 @@ fn a_publication_that_fails_closes_its_session_alone(rt: HostRuntime) {
         .push(FailingLink::new(rt.alloc()))
         .expect(&rt, "memory");
     let mut node = with_two(&rt, rt.alloc());
-    publish_over_a_break(&rt, rt.alloc(), &mut node, &mut links);
+    publish_over_a_break(&rt, &mut node, &mut links);
 }
 
 const N1: Addr = Addr(0xc000_020b);
 
 const N2: Addr = Addr(0xc000_020c);
 
-/// The slice of 192.0.2.11, and the rows that its packets need, where port 1 of network 1 and port 2 of network 2 are
-/// joined by a chain of a service here and one at 192.0.2.12.
-const TOLD_AT_N1: [&[u8]; 10] = [
+/// The slice of 192.0.2.11, and all rows of the instances that it needs, where port 1 of network 1 and port 2 of network
+/// 2 are joined by a chain of a service here and one at 192.0.2.12.
+const TOLD_AT_N1: [&[u8]; 14] = [
     b"{\"name\":\"c1\",\"op\":\"hello\"}",
     b"{\"address\":\"10.1.0.1\",\"instance\":1,\"node\":\"192.0.2.11\",\"op\":\"port\",\"port\":1}",
     b"{\"circuit\":32769,\"node\":\"192.0.2.11\",\"op\":\"circuit\",\"service\":1}",
     b"{\"circuit\":32770,\"node\":\"192.0.2.11\",\"op\":\"circuit\",\"service\":1}",
     b"{\"from\":1,\"op\":\"acl\",\"rules\":[],\"subnets\":[\"10.1.0.0/24\"],\"to\":1}",
     b"{\"from\":1,\"op\":\"acl\",\"rules\":[[256,0,65535,0,65535,16384,20,1]],\"subnets\":[\"10.2.0.0/24\"],\"to\":2}",
+    b"{\"instance\":1,\"label\":17,\"next_hop\":\"192.0.2.11\",\"op\":\"route\",\"prefix\":\"10.1.0.1/32\"}",
     b"{\"instance\":16384,\"label\":17,\"next_hop\":\"192.0.2.11\",\"op\":\"route\",\"prefix\":\"10.1.0.1/32\"}",
     b"{\"instance\":16384,\"label\":557057,\"next_hop\":\"192.0.2.11\",\"op\":\"route\",\"prefix\":\"10.2.0.0/24\"}",
-    b"{\"instance\":16385,\"label\":557059,\"next_hop\":\"192.0.2.12\",\"op\":\"route\",\"prefix\":\"10.2.0.0/24\"}",
+    b"{\"instance\":16384,\"label\":557057,\"next_hop\":\"192.0.2.11\",\"op\":\"route\",\"prefix\":\"250.0.128.1/32\"}",
     b"{\"instance\":16385,\"label\":557058,\"next_hop\":\"192.0.2.11\",\"op\":\"route\",\"prefix\":\"10.1.0.0/24\"}",
+    b"{\"instance\":16385,\"label\":557059,\"next_hop\":\"192.0.2.12\",\"op\":\"route\",\"prefix\":\"10.2.0.0/24\"}",
+    b"{\"instance\":16385,\"label\":557058,\"next_hop\":\"192.0.2.11\",\"op\":\"route\",\"prefix\":\"250.0.128.2/32\"}",
+    b"{\"instance\":16385,\"label\":557059,\"next_hop\":\"192.0.2.12\",\"op\":\"route\",\"prefix\":\"250.0.128.3/32\"}",
 ];
 
 /// And those of 192.0.2.12.
-const TOLD_AT_N2: [&[u8]; 10] = [
+const TOLD_AT_N2: [&[u8]; 14] = [
     b"{\"name\":\"c1\",\"op\":\"hello\"}",
     b"{\"address\":\"10.2.0.2\",\"instance\":2,\"node\":\"192.0.2.12\",\"op\":\"port\",\"port\":2}",
     b"{\"circuit\":32771,\"node\":\"192.0.2.12\",\"op\":\"circuit\",\"service\":2}",
     b"{\"circuit\":32772,\"node\":\"192.0.2.12\",\"op\":\"circuit\",\"service\":2}",
     b"{\"from\":2,\"op\":\"acl\",\"rules\":[[256,0,65535,0,65535,16386,20,1]],\"subnets\":[\"10.1.0.0/24\"],\"to\":1}",
     b"{\"from\":2,\"op\":\"acl\",\"rules\":[],\"subnets\":[\"10.2.0.0/24\"],\"to\":2}",
-    b"{\"instance\":16386,\"label\":18,\"next_hop\":\"192.0.2.12\",\"op\":\"route\",\"prefix\":\"10.2.0.2/32\"}",
-    b"{\"instance\":16386,\"label\":557060,\"next_hop\":\"192.0.2.12\",\"op\":\"route\",\"prefix\":\"10.1.0.0/24\"}",
-    b"{\"instance\":16385,\"label\":557059,\"next_hop\":\"192.0.2.12\",\"op\":\"route\",\"prefix\":\"10.2.0.0/24\"}",
+    b"{\"instance\":2,\"label\":18,\"next_hop\":\"192.0.2.12\",\"op\":\"route\",\"prefix\":\"10.2.0.2/32\"}",
     b"{\"instance\":16385,\"label\":557058,\"next_hop\":\"192.0.2.11\",\"op\":\"route\",\"prefix\":\"10.1.0.0/24\"}",
+    b"{\"instance\":16385,\"label\":557059,\"next_hop\":\"192.0.2.12\",\"op\":\"route\",\"prefix\":\"10.2.0.0/24\"}",
+    b"{\"instance\":16385,\"label\":557058,\"next_hop\":\"192.0.2.11\",\"op\":\"route\",\"prefix\":\"250.0.128.2/32\"}",
+    b"{\"instance\":16385,\"label\":557059,\"next_hop\":\"192.0.2.12\",\"op\":\"route\",\"prefix\":\"250.0.128.3/32\"}",
+    b"{\"instance\":16386,\"label\":557060,\"next_hop\":\"192.0.2.12\",\"op\":\"route\",\"prefix\":\"10.1.0.0/24\"}",
+    b"{\"instance\":16386,\"label\":18,\"next_hop\":\"192.0.2.12\",\"op\":\"route\",\"prefix\":\"10.2.0.2/32\"}",
+    b"{\"instance\":16386,\"label\":557060,\"next_hop\":\"192.0.2.12\",\"op\":\"route\",\"prefix\":\"250.0.128.4/32\"}",
+];
+
+/// A row: its instance, the address and the length of its prefix, its next hop and its label.
+type Row = (u16, u32, u8, Addr, u32);
+
+/// The rows of the chain at 192.0.2.11.
+const ROUTES_AT_N1: [Row; 8] = [
+    (1, 0x0a01_0001, 32, N1, 17),
+    (16_384, 0x0a01_0001, 32, N1, 17),
+    (16_384, 0x0a02_0000, 24, N1, 557_057),
+    (16_384, 0xfa00_8001, 32, N1, 557_057),
+    (16_385, 0x0a01_0000, 24, N1, 557_058),
+    (16_385, 0x0a02_0000, 24, N2, 557_059),
+    (16_385, 0xfa00_8002, 32, N1, 557_058),
+    (16_385, 0xfa00_8003, 32, N2, 557_059),
+];
+
+/// And at 192.0.2.12.
+const ROUTES_AT_N2: [Row; 8] = [
+    (2, 0x0a02_0002, 32, N2, 18),
+    (16_385, 0x0a01_0000, 24, N1, 557_058),
+    (16_385, 0x0a02_0000, 24, N2, 557_059),
+    (16_385, 0xfa00_8002, 32, N1, 557_058),
+    (16_385, 0xfa00_8003, 32, N2, 557_059),
+    (16_386, 0x0a01_0000, 24, N2, 557_060),
+    (16_386, 0x0a02_0002, 32, N2, 18),
+    (16_386, 0xfa00_8004, 32, N2, 557_060),
 ];
 
 /// Records, each behind its length, which has one octet.
@@ -354,6 +379,30 @@ fn arrived(rt: &impl Abort, trace: &Trace, to: u32, visited: &[ServiceNo], hops:
     }
 }
 
+/// A row as it is shown.
+fn row(rt: &impl Abort, wanted: &Row) -> ((InstanceId, Prefix), Entry) {
+    let (instance, address, length, next_hop, label) = *wanted;
+    let prefix = Prefix::new(Addr(address), length).expect(rt, "a prefix");
+    let entry = Entry {
+        next_hop,
+        label: Label(label),
+    };
+    ((InstanceId(instance), prefix), entry)
+}
+
+/// The agent shows exactly these labels and these rows.
+fn shows(rt: &impl Abort, node: &AgentNode, labels: &[u32], routes: &[Row]) {
+    let rows = node.rows().expect(rt, "memory");
+    assert!(rt; rows.labels.len() == labels.len());
+    for (shown, label) in rows.labels.as_slice().iter().zip(labels) {
+        assert!(rt; shown.0.0 == *label);
+    }
+    assert!(rt; rows.routes.len() == routes.len());
+    for (shown, wanted) in rows.routes.as_slice().iter().zip(routes) {
+        assert!(rt; *shown == row(rt, wanted));
+    }
+}
+
 /// Traces a packet each way.
 fn pass_both_ways(rt: &impl Abort, agents: &mut [AgentNode]) {
     let there = trace(agents, packet(1, 0x0a02_0002));
@@ -372,5 +421,7 @@ fn both_packets_pass_the_chain(rt: HostRuntime) {
     let mut far = agent(&rt, alloc, N2, &controllers);
     fill(&rt, alloc, &mut near, &TOLD_AT_N1);
     fill(&rt, alloc, &mut far, &TOLD_AT_N2);
+    shows(&rt, &near, &[17, 557_057, 557_058], &ROUTES_AT_N1);
+    shows(&rt, &far, &[18, 557_059, 557_060], &ROUTES_AT_N2);
     pass_both_ways(&rt, &mut [near, far]);
 }

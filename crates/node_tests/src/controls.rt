@@ -205,7 +205,7 @@ fn peered(
 /// The rows are these, a line each.
 fn are_shown(rt: &impl Abort, alloc: Global, node: &ControlNode, want: &str) {
     let mut text = String::new(alloc);
-    let rows = node.rows(alloc).expect(rt, "memory");
+    let rows = node.rows().expect(rt, "memory");
     for ((instance, prefix), row) in rows.as_slice() {
         writeln!(text, "{} {prefix} {row}", instance.0).expect(rt, "memory");
     }

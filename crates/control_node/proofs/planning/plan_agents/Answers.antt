@@ -3,7 +3,7 @@ use Rattle.std.proofs.Math.Seq.{map-set_same}
 use Rattle.control_node.specs.Ends.{IsAgentEnd}
 use Rattle.control_node.specs.Planning.{AreAgentsTold, IsAgentTold, agent_plan, agent_plans}
 use Rattle.control_node.specs.declared.ends.AgentEnd.{AgentEnd}
-use Rattle.control_node.proofs.Keeping.{all-set}
+use Rattle.node_core.proofs.Lists.{all-set}
 use Rattle.control_node.proofs.Planned.{agents_plans_more, agents_rest_more, agents_told_more}
 use Rattle.control_node.proofs.planning.plan_agents.Goals as goal
 

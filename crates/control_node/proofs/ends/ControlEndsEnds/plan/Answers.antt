@@ -4,10 +4,11 @@ use Rattle.control_node.specs.Planning.{ArePlanned}
 use Rattle.control_node.specs.Wanting.{kind}
 use Rattle.control_node.specs.declared.ends.AgentEnd.{AgentEnd}
 use Rattle.control_node.specs.declared.ends.PeerEnd.{PeerEnd}
-use Rattle.control_node.proofs.Kept.{ends_kept, ids_of, if_ok, long_kept, plan_kept, written}
+use Rattle.control_node.proofs.Kept.{ends_kept, ids_of, if_ok, long_kept, plan_kept}
 use Rattle.control_node.proofs.Passing.{are_plans, plans_seen}
 use Rattle.control_node.proofs.Planned.{sessions_of}
 use Rattle.control_node.proofs.ends.ControlEndsEnds.plan.Goals as goal
+use Rattle.node_core.proofs.Lists.{written}
 
 pub invariant_of-self : goal.invariant_of-self
 invariant_of-self c =

@@ -1,0 +1,43 @@
+-- What the configuration node wants is settled by its configuration, and no input closes a session as ended.
+use Rattle.std.specs.Prelude.{◌≢◌, ℕ, List, IfOk}
+use Rattle.std.specs.declared.option.Option.{Option}
+use Rattle.std.specs.declared.result.Result.{Result}
+use Rattle.std.specs.declared.result.Result.TheVariants.{Ok, Err}
+use Rattle.std.proofs.Common.{refl}
+use Rattle.ov_link.specs.declared.step.Input.{Input}
+use Rattle.ov_link.specs.declared.step.Stepped.{Stepped}
+use Rattle.ov_link.specs.declared.step.Stepped.TheVariants.{Closed}
+use Rattle.ov_link.specs.declared.step.NodeFault.{NodeFault}
+use Rattle.ov_link.specs.declared.step.NodeFault.TheVariants.{NoMemory}
+use Rattle.item_wire.specs.declared.event.ItemCause.{ItemCause}
+use Rattle.item_wire.specs.declared.event.ItemCause.TheVariants.{Ended}
+use Rattle.node_items.proofs.NotEnded.{never_ended}
+use Rattle.node_model.specs.Step.{Post}
+use Rattle.node_core.specs.Whole.{IsWholeStep}
+use Rattle.node_core.proofs.Closing.{never_closed}
+use Rattle.node_laws.specs.Stepped.{AreTold, WantsByHoldings}
+use Rattle.node_laws.proofs.AtTheEnd.{told_where_none_failed}
+use Rattle.config_check.specs.Checked.{Checked}
+use Rattle.network_model.specs.Network.{config}
+use Rattle.config_node.specs.Beginning.{Begins, session_at}
+use Rattle.config_node.specs.Core.{kind}
+
+pub wants_by_holdings : (x : Checked) → WantsByHoldings (kind x)
+wants_by_holdings x = record { wants = λ posts after long same i. refl; silent = λ i. refl }
+
+-- ---- a step, as it is answered
+module _ {L : Type 0} (accepted : L → Option (List (List ℕ))) (breaks : L → Option (List ℕ)) (faults : L → ℕ)
+    (x : Checked) (posts after : List Post) (session i : ℕ) (p : Post) (came : Input) (links left : List L) where
+  abbrev Whole : Result (Stepped ItemCause) NodeFault → Type 0
+  Whole result = result ≢ Err NoMemory → IsWholeStep accepted breaks faults (kind x) (Begins x i p came) posts after session links left result
+
+  pub all_told : (result : Result (Stepped ItemCause) NodeFault) → Whole result → IfOk result (λ _. AreTold (kind x) after)
+  all_told (Ok stepped) whole =
+      let w = whole (λ e. cc) in
+      told_where_none_failed accepted breaks faults (kind x) posts after session w.given links left (wants_by_holdings x) w.steps
+  all_told (Err fault) whole = tt
+
+  pub never_closed_as_ended : (result : Result (Stepped ItemCause) NodeFault) → Whole result → (s : ℕ) → result ≢ Ok (Closed s Ended)
+  never_closed_as_ended result whole s =
+      never_closed accepted breaks faults (kind x) (Begins x i p came) posts after session links left Ended
+      (λ given cause b. never_ended config (session_at x i p.phase) p came given cause b) result whole s
