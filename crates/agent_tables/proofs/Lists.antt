@@ -3,17 +3,14 @@ use Rattle.std.specs.Prelude.{◌≡◌, ◌<◌, ◌≤◌, ℕ, suc, ◌+◌, 
 use Rattle.std.specs.declared.option.Option.{Option}
 use Rattle.std.specs.declared.option.Option.TheVariants.{Some, None}
 use Rattle.std.proofs.Math.Seq.{drop-cons}
-use Rattle.std.proofs.Common.{refl, sym, ◌∙◌, ap, arith}
+use Rattle.std.proofs.Common.{refl, ◌∙◌, ap, arith}
+use Rattle.std.proofs.Math.ListN.{drop_of_length-le}
 use Rattle.node_model.specs.Agent.{first_some}
-use Rattle.packet_trace.proofs.Places.{drop_all}
 
 next : (k : ℕ) → suc k ≡ k + 1
 next k = omega arith
 
 -- one turn of a walk
-pub turn : {A : Type 0} (items : List A) (k : ℕ) (x : A) → k < length items → x ≡ get_or items k x → drop k items ≡ x ∷ drop (k + 1) items
-turn {A} items k x lt e = drop-cons items k x lt ∙ ap (λ (y : A). y ∷ drop (suc k) items) (sym e) ∙ ap (λ (n : ℕ). x ∷ drop n items) (next k)
-
 pub turn_at : {A : Type 0} (items : List A) (k : ℕ) (d : A) → k < length items → drop k items ≡ get_or items k d ∷ drop (k + 1) items
 turn_at items k d lt = drop-cons items k d lt ∙ ap (λ n. get_or items k d ∷ drop n items) (next k)
 
@@ -30,4 +27,4 @@ or_there (Some x) p e = refl
 or_there None p e = cc
 
 pub rest_none : {A : Type 0} (items : List A) (k : ℕ) → length items ≤ k → drop k items ≡ []
-rest_none items k past = drop_all items k past
+rest_none items k past = drop_of_length-le items past

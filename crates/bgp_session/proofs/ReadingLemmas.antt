@@ -1,5 +1,5 @@
 -- How a session reads, by all that came to it.
-use Rattle.std.proofs.Common.{◌≡◌, ℕ, List, [], ◌∷◌, Bool, Option, Some, None, refl}
+use Rattle.std.proofs.Common.{◌≡◌, ℕ, List, [], ◌∷◌, Bool, Option, Some, None, refl, arith}
 use Rattle.ov_types.specs.declared.rows.NodeId.{NodeId}
 use Rattle.bgp_wire.specs.declared.fault.WireFault.{WireFault}
 use Rattle.bgp_wire.specs.Content.{OpenFields, UpdateFields, Opens, Updates}
@@ -15,42 +15,7 @@ use Rattle.bgp_session.specs.Reading.{after_all, last_open, ReadsAs}
 -- one input
 reads_on : (state : State) (reads : Bool) (said : Option Bool) (came : Came) → ReadsAs state reads said
     → ReadsAs (next_state state came) (wide_in (next_state state came) came reads) (last_open said (came ∷ []))
-reads_on Idle reads said Opened h = h
-reads_on Idle reads said (RightOpen wide) h = refl
-reads_on Idle reads said (WrongOpen f) h = refl
-reads_on Idle reads said KeepaliveCame h = refl
-reads_on Idle reads said (RightUpdate deltas) h = refl
-reads_on Idle reads said (WrongUpdate f) h = refl
-reads_on Idle reads said (NotificationCame code subcode) h = refl
-reads_on Idle reads said (BadFrame f) h = refl
-reads_on Idle reads said Closed h = refl
-reads_on OpenSent reads said Opened h = h
-reads_on OpenSent reads said (RightOpen wide) h = refl
-reads_on OpenSent reads said (WrongOpen f) h = refl
-reads_on OpenSent reads said KeepaliveCame h = refl
-reads_on OpenSent reads said (RightUpdate deltas) h = refl
-reads_on OpenSent reads said (WrongUpdate f) h = refl
-reads_on OpenSent reads said (NotificationCame code subcode) h = refl
-reads_on OpenSent reads said (BadFrame f) h = refl
-reads_on OpenSent reads said Closed h = refl
-reads_on OpenConfirm reads said Opened h = h
-reads_on OpenConfirm reads said (RightOpen wide) h = refl
-reads_on OpenConfirm reads said (WrongOpen f) h = refl
-reads_on OpenConfirm reads said KeepaliveCame h = h
-reads_on OpenConfirm reads said (RightUpdate deltas) h = refl
-reads_on OpenConfirm reads said (WrongUpdate f) h = refl
-reads_on OpenConfirm reads said (NotificationCame code subcode) h = refl
-reads_on OpenConfirm reads said (BadFrame f) h = refl
-reads_on OpenConfirm reads said Closed h = refl
-reads_on Established reads said Opened h = h
-reads_on Established reads said (RightOpen wide) h = refl
-reads_on Established reads said (WrongOpen f) h = refl
-reads_on Established reads said KeepaliveCame h = h
-reads_on Established reads said (RightUpdate deltas) h = h
-reads_on Established reads said (WrongUpdate f) h = refl
-reads_on Established reads said (NotificationCame code subcode) h = refl
-reads_on Established reads said (BadFrame f) h = refl
-reads_on Established reads said Closed h = refl
+reads_on state reads said came h = grind (arith, h)
 
 -- all of them
 reads_after : (s : SessionFields) (said : Option Bool) (inputs : List Came) → ReadsAs s.state s.wide said

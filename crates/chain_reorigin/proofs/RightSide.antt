@@ -1,17 +1,14 @@
 -- Of each use the right side's routes stand first.
 use Rattle.std.specs.Prelude.{◌≡◌, List, [], ◌∷◌, ◌++◌, true, false}
 use Rattle.std.specs.List.{flat_map}
-use Rattle.std.proofs.Common.{refl, sym, ◌∙◌, ap, inl, inr}
+use Rattle.std.proofs.Common.{sym, ◌∙◌, ap, inl, inr}
+use Rattle.std.proofs.lemmas.List.{append_assoc}
 use Rattle.node_model.specs.Members.{Member}
 use Rattle.node_model.specs.Paths.{Holdings, Path}
 use Rattle.node_model.specs.Reaching.{sides_of}
 use Rattle.node_model.specs.Uses.{Use, uses}
 use Rattle.vpn_tables.specs.Leading.{leads}
 use Rattle.chain_reorigin.specs.Laws.{RightFirst}
-
-assoc : (xs ys zs : List Path) → (xs ++ ys) ++ zs ≡ xs ++ (ys ++ zs)
-assoc [] ys zs = refl
-assoc (x ∷ xs) ys zs = ap (λ (l : List Path). x ∷ l) (assoc xs ys zs)
 
 module _ (h : Holdings) where
   abbrev right : Use → List Path
@@ -33,8 +30,8 @@ module _ (h : Holdings) where
         right v ++ (left v ++ s.0),
         s.1,
         ap (λ (l : List Path). right v ++ (left v ++ l)) s.2
-            ∙ ap (λ (l : List Path). right v ++ l) (sym (assoc (left v) s.0 rest))
-            ∙ sym (assoc (right v) (left v ++ s.0) rest),
+            ∙ ap (λ (l : List Path). right v ++ l) (sym (append_assoc (left v) s.0 rest))
+            ∙ sym (append_assoc (right v) (left v ++ s.0) rest),
       )
 
   pub right_first : (u : Use) → Member u (uses h.feed) → RightFirst h u

@@ -42,7 +42,7 @@ all_without {A} p name_of name xs all =
     ]
 
 -- the five lists of a configuration
-pub record Parts (c : Config) : Type 0 where
+record Parts (c : Config) : Type 0 where
   pub networks : list_all has_network_form c.networks ≡ true
   pub ports : list_all has_port_form c.ports ≡ true
   pub policies : list_all has_policy_form c.policies ≡ true

@@ -1,5 +1,5 @@
 //! What finds an object by its name, its number or its address.
-ghost use Rattle.std.specs.Prelude.{◌≡◌, option_copied};
+ghost use Rattle.std.specs.Prelude.{◌≡◌, option_copied, IsSome, Some};
 ghost use Rattle.config_check.specs.Finding.{network_named, network_numbered, port_numbered, port_at, node_named};
 
 use config_model::{Config, Network, Node, Port, Topology};
@@ -21,6 +21,17 @@ pub fn network_numbered<'a>(config: &'a Config, number: InstanceId) -> Option<&'
         .as_slice()
         .iter()
         .find(|n| n.id.0 == number.0)
+}
+
+/// The first network of a number that is a network's.
+pub fn known_network<'a>(config: &'a Config, number: InstanceId) -> &'a Network
+    requires { IsSome (network_numbered config.now number.0) }
+    ensures { network_numbered config.now number.0 ≡ Some result.now }
+{
+    match network_numbered(config, number) {
+        Some(network) => network,
+        None => unreachable!(),
+    }
 }
 
 /// The first port of a number.

@@ -22,7 +22,9 @@ mod uses;
 mod valid;
 
 pub use edits::{EditFault, EditRefusal, apply_edit};
-pub use finding::{network_named, network_numbered, node_named, port_at, port_numbered};
+pub use finding::{
+    known_network, network_named, network_numbered, node_named, port_at, port_numbered,
+};
 pub use ports::holds_address;
 pub use refusal::{CheckRefusal, IdKind, LimitKind, Refusal};
 pub use valid::{Valid, check};

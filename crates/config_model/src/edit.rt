@@ -3,7 +3,7 @@ use crate::config::{Chain, Network, Policy, Port, Service};
 use ov_types::Name;
 
 /// An object of a configuration.
-#[derive(Clone, Debug, Drop, PartialEq, Eq)]
+#[derive(Clone, Debug, Drop)]
 pub enum Object {
     Network(Network),
     Port(Port),
@@ -23,7 +23,7 @@ pub enum ObjectKind {
 }
 
 /// A change of one object: a put replaces or appends it, a delete removes it.
-#[derive(Clone, Debug, Drop, PartialEq, Eq)]
+#[derive(Debug, Drop)]
 pub enum Edit {
     Put(Object),
     Delete(ObjectKind, Name),

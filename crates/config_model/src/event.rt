@@ -4,7 +4,7 @@ use crate::input::CompileInput;
 use ov_types::{Items, Name, Packet};
 
 /// What may happen in a run, in the order in which a schedule lists it.
-#[derive(Clone, Debug, Drop, PartialEq, Eq)]
+#[derive(Debug, Drop)]
 pub enum Event {
     /// A change of the configuration.
     Edit(Edit),
@@ -27,7 +27,7 @@ pub enum Event {
 }
 
 /// What there is and what is configured, and what happens.
-#[derive(Clone, Debug, Drop, PartialEq, Eq)]
+#[derive(Debug, Drop)]
 pub struct RunInput {
     pub input: CompileInput,
     pub events: Items<Event>,

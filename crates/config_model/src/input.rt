@@ -20,14 +20,14 @@ use serde_json::Value;
 use std::alloc::Global;
 
 /// What there is, and what is configured.
-#[derive(Clone, Debug, Drop, PartialEq, Eq)]
+#[derive(Debug, Drop)]
 pub struct CompileInput {
     pub topology: Topology,
     pub config: Config,
 }
 
 /// What there is and what is configured, and packets to ask about.
-#[derive(Clone, Debug, Drop, PartialEq, Eq)]
+#[derive(Debug, Drop)]
 pub struct ReachInput {
     pub input: CompileInput,
     pub packets: Items<Packet>,

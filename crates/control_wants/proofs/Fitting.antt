@@ -103,7 +103,7 @@ use_parts (key.Instance n) v u e f = absurd (none_some u e)
 use_parts (key.Attach n) v u e f = absurd (none_some u e)
 use_parts (key.Acl n m) v u e f = absurd (none_some u e)
 
-use_fits : (feed : Map) (u : Use) → AllFit feed → Member u (uses feed) → (u.number ≤ 3071) × (u.services ≤ 15)
+pub use_fits : (feed : Map) (u : Use) → AllFit feed → Member u (uses feed) → (u.number ≤ 3071) × (u.services ≤ 15)
 use_fits feed u fit m =
     let q = from_filter_map (λ (e : LowKey × LowValue). as_use e.0 e.1) u (objects feed) m in
     use_parts q.0.0 q.0.1 u q.2 (fit (Low q.0.0) (Object q.0.1) (object_of feed q.0.0 q.0.1 q.1))

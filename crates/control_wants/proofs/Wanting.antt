@@ -3,6 +3,7 @@ use Rattle.std.specs.Prelude.{◌≡◌, List, [], ◌∷◌, ◌++◌, map}
 use Rattle.std.specs.List.{flat_map}
 use Rattle.std.specs.FinMap.{FinMap, entries, from_entries}
 use Rattle.std.proofs.Common.{refl, sym, ◌∙◌, ap}
+use Rattle.std.proofs.lemmas.List.{map-append}
 use Rattle.ov_sync.specs.Embed.{embedded, moved_entry}
 use Rattle.ov_sync.specs.Keyed.{map_of}
 use Rattle.ov_types.specs.Prefix.{Block}
@@ -29,10 +30,6 @@ use Rattle.chain_reorigin.specs.Told.{told_path}
 use Rattle.chain_reorigin.proofs.Telling.{entries_all}
 use Rattle.control_wants.specs.Entries.{shown_row, shown_rows, told_object, told_row, told_rows}
 use Rattle.control_wants.proofs.Counting.{embedded_first, put_again}
-
-map-append : {X Y : Type 0} (f : X → Y) (xs ys : List X) → map f (xs ++ ys) ≡ map f xs ++ map f ys
-map-append f [] ys = refl
-map-append {Y = Y} f (x ∷ xs) ys = ap (λ (l : List Y). f x ∷ l) (map-append f xs ys)
 
 -- ---- towards peers
 pub peers_wanted : (h : Holdings) (es own led : List (VpnKey × VpnRoute)) → map_of vpn_order es ≡ from_entries (own ++ led) → own ≡ map told_path (own_paths h)

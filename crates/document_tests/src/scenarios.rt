@@ -1,7 +1,7 @@
 //! Scenarios beside documents.
 
 use crate::fault::CaseFault;
-use config_model::{Event, RunInput, read_run};
+use config_model::{Edit, Event, RunInput, read_run};
 use ov_io::TextOut;
 use ov_types::{NoMemory, Packet};
 use scenario_gen::{Scenario, scenario};
@@ -50,13 +50,30 @@ fn are_events(events: &[Event], packets: &[Packet], given: &[Event]) -> bool {
         return false;
     }
     let (first, traces) = given.split_at(events.len());
-    first == events && are_traces(packets, traces)
+    events
+        .iter()
+        .zip(first)
+        .all(|(event, other)| is_same(event, other))
+        && are_traces(packets, traces)
+}
+
+/// Whether two events are the same, of the kinds that a scenario has.
+fn is_same(event: &Event, given: &Event) -> bool {
+    match (event, given) {
+        (Event::Settle, Event::Settle) => true,
+        (Event::Lose { a, b }, Event::Lose { a: c, b: d }) => a == c && b == d,
+        (Event::Restart { node }, Event::Restart { node: given }) => node == given,
+        (Event::Edit(Edit::Delete(kind, name)), Event::Edit(Edit::Delete(given, other))) => {
+            kind == given && name == other
+        }
+        _ => false,
+    }
 }
 
 fn are_traces(packets: &[Packet], traces: &[Event]) -> bool {
     let mut same = packets.len() == traces.len();
     for (packet, trace) in packets.iter().zip(traces) {
-        same = same && *trace == Event::Trace(*packet);
+        same = same && matches!(trace, Event::Trace(traced) if traced == packet);
     }
     same
 }

@@ -44,12 +44,14 @@ all_true p [] y h m = absurd m
 all_true p (x ∷ xs) y h (inl e) = ap p (sym e) ∙ (and_parts (p x) (list_all p xs) h).0
 all_true p (x ∷ xs) y h (inr m) = all_true p xs y (and_parts (p x) (list_all p xs) h).1 m
 
-record Forms (t : Topology) : Type 0 where
+-- the parts of the written form of a topology
+pub record Forms (t : Topology) : Type 0 where
   pub asn : is_as_number t.asn ≡ true
   pub controllers : list_all has_controller_form t.controllers ≡ true
+  pub some : nat_le 1 (length t.controllers) ≡ true
   pub nodes : list_all has_node_form t.nodes ≡ true
 
-forms : (t : Topology) → IsTrue (has_topology_form t) → Forms t
+pub forms : (t : Topology) → IsTrue (has_topology_form t) → Forms t
 unfolding has_topology_form
 forms t h =
     let a = is_as_number t.asn in
@@ -59,7 +61,7 @@ forms t h =
     let abcd = (and_parts (a && b && c && d) (nat_le 1 (length t.nodes)) h).0 in
     let abc = and_parts (a && b && c) d abcd in
     let ab = and_parts (a && b) c abc.0 in
-    record { asn = (and_parts a b ab.0).0; controllers = (and_parts a b ab.0).1; nodes = abc.1 }
+    record { asn = (and_parts a b ab.0).0; controllers = (and_parts a b ab.0).1; some = ab.1; nodes = abc.1 }
 
 is_named : (text : List ℕ) → is_node_name text ≡ true → is_name text ≡ true
 is_named text h = (and_parts (is_name text) (not (same_name text config)) h).0

@@ -1,6 +1,5 @@
 -- Octets have a report.
 use Rattle.std.proofs.Common.{◌||◌, Bool, false, ◌≢◌, ◌≤◌, ◌+◌, ℕ, zero, suc, List, [], ◌∷◌, ◌++◌, length, take, drop, refl, subst, arith, ◌⊎◌, inl, inr}
-use Rattle.std.proofs.Math.Seq.{take-append_seam, drop-append_seam}
 use Rattle.byteorder.specs.Endian.{big_bytes}
 use Rattle.bgp_wire.specs.declared.fault.WireFault.{WireFault}
 use Rattle.bgp_wire.specs.Content.{Content, Opens, Updates, Notifies, KeepsAlive, UpdateFields}
@@ -13,16 +12,11 @@ use Rattle.bgp_vpn.proofs.UpdateLemmas as updates
 use Rattle.report.specs.Lines.{fault_line, incomplete_line}
 use Rattle.message_answers.specs.Decoding.{is_wide_open, Says, update_lines, IsReport, of_nothing, of_a_prefix, of_a_fault, of_a_message}
 use Rattle.message_answers.proofs.Reports.{fewer_left}
+use Rattle.bgp_vpn.proofs.LabelLemmas.{AreOctets-front, AreOctets-back}
 
 -- a text that is a report of the octets
 abbrev pub HasReport : Bool → List ℕ → Type 0
 HasReport wide octets = (text : List ℕ) × IsReport wide octets text
-
-front_octets : (xs ys : List ℕ) → AreOctets (xs ++ ys) → AreOctets xs
-front_octets xs ys h = subst AreOctets (take-append_seam xs ys) (AreOctets-take (length xs) (xs ++ ys) h)
-
-rest_octets : (xs ys : List ℕ) → AreOctets (xs ++ ys) → AreOctets ys
-rest_octets xs ys h = subst AreOctets (drop-append_seam xs ys) (AreOctets-drop (length xs) (xs ++ ys) h)
 
 -- the attributes of an UPDATE are octets
 attribute_octets : (octets : List ℕ) (parts : UpdateFields) (count : ℕ) → AreOctets octets → BeginsWith octets (Updates parts) count
@@ -32,14 +26,14 @@ attribute_octets octets parts count h begins =
     let body = begins.message.body in
     let taken : AreOctets (take count octets) = AreOctets-take count octets h in
     let whole : AreOctets (head (19 + length body) begins.message.kind ++ body) = subst AreOctets frame.spelled taken in
-    let within : AreOctets body = rest_octets (head (19 + length body) begins.message.kind) body whole in
+    let within : AreOctets body = AreOctets-back (head (19 + length body) begins.message.kind) body whole in
     let spelled = begins.message.says.1.spelled in
     let parted : AreOctets (big_bytes 2 (length parts.withdrawn) ++ parts.withdrawn
     ++ (big_bytes 2 (length parts.attributes) ++ parts.attributes ++ parts.routes)) = subst AreOctets spelled within in
     let behind : AreOctets (big_bytes 2 (length parts.attributes) ++ parts.attributes ++ parts.routes) =
-    rest_octets (big_bytes 2 (length parts.withdrawn) ++ parts.withdrawn) (big_bytes 2 (length parts.attributes) ++ parts.attributes ++ parts.routes) parted in
-    rest_octets (big_bytes 2 (length parts.attributes)) parts.attributes
-    (front_octets (big_bytes 2 (length parts.attributes) ++ parts.attributes) parts.routes behind)
+    AreOctets-back (big_bytes 2 (length parts.withdrawn) ++ parts.withdrawn) (big_bytes 2 (length parts.attributes) ++ parts.attributes ++ parts.routes) parted in
+    AreOctets-back (big_bytes 2 (length parts.attributes)) parts.attributes
+    (AreOctets-front (big_bytes 2 (length parts.attributes) ++ parts.attributes) parts.routes behind)
 
 -- octets that begin with a message that says something, and of whose rest there is a report
 said_first : (wide : Bool) (octets said : List ℕ) (content : Content) (count : ℕ) → BeginsWith octets content count → Says wide content said

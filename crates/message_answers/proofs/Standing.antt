@@ -1,21 +1,14 @@
 -- A wide OPEN counts from where it stands.
-use Rattle.std.proofs.Common.{◌||◌, Bool, true, false, ◌≡◌, ℕ, List, [], ◌∷◌, ◌++◌, drop, refl, ap, sym, ◌∙◌, subst, ◌⊎◌, inl, inr}
+use Rattle.std.proofs.Common.{◌||◌, Bool, ◌≡◌, ℕ, List, [], ◌∷◌, ◌++◌, drop, refl, ap, sym, ◌∙◌, subst, ◌⊎◌, inl, inr}
 use Rattle.std.specs.List.{list_any}
 use Rattle.std.proofs.lemmas.List.{append_assoc}
+use Rattle.std.proofs.Math.Bool.{or_assoc, or-false}
 use Rattle.bgp_wire.specs.Content.{Content, Updates}
 use Rattle.bgp_wire.specs.Messages.{BeginsWith}
 use Rattle.bgp_wire.proofs.Readings as readings
 use Rattle.message_answers.specs.Decoding.{is_wide_open, BeginsWithFaultyUpdate, IsReport, of_nothing, of_a_prefix, of_a_fault, of_a_message}
 use Rattle.message_answers.specs.Before.{AreMessages, IsFaultyUpdate, HasFaultyUpdate, TellsRest}
 use Rattle.message_answers.proofs.OneReport.{nothing_is_proper}
-
-or_false : (a : Bool) → a ≡ (a || false)
-or_false true = refl
-or_false false = refl
-
-or_assoc : (a b c : Bool) → ((a || b) || c) ≡ (a || (b || c))
-or_assoc true b c = refl
-or_assoc false b c = refl
 
 -- a fault that ends the report is that of the first message
 faulty_first : (wide : Bool) (octets : List ℕ) (content : Content) (count : ℕ) {f : _} → BeginsWith octets content count
@@ -38,7 +31,7 @@ pub wide_counts : (wide : Bool) (octets rest text : List ℕ) (before : List Con
     → HasFaultyUpdate before ⊎ TellsRest (wide || list_any is_wide_open before) rest text
 wide_counts wide octets rest text [] report same =
     let here : IsReport wide rest text = subst (λ (o : List ℕ). IsReport wide o text) same report in
-    inr (record { told = []; more = text; is = refl; report = subst (λ (w : Bool). IsReport w rest text) (or_false wide) here })
+    inr (record { told = []; more = text; is = refl; report = subst (λ (w : Bool). IsReport w rest text) (sym (or-false wide)) here })
 wide_counts wide octets rest text (c ∷ before) (of_nothing e x) are =
     absurd (readings.never_message_and_prefix octets c are.0 are.1 (nothing_is_proper octets e))
 wide_counts wide octets rest text (c ∷ before) (of_a_prefix some proper x) are =

@@ -80,7 +80,7 @@ connections_are_made facts seats w moment stands a b p far are may after opens =
         })
 
 -- ---- events
-connect_event : (w : Network) (a b : Name) → is_earlier w.sessions a b ≡ true → next any_size w (Connect a b) ≡ connect_if a b w
+pub connect_event : (w : Network) (a b : Name) → is_earlier w.sessions a b ≡ true → next any_size w (Connect a b) ≡ connect_if a b w
 unfolding next
 connect_event w a b e = ap (λ c. cond c (connect_if a b w) (connect_if b a w)) e
 

@@ -28,7 +28,7 @@ use Rattle.net_steps.proofs.Notice.{notice_delivered, notice_stands}
 pub stands_at : (seats : List Seat) (w : Network) → IsMoment w → Seats seats w → StandsFor seats w
 stands_at seats w m s = record { seats_are = s; down = all_down_where w (moment_sound w m) }
 
-one_delivery : (w : Network) (from to : Name) → next any_size w (Deliver from to 1) ≡ deliver from to w
+pub one_delivery : (w : Network) (from to : Name) → next any_size w (Deliver from to 1) ≡ deliver from to w
 unfolding next
 one_delivery w from to = refl
 

@@ -1,15 +1,15 @@
 -- An edit is made at the configuration node, which makes its pass.
-use Rattle.std.specs.Prelude.{◌≡◌, ◌≢◌, ◌⊎◌, ◌<◌, ℕ, List, [], ◌∷◌, map, length, Bool, true, false, cond, ◌&&◌, nat_le, IsTrue}
-use Rattle.std.specs.List.{list_all, slice_index_or, slice_set}
+use Rattle.std.specs.Prelude.{◌≡◌, ◌≢◌, ◌⊎◌, ◌<◌, ℕ, List, [], ◌∷◌, map, length, Bool, true, false, cond, IsTrue}
+use Rattle.std.specs.List.{slice_index_or, slice_set}
 use Rattle.std.specs.declared.option.Option.{Option}
 use Rattle.std.specs.declared.option.Option.TheVariants.{Some, None}
-use Rattle.std.proofs.lemmas.Bool.{and_parts, cases_eq, leb-true}
+use Rattle.std.proofs.lemmas.Bool.{cases_eq, leb-true}
 use Rattle.std.proofs.lemmas.List.{append-nil, length-map, length-set, map-set, set-get_or, set-set}
 use Rattle.std.proofs.lemmas.Option.{same_Some}
 use Rattle.std.proofs.Common.{refl, sym, ◌∙◌, ap, subst, inl, inr, arith, zero-lt-suc}
 use Rattle.ov_types.specs.First.{same_name}
 use Rattle.ov_types.proofs.FirstLemmas.{same_name_self}
-use Rattle.config_model.specs.Form.{has_controller_form, has_node_form, has_topology_form, is_as_number}
+use Rattle.config_model.specs.Form.{has_topology_form}
 use Rattle.config_model.specs.declared.config.Config.{Config}
 use Rattle.config_model.specs.declared.edit.Edit.{Edit}
 use Rattle.config_model.specs.declared.topology.Topology.{Topology}
@@ -35,18 +35,11 @@ use Rattle.net_steps.proofs.Facts.{Facts, IsRight}
 use Rattle.net_steps.proofs.Finishing.{begun_seats, finishes}
 use Rattle.net_steps.proofs.Lists.{seat_elsewhere, seat_here, who_at}
 use Rattle.net_steps.proofs.Stepping.{begun_seat}
+use Rattle.heard_laws.proofs.Named.{forms}
 
 -- ---- the configuration node
 some_controllers : (t : Topology) → IsTrue (has_topology_form t) → 0 < length t.controllers
-unfolding has_topology_form
-some_controllers t h =
-    let a = is_as_number t.asn in
-    let b = list_all has_controller_form t.controllers in
-    let c = nat_le 1 (length t.controllers) in
-    let d = list_all has_node_form t.nodes in
-    let abcd = (and_parts (a && b && c && d) (nat_le 1 (length t.nodes)) h).0 in
-    let abc = and_parts (a && b && c) d abcd in
-    leb-true 1 (length t.controllers) (and_parts (a && b) c abc.0).1
+some_controllers t h = leb-true 1 (length t.controllers) (forms t h).some
 
 first_named : (seats : List Seat) → 0 < length seats → seat_named seats (name_of (seat seats 0).who) ≡ Some 0
 first_named [] lt = absurd (omega (arith, lt))

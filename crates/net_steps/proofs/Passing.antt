@@ -1,6 +1,6 @@
 -- A node that has told all its sessions what it wants, but for those that are down, stands for the machine's node after
 -- its pass.
-use Rattle.std.specs.Prelude.{◌≡◌, ◌≢◌, ◌⊎◌, ◌<◌, ℕ, List, [], ◌∷◌, ◌++◌, map, length, Bool, true, false, cond}
+use Rattle.std.specs.Prelude.{◌≡◌, ◌≢◌, ◌⊎◌, ◌<◌, ℕ, List, [], ◌++◌, map, length, Bool, true, false, cond}
 use Rattle.std.specs.List.{slice_index_or}
 use Rattle.std.specs.declared.option.Option.TheVariants.{Some}
 use Rattle.std.proofs.lemmas.Bool.{cases_eq, true≢false}
@@ -28,6 +28,7 @@ use Rattle.net_steps.proofs.Here.{Here, here, other_named}
 use Rattle.net_steps.proofs.Lists.{AreAlike, same_place, seat_elsewhere, seat_here, with_alike}
 use Rattle.net_steps.proofs.Sides.{node_elsewhere, node_here, node_there}
 use Rattle.net_steps.proofs.Unbroken.{IsPassedAs, passed_is}
+use Rattle.seat_laws.proofs.Lists.{map_twice}
 
 -- each session was told what is wanted
 pub record IsTold (n n' : Seat) : Type 0 where
@@ -65,13 +66,9 @@ told_sent k posts i =
     (cond b (record (post posts i) { sent = k.wanted posts i }) (post posts i)).sent
     ≡ cond b (k.wanted posts i) (post posts i).sent) [ true ↦ refl | false ↦ refl ]
 
-map_map : {A B C : Type 0} (g : B → C) (f : A → B) (xs : List A) → map (λ a. g (f a)) xs ≡ map g (map f xs)
-map_map g f [] = refl
-map_map g f (a ∷ xs) = ap (λ cs. g (f a) ∷ cs) (map_map g f xs)
-
 carried : (g : Message → List ℕ) (b : Bool) (cs : List Change)
     → cond b (map (λ c. g (Carries c)) cs) [] ≡ map g (cond b (map Carries cs) [])
-carried g true cs = map_map g Carries cs
+carried g true cs = sym (map_twice g Carries cs)
 carried g false cs = refl
 
 -- what is in flight after it, message by message

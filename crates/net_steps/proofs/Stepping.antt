@@ -1,11 +1,12 @@
 -- A step of a node over its links is a change of the end of its input, and then a pass. What it sent on sessions that are
 -- down is what is discarded.
-use Rattle.std.specs.Prelude.{◌≡◌, ◌≢◌, ◌⊎◌, ◌<◌, ℕ, List, [], ◌++◌, length, Bool, true, false, not, ◌&&◌, ◌==◌, cond}
+use Rattle.std.specs.Prelude.{◌≡◌, ◌≢◌, ◌⊎◌, ◌<◌, ℕ, List, [], ◌++◌, length, false, not, ◌&&◌, ◌==◌, cond}
 use Rattle.std.specs.List.{slice_index_or, slice_set}
 use Rattle.std.proofs.lemmas.Option.{same_Some}
 use Rattle.std.proofs.lemmas.Bool.{cases_eq, eq-eqb, ne_eqb}
 use Rattle.std.proofs.lemmas.List.{append_assoc, append-nil, get_or-set_other, get_or-set_same, length-set}
-use Rattle.std.proofs.Common.{refl, sym, ◌∙◌, ap, subst, inl, inr}
+use Rattle.std.proofs.Common.{sym, ◌∙◌, ap, subst, inl, inr}
+use Rattle.std.proofs.Math.Bool.{and_comm}
 use Rattle.node_model.specs.Step.{Begun, begun, changes, end_of, post}
 use Rattle.network_model.specs.Session.{Session, is_idle, turned}
 use Rattle.network_model.specs.Network.{Network}
@@ -58,14 +59,8 @@ stepped_told n n' i given lt s = record {
 }
 
 -- a session is down where an end is not whole, whichever of its ends is near
-swapped : (a b : Bool) → (a && b) ≡ (b && a)
-swapped true true = refl
-swapped true false = refl
-swapped false true = refl
-swapped false false = refl
-
 pub down_turned : (s : Session) → IsDownWhere s → IsDownWhere (turned s)
-down_turned s e = e ∙ ap not (swapped (is_whole_end s.near) (is_whole_end s.far))
+down_turned s e = e ∙ ap not (and_comm (is_whole_end s.near) (is_whole_end s.far))
 
 -- ---- which sessions are down
 module _ (wired : Wired) (seats : List Seat) (w : Network) (right : IsRight w) (stands : Seats seats w) where

@@ -1,5 +1,5 @@
 -- Places of a list, and the first of its items.
-use Rattle.std.proofs.Common.{◌≡◌, ℕ, zero, suc, ◌+◌, ◌<◌, ◌≤◌, Bool, true, false, List, [], ◌∷◌, Option, Some, None, map, find, length, get_or, set, drop, refl, sym, ap, ◌∙◌, ◌++◌, length-append, add-one, arith}
+use Rattle.std.proofs.Common.{◌≡◌, ℕ, zero, suc, ◌+◌, ◌<◌, Bool, true, false, List, [], ◌∷◌, Option, Some, None, map, find, length, get_or, set, drop, refl, sym, ap, ◌∙◌, ◌++◌, length-append, add-one, arith}
 use Rattle.std.specs.List.{slice_get}
 use Rattle.ov_types.specs.First.{first_of}
 
@@ -12,12 +12,6 @@ pub drop_at : {A : Type 0} (xs : List A) (k : ℕ) (x : A) → slice_get xs k �
 drop_at [] k x h = cc
 drop_at {A} (y ∷ xs) zero x h = let same : y ≡ x = cc in ap (λ (z : A). z ∷ xs) same
 drop_at (y ∷ xs) (suc k) x h = drop_at xs k x h
-
-pub drop_all : {A : Type 0} (xs : List A) (k : ℕ) → length xs ≤ k → drop k xs ≡ []
-drop_all [] zero h = refl
-drop_all [] (suc k) h = refl
-drop_all (x ∷ xs) zero h = absurd (omega arith)
-drop_all (x ∷ xs) (suc k) h = drop_all xs k (omega arith)
 
 pub found_here : {A : Type 0} (p : A → Bool) (xs : List A) (k : ℕ) (x : A) → slice_get xs k ≡ Some x → p x ≡ true → find p (drop k xs) ≡ Some x
 found_here p xs k x at passes = rw (drop_at xs k x at, passes) refl

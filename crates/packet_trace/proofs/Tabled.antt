@@ -1,5 +1,5 @@
 -- The tables of instances, and entries put among others.
-use Rattle.std.proofs.Common.{◌≡◌, ◌==◌, ℕ, ◌<◌, ◌≤◌, ◌+◌, ◌++◌, true, false, cond, not, List, [], ◌∷◌, Option, Some, None, option_map, length, drop, get_or, refl, sym, ap, ◌∙◌, subst, append-nil, drop-cons, arith}
+use Rattle.std.proofs.Common.{◌≡◌, ◌==◌, ℕ, ◌<◌, ◌≤◌, ◌++◌, true, false, cond, not, List, [], ◌∷◌, Option, None, option_map, length, drop, get_or, refl, sym, ap, ◌∙◌, subst, append-nil, drop-cons, arith}
 use Rattle.std.specs.List.{All, filter_map, cons_option}
 use Rattle.std.specs.Prelude.{OnOk, OnErr}
 use Rattle.std.specs.declared.result.Result.{Result}
@@ -8,14 +8,15 @@ use Rattle.std.specs.BTreeMap.{insert_entry}
 use Rattle.std.specs.Ordering.{match_ordering}
 use Rattle.std.specs.declared.cmp.Ordering.{Ordering}
 use Rattle.std.specs.declared.cmp.Ordering.TheVariants.{Less, Equal, Greater}
-use Rattle.std.proofs.lemmas.Bool.{eqb-true, true≢false}
+use Rattle.std.proofs.lemmas.Bool.{eqb-true}
+use Rattle.std.proofs.lemmas.List.Elements.{filter_map-append}
+use Rattle.std.proofs.Math.ListN.{drop_of_length-le}
 use Rattle.ov_types.specs.Prefix.{Block}
 use Rattle.ov_types.specs.Routing.{longest}
 use Rattle.ov_types.specs.declared.numbers.InstanceId.{InstanceId}
 use Rattle.ov_types.specs.declared.rows.Entry.{Entry}
 use Rattle.ov_types.proofs.FirstLemmas.{all_cons, all_head, all_tail}
 use Rattle.route_targets.specs.Forwarding.{route_in}
-use Rattle.packet_trace.proofs.Places.{drop_all}
 use Rattle.packet_trace.specs.Tables.{others, rows_in, rows_of, table_of}
 
 pub all_inserted : {K V : Type 0} (P : V → Type 0) (R : K → K → Ordering) (k : K) (v : V) (es : List (K × V)) → All (λ e. P e.1) es → P v → All (λ e. P e.1) (insert_entry R es k v)
@@ -36,14 +37,6 @@ all_kept {K} {V} P R k v es later (Ok u) ok err all here =
     let Q : List (K × V) → Type 0 = λ l. All (λ (e : K × V). P e.1) l in subst Q (sym ok) (all_inserted P R k v es all here)
 all_kept {K} {V} P R k v es later (Err e) ok err all here =
     let Q : List (K × V) → Type 0 = λ l. All (λ (e : K × V). P e.1) l in subst Q (sym err) all
-
-kept_append : {A B : Type 0} (f : A → Option B) (xs ys : List A) → filter_map f (xs ++ ys) ≡ filter_map f xs ++ filter_map f ys
-kept_append f [] ys = refl
-kept_append {A} {B} f (x ∷ xs) ys =
-    elim (f x) as (λ o. cons_option o (filter_map f (xs ++ ys)) ≡ cons_option o (filter_map f xs) ++ filter_map f ys) [
-      | None ↦ kept_append f xs ys
-      | Some y ↦ ap (λ (l : List B). y ∷ l) (kept_append f xs ys)
-    ]
 
 module _ (n i : InstanceId) where
   in_same : (n.0 == i.0) ≡ true → (routes : List (Block × Entry)) → filter_map (route_in i) (rows_in n routes) ≡ routes
@@ -79,7 +72,7 @@ module _ (n i : InstanceId) where
 pub routes_of : (i : InstanceId) (ts : List (InstanceId × List (Block × Entry))) → filter_map (route_in i) (rows_of ts) ≡ table_of ts i
 routes_of i [] = refl
 routes_of i (t ∷ ts) =
-    kept_append (route_in i) (rows_in t.0 t.1) (others t.0 (rows_of ts))
+    filter_map-append (route_in i) (rows_in t.0 t.1) (others t.0 (rows_of ts))
     ∙ elim (t.0.0 == i.0) as (λ b. (t.0.0 == i.0) ≡ b → filter_map (route_in i) (rows_in t.0 t.1) ++ filter_map (route_in i) (others t.0 (rows_of ts)) ≡ cond b t.1 (table_of ts i)) [
       | true ↦ λ e. rw (in_same t.0 i e t.1, kept_same t.0 i e (rows_of ts)) (append-nil t.1)
       | false ↦ λ e. rw (in_other t.0 i e t.1, kept_other t.0 i e (rows_of ts)) (routes_of i ts)
@@ -108,5 +101,5 @@ module _ (a : ℕ) (i : InstanceId) (ts items : List (InstanceId × List (Block 
   pub in_no_table : length items ≤ k → None ≡ option_map (λ r. r.1) (longest a (filter_map (route_in i) (rows_of ts)))
   in_no_table past =
       let past' : length ts ≤ k = subst (λ (l : List (InstanceId × List (Block × Entry))). length l ≤ k) same past in
-      let none : drop k ts ≡ [] = drop_all ts k past' in
+      let none : drop k ts ≡ [] = drop_of_length-le ts past' in
       sym (ap led_by (so_far ∙ ap (λ (l : List (InstanceId × List (Block × Entry))). table_of l i) none)) ∙ sym (by_table a i ts)

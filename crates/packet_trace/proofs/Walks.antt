@@ -1,5 +1,5 @@
 -- A lookup of the walk, and those behind it.
-use Rattle.std.proofs.Common.{leb, ◌≤◌, Bool, ◌==◌, subst, append-nil, ◌≡◌, ℕ, suc, ◌++◌, List, [], ◌∷◌, Option, Some, None, option_map, map, refl, sym, ap, ◌∙◌, append_assoc}
+use Rattle.std.proofs.Common.{leb, ◌≤◌, ◌<◌, ◌-◌, arith, Bool, ◌==◌, subst, append-nil, ◌≡◌, ℕ, suc, ◌++◌, List, [], ◌∷◌, Option, Some, None, option_map, map, refl, sym, ap, ◌∙◌, append_assoc}
 use Rattle.std.specs.List.{All, Contains, find}
 use Rattle.std.specs.List.{slice_get}
 use Rattle.std.proofs.lemmas.Bool.{and_parts, leb-true}
@@ -86,21 +86,23 @@ module _ (agents : List Forwarder) (address : ℕ) where
 
   -- the same with so many left
 
-  pub walk_step : (left m : ℕ) (services : List ServiceNo) (p : Place) (r : Step) (all : Option Outcome) → left ≡ suc m
+  pub walk_step : (left : ℕ) (services : List ServiceNo) (p : Place) (r : Step) (all : Option Outcome) → 0 < left
       → as_leading agents r ≡ option_map (leading agents address) (lookup_at agents p)
       → option_map (λ x. walk agents address left x.agent services x.instance) (lookup_at agents p) ≡ all
-      → option_map (outcome_by (walk agents address m) services) (as_leading agents r) ≡ all
-  walk_step left m services p r all e is so_far =
-      sym (stepped m services p r is)
+      → option_map (outcome_by (walk agents address (left - 1)) services) (as_leading agents r) ≡ all
+  walk_step left services p r all some_left is so_far =
+      let e : left ≡ suc (left - 1) = omega arith in
+      sym (stepped (left - 1) services p r is)
       ∙ subst (λ (n : ℕ). option_map (λ x. walk agents address n x.agent services x.instance) (lookup_at agents p) ≡ all) e so_far
 
-  pub hops_step : (left m : ℕ) (hops : List Hop) (h : Hop) (p : Place) (r : Step) (all : Option (List Hop)) → left ≡ suc m
+  pub hops_step : (left : ℕ) (hops : List Hop) (h : Hop) (p : Place) (r : Step) (all : Option (List Hop)) → 0 < left
       → Some h ≡ option_map hop_of (lookup_at agents p)
       → as_leading agents r ≡ option_map (leading agents address) (lookup_at agents p)
       → option_map (λ x. hops ++ map hop_of (lookups_from agents address left x)) (lookup_at agents p) ≡ all
-      → option_map (hops_by m (hops ++ h ∷ [])) (as_leading agents r) ≡ all
-  hops_step left m hops h p r all e here is so_far =
-      sym (hopped m hops h p r here is)
+      → option_map (hops_by (left - 1) (hops ++ h ∷ [])) (as_leading agents r) ≡ all
+  hops_step left hops h p r all some_left here is so_far =
+      let e : left ≡ suc (left - 1) = omega arith in
+      sym (hopped (left - 1) hops h p r here is)
       ∙ subst (λ (n : ℕ). option_map (λ x. hops ++ map hop_of (lookups_from agents address n x)) (lookup_at agents p) ≡ all) e so_far
 
   pub walk_on : (m : ℕ) (services later : List ServiceNo) (s : ServiceNo) (behind : Place) (all : Option Outcome) → later ≡ services ++ s ∷ []
@@ -154,6 +156,10 @@ module _ (agents : List Forwarder) (address : ℕ) where
   leads_on g k circuit s q e at =
       ap (λ (x : Place). as_leading agents (Does.Passes s x)) e
       ∙ ap (λ (x : Option Forwarder). option_map (λ (l : Lookup). Passes s l) (option_map (λ (h : Forwarder). record { agent = h; instance = circuit_instance_of (other_side_of circuit) }) x)) at
+
+-- no lookup comes behind these
+pub all_hops : (hops later : List Hop) → later ≡ hops → Some later ≡ Some (hops ++ [])
+all_hops hops later e = let some : List Hop → Option (List Hop) = λ l. Some l in ap some (e ∙ sym (append-nil hops))
 
 -- what is under a label is one of what the labels lead to
 pub of_a_use : (rows : AgentRows) (label : Label) (t : Attached) → All (λ e. IsOfAUse e.1) rows.labels → attached rows label ≡ Some t → IsOfAUse t

@@ -1,5 +1,5 @@
 -- The network of an address, for packets from another, in a valid configuration.
-use Rattle.std.proofs.Common.{◌≡◌, ◌⊎◌, inl, inr, ℕ, ◌&&◌, ◌||◌, Bool, true, false, IsTrue, List, [], Some, None, refl, sym, ap, ◌∙◌}
+use Rattle.std.proofs.Common.{◌≡◌, ◌⊎◌, inl, inr, ℕ, ◌&&◌, ◌||◌, Bool, true, false, IsTrue, List, Some, None, refl, sym, ap, ◌∙◌}
 use Rattle.std.specs.Bool.{Decides}
 use Rattle.std.specs.List.{Any, Contains, find}
 use Rattle.std.proofs.lemmas.Bool.Decides.{Decides-and, Decides-or}

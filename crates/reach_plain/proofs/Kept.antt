@@ -1,5 +1,5 @@
 -- What a valid configuration keeps that decisions and outcomes rest on.
-use Rattle.std.proofs.Common.{◌≡◌, ◌≢◌, ℕ, ◌≤◌, leb, ltb, true, false, List, [], None, Ok, map, length, get_or, refl, arith}
+use Rattle.std.proofs.Common.{◌≡◌, ◌≢◌, ℕ, ◌≤◌, leb, ltb, true, false, List, None, Ok, map, length, get_or, refl, arith}
 use Rattle.std.specs.List.{AllPairs, list_all}
 use Rattle.std.proofs.lemmas.Bool.{le-ltb}
 use Rattle.config_model.specs.declared.config.Config.{Config}

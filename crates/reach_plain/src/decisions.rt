@@ -1,10 +1,9 @@
 //! Decisions between networks that are given by their numbers.
-ghost use Rattle.std.specs.Prelude.{◌≡◌, ◌↔◌, IsTrue, IsSome, IfSome, Some};
+ghost use Rattle.std.specs.Prelude.{◌≡◌, ◌↔◌, IsTrue, IsSome, IfSome};
 ghost use Rattle.network_rules.specs.Matching.{decision};
 ghost use Rattle.config_check.specs.Finding.{network_numbered};
 
-use config_check::{Valid, network_numbered};
-use config_model::{Config, Network};
+use config_check::{Valid, known_network, network_numbered};
 use network_rules::{Decision, decision};
 use ov_types::{InstanceId, Tuple};
 
@@ -13,17 +12,6 @@ pub fn is_network(valid: &Valid, number: InstanceId) -> bool
     ensures { IsTrue result ↔ IsSome (network_numbered valid.now.config number.0) }
 {
     network_numbered(valid.config(), number).is_some()
-}
-
-/// The first network of a number that is a network's.
-fn numbered<'a>(config: &'a Config, number: InstanceId) -> &'a Network
-    requires { IsSome (network_numbered config.now number.0) }
-    ensures { network_numbered config.now number.0 ≡ Some result.now }
-{
-    match network_numbered(config, number) {
-        Some(network) => network,
-        None => unreachable!(),
-    }
 }
 
 /// The first rule between two networks that matches a packet from the one to the other, by sequence and then
@@ -36,7 +24,7 @@ pub fn decide(valid: &Valid, from: InstanceId, to: InstanceId, tuple: Tuple) -> 
         IfSome (network_numbered valid.now.config to.0) (λ b. result ≡ decision valid.now.config a b tuple)) }
 {
     let config = valid.config();
-    let from = numbered(config, from);
-    let to = numbered(config, to);
+    let from = known_network(config, from);
+    let to = known_network(config, to);
     decision(config, from, to, &tuple)
 }

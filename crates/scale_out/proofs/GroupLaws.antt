@@ -2,7 +2,7 @@
 use Rattle.std.proofs.Common.{◌≡◌, ◌≢◌, ℕ, ◌+◌, ◌||◌, ◌&&◌, Bool, true, false, not, nat_le, List, [], ◌∷◌, ◌++◌, length, get_or, Ok, Err, refl, sym, ap, subst, ◌∙◌, IsTrue, inl, inr, arith}
 use Rattle.std.specs.Prelude.{Result, codes}
 use Rattle.std.specs.List.{All, AllPairs, list_all}
-use Rattle.std.proofs.lemmas.Bool.{and_parts, cases_Bool, le-leb}
+use Rattle.std.proofs.lemmas.Bool.{and_parts, cases_Bool, le-leb, not-true}
 use Rattle.std.proofs.lemmas.List.{append_assoc, append-nil}
 use Rattle.std.proofs.lemmas.List.Elements.{All-cons, All-weaker}
 use Rattle.std.proofs.lemmas.List.Kept.{AllPairs-cons}
@@ -24,14 +24,11 @@ use Rattle.scale_out.specs.declared.groups.Group.{Group}
 use Rattle.scale_out.specs.Form.{is_ascending, are_members, has_group_form}
 use Rattle.scale_out.specs.GroupDocuments.{group_document, groups_document}
 use Rattle.scale_out.specs.Reading.{has_service, is_grouped, service_at, few_at, members_at, group_at, groups_from, groups_at}
+use Rattle.reach_plain.proofs.Becoming.{apart as names_apart}
 
 either_false : (a b : Bool) → (a || b) ≡ false → (a ≡ false) × (b ≡ false)
 either_false true b h = cc
 either_false false b h = (refl, h)
-
-not_true : (b : Bool) → not b ≡ true → b ≡ false
-not_true true h = sym h
-not_true false h = refl
 
 kept_ok : {A : Type 0} (path : List ℕ) (passes : Bool) (x y : A) → kept path passes x ≡ Ok y → (passes ≡ true) × (kept path true x ≡ Ok y)
 kept_ok path true x y h = (refl, h)
@@ -59,7 +56,7 @@ service_is c earlier path d name h =
     let b = bind_ok (name_at path d) _ name h in
     let k = kept_ok path (has_service c b.0 && not (is_grouped earlier b.0)) b.0 name b.2 in
     let p = and_parts (has_service c b.0) (not (is_grouped earlier b.0)) k.0 in
-    subst (IsFree c earlier) (ap name_in k.1) (p.0, not_true (is_grouped earlier b.0) p.1)
+    subst (IsFree c earlier) (ap name_in k.1) (p.0, not-true (is_grouped earlier b.0) p.1)
 
 named_is : (c : Config) (earlier : List Group) (path : List ℕ) (d : Data) (name : List ℕ) → in_member (service_at c earlier) path (codes "service") d ≡ Ok name → IsFree c earlier name
 unfolding in_member
@@ -97,9 +94,6 @@ grouped_before (x ∷ xs) g name h =
 
 abbrev Apart : Group → Group → Type 0
 Apart g h = g.service ≢ h.service
-
-names_apart : (a b : List ℕ) → same_name a b ≡ false → a ≢ b
-names_apart a b h e = let t : same_name a b ≡ true = (same_name_iff a b).1 e in cc
 
 no_match : (a b : List ℕ) → a ≢ b → same_name a b ≡ false
 no_match a b apart =

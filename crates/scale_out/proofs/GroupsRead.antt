@@ -14,7 +14,7 @@ use Rattle.config_model.specs.declared.fault.ReadRefusal.{ReadRefusal}
 use Rattle.config_model.specs.declared.fault.ReadRefusal.TheVariants.{Doc, NoMemory}
 use Rattle.config_model.specs.declared.fields.Count.TheVariants.{AnyNumber}
 use Rattle.config_model.specs.Paths.{item_path}
-use Rattle.config_model.specs.Faults.{Fault, Fails, ◌>>=◌}
+use Rattle.config_model.specs.Faults.{Fault, Fails}
 use Rattle.config_model.specs.Fields.{list_at}
 use Rattle.scale_out.specs.declared.groups.Group.{Group}
 use Rattle.scale_out.specs.Reading.{few_at, group_at, groups_from}

@@ -19,7 +19,7 @@ use Rattle.reach_plain.specs.Reachability.{reachability}
 use Rattle.reach_plain.proofs.Becoming.{becomes}
 use Rattle.reach_plain.proofs.Kept.{valid}
 use Rattle.scale_out.specs.declared.groups.Group.{Group}
-use Rattle.scale_out.specs.declared.visits.Spread.TheVariants.{Delivered, Dropped}
+use Rattle.scale_out.specs.declared.visits.Spread.TheVariants.{Delivered}
 use Rattle.scale_out.specs.declared.visits.Visit.{Visit}
 use Rattle.scale_out.specs.Spread.{source_address, key, visit_by, visiting, spread, reply}
 use Rattle.scale_out.proofs.Visiting.{services_again}

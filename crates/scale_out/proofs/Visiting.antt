@@ -22,7 +22,7 @@ use Rattle.reach_plain.proofs.Becoming.{becomes}
 use Rattle.reach_plain.proofs.Kept.{valid, chain_is_short}
 use Rattle.reach_plain.proofs.Once.{passed_once}
 use Rattle.scale_out.specs.declared.groups.Group.{Group}
-use Rattle.scale_out.specs.declared.visits.Spread.TheVariants.{Delivered, Dropped}
+use Rattle.scale_out.specs.declared.visits.Spread.TheVariants.{Delivered}
 use Rattle.scale_out.specs.declared.visits.Visit.{Visit}
 use Rattle.scale_out.specs.Choice.{IsChosen}
 use Rattle.scale_out.specs.Form.{has_group_form}

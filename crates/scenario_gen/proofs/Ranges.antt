@@ -3,6 +3,7 @@ use Rattle.std.proofs.Common.{◌≡◌, ℕ, ◌<◌, ◌+◌, ◌*◌, ◌++�
 use Rattle.std.specs.List.{range_with_len, flat_map, All, Contains}
 use Rattle.std.proofs.lemmas.List.Elements.{All-nil, All-cons, All-map, All-append, Contains-get_or, Contains-append_left, Contains-append_right}
 use Rattle.std.proofs.lemmas.List.FromFn.{length-map-range_with_len, get_or-map-range_with_len}
+use Rattle.std.proofs.lemmas.List.{map-append}
 
 pub in_range : (P : ℕ → Type 0) (a n : ℕ) → ((k : ℕ) → k < a + n → P k) → All P (range_with_len a n)
 in_range P a zero each = All-nil P
@@ -27,10 +28,6 @@ has_appended f x a zero i k e h there = absurd (omega (arith, h))
 has_appended f x a (suc n) zero k e h there = Contains-append_left (f a) (flat_map f (range_with_len (a + 1) n)) x (subst (λ j. Contains (f j) x) (omega (arith, e)) there)
 has_appended f x a (suc n) (suc i) k e h there =
     Contains-append_right (f a) (flat_map f (range_with_len (a + 1) n)) x (has_appended f x (a + 1) n i k (omega (arith, e)) (omega (arith, h)) there)
-
-pub map-append : {X Y : Type 0} (g : X → Y) (xs ys : List X) → map g (xs ++ ys) ≡ map g xs ++ map g ys
-map-append g [] ys = refl
-map-append g (x ∷ xs) ys = ap (λ zs. g x ∷ zs) (map-append g xs ys)
 
 pub map-map : {X Y Z : Type 0} (g : Y → Z) (f : X → Y) (xs : List X) → map g (map f xs) ≡ map (λ x. g (f x)) xs
 map-map g f [] = refl

@@ -1,25 +1,26 @@
 -- Rows, objects and instances put into a map one list after the other.
-use Rattle.std.proofs.Common.{◌≡◌, ℕ, suc, ◌+◌, ◌<◌, List, [], ◌∷◌, ◌++◌, ◌==◌, length, map, drop, get_or, refl, sym, ap, ◌∙◌}
-use Rattle.std.proofs.Common.{add-one, drop-cons}
+use Rattle.std.proofs.Common.{◌≡◌, ℕ, ◌+◌, ◌<◌, List, [], ◌∷◌, ◌++◌, ◌==◌, length, map, drop, get_or, refl, sym, ap, ◌∙◌}
 use Rattle.std.specs.Prelude.{flat_map}
 use Rattle.std.specs.BTreeMap.{insert_entry}
 use Rattle.std.specs.BTreeSet.{insert_key}
 use Rattle.ov_types.specs.Keys.{low_key_cmp, row_key_cmp}
 use Rattle.ov_types.specs.declared.numbers.InstanceId.{InstanceId}
 use Rattle.route_targets.specs.Numbers.{circuit_instance_of}
-use Rattle.std.specs.Prelude.{filter, option_to_list}
+use Rattle.std.specs.Prelude.{option_to_list}
 use Rattle.std.proofs.lemmas.List.{append_assoc}
 use Rattle.schema_transform.specs.Towards.{rows_if_in}
 use Rattle.schema_transform.proofs.Towards.{rows_are}
 use Rattle.std.specs.List.{filter_map, cons_option}
 use Rattle.config_model.specs.declared.config.Config.{Config}
 use Rattle.config_model.specs.declared.topology.Topology.{Topology}
-use Rattle.std.proofs.Common.{Bool, true, false, cond, Option, Some, None}
+use Rattle.std.proofs.Common.{Option, Some, None}
+use Rattle.std.proofs.lemmas.List.Elements.{filter_map-append, filter-append}
 use Rattle.transform_model.specs.Objects.{Object, acl_objects, circuit_object, circuit_objects, instance_cmp}
 use Rattle.transform_model.specs.Objects.{instance_object, low_objects, port_object, use_object, with_instances}
 use Rattle.transform_model.specs.Objects.{with_objects}
 use Rattle.transform_model.specs.Tables.{Row, circuit_row, circuits_in, end_rows, hop_rows, subnet_rows, with_rows}
 use Rattle.transform_model.specs.Uses.{Circuit, Use, first_hop, last_hop, left_circuits, right_circuits, uses}
+use Rattle.ov_types.proofs.FirstLemmas.{next_is}
 
 pub rows_append : (xs ys entries : List Row) → with_rows entries (xs ++ ys) ≡ with_rows (with_rows entries xs) ys
 rows_append [] ys entries = refl
@@ -35,10 +36,19 @@ pub instances_append : (xs ys set : List InstanceId)
 instances_append [] ys set = refl
 instances_append (x ∷ xs) ys set = instances_append xs ys (insert_key instance_cmp set x)
 
--- the item at i comes next
-pub comes_next : {A : Type 0} (items : List A) (i : ℕ) (item : A) → i < length items → item ≡ get_or items i item
-    → drop i items ≡ item ∷ drop (i + 1) items
-comes_next items i item lt at = rw add-one (drop-cons items i item lt ∙ ap (λ x. x ∷ drop (suc i) items) (sym at))
+-- what the item at i makes is put next, by what puts one list after the other
+goes_on : {A B S : Type 0} (put : S → List B → S) → ((xs ys : List B) (s : S) → put s (xs ++ ys) ≡ put (put s xs) ys)
+    → (one : A → List B) (all : List A → List B) → ((x : A) (xs : List A) → all (x ∷ xs) ≡ one x ++ all xs)
+    → (items : List A) (i : ℕ) (item : A) (before after total : S) → i < length items → item ≡ get_or items i item
+    → after ≡ put before (one item)
+    → put before (all (drop i items)) ≡ total
+    → put after (all (drop (i + 1) items)) ≡ total
+goes_on {A} {B} {S} put append one all first items i item before after total lt at is so_far =
+    let rest : List B = all (drop (i + 1) items) in
+    ap (λ (s : S). put s rest) is
+    ∙ sym (append (one item) rest before)
+    ∙ ap (put before) (sym (first item (drop (i + 1) items)) ∙ ap all (sym (next_is items i item lt at)))
+    ∙ so_far
 
 -- the rows of the item at i are put next
 pub rows_go_on : {A B : Type 0} (rows : B → List Row) (seen : A → B) (items : List A) (i : ℕ) (item : A)
@@ -46,22 +56,14 @@ pub rows_go_on : {A B : Type 0} (rows : B → List Row) (seen : A → B) (items 
     → after ≡ with_rows before (rows (seen item))
     → with_rows before (flat_map rows (map seen (drop i items))) ≡ total
     → with_rows after (flat_map rows (map seen (drop (i + 1) items))) ≡ total
-rows_go_on rows seen items i item before after total lt at put so_far =
-    ap (λ (e : List Row). with_rows e (flat_map rows (map seen (drop (i + 1) items)))) put
-    ∙ sym (rows_append (rows (seen item)) (flat_map rows (map seen (drop (i + 1) items))) before)
-    ∙ ap (λ (xs : List _). with_rows before (flat_map rows (map seen xs))) (sym (comes_next items i item lt at))
-    ∙ so_far
+rows_go_on rows seen = goes_on with_rows rows_append (λ x. rows (seen x)) (λ xs. flat_map rows (map seen xs)) (λ x xs. refl)
 
 pub tables_go_on : {A : Type 0} (rows : A → List Row) (items : List A) (i : ℕ) (item : A)
     (before after total : List Row) → i < length items → item ≡ get_or items i item
     → after ≡ with_rows before (rows item)
     → with_rows before (flat_map rows (drop i items)) ≡ total
     → with_rows after (flat_map rows (drop (i + 1) items)) ≡ total
-tables_go_on rows items i item before after total lt at put so_far =
-    ap (λ (e : List Row). with_rows e (flat_map rows (drop (i + 1) items))) put
-    ∙ sym (rows_append (rows item) (flat_map rows (drop (i + 1) items)) before)
-    ∙ ap (λ (xs : List _). with_rows before (flat_map rows xs)) (sym (comes_next items i item lt at))
-    ∙ so_far
+tables_go_on rows = goes_on with_rows rows_append rows (flat_map rows) (λ x xs. refl)
 
 -- the objects of the item at i are put next
 pub objects_go_on : {A B : Type 0} (objects : B → List Object) (seen : A → B) (items : List A) (i : ℕ) (item : A)
@@ -69,22 +71,14 @@ pub objects_go_on : {A B : Type 0} (objects : B → List Object) (seen : A → B
     → after ≡ with_objects before (objects (seen item))
     → with_objects before (flat_map objects (map seen (drop i items))) ≡ total
     → with_objects after (flat_map objects (map seen (drop (i + 1) items))) ≡ total
-objects_go_on objects seen items i item before after total lt at put so_far =
-    ap (λ (e : List Object). with_objects e (flat_map objects (map seen (drop (i + 1) items)))) put
-    ∙ sym (objects_append (objects (seen item)) (flat_map objects (map seen (drop (i + 1) items))) before)
-    ∙ ap (λ (xs : List _). with_objects before (flat_map objects (map seen xs))) (sym (comes_next items i item lt at))
-    ∙ so_far
+objects_go_on objects seen = goes_on with_objects objects_append (λ x. objects (seen x)) (λ xs. flat_map objects (map seen xs)) (λ x xs. refl)
 
 pub lists_go_on : {A : Type 0} (objects : A → List Object) (items : List A) (i : ℕ) (item : A)
     (before after total : List Object) → i < length items → item ≡ get_or items i item
     → after ≡ with_objects before (objects item)
     → with_objects before (flat_map objects (drop i items)) ≡ total
     → with_objects after (flat_map objects (drop (i + 1) items)) ≡ total
-lists_go_on objects items i item before after total lt at put so_far =
-    ap (λ (e : List Object). with_objects e (flat_map objects (drop (i + 1) items))) put
-    ∙ sym (objects_append (objects item) (flat_map objects (drop (i + 1) items)) before)
-    ∙ ap (λ (xs : List _). with_objects before (flat_map objects xs)) (sym (comes_next items i item lt at))
-    ∙ so_far
+lists_go_on objects = goes_on with_objects objects_append objects (flat_map objects) (λ x xs. refl)
 
 -- the instances of the item at i are put next
 pub needs_go_on : {A : Type 0} (needs : A → List InstanceId) (items : List A) (i : ℕ) (item : A)
@@ -92,34 +86,12 @@ pub needs_go_on : {A : Type 0} (needs : A → List InstanceId) (items : List A) 
     → after ≡ with_instances before (needs item)
     → with_instances before (flat_map needs (drop i items)) ≡ total
     → with_instances after (flat_map needs (drop (i + 1) items)) ≡ total
-needs_go_on needs items i item before after total lt at put so_far =
-    ap (λ (e : List InstanceId). with_instances e (flat_map needs (drop (i + 1) items))) put
-    ∙ sym (instances_append (needs item) (flat_map needs (drop (i + 1) items)) before)
-    ∙ ap (λ (xs : List _). with_instances before (flat_map needs xs)) (sym (comes_next items i item lt at))
-    ∙ so_far
+needs_go_on needs = goes_on with_instances instances_append needs (flat_map needs) (λ x xs. refl)
 
 -- ---- several lists
 one_first : (o : Option Use) (us : List Use) → option_to_list o ++ us ≡ cons_option o us
 one_first None us = refl
 one_first (Some u) us = refl
-
-given_append : {A B : Type 0} (f : A → Option B) (xs ys : List A)
-    → filter_map f (xs ++ ys) ≡ filter_map f xs ++ filter_map f ys
-given_append f [] ys = refl
-given_append f (x ∷ xs) ys =
-    elim (f x) as (λ o. cons_option o (filter_map f (xs ++ ys)) ≡ cons_option o (filter_map f xs) ++ filter_map f ys) [
-      | None ↦ given_append f xs ys
-      | Some y ↦ ap (λ zs. y ∷ zs) (given_append f xs ys)
-    ]
-
-kept_append : {A : Type 0} (p : A → Bool) (xs ys : List A) → filter p (xs ++ ys) ≡ filter p xs ++ filter p ys
-kept_append p [] ys = refl
-kept_append p (x ∷ xs) ys =
-    elim (p x) as (λ b. cond b (x ∷ filter p (xs ++ ys)) (filter p (xs ++ ys))
-    ≡ cond b (x ∷ filter p xs) (filter p xs) ++ filter p ys) [
-      | true ↦ ap (λ zs. x ∷ zs) (kept_append p xs ys)
-      | false ↦ kept_append p xs ys
-    ]
 
 -- the left circuits of a use and then the right ones
 pub circuits_put : (t : Topology) (u : Use) (lefts rights : List Circuit) (before : List Object)
@@ -128,7 +100,7 @@ pub circuits_put : (t : Topology) (u : Use) (lefts rights : List Circuit) (befor
     ≡ with_objects before (circuit_objects t u)
 circuits_put t u lefts rights before left right =
     sym (objects_append (filter_map (circuit_object t) lefts) (filter_map (circuit_object t) rights) before)
-    ∙ ap (with_objects before) (sym (given_append (circuit_object t) lefts rights)
+    ∙ ap (with_objects before) (sym (filter_map-append (circuit_object t) lefts rights)
     ∙ ap (λ (ks : List Circuit). filter_map (circuit_object t) (ks ++ rights)) left
     ∙ ap (λ (ks : List Circuit). filter_map (circuit_object t) (left_circuits u ++ ks)) right)
 
@@ -180,8 +152,8 @@ hop_put t c i u lefts rights first last o a b d e f g left right at_first at_las
     let s3 : List Row = flat_map (subnet_rows t c i u.right) (circuits_in i (left_circuits u)) in
     let s4 : List Row = flat_map (subnet_rows t c i u.left) (circuits_in i (right_circuits u)) in
     let same1 : r1 ++ r2 ≡ s1 =
-    sym (given_append (circuit_row t i) (circuits_in i lefts) (circuits_in i rights))
-    ∙ ap (filter_map (circuit_row t i)) (sym (kept_append (λ (k : Circuit). (circuit_instance_of k.number).0 == i.0) lefts rights))
+    sym (filter_map-append (circuit_row t i) (circuits_in i lefts) (circuits_in i rights))
+    ∙ ap (filter_map (circuit_row t i)) (sym (filter-append (λ (k : Circuit). (circuit_instance_of k.number).0 == i.0) lefts rights))
     ∙ ap (λ (ks : List Circuit). filter_map (circuit_row t i) (circuits_in i (ks ++ rights))) left
     ∙ ap (λ (ks : List Circuit). filter_map (circuit_row t i) (circuits_in i (left_circuits u ++ ks))) right
     in
@@ -209,10 +181,5 @@ hop_put t c i u lefts rights first last o a b d e f g left right at_first at_las
 pub uses_go_on : {A : Type 0} (give : A → Option Use) (items : List A) (i : ℕ) (item : A) (before after total : List Use)
     → i < length items → item ≡ get_or items i item → after ≡ before ++ option_to_list (give item)
     → before ++ filter_map give (drop i items) ≡ total → after ++ filter_map give (drop (i + 1) items) ≡ total
-uses_go_on give items i item before after total lt at put so_far =
-    let rest : List Use = filter_map give (drop (i + 1) items) in
-    ap (λ (us : List Use). us ++ rest) put
-    ∙ append_assoc before (option_to_list (give item)) rest
-    ∙ ap (λ (us : List Use). before ++ us) (one_first (give item) rest)
-    ∙ ap (λ xs. before ++ filter_map give xs) (sym (comes_next items i item lt at))
-    ∙ so_far
+uses_go_on give = goes_on (λ before us. before ++ us) (λ us vs before. sym (append_assoc before us vs))
+    (λ x. option_to_list (give x)) (filter_map give) (λ x xs. sym (one_first (give x) (filter_map give xs)))

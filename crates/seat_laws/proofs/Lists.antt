@@ -6,7 +6,6 @@ use Rattle.std.proofs.Common.{ap, arith, inl, inr, refl, subst, sym, ◌∙◌}
 use Rattle.std.proofs.lemmas.Bool.{true≢false}
 use Rattle.std.proofs.lemmas.Option.{same_Some}
 use Rattle.ov_types.specs.First.{same_name}
-use Rattle.config_check.specs.Sentences.{AreDistinct}
 use Rattle.node_model.specs.Members.{Member}
 use Rattle.node_model.proofs.Members.{from_filter, from_map, in_either, in_map, none_some}
 use Rattle.network_model.specs.Setup.{Name}
@@ -66,10 +65,6 @@ mapped_length {A = A} f xs ys e = sym (long xs) ∙ ap length e
     long [] = refl
     long (x ∷ xs) = ap suc (long xs)
 
-pub map_both : {A B : Type 0} (f : A → B) (xs ys : List A) → map f (xs ++ ys) ≡ map f xs ++ map f ys
-map_both f [] ys = refl
-map_both f (a ∷ xs) ys = ap (λ cs. f a ∷ cs) (map_both f xs ys)
-
 pub map_twice : {A B C : Type 0} (g : B → C) (f : A → B) (xs : List A) → map g (map f xs) ≡ map (λ a. g (f a)) xs
 map_twice g f [] = refl
 map_twice g f (a ∷ xs) = ap (λ cs. g (f a) ∷ cs) (map_twice g f xs)
@@ -111,13 +106,6 @@ index_apart i (n ∷ ns) (suc k) d a h =
 
 pub index_here : (ns : List Name) (k : ℕ) (d : Name) → Apart ns → k < length ns → index_from 0 (λ m. same_name m (slice_index_or ns k d)) ns ≡ Some k
 index_here ns k d a h = let e : 0 + k ≡ k = omega arith in index_apart 0 ns k d a h ∙ ap (λ k. Some k) e
-
-pub apart_of : (ns : List Name) → AreDistinct ns → Apart ns
-apart_of [] h = tt
-apart_of (n ∷ ns) h = (
-  (λ m i e. let q = at_of_member m ns n i in h 0 (suc q.0) n (omega arith) (omega (arith, q.1)) (e ∙ sym q.2)),
-  apart_of ns (λ i j d less within. h (suc i) (suc j) d (omega (arith, less)) (omega (arith, within))),
-)
 
 pub apart_both : (ms ns : List Name) → Apart ms → Apart ns → ((m n : Name) → Member m ms → Member n ns → m ≡ n → ⊥) → Apart (ms ++ ns)
 apart_both [] ns a b h = b

@@ -6,7 +6,7 @@ use Rattle.std.specs.declared.option.Option.TheVariants.{None, Some}
 use Rattle.std.specs.declared.option.Option.{Option}
 use Rattle.std.proofs.Common.{ap, inl, inr, refl, sym, ◌∙◌}
 use Rattle.std.proofs.lemmas.Bool.{true≢false}
-use Rattle.std.proofs.lemmas.List.{append-nil}
+use Rattle.std.proofs.lemmas.List.{append-nil, map-append}
 use Rattle.ov_types.specs.First.{same_name}
 use Rattle.ov_types.specs.declared.rows.NodeId.{NodeId}
 use Rattle.config_model.specs.declared.topology.Node.{Node}
@@ -24,7 +24,7 @@ use Rattle.compiled_laws.proofs.Names.{apart_names}
 use Rattle.compiled_laws.proofs.Placing.{feed_link}
 use Rattle.net_model.specs.Seats.{Controlling, control_plan, id_of}
 use Rattle.seat_laws.proofs.Links.{links}
-use Rattle.seat_laws.proofs.Lists.{apart_kept, map_both, map_twice}
+use Rattle.seat_laws.proofs.Lists.{apart_kept, map_twice}
 use Rattle.seat_laws.proofs.Parties.{client, computer, parties_of, root, site}
 
 cons_before : {A : Type 0} (o : Option A) (xs ys : List A) → cons_option o (xs ++ ys) ≡ cons_option o xs ++ ys
@@ -36,7 +36,7 @@ others_both name [] qs = refl
 others_both name (p ∷ ps) qs = ap (cons_option (other_end name p)) (others_both name ps qs) ∙ cons_before (other_end name p) (others name ps) (others name qs)
 
 others_joined : (name : Name) (ss ts : List Session) → others name (map nodes (ss ++ ts)) ≡ others name (map nodes ss) ++ others name (map nodes ts)
-others_joined name ss ts = ap (others name) (map_both nodes ss ts) ∙ others_both name (map nodes ss) (map nodes ts)
+others_joined name ss ts = ap (others name) (map-append nodes ss ts) ∙ others_both name (map nodes ss) (map nodes ts)
 
 abbrev names_in : List NodeId → List Name
 names_in cs = map (λ (c : NodeId). c.name) cs

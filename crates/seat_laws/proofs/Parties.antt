@@ -5,6 +5,7 @@ use Rattle.std.specs.Option.{unwrap_or}
 use Rattle.std.specs.Prelude.{List, Some, cond, false, find, map, not, true, [], ◌++◌, ◌∷◌, ◌≡◌}
 use Rattle.std.proofs.Common.{ap, inl, inr, refl, subst, sym, ◌∙◌}
 use Rattle.std.proofs.lemmas.Bool.{not-true, true≢false}
+use Rattle.std.proofs.lemmas.List.{map-append}
 use Rattle.ov_types.specs.First.{same_name}
 use Rattle.ov_types.specs.declared.rows.NodeId.{NodeId}
 use Rattle.config_model.specs.declared.topology.Node.{Node}
@@ -19,7 +20,7 @@ use Rattle.compiled_laws.specs.Goal.{Party}
 use Rattle.compiled_laws.specs.Setups.{IsNamed}
 use Rattle.network_model.proofs.Apart.{same_false}
 use Rattle.net_model.specs.Seats.{Configuring, Controlling, Forwarding, Who, agent_plan, control_plan, controller_named, id_of, name_of, names_of, no_node, others_of, role_of, whos}
-use Rattle.seat_laws.proofs.Lists.{map_both, map_twice}
+use Rattle.seat_laws.proofs.Lists.{map_twice}
 
 -- ---- the ends of sessions
 abbrev pub root : Party
@@ -47,7 +48,7 @@ pub parties_named : (w : Who) → map (λ (o : Party). o.0) (parties_of w) ≡ o
 parties_named (Configuring x) = map_twice (λ (o : Party). o.0) site x.topology.controllers
 parties_named (Controlling plan) =
     ap (λ ns. config ∷ ns)
-    (map_both (λ (o : Party). o.0) (map site plan.peers) (map client plan.agents)
+    (map-append (λ (o : Party). o.0) (map site plan.peers) (map client plan.agents)
     ∙ (λ i. map_twice (λ (o : Party). o.0) site plan.peers i ++ map_twice (λ (o : Party). o.0) client plan.agents i))
 parties_named (Forwarding plan) = map_twice (λ (o : Party). o.0) site plan.controllers
 

@@ -2,6 +2,7 @@
 use Rattle.std.specs.List.{AllByRecursion, filter}
 use Rattle.std.specs.Prelude.{List, map, [], ◌++◌, ◌∷◌, ◌≡◌}
 use Rattle.std.proofs.Common.{ap, refl, subst, sym, ◌∙◌}
+use Rattle.std.proofs.lemmas.List.{map-append}
 use Rattle.ov_types.specs.declared.rows.NodeId.{NodeId}
 use Rattle.config_model.specs.declared.topology.Node.{Node}
 use Rattle.config_check.specs.Checked.{Checked}
@@ -14,27 +15,27 @@ use Rattle.net_model.specs.Seats.{Seat}
 use Rattle.seat_laws.specs.Wired.{HasPlace, Pair, access_pairs, names_of, pairs, peer_pairs}
 use Rattle.seat_laws.specs.Wiring.{AreSeats, HasSessions}
 use Rattle.seat_laws.proofs.Links.{links, tied_of}
-use Rattle.seat_laws.proofs.Lists.{all_of, map_both, map_twice}
+use Rattle.seat_laws.proofs.Lists.{all_of, map_twice}
 use Rattle.seat_laws.proofs.Seating.{ListsApart, place_is_of, tied_at}
 
 peerings_named : (cs : List NodeId) → map names_of (peerings cs) ≡ peer_pairs cs
 peerings_named [] = refl
 peerings_named (c ∷ cs) =
-    map_both names_of (map (peer_session c) cs) (peerings cs)
+    map-append names_of (map (peer_session c) cs) (peerings cs)
     ∙ (λ i. map_twice names_of (peer_session c) cs i ++ peerings_named cs i)
 
 accesses_named : (cs : List NodeId) (ns : List Node) → map names_of (accesses cs ns) ≡ access_pairs cs ns
 accesses_named cs [] = refl
 accesses_named cs (n ∷ ns) =
-    map_both names_of (map (λ c. access_session c n) (filter (lists n) cs)) (accesses cs ns)
+    map-append names_of (map (λ c. access_session c n) (filter (lists n) cs)) (accesses cs ns)
     ∙ (λ i. map_twice names_of (λ c. access_session c n) (filter (lists n) cs) i ++ accesses_named cs ns i)
 
 pub start_named : (x : Checked) → map names_of (start x).sessions ≡ pairs x.topology
 start_named x =
     let cs = x.topology.controllers in
     let ns = x.topology.nodes in
-    map_both names_of (feeds cs ++ peerings cs) (accesses cs ns)
-    ∙ ap (λ (ps : List Pair). ps ++ map names_of (accesses cs ns)) (map_both names_of (feeds cs) (peerings cs))
+    map-append names_of (feeds cs ++ peerings cs) (accesses cs ns)
+    ∙ ap (λ (ps : List Pair). ps ++ map names_of (accesses cs ns)) (map-append names_of (feeds cs) (peerings cs))
     ∙ (λ i. (map_twice names_of feed_session cs i ++ peerings_named cs i) ++ accesses_named cs ns i)
 
 abbrev names : Nodes → Pair

@@ -7,6 +7,7 @@ use Rattle.std.specs.declared.option.Option.TheVariants.{None, Some}
 use Rattle.std.specs.declared.option.Option.{Option}
 use Rattle.std.proofs.Common.{ap, arith, inl, inr, refl, subst, sym, ◌∙◌}
 use Rattle.std.proofs.lemmas.Option.{same_Some}
+use Rattle.std.proofs.lemmas.List.{map-append}
 use Rattle.ov_types.specs.First.{same_name}
 use Rattle.ov_types.specs.declared.rows.NodeId.{NodeId}
 use Rattle.config_model.specs.declared.topology.Node.{Node}
@@ -20,12 +21,12 @@ use Rattle.network_model.specs.Session.{Agent}
 use Rattle.network_model.specs.Setup.{Name}
 use Rattle.compiled_laws.specs.Goal.{Party}
 use Rattle.compiled_laws.specs.Setups.{IsNamed}
-use Rattle.network_model.proofs.Apart.{Apart, NamesApart}
+use Rattle.network_model.proofs.Apart.{Apart, NamesApart, apart_of}
 use Rattle.compiled_laws.proofs.Names.{apart_names}
 use Rattle.net_model.specs.Seats.{Configuring, Controlling, Forwarding, Seat, Who, agent_plan, control_plan, far_of, id_of, index_from, name_of, names_of, nobody, others_of, place_at, place_of, role_of, seat, seat_named, session_with, whos}
 use Rattle.net_model.specs.declared.place.Place.{Place}
 use Rattle.seat_laws.specs.Wiring.{AreSeats, HasFar, IsPlace, IsPlaceOf, name_at, other_at}
-use Rattle.seat_laws.proofs.Lists.{apart_both, apart_kept, apart_of, at_map, at_of_member, index_here, index_found, index_of_map, map_both, map_twice, member_of_at, mapped_length}
+use Rattle.seat_laws.proofs.Lists.{apart_both, apart_kept, at_map, at_of_member, index_here, index_found, index_of_map, map_twice, member_of_at, mapped_length}
 use Rattle.seat_laws.proofs.Parties.{Ties, by_kind, holder_of, others_than_root, parties_named, parties_of, plan_names, self, ties_of, ties_turned}
 
 -- the control nodes that a compute node lists are different
@@ -44,7 +45,7 @@ module _ (x : Checked) (named : IsNamed x.topology) (listed : ListsApart x) wher
   whos_named =
       let t = x.topology in
       ap (λ ns. config ∷ ns)
-      (map_both name_of (map (λ c. Controlling (control_plan t c)) t.controllers) (map (λ n. Forwarding (agent_plan t n)) t.nodes)
+      (map-append name_of (map (λ c. Controlling (control_plan t c)) t.controllers) (map (λ n. Forwarding (agent_plan t n)) t.nodes)
       ∙ (λ i. map_twice name_of (λ c. Controlling (control_plan t c)) t.controllers i ++ map_twice name_of (λ n. Forwarding (agent_plan t n)) t.nodes i))
 
   -- ---- a node has one session with a node

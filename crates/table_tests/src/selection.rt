@@ -1,5 +1,9 @@
+ghost use Rattle.std.specs.Prelude.{◌≡◌, ◌<◌};
+
 use ov_types::{Addr, Label, Rd};
-use path_select::{Path, better, select};
+use path_select::{Path, Steps, better, select, select_counted};
+use std::marker::Brand;
+use std::sync::ledger::{Blank, Ledger};
 
 fn path(next_hop: u32, label: u32, rd: u64, session: u16) -> Path {
     Path {
@@ -8,6 +12,16 @@ fn path(next_hop: u32, label: u32, rd: u64, session: u16) -> Path {
         next_hop: Addr(next_hop),
         label: Label(label),
     }
+}
+
+/// The place that is selected where steps are counted.
+fn counted<L: Ledger>(paths: &[Path], blank: Blank) -> Option<usize>
+    requires name { blank.name ≡ L.name }
+    requires parts { blank.parts ≡ L.parts }
+    requires some { 0 < blank.parts }
+{
+    let mut steps = Steps::<L>::new(blank);
+    select_counted(paths, &mut steps)
 }
 
 /// Which of the first so many paths of the test is selected.
@@ -24,6 +38,8 @@ fn the_first_of_the_least_is_selected(rt: HostRuntime) {
     ];
     for count in 0..paths.len() + 1 {
         assert!(rt; select(&paths[..count]) == WANTED[count], "{count}");
+        let counted = counted::<Brand>(&paths[..count], Blank::new(1));
+        assert!(rt; counted == WANTED[count], "{count}");
     }
     assert!(rt; better(&paths[1], &paths[0]));
     assert!(rt; !better(&paths[3], &paths[4]));

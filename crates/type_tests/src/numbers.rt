@@ -4,32 +4,57 @@ use route_targets::{
     circuit_address, circuit_instance, circuit_label, hop_instance, hop_of, left_circuit,
     other_side, port_label, rd, right_circuit, target,
 };
-use std::test::Fail;
+use std::alloc::Global;
+use std::process::Abort;
+
+/// A circuit has this label, this address, and this one on its other side.
+fn has_numbers(
+    rt: &impl Abort,
+    alloc: Global,
+    circuit: u32,
+    label: u32,
+    address: &str,
+    other: u32,
+) {
+    assert!(rt; (32_769..=131_070).contains(&circuit));
+    assert!(rt; circuit_label(circuit) == Label(label));
+    let text = format!(in alloc; "{}", circuit_address(circuit)).expect(rt, "memory");
+    assert!(rt; text.as_str() == address, "{text}");
+    assert!(rt; other_side(circuit) == other);
+}
 
 #[test]
-fn numbers_of_the_first_use(rt: HostRuntime) -> Result<(), Fail> {
-    assert_eq!(rt; hop_instance(0, 0), InstanceId(16384));
-    assert_eq!(rt; hop_instance(0, 2), InstanceId(16386));
-    for (circuit, label, address, side) in [
+fn numbers_of_the_first_use(rt: HostRuntime) {
+    assert!(rt; hop_instance(0, 0) == InstanceId(16384));
+    assert!(rt; hop_instance(0, 2) == InstanceId(16386));
+    for (circuit, label, address, other) in [
         (32_769, 557_057, "250.0.128.1", 32_770),
         (32_770, 557_058, "250.0.128.2", 32_769),
         (32_771, 557_059, "250.0.128.3", 32_772),
         (32_772, 557_060, "250.0.128.4", 32_771),
     ] {
-        assert_eq!(rt; circuit_label(circuit), Label(label));
-        assert_eq!(rt;
-            format!(in rt.alloc(); "{}", circuit_address(circuit))?.as_str(),
-            address
-        );
-        assert_eq!(rt; other_side(circuit), side);
+        has_numbers(&rt, rt.alloc(), circuit, label, address, other);
     }
-    Ok(())
+}
+
+/// The target of an instance has this number and this text.
+fn has_target(
+    rt: &impl Abort,
+    alloc: Global,
+    asn: u32,
+    instance: InstanceId,
+    number: u64,
+    text: &str,
+) {
+    let made = target(asn, instance);
+    assert!(rt; made == Target(number));
+    let printed = format!(in alloc; "{made}").expect(rt, "memory");
+    assert!(rt; printed.as_str() == text, "{printed}");
 }
 
 /// AS numbers up to 65534 make targets of one type, those above make targets of the other.
 #[test]
-fn targets_are_of_two_types(rt: HostRuntime) -> Result<(), Fail> {
-    let alloc = rt.alloc();
+fn targets_are_of_two_types(rt: HostRuntime) {
     for (asn, instance, number, text) in [
         (1, 1, 0x0002_0001_007a_1201, "1:8000001"),
         (64512, 65535, 0x0002_fc00_007b_11ff, "64512:8065535"),
@@ -48,41 +73,32 @@ fn targets_are_of_two_types(rt: HostRuntime) -> Result<(), Fail> {
             "L4294967294:65535",
         ),
     ] {
-        let made = target(asn, InstanceId(instance));
-        assert_eq!(rt; made, Target(number));
-        assert_eq!(rt; format!(in alloc; "{made}")?.as_str(), text);
+        has_target(&rt, rt.alloc(), asn, InstanceId(instance), number, text);
     }
-    Ok(())
+}
+
+fn last_instance_has_its_numbers(rt: &impl Abort, alloc: Global) {
+    let last = hop_instance(3071, 15);
+    assert!(rt; last == InstanceId(65535));
+    let text = format!(in alloc; "{}", rd(Addr(0xdfff_ffff), last)).expect(rt, "memory");
+    assert!(rt; text.as_str() == "223.255.255.255:65535", "{text}");
 }
 
 #[test]
-fn numbers_at_the_ends_of_the_ranges(rt: HostRuntime) -> Result<(), Fail> {
-    let alloc = rt.alloc();
-    assert_eq!(rt; port_label(PortNo(0)), Label(16));
-    assert_eq!(rt; port_label(PortNo(524_271)), Label(524_287));
-    let last = hop_instance(3071, 15);
-    assert_eq!(rt; last, InstanceId(65535));
-    let distinguisher = rd(Addr(0xdfff_ffff), last);
-    assert_eq!(rt;
-        format!(in alloc; "{distinguisher}")?.as_str(),
-        "223.255.255.255:65535"
-    );
-    for (circuit, label, address, side) in [
+fn numbers_at_the_ends_of_the_ranges(rt: HostRuntime) {
+    assert!(rt; port_label(PortNo(0)) == Label(16));
+    assert!(rt; port_label(PortNo(524_271)) == Label(524_287));
+    last_instance_has_its_numbers(&rt, rt.alloc());
+    for (circuit, label, address, other) in [
         (131_069, 655_357, "250.1.255.253", 131_070),
         (131_070, 655_358, "250.1.255.254", 131_069),
     ] {
-        assert_eq!(rt; circuit_label(circuit), Label(label));
-        assert_eq!(rt;
-            format!(in alloc; "{}", circuit_address(circuit))?.as_str(),
-            address
-        );
-        assert_eq!(rt; other_side(circuit), side);
+        has_numbers(&rt, rt.alloc(), circuit, label, address, other);
     }
-    Ok(())
 }
 
 #[test]
-fn hops_and_circuits_go_back_and_forth(rt: HostRuntime) {
+fn instances_go_back_to_their_hops(rt: HostRuntime) {
     for (instance, hop) in [
         (1, None),
         (16_383, None),
@@ -93,17 +109,21 @@ fn hops_and_circuits_go_back_and_forth(rt: HostRuntime) {
         (65_535, Some((3071, 15))),
     ] {
         let found = hop_of(InstanceId(instance)).map(|hop| (hop.use_no, hop.place));
-        assert_eq!(rt; found, hop, "{instance}");
+        assert!(rt; found == hop, "{instance}");
     }
+}
+
+#[test]
+fn circuits_go_back_to_their_instances(rt: HostRuntime) {
     for (use_no, place, left, right) in [
         (0, 1, 32_769, 32_770),
         (0, 2, 32_771, 32_772),
         (1, 1, 32_801, 32_802),
         (3071, 15, 131_069, 131_070),
     ] {
-        assert_eq!(rt; left_circuit(use_no, place), left);
-        assert_eq!(rt; right_circuit(use_no, place), right);
-        assert_eq!(rt; other_side(left), right);
-        assert_eq!(rt; circuit_instance(right), hop_instance(use_no, place));
+        assert!(rt; left_circuit(use_no, place) == left);
+        assert!(rt; right_circuit(use_no, place) == right);
+        assert!(rt; other_side(left) == right);
+        assert!(rt; circuit_instance(right) == hop_instance(use_no, place));
     }
 }

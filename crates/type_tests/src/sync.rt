@@ -37,6 +37,28 @@ fn tells_drops_and_puts_in_the_order_of_the_keys(rt: HostRuntime) -> Result<(), 
 }
 
 #[test]
+fn tells_one_key_where_it_differs(rt: HostRuntime) -> Result<(), Fail> {
+    let mut out = SyncOut::new(rt.alloc());
+    let steps = [
+        (3, Some(30), Some(Delta::Put(3, 30))),
+        (3, Some(30), None),
+        (5, None, None),
+        (5, Some(30), Some(Delta::Put(5, 30))),
+        (3, Some(31), Some(Delta::Put(3, 31))),
+        (3, None, Some(Delta::Drop(3))),
+        (3, None, None),
+    ];
+    for (key, wanted, expected) in steps {
+        let delta = out.replace_key(key, wanted);
+        assert_eq!(rt; delta.ok().ok_or("no memory")?, expected);
+    }
+    let rest = out.replace(&table(rt.alloc(), &[(3, 30), (5, 30)])?);
+    let puts = [Delta::Put(3, 30)];
+    assert_eq!(rt; rest.ok().ok_or("no memory")?.as_slice(), puts.as_slice());
+    Ok(())
+}
+
+#[test]
 fn holds_what_was_put(rt: HostRuntime) -> Result<(), Fail> {
     let mut held = SyncIn::new(rt.alloc());
     assert!(rt; held.apply(Delta::Put(4, 40)).is_ok());

@@ -2,7 +2,7 @@
 use Rattle.std.specs.Prelude.{◌≡◌, ◌==◌, ℕ, zero, suc, List, [], ◌∷◌, map, length, insert, true, false, cond, Some, nat_lt}
 use Rattle.std.specs.List.{slice_get, slice_set}
 use Rattle.std.proofs.lemmas.Option.{same_Some, slice_get_within, slice_get_read}
-use Rattle.std.proofs.lemmas.Bool.{true≢false, eq-eqb}
+use Rattle.std.proofs.lemmas.Bool.{eq-eqb}
 use Rattle.std.proofs.Common.{refl, sym, ◌∙◌, ap, arith, get_or}
 use Rattle.ov_types.specs.declared.keys.UpKey.{UpKey}
 use Rattle.ov_types.specs.declared.numbers.Label.{Label as LabelNo}

@@ -63,7 +63,3 @@ places_turn feed k v rest instances new held is =
     ap (λ (l : List InstanceId). l ++ places rest) (is ∙ ap (λ (o : Option Use). instances ++ hops_of_held o) (use_is feed k v held))
     ∙ assoc instances (hops_of_held (as_use k v)) (places rest)
     ∙ ap (λ (l : List InstanceId). instances ++ l) (sym (hops_first (as_use k v) (filter_map (λ e. as_use e.0 e.1) rest)))
-
-pub nothing_more : {X : Type 0} (xs : List X) → xs ++ [] ≡ xs
-nothing_more [] = refl
-nothing_more {X = X} (x ∷ xs) = ap (λ (l : List X). x ∷ l) (nothing_more xs)

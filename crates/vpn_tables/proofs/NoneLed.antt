@@ -1,9 +1,10 @@
 -- No route leads on into a network.
 use Rattle.std.specs.Prelude.{◌≡◌, ◌≤◌, ℕ, suc, ◌+◌, ◌*◌, List, [], ◌∷◌, Bool, true, false, cond}
 use Rattle.std.specs.List.{filter}
+use Rattle.std.specs.Option.{is_some}
 use Rattle.std.proofs.Common.{refl, ◌∙◌, ap, inl, inr, arith}
 use Rattle.ov_types.specs.declared.numbers.InstanceId.{InstanceId}
-use Rattle.route_targets.specs.Numbers.{target_of}
+use Rattle.route_targets.specs.Numbers.{target_of, hop_of}
 use Rattle.node_model.specs.Members.{Member}
 use Rattle.node_model.specs.Paths.{Holdings, Path, has_target}
 use Rattle.node_model.specs.Reaching.{hop_at, reoriginated}
@@ -14,14 +15,17 @@ none_pass : (p : Path → Bool) (xs : List Path) → ((x : Path) → Member x xs
 none_pass p [] h = refl
 none_pass p (x ∷ xs) h = ap (λ b. cond b (x ∷ filter p xs) (filter p xs)) (h x (inl refl)) ∙ none_pass p xs (λ y m. h y (inr m))
 
-pub no_led : (h : Holdings) (i : InstanceId) → i.0 ≤ 16383 → filter (has_target (target_of h.asn i ∷ [])) (reoriginated h) ≡ []
-no_led h i small = none_pass (has_target (target_of h.asn i ∷ [])) (reoriginated h) (λ p m.
+within : (i : InstanceId) → is_some (hop_of i) ≡ false → i.0 ≤ 16383
+within i none = grind arith
+
+pub no_led : (h : Holdings) (i : InstanceId) → is_some (hop_of i) ≡ false → filter (has_target (target_of h.asn i ∷ [])) (reoriginated h) ≡ []
+no_led h i none = none_pass (has_target (target_of h.asn i ∷ [])) (reoriginated h) (λ p m.
     let r = reoriginated_from h p m in
     let place = hop_at r.side (suc r.depth) in
     elim (has_target (target_of h.asn i ∷ []) p) as (λ b. has_target (target_of h.asn i ∷ []) p ≡ b → b ≡ false) [
       | true ↦ λ e. absurd (elim (target_from h.asn place (i ∷ []) p r.targets e) as (λ _. ⊥) [
-        | inl is ↦ apart i.0 r.side.chain.number (place_at r.side (suc r.depth)) small (ap (λ (i : InstanceId). i.0) is)
-        | inr none ↦ none
+        | inl is ↦ apart i.0 r.side.chain.number (place_at r.side (suc r.depth)) (within i none) (ap (λ (i : InstanceId). i.0) is)
+        | inr absent ↦ absent
       ])
       | false ↦ λ _. refl
     ] refl)

@@ -3,11 +3,11 @@ use Rattle.std.specs.Prelude.{◌≡◌, ℕ, suc, ◌+◌, ◌<◌, length, dro
 use Rattle.std.specs.List.{filter, flat_map}
 use Rattle.std.specs.FinMap.{FinMap}
 use Rattle.std.proofs.Math.Seq.{drop-cons}
-use Rattle.std.proofs.Common.{refl, sym, ◌∙◌, ap, arith, get_or}
+use Rattle.std.proofs.Common.{refl, sym, ◌∙◌, ap, get_or}
 use Rattle.node_model.specs.Paths.{Path, Holdings}
 use Rattle.vpn_tables.specs.declared.tables.Agent.{Agent}
 use Rattle.vpn_tables.specs.Views.{agent_of}
-use Rattle.vpn_tables.proofs.Walks.{own_of}
+use Rattle.vpn_tables.proofs.Walks.{own_of, next_place}
 use Rattle.path_select.specs.declared.selection.Path.{Path as Plain}
 use Rattle.vpn_tables.specs.Least.{prefix_order, offer_all, offered}
 use Rattle.path_select.specs.Selection.{plain}
@@ -28,9 +28,6 @@ filter-append p (x ∷ xs) ys =
 pub offer-parts : (p : Path → Bool) (m n : FinMap prefix_order Plain) (xs ys : List Path) → n ≡ offer_all m (filter p xs) → offer_all n (filter p ys) ≡ offer_all m (filter p (xs ++ ys))
 offer-parts p m n xs ys e =
     ap (λ (k : FinMap prefix_order Plain). offer_all k (filter p ys)) e ∙ sym (offer-append m (filter p xs) (filter p ys)) ∙ ap (offer_all m) (sym (filter-append p xs ys))
-
-next_place : (k : ℕ) → suc k ≡ k + 1
-next_place k = omega arith
 
 pub agents_turn : (h : Holdings) (items : List Agent) (k : ℕ) (a : Agent) → k < length items → a ≡ get_or items k a
     → flat_map (own_of h) (map agent_of (drop k items)) ≡ own_of h (agent_of a) ++ flat_map (own_of h) (map agent_of (drop (k + 1) items))

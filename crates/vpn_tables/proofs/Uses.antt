@@ -5,6 +5,7 @@ use Rattle.std.specs.declared.option.Option.TheVariants.{Some, None}
 use Rattle.std.specs.List.{flat_map, filter_map, cons_option, AllByRecursion}
 use Rattle.std.specs.List.Sorted.{IsStrictlySortedBy}
 use Rattle.std.proofs.Common.{refl, sym, ◌∙◌, ap, subst, inl, inr}
+use Rattle.std.proofs.lemmas.List.{append_assoc}
 use Rattle.ov_sync.specs.Keyed.{map_of}
 use Rattle.ov_sync.specs.Embed.{moved_entry}
 use Rattle.ov_sync.proofs.Ascending.{entries-map_of, ascends}
@@ -39,13 +40,9 @@ use_is feed (key.Instance n) v e = refl
 use_is feed (key.Attach n) v e = refl
 use_is feed (key.Acl a b) v e = refl
 
-assoc : (xs ys zs : List Path) → (xs ++ ys) ++ zs ≡ xs ++ (ys ++ zs)
-assoc [] ys zs = refl
-assoc (x ∷ xs) ys zs = ap (λ (l : List Path). x ∷ l) (assoc xs ys zs)
-
 pub leads-append : (h : Holdings) (xs ys : List Side) → flat_map (leads h) (xs ++ ys) ≡ flat_map (leads h) xs ++ flat_map (leads h) ys
 leads-append h [] ys = refl
-leads-append h (x ∷ xs) ys = ap (λ (l : List Path). leads h x ++ l) (leads-append h xs ys) ∙ sym (assoc (leads h x) (flat_map (leads h) xs) (flat_map (leads h) ys))
+leads-append h (x ∷ xs) ys = ap (λ (l : List Path). leads h x ++ l) (leads-append h xs ys) ∙ sym (append_assoc (leads h x) (flat_map (leads h) xs) (flat_map (leads h) ys))
 
 sides_first : (o : Option Use) (us : List Use) → flat_map sides_of (cons_option o us) ≡ sides_of_held o ++ flat_map sides_of us
 sides_first None us = refl
@@ -55,7 +52,7 @@ pub led_turn : (h : Holdings) (k : LowKey) (v : LowValue) (rest : List Entry) (r
     → new ≡ routes ++ flat_map (leads h) (sides_of_held (use_at h.feed k)) → new ++ total h rest ≡ routes ++ total h ((k, v) ∷ rest)
 led_turn h k v rest routes new held e =
     ap (λ (l : List Path). l ++ total h rest) (e ∙ ap (λ (o : Option Use). routes ++ flat_map (leads h) (sides_of_held o)) (use_is h.feed k v held))
-    ∙ assoc routes (flat_map (leads h) (sides_of_held (as_use k v))) (total h rest)
+    ∙ append_assoc routes (flat_map (leads h) (sides_of_held (as_use k v))) (total h rest)
     ∙ ap (λ (l : List Path). routes ++ l) (sym (leads-append h (sides_of_held (as_use k v)) (flat_map sides_of (filter_map (λ e. as_use e.0 e.1) rest)))
     ∙ ap (flat_map (leads h)) (sym (sides_first (as_use k v) (filter_map (λ e. as_use e.0 e.1) rest))))
 

@@ -7,6 +7,7 @@ use Rattle.std.specs.List.Sorted.{IsStrictlySortedBy}
 use Rattle.std.specs.FinMap.{entries}
 use Rattle.std.proofs.Math.Seq.{drop-cons}
 use Rattle.std.proofs.Common.{refl, sym, ◌∙◌, ap, arith, get_or}
+use Rattle.std.proofs.Math.Bool.{or_assoc}
 use Rattle.ov_sync.specs.Embed.{moved_entry}
 use Rattle.ov_types.specs.Prefix.{Block, is_inside}
 use Rattle.ov_types.specs.declared.numbers.InstanceId.{InstanceId}
@@ -62,10 +63,6 @@ any-filter p q (x ∷ xs) =
       | false ↦ any-filter p q xs
     ]
 
-or_assoc : (a b c : Bool) → ((a || b) || c) ≡ (a || (b || c))
-or_assoc true b c = refl
-or_assoc false b c = refl
-
 pub any-append : (p : Path → Bool) (xs ys : List Path) → list_any p (xs ++ ys) ≡ (list_any p xs || list_any p ys)
 any-append p [] ys = refl
 any-append p (x ∷ xs) ys = ap (λ b. p x || b) (any-append p xs ys) ∙ sym (or_assoc (p x) (list_any p xs) (list_any p ys))
@@ -87,7 +84,7 @@ none_first p o ys whole is h = sym (ap (λ (o : Option Path). list_any p (cons_o
 one_on : (k : ℕ) → 1 + k + 1 ≡ 1 + (k + 1)
 one_on k = omega arith
 
-next_place : (k : ℕ) → suc k ≡ k + 1
+pub next_place : (k : ℕ) → suc k ≡ k + 1
 next_place k = omega arith
 
 pub peers_turn : (items : List (List (VpnKey × VpnRoute))) (k : ℕ) (x : List (VpnKey × VpnRoute)) → k < length items → x ≡ get_or items k x

@@ -16,7 +16,7 @@ use crate::tables::{Agent, VpnTables};
 use ov_sync::SyncIn;
 use ov_types::{InstanceId, NoMemory, Prefix, TableRow, Target, VpnKey, VpnRoute};
 use path_select::Path;
-use route_targets::target;
+use route_targets::{hop_of, target};
 
 type Least = SyncIn<Prefix, Path>;
 
@@ -105,7 +105,7 @@ impl VpnTables {
         ensures { OnOk result (least_of least.new ≡ offer_all (least_of least.old)
             (filter (has_target (target_of self.now.asn i ∷ [])) (reoriginated self.now))) }
     {
-        if i.0 <= 16383 {
+        if hop_of(i).is_none() {
             return Ok(());
         }
         let routes = self.led_on()?;

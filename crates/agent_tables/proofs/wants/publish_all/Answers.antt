@@ -8,8 +8,9 @@ use Rattle.agent_tables.specs.Kept.{added}
 use Rattle.agent_tables.specs.Slice.{pairs_of}
 use Rattle.agent_tables.specs.declared.object.SliceObject.{SliceObject}
 use Rattle.agent_tables.proofs.Added.{added_turn, added_end}
-use Rattle.agent_tables.proofs.Lists.{turn, rest_none}
+use Rattle.agent_tables.proofs.Lists.{rest_none}
 use Rattle.agent_tables.proofs.wants.publish_all.Goals as goal
+use Rattle.ov_types.proofs.FirstLemmas.{next_is}
 
 abbrev published : List SliceObject → List (Key × Value)
 published slice = flat_map (λ e. publication e.0 e.1) (pairs_of slice)
@@ -20,7 +21,7 @@ loop-object-preserved c =
     let k = c.loop-object.object-index in
     let x = c.object-item.result in
     added_turn (up_of c.loop-object.wanted.entries) (up_of c.publish.new.wanted.entries) (added (up_of c.args.wanted.now.entries) (published items)) (publication x.key x.value.now)
-    (published (drop (k + 1) items)) (published (drop k items)) c.in_ok-publish.ensures (ap published (turn items k x c.loop-object-test.true c.object-item.is)) c.loop-object.invariant
+    (published (drop (k + 1) items)) (published (drop k items)) c.in_ok-publish.ensures (ap published (next_is items k x c.loop-object-test.true c.object-item.is)) c.loop-object.invariant
 
 pub returns : goal.returns
 returns c =

@@ -1,49 +1,30 @@
-use Rattle.std.proofs.Common.{◌≡◌, ◌<◌, ◌≤◌, ◌+◌, ◌-◌, ◌++◌, ℕ, suc, ap, sym, ◌∙◌, map, List, [], ◌∷◌, Some, Option, append-nil, arith}
-use Rattle.packet_trace.specs.declared.hops.Hop.{Hop}
+use Rattle.std.proofs.Common.{◌≡◌, ◌<◌, ◌≤◌, ◌-◌, ◌++◌, ℕ, map, [], ◌∷◌, ◌∙◌, arith, suc}
 use Rattle.packet_trace.specs.declared.step.Step.TheVariants as Does
 use Rattle.packet_trace.proofs.Places.{one_more, some_mapped}
-use Rattle.packet_trace.proofs.Walks.{walk_step, hops_step, walk_on, hops_on, walk_spent, hops_spent}
+use Rattle.packet_trace.proofs.Walks.{all_hops, walk_step, hops_step, walk_on, hops_on, walk_spent, hops_spent}
 use Rattle.packet_trace.proofs.tracing.walk.Goals as goal
 
 pub returns-in-Arrives-clause-outcome : goal.returns-in-Arrives-clause-outcome
 returns-in-Arrives-clause-outcome g c =
-    let F = map g.V.Vrouter.forwarder c.args.agents.now in
-    let i = c.loop-left.invariant in
-    let m : ℕ = c.loop-left.left - 1 in
-    let test : 0 < c.loop-left.left = c.loop-left-test.true in
-    let e : c.loop-left.left ≡ suc m = omega arith in
-    walk_step F c.args.address.0 c.loop-left.left m c.loop-left.services c.loop-left.place (Does.Arrives c.in-Arrives.port) _ e c.in-Arrives.ensures.leading i.walked
+    let l = c.loop-left in
+    walk_step (map g.V.Vrouter.forwarder c.args.agents.now) c.args.address.0 l.left l.services l.place (Does.Arrives c.in-Arrives.port) _ c.loop-left-test.true c.in-Arrives.ensures.leading l.invariant.walked
 
 pub returns-in-Arrives-clause-hops : goal.returns-in-Arrives-clause-hops
 returns-in-Arrives-clause-hops g c =
-    let F = map g.V.Vrouter.forwarder c.args.agents.now in
-    let i = c.loop-left.invariant in
-    let m : ℕ = c.loop-left.left - 1 in
-    let test : 0 < c.loop-left.left = c.loop-left-test.true in
-    let e : c.loop-left.left ≡ suc m = omega arith in
-    let some : List Hop → Option (List Hop) = λ l. Some l in
-    ap some (c.push.ensures ∙ sym (append-nil (c.loop-left.hops ++ c.hop_at.result ∷ []))) ∙
-    hops_step F c.args.address.0 c.loop-left.left m c.loop-left.hops c.hop_at.result c.loop-left.place (Does.Arrives c.in-Arrives.port) _ e c.hop_at.ensures c.in-Arrives.ensures.leading i.hopped
+    let l = c.loop-left in
+    all_hops (l.hops ++ c.hop_at.result ∷ []) _ c.push.ensures
+    ∙ hops_step (map g.V.Vrouter.forwarder c.args.agents.now) c.args.address.0 l.left l.hops c.hop_at.result l.place (Does.Arrives c.in-Arrives.port) _ c.loop-left-test.true c.hop_at.ensures c.in-Arrives.ensures.leading l.invariant.hopped
 
 pub returns-in-Stops-clause-outcome : goal.returns-in-Stops-clause-outcome
 returns-in-Stops-clause-outcome g c =
-    let F = map g.V.Vrouter.forwarder c.args.agents.now in
-    let i = c.loop-left.invariant in
-    let m : ℕ = c.loop-left.left - 1 in
-    let test : 0 < c.loop-left.left = c.loop-left-test.true in
-    let e : c.loop-left.left ≡ suc m = omega arith in
-    walk_step F c.args.address.0 c.loop-left.left m c.loop-left.services c.loop-left.place (Does.Stops c.in-Stops.why) _ e c.in-Stops.ensures.leading i.walked
+    let l = c.loop-left in
+    walk_step (map g.V.Vrouter.forwarder c.args.agents.now) c.args.address.0 l.left l.services l.place (Does.Stops c.in-Stops.why) _ c.loop-left-test.true c.in-Stops.ensures.leading l.invariant.walked
 
 pub returns-in-Stops-clause-hops : goal.returns-in-Stops-clause-hops
 returns-in-Stops-clause-hops g c =
-    let F = map g.V.Vrouter.forwarder c.args.agents.now in
-    let i = c.loop-left.invariant in
-    let m : ℕ = c.loop-left.left - 1 in
-    let test : 0 < c.loop-left.left = c.loop-left-test.true in
-    let e : c.loop-left.left ≡ suc m = omega arith in
-    let some : List Hop → Option (List Hop) = λ l. Some l in
-    ap some (c.push.ensures ∙ sym (append-nil (c.loop-left.hops ++ c.hop_at.result ∷ []))) ∙
-    hops_step F c.args.address.0 c.loop-left.left m c.loop-left.hops c.hop_at.result c.loop-left.place (Does.Stops c.in-Stops.why) _ e c.hop_at.ensures c.in-Stops.ensures.leading i.hopped
+    let l = c.loop-left in
+    all_hops (l.hops ++ c.hop_at.result ∷ []) _ c.push.ensures
+    ∙ hops_step (map g.V.Vrouter.forwarder c.args.agents.now) c.args.address.0 l.left l.hops c.hop_at.result l.place (Does.Stops c.in-Stops.why) _ c.loop-left-test.true c.hop_at.ensures c.in-Stops.ensures.leading l.invariant.hopped
 
 pub loop-left-preserved : goal.loop-left-preserved
 loop-left-preserved g c =
@@ -53,9 +34,9 @@ loop-left-preserved g c =
     let test : 0 < c.loop-left.left = c.loop-left-test.true in
     let e : c.loop-left.left ≡ suc m = omega arith in
     let walked =
-    walk_step F c.args.address.0 c.loop-left.left m c.loop-left.services c.loop-left.place (Does.Passes c.in-Passes.service c.in-Passes.behind) _ e c.in-Passes.ensures.leading i.walked in
+    walk_step F c.args.address.0 c.loop-left.left c.loop-left.services c.loop-left.place (Does.Passes c.in-Passes.service c.in-Passes.behind) _ test c.in-Passes.ensures.leading i.walked in
     let hopped =
-    hops_step F c.args.address.0 c.loop-left.left m c.loop-left.hops c.hop_at.result c.loop-left.place (Does.Passes c.in-Passes.service c.in-Passes.behind) _ e c.hop_at.ensures c.in-Passes.ensures.leading i.hopped in
+    hops_step F c.args.address.0 c.loop-left.left c.loop-left.hops c.hop_at.result c.loop-left.place (Does.Passes c.in-Passes.service c.in-Passes.behind) _ test c.hop_at.ensures c.in-Passes.ensures.leading i.hopped in
     record {
       within = c.in-Passes.ensures.place;
       walked = walk_on F c.args.address.0 m c.loop-left.services c.push-in-Passes.new.self c.in-Passes.service c.in-Passes.behind _ c.push-in-Passes.ensures walked;

@@ -1,4 +1,4 @@
-use Rattle.std.proofs.Common.{refl, [], ◌-◌, ◌<◌, ◌≤◌, length, ◌∙◌, ap, map, List, rules}
+use Rattle.std.proofs.Common.{refl, ◌<◌, ◌≤◌, length, ◌∙◌, ap, map, List, rules}
 use Rattle.std.proofs.lemmas.Option.{slice_get_read}
 use Rattle.ov_sync.specs.Keyed.{changed, map_of}
 use Rattle.ov_types.specs.declared.vpn.VpnKey.{VpnKey}

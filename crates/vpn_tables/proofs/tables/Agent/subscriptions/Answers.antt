@@ -2,17 +2,18 @@ use Rattle.std.proofs.Common.{ap, sym, ◌∙◌, ◌++◌, List}
 use Rattle.std.specs.List.{filter_map}
 use Rattle.std.specs.Map.Iter.{deref_pair}
 use Rattle.std.proofs.lemmas.Map.Iter.{rest_all}
+use Rattle.std.proofs.lemmas.List.{append-nil}
 use Rattle.ov_types.specs.declared.keys.UpKey.{UpKey}
 use Rattle.ov_types.specs.declared.numbers.Label.{Label}
 use Rattle.node_model.specs.Keys.{of_up}
 use Rattle.node_model.specs.Wants.{subscribed}
-use Rattle.vpn_tables.proofs.Listed.{nothing_more, subscriptions_are}
+use Rattle.vpn_tables.proofs.Listed.{subscriptions_are}
 use Rattle.vpn_tables.proofs.tables.Agent.subscriptions.Goals as goal
 
 pub returns : goal.returns
 returns c =
     let before = rest_all deref_pair c.loop-key.key-iterator c.next.new.self c.next.result c.in-None.is c.next.ensures.steps in
-    sym (nothing_more c.loop-key.instances.items)
+    sym (append-nil c.loop-key.instances.items)
     ∙ ap (λ (l : List (UpKey × Label)). c.loop-key.instances.items ++ filter_map (λ e. subscribed (of_up e.0)) l) (sym before)
     ∙ c.loop-key.invariant
     ∙ subscriptions_are c.args.self.now.told c.iter-key-items.ensures.ascending
