@@ -19,9 +19,11 @@ use Rattle.config_model.specs.declared.topology.Topology.{Topology}
 use Rattle.network_rules.specs.Related.{all_rules}
 use Rattle.network_rules.specs.declared.numbered.NumberedRule.{NumberedRule}
 use Rattle.config_check.specs.Sentences.{IsValid}
+use Rattle.config_ties.specs.declared.breaking.Tie.{Tie}
+use Rattle.config_ties.specs.declared.breaking.Tie.TheVariants as Tied
 use Rattle.config_ties.specs.Ties.{BreaksNone, HasPort, HasUse, Ties}
 use Rattle.config_ties.specs.Tying.{ends_of, home_id}
-use Rattle.config_ties.specs.Broken.{IsBroken, PortTie, Tie, UseTie, broken_port, broken_tie, broken_use, moved, moved_pair}
+use Rattle.config_ties.specs.Broken.{IsBroken, broken_port, broken_tie, broken_use, moved, moved_pair}
 use Rattle.config_ties.proofs.Having.{Pair, ends_are, home_is, of_port, of_rule, same_id}
 
 never : {A : Type 0} (x : A) → None ≡ Some x → ⊥
@@ -84,7 +86,7 @@ module _ (s : Topology) (t : Ties) (c : Config) (v : IsValid s c) where
   port_kept : first_of (broken_port t c) c.ports ≡ None → (p : PortNo) (m n : InstanceId) → t.port p ≡ Some m → HasPort c p n → m ≡ n
   port_kept none p m n e h =
       let whole = All-contains (λ (q : Port). broken_port t c q ≡ None) c.ports h.port ((first_of_none (broken_port t c) c.ports).0 none) h.has_port in
-      stays (t.port h.port.id) (home_id c h.port) m n (if_none (moved (t.port h.port.id) (home_id c h.port)) (PortTie h.port.id.0) whole) (ap t.port h.number_is ∙ e) (home_is s c v p n h)
+      stays (t.port h.port.id) (home_id c h.port) m n (if_none (moved (t.port h.port.id) (home_id c h.port)) (Tied.Port h.port.id) whole) (ap t.port h.number_is ∙ e) (home_is s c v p n h)
 
   module _ (none : broken_tie t c ≡ None) where
     parts : (first_of (broken_port t c) c.ports ≡ None) × (first_of by_rule (all_rules c) ≡ None)
@@ -94,7 +96,7 @@ module _ (s : Topology) (t : Ties) (c : Config) (v : IsValid s c) where
     use_kept number m n e h =
         let whole : by_rule h.rule ≡ None = All-contains (λ (r : NumberedRule). by_rule r ≡ None) (all_rules c) h.rule ((first_of_none by_rule (all_rules c)).0 parts.1) h.has_rule in
         let here : broken_use t c h.rule.rule (Through h.chain number) ≡ None = ap (broken_use t c h.rule.rule) (sym h.leads) ∙ whole in
-        pair_stays (t.chain_use number) (ends_of c h.rule.rule) m n (if_none (moved_pair (t.chain_use number) (ends_of c h.rule.rule)) (UseTie number) here) e (ends_are s c v number n h)
+        pair_stays (t.chain_use number) (ends_of c h.rule.rule) m n (if_none (moved_pair (t.chain_use number) (ends_of c h.rule.rule)) (Tied.ChainUse number) here) e (ends_are s c v number n h)
 
     breaks_none : BreaksNone t c
     breaks_none = record { ports = port_kept parts.0; uses = use_kept }
@@ -102,14 +104,14 @@ module _ (s : Topology) (t : Ties) (c : Config) (v : IsValid s c) where
   module _ (keeps : BreaksNone t c) where
     port_none : (q : Port) → Contains c.ports q → broken_port t c q ≡ None
     port_none q there =
-        ap (λ b. cond b (Some (PortTie q.id.0)) None)
+        ap (λ b. cond b (Some (Tied.Port q.id)) None)
         (unmoved (t.port q.id) (home_id c q) (λ m n e f. keeps.ports q.id m n e (of_port s c v q n there f)))
 
     rule_none : (r : NumberedRule) → Contains (all_rules c) r → (a : Action) → r.rule.action ≡ a → broken_use t c r.rule a ≡ None
     rule_none r there Pass is = refl
     rule_none r there Deny is = refl
     rule_none r there (Through chain number) is =
-        ap (λ b. cond b (Some (UseTie number)) None)
+        ap (λ b. cond b (Some (Tied.ChainUse number)) None)
         (pair_unmoved (t.chain_use number) (ends_of c r.rule) (λ m n e f. keeps.uses number m n e (of_rule s c v r chain number n there is f)))
 
     none_found : broken_tie t c ≡ None
@@ -122,7 +124,7 @@ module _ (s : Topology) (t : Ties) (c : Config) (v : IsValid s c) where
   -- ---- what is found is broken
   port_broken : (q : Port) (tie : Tie) → Contains c.ports q → broken_port t c q ≡ Some tie → IsBroken t c tie
   port_broken q tie there e =
-      let f = if_some (moved (t.port q.id) (home_id c q)) (PortTie q.id.0) tie e in
+      let f = if_some (moved (t.port q.id) (home_id c q)) (Tied.Port q.id) tie e in
       let w = was_moved (t.port q.id) (home_id c q) f.0 in
       subst (IsBroken t c) f.1 (record { tied = w.0; home = w.1; has_tie = w.2; has_port = of_port s c v q w.1 there w.3; differ = w.4 })
 
@@ -130,7 +132,7 @@ module _ (s : Topology) (t : Ties) (c : Config) (v : IsValid s c) where
   use_broken none r tie there Pass is e = absurd (never tie e)
   use_broken none r tie there Deny is e = absurd (never tie e)
   use_broken none r tie there (Through chain number) is e =
-      let f = if_some (moved_pair (t.chain_use number) (ends_of c r.rule)) (UseTie number) tie e in
+      let f = if_some (moved_pair (t.chain_use number) (ends_of c r.rule)) (Tied.ChainUse number) tie e in
       let w = pair_was_moved (t.chain_use number) (ends_of c r.rule) f.0 in
       subst (IsBroken t c) f.1 (
         record { tied = w.0; ends = w.1; has_tie = w.2; has_use = of_rule s c v r chain number w.1 there is w.3; differ = w.4 },

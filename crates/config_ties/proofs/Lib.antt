@@ -3,3 +3,6 @@ pub mod Lists
 pub mod Having
 pub mod Growing
 pub mod Broken
+pub mod Adding
+pub mod Alike
+pub mod OfPolicies

@@ -9,13 +9,10 @@ use Rattle.config_model.specs.declared.config.Config.{Config}
 use Rattle.config_model.specs.declared.config.Port.{Port}
 use Rattle.config_model.specs.declared.config.Rule.{Rule}
 use Rattle.network_rules.specs.Related.{all_rules}
+use Rattle.config_ties.specs.declared.breaking.Tie.{Tie}
+use Rattle.config_ties.specs.declared.breaking.Tie.TheVariants as Tied
 use Rattle.config_ties.specs.Ties.{HasPort, HasUse, Ties}
 use Rattle.config_ties.specs.Tying.{ends_of, home_id}
-
--- the tie of a port number, or of a use number
-pub data Tie : Type 0 where
-  PortTie : ℕ → Tie
-  UseTie : ℕ → Tie
 
 -- a number has a tie, and is elsewhere
 abbrev pub moved : Option InstanceId → Option InstanceId → Bool
@@ -28,14 +25,14 @@ moved_pair _ _ = false
 
 -- a port is in another network than the tie of its number has
 abbrev pub broken_port : Ties → Config → Port → Option Tie
-broken_port t c p = if moved (t.port p.id) (home_id c p) then Some (PortTie p.id.0) else None
+broken_port t c p = if moved (t.port p.id) (home_id c p) then Some (Tied.Port p.id) else None
 
 -- a chain rule names other networks than the tie of its number has
 abbrev pub broken_use : Ties → Config → Rule → Action → Option Tie
 broken_use t c r Pass = None
 broken_use t c r Deny = None
 broken_use t c r (Through chain use_no) =
-    if moved_pair (t.chain_use use_no) (ends_of c r) then Some (UseTie use_no) else None
+    if moved_pair (t.chain_use use_no) (ends_of c r) then Some (Tied.ChainUse use_no) else None
 
 -- the first tie that a configuration breaks: those of ports before those of uses, each in the document's order
 abbrev pub broken_tie : Ties → Config → Option Tie
@@ -61,5 +58,5 @@ pub record BreaksUse (t : Ties) (c : Config) (number : ℕ) : Type 0 where
 
 -- a tie is broken; one of a use is named only where no port breaks its own
 abbrev pub IsBroken : Ties → Config → Tie → Type 0
-IsBroken t c (PortTie number) = BreaksPort t c (record { 0 = number })
-IsBroken t c (UseTie number) = BreaksUse t c number × ((p : PortNo) → ¬ BreaksPort t c p)
+IsBroken t c (Tied.Port number) = BreaksPort t c number
+IsBroken t c (Tied.ChainUse number) = BreaksUse t c number × ((p : PortNo) → ¬ BreaksPort t c p)

@@ -2,3 +2,7 @@
 pub mod Ties
 pub mod Tying
 pub mod Broken
+pub mod Kept
+pub mod Relating
+pub mod Texts
+pub mod Tied

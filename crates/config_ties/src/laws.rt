@@ -7,7 +7,9 @@ ghost use Rattle.config_model.specs.declared.topology.Topology.{Topology};
 ghost use Rattle.config_check.specs.Sentences.{IsValid};
 ghost use Rattle.config_ties.specs.Ties.{BreaksNone, Grows, HasPort, HasRelated, HasUse, IsTiedBy, Ties};
 ghost use Rattle.config_ties.specs.Tying.{joined, no_ties, port_network, relates, use_networks};
-ghost use Rattle.config_ties.specs.Broken.{IsBroken, Tie, broken_tie};
+ghost use Rattle.config_ties.specs.declared.breaking.Tie.{Tie};
+ghost use Rattle.config_ties.specs.Broken.{IsBroken, broken_tie};
+ghost use Rattle.config_ties.specs.Kept.{AreAlike, RelatesBothWays};
 
 /// A valid configuration ties a port number to a network exactly where such a port is in it, a use number to two
 /// networks exactly where a chain rule leads by it from the one to the other, in effect or not, and relates two networks
@@ -38,4 +40,15 @@ pub fn broken_ties_are_found()
     ensures found { (s : Topology) (t : Ties) (c : Config) (tie : Tie) → IsValid s c
         → broken_tie t c ≡ Some tie → IsBroken t c tie }
     ensures none { (s : Topology) (t : Ties) (c : Config) → IsValid s c → (broken_tie t c ≡ None) ↔ BreaksNone t c }
+{}
+
+/// Ties that answer alike are one: nothing that is said of the ones is false of the others.
+pub fn ties_that_answer_alike_are_one()
+    ensures { (s t : Ties) → AreAlike s t → s ≡ t }
+{}
+
+/// Whether two networks were related does not depend on which of them comes first, in the ties of any configurations.
+pub fn ties_relate_both_ways()
+    ensures first { RelatesBothWays no_ties }
+    ensures joined { (t : Ties) (c : Config) → RelatesBothWays t → RelatesBothWays (joined t c) }
 {}

@@ -11,7 +11,8 @@ use Rattle.network_model.specs.Session.{Message}
 use Rattle.network_model.specs.Setup.{Name}
 use Rattle.network_laws.specs.Settling.{EditIsValid, EditsAreValid}
 use Rattle.headline_laws.specs.Headline.{IsOfForm}
-use Rattle.config_ties.specs.Broken.{Tie, broken_tie}
+use Rattle.config_ties.specs.declared.breaking.Tie.{Tie}
+use Rattle.config_ties.specs.Broken.{broken_tie}
 use Rattle.config_ties.specs.Ties.{Ties}
 use Rattle.config_ties.proofs.Broken.{broken_iff}
 use Rattle.isolation_laws.specs.Running.{AtMomentsOfRuns, EditKeeps, EditsKeep, IsIsolated, configs, ties_after, ties_next}

@@ -1,0 +1,10 @@
+use Rattle.config_check.proofs.Validity.{valid_iff}
+use Rattle.config_ties.proofs.Alike.{joined_is}
+use Rattle.config_ties.proofs.joining.joined.Goals as goal
+
+pub returns : goal.returns
+returns c =
+    joined_is c.args.valid.now.topology c.args.valid.now.config c.config-config.result.now c.config-config.ensures.part
+    ((valid_iff c.args.valid.now.topology c.args.valid.now.config).0 c.config-config.ensures.valid)
+    c.args.rules.now c.requires _ _ c.args.ties.now c.ties.view_is
+    c.in_ok-ports.ensures c.in_ok-uses.ensures c.in_ok-related.ensures
