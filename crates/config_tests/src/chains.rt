@@ -3,8 +3,8 @@ use chain_expand::{expand, expand_straight, first_loop};
 use config_model::{Chain, Config, Service};
 use ov_types::{Items, Name, ServiceNo};
 use std::alloc::Global;
+use std::fmt::Write;
 use std::process::Abort;
-use std::test::Fail;
 
 /// The services, by number from 1.
 const SERVICES: [&str; 17] = [
@@ -25,18 +25,8 @@ const CHAINS: [&str; 9] = [
     "both c1",
 ];
 
-fn name_of(text: &str) -> Result<Name, Fail> {
-    Ok(Name::new(text).ok_or("no name")?)
-}
-
-fn chain_of(alloc: Global, line: &str) -> Result<Chain, Fail> {
-    let mut words = line.split_whitespace();
-    let name = name_of(words.next().unwrap_or(""))?;
-    let mut hops = Items::new(alloc);
-    for word in words {
-        let _ = hops.push(name_of(word)?);
-    }
-    Ok(Chain { name, hops })
+fn name_of(rt: &impl Abort, text: &str) -> Name {
+    Name::new(text).expect(rt, "a name")
 }
 
 fn empty(alloc: Global) -> Config {
@@ -49,43 +39,67 @@ fn empty(alloc: Global) -> Config {
     }
 }
 
-fn config_of(alloc: Global, services: &[&str], chains: &[&str]) -> Result<Config, Fail> {
-    let mut config = empty(alloc);
+fn add_service(rt: &impl Abort, config: &mut Config, text: &str, number: u16) {
+    let service = Service {
+        name: name_of(rt, text),
+        id: ServiceNo(number),
+        node: name_of(rt, text),
+    };
+    config.services.push(service).expect(rt, "memory");
+}
+
+fn add_chain(rt: &impl Abort, config: &mut Config, name: &str, hops: Items<Name>) {
+    let name = name_of(rt, name);
+    config
+        .chains
+        .push(Chain { name, hops })
+        .expect(rt, "memory");
+}
+
+fn add_line(rt: &impl Abort, alloc: Global, config: &mut Config, line: &str) {
+    let (name, words) = line.split_once(" ").expect(rt, "a chain");
+    let mut hops = Items::new(alloc);
+    for word in words.split_whitespace() {
+        hops.push(name_of(rt, word)).expect(rt, "memory");
+    }
+    add_chain(rt, config, name, hops);
+}
+
+fn fill(rt: &impl Abort, alloc: Global, config: &mut Config) {
     let mut number: u16 = 0;
-    for text in services {
+    for text in SERVICES {
         number = number.saturating_add(1);
-        let name = name_of(text)?;
-        let _ = config.services.push(Service {
-            name,
-            id: ServiceNo(number),
-            node: name,
-        });
+        add_service(rt, config, text, number);
     }
-    for line in chains {
-        let _ = config.chains.push(chain_of(alloc, line)?);
+    for line in CHAINS {
+        add_line(rt, alloc, config, line);
     }
-    Ok(config)
 }
 
 /// The numbers, or the fault as it is shown.
-fn answer(rt: &impl Abort, alloc: Global, config: &Config, asked: &str) -> Result<String, Fail> {
+fn push_answer(rt: &impl Abort, config: &Config, asked: &str, text: &mut String) {
     assert!(rt; config.chains.len() <= 128);
-    match expand(config, &name_of(asked)?) {
+    match expand(config, &name_of(rt, asked)) {
         Ok(services) => {
-            let mut numbers = String::new(alloc);
             for service in services.as_slice() {
                 let number = service.0;
-                numbers = format!(in alloc; "{numbers} {number}")?;
+                write!(text, " {number}").expect(rt, "memory");
             }
-            Ok(numbers)
         }
-        Err(fault) => Ok(format!(in alloc; "{fault}")?),
+        Err(fault) => write!(text, "{fault}").expect(rt, "memory"),
     }
 }
 
+fn is_expanded(rt: &impl Abort, alloc: Global, config: &Config, asked: &str, want: &str) {
+    let mut text = String::new(alloc);
+    push_answer(rt, config, asked, &mut text);
+    assert!(rt; text.as_str().trim_start() == want, "{asked}");
+}
+
 #[test]
-fn expands_chains(rt: HostRuntime) -> Result<(), Fail> {
-    let config = config_of(rt.alloc(), &SERVICES, &CHAINS)?;
+fn expands_chains(rt: HostRuntime) {
+    let mut config = empty(rt.alloc());
+    fill(&rt, rt.alloc(), &mut config);
     for (asked, want) in [
         ("c1", "the chain c1 leads back to itself"),
         ("c2", "the chain c1 leads back to itself"),
@@ -96,50 +110,51 @@ fn expands_chains(rt: HostRuntime) -> Result<(), Fail> {
         ("over", "the chain over has more than 15 services"),
         ("none", ""),
     ] {
-        let found = answer(&rt, rt.alloc(), &config, asked)?;
-        assert_eq!(rt; found.as_str().trim_start(), want, "{asked}");
+        is_expanded(&rt, rt.alloc(), &config, asked, want);
     }
-    Ok(())
 }
 
-/// 127 chains, of which each names the next 64 times, and the last what is given.
-fn deep(alloc: Global, last: &str) -> Result<Config, Fail> {
-    let mut config = config_of(alloc, &["fw"], &[])?;
-    for n in 1..128u32 {
-        let name = format!(in alloc; "c{n}")?;
-        let next = if n == 127 {
-            String::from_str(alloc, last)?
-        } else {
-            let after = n + 1;
-            format!(in alloc; "c{after}")?
-        };
-        let mut hops = Items::new(alloc);
-        for _ in 0..64 {
-            let _ = hops.push(name_of(next.as_str())?);
-        }
-        let _ = config.chains.push(Chain {
-            name: name_of(name.as_str())?,
-            hops,
-        });
+/// Adds a chain that names the next 64 times.
+fn add_deep(rt: &impl Abort, alloc: Global, config: &mut Config, number: u32, next: &str) {
+    let name = format!(in alloc; "c{number}").expect(rt, "memory");
+    let mut hops = Items::new(alloc);
+    for _ in 0..64 {
+        hops.push(name_of(rt, next)).expect(rt, "memory");
     }
-    Ok(config)
+    add_chain(rt, config, name.as_str(), hops);
+}
+
+/// Adds a service and 127 chains, of which each names the next 64 times, and the last what is given.
+fn deepen(rt: &impl Abort, alloc: Global, config: &mut Config, last: &str) {
+    add_service(rt, config, "fw", 1);
+    for number in 1..127u32 {
+        let after = number + 1;
+        let next = format!(in alloc; "c{after}").expect(rt, "memory");
+        add_deep(rt, alloc, config, number, next.as_str());
+    }
+    add_deep(rt, alloc, config, 127, last);
 }
 
 #[test]
-fn ends_at_once_where_chains_are_deep(rt: HostRuntime) -> Result<(), Fail> {
-    let config = deep(rt.alloc(), "fw")?;
+fn ends_at_once_where_chains_are_deep(rt: HostRuntime) {
+    let mut config = empty(rt.alloc());
+    deepen(&rt, rt.alloc(), &mut config, "fw");
     assert!(rt; config.chains.len() <= 128);
-    assert_eq!(rt; first_loop(&config), None);
-    let found = answer(&rt, rt.alloc(), &config, "c1")?;
-    assert_eq!(rt; found.as_str(), "the chain c1 has more than 15 services");
-    Ok(())
+    assert!(rt; first_loop(&config).is_none());
+    is_expanded(
+        &rt,
+        rt.alloc(),
+        &config,
+        "c1",
+        "the chain c1 has more than 15 services",
+    );
 }
 
 #[test]
-fn ends_at_once_where_deep_chains_have_no_service(rt: HostRuntime) -> Result<(), Fail> {
-    let config = deep(rt.alloc(), "none")?;
+fn ends_at_once_where_deep_chains_have_no_service(rt: HostRuntime) {
+    let mut config = empty(rt.alloc());
+    deepen(&rt, rt.alloc(), &mut config, "none");
     assert!(rt; config.chains.len() <= 128);
-    let services = expand_straight(&config, &name_of("c1")?);
+    let services = expand_straight(&config, &name_of(&rt, "c1"));
     assert!(rt; services.is_ok_and(|found| found.is_empty()));
-    Ok(())
 }

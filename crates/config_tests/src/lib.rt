@@ -4,6 +4,8 @@
 #[cfg(test)]
 mod chains;
 #[cfg(test)]
+mod documents;
+#[cfg(test)]
 mod members;
 #[cfg(test)]
 mod packets;
@@ -11,3 +13,5 @@ mod packets;
 mod rules;
 #[cfg(test)]
 mod scenarios;
+#[cfg(test)]
+mod ties;

@@ -1,15 +1,11 @@
 //! Members of services, and the visits of packets, written by hand.
-ghost use Rattle.std.specs.Prelude.{IfOk, IsTrue};
-ghost use Rattle.config_model.specs.Form.{has_config_form, has_topology_form};
-
-use config_check::{Valid, check};
-use config_model::{CompileInput, DocKind, ReadRefusal, read_compile};
+use crate::documents::{valid_of, value_of};
+use config_check::Valid;
+use config_model::{DocKind, ReadRefusal};
 use ov_types::{Addr, Packet, PortNo, Tuple};
 use scale_out::{Groups, Spread, choose, read_scale, scale_reach};
-use serde_json::Value;
 use std::alloc::Global;
 use std::process::Abort;
-use std::test::Fail;
 
 /// Red and blue attach a policy that leads packets between them through two services.
 const PLAN: &str = r#""topology":{
@@ -44,11 +40,10 @@ const CHOICES: [(&[u16], u16); 8] = [
 ];
 
 #[test]
-fn the_greatest_score_chooses(rt: HostRuntime) -> Result<(), Fail> {
+fn the_greatest_score_chooses(rt: HostRuntime) {
     for (members, member) in CHOICES {
-        assert_eq!(rt; choose(members, KEY), member);
+        assert!(rt; choose(members, KEY) == member);
     }
-    Ok(())
 }
 
 /// Lists of groups, and the visits of the packet and of its reply by service and member.
@@ -88,13 +83,9 @@ const FAULTS: [(&str, &str, DocKind); 4] = [
     (r#"{}"#, "", DocKind::Kind),
 ];
 
-fn plan_of(alloc: Global) -> Result<CompileInput, Fail>
-    ensures topology_form { IfOk result (λ plan. IsTrue (has_topology_form plan.topology)) }
-    ensures config_form { IfOk result (λ plan. IsTrue (has_config_form plan.config)) }
-{
-    let text = format!(in alloc; "{{{PLAN}}}")?;
-    let value = Value::from_str(alloc, text.as_str())?;
-    Ok(read_compile(alloc, &value)?)
+fn plan_of(rt: &impl Abort, alloc: Global) -> Valid {
+    let text = format!(in alloc; "{{{PLAN}}}").expect(rt, "memory");
+    valid_of(rt, alloc, text.as_str())
 }
 
 fn packet_of(source: u32, destination: u32, sport: u16, dport: u16) -> Packet {
@@ -121,88 +112,54 @@ fn are_made(spread: &Spread, number: u32, wanted: &[(u16, u16)]) -> bool {
 }
 
 /// A packet and its reply visit these members, the reply in reverse.
-fn are_visited(
-    rt: &impl Abort,
-    valid: &Valid,
-    groups: &Groups,
-    wanted: [(u16, u16); 2],
-) -> Result<(), Fail> {
+fn are_visited(rt: &impl Abort, valid: &Valid, groups: &Groups, wanted: [(u16, u16); 2]) {
     let there = scale_reach(valid, groups, packet_of(1, 0x0a02_0002, 50000, 80));
     let back = scale_reach(valid, groups, packet_of(2, 0x0a01_0001, 80, 50000));
     let [first, second] = wanted;
     assert!(rt; are_made(&there, 2, &[first, second]));
     assert!(rt; are_made(&back, 1, &[second, first]));
-    Ok(())
 }
 
-fn groups_of(alloc: Global, text: &str, plan: &CompileInput) -> Result<Groups, Fail> {
-    let value = Value::from_str(alloc, text)?;
-    Ok(Groups::read(alloc, &value, &plan.config)?)
-}
-
-fn chooses(
-    rt: &impl Abort,
-    alloc: Global,
-    text: &str,
-    wanted: [(u16, u16); 2],
-) -> Result<(), Fail> {
-    let plan = plan_of(alloc)?;
-    let groups = groups_of(alloc, text, &plan)?;
-    let valid = check(alloc, plan.topology, plan.config)
-        .ok()
-        .ok_or("a valid configuration")?;
-    are_visited(rt, &valid, &groups, wanted)
+fn chooses(rt: &impl Abort, alloc: Global, valid: &Valid, text: &str, wanted: [(u16, u16); 2]) {
+    let value = value_of(rt, alloc, text);
+    let groups = Groups::read(alloc, &value, valid.config()).expect(rt, "groups");
+    are_visited(rt, valid, &groups, wanted);
 }
 
 #[test]
-fn packets_visit_members(rt: HostRuntime) -> Result<(), Fail> {
+fn packets_visit_members(rt: HostRuntime) {
+    let valid = plan_of(&rt, rt.alloc());
     for (text, wanted) in VISITS {
-        chooses(&rt, rt.alloc(), text, wanted)?;
+        chooses(&rt, rt.alloc(), &valid, text, wanted);
     }
-    Ok(())
 }
 
-/// The fault of a list of groups.
-fn is_faulted(
-    rt: &impl Abort,
-    alloc: Global,
-    text: &str,
-    path: &str,
-    kind: DocKind,
-) -> Result<(), Fail> {
-    let plan = plan_of(alloc)?;
-    let value = Value::from_str(alloc, text)?;
-    match Groups::read(alloc, &value, &plan.config) {
-        Err(ReadRefusal::Doc(fault)) => {
-            assert_eq!(rt; fault.path.as_str(), path, "{text}");
-            assert!(rt; fault.kind == kind, "{text}");
-            Ok(())
-        }
-        _ => Err("a fault".into()),
+/// Whether this is the fault of a list of groups.
+fn is_fault(read: &Result<Groups, ReadRefusal>, path: &str, kind: DocKind) -> bool {
+    match read {
+        Err(ReadRefusal::Doc(fault)) => fault.path.as_str() == path && fault.kind == kind,
+        _ => false,
     }
 }
 
 #[test]
-fn the_first_fault_of_a_list_is_found(rt: HostRuntime) -> Result<(), Fail> {
+fn the_first_fault_of_a_list_is_found(rt: HostRuntime) {
+    let valid = plan_of(&rt, rt.alloc());
     for (text, path, kind) in FAULTS {
-        is_faulted(&rt, rt.alloc(), text, path, kind)?;
+        let value = value_of(&rt, rt.alloc(), text);
+        let read = Groups::read(rt.alloc(), &value, valid.config());
+        assert!(rt; is_fault(&read, path, kind), "{text}");
     }
-    Ok(())
 }
 
 #[test]
-fn a_document_of_groups_is_read(rt: HostRuntime) -> Result<(), Fail> {
-    let alloc = rt.alloc();
-    let text = format!(in alloc;
+fn a_document_of_groups_is_read(rt: HostRuntime) {
+    let text = format!(in rt.alloc();
         r#"{{{PLAN},"groups":[{{"service":"s2","members":[7,9]}}],"packets":[]}}"#
-    )?;
-    let value = Value::from_str(alloc, text.as_str())?;
-    let asked = read_scale(alloc, &value)?;
-    assert_eq!(rt; asked.groups.as_slice().len(), 1);
-    assert_eq!(rt;
-        asked.groups.as_slice()[0].members.as_slice(),
-        [7, 9].as_slice()
-    );
+    ).expect(&rt, "memory");
+    let value = value_of(&rt, rt.alloc(), text.as_str());
+    let asked = read_scale(rt.alloc(), &value).expect(&rt, "a document");
+    assert!(rt; asked.groups.as_slice().len() == 1);
+    assert!(rt; asked.groups.as_slice()[0].members.as_slice() == [7, 9].as_slice());
     assert!(rt; asked.packets.as_slice().is_empty());
-    Ok(())
 }

@@ -1,10 +1,10 @@
 //! Which rule decides on a packet, and how it is taken.
-use config_check::{Valid, check};
-use config_model::read_compile;
+use crate::documents::valid_of;
+use config_check::Valid;
 use ov_types::{InstanceId, RuleNo, Tuple};
 use reach_plain::{Decision, decide, is_network};
-use serde_json::Value;
-use std::alloc::{AllocError, Global};
+use std::alloc::Global;
+use std::process::Abort;
 
 /// One control node and one compute node.
 const ONE_NODE: &str = r#"{
@@ -37,72 +37,50 @@ const SHOP: &str = r#"{
             "source_ports":[1024,2000],"destination_ports":[80,90],"action":"pass"}]}]
 }"#;
 
-/// A document of one node and a configuration.
-fn document(alloc: Global, configuration: &str) -> Result<String, AllocError> {
+fn plan_of(rt: &impl Abort, alloc: Global, configuration: &str) -> Valid {
     let topology = ONE_NODE;
-    format!(in alloc; r#"{{"topology":{topology},"configuration":{configuration}}}"#)
+    let text = format!(in alloc;
+        r#"{{"topology":{topology},"configuration":{configuration}}}"#
+    ).expect(rt, "memory");
+    valid_of(rt, alloc, text.as_str())
 }
 
-fn valid_of(alloc: Global, configuration: &str) -> Option<Valid> {
-    let text = document(alloc, configuration).ok()?;
-    let value = Value::from_str(alloc, text.as_str()).ok()?;
-    let plan = read_compile(alloc, &value).ok()?;
-    check(alloc, plan.topology, plan.config).ok()
-}
-
-fn tuple_of(sport: u16, dport: u16) -> Tuple {
-    Tuple {
+/// A packet from one network to another, by their numbers and the packet's ports, is decided on by the rule at a position of
+/// the policy of sequence 10, mirrored or not, or by none.
+fn decides(
+    rt: &impl Abort,
+    valid: &Valid,
+    (from, to): (u16, u16),
+    (sport, dport): (u16, u16),
+    rule: Option<(u16, bool)>,
+) {
+    let (from, to) = (InstanceId(from), InstanceId(to));
+    assert!(rt; is_network(valid, from) && is_network(valid, to));
+    let tuple = Tuple {
         proto: 6,
         sport,
         dport,
-    }
-}
-
-/// The decision on a packet from one network to another, of the networks 1 and 2.
-fn decision_in(
-    alloc: Global,
-    configuration: &str,
-    from: u16,
-    to: u16,
-    tuple: Tuple,
-) -> Option<Decision> {
-    let valid = valid_of(alloc, configuration)?;
-    if !is_network(&valid, InstanceId(from)) {
-        return None;
-    }
-    if !is_network(&valid, InstanceId(to)) {
-        return None;
-    }
-    decide(&valid, InstanceId(from), InstanceId(to), tuple)
-}
-
-/// A decision by a rule of the policy of sequence 10.
-fn by_rule(position: u16, mirrored: bool) -> Option<Decision> {
-    let rule = RuleNo {
-        sequence: 10,
-        position,
     };
-    Some(Decision { rule, mirrored })
+    let found = decide(valid, from, to, tuple);
+    let by_rule = rule.map(|(position, mirrored)| {
+        let sequence = 10;
+        let rule = RuleNo { sequence, position };
+        Decision { rule, mirrored }
+    });
+    assert!(rt; found == by_rule);
 }
 
 #[test]
-fn decides_by_the_first_rule(rt: HostRuntime) {
-    let denied = decision_in(rt.alloc(), WEB, 1, 2, tuple_of(22, 40000));
-    assert_eq!(rt; denied, by_rule(1, true));
-}
-
-#[test]
-fn takes_a_rule_that_matches_both_ways_forwards(rt: HostRuntime) {
-    let passed = decision_in(rt.alloc(), WEB, 1, 2, tuple_of(40000, 80));
-    assert_eq!(rt; passed, by_rule(2, false));
+fn the_first_rule_decides_forwards_where_it_matches_both_ways(rt: HostRuntime) {
+    let valid = plan_of(&rt, rt.alloc(), WEB);
+    decides(&rt, &valid, (1, 2), (22, 40000), Some((1, true)));
+    decides(&rt, &valid, (1, 2), (40000, 80), Some((2, false)));
 }
 
 #[test]
 fn one_way_rules_decide_on_no_answers(rt: HostRuntime) {
-    let asked = decision_in(rt.alloc(), SHOP, 1, 2, tuple_of(1024, 80));
-    assert_eq!(rt; asked, by_rule(1, false));
-    let answered = decision_in(rt.alloc(), SHOP, 2, 1, tuple_of(80, 1024));
-    assert_eq!(rt; answered, None);
-    let exchanged = decision_in(rt.alloc(), SHOP, 1, 2, tuple_of(80, 1024));
-    assert_eq!(rt; exchanged, None);
+    let valid = plan_of(&rt, rt.alloc(), SHOP);
+    decides(&rt, &valid, (1, 2), (1024, 80), Some((1, false)));
+    decides(&rt, &valid, (2, 1), (80, 1024), None);
+    decides(&rt, &valid, (1, 2), (80, 1024), None);
 }

@@ -4,6 +4,6 @@ use scenario_gen::tenants;
 #[test]
 fn tenants_are_counted(rt: HostRuntime) {
     for (n, count) in [(1, 1), (3, 3), (16, 16), (17, 1), (992, 16), (999, 7)] {
-        assert_eq!(rt; tenants(n), count, "{n}");
+        assert!(rt; tenants(n) == count, "{n}");
     }
 }

@@ -6,17 +6,26 @@ use ov_io::{
 use std::io;
 use std::io::{Read, Write};
 use std::process::Abort;
-use std::test::Fail;
+
+/// A read answers so, after which these octets stand in front.
+fn reads<S: Source>(
+    rt: &impl Abort,
+    source: &mut S,
+    into: &mut [u8],
+    answer: Result<usize, SourceFault>,
+    front: &[u8],
+) {
+    assert!(rt; source.read(into) == answer);
+    assert!(rt; into.starts_with(front));
+}
 
 /// Two octets are read, then the listed read fails, and then the last octet and the end are read.
 fn reads_around_a_fault(rt: &impl Abort, source: &mut MemSource) {
     let mut two = [0u8; 2];
-    assert!(rt; source.read(&mut two) == Ok(2));
-    assert!(rt; two == *b"ab");
-    assert!(rt; source.read(&mut two) == Err(SourceFault::Failed));
-    assert!(rt; source.read(&mut two) == Ok(1));
-    assert!(rt; two[0] == b'c');
-    assert!(rt; source.read(&mut two) == Ok(0));
+    reads(rt, source, &mut two, Ok(2), b"ab");
+    reads(rt, source, &mut two, Err(SourceFault::Failed), b"");
+    reads(rt, source, &mut two, Ok(1), b"c");
+    reads(rt, source, &mut two, Ok(0), b"");
 }
 
 #[test]
@@ -76,29 +85,35 @@ impl Write for Broken {
 fn a_source_reads_what_its_reader_gives(rt: HostRuntime) {
     let mut into = [0u8; 4];
     let mut source = StdSource::new(b"abc".as_slice());
-    assert_eq!(rt; source.read(&mut into), Ok(3));
-    assert_eq!(rt; into, *b"abc\0");
-    assert_eq!(rt; source.read(&mut into), Ok(0));
+    reads(&rt, &mut source, &mut into, Ok(3), b"abc\0");
+    reads(&rt, &mut source, &mut into, Ok(0), b"");
     let mut broken = StdSource::new(Broken);
-    assert_eq!(rt; broken.read(&mut into), Err(SourceFault::Failed));
+    reads(&rt, &mut broken, &mut into, Err(SourceFault::Failed), b"");
+}
+
+fn writes<K: Sink>(rt: &impl Abort, sink: &mut K, answer: Result<usize, SinkFault>) {
+    assert!(rt; sink.write(b"abc") == answer);
 }
 
 #[test]
-fn a_sink_writes_into_its_writer(rt: HostRuntime) -> Result<(), Fail> {
+fn a_sink_writes_into_its_writer(rt: HostRuntime) {
     let mut sink = StdSink::new(Vec::new(rt.alloc()));
-    assert_eq!(rt; sink.write(b"abc"), Ok(3));
+    writes(&rt, &mut sink, Ok(3));
     let mut broken = StdSink::new(Broken);
-    assert_eq!(rt; broken.write(b"abc"), Err(SinkFault::Failed));
-    Ok(())
+    writes(&rt, &mut broken, Err(SinkFault::Failed));
+}
+
+/// Octets are appended to a text, which is then this one.
+fn appends(rt: &impl Abort, text: &mut TextOut, octets: &[u8], whole: &[u8]) {
+    text.push(octets).expect(rt, "memory");
+    assert!(rt; text.octets() == whole);
 }
 
 fn append_and_clear(rt: &impl Abort, text: &mut TextOut) {
-    assert!(rt; text.push(b"ab") == Ok(()));
-    assert!(rt; text.push(b"c") == Ok(()));
-    assert!(rt; text.octets() == b"abc".as_slice());
+    appends(rt, text, b"ab", b"ab");
+    appends(rt, text, b"c", b"abc");
     text.clear();
-    assert!(rt; text.push(b"d") == Ok(()));
-    assert!(rt; text.octets() == b"d".as_slice());
+    appends(rt, text, b"d", b"d");
 }
 
 #[test]
@@ -115,7 +130,7 @@ fn gathers(
     piece: &[u8],
     written: usize,
 ) {
-    assert!(rt; gather(sink, gathered, piece) == Ok(()));
+    gather(sink, gathered, piece).expect(rt, "memory");
     assert!(rt; sink.taken().len() == written);
 }
 
@@ -123,9 +138,8 @@ fn write_in_pieces(rt: &impl Abort, sink: &mut MemSink, gathered: &mut TextOut, 
     gathers(rt, sink, gathered, most, 0);
     gathers(rt, sink, gathered, b"b", 65_536);
     gathers(rt, sink, gathered, b"c", 65_536);
-    assert!(rt; write_gathered(sink, gathered) == Ok(()));
-    assert!(rt; sink.taken().len() == 65_537);
-    assert!(rt; sink.taken().last() == Some(&b'c'));
+    write_gathered(sink, gathered).expect(rt, "memory");
+    assert!(rt; sink.taken().len() == 65_537 && sink.taken().ends_with(b"c"));
 }
 
 #[test]

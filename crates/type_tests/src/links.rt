@@ -4,18 +4,27 @@ use ov_types::{Items, NoMemory};
 use std::alloc::Global;
 use std::process::Abort;
 
-fn queue_and_take(rt: &impl Abort, link: &mut QueueLink) {
-    assert!(rt; link.front().is_none());
-    assert!(rt; link.pop().is_none());
-    assert!(rt; link.send(b"one") == Ok(()));
-    assert!(rt; link.send(b"") == Ok(()));
-    assert!(rt; link.len() == 2);
-    assert!(rt; link.front() == Some(b"one".as_slice()));
+/// A queue has so many messages, of which this is the first.
+fn has(rt: &impl Abort, link: &QueueLink, count: usize, first: Option<&[u8]>) {
+    assert!(rt; link.len() == count);
+    assert!(rt; link.front() == first);
+}
+
+fn send_two_and_take_one(rt: &impl Abort, link: &mut QueueLink) {
+    link.send(b"one").expect(rt, "memory");
+    link.send(b"").expect(rt, "memory");
+    has(rt, link, 2, Some(b"one"));
     let popped = link.pop().expect(rt, "a message");
     assert!(rt; popped.as_slice() == b"one".as_slice());
-    assert!(rt; link.front() == Some(b"".as_slice()));
+}
+
+fn queue_and_take(rt: &impl Abort, link: &mut QueueLink) {
+    has(rt, link, 0, None);
+    assert!(rt; link.pop().is_none());
+    send_two_and_take_one(rt, link);
+    has(rt, link, 1, Some(b""));
     link.clear();
-    assert!(rt; link.len() == 0);
+    has(rt, link, 0, None);
 }
 
 #[test]
@@ -33,12 +42,23 @@ const SENDS: [(&[u8], Result<(), LinkFault>, usize); 5] = [
     (b"5", Ok(()), 0),
 ];
 
+/// A send answers so, and so many breaks are then left.
+fn sends(
+    rt: &impl Abort,
+    link: &mut FailingLink,
+    message: &[u8],
+    answer: Result<(), LinkFault>,
+    left: usize,
+) {
+    assert!(rt; link.send(message) == answer);
+    assert!(rt; link.breaks() == left);
+}
+
 fn send_over_breaks(rt: &impl Abort, link: &mut FailingLink) {
-    assert!(rt; link.add_break(2) == Ok(()));
-    assert!(rt; link.add_break(4) == Ok(()));
+    link.add_break(2).expect(rt, "memory");
+    link.add_break(4).expect(rt, "memory");
     for (message, answer, left) in SENDS {
-        assert!(rt; link.send(message) == answer);
-        assert!(rt; link.breaks() == left);
+        sends(rt, link, message, answer, left);
     }
 }
 
@@ -59,12 +79,11 @@ fn each_break_counts_every_send(rt: HostRuntime) {
 }
 
 fn use_breaks_up(rt: &impl Abort, link: &mut FailingLink) {
-    assert!(rt; link.add_break(2) == Ok(()));
-    assert!(rt; link.send(b"1") == Ok(()));
-    assert!(rt; link.add_break(1) == Ok(()));
-    assert!(rt; link.breaks() == 1);
-    assert!(rt; link.send(b"2") == Err(LinkFault::Failed));
-    assert!(rt; link.add_break(3) == Ok(()));
+    link.add_break(2).expect(rt, "memory");
+    sends(rt, link, b"1", Ok(()), 1);
+    link.add_break(1).expect(rt, "memory");
+    sends(rt, link, b"2", Err(LinkFault::Failed), 0);
+    link.add_break(3).expect(rt, "memory");
     link.drop_breaks();
     assert!(rt; link.breaks() == 0);
 }
@@ -92,12 +111,22 @@ fn add_messages(rt: &impl Abort, alloc: Global, messages: &mut Vec<Items<u8>>) {
     }
 }
 
+/// A list of messages is sent so, and the link then has so many.
+fn sends_all(
+    rt: &impl Abort,
+    link: &mut FailingLink,
+    messages: &[Items<u8>],
+    answer: Result<(), LinkFault>,
+    count: usize,
+) {
+    assert!(rt; send_all(link, messages) == answer);
+    assert!(rt; link.len() == count);
+}
+
 fn send_a_list(rt: &impl Abort, links: &mut Links<FailingLink>, messages: &[Items<u8>]) {
     assert!(rt; links.len() == 2);
-    assert!(rt; send_all(links.get_mut(0), messages) == Ok(()));
-    assert!(rt; send_all(links.get_mut(1), messages) == Err(LinkFault::Failed));
-    assert!(rt; links.get(0).len() == 3);
-    assert!(rt; links.get(1).len() == 2);
+    sends_all(rt, links.get_mut(0), messages, Ok(()), 3);
+    sends_all(rt, links.get_mut(1), messages, Err(LinkFault::Failed), 2);
 }
 
 #[test]
@@ -114,12 +143,17 @@ fn want_of_memory_is_no_failure(rt: HostRuntime) {
     assert!(rt; LinkFault::from(NoMemory) == LinkFault::NoMemory);
 }
 
+/// Octets come into an inbox, which then has these.
+fn takes_in(rt: &impl Abort, inbox: &mut Inbox, octets: &[u8], whole: &[u8]) {
+    inbox.push(octets).expect(rt, "memory");
+    assert!(rt; inbox.octets() == whole);
+}
+
 fn push_and_take(rt: &impl Abort, inbox: &mut Inbox) {
-    assert!(rt; inbox.push(b"abc") == Ok(()));
-    assert!(rt; inbox.octets() == b"abc".as_slice());
+    takes_in(rt, inbox, b"abc", b"abc");
+    assert!(rt; inbox.octets().len() == 3);
     inbox.take(2);
-    assert!(rt; inbox.push(b"d") == Ok(()));
-    assert!(rt; inbox.octets() == b"cd".as_slice());
+    takes_in(rt, inbox, b"d", b"cd");
     inbox.clear();
     assert!(rt; inbox.octets().is_empty());
 }

@@ -1,4 +1,5 @@
 //! The numbers that follow from the configuration's own.
+use crate::asked::prints;
 use ov_types::{Addr, InstanceId, Label, PortNo, Target};
 use route_targets::{
     circuit_address, circuit_instance, circuit_label, hop_instance, hop_of, left_circuit,
@@ -18,8 +19,7 @@ fn has_numbers(
 ) {
     assert!(rt; (32_769..=131_070).contains(&circuit));
     assert!(rt; circuit_label(circuit) == Label(label));
-    let text = format!(in alloc; "{}", circuit_address(circuit)).expect(rt, "memory");
-    assert!(rt; text.as_str() == address, "{text}");
+    prints(rt, alloc, &circuit_address(circuit), address);
     assert!(rt; other_side(circuit) == other);
 }
 
@@ -48,8 +48,7 @@ fn has_target(
 ) {
     let made = target(asn, instance);
     assert!(rt; made == Target(number));
-    let printed = format!(in alloc; "{made}").expect(rt, "memory");
-    assert!(rt; printed.as_str() == text, "{printed}");
+    prints(rt, alloc, &made, text);
 }
 
 /// AS numbers up to 65534 make targets of one type, those above make targets of the other.
@@ -77,18 +76,14 @@ fn targets_are_of_two_types(rt: HostRuntime) {
     }
 }
 
-fn last_instance_has_its_numbers(rt: &impl Abort, alloc: Global) {
-    let last = hop_instance(3071, 15);
-    assert!(rt; last == InstanceId(65535));
-    let text = format!(in alloc; "{}", rd(Addr(0xdfff_ffff), last)).expect(rt, "memory");
-    assert!(rt; text.as_str() == "223.255.255.255:65535", "{text}");
-}
-
 #[test]
 fn numbers_at_the_ends_of_the_ranges(rt: HostRuntime) {
     assert!(rt; port_label(PortNo(0)) == Label(16));
     assert!(rt; port_label(PortNo(524_271)) == Label(524_287));
-    last_instance_has_its_numbers(&rt, rt.alloc());
+    let last = hop_instance(3071, 15);
+    assert!(rt; last == InstanceId(65535));
+    let distinguisher = rd(Addr(0xdfff_ffff), last);
+    prints(&rt, rt.alloc(), &distinguisher, "223.255.255.255:65535");
     for (circuit, label, address, other) in [
         (131_069, 655_357, "250.1.255.253", 131_070),
         (131_070, 655_358, "250.1.255.254", 131_069),
