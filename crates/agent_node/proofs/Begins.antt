@@ -1,5 +1,5 @@
 -- How a step of an agent begins.
-use Rattle.std.specs.Prelude.{◌≡◌, ◌<◌, ℕ, List, [], length, false}
+use Rattle.std.specs.Prelude.{◌≡◌, ◌<◌, ℕ, List, length, false}
 use Rattle.std.specs.List.{filter_map, slice_index_or, slice_set}
 use Rattle.std.specs.declared.option.Option.TheVariants.{Some, None}
 use Rattle.std.proofs.Common.{refl, sym, ◌∙◌, ap, subst, set, arith}

@@ -1,5 +1,5 @@
 -- What an input makes of an end of an agent.
-use Rattle.std.specs.Prelude.{ℕ, []}
+use Rattle.std.specs.Prelude.{ℕ}
 use Rattle.std.specs.declared.option.Option.{Option}
 use Rattle.std.specs.List.{slice_index_or}
 use Rattle.ov_link.specs.declared.step.Input.{Input}

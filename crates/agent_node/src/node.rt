@@ -6,13 +6,16 @@ ghost use Rattle.node_core.specs.Whole.{Comes, IsWholeStep, session_of};
 ghost use Rattle.node_model.specs.Agent.{rows as rows_of};
 ghost use Rattle.node_model.specs.Step.{post};
 ghost use Rattle.node_laws.specs.Stepped.{AreTold};
+ghost use Rattle.flow_acl.specs.Flows.{AreOf};
 ghost use Rattle.agent_node.specs.Beginning.{Begins};
 ghost use Rattle.agent_node.specs.Core.{fresh, holdings, is_idle, is_up, kind, sessions};
 
 use crate::ends::AgentEnds;
 use crate::plan::AgentPlan;
 use agent_tables::Tables;
+use flow_acl::{Flow, FlowCache};
 use item_wire::ItemCause;
+use lru::Iter;
 use node_core::{Ends, Node};
 use ov_link::{Input, Link, Links, NodeFault, Stepped};
 use ov_types::{Addr, AgentRows, Attached, Entry, InstanceId, Label, NoMemory, Packet, Verdict};
@@ -25,6 +28,8 @@ use std::marker::Model;
 pub struct AgentNode {
     node: Node<AgentEnds>,
     tables: Tables,
+    /// Verdicts of the access lists in use.
+    flows: FlowCache,
 }
 
 impl Model for AgentNode {
@@ -32,6 +37,7 @@ impl Model for AgentNode {
     ghost use Rattle.node_model.specs.Agent.{rows as rows_of};
     ghost use Rattle.agent_node.specs.Codes.{coded_core};
     ghost use Rattle.agent_node.specs.Core.{Core, holdings};
+    ghost use Rattle.flow_acl.specs.Flows.{AreOf};
 
     ghost Value = { Core };
 
@@ -39,7 +45,8 @@ impl Model for AgentNode {
 
     ghost view = { λ n. record { plan = n.node.ends.plan; posts = n.node.ends.posts; rows = n.tables; failed = n.node.failed } };
 
-    ghost invariant = { λ n. n.node.failed ≡ false → n.tables ≡ rows_of (holdings n.node.ends.posts) };
+    ghost invariant = { λ n. (n.node.failed ≡ false → n.tables ≡ rows_of (holdings n.node.ends.posts))
+        × AreOf n.tables.acls n.flows };
 }
 
 impl AgentNode {
@@ -49,9 +56,11 @@ impl AgentNode {
         ensures { IfOk result (λ node. node ≡ fresh plan) }
     {
         let ends = AgentEnds::new(alloc, plan)?;
+        let flows = FlowCache::new(alloc)?;
         Ok(AgentNode {
             node: Node::new(ends),
             tables: Tables::new(alloc),
+            flows,
         })
     }
 
@@ -95,6 +104,14 @@ impl AgentNode {
         let _sessions = self.node.ends.sessions();
         self.node.restart();
         self.tables = Tables::new(self.node.ends.alloc());
+        self.flows.clear();
+    }
+
+    /// The flows of which verdicts are kept, the last used first, each with what the access lists say of it.
+    pub fn flows(&self) -> Iter<'_, Flow, Verdict>
+        ensures { AreOf self.now.rows.acls result }
+    {
+        self.flows.entries()
     }
 
     /// What it forwards by: its labels, its access lists and its routes, each in the order of their keys.
@@ -135,7 +152,7 @@ impl AgentNode {
         }
         match self.node.ends.tables() {
             Ok(tables) => {
-                self.tables = tables;
+                self.tables.renew(&mut self.flows, tables);
                 stepped
             }
             Err(NoMemory) => {
@@ -158,7 +175,7 @@ impl Vrouter for AgentNode {
     }
 
     fn verdict(&mut self, network: InstanceId, packet: &Packet) -> Verdict {
-        self.tables.verdict(network, packet)
+        self.tables.verdict(&mut self.flows, network, packet)
     }
 
     fn route(&self, i: InstanceId, a: Addr) -> Option<Entry> {

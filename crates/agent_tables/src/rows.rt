@@ -53,8 +53,9 @@ fn add_rows(
 ) -> Result<(), NoMemory>
     ensures { OnOk result (rows.new ≡ rows.old ++ rows_in instance fib.now) }
 {
-    for (prefix, entry) in fib.iter() {
-        rows.push(((instance, *prefix), *entry))?;
+    let routes = fib.routes()?;
+    for route in routes.as_slice() {
+        rows.push(((instance, route.0), route.1))?;
     }
     Ok(())
 }

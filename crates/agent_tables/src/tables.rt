@@ -6,6 +6,7 @@ ghost use Rattle.route_targets.specs.Forwarding.{attached, looked_up};
 ghost use Rattle.packet_trace.specs.Circuits.{IsOfAUse};
 ghost use Rattle.node_items.specs.Told.{AllFit};
 ghost use Rattle.node_model.specs.Agent.{Heard, rows as rows_of};
+ghost use Rattle.flow_acl.specs.Flows.{AreOf};
 ghost use Rattle.agent_tables.specs.Views.{heard_of};
 
 use crate::acls::acls_of;
@@ -15,7 +16,7 @@ use crate::labels::labels_of;
 use crate::needs::needed;
 use crate::rows::{acl_rows, label_rows, route_rows};
 use crate::slice::slice_in_use;
-use flow_acl::{Acls, evaluate};
+use flow_acl::{Acls, FlowCache};
 use ov_types::{Addr, AgentRows, Attached, Entry, InstanceId, Label, NoMemory, Packet, Verdict};
 use std::alloc::Global;
 use std::collections::BTreeMap;
@@ -94,11 +95,26 @@ impl Tables {
         self.labels.find(label)
     }
 
-    /// What the access lists say of a packet that leaves a network.
-    pub fn verdict(&self, network: InstanceId, packet: &Packet) -> Verdict
-        ensures { result ≡ verdict self.now.acls network.0 packet.now }
+    /// What the access lists say of a packet that leaves a network, by what is kept of such verdicts. All that is kept
+    /// is what these lists say.
+    pub fn verdict(&self, flows: &mut FlowCache, network: InstanceId, packet: &Packet) -> Verdict
+        requires { AreOf self.now.acls flows.old }
+        ensures said { result ≡ verdict self.now.acls network.0 packet.now }
+        ensures kept { AreOf self.now.acls flows.new }
     {
-        evaluate(&self.acls, network, packet)
+        flows.verdict(&self.acls, network, packet)
+    }
+
+    /// Forwards by these tables from now on. What is kept of verdicts goes where the access lists change.
+    pub fn renew(&mut self, flows: &mut FlowCache, tables: Tables)
+        requires { AreOf self.old.acls flows.old }
+        ensures tables { self.new ≡ tables }
+        ensures kept { AreOf self.new.acls flows.new }
+    {
+        if !self.acls.is(&tables.acls) {
+            flows.clear();
+        }
+        *self = tables;
     }
 
     /// Where the routes of an instance lead an address. There is nothing exactly where none of them contains it.

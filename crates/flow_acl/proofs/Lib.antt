@@ -1,3 +1,5 @@
 pub mod Towards
 pub mod Least
 pub mod Decisions
+pub mod Keeping
+pub mod Same

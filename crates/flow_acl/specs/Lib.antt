@@ -1,3 +1,4 @@
 pub mod Lists
+pub mod Flows
 pub mod Taking
 pub mod Deciding

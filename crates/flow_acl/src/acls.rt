@@ -1,5 +1,5 @@
 //! The access lists of an agent.
-ghost use Rattle.std.specs.Prelude.{◌≡◌, [], map, OnOk, OnErr};
+ghost use Rattle.std.specs.Prelude.{◌≡◌, ◌↔◌, [], map, IsTrue, OnOk, OnErr};
 ghost use Rattle.std.specs.BTreeMap.{insert_entry, is_at};
 ghost use Rattle.std.specs.List.Sorted.{IsStrictlySortedBy};
 ghost use Rattle.std.specs.Map.{remove_entry};
@@ -62,6 +62,13 @@ impl Acls {
             to: to.0,
         };
         self.lists.remove(&key);
+    }
+
+    /// Whether the others are the very same lists. It takes no memory.
+    pub fn is(&self, other: &Acls) -> bool
+        ensures { IsTrue result ↔ (self.now ≡ other.now) }
+    {
+        self.lists == other.lists
     }
 
     /// The lists in the order of their keys. It takes no memory.

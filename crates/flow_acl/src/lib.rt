@@ -2,8 +2,12 @@
 #![tactic(auto)]
 
 mod acls;
+mod cache;
+mod flow;
 pub mod laws;
 mod verdicts;
 
 pub use acls::Acls;
+pub use cache::FlowCache;
+pub use flow::Flow;
 pub use verdicts::evaluate;

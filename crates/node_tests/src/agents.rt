@@ -37,7 +37,7 @@ const SECOND: &[u8] = b"\0\0\0\x1a{\"name\":\"c2\",\"op\":\"hello\"}\
 
 const SECOND_HELLO: &[u8] = b"\0\0\0\x1a{\"name\":\"c2\",\"op\":\"hello\"}";
 
-fn id(rt: &impl Abort, name: &str, address: u32) -> NodeId {
+pub fn id(rt: &impl Abort, name: &str, address: u32) -> NodeId {
     NodeId {
         name: Name::new(name).expect(rt, "a name"),
         address: Addr(address),
@@ -45,7 +45,7 @@ fn id(rt: &impl Abort, name: &str, address: u32) -> NodeId {
 }
 
 /// The agent a1, with these control nodes.
-fn agent(rt: &impl Abort, alloc: Global, address: Addr, controllers: &[NodeId]) -> AgentNode {
+pub fn agent(rt: &impl Abort, alloc: Global, address: Addr, controllers: &[NodeId]) -> AgentNode {
     let controllers = Vec::from_slice(alloc, controllers).expect(rt, "memory");
     let plan = AgentPlan {
         me: id(rt, "a1", address.0),
@@ -75,7 +75,7 @@ fn opened<L: Link>(
 }
 
 /// The session is opened, and nothing else comes of it.
-fn open<L: Link>(rt: &impl Abort, node: &mut AgentNode, links: &mut Links<L>, session: u16) {
+pub fn open<L: Link>(rt: &impl Abort, node: &mut AgentNode, links: &mut Links<L>, session: u16) {
     let answer = opened(rt, node, links, session);
     assert!(rt; matches!(answer, Ok(Stepped::Done)), "{session}");
 }
@@ -95,7 +95,7 @@ fn told<L: Link>(
 }
 
 /// Octets come, and nothing else comes of them.
-fn bring<L: Link>(
+pub fn bring<L: Link>(
     rt: &impl Abort,
     node: &mut AgentNode,
     links: &mut Links<L>,
@@ -256,13 +256,13 @@ fn a_publication_that_fails_closes_its_session_alone(rt: HostRuntime) {
     publish_over_a_break(&rt, &mut node, &mut links);
 }
 
-const N1: Addr = Addr(0xc000_020b);
+pub const N1: Addr = Addr(0xc000_020b);
 
 const N2: Addr = Addr(0xc000_020c);
 
 /// The slice of 192.0.2.11, and all rows of the instances that it needs, where port 1 of network 1 and port 2 of network
 /// 2 are joined by a chain of a service here and one at 192.0.2.12.
-const TOLD_AT_N1: [&[u8]; 14] = [
+pub const TOLD_AT_N1: [&[u8]; 14] = [
     b"{\"name\":\"c1\",\"op\":\"hello\"}",
     b"{\"address\":\"10.1.0.1\",\"instance\":1,\"node\":\"192.0.2.11\",\"op\":\"port\",\"port\":1}",
     b"{\"circuit\":32769,\"node\":\"192.0.2.11\",\"op\":\"circuit\",\"service\":1}",
@@ -325,7 +325,7 @@ const ROUTES_AT_N2: [Row; 8] = [
 ];
 
 /// Records, each behind its length, which has one octet.
-fn framed(rt: &impl Abort, alloc: Global, records: &[&[u8]]) -> Vec<u8> {
+pub fn framed(rt: &impl Abort, alloc: Global, records: &[&[u8]]) -> Vec<u8> {
     let mut octets = Vec::new(alloc);
     for json in records {
         let length = u8::try_from(json.len()).ok().expect(rt, "a short record");
@@ -338,7 +338,7 @@ fn framed(rt: &impl Abort, alloc: Global, records: &[&[u8]]) -> Vec<u8> {
 }
 
 /// The one control node tells these records.
-fn fill(rt: &impl Abort, alloc: Global, node: &mut AgentNode, records: &[&[u8]]) {
+pub fn fill(rt: &impl Abort, alloc: Global, node: &mut AgentNode, records: &[&[u8]]) {
     let mut links = Links::new(alloc);
     add_queues(rt, alloc, &mut links, 1);
     open(rt, node, &mut links, 0);
@@ -346,7 +346,7 @@ fn fill(rt: &impl Abort, alloc: Global, node: &mut AgentNode, records: &[&[u8]])
     bring(rt, node, &mut links, 0, octets.as_slice());
 }
 
-fn packet(source: u16, destination: u32) -> Packet
+pub fn packet(source: u16, destination: u32) -> Packet
     ensures { result.source.0 ≤ 524271 }
 {
     Packet {

@@ -8,4 +8,6 @@ mod configs;
 #[cfg(test)]
 mod controls;
 #[cfg(test)]
+mod flows;
+#[cfg(test)]
 mod links;

@@ -1,2 +1,4 @@
 pub mod Keys
 pub mod LongestLemmas
+pub mod Spans
+pub mod Tries

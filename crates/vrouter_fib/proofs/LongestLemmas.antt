@@ -103,7 +103,7 @@ same_block p q x y =
     let by_len : ℕ → Block = λ n. record { addr = q.addr; len = n } in
     ap by_addr x ∙ ap by_len y
 
-one_prefix : (a : ℕ) (p q : Block) → IsTrue (is_prefix p.addr p.len) → IsTrue (is_prefix q.addr q.len) → p.len ≡ q.len → IsTrue (contains p a) → IsTrue (contains q a) → p ≡ q
+pub one_prefix : (a : ℕ) (p q : Block) → IsTrue (is_prefix p.addr p.len) → IsTrue (is_prefix q.addr q.len) → p.len ≡ q.len → IsTrue (contains p a) → IsTrue (contains q a) → p ≡ q
 one_prefix a p q hp hq e cp cq =
     let rp = ranges p a cp in
     let rq = ranges q a cq in

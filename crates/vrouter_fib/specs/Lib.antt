@@ -1,2 +1,2 @@
-pub mod Better
 pub mod Longest
+pub mod Trie

@@ -4,6 +4,8 @@
 mod fib;
 mod labels;
 pub mod laws;
+mod span;
+mod trie;
 
 pub use fib::Fib;
 pub use labels::Labels;
