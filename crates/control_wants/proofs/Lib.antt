@@ -1,3 +1,4 @@
 pub mod Counting
 pub mod Wanting
 pub mod Fitting
+pub mod OneKey

@@ -37,6 +37,31 @@ fn take_the_longest(rt: &impl Abort, fib: &mut Fib) {
     assert!(rt; fib.lookup(Addr(ADDRESS)).is_none());
 }
 
+/// The same prefixes, the longest first, and removed from the shortest on.
+fn keep_the_longer(rt: &impl Abort, fib: &mut Fib) {
+    for len in (0..33).rev() {
+        fib.set(prefix(rt, len), entry(len)).expect(rt, "memory");
+    }
+    let routes = fib.routes().expect(rt, "memory");
+    assert!(rt; routes.len() == 33);
+    for len in 0..33 {
+        assert!(rt; fib.get(&prefix(rt, len)) == Some(entry(len)), "{len}");
+        fib.remove(&prefix(rt, len));
+        assert!(rt; fib.get(&prefix(rt, len)).is_none(), "{len}");
+        let longest = if len < 32 { Some(entry(32)) } else { None };
+        assert!(rt; fib.lookup(Addr(ADDRESS)) == longest, "{len}");
+    }
+    assert!(rt; fib.routes().expect(rt, "memory").is_empty());
+    fib.set(prefix(rt, 8), entry(8)).expect(rt, "memory");
+    assert!(rt; fib.lookup(Addr(ADDRESS)) == Some(entry(8)));
+}
+
+#[test]
+fn a_prefix_goes_without_those_below_it(rt: HostRuntime) {
+    let mut fib = Fib::new(rt.alloc());
+    keep_the_longer(&rt, &mut fib);
+}
+
 #[test]
 fn the_longest_of_overlapping_prefixes_is_taken(rt: HostRuntime) {
     let mut fib = Fib::new(rt.alloc());

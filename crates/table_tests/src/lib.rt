@@ -18,4 +18,6 @@ mod selection;
 #[cfg(test)]
 mod tables;
 #[cfg(test)]
+mod touched;
+#[cfg(test)]
 mod wants;

@@ -19,6 +19,10 @@ fn written(rt: &impl Abort, text: &mut String, tables: &VpnTables, instance: u16
     let rows = tables.table(InstanceId(instance)).expect(rt, "memory");
     for (prefix, row) in &rows {
         writeln!(text, "{prefix} {row}").expect(rt, "memory");
+        let alone = tables
+            .row(InstanceId(instance), prefix)
+            .expect(rt, "memory");
+        assert!(rt; alone == Some(*row), "{prefix}");
     }
 }
 

@@ -2,7 +2,7 @@ use crate::chains::{
     NEAR, chain, feed_list, feed_port, lead_right, lead_right_to, publish, subnet, subscribe,
 };
 use chain_reorigin::reoriginated;
-use control_wants::{rows, wanted_by_agent, wanted_by_peers};
+use control_wants::{rows, wanted_by_agent, wanted_by_peers, wanted_down, wanted_route};
 use ov_sync::Delta;
 use ov_types::{Addr, DownKey, DownValue, Label, LowKey, Prefix, Rd, Target, VpnKey, VpnRoute};
 use std::alloc::Global;
@@ -56,6 +56,8 @@ fn are_told_to_peers(rt: &impl Abort, alloc: Global, tables: &VpnTables, want: &
     let wanted = wanted_by_peers(alloc, tables).expect(rt, "memory");
     for (key, route) in &wanted {
         route_written(rt, &mut text, key, route);
+        let alone = wanted_route(alloc, tables, key).expect(rt, "memory");
+        assert!(rt; alone.is_some_and(|told| told == *route), "{}", key.prefix);
     }
     assert!(rt; text.as_str() == want, "{text}");
 }
@@ -140,6 +142,8 @@ fn tell_agents(rt: &impl Abort, alloc: Global, tables: &mut VpnTables) {
     let wanted = wanted_by_agent(alloc, tables, 2).expect(rt, "memory");
     for (key, value) in &wanted {
         entry_written(rt, &mut text, key, value);
+        let alone = wanted_down(tables, 2, key).expect(rt, "memory");
+        assert!(rt; alone.is_some_and(|told| told == *value), "{text}");
     }
     let want = "label 17\n\
 list 1 2\n\

@@ -27,7 +27,7 @@ use Rattle.node_model.proofs.Orders.{key_exact, key_total}
 use Rattle.vpn_tables.specs.Changes.{at_session}
 use Rattle.touched_laws.proofs.Moves.{told_otherwise}
 use Rattle.touched_laws.proofs.Filtering.{filter_append}
-use Rattle.touched_laws.specs.Moved.{moved_by, place_by, place_in, told_on}
+use Rattle.vpn_tables.specs.Moved.{moved_by, place_by, place_in, told_on}
 use Rattle.touched_laws.proofs.OneKey.{Off, changed_off}
 
 -- what an agent told, with another map

@@ -10,7 +10,8 @@ use Rattle.node_model.specs.Uses.{Use, uses, hop}
 use Rattle.node_model.specs.Paths.{Holdings}
 use Rattle.node_model.specs.Reaching.{below}
 use Rattle.node_model.specs.Tables.{known_instances}
-use Rattle.touched_laws.specs.Touched.{hops, imports_one, is_touched, rows_at_use, touched, touched_rows, weight}
+use Rattle.vpn_tables.specs.Listing.{hops}
+use Rattle.vpn_tables.specs.Touched.{imports_one, is_touched, rows_at_use, touched, touched_rows, weight}
 
 many : {X Y : Type 0} (f : X → Y) (xs : List X) → length (map f xs) ≡ length xs
 many f [] = refl

@@ -20,8 +20,9 @@ use Rattle.node_model.proofs.Members.{from_flat_map, in_filter, in_flat_map, in_
 use Rattle.node_model.proofs.Objects.{imports_nothing}
 use Rattle.node_model.proofs.Routes.{from_below}
 use Rattle.node_model.proofs.Unknown.{place_at, place_at-within, target_from}
-use Rattle.touched_laws.specs.Touched.{hops, imports_one, rows_at_use}
-use Rattle.touched_laws.specs.TouchedKeys.{leads}
+use Rattle.vpn_tables.specs.Listing.{hops}
+use Rattle.vpn_tables.specs.Touched.{imports_one, rows_at_use}
+use Rattle.vpn_tables.specs.Leading.{leads}
 use Rattle.touched_laws.proofs.Known.{in_places, known_in}
 
 -- a route towards a circuit is of this prefix and this instance

@@ -11,4 +11,5 @@ pub mod OneKey
 pub mod Peers
 pub mod Agents
 pub mod Touching
+pub mod Covering
 pub mod Objects

@@ -19,7 +19,7 @@ use Rattle.node_model.specs.Maps.{Change, Map}
 use Rattle.node_model.specs.Paths.{Path}
 use Rattle.node_model.proofs.Members.{get_member}
 use Rattle.node_model.proofs.Orders.{key_exact, key_total}
-use Rattle.touched_laws.specs.Moved.{moved_in, told_as}
+use Rattle.vpn_tables.specs.Moved.{moved_in, told_as}
 
 -- nothing of these passes
 abbrev pub Off : {Y : Type 0} → (Y → Bool) → List Y → Type 0

@@ -11,7 +11,7 @@ use Rattle.node_model.specs.Maps.{Change, Map}
 use Rattle.node_model.specs.Paths.{Path, peer_path}
 use Rattle.vpn_tables.specs.Changes.{changed_at}
 use Rattle.touched_laws.proofs.Filtering.{filter_append}
-use Rattle.touched_laws.specs.Moved.{map_at, moved_in}
+use Rattle.vpn_tables.specs.Moved.{map_at, moved_in}
 use Rattle.touched_laws.proofs.OneKey.{Off, changed_off, paths}
 
 module _ (test : Path → Bool) where

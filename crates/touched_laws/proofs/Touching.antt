@@ -31,11 +31,12 @@ use Rattle.node_model.specs.Wants.{wanted_by_agent, wanted_by_peers}
 use Rattle.vpn_tables.specs.Changes.{with_publication, with_route}
 use Rattle.touched_laws.proofs.Moves.{Covers, Moves}
 use Rattle.touched_laws.specs.TouchedKeys.{IsTouchedKey}
-use Rattle.touched_laws.specs.Touched.{hops, imports_one, is_touched, rows_at_use, touched, touched_rows}
+use Rattle.vpn_tables.specs.Listing.{hops}
+use Rattle.vpn_tables.specs.Touched.{imports_one, is_touched, rows_at_use, touched, touched_rows}
 use Rattle.touched_laws.proofs.Counted.{counted}
 use Rattle.touched_laws.proofs.Filtering.{filter_none}
 use Rattle.touched_laws.proofs.Wanted.{agents_same, at_row, peers_same, row_same}
-use Rattle.touched_laws.specs.Moved.{moved_by, moved_by_publication, moved_by_route, place_by, place_by_publication, place_in, target_at, targets_by_publication, targets_by_route, told_as, told_on}
+use Rattle.vpn_tables.specs.Moved.{moved_by, moved_by_publication, moved_by_route, place_by, place_by_publication, place_in, target_at, targets_by_publication, targets_by_route, told_as, told_on}
 use Rattle.touched_laws.proofs.Peers.{peers_off}
 use Rattle.touched_laws.proofs.Agents.{agents_off, published_off}
 

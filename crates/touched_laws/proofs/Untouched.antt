@@ -19,9 +19,10 @@ use Rattle.node_model.proofs.Members.{any_in, from_any, in_map}
 use Rattle.node_model.proofs.Objects.{imports_hop, side_use}
 use Rattle.node_model.proofs.Routes.{from_below}
 use Rattle.node_model.proofs.Unknown.{le_trans, place_at, place_at-within}
-use Rattle.touched_laws.specs.Touched.{hops, imports_one, is_touched}
+use Rattle.vpn_tables.specs.Listing.{hops}
+use Rattle.vpn_tables.specs.Touched.{imports_one, is_touched}
 use Rattle.touched_laws.proofs.Moves.{Covers, Moves, told_otherwise}
-use Rattle.touched_laws.specs.TouchedKeys.{leads}
+use Rattle.vpn_tables.specs.Leading.{leads}
 use Rattle.touched_laws.proofs.Known.{in_places}
 use Rattle.touched_laws.proofs.Filtering.{all_from, false_from, filter_append, filter_flat_map, filter_none, flat_map_same}
 

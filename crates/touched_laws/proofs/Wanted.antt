@@ -24,9 +24,10 @@ use Rattle.node_model.specs.Wants.{route_entry, rows_of, slice, slice_entry, sub
 use Rattle.node_model.proofs.Members.{in_filter, in_flat_map, in_left, in_map, in_right, from_map, iff_same}
 use Rattle.node_model.proofs.Orders.{key_exact, key_total, prefix_exact, prefix_same, prefix_total}
 use Rattle.node_model.proofs.Objects.{side_use}
-use Rattle.touched_laws.specs.Touched.{imports_one, is_touched, rows_at_use, touched_rows}
+use Rattle.vpn_tables.specs.Touched.{imports_one, is_touched, rows_at_use, touched_rows}
 use Rattle.touched_laws.proofs.Moves.{Covers, Moves, told_otherwise}
-use Rattle.touched_laws.specs.TouchedKeys.{IsTouchedKey, leads}
+use Rattle.vpn_tables.specs.Leading.{leads}
+use Rattle.touched_laws.specs.TouchedKeys.{IsTouchedKey}
 use Rattle.touched_laws.proofs.Filtering.{all_from, filter_append, filter_twice, found_after, found_among, found_in_each, found_nowhere}
 use Rattle.touched_laws.proofs.Rows.{same_row}
 use Rattle.touched_laws.proofs.Untouched.{led_same, not_moved}

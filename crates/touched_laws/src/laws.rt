@@ -1,5 +1,5 @@
 //! Laws of what a change touches: each is the contract of a function that does nothing.
-ghost use Rattle.std.specs.Prelude.{◌≡◌, ◌≢◌, [], ℕ, List, length};
+ghost use Rattle.std.specs.Prelude.{◌≡◌, ◌≢◌, [], ℕ, List, Some, length};
 ghost use Rattle.std.specs.FinMap.{get};
 ghost use Rattle.ov_sync.specs.declared.Delta.{Delta};
 ghost use Rattle.ov_sync.specs.Keyed.{key_of};
@@ -15,16 +15,17 @@ ghost use Rattle.ov_types.specs.declared.targets.Target.{Target};
 ghost use Rattle.ov_types.specs.declared.vpn.VpnKey.{VpnKey};
 ghost use Rattle.ov_types.specs.declared.vpn.VpnRoute.{VpnRoute};
 ghost use Rattle.node_model.specs.Members.{Member};
-ghost use Rattle.node_model.specs.Keys.{Key, Row};
+ghost use Rattle.node_model.specs.Keys.{Key, Row, Vpn};
 ghost use Rattle.node_model.specs.Paths.{Holdings, Told};
 ghost use Rattle.node_model.specs.Reaching.{AreShort};
 ghost use Rattle.node_model.specs.Tables.{table};
 ghost use Rattle.node_model.specs.Wants.{wanted_by_agent, wanted_by_peers};
 ghost use Rattle.vpn_tables.specs.Changes.{with_low, with_publication, with_route};
-ghost use Rattle.touched_laws.specs.Moved.{moved_by_publication, moved_by_route};
-ghost use Rattle.touched_laws.specs.Moved.{targets_by_publication, targets_by_route};
+ghost use Rattle.vpn_tables.specs.Moved.{moved_by_publication, moved_by_route};
+ghost use Rattle.vpn_tables.specs.Moved.{targets_by_publication, targets_by_route};
+ghost use Rattle.vpn_tables.specs.Touched.{rows_by_key, touched, touched_rows};
 ghost use Rattle.touched_laws.specs.TouchedKeys.{IsTouchedKey};
-ghost use Rattle.touched_laws.specs.Touched.{touched, touched_rows};
+ghost use Rattle.vpn_tables.specs.TouchedKeys.{key_published, keys_led};
 
 /// There are as many touched rows as is touched.
 pub fn touched_rows_are_counted()
@@ -47,6 +48,10 @@ pub fn a_route_changes_what_it_touches()
     ensures peers { (h : Holdings) (session : ℕ) (d : Delta VpnKey VpnRoute) → AreShort h.feed → (k : Key)
         → (IsTouchedKey (moved_by_route h session d) (targets_by_route h session d) h (with_route h session d) k → ⊥)
         → get (wanted_by_peers h) k ≡ get (wanted_by_peers (with_route h session d)) k }
+    ensures keys { (h : Holdings) (session : ℕ) (d : Delta VpnKey VpnRoute) → AreShort h.feed → (k : VpnKey) → k ≢ key_of d
+        → (Member k (keys_led h (targets_by_route h session d)) → ⊥)
+        → (Member k (keys_led (with_route h session d) (targets_by_route h session d)) → ⊥)
+        → get (wanted_by_peers h) (Vpn k) ≡ get (wanted_by_peers (with_route h session d)) (Vpn k) }
 {}
 
 /// So does a change of an agent's publication.
@@ -66,6 +71,15 @@ pub fn a_publication_changes_what_it_touches()
         → (IsTouchedKey (moved_by_publication h session d) (targets_by_publication h session d) h
         (with_publication h session d) k → ⊥)
         → get (wanted_by_peers h) k ≡ get (wanted_by_peers (with_publication h session d)) k }
+    ensures rows { (h : Holdings) (session : ℕ) (d : Delta UpKey LabelNo) → AreShort h.feed
+        → (i : InstanceId) (q : Block)
+        → (Member (i, q) (rows_by_key h (targets_by_publication h session d) (key_of d)) → ⊥)
+        → get (table h i) q ≡ get (table (with_publication h session d) i) q }
+    ensures keys { (h : Holdings) (session : ℕ) (d : Delta UpKey LabelNo) → AreShort h.feed → (k : VpnKey)
+        → key_published h session (key_of d) ≢ Some k
+        → (Member k (keys_led h (targets_by_publication h session d)) → ⊥)
+        → (Member k (keys_led (with_publication h session d) (targets_by_publication h session d)) → ⊥)
+        → get (wanted_by_peers h) (Vpn k) ≡ get (wanted_by_peers (with_publication h session d)) (Vpn k) }
 {}
 
 /// A change of a subscription touches nothing: it changes no table, and nothing that peers are to be told.

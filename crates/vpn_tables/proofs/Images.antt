@@ -48,12 +48,18 @@ peer-changed = image-changed Vpn Route vpn_total vpn_exact vpn_keeps
 pub peer-entries : (es : List (VpnKey × VpnRoute)) → IsStrictlySortedBy vpn_order (map (λ e. e.0) es) → entries (peer_of es) ≡ map (moved_entry Vpn Route) es
 peer-entries = image-entries Vpn Route vpn_total vpn_exact vpn_keeps
 
+pub peer-get : (es : List (VpnKey × VpnRoute)) (k : VpnKey) → get (peer_of es) (Vpn k) ≡ option_map Route (get (map_of vpn_order es) k)
+peer-get = image-get Vpn Route vpn_total vpn_exact vpn_keeps
+
 -- ---- an agent's session
 pub told-empty : told_of [] ≡ empty
 told-empty = image-empty of_up Label up_total up_exact up_keeps
 
 pub told-changed : (es fs : List (UpKey × LabelNo)) (d : Delta UpKey LabelNo) → map_of up_order fs ≡ changed (map_of up_order es) d → told_of fs ≡ changed (told_of es) (moved_delta of_up Label d)
 told-changed = image-changed of_up Label up_total up_exact up_keeps
+
+pub told-get : (es : List (UpKey × LabelNo)) (k : UpKey) → get (told_of es) (of_up k) ≡ option_map Label (get (map_of up_order es) k)
+told-get = image-get of_up Label up_total up_exact up_keeps
 
 label_back : (o : Option LabelNo) → as_label (option_map Label o) ≡ o
 label_back None = refl

@@ -14,3 +14,13 @@ pub mod Uses
 pub mod Farther
 pub mod Listed
 pub mod NoneLed
+pub mod Along
+pub mod Short
+pub mod Before
+pub mod Choosing
+pub mod Keeping
+pub mod Keyed
+pub mod LedAt
+pub mod Once
+pub mod Rowed
+pub mod Gathering

@@ -1,8 +1,12 @@
 -- No route leads on into a network.
-use Rattle.std.specs.Prelude.{◌≡◌, ◌≤◌, ℕ, suc, ◌+◌, ◌*◌, List, [], ◌∷◌, Bool, true, false, cond}
+use Rattle.std.specs.Prelude.{◌≡◌, ◌≤◌, ℕ, suc, ◌+◌, ◌*◌, ◌-◌, ◌/◌, ◌%◌, nat_le, List, [], ◌∷◌, Bool, true, false, cond, Some, None}
 use Rattle.std.specs.List.{filter}
 use Rattle.std.specs.Option.{is_some}
-use Rattle.std.proofs.Common.{refl, ◌∙◌, ap, inl, inr, arith}
+use Rattle.std.proofs.Common.{refl, sym, ◌∙◌, ap, inl, inr, arith}
+use Rattle.std.proofs.lemmas.Option.{same_Some}
+use Rattle.route_targets.specs.declared.numbers.Hop.{Hop}
+use Rattle.node_model.specs.Uses.{use_of}
+use Rattle.node_model.proofs.Members.{none_some}
 use Rattle.ov_types.specs.declared.numbers.InstanceId.{InstanceId}
 use Rattle.route_targets.specs.Numbers.{target_of, hop_of}
 use Rattle.node_model.specs.Members.{Member}
@@ -32,3 +36,11 @@ no_led h i none = none_pass (has_target (target_of h.asn i ∷ [])) (reoriginate
   where
     apart : (i u j : ℕ) → i ≤ 16383 → i ≡ 16384 + 16 * u + j → ⊥
     apart i u j a b = omega arith
+
+-- the use of a hop is that of its instance
+pub use_number : (i : InstanceId) (hop : Hop) → hop_of i ≡ Some hop → hop.use_no ≡ use_of i
+use_number i hop e = by_test (nat_le i.0 16383) e
+  where
+    by_test : (b : Bool) → cond b None (Some (record { use_no = (i.0 - 16384) / 16; place = (i.0 - 16384) % 16 })) ≡ Some hop → hop.use_no ≡ use_of i
+    by_test true e = absurd (none_some hop e)
+    by_test false e = ap (λ (h : Hop). h.use_no) (sym (same_Some _ hop e))

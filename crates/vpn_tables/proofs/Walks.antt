@@ -8,6 +8,7 @@ use Rattle.std.specs.FinMap.{entries}
 use Rattle.std.proofs.Math.Seq.{drop-cons}
 use Rattle.std.proofs.Common.{refl, sym, ◌∙◌, ap, arith, get_or}
 use Rattle.std.proofs.Math.Bool.{or_assoc}
+use Rattle.std.proofs.lemmas.Bool.{true≢false}
 use Rattle.ov_sync.specs.Embed.{moved_entry}
 use Rattle.ov_types.specs.Prefix.{Block, is_inside}
 use Rattle.ov_types.specs.declared.numbers.InstanceId.{InstanceId}
@@ -80,6 +81,22 @@ one_with p o x ys whole is e h = sym (ap (λ (o : Option Path). list_any p (cons
 
 pub none_first : (p : Path → Bool) (o : Option Path) (ys : List Path) (whole : Bool) → o ≡ None → list_any p (cons_option o ys) ≡ whole → list_any p ys ≡ whole
 none_first p o ys whole is h = sym (ap (λ (o : Option Path). list_any p (cons_option o ys)) is) ∙ h
+
+pub first_with : (p : Path → Bool) (o : Option Path) (ys : List Path) (whole : Bool) → list_any p (cons_option o []) ≡ true → list_any p (cons_option o ys) ≡ whole → true ≡ whole
+first_with p None ys whole e h = absurd (true≢false (sym e))
+first_with p (Some x) ys whole e h = sym (ap (λ b. b || list_any p ys) (alone (p x) e)) ∙ h
+  where
+    alone : (b : Bool) → (b || false) ≡ true → b ≡ true
+    alone true e = refl
+    alone false e = e
+
+pub first_without : (p : Path → Bool) (o : Option Path) (ys : List Path) (whole : Bool) → list_any p (cons_option o []) ≡ false → list_any p (cons_option o ys) ≡ whole → list_any p ys ≡ whole
+first_without p None ys whole e h = h
+first_without p (Some x) ys whole e h = sym (ap (λ b. b || list_any p ys) (alone (p x) e)) ∙ h
+  where
+    alone : (b : Bool) → (b || false) ≡ false → b ≡ false
+    alone false e = refl
+    alone true e = e
 
 one_on : (k : ℕ) → 1 + k + 1 ≡ 1 + (k + 1)
 one_on k = omega arith

@@ -10,6 +10,7 @@ use Rattle.ov_types.specs.declared.numbers.InstanceId.{InstanceId}
 use Rattle.ov_types.specs.declared.objects.LowKey.TheVariants as key
 use Rattle.ov_types.specs.declared.rows.TableRow.{TableRow}
 use Rattle.route_targets.specs.Numbers.{target_of}
+use Rattle.node_model.specs.Keys.{Key, Publish}
 use Rattle.node_model.specs.Maps.{Map, object}
 use Rattle.node_model.specs.Uses.{Use, use_from, use_of, place_of, is_hop, imports}
 use Rattle.node_model.specs.Paths.{Holdings, Path, has_target}
@@ -46,6 +47,11 @@ is_wanted h i = has_target (map (target_of h.asn) (imports h.feed i))
 -- and lies within a subnet
 abbrev pub leads_within : Holdings → InstanceId → Block → Path → Bool
 leads_within h i subnet p = if is_wanted h i p then is_inside p.prefix subnet else false
+
+-- what a key publishes lies within a subnet
+abbrev pub publishes_within : Block → Key → Bool
+publishes_within subnet (Publish i prefix) = is_inside prefix subnet
+publishes_within subnet _ = false
 
 -- ---- the rows of an instance, in the order of their prefixes
 abbrev pub rows_at : Holdings → InstanceId → List (Block × TableRow)

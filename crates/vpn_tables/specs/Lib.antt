@@ -9,3 +9,8 @@ pub mod Routes
 pub mod Least
 pub mod Leading
 pub mod Listing
+pub mod At
+pub mod Moved
+pub mod Touched
+pub mod TouchedKeys
+pub mod Gathered

@@ -3,9 +3,14 @@ use Rattle.std.specs.Prelude.{ℕ, List, [], ◌∷◌, ◌++◌, ◌==◌, map,
 use Rattle.std.specs.declared.option.Option.{Option}
 use Rattle.std.specs.declared.option.Option.TheVariants.{Some, None}
 use Rattle.ov_types.specs.declared.numbers.InstanceId.{InstanceId}
+use Rattle.ov_types.specs.declared.objects.LowKey.{LowKey}
+use Rattle.ov_types.specs.declared.objects.LowValue.{LowValue}
+use Rattle.ov_types.specs.declared.prefix.Addr.{Addr}
+use Rattle.node_model.specs.Maps.{Map, object}
 use Rattle.node_model.specs.Paths.{Told}
 use Rattle.node_model.specs.Reaching.{below}
 use Rattle.node_model.specs.Uses.{Use, hop}
+use Rattle.node_model.specs.Wants.{is_in_slice}
 use Rattle.vpn_tables.specs.declared.tables.Agent.{Agent}
 use Rattle.vpn_tables.specs.Changes.{with_nothing}
 use Rattle.vpn_tables.specs.Views.{agent_of}
@@ -26,3 +31,16 @@ hops u = map (hop u) (below u.services ++ u.services ∷ [])
 abbrev pub hops_of_held : Option Use → List InstanceId
 hops_of_held None = []
 hops_of_held (Some u) = hops u
+
+-- what a use that is held gives
+abbrev pub each_of : {B : Type 0} → (Use → List B) → Option Use → List B
+each_of f None = []
+each_of f (Some u) = f u
+
+-- the object of a key, where it is of the slice of an address
+abbrev pub in_slice : Map → Addr → LowKey → Option LowValue → Option LowValue
+in_slice feed address k None = None
+in_slice feed address k (Some v) = if is_in_slice feed address k v then Some v else None
+
+abbrev pub sliced : Map → Addr → LowKey → Option LowValue
+sliced feed address k = in_slice feed address k (object feed k)

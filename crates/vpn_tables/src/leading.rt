@@ -29,7 +29,7 @@ impl VpnTables {
     }
 
     /// Those of the use that is held at a key.
-    fn lead_use(&self, routes: &mut Vec<Route>, key: &LowKey) -> Result<(), NoMemory>
+    pub(crate) fn lead_use(&self, routes: &mut Vec<Route>, key: &LowKey) -> Result<(), NoMemory>
         ensures { OnOk result (map path_of routes.new.items ≡ map path_of routes.old.items
             ++ flat_map (leads self.now) (sides_of_held (use_at self.now.feed key.now))) }
     {

@@ -1,15 +1,21 @@
 //! The tables of a control node, from what it holds.
 #![tactic(auto)]
 
+mod at;
 mod chains;
+mod gathered;
+mod keys;
 mod leading;
 mod least;
 mod listing;
+mod moved;
 mod reaching;
 mod routes;
 mod sessions;
 mod table;
 mod tables;
+mod touching;
 
+pub use gathered::in_order;
 pub use routes::Route;
 pub use tables::VpnTables;

@@ -1,5 +1,5 @@
 //! Lists of what is held, from which a control node makes what it wants and shows.
-ghost use Rattle.std.specs.Prelude.{◌≡◌, ◌==◌, ◌++◌, [], ◌∷◌, OnOk, IfOk, map, option_copied};
+ghost use Rattle.std.specs.Prelude.{◌≡◌, ◌==◌, ◌++◌, [], ◌∷◌, Some, OnOk, IfOk, map, option_copied};
 ghost use Rattle.std.specs.List.{filter_map, list_any};
 ghost use Rattle.std.specs.FinMap.{entries};
 ghost use Rattle.node_model.specs.Keys.{of_up};
@@ -10,7 +10,7 @@ ghost use Rattle.node_model.specs.Tables.{known_instances, network_of};
 ghost use Rattle.node_model.specs.Uses.{hop};
 ghost use Rattle.node_model.specs.Wants.{is_at, is_in_slice, networks_at, port_at, slice, subscribed, subscriptions};
 ghost use Rattle.vpn_tables.specs.Leading.{use_at};
-ghost use Rattle.vpn_tables.specs.Listing.{hops_of_held, told_by, told_in};
+ghost use Rattle.vpn_tables.specs.Listing.{hops_of_held, in_slice, sliced, told_by, told_in};
 ghost use Rattle.vpn_tables.specs.Routes.{path_of};
 ghost use Rattle.vpn_tables.specs.Views.{agent_of};
 
@@ -74,6 +74,32 @@ impl VpnTables {
         Ok(objects)
     }
 
+    /// The object of a key, where it is of the slice of an address.
+    pub fn sliced(&self, address: Addr, key: &LowKey) -> Result<Option<LowValue>, NoMemory>
+        ensures { IfOk result (λ object. object ≡ sliced self.now.feed address key.now) }
+    {
+        match self.low(key) {
+            Some(value) => self.copy_sliced(address, key, value),
+            None => Ok(None),
+        }
+    }
+
+    fn copy_sliced(
+        &self,
+        address: Addr,
+        key: &LowKey,
+        value: &LowValue,
+    ) -> Result<Option<LowValue>, NoMemory>
+        ensures { IfOk result (λ object. object ≡ in_slice self.now.feed address key.now (Some value.now)) }
+    {
+        let networks = self.networks_at(address)?;
+        if !belongs(networks.as_slice(), address, key, value) {
+            return Ok(None);
+        }
+        let object = copy_of(value)?;
+        Ok(Some(object))
+    }
+
     /// The networks of the ports at an address.
     fn networks_at(&self, address: Addr) -> Result<Vec<InstanceId>, NoMemory>
         ensures { IfOk result (λ networks. networks.items ≡ networks_at self.now.feed address) }
@@ -107,7 +133,7 @@ impl VpnTables {
         }
     }
 
-    fn agent(&self, session: u16) -> Option<&Agent>
+    pub(crate) fn agent(&self, session: u16) -> Option<&Agent>
         ensures { told_by session (option_copied result) ≡ told_in self.now.agents session }
     {
         for agent in &self.agents {
@@ -159,7 +185,7 @@ impl VpnTables {
 }
 
 /// The instance of each place of a use.
-fn push_places(instances: &mut Vec<InstanceId>, side: &Side<'_>) -> Result<(), NoMemory>
+pub(crate) fn push_places(instances: &mut Vec<InstanceId>, side: &Side<'_>) -> Result<(), NoMemory>
     ensures { OnOk result (instances.new.items ≡ instances.old.items
         ++ map (hop side.now.chain) (below side.now.chain.services ++ side.now.chain.services ∷ [])) }
 {

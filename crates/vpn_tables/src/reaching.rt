@@ -1,23 +1,24 @@
 //! Which subnets are reachable along a chain.
-ghost use Rattle.std.specs.Prelude.{◌≡◌, ◌≤◌, ◌<◌, ◌+◌, ◌&&◌, ◌||◌, ℕ, is_some, IfOk, map};
-ghost use Rattle.std.specs.List.{list_any, filter_map};
+ghost use Rattle.std.specs.Prelude.{◌≡◌, ◌≤◌, ◌<◌, ◌+◌, ◌&&◌, ◌||◌, ℕ, [], is_some, IfOk, map};
+ghost use Rattle.std.specs.List.{cons_option, list_any, filter_map};
 ghost use Rattle.std.specs.FinMap.{entries};
 ghost use Rattle.node_model.specs.Paths.{own_path, own_paths, peer_path, peer_paths};
 ghost use Rattle.node_model.specs.Reaching.{circuit_at, has_path_within, hop_at, is_up, publisher, subnets};
 ghost use Rattle.node_model.specs.Tables.{same_prefix};
-ghost use Rattle.vpn_tables.specs.Answers.{is_up_at, leads_within};
-ghost use Rattle.vpn_tables.specs.Routes.{path_of};
+ghost use Rattle.node_model.specs.Keys.{of_up};
+ghost use Rattle.node_model.specs.Values.{Label as LabelOf};
+ghost use Rattle.vpn_tables.specs.Answers.{is_up_at, leads_within, publishes_within};
 ghost use Rattle.vpn_tables.specs.Views.{agent_of, peer_of};
 
 use crate::chains::Side;
-use crate::routes::{Route, is_within};
+use crate::routes::is_within;
 use crate::tables::{Agent, VpnTables};
 use ov_sync::SyncIn;
-use ov_types::{InstanceId, NoMemory, Prefix, VpnKey, VpnRoute};
+use ov_types::{InstanceId, Label, NoMemory, Prefix, UpKey, VpnKey, VpnRoute};
 use route_targets::{Hop, hop_of};
 
 /// Whether a subnet is among some.
-fn is_among(subnet: &Prefix, subnets: &[Prefix]) -> bool
+pub(crate) fn is_among(subnet: &Prefix, subnets: &[Prefix]) -> bool
     ensures { result ≡ list_any (same_prefix subnet.now) subnets.now }
 {
     for other in subnets {
@@ -26,6 +27,16 @@ fn is_among(subnet: &Prefix, subnets: &[Prefix]) -> bool
         }
     }
     false
+}
+
+/// Whether what a key publishes is within a subnet.
+fn publishes_within(key: &UpKey, subnet: &Prefix) -> bool
+    ensures { result ≡ publishes_within subnet.now (of_up key.now) }
+{
+    match key {
+        UpKey::Publish(_, prefix) => is_within(prefix, subnet),
+        UpKey::Subscribe(_) => false,
+    }
 }
 
 impl VpnTables {
@@ -132,22 +143,32 @@ impl VpnTables {
             (filter_map (λ e. own_path self.now (agent_of agent.now) e.0 e.1) (entries (agent_of agent.now).map)) }
     {
         for (key, label) in agent.told.iter() {
-            if let Some(route) = self.own_route(agent, key, *label) {
-                if self.leads_within(&route, i, subnet) {
-                    return true;
-                }
+            if self.is_own_within(agent, key, *label, i, subnet) {
+                return true;
             }
         }
         false
     }
 
-    fn leads_within(&self, route: &Route, i: InstanceId, subnet: &Prefix) -> bool
-        ensures { result ≡ leads_within self.now i subnet.now (path_of route.now) }
+    /// Whether the path of a publication is within a subnet, and the instance imports it.
+    fn is_own_within(
+        &self,
+        agent: &Agent,
+        key: &UpKey,
+        label: Label,
+        i: InstanceId,
+        subnet: &Prefix,
+    ) -> bool
+        ensures { result ≡ list_any (leads_within self.now i subnet.now)
+            (cons_option (own_path self.now (agent_of agent.now) (of_up key.now) (LabelOf label)) []) }
     {
-        if !self.imports_any(i, &[route.target]) {
+        if !publishes_within(key, subnet) {
             return false;
         }
-        is_within(&route.prefix, subnet)
+        match self.own_route(agent, key, label) {
+            Some(route) => self.imports_any(i, &[route.target]),
+            None => false,
+        }
     }
 
     fn has_peers_within(&self, i: InstanceId, subnet: &Prefix) -> bool
@@ -171,8 +192,8 @@ impl VpnTables {
             (filter_map (λ e. peer_path session e.0 e.1) (entries (peer_of routes.now))) }
     {
         for (key, route) in routes.iter() {
-            if self.imports_any(i, route.targets.items()) {
-                if is_within(&key.prefix, subnet) {
+            if is_within(&key.prefix, subnet) {
+                if self.imports_any(i, route.targets.items()) {
                     return true;
                 }
             }

@@ -9,6 +9,7 @@ ghost use Rattle.node_model.specs.Values.{Label as LabelOf};
 ghost use Rattle.node_model.specs.Reaching.{published_by, publisher};
 ghost use Rattle.node_model.specs.Uses.{imports, is_known};
 ghost use Rattle.node_model.specs.Paths.{own_path};
+ghost use Rattle.node_model.specs.Tables.{same_prefix};
 ghost use Rattle.vpn_tables.specs.Routes.{path_of};
 ghost use Rattle.vpn_tables.specs.Views.{agent_of};
 
@@ -29,6 +30,12 @@ pub(crate) fn is_within(prefix: &Prefix, subnet: &Prefix) -> bool
     ensures { result ≡ is_inside_of prefix.now subnet.now }
 {
     prefix.within(subnet)
+}
+
+pub(crate) fn is_same(found: &Prefix, prefix: &Prefix) -> bool
+    ensures { result ≡ same_prefix found.now prefix.now }
+{
+    found.addr().0 == prefix.addr().0 && found.len() == prefix.len()
 }
 
 /// Whether one of these instances has a target.
@@ -73,7 +80,8 @@ impl VpnTables {
         None
     }
 
-    pub(crate) fn is_known(&self, i: InstanceId) -> bool
+    /// Whether an instance is a held network's, or a place of a held use. It takes no memory.
+    pub fn is_known(&self, i: InstanceId) -> bool
         ensures { result ≡ is_known self.now.feed i }
     {
         let Some(hop) = hop_of(i) else {

@@ -5,6 +5,7 @@ ghost use Rattle.std.specs.FinMap.{entries};
 ghost use Rattle.route_targets.specs.Numbers.{target_of};
 ghost use Rattle.node_model.specs.Paths.{has_target, own_path, own_paths, peer_path, peer_paths};
 ghost use Rattle.node_model.specs.Reaching.{reoriginated};
+ghost use Rattle.node_model.specs.Uses.{use_of};
 ghost use Rattle.vpn_tables.specs.Answers.{is_wanted, rows_at};
 ghost use Rattle.vpn_tables.specs.Least.{least_of, offer_all};
 ghost use Rattle.vpn_tables.specs.Routes.{path_of};
@@ -14,7 +15,7 @@ use crate::least::{offer, rows};
 use crate::routes::Route;
 use crate::tables::{Agent, VpnTables};
 use ov_sync::SyncIn;
-use ov_types::{InstanceId, NoMemory, Prefix, TableRow, Target, VpnKey, VpnRoute};
+use ov_types::{InstanceId, LowKey, NoMemory, Prefix, TableRow, Target, VpnKey, VpnRoute};
 use path_select::Path;
 use route_targets::{hop_of, target};
 
@@ -105,11 +106,22 @@ impl VpnTables {
         ensures { OnOk result (least_of least.new ≡ offer_all (least_of least.old)
             (filter (has_target (target_of self.now.asn i ∷ [])) (reoriginated self.now))) }
     {
-        if hop_of(i).is_none() {
-            return Ok(());
+        match hop_of(i) {
+            Some(hop) => self.offer_along(least, i, hop.use_no),
+            None => Ok(()),
         }
-        let routes = self.led_on()?;
-        offer_to(least, routes.as_slice(), target(self.asn, i))
+    }
+
+    /// Those that lead on along the use of the instance, which are all.
+    fn offer_along(&self, least: &mut Least, i: InstanceId, number: u16) -> Result<(), NoMemory>
+        requires { number ≡ use_of i }
+        ensures { OnOk result (least_of least.new ≡ offer_all (least_of least.old)
+            (filter (has_target (target_of self.now.asn i ∷ [])) (reoriginated self.now))) }
+    {
+        let mut routes = Vec::new(self.alloc);
+        self.lead_use(&mut routes, &LowKey::ChainUse(number))?;
+        offer_to(least, routes.as_slice(), target(self.asn, i))?;
+        Ok(())
     }
 }
 

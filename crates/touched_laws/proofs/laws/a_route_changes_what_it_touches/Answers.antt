@@ -1,4 +1,5 @@
 use Rattle.touched_laws.proofs.Touching.{route_agents, route_keys, route_rows}
+use Rattle.touched_laws.proofs.Covering as covering
 use Rattle.touched_laws.proofs.laws.a_route_changes_what_it_touches.Goals as goal
 
 pub returns-clause-tables : goal.returns-clause-tables
@@ -9,3 +10,6 @@ returns-clause-agents c = route_agents
 
 pub returns-clause-peers : goal.returns-clause-peers
 returns-clause-peers c = route_keys
+
+pub returns-clause-keys : goal.returns-clause-keys
+returns-clause-keys c = covering.route_keys

@@ -10,8 +10,8 @@ use Rattle.vpn_tables.specs.Answers.{leads_within}
 use Rattle.vpn_tables.proofs.Walks.{peer_typed, peer_is, one_with}
 use Rattle.vpn_tables.proofs.tables.VpnTables.has_peer_within.Goals as goal
 
-pub returns-then-is_within : goal.returns-then-is_within
-returns-then-is_within c = λ session.
+pub returns-then-imports_any : goal.returns-then-imports_any
+returns-then-imports_any c = λ session.
     let test = leads_within c.args.self.now c.args.i c.args.subnet.now in
     let before = rest_more deref_pair c.loop-key.key-iterator c.next.new.self c.next.result (c.in-Some.key, c.in-Some.route) c.in-Some.is c.next.ensures.steps in
     let path : Path = record { prefix = c.in-Some.key.now.prefix; rd = c.in-Some.key.now.rd; next_hop = c.in-Some.route.now.next_hop; label = c.in-Some.route.now.label; targets = c.in-Some.route.now.targets; session = session } in

@@ -1,0 +1,13 @@
+use Rattle.std.proofs.Common.{◌≡◌, ◌++◌}
+use Rattle.std.specs.List.{AllByRecursion, flat_map}
+use Rattle.node_model.specs.Uses.{uses}
+use Rattle.vpn_tables.specs.Touched.{rows_if_touched}
+use Rattle.vpn_tables.proofs.Along.{along}
+use Rattle.vpn_tables.proofs.Uses.{IsHeld}
+use Rattle.vpn_tables.proofs.tables.VpnTables.push_along.Given as goal
+
+abbrev pub invariant-loop-key : goal.invariant-loop-key
+invariant-loop-key l = record {
+  so_far : l.rows.items ++ along (rows_if_touched l.self l.targets) l.key-iterator ≡ l.fn.rows.items ++ flat_map (rows_if_touched l.self l.targets) (uses l.self.feed);
+  held : AllByRecursion (IsHeld l.self.feed) l.key-iterator;
+}

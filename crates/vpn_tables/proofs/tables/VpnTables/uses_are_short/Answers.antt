@@ -1,0 +1,8 @@
+use Rattle.std.proofs.Common.{subst}
+use Rattle.node_model.specs.Paths.{Holdings}
+use Rattle.node_model.specs.Reaching.{AreShort}
+use Rattle.vpn_tables.proofs.Short.{short_feed}
+use Rattle.vpn_tables.proofs.tables.VpnTables.uses_are_short.Goals as goal
+
+pub returns : goal.returns
+returns c = subst (λ (h : Holdings). AreShort h.feed) c.self.view_is (short_feed c.self.inside.low c.self.invariant.0)
