@@ -1,0 +1,9 @@
+//! What may have changed of what the sessions of a control node are to be told, and changes of what it holds that mark
+//! it.
+#![tactic(auto)]
+
+mod dirty;
+mod objects;
+mod told;
+
+pub use dirty::Dirty;

@@ -1,0 +1,8 @@
+//! What peers and agents are told of what is marked: the whole difference, at the cost of the marks.
+#![tactic(auto)]
+
+mod items;
+mod routes;
+
+pub use items::tell_agent;
+pub use routes::{RoutesWanted, routes_wanted, tell_peer};
