@@ -9,6 +9,7 @@ mod inputs;
 mod looking;
 mod making;
 mod node;
+mod offering;
 mod plan;
 mod planning;
 mod taking;

@@ -22,6 +22,7 @@ use ov_link::{Input, Link, Links, NodeFault, Stepped};
 use ov_types::{ControlRows, NoMemory};
 use std::alloc::Global;
 use std::marker::Model;
+use vpn_tables::VpnTables;
 
 /// A control node, which contracts see as its plan, its ends, and whether it failed.
 #[derive(Drop)]
@@ -99,6 +100,13 @@ impl ControlNode {
         ensures ascending { IfOk result (λ rows. IsStrictlySortedBy row_key_cmp (map (λ row. row.0) rows)) }
     {
         self.node.ends.rows()
+    }
+
+    /// What is held of all sessions. It takes no memory.
+    pub fn tables(&self) -> &VpnTables
+        ensures { result.now ≡ holdings self.now.plan self.now.posts }
+    {
+        self.node.ends.held()
     }
 
     /// One step: the input is applied to its session, its replies are sent, and then each session is told what has

@@ -5,8 +5,9 @@ use Rattle.bgp_wire.specs.Content.{Content, Opens, Updates, Notifies, KeepsAlive
 use Rattle.bgp_wire.specs.Frames.{IsProperPrefix}
 use Rattle.bgp_wire.specs.Messages.{BeginsWith, HasFault}
 use Rattle.bgp_wire.proofs.Readings as readings
-use Rattle.bgp_vpn.specs.Updates.{HasUpdateFault}
 use Rattle.bgp_vpn.proofs.UpdateLemmas as updates
+use Rattle.rt_membership.specs.Memberships.{HasMembershipFault}
+use Rattle.rt_membership.proofs.Grammar as memberships
 use Rattle.report.specs.Lines.{fault_line}
 use Rattle.message_answers.specs.Decoding.{is_wide_open, Says, update_lines, BeginsWithFaultyUpdate, IsReport, of_nothing, of_a_prefix, of_a_fault, of_a_message}
 
@@ -21,7 +22,10 @@ nothing_is_proper octets e = subst (λ (xs : List ℕ). IsProperPrefix xs) (sym 
 -- a message says one thing
 one_saying : (wide : Bool) (content : Content) (a b : List ℕ) → Says wide content a → Says wide content b → a ≡ b
 one_saying wide (Opens fields) a b x y = x ∙ sym y
-one_saying wide (Updates parts) a b x y = x.2 ∙ ap update_lines (updates.one_changes wide parts x.0 y.0 x.1 y.1) ∙ sym y.2
+one_saying wide (Updates parts) a b x y =
+    x.is
+    ∙ (λ i. update_lines (updates.one_changes wide parts x.changes y.changes x.changed y.changed i) (memberships.one_changes wide parts x.asks y.asks x.asked y.asked i))
+    ∙ sym y.is
 one_saying wide (Notifies code subcode) a b x y = x ∙ sym y
 one_saying wide KeepsAlive a b x y = x ∙ sym y
 
@@ -39,7 +43,7 @@ said_has_none wide octets said content count f begins says (inl fault) =
 said_has_none wide octets said content count f begins says (inr update) =
     let same = readings.one_message octets content (Updates update.parts) count update.count begins update.begins in
     let says_it : Says wide (Updates update.parts) said = subst (λ (c : Content). Says wide c said) same.0 says in
-    updates.never_both wide update.parts says_it.0 f says_it.1 update.faulty
+    memberships.never_both wide update.parts says_it.asks f says_it.asked update.faulty
 
 -- the parts of an UPDATE are one
 same_parts : (p q : UpdateFields) → Updates p ≡ Updates q → p ≡ q
@@ -52,9 +56,9 @@ one_first_fault wide octets f g (inl a) (inr b) = absurd (readings.never_message
 one_first_fault wide octets f g (inr a) (inl b) = absurd (readings.never_message_and_fault octets (Updates a.parts) a.count g a.begins b)
 one_first_fault wide octets f g (inr a) (inr b) =
     let same = readings.one_message octets (Updates a.parts) (Updates b.parts) a.count b.count a.begins b.begins in
-    let there : HasUpdateFault wide b.parts f =
-    subst (λ (p : UpdateFields). HasUpdateFault wide p f) (same_parts a.parts b.parts same.0) a.faulty in
-    updates.one_fault wide b.parts f g there b.faulty
+    let there : HasMembershipFault wide b.parts f =
+    subst (λ (p : UpdateFields). HasMembershipFault wide p f) (same_parts a.parts b.parts same.0) a.faulty in
+    memberships.one_fault wide b.parts f g there b.faulty
 
 -- octets have one report
 pub one_report : (wide : Bool) (octets a b : List ℕ) → IsReport wide octets a → IsReport wide octets b → a ≡ b

@@ -5,9 +5,16 @@ use Rattle.std.proofs.lemmas.List.{append_assoc, append-nil, length-drop}
 use Rattle.std.proofs.lemmas.Bool.{eqb-true}
 use Rattle.bgp_wire.specs.declared.fault.WireFault.{WireFault}
 use Rattle.bgp_wire.specs.declared.message.Message.{Message}
-use Rattle.bgp_wire.specs.Content.{Content}
+use Rattle.bgp_wire.specs.Content.{Content, UpdateFields}
 use Rattle.bgp_wire.specs.Frames.{IsProperPrefix, head}
 use Rattle.bgp_wire.specs.Messages.{content_of, BeginsWith, HasFault}
+use Rattle.ov_types.specs.declared.vpn.VpnKey.{VpnKey}
+use Rattle.ov_types.specs.declared.vpn.VpnRoute.{VpnRoute}
+use Rattle.ov_sync.specs.declared.Delta.{Delta}
+use Rattle.bgp_vpn.specs.declared.fault.UpdateFault.{UpdateFault}
+use Rattle.bgp_vpn.specs.declared.fault.UpdateFault.TheVariants.{Wire}
+use Rattle.bgp_vpn.specs.Updates.{Changes, IfWire}
+use Rattle.rt_membership.specs.Memberships.{HasMembershipFault}
 use Rattle.report.specs.Lines.{fault_line, incomplete_line}
 use Rattle.message_answers.specs.Decoding.{is_wide_open, Says, IsReport, of_nothing, of_a_prefix, of_a_fault, of_a_message}
 use Rattle.message_answers.specs.Reporting.{Tells, WasFaulty, IsFirst, ToldAll}
@@ -20,6 +27,14 @@ pub begins_found : (octets : List ℕ) (found : Option (Message × ℕ)) (messag
     → IfSome found (λ x. BeginsWith octets (content_of x.0) x.1) → BeginsWith octets (content_of message) count
 begins_found octets found message count e h =
     subst (λ (o : Option (Message × ℕ)). IfSome o (λ x. BeginsWith octets (content_of x.0) x.1)) e h
+
+-- the fault of what an UPDATE asks, where its routes are good
+pub fault_found : (wide : Bool) (parts : UpdateFields) (e : UpdateFault) (f : WireFault) (changes : List (Delta VpnKey VpnRoute)) → e ≡ Wire f
+    → IfWire e (λ f. (wide : Bool) (routes : List (Delta VpnKey VpnRoute)) → Changes wide parts routes → HasMembershipFault wide parts f)
+    → Changes wide parts changes → HasMembershipFault wide parts f
+fault_found wide parts e f changes is h changed =
+    subst (λ (e : UpdateFault). IfWire e (λ f. (wide : Bool) (routes : List (Delta VpnKey VpnRoute)) → Changes wide parts routes → HasMembershipFault wide parts f)) is h
+    wide changes changed
 
 -- an UPDATE with a fault ends the report
 pub faulty_ends : (wide : Bool) (octets before after : List ℕ) (content : Content) (count : ℕ) (told : Told) → BeginsWith octets content count

@@ -7,10 +7,12 @@ use Rattle.bgp_wire.specs.Frames.{IsProperPrefix, head}
 use Rattle.bgp_wire.specs.Messages.{AreOctets, BeginsWith, HasFault}
 use Rattle.bgp_wire.proofs.Octets.{AreOctets-drop, AreOctets-take}
 use Rattle.bgp_wire.proofs.Readings as readings
-use Rattle.bgp_vpn.specs.Updates.{Changes, HasUpdateFault}
 use Rattle.bgp_vpn.proofs.UpdateLemmas as updates
+use Rattle.rt_membership.specs.Memberships.{Asks, HasMembershipFault}
+use Rattle.rt_membership.proofs.Grammar as memberships
+use Rattle.rt_membership.proofs.Reading.{fails}
 use Rattle.report.specs.Lines.{fault_line, incomplete_line}
-use Rattle.message_answers.specs.Decoding.{is_wide_open, Says, update_lines, IsReport, of_nothing, of_a_prefix, of_a_fault, of_a_message}
+use Rattle.message_answers.specs.Decoding.{is_wide_open, Says, SaysChanges, update_lines, IsReport, of_nothing, of_a_prefix, of_a_fault, of_a_message}
 use Rattle.message_answers.proofs.Reports.{fewer_left}
 use Rattle.bgp_vpn.proofs.LabelLemmas.{AreOctets-front, AreOctets-back}
 
@@ -41,11 +43,24 @@ said_first : (wide : Bool) (octets said : List ℕ) (content : Content) (count :
 said_first wide octets said content count begins says rest =
     (said ++ rest.0, of_a_message said rest.0 content count begins says rest.1 refl)
 
+-- an UPDATE says something or has a fault
+says_or_fails : (wide : Bool) (parts : UpdateFields) → AreOctets parts.attributes
+    → ((text : List ℕ) × SaysChanges wide parts text) ⊎ ((f : WireFault) × HasMembershipFault wide parts f)
+says_or_fails wide parts h =
+    elim (memberships.one_of_two wide parts h) [
+      | inl asks ↦ elim (updates.one_of_two wide parts h) [
+        | inl made ↦
+            inl (update_lines made.0 asks.0, record { changes = made.0; asks = asks.0; changed = made.1; asked = asks.1; is = refl })
+        | inr faulty ↦ inr (faulty.0, fails wide parts faulty.0 faulty.1)
+      ]
+      | inr faulty ↦ inr faulty
+    ]
+
 report_of_update : (wide : Bool) (octets : List ℕ) (parts : UpdateFields) (count : ℕ) → BeginsWith octets (Updates parts) count
-    → ((deltas : List _) × Changes wide parts deltas) ⊎ ((f : WireFault) × HasUpdateFault wide parts f)
+    → ((text : List ℕ) × SaysChanges wide parts text) ⊎ ((f : WireFault) × HasMembershipFault wide parts f)
     → HasReport (wide || false) (drop count octets) → HasReport wide octets
-report_of_update wide octets parts count begins (inl made) rest =
-    said_first wide octets (update_lines made.0) (Updates parts) count begins (made.0, made.1, refl) rest
+report_of_update wide octets parts count begins (inl says) rest =
+    said_first wide octets says.0 (Updates parts) count begins says.1 rest
 report_of_update wide octets parts count begins (inr faulty) rest =
     let f = faulty.0 in (
       fault_line f.code f.subcode,
@@ -56,7 +71,7 @@ report_of_content : (wide : Bool) (octets : List ℕ) (content : Content) (count
     → HasReport (wide || is_wide_open content) (drop count octets) → HasReport wide octets
 report_of_content wide octets (Opens fields) count h begins rest = said_first wide octets _ (Opens fields) count begins refl rest
 report_of_content wide octets (Updates parts) count h begins rest =
-    report_of_update wide octets parts count begins (updates.one_of_two wide parts (attribute_octets octets parts count h begins)) rest
+    report_of_update wide octets parts count begins (says_or_fails wide parts (attribute_octets octets parts count h begins)) rest
 report_of_content wide octets (Notifies code subcode) count h begins rest =
     said_first wide octets _ (Notifies code subcode) count begins refl rest
 report_of_content wide octets KeepsAlive count h begins rest = said_first wide octets _ KeepsAlive count begins refl rest

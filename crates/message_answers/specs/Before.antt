@@ -3,7 +3,7 @@ use Rattle.std.specs.Prelude.{◌≡◌, ◌⊎◌, ℕ, Bool, List, [], ◌∷�
 use Rattle.bgp_wire.specs.declared.fault.WireFault.{WireFault}
 use Rattle.bgp_wire.specs.Content.{Content, Updates, UpdateFields}
 use Rattle.bgp_wire.specs.Messages.{BeginsWith}
-use Rattle.bgp_vpn.specs.Updates.{HasUpdateFault}
+use Rattle.rt_membership.specs.Memberships.{HasMembershipFault}
 use Rattle.message_answers.specs.Decoding.{IsReport}
 
 -- octets are these messages, one after the other, and then the rest
@@ -18,7 +18,7 @@ pub record IsFaultyUpdate (content : Content) : Type 0 where
   pub wide : Bool
   pub fault : WireFault
   pub is : content ≡ Updates parts
-  pub faulty : HasUpdateFault wide parts fault
+  pub faulty : HasMembershipFault wide parts fault
 
 abbrev pub HasFaultyUpdate : List Content → Type 0
 HasFaultyUpdate [] = ⊥

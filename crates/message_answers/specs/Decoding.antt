@@ -14,7 +14,10 @@ use Rattle.bgp_wire.specs.Content.{Content, Opens, Updates, Notifies, KeepsAlive
 use Rattle.bgp_wire.specs.Frames.{IsProperPrefix}
 use Rattle.bgp_wire.specs.Messages.{BeginsWith, HasFault}
 use Rattle.bgp_wire.specs.Opens.{asn_of, is_wide}
-use Rattle.bgp_vpn.specs.Updates.{Changes, HasUpdateFault}
+use Rattle.bgp_vpn.specs.Updates.{Changes}
+use Rattle.rt_membership.specs.declared.asked.Asked.{Asked}
+use Rattle.rt_membership.specs.Memberships.{Asks, HasMembershipFault}
+use Rattle.report.specs.Memberships.{membership_line}
 use Rattle.report.specs.Lines.{open_line, put_line, drop_line, notification_line, fault_line, incomplete_line}
 
 -- a space, a tab, a line feed or a carriage return
@@ -39,9 +42,22 @@ abbrev pub change_lines : List (Delta VpnKey VpnRoute) → List ℕ
 change_lines [] = []
 change_lines (change ∷ changes) = change_line change ++ change_lines changes
 
--- the lines of an UPDATE: that it is one, and what it changes
-abbrev pub update_lines : List (Delta VpnKey VpnRoute) → List ℕ
-update_lines changes = (codes "update" ++ (10 ∷ [])) ++ change_lines changes
+-- the lines of changes of what is asked, in order
+abbrev pub membership_lines : List (Delta Asked Unit) → List ℕ
+membership_lines [] = []
+membership_lines (change ∷ changes) = membership_line change ++ membership_lines changes
+
+-- the lines of an UPDATE: that it is one, what it changes of the routes, and then what it changes of what is asked
+abbrev pub update_lines : List (Delta VpnKey VpnRoute) → List (Delta Asked Unit) → List ℕ
+update_lines changes asks = ((codes "update" ++ (10 ∷ [])) ++ change_lines changes) ++ membership_lines asks
+
+-- what an UPDATE says that passes all checks, those on its routes and that on what it asks
+pub record SaysChanges (wide : Bool) (parts : UpdateFields) (text : List ℕ) : Type 0 where
+  pub changes : List (Delta VpnKey VpnRoute)
+  pub asks : List (Delta Asked Unit)
+  pub changed : Changes wide parts changes
+  pub asked : Asks wide parts asks
+  pub is : text ≡ update_lines changes asks
 
 abbrev pub keepalive_line : List ℕ
 keepalive_line = codes "keepalive" ++ (10 ∷ [])
@@ -56,17 +72,16 @@ is_wide_open KeepsAlive = false
 -- what is said of a message without a fault, which is read wide or not
 abbrev pub Says : Bool → Content → List ℕ → Type 0
 Says wide (Opens fields) text = text ≡ open_line (asn_of fields) fields.hold (record { 0 = fields.id })
-Says wide (Updates parts) text =
-    (changes : List (Delta VpnKey VpnRoute)) × Changes wide parts changes × (text ≡ update_lines changes)
+Says wide (Updates parts) text = SaysChanges wide parts text
 Says wide (Notifies code subcode) text = text ≡ notification_line code subcode
 Says wide KeepsAlive text = text ≡ keepalive_line
 
--- the octets begin with a whole UPDATE, and that has this fault
+-- the octets begin with a whole UPDATE, and that has this fault: the checks on its routes come before that on what it asks
 pub record BeginsWithFaultyUpdate (wide : Bool) (octets : List ℕ) (f : WireFault) : Type 0 where
   pub parts : UpdateFields
   pub count : ℕ
   pub begins : BeginsWith octets (Updates parts) count
-  pub faulty : HasUpdateFault wide parts f
+  pub faulty : HasMembershipFault wide parts f
 
 -- the text tells of each message that the octets are, in order, up to the first fault or to octets that are not yet a
 -- message; they are read wide from the start, or from behind the first wide OPEN

@@ -4,7 +4,7 @@ use Rattle.ov_io.specs.Pieces.{IsOnItsWay}
 use Rattle.bgp_wire.specs.declared.fault.WireFault.{WireFault}
 use Rattle.bgp_wire.specs.Content.{Content, Updates, UpdateFields}
 use Rattle.bgp_wire.specs.Messages.{BeginsWith}
-use Rattle.bgp_vpn.specs.Updates.{HasUpdateFault}
+use Rattle.rt_membership.specs.Memberships.{HasMembershipFault}
 use Rattle.report.specs.Lines.{fault_line}
 use Rattle.message_answers.specs.declared.decoding.First.{First}
 use Rattle.message_answers.specs.declared.decoding.Told.{Told}
@@ -22,7 +22,7 @@ pub record WasFaulty (wide : Bool) (content : Content) (before after : List ℕ)
   pub parts : UpdateFields
   pub fault : WireFault
   pub update : content ≡ Updates parts
-  pub faulty : HasUpdateFault wide parts fault
+  pub faulty : HasMembershipFault wide parts fault
   pub appended : after ≡ before ++ fault_line fault.code fault.subcode
 
 abbrev pub Tells : Bool → Content → List ℕ → List ℕ → Told → Type 0

@@ -2,8 +2,9 @@
 ghost use Rattle.std.specs.Prelude.{◌≡◌, ◌≢◌, ◌++◌, ◌||◌, [], false, IfOk, OnOk, OnErr, option_map};
 ghost use Rattle.bgp_wire.specs.Content.{Updates};
 ghost use Rattle.bgp_wire.specs.Messages.{content_of};
-ghost use Rattle.bgp_vpn.specs.Updates.{parts_of};
-ghost use Rattle.message_answers.specs.Decoding.{change_line, change_lines, decode_verdict, is_blank, spelled};
+ghost use Rattle.bgp_vpn.specs.Updates.{parts_of, Changes};
+ghost use Rattle.message_answers.specs.Decoding.{change_line, change_lines, decode_verdict, is_blank, membership_lines};
+ghost use Rattle.message_answers.specs.Decoding.{spelled, update_lines};
 ghost use Rattle.message_answers.specs.Decoding.{without_blanks, is_wide_open, IsReport, WritesSpelled};
 ghost use Rattle.message_answers.specs.Reporting.{IsReportBehind, Moves, Progress, Tells};
 ghost use Rattle.ov_io.specs.Pieces.{HasWriteCause, TookFrontOf, TookText};
@@ -16,9 +17,10 @@ use ov_io::{Sink, TextOut, WriteRefusal, write_all, write_gathered, write_piece}
 use ov_sync::Delta;
 use ov_types::{NoMemory, VpnKey, VpnRoute};
 use report::{
-    TargetsText, drop_lines, fault_lines, incomplete_lines, notification_lines, open_lines,
-    put_lines_after,
+    TargetsText, drop_lines, fault_lines, incomplete_lines, membership_lines, notification_lines,
+    open_lines, put_lines_after,
 };
+use rt_membership::{Asked, read_checked_membership};
 use std::alloc::Global;
 
 fn is_blank(octet: u8) -> bool
@@ -89,6 +91,61 @@ enum Told {
     Faulty,
 }
 
+fn push_memberships(
+    alloc: Global,
+    changes: &[Delta<Asked, ()>],
+    out: &mut TextOut,
+) -> Result<(), NoMemory>
+    ensures { OnOk result (out.new ≡ out.old ++ membership_lines changes.now) }
+{
+    for change in changes {
+        membership_lines(alloc, change, out)?;
+    }
+    Ok(())
+}
+
+/// Tells what an UPDATE changes of the routes and of what is asked.
+fn push_both(
+    alloc: Global,
+    changes: &[Delta<VpnKey, VpnRoute>],
+    asks: &[Delta<Asked, ()>],
+    known: &mut TargetsText,
+    out: &mut TextOut,
+) -> Result<(), NoMemory>
+    ensures { OnOk result (out.new ≡ out.old ++ update_lines changes.now asks.now) }
+{
+    out.push(b"update\n")?;
+    push_changes(alloc, changes, known, out)?;
+    push_memberships(alloc, asks, out)
+}
+
+/// Tells of an UPDATE whose routes are good.
+fn push_checked(
+    alloc: Global,
+    part: &UpdatePart<'_>,
+    wide: bool,
+    changes: &[Delta<VpnKey, VpnRoute>],
+    known: &mut TargetsText,
+    out: &mut TextOut,
+) -> Result<Told, NoMemory>
+    requires { Changes wide (parts_of part.now) changes.now }
+    ensures { IfOk result (λ told. Tells wide (Updates (parts_of part.now)) out.old out.new told) }
+{
+    match read_checked_membership(alloc, part) {
+        Ok(asks) => {
+            push_both(alloc, changes, asks.as_slice(), known, out)?;
+            Ok(Told::Whole)
+        }
+        Err(UpdateFault::Wire(fault)) => {
+            fault_lines(alloc, fault.code, fault.subcode, out)?;
+            Ok(Told::Faulty)
+        }
+        Err(UpdateFault::NoMemory) => Err(NoMemory),
+    }
+}
+
+/// Tells of an UPDATE: a fault of its routes comes before one of what it asks.
+#[tactic(auto, using(rt_membership::proofs::Reading::fails))]
 fn push_update(
     alloc: Global,
     part: &UpdatePart<'_>,
@@ -99,11 +156,7 @@ fn push_update(
     ensures { IfOk result (λ told. Tells wide (Updates (parts_of part.now)) out.old out.new told) }
 {
     match read_update(alloc, part, wide) {
-        Ok(changes) => {
-            out.push(b"update\n")?;
-            push_changes(alloc, changes.as_slice(), known, out)?;
-            Ok(Told::Whole)
-        }
+        Ok(changes) => push_checked(alloc, part, wide, changes.as_slice(), known, out),
         Err(UpdateFault::Wire(fault)) => {
             fault_lines(alloc, fault.code, fault.subcode, out)?;
             Ok(Told::Faulty)

@@ -7,3 +7,4 @@ pub mod Refusals
 pub mod Answers
 pub mod Summaries
 pub mod Restarts
+pub mod Memberships

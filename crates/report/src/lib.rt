@@ -6,6 +6,7 @@ mod answers;
 mod lined;
 mod lines;
 mod lists;
+mod memberships;
 mod objects;
 mod outcomes;
 mod refusals;
@@ -20,6 +21,7 @@ pub use lines::{
     drop_lines, fault_lines, incomplete_lines, notification_lines, open_lines, put_lines,
     route_lines,
 };
+pub use memberships::{asked_lines, membership_lines, sent_lines};
 pub use objects::{ObjectLines, low_lines};
 pub use outcomes::{OutcomeLines, SpreadLines};
 pub use refusals::{doc_fault_lines, refusal_lines};

@@ -1,0 +1,6 @@
+-- Lemmas, in the order in which they stand on each other.
+pub mod Ordered
+pub mod Covered
+pub mod Listed
+pub mod Asks
+pub mod Passing

@@ -1,0 +1,11 @@
+//! Which routes a control node asks of its peers (RFC 4684), and what a peer then sends.
+#![tactic(auto)]
+
+mod asking;
+mod covering;
+pub mod laws;
+mod needing;
+
+pub use asking::asked;
+pub use covering::{covers, restrict};
+pub use needing::needed;
