@@ -42,21 +42,31 @@ def rule(action, protocol, first, last):
     }
 
 
-def policy(rules):
-    """So many rules: the last passes everything, and those before it deny one port each."""
-    denied = [rule("deny", 6, 10000 + i, 10000 + i) for i in range(rules - 1)]
-    return {"name": "all", "sequence": 1, "rules": denied + [rule("pass", "any", 0, 65535)]}
+def denied(count, first):
+    """So many rules that deny one port each, from a first one on."""
+    return [rule("deny", 6, port, port) for port in range(first, first + count)]
 
 
-def document(networks, ports, related, controllers=1, rules=1):
-    """Ports in turn on the networks, which all attach one policy, or none and have equal subnets."""
+def policies_of(count, rules):
+    """So many policies of so many rules each: the last rule of the last one passes everything, and each other denies a port."""
+    before = [
+        {"name": f"denied{i}", "sequence": 1 + i, "rules": denied(rules, 10000 + i * rules)} for i in range(count - 1)
+    ]
+    last = denied(rules - 1, 10000 + (count - 1) * rules) + [rule("pass", "any", 0, 65535)]
+    return before + [{"name": "all", "sequence": count, "rules": last}]
+
+
+def document(networks, ports, related, controllers=1, rules=1, policies=1):
+    """Ports in turn on the networks, which all attach the same policies, or none and have equal subnets."""
+    shared = policies_of(policies, rules) if related else []
+
     def block(n):
         """The first three octets of a network's addresses."""
         return f"10.{n}.0" if related else "10.0.0"
 
     configuration = {
         "networks": [
-            {"name": f"w{n}", "id": n, "subnets": [f"{block(n)}.0/24"], "policies": ["all"] if related else []}
+            {"name": f"w{n}", "id": n, "subnets": [f"{block(n)}.0/24"], "policies": [value["name"] for value in shared]}
             for n in range(1, networks + 1)
         ],
         "ports": [
@@ -66,7 +76,7 @@ def document(networks, ports, related, controllers=1, rules=1):
             }
             for p in range(ports)
         ],
-        "policies": [policy(rules)] if related else [],
+        "policies": shared,
     }
     return {"topology": topology(controllers), "configuration": configuration}
 
@@ -94,9 +104,74 @@ def with_chains(value, uses):
         configuration["policies"].append({"name": f"chains{i}", "sequence": 2 + i, "rules": rules})
         networks[i]["policies"].append(f"chains{i}")
         networks[i + 1]["policies"].append(f"chains{i}")
-    first = configuration["policies"][0]
+    first = configuration["policies"][0]  # that of all
     first["rules"] = [chain_rule(use, 1, 2) for use in range(127 * 16, uses)] + first["rules"]
     return value
+
+
+def long_name(kind, number):
+    """A name of 32 octets; those of one kind are alike but for their last octets."""
+    return f"{kind}{number:031d}"
+
+
+def largest(nested):
+    """A valid configuration at every limit, with names of 32 octets: the networks are all related, and each two neighbours
+    use chains, 2,047 in all. Each chain has 15 services; or each but the last names the next alone, and the last has them.
+    """
+    def use(number, left, right):
+        """A chain rule between two networks."""
+        value = chain_rule(number, left, right)
+        ends = {"source": long_name("w", left), "destination": long_name("w", right)}
+        return {**value, **ends, "chain": long_name("h", number % 128)}
+
+    def hops(chain):
+        """The hops of a chain."""
+        if nested and chain < 127:
+            return [long_name("h", chain + 1)]
+        return [long_name("s", (chain + place) % 128) for place in range(15)]
+
+    def attached(network):
+        """Four policies: those of the network with its neighbours, others until there are three, and that of all."""
+        near = [policy for policy in (network - 1, network, network + 1) if 1 <= policy <= 127]
+        return [long_name("p", policy) for policy in (near + [1])[:3] + [0]]
+
+    among_all = [use(127 * 16 + i, 1, 2) for i in range(15)] + [rule("pass", "any", 0, 65535)]
+    policies = [
+        {"name": long_name("p", p), "sequence": p, "rules": [use(16 * (p - 1) + i, p, p + 1) for i in range(16)]}
+        for p in range(1, 128)
+    ] + [{"name": long_name("p", 0), "sequence": 128, "rules": among_all}]
+    return {
+        "topology": {
+            "as": 64512,
+            "controllers": [{"name": long_name("c", i), "address": f"192.0.2.{1 + i}"} for i in range(8)],
+            "nodes": [
+                {
+                    "name": long_name("n", i), "address": f"192.0.2.{100 + i}",
+                    "controllers": [long_name("c", i % 8), long_name("c", (i + 1) % 8)],
+                }
+                for i in range(64)
+            ],
+        },
+        "configuration": {
+            "networks": [
+                {
+                    "name": long_name("w", n), "id": n, "subnets": [f"10.{n}.{i}.0/24" for i in range(4)],
+                    "policies": attached(n),
+                }
+                for n in range(1, 129)
+            ],
+            "ports": [
+                {
+                    "name": long_name("v", p), "id": p, "network": long_name("w", 1 + p % 128),
+                    "address": f"10.{1 + p % 128}.{p // 256}.{1 + p // 128}", "node": long_name("n", p % 64),
+                }
+                for p in range(1024)
+            ],
+            "policies": policies,
+            "services": [{"name": long_name("s", i), "id": 1 + i, "node": long_name("n", i % 64)} for i in range(128)],
+            "chains": [{"name": long_name("h", i), "hops": hops(i)} for i in range(128)],
+        },
+    }
 
 
 def packets(count):
@@ -172,7 +247,15 @@ def inputs():
     for controllers, uses in [(1, 128), (1, 2047), (8, 2047)]:
         name = f"compile 1024 ports, 128 networks, related, {uses} uses of 15 services, {controllers} control nodes"
         yield name, "compile", json.dumps(with_chains(document(128, 1024, True, controllers), uses))
-    for count in (100, 1_000, 10_000):
+    for networks, policies in [(128, 1), (32, 4), (128, 4)]:
+        name = f"compile 1024 ports, {networks} networks, related, {policies} policies of 16 rules"
+        yield name, "compile", json.dumps(document(networks, 1024, True, 1, 16, policies))
+    for nested in (False, True):
+        value = largest(nested)
+        chains = "each chain but the last names the next" if nested else "each chain has 15 services"
+        yield f"compile at every limit, {chains}", "compile", json.dumps(value)
+        yield f"reach no packet at every limit, {chains}", "reach", json.dumps({**value, "packets": []})
+    for count in (100, 1_000, 10_000, 100_000):
         value = document(128, 1024, True, 1, 16)
         value["packets"] = packets(count)
         yield f"reach {count} packets", "reach", json.dumps(value)

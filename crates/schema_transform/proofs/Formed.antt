@@ -16,6 +16,7 @@ use Rattle.config_check.specs.Rules.{first_broken}
 use Rattle.config_check.specs.Sentences.{IsValid}
 use Rattle.config_check.proofs.Validity.{valid_iff}
 use Rattle.acl_compile.proofs.Bounded.{keeps_bounds}
+use Rattle.transform_model.proofs.Lemmas.{uses_are_distinct}
 use Rattle.transform_model.proofs.Lists.{pairs_of_map}
 use Rattle.transform_model.proofs.Prefixes.{third_of_five, second_of_five}
 use Rattle.schema_transform.specs.Sound.{IsSound}
@@ -33,6 +34,7 @@ is_sound t c form h =
     record {
       bounds = keeps_bounds t c form h;
       services = pairs_of_map (λ s. s.id.0) (λ m n. m ≢ n) c.services v.numbers.services;
+      uses = uses_are_distinct t c h;
     }
 
 rules_of : (p : Policy) → IsTrue (has_policy_form p) → IsTrue (list_all has_rule_form p.rules)

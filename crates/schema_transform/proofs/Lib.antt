@@ -6,3 +6,5 @@ pub mod Services
 pub mod Formed
 pub mod Small
 pub mod Forwarding
+pub mod ByNumber
+pub mod Homes

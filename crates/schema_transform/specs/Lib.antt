@@ -3,3 +3,4 @@ pub mod Held
 pub mod HeldUses
 pub mod Concerning
 pub mod Towards
+pub mod ByNumber

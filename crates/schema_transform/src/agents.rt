@@ -1,18 +1,16 @@
 //! The rows of agents.
-ghost use Rattle.std.specs.Prelude.{◌≡◌, ◌==◌, map, IfOk, OnOk, IsTrue};
-ghost use Rattle.std.specs.List.{All, filter_map, list_all, list_any};
-ghost use Rattle.config_model.specs.Form.{has_port_form};
+ghost use Rattle.std.specs.Prelude.{◌≡◌, ◌==◌, map, IfOk, OnOk};
+ghost use Rattle.std.specs.List.{All, filter_map, list_any};
 ghost use Rattle.node_model.specs.Agent.{acl_entry, attached, entered_by, needed_by, needed_for};
 ghost use Rattle.node_model.specs.Wants.{is_at, port_at};
 ghost use Rattle.transform_model.specs.Compiled.{agent_rows, agent_rows_by, networks_at, route_of, slice_of};
 ghost use Rattle.schema_transform.specs.Concerning.{concerns_among};
 ghost use Rattle.transform_model.specs.Objects.{ascending_instances, low_objects, with_instances};
 ghost use Rattle.transform_model.specs.Tables.{tables_of};
-ghost use Rattle.transform_model.specs.Uses.{uses};
-ghost use Rattle.schema_transform.specs.HeldUses.{use_of};
+ghost use Rattle.schema_transform.specs.ByNumber.{AreUses};
 ghost use Rattle.schema_transform.specs.Sound.{IsSmall, IsSound};
 
-use crate::chain_use::ChainUse;
+use crate::numbered::UsesByNumber;
 use crate::objects::instances_of;
 use crate::rows::{Row, Rows, entries_of, put_table};
 use config_model::{Config, Topology};
@@ -225,16 +223,16 @@ pub(crate) fn tables_of(
     alloc: Global,
     topology: &Topology,
     config: &Config,
-    chain_uses: &[ChainUse],
+    numbered: &UsesByNumber,
     instances: &[InstanceId],
 ) -> Result<Rows, NoMemory>
-    requires form { IsTrue (list_all has_port_form config.now.ports) }
-    requires uses { map use_of chain_uses.now ≡ uses config.now }
+    requires sound { IsSound config.now }
+    requires uses { AreUses numbered.now.entries config.now }
     ensures { IfOk result (λ rows. rows.entries ≡ tables_of topology.now config.now instances.now) }
 {
     let mut rows = BTreeMap::new(alloc);
     for instance in instances {
-        put_table(topology, config, chain_uses, *instance, &mut rows)?;
+        put_table(alloc, topology, config, numbered, *instance, &mut rows)?;
     }
     Ok(rows)
 }
@@ -266,16 +264,16 @@ fn rows_by(
     alloc: Global,
     topology: &Topology,
     config: &Config,
-    chain_uses: &[ChainUse],
+    numbered: &UsesByNumber,
     slice: &[(LowKey, LowValue)],
 ) -> Result<AgentRows, NoMemory>
-    requires form { IsTrue (list_all has_port_form config.now.ports) }
-    requires uses { map use_of chain_uses.now ≡ uses config.now }
+    requires sound { IsSound config.now }
+    requires uses { AreUses numbered.now.entries config.now }
     requires small { All (λ e. IsSmall e.1) slice.now }
     ensures { IfOk result (λ rows. rows ≡ agent_rows_by topology.now config.now slice.now) }
 {
     let needed = needed_by(alloc, slice)?;
-    let tables = tables_of(alloc, topology, config, chain_uses, needed.as_slice())?;
+    let tables = tables_of(alloc, topology, config, numbered, needed.as_slice())?;
     Ok(AgentRows {
         labels: labels_of(alloc, slice)?,
         acls: acls_of(alloc, slice)?,
@@ -284,21 +282,21 @@ fn rows_by(
 }
 
 /// The rows of the agent at an address.
-#[tactic(auto, using(crate::proofs::Formed::ports_formed, crate::proofs::Small::slices_are_small), unfolding(transform_model::specs::Compiled::agent_rows))]
+#[tactic(auto, using(crate::proofs::Small::slices_are_small), unfolding(transform_model::specs::Compiled::agent_rows))]
 pub(crate) fn agent_rows(
     alloc: Global,
     topology: &Topology,
     config: &Config,
-    chain_uses: &[ChainUse],
+    numbered: &UsesByNumber,
     low: &[(LowKey, LowValue)],
     address: Addr,
 ) -> Result<AgentRows, NoMemory>
     requires sound { IsSound config.now }
-    requires uses { map use_of chain_uses.now ≡ uses config.now }
+    requires uses { AreUses numbered.now.entries config.now }
     requires low { low.now ≡ low_objects topology.now config.now }
     requires small { All (λ e. IsSmall e.1) low.now }
     ensures { IfOk result (λ rows. rows ≡ agent_rows topology.now config.now address) }
 {
     let slice = slice_of(alloc, low, address)?;
-    rows_by(alloc, topology, config, chain_uses, slice.as_slice())
+    rows_by(alloc, topology, config, numbered, slice.as_slice())
 }

@@ -6,6 +6,7 @@ mod attachment;
 mod chain_use;
 mod circuits;
 mod hops;
+mod numbered;
 mod objects;
 mod rows;
 mod transform;

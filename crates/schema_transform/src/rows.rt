@@ -1,24 +1,29 @@
 //! The rows of instances' tables.
-ghost use Rattle.std.specs.Prelude.{◌≡◌, ◌==◌, [], flat_map, map, IfOk, OnOk, IsTrue};
-ghost use Rattle.std.specs.List.{filter_map, list_all};
+ghost use Rattle.std.specs.Prelude.{◌≡◌, ◌==◌, ◌&&◌, ◌<◌, [], flat_map, length, map, IfOk, IfSome, OnOk, IsTrue};
+ghost use Rattle.std.specs.List.{filter_map, list_all, position};
+ghost use Rattle.network_rules.specs.Related.{imports};
+ghost use Rattle.ov_types.specs.First.{same_name};
+ghost use Rattle.ov_types.specs.Prefix.{contains};
 ghost use Rattle.config_model.specs.Form.{has_port_form};
 ghost use Rattle.transform_model.specs.Tables.{circuit_row, circuits_in, end_row, end_rows, holds_port};
 ghost use Rattle.transform_model.specs.Tables.{host_route, hop_rows, instance_table, network_rows, port_row};
 ghost use Rattle.transform_model.specs.Tables.{row_towards, rows_of, subnet_rows, with_rows};
 ghost use Rattle.config_check.specs.Finding.{network_numbered};
 ghost use Rattle.route_targets.specs.Numbers.{circuit_instance_of};
-ghost use Rattle.transform_model.specs.Uses.{uses};
 ghost use Rattle.schema_transform.specs.Held.{circuit_of};
 ghost use Rattle.schema_transform.specs.Towards.{rows_if_in};
 ghost use Rattle.schema_transform.specs.HeldUses.{use_of};
+ghost use Rattle.schema_transform.specs.ByNumber.{AreUses, use_at, use_in, use_rows};
+ghost use Rattle.schema_transform.specs.Sound.{IsSound};
 
 use crate::attachment::Attachment;
 use crate::chain_use::ChainUse;
 use crate::hops::{first_hop, last_hop};
+use crate::numbered::{UsesByNumber, use_at};
 use config_check::{network_named, network_numbered, node_named};
 use config_model::{Config, Network, Node, Port, Topology};
 use network_rules::imports;
-use ov_types::{ControlRows, InstanceId, Items, NoMemory, Prefix, TableRow};
+use ov_types::{ControlRows, InstanceId, Items, Name, NoMemory, Prefix, TableRow};
 use route_targets::{circuit_address, circuit_instance, circuit_label, port_label, rd};
 use std::alloc::Global;
 use std::collections::BTreeMap;
@@ -44,15 +49,48 @@ fn host_route(instance: InstanceId, home: &Network, node: &Node, port: &Port) ->
     (key, row)
 }
 
-/// The row of a port in a network's instance, where the port's network is imported.
-fn port_row(topology: &Topology, config: &Config, network: &Network, port: &Port) -> Option<Row>
-    requires { IsTrue (has_port_form port.now) }
+/// Of each network in order whether a network imports it.
+fn imported_by(alloc: Global, config: &Config, network: &Network) -> Result<Vec<bool>, NoMemory>
+    ensures { IfOk result (λ list. list.items ≡ map (imports config.now network.now) config.now.networks) }
+{
+    let others = config.networks.as_slice().iter();
+    Ok(
+        others
+            .map(|other| imports(config, network, other))
+            .collect(alloc)?,
+    )
+}
+
+/// The place of the first network of a name.
+fn place_of(config: &Config, name: &Name) -> Option<usize>
+    ensures place { result ≡ position (λ n. same_name n.name name.now) config.now.networks }
+    ensures within { IfSome result (λ place. place < length config.now.networks) }
+{
+    config
+        .networks
+        .as_slice()
+        .iter()
+        .position(|network| network.name == *name)
+}
+
+/// The row of a port in a network's instance, where the port's network is among those that are imported.
+#[tactic(auto, using(crate::proofs::Homes::home_is))]
+fn port_row(
+    topology: &Topology,
+    config: &Config,
+    network: &Network,
+    imported: &[bool],
+    port: &Port,
+) -> Option<Row>
+    requires form { IsTrue (has_port_form port.now) }
+    requires imported { imported.now ≡ map (imports config.now network.now) config.now.networks }
     ensures { result ≡ port_row topology.now config.now network.now port.now }
 {
-    let home = network_named(config, &port.network)?;
-    if !imports(config, network, home) {
+    let place = place_of(config, &port.network)?;
+    if !imported[place] {
         return None;
     }
+    let home = &config.networks.as_slice()[place];
     let node = node_named(topology, &port.node)?;
     Some(host_route(network.id, home, node, port))
 }
@@ -60,6 +98,7 @@ fn port_row(topology: &Topology, config: &Config, network: &Network, port: &Port
 /// Puts the rows of a network's instance.
 #[tactic(auto, unfolding(transform_model::specs::Tables::network_rows))]
 fn put_network_rows(
+    alloc: Global,
     topology: &Topology,
     config: &Config,
     network: &Network,
@@ -69,8 +108,9 @@ fn put_network_rows(
     ensures { OnOk result (rows.new.entries
         ≡ with_rows rows.old.entries (network_rows topology.now config.now network.now)) }
 {
+    let imported = imported_by(alloc, config, network)?;
     for port in config.ports.as_slice() {
-        if let Some((key, row)) = port_row(topology, config, network, port) {
+        if let Some((key, row)) = port_row(topology, config, network, imported.as_slice(), port) {
             rows.insert(key, row)?;
         }
     }
@@ -130,12 +170,25 @@ fn put_circuit_rows(
     Ok(())
 }
 
+/// Whether a port is of a network and has its address in a prefix. Its address is asked first, since names take longer.
+fn is_held(port: &Port, network: &Network, prefix: &Prefix) -> bool
+    ensures { result ≡ (same_name port.now.network network.now.name && contains prefix.now port.now.address.0) }
+{
+    if !prefix.contains(port.address) {
+        return false;
+    }
+    port.network == network.name
+}
+
 /// Whether a port of a network has its address in a prefix.
 fn holds_port(config: &Config, network: &Network, prefix: &Prefix) -> bool
     ensures { result ≡ holds_port config.now network.now prefix.now }
 {
-    config.ports.as_slice().iter().any(|port| port.network == network.name
-        && prefix.contains(port.address))
+    config
+        .ports
+        .as_slice()
+        .iter()
+        .any(|port| is_held(port, network, prefix))
 }
 
 /// Puts the subnets of a network that hold a port of it, each towards a circuit.
@@ -269,26 +322,27 @@ fn put_hop_rows(
     Ok(())
 }
 
-/// Puts what the uses give an instance.
-fn put_all_hop_rows(
+/// Puts what the use that an instance is a hop of gives it.
+fn put_use_rows(
     topology: &Topology,
     config: &Config,
     instance: InstanceId,
-    chain_uses: &[ChainUse],
+    numbered: &UsesByNumber,
     rows: &mut Rows,
 ) -> Result<(), NoMemory>
     requires { IsTrue (list_all has_port_form config.now.ports) }
     ensures { OnOk result (rows.new.entries ≡ with_rows rows.old.entries
-        (flat_map (hop_rows topology.now config.now instance) (map use_of chain_uses.now))) }
+        (use_rows topology.now config.now instance (use_at (use_in numbered.now.entries) instance))) }
 {
-    for found in chain_uses {
-        put_hop_rows(topology, config, instance, found, rows)?;
+    match use_at(numbered, instance) {
+        Some(found) => put_hop_rows(topology, config, instance, found, rows),
+        None => Ok(()),
     }
-    Ok(())
 }
 
 /// Puts the rows of the network with an instance's number.
 fn put_numbered_rows(
+    alloc: Global,
     topology: &Topology,
     config: &Config,
     instance: InstanceId,
@@ -299,27 +353,29 @@ fn put_numbered_rows(
         (rows_of topology.now config.now (network_numbered config.now instance.0))) }
 {
     match network_numbered(config, instance) {
-        Some(network) => put_network_rows(topology, config, network, rows),
+        Some(network) => put_network_rows(alloc, topology, config, network, rows),
         None => Ok(()),
     }
 }
 
 /// Puts the table of an instance.
-#[tactic(auto, using(crate::proofs::Putting::rows_append))]
+#[tactic(auto, using(crate::proofs::Formed::ports_formed))]
 pub(crate) fn put_table(
+    alloc: Global,
     topology: &Topology,
     config: &Config,
-    chain_uses: &[ChainUse],
+    numbered: &UsesByNumber,
     instance: InstanceId,
     rows: &mut Rows,
 ) -> Result<(), NoMemory>
-    requires form { IsTrue (list_all has_port_form config.now.ports) }
-    requires uses { map use_of chain_uses.now ≡ uses config.now }
+    requires sound { IsSound config.now }
+    requires uses { AreUses numbered.now.entries config.now }
     ensures { OnOk result (rows.new.entries ≡ with_rows rows.old.entries
         (instance_table topology.now config.now instance)) }
 {
-    put_numbered_rows(topology, config, instance, rows)?;
-    put_all_hop_rows(topology, config, instance, chain_uses, rows)
+    put_numbered_rows(alloc, topology, config, instance, rows)?;
+    put_use_rows(topology, config, instance, numbered, rows)?;
+    Ok(())
 }
 
 /// The entries of a map, in the order of their keys.
