@@ -1,0 +1,4 @@
+-- Lemmas, in the order in which they stand on each other.
+pub mod Kept
+pub mod Moments
+pub mod Placed

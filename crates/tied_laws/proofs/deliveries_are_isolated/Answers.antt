@@ -1,0 +1,5 @@
+use Rattle.tied_laws.proofs.Placed.{isolated}
+use Rattle.tied_laws.proofs.deliveries_are_isolated.Goals as goal
+
+pub returns : goal.returns
+returns c = isolated
