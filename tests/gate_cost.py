@@ -11,7 +11,8 @@ hundredth of one processor.
 usage: tests/gate_cost.py [--anew] [--log FILE] [CRATE ..]
 
 With --anew nothing is taken from earlier runs; without, what they kept costs nothing and is not told. With crates it is
-`rt ci CRATE ..`, of these and those below them. What `rt` says goes to the file, or else to a new one in a temporary folder.
+`rt ci CRATE ..`, of these and those below them. An `rt` whose help knows neither keeps nothing and tries all: it is given
+no word. What `rt` says goes to the file, or else to a new one in a temporary folder.
 Needs Python 3.8, Linux, and `rt`. Ends with the status of `rt ci`.
 """
 import os
@@ -151,10 +152,16 @@ def tell(crates, watch, wall, total):
     print(f"by the clock: {wall:.0f} s ({wall / 60:.1f} min), on {len(os.sched_getaffinity(0))} processors; looking took {time.process_time():.1f} s")
 
 
+def words_for_rt(words):
+    """Those of the words that `rt ci` takes: an older `rt`, whose help has no --anew, proves all anew and takes none."""
+    said = subprocess.run(["rt", "help"], stdin=subprocess.DEVNULL, capture_output=True, text=True, check=False)
+    return words if "--anew" in said.stdout + said.stderr else []
+
+
 def measure(words, log, room):
     """Runs `rt ci`, and returns its status."""
     crates, begun = crates_of(TOP), time.time()
-    ran = subprocess.Popen(["rt", "ci", *words], cwd=room, stdin=subprocess.DEVNULL, stdout=log, stderr=log)
+    ran = subprocess.Popen(["rt", "ci", *words_for_rt(words)], cwd=room, stdin=subprocess.DEVNULL, stdout=log, stderr=log)
     watch, ended = Watch(ran.pid), 0
     while not ended:
         try:
