@@ -1,5 +1,5 @@
 //! Laws of verdicts, each the contract of a function that does nothing.
-ghost use Rattle.std.specs.Prelude.{◌≡◌, ◌≢◌, ◌↔◌, ◌++◌, ◌∷◌, ℕ, IsTrue, List, None};
+ghost use Rattle.std.specs.Prelude.{◌≡◌, ◌≢◌, ◌↔◌, ◌<◌, ◌++◌, ◌∷◌, [], ℕ, IsTrue, List, None, length};
 ghost use Rattle.std.specs.List.{All, Contains};
 ghost use Rattle.ov_types.specs.Access.{holds, verdict, verdict_of};
 ghost use Rattle.ov_types.specs.declared.objects.AclRule.{AclRule};
@@ -7,8 +7,11 @@ ghost use Rattle.ov_types.specs.declared.objects.LowKey.{LowKey};
 ghost use Rattle.ov_types.specs.declared.objects.LowValue.{LowValue};
 ghost use Rattle.ov_types.specs.declared.packet.Packet.{Packet};
 ghost use Rattle.ov_types.specs.declared.packet.Tuple.{Tuple};
+ghost use Rattle.ov_types.specs.declared.verdict.Verdict.{Verdict};
 ghost use Rattle.ov_types.specs.declared.verdict.Verdict.TheVariants.{Pass, Denied, NoDestination};
 ghost use Rattle.flow_acl.specs.Deciding.{Decides, Holds, IsMap, Leads};
+ghost use Rattle.flow_acl.specs.Flows.{with_new};
+ghost use Rattle.flow_acl.specs.declared.flow.Flow.{Flow};
 
 /// There is no destination exactly where no list of the network holds it.
 pub fn a_destination_is_one_that_a_list_holds()
@@ -37,4 +40,13 @@ pub fn the_least_list_decides()
 /// An entry holds the tuples of its protocol, or of any, whose ports lie in its ranges, both ends included.
 pub fn an_entry_holds_its_tuples()
     ensures { (r : AclRule) (t : Tuple) → IsTrue (holds r t) ↔ Holds r t }
+{}
+
+/// Of verdicts 1,024 are kept and no more: a new one stands before those that were there, all of them where there were
+/// fewer, and all but the last where there were so many.
+pub fn so_many_verdicts_are_kept()
+    ensures fewer { (f : Flow) (v : Verdict) (kept : List (Flow × Verdict)) → length kept < 1024
+        → with_new f v kept ≡ (f, v) ∷ kept }
+    ensures full { (f : Flow) (v : Verdict) (front : List (Flow × Verdict)) (last : Flow × Verdict)
+        → length (front ++ last ∷ []) ≡ 1024 → with_new f v (front ++ last ∷ []) ≡ (f, v) ∷ front }
 {}
