@@ -5,3 +5,4 @@ pub mod Posts
 pub mod Applied
 pub mod Begins
 pub mod AtTheEnd
+pub mod Led

@@ -1,16 +1,20 @@
 -- What octets make of what is held at an end.
-use Rattle.std.specs.Prelude.{◌≡◌, ℕ, List, Option, Some, None}
-use Rattle.std.specs.List.{filter_map}
+use Rattle.std.specs.Prelude.{◌≡◌, ℕ, List, Option, Some, None, false}
+use Rattle.std.specs.FinMap.{get}
+use Rattle.std.specs.List.{filter_map, slice_set}
 use Rattle.ov_sync.specs.Keyed.{after, changed}
 use Rattle.item_wire.specs.declared.event.ItemCause.{ItemCause}
 use Rattle.item_wire.specs.declared.input.Came.{Came}
 use Rattle.node_items.specs.Hearing.{Hears, heard}
 use Rattle.node_items.specs.Taking as item
 use Rattle.node_items.specs.Told.{change_of, down_of}
-use Rattle.node_model.specs.Maps.{Change, Map}
-use Rattle.node_model.specs.Step.{Post}
+use Rattle.node_model.specs.Keys.{Row}
+use Rattle.node_model.specs.Maps.{Change, Map, objects}
+use Rattle.node_model.specs.Step.{Post, post}
+use Rattle.agent_tables.specs.Touched.{AgreeBut, RowKey, is_among}
 use Rattle.agent_tables.specs.declared.hearing.Hearing.{Hearing}
 use Rattle.agent_node.specs.Beginning.{session_at}
+use Rattle.agent_node.specs.Core.{holdings}
 use Rattle.agent_node.specs.declared.plan.AgentPlan.{AgentPlan}
 
 abbrev pub changed_by : Option Change → Map → Map
@@ -29,3 +33,17 @@ pub record HasHeard (h : Hearing) (octets : List ℕ) (h' : Hearing) (cause : Op
 -- the end of a session once octets came on it
 abbrev pub HasTaken : AgentPlan → ℕ → List ℕ → List Post → List Post → Option ItemCause → Type 0
 HasTaken plan = item.HasTaken (session_at plan)
+
+-- ---- octets that put or drop some routes, and do nothing else
+-- an end is in the same state, and holds the same but for these routes
+pub record HasLed (keys : List RowKey) (h h' : Hearing) : Type 0 where
+  pub state : h'.session.state ≡ h.session.state
+  pub objects_same : objects (down_of h.held) ≡ objects (down_of h'.held)
+  pub rows_same : (k : RowKey) → is_among keys k ≡ false
+      → get (down_of h.held) (Row k.0 k.1) ≡ get (down_of h'.held) (Row k.0 k.1)
+
+-- of all ends that of the session alone holds something else, and that but for these routes the same
+pub record AreLed (keys : List RowKey) (session : ℕ) (posts posts' : List Post) : Type 0 where
+  pub held : Map
+  pub left : posts' ≡ slice_set posts session (record (post posts session) { held = held })
+  pub agree : AgreeBut keys (holdings posts) (holdings posts')

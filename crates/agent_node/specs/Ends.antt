@@ -2,8 +2,10 @@
 use Rattle.std.specs.Prelude.{◌≡◌, ◌≤◌, ℕ, List, [], ◌∷◌, map, length, false, refl}
 use Rattle.std.specs.Coded.{Coded, code_by, coded×, coded_list}
 use Rattle.std.specs.List.{All}
+use Rattle.ov_types.specs.contracts.rows.AgentRows as rows
 use Rattle.ov_types.specs.declared.keys.UpKey.{UpKey}
 use Rattle.ov_types.specs.declared.numbers.Label.{Label as LabelNo}
+use Rattle.ov_types.specs.declared.rows.AgentRows.{AgentRows}
 use Rattle.ov_types.specs.declared.rows.NodeId.{NodeId}
 use Rattle.item_wire.specs.declared.event.ItemFrom.{ItemFrom}
 use Rattle.item_wire.specs.declared.event.ItemFrom.TheVariants.{Control}
@@ -18,6 +20,12 @@ use Rattle.agent_node.specs.contracts.plan.AgentPlan as plans
 pub record Ends : Type 0 where
   pub plan : AgentPlan
   pub posts : List Post
+
+-- the same, with what the agent forwards by
+pub record Forwarding : Type 0 where
+  pub plan : AgentPlan
+  pub posts : List Post
+  pub rows : AgentRows
 
 -- ---- the ends, with what was sent on each session. No OPEN comes
 abbrev pub Sent : Type 0
@@ -59,3 +67,9 @@ abbrev pub coded_ends : Coded Ends
 coded_ends =
     code_by (AgentPlan × List Post) (coded× plans.the_row.coded (coded_list coded_post))
     (λ e. (e.plan, e.posts)) (λ c. record { plan = c.0; posts = c.1 }) (λ _. refl)
+
+abbrev pub coded_forwarding : Coded Forwarding
+coded_forwarding =
+    code_by (AgentPlan × (List Post × AgentRows))
+    (coded× plans.the_row.coded (coded× (coded_list coded_post) rows.the_row.coded))
+    (λ e. (e.plan, (e.posts, e.rows))) (λ c. record { plan = c.0; posts = c.1.0; rows = c.1.1 }) (λ _. refl)

@@ -34,3 +34,8 @@ pub record ArePlanned (hearings : List Hearing) (sents sents' : List Sent) (want
       → up_of (sent_at sents' i) ≡ told_of (phase_at hearings i h) (up_of (sent_at sents i)) wanted
   pub kept : (i : ℕ) → n ≤ i → sent_at sents' i ≡ sent_at sents i
   pub long : length sents' ≡ length sents
+
+-- plans of so many sessions, none of which is to be told anything
+pub record AreSilent (plans : List Plan) (n : ℕ) : Type 0 where
+  pub many : length plans ≡ n
+  pub silent : (i : ℕ) (p : Plan) → i < n → (slice_index_or plans i p).messages ≡ []

@@ -1,5 +1,5 @@
 //! What an input makes of the end of its session.
-ghost use Rattle.std.specs.Prelude.{◌≡◌, ◌<◌, ◌∷◌, [], IfOk, IsTrue, OnOk, slice_set, true, false};
+ghost use Rattle.std.specs.Prelude.{◌≡◌, ◌<◌, ◌∷◌, [], IfOk, IfSome, IsTrue, OnOk, map, slice_set, Some, true, false};
 ghost use Rattle.std.specs.List.{AllByRecursion, filter_map};
 ghost use Rattle.ov_sync.specs.Keyed.{after};
 ghost use Rattle.item_wire.specs.Inputs.{is_of_control};
@@ -13,16 +13,17 @@ ghost use Rattle.node_model.specs.Step.{Begun, Idle, Opened, post};
 ghost use Rattle.agent_node.specs.Beginning.{Begins};
 ghost use Rattle.agent_node.specs.Core.{is_idle, sessions};
 ghost use Rattle.agent_node.specs.Ends.{HeldFits, whom};
-ghost use Rattle.agent_node.specs.Applying.{HasHeard, HasTaken, changed_by};
+ghost use Rattle.agent_node.specs.Applying.{AreLed, HasHeard, HasLed, HasTaken, changed_by};
+ghost use Rattle.agent_tables.specs.Touched.{route_key};
 
 use crate::ends::AgentEnds;
 use agent_tables::Hearing;
-use item_wire::{Item, ItemCause};
-use node_core::{Ends, Started};
+use item_wire::{Item, ItemCause, ItemState};
+use node_core::Started;
 use node_items::{Heard, down_change, greet, hear};
 use ov_link::Input;
 use ov_sync::SyncIn;
-use ov_types::{DownKey, DownValue, Items, NoMemory};
+use ov_types::{DownKey, DownValue, InstanceId, Items, NoMemory, Prefix};
 use std::alloc::Global;
 
 type Held = SyncIn<DownKey, DownValue>;
@@ -55,23 +56,94 @@ fn apply_all(held: &mut Held, items: Vec<Item>) -> Result<(), NoMemory>
     Ok(())
 }
 
-/// Hears octets at an end, and applies their records, where none of them takes the session down.
-fn hear_at(
+/// The instance and prefix of the route that a record puts or drops; none where it does something else.
+fn route_of(item: &Item) -> Option<(InstanceId, Prefix)>
+    ensures { result ≡ route_key (change_of item.now) }
+{
+    match item {
+        Item::Route {
+            instance,
+            prefix,
+            ..
+        } => Some((*instance, *prefix)),
+        Item::Unroute { instance, prefix } => Some((*instance, *prefix)),
+        _ => None,
+    }
+}
+
+/// The routes that records put or drop, record by record; none where one of them does something else.
+fn routes_of(alloc: Global, records: &[Item]) -> Result<Option<Vec<(InstanceId, Prefix)>>, NoMemory>
+    ensures { IfOk result (λ routes. IfSome routes (λ keys.
+        map (λ i. route_key (change_of i)) records.now ≡ map Some keys.items)) }
+{
+    let mut routes = Vec::new(alloc);
+    for record in records {
+        let Some(route) = route_of(record) else {
+            return Ok(None);
+        };
+        routes.push(route)?;
+    }
+    Ok(Some(routes))
+}
+
+/// The same, of the records of a session that was up before them and is up after them; else none.
+fn routes_alone(
     alloc: Global,
-    hearing: &mut Hearing,
-    bytes: &[u8],
-) -> Result<Option<ItemCause>, NoMemory>
+    before: ItemState,
+    after: ItemState,
+    items: &[Item],
+) -> Result<Option<Vec<(InstanceId, Prefix)>>, NoMemory>
+    ensures state { IfOk result (λ routes. IfSome routes (λ keys. after ≡ before)) }
+    ensures routes { IfOk result (λ routes. IfSome routes (λ keys.
+        map (λ i. route_key (change_of i)) items.now ≡ map Some keys.items)) }
+{
+    match (before, after) {
+        (ItemState::Up, ItemState::Up) => routes_of(alloc, items),
+        _ => Ok(None),
+    }
+}
+
+/// What octets came to at an end.
+#[derive(Drop)]
+struct Taken {
+    /// Why they took the session down, where they did.
+    cause: Option<ItemCause>,
+    /// The routes that they put or dropped, where they did nothing else.
+    routes: Option<Vec<(InstanceId, Prefix)>>,
+}
+
+/// Hears octets at an end, and applies their records, where none of them takes the session down.
+fn hear_at(alloc: Global, hearing: &mut Hearing, bytes: &[u8]) -> Result<Taken, NoMemory>
     requires from { hearing.old.session.from ≡ Control }
     requires fits { HeldFits hearing.old }
-    ensures heard { IfOk result (λ cause. HasHeard hearing.old bytes.now hearing.new cause) }
+    ensures heard { IfOk result (λ taken. HasHeard hearing.old bytes.now hearing.new taken.cause) }
+    ensures led { IfOk result (λ taken. IfSome taken.routes (λ keys. HasLed keys.items hearing.old hearing.new)) }
     ensures whom { whom hearing.new ≡ whom hearing.old }
     ensures fits { HeldFits hearing.new }
 {
+    let before = hearing.session.state();
     let Heard { records, cause, .. } = hear(alloc, &mut hearing.session, bytes)?;
-    if cause.is_none() {
-        apply_all(&mut hearing.held, records)?;
+    if cause.is_some() {
+        return Ok(Taken {
+            cause,
+            routes: None,
+        });
     }
-    Ok(cause)
+    let after = hearing.session.state();
+    let routes = routes_alone(alloc, before, after, &records)?;
+    apply_all(&mut hearing.held, records)?;
+    Ok(Taken {
+        cause: None,
+        routes,
+    })
+}
+
+/// What an input came to at the end of its session.
+#[derive(Drop)]
+pub(crate) struct Applied {
+    pub(crate) started: Started<ItemCause>,
+    /// The routes that it put or dropped, where it did nothing else.
+    pub(crate) routes: Option<Vec<(InstanceId, Prefix)>>,
 }
 
 impl AgentEnds {
@@ -88,54 +160,78 @@ impl AgentEnds {
         greet(self.alloc, &mut hearing.session, &self.plan.me.name)
     }
 
-    /// Hears octets at an end, which is closed where they take its session down: then this is why.
-    fn hear_on(&mut self, session: u16, bytes: &[u8]) -> Result<Option<ItemCause>, NoMemory>
+    /// Hears octets at an end, which is closed where they take its session down.
+    fn hear_on(&mut self, session: u16, bytes: &[u8]) -> Result<Taken, NoMemory>
         requires known { session < sessions self.old.plan }
         ensures plan { self.new.plan ≡ self.old.plan }
-        ensures heard { IfOk result (λ cause. HasTaken self.old.plan session bytes.now self.old.posts self.new.posts
-            cause) }
+        ensures heard { IfOk result (λ taken. HasTaken self.old.plan session bytes.now self.old.posts self.new.posts
+            taken.cause) }
+        ensures led { IfOk result (λ taken. IfSome taken.routes (λ keys.
+            AreLed keys.items session self.old.posts self.new.posts)) }
     {
-        match hear_at(self.alloc, &mut self.hearings[usize::from(session)], bytes)? {
-            None => Ok(None),
+        let Taken { cause, routes } = hear_at(
+            self.alloc,
+            &mut self.hearings[usize::from(session)],
+            bytes,
+        )?;
+        match cause {
+            None => Ok(Taken {
+                cause: None,
+                routes,
+            }),
             Some(cause) => {
                 self.close(session);
-                Ok(Some(cause))
+                Ok(Taken {
+                    cause: Some(cause),
+                    routes: None,
+                })
             }
         }
     }
 
     /// Applies an input to the end of its session.
-    pub(crate) fn apply(&mut self, input: Input<'_>) -> Result<Started<ItemCause>, NoMemory>
+    pub(crate) fn apply(&mut self, input: Input<'_>) -> Result<Applied, NoMemory>
         requires known { session_of input < sessions self.old.plan }
         requires comes { Comes (λ i. is_idle (post self.old.posts i).phase ≡ false)
             (λ i. is_idle (post self.old.posts i).phase ≡ true) input }
         ensures plan { self.new.plan ≡ self.old.plan }
-        ensures begins { IfOk result (λ started. (given : Begun)
+        ensures begins { IfOk result (λ applied. (given : Begun)
             × Begins self.old.plan (session_of input.entry) (post self.old.posts (session_of input.entry)) input.entry
-            given started.cause
-            × HasBegun self.old.posts (session_of input.entry) given started.replies self.new.posts) }
+            given applied.started.cause
+            × HasBegun self.old.posts (session_of input.entry) given applied.started.replies self.new.posts) }
+        ensures led { IfOk result (λ applied. IfSome applied.routes (λ keys.
+            AreLed keys.items (session_of input.entry) self.old.posts self.new.posts)) }
     {
         let alloc = self.alloc;
         match input {
             Input::Opened { session } => {
                 let replies = self.greet_at(session)?;
-                Ok(Started {
-                    replies,
-                    cause: None,
+                Ok(Applied {
+                    started: Started {
+                        replies,
+                        cause: None,
+                    },
+                    routes: None,
                 })
             }
             Input::Bytes { session, bytes } => {
-                let cause = self.hear_on(session, bytes)?;
-                Ok(Started {
-                    replies: Items::new(alloc),
-                    cause,
+                let Taken { cause, routes } = self.hear_on(session, bytes)?;
+                Ok(Applied {
+                    started: Started {
+                        replies: Items::new(alloc),
+                        cause,
+                    },
+                    routes,
                 })
             }
             Input::Closed { session } => {
                 self.close(session);
-                Ok(Started {
-                    replies: Items::new(alloc),
-                    cause: None,
+                Ok(Applied {
+                    started: Started {
+                        replies: Items::new(alloc),
+                        cause: None,
+                    },
+                    routes: None,
                 })
             }
         }

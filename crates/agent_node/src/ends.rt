@@ -1,20 +1,21 @@
 //! The ends of an agent's sessions.
-ghost use Rattle.std.specs.Prelude.{◌≡◌, ◌≤◌, ◌<◌, [], length, IfOk};
+ghost use Rattle.std.specs.Prelude.{◌≡◌, ◌≤◌, ◌<◌, [], length, slice_set, IfOk, OnOk};
 ghost use Rattle.item_wire.specs.Happenings.{after};
 ghost use Rattle.item_wire.specs.declared.input.Came.TheVariants.{Closed};
+ghost use Rattle.node_core.specs.Plans.{ArePlans};
 ghost use Rattle.node_core.specs.Resting.{end_at};
 ghost use Rattle.node_items.specs.Beginning.{phase_of};
-ghost use Rattle.node_model.specs.Agent.{rows as rows_of};
-ghost use Rattle.agent_node.specs.Core.{holdings, nothings, sessions};
+ghost use Rattle.node_model.specs.Step.{nothing, post};
+ghost use Rattle.agent_tables.specs.Touched.{AreTables, with_routes};
+ghost use Rattle.agent_node.specs.Core.{holdings, kind, nothings, sessions};
 
 use crate::plan::AgentPlan;
 use crate::planning::plan_all;
 use agent_tables::{Hearing, Tables, wanted};
-use item_wire::{ItemCause, ItemFrom, ItemSession, ItemState};
-use node_core::{End, Ends, Plan, Started};
-use ov_link::Input;
+use item_wire::{ItemFrom, ItemSession, ItemState};
+use node_core::{End, Plan};
 use ov_sync::{SyncIn, SyncOut};
-use ov_types::{Addr, Label, NoMemory, UpKey};
+use ov_types::{Addr, InstanceId, Label, NoMemory, Prefix, UpKey};
 use std::alloc::Global;
 use std::marker::Model;
 
@@ -62,58 +63,6 @@ fn end_in(state: ItemState) -> End
     }
 }
 
-impl Ends for AgentEnds {
-    ghost use Rattle.std.specs.Prelude.{◌≡◌, refl};
-    ghost use Rattle.std.proofs.Common.{◌∙◌};
-    ghost use Rattle.agent_node.specs.Beginning.{Begins};
-    ghost use Rattle.agent_node.specs.Core.{kind};
-
-    type Cause = ItemCause;
-
-    ghost kind = { λ _. kind };
-
-    ghost posts = { λ e. e.posts };
-
-    ghost stays = { λ before after. after.plan ≡ before.plan };
-
-    ghost begins = { λ e. Begins e.plan };
-
-    fn sessions(&self) -> u16
-        ensures posts { result ≡ length self.now.posts }
-        ensures plan { result ≡ sessions self.now.plan }
-    {
-        self.hearings.len() as u16
-    }
-
-    fn state(&self, session: u16) -> End {
-        end_in(self.hearings[usize::from(session)].session.state())
-    }
-
-    fn begin(&mut self, input: Input<'_>) -> Result<Started<ItemCause>, NoMemory> {
-        let _before = self.sessions();
-        let started = self.apply(input);
-        let _after = self.sessions();
-        started
-    }
-
-    fn plan(&mut self) -> Result<Vec<Plan>, NoMemory> {
-        let wanted = wanted(self.alloc, &self.hearings)?;
-        let plans = plan_all(self.alloc, &self.hearings, &mut self.sents, &wanted)?;
-        Ok(plans)
-    }
-
-    fn close(&mut self, session: u16) {
-        let index = usize::from(session);
-        shut(&mut self.hearings[index], &mut self.sents[index]);
-    }
-
-    ghost stays_itself = { λ _. refl };
-
-    ghost stays_on = { λ _ _ _ first then. then ∙ first };
-
-    ghost idle_is_silent = { λ _ _. refl };
-}
-
 impl AgentEnds {
     /// The ends of an agent's sessions, all closed.
     pub(crate) fn new(alloc: Global, plan: AgentPlan) -> Result<AgentEnds, NoMemory>
@@ -138,6 +87,43 @@ impl AgentEnds {
         })
     }
 
+    /// How many sessions there are. It takes no memory.
+    pub(crate) fn sessions(&self) -> u16
+        ensures posts { result ≡ length self.now.posts }
+        ensures plan { result ≡ sessions self.now.plan }
+    {
+        self.hearings.len() as u16
+    }
+
+    /// How the end of a session is.
+    pub(crate) fn state(&self, session: u16) -> End
+        requires { session < length self.now.posts }
+        ensures { result ≡ end_at (post self.now.posts session).phase }
+    {
+        end_in(self.hearings[usize::from(session)].session.state())
+    }
+
+    /// What each session is to be told, which counts as sent from then on, where the session may send.
+    pub(crate) fn plan(&mut self) -> Result<Vec<Plan>, NoMemory>
+        ensures stays { self.new.plan ≡ self.old.plan }
+        ensures long { length self.new.posts ≡ length self.old.posts }
+        ensures plans { IfOk result (λ plans. ArePlans kind self.old.posts self.new.posts plans.items) }
+    {
+        let wanted = wanted(self.alloc, &self.hearings)?;
+        let plans = plan_all(self.alloc, &self.hearings, &mut self.sents, &wanted)?;
+        Ok(plans)
+    }
+
+    /// Closes an end. It takes no memory.
+    pub(crate) fn close(&mut self, session: u16)
+        requires { session < length self.old.posts }
+        ensures stays { self.new.plan ≡ self.old.plan }
+        ensures closed { self.new.posts ≡ slice_set self.old.posts session nothing }
+    {
+        let index = usize::from(session);
+        shut(&mut self.hearings[index], &mut self.sents[index]);
+    }
+
     /// Where its memory comes from.
     pub(crate) fn alloc(&self) -> Global {
         self.alloc
@@ -152,8 +138,20 @@ impl AgentEnds {
 
     /// What the sessions give the agent to forward by.
     pub(crate) fn tables(&self) -> Result<Tables, NoMemory>
-        ensures { IfOk result (λ tables. tables ≡ rows_of (holdings self.now.posts)) }
+        ensures { IfOk result (λ tables. AreTables (holdings self.now.posts) tables) }
     {
         Tables::of(self.alloc, &self.hearings)
+    }
+
+    /// Each of these routes is that of the first session that is up and has it from now on.
+    pub(crate) fn set_routes(
+        &self,
+        tables: &mut Tables,
+        keys: &[(InstanceId, Prefix)],
+    ) -> Result<(), NoMemory>
+        ensures set { OnOk result (tables.new ≡ with_routes (holdings self.now.posts) tables.old keys.now) }
+        ensures lists { tables.new.rows.acls ≡ tables.old.rows.acls }
+    {
+        tables.set_routes(&self.hearings, keys)
     }
 }

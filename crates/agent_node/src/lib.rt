@@ -7,6 +7,7 @@ pub mod laws;
 mod node;
 mod plan;
 mod planning;
+mod tabled;
 
 pub use node::AgentNode;
 pub use plan::AgentPlan;

@@ -10,9 +10,8 @@ ghost use Rattle.flow_acl.specs.Flows.{AreOf};
 ghost use Rattle.agent_node.specs.Beginning.{Begins};
 ghost use Rattle.agent_node.specs.Core.{fresh, holdings, is_idle, is_up, kind, sessions};
 
-use crate::ends::AgentEnds;
 use crate::plan::AgentPlan;
-use agent_tables::Tables;
+use crate::tabled::TabledEnds;
 use flow_acl::{Flow, FlowCache};
 use item_wire::ItemCause;
 use lru::Iter;
@@ -26,8 +25,7 @@ use std::marker::Model;
 /// An agent: the ends of its sessions with control nodes, and what it forwards packets by.
 #[derive(Drop)]
 pub struct AgentNode {
-    node: Node<AgentEnds>,
-    tables: Tables,
+    node: Node<TabledEnds>,
     /// Verdicts of the access lists in use.
     flows: FlowCache,
 }
@@ -43,10 +41,10 @@ impl Model for AgentNode {
 
     ghost coded = { coded_core };
 
-    ghost view = { λ n. record { plan = n.node.ends.plan; posts = n.node.ends.posts; rows = n.tables; failed = n.node.failed } };
+    ghost view = { λ n. record { plan = n.node.ends.plan; posts = n.node.ends.posts; rows = n.node.ends.rows; failed = n.node.failed } };
 
-    ghost invariant = { λ n. (n.node.failed ≡ false → n.tables ≡ rows_of (holdings n.node.ends.posts))
-        × AreOf n.tables.acls n.flows };
+    ghost invariant = { λ n. (n.node.failed ≡ false → n.node.ends.rows ≡ rows_of (holdings n.node.ends.posts))
+        × AreOf n.node.ends.rows.acls n.flows };
 }
 
 impl AgentNode {
@@ -55,11 +53,10 @@ impl AgentNode {
         requires few { length plan.controllers ≤ 2 }
         ensures { IfOk result (λ node. node ≡ fresh plan) }
     {
-        let ends = AgentEnds::new(alloc, plan)?;
+        let ends = TabledEnds::new(alloc, plan)?;
         let flows = FlowCache::new(alloc)?;
         Ok(AgentNode {
             node: Node::new(ends),
-            tables: Tables::new(alloc),
             flows,
         })
     }
@@ -103,7 +100,7 @@ impl AgentNode {
     {
         let _sessions = self.node.ends.sessions();
         self.node.restart();
-        self.tables = Tables::new(self.node.ends.alloc());
+        self.node.ends.forget();
         self.flows.clear();
     }
 
@@ -119,7 +116,7 @@ impl AgentNode {
         ensures shown { IfOk result (λ rows. rows ≡ self.now.rows) }
         ensures held { self.now.failed ≡ false → self.now.rows ≡ rows_of (holdings self.now.posts) }
     {
-        self.tables.rows(self.node.ends.alloc())
+        self.node.ends.rows()
     }
 
     /// One step: the input is applied to its session, its replies are sent, and then each session is told what has
@@ -150,11 +147,8 @@ impl AgentNode {
         if self.node.failed {
             return stepped;
         }
-        match self.node.ends.tables() {
-            Ok(tables) => {
-                self.tables.renew(&mut self.flows, tables);
-                stepped
-            }
+        match self.node.ends.renew(&mut self.flows) {
+            Ok(()) => stepped,
             Err(NoMemory) => {
                 self.node.failed = true;
                 Err(NodeFault::NoMemory)
@@ -171,14 +165,14 @@ impl Vrouter for AgentNode {
     }
 
     fn find(&self, label: Label) -> Option<Attached> {
-        self.tables.find(label)
+        self.node.ends.find(label)
     }
 
     fn verdict(&mut self, network: InstanceId, packet: &Packet) -> Verdict {
-        self.tables.verdict(&mut self.flows, network, packet)
+        self.node.ends.verdict(&mut self.flows, network, packet)
     }
 
     fn route(&self, i: InstanceId, a: Addr) -> Option<Entry> {
-        self.tables.route(i, a)
+        self.node.ends.route(i, a)
     }
 }

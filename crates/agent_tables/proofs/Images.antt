@@ -1,5 +1,11 @@
 -- What is held of each direction of a session, among the keys and values of all sessions.
 use Rattle.std.specs.Prelude.{◌≡◌, List, map}
+use Rattle.std.specs.declared.option.Option.{Option}
+use Rattle.std.proofs.Common.{sym, ◌∙◌, ap}
+use Rattle.ov_types.specs.Prefix.{Block}
+use Rattle.ov_types.specs.declared.keys.DownKey.TheVariants.{Route}
+use Rattle.ov_types.specs.declared.numbers.InstanceId.{InstanceId}
+use Rattle.node_model.specs.Agent.{as_hop}
 use Rattle.std.specs.Option.{option_map}
 use Rattle.std.specs.List.Sorted.{IsStrictlySortedBy}
 use Rattle.std.specs.FinMap.{get, entries}
@@ -9,7 +15,7 @@ use Rattle.ov_types.specs.declared.keys.DownKey.{DownKey}
 use Rattle.ov_types.specs.declared.keys.DownValue.{DownValue}
 use Rattle.ov_types.specs.declared.keys.UpKey.{UpKey}
 use Rattle.ov_types.specs.declared.numbers.Label.{Label as LabelNo}
-use Rattle.node_model.specs.Keys.{of_down, of_up}
+use Rattle.node_model.specs.Keys.{Row, of_down, of_up}
 use Rattle.node_model.specs.Values.{Label}
 use Rattle.node_model.proofs.Directions.{down_keeps, down_total, down_exact, up_keeps, up_total, up_exact}
 use Rattle.node_model.proofs.Directions.{image-get, image-entries}
@@ -20,3 +26,8 @@ down-entries = image-entries of_down down_value down_total down_exact down_keeps
 
 pub up-get : (es : List (UpKey × LabelNo)) (k : UpKey) → get (up_of es) (of_up k) ≡ option_map Label (get (map_of up_order es) k)
 up-get = image-get of_up Label up_total up_exact up_keeps
+
+-- the row that is held under a key
+pub row-get : (es : List (DownKey × DownValue)) (i : InstanceId) (p : Block) (o : Option DownValue) → o ≡ get (map_of down_order es) (Route i p)
+    → as_hop (option_map down_value o) ≡ as_hop (get (down_of es) (Row i p))
+row-get es i p o e = ap (λ (o : Option DownValue). as_hop (option_map down_value o)) e ∙ ap as_hop (sym (image-get of_down down_value down_total down_exact down_keeps es (Route i p)))

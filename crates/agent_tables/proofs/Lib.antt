@@ -8,3 +8,4 @@ pub mod Telling
 pub mod Ordered
 pub mod Slices
 pub mod Routes
+pub mod Touched

@@ -33,7 +33,7 @@ use Rattle.agent_tables.proofs.Ordered.{find-lookup, same_lists, ascends_map, as
 abbrev pub Routed : Type 0
 Routed = (InstanceId × Block) × Hop
 
-abbrev key : InstanceId → Block → InstanceId × Block
+abbrev pub key : InstanceId → Block → InstanceId × Block
 key i p = (i, p)
 
 -- ---- instances by number
@@ -239,7 +239,7 @@ over_later : (n m : InstanceId) (p : Block) (routes : List (Block × Hop)) → i
 over_later n m p [] h = tt
 over_later n m p (r ∷ routes) h = (ap (λ c. ordering_then c (block_cmp p r.0)) h, over_later n m p routes h)
 
-over_routes : (n : InstanceId) (p : Block) (ts : List Table) → Over instance_order n ts → Over row_key_cmp (key n p) (routes_of ts)
+pub over_routes : (n : InstanceId) (p : Block) (ts : List Table) → Over instance_order n ts → Over row_key_cmp (key n p) (routes_of ts)
 over_routes n p [] h = tt
 over_routes n p (t ∷ ts) h = over_append (key n p) (rows_in t.0 t.1) (routes_of ts) (over_later n t.0 p t.1 h.0) (over_routes n p ts h.1)
 

@@ -4,3 +4,4 @@ pub mod Views
 pub mod Slice
 pub mod Kept
 pub mod Routes
+pub mod Touched

@@ -7,9 +7,10 @@ ghost use Rattle.node_model.specs.Agent.{row_entry, rows_heard};
 ghost use Rattle.node_model.specs.Keys.{of_down};
 ghost use Rattle.agent_tables.specs.Routes.{has_table, instance_order, kept, kept_all, kept_in, kept_where, routes_in};
 ghost use Rattle.agent_tables.specs.Routes.{routes_on};
+ghost use Rattle.agent_tables.specs.Touched.{led, led_all, led_in};
 ghost use Rattle.agent_tables.specs.Views.{heard_of};
 
-use crate::hearing::Hearing;
+use crate::hearing::{Hearing, first_heard};
 use ov_sync::SyncIn;
 use ov_types::{DownKey, DownValue, Entry, InstanceId, NoMemory, Prefix};
 use std::alloc::Global;
@@ -101,4 +102,49 @@ fn keep(fib: &mut Fib, prefix: Prefix, entry: Entry) -> Result<(), NoMemory>
         return Ok(());
     }
     fib.set(prefix, entry)
+}
+
+/// Leads each of these prefixes of instances that have a table where the first session that is up and has it tells, and
+/// nowhere where there is none.
+pub(crate) fn lead_all(
+    fibs: &mut Fibs,
+    sessions: &[Hearing],
+    keys: &[(InstanceId, Prefix)],
+) -> Result<(), NoMemory>
+    ensures led { OnOk result (fibs.new.entries ≡ led_all (map heard_of sessions.now) fibs.old.entries keys.now) }
+    ensures instances { map (λ t. t.0) fibs.new.entries ≡ map (λ t. t.0) fibs.old.entries }
+{
+    for key in keys {
+        let entry = first_heard(sessions, key.0, key.1);
+        lead_in(fibs, key.0, key.1, entry)?;
+    }
+    Ok(())
+}
+
+/// Leads a prefix of an instance, where that has a table.
+fn lead_in(
+    fibs: &mut Fibs,
+    instance: InstanceId,
+    prefix: Prefix,
+    entry: Option<Entry>,
+) -> Result<(), NoMemory>
+    ensures led { OnOk result (fibs.new.entries ≡ led_in fibs.old.entries instance prefix entry) }
+    ensures instances { map (λ t. t.0) fibs.new.entries ≡ map (λ t. t.0) fibs.old.entries }
+{
+    match fibs.get_mut(&instance) {
+        Some(fib) => lead(fib, prefix, entry),
+        None => Ok(()),
+    }
+}
+
+fn lead(fib: &mut Fib, prefix: Prefix, entry: Option<Entry>) -> Result<(), NoMemory>
+    ensures { OnOk result (fib.new ≡ led fib.old prefix entry) }
+{
+    match entry {
+        Some(entry) => fib.set(prefix, entry),
+        None => {
+            fib.remove(&prefix);
+            Ok(())
+        }
+    }
 }

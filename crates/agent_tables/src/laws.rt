@@ -1,9 +1,31 @@
 //! Laws of what an agent wants: each is the contract of a function that does nothing.
+ghost use Rattle.std.specs.Prelude.{◌≡◌, ℕ, Some, if◌then◌else◌};
 ghost use Rattle.std.specs.List.{AllByRecursion};
 ghost use Rattle.node_items.specs.Told.{AllFit};
-ghost use Rattle.node_model.specs.Agent.{Heard, Holdings, wanted};
+ghost use Rattle.node_model.specs.Agent.{Heard, Holdings, is_needed, route_from, routes, rows, slice_in_use, wanted};
+ghost use Rattle.node_model.specs.Maps.{Change};
+ghost use Rattle.node_model.specs.Step.{At};
+ghost use Rattle.agent_tables.specs.Touched.{RowKey, route_key, told, with_row};
 
 /// Where what is held can be told, so can all that is wanted.
 pub fn what_is_wanted_can_be_told()
     ensures { (h : Holdings) → AllByRecursion (λ (s : Heard). AllFit s.map) h → AllFit (wanted h) }
+{}
+
+/// A change of one route of one session changes at most the row of its key, where its instance is needed: it is that of
+/// the first session that is up and has it. What is wanted of the control nodes stays.
+pub fn a_route_changes_one_row()
+    ensures rows { (h : Holdings) (session : ℕ) (s : Heard) (change : Change) (k : RowKey) → At h session s
+        → route_key (Some change) ≡ Some k
+        → rows (told h session s change) ≡ record (rows h) {
+          routes = if is_needed h k.0
+              then with_row (routes h) k (route_from (told h session s change) k.0 k.1) else routes h;
+        } }
+    ensures wanted { (h : Holdings) (session : ℕ) (s : Heard) (change : Change) (k : RowKey) → At h session s
+        → route_key (Some change) ≡ Some k → wanted (told h session s change) ≡ wanted h }
+{}
+
+/// What is wanted of the control nodes is a function of the slice in use.
+pub fn wants_are_of_the_slice_in_use()
+    ensures { (h g : Holdings) → slice_in_use h ≡ slice_in_use g → wanted h ≡ wanted g }
 {}

@@ -1,30 +1,33 @@
 //! What an agent forwards by.
-ghost use Rattle.std.specs.Prelude.{◌≡◌, [], IfOk, map};
+ghost use Rattle.std.specs.Prelude.{◌≡◌, [], IfOk, OnOk, map};
 ghost use Rattle.std.specs.List.{All, AllByRecursion};
 ghost use Rattle.ov_types.specs.Access.{verdict};
 ghost use Rattle.route_targets.specs.Forwarding.{attached, looked_up};
 ghost use Rattle.packet_trace.specs.Circuits.{IsOfAUse};
 ghost use Rattle.node_items.specs.Told.{AllFit};
-ghost use Rattle.node_model.specs.Agent.{Heard, rows as rows_of};
+ghost use Rattle.node_model.specs.Agent.{Heard};
 ghost use Rattle.flow_acl.specs.Flows.{AreOf};
+ghost use Rattle.agent_tables.specs.Touched.{AreTables, with_routes};
 ghost use Rattle.agent_tables.specs.Views.{heard_of};
 
 use crate::acls::acls_of;
-use crate::fibs::{Fibs, empty_fibs, keep_heard};
+use crate::fibs::{Fibs, empty_fibs, keep_heard, lead_all};
 use crate::hearing::Hearing;
 use crate::labels::labels_of;
 use crate::needs::needed;
 use crate::rows::{acl_rows, label_rows, route_rows};
 use crate::slice::slice_in_use;
 use flow_acl::{Acls, FlowCache};
-use ov_types::{Addr, AgentRows, Attached, Entry, InstanceId, Label, NoMemory, Packet, Verdict};
+use ov_types::{
+    Addr, AgentRows, Attached, Entry, InstanceId, Label, NoMemory, Packet, Prefix, Verdict,
+};
 use std::alloc::Global;
 use std::collections::BTreeMap;
 use std::marker::Model;
 use vrouter_fib::Labels;
 
-/// The labels, access lists and routes of an agent, which contracts see as its rows. Its calls but for `of` and `rows`
-/// take no memory.
+/// The labels, access lists and routes of an agent, which contracts see as its rows, with the instances that have a table
+/// of routes, perhaps of none. Its calls but for `of`, `set_routes` and `rows` take no memory.
 #[derive(Drop)]
 pub struct Tables {
     labels: Labels,
@@ -35,13 +38,19 @@ pub struct Tables {
 impl Model for Tables {
     ghost use Rattle.std.specs.BTreeMap.{IsOrdered};
     ghost use Rattle.std.specs.List.{All};
-    ghost use Rattle.ov_types.specs.declared.rows.AgentRows.{AgentRows as Rows};
+    ghost use Rattle.std.specs.Prelude.{map};
     ghost use Rattle.packet_trace.specs.Circuits.{IsOfAUse};
     ghost use Rattle.agent_tables.specs.Routes.{instance_order, routes_of};
+    ghost use Rattle.agent_tables.specs.Touched.{Tabled, coded_tabled};
 
-    ghost Value = { Rows };
+    ghost Value = { Tabled };
 
-    ghost view = { λ t. record { labels = t.labels; acls = t.acls; routes = routes_of t.fibs.entries } };
+    ghost coded = { coded_tabled };
+
+    ghost view = { λ t. record {
+      rows = record { labels = t.labels; acls = t.acls; routes = routes_of t.fibs.entries };
+      instances = map (λ f. f.0) t.fibs.entries;
+    } };
 
     ghost invariant = { λ t. All (λ e. IsOfAUse e.1) t.labels × IsOrdered instance_order t.fibs };
 }
@@ -49,7 +58,7 @@ impl Model for Tables {
 impl Tables {
     /// Nothing to forward by. It takes no memory.
     pub fn new(alloc: Global) -> Tables
-        ensures { result ≡ record { labels = []; acls = []; routes = [] } }
+        ensures { result ≡ record { rows = record { labels = []; acls = []; routes = [] }; instances = [] } }
     {
         Tables {
             labels: Labels::new(alloc),
@@ -62,7 +71,7 @@ impl Tables {
     /// of each instance that it needs the routes of the first session that is up and has them.
     pub fn of(alloc: Global, sessions: &[Hearing]) -> Result<Tables, NoMemory>
         requires { AllByRecursion (λ (s : Heard). AllFit s.map) (map heard_of sessions.now) }
-        ensures { IfOk result (λ tables. tables ≡ rows_of (map heard_of sessions.now)) }
+        ensures { IfOk result (λ tables. AreTables (map heard_of sessions.now) tables) }
     {
         let slice = slice_in_use(alloc, sessions)?;
         let needed = needed(alloc, slice.as_slice())?;
@@ -73,9 +82,23 @@ impl Tables {
         Ok(Tables { labels, acls, fibs })
     }
 
+    /// Each of these routes is that of the first session that is up and has it from now on, and there is none where none
+    /// has it; those of instances without a table do not count. Nothing else changes.
+    pub fn set_routes(
+        &mut self,
+        sessions: &[Hearing],
+        keys: &[(InstanceId, Prefix)],
+    ) -> Result<(), NoMemory>
+        ensures set { OnOk result (self.new ≡ with_routes (map heard_of sessions.now) self.old keys.now) }
+        ensures labels { self.new.rows.labels ≡ self.old.rows.labels }
+        ensures lists { self.new.rows.acls ≡ self.old.rows.acls }
+    {
+        lead_all(&mut self.fibs, sessions, keys)
+    }
+
     /// The rows, in the order of their keys.
     pub fn rows(&self, alloc: Global) -> Result<AgentRows, NoMemory>
-        ensures { IfOk result (λ rows. rows ≡ self.now) }
+        ensures { IfOk result (λ rows. rows ≡ self.now.rows) }
     {
         let labels = label_rows(alloc, &self.labels)?;
         let acls = acl_rows(alloc, &self.acls)?;
@@ -89,8 +112,8 @@ impl Tables {
 
     /// What a label leads to. There is nothing exactly where the label is absent.
     pub fn find(&self, label: Label) -> Option<Attached>
-        ensures found { result ≡ attached self.now label }
-        ensures circuits { All (λ e. IsOfAUse e.1) self.now.labels }
+        ensures found { result ≡ attached self.now.rows label }
+        ensures circuits { All (λ e. IsOfAUse e.1) self.now.rows.labels }
     {
         self.labels.find(label)
     }
@@ -98,18 +121,18 @@ impl Tables {
     /// What the access lists say of a packet that leaves a network, by what is kept of such verdicts. All that is kept
     /// is what these lists say.
     pub fn verdict(&self, flows: &mut FlowCache, network: InstanceId, packet: &Packet) -> Verdict
-        requires { AreOf self.now.acls flows.old }
-        ensures said { result ≡ verdict self.now.acls network.0 packet.now }
-        ensures kept { AreOf self.now.acls flows.new }
+        requires { AreOf self.now.rows.acls flows.old }
+        ensures said { result ≡ verdict self.now.rows.acls network.0 packet.now }
+        ensures kept { AreOf self.now.rows.acls flows.new }
     {
         flows.verdict(&self.acls, network, packet)
     }
 
     /// Forwards by these tables from now on. What is kept of verdicts goes where the access lists change.
     pub fn renew(&mut self, flows: &mut FlowCache, tables: Tables)
-        requires { AreOf self.old.acls flows.old }
+        requires { AreOf self.old.rows.acls flows.old }
         ensures tables { self.new ≡ tables }
-        ensures kept { AreOf self.new.acls flows.new }
+        ensures kept { AreOf self.new.rows.acls flows.new }
     {
         if !self.acls.is(&tables.acls) {
             flows.clear();
@@ -119,7 +142,7 @@ impl Tables {
 
     /// Where the routes of an instance lead an address. There is nothing exactly where none of them contains it.
     pub fn route(&self, i: InstanceId, a: Addr) -> Option<Entry>
-        ensures { result ≡ looked_up self.now i a.0 }
+        ensures { result ≡ looked_up self.now.rows i a.0 }
     {
         match self.fibs.get(&i) {
             Some(fib) => fib.lookup(a),

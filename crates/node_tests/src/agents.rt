@@ -403,6 +403,79 @@ fn shows(rt: &impl Abort, node: &AgentNode, labels: &[u32], routes: &[Row]) {
     }
 }
 
+/// A record that a session brings, and the rows that the agent shows then.
+type Turn = (u16, &'static [u8], &'static [Row]);
+
+/// Routes that come and go on two sessions, once both are up and the second leads 10.1.0.9 to 192.0.2.12. Instance 2 is
+/// not needed.
+const TURNS: [Turn; 7] = [
+    (
+        0,
+        b"{\"instance\":1,\"label\":23,\"next_hop\":\"192.0.2.11\",\"op\":\"route\",\"prefix\":\"10.1.0.9/32\"}",
+        &[(1, 0x0a01_0009, 32, N1, 23)],
+    ),
+    (
+        1,
+        b"{\"instance\":1,\"label\":25,\"next_hop\":\"192.0.2.12\",\"op\":\"route\",\"prefix\":\"10.1.0.8/32\"}",
+        &[(1, 0x0a01_0008, 32, N2, 25), (1, 0x0a01_0009, 32, N1, 23)],
+    ),
+    (
+        0,
+        b"{\"instance\":2,\"label\":23,\"next_hop\":\"192.0.2.11\",\"op\":\"route\",\"prefix\":\"10.1.0.9/32\"}",
+        &[(1, 0x0a01_0008, 32, N2, 25), (1, 0x0a01_0009, 32, N1, 23)],
+    ),
+    (
+        1,
+        b"{\"instance\":1,\"label\":26,\"next_hop\":\"192.0.2.12\",\"op\":\"route\",\"prefix\":\"10.1.0.9/32\"}",
+        &[(1, 0x0a01_0008, 32, N2, 25), (1, 0x0a01_0009, 32, N1, 23)],
+    ),
+    (
+        0,
+        b"{\"instance\":1,\"op\":\"unroute\",\"prefix\":\"10.1.0.9/32\"}",
+        &[(1, 0x0a01_0008, 32, N2, 25), (1, 0x0a01_0009, 32, N2, 26)],
+    ),
+    (
+        1,
+        b"{\"instance\":1,\"op\":\"unroute\",\"prefix\":\"10.1.0.8/32\"}",
+        &[(1, 0x0a01_0009, 32, N2, 26)],
+    ),
+    (
+        0,
+        b"{\"instance\":1,\"label\":24,\"next_hop\":\"192.0.2.11\",\"op\":\"route\",\"prefix\":\"10.1.0.0/24\"}",
+        &[(1, 0x0a01_0000, 24, N1, 24), (1, 0x0a01_0009, 32, N2, 26)],
+    ),
+];
+
+/// Both control nodes come, and tell routes one by one, of which nothing is told on; then the first is lost.
+fn take_turns(rt: &impl Abort, alloc: Global, node: &mut AgentNode, links: &mut Links<QueueLink>) {
+    open(rt, node, links, 0);
+    bring(rt, node, links, 0, FIRST);
+    shows(rt, node, &[23], &[]);
+    open(rt, node, links, 1);
+    bring(rt, node, links, 1, SECOND);
+    shows(rt, node, &[23], &[(1, 0x0a01_0009, 32, N2, 24)]);
+    were_sent(rt, links, 0, &[HELLO, PUBLISH, SUBSCRIBE]);
+    were_sent(rt, links, 1, &[HELLO, PUBLISH, SUBSCRIBE]);
+    for (session, record, rows) in &TURNS {
+        let octets = framed(rt, alloc, &[record]);
+        bring(rt, node, links, *session, octets.as_slice());
+        shows(rt, node, &[23], rows);
+    }
+    were_sent(rt, links, 0, &[]);
+    were_sent(rt, links, 1, &[]);
+    close(rt, node, links, 0);
+    shows(rt, node, &[23], &[(1, 0x0a01_0009, 32, N2, 26)]);
+}
+
+#[test]
+fn routes_come_and_go_one_by_one(rt: HostRuntime) {
+    let alloc = rt.alloc();
+    let mut links = Links::new(alloc);
+    add_queues(&rt, alloc, &mut links, 2);
+    let mut node = with_two(&rt, alloc);
+    take_turns(&rt, alloc, &mut node, &mut links);
+}
+
 /// Traces a packet each way.
 fn pass_both_ways(rt: &impl Abort, agents: &mut [AgentNode]) {
     let there = trace(agents, packet(1, 0x0a02_0002));

@@ -10,7 +10,7 @@ returns-in_ok-replies-in-Opened-clause-begins c =
 pub returns-in_ok-cause-in-Bytes-clause-begins : goal.returns-in_ok-cause-in-Bytes-clause-begins
 returns-in_ok-cause-in-Bytes-clause-begins c =
     begun_bytes c.args.self.now.plan.me.name (session_at c.args.self.now.plan) c.args.self.now.posts c.hear_on.new.self.posts c.args.input c.in-Bytes.session
-    c.new.result c.in-Bytes.bytes c.in_ok-cause-in-Bytes.cause c.in-Bytes.is c.new.ensures
+    c.new.result c.in-Bytes.bytes c.in_ok-cause-in-Bytes.field-0.cause c.in-Bytes.is c.new.ensures
     c.in_ok-cause-in-Bytes.ensures.heard
 
 pub returns-in-Closed-clause-begins : goal.returns-in-Closed-clause-begins

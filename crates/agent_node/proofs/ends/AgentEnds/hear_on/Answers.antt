@@ -2,9 +2,10 @@ use Rattle.std.proofs.Common.{◌<◌, ℕ, length, slice_set, set, subst, sym}
 use Rattle.std.proofs.Common.{ap, ◌∙◌, arith, Some, None}
 use Rattle.std.proofs.lemmas.List.{length-set}
 use Rattle.node_model.specs.Step.{nothing}
-use Rattle.agent_node.specs.Applying.{HasTaken}
+use Rattle.agent_node.specs.Applying.{AreLed, HasHeard, HasLed, HasTaken}
 use Rattle.agent_node.specs.Ends.{Ends, posts_of}
 use Rattle.agent_node.proofs.Begins.{taken_down, taken_on, whom_at}
+use Rattle.agent_node.proofs.Led.{are_led, if_some}
 use Rattle.agent_node.proofs.Posts.{ends_long, posts_long}
 use Rattle.agent_node.proofs.ends.AgentEnds.hear_on.Goals as goal
 
@@ -37,7 +38,7 @@ returns-in-None-clause-heard c =
     let controllers = ap (λ (e : Ends). length e.plan.controllers) c.self.view_is in
     let long = ends_long c.self.inside.plan hs ss c.self.invariant in
     let lt : c.from.result < length hs = omega (arith, long, controllers, c.requires.known, c.from.ensures) in
-    let heard = rw c.in-None.is at c.in_ok-hear_at.ensures.heard in
+    let heard = subst (HasHeard h c.args.bytes.now h') c.in-None.is c.in_ok-cause.ensures.heard in
     let taken = taken_on c.self.inside.plan hs ss c.self.invariant c.from.result h lt c.index_mut.ensures.value
     c.args.bytes.now h' heard in
     subst (λ (n : ℕ). HasTaken c.args.self.now.plan n c.args.bytes.now c.args.self.now.posts
@@ -54,7 +55,7 @@ returns-in-Some-clause-heard c =
     let controllers = ap (λ (e : Ends). length e.plan.controllers) c.self.view_is in
     let long = ends_long c.self.inside.plan hs ss c.self.invariant in
     let lt : c.from.result < length hs = omega (arith, long, controllers, c.requires.known, c.from.ensures) in
-    let heard = rw c.in-Some.is at c.in_ok-hear_at.ensures.heard in
+    let heard = subst (HasHeard h c.args.bytes.now h') c.in-Some.is c.in_ok-cause.ensures.heard in
     let closed = c.close.ensures.closed
     ∙ ap (λ (n : ℕ). slice_set (posts_of (slice_set hs c.from.result h') ss) n nothing) (sym c.from.ensures) in
     let taken = taken_down c.self.inside.plan hs ss c.self.invariant c.from.result h lt c.index_mut.ensures.value
@@ -63,3 +64,20 @@ returns-in-Some-clause-heard c =
     (Some c.in-Some.cause)) c.from.ensures
     (subst (λ (e : Ends). HasTaken e.plan c.from.result c.args.bytes.now e.posts c.close.new.self.posts
     (Some c.in-Some.cause)) c.self.view_is taken)
+
+pub returns-in-None-clause-led : goal.returns-in-None-clause-led
+returns-in-None-clause-led c =
+    let hs = c.self.inside.hearings.items in
+    let ss = c.self.inside.sents.items in
+    let h = c.index_mut.result.now in
+    let h' = c.hear_at.new.hearing in
+    let controllers = ap (λ (e : Ends). length e.plan.controllers) c.self.view_is in
+    let long = ends_long c.self.inside.plan hs ss c.self.invariant in
+    let lt : c.from.result < length hs = omega (arith, long, controllers, c.requires.known, c.from.ensures) in
+    if_some (λ keys. HasLed keys.items h h')
+    (λ keys. AreLed keys.items c.args.session c.args.self.now.posts (posts_of (slice_set hs c.from.result h') ss))
+    c.in_ok-cause.field-0.routes (λ keys t.
+    subst (λ (n : ℕ). AreLed keys.items n c.args.self.now.posts (posts_of (slice_set hs c.from.result h') ss)) c.from.ensures
+    (subst (λ (e : Ends). AreLed keys.items c.from.result e.posts (posts_of (slice_set hs c.from.result h') ss)) c.self.view_is
+    (are_led c.self.inside.plan hs ss c.self.invariant c.from.result h lt c.index_mut.ensures.value h' keys.items t)))
+    c.in_ok-cause.ensures.led

@@ -1,7 +1,7 @@
 use Rattle.std.proofs.Common.{◌≡◌, map, sym, ap, ◌∙◌, subst}
-use Rattle.ov_types.specs.declared.rows.AgentRows.{AgentRows}
 use Rattle.std.specs.Result.{IfOk}
-use Rattle.node_model.specs.Agent.{Holdings, rows as rows_of}
+use Rattle.node_model.specs.Agent.{Holdings}
+use Rattle.agent_tables.specs.Touched.{AreTables, Tabled}
 use Rattle.agent_tables.specs.Views.{heard_of}
 use Rattle.agent_node.specs.Core.{holdings}
 use Rattle.agent_node.specs.Ends.{Ends}
@@ -17,4 +17,4 @@ returns c =
     ap (map heard_of) c.deref.ensures.value
     ∙ sym (holdings_as c.self.inside.hearings.items c.self.inside.sents.items)
     ∙ ap (λ (e : Ends). holdings e.posts) c.self.view_is in
-    subst (λ (h : Holdings). IfOk c.of.result (λ (tables : AgentRows). tables ≡ rows_of h)) heard c.of.ensures
+    subst (λ (h : Holdings). IfOk c.of.result (λ (tables : Tabled). AreTables h tables)) heard c.of.ensures

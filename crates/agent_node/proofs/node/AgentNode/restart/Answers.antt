@@ -9,7 +9,7 @@ use Rattle.agent_node.proofs.node.AgentNode.restart.Goals as goal
 
 pub invariant_of-self : goal.invariant_of-self
 invariant_of-self c = (
-  λ _. c.new.ensures ∙ nothing_shown (length c.self.inside.node.ends.posts)
-      ∙ sym (ap (λ (ps : List Post). rows_of (holdings ps)) c.restart.ensures.posts),
+  λ _. c.forget.ensures.rows ∙ nothing_shown (length c.self.inside.node.ends.posts)
+      ∙ sym (ap (λ (ps : List Post). rows_of (holdings ps)) (c.forget.ensures.posts ∙ c.restart.ensures.posts)),
   none_kept _ _ c.clear.ensures,
 )

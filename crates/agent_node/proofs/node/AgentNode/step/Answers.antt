@@ -1,3 +1,8 @@
+use Rattle.std.proofs.Common.{List, subst, sym}
+use Rattle.std.specs.Result.{IfOk}
+use Rattle.node_model.specs.Step.{Post}
+use Rattle.node_laws.specs.Stepped.{AreTold}
+use Rattle.agent_node.specs.Core.{kind}
 use Rattle.node_model.specs.Step.{post}
 use Rattle.node_core.specs.Whole.{session_of}
 use Rattle.agent_node.proofs.AtTheEnd.{all_told, never_closed_as_ended}
@@ -7,8 +12,9 @@ pub returns-in-Ok-clause-told : goal.returns-in-Ok-clause-told
 returns-in-Ok-clause-told g c =
     let before = c.self.inside.node.ends in
     let session = session_of c.args.input in
-    all_told _ _ _ before.plan before.posts c.step-stepped.new.self.ends.posts session session (post before.posts session) c.args.input
-    c.args.links.now c.step-stepped.new.links c.step-stepped.result c.step-stepped.ensures.step
+    subst (λ (ps : List Post). IfOk c.step-stepped.result (λ _. AreTold kind ps)) (sym c.renew.ensures.posts)
+    (all_told _ _ _ before.plan before.posts c.step-stepped.new.self.ends.posts session session (post before.posts session) c.args.input
+    c.args.links.now c.step-stepped.new.links c.step-stepped.result c.step-stepped.ensures.step)
 
 pub returns-in-Ok-clause-never_ended : goal.returns-in-Ok-clause-never_ended
 returns-in-Ok-clause-never_ended g c = λ closed.

@@ -1,14 +1,18 @@
-use Rattle.std.proofs.Common.{◌≡◌, ap, sym, subst, ◌∙◌, List, map}
+use Rattle.std.proofs.Common.{◌≡◌, ap, sym, subst, ◌∙◌, ◌==◌, List, map}
+use Rattle.std.specs.List.{list_any}
 use Rattle.std.specs.List.Sorted.{IsStrictlySortedBy}
 use Rattle.ov_sync.proofs.Ascending.{ascends}
 use Rattle.ov_types.specs.Keys.{low_key_cmp}
+use Rattle.ov_types.specs.declared.numbers.InstanceId.{InstanceId}
 use Rattle.ov_types.specs.declared.objects.LowKey.{LowKey}
 use Rattle.ov_types.specs.declared.objects.LowValue.{LowValue}
 use Rattle.node_model.specs.Agent.{Holdings, needed, needed_by, routes, rows_heard, slice_in_use}
 use Rattle.agent_tables.specs.Routes.{Table, instance_order, routes_of}
+use Rattle.agent_tables.specs.Touched.{is_listed}
 use Rattle.agent_tables.specs.Slice.{pairs_of}
 use Rattle.agent_tables.specs.Views.{heard_of}
 use Rattle.agent_tables.proofs.Routes.{keys_all, routes_heard}
+use Rattle.agent_tables.proofs.Touched.{has_listed}
 use Rattle.agent_tables.proofs.Slices.{labels_in, lists_in, slice_ascends}
 use Rattle.agent_tables.proofs.tables.Tables.of.Goals as goal
 
@@ -41,4 +45,9 @@ returns c =
     let heard : routes_of c.keep_heard.new.fibs.entries ≡ routes h =
     ap routes_of c.in_ok-keep_heard.ensures
     ∙ routes_heard h ts c.as_slice-4.result.now (ascends instance_order ts c.in_ok-fibs.ensures.ascending) c.in_ok-fibs.ensures.empty c.in_ok-fibs.ensures.tables needs in
-    λ i. record { labels = labels i; acls = lists i; routes = heard i }
+    record {
+      rows = λ i. record { labels = labels i; acls = lists i; routes = heard i };
+      instances = λ i. ap (λ (is : List InstanceId). is_listed is i)
+          (ap (map (λ (t : Table). t.0)) c.in_ok-keep_heard.ensures ∙ keys_all (rows_heard h) ts)
+          ∙ sym (has_listed ts i) ∙ c.in_ok-fibs.ensures.tables i ∙ ap (list_any (λ n. n.0 == i.0)) needs;
+    }

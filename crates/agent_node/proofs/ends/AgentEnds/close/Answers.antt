@@ -3,7 +3,7 @@ use Rattle.item_wire.specs.Happenings.{SessionFields}
 use Rattle.node_model.specs.Step.{nothing}
 use Rattle.agent_node.specs.Ends.{Ends, posts_of, whom}
 use Rattle.agent_node.proofs.Posts.{ends_long, ends_set, nothing_held, nothing_sent, posts_long, posts_set, shut_at}
-use Rattle.agent_node.proofs.ends.AgentEndsEnds.close.Goals as goal
+use Rattle.agent_node.proofs.ends.AgentEnds.close.Goals as goal
 
 pub index_mut-requires : goal.index_mut-requires
 index_mut-requires c =

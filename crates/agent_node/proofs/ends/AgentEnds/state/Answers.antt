@@ -6,7 +6,7 @@ use Rattle.item_wire.specs.declared.event.ItemState.{ItemState}
 use Rattle.agent_tables.specs.declared.hearing.Hearing.{Hearing}
 use Rattle.agent_node.specs.Ends.{Ends}
 use Rattle.agent_node.proofs.Posts.{post_at, posts_long}
-use Rattle.agent_node.proofs.ends.AgentEndsEnds.state.Goals as goal
+use Rattle.agent_node.proofs.ends.AgentEnds.state.Goals as goal
 
 pub index-requires : goal.index-requires
 index-requires c =

@@ -1,7 +1,7 @@
 use Rattle.std.proofs.Common.{length, arith, ap}
 use Rattle.agent_node.specs.Ends.{Ends}
 use Rattle.agent_node.proofs.Posts.{posts_long}
-use Rattle.agent_node.proofs.ends.AgentEndsEnds.sessions.Goals as goal
+use Rattle.agent_node.proofs.ends.AgentEnds.sessions.Goals as goal
 
 pub returns-clause-posts : goal.returns-clause-posts
 returns-clause-posts c =

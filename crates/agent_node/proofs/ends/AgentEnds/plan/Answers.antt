@@ -11,7 +11,7 @@ use Rattle.agent_node.specs.Planning.{ArePlanned}
 use Rattle.agent_node.proofs.Posts.{held_fits, are_plans, posts_long}
 use Rattle.node_core.proofs.Lists.{written}
 use Rattle.agent_tables.proofs.Telling.{can_be_told}
-use Rattle.agent_node.proofs.ends.AgentEndsEnds.plan.Goals as goal
+use Rattle.agent_node.proofs.ends.AgentEnds.plan.Goals as goal
 
 pub wanted-requires : goal.wanted-requires
 wanted-requires c = rw c.deref.ensures.value (held_fits c.self.inside.hearings.items c.self.invariant.held)

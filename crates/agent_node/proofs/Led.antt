@@ -1,0 +1,174 @@
+-- Octets that put or drop some routes alone, and ends that are told all.
+use Rattle.std.specs.Prelude.{◌≡◌, ◌<◌, ◌≤◌, ℕ, zero, suc, List, [], ◌∷◌, map, length, Bool, true, false, cond, nat_lt}
+use Rattle.std.specs.declared.option.Option.{Option}
+use Rattle.std.specs.declared.option.Option.TheVariants.{Some, None}
+use Rattle.std.specs.declared.result.Result.{Result}
+use Rattle.std.specs.declared.result.Result.TheVariants.{Ok, Err}
+use Rattle.std.specs.Option.{IfSome}
+use Rattle.std.specs.Result.{IfOk}
+use Rattle.std.specs.List.{slice_index_or, filter_map}
+use Rattle.std.proofs.Common.{refl, sym, ◌∙◌, ap, subst, set, arith}
+use Rattle.std.proofs.lemmas.Bool.{ltb-true}
+use Rattle.std.proofs.lemmas.List.{get_or-map, get_or_past, length-set}
+use Rattle.ov_sync.specs.Keyed.{after}
+use Rattle.ov_sync.proofs.KeyedLaws.{difference-itself}
+use Rattle.item_wire.specs.declared.item.Item.{Item}
+use Rattle.node_core.specs.Plans.{ArePlans}
+use Rattle.node_core.specs.declared.ends.Plan.{Plan}
+use Rattle.node_items.specs.Beginning.{phase_of}
+use Rattle.node_items.specs.Told.{change_of, down_of, spelled, up_of}
+use Rattle.node_laws.specs.Stepped.{AreTold, HoldTheSame}
+use Rattle.node_model.specs.Agent.{Holdings, told_of as told_by}
+use Rattle.node_model.specs.Maps.{Change, Map, difference}
+use Rattle.node_model.specs.Step.{Post, nothing, post}
+use Rattle.node_model.specs.Values.{same_value}
+use Rattle.node_model.proofs.Alike.{same_value_decides}
+use Rattle.agent_tables.specs.Touched.{AgreeBut, RowKey, route_key}
+use Rattle.agent_tables.specs.Views.{heard_of, is_up as is_heard_up}
+use Rattle.agent_tables.specs.declared.hearing.Hearing.{Hearing}
+use Rattle.agent_tables.proofs.Touched.{MapsAgreeBut, all_changed, same_slice, session_changed}
+use Rattle.agent_node.specs.Applying.{AreLed, HasLed}
+use Rattle.agent_node.specs.Core.{holdings, kind, may_send, wanted}
+use Rattle.agent_node.specs.Ends.{AreEnds, Sent, end_at, posts_of}
+use Rattle.agent_node.specs.Planning.{AreSilent, sent_at}
+use Rattle.agent_node.specs.declared.plan.AgentPlan.{AgentPlan}
+use Rattle.agent_node.proofs.AtTheEnd.{wants_by_holdings}
+use Rattle.agent_node.proofs.Begins.{here}
+use Rattle.agent_node.proofs.Posts.{holdings_as, posts_hear}
+
+-- what is said of what there is
+pub of_some : {A : Type 0} (P : A → Type 0) (o : Option A) (x : A) → o ≡ Some x → IfSome o P → P x
+of_some P o x is h = subst (λ o. IfSome o P) is h
+
+pub if_some : {A : Type 0} (P Q : A → Type 0) (o : Option A) → ((x : A) → P x → Q x) → IfSome o P → IfSome o Q
+if_some P Q None f h = tt
+if_some P Q (Some x) f h = f x h
+
+pub if_both : {A : Type 0} (P Q R : A → Type 0) (o : Option A) → ((x : A) → P x → Q x → R x) → IfSome o P → IfSome o Q → IfSome o R
+if_both P Q R None f g h = tt
+if_both P Q R (Some x) f g h = f x g h
+
+pub if_ok : {A E : Type 0} (P Q : A → Type 0) (r : Result A E) → ((x : A) → P x → Q x) → IfOk r P → IfOk r Q
+if_ok P Q (Ok x) f h = f x h
+if_ok P Q (Err e) f h = tt
+
+-- ---- one end
+pub has_led : (h h' : Hearing) (items : List Item) (keys : List RowKey) → h'.session.state ≡ h.session.state
+    → map (λ i. route_key (change_of i)) items ≡ map Some keys
+    → down_of h'.held ≡ after (down_of h.held) (filter_map change_of items) → HasLed keys h h'
+has_led h h' items keys state e held =
+    let agree = all_changed items keys (down_of h.held) e in
+    let both = subst (MapsAgreeBut keys (down_of h.held)) (sym held) agree in
+    record { state = state; objects_same = both.objects_same; rows_same = both.rows_same }
+
+map_set : (hs : List Hearing) (i : ℕ) (h : Hearing) → map heard_of (set hs i h) ≡ set (map heard_of hs) i (heard_of h)
+map_set [] i h = refl
+map_set (g ∷ hs) zero h = refl
+map_set (g ∷ hs) (suc i) h = ap (λ (l : Holdings). heard_of g ∷ l) (map_set hs i h)
+
+-- ---- all ends
+module _ (plan : AgentPlan) (hs : List Hearing) (ss : List Sent) (ends : AreEnds plan hs ss) (i : ℕ) (h : Hearing)
+    (lt : i < length hs) (is : h ≡ slice_index_or hs i h) (h' : Hearing) (keys : List RowKey) where
+  pub are_led : HasLed keys h h' → AreLed keys i (posts_of hs ss) (posts_of (set hs i h') ss)
+  are_led t =
+      let same : end_at h (sent_at ss i) ≡ post (posts_of hs ss) i = here plan hs ss ends i h lt is in
+      let agree : AgreeBut keys (map heard_of hs) (set (map heard_of hs) i (heard_of h')) =
+      session_changed (map heard_of hs) i (heard_of h) (heard_of h') keys
+      (λ d. get_or-map heard_of hs i h d lt ∙ ap heard_of (sym is)) (ap is_heard_up t.state)
+      (record { objects_same = t.objects_same; rows_same = t.rows_same }) in
+      record {
+        held = down_of h'.held;
+        left = posts_hear hs ss i h'
+            ∙ (λ j. set (posts_of hs ss) i (record {
+              phase = phase_of (t.state j);
+              sent = up_of (sent_at ss i);
+              held = down_of h'.held;
+              wide = false;
+            }))
+            ∙ (λ j. set (posts_of hs ss) i (record {
+              phase = (same j).phase;
+              sent = (same j).sent;
+              held = down_of h'.held;
+              wide = (same j).wide;
+            }));
+        agree = subst (λ (p : Holdings × Holdings). AgreeBut keys p.0 p.1)
+            (λ j. (sym (holdings_as hs ss) j, (sym (map_set hs i h') ∙ sym (holdings_as (set hs i h') ss)) j)) agree;
+      }
+
+-- ---- what was told stays told
+same_at : (posts : List Post) (s : ℕ) (m : Map) (j : ℕ)
+    → ((post (set posts s (record (post posts s) { held = m })) j).phase ≡ (post posts j).phase)
+    × ((post (set posts s (record (post posts s) { held = m })) j).sent ≡ (post posts j).sent)
+same_at [] s m j = (refl, refl)
+same_at (p ∷ posts) zero m zero = (refl, refl)
+same_at (p ∷ posts) zero m (suc j) = (refl, refl)
+same_at (p ∷ posts) (suc s) m zero = (refl, refl)
+same_at (p ∷ posts) (suc s) m (suc j) = same_at posts s m j
+
+pub told_on : (keys : List RowKey) (s : ℕ) (posts posts' : List Post) → AreLed keys s posts posts' → AreTold kind posts
+    → AreTold kind posts'
+told_on keys s posts posts' led told j lt may =
+    let at : (j : ℕ) → ((post posts' j).phase ≡ (post posts j).phase) × ((post posts' j).sent ≡ (post posts j).sent) =
+    λ j. subst (λ (ps : List Post). ((post ps j).phase ≡ (post posts j).phase) × ((post ps j).sent ≡ (post posts j).sent))
+    (sym led.left) (same_at posts s led.held j) in
+    let long : length posts' ≡ length posts = ap length led.left ∙ length-set posts s (record (post posts s) { held = led.held }) in
+    (at j).1
+    ∙ told j (subst (λ n. j < n) long lt) (ap (may_send j) (sym (at j).0) ∙ may)
+    ∙ ap told_by (same_slice (holdings posts) (holdings posts') led.agree.besides)
+
+-- ---- plans where all is told
+no_changes : (wants sent : Map) (b : Bool) → (b ≡ true → sent ≡ wants)
+    → cond b (map (λ (c : Change). spelled c) (difference sent wants)) [] ≡ []
+no_changes wants sent true e =
+    ap (λ (m : Map). map (λ (c : Change). spelled c) (difference m wants)) (e refl)
+    ∙ ap (map (λ (c : Change). spelled c)) (difference-itself same_value same_value_decides wants)
+no_changes wants sent false e = refl
+
+all_same : (p : Post) (wants : Map) (b : Bool) → (b ≡ true → p.sent ≡ wants) → p ≡ cond b (record p { sent = wants }) p
+all_same p wants true e = λ j. record p { sent = e refl j }
+all_same p wants false e = refl
+
+pub silent_plans : (posts : List Post) (plans : List Plan) (n : ℕ) → n ≡ length posts → AreTold kind posts
+    → AreSilent plans n → ArePlans kind posts posts plans
+silent_plans posts plans n long told silent =
+    record {
+      many = silent.many ∙ long;
+      messages = λ i other lt. silent.silent i other (subst (λ m. i < m) (sym long) lt)
+          ∙ sym (no_changes (wanted posts i) (post posts i).sent (may_send i (post posts i).phase) (told i lt));
+      ends = λ i lt. all_same (post posts i) (wanted posts i) (may_send i (post posts i).phase) (told i lt);
+    }
+
+-- ---- what was planned is told
+pub told_by_plans : (posts posts' : List Post) (plans : List Plan) → length posts' ≡ length posts
+    → ArePlans kind posts posts' plans → AreTold kind posts'
+told_by_plans posts posts' plans long planned i lt may =
+    let under : i < length posts = subst (λ n. i < n) long lt in
+    sent under (may_send i (post posts i).phase) refl (ap (may_send i) (sym (same i).0) ∙ may)
+    ∙ sym (wants_by_holdings.wants posts posts' long same i)
+  where
+    parts : (p q : Post) (wants : Map) (b : Bool) → q ≡ cond b (record p { sent = wants }) p → (q.phase ≡ p.phase) × (q.held ≡ p.held)
+    parts p q wants true e = (ap (λ (x : Post). x.phase) e, ap (λ (x : Post). x.held) e)
+    parts p q wants false e = (ap (λ (x : Post). x.phase) e, ap (λ (x : Post). x.held) e)
+
+    beyond : (i n m : ℕ) → n ≡ m → nat_lt i m ≡ false → n ≤ i
+    beyond i n m e f = grind arith
+
+    past : (i : ℕ) → nat_lt i (length posts) ≡ false → post posts' i ≡ post posts i
+    past i f =
+        get_or_past posts' i nothing (beyond i (length posts') (length posts) long f)
+        ∙ sym (get_or_past posts i nothing (beyond i (length posts) (length posts) refl f))
+
+    at : (i : ℕ) (b : Bool) → nat_lt i (length posts) ≡ b
+        → ((post posts' i).phase ≡ (post posts i).phase) × ((post posts' i).held ≡ (post posts i).held)
+    at i true e =
+        parts (post posts i) (post posts' i) (wanted posts i) (may_send i (post posts i).phase)
+        (planned.ends i (ltb-true i (length posts) e))
+    at i false e = (ap (λ (x : Post). x.phase) (past i e), ap (λ (x : Post). x.held) (past i e))
+
+    same : HoldTheSame posts posts'
+    same i = at i (nat_lt i (length posts)) refl
+
+    sent : i < length posts → (b : Bool) → may_send i (post posts i).phase ≡ b → b ≡ true → (post posts' i).sent ≡ wanted posts i
+    sent under b e on =
+        ap (λ (x : Post). x.sent) (planned.ends i under)
+        ∙ ap (λ (b : Bool). (cond b (record (post posts i) { sent = wanted posts i }) (post posts i)).sent) (e ∙ on)

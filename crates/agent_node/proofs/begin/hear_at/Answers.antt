@@ -1,0 +1,20 @@
+use Rattle.std.proofs.Common.{◌≡◌, List, map, Some, ap, sym, ◌∙◌}
+use Rattle.item_wire.specs.declared.item.Item.{Item}
+use Rattle.node_items.specs.Told.{change_of}
+use Rattle.agent_tables.specs.Touched.{route_key}
+use Rattle.agent_tables.specs.declared.hearing.Hearing.{Hearing}
+use Rattle.agent_node.specs.Applying.{HasLed}
+use Rattle.agent_node.proofs.Led.{has_led, if_both}
+use Rattle.agent_node.proofs.begin.hear_at.Goals as goal
+
+pub returns-clause-led : goal.returns-clause-led
+returns-clause-led c =
+    let h = c.args.hearing.now in
+    let h' : Hearing = record { session = c.hear.new.session; held = c.apply_all.new.held } in
+    if_both (λ keys. c.state-after.result ≡ c.state-before.result)
+    (λ keys. map (λ i. route_key (change_of i)) c.deref.result.now ≡ map Some keys.items)
+    (λ keys. HasLed keys.items h h') c.in_ok-routes.routes (λ keys state routes.
+    has_led h h' c.in_ok-records.field-0.records.items keys.items
+    (sym c.state-after.ensures ∙ state ∙ c.state-before.ensures)
+    (ap (λ (is : List Item). map (λ i. route_key (change_of i)) is) (sym c.deref.ensures.value) ∙ routes)
+    c.in_ok-apply_all.ensures.after) c.in_ok-routes.ensures.state c.in_ok-routes.ensures.routes

@@ -1,0 +1,25 @@
+use Rattle.std.proofs.Common.{subst, sym, ◌∙◌, ap, length}
+use Rattle.std.proofs.lemmas.Bool.{true≢false}
+use Rattle.node_core.specs.Plans.{ArePlans}
+use Rattle.node_laws.specs.Stepped.{AreTold}
+use Rattle.agent_node.specs.Core.{kind}
+use Rattle.agent_node.specs.Ends.{Forwarding}
+use Rattle.agent_node.specs.Planning.{AreSilent}
+use Rattle.agent_node.proofs.Led.{if_ok, silent_plans, told_by_plans}
+use Rattle.agent_node.proofs.tabled.TabledEndsEnds.plan.Goals as goal
+
+pub returns-then-self-clause-plans : goal.returns-then-self-clause-plans
+returns-then-self-clause-plans c =
+    let now = c.args.self.now.posts in
+    if_ok (λ plans. AreSilent plans.items c.sessions.result) (λ plans. ArePlans kind now now plans.items) c.no_plans.result
+    (λ plans silent. silent_plans now plans.items c.sessions.result
+    (c.sessions.ensures.posts ∙ ap (λ (f : Forwarding). length f.posts) c.self.view_is)
+    (subst (λ (f : Forwarding). AreTold kind f.posts) c.self.view_is (c.self.invariant.1 c.if-self.true)) silent)
+    c.no_plans.ensures
+
+pub invariant_of-self-2 : goal.invariant_of-self-2
+invariant_of-self-2 c = (
+  λ off. absurd (true≢false (sym off)),
+  λ _. told_by_plans c.self.inside.ends.posts c.plan.new.self.posts c.in_ok-plans.plans.items c.plan.ensures.long
+      c.in_ok-plans.ensures.plans,
+)
