@@ -121,6 +121,12 @@ pub feed-changed : (h h' : Holdings) (i : Item) (d : Delta LowKey LowValue) → 
     → h' ≡ feed_by (λ m. changed_by m (change_of i)) h
 feed-changed h h' i d e o = e ∙ ap (λ (o : Option Change). feed_by (λ m. changed_by m o) h) o
 
+pub feed-next : (h h' : Holdings) (i : Item) (is : List Item) → h' ≡ feed_by (λ m. changed_by m (change_of i)) h
+    → feed_by (λ m. after m (filter_map change_of is)) h' ≡ feed_by (λ m. after m (filter_map change_of (i ∷ is))) h
+feed-next h h' i is e =
+    ap (λ (h : Holdings). feed_by (λ m. after m (filter_map change_of is)) h) e
+    ∙ (λ k. record h { feed = after-cons h.feed (change_of i) (filter_map change_of is) k })
+
 -- ---- an agent
 at_session-twice : (f g : Map → Map) (ts : List Told) (session : ℕ) → at_session f (at_session g ts session) session ≡ at_session (λ m. f (g m)) ts session
 at_session-twice f g [] session = refl

@@ -9,6 +9,7 @@ pub mod Applied
 pub mod Turning
 pub mod Starting
 pub mod Holding
+pub mod Tracking
 pub mod Passing
 pub mod Kept
 pub mod Made

@@ -9,8 +9,6 @@ use Rattle.std.proofs.lemmas.Bool.Decides.{nat_tests}
 use Rattle.std.proofs.lemmas.List.{get_or-append-add, get_or-map, get_or_append_left, length-map, length-append}
 use Rattle.ov_sync.proofs.KeyedLaws.{difference-itself}
 use Rattle.ov_types.specs.declared.rows.NodeId.{NodeId}
-use Rattle.ov_types.specs.declared.vpn.VpnKey.{VpnKey}
-use Rattle.ov_types.specs.declared.vpn.VpnRoute.{VpnRoute}
 use Rattle.bgp_session.specs.Happenings as session
 use Rattle.item_wire.specs.Happenings.{SessionFields}
 use Rattle.item_wire.specs.declared.event.ItemState.{ItemState}
@@ -25,17 +23,19 @@ use Rattle.node_model.specs.Step.{Kind, Post, changes, post, told_all}
 use Rattle.node_model.specs.Values.{same_value}
 use Rattle.node_model.specs.Wants.{wanted_by_agent, wanted_by_peers}
 use Rattle.node_model.proofs.Alike.{same_value_decides}
+use Rattle.node_peers.specs.Beginning as route
 use Rattle.node_peers.specs.Told as routes
 use Rattle.vpn_tables.specs.Views.{peer_of}
 use Rattle.control_node.specs.Core.{holdings, is_peer}
 use Rattle.control_node.specs.Ends.{AreEnds, Ends, agent_post, peer_post, plan_of, posts_of}
-use Rattle.control_node.specs.Planning.{AreAgentsTold, ArePlanned, IsAgentTold, agent_plan, agent_plans, agent_sends}
-use Rattle.control_node.specs.Planning.{peer_plan, peer_sends, peer_told, wanted_on}
+use Rattle.control_node.specs.Planning.{AreAgentsTold, ArePeersTold, ArePlanned, IsAgentTold, IsPeerTold, agent_plan, agent_plans}
+use Rattle.control_node.specs.Planning.{agent_sends, peer_plan, peer_sends, wanted_on}
 use Rattle.control_node.specs.Wanting.{is_idle, is_up, kind, may_send, wanted}
 use Rattle.control_node.specs.declared.ends.AgentEnd.{AgentEnd}
 use Rattle.control_node.specs.declared.ends.PeerEnd.{PeerEnd}
 use Rattle.control_node.specs.declared.plan.ControlPlan.{ControlPlan}
 use Rattle.control_node.proofs.Holding.{holdings_are}
+use Rattle.control_node.proofs.Tracking.{peers_told-long}
 use Rattle.control_node.proofs.Posts.{post-agent, post-peer, posts-length, seated-length}
 
 -- ---- the feed
@@ -53,12 +53,26 @@ feed_stays true p e = λ i. record p { sent = e i }
 feed_stays false p e = refl
 
 -- ---- peers and agents, one of each
-peer_tells : (wanted : List (VpnKey × VpnRoute)) (e : PeerEnd) (m : Map)
-    → peer_post (peer_told wanted e) m
-    ≡ (if is_up (peer_post e m).phase then record (peer_post e m) { sent = peer_of wanted } else peer_post e m)
-peer_tells wanted e m =
-    elim (peer_sends e) as (λ b. peer_post (if b then record e { sent = wanted } else e) m
-    ≡ (if b then record (peer_post e m) { sent = peer_of wanted } else peer_post e m)) [ true ↦ refl | false ↦ refl ]
+peer_tells : (h : Holdings) (e e' : PeerEnd) (m : Map) → IsPeerTold h e e'
+    → peer_post e' m
+    ≡ (if is_up (peer_post e m).phase then record (peer_post e m) { sent = wanted_by_peers h } else peer_post e m)
+peer_tells h e e' m is =
+    (λ i. record {
+      phase = route.phase_of (is.session_stays i).state;
+      sent = is.sent i;
+      held = m;
+      wide = (is.session_stays i).wide;
+    })
+    ∙ elim (peer_sends e) as (λ b.
+    record (peer_post e m) { sent = if b then wanted_by_peers h else peer_of e.sent }
+    ≡ (if b then record (peer_post e m) { sent = wanted_by_peers h } else peer_post e m)) [ true ↦ refl | false ↦ refl ]
+
+peers_told-at : (h : Holdings) (es es' : List PeerEnd) (i : ℕ) (d : PeerEnd) → ArePeersTold h es es' → i < length es
+    → IsPeerTold h (get_or es i d) (get_or es' i d)
+peers_told-at h [] es' i d told lt = absurd (omega (arith, lt))
+peers_told-at h (e ∷ es) [] i d told lt = absurd told
+peers_told-at h (e ∷ es) (e' ∷ es') zero d told lt = told.0
+peers_told-at h (e ∷ es) (e' ∷ es') (suc i) d told lt = peers_told-at h es es' i d told.1 (omega (arith, lt))
 
 agent_tells : (h : Holdings) (session : ℕ) (e e' : AgentEnd) (m : Map) → IsAgentTold h session e e'
     → agent_post e' m
@@ -111,23 +125,21 @@ no_feed n low = grind (arith, nat_tests)
 -- ---- one session, by the kind
 module _ (plan : ControlPlan) (posts : List Post) (h : Holdings) (held : holdings plan posts ≡ h) (n : ℕ) (p : Post)
     (at : post posts n ≡ p) (low : 0 < n) where
-  module _ (told : List (VpnKey × VpnRoute)) (wants : peer_of told ≡ wanted_by_peers h)
-      (peer : is_peer plan n ≡ true) where
-    wanted_of_peer : wanted plan posts n ≡ peer_of told
-    wanted_of_peer =
-        (λ i. if no_feed n low i then empty else if peer i then wanted_by_peers (held i)
-        else wanted_by_agent (held i) (told_in (held i).agents n))
-        ∙ sym wants
+  module _ (peer : is_peer plan n ≡ true) where
+    wanted_of_peer : wanted plan posts n ≡ wanted_by_peers h
+    wanted_of_peer = λ i.
+        if no_feed n low i then empty else if peer i then wanted_by_peers (held i)
+        else wanted_by_agent (held i) (told_in (held i).agents n)
 
     peer_changes : changes (kind plan) posts n
-        ≡ (if is_up p.phase then map routes.spelled (difference p.sent (peer_of told)) else [])
+        ≡ (if is_up p.phase then map routes.spelled (difference p.sent (wanted_by_peers h)) else [])
     peer_changes = λ i.
         if (if peer i then is_up (at i).phase else not (is_idle (at i).phase))
         then map (λ c. if peer i then routes.spelled c else items.spelled c)
         (difference (at i).sent (wanted_of_peer i))
         else []
 
-    peer_told_all : told_all (kind plan) posts n ≡ (if is_up p.phase then record p { sent = peer_of told } else p)
+    peer_told_all : told_all (kind plan) posts n ≡ (if is_up p.phase then record p { sent = wanted_by_peers h } else p)
     peer_told_all = λ i.
         if (if peer i then is_up (at i).phase else not (is_idle (at i).phase))
         then record (at i) { sent = wanted_of_peer i } else at i
@@ -184,7 +196,7 @@ module _ (me : NodeId) (asn : ℕ) (feed : SessionFields) (peers peers' : List P
   peers_long = length-map peers (λ (e : PeerEnd). e.session.peer)
 
   peers'_long : length peers' ≡ length peers
-  peers'_long = ap length planned.peers_told ∙ length-map peers (peer_told planned.routes)
+  peers'_long = peers_told-long h peers peers' planned.peers_told
 
   agents'_long : length agents' ≡ length agents
   agents'_long = agents_told-long h (1 + length peers) agents agents' planned.agents_told
@@ -210,21 +222,16 @@ module _ (me : NodeId) (asn : ℕ) (feed : SessionFields) (peers peers' : List P
     peer_says other =
         ap (λ (l : List Plan). (slice_index_or l (suc i) other).messages) planned.plans_are
         ∙ ap (λ (q : Plan). q.messages)
-        (get_or_append_left (map (peer_plan planned.routes) peers) (agent_plans h (1 + length peers) agents) other i
-        (let l = length-map peers (peer_plan planned.routes) in omega (arith, l, lt))
-        ∙ get_or-map (peer_plan planned.routes) peers i a_peer other lt)
-        ∙ sym (peer_changes the_plan posts h as_held (suc i) (peer_post e m) at_peer (omega arith) planned.routes
-        planned.wanted of_peer)
+        (get_or_append_left (map (peer_plan h) peers) (agent_plans h (1 + length peers) agents) other i
+        (let l = length-map peers (peer_plan h) in omega (arith, l, lt))
+        ∙ get_or-map (peer_plan h) peers i a_peer other lt)
+        ∙ sym (peer_changes the_plan posts h as_held (suc i) (peer_post e m) at_peer (omega arith) of_peer)
 
     peer_ends : post posts' (suc i) ≡ told_all k posts (suc i)
     peer_ends =
         post-peer feed.state peers' agents' h i a_peer (omega (arith, peers'_long, lt))
-        ∙ ap (λ (x : PeerEnd). peer_post x m)
-        (ap (λ (l : List PeerEnd). get_or l i a_peer) planned.peers_told
-        ∙ get_or-map (peer_told planned.routes) peers i a_peer a_peer lt)
-        ∙ peer_tells planned.routes e m
-        ∙ sym (peer_told_all the_plan posts h as_held (suc i) (peer_post e m) at_peer (omega arith) planned.routes
-        planned.wanted of_peer)
+        ∙ peer_tells h e (get_or peers' i a_peer) m (peers_told-at h peers peers' i a_peer planned.peers_told lt)
+        ∙ sym (peer_told_all the_plan posts h as_held (suc i) (peer_post e m) at_peer (omega arith) of_peer)
 
   -- ---- an agent
   module _ (i : ℕ) (lt : i < length agents) where
@@ -250,9 +257,9 @@ module _ (me : NodeId) (asn : ℕ) (feed : SessionFields) (peers peers' : List P
     agent_says other =
         ap (λ (l : List Plan). (slice_index_or l n other).messages) planned.plans_are
         ∙ ap (λ (q : Plan). q.messages)
-        (ap (λ j. slice_index_or (map (peer_plan planned.routes) peers ++ agent_plans h (1 + length peers) agents) (j + i) other)
-        (sym (length-map peers (peer_plan planned.routes)))
-        ∙ get_or-append-add (map (peer_plan planned.routes) peers) (agent_plans h (1 + length peers) agents) i other
+        (ap (λ j. slice_index_or (map (peer_plan h) peers ++ agent_plans h (1 + length peers) agents) (j + i) other)
+        (sym (length-map peers (peer_plan h)))
+        ∙ get_or-append-add (map (peer_plan h) peers) (agent_plans h (1 + length peers) agents) i other
         ∙ agent_plans-at h (1 + length peers) agents i an_agent other lt
         ∙ ap (λ j. agent_plan h j x) number)
         ∙ sym (agent_changes the_plan posts h as_held n (agent_post x t) at_agent (omega arith) of_agent)
@@ -309,10 +316,10 @@ module _ (me : NodeId) (asn : ℕ) (feed : SessionFields) (peers peers' : List P
   are_plans = record {
     many =
         let long = posts-length feed.state peers agents h in
-        let these = length-map peers (peer_plan planned.routes) in
+        let these = length-map peers (peer_plan h) in
         let those = agent_plans-long h (1 + length peers) agents in
-        let both = length-append (map (peer_plan planned.routes) peers) (agent_plans h (1 + length peers) agents) in
-        let all : length plans ≡ suc (length (map (peer_plan planned.routes) peers ++ agent_plans h (1 + length peers) agents)) =
+        let both = length-append (map (peer_plan h) peers) (agent_plans h (1 + length peers) agents) in
+        let all : length plans ≡ suc (length (map (peer_plan h) peers ++ agent_plans h (1 + length peers) agents)) =
         ap length planned.plans_are in
         omega (arith, long, these, those, both, all);
     messages = λ i other lt. says i other (sorted i lt);

@@ -20,13 +20,13 @@ use Rattle.node_model.specs.Keys.{Vpn, key_cmp, of_down}
 use Rattle.node_model.specs.Maps.{Map, Change, difference}
 use Rattle.node_model.specs.Paths.{Holdings, Told}
 use Rattle.node_model.specs.Values.{Route}
+use Rattle.node_model.specs.Wants.{wanted_by_peers}
 use Rattle.node_peers.specs.Told as routes
 use Rattle.vpn_tables.specs.Views.{peer_of}
-use Rattle.control_node.specs.Planning.{AreAgentsTold, IsAgentTold, agent_plan, agent_plans, agent_sends, peer_plan}
-use Rattle.control_node.specs.Planning.{peer_sends, peer_told, plan_of, wanted_on}
+use Rattle.control_node.specs.Planning.{AreAgentsTold, ArePeersTold, IsAgentTold, IsPeerTold, agent_plan, agent_plans, agent_sends}
+use Rattle.control_node.specs.Planning.{peer_plan, peer_sends, plan_of, wanted_on}
 use Rattle.control_node.specs.declared.ends.AgentEnd.{AgentEnd}
 use Rattle.control_node.specs.declared.ends.PeerEnd.{PeerEnd}
-use Rattle.control_node.proofs.Images.{item_changes, items_differ, route_changes, routes_differ}
 
 -- ---- what an agent told fits
 pub told_fits : (agents : List Told) (session : ℕ) → AllByRecursion (λ (a : Told). AllFit a.map) agents
@@ -50,63 +50,68 @@ sends spelled sent wanted b messages e m =
     ap (λ (ms : List (List ℕ)). record { messages = ms }) m
     ∙ ap (λ c. plan_of c spelled sent wanted) (sym e)
 
-pub agent_plan_is : (h : Holdings) (session : ℕ) (e : AgentEnd) (wanted : List (DownKey × DownValue))
-    (ds : List (Delta DownKey DownValue)) (messages : List (List ℕ)) → true ≡ agent_sends e
-    → down_of wanted ≡ wanted_on h session → ds ≡ item_changes e.sent wanted
+pub agent_plan_is : (h : Holdings) (session : ℕ) (e : AgentEnd) (ds : List (Delta DownKey DownValue))
+    (messages : List (List ℕ)) → true ≡ agent_sends e
+    → map (moved_delta of_down down_value) ds ≡ difference (down_of e.sent) (wanted_on h session)
     → messages ≡ map (λ d. items.spelled (moved_delta of_down down_value d)) ds
     → record { messages = messages } ≡ agent_plan h session e
-agent_plan_is h session e wanted ds messages b w d m =
+agent_plan_is h session e ds messages b d m =
     sends items.spelled (down_of e.sent) (wanted_on h session) (agent_sends e) messages (sym b)
-    (m ∙ map_twice (moved_delta of_down down_value) items.spelled ds
-    ∙ ap (λ l. map items.spelled (map (moved_delta of_down down_value) l)) d
-    ∙ ap (map items.spelled) (sym (items_differ e.sent wanted))
-    ∙ ap (λ (n : Map). map items.spelled (difference (down_of e.sent) n)) w)
+    (m ∙ map_twice (moved_delta of_down down_value) items.spelled ds ∙ ap (map items.spelled) d)
 
-pub peer_plan_is : (e : PeerEnd) (wanted : List (VpnKey × VpnRoute)) (ds : List (Delta VpnKey VpnRoute))
-    (messages : List (List ℕ)) → true ≡ peer_sends e → ds ≡ route_changes e.sent wanted
+pub peer_plan_is : (h : Holdings) (e : PeerEnd) (ds : List (Delta VpnKey VpnRoute)) (messages : List (List ℕ))
+    → true ≡ peer_sends e → map (moved_delta Vpn Route) ds ≡ difference (peer_of e.sent) (wanted_by_peers h)
     → messages ≡ map (λ d. routes.spelled (moved_delta Vpn Route d)) ds
-    → record { messages = messages } ≡ peer_plan wanted e
-peer_plan_is e wanted ds messages b d m =
-    sends routes.spelled (peer_of e.sent) (peer_of wanted) (peer_sends e) messages (sym b)
-    (m ∙ map_twice (moved_delta Vpn Route) routes.spelled ds
-    ∙ ap (λ l. map routes.spelled (map (moved_delta Vpn Route) l)) d
-    ∙ ap (map routes.spelled) (sym (routes_differ e.sent wanted)))
+    → record { messages = messages } ≡ peer_plan h e
+peer_plan_is h e ds messages b d m =
+    sends routes.spelled (peer_of e.sent) (wanted_by_peers h) (peer_sends e) messages (sym b)
+    (m ∙ map_twice (moved_delta Vpn Route) routes.spelled ds ∙ ap (map routes.spelled) d)
+
+-- ---- the ends that are left, as one is served
+one_less : {X : Type 0} (es : List X) (i : ℕ) → drop (suc i) es ≡ drop 1 (drop i es)
+one_less [] zero = refl
+one_less [] (suc i) = refl
+one_less (e ∷ es) zero = refl
+one_less (e ∷ es) (suc i) = one_less es i
+
+pub rest_more : {X : Type 0} (old cur : List X) (i : ℕ) (e' : X) → drop i cur ≡ drop i old
+    → drop (suc i) (set cur i e') ≡ drop (suc i) old
+rest_more old cur i e' rest =
+    drop-set-lt (suc i) cur i e' (omega arith) ∙ one_less cur i ∙ ap (drop 1) rest ∙ sym (one_less old i)
+
+same_at : {X : Type 0} (es : List X) (i : ℕ) (d : X) → get_or es i d ≡ get_or (drop i es) 0 d
+same_at es i d = ap (λ j. get_or es j d) (let z : i ≡ i + 0 = omega arith in z) ∙ sym (get_or-drop i es 0 d)
+
+pub end_at : {X : Type 0} (old cur : List X) (i : ℕ) (e : X) → drop i cur ≡ drop i old
+    → e ≡ get_or cur i e → e ≡ get_or old i e
+end_at old cur i e rest is =
+    is ∙ same_at cur i e ∙ ap (λ l. get_or l 0 e) rest ∙ sym (same_at old i e)
 
 -- ---- peers
-session_stays : (wanted : List (VpnKey × VpnRoute)) (e : PeerEnd) → (peer_told wanted e).session ≡ e.session
-session_stays wanted e =
-    elim (peer_sends e) as (λ b. (if b then record e { sent = wanted } else e).session ≡ e.session) [
-      | true ↦ refl
-      | false ↦ refl
-    ]
-
 abbrev pub sessions_of : List PeerEnd → List SessionFields
 sessions_of es = map (λ (e : PeerEnd). e.session) es
 
-pub sessions_stay : (wanted : List (VpnKey × VpnRoute)) (es : List PeerEnd) (i : ℕ)
-    → sessions_of (map (peer_told wanted) (take i es) ++ drop i es) ≡ sessions_of es
-sessions_stay wanted [] zero = refl
-sessions_stay wanted [] (suc i) = refl
-sessions_stay wanted (e ∷ es) zero = refl
-sessions_stay wanted (e ∷ es) (suc i) = λ j. session_stays wanted e j ∷ sessions_stay wanted es i j
-
-same_place : (f : PeerEnd → PeerEnd) (es : List PeerEnd) (i : ℕ) (d : PeerEnd) → i < length es
-    → get_or (map f (take i es) ++ drop i es) i d ≡ get_or es i d
-same_place f [] i d lt = absurd (omega (arith, lt))
-same_place f (e ∷ es) zero d lt = refl
-same_place f (e ∷ es) (suc i) d lt = same_place f es i d (omega (arith, lt))
+pub peers_told_more : (h : Holdings) (old cur : List PeerEnd) (i : ℕ) (e e' : PeerEnd) → i < length old
+    → length cur ≡ length old → drop i cur ≡ drop i old → e ≡ get_or cur i e
+    → ArePeersTold h (take i old) (take i cur) → IsPeerTold h e e'
+    → ArePeersTold h (take (suc i) old) (take (suc i) (set cur i e'))
+peers_told_more h [] cur i e e' lt long rest is told now = absurd (omega (arith, lt))
+peers_told_more h (x ∷ old) [] i e e' lt long rest is told now = absurd (omega (arith, long))
+peers_told_more h (x ∷ old) (y ∷ cur) zero e e' lt long rest is told now =
+    let here : y ≡ x = cc in (subst (λ (z : PeerEnd). IsPeerTold h z e') (is ∙ here) now, tt)
+peers_told_more h (x ∷ old) (y ∷ cur) (suc i) e e' lt long rest is told now =
+    (told.0, peers_told_more h old cur i e e' (omega (arith, lt)) (omega (arith, long)) rest is told.1 now)
 
 -- one more plan
-pub peers_plans_more : (wanted : List (VpnKey × VpnRoute)) (old cur : List PeerEnd) (i : ℕ) (e : PeerEnd)
-    (before plans after : List Plan) (plan : Plan) → i < length old
-    → cur ≡ map (peer_told wanted) (take i old) ++ drop i old → e ≡ get_or cur i e
-    → plans ≡ before ++ map (peer_plan wanted) (take i old) → plan ≡ peer_plan wanted e → after ≡ plans ++ plan ∷ []
-    → after ≡ before ++ map (peer_plan wanted) (take (i + 1) old)
-peers_plans_more wanted old cur i e before plans after plan lt c is p q a =
-    let x : e ≡ get_or old i e = is ∙ ap (λ l. get_or l i e) c ∙ same_place (peer_told wanted) old i e lt in
-    a ∙ (λ j. p j ++ (q ∙ ap (peer_plan wanted) x) j ∷ [])
-    ∙ append_assoc before (map (peer_plan wanted) (take i old)) (peer_plan wanted (get_or old i e) ∷ [])
-    ∙ ap (λ l. before ++ l) (sym (map_more (peer_plan wanted) old i e lt))
+pub peers_plans_more : (h : Holdings) (old cur : List PeerEnd) (i : ℕ) (e : PeerEnd)
+    (before plans after : List Plan) (plan : Plan) → i < length old → drop i cur ≡ drop i old → e ≡ get_or cur i e
+    → plans ≡ before ++ map (peer_plan h) (take i old) → plan ≡ peer_plan h e → after ≡ plans ++ plan ∷ []
+    → after ≡ before ++ map (peer_plan h) (take (i + 1) old)
+peers_plans_more h old cur i e before plans after plan lt rest is p q a =
+    let x : e ≡ get_or old i e = end_at old cur i e rest is in
+    a ∙ (λ j. p j ++ (q ∙ ap (peer_plan h) x) j ∷ [])
+    ∙ append_assoc before (map (peer_plan h) (take i old)) (peer_plan h (get_or old i e) ∷ [])
+    ∙ ap (λ l. before ++ l) (sym (map_more (peer_plan h) old i e lt))
 
 -- ---- agents
 pub agents_told_more : (h : Holdings) (n : ℕ) (old cur : List AgentEnd) (i : ℕ) (e e' : AgentEnd) → i < length old
@@ -127,25 +132,6 @@ agents_told_more h n (x ∷ old) (y ∷ cur) (suc i) e e' lt long rest is told n
       (subst (λ m. IsAgentTold h m e e') (let z : n + suc i ≡ suc n + i = omega arith in z) now),
 )
 
-one_less : (es : List AgentEnd) (i : ℕ) → drop (suc i) es ≡ drop 1 (drop i es)
-one_less [] zero = refl
-one_less [] (suc i) = refl
-one_less (e ∷ es) zero = refl
-one_less (e ∷ es) (suc i) = one_less es i
-
-pub agents_rest_more : (old cur : List AgentEnd) (i : ℕ) (e' : AgentEnd) → drop i cur ≡ drop i old
-    → drop (suc i) (set cur i e') ≡ drop (suc i) old
-agents_rest_more old cur i e' rest =
-    drop-set-lt (suc i) cur i e' (omega arith) ∙ one_less cur i ∙ ap (drop 1) rest ∙ sym (one_less old i)
-
-same_at : (es : List AgentEnd) (i : ℕ) (d : AgentEnd) → get_or es i d ≡ get_or (drop i es) 0 d
-same_at es i d = ap (λ j. get_or es j d) (let z : i ≡ i + 0 = omega arith in z) ∙ sym (get_or-drop i es 0 d)
-
-agent_at : (old cur : List AgentEnd) (i : ℕ) (e : AgentEnd) → drop i cur ≡ drop i old
-    → e ≡ get_or cur i e → e ≡ get_or old i e
-agent_at old cur i e rest is =
-    is ∙ same_at cur i e ∙ ap (λ l. get_or l 0 e) rest ∙ sym (same_at old i e)
-
 agents_plans_take : (h : Holdings) (n : ℕ) (old : List AgentEnd) (i : ℕ) (d : AgentEnd) → i < length old
     → agent_plans h n (take (suc i) old) ≡ agent_plans h n (take i old) ++ agent_plan h (n + i) (get_or old i d) ∷ []
 agents_plans_take h n [] i d lt = absurd (omega (arith, lt))
@@ -160,7 +146,7 @@ pub agents_plans_more : (h : Holdings) (n : ℕ) (old cur : List AgentEnd) (i : 
     → plans ≡ before ++ agent_plans h n (take i old) → plan ≡ agent_plan h (n + i) e → after ≡ plans ++ plan ∷ []
     → after ≡ before ++ agent_plans h n (take (suc i) old)
 agents_plans_more h n old cur i e before plans after plan lt rest is p q a =
-    let x : e ≡ get_or old i e = agent_at old cur i e rest is in
+    let x : e ≡ get_or old i e = end_at old cur i e rest is in
     a ∙ (λ j. p j ++ (q ∙ ap (agent_plan h (n + i)) x) j ∷ [])
     ∙ append_assoc before (agent_plans h n (take i old)) (agent_plan h (n + i) (get_or old i e) ∷ [])
     ∙ ap (λ l. before ++ l) (sym (agents_plans_take h n old i e lt))

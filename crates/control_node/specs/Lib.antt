@@ -4,6 +4,7 @@ pub mod Wanting
 pub mod Beginning
 pub mod Ends
 pub mod Planning
+pub mod Tracking
 pub mod Places
 pub mod Stays
 pub mod Taking

@@ -1,17 +1,15 @@
 -- What the ends of a control node's sessions are told in a pass.
 use Rattle.std.specs.Prelude.{◌≡◌, ℕ, suc, ◌+◌, List, [], ◌∷◌, ◌++◌, map, length, Bool, not, if◌then◌else◌}
-use Rattle.ov_types.specs.declared.vpn.VpnKey.{VpnKey}
-use Rattle.ov_types.specs.declared.vpn.VpnRoute.{VpnRoute}
-use Rattle.control_wants.specs.Held.{told_in}
 use Rattle.node_core.specs.declared.ends.Plan.{Plan}
 use Rattle.node_items.specs.Beginning as item
 use Rattle.node_items.specs.Told as items
 use Rattle.node_model.specs.Maps.{Map, Change, difference}
 use Rattle.node_model.specs.Paths.{Holdings}
-use Rattle.node_model.specs.Wants.{wanted_by_agent, wanted_by_peers}
+use Rattle.node_model.specs.Wants.{wanted_by_peers}
 use Rattle.node_peers.specs.Beginning as route
 use Rattle.node_peers.specs.Told as routes
 use Rattle.vpn_tables.specs.Views.{peer_of}
+pub use Rattle.slice_laws.specs.Here.{wanted_on}
 use Rattle.control_node.specs.Wanting.{is_idle, is_up}
 use Rattle.control_node.specs.declared.ends.AgentEnd.{AgentEnd}
 use Rattle.control_node.specs.declared.ends.PeerEnd.{PeerEnd}
@@ -23,22 +21,25 @@ plan_of sends spelled sent wanted = record { messages = if sends then map spelle
 abbrev pub feed_plan : Plan
 feed_plan = record { messages = [] }
 
--- ---- a peer, which is told these routes
+-- ---- a peer, by what is held
 abbrev pub peer_sends : PeerEnd → Bool
 peer_sends e = is_up (route.phase_of e.session.state)
 
-abbrev pub peer_plan : List (VpnKey × VpnRoute) → PeerEnd → Plan
-peer_plan wanted e = plan_of (peer_sends e) routes.spelled (peer_of e.sent) (peer_of wanted)
+abbrev pub peer_plan : Holdings → PeerEnd → Plan
+peer_plan h e = plan_of (peer_sends e) routes.spelled (peer_of e.sent) (wanted_by_peers h)
 
-abbrev pub peer_told : List (VpnKey × VpnRoute) → PeerEnd → PeerEnd
-peer_told wanted e = if peer_sends e then record e { sent = wanted } else e
+pub record IsPeerTold (h : Holdings) (e e' : PeerEnd) : Type 0 where
+  pub session_stays : e'.session ≡ e.session
+  pub sent : peer_of e'.sent ≡ (if peer_sends e then wanted_by_peers h else peer_of e.sent)
+
+abbrev pub ArePeersTold : Holdings → List PeerEnd → List PeerEnd → Type 0
+ArePeersTold h [] [] = Unit {0}
+ArePeersTold h (e ∷ es) (e' ∷ es') = IsPeerTold h e e' × ArePeersTold h es es'
+ArePeersTold h _ _ = ⊥
 
 -- ---- an agent, by what is held
 abbrev pub agent_sends : AgentEnd → Bool
 agent_sends e = not (is_idle (item.phase_of e.session.state))
-
-abbrev pub wanted_on : Holdings → ℕ → Map
-wanted_on h session = wanted_by_agent h (told_in h.agents session)
 
 abbrev pub agent_plan : Holdings → ℕ → AgentEnd → Plan
 agent_plan h session e = plan_of (agent_sends e) items.spelled (items.down_of e.sent) (wanted_on h session)
@@ -62,9 +63,7 @@ AreAgentsTold h session _ _ = ⊥
 -- the feed is told nothing, the peers what they are to have, each agent what it is to have
 pub record ArePlanned (h : Holdings) (peers peers' : List PeerEnd) (agents agents' : List AgentEnd) (plans : List Plan)
     : Type 0 where
-  pub routes : List (VpnKey × VpnRoute)
-  pub wanted : peer_of routes ≡ wanted_by_peers h
-  pub peers_told : peers' ≡ map (peer_told routes) peers
+  pub peers_told : ArePeersTold h peers peers'
   pub agents_told : AreAgentsTold h (1 + length peers) agents agents'
   pub plans_are : plans
-      ≡ feed_plan ∷ (map (peer_plan routes) peers ++ agent_plans h (1 + length peers) agents)
+      ≡ feed_plan ∷ (map (peer_plan h) peers ++ agent_plans h (1 + length peers) agents)

@@ -77,6 +77,7 @@ impl ControlEnds {
         ensures begun { IfOk result (λ begun. IsBegun self.old.plan self.old.posts session (input.Opened session)
             begun.replies begun.cause self.new.posts) }
     {
+        self.dirty.add_address(self.tables.address_of(session));
         let end = &mut self.agents[place];
         let replies = greet_agent(self.alloc, end, &self.me.name)?;
         Ok(Started {
@@ -105,7 +106,13 @@ impl ControlEnds {
         ensures heard { IfOk result (λ begun. IsHeard self.old.plan self.old.posts session
             (input.Bytes session bytes.entry) begun.replies begun.cause self.new.posts) }
     {
-        let cause = hear_from_feed(self.alloc, &mut self.feed, &mut self.tables, bytes)?;
+        let cause = hear_from_feed(
+            self.alloc,
+            &mut self.feed,
+            &mut self.dirty,
+            &mut self.tables,
+            bytes,
+        )?;
         Ok(Started {
             replies: Items::new(self.alloc),
             cause: item_cause(cause),
@@ -124,6 +131,7 @@ impl ControlEnds {
         let heard = hear_from_peer(
             self.alloc,
             end,
+            &mut self.dirty,
             &mut self.tables,
             session,
             self.asn,
@@ -144,7 +152,14 @@ impl ControlEnds {
             (input.Bytes session bytes.entry) begun.replies begun.cause self.new.posts) }
     {
         let end = &mut self.agents[place];
-        let cause = hear_from_agent(self.alloc, end, &mut self.tables, session, bytes)?;
+        let cause = hear_from_agent(
+            self.alloc,
+            end,
+            &mut self.dirty,
+            &mut self.tables,
+            session,
+            bytes,
+        )?;
         Ok(Started {
             replies: Items::new(self.alloc),
             cause: item_cause(cause),

@@ -1,12 +1,15 @@
 //! Ends that are closed.
-ghost use Rattle.std.specs.Prelude.{◌≡◌, ◌<◌, ◌+◌, suc, length, slice_set};
+ghost use Rattle.std.specs.Prelude.{◌≡◌, ◌<◌, ◌+◌, suc, true, length, slice_set};
 ghost use Rattle.item_wire.specs.declared.event.ItemState.TheVariants as ItemState;
 ghost use Rattle.node_model.specs.Step.{nothing};
+ghost use Rattle.vpn_tables.specs.Changes.{without};
 ghost use Rattle.control_node.specs.Places.{IsPlace};
 ghost use Rattle.control_node.specs.Ends.{closed_peer, closed_agent};
 
 use crate::ends::{AgentEnd, ControlEnds, PeerEnd};
+use dirty_keys::Dirty;
 use item_wire::ItemSession;
+use vpn_tables::VpnTables;
 
 /// Where the end of a session stands.
 #[derive(Clone, Copy)]
@@ -53,13 +56,22 @@ fn shut_agent(end: &mut AgentEnd)
     end.sent.reset();
 }
 
+/// Nothing is held any more of a session, and everything is marked.
+fn lose(tables: &mut VpnTables, dirty: &mut Dirty, session: u16)
+    ensures tables { tables.new ≡ without tables.old session }
+    ensures all { dirty.new.all ≡ true }
+{
+    tables.drop_session(session);
+    dirty.set_all();
+}
+
 impl ControlEnds {
     fn close_feed(&mut self)
         ensures plan { self.new.plan ≡ self.old.plan }
         ensures closed { self.new.posts ≡ slice_set self.old.posts 0 nothing }
     {
         shut_feed(&mut self.feed);
-        self.tables.drop_session(0);
+        lose(&mut self.tables, &mut self.dirty, 0);
     }
 
     fn close_peer(&mut self, session: u16, place: usize)
@@ -69,7 +81,7 @@ impl ControlEnds {
         ensures closed { self.new.posts ≡ slice_set self.old.posts session nothing }
     {
         shut_peer(&mut self.peers[place]);
-        self.tables.drop_session(session);
+        lose(&mut self.tables, &mut self.dirty, session);
     }
 
     fn close_agent(&mut self, session: u16, place: usize)
@@ -79,7 +91,7 @@ impl ControlEnds {
         ensures closed { self.new.posts ≡ slice_set self.old.posts session nothing }
     {
         shut_agent(&mut self.agents[place]);
-        self.tables.drop_session(session);
+        lose(&mut self.tables, &mut self.dirty, session);
     }
 
     /// Closes an end: it is idle, and nothing was sent on it and nothing is held of it. It takes no memory.

@@ -10,8 +10,9 @@ ghost use Rattle.control_node.specs.Wanting.{idle_is_silent, is_idle, is_up, kin
 use crate::cause::NodeCause;
 use crate::closing::{Place, place_of};
 use crate::looking::{item_end, peer_end};
-use crate::planning::plan_all;
+use crate::planning::plan_marked;
 use bgp_session::{Session, State};
+use dirty_keys::Dirty;
 use item_wire::{ItemSession, ItemState};
 use node_core::{End, Ends, Plan, Started};
 use ov_link::Input;
@@ -58,6 +59,8 @@ pub(crate) struct ControlEnds {
     pub(crate) me: NodeId,
     pub(crate) asn: u32,
     pub(crate) tables: VpnTables,
+    /// What may have changed of what sessions are to be told, since the last pass.
+    pub(crate) dirty: Dirty,
     pub(crate) feed: ItemSession,
     /// Of session 1, 2 and so on.
     pub(crate) peers: Vec<PeerEnd>,
@@ -67,7 +70,8 @@ pub(crate) struct ControlEnds {
 }
 
 impl Model for ControlEnds {
-    ghost use Rattle.control_node.specs.Ends.{Ends as Seen, coded_ends, plan_of, posts_of, AreEnds};
+    ghost use Rattle.control_node.specs.Ends.{Ends as Seen, coded_ends, plan_of, posts_of};
+    ghost use Rattle.control_node.specs.Tracking.{AreEndsTracked};
 
     ghost Value = { Seen };
 
@@ -78,7 +82,7 @@ impl Model for ControlEnds {
       posts = posts_of s.feed.state s.peers.items s.agents.items s.tables;
     } };
 
-    ghost invariant = { λ s. AreEnds s.me s.asn s.feed s.peers.items s.agents.items s.tables };
+    ghost invariant = { λ s. AreEndsTracked s.me s.asn s.feed s.peers.items s.agents.items s.tables s.dirty };
 }
 
 impl Ends for ControlEnds {
@@ -122,7 +126,13 @@ impl Ends for ControlEnds {
     }
 
     fn plan(&mut self) -> Result<Vec<Plan>, NoMemory> {
-        plan_all(self.alloc, &self.tables, &mut self.peers, &mut self.agents)
+        plan_marked(
+            self.alloc,
+            &self.tables,
+            &mut self.dirty,
+            &mut self.peers,
+            &mut self.agents,
+        )
     }
 
     fn close(&mut self, session: u16) {

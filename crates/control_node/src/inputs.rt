@@ -1,5 +1,5 @@
 //! What inputs make of one end, and of what is held of its session.
-ghost use Rattle.std.specs.Prelude.{◌≡◌, ◌≢◌, ◌≤◌, ◌∷◌, [], List, length, map, IfOk};
+ghost use Rattle.std.specs.Prelude.{◌≡◌, ◌≢◌, ◌≤◌, ◌∷◌, [], List, true, false, length, map, IfOk};
 ghost use Rattle.ov_sync.specs.Embed.{moved_delta};
 ghost use Rattle.ov_sync.specs.declared.Delta.{Delta as DeltaOf};
 ghost use Rattle.ov_types.specs.declared.vpn.VpnKey.{VpnKey as KeyOf};
@@ -15,11 +15,15 @@ ghost use Rattle.node_model.specs.Values.{Route};
 ghost use Rattle.node_peers.specs.Hearing.{open_octets};
 ghost use Rattle.control_node.specs.Ends.{opened_agent, opened_peer};
 ghost use Rattle.control_node.specs.Stays.{StaysHeld};
+ghost use Rattle.dirty_keys.specs.Marks.{IsWithin};
+ghost use Rattle.control_node.specs.Planning.{agent_sends, peer_sends};
 ghost use Rattle.control_node.specs.Taking.{ItemsHeard, RoutesHeard, agent_by, feed_by, peer_by, taken};
+ghost use Rattle.control_node.specs.Tracking.{AreMarked};
 
 use crate::ends::{AgentEnd, PeerEnd};
 use crate::taking::{take_objects, take_publications, take_routes};
 use bgp_session::Cause;
+use dirty_keys::Dirty;
 use item_wire::{ItemCause, ItemSession};
 use ov_types::{Addr, Items, Name, NoMemory};
 use std::alloc::Global;
@@ -57,6 +61,7 @@ pub(crate) fn greet_agent(
 pub(crate) fn hear_from_feed(
     alloc: Global,
     feed: &mut ItemSession,
+    dirty: &mut Dirty,
     tables: &mut VpnTables,
     bytes: &[u8],
 ) -> Result<Option<ItemCause>, NoMemory>
@@ -67,14 +72,25 @@ pub(crate) fn hear_from_feed(
     ensures peer { feed.new.peer ≡ feed.old.peer }
     ensures from { feed.new.from ≡ feed.old.from }
     ensures stays { StaysHeld tables.old tables.new }
+    ensures marked { AreMarked dirty.old dirty.new tables.old tables.new }
 {
     let heard = node_items::hear(alloc, feed, bytes)?;
     match heard.cause {
         Some(cause) => Ok(Some(cause)),
         None => {
-            take_objects(tables, heard.records)?;
+            take_objects(dirty, tables, heard.records)?;
             Ok(None)
         }
+    }
+}
+
+/// Marks everything where an agent may not be told yet, since it may be told all from now on.
+fn mark_silent_agent(dirty: &mut Dirty, end: &AgentEnd)
+    ensures within { IsWithin dirty.old dirty.new }
+    ensures sends { dirty.new.all ≡ false → agent_sends end.now ≡ true }
+{
+    if !end.is_live() {
+        dirty.set_all();
     }
 }
 
@@ -82,6 +98,7 @@ pub(crate) fn hear_from_feed(
 pub(crate) fn hear_from_agent(
     alloc: Global,
     end: &mut AgentEnd,
+    dirty: &mut Dirty,
     tables: &mut VpnTables,
     session: u16,
     bytes: &[u8],
@@ -90,17 +107,20 @@ pub(crate) fn hear_from_agent(
     ensures heard { IfOk result (λ cause. (changes : List Change)
         × ItemsHeard end.old.session end.new.session bytes.now changes cause
         × (tables.new ≡ agent_by (taken cause changes) tables.old session)) }
+    ensures sends { dirty.new.all ≡ false → agent_sends end.old ≡ true }
     ensures id { end.new.id ≡ end.old.id }
     ensures sent { end.new.sent ≡ end.old.sent }
     ensures peer { end.new.session.peer ≡ end.old.session.peer }
     ensures from { end.new.session.from ≡ end.old.session.from }
     ensures stays { StaysHeld tables.old tables.new }
+    ensures marked { AreMarked dirty.old dirty.new tables.old tables.new }
 {
+    mark_silent_agent(dirty, end);
     let heard = node_items::hear(alloc, &mut end.session, bytes)?;
     match heard.cause {
         Some(cause) => Ok(Some(cause)),
         None => {
-            take_publications(tables, session, heard.records)?;
+            take_publications(dirty, tables, session, heard.records)?;
             Ok(None)
         }
     }
@@ -113,10 +133,21 @@ pub(crate) struct HeardPeer {
     pub(crate) cause: Option<Cause>,
 }
 
+/// Marks everything where a peer may not be told yet, since it may be told all from now on.
+fn mark_silent_peer(dirty: &mut Dirty, end: &PeerEnd)
+    ensures within { IsWithin dirty.old dirty.new }
+    ensures sends { dirty.new.all ≡ false → peer_sends end.now ≡ true }
+{
+    if !end.is_up() {
+        dirty.set_all();
+    }
+}
+
 /// Hears octets of a peer. Where there is a cause, the end is still to be closed.
 pub(crate) fn hear_from_peer(
     alloc: Global,
     end: &mut PeerEnd,
+    dirty: &mut Dirty,
     tables: &mut VpnTables,
     session: u16,
     asn: u32,
@@ -129,11 +160,14 @@ pub(crate) fn hear_from_peer(
     ensures heard { IfOk result (λ w. (changes : List (DeltaOf KeyOf RouteOf))
         × RoutesHeard me end.old.session end.new.session bytes.now w.replies changes w.cause
         × (tables.new ≡ peer_by (taken w.cause (map (moved_delta Vpn Route) changes)) tables.old session)) }
+    ensures sends { dirty.new.all ≡ false → peer_sends end.old ≡ true }
     ensures sent { end.new.sent ≡ end.old.sent }
     ensures asn { end.new.session.asn ≡ end.old.session.asn }
     ensures peer { end.new.session.peer ≡ end.old.session.peer }
     ensures stays { StaysHeld tables.old tables.new }
+    ensures marked { AreMarked dirty.old dirty.new tables.old tables.new }
 {
+    mark_silent_peer(dirty, end);
     let heard = node_peers::hear(alloc, &mut end.session, asn, me, bytes)?;
     match heard.cause {
         Some(cause) => Ok(HeardPeer {
@@ -141,7 +175,7 @@ pub(crate) fn hear_from_peer(
             cause: Some(cause),
         }),
         None => {
-            take_routes(tables, session, heard.changes)?;
+            take_routes(dirty, tables, session, heard.changes)?;
             Ok(HeardPeer {
                 replies: heard.replies,
                 cause: None,

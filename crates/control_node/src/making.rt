@@ -7,6 +7,7 @@ ghost use Rattle.control_node.specs.Made.{new_agent, new_ends, new_peer, none_to
 use crate::ends::{AgentEnd, ControlEnds, PeerEnd};
 use crate::plan::ControlPlan;
 use bgp_session::Session;
+use dirty_keys::Dirty;
 use item_wire::{ItemFrom, ItemSession};
 use node_items::config_name;
 use ov_sync::{Delta, SyncOut};
@@ -101,6 +102,7 @@ impl ControlEnds {
             me: plan.me,
             asn: plan.asn,
             tables,
+            dirty: Dirty::new(alloc),
             feed: ItemSession::new(config_name(), ItemFrom::Feed),
             peers,
             agents,

@@ -1,34 +1,36 @@
 //! The plans of a pass: what each session is to be told.
-ghost use Rattle.std.specs.Prelude.{◌≡◌, ◌<◌, ◌≤◌, ◌+◌, ◌^◌, ◌++◌, [], length, map, IfOk};
+ghost use Rattle.std.specs.Prelude.{◌≡◌, ◌<◌, ◌≤◌, ◌+◌, ◌^◌, ◌++◌, [], false, length, map, IfOk};
 ghost use Rattle.std.specs.List.{AllByRecursion};
 ghost use Rattle.ov_sync.specs.Embed.{moved_delta};
-ghost use Rattle.ov_sync.specs.Keyed.{Values, map_of};
 ghost use Rattle.bgp_vpn.specs.Written.{IfPut};
 ghost use Rattle.node_model.specs.Keys.{Vpn, of_down};
 ghost use Rattle.node_model.specs.Values.{Route};
 ghost use Rattle.node_items.specs.Told.{ChangeFits, down_value, spelled as spelled_item};
 ghost use Rattle.node_peers.specs.Told.{IsWritable, spelled as spelled_route};
 ghost use Rattle.control_wants.specs.Held.{HoldingsFit};
-ghost use Rattle.vpn_tables.specs.Views.{vpn_order};
 ghost use Rattle.control_node.specs.Ends.{IsAgentEnd};
 ghost use Rattle.control_node.specs.Planning.{
   AreAgentsTold,
+  ArePeersTold,
   ArePlanned,
   IsAgentTold,
+  IsPeerTold,
   agent_plan,
   agent_plans,
   feed_plan,
   peer_plan,
-  peer_told,
 };
+ghost use Rattle.control_node.specs.Tracking.{AreAgentsTracked, IsAgentTracked, IsPeerTracked, Tracks};
+ghost use Rattle.marked_sends.specs.Marked.{AreMarkedItems};
+ghost use Rattle.marked_sends.specs.Wanted.{AreRoutesWanted};
 
 use crate::ends::{AgentEnd, PeerEnd};
-use control_wants::{wanted_by_agent, wanted_by_peers};
+use dirty_keys::Dirty;
+use marked_sends::{MarkedItem, RoutesWanted, items_marked, routes_wanted, tell_agent, tell_peer};
 use node_core::Plan;
 use ov_sync::Delta;
 use ov_types::{DownKey, DownValue, Items, NoMemory, VpnKey, VpnRoute};
 use std::alloc::Global;
-use std::collections::BTreeMap;
 use vpn_tables::VpnTables;
 
 /// The octets of changes of routes, each a message.
@@ -66,19 +68,24 @@ fn spell_items(
 fn plan_peer(
     alloc: Global,
     end: &mut PeerEnd,
-    wanted: &BTreeMap<VpnKey, VpnRoute>,
+    tables: &VpnTables,
+    dirty: &Dirty,
+    wanted: &RoutesWanted,
 ) -> Result<Plan, NoMemory>
-    requires { Values (λ key route. IsWritable route) (map_of vpn_order wanted.now.entries) }
+    requires asn { tables.now.asn < 2 ^ 32 }
+    requires held { HoldingsFit tables.now }
+    requires wanted { AreRoutesWanted dirty.now tables.now wanted.now }
+    requires tracked { IsPeerTracked dirty.now tables.now end.old }
     ensures session { end.new.session ≡ end.old.session }
-    ensures told { IfOk result (λ plan. end.new ≡ peer_told wanted.now.entries end.old) }
-    ensures plan { IfOk result (λ plan. plan ≡ peer_plan wanted.now.entries end.old) }
+    ensures told { IfOk result (λ plan. IsPeerTold tables.now end.old end.new) }
+    ensures plan { IfOk result (λ plan. plan ≡ peer_plan tables.now end.old) }
 {
     if !end.is_up() {
         return Ok(Plan {
             messages: Items::new(alloc),
         });
     }
-    let changes = end.sent.replace(wanted)?;
+    let changes = tell_peer(alloc, &mut end.sent, tables, dirty, wanted)?;
     Ok(Plan {
         messages: spell_routes(alloc, &changes)?,
     })
@@ -89,10 +96,14 @@ fn plan_agent(
     alloc: Global,
     end: &mut AgentEnd,
     tables: &VpnTables,
+    dirty: &Dirty,
+    marked: &[MarkedItem],
     session: u16,
 ) -> Result<Plan, NoMemory>
     requires held { HoldingsFit tables.now }
     requires end { IsAgentEnd end.old }
+    requires marked { AreMarkedItems dirty.now tables.now marked.now }
+    requires tracked { IsAgentTracked dirty.now tables.now session end.old }
     ensures end { IsAgentEnd end.new }
     ensures id { end.new.id ≡ end.old.id }
     ensures told { IfOk result (λ plan. IsAgentTold tables.now session end.old end.new) }
@@ -103,8 +114,7 @@ fn plan_agent(
             messages: Items::new(alloc),
         });
     }
-    let wanted = wanted_by_agent(alloc, tables, session)?;
-    let changes = end.sent.replace(&wanted)?;
+    let changes = tell_agent(alloc, &mut end.sent, tables, session, dirty, marked)?;
     Ok(Plan {
         messages: spell_items(alloc, &changes)?,
     })
@@ -114,17 +124,21 @@ fn plan_agent(
 fn plan_peers(
     alloc: Global,
     ends: &mut [PeerEnd],
-    wanted: &BTreeMap<VpnKey, VpnRoute>,
+    tables: &VpnTables,
+    dirty: &Dirty,
+    wanted: &RoutesWanted,
     plans: &mut Vec<Plan>,
 ) -> Result<(), NoMemory>
-    requires { Values (λ key route. IsWritable route) (map_of vpn_order wanted.now.entries) }
+    requires asn { tables.now.asn < 2 ^ 32 }
+    requires held { HoldingsFit tables.now }
+    requires wanted { AreRoutesWanted dirty.now tables.now wanted.now }
+    requires tracked { dirty.now.all ≡ false → AllByRecursion (IsPeerTracked dirty.now tables.now) ends.old }
     ensures sessions { map (λ e. e.session) ends.new ≡ map (λ e. e.session) ends.old }
-    ensures told { IfOk result (λ _. ends.new ≡ map (peer_told wanted.now.entries) ends.old) }
-    ensures plans { IfOk result (λ _. plans.new.items
-        ≡ plans.old.items ++ map (peer_plan wanted.now.entries) ends.old) }
+    ensures told { IfOk result (λ _. ArePeersTold tables.now ends.old ends.new) }
+    ensures plans { IfOk result (λ _. plans.new.items ≡ plans.old.items ++ map (peer_plan tables.now) ends.old) }
 {
     for end in ends.iter_mut() {
-        plans.push(plan_peer(alloc, end, wanted)?)?;
+        plans.push(plan_peer(alloc, end, tables, dirty, wanted)?)?;
     }
     Ok(())
 }
@@ -134,12 +148,16 @@ fn plan_agents(
     alloc: Global,
     ends: &mut [AgentEnd],
     tables: &VpnTables,
+    dirty: &Dirty,
+    marked: &[MarkedItem],
     first: u16,
     plans: &mut Vec<Plan>,
 ) -> Result<(), NoMemory>
     requires few { first + length ends.old ≤ 65535 }
     requires held { HoldingsFit tables.now }
     requires ends { AllByRecursion IsAgentEnd ends.old }
+    requires marked { AreMarkedItems dirty.now tables.now marked.now }
+    requires tracked { dirty.now.all ≡ false → AreAgentsTracked dirty.now tables.now first ends.old }
     ensures ends { AllByRecursion IsAgentEnd ends.new }
     ensures ids { map (λ e. e.id) ends.new ≡ map (λ e. e.id) ends.old }
     ensures told { IfOk result (λ _. AreAgentsTold tables.now first ends.old ends.new) }
@@ -147,17 +165,19 @@ fn plan_agents(
 {
     let mut session = first;
     for end in ends.iter_mut() {
-        plans.push(plan_agent(alloc, end, tables, session)?)?;
+        plans.push(plan_agent(alloc, end, tables, dirty, marked, session)?)?;
         session += 1;
     }
     Ok(())
 }
 
 /// The plans of all sessions by what is held: the feed is told nothing, peers the routes that they are to have, agents
-/// their slices and rows.
-pub(crate) fn plan_all(
+/// their slices and rows. Where not everything is marked, it looks at the marked keys alone, and selects each of
+/// their rows once for all agents.
+fn plan_all(
     alloc: Global,
     tables: &VpnTables,
+    dirty: &Dirty,
     peers: &mut [PeerEnd],
     agents: &mut [AgentEnd],
 ) -> Result<Vec<Plan>, NoMemory>
@@ -165,18 +185,51 @@ pub(crate) fn plan_all(
     requires asn { tables.now.asn < 2 ^ 32 }
     requires held { HoldingsFit tables.now }
     requires agents { AllByRecursion IsAgentEnd agents.old }
+    requires tracked { Tracks dirty.now tables.now peers.old agents.old }
     ensures sessions { map (λ e. e.session) peers.new ≡ map (λ e. e.session) peers.old }
     ensures agents { AllByRecursion IsAgentEnd agents.new }
     ensures ids { map (λ e. e.id) agents.new ≡ map (λ e. e.id) agents.old }
     ensures told { IfOk result (λ plans. ArePlanned tables.now peers.old peers.new agents.old agents.new plans.items) }
 {
-    let wanted = wanted_by_peers(alloc, tables)?;
+    let wanted = routes_wanted(alloc, tables, dirty)?;
+    let marked = items_marked(alloc, tables, dirty)?;
     let first = 1 + peers.len() as u16;
     let mut plans = Vec::new(alloc);
     plans.push(Plan {
         messages: Items::new(alloc),
     })?;
-    plan_peers(alloc, peers, &wanted, &mut plans)?;
-    plan_agents(alloc, agents, tables, first, &mut plans)?;
+    plan_peers(alloc, peers, tables, dirty, &wanted, &mut plans)?;
+    plan_agents(alloc, agents, tables, dirty, &marked, first, &mut plans)?;
     Ok(plans)
+}
+
+/// The plans of all sessions by what is held, after which nothing is marked. Where memory is wanting, everything is.
+pub(crate) fn plan_marked(
+    alloc: Global,
+    tables: &VpnTables,
+    dirty: &mut Dirty,
+    peers: &mut [PeerEnd],
+    agents: &mut [AgentEnd],
+) -> Result<Vec<Plan>, NoMemory>
+    requires few { length peers.old + length agents.old < 65535 }
+    requires asn { tables.now.asn < 2 ^ 32 }
+    requires held { HoldingsFit tables.now }
+    requires agents { AllByRecursion IsAgentEnd agents.old }
+    requires tracked { Tracks dirty.old tables.now peers.old agents.old }
+    ensures sessions { map (λ e. e.session) peers.new ≡ map (λ e. e.session) peers.old }
+    ensures agents { AllByRecursion IsAgentEnd agents.new }
+    ensures ids { map (λ e. e.id) agents.new ≡ map (λ e. e.id) agents.old }
+    ensures told { IfOk result (λ plans. ArePlanned tables.now peers.old peers.new agents.old agents.new plans.items) }
+    ensures tracked { Tracks dirty.new tables.now peers.new agents.new }
+{
+    match plan_all(alloc, tables, dirty, peers, agents) {
+        Ok(plans) => {
+            dirty.clear();
+            Ok(plans)
+        }
+        Err(e) => {
+            dirty.set_all();
+            Err(e)
+        }
+    }
 }

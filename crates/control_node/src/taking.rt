@@ -1,4 +1,4 @@
-//! What was handed out on a session changes what is held.
+//! What was handed out on a session changes what is held, and marks what that may change of what is to be told.
 ghost use Rattle.std.specs.Prelude.{◌≡◌, ◌≤◌, ◌<◌, ◌^◌, length, map, OnOk, true};
 ghost use Rattle.std.specs.List.{AllByRecursion, filter_map};
 ghost use Rattle.ov_sync.specs.Embed.{moved_delta};
@@ -10,7 +10,9 @@ ghost use Rattle.node_model.specs.Keys.{Vpn};
 ghost use Rattle.node_model.specs.Values.{Route as RouteOf};
 ghost use Rattle.control_node.specs.Stays.{StaysHeld};
 ghost use Rattle.control_node.specs.Taking.{agent_by, changed_by, feed_by, peer_by};
+ghost use Rattle.control_node.specs.Tracking.{AreMarked};
 
+use dirty_keys::Dirty;
 use item_wire::Item;
 use node_items::{low_change, up_change};
 use ov_sync::Delta;
@@ -18,15 +20,16 @@ use ov_types::{NoMemory, VpnKey, VpnRoute};
 use vpn_tables::VpnTables;
 
 /// Applies a record of the feed.
-fn take_object(tables: &mut VpnTables, item: Item) -> Result<(), NoMemory>
+fn take_object(dirty: &mut Dirty, tables: &mut VpnTables, item: Item) -> Result<(), NoMemory>
     requires feed { is_of_feed item ≡ true }
     requires writable { IsWritable item }
     ensures ok { OnOk result (tables.new ≡ feed_by (λ m. changed_by m (change_of item)) tables.old) }
     ensures stays { StaysHeld tables.old tables.new }
+    ensures marked { AreMarked dirty.old dirty.new tables.old tables.new }
 {
     match low_change(item) {
         Some(delta) => {
-            tables.set_low(delta)?;
+            dirty.set_low(tables, delta)?;
             Ok(())
         }
         None => Ok(()),
@@ -34,28 +37,39 @@ fn take_object(tables: &mut VpnTables, item: Item) -> Result<(), NoMemory>
 }
 
 /// Applies the records of the feed in order.
-pub(crate) fn take_objects(tables: &mut VpnTables, records: Vec<Item>) -> Result<(), NoMemory>
+pub(crate) fn take_objects(
+    dirty: &mut Dirty,
+    tables: &mut VpnTables,
+    records: Vec<Item>,
+) -> Result<(), NoMemory>
     requires feed { AllByRecursion (λ i. is_of_feed i ≡ true) records.items }
     requires writable { AllByRecursion IsWritable records.items }
     ensures ok { OnOk result (tables.new ≡ feed_by (λ m. after m (filter_map change_of records.items)) tables.old) }
     ensures stays { StaysHeld tables.old tables.new }
+    ensures marked { AreMarked dirty.old dirty.new tables.old tables.new }
 {
     for item in records {
-        take_object(tables, item)?;
+        take_object(dirty, tables, item)?;
     }
     Ok(())
 }
 
 /// Applies a record of an agent.
-fn take_publication(tables: &mut VpnTables, session: u16, item: Item) -> Result<(), NoMemory>
+fn take_publication(
+    dirty: &mut Dirty,
+    tables: &mut VpnTables,
+    session: u16,
+    item: Item,
+) -> Result<(), NoMemory>
     requires agent { is_of_agent item ≡ true }
     requires writable { IsWritable item }
     ensures ok { OnOk result (tables.new ≡ agent_by (λ m. changed_by m (change_of item)) tables.old session) }
     ensures stays { StaysHeld tables.old tables.new }
+    ensures marked { AreMarked dirty.old dirty.new tables.old tables.new }
 {
     match up_change(item) {
         Some(delta) => {
-            tables.set_publication(session, delta)?;
+            dirty.set_publication(tables, session, delta)?;
             Ok(())
         }
         None => Ok(()),
@@ -64,6 +78,7 @@ fn take_publication(tables: &mut VpnTables, session: u16, item: Item) -> Result<
 
 /// Applies the records of an agent in order.
 pub(crate) fn take_publications(
+    dirty: &mut Dirty,
     tables: &mut VpnTables,
     session: u16,
     records: Vec<Item>,
@@ -73,15 +88,17 @@ pub(crate) fn take_publications(
     ensures ok { OnOk result (tables.new
         ≡ agent_by (λ m. after m (filter_map change_of records.items)) tables.old session) }
     ensures stays { StaysHeld tables.old tables.new }
+    ensures marked { AreMarked dirty.old dirty.new tables.old tables.new }
 {
     for item in records {
-        take_publication(tables, session, item)?;
+        take_publication(dirty, tables, session, item)?;
     }
     Ok(())
 }
 
 /// Applies the changes of routes of a peer in order.
 pub(crate) fn take_routes(
+    dirty: &mut Dirty,
     tables: &mut VpnTables,
     session: u16,
     changes: Vec<Delta<VpnKey, VpnRoute>>,
@@ -91,9 +108,10 @@ pub(crate) fn take_routes(
     ensures ok { OnOk result (tables.new
         ≡ peer_by (λ m. after m (map (moved_delta Vpn RouteOf) changes.items)) tables.old session) }
     ensures stays { StaysHeld tables.old tables.new }
+    ensures marked { AreMarked dirty.old dirty.new tables.old tables.new }
 {
     for change in changes {
-        tables.set_peer_route(session, change)?;
+        dirty.set_peer_route(tables, session, change)?;
     }
     Ok(())
 }

@@ -1,6 +1,5 @@
 -- Marks of what peers and agents told cover what it changes.
-use Rattle.std.specs.Prelude.{◌≡◌, ◌≢◌, ◌⊎◌, ◌<◌, ◌+◌, ℕ, zero, suc, List, [], ◌∷◌, ◌++◌, map, take, length, get_or, true, false}
-use Rattle.std.specs.declared.option.Option.{Option}
+use Rattle.std.specs.Prelude.{◌≡◌, ◌⊎◌, ◌<◌, ℕ, zero, suc, List, [], ◌∷◌, ◌++◌, map, take, length, get_or, false}
 use Rattle.std.specs.declared.option.Option.TheVariants.{Some, None}
 use Rattle.std.specs.FinMap.{find, get, get-from_entries}
 use Rattle.std.proofs.Common.{refl, sym, ◌∙◌, ap, subst, inl, inr, arith}
@@ -11,7 +10,6 @@ use Rattle.ov_types.specs.declared.numbers.InstanceId.{InstanceId}
 use Rattle.ov_types.specs.declared.numbers.Label.{Label as LabelNo}
 use Rattle.ov_types.specs.declared.objects.LowKey.{LowKey}
 use Rattle.ov_types.specs.declared.prefix.Addr.{Addr}
-use Rattle.ov_types.specs.declared.targets.Target.{Target}
 use Rattle.ov_types.specs.declared.vpn.VpnKey.{VpnKey}
 use Rattle.ov_types.specs.declared.vpn.VpnRoute.{VpnRoute}
 use Rattle.ov_sync.specs.declared.Delta.{Delta}
@@ -20,7 +18,6 @@ use Rattle.node_model.specs.Keys.{Key, Low, Publish, Row, Subscribe, Vpn, key_cm
 use Rattle.node_model.specs.Members.{Member}
 use Rattle.node_model.specs.Paths.{Holdings, Path, own_paths}
 use Rattle.node_model.specs.Reaching.{AreShort, reoriginated}
-use Rattle.node_model.specs.Tables.{table}
 use Rattle.node_model.specs.Wants.{route_entry, wanted_by_peers}
 use Rattle.node_model.proofs.Orders.{key_total}
 use Rattle.vpn_tables.specs.Changes.{with_publication, with_route}
@@ -33,7 +30,6 @@ use Rattle.touched_laws.proofs.Touching as touching
 use Rattle.slice_laws.specs.Here.{wanted_on}
 use Rattle.slice_laws.proofs.Agents.{publication_address, publication_rows, route_address, route_rows, subscription_elsewhere}
 use Rattle.dirty_keys.specs.Marks.{AreRoutesMarked, AreRowsMarked, Covers, IsCleanItem, IsCleanRoute, IsWithin, Marks}
-use Rattle.dirty_keys.proofs.Growing.{within_then}
 
 -- ---- marks stay as others are added
 pub rows_stay : (d d' : Marks) (rows : List (InstanceId × Block)) → AreRowsMarked d rows → IsWithin d d' → AreRowsMarked d' rows

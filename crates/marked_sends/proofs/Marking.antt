@@ -4,9 +4,7 @@ use Rattle.std.specs.declared.option.Option.{Option}
 use Rattle.std.specs.List.{AllByRecursion, list_any}
 use Rattle.std.specs.Ordering.{eq_by_cmp, is_eq}
 use Rattle.std.specs.Cmp.{tied_itself}
-use Rattle.std.specs.FinMap.{get}
-use Rattle.std.proofs.Common.{refl, sym, ◌∙◌, ap, subst, inl, inr}
-use Rattle.ov_sync.specs.declared.Delta.{Delta}
+use Rattle.std.proofs.Common.{refl, sym, ◌∙◌, ap, inl, inr}
 use Rattle.ov_sync.specs.Embed.{moved_delta}
 use Rattle.ov_sync.specs.Keyed as keyed
 use Rattle.ov_sync.specs.Keyed.{AgreeBut, map_of}
@@ -30,7 +28,7 @@ use Rattle.node_model.proofs.Orders.{key_total}
 use Rattle.vpn_tables.specs.Listing.{told_in}
 use Rattle.vpn_tables.specs.Views.{peer_of}
 use Rattle.slice_laws.specs.Here.{wanted_on}
-use Rattle.dirty_keys.specs.Marks.{IsCleanItem, IsCleanRoute, Marks}
+use Rattle.dirty_keys.specs.Marks.{Marks}
 use Rattle.key_sends.proofs.Images.{agree}
 use Rattle.marked_sends.specs.Wanted.{AreItems, AreRoutes, IsSentToAgent, IsSentToPeer}
 

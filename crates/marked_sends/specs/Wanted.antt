@@ -9,7 +9,7 @@ use Rattle.ov_types.specs.declared.keys.DownKey.{DownKey}
 use Rattle.ov_types.specs.declared.keys.DownValue.{DownValue}
 use Rattle.ov_types.specs.declared.vpn.VpnKey.{VpnKey}
 use Rattle.ov_types.specs.declared.vpn.VpnRoute.{VpnRoute}
-use Rattle.node_items.specs.Told.{down_of, down_value}
+use Rattle.node_items.specs.Told.{down_value}
 use Rattle.node_model.specs.Directions.{down_order, vpn_order}
 use Rattle.node_model.specs.Keys.{Key, Vpn, of_down}
 use Rattle.node_model.specs.Maps.{Map}

@@ -1,5 +1,6 @@
 //! What agents are told.
 ghost use Rattle.std.specs.Prelude.{◌≡◌, [], false, map, IfOk, OnErr, OnOk};
+ghost use Rattle.std.specs.List.{AllByRecursion};
 ghost use Rattle.ov_sync.specs.Embed.{moved_delta};
 ghost use Rattle.node_items.specs.Told.{down_of, down_value};
 ghost use Rattle.node_model.specs.Keys.{of_down};
@@ -7,9 +8,12 @@ ghost use Rattle.node_model.specs.Maps.{difference};
 ghost use Rattle.node_model.specs.Members.{Member};
 ghost use Rattle.vpn_tables.specs.Listing.{told_in};
 ghost use Rattle.slice_laws.specs.Here.{wanted_on};
+ghost use Rattle.dirty_keys.specs.Marks.{Marks};
+ghost use Rattle.marked_sends.specs.Marked.{AreMarkedItems, HasItsRow};
 ghost use Rattle.marked_sends.specs.Wanted.{AreItems, IsSentToAgent};
 
-use control_wants::{wanted_by_agent, wanted_down};
+use crate::marked::{MarkedItem, key_of, value_of};
+use control_wants::wanted_by_agent;
 use dirty_keys::Dirty;
 use key_sends::tell_items;
 use ov_sync::{Delta, SyncOut};
@@ -17,18 +21,21 @@ use ov_types::{DownKey, DownValue, NoMemory};
 use std::alloc::Global;
 use vpn_tables::VpnTables;
 
+/// What the agent of a session is to have been told of what is marked.
 fn marked_items(
     alloc: Global,
     tables: &VpnTables,
     session: u16,
-    dirty: &Dirty,
+    marked: &[MarkedItem],
 ) -> Result<Vec<(DownKey, Option<DownValue>)>, NoMemory>
-    ensures { IfOk result (λ wanted. AreItems dirty.now tables.now session wanted.items) }
+    requires { AllByRecursion (HasItsRow tables.now) marked.now }
+    ensures { IfOk result (λ wanted. (d : Marks) → AreMarkedItems d tables.now marked.now
+        → AreItems d tables.now session wanted.items) }
 {
     let mut wanted = Vec::new(alloc);
-    for (key, _marked) in dirty.items() {
-        let value = wanted_down(tables, session, key)?;
-        wanted.push((*key, value))?;
+    for item in marked {
+        let value = value_of(tables, session, item)?;
+        wanted.push((key_of(item), value))?;
     }
     Ok(wanted)
 }
@@ -54,7 +61,9 @@ fn tell_marked(
     tables: &VpnTables,
     session: u16,
     dirty: &Dirty,
+    marked: &[MarkedItem],
 ) -> Result<Vec<Delta<DownKey, DownValue>>, NoMemory>
+    requires marked { AreMarkedItems dirty.now tables.now marked.now }
     requires tracked { IsSentToAgent dirty.now tables.now session (down_of sent.old) }
     requires not_all { dirty.now.all ≡ false }
     requires elsewhere { Member (told_in tables.now.agents session).address dirty.now.addresses → ⊥ }
@@ -62,7 +71,7 @@ fn tell_marked(
         ≡ difference (down_of sent.old) (wanted_on tables.now session)) }
     ensures sent { OnOk result (down_of sent.new ≡ wanted_on tables.now session) }
 {
-    let wanted = marked_items(alloc, tables, session, dirty)?;
+    let wanted = marked_items(alloc, tables, session, marked)?;
     tell_items(alloc, sent, wanted.as_slice())
 }
 
@@ -73,8 +82,10 @@ pub fn tell_agent(
     tables: &VpnTables,
     session: u16,
     dirty: &Dirty,
+    marked: &[MarkedItem],
 ) -> Result<Vec<Delta<DownKey, DownValue>>, NoMemory>
-    requires { IsSentToAgent dirty.now tables.now session (down_of sent.old) }
+    requires marked { AreMarkedItems dirty.now tables.now marked.now }
+    requires tracked { IsSentToAgent dirty.now tables.now session (down_of sent.old) }
     ensures changes { IfOk result (λ changes. map (moved_delta of_down down_value) changes.items
         ≡ difference (down_of sent.old) (wanted_on tables.now session)) }
     ensures sent { OnOk result (down_of sent.new ≡ wanted_on tables.now session) }
@@ -83,7 +94,7 @@ pub fn tell_agent(
     let told = if dirty.is_whole(tables.address_of(session)) {
         tell_whole(alloc, sent, tables, session)
     } else {
-        tell_marked(alloc, sent, tables, session, dirty)
+        tell_marked(alloc, sent, tables, session, dirty, marked)
     };
     match told {
         Ok(changes) => Ok(changes),

@@ -2,7 +2,9 @@
 #![tactic(auto)]
 
 mod items;
+mod marked;
 mod routes;
 
 pub use items::tell_agent;
+pub use marked::{MarkedItem, items_marked};
 pub use routes::{RoutesWanted, routes_wanted, tell_peer};

@@ -1,10 +1,8 @@
 -- What agents are to be told, as a peer or an agent tells something.
 use Rattle.std.specs.Prelude.{◌≡◌, ◌≢◌, ℕ, zero, suc, List, [], ◌∷◌, ◌++◌, true, false, cond, map, ◌==◌, nat_lt}
-use Rattle.std.specs.declared.option.Option.{Option}
-use Rattle.std.specs.declared.option.Option.TheVariants.{Some, None}
-use Rattle.std.specs.List.{filter_map, flat_map}
-use Rattle.std.specs.FinMap.{find, from_entries, get, get-from_entries}
-use Rattle.std.proofs.Common.{refl, sym, ◌∙◌, ap, subst, arith}
+use Rattle.std.specs.List.{flat_map}
+use Rattle.std.specs.FinMap.{from_entries, get, get-from_entries}
+use Rattle.std.proofs.Common.{refl, sym, ◌∙◌, ap, arith}
 use Rattle.std.proofs.lemmas.Bool.Decides.{nat_tests}
 use Rattle.ov_types.specs.Prefix.{Block}
 use Rattle.ov_types.specs.declared.keys.UpKey.{UpKey}
@@ -13,7 +11,6 @@ use Rattle.ov_types.specs.declared.numbers.InstanceId.{InstanceId}
 use Rattle.ov_types.specs.declared.numbers.Label.{Label as LabelNo}
 use Rattle.ov_types.specs.declared.objects.LowKey.{LowKey}
 use Rattle.ov_types.specs.declared.objects.LowValue.{LowValue}
-use Rattle.ov_types.specs.declared.prefix.Addr.{Addr}
 use Rattle.ov_types.specs.declared.vpn.VpnKey.{VpnKey}
 use Rattle.ov_types.specs.declared.vpn.VpnRoute.{VpnRoute}
 use Rattle.ov_sync.specs.declared.Delta.{Delta}
@@ -22,7 +19,7 @@ use Rattle.ov_sync.specs.Embed.{moved_delta}
 use Rattle.ov_sync.specs.Keyed.{changed, key_of}
 use Rattle.node_model.specs.Keys.{Key, Row, key_cmp, of_up}
 use Rattle.node_model.specs.Values.{Label}
-use Rattle.node_model.specs.Maps.{Map, Change}
+use Rattle.node_model.specs.Maps.{Map}
 use Rattle.node_model.specs.Paths.{Holdings, Told}
 use Rattle.node_model.specs.Reaching.{AreShort}
 use Rattle.node_model.specs.Tables.{table}

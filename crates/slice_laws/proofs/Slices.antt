@@ -1,5 +1,5 @@
 -- Slices, as an object changes that is attached elsewhere.
-use Rattle.std.specs.Prelude.{◌≡◌, ◌≢◌, ℕ, List, [], ◌∷◌, ◌++◌, Bool, true, false, cond, map, ◌&&◌, ◌==◌}
+use Rattle.std.specs.Prelude.{◌≡◌, ◌≢◌, ℕ, List, ◌++◌, Bool, true, false, cond, map, ◌&&◌, ◌==◌}
 use Rattle.std.specs.declared.option.Option.{Option}
 use Rattle.std.specs.declared.option.Option.TheVariants.{Some, None}
 use Rattle.std.specs.List.{cons_option, filter, filter_map, flat_map, list_any}
@@ -19,9 +19,8 @@ use Rattle.ov_sync.specs.Embed.{moved_delta}
 use Rattle.ov_sync.specs.Keyed.{changed, key_of}
 use Rattle.node_model.specs.Keys.{Key, Low, Vpn, Row, Publish, Subscribe, key_cmp}
 use Rattle.node_model.specs.Values.{Value, Object, Route, Entry, Label}
-use Rattle.node_model.specs.Maps.{Map, Change, as_object, low_entry, object, objects}
+use Rattle.node_model.specs.Maps.{Map, as_object, low_entry, object, objects}
 use Rattle.node_model.specs.Paths.{Holdings, Told}
-use Rattle.node_model.specs.Tables.{table}
 use Rattle.node_model.specs.Wants.{is_at, is_in_slice, networks_at, port_at, rows_of, slice, slice_entry, subscriptions, wanted_by_agent}
 use Rattle.node_model.proofs.Orders.{key_exact, key_total}
 use Rattle.vpn_tables.specs.Changes.{with_low}

@@ -8,5 +8,5 @@ use Rattle.control_node.proofs.taking.take_object.Goals as goal
 pub returns-in_ok-set_low-in-Some-clause-stays : goal.returns-in_ok-set_low-in-Some-clause-stays
 returns-in_ok-set_low-in-Some-clause-stays c =
     let held = c.args.tables.now in
-    let is = feed-changed held c.set_low.new.self c.args.item c.in-Some.delta c.in_ok-set_low-in-Some.ensures.ok (c.in-Some.ensures c.requires.feed) in
+    let is = feed-changed held c.set_low.new.tables c.args.item c.in-Some.delta c.in_ok-set_low-in-Some.ensures.ok (c.in-Some.ensures c.requires.feed) in
     subst (StaysHeld held) (sym is) (stays-feed (λ m. changed_by m (change_of c.args.item)) held (by_record c.args.item c.requires.writable))

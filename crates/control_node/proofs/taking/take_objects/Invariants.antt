@@ -5,11 +5,13 @@ use Rattle.item_wire.specs.Inputs.{is_of_feed}
 use Rattle.node_items.specs.Told.{IsWritable, change_of}
 use Rattle.control_node.specs.Stays.{StaysHeld}
 use Rattle.control_node.specs.Taking.{feed_by}
+use Rattle.control_node.specs.Tracking.{AreMarked}
 use Rattle.control_node.proofs.taking.take_objects.Given as goal
 
 abbrev pub invariant-loop-item : goal.invariant-loop-item
 invariant-loop-item l = record {
   stays : StaysHeld l.fn.tables l.tables;
+  marked : AreMarked l.fn.dirty l.dirty l.fn.tables l.tables;
   rest : feed_by (λ m. after m (filter_map change_of l.item-iterator.rest.items)) l.tables
       ≡ feed_by (λ m. after m (filter_map change_of l.fn.records.items)) l.fn.tables;
   feed : AllByRecursion (λ i. is_of_feed i ≡ true) l.item-iterator.rest.items;

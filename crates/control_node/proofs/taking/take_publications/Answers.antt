@@ -4,9 +4,25 @@ use Rattle.ov_sync.specs.Keyed.{after}
 use Rattle.item_wire.specs.declared.item.Item.{Item}
 use Rattle.node_items.specs.Told.{change_of}
 use Rattle.control_node.specs.Taking.{agent_by}
-use Rattle.control_node.proofs.Applied.{agent-next, agent-same, stays-then}
+use Rattle.control_node.proofs.Applied.{agent-next, agent-same, stays-same, stays-then}
 use Rattle.control_node.proofs.Iterated.{none_left}
+use Rattle.control_node.proofs.Tracking.{marked_itself, marked_then}
 use Rattle.control_node.proofs.taking.take_publications.Goals as goal
+
+pub loop-item-init : goal.loop-item-init
+loop-item-init c =
+    let all = c.into_iter-item-iterator.ensures.into_iter_gives.0 in
+    record {
+      stays = stays-same c.args.tables.now;
+      marked = marked_itself c.args.dirty.now c.args.tables.now;
+      rest = ap (λ (items : List Item). agent_by (λ m. after m (filter_map change_of items)) c.args.tables.now c.args.session) all;
+      agent = rw all c.requires.agent;
+      writable = rw all c.requires.writable;
+    }
+
+pub returns-in_err-take_publication-clause-marked : goal.returns-in_err-take_publication-clause-marked
+returns-in_err-take_publication-clause-marked c =
+    marked_then _ _ _ _ _ _ c.loop-item.invariant.marked c.in_err-take_publication.ensures.marked
 
 pub loop-item-preserved : goal.loop-item-preserved
 loop-item-preserved c =
@@ -15,6 +31,7 @@ loop-item-preserved c =
     let next = c.in-Some.ensures.steps.0 in
     record {
       stays = stays-then _ _ _ inv.stays c.in_ok-take_publication.ensures.stays;
+      marked = marked_then _ _ _ _ _ _ inv.marked c.in_ok-take_publication.ensures.marked;
       rest = agent-next held c.take_publication.new.tables c.args.session c.in-Some.item c.next.new.self.rest.items c.in_ok-take_publication.ensures.ok
           ∙ ap (λ (items : List Item). agent_by (λ m. after m (filter_map change_of items)) held c.args.session) (sym next) ∙ inv.rest;
       agent = (rw next at inv.agent).1;

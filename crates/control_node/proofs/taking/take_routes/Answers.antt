@@ -9,7 +9,13 @@ use Rattle.node_model.specs.Values.{Route}
 use Rattle.control_node.specs.Taking.{peer_by}
 use Rattle.control_node.proofs.Applied.{peer-next, peer-same, stays-route, stays-same, stays-then}
 use Rattle.control_node.proofs.Iterated.{none_left}
+use Rattle.control_node.proofs.Tracking.{marked_itself, marked_then}
 use Rattle.control_node.proofs.taking.take_routes.Goals as goal
+
+pub returns-in_err-set_peer_route-clause-marked : goal.returns-in_err-set_peer_route-clause-marked
+returns-in_err-set_peer_route-clause-marked c =
+    marked_then _ _ _ _ _ _ c.loop-change.invariant.marked
+    (record { within = c.in_err-set_peer_route.ensures.within; covers = c.in_err-set_peer_route.ensures.covers })
 
 pub loop-change-init : goal.loop-change-init
 loop-change-init c =
@@ -18,6 +24,7 @@ loop-change-init c =
       stays = stays-same c.args.tables.now;
       rest = ap (λ (changes : List (Delta VpnKey VpnRoute)). peer_by (λ m. after m (map (moved_delta Vpn Route) changes)) c.args.tables.now c.args.session) all;
       labels = rw all c.requires.labels;
+      marked = marked_itself c.args.dirty.now c.args.tables.now;
     }
 
 pub loop-change-preserved : goal.loop-change-preserved
@@ -30,9 +37,11 @@ loop-change-preserved c =
     let told = c.in_ok-set_peer_route.ensures.ok in
     record {
       stays = stays-then _ _ _ inv.stays (rw told (stays-route held c.args.session c.in-Some.change known labels.0));
-      rest = peer-next held c.set_peer_route.new.self c.args.session c.in-Some.change c.next.new.self.rest.items known told
+      rest = peer-next held c.set_peer_route.new.tables c.args.session c.in-Some.change c.next.new.self.rest.items known told
           ∙ ap (λ (changes : List (Delta VpnKey VpnRoute)). peer_by (λ m. after m (map (moved_delta Vpn Route) changes)) held c.args.session) (sym next) ∙ inv.rest;
       labels = labels.1;
+      marked = marked_then _ _ _ _ _ _ inv.marked
+          (record { within = c.in_ok-set_peer_route.ensures.within; covers = c.in_ok-set_peer_route.ensures.covers });
     }
 
 pub returns-clause-ok : goal.returns-clause-ok

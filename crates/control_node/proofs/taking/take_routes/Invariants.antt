@@ -7,11 +7,13 @@ use Rattle.node_model.specs.Keys.{Vpn}
 use Rattle.node_model.specs.Values.{Route}
 use Rattle.control_node.specs.Stays.{StaysHeld}
 use Rattle.control_node.specs.Taking.{peer_by}
+use Rattle.control_node.specs.Tracking.{AreMarked}
 use Rattle.control_node.proofs.taking.take_routes.Given as goal
 
 abbrev pub invariant-loop-change : goal.invariant-loop-change
 invariant-loop-change l = record {
   stays : StaysHeld l.fn.tables l.tables;
+  marked : AreMarked l.fn.dirty l.dirty l.fn.tables l.tables;
   rest : peer_by (λ m. after m (map (moved_delta Vpn Route) l.change-iterator.rest.items)) l.tables l.session
       ≡ peer_by (λ m. after m (map (moved_delta Vpn Route) l.fn.changes.items)) l.fn.tables l.session;
   labels : AllByRecursion (λ d. IfPut d (λ route. route.label.0 < 2 ^ 20)) l.change-iterator.rest.items;

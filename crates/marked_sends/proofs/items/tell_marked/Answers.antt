@@ -14,7 +14,7 @@ returns-clause-changes c =
     let d = c.args.dirty.now in
     let h = c.args.tables.now in
     let s = c.args.session in
-    let are = subst (λ (es : List (DownKey × Option DownValue)). AreItems d h s es) (sym c.as_slice.ensures.value) c.in_ok-wanted.ensures in
+    let are = subst (λ (es : List (DownKey × Option DownValue)). AreItems d h s es) (sym c.as_slice.ensures.value) (c.in_ok-wanted.ensures d c.requires.marked) in
     IfOk-weaker c.tell_items.result _ _ (λ changes e.
     e (wanted_on h s) are.each (items_agree d h s (down_of c.args.sent.now) c.as_slice.result.now c.requires.not_all c.requires.elsewhere are c.requires.tracked)) c.tell_items.ensures.changes
 
@@ -23,6 +23,6 @@ returns-clause-sent c =
     let d = c.args.dirty.now in
     let h = c.args.tables.now in
     let s = c.args.session in
-    let are = subst (λ (es : List (DownKey × Option DownValue)). AreItems d h s es) (sym c.as_slice.ensures.value) c.in_ok-wanted.ensures in
+    let are = subst (λ (es : List (DownKey × Option DownValue)). AreItems d h s es) (sym c.as_slice.ensures.value) (c.in_ok-wanted.ensures d c.requires.marked) in
     on_ok_weaker c.tell_items.result (λ e.
     e (wanted_on h s) are.each (items_agree d h s (down_of c.args.sent.now) c.as_slice.result.now c.requires.not_all c.requires.elsewhere are c.requires.tracked)) c.tell_items.ensures.sent

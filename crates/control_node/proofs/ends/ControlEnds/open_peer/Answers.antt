@@ -16,7 +16,7 @@ greet_peer-requires-clause-idle c =
     let lt = among (λ (e : PeerEnd). e.session.peer) inside.peers.items c.args.self.now.plan.peers c.args.place (ap (λ (v : Ends). v.plan.peers) c.self.view_is) c.requires.among in
     let idle = ap (λ (v : Ends). is_idle (post v.posts c.args.session).phase) c.self.view_is ∙ c.requires.idle in
     ap (λ (e : PeerEnd). e.session.state) c.index_mut-end.ensures.value
-    ∙ peer_is_idle inside.me inside.asn inside.feed inside.peers.items inside.agents.items inside.tables c.self.invariant c.args.session c.args.place c.index_mut-end.result.now c.requires.session lt idle
+    ∙ peer_is_idle inside.me inside.asn inside.feed inside.peers.items inside.agents.items inside.tables c.self.invariant.ends c.args.session c.args.place c.index_mut-end.result.now c.requires.session lt idle
 
 pub returns-in_err-replies-clause-plan : goal.returns-in_err-replies-clause-plan
 returns-in_err-replies-clause-plan c =
@@ -37,6 +37,6 @@ returns-clause-begun c =
     let lt = among (λ (e : PeerEnd). e.session.peer) inside.peers.items c.args.self.now.plan.peers c.args.place (ap (λ (v : Ends). v.plan.peers) c.self.view_is) c.requires.among in
     let posts = posts_of inside.feed.state (set inside.peers.items c.args.place c.greet_peer.new.end) inside.agents.items inside.tables in
     subst (λ (v : Ends). IsBegun v.plan v.posts s (input.Opened s) c.in_ok-replies.replies None posts) c.self.view_is (
-    peer-opened inside.me inside.asn inside.feed inside.peers.items inside.agents.items inside.tables c.self.invariant s c.args.place
+    peer-opened inside.me inside.asn inside.feed inside.peers.items inside.agents.items inside.tables c.self.invariant.ends s c.args.place
     c.greet_peer.new.end c.index_mut-end.result.now c.in_ok-replies.replies c.requires.session lt
     (c.in_ok-replies.ensures.opened ∙ ap opened_peer c.index_mut-end.ensures.value) c.in_ok-replies.ensures.hello)

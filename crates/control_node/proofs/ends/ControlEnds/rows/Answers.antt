@@ -18,7 +18,7 @@ returns-clause-shown c =
     let inside = c.self.inside in
     if_ok c.rows.result (λ shown. shown ≡ rows inside.tables) _
     (λ shown e. e
-    ∙ ap rows (sym (holdings_are inside.me inside.asn inside.feed inside.peers.items inside.agents.items inside.tables c.self.invariant))
+    ∙ ap rows (sym (holdings_are inside.me inside.asn inside.feed inside.peers.items inside.agents.items inside.tables c.self.invariant.ends))
     ∙ ap (λ (v : Ends). rows (holdings v.plan v.posts)) c.self.view_is)
     c.rows.ensures
 
@@ -27,5 +27,5 @@ returns-clause-ascending c =
     let inside = c.self.inside in
     if_ok c.rows.result (λ shown. shown ≡ rows inside.tables) _
     (λ shown e. subst (λ (rows : List ((InstanceId × Block) × TableRow)). IsStrictlySortedBy row_key_cmp (map (λ row. row.0) rows))
-    (sym e) (rows_ascend inside.tables c.self.invariant.fit))
+    (sym e) (rows_ascend inside.tables c.self.invariant.ends.fit))
     c.rows.ensures

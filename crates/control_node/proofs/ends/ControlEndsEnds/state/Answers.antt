@@ -39,7 +39,7 @@ returns-in-Agent c =
     let long = posts-length inside.feed.state inside.peers.items inside.agents.items inside.tables in
     let seen = ap (λ (v : Ends). length v.posts) c.self.view_is in
     let held = seated-length inside.tables.agents inside.agents.items (1 + length inside.peers.items)
-    c.self.invariant.agents_held in
+    c.self.invariant.ends.agents_held in
     let at : c.args.session ≡ suc (length inside.peers.items + i) =
     omega (arith, c.in-Agent.ensures, c.len.ensures, inside.peers.ok.0) in
     let lt : i < length inside.agents.items = omega (arith, long, seen, c.requires, at) in

@@ -1,9 +1,5 @@
 use Rattle.std.proofs.Common.{List, subst, sym, ap, ◌∙◌}
-use Rattle.std.specs.declared.option.Option.{Option}
-use Rattle.std.specs.declared.option.Option.TheVariants.{Some}
 use Rattle.ov_types.specs.declared.targets.Target.{Target}
-use Rattle.ov_types.specs.declared.keys.UpKey.{UpKey}
-use Rattle.ov_types.specs.declared.vpn.VpnKey.{VpnKey}
 use Rattle.node_model.specs.Keys.{Vpn}
 use Rattle.node_model.specs.Paths.{Holdings}
 use Rattle.vpn_tables.specs.Moved.{targets_by_publication}
