@@ -2,7 +2,8 @@
 ghost use Rattle.std.specs.Prelude.{◌≡◌, ◌++◌, [], map, IfOk, OnOk};
 ghost use Rattle.std.specs.List.{cons_option, filter_map};
 ghost use Rattle.std.specs.List.Sorted.{IsStrictlySortedBy};
-ghost use Rattle.vpn_tables.specs.At.{IsChosen};
+ghost use Rattle.std.specs.Option.{option_map};
+ghost use Rattle.vpn_tables.specs.At.{IsChosen, shown};
 ghost use Rattle.stored_tables.specs.Stored.{row_in, row_of, row_order};
 
 use crate::rows::{RowKey, Rows};
@@ -27,6 +28,18 @@ fn best_of(paths: &[Path]) -> Option<Path>
         Some(place) => Some(paths[place]),
         None => None,
     }
+}
+
+/// What is shown of a path.
+pub(crate) fn shown(path: Option<Path>) -> Option<TableRow>
+    ensures { result ≡ option_map shown path }
+{
+    let path = path?;
+    Some(TableRow {
+        rd: path.rd,
+        next_hop: path.next_hop,
+        label: path.label,
+    })
 }
 
 /// The rows of an instance, in the order of their prefixes.

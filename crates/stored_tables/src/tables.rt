@@ -9,12 +9,13 @@ ghost use Rattle.vpn_tables.specs.Touched.{rows_by_key, touched, touched_rows};
 ghost use Rattle.node_model.specs.Paths.{Holdings};
 ghost use Rattle.node_model.specs.Tables.{known_instances};
 ghost use Rattle.vpn_tables.specs.Answers.{rows_at};
+ghost use Rattle.vpn_tables.specs.At.{row_at};
 ghost use Rattle.vpn_tables.specs.Changes.{nothing, with_agent, with_low, with_publication, with_route, without};
 ghost use Rattle.vpn_tables.specs.Ranges.{Fits};
 ghost use Rattle.stored_tables.specs.Stored.{AreRows, key_at, key_in, keys_of, row_of, row_order};
 ghost use Rattle.stored_tables.specs.declared.rows.RowKey.{RowKey as RowKeyOf};
 
-use crate::listing::{listed, selected};
+use crate::listing::{listed, selected, shown};
 use crate::rows::{RowKey, Rows, reselect_all};
 use ov_sync::{Delta, SyncIn};
 use ov_types::{
@@ -29,7 +30,7 @@ use vpn_tables::VpnTables;
 /// What a control node holds of its sessions, and the rows that follow from it.
 #[derive(Drop)]
 pub struct Tables {
-    held: VpnTables,
+    pub(crate) held: VpnTables,
     rows: Rows,
     /// Whether every row is stored. Where memory was wanting for that, none counts.
     stored: bool,
@@ -281,17 +282,26 @@ impl Tables {
     }
 
     /// The path that is selected for a prefix of an instance. Where the rows are stored, it is looked up.
-    pub fn row(&self, i: InstanceId, prefix: Prefix) -> Result<Option<Path>, NoMemory>
-        ensures { IfOk result (λ row. row ≡ row_of self.now (record { instance = i; prefix = prefix })) }
+    pub fn path(&self, i: InstanceId, prefix: &Prefix) -> Result<Option<Path>, NoMemory>
+        ensures { IfOk result (λ row. row ≡ row_of self.now (record { instance = i; prefix = prefix.now })) }
     {
         let key = RowKey {
             instance: i,
-            prefix,
+            prefix: *prefix,
         };
         if !self.stored {
             return selected(&self.held, key);
         }
         Ok(self.rows.get(&key).copied())
+    }
+
+    /// The row of an instance for a prefix, where it has one: what `table` has there. Where the rows are stored, it is
+    /// looked up.
+    pub fn row(&self, i: InstanceId, prefix: &Prefix) -> Result<Option<TableRow>, NoMemory>
+        ensures { IfOk result (λ row. row ≡ row_at self.now i prefix.now) }
+    {
+        let path = self.path(i, prefix)?;
+        Ok(shown(path))
     }
 
     /// The rows of an instance, in the order of their prefixes. Where the rows are stored, they are listed.
