@@ -4,3 +4,5 @@ pub mod SomeReport
 pub mod Spelled
 pub mod Telling
 pub mod Standing
+pub mod FoundOctets
+pub mod ToldRoutes

@@ -8,7 +8,7 @@ use Rattle.bgp_wire.specs.Messages.{AreOctets, BeginsWith, HasFault}
 use Rattle.bgp_wire.proofs.Octets.{AreOctets-drop, AreOctets-take}
 use Rattle.bgp_wire.proofs.Readings as readings
 use Rattle.bgp_vpn.proofs.UpdateLemmas as updates
-use Rattle.rt_membership.specs.Memberships.{Asks, HasMembershipFault}
+use Rattle.rt_membership.specs.Memberships.{HasMembershipFault}
 use Rattle.rt_membership.proofs.Grammar as memberships
 use Rattle.rt_membership.proofs.Reading.{fails}
 use Rattle.report.specs.Lines.{fault_line, incomplete_line}

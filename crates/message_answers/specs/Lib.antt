@@ -1,3 +1,4 @@
 pub mod Decoding
 pub mod Reporting
 pub mod Before
+pub mod Digits

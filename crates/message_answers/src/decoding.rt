@@ -1,86 +1,61 @@
 //! Messages that are spelled in hexadecimal digits.
-ghost use Rattle.std.specs.Prelude.{◌≡◌, ◌≢◌, ◌++◌, ◌||◌, [], false, IfOk, OnOk, OnErr, option_map};
+ghost use Rattle.std.specs.Prelude.{◌≡◌, ◌≢◌, ◌++◌, ◌||◌, [], false, map, IfOk, OnOk, OnErr};
 ghost use Rattle.bgp_wire.specs.Content.{Updates};
 ghost use Rattle.bgp_wire.specs.Messages.{content_of};
 ghost use Rattle.bgp_vpn.specs.Updates.{parts_of, Changes};
-ghost use Rattle.message_answers.specs.Decoding.{change_line, change_lines, decode_verdict, is_blank, membership_lines};
-ghost use Rattle.message_answers.specs.Decoding.{spelled, update_lines};
-ghost use Rattle.message_answers.specs.Decoding.{without_blanks, is_wide_open, IsReport, WritesSpelled};
+ghost use Rattle.bgp_vpn.specs.Said.{changes_said, dropped, put_to};
+ghost use Rattle.message_answers.specs.Decoding.{change_lines, decode_verdict, membership_lines, spelled, update_lines};
+ghost use Rattle.message_answers.specs.Decoding.{is_wide_open, IsReport, WritesSpelled};
 ghost use Rattle.message_answers.specs.Reporting.{IsReportBehind, Moves, Progress, Tells};
 ghost use Rattle.ov_io.specs.Pieces.{HasWriteCause, TookFrontOf, TookText};
 
-use bgp_vpn::{UpdateFault, read_update};
+use crate::digits::octets_of;
+use bgp_vpn::{Routes, UpdateFault, VpnUpdate, read_routes};
 use bgp_wire::{Message, UpdatePart, WireFault, read_message};
 use document_answers::Verdict;
-use hex::FromHexError;
 use ov_io::{Sink, TextOut, WriteRefusal, write_all, write_gathered, write_piece};
 use ov_sync::Delta;
-use ov_types::{NoMemory, VpnKey, VpnRoute};
+use ov_types::NoMemory;
 use report::{
     TargetsText, drop_lines, fault_lines, incomplete_lines, membership_lines, notification_lines,
-    open_lines, put_lines_after,
+    open_lines, put_lines_of,
 };
 use rt_membership::{Asked, read_checked_membership};
 use std::alloc::Global;
 
-fn is_blank(octet: u8) -> bool
-    ensures { result ≡ is_blank octet }
+fn push_drops(alloc: Global, routes: Routes<'_>, out: &mut TextOut) -> Result<(), NoMemory>
+    ensures { OnOk result (out.new ≡ out.old ++ change_lines (map dropped routes.entry)) }
 {
-    octet == b' ' || octet == b'\t' || octet == b'\n' || octet == b'\r'
-}
-
-/// The digits of a text.
-fn digits_of(alloc: Global, text: &[u8]) -> Result<Vec<u8>, NoMemory>
-    ensures { IfOk result (λ digits. digits.items ≡ without_blanks text.now) }
-{
-    let mut digits = Vec::with_capacity(alloc, text.len())?;
-    for octet in text {
-        if !is_blank(*octet) {
-            digits.push(*octet)?;
-        }
-    }
-    Ok(digits)
-}
-
-/// The octets that a text spells.
-#[tactic(auto, unfolding(crate::specs::Decoding::spelled))]
-fn octets_of(alloc: Global, text: &[u8]) -> Result<Option<Vec<u8>>, NoMemory>
-    ensures { IfOk result (λ found. option_map (λ octets. octets.items) found ≡ spelled text.now) }
-{
-    let digits = digits_of(alloc, text)?;
-    match hex::decode(alloc, digits.as_slice()) {
-        Ok(octets) => Ok(Some(octets)),
-        Err(FromHexError::OutOfMemory) => Err(NoMemory),
-        Err(_) => Ok(None),
-    }
-}
-
-fn push_change(
-    alloc: Global,
-    change: &Delta<VpnKey, VpnRoute>,
-    known: &mut TargetsText,
-    out: &mut TextOut,
-) -> Result<(), NoMemory>
-    ensures { OnOk result (out.new ≡ out.old ++ change_line change.now) }
-{
-    match change {
-        Delta::Put(key, route) => put_lines_after(alloc, key, route, known, out),
-        Delta::Drop(key) => drop_lines(alloc, key, out),
-    }
-}
-
-fn push_changes(
-    alloc: Global,
-    changes: &[Delta<VpnKey, VpnRoute>],
-    known: &mut TargetsText,
-    out: &mut TextOut,
-) -> Result<(), NoMemory>
-    ensures { OnOk result (out.new ≡ out.old ++ change_lines changes.now) }
-{
-    for change in changes {
-        push_change(alloc, change, known, out)?;
+    for route in routes {
+        drop_lines(alloc, &route.key, out)?;
     }
     Ok(())
+}
+
+fn push_puts(said: &VpnUpdate<'_>, known: &TargetsText, out: &mut TextOut) -> Result<(), NoMemory>
+    requires { known.now ≡ said.now.targets }
+    ensures { OnOk result (out.new ≡ out.old
+        ++ change_lines (map (put_to said.now.next_hop said.now.targets) said.now.announced)) }
+{
+    let next_hop = said.next_hop();
+    for route in said.announced() {
+        put_lines_of(&route.key, next_hop, route.label, known, out)?;
+    }
+    Ok(())
+}
+
+/// Tells what an UPDATE changes of the routes. The text of its targets is made once.
+fn push_changes(
+    alloc: Global,
+    said: &VpnUpdate<'_>,
+    known: &mut TargetsText,
+    out: &mut TextOut,
+) -> Result<(), NoMemory>
+    ensures { OnOk result (out.new ≡ out.old ++ change_lines (changes_said said.now)) }
+{
+    known.know(alloc, said.targets())?;
+    push_drops(alloc, said.withdrawn(), out)?;
+    push_puts(said, known, out)
 }
 
 /// What was told of a message.
@@ -107,15 +82,15 @@ fn push_memberships(
 /// Tells what an UPDATE changes of the routes and of what is asked.
 fn push_both(
     alloc: Global,
-    changes: &[Delta<VpnKey, VpnRoute>],
+    said: &VpnUpdate<'_>,
     asks: &[Delta<Asked, ()>],
     known: &mut TargetsText,
     out: &mut TextOut,
 ) -> Result<(), NoMemory>
-    ensures { OnOk result (out.new ≡ out.old ++ update_lines changes.now asks.now) }
+    ensures { OnOk result (out.new ≡ out.old ++ update_lines (changes_said said.now) asks.now) }
 {
     out.push(b"update\n")?;
-    push_changes(alloc, changes, known, out)?;
+    push_changes(alloc, said, known, out)?;
     push_memberships(alloc, asks, out)
 }
 
@@ -124,16 +99,16 @@ fn push_checked(
     alloc: Global,
     part: &UpdatePart<'_>,
     wide: bool,
-    changes: &[Delta<VpnKey, VpnRoute>],
+    said: &VpnUpdate<'_>,
     known: &mut TargetsText,
     out: &mut TextOut,
 ) -> Result<Told, NoMemory>
-    requires { Changes wide (parts_of part.now) changes.now }
+    requires { Changes wide (parts_of part.now) (changes_said said.now) }
     ensures { IfOk result (λ told. Tells wide (Updates (parts_of part.now)) out.old out.new told) }
 {
     match read_checked_membership(alloc, part) {
         Ok(asks) => {
-            push_both(alloc, changes, asks.as_slice(), known, out)?;
+            push_both(alloc, said, asks.as_slice(), known, out)?;
             Ok(Told::Whole)
         }
         Err(UpdateFault::Wire(fault)) => {
@@ -155,8 +130,8 @@ fn push_update(
 ) -> Result<Told, NoMemory>
     ensures { IfOk result (λ told. Tells wide (Updates (parts_of part.now)) out.old out.new told) }
 {
-    match read_update(alloc, part, wide) {
-        Ok(changes) => push_checked(alloc, part, wide, changes.as_slice(), known, out),
+    match read_routes(alloc, part, wide) {
+        Ok(said) => push_checked(alloc, part, wide, &said, known, out),
         Err(UpdateFault::Wire(fault)) => {
             fault_lines(alloc, fault.code, fault.subcode, out)?;
             Ok(Told::Faulty)

@@ -2,6 +2,7 @@
 #![tactic(auto)]
 
 mod decoding;
+mod digits;
 mod laws;
 
 pub use decoding::answer_decode;

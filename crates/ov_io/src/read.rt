@@ -41,7 +41,7 @@ pub fn read_all<S: Source>(
     ensures kept { result ≢ Err InputRefusal.Fault → S.faults source.new ≡ S.faults source.old }
 {
     let mut octets = Vec::new(alloc);
-    let mut buffer = [0u8; 4096];
+    let mut buffer = [0u8; 65_536];
     for _turn in 0..most + 1 {
         let count = match source.read(&mut buffer) {
             Ok(count) => count,

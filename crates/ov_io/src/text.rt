@@ -42,6 +42,17 @@ impl TextOut {
         Ok(())
     }
 
+    /// Appends two texts, the second behind the first, whole or not at all.
+    pub fn push_both(&mut self, front: &[u8], rest: &[u8]) -> Result<(), NoMemory>
+        ensures ok { OnOk result (self.new ≡ self.old ++ (front.now ++ rest.now)) }
+        ensures err { OnErr result (self.new ≡ self.old) }
+    {
+        self.octets.reserve(front.len() + rest.len())?;
+        self.octets.extend_from_slice(front)?;
+        self.octets.extend_from_slice(rest)?;
+        Ok(())
+    }
+
     /// Appends what a format makes, whole: this is what `write!` calls. The room that one text took serves the next.
     pub fn write_fmt<D: Display + Drop>(&mut self, value: D) -> Result<(), NoMemory>
         ensures ok { OnOk result (AppendsText self.old self.new (D.output value)) }

@@ -2,12 +2,15 @@
 use Rattle.std.specs.Prelude.{ℕ, Bool, List, [], ◌∷◌, ◌++◌, codes, decimal, if◌then◌else◌, ⊤}
 use Rattle.config_model.specs.declared.event.Event.{Event}
 use Rattle.config_model.specs.declared.event.Event.TheVariants.{Show}
+use Rattle.config_ties.specs.Texts.{tie_text}
 use Rattle.ov_types.specs.declared.rows.NodeRows.{NodeRows}
 use Rattle.report.specs.Outcomes.{outcome_line}
 use Rattle.report.specs.Refusals.{edit_fault_text}
 use Rattle.report.specs.Rows.{node_lines}
 use Rattle.schedule_script.specs.declared.answer.Answer.{Answer}
 use Rattle.schedule_script.specs.declared.answer.Answer.TheVariants.{Did, Idle, EditRefused, Rounds, Shown, Traced}
+use Rattle.tied_answers.specs.declared.answer.TiedAnswer.{TiedAnswer}
+use Rattle.tied_answers.specs.declared.answer.TiedAnswer.TheVariants.{Answered, EditTied}
 
 abbrev pub settled_text : Bool → List ℕ
 settled_text settled = if settled then codes "settled" else codes "unsettled"
@@ -30,6 +33,11 @@ answer_lines n event (Rounds rounds settled) =
     decimal n ++ (codes " " ++ (settled_text settled ++ (codes " rounds " ++ (decimal rounds ++ (10 ∷ [])))))
 answer_lines n event (Shown rows) = lines_shown n event rows
 answer_lines n event (Traced outcome) = outcome_line n outcome
+
+-- the same where ties are kept: an edit that would break a tie is refused with it
+abbrev pub tied_answer_lines : ℕ → Event → TiedAnswer → List ℕ
+tied_answer_lines n event (Answered answer) = answer_lines n event answer
+tied_answer_lines n event (EditTied tie) = decimal n ++ (codes " refused Tied " ++ (tie_text tie ++ (10 ∷ [])))
 
 abbrev pub IsShow : Event → Type 0
 IsShow (Show node) = ⊤

@@ -1,6 +1,7 @@
 //! The lines of answers.
 ghost use Rattle.std.specs.Prelude.{◌≡◌, ◌++◌, OnOk, OnErr};
-ghost use Rattle.report.specs.Answers.{IsAnswerTo, answer_lines, settled_text, shown_lines};
+ghost use Rattle.report.specs.Answers.{IsAnswerTo, answer_lines, settled_text, shown_lines, tied_answer_lines};
+ghost use Rattle.tied_answers.specs.Answers.{OfAnswer};
 
 use crate::lined::LinesOf;
 use crate::outcomes::OutcomeLines;
@@ -10,6 +11,7 @@ use ov_io::TextOut;
 use ov_types::{Name, NoMemory, NodeRows};
 use schedule_script::{Answer, Event};
 use std::alloc::Global;
+use tied_answers::TiedAnswer;
 
 fn settled_text(settled: bool) -> &'static str
     ensures { result.now ≡ settled_text settled }
@@ -63,5 +65,23 @@ pub fn answer_lines(
             _ => unreachable!(),
         },
         Answer::Traced(outcome) => OutcomeLines { number }.append(alloc, outcome, out),
+    }
+}
+
+/// Appends the lines of what an event answers where ties are kept: an edit that would break a tie is refused with it.
+pub fn tied_answer_lines(
+    alloc: Global,
+    number: usize,
+    event: &Event,
+    answer: &TiedAnswer,
+    out: &mut TextOut,
+) -> Result<(), NoMemory>
+    requires { OfAnswer (IsAnswerTo event.now) event.now answer.now }
+    ensures ok { OnOk result (out.new ≡ out.old ++ tied_answer_lines number event.now answer.now) }
+    ensures err { OnErr result (out.new ≡ out.old) }
+{
+    match answer {
+        TiedAnswer::Answered(answer) => answer_lines(alloc, number, event, answer, out),
+        TiedAnswer::EditTied(tie) => write!(out, "{number} refused Tied {tie}\n"),
     }
 }

@@ -15,11 +15,10 @@ mod rows;
 mod summaries;
 mod targets;
 
-pub use answers::answer_lines;
+pub use answers::{answer_lines, tied_answer_lines};
 pub use lined::LinesOf;
 pub use lines::{
     drop_lines, fault_lines, incomplete_lines, notification_lines, open_lines, put_lines,
-    route_lines,
 };
 pub use memberships::{asked_lines, membership_lines, sent_lines};
 pub use objects::{ObjectLines, low_lines};
@@ -31,4 +30,4 @@ pub use rows::{
     node_lines,
 };
 pub use summaries::summary_lines;
-pub use targets::{TargetsText, put_lines_after};
+pub use targets::{TargetsText, put_lines_of};

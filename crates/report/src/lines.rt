@@ -1,11 +1,14 @@
 //! The lines, each appended whole or not at all.
-ghost use Rattle.std.specs.Prelude.{◌≡◌, ◌++◌, Some, OnOk, OnErr};
+ghost use Rattle.std.specs.Prelude.{◌≡◌, ◌≤◌, ◌+◌, ◌/◌, ◌^◌, ◌++◌, ◌∷◌, [], ℕ, List, length, codes, decimal};
+ghost use Rattle.std.specs.Prelude.{IsTrue, Some, OnOk, OnErr};
+ghost use Rattle.ov_types.specs.Texts.{address_text};
 ghost use Rattle.report.specs.Lines.{drop_line, fault_line, incomplete_line, key_text, notification_line, open_line};
 ghost use Rattle.report.specs.Lines.{put_line, route_line};
 
-use crate::lists::joined;
+use crate::targets::line_end;
+use line_text::Line;
 use ov_io::TextOut;
-use ov_types::{Addr, Label, NoMemory, VpnKey, VpnRoute};
+use ov_types::{Addr, Label, NoMemory, Rd, VpnKey, VpnRoute};
 use std::alloc::Global;
 use std::fmt;
 
@@ -50,35 +53,81 @@ pub fn put_lines(
     ensures ok { OnOk result (out.new ≡ out.old ++ put_line key.now route.now) }
     ensures err { OnErr result (out.new ≡ out.old) }
 {
-    let targets = joined(alloc, route.targets.items())?;
-    route_lines(
-        alloc,
-        key,
-        route.next_hop,
-        route.label,
-        targets.as_str(),
-        out,
-    )
+    let targets = line_end(alloc, &route.targets)?;
+    route_line(key, route.next_hop, route.label, targets.as_str(), out)
 }
 
-/// Appends the line of a VPN-IPv4 route that is put, by the text of its targets.
+/// Whether a distinguisher is of a type that has a form of its own.
+fn is_named(rd: Rd) -> bool
+    ensures { IsTrue result → rd.0 / 2 ^ 48 ≤ 2 }
+{
+    rd.0 >> 48 <= 2
+}
+
+/// Puts what names a route before the rest of a line.
+fn prepend_key(line: &mut Line, key: &VpnKey)
+    requires named { key.now.rd.0 / 2 ^ 48 ≤ 2 }
+    requires room { length line.old + 41 ≤ 128 }
+    ensures text { line.new ≡ key_text key.now ++ line.old }
+    ensures short { length line.new ≤ length line.old + 41 }
+{
+    line.prepend_prefix(&key.prefix);
+    line.prepend(b" ");
+    line.prepend_distinguisher(key.rd);
+}
+
+/// The line of a VPN-IPv4 route that is put, up to its targets, where its distinguisher has a form of its own.
+fn route_front(key: &VpnKey, next_hop: Addr, label: Label) -> Line
+    requires { key.now.rd.0 / 2 ^ 48 ≤ 2 }
+    ensures { result ≡ codes "put " ++ (key_text key.now ++ (codes " next-hop " ++ (address_text next_hop.0
+        ++ (codes " label " ++ (decimal label.0 ++ codes " targets "))))) }
+{
+    let mut line = Line::new();
+    line.prepend(b" targets ");
+    line.prepend_number(label.0);
+    line.prepend(b" label ");
+    line.prepend_address(next_hop);
+    line.prepend(b" next-hop ");
+    prepend_key(&mut line, key);
+    line.prepend(b"put ");
+    line
+}
+
+/// Appends the line of a VPN-IPv4 route that is put, by the text of its targets and what ends the line.
 #[tactic(auto, unfolding(crate::specs::Lines::route_line))]
-pub fn route_lines(
-    _alloc: Global,
+pub(crate) fn route_line(
     key: &VpnKey,
     next_hop: Addr,
     label: Label,
     targets: &str,
     out: &mut TextOut,
 ) -> Result<(), NoMemory>
-    ensures ok { OnOk result (out.new ≡ out.old ++ route_line key.now next_hop label targets.now) }
+    ensures ok { (text : List ℕ) → targets.now ≡ text ++ 10 ∷ []
+        → OnOk result (out.new ≡ out.old ++ route_line key.now next_hop label text) }
     ensures err { OnErr result (out.new ≡ out.old) }
 {
+    if is_named(key.rd) {
+        let line = route_front(key, next_hop, label);
+        return out.push_both(line.octets(), targets.as_bytes());
+    }
     let key = KeyText(*key);
     write!(
         out,
-        "put {key} next-hop {next_hop} label {label} targets {targets}\n"
+        "put {key} next-hop {next_hop} label {label} targets {targets}"
     )
+}
+
+/// The line of a VPN-IPv4 route that is dropped, where its distinguisher has a form of its own.
+#[tactic(auto, unfolding(crate::specs::Lines::drop_line))]
+fn drop_line(key: &VpnKey) -> Line
+    requires { key.now.rd.0 / 2 ^ 48 ≤ 2 }
+    ensures { result ≡ drop_line key.now }
+{
+    let mut line = Line::new();
+    line.prepend(b"\n");
+    prepend_key(&mut line, key);
+    line.prepend(b"drop ");
+    line
 }
 
 /// Appends the line of a VPN-IPv4 route that is dropped.
@@ -87,6 +136,10 @@ pub fn drop_lines(_alloc: Global, key: &VpnKey, out: &mut TextOut) -> Result<(),
     ensures ok { OnOk result (out.new ≡ out.old ++ drop_line key.now) }
     ensures err { OnErr result (out.new ≡ out.old) }
 {
+    if is_named(key.rd) {
+        let line = drop_line(key);
+        return out.push(line.octets());
+    }
     let key = KeyText(*key);
     write!(out, "drop {key}\n")
 }
