@@ -21,4 +21,6 @@ pub mod KnownEnds
 pub mod Known
 pub mod Given
 pub mod Promised
+pub mod Tied
 pub mod Ran
+pub mod ControlNodes

@@ -1,19 +1,13 @@
--- What a network that runs shows once it is settled, and that rounds settle it.
+-- What a network that runs shows once it is settled.
 use Rattle.std.specs.Prelude.{◌≡◌, ◌<◌, ℕ, zero, suc, List, length, true}
 use Rattle.std.proofs.Common.{sym, ◌∙◌, ap, subst, arith}
 use Rattle.std.proofs.lemmas.Option.{same_Some}
 use Rattle.config_check.specs.Checked.{Checked}
 use Rattle.network_model.specs.Network.{Network}
-use Rattle.config_model.specs.declared.event.Event.{Event}
-use Rattle.config_model.specs.declared.event.Event.TheVariants.{Edit, Deliver, Lose, Connect, Restart, Round, Settle, Show, Trace}
-use Rattle.schedule_script.specs.declared.answer.Answer.{Answer}
-use Rattle.schedule_script.specs.declared.answer.Answer.TheVariants.{Rounds}
-use Rattle.network_model.specs.Events.{answer_to, event_of, next, shown}
-use Rattle.network_model.specs.Steps.{is_settled, settle}
-use Rattle.compiled_laws.specs.Moments.{SettleSettles, SettlesInTime}
+use Rattle.network_model.specs.Events.{shown}
+use Rattle.network_model.specs.Steps.{is_settled}
 use Rattle.headline_laws.specs.Headline.{AgentsShowRows, ControlNodesShowTables}
 use Rattle.headline_laws.proofs.Configured.{agents_show_rows, control_nodes_show_tables}
-use Rattle.headline_laws.proofs.Written.{written_rounds_settle, written_settle_settles}
 use Rattle.net_model.specs.Seats.{Configuring, Seat, Who, name_of, seat}
 use Rattle.net_model.specs.Stands.{StandsFor, any_size}
 use Rattle.net_model.specs.Steps.{shown_by}
@@ -23,53 +17,9 @@ use Rattle.seat_laws.proofs.Seating.{root_at, seat_found, who_above}
 use Rattle.seat_laws.proofs.Written.{seats_are_nodes, shows_at, written_apart, written_named}
 use Rattle.told_laws.specs.Moments.{IsMoment}
 use Rattle.told_laws.proofs.Moments.{moment_asked, moment_sessions, moment_written}
-use Rattle.schedule_laws.specs.Compiled.{AnswersCompiled}
-use Rattle.schedule_laws.specs.Ends.{SettlesAtOnce}
-use Rattle.schedule_laws.proofs.AsCompiled.{compiled_at}
 use Rattle.net_machine.specs.Shown.{ShowsCompiled, compiled_for}
 
 -- ---- what all schedules promise, at a moment
-pub moment_rounds : (w : Network) → IsMoment w → SettlesInTime any_size w
-moment_rounds w m =
-    subst (SettlesInTime any_size) (sym m.is)
-    (written_rounds_settle any_size positive m.opening m.written m.events (moment_asked w m))
-
-moment_settles : (w : Network) → IsMoment w → SettleSettles w
-moment_settles w m =
-    subst SettleSettles (sym m.is)
-    (written_settle_settles any_size positive m.opening m.written m.events (moment_asked w m))
-
--- `settle` ends settled, whatever the state
-pub settles_at_once : (w : Network) → IsMoment w → (e : Event) (a : Answer) (w' : Network)
-    → a ≡ answer_to w (event_of e) → w' ≡ next any_size w (event_of e) → SettlesAtOnce w e a w'
-unfolding next
-settles_at_once w m Settle a w' answers leads =
-    let s = moment_settles w m in
-    record {
-      rounds = (settle w).0;
-      is = answers ∙ ap (λ b. Rounds (settle w).0 b) s.0;
-      few = s.1;
-      settled = ap is_settled leads ∙ s.0;
-    }
-settles_at_once w m (Edit d) a w' answers leads = tt
-settles_at_once w m (Deliver from to n) a w' answers leads = tt
-settles_at_once w m (Lose x y) a w' answers leads = tt
-settles_at_once w m (Connect x y) a w' answers leads = tt
-settles_at_once w m (Restart name) a w' answers leads = tt
-settles_at_once w m Round a w' answers leads = tt
-settles_at_once w m (Show name) a w' answers leads = tt
-settles_at_once w m (Trace p) a w' answers leads = tt
-
--- what is answered at a settled moment
-moment_compiled : (w : Network) → IsMoment w → is_settled w ≡ true → (e : Event) → AnswersCompiled w.setup e (answer_to w (event_of e))
-moment_compiled w m =
-    subst (λ w. is_settled w ≡ true → (e : Event) → AnswersCompiled w.setup e (answer_to w (event_of e))) (sym m.is)
-    (compiled_at m.opening m.written m.events (moment_asked w m))
-
-pub answers_compiled : (w : Network) → IsMoment w → (e : Event) (a : Answer) → a ≡ answer_to w (event_of e)
-    → is_settled w ≡ true → AnswersCompiled w.setup e a
-answers_compiled w m e a is settled = subst (AnswersCompiled w.setup e) (sym is) (moment_compiled w m settled e)
-
 moment_controls : (w : Network) → IsMoment w → ControlNodesShowTables w
 moment_controls w m =
     subst ControlNodesShowTables (sym m.is)

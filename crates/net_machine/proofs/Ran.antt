@@ -1,39 +1,51 @@
 -- A network that runs takes an event.
-use Rattle.std.specs.Prelude.{◌≡◌, ◌<◌, ◌++◌, List, [], ◌∷◌, map, length, IsTrue}
+use Rattle.std.specs.Prelude.{◌≡◌, ◌<◌, ◌++◌, List, [], ◌∷◌, map, length, true, IsTrue}
 use Rattle.std.specs.declared.option.Option.TheVariants.{Some, None}
-use Rattle.std.specs.List.{All, cons_option}
-use Rattle.std.proofs.Common.{refl, sym, ◌∙◌, subst, arith}
+use Rattle.std.specs.List.{All, cons_option, list_all}
+use Rattle.std.proofs.Common.{refl, sym, ◌∙◌, ap, subst, arith}
+use Rattle.std.proofs.lemmas.Bool.{and_from, and_parts}
 use Rattle.std.proofs.lemmas.List.Elements.{All-cons}
 use Rattle.config_model.specs.declared.event.Event.{Event}
 use Rattle.config_model.specs.declared.event.Event.TheVariants.{Edit, Deliver, Lose, Connect, Restart, Round, Settle, Show, Trace}
 use Rattle.config_model.specs.Event.{has_event_form}
 use Rattle.config_check.specs.Checked.{Checked}
+use Rattle.config_ties.specs.Kept.{AreAlike, Kept, ties_in}
+use Rattle.config_ties.specs.Ties.{Ties}
+use Rattle.config_ties.specs.Tying.{ties_of}
+use Rattle.config_ties.proofs.Alike.{alike_is_one}
 use Rattle.headline_laws.specs.Headline.{IsWritten}
-use Rattle.schedule_script.specs.declared.answer.Answer.{Answer}
+use Rattle.isolation_laws.specs.Refusing.{TiedNetwork, kept_events, next_tied, tied_start}
+use Rattle.isolation_laws.proofs.Refused.{keeps_what_is_not_refused}
 use Rattle.network_model.specs.Session.{Session}
 use Rattle.network_model.specs.Network.{Network, start}
-use Rattle.network_model.specs.Events.{after, answer_to, event_of, next}
+use Rattle.network_model.specs.Events.{after, event_of}
 use Rattle.network_model.specs.Steps as machine
 use Rattle.network_model.proofs.NodesFact.{after_nodes}
 use Rattle.net_model.specs.Seats.{Configuring, Seat, Who, seat, whos}
-use Rattle.net_model.specs.Stands.{StandsFor, any_size, moment}
+use Rattle.net_model.specs.Stands.{StandsFor, any_size}
 use Rattle.told_laws.specs.Moments.{IsMoment}
 use Rattle.net_model.specs.Steps.{fresh_seat}
 use Rattle.net_steps.proofs.Given.{given}
 use Rattle.net_steps.proofs.Started.{fresh_seats_stand}
+use Rattle.tied_answers.specs.declared.answer.TiedAnswer.{TiedAnswer}
+use Rattle.tied_laws.specs.Compiled.{EndsAtOnce, IsAsCompiled}
+use Rattle.tied_laws.specs.Isolated.{DeliversSoFar, DeliversTied}
+use Rattle.tied_laws.specs.Runs.{answer_tied, tied_moment}
+use Rattle.tied_laws.proofs.Kept.{asked_with_ties, tied_more}
+use Rattle.tied_laws.proofs.Moments.{compiled_here, ends_here, isolated_here, joined_here}
 use Rattle.net_machine.specs.declared.ends.SessionEnds.{SessionEnds}
-use Rattle.net_machine.specs.Happenings.{Happens}
 use Rattle.net_machine.specs.Running.{IsRunning}
 use Rattle.net_machine.specs.Seating.{AreLong, AreSeated, IsConfigured, Keeps, ends_of, order_among, order_of}
 use Rattle.net_machine.specs.Settling.{is_settled}
+use Rattle.net_machine.specs.Tying.{HappensTied, OfTie}
 use Rattle.net_machine.proofs.Carried.{found_seated}
 use Rattle.net_machine.proofs.Facts.{MayHappen}
 use Rattle.net_machine.proofs.Forms.{edit_form}
 use Rattle.net_machine.proofs.Given.{facts}
-use Rattle.net_machine.proofs.Happening.{Makes, happens}
 use Rattle.net_machine.proofs.Kept.{order_kept}
 use Rattle.net_machine.proofs.Resting.{settled_is}
 use Rattle.net_machine.proofs.Rounding.{same_order}
+use Rattle.net_machine.proofs.Tied.{Steps, by_answer, unchanged}
 
 -- ---- the first seat is the configuration node's
 first_who : (seats : List Seat) (x : Checked) (rest : List Who) → map (λ (n : Seat). n.who) seats ≡ Configuring x ∷ rest
@@ -53,15 +65,6 @@ among_seated seats (s ∷ ss) long =
     ] refl
 
 -- ---- one event more
-after_more : (w : Network) (es : List Event) (e : Event)
-    → after any_size w (map event_of (es ++ e ∷ [])) ≡ next any_size (after any_size w (map event_of es)) (event_of e)
-after_more w [] e = refl
-after_more w (d ∷ es) e = after_more (next any_size w (event_of d)) es e
-
-pub moment_more : (x : Checked) (es : List Event) (e : Event)
-    → moment x (es ++ e ∷ []) ≡ next any_size (moment x es) (event_of e)
-moment_more x es e = after_more (start x) es e
-
 may_happen : (e : Event) → IsTrue (has_event_form e) → MayHappen (event_of e)
 may_happen (Edit e) form = edit_form e form
 may_happen (Deliver from to n) form = tt
@@ -73,62 +76,117 @@ may_happen Settle form = tt
 may_happen (Show name) form = tt
 may_happen (Trace p) form = tt
 
+forms_more : (es : List Event) (e : Event) → IsTrue (list_all has_event_form es) → IsTrue (has_event_form e)
+    → IsTrue (list_all has_event_form (es ++ e ∷ []))
+forms_more [] e forms form = and_from (has_event_form e) true form refl
+forms_more (d ∷ es) e forms form =
+    let parts = and_parts (has_event_form d) (list_all has_event_form es) forms in
+    and_from (has_event_form d) (list_all has_event_form (es ++ e ∷ [])) parts.0 (forms_more es e parts.1 form)
+
 -- ---- a network that runs
-module _ (x : Checked) (es : List Event) (seats : List Seat) (order : List SessionEnds) (r : IsRunning x es seats order) where
+module _ (x : Checked) (es : List Event) (ties : Kept) (seats : List Seat) (order : List SessionEnds)
+    (r : IsRunning x es ties seats order) where
+  abbrev now : TiedNetwork
+  now = tied_moment x es
+
+  pub run_moment : IsMoment now.network
+  run_moment = record {
+    opening = x;
+    written = r.written;
+    events = kept_events any_size (tied_start x) (map event_of es);
+    edits = asked_with_ties x r.written es r.forms;
+    is = keeps_what_is_not_refused any_size (tied_start x) (map event_of es);
+  }
+
   pub run_long : AreLong seats
   run_long = r.stands.seats_are.long
 
   pub run_seated : All (AreSeated seats) order
   run_seated = subst (All (AreSeated seats)) (sym r.ordered) (among_seated seats (start x).sessions run_long)
 
-  run_first : (0 < length seats) × ((seat seats 0).who ≡ Configuring (moment x es).setup)
-  run_first = first_who seats (moment x es).setup _ r.stands.seats_are.who
+  run_first : (0 < length seats) × ((seat seats 0).who ≡ Configuring now.network.setup)
+  run_first = first_who seats now.network.setup _ r.stands.seats_are.who
 
   pub run_configured : IsConfigured seats
-  run_configured = record { some = run_first.0; setup = (moment x es).setup; is = run_first.1 }
+  run_configured = record { some = run_first.0; setup = now.network.setup; is = run_first.1 }
 
-  run_ordered : order ≡ order_among seats (moment x es).sessions
+  run_ordered : order ≡ order_among seats now.network.sessions
   run_ordered =
-      r.ordered ∙ sym (same_order seats (moment x es).sessions (start x).sessions
-      (after_nodes any_size (start x) (map event_of es)))
+      let kept = kept_events any_size (tied_start x) (map event_of es) in
+      r.ordered ∙ sym (same_order seats (after any_size (start x) kept).sessions (start x).sessions
+      (after_nodes any_size (start x) kept))
+      ∙ ap (λ (w : Network). order_among seats w.sessions)
+      (sym (keeps_what_is_not_refused any_size (tied_start x) (map event_of es)))
 
-  pub run_settled : is_settled seats order ≡ machine.is_settled (moment x es)
+  pub run_settled : is_settled seats order ≡ machine.is_settled now.network
   run_settled =
-      settled_is IsMoment facts seats (moment x es) order (record { moment = r.moment_is; stands = r.stands }) run_ordered
+      settled_is IsMoment facts seats now.network order (record { moment = run_moment; stands = r.stands }) run_ordered
 
-  module _ (e : Event) (answer : Answer) (then_seats : List Seat) (form : IsTrue (has_event_form e))
-      (h : (y : Checked) → (seat seats 0).who ≡ Configuring y → Happens y order e seats answer then_seats)
+  run_ties : ties_in ties ≡ now.ties
+  run_ties = alike_is_one (ties_in ties) now.ties r.tied
+
+  module _ (e : Event) (answer : TiedAnswer) (then_ties : Kept) (then_seats : List Seat) (form : IsTrue (has_event_form e))
+      (h : (y : Checked) → (seat seats 0).who ≡ Configuring y → HappensTied y order e ties seats answer then_ties then_seats)
       (k : Keeps seats then_seats) where
-    makes : Makes IsMoment facts (moment x es) (next any_size (moment x es) (event_of e)) answer
-        (answer_to (moment x es) (event_of e)) then_seats
-    makes =
-        happens IsMoment facts seats then_seats (moment x es) (moment x es).setup order e answer
-        (record { moment = r.moment_is; stands = r.stands }) refl run_ordered (may_happen e form)
-        (h (moment x es).setup run_first.1)
+    steps : Steps now e answer then_ties then_seats
+    steps =
+        by_answer now run_moment ties seats order e answer then_ties then_seats run_ties r.stands run_ordered
+        (may_happen e form) (h now.network.setup run_first.1)
 
-    pub step_answers : answer ≡ answer_to (moment x es) (event_of e)
-    step_answers = makes.answers
+    pub step_answers : answer ≡ answer_tied now (event_of e)
+    step_answers = steps.answers
 
-    pub step_runs : (fs : List Event) → fs ≡ es ++ e ∷ [] → IsRunning x fs then_seats order
+    pub step_runs : (fs : List Event) → fs ≡ es ++ e ∷ [] → IsRunning x fs then_ties then_seats order
     step_runs fs is =
-        subst (λ (fs : List Event). IsRunning x fs then_seats order) (sym is) (record {
-          moment_is = subst IsMoment (sym (moment_more x es e)) makes.stands.moment;
-          stands = subst (StandsFor then_seats) (sym (moment_more x es e)) makes.stands.stands;
+        let more : tied_moment x fs ≡ next_tied any_size now (event_of e) =
+        ap (tied_moment x) is ∙ tied_more x es e in
+        record {
+          written = r.written;
+          forms = subst (λ (gs : List Event). IsTrue (list_all has_event_form gs)) (sym is) (forms_more es e r.forms form);
+          tied = subst (λ (s : TiedNetwork). AreAlike (ties_in then_ties) s.ties) (sym more) steps.ties;
+          stands = subst (λ (s : TiedNetwork). StandsFor then_seats s.network) (sym more) steps.stands;
           ordered = r.ordered ∙ sym (order_kept seats then_seats x k);
-        })
+        }
+
+    pub step_unchanged : OfTie (λ _. (then_ties ≡ ties) × (then_seats ≡ seats)) answer
+    step_unchanged =
+        unchanged now.network.setup ties seats order e answer then_ties then_seats (h now.network.setup run_first.1)
+
+    -- what is said of the next answer, and of the moment that it leads to
+    pub step_compiled : IsAsCompiled now e answer
+    step_compiled = subst (IsAsCompiled now e) (sym step_answers) (compiled_here x r.written es r.forms e)
+
+    pub step_isolated : DeliversSoFar x es e answer
+    step_isolated = subst (DeliversSoFar x es e) (sym step_answers) (isolated_here x r.written es r.forms e)
+
+    pub step_joined : DeliversTied (ties_in ties) e answer
+    step_joined =
+        subst (λ (t : Ties). DeliversTied t e answer) (sym run_ties)
+        (subst (DeliversTied now.ties e) (sym step_answers) (joined_here x r.written es r.forms e))
+
+    pub step_ends : (fs : List Event) → fs ≡ es ++ e ∷ [] → EndsAtOnce now e answer (tied_moment x fs)
+    step_ends fs is =
+        subst (EndsAtOnce now e answer) (sym (ap (tied_moment x) is ∙ tied_more x es e))
+        (subst (λ (a : TiedAnswer). EndsAtOnce now e a (next_tied any_size now (event_of e))) (sym step_answers)
+        (ends_here x r.written es r.forms e))
 
 -- ---- a network that begins
 module _ (x : Checked) (seats : List Seat) (written : IsWritten x)
     (is : seats ≡ map fresh_seat (whos x)) where
-  pub start_stands : StandsFor seats (moment x [])
+  start_stands : StandsFor seats (start x)
   start_stands = subst (λ ss. StandsFor ss (start x)) (sym is) (fresh_seats_stand given x written).0
 
   pub start_long : AreLong seats
   start_long = start_stands.seats_are.long
 
-  pub start_runs : (order : List SessionEnds) → order ≡ order_of seats x → IsRunning x [] seats order
-  start_runs order ordered = record {
-    moment_is = (fresh_seats_stand given x written).1;
-    stands = start_stands;
-    ordered = ordered;
-  }
+  pub start_runs : (es : List Event) (ties : Kept) (order : List SessionEnds) → es ≡ []
+      → AreAlike (ties_in ties) (ties_of x.config) → order ≡ order_of seats x → IsRunning x es ties seats order
+  start_runs es ties order none tied ordered =
+      let begins : tied_moment x es ≡ tied_start x = ap (tied_moment x) none in
+      record {
+        written = written;
+        forms = ap (list_all has_event_form) none;
+        tied = subst (λ (s : TiedNetwork). AreAlike (ties_in ties) s.ties) (sym begins) tied;
+        stands = subst (λ (s : TiedNetwork). StandsFor seats s.network) (sym begins) start_stands;
+        ordered = ordered;
+      }

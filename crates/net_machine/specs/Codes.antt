@@ -5,13 +5,16 @@ use Rattle.config_check.specs.Checked.{Checked}
 use Rattle.config_check.specs.contracts.valid.Valid as valid
 use Rattle.config_model.specs.declared.event.Event.{Event}
 use Rattle.config_model.specs.contracts.event.Event as events
+use Rattle.config_ties.specs.Kept.{Kept}
+use Rattle.config_ties.specs.contracts.kept.Ties as ties
 use Rattle.net_model.specs.Seats.{Seat}
 use Rattle.net_seats.specs.Codes.{coded_seat}
 use Rattle.net_machine.specs.NetState.{NetState}
 
 abbrev pub coded_net : Coded NetState
 coded_net =
-    code_by (Checked × (List Event × (List Seat × Bool)))
-    (coded× valid.the_row.coded (coded× (coded_list events.the_row.coded) (coded× (coded_list coded_seat) coded_bool)))
-    (λ n. (n.opening, (n.events, (n.seats, n.failed))))
-    (λ c. record { opening = c.0; events = c.1.0; seats = c.1.1.0; failed = c.1.1.1 }) (λ _. refl)
+    code_by (Checked × (Kept × (List Event × (List Seat × Bool))))
+    (coded× valid.the_row.coded (coded× ties.the_row.coded (coded× (coded_list events.the_row.coded)
+    (coded× (coded_list coded_seat) coded_bool))))
+    (λ n. (n.opening, (n.ties, (n.events, (n.seats, n.failed)))))
+    (λ c. record { opening = c.0; ties = c.1.0; events = c.1.1.0; seats = c.1.1.1.0; failed = c.1.1.1.1 }) (λ _. refl)

@@ -8,6 +8,8 @@ pub mod Losses
 pub mod Settling
 pub mod Longest
 pub mod Happenings
+pub mod Tying
 pub mod Shown
 pub mod Running
 pub mod Codes
+pub mod Looking

@@ -1,16 +1,23 @@
 -- What holds of a network that runs.
-use Rattle.std.specs.Prelude.{◌≡◌, List}
+use Rattle.std.specs.Prelude.{◌≡◌, List, IsTrue}
+use Rattle.std.specs.List.{list_all}
 use Rattle.config_check.specs.Checked.{Checked}
+use Rattle.config_model.specs.Event.{has_event_form}
 use Rattle.config_model.specs.declared.event.Event.{Event}
+use Rattle.config_ties.specs.Kept.{AreAlike, Kept, ties_in}
+use Rattle.headline_laws.specs.Headline.{IsWritten}
 use Rattle.net_model.specs.Seats.{Seat}
-use Rattle.net_model.specs.Stands.{StandsFor, moment}
-use Rattle.told_laws.specs.Moments.{IsMoment}
+use Rattle.net_model.specs.Stands.{StandsFor}
+use Rattle.tied_laws.specs.Runs.{tied_moment}
 use Rattle.net_machine.specs.declared.ends.SessionEnds.{SessionEnds}
 use Rattle.net_machine.specs.Seating.{order_of}
 
--- its seats stand for the state after its events, and the order of a round is that of its sessions
-pub record IsRunning (opening : Checked) (events : List Event) (seats : List Seat) (order : List SessionEnds) : Type 0
-  where
-    pub moment_is : IsMoment (moment opening events)
-    pub stands : StandsFor seats (moment opening events)
-    pub ordered : order ≡ order_of seats opening
+-- it began with a valid configuration, and its events have the form that all have. Its ties and its seats are those of
+-- the state after them, and the order of a round is that of its sessions
+pub record IsRunning (opening : Checked) (events : List Event) (ties : Kept) (seats : List Seat)
+    (order : List SessionEnds) : Type 0 where
+  pub written : IsWritten opening
+  pub forms : IsTrue (list_all has_event_form events)
+  pub tied : AreAlike (ties_in ties) (tied_moment opening events).ties
+  pub stands : StandsFor seats (tied_moment opening events).network
+  pub ordered : order ≡ order_of seats opening

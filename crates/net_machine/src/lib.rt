@@ -7,11 +7,13 @@ mod discard;
 mod ends;
 mod happen;
 mod longest;
+mod looking;
 mod lose;
 mod net;
 mod order;
 mod round;
 mod settle;
+mod tying;
 
 pub use ends::SessionEnds;
 pub use net::Net;

@@ -2,38 +2,47 @@
 ghost use Rattle.std.specs.Prelude.{◌≡◌, ◌++◌, ◌∷◌, [], map, true, false, IfOk, IsErr, IsTrue, OnErr, OnOk};
 ghost use Rattle.report.specs.Answers.{IsAnswerTo};
 ghost use Rattle.config_model.specs.Event.{has_event_form};
-ghost use Rattle.network_model.specs.Events.{answer_to, event_of};
+ghost use Rattle.config_ties.specs.Kept.{AreAlike, ties_in};
+ghost use Rattle.config_ties.specs.Tying.{ties_of};
+ghost use Rattle.network_model.specs.Events.{event_of};
 ghost use Rattle.network_model.specs.Steps.{is_settled};
 ghost use Rattle.compiled_laws.specs.Moments.{SettlesInTime};
 ghost use Rattle.net_model.specs.Seats.{whos};
-ghost use Rattle.net_model.specs.Stands.{StandsFor, any_size, moment};
+ghost use Rattle.net_model.specs.Stands.{StandsFor, any_size};
 ghost use Rattle.net_model.specs.Steps.{fresh_seat};
-ghost use Rattle.schedule_laws.specs.Compiled.{AnswersCompiled};
-ghost use Rattle.schedule_laws.specs.Ends.{SettlesAtOnce};
+ghost use Rattle.tied_answers.specs.Answers.{OfAnswer};
+ghost use Rattle.tied_laws.specs.Compiled.{EndsAtOnce, IsAsCompiled};
+ghost use Rattle.tied_laws.specs.Isolated.{DeliversSoFar, DeliversTied};
+ghost use Rattle.tied_laws.specs.Runs.{answer_tied, tied_moment};
 ghost use Rattle.net_machine.specs.Shown.{ShowsCompiled};
+ghost use Rattle.net_machine.specs.Tying.{OfTie};
 
 use crate::ends::SessionEnds;
-use crate::happen::happen;
 use crate::order::order_of;
 use crate::settle::is_settled;
+use crate::tying::happen_tied;
 use config_check::Valid;
 use config_model::Event;
+use config_ties::Ties;
 use net_seats::Nodes;
 use ov_types::{Items, NoMemory};
-use schedule_script::Answer;
 use std::alloc::Global;
 use std::marker::Model;
+use tied_answers::TiedAnswer;
 
 /// The nodes of a topology over queue links, with the events that they took. Contracts see the opening configuration,
-/// the events, the nodes' seats, and whether memory was wanting in an event: after that every event fails. The seats
-/// stand for the state that the network's machine has after these events.
+/// the ties of the configurations so far, the events, the nodes' seats, and whether memory was wanting in an event: after
+/// that every event fails. The ties and the seats are those of the state that the network's machine, which refuses edits
+/// that would break a tie, has after these events.
 #[derive(Drop)]
 pub struct Net {
     alloc: Global,
-    nodes: Nodes,
+    pub(crate) nodes: Nodes,
     /// The sessions, in the order of a round.
     order: Vec<SessionEnds>,
     opening: Valid,
+    /// The ties of the configurations so far.
+    ties: Ties,
     events: Items<Event>,
     failed: bool,
 }
@@ -48,21 +57,29 @@ impl Model for Net {
 
     ghost coded = { coded_net };
 
-    ghost view = { λ n. record { opening = n.opening; events = n.events; seats = n.nodes.seats; failed = n.failed } };
+    ghost view = { λ n. record {
+      opening = n.opening;
+      ties = n.ties;
+      events = n.events;
+      seats = n.nodes.seats;
+      failed = n.failed;
+    } };
 
     ghost invariant = { λ n. n.failed ≡ false
-        → IsRunning n.opening n.events n.nodes.seats n.order.items × (n.nodes.failed ≡ false) };
+        → IsRunning n.opening n.events n.ties n.nodes.seats n.order.items × (n.nodes.failed ≡ false) };
 }
 
-/// A network of nodes that have nothing of each other.
-fn with_nodes(alloc: Global, nodes: Nodes, opening: Valid) -> Result<Net, NoMemory>
+/// A network of nodes that have nothing of each other, with the ties of its configuration.
+fn with_nodes(alloc: Global, nodes: Nodes, opening: Valid, ties: Ties) -> Result<Net, NoMemory>
     requires seats { nodes.seats ≡ map fresh_seat (whos opening) }
+    requires ties { AreAlike (ties_in ties) (ties_of opening.config) }
     requires works { nodes.failed ≡ false }
     ensures opening { IfOk result (λ net. net.opening ≡ opening) }
     ensures events { IfOk result (λ net. net.events ≡ []) }
     ensures works { IfOk result (λ net. net.failed ≡ false) }
-    ensures state { IfOk result (λ net. StandsFor net.seats (moment opening [])) }
-    ensures rounds { IfOk result (λ net. SettlesInTime any_size (moment net.opening net.events)) }
+    ensures state { IfOk result (λ net. StandsFor net.seats (tied_moment net.opening net.events).network) }
+    ensures ties { IfOk result (λ net. AreAlike (ties_in net.ties) (tied_moment net.opening net.events).ties) }
+    ensures rounds { IfOk result (λ net. SettlesInTime any_size (tied_moment net.opening net.events).network) }
 {
     let _config = opening.config();
     let order = order_of(alloc, &nodes, &opening)?;
@@ -71,38 +88,50 @@ fn with_nodes(alloc: Global, nodes: Nodes, opening: Valid) -> Result<Net, NoMemo
         nodes,
         order,
         opening,
+        ties,
         events: Items::new(alloc),
         failed: false,
     })
 }
 
 impl Net {
-    /// A network in which nothing has happened: no session is open, and no node has anything of another.
+    /// A network in which nothing has happened: no session is open, and no node has anything of another. Its ties are
+    /// those of its configuration.
     pub fn new(alloc: Global, valid: Valid) -> Result<Net, NoMemory>
         ensures opening { IfOk result (λ net. net.opening ≡ valid) }
         ensures events { IfOk result (λ net. net.events ≡ []) }
         ensures works { IfOk result (λ net. net.failed ≡ false) }
-        ensures state { IfOk result (λ net. StandsFor net.seats (moment valid [])) }
-        ensures rounds { IfOk result (λ net. SettlesInTime any_size (moment net.opening net.events)) }
+        ensures state { IfOk result (λ net. StandsFor net.seats (tied_moment net.opening net.events).network) }
+        ensures ties { IfOk result (λ net. AreAlike (ties_in net.ties) (tied_moment net.opening net.events).ties) }
+        ensures rounds { IfOk result (λ net. SettlesInTime any_size (tied_moment net.opening net.events).network) }
     {
+        let ties = Ties::new(alloc, &valid)?;
         let opening = valid.copy()?;
         let nodes = Nodes::new(alloc, valid)?;
-        with_nodes(alloc, nodes, opening)
+        with_nodes(alloc, nodes, opening, ties)
     }
 
-    /// The network takes an event. Where memory is wanting, what its nodes have then is not said, and every later event
+    /// The network takes an event. An edit that has no other fault and would break a tie is answered with that tie, and
+    /// nothing changes but `events`. Where memory is wanting, what its nodes have then is not said, and every later event
     /// fails.
-    pub fn step(&mut self, event: Event) -> Result<Answer, NoMemory>
+    pub fn step(&mut self, event: Event) -> Result<TiedAnswer, NoMemory>
         requires form { IsTrue (has_event_form event) }
         ensures answer { IfOk result (λ a. a
-            ≡ answer_to (moment self.old.opening self.old.events) (event_of event)) }
-        ensures shown { IfOk result (λ a. IsAnswerTo event a) }
-        ensures state { OnOk result (StandsFor self.new.seats (moment self.new.opening self.new.events)) }
-        ensures rounds { OnOk result (SettlesInTime any_size (moment self.new.opening self.new.events)) }
-        ensures settles { IfOk result (λ a. SettlesAtOnce (moment self.old.opening self.old.events) event a
-            (moment self.new.opening self.new.events)) }
-        ensures compiled { IfOk result (λ a. is_settled (moment self.old.opening self.old.events) ≡ true
-            → AnswersCompiled (moment self.old.opening self.old.events).setup event a) }
+            ≡ answer_tied (tied_moment self.old.opening self.old.events) (event_of event)) }
+        ensures shown { IfOk result (λ a. OfAnswer (IsAnswerTo event) event a) }
+        ensures unchanged { IfOk result (OfTie (λ _. (self.new.ties ≡ self.old.ties) × (self.new.seats ≡ self.old.seats))) }
+        ensures state { OnOk result (StandsFor self.new.seats (tied_moment self.new.opening self.new.events).network) }
+        ensures ties { OnOk result (AreAlike (ties_in self.new.ties)
+            (tied_moment self.new.opening self.new.events).ties) }
+        ensures rounds { OnOk result (SettlesInTime any_size
+            (tied_moment self.new.opening self.new.events).network) }
+        ensures settles { IfOk result (λ a. EndsAtOnce (tied_moment self.old.opening self.old.events) event a
+            (tied_moment self.new.opening self.new.events)) }
+        ensures compiled { IfOk result (IsAsCompiled (tied_moment self.old.opening self.old.events) event) }
+
+        // Isolation, settled or not.
+        ensures every_moment { IfOk result (DeliversSoFar self.old.opening self.old.events event) }
+        ensures joined { IfOk result (DeliversTied (ties_in self.old.ties) event) }
 
         ensures opening { self.new.opening ≡ self.old.opening }
         ensures events { OnOk result (self.new.events ≡ self.old.events ++ event ∷ []) }
@@ -115,7 +144,13 @@ impl Net {
             return Err(NoMemory);
         }
         self.failed = true;
-        let answer = happen(self.alloc, &mut self.nodes, self.order.as_slice(), &event)?;
+        let answer = happen_tied(
+            self.alloc,
+            &mut self.nodes,
+            self.order.as_slice(),
+            &mut self.ties,
+            &event,
+        )?;
         self.events.push(event)?;
         self.failed = false;
         Ok(answer)
@@ -124,9 +159,9 @@ impl Net {
     /// Whether every session is up at both ends, and no message and no notice is in flight. It takes no memory.
     pub fn settled(&self) -> bool
         requires { self.now.failed ≡ false }
-        ensures settled { result ≡ is_settled (moment self.now.opening self.now.events) }
+        ensures settled { result ≡ is_settled (tied_moment self.now.opening self.now.events).network }
         ensures compiled { result ≡ true
-            → ShowsCompiled (moment self.now.opening self.now.events).setup self.now.seats }
+            → ShowsCompiled (tied_moment self.now.opening self.now.events).network.setup self.now.seats }
     {
         is_settled(&self.nodes, self.order.as_slice())
     }
@@ -134,9 +169,18 @@ impl Net {
     /// The configuration that is valid now, with its topology. It takes no memory.
     pub fn config(&self) -> &Valid
         requires { self.now.failed ≡ false }
-        ensures { result.now ≡ (moment self.now.opening self.now.events).setup }
+        ensures { result.now ≡ (tied_moment self.now.opening self.now.events).network.setup }
     {
         self.nodes.valid()
+    }
+
+    /// The ties of the configurations so far: of the opening one, and of each that an edit led to. It takes no memory.
+    pub fn ties(&self) -> &Ties
+        requires { self.now.failed ≡ false }
+        ensures kept { result.now ≡ self.now.ties }
+        ensures ties { AreAlike (ties_in result.now) (tied_moment self.now.opening self.now.events).ties }
+    {
+        &self.ties
     }
 
     /// The configuration that the network began with. It takes no memory.

@@ -97,6 +97,12 @@ module _ (v : List Inner) (x : configuration.Core) (cs : List control.Core) (age
       ap (λ (ns : List Inner). configured x ∷ ns) (sym (second_set controlled forwarded cs agents i z))
       ∙ (ap (λ (k : ℕ). set (inners x cs agents) k (forwarded z)) (sym next) ∙ ap (λ (ns : List Inner). set ns node (forwarded z)) view)
 
+-- what stands at a place that there is
+pub standing_at : {A : Type 0} (xs : List A) (k : ℕ) → k < length xs → (x : A) × (x ≡ get_or xs k x)
+standing_at [] k lt = absurd (omega arith)
+standing_at (x ∷ xs) zero lt = (x, refl)
+standing_at (x ∷ xs) (suc k) lt = standing_at xs k (omega arith)
+
 -- ---- one node in place of another
 pub set_at : (v v' : List Inner) (node : ℕ) (new : Inner) → v' ≡ set v node new → node < length v → inner v' node ≡ new
 set_at v v' node new is lt = ap (λ (ns : List Inner). inner ns node) is ∙ get_or-set_same v node new no_inner lt

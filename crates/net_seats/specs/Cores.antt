@@ -1,10 +1,14 @@
 -- The cores of the nodes: the configuration node's, and those of the control nodes and of the agents.
 use Rattle.std.specs.Prelude.{◌≡◌, ◌<◌, ℕ, ◌+◌, List, [], ◌∷◌, ◌++◌, map, false}
+use Rattle.std.specs.declared.option.Option.{Option}
+use Rattle.std.specs.declared.option.Option.TheVariants.{Some, None}
 use Rattle.node_model.specs.Agent.{rows as rows_of}
+use Rattle.node_model.specs.Paths.{Holdings}
+use Rattle.node_model.specs.Step.{Post}
 use Rattle.config_node.specs.Core as configuration
 use Rattle.control_node.specs.Core as control
 use Rattle.agent_node.specs.Core as agent
-use Rattle.net_model.specs.Seats.{Configuring, Controlling, Forwarding}
+use Rattle.net_model.specs.Seats.{Who, Configuring, Controlling, Forwarding}
 use Rattle.net_seats.specs.Halves.{Inner}
 use Rattle.net_seats.specs.declared.kinds.Kind.{Kind}
 use Rattle.net_seats.specs.declared.kinds.Kind.TheVariants.{Configuration, Control, Agent}
@@ -26,6 +30,11 @@ inners c controls agents = configured c ∷ (map controlled controls ++ map forw
 pub record IsRight (a : agent.Core) : Type 0 where
   pub works : a.failed ≡ false
   pub rows : a.rows ≡ rows_of (agent.holdings a.posts)
+
+-- what a node holds of all its sessions, where it is a control node
+abbrev pub held_by : Who → List Post → Option Holdings
+held_by (Controlling plan) posts = Some (control.holdings plan posts)
+held_by who posts = None
 
 -- ---- which node has a number
 abbrev pub number_of : ℕ → Kind → ℕ

@@ -1,11 +1,14 @@
 //! The cores of all nodes.
-ghost use Rattle.std.specs.Prelude.{◌≡◌, ◌<◌, ◌≤◌, [], true, false, length, slice_set, IfOk, IsTrue};
+ghost use Rattle.std.specs.Prelude.{◌≡◌, ◌<◌, ◌≤◌, [], true, false, length, option_copied, slice_set, IfOk, IsTrue};
+ghost use Rattle.std.specs.Option.{option_map};
 ghost use Rattle.config_check.specs.Checked.{Checked};
 ghost use Rattle.config_check.specs.Edits.{edit_fault};
 ghost use Rattle.config_model.specs.Edit.{has_edit_form};
+ghost use Rattle.control_node.specs.Core.{holdings};
 ghost use Rattle.node_core.specs.Whole.{Comes, session_of};
 ghost use Rattle.route_targets.specs.Forwarding.{forwarding};
 ghost use Rattle.net_model.specs.Seats.{Configuring, is_up, others_of};
+ghost use Rattle.net_seats.specs.Cores.{held_by};
 ghost use Rattle.net_seats.specs.Changes.{ChangesOne, EditsOver, TakesOver, emptied_inner, forwarders, shown};
 ghost use Rattle.net_seats.specs.Halves.{inner, live, seated};
 
@@ -152,6 +155,19 @@ impl Cores {
             Kind::Configuration => Err(NoMemory),
             Kind::Control(place) => show_control(&self.controls[place]),
             Kind::Agent(place) => show_agent(&self.agents[place]),
+        }
+    }
+
+    /// The node of this number, where it is a control node.
+    pub(crate) fn control(&self, node: u16) -> Option<&ControlNode>
+        requires { node < length self.now }
+        ensures { option_map (λ c. holdings c.plan c.posts) (option_copied result)
+            ≡ held_by (inner self.now node).who (inner self.now node).posts }
+    {
+        match kind_of(self.controls.len(), node) {
+            Kind::Configuration => None,
+            Kind::Control(place) => Some(&self.controls[place]),
+            Kind::Agent(_) => None,
         }
     }
 

@@ -1,16 +1,19 @@
 //! The nodes of a network, with their links.
-ghost use Rattle.std.specs.Prelude.{◌≡◌, ◌<◌, ◌≤◌, [], drop, true, false, length, map, slice_get};
+ghost use Rattle.std.specs.Prelude.{◌≡◌, ◌<◌, ◌≤◌, [], drop, true, false, length, map, option_copied, slice_get};
 ghost use Rattle.std.specs.Prelude.{IfOk, IsTrue};
+ghost use Rattle.std.specs.Option.{option_map};
 ghost use Rattle.config_check.specs.Checked.{Checked};
 ghost use Rattle.config_check.specs.Edits.{edit_fault};
 ghost use Rattle.config_model.specs.Edit.{has_edit_form};
 ghost use Rattle.config_node.specs.Core.{fresh as fresh_config};
+ghost use Rattle.control_node.specs.Core.{holdings};
 ghost use Rattle.node_core.specs.Whole.{Comes, session_of};
 ghost use Rattle.route_targets.specs.Forwarding.{forwarding};
 ghost use Rattle.net_model.specs.Seats as seats_of;
 ghost use Rattle.net_model.specs.Seats.{Configuring, Seat, is_live, link_at, live_at, notice_at, seat, up_at, whos};
 ghost use Rattle.net_model.specs.Steps.{MakesEdit, Takes, emptied, forwarders_of, fresh_seat, shown_by};
 ghost use Rattle.net_model.specs.Steps.{with_link, with_notice, with_seat};
+ghost use Rattle.net_seats.specs.Cores.{held_by};
 ghost use Rattle.net_seats.specs.Halves.{AreAllHalves, joined};
 
 use crate::cores::Cores;
@@ -21,6 +24,7 @@ use bytes::Bytes;
 use config_check::{EditFault, Valid};
 use config_model::Edit;
 use config_node::ConfigNode;
+use control_node::ControlNode;
 use net_model::Place;
 use ov_link::Input;
 use ov_types::{Name, NoMemory, NodeRows, Outcome, Packet};
@@ -306,6 +310,15 @@ impl Nodes {
         ensures { IfOk result (λ rows. rows ≡ shown_by (seat self.now.seats node)) }
     {
         self.cores.rows(node)
+    }
+
+    /// The node of this number, where it is a control node.
+    pub fn control(&self, node: u16) -> Option<&ControlNode>
+        requires { node < length self.now.seats }
+        ensures { option_map (λ c. holdings c.plan c.posts) (option_copied result)
+            ≡ held_by (seat self.now.seats node).who (seat self.now.seats node).posts }
+    {
+        self.cores.control(node)
     }
 
     /// Where the agents send a packet.

@@ -1,22 +1,26 @@
 -- In a scenario that is valid each packet has the outcome that policies give.
-use Rattle.std.specs.Prelude.{◌≡◌, ℕ, ◌+◌, map, take, length, true}
+use Rattle.std.specs.Prelude.{◌≡◌, ◌++◌, [], ◌∷◌, ℕ, ◌+◌, List, map, take, length, true, IsTrue}
 use Rattle.std.specs.declared.option.Option.TheVariants.{None}
-use Rattle.std.proofs.Common.{refl, ap, ◌∙◌}
+use Rattle.std.specs.List.{list_all}
+use Rattle.std.proofs.Common.{refl, ap, subst, ◌∙◌}
+use Rattle.ov_types.specs.declared.packet.Outcome.{Outcome}
 use Rattle.ov_types.specs.declared.packet.Packet.{Packet}
-use Rattle.config_model.specs.declared.event.Event.TheVariants.{Trace}
+use Rattle.config_model.specs.Event.{has_event_form}
+use Rattle.config_model.specs.declared.event.Event.{Event}
+use Rattle.config_model.specs.declared.event.Event.TheVariants.{Settle, Trace}
+use Rattle.config_check.specs.Checked.{Checked}
 use Rattle.config_check.specs.Rules.{first_broken}
 use Rattle.reach_plain.specs.Reachability.{reachability}
 use Rattle.route_targets.specs.Forwarding.{forwarding}
-use Rattle.network_model.specs.Network.{Network, start}
+use Rattle.schedule_script.specs.declared.answer.Answer.TheVariants.{Traced}
+use Rattle.isolation_laws.specs.Refusing.{TiedNetwork, tied_start}
 use Rattle.network_model.specs.Steps.{is_settled}
-use Rattle.network_model.specs.Events.{after, event_of, forwarders, next}
-use Rattle.network_laws.specs.Settling.{EditsAreValid}
-use Rattle.headline_laws.specs.Headline.{IsOfForm, IsWritten}
-use Rattle.headline_laws.proofs.Delivers.{written_delivers}
-use Rattle.headline_laws.proofs.Written.{written_settle_settles}
-use Rattle.net_model.specs.Stands.{any_size}
-use Rattle.net_model.proofs.Sizes.{positive}
-use Rattle.schedule_laws.proofs.AsCompiled.{edits_of_form, forms_of_front}
+use Rattle.network_model.specs.Events.{forwarders, next}
+use Rattle.headline_laws.specs.Headline.{IsWritten}
+use Rattle.schedule_laws.proofs.AsCompiled.{forms_of_front}
+use Rattle.tied_laws.specs.Runs.{tied_moment}
+use Rattle.tied_laws.proofs.Kept.{tied_more}
+use Rattle.tied_laws.proofs.Moments.{compiled_here, ends_here}
 use Rattle.scenario_gen.specs.Scenario.{scenario}
 use Rattle.scenario_gen.specs.Schedule.{events, packets}
 use Rattle.scenario_gen.proofs.NodeForms.{topology_has_form}
@@ -33,36 +37,44 @@ unfolding scenario
 scenario_is_written n valid = record { topology = topology_has_form; config = config_has_form n; valid = valid }
 
 -- none of its events is a trace
-none_of_events : (n : ℕ) (w : Network) (t : Tally) → (tally_from w (events n) t).agreed ≡ t.agreed
+none_of_events : (n : ℕ) (s : TiedNetwork) (t : Tally) → (tally_from s (events n) t).agreed ≡ t.agreed
 unfolding events next
-none_of_events n w t = refl
+none_of_events n s t = refl
+
+-- ---- a schedule that ends with a settle
+same_outcome_of : (o p : Outcome) → Traced o ≡ Traced p → o ≡ p
+same_outcome_of o p e = cc
+
+module _ (x : Checked) (written : IsWritten x) (es : List Event) (forms : IsTrue (list_all has_event_form es)) where
+  -- is settled then
+  settled_then : is_settled (tied_moment x (es ++ Settle ∷ [])).network ≡ true
+  settled_then =
+      ap (λ (s : TiedNetwork). is_settled s.network) (tied_more x es Settle) ∙ (ends_here x written es forms Settle).settled
+
+  -- and once it is settled, packets go as policies say
+  delivers_then : is_settled (tied_moment x es).network ≡ true → (p : Packet)
+      → forwarding (forwarders (tied_moment x es).network) p ≡ reachability (tied_moment x es).network.setup.config p
+  delivers_then settled p = same_outcome_of _ _ (compiled_here x written es forms (Trace p) settled).0
 
 module _ (n : ℕ) (written : IsWritten (opening n)) where
-  abbrev settled_at : Network
-  settled_at = after any_size (start (opening n)) (map event_of (events n))
-
-  asked : (place : ℕ) → EditsAreValid any_size IsOfForm (start (opening n)) (map event_of (take place (events n)))
-  asked place =
-      edits_of_form (take place (events n)) (start (opening n)) (forms_of_front place (events n) (events_have_form n))
-      written.config
-
-  -- they end with a settle
-  settles : is_settled settled_at ≡ true
-  unfolding events next
-  settles =
-      (written_settle_settles any_size positive (opening n) written (map event_of (take 4 (events n))) (asked 4)).0
-
-  delivers : (p : Packet) → forwarding (forwarders settled_at) p ≡ reachability settled_at.setup.config p
+  -- the events of a scenario end with one
+  ends : take 4 (events n) ++ Settle ∷ [] ≡ events n
   unfolding events
-  delivers p =
-      written_delivers any_size positive (opening n) written (map event_of (take 5 (events n))) (asked 5) settles p
+  ends = refl
+
+  settles : is_settled (tied_moment (opening n) (events n)).network ≡ true
+  settles =
+      subst (λ (es : List Event). is_settled (tied_moment (opening n) es).network ≡ true) ends
+      (settled_then (opening n) written (take 4 (events n)) (forms_of_front 4 (events n) (events_have_form n)))
 
   pub packets_do : PacketsAgree n
   unfolding scenario tally
   packets_do =
-      ap (λ (t : Tally). t.agreed) (tally_more (start (opening n)) (events n) (map Trace (packets n)) nothing)
-      ∙ traces_agree settled_at delivers (packets n) (tally_from (start (opening n)) (events n) nothing)
-      ∙ ap (λ k. k + length (packets n)) (none_of_events n (start (opening n)) nothing)
+      let s = tied_moment (opening n) (events n) in
+      ap (λ (t : Tally). t.agreed) (tally_more (tied_start (opening n)) (events n) (map Trace (packets n)) nothing)
+      ∙ traces_agree s (delivers_then (opening n) written (events n) (events_have_form n) settles) (packets n)
+      (tally_from (tied_start (opening n)) (events n) nothing)
+      ∙ ap (λ k. k + length (packets n)) (none_of_events n (tied_start (opening n)) nothing)
 
 pub packets_agree : (n : ℕ) → first_broken (scenario n).topology (scenario n).config ≡ None → PacketsAgree n
 packets_agree n valid = packets_do n (scenario_is_written n valid)

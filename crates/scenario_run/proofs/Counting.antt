@@ -6,24 +6,26 @@ use Rattle.ov_types.specs.declared.packet.Packet.{Packet}
 use Rattle.config_model.specs.declared.event.Event.{Event}
 use Rattle.config_model.specs.declared.event.Event.TheVariants.{Edit, Deliver, Lose, Connect, Restart, Round, Settle, Show, Trace}
 use Rattle.config_check.specs.Checked.{Checked}
-use Rattle.schedule_script.specs.declared.answer.Answer.{Answer}
 use Rattle.schedule_script.specs.declared.answer.Answer.TheVariants.{Did, Idle, EditRefused, Rounds, Shown, Traced}
 use Rattle.reach_plain.specs.Reachability.{reachability}
 use Rattle.route_targets.specs.Forwarding.{forwarding}
-use Rattle.network_model.specs.Network.{Network, start}
-use Rattle.network_model.specs.Events.{after, answer_to, event_of, forwarders, next}
-use Rattle.net_model.specs.Stands.{any_size, moment}
-use Rattle.net_machine.proofs.Ran.{moment_more}
+use Rattle.isolation_laws.specs.Refusing.{TiedNetwork, after_tied, next_tied, tied_start}
+use Rattle.network_model.specs.Events.{event_of, forwarders, next}
+use Rattle.net_model.specs.Stands.{any_size}
+use Rattle.tied_answers.specs.declared.answer.TiedAnswer.{TiedAnswer}
+use Rattle.tied_answers.specs.declared.answer.TiedAnswer.TheVariants.{Answered, EditTied}
+use Rattle.tied_laws.specs.Runs.{answer_tied, tied_moment}
+use Rattle.tied_laws.proofs.Kept.{tied_more}
 use Rattle.scenario_run.specs.declared.tally.Tally.{Tally}
 use Rattle.scenario_run.specs.Tallies.{counted, is_delivered, nothing, one_if, same_outcome, settled, tally, tally_from, traced}
 use Rattle.scenario_run.proofs.Sameness.{outcome_self}
 
-pub tally_more : (w : Network) (es fs : List Event) (t : Tally)
-    → tally_from w (es ++ fs) t ≡ tally_from (after any_size w (map event_of es)) fs (tally_from w es t)
-tally_more w [] fs t = refl
-tally_more w (e ∷ es) fs t =
-    let w' = next any_size w (event_of e) in
-    tally_more w' es fs (counted w'.setup e (answer_to w (event_of e)) t)
+pub tally_more : (s : TiedNetwork) (es fs : List Event) (t : Tally)
+    → tally_from s (es ++ fs) t ≡ tally_from (after_tied any_size s (map event_of es)) fs (tally_from s es t)
+tally_more s [] fs t = refl
+tally_more s (e ∷ es) fs t =
+    let s' = next_tied any_size s (event_of e) in
+    tally_more s' es fs (counted s'.network.setup e (answer_tied s (event_of e)) t)
 
 pub nothing_more : (k : ℕ) → k ≡ k + 0
 nothing_more k = omega arith
@@ -32,26 +34,29 @@ one_more : (k n : ℕ) → (k + 1) + n ≡ k + suc n
 one_more k n = omega arith
 
 -- where packets go as policies say, each of their traces agrees
-pub traces_agree : (w : Network)
-    → ((p : Packet) → forwarding (forwarders w) p ≡ reachability w.setup.config p)
-    → (ps : List Packet) (t : Tally) → (tally_from w (map Trace ps) t).agreed ≡ t.agreed + length ps
+pub traces_agree : (s : TiedNetwork)
+    → ((p : Packet) → forwarding (forwarders s.network) p ≡ reachability s.network.setup.config p)
+    → (ps : List Packet) (t : Tally) → (tally_from s (map Trace ps) t).agreed ≡ t.agreed + length ps
 unfolding next
-traces_agree w delivers [] t = nothing_more t.agreed
-traces_agree w delivers (p ∷ ps) t =
-    traces_agree w delivers ps (counted w.setup (Trace p) (answer_to w (event_of (Trace p))) t)
+traces_agree s delivers [] t = nothing_more t.agreed
+traces_agree s delivers (p ∷ ps) t =
+    let c = s.network.setup.config in
+    traces_agree (next_tied any_size s (event_of (Trace p))) delivers ps
+    (counted s.network.setup (Trace p) (answer_tied s (event_of (Trace p))) t)
     ∙ ap (λ b. (t.agreed + one_if b) + length ps)
-    (ap (λ o. same_outcome o (reachability w.setup.config p)) (delivers p) ∙ outcome_self (reachability w.setup.config p))
+    (ap (λ o. same_outcome o (reachability c p)) (delivers p) ∙ outcome_self (reachability c p))
     ∙ one_more t.agreed (length ps)
 
 -- ---- one event more
 pub tally_one_more : (x : Checked) (ys : List Event) (e : Event)
     → tally x (ys ++ e ∷ [])
-    ≡ counted (moment x (ys ++ e ∷ [])).setup e (answer_to (moment x ys) (event_of e)) (tally x ys)
+    ≡ counted (tied_moment x (ys ++ e ∷ [])).network.setup e (answer_tied (tied_moment x ys) (event_of e)) (tally x ys)
 unfolding tally
 tally_one_more x ys e =
-    tally_more (start x) ys (e ∷ []) nothing
-    ∙ ap (λ (w : Network). counted w.setup e (answer_to (moment x ys) (event_of e)) (tally_from (start x) ys nothing))
-    (sym (moment_more x ys e))
+    tally_more (tied_start x) ys (e ∷ []) nothing
+    ∙ ap (λ (s : TiedNetwork). counted s.network.setup e (answer_tied (tied_moment x ys) (event_of e))
+    (tally_from (tied_start x) ys nothing))
+    (sym (tied_more x ys e))
 
 -- so many packets at most were counted
 pub record IsFew (t : Tally) (n : ℕ) : Type 0 where
@@ -65,26 +70,30 @@ one_at_most false = omega arith
 plain : (t : Tally) (n : ℕ) → IsFew t n → IsFew t (n + 1)
 plain t n few = record { delivered = omega (arith, few.delivered); agreed = omega (arith, few.agreed) }
 
-settled_few : (answer : Answer) (t : Tally) (n : ℕ) → IsFew t n → IsFew (settled answer t) (n + 1)
-settled_few (Rounds rounds is) t n few = record { delivered = omega (arith, few.delivered); agreed = omega (arith, few.agreed) }
-settled_few Did t n few = plain t n few
-settled_few Idle t n few = plain t n few
-settled_few (EditRefused f) t n few = plain t n few
-settled_few (Shown rows) t n few = plain t n few
-settled_few (Traced o) t n few = plain t n few
+settled_few : (answer : TiedAnswer) (t : Tally) (n : ℕ) → IsFew t n → IsFew (settled answer t) (n + 1)
+settled_few (Answered (Rounds rounds is)) t n few =
+    record { delivered = omega (arith, few.delivered); agreed = omega (arith, few.agreed) }
+settled_few (Answered Did) t n few = plain t n few
+settled_few (Answered Idle) t n few = plain t n few
+settled_few (Answered (EditRefused f)) t n few = plain t n few
+settled_few (Answered (Shown rows)) t n few = plain t n few
+settled_few (Answered (Traced o)) t n few = plain t n few
+settled_few (EditTied tie) t n few = plain t n few
 
-traced_few : (y : Checked) (p : Packet) (answer : Answer) (t : Tally) (n : ℕ) → IsFew t n → IsFew (traced y p answer t) (n + 1)
-traced_few y p (Traced o) t n few = record {
+traced_few : (y : Checked) (p : Packet) (answer : TiedAnswer) (t : Tally) (n : ℕ) → IsFew t n
+    → IsFew (traced y p answer t) (n + 1)
+traced_few y p (Answered (Traced o)) t n few = record {
   delivered = omega (arith, few.delivered, one_at_most (is_delivered o));
   agreed = omega (arith, few.agreed, one_at_most (same_outcome o (reachability y.config p)));
 }
-traced_few y p Did t n few = plain t n few
-traced_few y p Idle t n few = plain t n few
-traced_few y p (EditRefused f) t n few = plain t n few
-traced_few y p (Shown rows) t n few = plain t n few
-traced_few y p (Rounds rounds is) t n few = plain t n few
+traced_few y p (Answered Did) t n few = plain t n few
+traced_few y p (Answered Idle) t n few = plain t n few
+traced_few y p (Answered (EditRefused f)) t n few = plain t n few
+traced_few y p (Answered (Shown rows)) t n few = plain t n few
+traced_few y p (Answered (Rounds rounds is)) t n few = plain t n few
+traced_few y p (EditTied tie) t n few = plain t n few
 
-pub few_more : (y : Checked) (e : Event) (answer : Answer) (t : Tally) (n : ℕ) → IsFew t n → IsFew (counted y e answer t) (n + 1)
+pub few_more : (y : Checked) (e : Event) (answer : TiedAnswer) (t : Tally) (n : ℕ) → IsFew t n → IsFew (counted y e answer t) (n + 1)
 few_more y Settle answer t n few = settled_few answer t n few
 few_more y (Trace p) answer t n few = traced_few y p answer t n few
 few_more y (Edit d) answer t n few = plain t n few
@@ -98,21 +107,23 @@ few_more y (Show name) answer t n few = plain t n few
 -- the count so far goes on, where the network's opening and events are those of the schedule so far
 pub counted_on : (x o o' : Checked) (ys es es' : List Event) (e : Event) (t t' : Tally)
     → o ≡ x → o' ≡ x → es ≡ ys → es' ≡ ys ++ e ∷ [] → t ≡ tally x ys
-    → t' ≡ counted (moment o' es').setup e (answer_to (moment o es) (event_of e)) t → t' ≡ tally x (ys ++ e ∷ [])
+    → t' ≡ counted (tied_moment o' es').network.setup e (answer_tied (tied_moment o es) (event_of e)) t
+    → t' ≡ tally x (ys ++ e ∷ [])
 counted_on x o o' ys es es' e t t' opened opens taken takes counts counts_on =
+    let after : TiedNetwork → Checked = λ s. s.network.setup in
     counts_on
-    ∙ ap (λ z. counted (moment z es').setup e (answer_to (moment o es) (event_of e)) t) opens
-    ∙ ap (λ z. counted (moment x z).setup e (answer_to (moment o es) (event_of e)) t) takes
-    ∙ ap (λ z. counted (moment x (ys ++ e ∷ [])).setup e (answer_to (moment z es) (event_of e)) t) opened
-    ∙ ap (λ z. counted (moment x (ys ++ e ∷ [])).setup e (answer_to (moment x z) (event_of e)) t) taken
-    ∙ ap (λ z. counted (moment x (ys ++ e ∷ [])).setup e (answer_to (moment x ys) (event_of e)) z) counts
+    ∙ ap (λ z. counted (after (tied_moment z es')) e (answer_tied (tied_moment o es) (event_of e)) t) opens
+    ∙ ap (λ z. counted (after (tied_moment x z)) e (answer_tied (tied_moment o es) (event_of e)) t) takes
+    ∙ ap (λ z. counted (after (tied_moment x (ys ++ e ∷ []))) e (answer_tied (tied_moment z es) (event_of e)) t) opened
+    ∙ ap (λ z. counted (after (tied_moment x (ys ++ e ∷ []))) e (answer_tied (tied_moment x z) (event_of e)) t) taken
+    ∙ ap (λ z. counted (after (tied_moment x (ys ++ e ∷ []))) e (answer_tied (tied_moment x ys) (event_of e)) z) counts
     ∙ sym (tally_one_more x ys e)
 
 length_more : (ys : List Event) (e : Event) → length (ys ++ e ∷ []) ≡ length ys + 1
 length_more [] e = refl
 length_more (y ∷ ys) e = let more = length_more ys e in omega (arith, more)
 
-pub few_on : (y : Checked) (e : Event) (answer : Answer) (t t' : Tally) (ys : List Event) → t' ≡ counted y e answer t
+pub few_on : (y : Checked) (e : Event) (answer : TiedAnswer) (t t' : Tally) (ys : List Event) → t' ≡ counted y e answer t
     → IsFew t (length ys) → IsFew t' (length (ys ++ e ∷ []))
 few_on y e answer t t' ys counts few =
     subst (λ n. IsFew t' n) (sym (length_more ys e))

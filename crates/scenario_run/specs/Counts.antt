@@ -10,10 +10,11 @@ use Rattle.config_check.specs.Checked.{Checked}
 use Rattle.config_model.specs.declared.event.Event.{Event}
 use Rattle.config_model.specs.declared.event.Event.TheVariants.{Trace}
 use Rattle.reach_plain.specs.Reachability.{reachability}
-use Rattle.schedule_script.specs.declared.answer.Answer.{Answer}
 use Rattle.schedule_script.specs.declared.answer.Answer.TheVariants.{Rounds, Traced}
-use Rattle.net_model.specs.Stands.{moment}
-use Rattle.schedule_laws.specs.Compiled.{StandsAt, answers}
+use Rattle.tied_answers.specs.declared.answer.TiedAnswer.{TiedAnswer}
+use Rattle.tied_answers.specs.declared.answer.TiedAnswer.TheVariants.{Answered}
+use Rattle.tied_laws.specs.Isolated.{StandsAt}
+use Rattle.tied_laws.specs.Runs.{answers, tied_moment}
 use Rattle.scenario_run.specs.declared.tally.Tally.{Tally}
 
 abbrev pub is_trace : Event → Bool
@@ -21,19 +22,20 @@ is_trace (Trace p) = true
 is_trace event = false
 
 -- whether an answer is that a packet was delivered
-abbrev pub is_delivery : Answer → Bool
-is_delivery (Traced (Delivered port services)) = true
+abbrev pub is_delivery : TiedAnswer → Bool
+is_delivery (Answered (Traced (Delivered port services))) = true
 is_delivery answer = false
 
 -- the rounds that a settle took, where the answer is that of a settle
-abbrev pub rounds_of : Answer → Option ℕ
-rounds_of (Rounds rounds is) = Some rounds
+abbrev pub rounds_of : TiedAnswer → Option ℕ
+rounds_of (Answered (Rounds rounds is)) = Some rounds
 rounds_of answer = None
 
 -- each packet that was traced has the outcome that the configuration of its moment has for it
 abbrev pub EachAgrees : Checked → List Event → Type 0
-EachAgrees x es = (place : ℕ) (p : Packet) (o : Outcome) → StandsAt es (answers x es) place (Trace p) (Traced o)
-    → o ≡ reachability (moment x (take place es)).setup.config p
+EachAgrees x es = (place : ℕ) (p : Packet) (o : Outcome)
+    → StandsAt es (answers x es) place (Trace p) (Answered (Traced o))
+    → o ≡ reachability (tied_moment x (take place es)).network.setup.config p
 
 -- the packets that were delivered are counted; as many as were traced agree exactly where each agrees; and the rounds
 -- are those of the last two settles

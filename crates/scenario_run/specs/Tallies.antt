@@ -12,11 +12,13 @@ use Rattle.config_check.specs.Checked.{Checked}
 use Rattle.config_model.specs.declared.event.Event.{Event}
 use Rattle.config_model.specs.declared.event.Event.TheVariants.{Settle, Trace}
 use Rattle.reach_plain.specs.Reachability.{reachability}
-use Rattle.schedule_script.specs.declared.answer.Answer.{Answer}
 use Rattle.schedule_script.specs.declared.answer.Answer.TheVariants.{Rounds, Traced}
-use Rattle.network_model.specs.Network.{Network, start}
-use Rattle.network_model.specs.Events.{answer_to, event_of, next}
+use Rattle.isolation_laws.specs.Refusing.{TiedNetwork, next_tied, tied_start}
+use Rattle.network_model.specs.Events.{event_of}
 use Rattle.net_model.specs.Stands.{any_size}
+use Rattle.tied_answers.specs.declared.answer.TiedAnswer.{TiedAnswer}
+use Rattle.tied_answers.specs.declared.answer.TiedAnswer.TheVariants.{Answered}
+use Rattle.tied_laws.specs.Runs.{answer_tied}
 use Rattle.scenario_run.specs.declared.tally.Tally.{Tally}
 
 -- ---- outcomes that are one
@@ -45,14 +47,14 @@ one_if b = if b then 1 else 0
 
 -- ---- counting
 -- a settle more: what was the last one is the one before it
-abbrev pub settled : Answer → Tally → Tally
-settled (Rounds rounds is_settled) t =
+abbrev pub settled : TiedAnswer → Tally → Tally
+settled (Answered (Rounds rounds is_settled)) t =
     record { rounds = (t.rounds.1, rounds); delivered = t.delivered; agreed = t.agreed }
 settled answer t = t
 
 -- a trace more, under this configuration
-abbrev pub traced : Checked → Packet → Answer → Tally → Tally
-traced y p (Traced outcome) t = record {
+abbrev pub traced : Checked → Packet → TiedAnswer → Tally → Tally
+traced y p (Answered (Traced outcome)) t = record {
   rounds = t.rounds;
   delivered = t.delivered + one_if (is_delivered outcome);
   agreed = t.agreed + one_if (same_outcome outcome (reachability y.config p));
@@ -60,17 +62,17 @@ traced y p (Traced outcome) t = record {
 traced y p answer t = t
 
 -- an event more, which left this configuration, and its answer
-abbrev pub counted : Checked → Event → Answer → Tally → Tally
+abbrev pub counted : Checked → Event → TiedAnswer → Tally → Tally
 counted y Settle answer t = settled answer t
 counted y (Trace p) answer t = traced y p answer t
 counted y event answer t = t
 
 -- the events of a schedule from a state, counted on
-abbrev pub tally_from : Network → List Event → Tally → Tally
-tally_from w [] t = t
-tally_from w (e ∷ es) t =
-    let w' = next any_size w (event_of e) in
-    tally_from w' es (counted w'.setup e (answer_to w (event_of e)) t)
+abbrev pub tally_from : TiedNetwork → List Event → Tally → Tally
+tally_from s [] t = t
+tally_from s (e ∷ es) t =
+    let s' = next_tied any_size s (event_of e) in
+    tally_from s' es (counted s'.network.setup e (answer_tied s (event_of e)) t)
 
 abbrev pub nothing : Tally
 nothing = record { rounds = (0, 0); delivered = 0; agreed = 0 }
@@ -78,4 +80,4 @@ nothing = record { rounds = (0, 0); delivered = 0; agreed = 0 }
 -- the rounds of the last settle but one and of the last, how many packets were delivered, and how many had the outcome
 -- that the configuration of their moment has for them
 unfoldable pub tally : Checked → List Event → Tally
-tally x es = tally_from (start x) es nothing
+tally x es = tally_from (tied_start x) es nothing

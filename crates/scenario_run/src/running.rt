@@ -2,8 +2,10 @@
 ghost use Rattle.std.specs.Prelude.{◌≡◌, ◌≤◌, ◌<◌, ◌^◌, ◌+◌, ◌++◌, ◌∷◌, [], length, false, IfOk, OnOk, IsTrue};
 ghost use Rattle.std.specs.List.{list_all};
 ghost use Rattle.config_model.specs.Event.{has_event_form};
-ghost use Rattle.net_model.specs.Stands.{StandsFor, moment};
-ghost use Rattle.network_model.specs.Events.{answer_to, event_of};
+ghost use Rattle.config_ties.specs.Kept.{AreAlike, ties_in};
+ghost use Rattle.net_model.specs.Stands.{StandsFor};
+ghost use Rattle.network_model.specs.Events.{event_of};
+ghost use Rattle.tied_laws.specs.Runs.{answer_tied, tied_moment};
 ghost use Rattle.scenario_run.specs.Tallies.{counted, tally};
 
 use crate::tally::Tally;
@@ -25,12 +27,13 @@ fn count_step(net: &mut Net, event: Event, tally: Tally) -> Result<Tally, NoMemo
     requires form { IsTrue (has_event_form event) }
     requires delivered { tally.delivered < 2 ^ 31 }
     requires agreed { tally.agreed < 2 ^ 31 }
-    ensures tally { IfOk result (λ t. t ≡ counted (moment net.new.opening net.new.events).setup event
-        (answer_to (moment net.old.opening net.old.events) (event_of event)) tally) }
+    ensures tally { IfOk result (λ t. t ≡ counted (tied_moment net.new.opening net.new.events).network.setup event
+        (answer_tied (tied_moment net.old.opening net.old.events) (event_of event)) tally) }
     ensures opening { net.new.opening ≡ net.old.opening }
     ensures events { OnOk result (net.new.events ≡ net.old.events ++ event ∷ []) }
     ensures works { OnOk result (net.new.failed ≡ false) }
-    ensures state { OnOk result (StandsFor net.new.seats (moment net.new.opening net.new.events)) }
+    ensures state { OnOk result (StandsFor net.new.seats (tied_moment net.new.opening net.new.events).network) }
+    ensures ties { OnOk result (AreAlike (ties_in net.new.ties) (tied_moment net.new.opening net.new.events).ties) }
 {
     let answer = net.step(event)?;
     let events = net.events();
@@ -44,12 +47,14 @@ fn count_all(net: &mut Net, events: Vec<Event>) -> Result<Tally, NoMemory>
     requires few { length events.items ≤ 1000 }
     requires begins { net.old.events ≡ [] }
     requires works { net.old.failed ≡ false }
-    requires state { StandsFor net.old.seats (moment net.old.opening net.old.events) }
+    requires state { StandsFor net.old.seats (tied_moment net.old.opening net.old.events).network }
+    requires ties { AreAlike (ties_in net.old.ties) (tied_moment net.old.opening net.old.events).ties }
     ensures tally { IfOk result (λ t. t ≡ tally net.old.opening events.items) }
     ensures opening { net.new.opening ≡ net.old.opening }
     ensures events { OnOk result (net.new.events ≡ events.items) }
     ensures works { OnOk result (net.new.failed ≡ false) }
-    ensures state { OnOk result (StandsFor net.new.seats (moment net.new.opening net.new.events)) }
+    ensures state { OnOk result (StandsFor net.new.seats (tied_moment net.new.opening net.new.events).network) }
+    ensures ties { OnOk result (AreAlike (ties_in net.new.ties) (tied_moment net.new.opening net.new.events).ties) }
 {
     let mut tally = Tally::nothing();
     for event in events {
@@ -66,7 +71,8 @@ pub fn run_counted(alloc: Global, valid: Valid, events: Vec<Event>) -> Result<Ra
     ensures opening { IfOk result (λ ran. ran.net.opening ≡ valid) }
     ensures events { IfOk result (λ ran. ran.net.events ≡ events.items) }
     ensures works { IfOk result (λ ran. ran.net.failed ≡ false) }
-    ensures state { IfOk result (λ ran. StandsFor ran.net.seats (moment valid events.items)) }
+    ensures state { IfOk result (λ ran. StandsFor ran.net.seats (tied_moment ran.net.opening ran.net.events).network) }
+    ensures ties { IfOk result (λ ran. AreAlike (ties_in ran.net.ties) (tied_moment ran.net.opening ran.net.events).ties) }
 {
     let mut net = Net::new(alloc, valid)?;
     let tally = count_all(&mut net, events)?;

@@ -9,6 +9,7 @@ use config_model::Event;
 use ov_types::{Outcome, Packet};
 use reach_plain::reach;
 use schedule_script::Answer;
+use tied_answers::TiedAnswer;
 
 /// What the answers of a schedule were counted to be.
 #[derive(Clone, Copy, PartialEq, Eq)]
@@ -74,17 +75,19 @@ impl Tally {
     }
 
     /// An event more, which left this configuration, and its answer.
-    pub(crate) fn counted(self, valid: &Valid, event: &Event, answer: &Answer) -> Tally
+    pub(crate) fn counted(self, valid: &Valid, event: &Event, answer: &TiedAnswer) -> Tally
         requires delivered { self.delivered < 2 ^ 31 }
         requires agreed { self.agreed < 2 ^ 31 }
         ensures { result ≡ counted valid.now event.now answer.now self }
     {
         match (event, answer) {
-            (Event::Settle, Answer::Rounds { rounds, .. }) => Tally {
+            (Event::Settle, TiedAnswer::Answered(Answer::Rounds { rounds, .. })) => Tally {
                 rounds: (self.rounds.1, *rounds),
                 ..self
             },
-            (Event::Trace(packet), Answer::Traced(outcome)) => self.traced(valid, *packet, outcome),
+            (Event::Trace(packet), TiedAnswer::Answered(Answer::Traced(outcome))) => {
+                self.traced(valid, *packet, outcome)
+            }
             _ => self,
         }
     }

@@ -5,7 +5,7 @@ use Rattle.std.specs.declared.option.Option.TheVariants.{Some, None}
 use Rattle.std.specs.declared.result.Result.TheVariants.{Ok}
 use Rattle.std.specs.Io.KnownBytes.{Appends}
 use Rattle.std.specs.List.{list_all}
-use Rattle.std.proofs.Common.{ap, subst, sym, ◌∙◌}
+use Rattle.std.proofs.Common.{ap, subst, ◌∙◌}
 use Rattle.config_check.specs.Checked.{Checked}
 use Rattle.config_check.specs.Rules.{first_broken}
 use Rattle.config_model.specs.Event.{has_event_form}
@@ -13,13 +13,15 @@ use Rattle.config_model.specs.declared.event.Event.{Event}
 use Rattle.document_answers.specs.declared.unfit.Verdict.TheVariants.{Good}
 use Rattle.headline_laws.specs.Headline.{IsWritten}
 use Rattle.net_machine.specs.NetState.{NetState}
-use Rattle.net_model.specs.Stands.{StandsFor, moment}
+use Rattle.config_ties.specs.Kept.{AreAlike, ties_in}
+use Rattle.net_model.specs.Stands.{StandsFor}
+use Rattle.tied_laws.specs.Runs.{tied_moment}
 use Rattle.schedule_answers.specs.Generating.{summary_of, summary_text}
 use Rattle.schedule_answers.specs.Networks.{AreReadAs, HasTaken, IsLeftOf, LeftOn, PromisedOn, TookAnswers, TookSummary}
 use Rattle.schedule_answers.specs.Networks.{IsLeftOfScenario, input_of}
 use Rattle.schedule_answers.specs.Schedules.{run_text}
 use Rattle.schedule_answers.proofs.Unfit.{leaves_none, promises_none}
-use Rattle.schedule_laws.proofs.AsCompiled.{as_compiled}
+use Rattle.tied_laws.proofs.Placed.{as_compiled, isolated}
 use Rattle.scenario_gen.specs.Scenario.{scenario}
 use Rattle.scenario_run.specs.declared.tally.Tally.{Tally}
 use Rattle.scenario_run.specs.Scheduled.{opening, schedule}
@@ -47,21 +49,23 @@ run_promised octets old new x es took read valid forms same taken = record {
   read = read;
   taken = subst (λ es. Appends old new (run_text x es)) same taken;
   compiled = as_compiled x valid es forms;
+  isolated = isolated x valid es forms;
 }
 
 -- the network that took the events of a scenario
 pub scenario_left : (n : ℕ) (x : Checked) (es : List Event) (s : NetState) (left : Option NetState)
     → x ≡ opening n → es ≡ schedule n → s.opening ≡ x → s.events ≡ es → s.failed ≡ false
-    → StandsFor s.seats (moment x es) → left ≡ Some s → IsLeftOfScenario n left
-scenario_left n x es s left opens takes opening events works state is = record {
+    → StandsFor s.seats (tied_moment s.opening s.events).network
+    → AreAlike (ties_in s.ties) (tied_moment s.opening s.events).ties → left ≡ Some s → IsLeftOfScenario n left
+scenario_left n x es s left opens takes opening events works state ties is = record {
   net = s;
   is_left = is;
   took = record {
     opening = opening ∙ opens;
     events = events ∙ takes;
     works = works;
-    state = subst (λ y. StandsFor s.seats (moment y s.events)) (sym opening)
-        (subst (λ ys. StandsFor s.seats (moment x ys)) (sym events) state);
+    state = state;
+    ties = ties;
   };
 }
 
@@ -82,6 +86,7 @@ unfolding summary_text
 gen_promised n old new t valid forms is taken = record {
   taken = subst (λ t. Appends old new (summary_of n t)) is taken;
   compiled = as_compiled (opening n) (scenario_is_written n valid) (schedule n) forms;
+  isolated = isolated (opening n) (scenario_is_written n valid) (schedule n) forms;
   agree = packets_agree n valid;
 }
 

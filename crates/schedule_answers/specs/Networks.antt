@@ -7,16 +7,19 @@ use Rattle.std.specs.declared.result.Result.TheVariants.{Ok}
 use Rattle.std.specs.Io.KnownBytes.{Appends}
 use Rattle.serde_json.specs.Data.{Data}
 use Rattle.config_check.specs.Checked.{Checked}
+use Rattle.config_ties.specs.Kept.{AreAlike, ties_in}
 use Rattle.config_model.specs.declared.event.Event.{Event}
 use Rattle.config_model.specs.declared.event.RunInput.{RunInput}
 use Rattle.config_model.specs.Event.{run_at}
 use Rattle.ov_io.specs.declared.pieces.WriteRefusal.{WriteRefusal}
 use Rattle.net_machine.specs.NetState.{NetState}
-use Rattle.net_model.specs.Stands.{StandsFor, moment}
+use Rattle.net_model.specs.Stands.{StandsFor}
 use Rattle.document_answers.specs.declared.unfit.Verdict.{Verdict}
 use Rattle.document_answers.specs.declared.unfit.Verdict.TheVariants.{Good}
 use Rattle.ov_json.specs.Json.{json_of}
-use Rattle.schedule_laws.specs.Compiled.{AreAsCompiled, answers}
+use Rattle.tied_laws.specs.Compiled.{AreAsCompiled}
+use Rattle.tied_laws.specs.Isolated.{IsIsolated}
+use Rattle.tied_laws.specs.Runs.{answers, tied_moment}
 use Rattle.scenario_run.specs.Agreed.{PacketsAgree}
 use Rattle.scenario_run.specs.Scheduled.{opening, schedule}
 use Rattle.schedule_answers.specs.Generating.{summary_text}
@@ -36,12 +39,13 @@ pub record AreReadAs (octets : List ℕ) (r : RunInput) : Type 0 where
   pub json : json_of octets ≡ Some value
   pub read : run_at [] value ≡ Ok r
 
--- a network with this opening configuration took these events, and is in the state that they lead to
+-- a network with this opening configuration took these events, and is in the state that they lead to, with its ties
 pub record HasTaken (x : Checked) (es : List Event) (n : NetState) : Type 0 where
   pub opening : n.opening ≡ x
   pub events : n.events ≡ es
   pub works : n.failed ≡ false
-  pub state : StandsFor n.seats (moment n.opening n.events)
+  pub state : StandsFor n.seats (tied_moment n.opening n.events).network
+  pub ties : AreAlike (ties_in n.ties) (tied_moment n.opening n.events).ties
 
 -- the network that `run` leaves of a document
 pub record IsLeftOf (octets : List ℕ) (left : Option NetState) : Type 0 where
@@ -62,18 +66,21 @@ abbrev pub LeftOn : (Option NetState → Type 0) → Result Verdict WriteRefusal
 LeftOn Is (Ok Good) left = Is left
 LeftOn Is result left = left ≡ None
 
--- what was taken is the lines of what the events answer, which is as compiled
+-- what was taken is the lines of what the events answer. These answers are as compiled at settled moments, and isolated at
+-- every moment
 pub record TookAnswers (octets : List ℕ) (old new : Option (List ℕ)) : Type 0 where
   pub input : RunInput
   pub read : AreReadAs octets input
   pub taken : Appends old new (run_text (opening_of input) input.events)
   pub compiled : AreAsCompiled (opening_of input) input.events (answers (opening_of input) input.events)
+  pub isolated : IsIsolated (opening_of input) input.events (answers (opening_of input) input.events)
 
--- what was taken is the summary of a scenario, whose answers are as compiled: each of its packets has the outcome that
--- policies give
+-- what was taken is the summary of a scenario, whose answers are as compiled and isolated: each of its packets has the
+-- outcome that policies give
 pub record TookSummary (n : ℕ) (old new : Option (List ℕ)) : Type 0 where
   pub taken : Appends old new (summary_text n)
   pub compiled : AreAsCompiled (opening n) (schedule n) (answers (opening n) (schedule n))
+  pub isolated : IsIsolated (opening n) (schedule n) (answers (opening n) (schedule n))
   pub agree : PacketsAgree n
 
 -- what is promised where the answer is good

@@ -4,12 +4,14 @@ ghost use Rattle.std.specs.List.{list_all};
 ghost use Rattle.std.specs.Io.KnownBytes.{Appends};
 ghost use Rattle.serde_json.specs.View.{view};
 ghost use Rattle.config_model.specs.Event.{has_event_form, run_at};
+ghost use Rattle.config_ties.specs.Kept.{AreAlike, ties_in};
 ghost use Rattle.headline_laws.specs.Headline.{IsWritten};
-ghost use Rattle.net_model.specs.Stands.{StandsFor, moment};
-ghost use Rattle.network_model.specs.Events.{answer_to, event_of};
+ghost use Rattle.net_model.specs.Stands.{StandsFor};
+ghost use Rattle.network_model.specs.Events.{event_of};
 ghost use Rattle.ov_io.specs.Inputs.{TookFront};
 ghost use Rattle.ov_io.specs.Pieces.{HasWriteCause, IsOnItsWay};
-ghost use Rattle.report.specs.Answers.{answer_lines};
+ghost use Rattle.report.specs.Answers.{tied_answer_lines};
+ghost use Rattle.tied_laws.specs.Runs.{answer_tied, tied_moment};
 ghost use Rattle.document_answers.specs.Answers.{IsAnswered, WasGiven, answer_good};
 ghost use Rattle.schedule_answers.specs.Answers.{run_answer, run_value};
 ghost use Rattle.schedule_answers.specs.Networks.{AreReadAs, HasTaken, IsLeftOf, LeftOn, PromisedOn, TookAnswers};
@@ -24,7 +26,7 @@ use net_machine::Net;
 use ov_io::{Sink, TextOut, WriteRefusal, write_gathered, write_piece};
 use ov_json::value_of;
 use ov_types::{Items, NoMemory};
-use report::answer_lines;
+use report::tied_answer_lines;
 use serde_json::Value;
 use std::alloc::Global;
 
@@ -79,21 +81,22 @@ fn write_step<K: Sink>(
 ) -> Result<(), WriteRefusal>
     requires form { IsTrue (has_event_form event) }
     ensures ok { OnOk result (IsOnItsWay (K.taken sink.old) (K.taken sink.new) gathered.new []
-        (gathered.old ++ answer_lines (length net.old.events + 1) event
-        (answer_to (moment net.old.opening net.old.events) (event_of event)))) }
+        (gathered.old ++ tied_answer_lines (length net.old.events + 1) event
+        (answer_tied (tied_moment net.old.opening net.old.events) (event_of event)))) }
     ensures front { OnErr result (TookFront (K.taken sink.old) (K.taken sink.new)
-        (gathered.old ++ answer_lines (length net.old.events + 1) event
-        (answer_to (moment net.old.opening net.old.events) (event_of event)))) }
+        (gathered.old ++ tied_answer_lines (length net.old.events + 1) event
+        (answer_tied (tied_moment net.old.opening net.old.events) (event_of event)))) }
     ensures cause { HasWriteCause (K.faults sink.old) (K.faults sink.new) result }
     ensures opening { net.new.opening ≡ net.old.opening }
     ensures events { OnOk result (net.new.events ≡ net.old.events ++ event ∷ []) }
     ensures works { OnOk result (net.new.failed ≡ false) }
-    ensures state { OnOk result (StandsFor net.new.seats (moment net.new.opening net.new.events)) }
+    ensures state { OnOk result (StandsFor net.new.seats (tied_moment net.new.opening net.new.events).network) }
+    ensures ties { OnOk result (AreAlike (ties_in net.new.ties) (tied_moment net.new.opening net.new.events).ties) }
 {
     let answer = net.step(event)?;
     let events = net.events();
     let number = events.len();
-    answer_lines(alloc, number, &events[number - 1], &answer, gathered)?;
+    tied_answer_lines(alloc, number, &events[number - 1], &answer, gathered)?;
     write_piece(sink, gathered)
 }
 
@@ -108,7 +111,8 @@ fn write_answers<K: Sink>(
     requires form { IsTrue (list_all has_event_form events.items) }
     requires begins { net.old.events ≡ [] }
     requires works { net.old.failed ≡ false }
-    requires state { StandsFor net.old.seats (moment net.old.opening net.old.events) }
+    requires state { StandsFor net.old.seats (tied_moment net.old.opening net.old.events).network }
+    requires ties { AreAlike (ties_in net.old.ties) (tied_moment net.old.opening net.old.events).ties }
     ensures ok { OnOk result (Appends (K.taken sink.old) (K.taken sink.new) (run_text net.old.opening events.items)) }
     ensures front { OnErr result (TookFront (K.taken sink.old) (K.taken sink.new)
         (run_text net.old.opening events.items)) }
@@ -116,7 +120,8 @@ fn write_answers<K: Sink>(
     ensures opening { net.new.opening ≡ net.old.opening }
     ensures events { OnOk result (net.new.events ≡ events.items) }
     ensures works { OnOk result (net.new.failed ≡ false) }
-    ensures state { OnOk result (StandsFor net.new.seats (moment net.new.opening net.new.events)) }
+    ensures state { OnOk result (StandsFor net.new.seats (tied_moment net.new.opening net.new.events).network) }
+    ensures ties { OnOk result (AreAlike (ties_in net.new.ties) (tied_moment net.new.opening net.new.events).ties) }
 {
     let mut gathered = TextOut::new(alloc);
     for event in events {

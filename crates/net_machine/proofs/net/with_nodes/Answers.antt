@@ -1,10 +1,5 @@
-use Rattle.std.proofs.Common.{List, [], sym, subst}
-use Rattle.config_model.specs.declared.event.Event.{Event}
-use Rattle.compiled_laws.specs.Moments.{SettlesInTime}
-use Rattle.net_model.specs.Stands.{any_size, moment}
-use Rattle.net_machine.specs.Running.{IsRunning}
-use Rattle.net_machine.proofs.Promised.{moment_rounds}
-use Rattle.net_machine.proofs.Ran.{start_long, start_runs, start_stands}
+use Rattle.tied_laws.proofs.Moments.{tied_rounds}
+use Rattle.net_machine.proofs.Ran.{start_long, start_runs}
 use Rattle.net_machine.proofs.net.with_nodes.Goals as goal
 
 pub order_of-requires : goal.order_of-requires
@@ -19,33 +14,19 @@ order_of-requires c =
 
 pub invariant_of-result : goal.invariant_of-result
 invariant_of-result c = λ _. (
-  subst (λ (es : List Event). IsRunning c.args.opening es c.args.nodes.seats c.in_ok-order.order.items)
-      (sym c.new.ensures)
-      (start_runs c.args.opening c.args.nodes.seats
+  start_runs c.args.opening c.args.nodes.seats
       (record {
         topology = c.config-config.ensures.topology_form;
         config = c.config-config.ensures.config_form;
         valid = c.config-config.ensures.valid;
       })
       c.requires.seats
-      c.in_ok-order.order.items c.in_ok-order.ensures.order),
+      _ _ c.in_ok-order.order.items c.new.ensures c.requires.ties c.in_ok-order.ensures.order,
   c.requires.works,
 )
 
 pub returns-clause-state : goal.returns-clause-state
 returns-clause-state c =
-    start_stands c.args.opening c.args.nodes.seats
-    (record {
-      topology = c.config-config.ensures.topology_form;
-      config = c.config-config.ensures.config_form;
-      valid = c.config-config.ensures.valid;
-    })
-    c.requires.seats
-
-pub returns-clause-rounds : goal.returns-clause-rounds
-returns-clause-rounds c =
-    subst (λ (es : List Event). SettlesInTime any_size (moment c.args.opening es)) (sym c.new.ensures)
-    (moment_rounds (moment c.args.opening [])
     (start_runs c.args.opening c.args.nodes.seats
     (record {
       topology = c.config-config.ensures.topology_form;
@@ -53,4 +34,27 @@ returns-clause-rounds c =
       valid = c.config-config.ensures.valid;
     })
     c.requires.seats
-    c.in_ok-order.order.items c.in_ok-order.ensures.order).moment_is)
+    _ _ c.in_ok-order.order.items c.new.ensures c.requires.ties c.in_ok-order.ensures.order).stands
+
+pub returns-clause-ties : goal.returns-clause-ties
+returns-clause-ties c =
+    (start_runs c.args.opening c.args.nodes.seats
+    (record {
+      topology = c.config-config.ensures.topology_form;
+      config = c.config-config.ensures.config_form;
+      valid = c.config-config.ensures.valid;
+    })
+    c.requires.seats
+    _ _ c.in_ok-order.order.items c.new.ensures c.requires.ties c.in_ok-order.ensures.order).tied
+
+pub returns-clause-rounds : goal.returns-clause-rounds
+returns-clause-rounds c =
+    let r = start_runs c.args.opening c.args.nodes.seats
+    (record {
+      topology = c.config-config.ensures.topology_form;
+      config = c.config-config.ensures.config_form;
+      valid = c.config-config.ensures.valid;
+    })
+    c.requires.seats
+    _ _ c.in_ok-order.order.items c.new.ensures c.requires.ties c.in_ok-order.ensures.order in
+    tied_rounds _ r.written _ r.forms

@@ -1,6 +1,6 @@
 use Rattle.std.proofs.Common.{◌∙◌, ◌++◌, ◌∷◌, [], ap}
-use Rattle.network_model.specs.Events.{answer_to, event_of}
-use Rattle.net_model.specs.Stands.{moment}
+use Rattle.network_model.specs.Events.{event_of}
+use Rattle.tied_laws.specs.Runs.{answer_tied, tied_moment}
 use Rattle.scenario_run.proofs.Counting.{counted_on, few_on, one_by_one}
 use Rattle.scenario_run.proofs.running.count_all.Goals as goal
 
@@ -10,17 +10,18 @@ loop-event-preserved c =
     let event = c.in-Some.event in
     let old = c.loop-event.net in
     let new = c.count_step.new.net in
-    let answer = answer_to (moment old.opening old.events) (event_of event) in
+    let answer = answer_tied (tied_moment old.opening old.events) (event_of event) in
     let takes = c.in_ok-tally.ensures.events ∙ ap (λ es. es ++ event ∷ []) i.events in
     record {
       rest = one_by_one c.loop-event.yielded event _ _ _ c.in-Some.ensures.steps.0 i.rest;
       tally = counted_on c.args.net.now.opening old.opening new.opening c.loop-event.yielded old.events new.events event
           c.loop-event.tally c.in_ok-tally.tally i.opening (c.count_step.ensures.opening ∙ i.opening) i.events takes
           i.tally c.in_ok-tally.ensures.tally;
-      few = few_on (moment new.opening new.events).setup event answer c.loop-event.tally c.in_ok-tally.tally
+      few = few_on (tied_moment new.opening new.events).network.setup event answer c.loop-event.tally c.in_ok-tally.tally
           c.loop-event.yielded c.in_ok-tally.ensures.tally i.few;
       opening = c.count_step.ensures.opening ∙ i.opening;
       events = takes;
       works = c.in_ok-tally.ensures.works;
       state = c.in_ok-tally.ensures.state;
+      ties = c.in_ok-tally.ensures.ties;
     }

@@ -1,5 +1,7 @@
 use Rattle.std.proofs.Common.{◌≡◌, ◌++◌, length, false}
-use Rattle.net_model.specs.Stands.{StandsFor, moment}
+use Rattle.config_ties.specs.Kept.{AreAlike, ties_in}
+use Rattle.net_model.specs.Stands.{StandsFor}
+use Rattle.tied_laws.specs.Runs.{tied_moment}
 use Rattle.scenario_run.specs.Tallies.{tally}
 use Rattle.scenario_run.proofs.Counting.{IsFew}
 use Rattle.scenario_run.proofs.running.count_all.Given as goal
@@ -12,5 +14,6 @@ invariant-loop-event l = record {
   opening : l.net.opening ≡ l.fn.net.opening;
   events : l.net.events ≡ l.yielded;
   works : l.net.failed ≡ false;
-  state : StandsFor l.net.seats (moment l.net.opening l.net.events);
+  state : StandsFor l.net.seats (tied_moment l.net.opening l.net.events).network;
+  ties : AreAlike (ties_in l.net.ties) (tied_moment l.net.opening l.net.events).ties;
 }

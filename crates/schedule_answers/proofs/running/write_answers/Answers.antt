@@ -16,6 +16,7 @@ loop-event-preserved g c =
       events = c.in_ok-write_step.ensures.events ∙ ap (λ es. es ++ c.in-Some.event ∷ []) i.events;
       works = c.in_ok-write_step.ensures.works;
       state = c.in_ok-write_step.ensures.state;
+      ties = c.in_ok-write_step.ensures.ties;
     }
 
 pub returns-in_err-write_step-clause-front : goal.returns-in_err-write_step-clause-front

@@ -1,6 +1,8 @@
 use Rattle.std.proofs.Common.{◌≡◌, ◌++◌, [], false}
-use Rattle.net_model.specs.Stands.{StandsFor, moment}
+use Rattle.config_ties.specs.Kept.{AreAlike, ties_in}
+use Rattle.net_model.specs.Stands.{StandsFor}
 use Rattle.ov_io.specs.Pieces.{IsOnItsWay}
+use Rattle.tied_laws.specs.Runs.{tied_moment}
 use Rattle.schedule_answers.specs.Schedules.{run_text}
 use Rattle.schedule_answers.proofs.running.write_answers.Given as goal
 
@@ -12,5 +14,6 @@ invariant-loop-event g l = record {
   opening : l.net.opening ≡ l.fn.net.opening;
   events : l.net.events ≡ l.yielded;
   works : l.net.failed ≡ false;
-  state : StandsFor l.net.seats (moment l.net.opening l.net.events);
+  state : StandsFor l.net.seats (tied_moment l.net.opening l.net.events).network;
+  ties : AreAlike (ties_in l.net.ties) (tied_moment l.net.opening l.net.events).ties;
 }
