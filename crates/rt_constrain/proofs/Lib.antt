@@ -4,3 +4,4 @@ pub mod Covered
 pub mod Listed
 pub mod Asks
 pub mod Passing
+pub mod Counted

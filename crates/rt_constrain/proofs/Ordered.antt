@@ -21,11 +21,11 @@ use Rattle.rt_constrain.specs.Asking.{asked_order}
 
 -- ---- a list in order
 module _ {K : Type 0} (R : K → K → Ordering) (o : IsTotalOrder R) where
-  over_all : (k : K) (es : List (K × Unit {0})) → Over R k es → AllByRecursion (λ q. R k q ≡ Less) (map (λ e. e.0) es)
+  over_all : {V : Type 0} (k : K) (es : List (K × V)) → Over R k es → AllByRecursion (λ q. R k q ≡ Less) (map (λ e. e.0) es)
   over_all k [] h = tt
   over_all k (e ∷ es) h = (h.0, over_all k es h.1)
 
-  keys_sorted : (es : List (K × Unit {0})) → Ascends R es → IsStrictlySortedBy R (map (λ e. e.0) es)
+  pub keys_sorted : {V : Type 0} (es : List (K × V)) → Ascends R es → IsStrictlySortedBy R (map (λ e. e.0) es)
   unfolding IsStrictlySortedBy
   keys_sorted [] h = tt
   keys_sorted (e ∷ es) h = (over_all e.0 es h.0, keys_sorted es h.1)

@@ -15,6 +15,7 @@ use Rattle.node_model.proofs.Directions.{vpn_total}
 use Rattle.constrain_laws.specs.Cut.{passes, restricted}
 use Rattle.vpn_tables.specs.Views.{peer_of, vpn_order}
 use Rattle.vpn_tables.proofs.Images.{peer-entries}
+use Rattle.rt_constrain.proofs.Ordered.{keys_sorted}
 
 abbrev pub Entry : Type 0
 Entry = VpnKey × VpnRoute
@@ -44,6 +45,10 @@ module _ (test : VpnRoute → Bool) where
         | true ↦ (over_filter e.0 es h.0, ascends_filter es h.1)
         | false ↦ ascends_filter es h.1
       ]
+
+  pub kept_ascending : (es : List Entry) → IsStrictlySortedBy vpn_order (map (λ e. e.0) es)
+      → IsStrictlySortedBy vpn_order (map (λ e. e.0) (filter (λ (e : Entry). test e.1) es))
+  kept_ascending es sorted = keys_sorted vpn_order vpn_total (filter (λ (e : Entry). test e.1) es) (ascends_filter es (ascends vpn_order es sorted))
 
   pub restricted_is : (es : List Entry) → IsStrictlySortedBy vpn_order (map (λ e. e.0) es)
       → peer_of (filter (λ (e : Entry). test e.1) es) ≡ restricted test (peer_of es)

@@ -2,3 +2,4 @@
 pub mod Covering
 pub mod Needed
 pub mod Asking
+pub mod Sharing

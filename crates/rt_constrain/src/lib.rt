@@ -5,7 +5,9 @@ mod asking;
 mod covering;
 pub mod laws;
 mod needing;
+mod sharing;
 
 pub use asking::asked;
 pub use covering::{covers, restrict};
 pub use needing::needed;
+pub use sharing::{Share, share_of};

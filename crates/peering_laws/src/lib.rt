@@ -1,0 +1,4 @@
+//! What control nodes hold of their peers in a settled network: laws alone.
+#![tactic(auto)]
+
+pub mod laws;

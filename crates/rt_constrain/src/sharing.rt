@@ -1,0 +1,44 @@
+//! How many routes are sent to a peer that asks.
+ghost use Rattle.std.specs.Prelude.{◌≡◌, length};
+ghost use Rattle.std.specs.List.{filter};
+ghost use Rattle.vpn_tables.specs.Views.{peer_of};
+ghost use Rattle.rt_constrain.specs.Covering.{AreAsked, covers};
+ghost use Rattle.rt_constrain.specs.Sharing.{share};
+
+use crate::covering::covers;
+use ov_types::{VpnKey, VpnRoute};
+use rt_membership::Asked;
+use std::collections::BTreeMap;
+
+/// Of so many routes, so many are sent.
+#[derive(Clone, Copy)]
+pub struct Share {
+    pub sent: usize,
+    pub all: usize,
+}
+
+/// How many of these routes are asked.
+fn covered_among(routes: &BTreeMap<VpnKey, VpnRoute>, asked: &[Asked]) -> usize
+    requires { AreAsked asked.now }
+    ensures { result ≡ length (filter (λ e. covers asked.now e.1) routes.now.entries) }
+{
+    let _all = routes.len();
+    let mut count = 0;
+    for (_, route) in routes.iter() {
+        if covers(asked, route) {
+            count += 1;
+        }
+    }
+    count
+}
+
+/// How many of the routes that a control node would tell its peers are sent to one that asks so, and how many they are
+/// in all. It takes no memory.
+pub fn share_of(routes: &BTreeMap<VpnKey, VpnRoute>, asked: &[Asked]) -> Share
+    requires { AreAsked asked.now }
+    ensures { result ≡ share asked.now (peer_of routes.now.entries) }
+{
+    let sent = covered_among(routes, asked);
+    let all = routes.len();
+    Share { sent, all }
+}
