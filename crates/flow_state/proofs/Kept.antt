@@ -1,0 +1,24 @@
+-- What is held of a replay goes by its ties, however they are kept.
+use Rattle.std.proofs.Common.{◌≡◌, ℕ, [], None}
+use Rattle.config_model.specs.declared.edit.Edit.{Edit}
+use Rattle.config_check.specs.Checked.{Checked}
+use Rattle.config_check.specs.Edits.{edited}
+use Rattle.config_ties.specs.Kept.{AreAlike, Kept, ties_in}
+use Rattle.config_ties.specs.Tying.{joined, ties_of}
+use Rattle.config_ties.proofs.Alike.{alike_is_one}
+use Rattle.flow_state.specs.Playing.{Playing, opening, played_edit, playing}
+use Rattle.flow_state.specs.Replay.{checked_by}
+
+pub starts : (capacity : ℕ) (v : Checked) (kept : Kept) → AreAlike (ties_in kept) (ties_of v.config)
+    → playing (record { checked = v; kept = kept; capacity = capacity; flows = [] }) ≡ opening capacity v
+starts capacity v kept h =
+    λ k. record { checked = v; ties = alike_is_one (ties_in kept) (ties_of v.config) h k; capacity = capacity; flows = [] }
+
+pub goes_on : (e : Edit) (s : Playing) (kept : Kept) → AreAlike (ties_in kept) (joined s.ties (edited e s.checked.config))
+    → playing (record { checked = checked_by e s.checked; kept = kept; capacity = s.capacity; flows = [] }) ≡ played_edit e None s
+goes_on e s kept h = λ k. record {
+  checked = checked_by e s.checked;
+  ties = alike_is_one (ties_in kept) (joined s.ties (edited e s.checked.config)) h k;
+  capacity = s.capacity;
+  flows = [];
+}

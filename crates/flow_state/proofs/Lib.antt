@@ -1,0 +1,10 @@
+pub mod Back
+pub mod Follow
+pub mod Kept
+pub mod Moments
+pub mod Permits
+pub mod Recent
+pub mod Replies
+pub mod Short
+pub mod Standing
+pub mod Using

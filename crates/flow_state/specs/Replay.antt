@@ -1,0 +1,67 @@
+-- Lists of steps: edits, and packets that are traced.
+use Rattle.std.specs.Prelude.{ℕ, List, [], ◌∷◌, Option, Some, None}
+use Rattle.config_model.specs.declared.edit.Edit.{Edit}
+use Rattle.config_check.specs.Checked.{Checked}
+use Rattle.config_check.specs.Edits.{edited}
+use Rattle.config_ties.specs.Ties.{Ties}
+use Rattle.config_ties.specs.Tied.{tied_fault}
+use Rattle.config_ties.specs.Tying.{joined, ties_of}
+use Rattle.config_ties.specs.declared.edits.TiedFault.{TiedFault}
+use Rattle.flow_script.specs.declared.step.Step.{Step}
+use Rattle.flow_script.specs.declared.step.Step.TheVariants as Steps
+use Rattle.flow_state.specs.declared.flow.Flow.{Flow}
+use Rattle.flow_state.specs.Recent.{recent}
+use Rattle.flow_state.specs.Flows.{flow_outcome, flow_use}
+use Rattle.flow_state.specs.declared.answer.FlowAnswer.{FlowAnswer}
+use Rattle.flow_state.specs.declared.answer.FlowAnswer.TheVariants.{Edited, Refused, Traced}
+
+-- what some steps left: what is configured, the ties of the configurations so far, and the uses since the last accepted
+-- edit, or since the start, the last use first
+pub record Replay : Type 0 where
+  pub checked : Checked
+  pub ties : Ties
+  pub uses : List Flow
+
+-- the flows that may be answered now: those that were used last, as many as there is room for
+abbrev pub table_of : ℕ → Replay → List Flow
+table_of capacity s = recent capacity s.uses
+
+abbrev pub used : Option Flow → List Flow → List Flow
+used None uses = uses
+used (Some f) uses = f ∷ uses
+
+-- what is configured after an accepted edit
+abbrev pub checked_by : Edit → Checked → Checked
+checked_by e v = record { topology = v.topology; config = edited e v.config }
+
+-- an accepted edit leaves no use, and its configuration joins the ties; a refused one leaves all as it was
+abbrev pub after_edit : Edit → Option TiedFault → Replay → Replay
+after_edit e None s =
+    record { checked = checked_by e s.checked; ties = joined s.ties (edited e s.checked.config); uses = [] }
+after_edit e (Some fault) s = s
+
+abbrev pub fault_in : Edit → Replay → Option TiedFault
+fault_in e s = tied_fault s.checked s.ties e
+
+-- a packet adds its use, if it uses a flow
+abbrev pub after_step : ℕ → Step → Replay → Replay
+after_step capacity (Steps.Edit e) s = after_edit e (fault_in e s) s
+after_step capacity (Steps.Trace p) s =
+    record s { uses = used (flow_use s.checked.config (table_of capacity s) p) s.uses }
+
+abbrev pub edit_answer : Option TiedFault → FlowAnswer
+edit_answer None = Edited
+edit_answer (Some fault) = Refused fault
+
+abbrev pub answer_to : ℕ → Step → Replay → FlowAnswer
+answer_to capacity (Steps.Edit e) s = edit_answer (fault_in e s)
+answer_to capacity (Steps.Trace p) s = Traced (flow_outcome s.checked.config (table_of capacity s) p)
+
+-- the answers to a list of steps, in order
+unfoldable pub answers : ℕ → List Step → Replay → List FlowAnswer
+answers capacity [] s = []
+answers capacity (x ∷ xs) s = answer_to capacity x s ∷ answers capacity xs (after_step capacity x s)
+
+-- at the start nothing was used, and the ties are those of the opening configuration
+abbrev pub at_start : Checked → Replay
+at_start v = record { checked = v; ties = ties_of v.config; uses = [] }
