@@ -1,28 +1,25 @@
 #!/usr/bin/env python3
-"""Runs the built program for each way that a run ends, and says where its status, its output or its usage text is another.
+"""Runs the built program for each way that a run ends, and says where its status, its output or what it says to people is
+another.
 
-Statuses 0 and 2 to 8, `--help`, `--version`, a word that is no UTF-8, and outputs that are closed or full. Status 9, want of
-memory, is shown by tests/allocations.py.
+Statuses 0 and 2 to 8, `--help`, `--version`, a word that is no UTF-8, and outputs that are closed or full; of standard error a
+sentence for each rule that a configuration breaks, for each kind of a document's fault, and for what is no JSON or no digits.
+Status 9, want of memory, is shown by tests/allocations.py.
 
 usage: tests/statuses.py PROGRAM
 
 PROGRAM is the built `overlay`. Needs Python 3.8 and Linux, whose /dev/full takes nothing. Ends with status 1 where a run
 ended otherwise.
 """
+import json
 import os
 import subprocess
 import sys
 
 EXAMPLES = os.path.join(os.path.dirname(os.path.dirname(os.path.abspath(__file__))), "examples")
-USAGE = b"""usage: overlay compile < DOCUMENT
-       overlay reach < DOCUMENT
-       overlay scale < DOCUMENT
-       overlay graceful < DOCUMENT
-       overlay run < DOCUMENT
-       overlay decode < DIGITS
-       overlay gen NUMBER
-       overlay --help | --version
-"""
+USAGE = b"usage: overlay COMMAND, with an input on standard input:\n"
+COMMANDS = b"compile reach scale flows constrain graceful run decode gen --help --version".split()
+STATUSES = b"0 2 3 4 5 6 7 8 9".split()
 TEXT = b"""instance 1 imports 1
 attach 23 port 7 instance 1 address 10.1.0.5 node 192.0.2.11
 acl 1 1 subnets 10.1.0.0/24
@@ -31,11 +28,12 @@ agent n1 label 23 port 7 instance 1
 agent n1 acl 1 1 subnets 10.1.0.0/24
 agent n1 table 1 10.1.0.5/32 192.0.2.11 23
 """
-OVERLAP = b"""{"topology":
-  {"as":64512,"controllers":[{"name":"c1","address":"192.0.2.1"}],
-   "nodes":[{"name":"n1","address":"192.0.2.11","controllers":["c1"]}]},
- "configuration":
-  {"networks":[{"name":"red","id":1,"subnets":["10.1.0.0/24"]},{"name":"red","id":2,"subnets":["10.2.0.0/24"]}]}}"""
+NO_READ = b"overlay: standard input could not be read: give it a file or a pipe that is open\n"
+NO_WRITE = b"overlay: standard output could not be written: see that it is open, and that there is room where it goes\n"
+TOO_LONG = b"overlay: the input has more than 16,777,216 octets: leave out what is not asked for, or make two of it\n"
+NO_JSON = b"overlay: the input is no JSON, and reading it stopped at "
+NO_PAIR = b"overlay: hexadecimal digits stand in pairs, and that at line %d, column %d has no other\n"
+STRAY = b"overlay: neither a hexadecimal digit nor a blank stands at line %d, column %d\n"
 SUMMARY = b"""gen 3 controllers 3 nodes 20 networks 12 ports 192 uses 3
 rounds 6 5
 traces 40 delivered 8 agreed 40
@@ -48,29 +46,109 @@ def example(name):
         return file.read()
 
 
+def network(name, number, *subnets, **more):
+    return {"name": name, "id": number, "subnets": list(subnets), **more}
+
+
+def port(name, number, network, address):
+    return {"name": name, "id": number, "network": network, "address": address, "node": "n1"}
+
+
+def through(chain, use, source="red", destination="blue"):
+    """A rule that leads through a chain."""
+    return {"source": source, "destination": destination, "direction": "<>", "protocol": "any",
+            "source_ports": [0, 65535], "destination_ports": [0, 65535], "action": "chain", "chain": chain, "use": use}
+
+
+def policy(*rules):
+    return {"name": "p", "sequence": 20, "rules": list(rules)}
+
+
+def document(controllers=1, **members):
+    """A document of one compute node, with these members of its configuration."""
+    named = [{"name": f"c{n}", "address": f"192.0.2.{n}"} for n in range(1, controllers + 1)]
+    nodes = [{"name": "n1", "address": "192.0.2.11", "controllers": ["c1"]}]
+    topology = {"as": 64512, "controllers": named, "nodes": nodes}
+    return json.dumps({"topology": topology, "configuration": members}).encode()
+
+
+RED, BLUE = network("red", 1, "10.1.0.0/24"), network("blue", 2, "10.2.0.0/24")
+PASSES = {"source": "any", "destination": "any", "direction": "<>", "protocol": "any", "source_ports": [0, 65535],
+          "destination_ports": [0, 65535], "action": "pass"}
+FIREWALL = {"name": "fw", "id": 7, "node": "n1"}
+
+# documents that break a rule, the line, and the sentence behind `overlay: `
+REFUSED = [
+    (document(9), b"Limit controllers", b"a topology has at most 8 control nodes, and this one has more"),
+    (document(networks=[RED, network("red", 2, "10.2.0.0/24")]), b"DuplicateName red",
+     b"a name stands for one thing of its kind, and red is given twice"),
+    (document(networks=[RED, network("blue", 1, "10.2.0.0/24")]), b"DuplicateId network 1",
+     b"each network has an id of its own, and two have 1"),
+    (document(networks=[network("red", 1, "10.1.0.0/24", policies=["web"])]), b"BadReference web",
+     b"what is referred to has to exist, and nothing of the wanted kind is named web"),
+    (document(networks=[network("red", 1, "250.0.0.0/24")]), b"SubnetReserved red 250.0.0.0/24",
+     b"250.0.0.0/15 is kept for the addresses of circuits, and subnet 250.0.0.0/24 of network red overlaps it"),
+    (document(networks=[network("red", 1, "10.1.0.0/16", "10.1.2.0/24")]), b"SubnetNested red 10.1.0.0/16 10.1.2.0/24",
+     b"the subnets of a network do not overlap, and 10.1.0.0/16 and 10.1.2.0/24 of network red do"),
+    (document(networks=[RED], ports=[port("vm2", 2, "red", "10.9.0.1")]), b"AddressOutside vm2",
+     b"the address of a port is in a subnet of its network, and that of port vm2 is in none"),
+    (document(networks=[RED], ports=[port("vm1", 1, "red", "10.1.0.1"), port("vm2", 2, "red", "10.1.0.1")]),
+     b"AddressTaken vm1 vm2",
+     b"the ports of a network have addresses of their own, and ports vm1 and vm2 have the same"),
+    (document(networks=[RED, BLUE], services=[FIREWALL], chains=[{"name": "c", "hops": ["fw"]}],
+              policies=[policy(through("c", 1, source="any"))]), b"ChainNeedsNetworks 20/1",
+     b"a rule through a chain names both of its networks, and rule 20/1 has any for one"),
+    (document(networks=[RED, BLUE], services=[FIREWALL], chains=[{"name": "c", "hops": ["fw"]}],
+              policies=[policy(through("c", 1, destination="red"))]), b"ChainSameNetwork 20/1",
+     b"a rule through a chain is between two networks, and rule 20/1 names one twice"),
+    (document(chains=[{"name": "c", "hops": ["c"]}]), b"ChainLoop c",
+     b"a chain does not lead to itself, and chain c does"),
+    (document(services=[{"name": f"s{n}", "id": n, "node": "n1"} for n in range(1, 17)],
+              chains=[{"name": "long", "hops": [f"s{n}" for n in range(1, 17)]}]), b"ChainTooLong long",
+     b"a chain comes to at most 15 services with those of the chains in it, and chain long to more"),
+    (document(services=[FIREWALL], chains=[{"name": "c", "hops": ["fw", "fw"]}]), b"ServiceTwice c fw",
+     b"a chain passes each service once, and chain c comes to service fw twice"),
+    (document(networks=[network("red", 1, "10.1.0.0/24", policies=["p"]), network("blue", 2, "10.1.0.0/24", policies=["p"])],
+              policies=[policy(PASSES)]), b"SubnetOverlap red blue",
+     b"networks that are related, or related to one network, share no addresses, and red and blue do"),
+]
+
+# documents that break the form, the line behind `bad document `, and the sentence behind `overlay: `
+BAD = [
+    (b"[]", b"Kind", b"the document is a JSON value of another kind than the form wants there"),
+    (b"{}", b"topology Missing", b"topology is missing, and the form wants it"),
+    (document(networks=[network("red", 0)]), b"configuration.networks[0].id Range",
+     b"configuration.networks[0].id is a number, a text or a list outside what the form allows there"),
+    (document(nets=[]), b"configuration.nets Unknown", b"configuration.nets is a member that the form does not have there"),
+    (document(**{"n" * 600: []}), b"configuration.%s Unknown" % (b"n" * 600),
+     b"configuration.%s.. breaks the form; standard output has the whole path, and how" % (b"n" * 485)),
+]
+
 # the words, the input, the status, standard output, standard error
 RUNS = [
     ([b"compile"], example("one.json"), 0, TEXT, b""),
     ([b"decode"], b"", 0, b"", b""),
     ([b"decode"], KEEPALIVE * 10_000, 0, b"keepalive\n" * 10_000, b""),
     ([b"gen", b"3"], b"", 0, SUMMARY, b""),
-    ([b"--help"], b"", 0, USAGE, b""),
     ([b"--version"], b"", 0, b"overlay 0.1.0\n", b""),
-    ([], b"", 2, b"", USAGE),
-    ([b"show"], b"", 2, b"", USAGE),
-    ([b"compile", b"reach"], example("one.json"), 2, b"", USAGE),
-    ([b"--help", b"compile"], b"", 2, b"", USAGE),
-    ([b"gen"], b"", 2, b"", USAGE),
-    ([b"gen", b"03"], b"", 2, b"", USAGE),
-    ([b"\xff"], b"", 2, b"", USAGE),
-    ([b"compile"], b" " * 16_777_217, 4, b"", b""),
-    ([b"compile"], b"{", 5, b"not json\n", b""),
-    ([b"decode"], b"0", 5, b"not hex\n", b""),
-    ([b"decode"], KEEPALIVE * 10_000 + b"0", 5, b"not hex\n", b""),
-    ([b"reach"], example("one.json"), 6, b"bad document packets Missing\n", b""),
-    ([b"compile"], b'{"a\nb":0}'.replace(b"\n", b"\\n"), 6, b"bad document topology Missing\n", b""),
-    ([b"compile"], OVERLAP, 7, b"refused DuplicateName red\n", b""),
+    ([b"compile"], b" " * 16_777_217, 4, b"", TOO_LONG),
+    ([b"compile"], b"{", 5, b"not json\n", NO_JSON + b"line 1, column 1\n"),
+    ([b"run"], b'{"a": 1,\n "b": x}', 5, b"not json\n", NO_JSON + b"line 2, column 7\n"),
+    ([b"reach"], b'{"a":\n  "\xff"}', 5, b"not json\n", NO_JSON + b"line 2, column 4\n"),
+    ([b"decode"], b"0", 5, b"not hex\n", NO_PAIR % (1, 1)),
+    ([b"decode"], KEEPALIVE * 10_000 + b"0", 5, b"not hex\n", NO_PAIR % (10_001, 1)),
+    ([b"decode"], KEEPALIVE * 10_000 + b"00 0x", 5, b"not hex\n", STRAY % (10_001, 5)),
+    *(([b"compile"], text, 7, b"refused " + line + b"\n", b"overlay: " + said + b"\n") for text, line, said in REFUSED),
+    *(([b"compile"], text, 6, b"bad document " + line + b"\n", b"overlay: " + said + b"\n") for text, line, said in BAD),
 ]
+# words that are no command
+WRONG = [[], [b"show"], [b"compile", b"reach"], [b"--help", b"compile"], [b"gen"], [b"gen", b"03"], [b"\xff"]]
+
+
+def names_each(text, words):
+    """Whether a line of a text begins with each of the words, behind two blanks, and says more."""
+    first = [line.split(b" ")[2] for line in text.splitlines() if line.startswith(b"  ") and line.count(b" ") > 2]
+    return all(word in first for word in words)
 
 
 def ended(program, words, source, sink):
@@ -86,11 +164,12 @@ def written(program, words, text):
 
 
 def closed(program, words, stream):
-    """The status of a run on the first example, one of whose streams is closed."""
+    """The status of a run on the first example, one of whose streams is closed, and what it wrote to standard error."""
     command = 'exec "$0" "$@" %s' % {"input": "<&-", "output": ">&-"}[stream]
     with open(os.path.join(EXAMPLES, "one.json"), "rb") as source:
-        run = subprocess.run(["sh", "-c", command, program] + words, stdin=source, stdout=subprocess.PIPE, timeout=60)
-    return run.returncode
+        ends = {"stdin": source, "stdout": subprocess.PIPE, "stderr": subprocess.PIPE}
+        run = subprocess.run(["sh", "-c", command, program] + words, **ends, timeout=60)
+    return run.returncode, run.stderr
 
 
 def others(program):
@@ -99,28 +178,35 @@ def others(program):
         got = written(program, words, text)
         if got != tuple(wanted):
             yield f"{words}: status {got[0]} and not {wanted[0]}, {got[1][:80]!r}, {got[2][:80]!r}"
+    for words in WRONG:
+        status, out, said = written(program, words, b"")
+        if (status, out) != (2, b"") or not said.startswith(USAGE) or not names_each(said, COMMANDS):
+            yield f"{words}: status {status}, {out[:80]!r}, {said[:80]!r}"
+    status, out, said = written(program, [b"--help"], b"")
+    if (status, said) != (0, b"") or not names_each(out, COMMANDS + STATUSES):
+        yield f"--help: status {status}, {out[:80]!r}, {said[:80]!r}"
     with open(EXAMPLES + "/one.json", "rb") as source, open("/dev/full", "wb") as full:
         got = ended(program, [b"compile"], source, full)
-        if got != (8, b""):
+        if got != (8, NO_WRITE):
             yield f"compile to a full output: {got}"
     for word in (b"--help", b"--version"):
         with open("/dev/full", "wb") as full:
             got = ended(program, [word], subprocess.DEVNULL, full)
-            if got != (8, b""):
+            if got != (8, NO_WRITE):
                 yield f"{word} to a full output: {got}"
     folder = os.open(EXAMPLES, os.O_RDONLY)
     try:
         got = ended(program, [b"compile"], folder, subprocess.DEVNULL)
-        if got != (3, b""):
+        if got != (3, NO_READ):
             yield f"compile from a folder: {got}"
     finally:
         os.close(folder)
     got = closed(program, [b"compile"], "output")
-    if got != 8:
-        yield f"compile to a closed output: status {got}"
+    if got != (8, NO_WRITE):
+        yield f"compile to a closed output: {got}"
     got = closed(program, [b"compile"], "input")
-    if got != 3:
-        yield f"compile from a closed input: status {got}"
+    if got != (3, NO_READ):
+        yield f"compile from a closed input: {got}"
 
 
 def main():
@@ -129,7 +215,7 @@ def main():
     found = list(others(os.path.abspath(sys.argv[1])))
     for line in found:
         print(line)
-    print(f"{len(RUNS) + 6} runs, {len(found)} that ended otherwise")
+    print(f"{len(RUNS) + len(WRONG) + 7} runs, {len(found)} that ended otherwise")
     sys.exit(1 if found else 0)
 
 

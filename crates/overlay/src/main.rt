@@ -1,30 +1,30 @@
-//! The program `overlay`: the tables that a configuration asks for, what becomes of packets and which members of
-//! services they visit, which routes of a BGP peer are held over its restart, what the events of a schedule answer, what
-//! BGP messages say, and what scenarios come to.
+//! The program `overlay`: the tables that a configuration asks for, what becomes of packets, which members of services
+//! they visit and which replies pass back, what control nodes ask of their peers and how much these send then, which
+//! routes of a BGP peer are held over its restart, what the events of a schedule answer, what BGP messages say, and what
+//! scenarios come to.
 #![tactic(auto)]
 
-ghost use Rattle.std.specs.Prelude.{◌≡◌, ◌≢◌, ◌↔◌, ◌⊎◌};
+ghost use Rattle.std.specs.Prelude.{◌≡◌, ◌≢◌, ◌↔◌, ◌⊎◌, option_map};
 ghost use Rattle.std.specs.IoError.{error_kind};
 ghost use Rattle.std.specs.declared.io.ErrorKind.TheVariants.{OutOfMemory};
 ghost use Rattle.std.specs.Process.{exit_status};
+ghost use Rattle.explanations.specs.Explanations.{explanation_text};
+ghost use Rattle.overlay.specs.Keeping.{KeepsFor, KeepsForName};
 ghost use Rattle.overlay.specs.Requests.{request_named, request_of};
+ghost use Rattle.overlay.specs.Saying.{IsSaid};
 ghost use Rattle.top_call.specs.Runs.{number_of};
 
+use explanations::{
+    Advice, Explanation, FrontSink, Heard, HeardSource, HelpText, UsageText, explain_form,
+    explain_refusal, explain_stop,
+};
 use ov_io::{StdSink, StdSource};
+use std::alloc::Global;
 use std::env::Env;
+use std::fmt::Display;
 use std::process::ExitCode;
 use std::{env, io};
 use top_call::{Status, overlay};
-
-const USAGE: &str = "usage: overlay compile < DOCUMENT
-       overlay reach < DOCUMENT
-       overlay scale < DOCUMENT
-       overlay graceful < DOCUMENT
-       overlay run < DOCUMENT
-       overlay decode < DIGITS
-       overlay gen NUMBER
-       overlay --help | --version
-";
 
 const VERSION: &str = "overlay 0.1.0\n";
 
@@ -77,7 +77,7 @@ fn status_without_words(error: &io::Error) -> Status
 }
 
 /// Prints to standard output, and says how that ended.
-fn printed(rt: &impl Print, text: &str) -> Status
+fn printed<D: Display + Drop>(rt: &impl Print, text: D) -> Status
     ensures { (result ≡ Status.Done) ⊎ (result ≡ Status.WriteFault) }
 {
     match rt.print(text) {
@@ -86,12 +86,81 @@ fn printed(rt: &impl Print, text: &str) -> Status
     }
 }
 
-/// Runs the top call over standard input and output.
+/// What is kept of the input for people: the octets of `decode`'s digits or of a document, and nothing where the words
+/// are none or several.
+fn kept_for(alloc: Global, words: &[String]) -> Heard
+    ensures { KeepsFor words.now result }
+{
+    match words {
+        [word] => kept_for_name(alloc, word.as_str()),
+        _ => Heard::Nothing,
+    }
+}
+
+fn kept_for_name(alloc: Global, word: &str) -> Heard
+    ensures { KeepsForName word.now result }
+{
+    match word {
+        "decode" => Heard::Digits(Vec::new(alloc)),
+        _ => Heard::Document(Vec::new(alloc)),
+    }
+}
+
+/// What is said to people of a run that ended so, by the front of what it wrote and by what was kept of its input. Where it
+/// was given no command the usage is printed in place of it.
+fn explanation<'a>(
+    alloc: Global,
+    status: Status,
+    front: &'a [u8],
+    heard: &Heard,
+) -> Option<Explanation<'a>>
+    ensures { IsSaid status front.now heard.now (option_map explanation_text result) }
+{
+    match status {
+        Status::Done | Status::Usage => None,
+        Status::ReadFault => Some(Explanation::Advice(Advice::ReadFault)),
+        Status::TooLong => Some(Explanation::Advice(Advice::TooLong)),
+        Status::NotJson => Some(explain_stop(alloc, heard)),
+        Status::BadDocument => Some(explain_form(front)),
+        Status::Refused => Some(explain_refusal(front)),
+        Status::WriteFault => Some(Explanation::Advice(Advice::WriteFault)),
+        Status::NoMemory => Some(Explanation::Advice(Advice::NoMemory)),
+    }
+}
+
+/// Says to people on standard error how a run ended. A fault there changes nothing.
+fn say(rt: &HostRuntime, status: Status, front: &[u8], heard: &Heard) {
+    if status == Status::Usage {
+        let _ = rt.eprint(UsageText);
+    }
+    if let Some(explanation) = explanation(rt.alloc(), status, front, heard) {
+        let _ = rt.eprint(explanation);
+    }
+}
+
+/// Runs the top call over standard input and output, and says to people how it ended.
 fn run(rt: &HostRuntime, words: &[String]) -> Status {
-    let mut source = StdSource::new(rt.stdin());
-    let mut sink = StdSink::new(rt.stdout());
+    let kept = kept_for(rt.alloc(), words);
+    let mut source = HeardSource::new(StdSource::new(rt.stdin()), kept);
+    let mut sink = FrontSink::new(StdSink::new(rt.stdout()));
     let mut net = None;
-    overlay(rt.alloc(), words, &mut source, &mut sink, &mut net)
+    let status = overlay(rt.alloc(), words, &mut source, &mut sink, &mut net);
+    say(rt, status, sink.front(), source.heard());
+    status
+}
+
+/// Prints what is asked of `main` itself, and says to people how that ended.
+fn tell<D: Display + Drop>(rt: &HostRuntime, text: D) -> Status {
+    let status = printed(rt, text);
+    say(rt, status, &[], &Heard::Nothing);
+    status
+}
+
+/// Ends without words, and says so to people.
+fn end_without_words(rt: &HostRuntime, error: &io::Error) -> Status {
+    let status = status_without_words(error);
+    say(rt, status, &[], &Heard::Nothing);
+    status
 }
 
 /// The exit status that tells how the run ended.
@@ -104,14 +173,11 @@ fn code_of(status: Status) -> ExitCode
 fn main(rt: HostRuntime) -> ExitCode {
     let status = match words_of(&rt) {
         Ok(words) => match request_of(words.as_slice()) {
-            Request::Help => printed(&rt, USAGE),
-            Request::Version => printed(&rt, VERSION),
+            Request::Help => tell(&rt, HelpText),
+            Request::Version => tell(&rt, VERSION),
             Request::Run => run(&rt, words.as_slice()),
         },
-        Err(error) => status_without_words(&error),
+        Err(error) => end_without_words(&rt, &error),
     };
-    if status == Status::Usage {
-        let _ = rt.eprint(USAGE);
-    }
     code_of(status)
 }

@@ -1,0 +1,6 @@
+mod Counts
+mod Cuts
+mod Fronts
+mod Lines
+mod Plain
+mod Scans

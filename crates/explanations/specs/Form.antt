@@ -1,0 +1,46 @@
+-- What is said of a document that breaks the form: which value, and how.
+use Rattle.std.specs.Prelude.{ℕ, List, [], ◌∷◌, ◌++◌, ◌==◌, length, drop, codes, Option, Some, None, if◌then◌else◌}
+use Rattle.explanations.specs.declared.form.FormFault.{FormFault}
+use Rattle.explanations.specs.declared.form.FormKind.{FormKind}
+use Rattle.explanations.specs.declared.form.FormKind.TheVariants.{Missing, Kind, Range, Unknown, Cut}
+use Rattle.explanations.specs.Words.{begins_so, ends_so, utf8_front, without_end}
+
+-- a path, and how its value breaks the form
+pub record FormWords : Type 0 where
+  pub path : List ℕ
+  pub kind : FormKind
+
+abbrev pub form_words : FormFault → FormWords
+form_words f = record { path = f.path.now; kind = f.kind }
+
+-- what a path leads to: the empty one to the whole document
+abbrev pub subject_of : List ℕ → List ℕ
+subject_of path = if length path == 0 then codes "the document" else path
+
+abbrev pub form_sentence : FormKind → List ℕ → List ℕ
+form_sentence Missing path = subject_of path ++ codes " is missing, and the form wants it"
+form_sentence Kind path = subject_of path ++ codes " is a JSON value of another kind than the form wants there"
+form_sentence Range path = subject_of path ++ codes " is a number, a text or a list outside what the form allows there"
+form_sentence Unknown path = subject_of path ++ codes " is a member that the form does not have there"
+form_sentence Cut path = path ++ codes ".. breaks the form; standard output has the whole path, and how"
+
+-- what stands before the kind that ends a text, and the kind
+unfoldable pub kind_at_end : List ℕ → FormWords
+kind_at_end text =
+    if ends_so (codes " Missing" ++ (10 ∷ [])) text
+    then record { path = without_end (codes " Missing" ++ (10 ∷ [])) text; kind = Missing }
+    else (if ends_so (codes " Kind" ++ (10 ∷ [])) text
+    then record { path = without_end (codes " Kind" ++ (10 ∷ [])) text; kind = Kind }
+    else (if ends_so (codes " Range" ++ (10 ∷ [])) text
+    then record { path = without_end (codes " Range" ++ (10 ∷ [])) text; kind = Range }
+    else (if ends_so (codes " Unknown" ++ (10 ∷ [])) text
+    then record { path = without_end (codes " Unknown" ++ (10 ∷ [])) text; kind = Unknown }
+    else record { path = text; kind = Cut })))
+
+-- the words of the line of a fault: the path stands between two blanks, and there is one where it is empty
+unfoldable pub form_fault_in : List ℕ → Option FormWords
+form_fault_in line =
+    if begins_so (codes "bad document") line
+    then (let told = kind_at_end (drop 12 line) in
+    Some (record { path = utf8_front (drop 1 told.path); kind = told.kind }))
+    else None

@@ -1,0 +1,12 @@
+pub mod Counting
+pub mod Digits
+pub mod Ends
+pub mod Explanations
+pub mod Form
+pub mod Help
+pub mod Places
+pub mod Refusals
+pub mod Sentences
+pub mod Stops
+pub mod Told
+pub mod Words

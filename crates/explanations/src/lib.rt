@@ -1,0 +1,26 @@
+//! What the program says to people: its help, what to do where a run did not come to its end, and in plain sentences what
+//! its lines say to programs; and ends that keep what these sentences need.
+#![tactic(auto)]
+
+mod digits;
+mod ends;
+mod explanation;
+mod form;
+mod help;
+mod json;
+mod laws;
+mod place;
+mod refused;
+mod rule;
+mod text;
+
+pub use digits::DigitFault;
+pub use ends::{FrontSink, Heard, HeardSource};
+pub use explanation::{Explanation, explain_form, explain_refusal, explain_stop};
+pub use form::{FormFault, FormKind, form_fault_in};
+pub use help::{Advice, COMMANDS, HelpText, STATUSES, USAGE, UsageText};
+pub use json::json_stop;
+pub use laws::{columns_are_counted, digits_are_scanned, lines_are_counted, refusals_are_told};
+pub use place::Place;
+pub use refused::{Refused, refused_in};
+pub use rule::RuleKind;
