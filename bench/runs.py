@@ -4,7 +4,9 @@
 Makes schedules by formula, runs the built program on each, and prints a table in Markdown: processor time in seconds (user
 and system, the least of three runs), peak memory in millions of octets, and the rounds that each `settle` took. Each line is
 a network from nothing: it is settled; or settled, edited and settled again; or settled, and then 10,000 deliveries are asked
-for of which none has anything in flight.
+for of which none has anything in flight; or settled, and then edited and settled a hundred times, where no other network has
+rows of the port that is edited, so that an edit makes the same messages whatever the size. Of the last the rounds are those
+of the first settle.
 
 usage: bench/runs.py PROGRAM [WORD]
 
@@ -20,13 +22,16 @@ RUNS = 3
 SECONDS = 900
 
 
-def topology():
-    """Two control nodes and eight compute nodes, which list both in turn."""
+def topology(controllers=2):
+    """Some control nodes and eight compute nodes, each of which lists two of them in turn."""
     return {
         "as": 64512,
-        "controllers": [{"name": f"c{i}", "address": f"192.0.2.{i}"} for i in (1, 2)],
+        "controllers": [{"name": f"c{i}", "address": f"192.0.2.{i}"} for i in range(1, controllers + 1)],
         "nodes": [
-            {"name": f"n{i}", "address": f"192.0.2.{10 + i}", "controllers": ["c1", "c2"] if i % 2 else ["c2", "c1"]}
+            {
+                "name": f"n{i}", "address": f"192.0.2.{10 + i}",
+                "controllers": [f"c{1 + (i - 1) % controllers}", f"c{1 + i % controllers}"],
+            }
             for i in range(1, 9)
         ],
     }
@@ -57,14 +62,23 @@ def related(ports):
     }
 
 
-def chain():
-    """Two networks with eight ports each, and a chain of four services between them."""
+def unrelated(ports):
+    """The same without the policy."""
+    made = related(ports)
+    for network in made["networks"]:
+        network["policies"] = []
+    return dict(made, policies=[])
+
+
+def chain(ports, services):
+    """Two networks of these ports, and a chain of so many services between them."""
     made = related(16)
     for network in made["networks"]:
         network["policies"] = ["through"]
-    made["services"] = [{"name": f"s{i}", "id": i, "node": f"n{2 * i}"} for i in range(1, 5)]
-    made["chains"] = [{"name": "four", "hops": ["s1", "s2", "s3", "s4"]}]
-    through = rule("chain", chain="four", use=0)
+    made["ports"] = made["ports"][:ports]
+    made["services"] = [{"name": f"s{i}", "id": i, "node": f"n{1 + (2 * i - 1) % 8}"} for i in range(1, services + 1)]
+    made["chains"] = [{"name": "all", "hops": [service["name"] for service in made["services"]]}]
+    through = rule("chain", chain="all", use=0)
     through.update(source="w1", destination="w2")
     made["policies"] = [{"name": "through", "sequence": 1, "rules": [through]}]
     return made
@@ -76,7 +90,8 @@ def lines():
         ("16 ports, 2 related networks", related(16)),
         ("64 ports, 8 related networks", related(64)),
         ("256 ports, 32 related networks", related(256)),
-        ("16 ports, a chain of 4 services", chain()),
+        ("1,024 ports, 128 related networks", related(1024)),
+        ("16 ports, a chain of 4 services", chain(16, 4)),
     ]:
         port = dict(configuration["ports"][0], address="10.1.0.200")
         edit = {"edit": {"put": {"port": port}}}
@@ -87,6 +102,23 @@ def lines():
             ("settle, 10,000 deliveries", ["settle"] + idle),
         ]:
             yield f"{name}: {what}", {"topology": topology(), "configuration": configuration, "events": events}
+    for ports in (64, 256, 1024):
+        configuration = unrelated(ports)
+        edits = [
+            {"edit": {"put": {"port": dict(configuration["ports"][0], address=f"10.1.0.{200 + i % 2}")}}} for i in range(100)
+        ]
+        for what, events in [
+            ("settle", ["settle"]),
+            ("settle, 100 edits, each settled", ["settle"] + [event for edit in edits for event in (edit, "settle")]),
+        ]:
+            yield (
+                f"{ports:,} ports, {ports // 8} unrelated networks: {what}",
+                {"topology": topology(), "configuration": configuration, "events": events},
+            )
+    yield (
+        "2 ports, a chain of 12 services, 4 control nodes: settle",
+        {"topology": topology(4), "configuration": chain(2, 12), "events": ["settle"]},
+    )
 
 
 def measured(program, document):
@@ -112,6 +144,7 @@ def main(program, word):
             runs = [measured(program, document) for _ in range(RUNS)]
             seconds, memory, text = min(runs)
             rounds = [line.split()[-1] for line in text.splitlines() if " rounds " in line]
+            rounds = rounds if len(rounds) <= 2 else rounds[:1]
             print(f"| {name} | {seconds:.3f} | {memory / 1e6:.1f} | {', '.join(rounds)} |", flush=True)
 
 

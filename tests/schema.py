@@ -254,12 +254,13 @@ def example(name):
 
 def made():
     """The documents that are made here."""
-    schedule, scale, log = example("schedule.json"), example("scale.json"), example("restart.json")
+    schedule, scale, log, replies = (example(f"{name}.json") for name in ("schedule", "scale", "restart", "replies"))
     pair, seen = {name: scale[name] for name in ("topology", "configuration")}, set()
     yield from changed("run", {**schedule, "events": EVENTS}, seen)
     yield from changed("scale", scale, seen)
     yield from changed("reach", {**pair, "packets": scale["packets"]}, seen)
     yield from changed("compile", pair, seen)
+    yield from changed("flows", replies, seen)
     yield from changed("graceful", {"events": ["expired", *log["events"]]}, seen)
 
 

@@ -1,2 +1,3 @@
 pub mod SomeText
 pub mod Numbers
+pub mod Left

@@ -2,14 +2,16 @@
 use Rattle.std.proofs.Common.{◌≡◌, ℕ, List, Option, Some, None, refl}
 use Rattle.ov_io.specs.Pieces.{TookFrontOf}
 use Rattle.ov_io.proofs.PieceLemmas.{took_nothing}
+use Rattle.constrain_answers.specs.Answers.{constrain_answer}
 use Rattle.document_answers.specs.Answers.{compile_answer, reach_answer}
+use Rattle.flow_answers.specs.Answers.{flows_answer}
 use Rattle.message_answers.specs.Decoding.{spelled}
 use Rattle.message_answers.proofs.Spelled.{text_spelled}
 use Rattle.restart_answers.proofs.Written.{some_written}
 use Rattle.scale_answers.specs.Answers.{scale_answer}
 use Rattle.schedule_answers.specs.Answers.{gen_answer, run_answer}
 use Rattle.top_call.specs.declared.command.Command.{Command}
-use Rattle.top_call.specs.declared.command.Command.TheVariants.{Compile, Reach, Scale, Graceful, Run, Decode, Gen}
+use Rattle.top_call.specs.declared.command.Command.TheVariants.{Compile, Reach, Scale, Constrain, Graceful, Flows, Run, Decode, Gen}
 use Rattle.top_call.specs.Answers.{Writes}
 use Rattle.top_call.specs.Runs.{OfInput, OfOctets, input_to}
 
@@ -19,7 +21,9 @@ unfolding Writes
 some_text Compile octets = ((compile_answer octets).text, refl)
 some_text Reach octets = ((reach_answer octets).text, refl)
 some_text Scale octets = ((scale_answer octets).text, refl)
+some_text Constrain octets = ((constrain_answer octets).text, refl)
 some_text Graceful octets = some_written octets
+some_text Flows octets = ((flows_answer octets).text, refl)
 some_text Run octets = ((run_answer octets).text, refl)
 some_text Decode octets = text_spelled octets (spelled octets) refl
 some_text (Gen n) octets = ((gen_answer n).text, refl)

@@ -2,19 +2,23 @@
 use Rattle.std.specs.Prelude.{◌≡◌, ℕ, List}
 use Rattle.document_answers.specs.declared.unfit.Verdict.{Verdict}
 use Rattle.document_answers.specs.Answers.{compile_answer, reach_answer}
+use Rattle.constrain_answers.specs.Answers.{constrain_answer}
+use Rattle.flow_answers.specs.Answers.{flows_answer}
 use Rattle.message_answers.specs.Decoding.{WritesSpelled, decode_verdict, spelled}
 use Rattle.restart_answers.specs.Answers.{WritesLog, graceful_verdict, log_in}
 use Rattle.scale_answers.specs.Answers.{scale_answer}
 use Rattle.schedule_answers.specs.Answers.{gen_answer, run_answer}
 use Rattle.top_call.specs.declared.command.Command.{Command}
-use Rattle.top_call.specs.declared.command.Command.TheVariants.{Compile, Reach, Scale, Graceful, Run, Decode, Gen}
+use Rattle.top_call.specs.declared.command.Command.TheVariants.{Compile, Reach, Scale, Constrain, Graceful, Flows, Run, Decode, Gen}
 
 -- what an input is found to be
 unfoldable pub verdict_of : Command → List ℕ → Verdict
 verdict_of Compile octets = (compile_answer octets).verdict
 verdict_of Reach octets = (reach_answer octets).verdict
 verdict_of Scale octets = (scale_answer octets).verdict
+verdict_of Constrain octets = (constrain_answer octets).verdict
 verdict_of Graceful octets = graceful_verdict (log_in octets)
+verdict_of Flows octets = (flows_answer octets).verdict
 verdict_of Run octets = (run_answer octets).verdict
 verdict_of Decode octets = decode_verdict (spelled octets)
 verdict_of (Gen n) octets = (gen_answer n).verdict
@@ -24,7 +28,9 @@ unfoldable pub Writes : Command → List ℕ → List ℕ → Type 0
 Writes Compile octets text = text ≡ (compile_answer octets).text
 Writes Reach octets text = text ≡ (reach_answer octets).text
 Writes Scale octets text = text ≡ (scale_answer octets).text
+Writes Constrain octets text = text ≡ (constrain_answer octets).text
 Writes Graceful octets text = WritesLog (log_in octets) text
+Writes Flows octets text = text ≡ (flows_answer octets).text
 Writes Run octets text = text ≡ (run_answer octets).text
 Writes Decode octets text = WritesSpelled (spelled octets) text
 Writes (Gen n) octets text = text ≡ (gen_answer n).text

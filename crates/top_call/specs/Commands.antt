@@ -6,7 +6,7 @@ use Rattle.std.specs.Option.{option_map}
 use Rattle.std.specs.declared.alloc.Global.{Global}
 use Rattle.std.specs.Cmp.Lexicographic.{pointwise}
 use Rattle.top_call.specs.declared.command.Command.{Command}
-use Rattle.top_call.specs.declared.command.Command.TheVariants.{Compile, Reach, Scale, Graceful, Run, Decode, Gen}
+use Rattle.top_call.specs.declared.command.Command.TheVariants.{Compile, Reach, Scale, Constrain, Graceful, Flows, Run, Decode, Gen}
 
 -- the command of a name
 abbrev pub command_named : List ℕ → Option Command
@@ -14,9 +14,11 @@ command_named word =
     if pointwise nat_eq word (codes "compile") then Some Compile
     else (if pointwise nat_eq word (codes "reach") then Some Reach
     else (if pointwise nat_eq word (codes "scale") then Some Scale
+    else (if pointwise nat_eq word (codes "constrain") then Some Constrain
     else (if pointwise nat_eq word (codes "graceful") then Some Graceful
+    else (if pointwise nat_eq word (codes "flows") then Some Flows
     else (if pointwise nat_eq word (codes "run") then Some Run
-    else (if pointwise nat_eq word (codes "decode") then Some Decode else None)))))
+    else (if pointwise nat_eq word (codes "decode") then Some Decode else None)))))))
 
 -- a decimal digit, and one that is not 0 (US-ASCII)
 abbrev pub is_digit : ℕ → Bool

@@ -4,21 +4,25 @@ use Rattle.std.specs.declared.option.Option.{Option}
 use Rattle.std.specs.declared.option.Option.TheVariants.{Some, None}
 use Rattle.std.specs.declared.result.Result.{Result}
 use Rattle.ov_io.specs.declared.pieces.WriteRefusal.{WriteRefusal}
+use Rattle.constrain_answers.specs.Networks.{IsLeftSettled, TookConstraint}
+use Rattle.flow_answers.specs.Answers.{TookReplies}
 use Rattle.restart_answers.specs.Answers.{TookLog}
 use Rattle.net_machine.specs.NetState.{NetState}
 use Rattle.document_answers.specs.declared.unfit.Verdict.{Verdict}
 use Rattle.schedule_answers.specs.Networks.{IsLeftOf, IsLeftOfScenario, LeftOn, PromisedOn, TookAnswers, TookSummary}
 use Rattle.top_call.specs.declared.command.Command.{Command}
-use Rattle.top_call.specs.declared.command.Command.TheVariants.{Graceful, Run, Gen}
+use Rattle.top_call.specs.declared.command.Command.TheVariants.{Constrain, Graceful, Flows, Run, Gen}
 
--- only these two leave a network
+-- only these three leave a network
 abbrev pub Leaves : Command → List ℕ → Option NetState → Type 0
+Leaves Constrain octets = IsLeftSettled octets
 Leaves Run octets = IsLeftOf octets
 Leaves (Gen n) octets = IsLeftOfScenario n
 Leaves command octets = λ left. left ≡ None
 
 -- a command that may leave a network
 abbrev pub MayLeave : Option Command → Type 0
+MayLeave (Some Constrain) = ⊤
 MayLeave (Some Run) = ⊤
 MayLeave (Some (Gen n)) = ⊤
 MayLeave _ = ⊥
@@ -28,7 +32,9 @@ abbrev pub LeavesOn : Command → List ℕ → Result Verdict WriteRefusal → O
 LeavesOn command octets result left = LeftOn (Leaves command octets) result left
 
 abbrev pub Promises : Command → List ℕ → Option (List ℕ) → Option (List ℕ) → Type 0
+Promises Constrain octets old new = TookConstraint octets old new
 Promises Graceful octets old new = TookLog octets old new
+Promises Flows octets old new = TookReplies octets old new
 Promises Run octets old new = TookAnswers octets old new
 Promises (Gen n) octets old new = TookSummary n old new
 Promises command octets old new = ⊤

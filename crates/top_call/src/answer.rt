@@ -6,7 +6,9 @@ ghost use Rattle.top_call.specs.Commands.{IsCommand};
 ghost use Rattle.top_call.specs.Networks.{LeavesOn, PromisesOn};
 
 use crate::command::Command;
+use constrain_answers::answer_constrain;
 use document_answers::{Verdict, answer_compile, answer_reach};
+use flow_answers::answer_flows;
 use message_answers::answer_decode;
 use net_machine::Net;
 use ov_io::{Sink, WriteRefusal};
@@ -15,9 +17,9 @@ use scale_answers::answer_scale;
 use schedule_answers::{answer_gen, answer_run};
 use std::alloc::Global;
 
-/// Writes what a command answers to an input, as it is made, and tells what the input is found to be. `run` and `gen`
-/// leave their network.
-#[tactic(auto, unfolding(crate::specs::Answers::verdict_of, crate::specs::Answers::Writes))]
+/// Writes what a command answers to an input, as it is made, and tells what the input is found to be. `constrain`, `run`
+/// and `gen` leave their network.
+#[tactic(auto, using(crate::proofs::Left::left_or_none), unfolding(crate::specs::Answers::verdict_of, crate::specs::Answers::Writes))]
 pub(crate) fn answer<K: Sink>(
     alloc: Global,
     command: Command,
@@ -41,7 +43,9 @@ pub(crate) fn answer<K: Sink>(
         Command::Compile => answer_compile(alloc, octets, sink),
         Command::Reach => answer_reach(alloc, octets, sink),
         Command::Scale => answer_scale(alloc, octets, sink),
+        Command::Constrain => answer_constrain(alloc, octets, sink, net),
         Command::Graceful => answer_graceful(alloc, octets, sink),
+        Command::Flows => answer_flows(alloc, octets, sink),
         Command::Run => answer_run(alloc, octets, sink, net),
         Command::Decode => answer_decode(alloc, octets, sink),
         Command::Gen(n) => answer_gen(alloc, n, sink, net),

@@ -12,8 +12,12 @@ pub(crate) enum Command {
     Reach,
     /// What becomes of packets, with the member of each service that they visit.
     Scale,
+    /// What control nodes ask of their peers, and how much these send then.
+    Constrain,
     /// What the log of a session with a BGP peer answers, and which of its routes are held over a restart.
     Graceful,
+    /// What becomes of packets where replies pass while the flow that they answer stands in a table.
+    Flows,
     /// What the events of a schedule answer.
     Run,
     /// What BGP messages say that are spelled in hexadecimal digits.
@@ -43,7 +47,9 @@ fn named(word: &str) -> Option<Command>
         "compile" => Some(Command::Compile),
         "reach" => Some(Command::Reach),
         "scale" => Some(Command::Scale),
+        "constrain" => Some(Command::Constrain),
         "graceful" => Some(Command::Graceful),
+        "flows" => Some(Command::Flows),
         "run" => Some(Command::Run),
         "decode" => Some(Command::Decode),
         _ => None,

@@ -53,8 +53,8 @@ impl Status {
 }
 
 /// All that the program does: what its words ask for, from a source to a sink. The answer is written as it is made,
-/// once the source is read and what it holds is found good. `gen` reads nothing. `run` and `gen` leave the network that
-/// took the events in `net`, where all was written; in every other case `net` is None.
+/// once the source is read and what it holds is found good. `gen` reads nothing. `constrain`, `run` and `gen` leave
+/// the network that took the events in `net`, where all was written; in every other case `net` is None.
 pub fn overlay<S: Source, K: Sink>(
     alloc: Global,
     words: &[String],
@@ -90,7 +90,8 @@ pub fn overlay<S: Source, K: Sink>(
         (λ command octets. TookFrontOf (Writes command octets) (K.taken sink.old) (K.taken sink.new)) }
     ensures silent { IsSilent result → sink.new ≡ sink.old }
 
-    // What `graceful`, `run` and `gen` promise of their answers, and the network that `run` and `gen` leave.
+    // What `constrain`, `graceful`, `flows`, `run` and `gen` promise of their answers, and the network that `constrain`,
+    // `run` and `gen` leave.
     ensures promise { result ≡ Status.Done → OfInput (command_of words.now) (S.left source.old)
         (λ command octets. Promises command octets (K.taken sink.old) (K.taken sink.new)) }
     ensures network { result ≡ Status.Done → OfInput (command_of words.now) (S.left source.old)
