@@ -1,11 +1,12 @@
-//! When nodes close sessions: only where one of their sends fails. A law alone.
+//! When nodes close sessions: only where one of their sends fails. Which send a break makes fail, and how octets are
+//! taken. Laws alone.
 #![tactic(auto)]
 
-ghost use Rattle.std.specs.Prelude.{ℕ};
+ghost use Rattle.std.specs.Prelude.{◌≡◌, ◌⊎◌, ◌↔◌, ◌≤◌, ◌<◌, ◌+◌, ◌-◌, ℕ, List, [], ◌∷◌, length, true, false};
 ghost use Rattle.network_model.specs.Setup.{Name};
-ghost use Rattle.network_model.specs.Session.{Message};
+ghost use Rattle.network_model.specs.Session.{Message, Session, arrived, counted, octets_arrived, told, with_breaks};
 ghost use Rattle.network_model.specs.Network.{Network};
-ghost use Rattle.network_model.specs.Events.{Event, next};
+ghost use Rattle.network_model.specs.Events.{Event, add_break, next};
 ghost use Rattle.network_model.specs.Moments.{AtEveryMoment};
 ghost use Rattle.closing_laws.specs.Closing.{IsUnbroken, IsWhole, TakesDown};
 
@@ -15,4 +16,28 @@ ghost use Rattle.closing_laws.specs.Closing.{IsUnbroken, IsWhole, TakesDown};
 pub fn nodes_close_no_session_but_by_a_failed_send()
     ensures { AtEveryMoment (λ size w. (a b : Name) (e : Event) → IsUnbroken w a b → (TakesDown a b e → ⊥)
         → IsWhole (next size w e) a b) }
+{}
+
+/// A break n makes the n-th send of its direction from then on fail, beside those that fail without it, and changes
+/// nothing else of the session. Every send counts, also one that fails and one that is discarded.
+pub fn breaks_count_the_sends_of_their_direction()
+    ensures fails { (n : ℕ) (ms : List Message) (s : Session) → s.is_down ≡ false → 1 ≤ n
+        → ((told ms (add_break n s)).is_down ≡ true) ↔ ((n ≤ length ms) ⊎ ((told ms s).is_down ≡ true)) }
+    ensures counts { (m : Message) (s : Session) → (told (m ∷ []) s).near.breaks ≡ counted s.near.breaks }
+    ensures alone { (n : ℕ) (s : Session) → with_breaks s.near.breaks (add_break n s) ≡ s }
+{}
+
+/// Octets up to the end of a message, and more, take it as a message is taken, and go on with the next; of octets that
+/// end within one only their number is kept, beside those of it that were taken before. A notice is taken by any number.
+pub fn octets_are_taken_message_by_message()
+    ensures whole { (size : Name → Message → ℕ) (k : ℕ) (s : Session) (m : Message) (ms : List Message)
+        → s.is_down ≡ false → s.near.notice ≡ false → s.far.flight ≡ m ∷ ms
+        → octets_arrived size ((size s.far.name m - s.far.taken) + k) s ≡ octets_arrived size k (arrived s) }
+    ensures part { (size : Name → Message → ℕ) (n : ℕ) (s : Session) (m : Message) (ms : List Message)
+        → s.is_down ≡ false → s.near.notice ≡ false → s.far.flight ≡ m ∷ ms → n < size s.far.name m - s.far.taken
+        → octets_arrived size n s ≡ record s { far = record s.far { taken = s.far.taken + n } } }
+    ensures notice { (size : Name → Message → ℕ) (n : ℕ) (s : Session) → s.near.notice ≡ true
+        → octets_arrived size n s ≡ arrived s }
+    ensures none { (size : Name → Message → ℕ) (n : ℕ) (s : Session) → s.near.notice ≡ false → s.far.flight ≡ []
+        → octets_arrived size n s ≡ s }
 {}

@@ -49,17 +49,19 @@ delete_not_one path d ms e h = rw (not_one path d ms e h) refl
 abbrev same : List ℕ → List ℕ → Bool
 same word x = pointwise nat_eq word x
 
-pub event_unknown : OtherIsUnknown event_at (codes "edit" ∷ codes "deliver" ∷ codes "lose" ∷ codes "connect" ∷ codes "restart" ∷ codes "show" ∷ codes "trace" ∷ [])
+pub event_unknown : OtherIsUnknown event_at (codes "edit" ∷ codes "deliver" ∷ codes "deliver-bytes" ∷ codes "lose" ∷ codes "connect" ∷ codes "restart" ∷ codes "show" ∷ codes "trace" ∷ codes "break" ∷ [])
 unfolding event_at event_from one_member_at object_at
 event_unknown path word d h =
-    let a = or_parts (same word (codes "edit")) (is_among (codes "deliver" ∷ codes "lose" ∷ codes "connect" ∷ codes "restart" ∷ codes "show" ∷ codes "trace" ∷ []) word) h in
-    let b = or_parts (same word (codes "deliver")) (is_among (codes "lose" ∷ codes "connect" ∷ codes "restart" ∷ codes "show" ∷ codes "trace" ∷ []) word) a.1 in
-    let c = or_parts (same word (codes "lose")) (is_among (codes "connect" ∷ codes "restart" ∷ codes "show" ∷ codes "trace" ∷ []) word) b.1 in
-    let e = or_parts (same word (codes "connect")) (is_among (codes "restart" ∷ codes "show" ∷ codes "trace" ∷ []) word) c.1 in
-    let f = or_parts (same word (codes "restart")) (is_among (codes "show" ∷ codes "trace" ∷ []) word) e.1 in
-    let g = or_parts (same word (codes "show")) (is_among (codes "trace" ∷ []) word) f.1 in
-    let i = or_parts (same word (codes "trace")) false g.1 in
-    rw (a.0, b.0, c.0, e.0, f.0, g.0, i.0) refl
+    let a = or_parts (same word (codes "edit")) (is_among (codes "deliver" ∷ codes "deliver-bytes" ∷ codes "lose" ∷ codes "connect" ∷ codes "restart" ∷ codes "show" ∷ codes "trace" ∷ codes "break" ∷ []) word) h in
+    let b = or_parts (same word (codes "deliver")) (is_among (codes "deliver-bytes" ∷ codes "lose" ∷ codes "connect" ∷ codes "restart" ∷ codes "show" ∷ codes "trace" ∷ codes "break" ∷ []) word) a.1 in
+    let c = or_parts (same word (codes "deliver-bytes")) (is_among (codes "lose" ∷ codes "connect" ∷ codes "restart" ∷ codes "show" ∷ codes "trace" ∷ codes "break" ∷ []) word) b.1 in
+    let e = or_parts (same word (codes "lose")) (is_among (codes "connect" ∷ codes "restart" ∷ codes "show" ∷ codes "trace" ∷ codes "break" ∷ []) word) c.1 in
+    let f = or_parts (same word (codes "connect")) (is_among (codes "restart" ∷ codes "show" ∷ codes "trace" ∷ codes "break" ∷ []) word) e.1 in
+    let g = or_parts (same word (codes "restart")) (is_among (codes "show" ∷ codes "trace" ∷ codes "break" ∷ []) word) f.1 in
+    let i = or_parts (same word (codes "show")) (is_among (codes "trace" ∷ codes "break" ∷ []) word) g.1 in
+    let j = or_parts (same word (codes "trace")) (is_among (codes "break" ∷ []) word) i.1 in
+    let k = or_parts (same word (codes "break")) false j.1 in
+    rw (a.0, b.0, c.0, e.0, f.0, g.0, i.0, j.0, k.0) refl
 
 pub edit_unknown : OtherIsUnknown edit_at (codes "put" ∷ codes "delete" ∷ [])
 unfolding edit_at one_member_at object_at

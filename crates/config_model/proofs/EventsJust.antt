@@ -9,13 +9,13 @@ use Rattle.config_model.specs.declared.edit.Edit.{Edit}
 use Rattle.config_model.specs.declared.edit.Edit.TheVariants.{Put, Delete}
 use Rattle.config_model.specs.declared.event.Event.{Event}
 use Rattle.config_model.specs.declared.event.Event.TheVariants as Events
-use Rattle.config_model.specs.Paths.{member_path, item_path}
+use Rattle.config_model.specs.Paths.{member_path}
 use Rattle.config_model.specs.Faults.{Fault}
 use Rattle.config_model.specs.OneMember.{one_member_at}
-use Rattle.config_model.specs.Fields.{object_at, name_at, whole_at}
+use Rattle.config_model.specs.Fields.{object_at, name_at}
 use Rattle.config_model.specs.Edit.{kind_at, object_of_kind_at, put_at, delete_at, edit_from, edit_at}
 use Rattle.config_model.specs.Input.{packet_at}
-use Rattle.config_model.specs.Event.{two_names_at, three_at, deliver_at, event_from, event_of_text, event_of, event_at, run_at}
+use Rattle.config_model.specs.Event.{two_names_at, names_and_number_at, event_from, event_of_text, event_of, event_at, run_at}
 use Rattle.config_model.specs.EventDocuments.{one_document, edit_word, event_word}
 use Rattle.config_model.specs.EventLaws.{EditHasJust, EventHasJust, RunHasJust}
 use Rattle.config_model.specs.Laws.{HasJust, FirstIsMissed}
@@ -90,33 +90,30 @@ edit_has_just path d e h =
     let written : d ≡ one_document (edit_word e) a.0.1 = alone path d a.0 a.1 ∙ ap (λ (w : List ℕ). one_document w a.0.1) word in
     subst (HasJust (edit_word e ∷ []) []) (sym written) (just_edit e a.0.1)
 
-deliver_word : (path : List ℕ) (d : Data) (e : Event) → deliver_at path d ≡ Ok e → codes "deliver" ≡ event_word e
-unfolding deliver_at
-deliver_word path d e h =
-    let a = bind_ok (three_at path d) _ e h in
-    let b = bind_ok (name_at (item_path path 0) a.0.0) _ e a.2 in
-    let c = bind_ok (name_at (item_path path 1) a.0.1) _ e b.2 in
-    let n = bind_ok (whole_at 1 1000000 (item_path path 2) a.0.2) _ e c.2 in
-    ap event_word {x = Events.Deliver b.0 c.0 n.0} (ok_is (Events.Deliver b.0 c.0 n.0) e n.2)
-
 event_from_word : (word path : List ℕ) (d : Data) (e : Event) → event_from word path d ≡ Ok e → word ≡ event_word e
 unfolding event_from
 event_from_word word path d e h =
     elim (cases_Bool (pointwise nat_eq word (codes "edit"))) [
       | inl p ↦ let a = bind_ok (edit_at path d) _ e (rw p at h) in same word (codes "edit") p ∙ ap event_word {x = Events.Edit a.0} (ok_is (Events.Edit a.0) e a.2)
       | inr p ↦ elim (cases_Bool (pointwise nat_eq word (codes "deliver"))) [
-        | inl q ↦ same word (codes "deliver") q ∙ deliver_word path d e (rw (p, q) at h)
-        | inr q ↦ elim (cases_Bool (pointwise nat_eq word (codes "lose"))) [
-          | inl r ↦ let a = bind_ok (two_names_at path d) _ e (rw (p, q, r) at h) in same word (codes "lose") r ∙ ap event_word {x = Events.Lose a.0.0 a.0.1} (ok_is (Events.Lose a.0.0 a.0.1) e a.2)
-          | inr r ↦ elim (cases_Bool (pointwise nat_eq word (codes "connect"))) [
-            | inl s ↦ let a = bind_ok (two_names_at path d) _ e (rw (p, q, r, s) at h) in same word (codes "connect") s ∙ ap event_word {x = Events.Connect a.0.0 a.0.1} (ok_is (Events.Connect a.0.0 a.0.1) e a.2)
-            | inr s ↦ elim (cases_Bool (pointwise nat_eq word (codes "restart"))) [
-              | inl t ↦ let a = bind_ok (name_at path d) _ e (rw (p, q, r, s, t) at h) in same word (codes "restart") t ∙ ap event_word {x = Events.Restart a.0} (ok_is (Events.Restart a.0) e a.2)
-              | inr t ↦ elim (cases_Bool (pointwise nat_eq word (codes "show"))) [
-                | inl u ↦ let a = bind_ok (name_at path d) _ e (rw (p, q, r, s, t, u) at h) in same word (codes "show") u ∙ ap event_word {x = Events.Show a.0} (ok_is (Events.Show a.0) e a.2)
-                | inr u ↦ elim (cases_Bool (pointwise nat_eq word (codes "trace"))) [
-                  | inl v ↦ let a = bind_ok (packet_at path d) _ e (rw (p, q, r, s, t, u, v) at h) in same word (codes "trace") v ∙ ap event_word {x = Events.Trace a.0} (ok_is (Events.Trace a.0) e a.2)
-                  | inr v ↦ let never : Err _ ≡ Ok e = rw (p, q, r, s, t, u, v) at h in absurd (cc)
+        | inl q ↦ let a = bind_ok (names_and_number_at path d) _ e (rw (p, q) at h) in same word (codes "deliver") q ∙ ap event_word {x = Events.Deliver a.0.0 a.0.1 a.0.2} (ok_is (Events.Deliver a.0.0 a.0.1 a.0.2) e a.2)
+        | inr q ↦ elim (cases_Bool (pointwise nat_eq word (codes "deliver-bytes"))) [
+          | inl r ↦ let a = bind_ok (names_and_number_at path d) _ e (rw (p, q, r) at h) in same word (codes "deliver-bytes") r ∙ ap event_word {x = Events.DeliverOctets a.0.0 a.0.1 a.0.2} (ok_is (Events.DeliverOctets a.0.0 a.0.1 a.0.2) e a.2)
+          | inr r ↦ elim (cases_Bool (pointwise nat_eq word (codes "lose"))) [
+            | inl s ↦ let a = bind_ok (two_names_at path d) _ e (rw (p, q, r, s) at h) in same word (codes "lose") s ∙ ap event_word {x = Events.Lose a.0.0 a.0.1} (ok_is (Events.Lose a.0.0 a.0.1) e a.2)
+            | inr s ↦ elim (cases_Bool (pointwise nat_eq word (codes "connect"))) [
+              | inl t ↦ let a = bind_ok (two_names_at path d) _ e (rw (p, q, r, s, t) at h) in same word (codes "connect") t ∙ ap event_word {x = Events.Connect a.0.0 a.0.1} (ok_is (Events.Connect a.0.0 a.0.1) e a.2)
+              | inr t ↦ elim (cases_Bool (pointwise nat_eq word (codes "restart"))) [
+                | inl u ↦ let a = bind_ok (name_at path d) _ e (rw (p, q, r, s, t, u) at h) in same word (codes "restart") u ∙ ap event_word {x = Events.Restart a.0} (ok_is (Events.Restart a.0) e a.2)
+                | inr u ↦ elim (cases_Bool (pointwise nat_eq word (codes "show"))) [
+                  | inl v ↦ let a = bind_ok (name_at path d) _ e (rw (p, q, r, s, t, u, v) at h) in same word (codes "show") v ∙ ap event_word {x = Events.Show a.0} (ok_is (Events.Show a.0) e a.2)
+                  | inr v ↦ elim (cases_Bool (pointwise nat_eq word (codes "trace"))) [
+                    | inl w ↦ let a = bind_ok (packet_at path d) _ e (rw (p, q, r, s, t, u, v, w) at h) in same word (codes "trace") w ∙ ap event_word {x = Events.Trace a.0} (ok_is (Events.Trace a.0) e a.2)
+                    | inr w ↦ elim (cases_Bool (pointwise nat_eq word (codes "break"))) [
+                      | inl x ↦ let a = bind_ok (names_and_number_at path d) _ e (rw (p, q, r, s, t, u, v, w, x) at h) in same word (codes "break") x ∙ ap event_word {x = Events.Break a.0.0 a.0.1 a.0.2} (ok_is (Events.Break a.0.0 a.0.1 a.0.2) e a.2)
+                      | inr x ↦ let never : Err _ ≡ Ok e = rw (p, q, r, s, t, u, v, w, x) at h in absurd (cc)
+                    ]
+                  ]
                 ]
               ]
             ]
@@ -128,6 +125,7 @@ event_from_word word path d e h =
 just_event : (e : Event) (v : Data) → HasJust (event_word e ∷ []) [] (one_document (event_word e) v)
 just_event (Events.Edit x) v = just_one (codes "edit") v refl refl
 just_event (Events.Deliver from to n) v = just_one (codes "deliver") v refl refl
+just_event (Events.DeliverOctets from to n) v = just_one (codes "deliver-bytes") v refl refl
 just_event (Events.Lose a b) v = just_one (codes "lose") v refl refl
 just_event (Events.Connect a b) v = just_one (codes "connect") v refl refl
 just_event (Events.Restart node) v = just_one (codes "restart") v refl refl
@@ -135,6 +133,7 @@ just_event Events.Round v = just_one (codes "round") v refl refl
 just_event Events.Settle v = just_one (codes "settle") v refl refl
 just_event (Events.Show node) v = just_one (codes "show") v refl refl
 just_event (Events.Trace p) v = just_one (codes "trace") v refl refl
+just_event (Events.Break from to n) v = just_one (codes "break") v refl refl
 
 text_word : (path text : List ℕ) (e : Event) → event_of_text path text ≡ Ok e → text ≡ event_word e
 text_word path text e h =

@@ -15,8 +15,8 @@ use Rattle.config_model.specs.Form.{is_from_to, has_topology_form, has_config_fo
 use Rattle.config_model.specs.Fields.{in_member, member_at, object_at, name_at, only_at}
 use Rattle.config_model.specs.OneMember.{one_member_at}
 use Rattle.config_model.specs.Edit.{object_of_kind_at, put_at, delete_at, edit_at}
-use Rattle.config_model.specs.Event.{two_names_at, three_at, deliver_at, event_from, event_at, run_at, has_event_form}
-use Rattle.config_model.specs.EventDocuments.{object_document, edit_document, two_names_document, deliver_document, event_document, run_document}
+use Rattle.config_model.specs.Event.{two_names_at, three_at, names_and_number_at, event_from, event_at, run_at, has_event_form}
+use Rattle.config_model.specs.EventDocuments.{object_document, edit_document, two_names_document, names_and_number_document, event_document, run_document}
 use Rattle.config_model.specs.EventLaws.{object_form, edit_form, event_form, run_form}
 use Rattle.config_model.specs.Laws.{IsRead, compile_form}
 use Rattle.config_model.proofs.Read.{name_is_read, whole_is_read, list_is_read, topology_is_read, network_is_read, port_is_read, policy_is_read, service_is_read, chain_is_read, config_is_read, packet_is_read}
@@ -49,9 +49,9 @@ two_are_read a b h path =
     let both : list_all is_name (a ∷ b ∷ []) ≡ true = rw (p.0, p.1) refl in
     rw (list_is_read name_at is_name string name_is_read Two (a ∷ b ∷ []) both refl path) refl
 
-deliver_is_read : (from to : List ℕ) (n : ℕ) → (is_name from && is_name to && is_from_to 1 1000000 n) ≡ true → (path : List ℕ) → deliver_at path (deliver_document from to n) ≡ Ok (Events.Deliver from to n)
-unfolding deliver_at three_at
-deliver_is_read from to n h path =
+names_and_number_are_read : (from to : List ℕ) (n : ℕ) → (is_name from && is_name to && is_from_to 1 1000000 n) ≡ true → (path : List ℕ) → names_and_number_at path (names_and_number_document from to n) ≡ Ok (from, to, n)
+unfolding names_and_number_at three_at
+names_and_number_are_read from to n h path =
     let p = and_parts (is_name from && is_name to) (is_from_to 1 1000000 n) h in
     let q = and_parts (is_name from) (is_name to) p.0 in
     rw (name_is_read from q.0, name_is_read to q.1, whole_is_read 1 1000000 n p.1) refl
@@ -59,7 +59,8 @@ deliver_is_read from to n h path =
 pub event_is_read : IsRead event_at event_form event_document
 unfolding event_at event_from one_member_at object_at has_event_form
 event_is_read (Events.Edit x) h path = rw (edit_is_read x h) refl
-event_is_read (Events.Deliver from to n) h path = deliver_is_read from to n h _
+event_is_read (Events.Deliver from to n) h path = rw (names_and_number_are_read from to n h) refl
+event_is_read (Events.DeliverOctets from to n) h path = rw (names_and_number_are_read from to n h) refl
 event_is_read (Events.Lose a b) h path = rw (two_are_read a b h) refl
 event_is_read (Events.Connect a b) h path = rw (two_are_read a b h) refl
 event_is_read (Events.Restart node) h path = rw (name_is_read node h) refl
@@ -67,6 +68,7 @@ event_is_read Events.Round h path = refl
 event_is_read Events.Settle h path = refl
 event_is_read (Events.Show node) h path = rw (name_is_read node h) refl
 event_is_read (Events.Trace p) h path = rw (packet_is_read p h) refl
+event_is_read (Events.Break from to n) h path = rw (names_and_number_are_read from to n h) refl
 
 pub run_is_read : IsRead run_at run_form run_document
 unfolding run_at in_member member_at object_at only_at

@@ -41,25 +41,30 @@ three_at path d = do
   wanted path Range (three_of items)
 
 -- from, to, and a number 1 to 1000000
-unfoldable pub deliver_at : Reads Event
-deliver_at path d = do
+unfoldable pub names_and_number_at : Reads (List ℕ × List ℕ × ℕ)
+names_and_number_at path d = do
   parts ← three_at path d
   from ← name_at (item_path path 0) parts.0
   to ← name_at (item_path path 1) parts.1
   n ← whole_at 1 1000000 (item_path path 2) parts.2
-  Ok (Events.Deliver from to n)
+  Ok (from, to, n)
 
 -- the event that a member names, by what the member has
 unfoldable pub event_from : List ℕ → Reads Event
 event_from word path d =
     if same_name word (codes "edit") then (edit_at path d >>= λ x. Ok (Events.Edit x))
-    else (if same_name word (codes "deliver") then deliver_at path d
+    else (if same_name word (codes "deliver")
+    then (names_and_number_at path d >>= λ p. Ok (Events.Deliver p.0 p.1 p.2))
+    else (if same_name word (codes "deliver-bytes")
+    then (names_and_number_at path d >>= λ p. Ok (Events.DeliverOctets p.0 p.1 p.2))
     else (if same_name word (codes "lose") then (two_names_at path d >>= λ p. Ok (Events.Lose p.0 p.1))
     else (if same_name word (codes "connect") then (two_names_at path d >>= λ p. Ok (Events.Connect p.0 p.1))
     else (if same_name word (codes "restart") then (name_at path d >>= λ x. Ok (Events.Restart x))
     else (if same_name word (codes "show") then (name_at path d >>= λ x. Ok (Events.Show x))
     else (if same_name word (codes "trace") then (packet_at path d >>= λ x. Ok (Events.Trace x))
-    else refused path Unknown))))))
+    else (if same_name word (codes "break")
+    then (names_and_number_at path d >>= λ p. Ok (Events.Break p.0 p.1 p.2))
+    else refused path Unknown))))))))
 
 -- the event that a text is
 abbrev pub event_named : List ℕ → Option Event
@@ -97,6 +102,7 @@ run_at path d = do
 unfoldable pub has_event_form : Event → Bool
 has_event_form (Events.Edit x) = has_edit_form x
 has_event_form (Events.Deliver from to n) = is_name from && is_name to && is_from_to 1 1000000 n
+has_event_form (Events.DeliverOctets from to n) = is_name from && is_name to && is_from_to 1 1000000 n
 has_event_form (Events.Lose a b) = is_name a && is_name b
 has_event_form (Events.Connect a b) = is_name a && is_name b
 has_event_form (Events.Restart node) = is_name node
@@ -104,3 +110,4 @@ has_event_form Events.Round = true
 has_event_form Events.Settle = true
 has_event_form (Events.Show node) = is_name node
 has_event_form (Events.Trace p) = has_packet_form p
+has_event_form (Events.Break from to n) = is_name from && is_name to && is_from_to 1 1000000 n

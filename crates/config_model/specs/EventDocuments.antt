@@ -43,6 +43,7 @@ edit_document (Delete kind name) = one_document (codes "delete") (one_document (
 abbrev pub event_word : Event → List ℕ
 event_word (Events.Edit x) = codes "edit"
 event_word (Events.Deliver from to n) = codes "deliver"
+event_word (Events.DeliverOctets from to n) = codes "deliver-bytes"
 event_word (Events.Lose a b) = codes "lose"
 event_word (Events.Connect a b) = codes "connect"
 event_word (Events.Restart node) = codes "restart"
@@ -50,16 +51,20 @@ event_word Events.Round = codes "round"
 event_word Events.Settle = codes "settle"
 event_word (Events.Show node) = codes "show"
 event_word (Events.Trace p) = codes "trace"
+event_word (Events.Break from to n) = codes "break"
 
 abbrev pub two_names_document : List ℕ → List ℕ → Data
 two_names_document a b = array (item (string a) (item (string b) no_items))
 
-abbrev pub deliver_document : List ℕ → List ℕ → ℕ → Data
-deliver_document from to n = array (item (string from) (item (string to) (item (number_document n) no_items)))
+abbrev pub names_and_number_document : List ℕ → List ℕ → ℕ → Data
+names_and_number_document from to n =
+    array (item (string from) (item (string to) (item (number_document n) no_items)))
 
 abbrev pub event_document : Event → Data
 event_document (Events.Edit x) = one_document (codes "edit") (edit_document x)
-event_document (Events.Deliver from to n) = one_document (codes "deliver") (deliver_document from to n)
+event_document (Events.Deliver from to n) = one_document (codes "deliver") (names_and_number_document from to n)
+event_document (Events.DeliverOctets from to n) =
+    one_document (codes "deliver-bytes") (names_and_number_document from to n)
 event_document (Events.Lose a b) = one_document (codes "lose") (two_names_document a b)
 event_document (Events.Connect a b) = one_document (codes "connect") (two_names_document a b)
 event_document (Events.Restart node) = one_document (codes "restart") (string node)
@@ -67,6 +72,7 @@ event_document Events.Round = string (codes "round")
 event_document Events.Settle = string (codes "settle")
 event_document (Events.Show node) = one_document (codes "show") (string node)
 event_document (Events.Trace p) = one_document (codes "trace") (packet_document p)
+event_document (Events.Break from to n) = one_document (codes "break") (names_and_number_document from to n)
 
 abbrev pub run_document : RunInput → Data
 run_document r = object (member (codes "configuration") (config_document r.input.config)

@@ -10,6 +10,8 @@ pub enum Event {
     Edit(Edit),
     /// Up to `n` messages that are in flight from one node to another are taken.
     Deliver { from: Name, to: Name, n: u32 },
+    /// Up to `n` octets that are in flight from one node to another are taken; they may end within a message.
+    DeliverOctets { from: Name, to: Name, n: u32 },
     /// The session of two nodes is lost.
     Lose { a: Name, b: Name },
     /// The session of two nodes is opened.
@@ -24,6 +26,8 @@ pub enum Event {
     Show { node: Name },
     /// What becomes of a packet now is asked for.
     Trace(Packet),
+    /// The `n`-th send from now on, from one node to another, fails.
+    Break { from: Name, to: Name, n: u32 },
 }
 
 /// What there is and what is configured, and what happens.

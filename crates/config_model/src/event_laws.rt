@@ -33,8 +33,8 @@ pub fn objects_have_one_member()
 /// One member is unknown where its name is none of those that are told apart.
 pub fn other_words_are_unknown()
     ensures event { OtherIsUnknown event_at
-        (codes "edit" ∷ codes "deliver" ∷ codes "lose" ∷ codes "connect" ∷ codes "restart" ∷ codes "show"
-        ∷ codes "trace" ∷ []) }
+        (codes "edit" ∷ codes "deliver" ∷ codes "deliver-bytes" ∷ codes "lose" ∷ codes "connect" ∷ codes "restart"
+        ∷ codes "show" ∷ codes "trace" ∷ codes "break" ∷ []) }
     ensures edit { OtherIsUnknown edit_at (codes "put" ∷ codes "delete" ∷ []) }
     ensures put { OtherIsUnknown put_at
         (codes "network" ∷ codes "port" ∷ codes "policy" ∷ codes "service" ∷ codes "chain" ∷ []) }

@@ -5,9 +5,9 @@ ghost use Rattle.serde_json.specs.View.{view, items_view};
 ghost use Rattle.ov_types.specs.Name.{is_name};
 ghost use Rattle.config_model.specs.Paths.{place_text};
 ghost use Rattle.config_model.specs.Faults.{Gives};
-ghost use Rattle.config_model.specs.Form.{has_topology_form, has_config_form};
-ghost use Rattle.config_model.specs.Event.{two_names_at, three_of, three_at, deliver_at, event_from, event_named};
-ghost use Rattle.config_model.specs.Event.{event_of_text, event_at, events_at, run_at, has_event_form};
+ghost use Rattle.config_model.specs.Form.{is_from_to, has_topology_form, has_config_form};
+ghost use Rattle.config_model.specs.Event.{two_names_at, three_of, three_at, names_and_number_at};
+ghost use Rattle.config_model.specs.Event.{event_from, event_named, event_of_text, event_at, events_at, run_at, has_event_form};
 
 use crate::config::Config;
 use crate::edit::Edit;
@@ -23,8 +23,8 @@ use ov_types::{Items, Name, Packet};
 use serde_json::Value;
 use std::alloc::Global;
 
-/// The most messages that one event delivers.
-const MOST_MESSAGES: u64 = 1_000_000;
+/// The most messages or octets that one event delivers, and the most sends that a break waits for.
+const MOST_AT_ONCE: u64 = 1_000_000;
 
 /// A list of two names.
 #[tactic(auto, unfolding(crate::specs::Event::two_names_at))]
@@ -75,21 +75,21 @@ fn three_items_of<'v>(
     }
 }
 
-/// A delivery: from, to, and a number of messages.
-#[tactic(auto, unfolding(crate::specs::Event::deliver_at, crate::specs::Event::has_event_form))]
-fn deliver_of(alloc: Global, place: &Place<'_>, value: &Value) -> Result<Event, ReadRefusal>
-    ensures reads { Gives (λ x. x) result (deliver_at (place_text place.now) (view value.now)) }
-    ensures form { IfOk result (λ x. IsTrue (has_event_form x)) }
+/// From, to, and a number of messages, octets or sends.
+#[tactic(auto, unfolding(crate::specs::Event::names_and_number_at))]
+fn names_and_number_of(
+    alloc: Global,
+    place: &Place<'_>,
+    value: &Value,
+) -> Result<(Name, Name, u32), ReadRefusal>
+    ensures reads { Gives (λ p. (p.0, p.1, p.2)) result (names_and_number_at (place_text place.now) (view value.now)) }
+    ensures form { IfOk result (λ p. IsTrue (is_name p.0 && is_name p.1 && is_from_to 1 1000000 p.2)) }
 {
     let (from, to, n) = three_items_of(alloc, place, value)?;
     let from = Name::read(alloc, &Place::Item(place, 0), from)?;
     let to = Name::read(alloc, &Place::Item(place, 1), to)?;
-    let n = whole_of(alloc, &Place::Item(place, 2), 1, MOST_MESSAGES, n)?;
-    Ok(Event::Deliver {
-        from,
-        to,
-        n: n as u32,
-    })
+    let n = whole_of(alloc, &Place::Item(place, 2), 1, MOST_AT_ONCE, n)?;
+    Ok((from, to, n as u32))
 }
 
 /// The event that a member of an object names.
@@ -105,7 +105,14 @@ fn event_from(
 {
     match word {
         "edit" => Ok(Event::Edit(Edit::read(alloc, place, value)?)),
-        "deliver" => deliver_of(alloc, place, value),
+        "deliver" => {
+            let (from, to, n) = names_and_number_of(alloc, place, value)?;
+            Ok(Event::Deliver { from, to, n })
+        }
+        "deliver-bytes" => {
+            let (from, to, n) = names_and_number_of(alloc, place, value)?;
+            Ok(Event::DeliverOctets { from, to, n })
+        }
         "lose" => {
             let (a, b) = two_names_of(alloc, place, value)?;
             Ok(Event::Lose { a, b })
@@ -123,6 +130,10 @@ fn event_from(
             Ok(Event::Show { node })
         }
         "trace" => Ok(Event::Trace(Packet::read(alloc, place, value)?)),
+        "break" => {
+            let (from, to, n) = names_and_number_of(alloc, place, value)?;
+            Ok(Event::Break { from, to, n })
+        }
         _ => Err(place.fault(alloc, DocKind::Unknown)),
     }
 }

@@ -72,7 +72,7 @@ module _ (size : Name → Message → ℕ) (Valid : Checked → Type 0) (P : Ses
     connects = λ a b w may some h. connect_keeps a b w h;
     restarts = λ n w h. (h.0, on_node n shut (λ _. Unit {0}) (λ s _ p. k.shuts s p) w.sessions h.1 (each_unit (sessions_of n w.sessions)));
     clears = λ w h. (h.0, unbroken_keeps w.sessions h.1);
-    breaks = λ a b n w h. (h.0, on_session a b (add_break n) (λ s p. k.breaks (n ∷ s.near.breaks) s.far.breaks s p) w.sessions h.1);
+    breaks = λ a b n w h. (h.0, on_session a b (add_break n) (λ s p. k.breaks (add_break n s).near.breaks s.far.breaks s p) w.sessions h.1);
   }
 
   pub resumed_keeps : (w : Network) → AllKeep w → AllKeep (resumed w)

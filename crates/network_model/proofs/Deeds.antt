@@ -1,18 +1,18 @@
 -- What events do to sessions, and what they leave.
-use Rattle.std.specs.Prelude.{◌≡◌, ◌≢◌, ◌↔◌, ℕ, zero, suc, pred, ◌≤◌, ◌<◌, List, [], ◌∷◌, ◌++◌, map, length, true, false, cond, ◌==◌, nat_lt}
-use Rattle.std.specs.List.{filter}
+use Rattle.std.specs.Prelude.{◌≡◌, ◌≢◌, ◌↔◌, ℕ, zero, suc, ◌-◌, ◌≤◌, ◌<◌, List, [], ◌∷◌, ◌++◌, map, length, true, false, cond, ◌==◌, nat_le, if◌then◌else◌}
 use Rattle.std.specs.declared.option.Option.{Option}
 use Rattle.std.specs.declared.option.Option.TheVariants.{Some, None}
 use Rattle.std.specs.Option.{option_map}
 use Rattle.std.specs.Cmp.Lexicographic.{bytes_decides}
-use Rattle.std.proofs.lemmas.Bool.{true≢false, and_parts, false_from_ne_true, eqb-true, eq-eqb, ltb-true}
-use Rattle.std.proofs.Common.{refl, sym, ◌∙◌, ap, subst, arith}
+use Rattle.std.proofs.lemmas.Bool.{true≢false, and_parts, false_from_ne_true, eqb-true, eq-eqb}
+use Rattle.std.proofs.Common.{refl, sym, ◌∙◌, ap, subst, inl, inr, arith}
 use Rattle.ov_types.specs.First.{same_name}
 use Rattle.config_model.specs.declared.edit.Edit.{Edit}
 use Rattle.config_check.specs.Checked.{Checked}
 use Rattle.config_check.specs.declared.edits.EditFault.{EditFault}
 use Rattle.config_check.specs.Edits.{edit_fault, edited as config_edited}
-use Rattle.node_model.proofs.Members.{in_map, from_map, in_filter, from_filter, any_in, from_any}
+use Rattle.node_model.specs.Members.{Member}
+use Rattle.node_model.proofs.Members.{any_in, from_any}
 use Rattle.network_model.specs.Setup.{Name, edited_without}
 use Rattle.network_model.specs.Session.{Message, Session, turned, shut, lost, told, left, meets_break, counted, with_breaks, opened, arrived}
 use Rattle.network_model.specs.Network.{Network, is_at, sessions_of}
@@ -182,25 +182,61 @@ meets_now breaks k e =
     high : (n : ℕ) → n ≡ 1 → n ≤ suc k
     high n e = omega (arith, e)
 
+above_one : (n : ℕ) → nat_le n 1 ≡ false → 1 < n
+above_one n e = grind (arith)
+
+not_above : (n : ℕ) → nat_le n 1 ≡ true → 1 < n → ⊥
+not_above n e more = grind (arith)
+
+-- a break that is left stood one send later
+abbrev Later : ℕ → List ℕ → Type 0
+Later x breaks = (n : ℕ) × Member n breaks × (1 < n) × (n - 1 ≡ x)
+
+one_more : (x m : ℕ) (breaks : List ℕ) → Later x breaks → Later x (m ∷ breaks)
+one_more x m breaks q = (q.0, inr q.1, q.2, q.3)
+
+from_counted : (x : ℕ) (breaks : List ℕ) → Member x (counted breaks) → Later x breaks
+from_counted x [] h = absurd h
+from_counted x (m ∷ breaks) h =
+    elim (nat_le m 1) as (λ b. nat_le m 1 ≡ b → Member x (if b then counted breaks else (m - 1) ∷ counted breaks) → Later x (m ∷ breaks)) [
+      | true ↦ λ _ h. one_more x m breaks (from_counted x breaks h)
+      | false ↦ λ e h. elim h as (λ _. Later x (m ∷ breaks)) [
+        | inl is ↦ (m, inl refl, above_one m e, is)
+        | inr h ↦ one_more x m breaks (from_counted x breaks h)
+      ]
+    ] refl h
+
+in_counted : (n : ℕ) (breaks : List ℕ) → Member n breaks → 1 < n → Member (n - 1) (counted breaks)
+in_counted n [] h more = absurd h
+in_counted n (m ∷ breaks) h more =
+    elim (nat_le m 1) as (λ b. nat_le m 1 ≡ b → Member (n - 1) (if b then counted breaks else (m - 1) ∷ counted breaks)) [
+      | true ↦ λ e. elim h as (λ _. Member (n - 1) (counted breaks)) [
+        | inl is ↦ absurd (not_above m e (subst (λ k. 1 < k) (sym is) more))
+        | inr h ↦ in_counted n breaks h more
+      ]
+      | false ↦ λ _. elim h as (λ _. Member (n - 1) ((m - 1) ∷ counted breaks)) [
+        | inl is ↦ inl (ap (λ k. k - 1) is)
+        | inr h ↦ inr (in_counted n breaks h more)
+      ]
+    ] refl
+
 later_meets : (breaks : List ℕ) (k : ℕ) → MeetsOne k (counted breaks) → MeetsOne (suc k) breaks
 later_meets breaks k m =
-    let q = from_map pred m.number (filter (λ n. nat_lt 1 n) breaks) m.pending in
-    let p = from_filter (λ n. nat_lt 1 n) q.0 breaks q.1 in
-    record { number = q.0; pending = p.0; comes = low q.0 (ltb-true 1 q.0 p.1); within = high q.0 m.number q.2 m.within }
+    let q = from_counted m.number breaks m.pending in
+    record { number = q.0; pending = q.1; comes = low q.0 q.2; within = high q.0 m.number q.3 m.within }
   where
     low : (n : ℕ) → 1 < n → 1 ≤ n
     low n h = omega (arith, h)
 
-    high : (n m : ℕ) → pred n ≡ m → m ≤ k → n ≤ suc k
-    high zero m e h = omega arith
-    high (suc n) m e h = omega (arith, e, h)
+    high : (n m : ℕ) → n - 1 ≡ m → m ≤ k → n ≤ suc k
+    high n m e h = omega (arith, e, h)
 
 meets_later : (breaks : List ℕ) (k : ℕ) → meets_break breaks ≡ false → MeetsOne (suc k) breaks → MeetsOne k (counted breaks)
 meets_later breaks k off m =
     let more : 1 < m.number = above m.number m.comes (λ is. true≢false (sym (any_in (λ n. n == 1) m.number breaks m.pending (eq-eqb m.number 1 is)) ∙ off)) in
     record {
-      number = pred m.number;
-      pending = in_map pred m.number (filter (λ n. nat_lt 1 n) breaks) (in_filter (λ n. nat_lt 1 n) m.number breaks m.pending (is_less m.number more));
+      number = m.number - 1;
+      pending = in_counted m.number breaks m.pending more;
       comes = low m.number more;
       within = high m.number more m.within;
     }
@@ -210,16 +246,11 @@ meets_later breaks k off m =
     above (suc zero) h g = absurd (g refl)
     above (suc (suc n)) h g = omega arith
 
-    is_less : (n : ℕ) → 1 < n → nat_lt 1 n ≡ true
-    is_less n h = grind (arith, h)
+    low : (n : ℕ) → 1 < n → 1 ≤ n - 1
+    low n h = omega (arith, h)
 
-    low : (n : ℕ) → 1 < n → 1 ≤ pred n
-    low zero h = absurd (omega (arith, h))
-    low (suc n) h = omega (arith, h)
-
-    high : (n : ℕ) → 1 < n → n ≤ suc k → pred n ≤ k
-    high zero h g = omega arith
-    high (suc n) h g = omega (arith, g)
+    high : (n : ℕ) → 1 < n → n ≤ suc k → n - 1 ≤ k
+    high n h g = omega (arith, h, g)
 
 left_whole : (m : Message) (b : List ℕ) (s : Session) → s.is_down ≡ false → ((left m (with_breaks b s)).is_down ≡ false) × ((left m (with_breaks b s)).near.breaks ≡ b)
 left_whole m b s e =

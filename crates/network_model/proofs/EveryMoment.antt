@@ -118,7 +118,7 @@ module _ (size : Name → Message → ℕ) where
   far_end : (s : Session) → Fact size s → IsProperEnd size s.far
   far_end s f = near_end (turned s) (Fact-turned size s f)
 
-  joined_is : (s : Session) → Fact size s → s.is_down ≡ false → IsJoined s
+  pub joined_is : (s : Session) → Fact size s → s.is_down ≡ false → IsJoined s
   joined_is s (inr d) e = absurd (true≢false (sym d.down ∙ e))
   joined_is s (inl j) e = record {
     near_live = ap not (live_receiver (is_peering s) s.near.phase s.far.phase j.inward.phases);
@@ -129,7 +129,7 @@ module _ (size : Name → Message → ℕ) where
     outward = flowing (is_peering s) s.far s.near j.outward;
   }
 
-  lost_is : (s : Session) → Fact size s → s.is_down ≡ true → IsLost s
+  pub lost_is : (s : Session) → Fact size s → s.is_down ≡ true → IsLost s
   lost_is s (inl j) e = absurd (true≢false (sym e ∙ j.whole))
   lost_is s (inr d) e = record {
     near_flight = d.near.flight;

@@ -11,6 +11,7 @@ use Rattle.node_model.specs.Maps.{Map, difference}
 use Rattle.config_check.specs.Checked.{Checked}
 use Rattle.network_model.specs.Setup.{Name, edited}
 use Rattle.ov_types.specs.First.{same_name}
+use Rattle.ov_link.specs.Breaks.{with_break}
 use Rattle.network_model.specs.Session.{Message, Carries, Session, turned, may_send, shut, lost, told, passed, opened, arrived, octets_arrived}
 use Rattle.network_model.specs.Network.{Network, is_at, wanted, view, views_of, config}
 use Rattle.network_model.specs.Events.{Event, edits, add_break, after}
@@ -264,7 +265,7 @@ module _ (size : Name → Message → ℕ) (positive : (n : Name) (m : Message) 
     connects = λ a b w may some e. connect_sound a b w e may;
     restarts = λ n w e. nodes_keep (Fact size) (Fact-turned size) shut (λ s f. inr (shut_down s (tidy_far size s f))) n w.sessions e;
     clears = λ w e. each_map (Fact size) (Fact size) without_breaks (λ s f. breaks_apart size positive [] [] s f) w.sessions e;
-    breaks = λ a b n w e. with_session_keeps (Fact size) (Fact-turned size) (add_break n) (λ s f. breaks_apart size positive (n ∷ s.near.breaks) s.far.breaks s f) a b w.sessions e;
+    breaks = λ a b n w e. with_session_keeps (Fact size) (Fact-turned size) (add_break n) (λ s f. breaks_apart size positive (with_break n s.near.breaks) s.far.breaks s f) a b w.sessions e;
   }
 
   pub round_sound : (w : Network) → IsSound size positive w → IsSound size positive (round w)

@@ -3,6 +3,7 @@ use Rattle.std.specs.Prelude.{ℕ, List, [], ◌∷◌, map, Bool, true, false, 
 use Rattle.std.specs.declared.option.Option.{Option}
 use Rattle.std.specs.declared.option.Option.TheVariants.{Some, None}
 use Rattle.std.specs.List.{list_any}
+use Rattle.ov_link.specs.Breaks.{with_break}
 use Rattle.ov_types.specs.First.{same_name}
 use Rattle.ov_types.specs.declared.packet.Packet.{Packet}
 use Rattle.ov_types.specs.declared.rows.NodeId.{NodeId}
@@ -46,6 +47,7 @@ pub data Event : Type 0 where
 abbrev pub event_of : Written → Event
 event_of (written.Edit e) = Edits e
 event_of (written.Deliver from to n) = Deliver from to n
+event_of (written.DeliverOctets from to n) = DeliverOctets from to n
 event_of (written.Lose a b) = Lose a b
 event_of (written.Connect a b) = Connect a b
 event_of (written.Restart name) = Restart name
@@ -53,6 +55,7 @@ event_of written.Round = Round
 event_of written.Settle = Settle
 event_of (written.Show name) = Show name
 event_of (written.Trace p) = Trace p
+event_of (written.Break from to n) = Break from to n
 
 -- ---- what it makes of the network
 -- an edit that is accepted is applied at the configuration node, which makes its pass
@@ -71,7 +74,7 @@ is_earlier (s ∷ sessions) a b =
     if joins a b s then true else if joins b a s then false else is_earlier sessions a b
 
 abbrev pub add_break : ℕ → Session → Session
-add_break n s = record s { near = record s.near { breaks = n ∷ s.near.breaks } }
+add_break n s = record s { near = record s.near { breaks = with_break n s.near.breaks } }
 
 -- a control node or an agent
 abbrev pub is_node : Network → Name → Bool

@@ -1,9 +1,10 @@
 -- One session between two nodes, and all that can happen to it. Each function sees the session from the end that acts,
 -- which is its `near` end.
-use Rattle.std.specs.Prelude.{ℕ, ◌+◌, ◌-◌, pred, List, [], ◌∷◌, ◌++◌, map, length, Bool, true, false, not, ◌==◌}
+use Rattle.std.specs.Prelude.{ℕ, ◌+◌, ◌-◌, List, [], ◌∷◌, ◌++◌, map, length, Bool, true, false, not}
 use Rattle.std.specs.Prelude.{if◌then◌else◌, nat_lt}
-use Rattle.std.specs.List.{filter, list_any}
 use Rattle.std.specs.FinMap.{empty}
+pub use Rattle.ov_link.specs.Breaks.{counted}
+use Rattle.ov_link.specs.Breaks.{is_break}
 use Rattle.ov_sync.specs.Keyed.{changed}
 use Rattle.node_model.specs.Maps.{Map, Change, difference}
 pub use Rattle.node_model.specs.Step.{is_idle, is_up as is_up_phase}
@@ -86,11 +87,7 @@ lost s = record { is_down = true; near = noticed s.near; far = noticed s.far }
 
 -- ---- sends
 abbrev pub meets_break : List ℕ → Bool
-meets_break breaks = list_any (λ n. n == 1) breaks
-
--- the breaks that are left after a send
-abbrev pub counted : List ℕ → List ℕ
-counted breaks = map pred (filter (λ n. nat_lt 1 n) breaks)
+meets_break breaks = is_break breaks 1
 
 abbrev pub with_breaks : List ℕ → Session → Session
 with_breaks breaks s = record s { near = record s.near { breaks = breaks } }
