@@ -10,7 +10,8 @@ use Rattle.item_wire.specs.declared.event.ItemCause.{ItemCause}
 use Rattle.item_wire.specs.declared.event.ItemFrom.{ItemFrom}
 use Rattle.item_wire.specs.declared.event.ItemState.TheVariants as State
 use Rattle.node_items.specs.Beginning.{phase_of}
-use Rattle.node_items.specs.Hearing.{Hears, heard}
+use Rattle.node_items.specs.Hearing.{heard}
+use Rattle.node_items.specs.Keeping.{Leaves}
 use Rattle.node_items.specs.Told.{change_of, up_of}
 use Rattle.node_items.proofs.States.{state_again}
 use Rattle.node_model.specs.Step.{Opened, Post, nothing, post}
@@ -51,15 +52,16 @@ module _ (plan : AgentPlan) (hs : List Hearing) (ss : List Sent) (ends : AreEnds
       ∙ (λ j. set (posts_of hs ss) i
       (record { phase = phase_of (e j).state; sent = (here j).sent; held = (here j).held; wide = (here j).wide }))
 
-  module _ (octets : List ℕ) (h' : Hearing) where
-    pub taken_on : HasHeard h octets h' None → HasTaken plan i octets (posts_of hs ss) (posts_of (set hs i h') ss) None
+  module _ (octets left : List ℕ) (h' : Hearing) where
+    pub taken_on : HasHeard h octets left h' None
+        → HasTaken plan i octets left (posts_of hs ss) (posts_of (set hs i h') ss) None
     taken_on t =
         let s = session_at plan i (post (posts_of hs ss) i).phase in
         record {
           inputs = t.inputs;
-          hears = subst (λ (s : SessionFields). Hears s octets t.inputs) session_is t.hears;
+          leaves = subst (λ (s : SessionFields). Leaves s octets t.inputs left) session_is t.leaves;
           why = t.why ∙ ap (λ (s : SessionFields). (heard s t.inputs).cause) session_is;
-          left = posts_hear hs ss i h'
+          applied = posts_hear hs ss i h'
               ∙ (λ j. set (posts_of hs ss) i (record {
                 phase = phase_of (t.state j);
                 sent = up_of (sent_at ss i);
@@ -74,14 +76,14 @@ module _ (plan : AgentPlan) (hs : List Hearing) (ss : List Sent) (ends : AreEnds
               }));
         }
 
-    pub taken_down : (cause : ItemCause) (posts' : List Post) → HasHeard h octets h' (Some cause)
+    pub taken_down : (cause : ItemCause) (posts' : List Post) → HasHeard h octets left h' (Some cause)
         → posts' ≡ slice_set (posts_of (set hs i h') ss) i nothing
-        → HasTaken plan i octets (posts_of hs ss) posts' (Some cause)
+        → HasTaken plan i octets left (posts_of hs ss) posts' (Some cause)
     taken_down cause posts' t e =
         record {
           inputs = t.inputs;
-          hears = subst (λ (s : SessionFields). Hears s octets t.inputs) session_is t.hears;
+          leaves = subst (λ (s : SessionFields). Leaves s octets t.inputs left) session_is t.leaves;
           why = t.why ∙ ap (λ (s : SessionFields). (heard s t.inputs).cause) session_is;
-          left = e ∙ ap (λ (ps : List Post). slice_set ps i nothing) (posts_hear hs ss i h')
+          applied = e ∙ ap (λ (ps : List Post). slice_set ps i nothing) (posts_hear hs ss i h')
               ∙ set-set (posts_of hs ss) i (end_at h' (sent_at ss i)) nothing;
         }

@@ -5,7 +5,8 @@ use Rattle.std.specs.List.{filter_map, slice_set}
 use Rattle.ov_sync.specs.Keyed.{after, changed}
 use Rattle.item_wire.specs.declared.event.ItemCause.{ItemCause}
 use Rattle.item_wire.specs.declared.input.Came.{Came}
-use Rattle.node_items.specs.Hearing.{Hears, heard}
+use Rattle.node_items.specs.Hearing.{heard}
+use Rattle.node_items.specs.Keeping.{Leaves}
 use Rattle.node_items.specs.Taking as item
 use Rattle.node_items.specs.Told.{change_of, down_of}
 use Rattle.node_model.specs.Keys.{Row}
@@ -21,17 +22,17 @@ abbrev pub changed_by : Option Change → Map → Map
 changed_by None m = m
 changed_by (Some c) m = changed m c
 
--- an end once it heard octets. Where its session goes down, nothing is said of what it holds
-pub record HasHeard (h : Hearing) (octets : List ℕ) (h' : Hearing) (cause : Option ItemCause) : Type 0 where
+-- an end once it heard octets that leave these. Where its session goes down, nothing is said of what it holds
+pub record HasHeard (h : Hearing) (octets left : List ℕ) (h' : Hearing) (cause : Option ItemCause) : Type 0 where
   pub inputs : List Came
-  pub hears : Hears h.session octets inputs
+  pub leaves : Leaves h.session octets inputs left
   pub why : cause ≡ (heard h.session inputs).cause
   pub state : h'.session.state ≡ (heard h.session inputs).state
   pub held : cause ≡ None
       → down_of h'.held ≡ after (down_of h.held) (filter_map change_of (heard h.session inputs).records)
 
--- the end of a session once octets came on it
-abbrev pub HasTaken : AgentPlan → ℕ → List ℕ → List Post → List Post → Option ItemCause → Type 0
+-- the end of a session once octets came on it that leave these
+abbrev pub HasTaken : AgentPlan → ℕ → List ℕ → List ℕ → List Post → List Post → Option ItemCause → Type 0
 HasTaken plan = item.HasTaken (session_at plan)
 
 -- ---- octets that put or drop some routes, and do nothing else

@@ -1,5 +1,5 @@
 -- What an input makes of an end of an agent.
-use Rattle.std.specs.Prelude.{ℕ}
+use Rattle.std.specs.Prelude.{ℕ, List}
 use Rattle.std.specs.declared.option.Option.{Option}
 use Rattle.std.specs.List.{slice_index_or}
 use Rattle.ov_link.specs.declared.step.Input.{Input}
@@ -24,3 +24,7 @@ session_at plan i phase = record { peer = (controller_at plan i).name; from = Co
 -- what an input makes of the end of its session, and the cause for which that goes down
 abbrev pub Begins : AgentPlan → ℕ → Post → Input → Begun → Option ItemCause → Type 0
 Begins plan i p = item.Begins plan.me.name (session_at plan i p.phase) p
+
+-- the same, where these octets were kept of the session before, and what is kept of it then
+abbrev pub BeginsKeeping : AgentPlan → ℕ → Post → List ℕ → Input → Begun → Option ItemCause → List ℕ → Type 0
+BeginsKeeping plan i p = item.BeginsKeeping plan.me.name (session_at plan i p.phase) p

@@ -1,9 +1,10 @@
--- What is seen of an agent: its plan, its ends, what it forwards by, and whether it failed.
+-- What is seen of an agent: its plan, its ends, the octets that it keeps, what it forwards by, and whether it failed.
 use Rattle.std.specs.Prelude.{ℕ, List, [], map, length, Bool, false}
 use Rattle.ov_types.specs.declared.rows.AgentRows.{AgentRows}
 use Rattle.node_items.specs.Told.{spelled}
 use Rattle.node_model.specs.Agent.{Heard, Holdings, wanted as wanted_of}
 use Rattle.node_model.specs.Maps.{Map}
+pub use Rattle.node_core.specs.Keeping.{AreFew, AreOfLive, AreSwept, kept_at, nothing_kept}
 pub use Rattle.node_core.specs.Resting.{is_idle, is_up, may_send, nothings}
 use Rattle.node_model.specs.Step.{Kind, Post}
 use Rattle.agent_node.specs.declared.plan.AgentPlan.{AgentPlan}
@@ -12,6 +13,8 @@ use Rattle.agent_node.specs.declared.plan.AgentPlan.{AgentPlan}
 pub record Core : Type 0 where
   pub plan : AgentPlan
   pub posts : List Post
+  -- of each session, the octets of a record that is not whole yet
+  pub kept : List (List ℕ)
   pub rows : AgentRows
   pub failed : Bool
 
@@ -37,6 +40,7 @@ abbrev pub fresh : AgentPlan → Core
 fresh plan = record {
   plan = plan;
   posts = nothings (sessions plan);
+  kept = nothing_kept (sessions plan);
   rows = record { labels = []; acls = []; routes = [] };
   failed = false;
 }

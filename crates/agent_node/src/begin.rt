@@ -1,5 +1,6 @@
 //! What an input makes of the end of its session.
-ghost use Rattle.std.specs.Prelude.{◌≡◌, ◌<◌, ◌∷◌, [], IfOk, IfSome, IsTrue, OnOk, map, slice_set, Some, true, false};
+ghost use Rattle.std.specs.Prelude.{◌≡◌, ◌<◌, ◌≤◌, ◌∷◌, [], IfOk, IfSome, IsTrue, OnOk, drop, length, map, slice_set};
+ghost use Rattle.std.specs.Prelude.{Some, true, false};
 ghost use Rattle.std.specs.List.{AllByRecursion, filter_map};
 ghost use Rattle.ov_sync.specs.Keyed.{after};
 ghost use Rattle.item_wire.specs.Inputs.{is_of_control};
@@ -7,10 +8,11 @@ ghost use Rattle.item_wire.specs.Records.{spelling};
 ghost use Rattle.item_wire.specs.declared.event.ItemFrom.TheVariants.{Control};
 ghost use Rattle.item_wire.specs.declared.item.Item.TheVariants.{Hello};
 ghost use Rattle.node_core.specs.Begun.{HasBegun};
+ghost use Rattle.node_core.specs.Keeping.{left_in, size_of};
 ghost use Rattle.node_core.specs.Whole.{Comes, session_of};
 ghost use Rattle.node_items.specs.Told.{AllFit, IsWritable, change_of, down_of};
 ghost use Rattle.node_model.specs.Step.{Begun, Idle, Opened, post};
-ghost use Rattle.agent_node.specs.Beginning.{Begins};
+ghost use Rattle.agent_node.specs.Beginning.{BeginsKeeping};
 ghost use Rattle.agent_node.specs.Core.{is_idle, sessions};
 ghost use Rattle.agent_node.specs.Ends.{HeldFits, whom};
 ghost use Rattle.agent_node.specs.Applying.{AreLed, HasHeard, HasLed, HasTaken, changed_by};
@@ -86,7 +88,7 @@ fn routes_of(alloc: Global, records: &[Item]) -> Result<Option<Vec<(InstanceId, 
     Ok(Some(routes))
 }
 
-/// The same, of the records of a session that was up before them and is up after them; else none.
+/// The same, of the records of a session that stays opened or up; else none.
 fn routes_alone(
     alloc: Global,
     before: ItemState,
@@ -98,6 +100,7 @@ fn routes_alone(
         map (λ i. route_key (change_of i)) items.now ≡ map Some keys.items)) }
 {
     match (before, after) {
+        (ItemState::Opened, ItemState::Opened) => routes_of(alloc, items),
         (ItemState::Up, ItemState::Up) => routes_of(alloc, items),
         _ => Ok(None),
     }
@@ -106,6 +109,8 @@ fn routes_alone(
 /// What octets came to at an end.
 #[derive(Drop)]
 struct Taken {
+    /// How many of them were taken: all but those of a record that is not whole.
+    taken: usize,
     /// Why they took the session down, where they did.
     cause: Option<ItemCause>,
     /// The routes that they put or dropped, where they did nothing else.
@@ -116,15 +121,22 @@ struct Taken {
 fn hear_at(alloc: Global, hearing: &mut Hearing, bytes: &[u8]) -> Result<Taken, NoMemory>
     requires from { hearing.old.session.from ≡ Control }
     requires fits { HeldFits hearing.old }
-    ensures heard { IfOk result (λ taken. HasHeard hearing.old bytes.now hearing.new taken.cause) }
-    ensures led { IfOk result (λ taken. IfSome taken.routes (λ keys. HasLed keys.items hearing.old hearing.new)) }
+    ensures heard { IfOk result (λ came. HasHeard hearing.old bytes.now (drop came.taken bytes.now) hearing.new
+        came.cause) }
+    ensures taken { IfOk result (λ came. came.taken ≤ length bytes.now) }
+    ensures led { IfOk result (λ came. IfSome came.routes (λ keys. HasLed keys.items hearing.old hearing.new)) }
     ensures whom { whom hearing.new ≡ whom hearing.old }
     ensures fits { HeldFits hearing.new }
 {
     let before = hearing.session.state();
-    let Heard { records, cause, .. } = hear(alloc, &mut hearing.session, bytes)?;
+    let Heard {
+        records,
+        taken,
+        cause,
+    } = hear(alloc, &mut hearing.session, bytes)?;
     if cause.is_some() {
         return Ok(Taken {
+            taken,
             cause,
             routes: None,
         });
@@ -133,6 +145,7 @@ fn hear_at(alloc: Global, hearing: &mut Hearing, bytes: &[u8]) -> Result<Taken, 
     let routes = routes_alone(alloc, before, after, &records)?;
     apply_all(&mut hearing.held, records)?;
     Ok(Taken {
+        taken,
         cause: None,
         routes,
     })
@@ -164,24 +177,27 @@ impl AgentEnds {
     fn hear_on(&mut self, session: u16, bytes: &[u8]) -> Result<Taken, NoMemory>
         requires known { session < sessions self.old.plan }
         ensures plan { self.new.plan ≡ self.old.plan }
-        ensures heard { IfOk result (λ taken. HasTaken self.old.plan session bytes.now self.old.posts self.new.posts
-            taken.cause) }
-        ensures led { IfOk result (λ taken. IfSome taken.routes (λ keys.
+        ensures heard { IfOk result (λ came. HasTaken self.old.plan session bytes.now (drop came.taken bytes.now)
+            self.old.posts self.new.posts came.cause) }
+        ensures taken { IfOk result (λ came. came.taken ≤ length bytes.now) }
+        ensures led { IfOk result (λ came. IfSome came.routes (λ keys.
             AreLed keys.items session self.old.posts self.new.posts)) }
     {
-        let Taken { cause, routes } = hear_at(
-            self.alloc,
-            &mut self.hearings[usize::from(session)],
-            bytes,
-        )?;
+        let Taken {
+            taken,
+            cause,
+            routes,
+        } = hear_at(self.alloc, &mut self.hearings[usize::from(session)], bytes)?;
         match cause {
             None => Ok(Taken {
+                taken,
                 cause: None,
                 routes,
             }),
             Some(cause) => {
                 self.close(session);
                 Ok(Taken {
+                    taken,
                     cause: Some(cause),
                     routes: None,
                 })
@@ -196,9 +212,11 @@ impl AgentEnds {
             (λ i. is_idle (post self.old.posts i).phase ≡ true) input }
         ensures plan { self.new.plan ≡ self.old.plan }
         ensures begins { IfOk result (λ applied. (given : Begun)
-            × Begins self.old.plan (session_of input.entry) (post self.old.posts (session_of input.entry)) input.entry
-            given applied.started.cause
+            × BeginsKeeping self.old.plan (session_of input.entry) (post self.old.posts (session_of input.entry)) []
+            input.entry given applied.started.cause (left_in input.entry applied.started.taken)
             × HasBegun self.old.posts (session_of input.entry) given applied.started.replies self.new.posts) }
+        ensures taken { IfOk result (λ applied. applied.started.taken ≤ size_of input.entry) }
+        ensures few { IfOk result (λ applied. length (left_in input.entry applied.started.taken) ≤ 65539) }
         ensures led { IfOk result (λ applied. IfSome applied.routes (λ keys.
             AreLed keys.items (session_of input.entry) self.old.posts self.new.posts)) }
     {
@@ -209,16 +227,22 @@ impl AgentEnds {
                 Ok(Applied {
                     started: Started {
                         replies,
+                        taken: 0,
                         cause: None,
                     },
                     routes: None,
                 })
             }
             Input::Bytes { session, bytes } => {
-                let Taken { cause, routes } = self.hear_on(session, bytes)?;
+                let Taken {
+                    taken,
+                    cause,
+                    routes,
+                } = self.hear_on(session, bytes)?;
                 Ok(Applied {
                     started: Started {
                         replies: Items::new(alloc),
+                        taken,
                         cause,
                     },
                     routes,
@@ -229,6 +253,7 @@ impl AgentEnds {
                 Ok(Applied {
                     started: Started {
                         replies: Items::new(alloc),
+                        taken: 0,
                         cause: None,
                     },
                     routes: None,

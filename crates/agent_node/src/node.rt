@@ -1,5 +1,5 @@
 //! An agent and its step.
-ghost use Rattle.std.specs.Prelude.{◌≡◌, ◌≢◌, ◌≤◌, ◌<◌, ◌↔◌, ℕ, length, not, true, false, IfOk};
+ghost use Rattle.std.specs.Prelude.{◌≡◌, ◌≢◌, ◌≤◌, ◌<◌, ◌↔◌, ℕ, List, length, not, slice_set, true, false, IfOk};
 ghost use Rattle.ov_link.specs.declared.step.Stepped.TheVariants.{Closed};
 ghost use Rattle.item_wire.specs.declared.event.ItemCause.TheVariants.{Ended};
 ghost use Rattle.node_core.specs.Whole.{Comes, IsWholeStep, session_of};
@@ -7,8 +7,8 @@ ghost use Rattle.node_model.specs.Agent.{rows as rows_of};
 ghost use Rattle.node_model.specs.Step.{post};
 ghost use Rattle.node_laws.specs.Stepped.{AreTold};
 ghost use Rattle.flow_acl.specs.Flows.{AreOf};
-ghost use Rattle.agent_node.specs.Beginning.{Begins};
-ghost use Rattle.agent_node.specs.Core.{fresh, holdings, is_idle, is_up, kind, sessions};
+ghost use Rattle.agent_node.specs.Beginning.{BeginsKeeping};
+ghost use Rattle.agent_node.specs.Core.{AreSwept, fresh, holdings, is_idle, is_up, kept_at, kind, sessions};
 
 use crate::plan::AgentPlan;
 use crate::tabled::TabledEnds;
@@ -31,20 +31,28 @@ pub struct AgentNode {
 }
 
 impl Model for AgentNode {
-    ghost use Rattle.std.specs.Prelude.{◌≡◌, false};
+    ghost use Rattle.std.specs.Prelude.{◌≡◌, false, length};
     ghost use Rattle.node_model.specs.Agent.{rows as rows_of};
     ghost use Rattle.agent_node.specs.Codes.{coded_core};
-    ghost use Rattle.agent_node.specs.Core.{Core, holdings};
+    ghost use Rattle.agent_node.specs.Core.{AreFew, AreOfLive, Core, holdings};
     ghost use Rattle.flow_acl.specs.Flows.{AreOf};
 
     ghost Value = { Core };
 
     ghost coded = { coded_core };
 
-    ghost view = { λ n. record { plan = n.node.ends.plan; posts = n.node.ends.posts; rows = n.node.ends.rows; failed = n.node.failed } };
+    ghost view = { λ n. record {
+      plan = n.node.ends.plan;
+      posts = n.node.ends.posts;
+      kept = n.node.inboxes.items;
+      rows = n.node.ends.rows;
+      failed = n.node.failed;
+    } };
 
     ghost invariant = { λ n. (n.node.failed ≡ false → n.node.ends.rows ≡ rows_of (holdings n.node.ends.posts))
-        × AreOf n.node.ends.rows.acls n.flows };
+        × AreOf n.node.ends.rows.acls n.flows
+        × (length n.node.inboxes.items ≡ length n.node.ends.posts) × AreFew n.node.inboxes.items
+        × AreOfLive n.node.ends.posts n.node.inboxes.items };
 }
 
 impl AgentNode {
@@ -55,10 +63,9 @@ impl AgentNode {
     {
         let ends = TabledEnds::new(alloc, plan)?;
         let flows = FlowCache::new(alloc)?;
-        Ok(AgentNode {
-            node: Node::new(ends),
-            flows,
-        })
+        let _sessions = ends.sessions();
+        let node = Node::new(alloc, ends)?;
+        Ok(AgentNode { node, flows })
     }
 
     /// How many sessions there are. It takes no memory.
@@ -86,6 +93,17 @@ impl AgentNode {
         self.node.is_up(session)
     }
 
+    /// How many octets are kept of a session, those of a record that is not whole yet. It takes no memory.
+    pub fn pending(&self, session: u16) -> usize
+        requires { session < sessions self.now.plan }
+        ensures kept { result ≡ length (kept_at self.now.kept session) }
+        ensures few { result ≤ 65539 }
+        ensures closed { is_idle (post self.now.posts session).phase ≡ true → result ≡ 0 }
+    {
+        let _sessions = self.node.ends.sessions();
+        self.node.pending(session)
+    }
+
     /// Whether memory was wanting in a step since the agent was made or restarted. It takes no memory.
     pub fn failed(&self) -> bool
         ensures answer { result ≡ self.now.failed }
@@ -94,7 +112,7 @@ impl AgentNode {
         self.node.failed
     }
 
-    /// Closes every end, and holds nothing. It takes no memory.
+    /// Closes every end, holds nothing, and keeps no octets. It takes no memory.
     pub fn restart(&mut self)
         ensures { self.new ≡ fresh self.old.plan }
     {
@@ -120,8 +138,8 @@ impl AgentNode {
     }
 
     /// One step: the input is applied to its session, its replies are sent, and then each session is told what has
-    /// changed for it. A link that fails closes its session. Octets at the end that are no whole record are passed
-    /// over. After want of memory every step answers it, until a restart.
+    /// changed for it. A link that fails closes its session. Octets at the end that are no whole record are kept, and
+    /// heard again before those that come next. After want of memory every step answers it, until a restart.
     pub fn step<L: Link>(
         &mut self,
         input: Input<'_>,
@@ -131,10 +149,13 @@ impl AgentNode {
         requires linked { length links.old ≡ sessions self.old.plan }
         requires comes { Comes (λ i. is_idle (post self.old.posts i).phase ≡ false)
             (λ i. is_idle (post self.old.posts i).phase ≡ true) input }
-        ensures step { result ≢ Err NodeFault.NoMemory
-            → IsWholeStep L.accepted L.breaks L.faults kind
-            (Begins self.old.plan (session_of input.entry) (post self.old.posts (session_of input.entry)) input.entry)
-            self.old.posts self.new.posts (session_of input.entry) links.old links.new result }
+        ensures step { result ≢ Err NodeFault.NoMemory → (left : List ℕ)
+            × IsWholeStep L.accepted L.breaks L.faults kind
+            (λ given cause. BeginsKeeping self.old.plan (session_of input.entry)
+            (post self.old.posts (session_of input.entry)) (kept_at self.old.kept (session_of input.entry)) input.entry
+            given cause left)
+            self.old.posts self.new.posts (session_of input.entry) links.old links.new result
+            × AreSwept self.new.posts (slice_set self.old.kept (session_of input.entry) left) self.new.kept }
         ensures told { IfOk result (λ _. AreTold kind self.new.posts) }
         ensures never_ended { (session : ℕ) → result ≢ Ok (Closed session Ended) }
         ensures plan { self.new.plan ≡ self.old.plan }

@@ -91,7 +91,8 @@ fn lead(
 impl Ends for TabledEnds {
     ghost use Rattle.std.specs.Prelude.{◌≡◌, refl};
     ghost use Rattle.std.proofs.Common.{◌∙◌};
-    ghost use Rattle.agent_node.specs.Beginning.{Begins};
+    ghost use Rattle.node_items.proofs.Begun.{behind};
+    ghost use Rattle.agent_node.specs.Beginning.{BeginsKeeping, session_at};
     ghost use Rattle.agent_node.specs.Core.{kind};
 
     type Cause = ItemCause;
@@ -102,7 +103,7 @@ impl Ends for TabledEnds {
 
     ghost stays = { λ before after. (after.plan ≡ before.plan) × (after.rows.acls ≡ before.rows.acls) };
 
-    ghost begins = { λ e. Begins e.plan };
+    ghost begins = { λ e. BeginsKeeping e.plan };
 
     fn sessions(&self) -> u16
         ensures posts { result ≡ length self.now.posts }
@@ -152,6 +153,8 @@ impl Ends for TabledEnds {
     ghost stays_itself = { λ _. (refl, refl) };
 
     ghost stays_on = { λ _ _ _ first then. (then.0 ∙ first.0, then.1 ∙ first.1) };
+
+    ghost begins_behind = { λ e session p. behind e.plan.me.name (session_at e.plan session p.phase) p };
 
     ghost idle_is_silent = { λ _ _. refl };
 }

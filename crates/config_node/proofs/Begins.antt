@@ -15,7 +15,8 @@ use Rattle.item_wire.specs.declared.event.ItemState.TheVariants as State
 use Rattle.item_wire.specs.declared.item.Item.{Item}
 use Rattle.config_check.specs.Checked.{Checked}
 use Rattle.node_items.specs.Beginning.{phase_of}
-use Rattle.node_items.specs.Hearing.{Hears, heard}
+use Rattle.node_items.specs.Hearing.{heard}
+use Rattle.node_items.specs.Keeping.{Leaves}
 use Rattle.node_items.specs.Told.{change_of}
 use Rattle.node_items.proofs.States.{state_again}
 use Rattle.node_model.specs.Step.{Opened, Post, nothing, post}
@@ -57,14 +58,14 @@ module _ (x : Checked) (wants : Objects) (es : List FeedEnd) (are : AreEnds x wa
       ∙ (λ j. set (posts_of es) i
       (record { phase = phase_of (opened j).state; sent = (here j).sent; held = (here j).held; wide = (here j).wide }))
 
-  module _ (octets : List ℕ) (s : SessionFields) where
-    pub taken_on : HasHeard e.session octets s None
-        → HasTaken x i octets (posts_of es) (posts_of (set es i (record e { session = s }))) None
+  module _ (octets left : List ℕ) (s : SessionFields) where
+    pub taken_on : HasHeard e.session octets left s None
+        → HasTaken x i octets left (posts_of es) (posts_of (set es i (record e { session = s }))) None
     taken_on t = record {
       inputs = t.inputs;
-      hears = subst (λ (s : SessionFields). Hears s octets t.inputs) session_is t.hears;
+      leaves = subst (λ (s : SessionFields). Leaves s octets t.inputs left) session_is t.leaves;
       why = t.why ∙ ap (λ (s : SessionFields). (heard s t.inputs).cause) session_is;
-      left = posts_set es i (record e { session = s })
+      applied = posts_set es i (record e { session = s })
           ∙ (λ j. set (posts_of es) i (record {
             phase = phase_of (t.state j);
             sent = low_of e.sent;
@@ -79,14 +80,14 @@ module _ (x : Checked) (wants : Objects) (es : List FeedEnd) (are : AreEnds x wa
           }));
     }
 
-    pub taken_down : (cause : ItemCause) (posts' : List Post) → HasHeard e.session octets s (Some cause)
+    pub taken_down : (cause : ItemCause) (posts' : List Post) → HasHeard e.session octets left s (Some cause)
         → posts' ≡ slice_set (posts_of (set es i (record e { session = s }))) i nothing
-        → HasTaken x i octets (posts_of es) posts' (Some cause)
+        → HasTaken x i octets left (posts_of es) posts' (Some cause)
     taken_down cause posts' t closed = record {
       inputs = t.inputs;
-      hears = subst (λ (s : SessionFields). Hears s octets t.inputs) session_is t.hears;
+      leaves = subst (λ (s : SessionFields). Leaves s octets t.inputs left) session_is t.leaves;
       why = t.why ∙ ap (λ (s : SessionFields). (heard s t.inputs).cause) session_is;
-      left = closed
+      applied = closed
           ∙ ap (λ (ps : List Post). slice_set ps i nothing) (posts_set es i (record e { session = s }))
           ∙ set-set (posts_of es) i (end_at (record e { session = s })) nothing;
     }

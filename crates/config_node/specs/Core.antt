@@ -1,11 +1,12 @@
--- What is seen of the configuration node: what is valid now, its ends, and whether it failed.
+-- What is seen of the configuration node: what is valid now, its ends, the octets that it keeps, and whether it failed.
 use Rattle.std.specs.Prelude.{ℕ, List, length, Bool, false, refl}
-use Rattle.std.specs.Coded.{Coded, code_by, coded×, coded_bool, coded_list}
+use Rattle.std.specs.Coded.{Coded, code_by, coded×, coded_bool, coded_list, coded_ℕ}
 use Rattle.config_check.specs.Checked.{Checked}
 use Rattle.config_check.specs.contracts.valid.Valid as valid
 use Rattle.node_items.specs.Told.{spelled}
 use Rattle.node_model.specs.Codes.{coded_post}
 use Rattle.node_model.specs.Maps.{Map}
+pub use Rattle.node_core.specs.Keeping.{AreFew, AreOfLive, AreSwept, kept_at, nothing_kept}
 pub use Rattle.node_core.specs.Resting.{is_idle, is_up, may_send, nothings}
 use Rattle.node_model.specs.Step.{Kind, Post}
 use Rattle.network_model.specs.Setup.{low}
@@ -14,6 +15,8 @@ use Rattle.network_model.specs.Setup.{low}
 pub record Core : Type 0 where
   pub setup : Checked
   pub posts : List Post
+  -- of each session, the octets of a record that is not whole yet
+  pub kept : List (List ℕ)
   pub failed : Bool
 
 abbrev pub sessions : Checked → ℕ
@@ -28,10 +31,12 @@ kind x = record { wanted = wanted x; may_send = may_send; spelled = λ i c. spel
 
 -- ---- a configuration node whose ends are all closed
 abbrev pub fresh : Checked → Core
-fresh x = record { setup = x; posts = nothings (sessions x); failed = false }
+fresh x = record { setup = x; posts = nothings (sessions x); kept = nothing_kept (sessions x); failed = false }
 
 -- ---- how configuration nodes are told apart
 abbrev pub coded_core : Coded Core
 coded_core =
-    code_by (Checked × (List Post × Bool)) (coded× valid.the_row.coded (coded× (coded_list coded_post) coded_bool))
-    (λ n. (n.setup, (n.posts, n.failed))) (λ c. record { setup = c.0; posts = c.1.0; failed = c.1.1 }) (λ _. refl)
+    code_by (Checked × (List Post × (List (List ℕ) × Bool)))
+    (coded× valid.the_row.coded (coded× (coded_list coded_post) (coded× (coded_list (coded_list coded_ℕ)) coded_bool)))
+    (λ n. (n.setup, (n.posts, (n.kept, n.failed))))
+    (λ c. record { setup = c.0; posts = c.1.0; kept = c.1.1.0; failed = c.1.1.1 }) (λ _. refl)

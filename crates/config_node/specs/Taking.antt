@@ -4,19 +4,21 @@ use Rattle.item_wire.specs.Happenings.{SessionFields}
 use Rattle.item_wire.specs.declared.event.ItemCause.{ItemCause}
 use Rattle.item_wire.specs.declared.input.Came.{Came}
 use Rattle.config_check.specs.Checked.{Checked}
-use Rattle.node_items.specs.Hearing.{Hears, heard}
+use Rattle.node_items.specs.Hearing.{heard}
+use Rattle.node_items.specs.Keeping.{Leaves}
 use Rattle.node_items.specs.Taking as item
 use Rattle.node_model.specs.Step.{Post}
 use Rattle.config_node.specs.Beginning.{session_at}
 
--- a session once it heard octets. No record is handed out
-pub record HasHeard (s : SessionFields) (octets : List ℕ) (s' : SessionFields) (cause : Option ItemCause) : Type 0 where
+-- a session once it heard octets that leave these. No record is handed out
+pub record HasHeard (s : SessionFields) (octets left : List ℕ) (s' : SessionFields) (cause : Option ItemCause)
+    : Type 0 where
   pub inputs : List Came
-  pub hears : Hears s octets inputs
+  pub leaves : Leaves s octets inputs left
   pub why : cause ≡ (heard s inputs).cause
   pub state : s'.state ≡ (heard s inputs).state
   pub none : (heard s inputs).records ≡ []
 
--- the end of a session once octets came on it
-abbrev pub HasTaken : Checked → ℕ → List ℕ → List Post → List Post → Option ItemCause → Type 0
+-- the end of a session once octets came on it that leave these
+abbrev pub HasTaken : Checked → ℕ → List ℕ → List ℕ → List Post → List Post → Option ItemCause → Type 0
 HasTaken x = item.HasTaken (session_at x)

@@ -1,13 +1,14 @@
 //! What an input makes of the end of its session.
-ghost use Rattle.std.specs.Prelude.{◌≡◌, ◌<◌, ◌∷◌, [], IfOk, slice_set, true, false};
+ghost use Rattle.std.specs.Prelude.{◌≡◌, ◌<◌, ◌≤◌, ◌∷◌, [], IfOk, drop, length, slice_set, true, false};
 ghost use Rattle.item_wire.specs.Records.{spelling};
 ghost use Rattle.item_wire.specs.declared.event.ItemFrom.TheVariants.{Nothing};
 ghost use Rattle.item_wire.specs.declared.item.Item.TheVariants.{Hello};
 ghost use Rattle.node_core.specs.Begun.{HasBegun};
+ghost use Rattle.node_core.specs.Keeping.{left_in, size_of};
 ghost use Rattle.node_core.specs.Whole.{Comes, session_of};
 ghost use Rattle.node_model.specs.Step.{Begun, Idle, Opened, post};
 ghost use Rattle.network_model.specs.Network.{config};
-ghost use Rattle.config_node.specs.Beginning.{Begins};
+ghost use Rattle.config_node.specs.Beginning.{BeginsKeeping};
 ghost use Rattle.config_node.specs.Core.{is_idle, sessions};
 ghost use Rattle.config_node.specs.Ends.{whom};
 ghost use Rattle.config_node.specs.Taking.{HasHeard, HasTaken};
@@ -20,19 +21,30 @@ use ov_link::Input;
 use ov_types::{Items, NoMemory};
 use std::alloc::Global;
 
+/// What octets came to at an end.
+#[derive(Drop)]
+struct Taken {
+    /// How many of them were taken: all but those of a record that is not whole.
+    taken: usize,
+    /// Why they took the session down, where they did.
+    cause: Option<ItemCause>,
+}
+
 /// Hears octets at an end. A control node sends its hello alone, so that any other record takes the session down.
-fn hear_at(
-    alloc: Global,
-    session: &mut ItemSession,
-    bytes: &[u8],
-) -> Result<Option<ItemCause>, NoMemory>
+fn hear_at(alloc: Global, session: &mut ItemSession, bytes: &[u8]) -> Result<Taken, NoMemory>
     requires from { session.old.from ≡ Nothing }
-    ensures heard { IfOk result (λ cause. HasHeard session.old bytes.now session.new cause) }
+    ensures heard { IfOk result (λ came. HasHeard session.old bytes.now (drop came.taken bytes.now) session.new
+        came.cause) }
+    ensures taken { IfOk result (λ came. came.taken ≤ length bytes.now) }
     ensures whom { whom session.new ≡ whom session.old }
 {
-    let Heard { records, cause, .. } = hear(alloc, session, bytes)?;
+    let Heard {
+        records,
+        taken,
+        cause,
+    } = hear(alloc, session, bytes)?;
     let _none = records;
-    Ok(cause)
+    Ok(Taken { taken, cause })
 }
 
 impl ConfigEnds {
@@ -49,19 +61,24 @@ impl ConfigEnds {
         greet(self.alloc, &mut end.session, &config_name())
     }
 
-    /// Hears octets at an end, which is closed where they take its session down: then this is why.
-    fn hear_on(&mut self, session: u16, bytes: &[u8]) -> Result<Option<ItemCause>, NoMemory>
+    /// Hears octets at an end, which is closed where they take its session down.
+    fn hear_on(&mut self, session: u16, bytes: &[u8]) -> Result<Taken, NoMemory>
         requires known { session < sessions self.old.setup }
         ensures setup { self.new.setup ≡ self.old.setup }
-        ensures heard { IfOk result (λ cause. HasTaken self.old.setup session bytes.now self.old.posts self.new.posts
-            cause) }
+        ensures heard { IfOk result (λ came. HasTaken self.old.setup session bytes.now (drop came.taken bytes.now)
+            self.old.posts self.new.posts came.cause) }
+        ensures taken { IfOk result (λ came. came.taken ≤ length bytes.now) }
     {
         let end = &mut self.ends[usize::from(session)];
-        match hear_at(self.alloc, &mut end.session, bytes)? {
-            None => Ok(None),
+        let Taken { taken, cause } = hear_at(self.alloc, &mut end.session, bytes)?;
+        match cause {
+            None => Ok(Taken { taken, cause: None }),
             Some(cause) => {
                 self.close(session);
-                Ok(Some(cause))
+                Ok(Taken {
+                    taken,
+                    cause: Some(cause),
+                })
             }
         }
     }
@@ -73,9 +90,11 @@ impl ConfigEnds {
             (λ i. is_idle (post self.old.posts i).phase ≡ true) input }
         ensures setup { self.new.setup ≡ self.old.setup }
         ensures begins { IfOk result (λ started. (given : Begun)
-            × Begins self.old.setup (session_of input.entry) (post self.old.posts (session_of input.entry)) input.entry
-            given started.cause
+            × BeginsKeeping self.old.setup (session_of input.entry) (post self.old.posts (session_of input.entry)) []
+            input.entry given started.cause (left_in input.entry started.taken)
             × HasBegun self.old.posts (session_of input.entry) given started.replies self.new.posts) }
+        ensures taken { IfOk result (λ started. started.taken ≤ size_of input.entry) }
+        ensures few { IfOk result (λ started. length (left_in input.entry started.taken) ≤ 65539) }
     {
         let alloc = self.alloc;
         match input {
@@ -83,13 +102,15 @@ impl ConfigEnds {
                 let replies = self.greet_at(session)?;
                 Ok(Started {
                     replies,
+                    taken: 0,
                     cause: None,
                 })
             }
             Input::Bytes { session, bytes } => {
-                let cause = self.hear_on(session, bytes)?;
+                let Taken { taken, cause } = self.hear_on(session, bytes)?;
                 Ok(Started {
                     replies: Items::new(alloc),
+                    taken,
                     cause,
                 })
             }
@@ -97,6 +118,7 @@ impl ConfigEnds {
                 self.close(session);
                 Ok(Started {
                     replies: Items::new(alloc),
+                    taken: 0,
                     cause: None,
                 })
             }

@@ -71,7 +71,9 @@ impl Model for ConfigEnds {
 impl Ends for ConfigEnds {
     ghost use Rattle.std.specs.Prelude.{◌≡◌, refl};
     ghost use Rattle.std.proofs.Common.{◌∙◌};
-    ghost use Rattle.config_node.specs.Beginning.{Begins};
+    ghost use Rattle.node_items.proofs.Begun.{behind};
+    ghost use Rattle.node_model.specs.Naming.{config};
+    ghost use Rattle.config_node.specs.Beginning.{BeginsKeeping, session_at};
     ghost use Rattle.config_node.specs.Core.{kind};
 
     type Cause = ItemCause;
@@ -82,7 +84,7 @@ impl Ends for ConfigEnds {
 
     ghost stays = { λ before after. after.setup ≡ before.setup };
 
-    ghost begins = { λ e. Begins e.setup };
+    ghost begins = { λ e. BeginsKeeping e.setup };
 
     fn sessions(&self) -> u16
         ensures posts { result ≡ length self.now.posts }
@@ -119,6 +121,8 @@ impl Ends for ConfigEnds {
     ghost stays_itself = { λ _. refl };
 
     ghost stays_on = { λ _ _ _ first then. then ∙ first };
+
+    ghost begins_behind = { λ e session p. behind config (session_at e.setup session p.phase) p };
 
     ghost idle_is_silent = { λ _ _. refl };
 }

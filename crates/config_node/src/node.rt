@@ -1,5 +1,5 @@
 //! The configuration node, its step and its edits.
-ghost use Rattle.std.specs.Prelude.{◌≡◌, ◌≢◌, ◌<◌, ◌↔◌, ◌⊎◌, ℕ, length, not, true, false};
+ghost use Rattle.std.specs.Prelude.{◌≡◌, ◌≢◌, ◌<◌, ◌≤◌, ◌↔◌, ◌⊎◌, ℕ, List, length, not, slice_set, true, false};
 ghost use Rattle.std.specs.Prelude.{None, Some, IfOk, IfSome, IsTrue};
 ghost use Rattle.ov_link.specs.declared.step.Stepped.TheVariants.{Closed};
 ghost use Rattle.item_wire.specs.declared.event.ItemCause.TheVariants.{Ended};
@@ -12,8 +12,8 @@ ghost use Rattle.node_model.specs.Step.{post};
 ghost use Rattle.node_laws.specs.Stepped.{AreTold};
 ghost use Rattle.network_model.specs.Setup.{edited};
 ghost use Rattle.config_node.specs.Advancing.{Remakes};
-ghost use Rattle.config_node.specs.Beginning.{Begins};
-ghost use Rattle.config_node.specs.Core.{fresh, is_idle, is_up, kind, sessions};
+ghost use Rattle.config_node.specs.Beginning.{BeginsKeeping};
+ghost use Rattle.config_node.specs.Core.{AreSwept, fresh, is_idle, is_up, kept_at, kind, sessions};
 ghost use Rattle.config_node.specs.Editing.{IsEdited, failed_link, fault_in};
 
 use crate::ends::ConfigEnds;
@@ -44,6 +44,7 @@ fn remake<L: Link>(
     ensures topology { ends.new.setup.topology ≡ ends.old.setup.topology }
     ensures setup { (ends.new.setup ≡ ends.old.setup) ⊎ (edited ends.old.setup edit.now ≡ Some ends.new.setup) }
     ensures links { length links.new ≡ length links.old }
+    ensures sessions { length ends.new.posts ≡ length ends.old.posts }
     ensures remakes { IfOk result (λ remade. Remakes L.accepted L.breaks L.faults edit.now ends.old ends.new links.old
         links.new remade) }
 {
@@ -62,13 +63,22 @@ pub struct ConfigNode {
 }
 
 impl Model for ConfigNode {
-    ghost use Rattle.config_node.specs.Core.{Core, coded_core};
+    ghost use Rattle.std.specs.Prelude.{◌≡◌, length};
+    ghost use Rattle.config_node.specs.Core.{AreFew, AreOfLive, Core, coded_core};
 
     ghost Value = { Core };
 
     ghost coded = { coded_core };
 
-    ghost view = { λ n. record { setup = n.node.ends.setup; posts = n.node.ends.posts; failed = n.node.failed } };
+    ghost view = { λ n. record {
+      setup = n.node.ends.setup;
+      posts = n.node.ends.posts;
+      kept = n.node.inboxes.items;
+      failed = n.node.failed;
+    } };
+
+    ghost invariant = { λ n. (length n.node.inboxes.items ≡ length n.node.ends.posts) × AreFew n.node.inboxes.items
+        × AreOfLive n.node.ends.posts n.node.inboxes.items };
 }
 
 impl ConfigNode {
@@ -77,9 +87,9 @@ impl ConfigNode {
         ensures { IfOk result (λ node. node ≡ fresh valid) }
     {
         let ends = ConfigEnds::new(alloc, valid)?;
-        Ok(ConfigNode {
-            node: Node::new(ends),
-        })
+        let _sessions = ends.sessions();
+        let node = Node::new(alloc, ends)?;
+        Ok(ConfigNode { node })
     }
 
     /// What is valid now. It takes no memory.
@@ -117,6 +127,17 @@ impl ConfigNode {
         self.node.is_up(session)
     }
 
+    /// How many octets are kept of a session, those of a record that is not whole yet. It takes no memory.
+    pub fn pending(&self, session: u16) -> usize
+        requires { session < sessions self.now.setup }
+        ensures kept { result ≡ length (kept_at self.now.kept session) }
+        ensures few { result ≤ 65539 }
+        ensures closed { is_idle (post self.now.posts session).phase ≡ true → result ≡ 0 }
+    {
+        let _sessions = self.node.ends.sessions();
+        self.node.pending(session)
+    }
+
     /// Whether memory was wanting in a step or an edit since the node was made or restarted. It takes no memory.
     pub fn failed(&self) -> bool
         ensures { result ≡ self.now.failed }
@@ -124,7 +145,7 @@ impl ConfigNode {
         self.node.failed
     }
 
-    /// Closes every end. What is valid stays. It takes no memory.
+    /// Closes every end, and keeps no octets. What is valid stays. It takes no memory.
     pub fn restart(&mut self)
         ensures { self.new ≡ fresh self.old.setup }
     {
@@ -133,8 +154,8 @@ impl ConfigNode {
     }
 
     /// One step: the input is applied to its session, its replies are sent, and then each session is told what has
-    /// changed for it. A link that fails closes its session. Octets at the end that are no whole record are passed
-    /// over. After want of memory every step answers it, until a restart.
+    /// changed for it. A link that fails closes its session. Octets at the end that are no whole record are kept, and
+    /// heard again before those that come next. After want of memory every step answers it, until a restart.
     pub fn step<L: Link>(
         &mut self,
         input: Input<'_>,
@@ -144,10 +165,13 @@ impl ConfigNode {
         requires linked { length links.old ≡ sessions self.old.setup }
         requires comes { Comes (λ i. is_idle (post self.old.posts i).phase ≡ false)
             (λ i. is_idle (post self.old.posts i).phase ≡ true) input }
-        ensures step { result ≢ Err NodeFault.NoMemory
-            → IsWholeStep L.accepted L.breaks L.faults (kind self.old.setup)
-            (Begins self.old.setup (session_of input.entry) (post self.old.posts (session_of input.entry)) input.entry)
-            self.old.posts self.new.posts (session_of input.entry) links.old links.new result }
+        ensures step { result ≢ Err NodeFault.NoMemory → (left : List ℕ)
+            × IsWholeStep L.accepted L.breaks L.faults (kind self.old.setup)
+            (λ given cause. BeginsKeeping self.old.setup (session_of input.entry)
+            (post self.old.posts (session_of input.entry)) (kept_at self.old.kept (session_of input.entry)) input.entry
+            given cause left)
+            self.old.posts self.new.posts (session_of input.entry) links.old links.new result
+            × AreSwept self.new.posts (slice_set self.old.kept (session_of input.entry) left) self.new.kept }
         ensures told { IfOk result (λ _. AreTold (kind self.new.setup) self.new.posts) }
         ensures never_ended { (session : ℕ) → result ≢ Ok (Closed session Ended) }
         ensures setup { self.new.setup ≡ self.old.setup }
@@ -160,8 +184,8 @@ impl ConfigNode {
     }
 
     /// Makes an edit of what is valid, and then tells each session what has changed for it. A fault is answered, and
-    /// changes nothing. Where a link fails the edit is made all the same. After want of memory every edit answers it,
-    /// until a restart, and the edit may have been made.
+    /// changes nothing. Where a link fails the edit is made all the same, and the session of that link is closed. After
+    /// want of memory every edit answers it, until a restart, and the edit may have been made.
     pub fn edit<L: Link>(
         &mut self,
         edit: &Edit,
@@ -175,6 +199,8 @@ impl ConfigNode {
         ensures made { result ≢ Err NodeFault.NoMemory → edit_fault self.old.setup edit.now ≡ None
             → IsEdited L.accepted L.breaks L.faults self.old.setup self.new.setup edit.now self.old.posts self.new.posts
             links.old links.new (failed_link result) }
+        ensures swept { result ≢ Err NodeFault.NoMemory → edit_fault self.old.setup edit.now ≡ None
+            → AreSwept self.new.posts self.old.kept self.new.kept }
         ensures topology { self.new.setup.topology ≡ self.old.setup.topology }
         ensures setup { (self.new.setup ≡ self.old.setup) ⊎ (edited self.old.setup edit.now ≡ Some self.new.setup) }
         ensures links { length links.new ≡ length links.old }
@@ -186,9 +212,16 @@ impl ConfigNode {
         }
         match remake(&mut self.node.ends, edit, links) {
             Ok(Remade::Refused(fault)) => Ok(Some(fault)),
-            Ok(Remade::Made(None)) => Ok(None),
-            Ok(Remade::Made(Some(session))) => Err(NodeFault::LinkFailed { session }),
+            Ok(Remade::Made(None)) => {
+                self.node.sweep();
+                Ok(None)
+            }
+            Ok(Remade::Made(Some(session))) => {
+                self.node.sweep();
+                Err(NodeFault::LinkFailed { session })
+            }
             Err(_) => {
+                self.node.sweep();
                 self.node.failed = true;
                 Err(NodeFault::NoMemory)
             }

@@ -1,11 +1,9 @@
 -- What a control node wants is settled by the states of its ends and by what they hold.
-use Rattle.std.specs.Prelude.{◌≡◌, ◌≢◌, ℕ, suc, ◌+◌, List, [], ◌∷◌, map, take, drop, length, Bool, true, false, if◌then◌else◌, ◌==◌, IfOk}
+use Rattle.std.specs.Prelude.{◌≡◌, ◌≢◌, ℕ, suc, ◌+◌, List, [], ◌∷◌, map, take, drop, length, if◌then◌else◌, ◌==◌, IfOk}
 use Rattle.std.specs.declared.option.Option.{Option}
-use Rattle.std.specs.declared.option.Option.TheVariants.{Some, None}
 use Rattle.std.specs.declared.result.Result.{Result}
 use Rattle.std.specs.declared.result.Result.TheVariants.{Ok, Err}
 use Rattle.std.specs.FinMap.{empty}
-use Rattle.std.specs.Option.{option_map}
 use Rattle.std.proofs.Common.{refl, sym, ◌∙◌, ap}
 use Rattle.std.proofs.lemmas.List.{take-map, drop-map}
 use Rattle.ov_link.specs.declared.step.Input.{Input}
@@ -14,12 +12,8 @@ use Rattle.ov_link.specs.declared.step.Stepped.TheVariants.{Closed}
 use Rattle.ov_link.specs.declared.step.NodeFault.{NodeFault}
 use Rattle.ov_link.specs.declared.step.NodeFault.TheVariants.{NoMemory}
 use Rattle.ov_types.specs.declared.rows.NodeId.{NodeId}
-use Rattle.bgp_session.specs.declared.event.Cause.{Cause as PeerCause}
 use Rattle.bgp_session.specs.declared.event.Cause.TheVariants.{Ended as PeerEnded}
-use Rattle.item_wire.specs.declared.event.ItemCause.{ItemCause}
 use Rattle.item_wire.specs.declared.event.ItemCause.TheVariants.{Ended as ItemEnded}
-use Rattle.node_items.proofs.NotEnded as items
-use Rattle.node_peers.proofs.NotEnded as routes
 use Rattle.node_model.specs.Maps.{Map}
 use Rattle.node_model.specs.Paths.{Holdings}
 use Rattle.node_model.specs.Step.{Begun, Post}
@@ -29,12 +23,13 @@ use Rattle.node_core.specs.Whole.{IsWholeStep}
 use Rattle.node_core.proofs.Closing.{never_closed}
 use Rattle.node_laws.specs.Stepped.{AreTold, HoldTheSame, WantsByHoldings}
 use Rattle.node_laws.proofs.AtTheEnd.{seen_alike, told_where_none_failed}
-use Rattle.control_node.specs.Beginning.{Begins, BeginsBy, ItemBegins, PeerBegins, item_session, peer_session}
+use Rattle.control_node.specs.Beginning.{BeginsKeeping}
 use Rattle.control_node.specs.Core.{holdings, is_peer, told_from}
 use Rattle.control_node.specs.Wanting.{idle_is_silent, kind}
 use Rattle.control_node.specs.declared.cause.NodeCause.{NodeCause}
 use Rattle.control_node.specs.declared.cause.NodeCause.TheVariants as Because
 use Rattle.control_node.specs.declared.plan.ControlPlan.{ControlPlan}
+use Rattle.control_node.proofs.Octets.{never_ended}
 
 -- ---- what it holds
 abbrev held : Post → Map
@@ -75,60 +70,31 @@ wants_by_holdings plan = record {
   silent = idle_is_silent plan;
 }
 
--- ---- no input closes its session as ended
-peer_ended : (c : Option PeerCause) → option_map Because.Peer c ≡ Some (Because.Peer PeerEnded) → c ≡ Some PeerEnded
-peer_ended None e = cc
-peer_ended (Some cause) e = cc
-
-item_ended : (c : Option ItemCause) → option_map Because.Item c ≡ Some (Because.Item ItemEnded) → c ≡ Some ItemEnded
-item_ended None e = cc
-item_ended (Some cause) e = cc
-
-peer_no_item : (c : Option PeerCause) → option_map Because.Peer c ≢ Some (Because.Item ItemEnded)
-peer_no_item None e = cc
-peer_no_item (Some cause) e = cc
-
-item_no_peer : (c : Option ItemCause) → option_map Because.Item c ≢ Some (Because.Peer PeerEnded)
-item_no_peer None e = cc
-item_no_peer (Some cause) e = cc
-
-module _ (plan : ControlPlan) (i : ℕ) (p : Post) (came : Input) (given : Begun) (cause : Option NodeCause) where
-  peer_never : PeerBegins plan i p came given cause → (cause ≢ Some (Because.Item ItemEnded)) × (cause ≢ Some (Because.Peer PeerEnded))
-  peer_never b = (
-    (λ e. peer_no_item b.0 (sym b.1 ∙ e)),
-    (λ e. routes.never_ended plan.me.address (peer_session plan i p) p came given b.0 b.2 (peer_ended b.0 (sym b.1 ∙ e))),
-  )
-
-  item_never : ItemBegins plan i p came given cause → (cause ≢ Some (Because.Item ItemEnded)) × (cause ≢ Some (Because.Peer PeerEnded))
-  item_never b = (
-    (λ e. items.never_ended plan.me.name (item_session plan i p.phase) p came given b.0 b.2 (item_ended b.0 (sym b.1 ∙ e))),
-    (λ e. item_no_peer b.0 (sym b.1 ∙ e)),
-  )
-
-  by_kind : (b : Bool) → BeginsBy b plan i p came given cause → (cause ≢ Some (Because.Item ItemEnded)) × (cause ≢ Some (Because.Peer PeerEnded))
-  by_kind true b = peer_never b
-  by_kind false b = item_never b
-
-  pub never_ended : Begins plan i p came given cause → (cause ≢ Some (Because.Item ItemEnded)) × (cause ≢ Some (Because.Peer PeerEnded))
-  never_ended b = by_kind (is_peer plan i) b
-
 -- ---- a step, as it is answered
 module _ {L : Type 0} (accepted : L → Option (List (List ℕ))) (breaks : L → Option (List ℕ)) (faults : L → ℕ)
-    (plan : ControlPlan) (posts after : List Post) (session i : ℕ) (p : Post) (came : Input) (links left : List L) where
+    (plan : ControlPlan) (posts after : List Post) (session i : ℕ) (p : Post) (kept : List ℕ) (came : Input) (links links' : List L)
+    (Keeps : List ℕ → Type 0) where
+  abbrev Begins : List ℕ → Begun → Option NodeCause → Type 0
+  Begins left given cause = BeginsKeeping plan i p kept came given cause left
+
+  -- these octets are left, and they are what is kept
   abbrev Whole : Result (Stepped NodeCause) NodeFault → Type 0
-  Whole result = result ≢ Err NoMemory → IsWholeStep accepted breaks faults (kind plan) (Begins plan i p came) posts after session links left result
+  Whole result = result ≢ Err NoMemory → (left : List ℕ)
+      × IsWholeStep accepted breaks faults (kind plan) (Begins left) posts after session links links' result × Keeps left
 
   pub all_told : (result : Result (Stepped NodeCause) NodeFault) → Whole result → IfOk result (λ _. AreTold (kind plan) after)
   all_told (Ok stepped) whole =
-      let w = whole (λ e. cc) in
-      told_where_none_failed accepted breaks faults (kind plan) posts after session w.given links left (wants_by_holdings plan) w.steps
+      let w = (whole (λ e. cc)).1 in
+      told_where_none_failed accepted breaks faults (kind plan) posts after session w.given links links' (wants_by_holdings plan) w.steps
   all_told (Err fault) whole = tt
 
   pub never_closed_as_ended : (result : Result (Stepped NodeCause) NodeFault) → Whole result → (s : ℕ)
       → (result ≢ Ok (Closed s (Because.Item ItemEnded))) × (result ≢ Ok (Closed s (Because.Peer PeerEnded)))
-  never_closed_as_ended result whole s = (
-    never_closed accepted breaks faults (kind plan) (Begins plan i p came) posts after session links left (Because.Item ItemEnded)
-        (λ given cause b. (never_ended plan i p came given cause b).0) result whole s,
-    never_closed accepted breaks faults (kind plan) (Begins plan i p came) posts after session links left (Because.Peer PeerEnded)
-        (λ given cause b. (never_ended plan i p came given cause b).1) result whole s,
-  )
+  never_closed_as_ended (Ok stepped) whole s =
+      let w = whole (λ e. cc) in (
+        never_closed accepted breaks faults (kind plan) (Begins w.0) posts after session links links' (Because.Item ItemEnded)
+            (λ given cause b. (never_ended plan i p kept came given cause w.0 b).0) (Ok stepped) (λ _. w.1) s,
+        never_closed accepted breaks faults (kind plan) (Begins w.0) posts after session links links' (Because.Peer PeerEnded)
+            (λ given cause b. (never_ended plan i p kept came given cause w.0 b).1) (Ok stepped) (λ _. w.1) s,
+      )
+  never_closed_as_ended (Err fault) whole s = ((λ e. cc), (λ e. cc))

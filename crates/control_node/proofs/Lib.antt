@@ -14,4 +14,5 @@ pub mod Passing
 pub mod Kept
 pub mod Made
 pub mod Shown
+pub mod Octets
 pub mod AtTheEnd

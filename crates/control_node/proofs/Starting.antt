@@ -30,7 +30,7 @@ use Rattle.node_model.specs.Values.{Route}
 use Rattle.node_peers.specs.Beginning as route
 use Rattle.node_peers.specs.Hearing as route_hearing
 use Rattle.node_peers.specs.Hearing.{open_octets}
-use Rattle.control_node.specs.Beginning.{Begins, BeginsBy}
+use Rattle.control_node.specs.Beginning.{BeginsKeeping, KeepsBy}
 use Rattle.control_node.specs.Begun.{IsBegun, IsHeard}
 use Rattle.control_node.specs.Core.{is_peer}
 use Rattle.control_node.specs.Ends.{AreEnds, IsAgentEnd, opened_agent, opened_peer, plan_of, posts_of}
@@ -81,11 +81,11 @@ item_left p state H changes c s cs e none =
     ∙ (λ k. Some (record p { phase = item.phase_of (sym s k); held = taken (sym none k) (sym cs k) p.held }))
 
 -- ---- a session that is closed
-pub closed-begins : (plan : ControlPlan) (session : ℕ) (p : Post) → Begins plan session p (input.Closed session) (record { replies = []; after = None }) None
+pub closed-begins : (plan : ControlPlan) (session : ℕ) (p : Post) → BeginsKeeping plan session p [] (input.Closed session) (record { replies = []; after = None }) None []
 closed-begins plan session p =
-    elim (is_peer plan session) as (λ b. BeginsBy b plan session p (input.Closed session) (record { replies = []; after = None }) None) [
-      | true ↦ (None, refl, (refl, refl))
-      | false ↦ (None, refl, (refl, refl))
+    elim (is_peer plan session) as (λ b. KeepsBy b plan session p [] (input.Closed session) (record { replies = []; after = None }) None []) [
+      | true ↦ (None, refl, ((refl, refl), refl))
+      | false ↦ (None, refl, ((refl, refl), refl))
     ]
 
 -- ---- an agent's end is still with that agent
@@ -102,14 +102,14 @@ heard_is e e' is id sent peer from = record {
 
 -- ---- octets that were heard
 
-pub heard-falls : (plan : ControlPlan) (posts : List Post) (session : ℕ) (i : Input) (replies : List (List ℕ)) (cause : Option NodeCause) (posts' closed : List Post)
-    → IsHeard plan posts session i replies cause posts' → cause ≢ None → closed ≡ set posts' session nothing → IsBegun plan posts session i replies cause closed
-heard-falls plan posts session i replies cause posts' closed h some e = record {
+pub heard-falls : (plan : ControlPlan) (posts : List Post) (session : ℕ) (i : Input) (replies : List (List ℕ)) (cause : Option NodeCause) (left : List ℕ) (posts' closed : List Post)
+    → IsHeard plan posts session i replies cause left posts' → cause ≢ None → closed ≡ set posts' session nothing → IsBegun plan posts session i replies cause left closed
+heard-falls plan posts session i replies cause left posts' closed h some e = record {
   given = h.given;
   begins = h.begins;
   begun = record {
     replied = h.replied;
-    applied = e ∙ ap (λ (ps : List Post). set ps session nothing) h.applied ∙ set-set posts session h.left nothing
+    applied = e ∙ ap (λ (ps : List Post). set ps session nothing) h.applied ∙ set-set posts session h.end nothing
         ∙ ap (λ (a : Option Post). set posts session (end_of a)) (sym (h.falls some));
   };
 }
@@ -124,22 +124,22 @@ module _ (me : NodeId) (asn : ℕ) (feed : items.SessionFields) (es : List PeerE
 
   -- ---- sessions that are opened
   pub feed-opened : (session : ℕ) (s : items.SessionFields) (replies : List (List ℕ)) → session ≡ 0 → s ≡ record feed { state = ItemState.Opened }
-      → replies ≡ spelling (Hello me.name) ∷ [] → IsBegun plan posts session (input.Opened session) replies None (posts_of s.state es ts h)
+      → replies ≡ spelling (Hello me.name) ∷ [] → IsBegun plan posts session (input.Opened session) replies None [] (posts_of s.state es ts h)
   feed-opened session s replies at is said =
-      subst (λ n. IsBegun plan posts n (input.Opened n) replies None (posts_of s.state es ts h)) (sym at) (record {
+      subst (λ n. IsBegun plan posts n (input.Opened n) replies None [] (posts_of s.state es ts h)) (sym at) (record {
         given = record { replies = spelling (Hello me.name) ∷ []; after = Some (record (post posts 0) { phase = Opened }) };
-        begins = feed-begins me asn feed es ts h are (input.Opened 0) _ None None refl (refl, refl);
+        begins = feed-begins me asn feed es ts h are (input.Opened 0) _ None None [] refl ((refl, refl), refl);
         begun = record { replied = said; applied = ap (λ (s : items.SessionFields). posts_of s.state es ts h) is };
       })
 
   pub peer-opened : (session i : ℕ) (e d : PeerEnd) (replies : List (List ℕ)) → session ≡ suc i → i < length es → e ≡ opened_peer (get_or es i d)
-      → replies ≡ open_octets asn me.address ∷ [] → IsBegun plan posts session (input.Opened session) replies None (posts_of feed.state (set es i e) ts h)
+      → replies ≡ open_octets asn me.address ∷ [] → IsBegun plan posts session (input.Opened session) replies None [] (posts_of feed.state (set es i e) ts h)
   peer-opened session i e d replies at lt is said =
       let p = post posts session in
       let own = all-at (λ (e : PeerEnd). e.session.asn ≡ asn) es i d are.peer_ends lt in
       record {
         given = record { replies = open_octets (get_or es i d).session.asn me.address ∷ []; after = Some (record p { phase = Opened }) };
-        begins = peer-begins me asn feed es ts h are session i d (input.Opened session) _ None None at lt refl (refl, refl);
+        begins = peer-begins me asn feed es ts h are session i d (input.Opened session) _ None None [] at lt refl ((refl, refl), refl);
         begun = record {
           replied = said ∙ ap (λ n. open_octets n me.address ∷ []) (sym own);
           applied =
@@ -153,12 +153,12 @@ module _ (me : NodeId) (asn : ℕ) (feed : items.SessionFields) (es : List PeerE
       }
 
   pub agent-opened : (session i : ℕ) (e d : AgentEnd) (replies : List (List ℕ)) → session ≡ suc (length es + i) → i < length ts → e ≡ opened_agent (get_or ts i d)
-      → replies ≡ spelling (Hello me.name) ∷ [] → IsBegun plan posts session (input.Opened session) replies None (posts_of feed.state es (set ts i e) h)
+      → replies ≡ spelling (Hello me.name) ∷ [] → IsBegun plan posts session (input.Opened session) replies None [] (posts_of feed.state es (set ts i e) h)
   agent-opened session i e d replies at lt is said =
       let p = post posts session in
       record {
         given = record { replies = spelling (Hello me.name) ∷ []; after = Some (record p { phase = Opened }) };
-        begins = agent-begins me asn feed es ts h are session i d (input.Opened session) _ None None at lt refl (refl, refl);
+        begins = agent-begins me asn feed es ts h are session i d (input.Opened session) _ None None [] at lt refl ((refl, refl), refl);
         begun = record {
           replied = said;
           applied =
@@ -169,52 +169,52 @@ module _ (me : NodeId) (asn : ℕ) (feed : items.SessionFields) (es : List PeerE
       }
 
   -- ---- sessions on which octets come
-  pub feed-heard : (session : ℕ) (s : items.SessionFields) (b : Bor (List ℕ)) (changes : List Change) (c : Option ItemCause) (cause : Option NodeCause) (replies : List (List ℕ)) (h' : Holdings)
-      → session ≡ 0 → ItemsHeard feed s b.now changes c → cause ≡ option_map Cause.Item c → replies ≡ []
-      → h' ≡ feed_by (taken c changes) h → IsHeard plan posts session (input.Bytes session b) replies cause (posts_of s.state es ts h')
-  feed-heard session s b changes c cause replies h' at heard is none by =
-      subst (λ n. IsHeard plan posts n (input.Bytes n b) replies cause (posts_of s.state es ts h')) (sym at) (
+  pub feed-heard : (session : ℕ) (s : items.SessionFields) (b : Bor (List ℕ)) (rest : List ℕ) (changes : List Change) (c : Option ItemCause) (cause : Option NodeCause) (replies : List (List ℕ)) (h' : Holdings)
+      → session ≡ 0 → ItemsHeard feed s b.now rest changes c → cause ≡ option_map Cause.Item c → replies ≡ []
+      → h' ≡ feed_by (taken c changes) h → IsHeard plan posts session (input.Bytes session b) replies cause rest (posts_of s.state es ts h')
+  feed-heard session s b rest changes c cause replies h' at heard is none by =
+      subst (λ n. IsHeard plan posts n (input.Bytes n b) replies cause rest (posts_of s.state es ts h')) (sym at) (
       let p = post posts 0 in
       let H = item_hearing.heard feed heard.inputs in
       record {
         given = record { replies = []; after = item.left_by p H H.cause };
-        begins = feed-begins me asn feed es ts h are (input.Bytes 0 b) _ c cause is (heard.inputs, heard.hears, refl, heard.cause_is);
+        begins = feed-begins me asn feed es ts h are (input.Bytes 0 b) _ c cause rest is (heard.inputs, heard.leaves, refl, heard.cause_is);
         replied = none;
-        left = record p { phase = item.phase_of s.state; held = taken c changes p.held };
+        end = record p { phase = item.phase_of s.state; held = taken c changes p.held };
         applied = ap (λ (h : Holdings). posts_of s.state es ts h) by;
         stays = λ none. item_left p s.state H changes c heard.state heard.changes_are heard.cause_is (caused Cause.Item c (sym is ∙ none));
         falls = λ some. ap (item.left_by p H) (sym heard.cause_is) ∙ items_fell p H c (uncaused Cause.Item c (λ e. some (is ∙ e)));
       })
 
-  pub peer-heard : (session i : ℕ) (e d : PeerEnd) (b : Bor (List ℕ)) (changes : List (Delta VpnKey VpnRoute)) (c : Option PeerCause) (cause : Option NodeCause) (replies : List (List ℕ)) (h' : Holdings)
-      → session ≡ suc i → i < length es → e.sent ≡ (get_or es i d).sent → RoutesHeard me.address (get_or es i d).session e.session b.now replies changes c
+  pub peer-heard : (session i : ℕ) (e d : PeerEnd) (b : Bor (List ℕ)) (rest : List ℕ) (changes : List (Delta VpnKey VpnRoute)) (c : Option PeerCause) (cause : Option NodeCause) (replies : List (List ℕ)) (h' : Holdings)
+      → session ≡ suc i → i < length es → e.sent ≡ (get_or es i d).sent → RoutesHeard me.address (get_or es i d).session e.session b.now rest replies changes c
       → cause ≡ option_map Cause.Peer c → h' ≡ peer_by (taken c (map (moved_delta Vpn Route) changes)) h session
-      → IsHeard plan posts session (input.Bytes session b) replies cause (posts_of feed.state (set es i e) ts h')
-  peer-heard session i e d b changes c cause replies h' at lt sent heard is by =
+      → IsHeard plan posts session (input.Bytes session b) replies cause rest (posts_of feed.state (set es i e) ts h')
+  peer-heard session i e d b rest changes c cause replies h' at lt sent heard is by =
       let p = post posts session in
       let H = route_hearing.heard me.address (get_or es i d).session heard.inputs in
       record {
         given = record { replies = H.replies; after = route.left_by p H H.cause };
-        begins = peer-begins me asn feed es ts h are session i d (input.Bytes session b) _ c cause at lt is (heard.inputs, heard.hears, refl, heard.cause_is);
+        begins = peer-begins me asn feed es ts h are session i d (input.Bytes session b) _ c cause rest at lt is (heard.inputs, heard.leaves, refl, heard.cause_is);
         replied = heard.replied;
-        left = record p { phase = route.phase_of e.session.state; held = taken c (map (moved_delta Vpn Route) changes) p.held; wide = e.session.wide };
+        end = record p { phase = route.phase_of e.session.state; held = taken c (map (moved_delta Vpn Route) changes) p.held; wide = e.session.wide };
         applied = ap (λ (h : Holdings). posts_of feed.state (set es i e) ts h) by ∙ peer-turned me asn feed es ts h are (taken c (map (moved_delta Vpn Route) changes)) session i e d at lt sent;
         stays = λ none. peer_left p e.session.state e.session.wide H changes c heard.state heard.wide heard.changes_are heard.cause_is (caused Cause.Peer c (sym is ∙ none));
         falls = λ some. ap (route.left_by p H) (sym heard.cause_is) ∙ routes_fell p H c (uncaused Cause.Peer c (λ e. some (is ∙ e)));
       }
 
-  pub agent-heard : (session i : ℕ) (e d : AgentEnd) (b : Bor (List ℕ)) (changes : List Change) (c : Option ItemCause) (cause : Option NodeCause) (replies : List (List ℕ)) (h' : Holdings)
-      → session ≡ suc (length es + i) → i < length ts → e.sent ≡ (get_or ts i d).sent → ItemsHeard (get_or ts i d).session e.session b.now changes c
+  pub agent-heard : (session i : ℕ) (e d : AgentEnd) (b : Bor (List ℕ)) (rest : List ℕ) (changes : List Change) (c : Option ItemCause) (cause : Option NodeCause) (replies : List (List ℕ)) (h' : Holdings)
+      → session ≡ suc (length es + i) → i < length ts → e.sent ≡ (get_or ts i d).sent → ItemsHeard (get_or ts i d).session e.session b.now rest changes c
       → cause ≡ option_map Cause.Item c → replies ≡ [] → h' ≡ agent_by (taken c changes) h session
-      → IsHeard plan posts session (input.Bytes session b) replies cause (posts_of feed.state es (set ts i e) h')
-  agent-heard session i e d b changes c cause replies h' at lt sent heard is none by =
+      → IsHeard plan posts session (input.Bytes session b) replies cause rest (posts_of feed.state es (set ts i e) h')
+  agent-heard session i e d b rest changes c cause replies h' at lt sent heard is none by =
       let p = post posts session in
       let H = item_hearing.heard (get_or ts i d).session heard.inputs in
       record {
         given = record { replies = []; after = item.left_by p H H.cause };
-        begins = agent-begins me asn feed es ts h are session i d (input.Bytes session b) _ c cause at lt is (heard.inputs, heard.hears, refl, heard.cause_is);
+        begins = agent-begins me asn feed es ts h are session i d (input.Bytes session b) _ c cause rest at lt is (heard.inputs, heard.leaves, refl, heard.cause_is);
         replied = none;
-        left = record p { phase = item.phase_of e.session.state; held = taken c changes p.held };
+        end = record p { phase = item.phase_of e.session.state; held = taken c changes p.held };
         applied = ap (λ (h : Holdings). posts_of feed.state es (set ts i e) h) by ∙ agent-turned me asn feed es ts h are (taken c changes) session i e d at lt sent;
         stays = λ none. item_left p e.session.state H changes c heard.state heard.changes_are heard.cause_is (caused Cause.Item c (sym is ∙ none));
         falls = λ some. ap (item.left_by p H) (sym heard.cause_is) ∙ items_fell p H c (uncaused Cause.Item c (λ e. some (is ∙ e)));

@@ -23,7 +23,7 @@ use Rattle.node_model.specs.Maps.{Map}
 use Rattle.node_model.specs.Paths.{Holdings, Told}
 use Rattle.node_model.specs.Step.{Begun, Post, post}
 use Rattle.node_peers.specs.Beginning as route
-use Rattle.control_node.specs.Beginning.{Begins, BeginsBy, agent_at, config, item_session, item_state, no_node, peer_session, peer_state}
+use Rattle.control_node.specs.Beginning.{BeginsKeeping, KeepsBy, agent_at, config, item_session, item_state, no_node, peer_session, peer_state}
 use Rattle.control_node.specs.Core.{is_peer}
 use Rattle.control_node.specs.Ends.{AreEnds, IsAgentEnd, agent_post, peer_post, plan_of, posts_of}
 use Rattle.control_node.specs.Taking.{agent_by, at_place, peer_by}
@@ -146,13 +146,14 @@ module _ (me : NodeId) (asn : ℕ) (feed : items.SessionFields) (es : List PeerE
   peer-wide session i d at lt =
       ap (λ (p : Post). p.wide) (sym (post-peer feed.state es ts h i d lt)) ∙ ap (λ n. (post posts n).wide) (sym at)
 
-  pub peer-begins : (session i : ℕ) (d : PeerEnd) (input : Input) (given : Begun) (c : Option PeerCause) (cause : Option NodeCause)
+  pub peer-begins : (session i : ℕ) (d : PeerEnd) (input : Input) (given : Begun) (c : Option PeerCause) (cause : Option NodeCause) (left : List ℕ)
       → session ≡ suc i → i < length es → cause ≡ option_map Cause.Peer c
-      → route.Begins me.address (get_or es i d).session (post posts session) input given c → Begins plan session (post posts session) input given cause
-  peer-begins session i d input given c cause at lt is begins =
+      → route.BeginsKeeping me.address (get_or es i d).session (post posts session) [] input given c left
+      → BeginsKeeping plan session (post posts session) [] input given cause left
+  peer-begins session i d input given c cause left at lt is begins =
       let many = length-map es (λ (e : PeerEnd). e.session.peer) in
-      subst (λ b. BeginsBy b plan session (post posts session) input given cause) (sym (is_peer-yes plan session i at (omega (arith, lt, many))))
-      (c, is, subst (λ (s : peers.SessionFields). route.Begins me.address s (post posts session) input given c) (sym (peer-session session i d at lt)) begins)
+      subst (λ b. KeepsBy b plan session (post posts session) [] input given cause left) (sym (is_peer-yes plan session i at (omega (arith, lt, many))))
+      (c, is, subst (λ (s : peers.SessionFields). route.BeginsKeeping me.address s (post posts session) [] input given c left) (sym (peer-session session i d at lt)) begins)
 
   agent-session : (session i : ℕ) (d : AgentEnd) → session ≡ suc (length es + i) → i < length ts
       → item_session plan session (post posts session).phase ≡ (get_or ts i d).session
@@ -173,19 +174,20 @@ module _ (me : NodeId) (asn : ℕ) (feed : items.SessionFields) (es : List PeerE
       ap (λ b. cond b other agent) unlike
       ∙ (λ k. record { peer = (ap (λ (n : NodeId). n.name) id ∙ sym is.peer) k; from = sym is.from k; state = state k }))
 
-  pub agent-begins : (session i : ℕ) (d : AgentEnd) (input : Input) (given : Begun) (c : Option ItemCause) (cause : Option NodeCause)
+  pub agent-begins : (session i : ℕ) (d : AgentEnd) (input : Input) (given : Begun) (c : Option ItemCause) (cause : Option NodeCause) (left : List ℕ)
       → session ≡ suc (length es + i) → i < length ts → cause ≡ option_map Cause.Item c
-      → item.Begins me.name (get_or ts i d).session (post posts session) input given c → Begins plan session (post posts session) input given cause
-  agent-begins session i d input given c cause at lt is begins =
+      → item.BeginsKeeping me.name (get_or ts i d).session (post posts session) [] input given c left
+      → BeginsKeeping plan session (post posts session) [] input given cause left
+  agent-begins session i d input given c cause left at lt is begins =
       let many = length-map es (λ (e : PeerEnd). e.session.peer) in
-      subst (λ b. BeginsBy b plan session (post posts session) input given cause) (sym (is_peer-past plan session i (at ∙ ap (λ n. suc (n + i)) (sym many))))
-      (c, is, subst (λ (s : items.SessionFields). item.Begins me.name s (post posts session) input given c) (sym (agent-session session i d at lt)) begins)
+      subst (λ b. KeepsBy b plan session (post posts session) [] input given cause left) (sym (is_peer-past plan session i (at ∙ ap (λ n. suc (n + i)) (sym many))))
+      (c, is, subst (λ (s : items.SessionFields). item.BeginsKeeping me.name s (post posts session) [] input given c left) (sym (agent-session session i d at lt)) begins)
 
-  pub feed-begins : (input : Input) (given : Begun) (c : Option ItemCause) (cause : Option NodeCause) → cause ≡ option_map Cause.Item c
-      → item.Begins me.name feed (post posts 0) input given c → Begins plan 0 (post posts 0) input given cause
-  feed-begins input given c cause is begins =
+  pub feed-begins : (input : Input) (given : Begun) (c : Option ItemCause) (cause : Option NodeCause) (left : List ℕ) → cause ≡ option_map Cause.Item c
+      → item.BeginsKeeping me.name feed (post posts 0) [] input given c left → BeginsKeeping plan 0 (post posts 0) [] input given cause left
+  feed-begins input given c cause left is begins =
       let session : item_session plan 0 (post posts 0).phase ≡ feed = (λ k. record { peer = sym are.feed_peer k; from = sym are.feed_from k; state = item_state-of feed.state k }) in
-      (c, is, subst (λ (s : items.SessionFields). item.Begins me.name s (post posts 0) input given c) (sym session) begins)
+      (c, is, subst (λ (s : items.SessionFields). item.BeginsKeeping me.name s (post posts 0) [] input given c left) (sym session) begins)
 
   -- ---- ends that are idle
   pub feed_is_idle : (session : ℕ) → session ≡ 0 → is_idle (post posts session).phase ≡ true → feed.state ≡ ItemState.Idle

@@ -1,5 +1,5 @@
 -- What an input makes of an end of a control node.
-use Rattle.std.specs.Prelude.{◌≡◌, ℕ, ◌-◌, ◌+◌, length, if◌then◌else◌, ◌==◌, Bool, true, false}
+use Rattle.std.specs.Prelude.{◌≡◌, ℕ, List, ◌-◌, ◌+◌, length, if◌then◌else◌, ◌==◌, Bool, true, false}
 use Rattle.std.specs.declared.option.Option.{Option}
 use Rattle.std.specs.Option.{option_map}
 use Rattle.std.specs.List.{slice_index_or}
@@ -67,3 +67,21 @@ BeginsBy false = ItemBegins
 -- what an input makes of the end of its session, and the cause for which that goes down
 abbrev pub Begins : ControlPlan → ℕ → Post → Input → Begun → Option NodeCause → Type 0
 Begins plan i = BeginsBy (is_peer plan i) plan i
+
+-- ---- the same, where these octets were kept of the session before, and what is kept of it then
+abbrev pub PeerKeeps : ControlPlan → ℕ → Post → List ℕ → Input → Begun → Option NodeCause → List ℕ → Type 0
+PeerKeeps plan i p kept input given cause left =
+    (c : Option PeerCause) × (cause ≡ option_map Cause.Peer c)
+    × route.BeginsKeeping plan.me.address (peer_session plan i p) p kept input given c left
+
+abbrev pub ItemKeeps : ControlPlan → ℕ → Post → List ℕ → Input → Begun → Option NodeCause → List ℕ → Type 0
+ItemKeeps plan i p kept input given cause left =
+    (c : Option ItemCause) × (cause ≡ option_map Cause.Item c)
+    × item.BeginsKeeping plan.me.name (item_session plan i p.phase) p kept input given c left
+
+abbrev pub KeepsBy : Bool → ControlPlan → ℕ → Post → List ℕ → Input → Begun → Option NodeCause → List ℕ → Type 0
+KeepsBy true = PeerKeeps
+KeepsBy false = ItemKeeps
+
+abbrev pub BeginsKeeping : ControlPlan → ℕ → Post → List ℕ → Input → Begun → Option NodeCause → List ℕ → Type 0
+BeginsKeeping plan i = KeepsBy (is_peer plan i) plan i

@@ -1,9 +1,10 @@
--- What is seen of a control node: its plan, its ends, and whether it failed.
+-- What is seen of a control node: its plan, its ends, the octets that it keeps, and whether it failed.
 use Rattle.std.specs.Prelude.{ℕ, suc, ◌+◌, List, [], ◌∷◌, map, length, take, drop, Bool, false, ◌&&◌}
 use Rattle.std.specs.Prelude.{nat_lt, nat_le}
 use Rattle.std.specs.FinMap.{empty}
 use Rattle.ov_types.specs.declared.rows.NodeId.{NodeId}
 use Rattle.node_model.specs.Paths.{Holdings, Told}
+pub use Rattle.node_core.specs.Keeping.{AreFew, AreOfLive, AreSwept, kept_at, nothing_kept}
 pub use Rattle.node_core.specs.Resting.{nothings}
 use Rattle.node_model.specs.Step.{Post, post}
 use Rattle.control_node.specs.declared.plan.ControlPlan.{ControlPlan}
@@ -12,6 +13,8 @@ use Rattle.control_node.specs.declared.plan.ControlPlan.{ControlPlan}
 pub record Core : Type 0 where
   pub plan : ControlPlan
   pub posts : List Post
+  -- of each session, the octets of a message that is not whole yet
+  pub kept : List (List ℕ)
   pub failed : Bool
 
 abbrev pub sessions : ControlPlan → ℕ
@@ -40,4 +43,5 @@ holdings plan posts = record {
 
 -- ---- a node whose ends are all closed
 abbrev pub fresh : ControlPlan → Core
-fresh plan = record { plan = plan; posts = nothings (sessions plan); failed = false }
+fresh plan =
+    record { plan = plan; posts = nothings (sessions plan); kept = nothing_kept (sessions plan); failed = false }

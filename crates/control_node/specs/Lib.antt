@@ -2,6 +2,7 @@
 pub mod Core
 pub mod Wanting
 pub mod Beginning
+pub mod Behind
 pub mod Ends
 pub mod Planning
 pub mod Tracking

@@ -15,10 +15,12 @@ use Rattle.item_wire.specs.Happenings as items
 use Rattle.item_wire.specs.declared.event.ItemCause.{ItemCause}
 use Rattle.item_wire.specs.declared.input.Came.{Came}
 use Rattle.node_items.specs.Hearing as item
+use Rattle.node_items.specs.Keeping as kept_items
 use Rattle.node_items.specs.Told.{change_of}
 use Rattle.node_model.specs.Maps.{Map, Change}
 use Rattle.node_model.specs.Paths.{Holdings}
 use Rattle.node_peers.specs.Hearing as route
+use Rattle.node_peers.specs.Keeping as kept_routes
 use Rattle.vpn_tables.specs.Changes.{at_session}
 
 -- a map after a change that may not be there
@@ -48,20 +50,20 @@ abbrev pub agent_by : (Map → Map) → Holdings → ℕ → Holdings
 agent_by f h session = record h { agents = at_session f h.agents session }
 
 -- ---- what octets bring to a session
--- to one of items: these changes are handed out, in order
-pub record ItemsHeard (s s' : items.SessionFields) (octets : List ℕ) (changes : List Change) (cause : Option ItemCause)
-    : Type 0 where
+-- to one of items: these changes are handed out, in order, and these octets are left
+pub record ItemsHeard (s s' : items.SessionFields) (octets left : List ℕ) (changes : List Change)
+    (cause : Option ItemCause) : Type 0 where
   pub inputs : List Came
-  pub hears : item.Hears s octets inputs
+  pub leaves : kept_items.Leaves s octets inputs left
   pub changes_are : changes ≡ filter_map change_of (item.heard s inputs).records
   pub state : s'.state ≡ (item.heard s inputs).state
   pub cause_is : cause ≡ (item.heard s inputs).cause
 
 -- to one of routes, of the speaker at this address
-pub record RoutesHeard (id : Addr) (s s' : peers.SessionFields) (octets : List ℕ) (replies : List (List ℕ))
+pub record RoutesHeard (id : Addr) (s s' : peers.SessionFields) (octets left : List ℕ) (replies : List (List ℕ))
     (changes : List (Delta VpnKey VpnRoute)) (cause : Option PeerCause) : Type 0 where
   pub inputs : List peer_inputs.Came
-  pub hears : route.Hears s octets inputs
+  pub leaves : kept_routes.Leaves s octets inputs left
   pub replied : replies ≡ (route.heard id s inputs).replies
   pub changes_are : changes ≡ (route.heard id s inputs).changes
   pub state : s'.state ≡ (route.heard id s inputs).state

@@ -1,7 +1,8 @@
 //! What an input makes of the end of its session.
-ghost use Rattle.std.specs.Prelude.{◌≡◌, ◌<◌, ◌+◌, suc, length, false, true, IfOk};
+ghost use Rattle.std.specs.Prelude.{◌≡◌, ◌<◌, ◌≤◌, ◌+◌, [], suc, drop, length, false, true, None, IfOk};
 ghost use Rattle.std.specs.Option.{option_map};
 ghost use Rattle.ov_link.specs.declared.step.Input.TheVariants as input;
+ghost use Rattle.node_core.specs.Keeping.{left_in, size_of};
 ghost use Rattle.node_core.specs.Whole.{Comes, session_of};
 ghost use Rattle.node_model.specs.Step.{post};
 ghost use Rattle.control_node.specs.Begun.{IsBegun, IsHeard};
@@ -39,59 +40,50 @@ fn peer_cause(cause: Option<Cause>) -> Option<NodeCause>
 }
 
 impl ControlEnds {
-    fn open_feed(&mut self, session: u16) -> Result<Begun, NoMemory>
+    fn open_feed(&mut self, session: u16) -> Result<Items<Items<u8>>, NoMemory>
         requires session { session ≡ 0 }
         requires idle { is_idle (post self.old.posts session).phase ≡ true }
         ensures plan { self.new.plan ≡ self.old.plan }
-        ensures begun { IfOk result (λ begun. IsBegun self.old.plan self.old.posts session (input.Opened session)
-            begun.replies begun.cause self.new.posts) }
+        ensures begun { IfOk result (λ replies. IsBegun self.old.plan self.old.posts session (input.Opened session)
+            replies None [] self.new.posts) }
     {
         let replies = node_items::greet(self.alloc, &mut self.feed, &self.me.name)?;
-        Ok(Started {
-            replies,
-            cause: None,
-        })
+        Ok(replies)
     }
 
-    fn open_peer(&mut self, session: u16, place: usize) -> Result<Begun, NoMemory>
+    fn open_peer(&mut self, session: u16, place: usize) -> Result<Items<Items<u8>>, NoMemory>
         requires among { place < length self.old.plan.peers }
         requires session { session ≡ suc place }
         requires idle { is_idle (post self.old.posts session).phase ≡ true }
         ensures plan { self.new.plan ≡ self.old.plan }
-        ensures begun { IfOk result (λ begun. IsBegun self.old.plan self.old.posts session (input.Opened session)
-            begun.replies begun.cause self.new.posts) }
+        ensures begun { IfOk result (λ replies. IsBegun self.old.plan self.old.posts session (input.Opened session)
+            replies None [] self.new.posts) }
     {
         let end = &mut self.peers[place];
         let replies = greet_peer(self.alloc, end, self.asn, self.me.address)?;
-        Ok(Started {
-            replies,
-            cause: None,
-        })
+        Ok(replies)
     }
 
-    fn open_agent(&mut self, session: u16, place: usize) -> Result<Begun, NoMemory>
+    fn open_agent(&mut self, session: u16, place: usize) -> Result<Items<Items<u8>>, NoMemory>
         requires among { place < length self.old.plan.agents }
         requires session { session ≡ suc (length self.old.plan.peers + place) }
         requires idle { is_idle (post self.old.posts session).phase ≡ true }
         ensures plan { self.new.plan ≡ self.old.plan }
-        ensures begun { IfOk result (λ begun. IsBegun self.old.plan self.old.posts session (input.Opened session)
-            begun.replies begun.cause self.new.posts) }
+        ensures begun { IfOk result (λ replies. IsBegun self.old.plan self.old.posts session (input.Opened session)
+            replies None [] self.new.posts) }
     {
         self.dirty.add_address(self.tables.address_of(session));
         let end = &mut self.agents[place];
         let replies = greet_agent(self.alloc, end, &self.me.name)?;
-        Ok(Started {
-            replies,
-            cause: None,
-        })
+        Ok(replies)
     }
 
-    fn open(&mut self, session: u16) -> Result<Begun, NoMemory>
+    fn open(&mut self, session: u16) -> Result<Items<Items<u8>>, NoMemory>
         requires known { session < length self.old.posts }
         requires idle { is_idle (post self.old.posts session).phase ≡ true }
         ensures plan { self.new.plan ≡ self.old.plan }
-        ensures begun { IfOk result (λ begun. IsBegun self.old.plan self.old.posts session (input.Opened session)
-            begun.replies begun.cause self.new.posts) }
+        ensures begun { IfOk result (λ replies. IsBegun self.old.plan self.old.posts session (input.Opened session)
+            replies None [] self.new.posts) }
     {
         match place_of(session, self.peers.len()) {
             Place::Feed => self.open_feed(session),
@@ -104,9 +96,10 @@ impl ControlEnds {
         requires { session ≡ 0 }
         ensures plan { self.new.plan ≡ self.old.plan }
         ensures heard { IfOk result (λ begun. IsHeard self.old.plan self.old.posts session
-            (input.Bytes session bytes.entry) begun.replies begun.cause self.new.posts) }
+            (input.Bytes session bytes.entry) begun.replies begun.cause (drop begun.taken bytes.now) self.new.posts) }
+        ensures taken { IfOk result (λ begun. begun.taken ≤ length bytes.now) }
     {
-        let cause = hear_from_feed(
+        let heard = hear_from_feed(
             self.alloc,
             &mut self.feed,
             &mut self.dirty,
@@ -115,7 +108,8 @@ impl ControlEnds {
         )?;
         Ok(Started {
             replies: Items::new(self.alloc),
-            cause: item_cause(cause),
+            taken: heard.taken,
+            cause: item_cause(heard.cause),
         })
     }
 
@@ -124,7 +118,8 @@ impl ControlEnds {
         requires session { session ≡ suc place }
         ensures plan { self.new.plan ≡ self.old.plan }
         ensures heard { IfOk result (λ begun. IsHeard self.old.plan self.old.posts session
-            (input.Bytes session bytes.entry) begun.replies begun.cause self.new.posts) }
+            (input.Bytes session bytes.entry) begun.replies begun.cause (drop begun.taken bytes.now) self.new.posts) }
+        ensures taken { IfOk result (λ begun. begun.taken ≤ length bytes.now) }
     {
         let end = &mut self.peers[place];
         let me = self.me.address;
@@ -140,6 +135,7 @@ impl ControlEnds {
         )?;
         Ok(Started {
             replies: heard.replies,
+            taken: heard.taken,
             cause: peer_cause(heard.cause),
         })
     }
@@ -149,10 +145,11 @@ impl ControlEnds {
         requires session { session ≡ suc (length self.old.plan.peers + place) }
         ensures plan { self.new.plan ≡ self.old.plan }
         ensures heard { IfOk result (λ begun. IsHeard self.old.plan self.old.posts session
-            (input.Bytes session bytes.entry) begun.replies begun.cause self.new.posts) }
+            (input.Bytes session bytes.entry) begun.replies begun.cause (drop begun.taken bytes.now) self.new.posts) }
+        ensures taken { IfOk result (λ begun. begun.taken ≤ length bytes.now) }
     {
         let end = &mut self.agents[place];
-        let cause = hear_from_agent(
+        let heard = hear_from_agent(
             self.alloc,
             end,
             &mut self.dirty,
@@ -162,7 +159,8 @@ impl ControlEnds {
         )?;
         Ok(Started {
             replies: Items::new(self.alloc),
-            cause: item_cause(cause),
+            taken: heard.taken,
+            cause: item_cause(heard.cause),
         })
     }
 
@@ -171,7 +169,8 @@ impl ControlEnds {
         requires { session < length self.old.posts }
         ensures plan { self.new.plan ≡ self.old.plan }
         ensures heard { IfOk result (λ begun. IsHeard self.old.plan self.old.posts session
-            (input.Bytes session bytes.entry) begun.replies begun.cause self.new.posts) }
+            (input.Bytes session bytes.entry) begun.replies begun.cause (drop begun.taken bytes.now) self.new.posts) }
+        ensures taken { IfOk result (λ begun. begun.taken ≤ length bytes.now) }
     {
         match place_of(session, self.peers.len()) {
             Place::Feed => self.hear_feed(session, bytes),
@@ -184,7 +183,8 @@ impl ControlEnds {
         requires { session < length self.old.posts }
         ensures plan { self.new.plan ≡ self.old.plan }
         ensures begun { IfOk result (λ begun. IsBegun self.old.plan self.old.posts session
-            (input.Bytes session bytes.entry) begun.replies begun.cause self.new.posts) }
+            (input.Bytes session bytes.entry) begun.replies begun.cause (drop begun.taken bytes.now) self.new.posts) }
+        ensures taken { IfOk result (λ begun. begun.taken ≤ length bytes.now) }
     {
         let begun = self.hear_open(session, bytes)?;
         match begun.cause {
@@ -204,15 +204,24 @@ impl ControlEnds {
             (λ i. is_idle (post self.old.posts i).phase ≡ true) input }
         ensures plan { self.new.plan ≡ self.old.plan }
         ensures begun { IfOk result (λ begun. IsBegun self.old.plan self.old.posts (session_of input.entry) input.entry
-            begun.replies begun.cause self.new.posts) }
+            begun.replies begun.cause (left_in input.entry begun.taken) self.new.posts) }
+        ensures taken { IfOk result (λ begun. begun.taken ≤ size_of input.entry) }
     {
         match input {
-            Input::Opened { session } => self.open(session),
+            Input::Opened { session } => {
+                let replies = self.open(session)?;
+                Ok(Started {
+                    replies,
+                    taken: 0,
+                    cause: None,
+                })
+            }
             Input::Bytes { session, bytes } => self.hear(session, bytes),
             Input::Closed { session } => {
                 self.close_end(session);
                 Ok(Started {
                     replies: Items::new(self.alloc),
+                    taken: 0,
                     cause: None,
                 })
             }

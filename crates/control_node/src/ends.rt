@@ -3,7 +3,8 @@ ghost use Rattle.std.specs.Prelude.{◌≡◌, length, not, refl};
 ghost use Rattle.std.proofs.Common.{◌∙◌};
 ghost use Rattle.node_items.specs.Beginning as item;
 ghost use Rattle.node_peers.specs.Beginning as route;
-ghost use Rattle.control_node.specs.Beginning.{Begins};
+ghost use Rattle.control_node.specs.Beginning.{BeginsKeeping};
+ghost use Rattle.control_node.specs.Behind.{begins_behind};
 ghost use Rattle.control_node.specs.Core.{sessions};
 ghost use Rattle.control_node.specs.Wanting.{idle_is_silent, is_idle, is_up, kind};
 
@@ -94,11 +95,14 @@ impl Ends for ControlEnds {
 
     ghost stays = { λ before after. after.plan ≡ before.plan };
 
-    ghost begins = { λ e. Begins e.plan };
+    ghost begins = { λ e. BeginsKeeping e.plan };
 
     ghost stays_itself = { λ _. refl };
 
     ghost stays_on = { λ _ _ _ first then. then ∙ first };
+
+    ghost begins_behind = { λ e session p kept came whole given cause left.
+        begins_behind e.plan session p given cause left kept came whole };
 
     ghost idle_is_silent = { λ e session. idle_is_silent e.plan session };
 

@@ -1,5 +1,5 @@
 //! What inputs make of one end, and of what is held of its session.
-ghost use Rattle.std.specs.Prelude.{◌≡◌, ◌≢◌, ◌≤◌, ◌∷◌, [], List, true, false, length, map, IfOk};
+ghost use Rattle.std.specs.Prelude.{◌≡◌, ◌≢◌, ◌≤◌, ◌∷◌, [], List, true, false, drop, length, map, IfOk};
 ghost use Rattle.ov_sync.specs.Embed.{moved_delta};
 ghost use Rattle.ov_sync.specs.declared.Delta.{Delta as DeltaOf};
 ghost use Rattle.ov_types.specs.declared.vpn.VpnKey.{VpnKey as KeyOf};
@@ -57,6 +57,14 @@ pub(crate) fn greet_agent(
     node_items::greet(alloc, &mut end.session, me)
 }
 
+/// What octets of the feed or of an agent brought, but for the changes.
+#[derive(Drop)]
+pub(crate) struct HeardItems {
+    /// How many octets were taken.
+    pub(crate) taken: usize,
+    pub(crate) cause: Option<ItemCause>,
+}
+
 /// Hears octets on the feed. Where there is a cause, the end is still to be closed.
 pub(crate) fn hear_from_feed(
     alloc: Global,
@@ -64,11 +72,12 @@ pub(crate) fn hear_from_feed(
     dirty: &mut Dirty,
     tables: &mut VpnTables,
     bytes: &[u8],
-) -> Result<Option<ItemCause>, NoMemory>
+) -> Result<HeardItems, NoMemory>
     requires from { feed.old.from ≡ From.Feed }
-    ensures heard { IfOk result (λ cause. (changes : List Change)
-        × ItemsHeard feed.old feed.new bytes.now changes cause
-        × (tables.new ≡ feed_by (taken cause changes) tables.old)) }
+    ensures heard { IfOk result (λ w. (changes : List Change)
+        × ItemsHeard feed.old feed.new bytes.now (drop w.taken bytes.now) changes w.cause
+        × (tables.new ≡ feed_by (taken w.cause changes) tables.old)) }
+    ensures taken { IfOk result (λ w. w.taken ≤ length bytes.now) }
     ensures peer { feed.new.peer ≡ feed.old.peer }
     ensures from { feed.new.from ≡ feed.old.from }
     ensures stays { StaysHeld tables.old tables.new }
@@ -76,10 +85,16 @@ pub(crate) fn hear_from_feed(
 {
     let heard = node_items::hear(alloc, feed, bytes)?;
     match heard.cause {
-        Some(cause) => Ok(Some(cause)),
+        Some(cause) => Ok(HeardItems {
+            taken: heard.taken,
+            cause: Some(cause),
+        }),
         None => {
             take_objects(dirty, tables, heard.records)?;
-            Ok(None)
+            Ok(HeardItems {
+                taken: heard.taken,
+                cause: None,
+            })
         }
     }
 }
@@ -102,11 +117,12 @@ pub(crate) fn hear_from_agent(
     tables: &mut VpnTables,
     session: u16,
     bytes: &[u8],
-) -> Result<Option<ItemCause>, NoMemory>
+) -> Result<HeardItems, NoMemory>
     requires from { end.old.session.from ≡ From.Agent }
-    ensures heard { IfOk result (λ cause. (changes : List Change)
-        × ItemsHeard end.old.session end.new.session bytes.now changes cause
-        × (tables.new ≡ agent_by (taken cause changes) tables.old session)) }
+    ensures heard { IfOk result (λ w. (changes : List Change)
+        × ItemsHeard end.old.session end.new.session bytes.now (drop w.taken bytes.now) changes w.cause
+        × (tables.new ≡ agent_by (taken w.cause changes) tables.old session)) }
+    ensures taken { IfOk result (λ w. w.taken ≤ length bytes.now) }
     ensures sends { dirty.new.all ≡ false → agent_sends end.old ≡ true }
     ensures id { end.new.id ≡ end.old.id }
     ensures sent { end.new.sent ≡ end.old.sent }
@@ -118,10 +134,16 @@ pub(crate) fn hear_from_agent(
     mark_silent_agent(dirty, end);
     let heard = node_items::hear(alloc, &mut end.session, bytes)?;
     match heard.cause {
-        Some(cause) => Ok(Some(cause)),
+        Some(cause) => Ok(HeardItems {
+            taken: heard.taken,
+            cause: Some(cause),
+        }),
         None => {
             take_publications(dirty, tables, session, heard.records)?;
-            Ok(None)
+            Ok(HeardItems {
+                taken: heard.taken,
+                cause: None,
+            })
         }
     }
 }
@@ -130,6 +152,8 @@ pub(crate) fn hear_from_agent(
 #[derive(Drop)]
 pub(crate) struct HeardPeer {
     pub(crate) replies: Items<Items<u8>>,
+    /// How many octets were taken.
+    pub(crate) taken: usize,
     pub(crate) cause: Option<Cause>,
 }
 
@@ -158,8 +182,9 @@ pub(crate) fn hear_from_peer(
     requires identifier { me.0 ≢ 0 }
     requires known { session ≤ length tables.old.peers }
     ensures heard { IfOk result (λ w. (changes : List (DeltaOf KeyOf RouteOf))
-        × RoutesHeard me end.old.session end.new.session bytes.now w.replies changes w.cause
+        × RoutesHeard me end.old.session end.new.session bytes.now (drop w.taken bytes.now) w.replies changes w.cause
         × (tables.new ≡ peer_by (taken w.cause (map (moved_delta Vpn Route) changes)) tables.old session)) }
+    ensures taken { IfOk result (λ w. w.taken ≤ length bytes.now) }
     ensures sends { dirty.new.all ≡ false → peer_sends end.old ≡ true }
     ensures sent { end.new.sent ≡ end.old.sent }
     ensures asn { end.new.session.asn ≡ end.old.session.asn }
@@ -172,12 +197,14 @@ pub(crate) fn hear_from_peer(
     match heard.cause {
         Some(cause) => Ok(HeardPeer {
             replies: heard.replies,
+            taken: heard.taken,
             cause: Some(cause),
         }),
         None => {
             take_routes(dirty, tables, session, heard.changes)?;
             Ok(HeardPeer {
                 replies: heard.replies,
+                taken: heard.taken,
                 cause: None,
             })
         }

@@ -1,5 +1,6 @@
 //! A control node and its step.
-ghost use Rattle.std.specs.Prelude.{◌≡◌, ◌≢◌, ◌<◌, ◌↔◌, ◌+◌, ℕ, length, map, not, false, true, IfOk};
+ghost use Rattle.std.specs.Prelude.{◌≡◌, ◌≢◌, ◌<◌, ◌≤◌, ◌↔◌, ◌+◌, ℕ, List, length, map, not, false, true, IfOk};
+ghost use Rattle.std.specs.List.{slice_set};
 ghost use Rattle.std.specs.List.Sorted.{IsStrictlySortedBy};
 ghost use Rattle.ov_types.specs.Keys.{row_key_cmp};
 ghost use Rattle.ov_link.specs.declared.step.Stepped.TheVariants.{Closed};
@@ -9,9 +10,9 @@ ghost use Rattle.node_core.specs.Whole.{Comes, IsWholeStep, session_of};
 ghost use Rattle.node_model.specs.Step.{post};
 ghost use Rattle.node_model.specs.Tables.{rows as rows_of};
 ghost use Rattle.node_laws.specs.Stepped.{AreTold};
-ghost use Rattle.control_node.specs.Core.{fresh, holdings, sessions};
+ghost use Rattle.control_node.specs.Core.{AreSwept, fresh, holdings, kept_at, sessions};
 ghost use Rattle.control_node.specs.Wanting.{is_idle, is_up, kind};
-ghost use Rattle.control_node.specs.Beginning.{Begins};
+ghost use Rattle.control_node.specs.Beginning.{BeginsKeeping};
 ghost use Rattle.control_node.specs.declared.cause.NodeCause.TheVariants as Because;
 
 use crate::cause::NodeCause;
@@ -24,21 +25,30 @@ use std::alloc::Global;
 use std::marker::Model;
 use vpn_tables::VpnTables;
 
-/// A control node, which contracts see as its plan, its ends, and whether it failed.
+/// A control node, which contracts see as its plan, its ends, the octets that it keeps, and whether it failed.
 #[derive(Drop)]
 pub struct ControlNode {
     node: Node<ControlEnds>,
 }
 
 impl Model for ControlNode {
-    ghost use Rattle.control_node.specs.Core.{Core};
+    ghost use Rattle.std.specs.Prelude.{◌≡◌, length};
+    ghost use Rattle.control_node.specs.Core.{AreFew, AreOfLive, Core};
     ghost use Rattle.control_node.specs.Codes.{coded_core};
 
     ghost Value = { Core };
 
     ghost coded = { coded_core };
 
-    ghost view = { λ n. record { plan = n.node.ends.plan; posts = n.node.ends.posts; failed = n.node.failed } };
+    ghost view = { λ n. record {
+      plan = n.node.ends.plan;
+      posts = n.node.ends.posts;
+      kept = n.node.inboxes.items;
+      failed = n.node.failed;
+    } };
+
+    ghost invariant = { λ n. (length n.node.inboxes.items ≡ length n.node.ends.posts) × AreFew n.node.inboxes.items
+        × AreOfLive n.node.ends.posts n.node.inboxes.items };
 }
 
 impl ControlNode {
@@ -49,9 +59,8 @@ impl ControlNode {
         ensures { IfOk result (λ node. node ≡ fresh plan) }
     {
         let ends = ControlEnds::new(alloc, plan)?;
-        Ok(ControlNode {
-            node: Node::new(ends),
-        })
+        let node = Node::new(alloc, ends)?;
+        Ok(ControlNode { node })
     }
 
     /// How many sessions there are. It takes no memory.
@@ -86,7 +95,18 @@ impl ControlNode {
         self.node.failed
     }
 
-    /// Closes every end, and holds nothing. It takes no memory.
+    /// How many octets are kept of a session, those of a message that is not whole yet. It takes no memory.
+    pub fn pending(&self, session: u16) -> usize
+        requires { session < sessions self.now.plan }
+        ensures kept { result ≡ length (kept_at self.now.kept session) }
+        ensures few { result ≤ 65539 }
+        ensures closed { is_idle (post self.now.posts session).phase ≡ true → result ≡ 0 }
+    {
+        let _sessions = self.node.ends.sessions();
+        self.node.pending(session)
+    }
+
+    /// Closes every end, holds nothing, and keeps no octets. It takes no memory.
     pub fn restart(&mut self)
         ensures { self.new ≡ fresh self.old.plan }
     {
@@ -110,8 +130,8 @@ impl ControlNode {
     }
 
     /// One step: the input is applied to its session, its replies are sent, and then each session is told what has
-    /// changed for it. A link that fails closes its session. Octets at the end that are no whole message are passed
-    /// over. After want of memory every step answers it, until a restart.
+    /// changed for it. A link that fails closes its session. Octets at the end that are no whole message are kept, and
+    /// heard again before those that come next. After want of memory every step answers it, until a restart.
     pub fn step<L: Link>(
         &mut self,
         input: Input<'_>,
@@ -121,10 +141,13 @@ impl ControlNode {
         requires linked { length links.old ≡ sessions self.old.plan }
         requires comes { Comes (λ i. is_idle (post self.old.posts i).phase ≡ false)
             (λ i. is_idle (post self.old.posts i).phase ≡ true) input }
-        ensures step { result ≢ Err NodeFault.NoMemory
-            → IsWholeStep L.accepted L.breaks L.faults (kind self.old.plan)
-            (Begins self.old.plan (session_of input.entry) (post self.old.posts (session_of input.entry)) input.entry)
-            self.old.posts self.new.posts (session_of input.entry) links.old links.new result }
+        ensures step { result ≢ Err NodeFault.NoMemory → (left : List ℕ)
+            × IsWholeStep L.accepted L.breaks L.faults (kind self.old.plan)
+            (λ given cause. BeginsKeeping self.old.plan (session_of input.entry)
+            (post self.old.posts (session_of input.entry)) (kept_at self.old.kept (session_of input.entry)) input.entry
+            given cause left)
+            self.old.posts self.new.posts (session_of input.entry) links.old links.new result
+            × AreSwept self.new.posts (slice_set self.old.kept (session_of input.entry) left) self.new.kept }
         ensures told { IfOk result (λ _. AreTold (kind self.new.plan) self.new.posts) }
         ensures never_ended { (session : ℕ) → (result ≢ Ok (Closed session (Because.Item ItemEnded)))
             × (result ≢ Ok (Closed session (Because.Peer PeerEnded))) }

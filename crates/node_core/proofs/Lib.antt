@@ -6,3 +6,4 @@ pub mod Deliveries
 pub mod Passing
 pub mod Told
 pub mod Closing
+pub mod Kept

@@ -3,6 +3,7 @@ pub mod Resting
 pub mod Plans
 pub mod Passing
 pub mod Begun
+pub mod Keeping
 pub mod Naming
 pub mod Answers
 pub mod Whole

@@ -1,9 +1,10 @@
 //! The ends of a node's sessions.
-ghost use Rattle.std.specs.Prelude.{◌≡◌, ◌<◌, ℕ, List, true, false, length, slice_set, IfOk};
+ghost use Rattle.std.specs.Prelude.{◌≡◌, ◌<◌, ◌≤◌, ℕ, List, [], true, false, length, slice_set, IfOk};
 ghost use Rattle.std.specs.declared.option.Option.{Option};
 ghost use Rattle.ov_link.specs.declared.step.Input.{Input as Came};
 ghost use Rattle.node_model.specs.Step.{Begun, Kind, Post, nothing, post, Idle};
 ghost use Rattle.node_core.specs.Begun.{HasBegun};
+ghost use Rattle.node_core.specs.Keeping.{IsBehind, left_in, size_of};
 ghost use Rattle.node_core.specs.Plans.{ArePlans};
 ghost use Rattle.node_core.specs.Resting.{end_at, is_idle};
 ghost use Rattle.node_core.specs.Whole.{Comes, session_of};
@@ -23,6 +24,8 @@ pub struct Plan {
 pub struct Started<C> {
     /// The octets that are to be sent on the session, message by message.
     pub replies: Items<Items<u8>>,
+    /// How many octets of the input were taken: all but those of a message that is not whole.
+    pub taken: usize,
     /// Why the octets took the session down, where they did.
     pub cause: Option<C>,
 }
@@ -49,8 +52,9 @@ pub trait Ends {
     /// What stays as it is from some ends to later ones, as who is at them.
     ghost stays: { Self → Self → Type 0 };
 
-    /// What an input makes of the end of its session, and the cause for which that goes down.
-    ghost begins: { Self → ℕ → Post → Came → Begun → Option Self.Cause → Type 0 };
+    /// What an input makes of the end of its session, where these octets were kept of it before: the cause for which it
+    /// goes down, and the octets that are left then.
+    ghost begins: { Self → ℕ → Post → List ℕ → Came → Begun → Option Self.Cause → List ℕ → Type 0 };
 
     /// How many sessions there are.
     fn sessions(&self) -> u16
@@ -62,6 +66,7 @@ pub trait Ends {
         ensures { result ≡ end_at (post (posts self.now) session).phase };
 
     /// Applies an input to the end of its session, which is closed where octets bring a cause for which it goes down.
+    /// Octets at the end that are no whole message are left.
     fn begin(&mut self, input: Input<'_>) -> Result<Started<Self::Cause>, NoMemory>
         requires known { session_of input < length (posts self.old) }
         requires comes { Comes (λ i. is_idle (post (posts self.old) i).phase ≡ false)
@@ -70,9 +75,11 @@ pub trait Ends {
         ensures stays { stays self.old self.new }
         ensures long { length (posts self.new) ≡ length (posts self.old) }
         ensures begins { IfOk result (λ started. (given : Begun)
-            × begins self.old (session_of input.entry) (post (posts self.old) (session_of input.entry)) input.entry
-            given started.cause
-            × HasBegun (posts self.old) (session_of input.entry) given started.replies (posts self.new)) };
+            × begins self.old (session_of input.entry) (post (posts self.old) (session_of input.entry)) [] input.entry
+            given started.cause (left_in input.entry started.taken)
+            × HasBegun (posts self.old) (session_of input.entry) given started.replies (posts self.new)) }
+        ensures taken { IfOk result (λ started. started.taken ≤ size_of input.entry) }
+        ensures few { IfOk result (λ started. length (left_in input.entry started.taken) ≤ 65539) };
 
     /// The plan of every session: the changes from what was sent to what is wanted now, each as its octets, and none
     /// where the session may not send. What is wanted counts as sent from then on, where the session may send.
@@ -92,6 +99,11 @@ pub trait Ends {
     ghost stays_itself: { (ends : Self) → stays ends ends };
 
     ghost stays_on: { (first then last : Self) → stays first then → stays then last → stays first last };
+
+    /// Octets that are heard behind those that were kept are heard as all of them at once.
+    ghost begins_behind: { (ends : Self) (session : ℕ) (p : Post) (kept : List ℕ) (came whole : Came) (given : Begun)
+        (cause : Option Self.Cause) (left : List ℕ) → IsBehind kept came whole
+        → begins ends session p [] whole given cause left → begins ends session p kept came given cause left };
 
     /// An idle end may not send.
     ghost idle_is_silent: { (ends : Self) (session : ℕ) → (kind ends).may_send session Idle ≡ false };

@@ -1,8 +1,10 @@
 //! What every kind of node shares: its step over the ends of its sessions, over links that may fail.
 #![tactic(auto)]
 
+mod advancing;
 mod answers;
 mod ends;
+mod keeping;
 mod node;
 mod telling;
 

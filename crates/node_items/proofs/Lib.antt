@@ -4,7 +4,7 @@ pub mod Changes
 pub mod Maps
 pub mod Records
 pub mod Hearings
-pub mod NotEnded
 pub mod States
-pub mod Begun
 pub mod Cutting
+pub mod NotEnded
+pub mod Begun

@@ -1,7 +1,7 @@
 -- Octets never say that their session ended.
 use Rattle.std.specs.Prelude.{nat_eq}
 use Rattle.std.specs.Cmp.Lexicographic.{pointwise}
-use Rattle.std.proofs.Common.{◌≡◌, ◌≢◌, ℕ, Bool, true, false, cond, List, [], ◌∷◌, Some, None, Option, Ok, Err, Result, sym, subst, ◌∙◌}
+use Rattle.std.proofs.Common.{◌≡◌, ◌≢◌, ℕ, Bool, true, false, cond, List, [], ◌∷◌, ◌++◌, Some, None, Option, Ok, Err, Result, sym, subst, ◌∙◌}
 use Rattle.std.proofs.lemmas.Option.{same_Some}
 use Rattle.ov_link.specs.declared.step.Input.{Input}
 use Rattle.ov_link.specs.declared.step.Input.TheVariants as input
@@ -24,8 +24,9 @@ use Rattle.item_wire.specs.declared.item.Item.{Item}
 use Rattle.item_wire.specs.declared.item.Item.TheVariants as I
 use Rattle.node_model.specs.Step.{Begun, Post}
 use Rattle.node_model.proofs.Members.{none_some}
-use Rattle.node_items.specs.Beginning.{Begins}
+use Rattle.node_items.specs.Beginning.{Begins, BeginsKeeping}
 use Rattle.node_items.specs.Hearing.{came_with, next_of, GoesOn, Hears, Heard, and_record, heard, cause_in}
+use Rattle.node_items.proofs.Cutting.{leaving_hears}
 
 -- a cause is not the end of the connection
 abbrev IsOther : ItemCause → Type 0
@@ -114,3 +115,14 @@ never_ended me s p (input.Opened session) given cause h e = absurd (none_some Ca
 never_ended me s p (input.Bytes session bytes) given cause h e =
     subst IsOtherIn (sym h.3 ∙ e) (heard_other s bytes.now h.0 h.1)
 never_ended me s p (input.Closed session) given cause h e = absurd (none_some Cause.Ended (sym h.1 ∙ e))
+
+pub never_ended_keeping : (me : List ℕ) (s : SessionFields) (p : Post) (kept : List ℕ) (came : Input) (given : Begun)
+    (cause : Option ItemCause) (left : List ℕ) → BeginsKeeping me s p kept came given cause left
+    → cause ≢ Some Cause.Ended
+never_ended_keeping me s p kept (input.Opened session) given cause left h e =
+    never_ended me s p (input.Opened session) given cause h.0 e
+never_ended_keeping me s p kept (input.Bytes session bytes) given cause left h e =
+    subst IsOtherIn (sym h.3 ∙ e)
+    (heard_other s (kept ++ bytes.now) h.0 (leaving_hears s (kept ++ bytes.now) h.0 left h.1))
+never_ended_keeping me s p kept (input.Closed session) given cause left h e =
+    never_ended me s p (input.Closed session) given cause h.0 e

@@ -7,13 +7,14 @@ use Rattle.item_wire.specs.declared.event.ItemCause.{ItemCause}
 use Rattle.item_wire.specs.declared.input.Came.{Came}
 use Rattle.node_model.specs.Step.{Phase, Post, end_of, post}
 use Rattle.node_items.specs.Beginning.{left_by}
-use Rattle.node_items.specs.Hearing.{Hears, heard}
+use Rattle.node_items.specs.Hearing.{heard}
+use Rattle.node_items.specs.Keeping.{Leaves}
 
--- the end of a session once octets came on it, where the session of each end in each phase is this
-pub record HasTaken (fields : ℕ → Phase → SessionFields) (session : ℕ) (octets : List ℕ) (posts posts' : List Post)
+-- the end of a session once octets came on it that leave these, where the session of each end in each phase is this
+pub record HasTaken (fields : ℕ → Phase → SessionFields) (session : ℕ) (octets left : List ℕ) (posts posts' : List Post)
     (cause : Option ItemCause) : Type 0 where
   pub inputs : List Came
-  pub hears : Hears (fields session (post posts session).phase) octets inputs
+  pub leaves : Leaves (fields session (post posts session).phase) octets inputs left
   pub why : cause ≡ (heard (fields session (post posts session).phase) inputs).cause
-  pub left : posts' ≡ slice_set posts session
+  pub applied : posts' ≡ slice_set posts session
       (end_of (left_by (post posts session) (heard (fields session (post posts session).phase) inputs) cause))

@@ -1,5 +1,5 @@
 -- What an input makes of an end of a session between control nodes.
-use Rattle.std.specs.Prelude.{◌≡◌, List, [], ◌∷◌, map, Option, Some, None}
+use Rattle.std.specs.Prelude.{◌≡◌, ℕ, List, [], ◌∷◌, ◌++◌, map, Option, Some, None}
 use Rattle.ov_link.specs.declared.step.Input.{Input}
 use Rattle.ov_link.specs.declared.step.Input.TheVariants as input
 use Rattle.ov_sync.specs.Embed.{moved_delta}
@@ -13,6 +13,7 @@ use Rattle.node_model.specs.Keys.{Vpn}
 use Rattle.node_model.specs.Values.{Route}
 use Rattle.node_model.specs.Step.{Begun, Phase, Idle, Opened, Confirmed, Up, Post}
 use Rattle.node_peers.specs.Hearing.{Hears, Heard, heard, open_octets}
+use Rattle.node_peers.specs.Keeping.{Leaves}
 
 abbrev pub phase_of : State → Phase
 phase_of State.Idle = Idle
@@ -44,3 +45,15 @@ Begins id s p (input.Bytes session bytes) given cause =
     })
     × (cause ≡ (heard id s inputs).cause)
 Begins id s p (input.Closed session) given cause = (given ≡ record { replies = []; after = None }) × (cause ≡ None)
+
+-- the same, where these octets were kept of the session before: they are heard again before those that came. And what
+-- is kept of it then
+abbrev pub BeginsKeeping : Addr → SessionFields → Post → List ℕ → Input → Begun → Option Cause → List ℕ → Type 0
+BeginsKeeping id s p kept (input.Bytes session bytes) given cause left =
+    (inputs : List Came) × Leaves s (kept ++ bytes.now) inputs left
+    × (given ≡ record {
+      replies = (heard id s inputs).replies;
+      after = left_by p (heard id s inputs) (heard id s inputs).cause;
+    })
+    × (cause ≡ (heard id s inputs).cause)
+BeginsKeeping id s p kept event given cause left = Begins id s p event given cause × (left ≡ [])

@@ -12,9 +12,9 @@ use packet_trace::{Hop, Trace, Vrouter, trace};
 use std::alloc::Global;
 use std::process::Abort;
 
-const HELLO: &[u8] = b"\0\0\0\x1a{\"name\":\"a1\",\"op\":\"hello\"}";
+pub const HELLO: &[u8] = b"\0\0\0\x1a{\"name\":\"a1\",\"op\":\"hello\"}";
 
-const PUBLISH: &[u8] =
+pub const PUBLISH: &[u8] =
     b"\0\0\0\x3f{\"instance\":1,\"label\":23,\"op\":\"publish\",\"prefix\":\"10.1.0.5/32\"}";
 
 const PUBLISH_OTHER: &[u8] =
@@ -23,10 +23,10 @@ const PUBLISH_OTHER: &[u8] =
 const UNPUBLISH: &[u8] =
     b"\0\0\0\x36{\"instance\":1,\"op\":\"unpublish\",\"prefix\":\"10.1.0.5/32\"}";
 
-const SUBSCRIBE: &[u8] = b"\0\0\0\x1f{\"instance\":1,\"op\":\"subscribe\"}";
+pub const SUBSCRIBE: &[u8] = b"\0\0\0\x1f{\"instance\":1,\"op\":\"subscribe\"}";
 
 /// The first control node says who it is, and tells port 7 at 10.1.0.5.
-const FIRST: &[u8] = b"\0\0\0\x1a{\"name\":\"c1\",\"op\":\"hello\"}\
+pub const FIRST: &[u8] = b"\0\0\0\x1a{\"name\":\"c1\",\"op\":\"hello\"}\
     \0\0\0\x4c{\"address\":\"10.1.0.5\",\"instance\":1,\"node\":\"192.0.2.11\",\"op\":\"port\",\"port\":7}";
 
 /// The second says who it is, tells port 7 at 10.1.0.6, and leads 10.1.0.9 to 192.0.2.12.
@@ -56,7 +56,7 @@ pub fn agent(rt: &impl Abort, alloc: Global, address: Addr, controllers: &[NodeI
 }
 
 /// The agent a1 at 192.0.2.11, with control nodes c1 and c2.
-fn with_two(rt: &impl Abort, alloc: Global) -> AgentNode {
+pub fn with_two(rt: &impl Abort, alloc: Global) -> AgentNode {
     let controllers = [id(rt, "c1", 0xc000_0201), id(rt, "c2", 0xc000_0202)];
     agent(rt, alloc, N1, &controllers)
 }
@@ -81,7 +81,7 @@ pub fn open<L: Link>(rt: &impl Abort, node: &mut AgentNode, links: &mut Links<L>
 }
 
 /// What comes of octets.
-fn told<L: Link>(
+pub fn told<L: Link>(
     rt: &impl Abort,
     node: &mut AgentNode,
     links: &mut Links<L>,
@@ -107,7 +107,7 @@ pub fn bring<L: Link>(
 }
 
 /// The session is lost, and nothing else comes of it.
-fn close<L: Link>(rt: &impl Abort, node: &mut AgentNode, links: &mut Links<L>, session: u16) {
+pub fn close<L: Link>(rt: &impl Abort, node: &mut AgentNode, links: &mut Links<L>, session: u16) {
     assert!(rt; links.len() == node.sessions());
     assert!(rt; session < node.sessions());
     assert!(rt; node.is_live(session));
@@ -116,7 +116,7 @@ fn close<L: Link>(rt: &impl Abort, node: &mut AgentNode, links: &mut Links<L>, s
 }
 
 /// How far a session is.
-fn stands(rt: &impl Abort, node: &AgentNode, session: u16, is_live: bool, is_up: bool) {
+pub fn stands(rt: &impl Abort, node: &AgentNode, session: u16, is_live: bool, is_up: bool) {
     assert!(rt; session < node.sessions());
     assert!(rt; node.is_live(session) == is_live, "{session}");
     assert!(rt; node.is_up(session) == is_up, "{session}");

@@ -302,3 +302,76 @@ fn a_link_that_fails_closes_its_session_and_the_edit_stays(rt: HostRuntime) {
     let mut node = node(&rt, rt.alloc());
     go_over_breaks(&rt, rt.alloc(), &mut node, &mut links);
 }
+
+/// So many octets are kept of the session.
+fn keeps(rt: &impl Abort, node: &ConfigNode, count: usize) {
+    assert!(rt; node.sessions() > 0);
+    assert!(rt; node.pending(0) == count, "{count}");
+}
+
+/// The control node says who it is in two parts, with an edit between them.
+fn be_greeted_in_two_parts(
+    rt: &impl Abort,
+    alloc: Global,
+    node: &mut ConfigNode,
+    links: &mut Links<QueueLink>,
+) {
+    let octets = FROM_CONTROLLER;
+    assert!(rt; octets.len() > 9);
+    open(rt, node, links);
+    were_sent(rt, links, 0, ALL);
+    let answer = told(rt, node, links, &octets[..9]);
+    assert!(rt; matches!(answer, Ok(Stepped::Done)));
+    keeps(rt, node, 9);
+    change(rt, alloc, node, links, MOVE, &[MOVED]);
+    keeps(rt, node, 9);
+    stands(rt, node, true, false);
+    let answer = told(rt, node, links, &octets[9..]);
+    assert!(rt; matches!(answer, Ok(Stepped::Done)));
+    keeps(rt, node, 0);
+    stands(rt, node, true, true);
+}
+
+#[test]
+fn a_hello_in_two_parts_is_heard_once_it_is_whole(rt: HostRuntime) {
+    let mut links = Links::new(rt.alloc());
+    add_queues(&rt, rt.alloc(), &mut links, 1);
+    let mut node = node(&rt, rt.alloc());
+    be_greeted_in_two_parts(&rt, rt.alloc(), &mut node, &mut links);
+}
+
+/// Octets are kept, and then the link fails in an edit, or the node restarts.
+fn forget_what_was_kept(
+    rt: &impl Abort,
+    alloc: Global,
+    node: &mut ConfigNode,
+    links: &mut Links<FailingLink>,
+) {
+    let octets = FROM_CONTROLLER;
+    assert!(rt; octets.len() > 9);
+    open(rt, node, links);
+    let answer = told(rt, node, links, &octets[..9]);
+    assert!(rt; matches!(answer, Ok(Stepped::Done)));
+    fail_at(rt, links, 1);
+    let answer = edited(rt, alloc, node, links, MOVE);
+    assert!(rt; matches!(answer, Err(NodeFault::LinkFailed { session: 0 })));
+    keeps(rt, node, 0);
+    open(rt, node, links);
+    let answer = told(rt, node, links, &octets[..9]);
+    assert!(rt; matches!(answer, Ok(Stepped::Done)));
+    node.restart();
+    keeps(rt, node, 0);
+    open(rt, node, links);
+    be_greeted(rt, node, links);
+    stands(rt, node, true, true);
+}
+
+#[test]
+fn nothing_is_kept_of_a_session_whose_link_failed(rt: HostRuntime) {
+    let mut links = Links::new(rt.alloc());
+    links
+        .push(FailingLink::new(rt.alloc()))
+        .expect(&rt, "memory");
+    let mut node = node(&rt, rt.alloc());
+    forget_what_was_kept(&rt, rt.alloc(), &mut node, &mut links);
+}

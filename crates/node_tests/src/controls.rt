@@ -10,11 +10,11 @@ use std::process::Abort;
 
 /// The OPEN of 192.0.2.2 in AS 64512, a KEEPALIVE, and an UPDATE of 10.1.0.5/32 with the distinguisher 192.0.2.11:1,
 /// the label 23 and the target 64512:8000001: each without its marker.
-const OPEN: &[u8] = b"\x00\x1d\x01\x04\xfc\x00\x00\x00\xc0\x00\x02\x02\x00";
+pub const OPEN: &[u8] = b"\x00\x1d\x01\x04\xfc\x00\x00\x00\xc0\x00\x02\x02\x00";
 
-const KEEPALIVE: &[u8] = b"\x00\x13\x04";
+pub const KEEPALIVE: &[u8] = b"\x00\x13\x04";
 
-const UPDATE: &[u8] =
+pub const UPDATE: &[u8] =
     b"\x00\x54\x02\x00\x00\x00\x3d\x40\x01\x01\x00\x40\x02\x00\x40\x05\x04\x00\x00\x00\x64\
     \x80\x0e\x21\x00\x01\x80\x0c\x00\x00\x00\x00\x00\x00\x00\x00\xc0\x00\x02\x0b\x00\x78\x00\x01\x71\
     \x00\x01\xc0\x00\x02\x0b\x00\x01\x0a\x01\x00\x05\xc0\x10\x08\x00\x02\xfc\x00\x00\x7a\x12\x01";
@@ -28,18 +28,18 @@ const WRONG_ORIGIN: &[u8] = b"\x00\x1b\x02\x00\x00\x00\x04\x40\x01\x01\x03";
 
 const NOTIFICATION: &[u8] = b"\x00\x15\x03\x03\x06";
 
-const INSTANCE: &[u8] = b"{\"imports\":[1],\"instance\":1,\"op\":\"instance\"}";
+pub const INSTANCE: &[u8] = b"{\"imports\":[1],\"instance\":1,\"op\":\"instance\"}";
 
-const CONFIG_HELLO: &[u8] = b"{\"name\":\"config\",\"op\":\"hello\"}";
+pub const CONFIG_HELLO: &[u8] = b"{\"name\":\"config\",\"op\":\"hello\"}";
 
-const A1_HELLO: &[u8] = b"{\"name\":\"a1\",\"op\":\"hello\"}";
+pub const A1_HELLO: &[u8] = b"{\"name\":\"a1\",\"op\":\"hello\"}";
 
 const A2_HELLO: &[u8] = b"{\"name\":\"a2\",\"op\":\"hello\"}";
 
 const PUBLISH: &[u8] =
     b"{\"instance\":1,\"label\":17,\"op\":\"publish\",\"prefix\":\"10.1.0.6/32\"}";
 
-const SUBSCRIBE: &[u8] = b"{\"instance\":1,\"op\":\"subscribe\"}";
+pub const SUBSCRIBE: &[u8] = b"{\"instance\":1,\"op\":\"subscribe\"}";
 
 const ROUTE: &[u8] = b"{\"instance\":1,\"label\":17,\"next_hop\":\"192.0.2.11\",\"op\":\"route\",\
     \"prefix\":\"10.1.0.6/32\"}";
@@ -68,7 +68,7 @@ const BOTH_ROWS: &str =
     "1 10.1.0.5/32 192.0.2.11:1 192.0.2.11 23\n1 10.1.0.6/32 192.0.2.11:1 192.0.2.11 17\n";
 
 /// A record: its length in four octets, and its JSON.
-fn record(rt: &impl Abort, alloc: Global, json: &[u8]) -> Vec<u8> {
+pub fn record(rt: &impl Abort, alloc: Global, json: &[u8]) -> Vec<u8> {
     let mut octets = Vec::from_slice(alloc, &[0, 0, 0]).expect(rt, "memory");
     let length = u8::try_from(json.len()).ok().expect(rt, "a short record");
     octets.push(length).expect(rt, "memory");
@@ -77,13 +77,13 @@ fn record(rt: &impl Abort, alloc: Global, json: &[u8]) -> Vec<u8> {
 }
 
 /// A message: its marker, and the rest.
-fn message(rt: &impl Abort, alloc: Global, rest: &[u8]) -> Vec<u8> {
+pub fn message(rt: &impl Abort, alloc: Global, rest: &[u8]) -> Vec<u8> {
     let mut octets = Vec::from_slice(alloc, &[255; 16]).expect(rt, "memory");
     octets.extend_from_slice(rest).expect(rt, "memory");
     octets
 }
 
-fn id(rt: &impl Abort, name: &str, address: u32) -> NodeId {
+pub fn id(rt: &impl Abort, name: &str, address: u32) -> NodeId {
     NodeId {
         name: Name::new(name).expect(rt, "a name"),
         address: Addr(address),
@@ -95,7 +95,7 @@ fn ids(rt: &impl Abort, alloc: Global, nodes: &[NodeId]) -> Items<NodeId> {
 }
 
 /// A control node of AS 64512 with these peers and agents.
-fn node(
+pub fn node(
     rt: &impl Abort,
     alloc: Global,
     me: NodeId,
@@ -127,7 +127,7 @@ fn node_in(
 }
 
 /// The session is opened, and nothing else comes of it.
-fn open<L: Link>(rt: &impl Abort, node: &mut ControlNode, links: &mut Links<L>, session: u16) {
+pub fn open<L: Link>(rt: &impl Abort, node: &mut ControlNode, links: &mut Links<L>, session: u16) {
     assert!(rt; links.len() == node.sessions());
     assert!(rt; session < node.sessions());
     assert!(rt; !node.is_live(session));
@@ -145,7 +145,7 @@ fn lose<L: Link>(rt: &impl Abort, node: &mut ControlNode, links: &mut Links<L>, 
 }
 
 /// What comes of octets.
-fn told<L: Link>(
+pub fn told<L: Link>(
     rt: &impl Abort,
     node: &mut ControlNode,
     links: &mut Links<L>,
@@ -159,7 +159,7 @@ fn told<L: Link>(
 }
 
 /// Octets come, and nothing else comes of them.
-fn hear<L: Link>(
+pub fn hear<L: Link>(
     rt: &impl Abort,
     node: &mut ControlNode,
     links: &mut Links<L>,
@@ -171,7 +171,7 @@ fn hear<L: Link>(
 }
 
 /// Opens a session of items, on which these records come.
-fn greeted<L: Link>(
+pub fn greeted<L: Link>(
     rt: &impl Abort,
     alloc: Global,
     node: &mut ControlNode,
@@ -187,7 +187,7 @@ fn greeted<L: Link>(
 }
 
 /// Opens a session of a peer, on which these messages come.
-fn peered(
+pub fn peered(
     rt: &impl Abort,
     alloc: Global,
     node: &mut ControlNode,
@@ -203,7 +203,7 @@ fn peered(
 }
 
 /// The rows are these, a line each.
-fn are_shown(rt: &impl Abort, alloc: Global, node: &ControlNode, want: &str) {
+pub fn are_shown(rt: &impl Abort, alloc: Global, node: &ControlNode, want: &str) {
     let mut text = String::new(alloc);
     let rows = node.rows().expect(rt, "memory");
     for ((instance, prefix), row) in rows.as_slice() {

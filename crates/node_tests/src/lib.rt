@@ -11,3 +11,7 @@ mod controls;
 mod flows;
 #[cfg(test)]
 mod links;
+#[cfg(test)]
+mod malformed;
+#[cfg(test)]
+mod parts;

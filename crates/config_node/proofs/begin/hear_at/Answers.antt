@@ -9,10 +9,10 @@ use Rattle.config_node.proofs.begin.hear_at.Goals as goal
 
 pub returns-clause-heard : goal.returns-clause-heard
 returns-clause-heard c =
-    let w = c.in_ok-records.ensures.heard in
+    let w = c.in_ok-records.ensures.left in
     record {
       inputs = w.0;
-      hears = w.1;
+      leaves = w.1;
       why = w.3;
       state = w.4;
       none = sym w.2

@@ -5,9 +5,9 @@ use Rattle.control_node.proofs.inputs.hear_from_peer.Goals as goal
 
 pub returns-in-Some-clause-heard : goal.returns-in-Some-clause-heard
 returns-in-Some-clause-heard c =
-    let h = c.in_ok-heard.ensures.heard in (
+    let h = c.in_ok-heard.ensures.left in (
       c.in_ok-heard.heard.changes.items,
-      record { inputs = h.0; hears = h.1; replied = h.2; changes_are = h.3; state = h.5; wide = h.6; cause_is = sym c.in-Some.is ∙ h.4 },
+      record { inputs = h.0; leaves = h.1; replied = h.2; changes_are = h.3; state = h.5; wide = h.6; cause_is = sym c.in-Some.is ∙ h.4 },
       sym (peer-same c.args.tables.now c.args.session),
     )
 

@@ -1,4 +1,4 @@
-use Rattle.std.proofs.Common.{◌<◌, ℕ, length, slice_set, set, subst, sym}
+use Rattle.std.proofs.Common.{◌<◌, ℕ, drop, length, slice_set, set, subst, sym}
 use Rattle.std.proofs.Common.{ap, ◌∙◌, arith, Some, None}
 use Rattle.std.proofs.lemmas.List.{length-set}
 use Rattle.node_model.specs.Step.{nothing}
@@ -38,12 +38,13 @@ returns-in-None-clause-heard c =
     let controllers = ap (λ (e : Ends). length e.plan.controllers) c.self.view_is in
     let long = ends_long c.self.inside.plan hs ss c.self.invariant in
     let lt : c.from.result < length hs = omega (arith, long, controllers, c.requires.known, c.from.ensures) in
-    let heard = subst (HasHeard h c.args.bytes.now h') c.in-None.is c.in_ok-cause.ensures.heard in
+    let left = drop c.in_ok-taken.field-0.taken c.args.bytes.now in
+    let heard = subst (HasHeard h c.args.bytes.now left h') c.in-None.is c.in_ok-taken.ensures.heard in
     let taken = taken_on c.self.inside.plan hs ss c.self.invariant c.from.result h lt c.index_mut.ensures.value
-    c.args.bytes.now h' heard in
-    subst (λ (n : ℕ). HasTaken c.args.self.now.plan n c.args.bytes.now c.args.self.now.posts
+    c.args.bytes.now left h' heard in
+    subst (λ (n : ℕ). HasTaken c.args.self.now.plan n c.args.bytes.now left c.args.self.now.posts
     (posts_of (slice_set hs c.from.result h') ss) None) c.from.ensures
-    (subst (λ (e : Ends). HasTaken e.plan c.from.result c.args.bytes.now e.posts
+    (subst (λ (e : Ends). HasTaken e.plan c.from.result c.args.bytes.now left e.posts
     (posts_of (slice_set hs c.from.result h') ss) None) c.self.view_is taken)
 
 pub returns-in-Some-clause-heard : goal.returns-in-Some-clause-heard
@@ -55,14 +56,15 @@ returns-in-Some-clause-heard c =
     let controllers = ap (λ (e : Ends). length e.plan.controllers) c.self.view_is in
     let long = ends_long c.self.inside.plan hs ss c.self.invariant in
     let lt : c.from.result < length hs = omega (arith, long, controllers, c.requires.known, c.from.ensures) in
-    let heard = subst (HasHeard h c.args.bytes.now h') c.in-Some.is c.in_ok-cause.ensures.heard in
+    let left = drop c.in_ok-taken.field-0.taken c.args.bytes.now in
+    let heard = subst (HasHeard h c.args.bytes.now left h') c.in-Some.is c.in_ok-taken.ensures.heard in
     let closed = c.close.ensures.closed
     ∙ ap (λ (n : ℕ). slice_set (posts_of (slice_set hs c.from.result h') ss) n nothing) (sym c.from.ensures) in
     let taken = taken_down c.self.inside.plan hs ss c.self.invariant c.from.result h lt c.index_mut.ensures.value
-    c.args.bytes.now h' c.in-Some.cause c.close.new.self.posts heard closed in
-    subst (λ (n : ℕ). HasTaken c.args.self.now.plan n c.args.bytes.now c.args.self.now.posts c.close.new.self.posts
+    c.args.bytes.now left h' c.in-Some.cause c.close.new.self.posts heard closed in
+    subst (λ (n : ℕ). HasTaken c.args.self.now.plan n c.args.bytes.now left c.args.self.now.posts c.close.new.self.posts
     (Some c.in-Some.cause)) c.from.ensures
-    (subst (λ (e : Ends). HasTaken e.plan c.from.result c.args.bytes.now e.posts c.close.new.self.posts
+    (subst (λ (e : Ends). HasTaken e.plan c.from.result c.args.bytes.now left e.posts c.close.new.self.posts
     (Some c.in-Some.cause)) c.self.view_is taken)
 
 pub returns-in-None-clause-led : goal.returns-in-None-clause-led
@@ -76,8 +78,8 @@ returns-in-None-clause-led c =
     let lt : c.from.result < length hs = omega (arith, long, controllers, c.requires.known, c.from.ensures) in
     if_some (λ keys. HasLed keys.items h h')
     (λ keys. AreLed keys.items c.args.session c.args.self.now.posts (posts_of (slice_set hs c.from.result h') ss))
-    c.in_ok-cause.field-0.routes (λ keys t.
+    c.in_ok-taken.field-0.routes (λ keys t.
     subst (λ (n : ℕ). AreLed keys.items n c.args.self.now.posts (posts_of (slice_set hs c.from.result h') ss)) c.from.ensures
     (subst (λ (e : Ends). AreLed keys.items c.from.result e.posts (posts_of (slice_set hs c.from.result h') ss)) c.self.view_is
     (are_led c.self.inside.plan hs ss c.self.invariant c.from.result h lt c.index_mut.ensures.value h' keys.items t)))
-    c.in_ok-cause.ensures.led
+    c.in_ok-taken.ensures.led

@@ -1,4 +1,4 @@
-use Rattle.std.proofs.Common.{◌<◌, ℕ, length, slice_set, subst, sym, ap, ◌∙◌, arith, Some, None}
+use Rattle.std.proofs.Common.{◌<◌, ℕ, drop, length, slice_set, subst, sym, ap, ◌∙◌, arith, Some, None}
 use Rattle.node_model.specs.Step.{nothing}
 use Rattle.config_node.specs.Ends.{Ends, posts_of, whom_at}
 use Rattle.config_node.specs.Taking.{HasTaken}
@@ -62,12 +62,13 @@ returns-in-None-clause-heard c =
     let controllers = ap (λ (s : Ends). length s.setup.topology.controllers) c.self.view_is in
     let long = ends_long c.self.inside.valid c.self.inside.wants.entries es c.self.invariant in
     let lt : c.from.result < length es = omega (arith, long, controllers, c.requires.known, c.from.ensures) in
-    let heard = rw c.in-None.is at c.in_ok-hear_at.ensures.heard in
+    let left = drop c.in_ok-taken.field-0.taken c.args.bytes.now in
+    let heard = rw c.in-None.is at c.in_ok-taken.ensures.heard in
     let taken = taken_on c.self.inside.valid c.self.inside.wants.entries es c.self.invariant c.from.result e lt
-    c.index_mut-end.ensures.value c.args.bytes.now c.hear_at.new.session heard in
-    subst (λ (n : ℕ). HasTaken c.args.self.now.setup n c.args.bytes.now c.args.self.now.posts
+    c.index_mut-end.ensures.value c.args.bytes.now left c.hear_at.new.session heard in
+    subst (λ (n : ℕ). HasTaken c.args.self.now.setup n c.args.bytes.now left c.args.self.now.posts
     (posts_of (slice_set es c.from.result e')) None) c.from.ensures
-    (subst (λ (s : Ends). HasTaken s.setup c.from.result c.args.bytes.now s.posts
+    (subst (λ (s : Ends). HasTaken s.setup c.from.result c.args.bytes.now left s.posts
     (posts_of (slice_set es c.from.result e')) None) c.self.view_is taken)
 
 pub returns-in-Some-clause-heard : goal.returns-in-Some-clause-heard
@@ -78,13 +79,14 @@ returns-in-Some-clause-heard c =
     let controllers = ap (λ (s : Ends). length s.setup.topology.controllers) c.self.view_is in
     let long = ends_long c.self.inside.valid c.self.inside.wants.entries es c.self.invariant in
     let lt : c.from.result < length es = omega (arith, long, controllers, c.requires.known, c.from.ensures) in
-    let heard = rw c.in-Some.is at c.in_ok-hear_at.ensures.heard in
+    let left = drop c.in_ok-taken.field-0.taken c.args.bytes.now in
+    let heard = rw c.in-Some.is at c.in_ok-taken.ensures.heard in
     let closed = c.close.ensures.closed
     ∙ ap (λ (n : ℕ). slice_set (posts_of (slice_set es c.from.result e')) n nothing) (sym c.from.ensures) in
     let taken = taken_down c.self.inside.valid c.self.inside.wants.entries es c.self.invariant c.from.result e lt
-    c.index_mut-end.ensures.value c.args.bytes.now c.hear_at.new.session c.in-Some.cause c.close.new.self.posts heard
+    c.index_mut-end.ensures.value c.args.bytes.now left c.hear_at.new.session c.in-Some.cause c.close.new.self.posts heard
     closed in
-    subst (λ (n : ℕ). HasTaken c.args.self.now.setup n c.args.bytes.now c.args.self.now.posts c.close.new.self.posts
+    subst (λ (n : ℕ). HasTaken c.args.self.now.setup n c.args.bytes.now left c.args.self.now.posts c.close.new.self.posts
     (Some c.in-Some.cause)) c.from.ensures
-    (subst (λ (s : Ends). HasTaken s.setup c.from.result c.args.bytes.now s.posts c.close.new.self.posts
+    (subst (λ (s : Ends). HasTaken s.setup c.from.result c.args.bytes.now left s.posts c.close.new.self.posts
     (Some c.in-Some.cause)) c.self.view_is taken)

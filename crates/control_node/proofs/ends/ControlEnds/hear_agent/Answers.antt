@@ -1,4 +1,4 @@
-use Rattle.std.proofs.Common.{◌+◌, ◌∙◌, ap, subst, sym, set, suc}
+use Rattle.std.proofs.Common.{◌+◌, ◌∙◌, ap, subst, sym, set, suc, drop}
 use Rattle.ov_link.specs.declared.step.Input.TheVariants as input
 use Rattle.control_node.specs.Begun.{IsHeard}
 use Rattle.control_node.specs.Ends.{Ends, IsAgentEnd, posts_of}
@@ -16,7 +16,7 @@ invariant_of-self c =
     let inside = c.self.inside in
     let e = c.index_mut-end.result.now in
     let value = c.index_mut-end.ensures.value in
-    let heard = c.in_err-cause.ensures in
+    let heard = c.in_err-heard.ensures in
     let lt = among (λ (e : AgentEnd). e.id) inside.agents.items c.args.self.now.plan.agents c.args.place (ap (λ (v : Ends). v.plan.agents) c.self.view_is) c.requires.among in
     let is = subst IsAgentEnd (sym value) (all-at IsAgentEnd inside.agents.items c.args.place e c.self.invariant.ends.agent_ends lt) in
     record {
@@ -28,10 +28,10 @@ invariant_of-self c =
           (λ all. sym (ap agent_sends value) ∙ heard.sends all);
     }
 
-pub returns-in_err-cause-clause-plan : goal.returns-in_err-cause-clause-plan
-returns-in_err-cause-clause-plan c =
+pub returns-in_err-heard-clause-plan : goal.returns-in_err-heard-clause-plan
+returns-in_err-heard-clause-plan c =
     let inside = c.self.inside in
-    let same = c.in_err-cause.ensures.id ∙ ap (λ (e : AgentEnd). e.id) c.index_mut-end.ensures.value in
+    let same = c.in_err-heard.ensures.id ∙ ap (λ (e : AgentEnd). e.id) c.index_mut-end.ensures.value in
     plan-agent inside.me inside.asn inside.peers.items inside.agents.items c.args.place c.hear_from_agent.new.end c.index_mut-end.result.now same ∙ ap (λ (v : Ends). v.plan) c.self.view_is
 
 pub invariant_of-self-2 : goal.invariant_of-self-2
@@ -39,7 +39,7 @@ invariant_of-self-2 c =
     let inside = c.self.inside in
     let e = c.index_mut-end.result.now in
     let value = c.index_mut-end.ensures.value in
-    let heard = c.in_ok-cause.ensures in
+    let heard = c.in_ok-heard.ensures in
     let lt = among (λ (e : AgentEnd). e.id) inside.agents.items c.args.self.now.plan.agents c.args.place (ap (λ (v : Ends). v.plan.agents) c.self.view_is) c.requires.among in
     let is = subst IsAgentEnd (sym value) (all-at IsAgentEnd inside.agents.items c.args.place e c.self.invariant.ends.agent_ends lt) in
     record {
@@ -54,7 +54,7 @@ invariant_of-self-2 c =
 pub returns-clause-plan : goal.returns-clause-plan
 returns-clause-plan c =
     let inside = c.self.inside in
-    let same = c.in_ok-cause.ensures.id ∙ ap (λ (e : AgentEnd). e.id) c.index_mut-end.ensures.value in
+    let same = c.in_ok-heard.ensures.id ∙ ap (λ (e : AgentEnd). e.id) c.index_mut-end.ensures.value in
     plan-agent inside.me inside.asn inside.peers.items inside.agents.items c.args.place c.hear_from_agent.new.end c.index_mut-end.result.now same ∙ ap (λ (v : Ends). v.plan) c.self.view_is
 
 pub returns-clause-heard : goal.returns-clause-heard
@@ -63,14 +63,16 @@ returns-clause-heard c =
     let s = c.args.session in
     let i = c.args.place in
     let e = c.hear_from_agent.new.end in
-    let heard = c.in_ok-cause.ensures.heard in
+    let w = c.in_ok-heard.heard in
+    let rest = drop w.taken c.args.bytes.now in
+    let heard = c.in_ok-heard.ensures.heard in
     let cause = c.item_cause.result in
     let lt = among (λ (e : AgentEnd). e.id) inside.agents.items c.args.self.now.plan.agents i (ap (λ (v : Ends). v.plan.agents) c.self.view_is) c.requires.among in
     let n = many (λ (e : PeerEnd). e.session.peer) inside.peers.items c.args.self.now.plan.peers (ap (λ (v : Ends). v.plan.peers) c.self.view_is) in
     let at = c.requires.session ∙ ap (λ n. suc (n + i)) n in
-    let sent = c.in_ok-cause.ensures.sent ∙ ap (λ (e : AgentEnd). e.sent) c.index_mut-end.ensures.value in
-    let brought = subst (λ (x : AgentEnd). ItemsHeard x.session e.session c.args.bytes.now heard.0 c.in_ok-cause.cause) c.index_mut-end.ensures.value heard.1 in
+    let sent = c.in_ok-heard.ensures.sent ∙ ap (λ (e : AgentEnd). e.sent) c.index_mut-end.ensures.value in
+    let brought = subst (λ (x : AgentEnd). ItemsHeard x.session e.session c.args.bytes.now rest heard.0 w.cause) c.index_mut-end.ensures.value heard.1 in
     let posts = posts_of inside.feed.state inside.peers.items (set inside.agents.items i e) c.hear_from_agent.new.tables in
-    subst (λ (v : Ends). IsHeard v.plan v.posts s (input.Bytes s c.args.bytes) c.new.result cause posts) c.self.view_is (
+    subst (λ (v : Ends). IsHeard v.plan v.posts s (input.Bytes s c.args.bytes) c.new.result cause rest posts) c.self.view_is (
     agent-heard inside.me inside.asn inside.feed inside.peers.items inside.agents.items inside.tables c.self.invariant.ends s i e c.index_mut-end.result.now
-    c.args.bytes heard.0 c.in_ok-cause.cause cause c.new.result c.hear_from_agent.new.tables at lt sent brought c.item_cause.ensures c.new.ensures heard.2)
+    c.args.bytes rest heard.0 w.cause cause c.new.result c.hear_from_agent.new.tables at lt sent brought c.item_cause.ensures c.new.ensures heard.2)

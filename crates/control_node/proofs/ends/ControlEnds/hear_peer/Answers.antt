@@ -1,4 +1,4 @@
-use Rattle.std.proofs.Common.{◌≡◌, ◌∙◌, ap, sym, subst, set}
+use Rattle.std.proofs.Common.{◌≡◌, ◌∙◌, ap, sym, subst, set, drop}
 use Rattle.ov_link.specs.declared.step.Input.TheVariants as input
 use Rattle.control_node.specs.Begun.{IsHeard}
 use Rattle.control_node.specs.Ends.{Ends, posts_of}
@@ -29,15 +29,16 @@ returns-clause-heard c =
     let i = c.args.place in
     let e = c.hear_from_peer.new.end in
     let w = c.in_ok-heard.heard in
+    let rest = drop w.taken c.args.bytes.now in
     let heard = c.in_ok-heard.ensures.heard in
     let cause = c.peer_cause.result in
     let lt = among (λ (e : PeerEnd). e.session.peer) inside.peers.items c.args.self.now.plan.peers i (ap (λ (v : Ends). v.plan.peers) c.self.view_is) c.requires.among in
     let sent = c.in_ok-heard.ensures.sent ∙ ap (λ (e : PeerEnd). e.sent) c.index_mut-end.ensures.value in
-    let brought = subst (λ (x : PeerEnd). RoutesHeard inside.me.address x.session e.session c.args.bytes.now w.replies heard.0 w.cause) c.index_mut-end.ensures.value heard.1 in
+    let brought = subst (λ (x : PeerEnd). RoutesHeard inside.me.address x.session e.session c.args.bytes.now rest w.replies heard.0 w.cause) c.index_mut-end.ensures.value heard.1 in
     let posts = posts_of inside.feed.state (set inside.peers.items i e) inside.agents.items c.hear_from_peer.new.tables in
-    subst (λ (v : Ends). IsHeard v.plan v.posts s (input.Bytes s c.args.bytes) w.replies cause posts) c.self.view_is (
+    subst (λ (v : Ends). IsHeard v.plan v.posts s (input.Bytes s c.args.bytes) w.replies cause rest posts) c.self.view_is (
     peer-heard inside.me inside.asn inside.feed inside.peers.items inside.agents.items inside.tables c.self.invariant.ends s i e c.index_mut-end.result.now
-    c.args.bytes heard.0 w.cause cause w.replies c.hear_from_peer.new.tables c.requires.session lt sent brought c.peer_cause.ensures heard.2)
+    c.args.bytes rest heard.0 w.cause cause w.replies c.hear_from_peer.new.tables c.requires.session lt sent brought c.peer_cause.ensures heard.2)
 
 pub invariant_of-self : goal.invariant_of-self
 invariant_of-self c =

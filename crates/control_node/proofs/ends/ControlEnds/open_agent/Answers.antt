@@ -1,4 +1,4 @@
-use Rattle.std.proofs.Common.{◌≡◌, ◌+◌, ◌∙◌, ap, arith, length, subst, sym, get_or, set, suc, None}
+use Rattle.std.proofs.Common.{◌≡◌, ◌+◌, ◌∙◌, ap, arith, length, subst, sym, get_or, set, suc, None, []}
 use Rattle.ov_link.specs.declared.step.Input.TheVariants as input
 use Rattle.node_model.specs.Step.{post}
 use Rattle.ov_types.specs.declared.prefix.Addr.{Addr}
@@ -88,7 +88,7 @@ returns-clause-begun c =
     let n = many (λ (e : PeerEnd). e.session.peer) inside.peers.items c.args.self.now.plan.peers (ap (λ (v : Ends). v.plan.peers) c.self.view_is) in
     let at = c.requires.session ∙ ap (λ n. suc (n + c.args.place)) n in
     let posts = posts_of inside.feed.state inside.peers.items (set inside.agents.items c.args.place c.greet_agent.new.end) inside.tables in
-    subst (λ (v : Ends). IsBegun v.plan v.posts s (input.Opened s) c.in_ok-replies.replies None posts) c.self.view_is (
+    subst (λ (v : Ends). IsBegun v.plan v.posts s (input.Opened s) c.in_ok-replies.replies None [] posts) c.self.view_is (
     agent-opened inside.me inside.asn inside.feed inside.peers.items inside.agents.items inside.tables c.self.invariant.ends s c.args.place
     c.greet_agent.new.end c.index_mut-end.result.now c.in_ok-replies.replies at lt
     (c.in_ok-replies.ensures.opened ∙ ap opened_agent c.index_mut-end.ensures.value) c.in_ok-replies.ensures.hello)

@@ -1,4 +1,4 @@
-use Rattle.std.proofs.Common.{◌∙◌, ap, subst, set, None}
+use Rattle.std.proofs.Common.{◌∙◌, ap, subst, set, None, []}
 use Rattle.ov_link.specs.declared.step.Input.TheVariants as input
 use Rattle.node_model.specs.Step.{post}
 use Rattle.control_node.specs.Begun.{IsBegun}
@@ -36,7 +36,7 @@ returns-clause-begun c =
     let s = c.args.session in
     let lt = among (λ (e : PeerEnd). e.session.peer) inside.peers.items c.args.self.now.plan.peers c.args.place (ap (λ (v : Ends). v.plan.peers) c.self.view_is) c.requires.among in
     let posts = posts_of inside.feed.state (set inside.peers.items c.args.place c.greet_peer.new.end) inside.agents.items inside.tables in
-    subst (λ (v : Ends). IsBegun v.plan v.posts s (input.Opened s) c.in_ok-replies.replies None posts) c.self.view_is (
+    subst (λ (v : Ends). IsBegun v.plan v.posts s (input.Opened s) c.in_ok-replies.replies None [] posts) c.self.view_is (
     peer-opened inside.me inside.asn inside.feed inside.peers.items inside.agents.items inside.tables c.self.invariant.ends s c.args.place
     c.greet_peer.new.end c.index_mut-end.result.now c.in_ok-replies.replies c.requires.session lt
     (c.in_ok-replies.ensures.opened ∙ ap opened_peer c.index_mut-end.ensures.value) c.in_ok-replies.ensures.hello)
