@@ -1,5 +1,5 @@
 -- The seats of a network: each node, with its links and with the notices of loss that wait at its ends.
-use Rattle.std.specs.Prelude.{ℕ, suc, List, [], ◌∷◌, ◌++◌, map, Bool, false, not, ◌&&◌}
+use Rattle.std.specs.Prelude.{ℕ, suc, List, [], ◌∷◌, ◌++◌, length, map, Bool, false, not, ◌&&◌}
 use Rattle.std.specs.Prelude.{find, if◌then◌else◌}
 use Rattle.std.specs.declared.option.Option.{Option}
 use Rattle.std.specs.declared.option.Option.TheVariants.{Some, None}
@@ -84,9 +84,12 @@ whos x =
 -- ---- seats
 pub record Seat : Type 0 where
   pub who : Who
-  -- its end of each session, and what left that end and was not taken
+  -- its end of each session, and the octets that it keeps there: those of a message that is not whole yet
   pub posts : List Post
+  pub kept : List (List ℕ)
+  -- what left that end and was not taken whole, and the sends from now on that are to fail there
   pub links : List (List (List ℕ))
+  pub breaks : List (List ℕ)
   -- at which of its ends a notice of loss waits
   pub notices : List Bool
 
@@ -94,7 +97,9 @@ abbrev pub nobody : Seat
 nobody = record {
   who = Forwarding (record { me = no_node; controllers = [] });
   posts = [];
+  kept = [];
   links = [];
+  breaks = [];
   notices = [];
 }
 
@@ -104,8 +109,18 @@ seat seats k = slice_index_or seats k nobody
 abbrev pub link : Seat → ℕ → List (List ℕ)
 link n i = slice_index_or n.links i []
 
+abbrev pub kept_in : Seat → ℕ → List ℕ
+kept_in n i = slice_index_or n.kept i []
+
+abbrev pub breaks_in : Seat → ℕ → List ℕ
+breaks_in n i = slice_index_or n.breaks i []
+
 abbrev pub notice : Seat → ℕ → Bool
 notice n i = slice_index_or n.notices i false
+
+-- how many octets of the first message in flight to an end were taken: none where a notice waits
+abbrev pub taken_in : Seat → ℕ → ℕ
+taken_in n i = if notice n i then 0 else length (kept_in n i)
 
 abbrev pub other : Seat → ℕ → Name
 other n i = slice_index_or (others_of n.who) i []
@@ -152,6 +167,12 @@ notice_at seats p = notice (seat seats p.node) p.session
 
 abbrev pub link_at : List Seat → Place → List (List ℕ)
 link_at seats p = link (seat seats p.node) p.session
+
+abbrev pub kept_at : List Seat → Place → List ℕ
+kept_at seats p = kept_in (seat seats p.node) p.session
+
+abbrev pub breaks_at : List Seat → Place → List ℕ
+breaks_at seats p = breaks_in (seat seats p.node) p.session
 
 -- an end is whole where it is live and no notice waits there. A session is down where an end is not whole
 abbrev pub whole_at : List Seat → Place → Bool

@@ -1,8 +1,10 @@
 -- What the steps of nodes make of their seats.
-use Rattle.std.specs.Prelude.{◌≡◌, ◌<◌, ℕ, List, [], ◌++◌, map, length, Bool, false, if◌then◌else◌}
+use Rattle.std.specs.Prelude.{◌≡◌, ◌<◌, ◌+◌, ◌-◌, ℕ, zero, suc, List, [], ◌∷◌, ◌++◌, map, length, Bool, true, false}
+use Rattle.std.specs.Prelude.{nat_lt, if◌then◌else◌}
 use Rattle.std.specs.declared.option.Option.{Option}
 use Rattle.std.specs.declared.option.Option.TheVariants.{Some, None}
 use Rattle.std.specs.List.{filter_map, slice_set}
+use Rattle.ov_link.specs.Breaks.{counted, is_break, with_break}
 use Rattle.ov_link.specs.declared.step.Input.{Input}
 use Rattle.item_wire.specs.declared.event.ItemCause.{ItemCause}
 use Rattle.ov_types.specs.declared.rows.NodeRows.{NodeRows}
@@ -11,6 +13,7 @@ use Rattle.route_targets.specs.Forwarding.{Forwarder}
 use Rattle.config_model.specs.declared.edit.Edit.{Edit}
 use Rattle.config_check.specs.Checked.{Checked}
 use Rattle.config_check.specs.declared.edits.EditFault.{EditFault}
+use Rattle.node_core.specs.Keeping.{AreSwept}
 use Rattle.node_core.specs.Whole.{session_of}
 use Rattle.node_model.specs.Agent.{rows as agent_rows}
 use Rattle.node_model.specs.Tables.{rows as control_rows}
@@ -22,39 +25,81 @@ use Rattle.control_node.specs.Core as controls
 use Rattle.control_node.specs.declared.cause.NodeCause.{NodeCause}
 use Rattle.agent_node.specs.Beginning as agent
 use Rattle.agent_node.specs.Core as agents
-use Rattle.net_model.specs.Seats.{Who, Configuring, Controlling, Forwarding, Seat, is_down_at, kind_of, link}
-use Rattle.net_model.specs.Seats.{others_of, seat}
+use Rattle.net_model.specs.Seats.{Who, Configuring, Controlling, Forwarding, Seat, breaks_at, breaks_in, far_of}
+use Rattle.net_model.specs.Seats.{is_down_at, kept_in, kind_of, link, live_at, others_of, seat}
 use Rattle.net_model.specs.declared.place.Place.{Place}
 
--- ---- an input makes this of its end
-abbrev pub BeginsAt : Who → ℕ → Post → Input → Begun → Type 0
-BeginsAt (Configuring x) i p input given = (c : Option ItemCause) × configuration.Begins x i p input given c
-BeginsAt (Controlling plan) i p input given = (c : Option NodeCause) × control.Begins plan i p input given c
-BeginsAt (Forwarding plan) i p input given = (c : Option ItemCause) × agent.Begins plan i p input given c
+-- ---- an input makes this of its end, where these octets were kept there, and these are kept then
+abbrev pub BeginsAt : Who → ℕ → Post → List ℕ → Input → Begun → List ℕ → Type 0
+BeginsAt (Configuring x) i p kept input given left =
+    (c : Option ItemCause) × configuration.BeginsKeeping x i p kept input given c left
+BeginsAt (Controlling plan) i p kept input given left =
+    (c : Option NodeCause) × control.BeginsKeeping plan i p kept input given c left
+BeginsAt (Forwarding plan) i p kept input given left =
+    (c : Option ItemCause) × agent.BeginsKeeping plan i p kept input given c left
 
--- ---- a step over links of which none fails: the replies are sent on the session of the input, and then each session
--- is told what is wanted as the pass begins
+-- ---- sends in turn, where some are to fail
+pub record Sending : Type 0 where
+  -- the messages that left, whether the one after them failed, and the sends that are to fail from then on
+  pub accepted : List (List ℕ)
+  pub failed : Bool
+  pub breaks : List ℕ
+
+abbrev pub behind : List ℕ → Sending → Sending
+behind octets s = record { accepted = octets ∷ s.accepted; failed = s.failed; breaks = s.breaks }
+
+-- messages leave in turn, up to the first that meets a break
+abbrev pub sending : List ℕ → List (List ℕ) → Sending
+sending breaks [] = record { accepted = []; failed = false; breaks = breaks }
+sending breaks (octets ∷ messages) =
+    if is_break breaks 1 then record { accepted = []; failed = true; breaks = counted breaks }
+    else behind octets (sending (counted breaks) messages)
+
+-- ---- a step: the replies are sent on the session of the input, and then each session is told what is wanted as the
+-- pass begins
+-- whether a reply fails, which closes the end before the pass
+abbrev pub reply_fails : Seat → ℕ → Begun → Bool
+reply_fails n session given = (sending (breaks_in n session) given.replies).failed
+
+-- what is sent on a session
+abbrev pub sent_on : Seat → ℕ → Begun → ℕ → Sending
+sent_on n session given i =
+    sending (breaks_in n i) (planned (kind_of n.who) n.posts session given (reply_fails n session given) i)
+
+-- a send that fails closes its end
+abbrev pub end_after : Bool → Post → Post
+end_after failed p = if failed then nothing else p
+
 pub record IsStepped (n n' : Seat) (session : ℕ) (given : Begun) : Type 0 where
   pub who : n'.who ≡ n.who
   pub notices : n'.notices ≡ n.notices
   pub posts_long : length n'.posts ≡ length n.posts
   pub links_long : length n'.links ≡ length n.links
+  pub breaks_long : length n'.breaks ≡ length n.breaks
   pub posts : (i : ℕ) → i < length n.posts
-      → post n'.posts i ≡ told_all (kind_of n.who) (begun n.posts session given false) i
-  pub links : (i : ℕ) → i < length n.posts
-      → link n' i ≡ link n i ++ planned (kind_of n.who) n.posts session given false i
+      → post n'.posts i
+      ≡ end_after (sent_on n session given i).failed
+      (told_all (kind_of n.who) (begun n.posts session given (reply_fails n session given)) i)
+  pub links : (i : ℕ) → i < length n.posts → link n' i ≡ link n i ++ (sent_on n session given i).accepted
+  pub breaks : (i : ℕ) → i < length n.posts → breaks_in n' i ≡ (sent_on n session given i).breaks
 
 -- a node takes an input
 pub record Takes (n n' : Seat) (input : Input) : Type 0 where
   pub given : Begun
-  pub begins : BeginsAt n.who (session_of input) (post n.posts (session_of input)) input given
+  pub left : List ℕ
+  pub begins : BeginsAt n.who (session_of input) (post n.posts (session_of input)) (kept_in n (session_of input)) input
+      given left
   pub stepped : IsStepped n n' (session_of input) given
+  pub swept : AreSwept n'.posts (slice_set n.kept (session_of input) left) n'.kept
 
 -- what is there is told anew, without an input
 abbrev pub as_it_is : Seat → Begun
 as_it_is n = record { replies = []; after = Some (post n.posts 0) }
 
 -- ---- changes of single places
+abbrev pub all_of : {A B : Type 0} → B → List A → List B
+all_of b xs = map (λ _. b) xs
+
 abbrev pub with_seat : ℕ → Seat → List Seat → List Seat
 with_seat k n seats = slice_set seats k n
 
@@ -68,34 +113,64 @@ with_notice p waits seats =
     with_seat p.node (record (seat seats p.node) { notices = slice_set (seat seats p.node).notices p.session waits })
     seats
 
--- what a node sent on sessions that are down is discarded
-pub record IsDiscarded (seats : List Seat) (k : ℕ) (n' : Seat) : Type 0 where
-  pub who : n'.who ≡ (seat seats k).who
-  pub posts : n'.posts ≡ (seat seats k).posts
-  pub notices : n'.notices ≡ (seat seats k).notices
-  pub links_long : length n'.links ≡ length (seat seats k).links
-  pub links : (i : ℕ) → i < length (seat seats k).posts
-      → link n' i
-      ≡ (if is_down_at seats (record { node = k; session = i }) then [] else link (seat seats k) i)
+abbrev pub with_break_at : Place → ℕ → List Seat → List Seat
+with_break_at p n seats =
+    with_seat p.node
+    (record (seat seats p.node) {
+      breaks = slice_set (seat seats p.node).breaks p.session (with_break n (breaks_at seats p));
+    })
+    seats
 
--- a node with nothing
-abbrev pub all_of : {A B : Type 0} → B → List A → List B
-all_of b xs = map (λ _. b) xs
+-- the messages that are still in flight once so many octets of them were taken
+abbrev pub untaken : ℕ → List (List ℕ) → List (List ℕ)
+untaken n [] = []
+untaken n (octets ∷ messages) =
+    if nat_lt n (length octets) then octets ∷ messages else untaken (n - length octets) messages
 
+-- no send is to fail
+abbrev pub unbroken : Seat → Seat
+unbroken n = record n { breaks = all_of [] n.breaks }
+
+-- ---- after a step
+-- an end is told of a loss, where it is live, and what left it is gone
+abbrev pub told_of_loss : List Seat → Option Place → List Seat
+told_of_loss seats None = seats
+told_of_loss seats (Some q) = with_link q [] (with_notice q (live_at seats q) seats)
+
+-- at an end that is not live no notice waits and nothing is in flight, and the other end is told of the loss. What left
+-- a live end is discarded where the session is down
+abbrev pub cleared_at : List Seat → Place → List Seat
+cleared_at seats p =
+    if live_at seats p then (if is_down_at seats p then with_link p [] seats else seats)
+    else told_of_loss (with_notice p false (with_link p [] seats)) (far_of seats p)
+
+-- those of n sessions, from the one with this number on
+abbrev pub cleared_from : ℕ → ℕ → ℕ → List Seat → List Seat
+cleared_from zero k i seats = seats
+cleared_from (suc n) k i seats = cleared_from n k (i + 1) (cleared_at seats (record { node = k; session = i }))
+
+abbrev pub cleared : List Seat → ℕ → List Seat
+cleared seats k = cleared_from (length (seat seats k).posts) k 0 seats
+
+-- a node with nothing. Which of its sends are to fail stays
 abbrev pub emptied : Seat → Seat
 emptied n = record {
   who = n.who;
   posts = all_of nothing n.posts;
+  kept = all_of [] n.kept;
   links = all_of [] n.links;
+  breaks = n.breaks;
   notices = all_of false n.notices;
 }
 
--- a seat of which every session is idle, with nothing in flight and no notice
+-- a seat of which every session is idle, with nothing in flight and no notice, and no send is to fail
 abbrev pub fresh_seat : Who → Seat
 fresh_seat who = record {
   who = who;
   posts = all_of nothing (others_of who);
+  kept = all_of [] (others_of who);
   links = all_of [] (others_of who);
+  breaks = all_of [] (others_of who);
   notices = all_of false (others_of who);
 }
 
@@ -106,6 +181,7 @@ MakesEdit seats x e (Some f) seats' = seats' ≡ seats
 MakesEdit seats x e None seats' =
     (y : Checked) × (n' : Seat) × (edited x e ≡ Some y)
     × IsStepped (record (seat seats 0) { who = Configuring y }) n' 0 (as_it_is (seat seats 0))
+    × AreSwept n'.posts (seat seats 0).kept n'.kept
     × (seats' ≡ with_seat 0 n' seats)
 
 -- ---- what is shown

@@ -1,10 +1,12 @@
 -- What a message makes of the end that takes it, as the node sees it.
-use Rattle.std.specs.Prelude.{List, [], ◌∷◌, map, Bool, true, if◌then◌else◌}
+use Rattle.std.specs.Prelude.{List, [], ◌∷◌, ◌++◌, map, Bool, true, if◌then◌else◌}
+use Rattle.std.specs.Option.{unwrap_or}
 use Rattle.std.specs.declared.option.Option.TheVariants.{Some, None}
 use Rattle.ov_sync.specs.Keyed.{changed}
 use Rattle.node_model.specs.Maps.{Map}
 use Rattle.node_model.specs.Step.{Begun, Phase, Opened, Post}
 use Rattle.network_model.specs.Session.{Message, Open, Keepalive, Hello, Carries}
+use Rattle.network_model.specs.Moments.{cell}
 use Rattle.net_model.specs.Seats.{Who}
 use Rattle.net_model.specs.Stands.{octets_of}
 
@@ -40,3 +42,32 @@ opened who peering p = record {
 
 abbrev pub closed : Begun
 closed = record { replies = []; after = None }
+
+-- ---- several messages, in turn
+-- the state that a message leads to, where it leads to one
+abbrev pub phase_after : Bool → Phase → Message → Phase
+phase_after peering phase m = unwrap_or (cell peering phase m) phase
+
+abbrev pub took_one : Bool → Post → Message → Post
+took_one peering p m = record {
+  phase = phase_after peering p.phase m;
+  sent = p.sent;
+  held = held_after m p.held;
+  wide = wide_after m p.wide;
+}
+
+abbrev pub took_all : Bool → Post → List Message → Post
+took_all peering p [] = p
+took_all peering p (m ∷ ms) = took_all peering (took_one peering p m) ms
+
+abbrev pub replies_to_all : Bool → Phase → List Message → List Message
+replies_to_all peering phase [] = []
+replies_to_all peering phase (m ∷ ms) =
+    replies_to peering phase m ++ replies_to_all peering (phase_after peering phase m) ms
+
+-- the end that took messages in turn: all replies follow then
+abbrev pub taken_all : Who → Bool → Post → List Message → Begun
+taken_all who peering p ms = record {
+  replies = map (octets_of who peering) (replies_to_all peering p.phase ms);
+  after = Some (took_all peering p ms);
+}

@@ -1,22 +1,21 @@
 -- At rest a control node holds of its peers what they want.
 use Rattle.std.specs.Cmp.Lexicographic.{bytes_decides}
-use Rattle.std.specs.List.{AllByRecursion, list_any}
+use Rattle.std.specs.List.{AllByRecursion}
 use Rattle.std.specs.Prelude.{List, cond, false, map, true, [], ◌++◌, ◌∷◌, ◌≡◌}
 use Rattle.std.proofs.Common.{ap, refl, subst, sym, ◌∙◌}
 use Rattle.ov_types.specs.First.{same_name}
 use Rattle.ov_types.specs.declared.rows.NodeId.{NodeId}
 use Rattle.config_check.specs.Checked.{Checked}
-use Rattle.node_model.specs.Maps.{Map}
 use Rattle.node_model.specs.Members.{Member}
 use Rattle.node_model.specs.Wants.{wanted_by_peers}
 use Rattle.node_model.proofs.Members.{any_in}
-use Rattle.network_model.specs.Moments.{Each, IsAtRest, IsAtRestWith, Nodes, nodes}
+use Rattle.network_model.specs.Moments.{Each, IsAtRest, IsAtRestWith, nodes}
 use Rattle.network_model.specs.Network.{Network, View, control_holdings, same_role, sessions_of, view, views_of, wanted, wanted_from, wanted_from_control, with_role}
 use Rattle.network_model.specs.Session.{Agent, Configuration, Controller, Role, Session, turned}
 use Rattle.network_model.specs.Setup.{Name}
 use Rattle.network_model.specs.Steps.{is_settled}
-use Rattle.network_model.proofs.AtRest.{settled_is_at_rest}
-use Rattle.network_model.proofs.Turns.{named_apart}
+use Rattle.network_model.proofs.Apart.{no_twins}
+use Rattle.network_model.proofs.AtRest.{at_rest}
 use Rattle.network_model.proofs.Twins.{NoTwins, all_to_own, each_and, each_weaker, own_to_all}
 use Rattle.compiled_laws.specs.Goal.{HasRoles, Party, role_of}
 use Rattle.compiled_laws.specs.Setups.{IsNamed}
@@ -24,9 +23,8 @@ use Rattle.compiled_laws.proofs.Placing.{control_named, is_laid}
 use Rattle.compiled_laws.proofs.Views.{far, fars_are, own_named, views}
 use Rattle.compiled_laws.specs.Goal.{others}
 use Rattle.headline_laws.proofs.Written.{sound_setup}
-use Rattle.net_model.specs.Seats.{Controlling, control_plan}
-use Rattle.net_model.specs.Stands.{any_size}
-use Rattle.net_model.proofs.Sizes.{positive}
+use Rattle.net_model.specs.Seats.{control_plan}
+use Rattle.net_model.specs.Stands.{message_size}
 use Rattle.control_node.specs.declared.plan.ControlPlan.{ControlPlan}
 use Rattle.seat_laws.specs.Wiring.{HasSessions}
 use Rattle.seat_laws.proofs.Lists.{first_is, rest_is, some_nothing}
@@ -34,7 +32,7 @@ use Rattle.seat_laws.proofs.Order.{site_sees}
 use Rattle.seat_laws.proofs.Parties.{client, root, site}
 use Rattle.seat_laws.proofs.Written.{written_named}
 use Rattle.told_laws.specs.Moments.{IsMoment}
-use Rattle.told_laws.proofs.Moments.{moment_sessions, moment_written}
+use Rattle.told_laws.proofs.Moments.{moment_nodes, moment_sessions, moment_sound, moment_told, moment_written}
 use Rattle.peering_laws.specs.Hearing.{HearsItsPeers, AllHearTheirPeers, told_by}
 
 -- ---- sessions of one role among others
@@ -150,14 +148,10 @@ module _ (w : Network) (m : IsMoment w) (rest : IsAtRest w) (twins : NoTwins (ma
     hears = all_heard (sessions_of c.name w.sessions) (fars_are c.name w.sessions ∙ ap (others c.name) has ∙ site_sees x named c i) heard_of
 
 -- ---- at a settled moment
-rests : (w : Network) → IsMoment w → is_settled w ≡ true → IsAtRest w
-rests w m =
-    subst (λ w. is_settled w ≡ true → IsAtRest w) (sym m.is) (settled_is_at_rest any_size positive m.opening m.events)
-
 without_twins : (w : Network) → IsMoment w → NoTwins (map nodes w.sessions)
 without_twins w m =
-    subst (λ (w : Network). NoTwins (map nodes w.sessions)) (sym m.is)
-    (named_apart any_size m.opening (written_named m.opening m.written).apart m.events)
+    subst NoTwins (sym (moment_nodes w m)) (no_twins m.opening (written_named m.opening m.written).apart)
 
 pub all_hear : (w : Network) → IsMoment w → is_settled w ≡ true → AllHearTheirPeers w
-all_hear w m settled c i = hears w m (rests w m settled) (without_twins w m) c i
+all_hear w m settled c i =
+    hears w m (at_rest message_size w (moment_sound w m) (moment_told w m) settled) (without_twins w m) c i

@@ -41,7 +41,7 @@ use Rattle.headline_laws.specs.Headline.{IsOfForm, IsWritten}
 use Rattle.headline_laws.proofs.Configured.{agents_show_rows, control_nodes_show_tables}
 use Rattle.headline_laws.proofs.Delivers.{found, written_delivers}
 use Rattle.headline_laws.proofs.Written.{compiled_now, written_now, written_settle_settles}
-use Rattle.net_model.specs.Stands.{any_size, moment}
+use Rattle.net_model.specs.Stands.{message_size, moment}
 use Rattle.net_model.proofs.Sizes.{positive}
 use Rattle.reach_plain.specs.Reachability.{reachability}
 use Rattle.reach_plain.proofs.Once.{passed_once}
@@ -58,19 +58,19 @@ each_once x valid p = each_once_as x valid p (reachability x.config p) refl
 
 -- ---- the answer of a place is that to its event, at the moment before it
 at_place : (es : List Written) (w : Network) (place : ℕ) (e : Written) (a : Answer)
-    → slice_get es place ≡ Some e → slice_get (run any_size w (map event_of es)) place ≡ Some a
-    → a ≡ answer_to (after any_size w (map event_of (take place es))) (event_of e)
+    → slice_get es place ≡ Some e → slice_get (run message_size w (map event_of es)) place ≡ Some a
+    → a ≡ answer_to (after message_size w (map event_of (take place es))) (event_of e)
 at_place [] w place e a is answered = absurd cc
 at_place (d ∷ es) w zero e a is answered = sym (same_Some (answer_to w (event_of d)) a answered) ∙ ap (λ x. answer_to w (event_of x)) (same_Some d e is)
-at_place (d ∷ es) w (suc place) e a is answered = at_place es (next any_size w (event_of d)) place e a is answered
+at_place (d ∷ es) w (suc place) e a is answered = at_place es (next message_size w (event_of d)) place e a is answered
 
 -- ---- the event of a place leads to the moment behind it
 moment_there : (es : List Written) (w : Network) (place : ℕ) (e : Written) → slice_get es place ≡ Some e
-    → after any_size w (map event_of (take (suc place) es))
-    ≡ next any_size (after any_size w (map event_of (take place es))) (event_of e)
+    → after message_size w (map event_of (take (suc place) es))
+    ≡ next message_size (after message_size w (map event_of (take place es))) (event_of e)
 moment_there [] w place e is = absurd cc
-moment_there (d ∷ es) w zero e is = ap (λ x. next any_size w (event_of x)) (same_Some d e is)
-moment_there (d ∷ es) w (suc place) e is = moment_there es (next any_size w (event_of d)) place e is
+moment_there (d ∷ es) w zero e is = ap (λ x. next message_size w (event_of x)) (same_Some d e is)
+moment_there (d ∷ es) w (suc place) e is = moment_there es (next message_size w (event_of d)) place e is
 
 -- ---- edits of the written form lead to configurations of it
 form_of_edited : (x : Checked) (d : Edit) (y : Checked) (f : Option EditFault) → IsTrue (has_edit_form d) → IsOfForm x
@@ -80,24 +80,25 @@ form_of_edited x d y None form old is =
 form_of_edited x d y (Some f) form old is = absurd cc
 
 module _ (w : Network) (old : IsOfForm w.setup) where
-  same_form : (e : Event) → ((d : Edit) → e ≢ Edits d) → IsOfForm (next any_size w e).setup
-  same_form e no_edit = subst IsOfForm (sym (setup_kept any_size w e no_edit)) old
+  same_form : (e : Event) → ((d : Edit) → e ≢ Edits d) → IsOfForm (next message_size w e).setup
+  same_form e no_edit = subst IsOfForm (sym (setup_kept message_size w e no_edit)) old
 
-  refused_form : (d : Edit) (f : EditFault) → edits.edit_fault w.setup d ≡ Some f → IsOfForm (next any_size w (Edits d)).setup
+  refused_form : (d : Edit) (f : EditFault) → edits.edit_fault w.setup d ≡ Some f → IsOfForm (next message_size w (Edits d)).setup
   unfolding next
   refused_form d f is = subst (λ (o : Option EditFault). IsOfForm (edits_of (edited_without o w.setup d) w).setup) (sym is) old
 
-  edit_form : (d : Edit) → IsTrue (has_edit_form d) → IsOfForm (next any_size w (Edits d)).setup
+  edit_form : (d : Edit) → IsTrue (has_edit_form d) → IsOfForm (next message_size w (Edits d)).setup
   edit_form d form =
-      elim (edits.edit_fault w.setup d) as (λ f. edits.edit_fault w.setup d ≡ f → IsOfForm (next any_size w (Edits d)).setup) [
-        | None ↦ λ is. subst IsOfForm (sym (edit_made any_size w d is)) (form_is_kept d w.setup.config form old)
+      elim (edits.edit_fault w.setup d) as (λ f. edits.edit_fault w.setup d ≡ f → IsOfForm (next message_size w (Edits d)).setup) [
+        | None ↦ λ is. subst IsOfForm (sym (edit_made message_size w d is)) (form_is_kept d w.setup.config form old)
         | Some f ↦ λ is. refused_form d f is
       ] refl
 
-  form_kept : (e : Written) → IsTrue (has_event_form e) → IsOfForm (next any_size w (event_of e)).setup
+  form_kept : (e : Written) → IsTrue (has_event_form e) → IsOfForm (next message_size w (event_of e)).setup
   unfolding has_event_form
   form_kept (written.Edit d) form = edit_form d form
   form_kept (written.Deliver from to n) form = same_form (event_of (written.Deliver from to n)) (λ d i. absurd cc)
+  form_kept (written.DeliverOctets from to n) form = same_form (event_of (written.DeliverOctets from to n)) (λ d i. absurd cc)
   form_kept (written.Lose a b) form = same_form (event_of (written.Lose a b)) (λ d i. absurd cc)
   form_kept (written.Connect a b) form = same_form (event_of (written.Connect a b)) (λ d i. absurd cc)
   form_kept (written.Restart name) form = same_form (event_of (written.Restart name)) (λ d i. absurd cc)
@@ -105,11 +106,13 @@ module _ (w : Network) (old : IsOfForm w.setup) where
   form_kept written.Settle form = same_form (event_of written.Settle) (λ d i. absurd cc)
   form_kept (written.Show name) form = same_form (event_of (written.Show name)) (λ d i. absurd cc)
   form_kept (written.Trace p) form = same_form (event_of (written.Trace p)) (λ d i. absurd cc)
+  form_kept (written.Break from to n) form = same_form (event_of (written.Break from to n)) (λ d i. absurd cc)
 
   edit_of_form : (e : Written) → IsTrue (has_event_form e) → EditIsValid IsOfForm w (event_of e)
   unfolding has_event_form
   edit_of_form (written.Edit d) form = λ y is. form_of_edited w.setup d y (edits.edit_fault w.setup d) form old is
   edit_of_form (written.Deliver from to n) form = tt
+  edit_of_form (written.DeliverOctets from to n) form = tt
   edit_of_form (written.Lose a b) form = tt
   edit_of_form (written.Connect a b) form = tt
   edit_of_form (written.Restart name) form = tt
@@ -117,13 +120,14 @@ module _ (w : Network) (old : IsOfForm w.setup) where
   edit_of_form written.Settle form = tt
   edit_of_form (written.Show name) form = tt
   edit_of_form (written.Trace p) form = tt
+  edit_of_form (written.Break from to n) form = tt
 
 pub edits_of_form : (es : List Written) (w : Network) → IsTrue (list_all has_event_form es) → IsOfForm w.setup
-    → EditsAreValid any_size IsOfForm w (map event_of es)
+    → EditsAreValid message_size IsOfForm w (map event_of es)
 edits_of_form [] w forms old = tt
 edits_of_form (e ∷ es) w forms old =
     let parts = and_parts (has_event_form e) (list_all has_event_form es) forms in
-    (edit_of_form w old e parts.0, edits_of_form es (next any_size w (event_of e)) parts.1 (form_kept w old e parts.0))
+    (edit_of_form w old e parts.0, edits_of_form es (next message_size w (event_of e)) parts.1 (form_kept w old e parts.0))
 
 pub forms_of_front : (place : ℕ) (es : List Written) → IsTrue (list_all has_event_form es) → IsTrue (list_all has_event_form (take place es))
 forms_of_front zero es forms = refl
@@ -133,9 +137,9 @@ forms_of_front (suc place) (e ∷ es) forms =
     and_from (has_event_form e) (list_all has_event_form (take place es)) parts.0 (forms_of_front place es parts.1)
 
 -- ---- a moment of any schedule
-module _ (x : Checked) (valid : IsWritten x) (before : List Event) (asked : EditsAreValid any_size IsOfForm (start x) before) where
+module _ (x : Checked) (valid : IsWritten x) (before : List Event) (asked : EditsAreValid message_size IsOfForm (start x) before) where
   abbrev w : Network
-  w = after any_size (start x) before
+  w = after message_size (start x) before
 
   -- what shows, where a name is a node's
   shown_there : (name : List ℕ) (rows : NodeRows) → is_node w name ≡ true → shown w name ≡ rows → answer_to w (Show name) ≡ Shown rows
@@ -148,7 +152,7 @@ module _ (x : Checked) (valid : IsWritten x) (before : List Event) (asked : Edit
       (shown_there c.name (Rows.Control (control_rows w.setup.topology w.setup.config))
       (or_left (list_any (λ (d : NodeId). same_name d.name c.name) w.setup.topology.controllers) (is_some (node_named w.setup.topology c.name))
       (any_in (λ (d : NodeId). same_name d.name c.name) c w.setup.topology.controllers among (same_name_self c.name)))
-      (control_nodes_show_tables any_size positive x valid before asked settled c among))
+      (control_nodes_show_tables message_size positive x valid before asked settled c among))
 
   at_agent : is_settled w ≡ true → (name : List ℕ) (n : Node) → Member n w.setup.topology.nodes → n.name ≡ name
       → answer_to w (Show name) ≡ Shown (Rows.Agent (agent_rows w.setup.topology w.setup.config n.address))
@@ -156,22 +160,24 @@ module _ (x : Checked) (valid : IsWritten x) (before : List Event) (asked : Edit
       subst (λ name. answer_to w (Show name) ≡ Shown (Rows.Agent (agent_rows w.setup.topology w.setup.config n.address))) is
       (shown_there n.name (Rows.Agent (agent_rows w.setup.topology w.setup.config n.address))
       (or_right (list_any (λ (d : NodeId). same_name d.name n.name) w.setup.topology.controllers) (is_some (node_named w.setup.topology n.name))
-      (ap is_some (found w (written_now any_size positive x valid before asked) (compiled_now any_size positive x valid before asked) settled n among)))
-      (agents_show_rows any_size positive x valid before asked settled n among))
+      (ap is_some (found w (written_now message_size positive x valid before asked) (compiled_now message_size positive x valid before asked) settled n among)))
+      (agents_show_rows message_size positive x valid before asked settled n among))
 
   pub compiled_at : is_settled w ≡ true → (e : Written) → AnswersCompiled w.setup e (answer_to w (event_of e))
   compiled_at settled (written.Show name) = (at_control settled name, at_agent settled name)
   compiled_at settled (written.Trace p) = (
-    ap Traced (written_delivers any_size positive x valid before asked settled p),
-    each_once w.setup (written_now any_size positive x valid before asked) p,
+    ap Traced (written_delivers message_size positive x valid before asked settled p),
+    each_once w.setup (written_now message_size positive x valid before asked) p,
   )
   compiled_at settled (written.Edit d) = tt
   compiled_at settled (written.Deliver from to n) = tt
+  compiled_at settled (written.DeliverOctets from to n) = tt
   compiled_at settled (written.Lose a b) = tt
   compiled_at settled (written.Connect a b) = tt
   compiled_at settled (written.Restart name) = tt
   compiled_at settled written.Round = tt
   compiled_at settled written.Settle = tt
+  compiled_at settled (written.Break from to n) = tt
 
 -- ---- a moment of the schedule
 module _ (x : Checked) (valid : IsWritten x) (es : List Written) (forms : IsTrue (list_all has_event_form es)) (place : ℕ) where
@@ -181,13 +187,13 @@ module _ (x : Checked) (valid : IsWritten x) (es : List Written) (forms : IsTrue
   abbrev w_there : Network
   w_there = moment x (take place es)
 
-  asked_there : EditsAreValid any_size IsOfForm (start x) before_it
+  asked_there : EditsAreValid message_size IsOfForm (start x) before_it
   asked_there = edits_of_form (take place es) (start x) (forms_of_front place es forms) valid.config
 
-  settles_at : (e : Written) (w' : Network) → w' ≡ next any_size w_there (event_of e) → SettlesAtOnce w_there e (answer_to w_there (event_of e)) w'
+  settles_at : (e : Written) (w' : Network) → w' ≡ next message_size w_there (event_of e) → SettlesAtOnce w_there e (answer_to w_there (event_of e)) w'
   unfolding next
   settles_at written.Settle w' leads =
-      let s = written_settle_settles any_size positive x valid before_it asked_there in
+      let s = written_settle_settles message_size positive x valid before_it asked_there in
       record {
         rounds = (settle w_there).0;
         is = ap (λ b. Rounds (settle w_there).0 b) s.0;
@@ -198,10 +204,12 @@ module _ (x : Checked) (valid : IsWritten x) (es : List Written) (forms : IsTrue
   settles_at (written.Trace p) w' leads = tt
   settles_at (written.Edit d) w' leads = tt
   settles_at (written.Deliver from to n) w' leads = tt
+  settles_at (written.DeliverOctets from to n) w' leads = tt
   settles_at (written.Lose a b) w' leads = tt
   settles_at (written.Connect a b) w' leads = tt
   settles_at (written.Restart name) w' leads = tt
   settles_at written.Round w' leads = tt
+  settles_at (written.Break from to n) w' leads = tt
 
   answer_there : (e : Written) (a : Answer) → StandsAt es (answers x es) place e a → a ≡ answer_to w_there (event_of e)
   answer_there e a at = at_place es (start x) place e a at.event at.answer

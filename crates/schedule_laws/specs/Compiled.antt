@@ -19,12 +19,12 @@ use Rattle.node_model.specs.Members.{Member}
 use Rattle.network_model.specs.Network.{start}
 use Rattle.network_model.specs.Steps.{is_settled}
 use Rattle.network_model.specs.Events.{event_of, run}
-use Rattle.net_model.specs.Stands.{any_size, moment}
+use Rattle.net_model.specs.Stands.{message_size, moment}
 use Rattle.schedule_laws.specs.Ends.{SettlesAtOnce}
 
 -- what the events of a schedule answer, from a network that is empty
 abbrev pub answers : Checked → List Event → List Answer
-answers x es = run any_size (start x) (map event_of es)
+answers x es = run message_size (start x) (map event_of es)
 
 -- no service is passed twice
 abbrev pub PassesEachOnce : Outcome → Type 0

@@ -12,7 +12,7 @@ use Rattle.network_laws.specs.Settling.{EditsAreValid}
 use Rattle.network_model.specs.Events.{Event, Edits, Deliver, DeliverOctets, Lose, Connect, Restart, Round, Settle, Show, Trace, Break, after, event_of, next}
 use Rattle.network_model.specs.Network.{start}
 use Rattle.network_model.specs.Setup.{edited}
-use Rattle.net_model.specs.Stands.{any_size, moment}
+use Rattle.net_model.specs.Stands.{message_size, moment}
 use Rattle.headline_laws.specs.Headline.{IsOfForm, IsWritten}
 use Rattle.schedule_laws.proofs.AsCompiled.{edits_of_form}
 use Rattle.isolation_laws.specs.Refusing.{TiedNetwork, after_tied, breaks, kept_events, next_tied, refuses, tied_start}
@@ -41,7 +41,7 @@ refused_is s (Break a b n) = refl
 
 -- ---- the events of a document that are kept
 abbrev pub stepped : TiedNetwork → Event → TiedNetwork
-stepped s e = record { ties = ties_next s.ties s.network e; network = next any_size s.network e }
+stepped s e = record { ties = ties_next s.ties s.network e; network = next message_size s.network e }
 
 abbrev pub kept_from : TiedNetwork → List Written → List Written
 kept_from s [] = []
@@ -52,19 +52,19 @@ abbrev pub kept : Checked → List Written → List Written
 kept x es = kept_from (tied_start x) es
 
 kept_is : (s : TiedNetwork) (es : List Written)
-    → map event_of (kept_from s es) ≡ kept_events any_size s (map event_of es)
+    → map event_of (kept_from s es) ≡ kept_events message_size s (map event_of es)
 kept_is s [] = refl
 kept_is s (e ∷ es) =
     elim (refuses s.ties s.network (event_of e)) as (λ b. map event_of (cond b (kept_from s es) (e ∷ kept_from (stepped s (event_of e)) es))
-    ≡ cond b (kept_events any_size s (map event_of es)) (event_of e ∷ kept_events any_size (stepped s (event_of e)) (map event_of es))) [
+    ≡ cond b (kept_events message_size s (map event_of es)) (event_of e ∷ kept_events message_size (stepped s (event_of e)) (map event_of es))) [
       | true ↦ kept_is s es
       | false ↦ ap (λ (ys : List Event). event_of e ∷ ys) (kept_is (stepped s (event_of e)) es)
     ]
 
 pub same_moment : (x : Checked) (es : List Written) → (tied_moment x es).network ≡ moment x (kept x es)
 same_moment x es =
-    keeps_what_is_not_refused any_size (tied_start x) (map event_of es)
-    ∙ ap (after any_size (start x)) (sym (kept_is (tied_start x) es))
+    keeps_what_is_not_refused message_size (tied_start x) (map event_of es)
+    ∙ ap (after message_size (start x)) (sym (kept_is (tied_start x) es))
 
 -- they have the form that all have
 kept_forms : (s : TiedNetwork) (es : List Written) → IsTrue (list_all has_event_form es)
@@ -79,11 +79,11 @@ kept_forms s (e ∷ es) forms =
     ]
 
 module _ (x : Checked) (written : IsWritten x) (es : List Written) (forms : IsTrue (list_all has_event_form es)) where
-  pub asked_of_kept : EditsAreValid any_size IsOfForm (start x) (map event_of (kept x es))
+  pub asked_of_kept : EditsAreValid message_size IsOfForm (start x) (map event_of (kept x es))
   asked_of_kept = edits_of_form (kept x es) (start x) (kept_forms (tied_start x) es forms) written.config
 
-  pub asked_with_ties : EditsAreValid any_size IsOfForm (start x) (kept_events any_size (tied_start x) (map event_of es))
-  asked_with_ties = subst (EditsAreValid any_size IsOfForm (start x)) (kept_is (tied_start x) es) asked_of_kept
+  pub asked_with_ties : EditsAreValid message_size IsOfForm (start x) (kept_events message_size (tied_start x) (map event_of es))
+  asked_with_ties = subst (EditsAreValid message_size IsOfForm (start x)) (kept_is (tied_start x) es) asked_of_kept
 
 -- ---- an event more
 map_more : (es : List Written) (e : Written) → map event_of (es ++ e ∷ []) ≡ map event_of es ++ event_of e ∷ []
@@ -91,7 +91,7 @@ map_more [] e = refl
 map_more (d ∷ es) e = ap (λ (ys : List Event). event_of d ∷ ys) (map_more es e)
 
 pub tied_more : (x : Checked) (es : List Written) (e : Written)
-    → tied_moment x (es ++ e ∷ []) ≡ next_tied any_size (tied_moment x es) (event_of e)
+    → tied_moment x (es ++ e ∷ []) ≡ next_tied message_size (tied_moment x es) (event_of e)
 tied_more x es e =
-    ap (after_tied any_size (tied_start x)) (map_more es e)
-    ∙ (goes_on any_size (tied_start x) (map event_of es) (event_of e)).0
+    ap (after_tied message_size (tied_start x)) (map_more es e)
+    ∙ (goes_on message_size (tied_start x) (map event_of es) (event_of e)).0

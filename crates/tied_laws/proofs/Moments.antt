@@ -22,7 +22,7 @@ use Rattle.headline_laws.proofs.Written.{written_rounds_settle, written_settle_s
 use Rattle.network_model.specs.Events.{Settle, answer_to, event_of, forwarders, next}
 use Rattle.network_model.specs.Network.{Network}
 use Rattle.network_model.specs.Steps.{is_settled, settle}
-use Rattle.net_model.specs.Stands.{any_size}
+use Rattle.net_model.specs.Stands.{message_size}
 use Rattle.net_model.proofs.Sizes.{positive}
 use Rattle.schedule_script.specs.declared.answer.Answer.{Answer}
 use Rattle.schedule_script.specs.declared.answer.Answer.TheVariants.{Rounds, Traced}
@@ -50,6 +50,7 @@ pub of_answer : (Fact : Answer → Type 0) (s : TiedNetwork) (e : Written) → F
 of_answer Fact s (written.Edit d) h =
     edit_or_tie Fact d (tie_broken s (event_of (written.Edit d))) (answer_to s.network (event_of (written.Edit d))) h
 of_answer Fact s (written.Deliver from to n) h = h
+of_answer Fact s (written.DeliverOctets from to n) h = h
 of_answer Fact s (written.Lose a b) h = h
 of_answer Fact s (written.Connect a b) h = h
 of_answer Fact s (written.Restart name) h = h
@@ -57,6 +58,7 @@ of_answer Fact s written.Round h = h
 of_answer Fact s written.Settle h = h
 of_answer Fact s (written.Show name) h = h
 of_answer Fact s (written.Trace p) h = h
+of_answer Fact s (written.Break from to n) h = h
 
 -- ---- a delivery
 delivered_as : (Joins : PortNo → PortNo → Type 0) (w : Network) (p : Packet)
@@ -73,15 +75,17 @@ of_delivery Joins s h (written.Trace p) =
     delivered_as Joins s.network p (h p) (forwarding (forwarders s.network) p) refl
 of_delivery Joins s h (written.Edit d) = tt
 of_delivery Joins s h (written.Deliver from to n) = tt
+of_delivery Joins s h (written.DeliverOctets from to n) = tt
 of_delivery Joins s h (written.Lose a b) = tt
 of_delivery Joins s h (written.Connect a b) = tt
 of_delivery Joins s h (written.Restart name) = tt
 of_delivery Joins s h written.Round = tt
 of_delivery Joins s h written.Settle = tt
 of_delivery Joins s h (written.Show name) = tt
+of_delivery Joins s h (written.Break from to n) = tt
 
 -- ---- `settle` ends settled
-ends_settled : (w : Network) → SettleSettles w → (e : Written) (w' : Network) → w' ≡ next any_size w (event_of e)
+ends_settled : (w : Network) → SettleSettles w → (e : Written) (w' : Network) → w' ≡ next message_size w (event_of e)
     → SettlesAtOnce w e (answer_to w (event_of e)) w'
 unfolding next
 ends_settled w s written.Settle w' leads = record {
@@ -94,39 +98,43 @@ ends_settled w s (written.Show name) w' leads = tt
 ends_settled w s (written.Trace p) w' leads = tt
 ends_settled w s (written.Edit d) w' leads = tt
 ends_settled w s (written.Deliver from to n) w' leads = tt
+ends_settled w s (written.DeliverOctets from to n) w' leads = tt
 ends_settled w s (written.Lose a b) w' leads = tt
 ends_settled w s (written.Connect a b) w' leads = tt
 ends_settled w s (written.Restart name) w' leads = tt
 ends_settled w s written.Round w' leads = tt
+ends_settled w s (written.Break from to n) w' leads = tt
 
 -- the network goes on as the one without ties does; of an edit nothing is asked
 ends_next : (s : TiedNetwork) → SettleSettles s.network → (e : Written)
-    → EndsAtOnce s e (answer_tied s (event_of e)) (next_tied any_size s (event_of e))
+    → EndsAtOnce s e (answer_tied s (event_of e)) (next_tied message_size s (event_of e))
 ends_next s h (written.Edit d) =
     edit_or_tie (λ a. ⊤) d (tie_broken s (event_of (written.Edit d))) (answer_to s.network (event_of (written.Edit d))) tt
 ends_next s h (written.Show name) = tt
 ends_next s h (written.Trace p) = tt
 ends_next s h (written.Deliver from to n) = tt
+ends_next s h (written.DeliverOctets from to n) = tt
 ends_next s h (written.Lose a b) = tt
 ends_next s h (written.Connect a b) = tt
 ends_next s h (written.Restart name) = tt
 ends_next s h written.Round = tt
-ends_next s h written.Settle = ends_settled s.network h written.Settle (next any_size s.network Settle) refl
+ends_next s h written.Settle = ends_settled s.network h written.Settle (next message_size s.network Settle) refl
+ends_next s h (written.Break from to n) = tt
 
 -- ---- a moment
 module _ (x : Checked) (valid : IsWritten x) (es : List Written) (forms : IsTrue (list_all has_event_form es)) where
   abbrev s : TiedNetwork
   s = tied_moment x es
 
-  pub tied_rounds : SettlesInTime any_size s.network
+  pub tied_rounds : SettlesInTime message_size s.network
   tied_rounds =
-      subst (SettlesInTime any_size) (sym (same_moment x es))
-      (written_rounds_settle any_size positive x valid (map event_of (kept x es)) (asked_of_kept x valid es forms))
+      subst (SettlesInTime message_size) (sym (same_moment x es))
+      (written_rounds_settle message_size positive x valid (map event_of (kept x es)) (asked_of_kept x valid es forms))
 
   tied_settles : SettleSettles s.network
   tied_settles =
       subst SettleSettles (sym (same_moment x es))
-      (written_settle_settles any_size positive x valid (map event_of (kept x es)) (asked_of_kept x valid es forms))
+      (written_settle_settles message_size positive x valid (map event_of (kept x es)) (asked_of_kept x valid es forms))
 
   kept_compiled : is_settled s.network ≡ true → (e : Written)
       → AnswersCompiled s.network.setup e (answer_to s.network (event_of e))
@@ -138,21 +146,21 @@ module _ (x : Checked) (valid : IsWritten x) (es : List Written) (forms : IsTrue
   pub compiled_here : (e : Written) → IsAsCompiled s e (answer_tied s (event_of e))
   compiled_here e = λ settled. of_answer (AnswersCompiled s.network.setup e) s e (kept_compiled settled e)
 
-  pub ends_here : (e : Written) → EndsAtOnce s e (answer_tied s (event_of e)) (next_tied any_size s (event_of e))
+  pub ends_here : (e : Written) → EndsAtOnce s e (answer_tied s (event_of e)) (next_tied message_size s (event_of e))
   ends_here e = ends_next s tied_settles e
 
   pub joined_here : (e : Written) → DeliversTied s.ties e (answer_tied s (event_of e))
   joined_here e =
       of_delivery (AreJoined s.ties) s
-      (joined_with_ties any_size positive x valid (map event_of es) (asked_with_ties x valid es forms)) e
+      (joined_with_ties message_size positive x valid (map event_of es) (asked_with_ties x valid es forms)) e
 
   stay_joined : (p : Packet) (q : PortNo) (services : List ServiceNo)
       → forwarding (forwarders s.network) p ≡ Delivered q services → StayJoined (configs_so_far x es) p.source q
   stay_joined p q services is =
       let asked = asked_with_ties x valid es forms in
       record {
-        stood = isolated_with_ties any_size positive x valid (map event_of es) asked p q services is;
-        near = among_with_ties any_size positive x valid (map event_of es) asked p q services is;
+        stood = isolated_with_ties message_size positive x valid (map event_of es) asked p q services is;
+        near = among_with_ties message_size positive x valid (map event_of es) asked p q services is;
       }
 
   pub isolated_here : (e : Written) → DeliversSoFar x es e (answer_tied s (event_of e))

@@ -9,7 +9,7 @@ use Rattle.config_model.specs.declared.event.Event.{Event as Written}
 use Rattle.config_check.specs.Checked.{Checked}
 use Rattle.headline_laws.specs.Headline.{IsWritten}
 use Rattle.network_model.specs.Events.{event_of}
-use Rattle.net_model.specs.Stands.{any_size}
+use Rattle.net_model.specs.Stands.{message_size}
 use Rattle.schedule_laws.proofs.AsCompiled.{forms_of_front}
 use Rattle.tied_answers.specs.declared.answer.TiedAnswer.{TiedAnswer}
 use Rattle.isolation_laws.specs.Refusing.{TiedNetwork, after_tied, next_tied, tied_start}
@@ -19,19 +19,19 @@ use Rattle.tied_laws.specs.Runs.{answer_tied, answers, run_tied, tied_moment}
 use Rattle.tied_laws.proofs.Moments.{compiled_here, ends_here, isolated_here}
 
 at_place : (es : List Written) (s : TiedNetwork) (place : ℕ) (e : Written) (a : TiedAnswer)
-    → slice_get es place ≡ Some e → slice_get (run_tied any_size s (map event_of es)) place ≡ Some a
-    → a ≡ answer_tied (after_tied any_size s (map event_of (take place es))) (event_of e)
+    → slice_get es place ≡ Some e → slice_get (run_tied message_size s (map event_of es)) place ≡ Some a
+    → a ≡ answer_tied (after_tied message_size s (map event_of (take place es))) (event_of e)
 at_place [] s place e a is answered = absurd cc
 at_place (d ∷ es) s zero e a is answered =
     sym (same_Some (answer_tied s (event_of d)) a answered) ∙ ap (λ y. answer_tied s (event_of y)) (same_Some d e is)
-at_place (d ∷ es) s (suc place) e a is answered = at_place es (next_tied any_size s (event_of d)) place e a is answered
+at_place (d ∷ es) s (suc place) e a is answered = at_place es (next_tied message_size s (event_of d)) place e a is answered
 
 behind : (es : List Written) (s : TiedNetwork) (place : ℕ) (e : Written) → slice_get es place ≡ Some e
-    → after_tied any_size s (map event_of (take (suc place) es))
-    ≡ next_tied any_size (after_tied any_size s (map event_of (take place es))) (event_of e)
+    → after_tied message_size s (map event_of (take (suc place) es))
+    ≡ next_tied message_size (after_tied message_size s (map event_of (take place es))) (event_of e)
 behind [] s place e is = absurd cc
-behind (d ∷ es) s zero e is = ap (λ y. next_tied any_size s (event_of y)) (same_Some d e is)
-behind (d ∷ es) s (suc place) e is = behind es (next_tied any_size s (event_of d)) place e is
+behind (d ∷ es) s zero e is = ap (λ y. next_tied message_size s (event_of y)) (same_Some d e is)
+behind (d ∷ es) s (suc place) e is = behind es (next_tied message_size s (event_of d)) place e is
 
 module _ (x : Checked) (valid : IsWritten x) (es : List Written) (forms : IsTrue (list_all has_event_form es)) where
   answer_at : (place : ℕ) (e : Written) (a : TiedAnswer) → StandsAt es (answers x es) place e a

@@ -15,7 +15,7 @@ use Rattle.network_model.specs.Events.{Event, Edits, answer_to, event_of}
 use Rattle.network_model.specs.Network.{start}
 use Rattle.network_model.specs.Session.{Message}
 use Rattle.network_model.specs.Setup.{Name, edited}
-use Rattle.net_model.specs.Stands.{any_size}
+use Rattle.net_model.specs.Stands.{message_size}
 use Rattle.isolation_laws.specs.Refusing.{TiedNetwork, after_tied, kept_events, next_tied, tied_start}
 use Rattle.isolation_laws.specs.Running.{configs}
 
@@ -45,12 +45,12 @@ module _ (size : Name → Message → ℕ) where
 
 -- the moment after these events, from a network that is empty: its ties, and the network
 abbrev pub tied_moment : Checked → List Written → TiedNetwork
-tied_moment x es = after_tied any_size (tied_start x) (map event_of es)
+tied_moment x es = after_tied message_size (tied_start x) (map event_of es)
 
 -- the configurations so far, from the opening one on
 abbrev pub configs_so_far : Checked → List Written → List Config
-configs_so_far x es = configs any_size (start x) (kept_events any_size (tied_start x) (map event_of es))
+configs_so_far x es = configs message_size (start x) (kept_events message_size (tied_start x) (map event_of es))
 
 -- what the events of a schedule answer, from a network that is empty
 abbrev pub answers : Checked → List Written → List TiedAnswer
-answers x es = run_tied any_size (tied_start x) (map event_of es)
+answers x es = run_tied message_size (tied_start x) (map event_of es)

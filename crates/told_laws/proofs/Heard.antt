@@ -1,26 +1,28 @@
 -- At every moment all that is in flight can be heard.
 use Rattle.std.specs.List.{AllByRecursion}
 use Rattle.std.specs.Prelude.{List, map, [], ◌∷◌}
-use Rattle.std.proofs.Common.{subst, sym}
 use Rattle.ov_sync.proofs.KeyedLaws.{empty_values}
 use Rattle.config_check.specs.Checked.{Checked}
 use Rattle.node_model.specs.Keys.{key_cmp}
-use Rattle.network_model.specs.Events.{after}
+use Rattle.network_model.specs.Events.{Event, next}
 use Rattle.network_model.specs.Moments.{Each, nodes}
 use Rattle.network_model.specs.Network.{Network, start}
 use Rattle.network_model.specs.Session.{Carries, Hello, Keepalive, Message, Open, Role, Session}
+use Rattle.network_model.specs.Steps.{without_breaks}
+use Rattle.network_model.proofs.NetworkFact.{each_map}
 use Rattle.network_model.proofs.Start.{start_each}
-use Rattle.network_laws.proofs.EachFact.{after_keeps}
+use Rattle.network_laws.specs.Settling.{EditIsValid}
+use Rattle.network_laws.proofs.EachFact.{Keeps, after_keeps}
 use Rattle.compiled_laws.specs.Goal.{HasRoles}
 use Rattle.compiled_laws.proofs.Placing.{is_laid}
 use Rattle.object_laws.proofs.Law.{low_fits}
-use Rattle.headline_laws.specs.Headline.{IsWritten}
+use Rattle.headline_laws.specs.Headline.{IsOfForm, IsWritten}
 use Rattle.headline_laws.proofs.Written.{sound_setup}
-use Rattle.net_model.specs.Stands.{any_size}
+use Rattle.net_model.specs.Stands.{message_size}
 use Rattle.net_model.specs.Telling.{CanBeHeard, CanSend}
-use Rattle.told_laws.specs.Moments.{IsMoment}
+use Rattle.told_laws.specs.Moments.{IsMoment, unbroken}
 use Rattle.told_laws.proofs.Fitness.{IsFit, can_carry}
-use Rattle.told_laws.proofs.Moments.{Follows, all_follow, at_first}
+use Rattle.told_laws.proofs.Moments.{Follows, at_first, at_moment, follows_edit}
 use Rattle.told_laws.proofs.SentFact.{EntriesOf, IsSent, MessageOf, MessagesOf, SentAt, sent_keeps}
 use Rattle.told_laws.proofs.Wanted.{back, wants_fit}
 
@@ -67,16 +69,30 @@ all_heard x (s ∷ ss) f = (
   all_heard x ss f.1,
 )
 
-module _ (w : Network) (m : IsMoment w) where
-  abbrev opening : Checked
-  opening = m.opening
+-- ---- at every moment
+module _ (x : Checked) where
+  keeps : Keeps message_size (Follows x) (AllSent x) (λ s k. EntriesOf (IsFit s.near.role s.far.role) k)
+  keeps =
+      sent_keeps IsFit (HasRoles x) (back x) message_size (Follows x)
+      (wants_fit x (Follows x)
+      (λ y f. (f.written.topology, low_fits y f.written.topology f.written.config f.written.valid)))
 
-  sent_now : Each (AllSent opening) (after any_size (start opening) m.events).sessions
-  sent_now =
-      (after_keeps any_size (Follows opening) (AllSent opening) (λ s k. EntriesOf (IsFit s.near.role s.far.role) k)
-      (sent_keeps IsFit (HasRoles opening) (back opening) any_size (Follows opening) (wants_fit opening (Follows opening) (λ y f. (f.written.topology, low_fits y f.written.topology f.written.config f.written.valid))))
-      (start opening) m.events (all_follow opening m.written m.events m.edits)
-      (at_first opening m.written m.events m.edits, start_sent opening m.written)).1
+  abbrev HasSent : Network → Type 0
+  HasSent w = Follows x w.setup × Each (AllSent x) w.sessions
 
-  pub heard : AllByRecursion CanBeHeard w.sessions
-  heard = subst (λ (w : Network). AllByRecursion CanBeHeard w.sessions) (sym m.is) (all_heard opening (after any_size (start opening) m.events).sessions sent_now)
+  sent_removed : (w : Network) → HasSent w → HasSent (unbroken w)
+  sent_removed w h =
+      (h.0, each_map (AllSent x) (AllSent x) without_breaks (λ s f. keeps.breaks [] [] s f) w.sessions h.1)
+
+  sent_followed : (w : Network) (e : Event) → EditIsValid IsOfForm w e → HasSent w → HasSent (next message_size w e)
+  sent_followed w e valid h =
+      after_keeps message_size (Follows x) (AllSent x) (λ s k. EntriesOf (IsFit s.near.role s.far.role) k) keeps w
+      (e ∷ []) (follows_edit x w e valid h.0, tt) h
+
+sent_now : (w : Network) (m : IsMoment w) → Each (AllSent m.opening) w.sessions
+sent_now w m =
+    (at_moment (HasSent m.opening) (sent_removed m.opening) (sent_followed m.opening) w m
+    (at_first m.opening m.written, start_sent m.opening m.written)).1
+
+pub heard : (w : Network) → IsMoment w → AllByRecursion CanBeHeard w.sessions
+heard w m = all_heard m.opening w.sessions (sent_now w m)

@@ -1,4 +1,4 @@
--- What a moment's configuration and sessions are, and the moment after the next event.
+-- What holds at every moment of its configuration and of its sessions, and the moment after the next move.
 use Rattle.std.specs.Prelude.{IsTrue, List, map, [], ◌++◌, ◌∷◌, ◌≡◌}
 use Rattle.std.specs.declared.option.Option.TheVariants.{None, Some}
 use Rattle.std.specs.declared.option.Option.{Option}
@@ -12,21 +12,43 @@ use Rattle.config_check.specs.Edits as edits
 use Rattle.config_check.specs.Edits.{edit_fault}
 use Rattle.config_check.specs.Rules.{first_broken}
 use Rattle.config_check.specs.declared.edits.EditFault.{EditFault}
+use Rattle.node_model.specs.Maps.{Map}
 use Rattle.node_model.proofs.Members.{none_some}
 use Rattle.network_model.specs.Events.{Event, after, next}
-use Rattle.network_model.specs.Moments.{nodes}
-use Rattle.network_model.specs.Network.{Network, accesses, feeds, peerings, sessions_of, start, views_of}
+use Rattle.network_model.specs.Moments.{Each, nodes}
+use Rattle.network_model.specs.Network.{Network, accesses, feeds, peerings, sessions_of, start}
+use Rattle.network_model.specs.Session.{Session}
 use Rattle.network_model.specs.Setup.{edited, edited_without}
-use Rattle.network_model.proofs.NodesFact.{after_nodes}
-use Rattle.network_laws.specs.Settling.{EditIsValid, EditsAreValid, WantsFair}
-use Rattle.network_laws.proofs.RanksSettle.{kept, stay_valid}
+use Rattle.network_model.specs.Steps.{without_breaks}
+use Rattle.network_model.proofs.NetworkFact.{after_sound, breaks_apart, each_map}
+use Rattle.network_model.proofs.NodesFact.{map_nodes, next_nodes}
+use Rattle.network_model.proofs.SessionFact.{Fact}
+use Rattle.network_model.proofs.Start.{start_fits, start_sound, start_told}
+use Rattle.network_model.proofs.ToldNext.{AllHaveTold, RolesFit, after_told, unbroken_told}
+use Rattle.network_laws.specs.Settling.{EditIsValid, EditsAreValid}
+use Rattle.network_laws.proofs.EachFact.{Keeps, after_keeps, edits_valid_on}
 use Rattle.headline_laws.specs.Headline.{IsOfForm, IsWritten}
-use Rattle.net_model.specs.Stands.{any_size}
+use Rattle.headline_laws.proofs.Written.{none_broken}
+use Rattle.net_model.specs.Stands.{message_size}
 use Rattle.net_model.proofs.Sizes.{positive}
-use Rattle.headline_laws.proofs.Written.{none_broken, anything, each_anything}
-use Rattle.told_laws.specs.Moments.{IsMoment}
+use Rattle.told_laws.specs.Moments.{AreValidMoves, IsMoment, IsValidMove, after_moves, moved, unbroken}
 
--- a valid configuration of the written form, with the topology of the opening one
+-- ---- what every move keeps
+module _ (Q : Network → Type 0) (removed : (w : Network) → Q w → Q (unbroken w))
+    (followed : (w : Network) (e : Event) → EditIsValid IsOfForm w e → Q w → Q (next message_size w e)) where
+  moved_keeps : (w : Network) (move : Option Event) → IsValidMove w move → Q w → Q (moved w move)
+  moved_keeps w None valid q = removed w q
+  moved_keeps w (Some e) valid q = followed w e valid q
+
+  moves_keep : (w : Network) (moves : List (Option Event)) → AreValidMoves w moves → Q w → Q (after_moves w moves)
+  moves_keep w [] valid q = q
+  moves_keep w (move ∷ moves) valid q = moves_keep (moved w move) moves valid.1 (moved_keeps w move valid.0 q)
+
+  -- holds at every moment where it holds at the start
+  pub at_moment : (w : Network) (m : IsMoment w) → Q (start m.opening) → Q w
+  at_moment w m q = subst Q (sym m.is) (moves_keep (start m.opening) m.moves m.edits q)
+
+-- ---- a valid configuration of the written form, with the topology of the opening one
 pub record Follows (x y : Checked) : Type 0 where
   pub topology : y.topology ≡ x.topology
   pub written : IsWritten y
@@ -47,52 +69,143 @@ follows x y d z f e form = by_fault (edit_fault y d) refl e
           };
         }
 
-module _ (x : Checked) (written : IsWritten x) (es : List Event) (asked : EditsAreValid any_size IsOfForm (start x) es) where
-  anything_wants : WantsFair anything (Follows x)
-  anything_wants y ss n f e = each_anything y (views_of n ss) (sessions_of n ss)
+-- nothing is asked of sessions
+abbrev Anything : Session → Type 0
+Anything s = Unit {0}
 
-  pub at_first : Follows x x
-  at_first = record { topology = refl; written = written }
+abbrev MayTellAnything : Session → Map → Type 0
+MayTellAnything s m = Unit {0}
 
-  pub all_follow : EditsAreValid any_size (Follows x) (start x) es
-  all_follow = stay_valid any_size positive x (Follows x) anything anything_wants IsOfForm (follows x) at_first es asked
+each_anything : (ss : List Session) → Each Anything ss
+each_anything [] = tt
+each_anything (s ∷ ss) = (tt, each_anything ss)
 
-  pub follows_after : Follows x (after any_size (start x) es).setup
-  follows_after = (kept any_size positive x (Follows x) anything anything_wants at_first es all_follow).0
+module _ (x : Checked) where
+  setups_keep : Keeps message_size (Follows x) Anything MayTellAnything
+  setups_keep = record {
+    both = λ s p. tt;
+    arrives = λ s p. tt;
+    octets = λ n s p. tt;
+    passes = λ m s may p. tt;
+    shuts = λ s p. tt;
+    loses = λ s p. tt;
+    opens = λ s p. tt;
+    breaks = λ a b s p. tt;
+    wants = λ y ss n f p. each_anything (sessions_of n ss);
+  }
 
+  -- an edit that is asked for leads to such a configuration
+  pub follows_edit : (w : Network) (e : Event) → EditIsValid IsOfForm w e → Follows x w.setup
+      → EditIsValid (Follows x) w e
+  follows_edit w e valid f =
+      (edits_valid_on message_size IsOfForm (Follows x) Anything MayTellAnything setups_keep (follows x) w (e ∷ [])
+      (f, each_anything w.sessions) (valid, tt)).0
+
+  pub follows_next : (w : Network) (e : Event) → EditIsValid IsOfForm w e → Follows x w.setup
+      → Follows x (next message_size w e).setup
+  follows_next w e valid f =
+      (after_keeps message_size (Follows x) Anything MayTellAnything setups_keep w (e ∷ [])
+      (follows_edit w e valid f, tt) (f, each_anything w.sessions)).0
+
+  pub at_first : IsWritten x → Follows x x
+  at_first written = record { topology = refl; written = written }
+
+-- ---- its configuration
 pub follows_now : (w : Network) (m : IsMoment w) → Follows m.opening w.setup
-follows_now w m = subst (λ (w : Network). Follows m.opening w.setup) (sym m.is) (follows_after m.opening m.written m.events m.edits)
+follows_now w m =
+    at_moment (λ (v : Network). Follows m.opening v.setup) (λ v f. f) (follows_next m.opening) w m
+    (at_first m.opening m.written)
 
 pub moment_written : (w : Network) → IsMoment w → IsWritten w.setup
 moment_written w m = (follows_now w m).written
 
--- the schedule that led there, as the laws of all schedules ask of it
-pub moment_asked : (w : Network) (m : IsMoment w) → EditsAreValid any_size IsOfForm (start m.opening) m.events
-moment_asked w m = m.edits
+-- ---- its sessions
+abbrev HasNodesOf : Checked → Network → Type 0
+HasNodesOf x w = map nodes w.sessions ≡ map nodes (start x).sessions
 
-pub same_start : (x y : Checked) → y.topology ≡ x.topology → map nodes (start y).sessions ≡ map nodes (start x).sessions
-same_start x y e = ap (λ (t : Topology). map nodes (feeds t.controllers ++ peerings t.controllers ++ accesses t.controllers t.nodes)) e
+nodes_removed : (x : Checked) (w : Network) → HasNodesOf x w → HasNodesOf x (unbroken w)
+nodes_removed x w e = map_nodes without_breaks (λ s. refl) w.sessions ∙ e
+
+nodes_followed : (x : Checked) (w : Network) (e : Event) → HasNodesOf x w → HasNodesOf x (next message_size w e)
+nodes_followed x w e h = next_nodes message_size w e ∙ h
+
+pub moment_nodes : (w : Network) (m : IsMoment w) → map nodes w.sessions ≡ map nodes (start m.opening).sessions
+moment_nodes w m =
+    at_moment (HasNodesOf m.opening) (nodes_removed m.opening) (λ v e valid h. nodes_followed m.opening v e h) w m refl
+
+pub same_start : (x y : Checked) → y.topology ≡ x.topology
+    → map nodes (start y).sessions ≡ map nodes (start x).sessions
+same_start x y e =
+    ap (λ (t : Topology). map nodes (feeds t.controllers ++ peerings t.controllers ++ accesses t.controllers t.nodes)) e
 
 pub moment_sessions : (w : Network) → IsMoment w → map nodes w.sessions ≡ map nodes (start w.setup).sessions
-moment_sessions w m =
-    ap (λ (w : Network). map nodes w.sessions) m.is
-    ∙ after_nodes any_size (start m.opening) m.events
-    ∙ sym (same_start m.opening w.setup (follows_now w m).topology)
+moment_sessions w m = moment_nodes w m ∙ sym (same_start m.opening w.setup (follows_now w m).topology)
 
--- ---- the first moment, and the next event
-after_one_more : (w : Network) (es : List Event) (e : Event) → after any_size w (es ++ e ∷ []) ≡ next any_size (after any_size w es) e
-after_one_more w [] e = refl
-after_one_more w (f ∷ es) e = after_one_more (next any_size w f) es e
+abbrev pub IsSound : Network → Type 0
+IsSound w = Each (Fact message_size) w.sessions
 
-one_more_valid : (w : Network) (es : List Event) (e : Event) → EditsAreValid any_size IsOfForm w es → EditIsValid IsOfForm (after any_size w es) e → EditsAreValid any_size IsOfForm w (es ++ e ∷ [])
-one_more_valid w [] e a v = (v, tt)
-one_more_valid w (f ∷ es) e a v = (a.0, one_more_valid (next any_size w f) es e a.1 v)
+sound_removed : (w : Network) → IsSound w → IsSound (unbroken w)
+sound_removed w h =
+    each_map (Fact message_size) (Fact message_size) without_breaks
+    (λ s f. breaks_apart message_size positive [] [] s f) w.sessions h
 
-pub moment_next : (w : Network) (e : Event) → IsMoment w → EditIsValid IsOfForm w e → IsMoment (next any_size w e)
-moment_next w e m v = record {
+-- each of them is sound
+pub moment_sound : (w : Network) → IsMoment w → IsSound w
+moment_sound w m =
+    at_moment IsSound sound_removed (λ v e valid h. after_sound message_size positive v (e ∷ []) h) w m
+    (start_sound message_size positive m.opening)
+
+-- ---- its nodes have told what they want
+abbrev HasToldOf : Checked → Network → Type 0
+HasToldOf x w = HasNodesOf x w × AllHaveTold w
+
+told_followed : (x : Checked) (w : Network) (e : Event) → HasToldOf x w → HasToldOf x (next message_size w e)
+told_followed x w e h =
+    (nodes_followed x w e h.0, after_told message_size w (e ∷ []) (subst RolesFit (sym h.0) (start_fits x)) h.1)
+
+pub moment_told : (w : Network) → IsMoment w → AllHaveTold w
+moment_told w m =
+    (at_moment (HasToldOf m.opening) (λ v h. (nodes_removed m.opening v h.0, unbroken_told v h.1))
+    (λ v e valid h. told_followed m.opening v e h) w m (refl, start_told m.opening)).1
+
+-- ---- the first moment, and the next one
+pub moment_start : (x : Checked) → IsWritten x → IsMoment (start x)
+moment_start x written = record { opening = x; written = written; moves = []; edits = tt; is = refl }
+
+after_one_more : (w : Network) (moves : List (Option Event)) (move : Option Event)
+    → after_moves w (moves ++ move ∷ []) ≡ moved (after_moves w moves) move
+after_one_more w [] move = refl
+after_one_more w (first ∷ moves) move = after_one_more (moved w first) moves move
+
+one_more_valid : (w : Network) (moves : List (Option Event)) (move : Option Event) → AreValidMoves w moves
+    → IsValidMove (after_moves w moves) move → AreValidMoves w (moves ++ move ∷ [])
+one_more_valid w [] move all valid = (valid, tt)
+one_more_valid w (first ∷ moves) move all valid = (all.0, one_more_valid (moved w first) moves move all.1 valid)
+
+moment_moved : (w : Network) (move : Option Event) → IsMoment w → IsValidMove w move → IsMoment (moved w move)
+moment_moved w move m valid = record {
   opening = m.opening;
   written = m.written;
-  events = m.events ++ e ∷ [];
-  edits = one_more_valid (start m.opening) m.events e m.edits (subst (λ (w : Network). EditIsValid IsOfForm w e) m.is v);
-  is = ap (λ (w : Network). next any_size w e) m.is ∙ sym (after_one_more (start m.opening) m.events e);
+  moves = m.moves ++ move ∷ [];
+  edits = one_more_valid (start m.opening) m.moves move m.edits
+      (subst (λ (v : Network). IsValidMove v move) m.is valid);
+  is = ap (λ (v : Network). moved v move) m.is ∙ sym (after_one_more (start m.opening) m.moves move);
 }
+
+pub moment_next : (w : Network) (e : Event) → IsMoment w → EditIsValid IsOfForm w e → IsMoment (next message_size w e)
+moment_next w e m valid = moment_moved w (Some e) m valid
+
+-- where the breaks are removed that were not met
+pub moment_unbroken : (w : Network) → IsMoment w → IsMoment (unbroken w)
+moment_unbroken w m = moment_moved w None m tt
+
+-- after more events of a schedule
+pub moment_after : (w : Network) (es : List Event) → IsMoment w → EditsAreValid message_size IsOfForm w es
+    → IsMoment (after message_size w es)
+moment_after w [] m valid = m
+moment_after w (e ∷ es) m valid = moment_after (next message_size w e) es (moment_next w e m valid.0) valid.1
+
+-- after any schedule
+pub moment_of : (x : Checked) → IsWritten x → (es : List Event) → EditsAreValid message_size IsOfForm (start x) es
+    → IsMoment (after message_size (start x) es)
+moment_of x written es valid = moment_after (start x) es (moment_start x written) valid
