@@ -15,9 +15,9 @@ use Rattle.told_laws.specs.Moments.{IsMoment}
 use Rattle.seat_laws.specs.Wiring.{IsPlace, name_at, other_at}
 use Rattle.net_steps.specs.Asking.{AreAt, NoPlaceIsNoSession, PlacesSayWhatSessionsAre, SaysAt}
 use Rattle.net_steps.proofs.AtMoments.{down_where, found_sound, moment_right}
+use Rattle.net_steps.proofs.Down.{down_is}
 use Rattle.net_steps.proofs.Facts.{Facts, IsRight}
 use Rattle.net_steps.proofs.Here.{Here, here}
-use Rattle.net_steps.proofs.Stepping.{down_is}
 
 -- ---- one end
 says : (seats : List Seat) (p far : Place) (s : Session) → IsEnd (seat seats p.node) p.session s

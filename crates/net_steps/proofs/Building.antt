@@ -1,17 +1,18 @@
 -- Seats that change at single places.
-use Rattle.std.specs.Prelude.{◌≡◌, ◌≢◌, ◌⊎◌, ◌<◌, ℕ, List, [], map, length, Bool, false}
+use Rattle.std.specs.Prelude.{◌≡◌, ◌≢◌, ◌⊎◌, ◌<◌, ℕ, zero, suc, List, [], ◌∷◌, ◌++◌, map, length, take, Bool, false, cond}
 use Rattle.std.specs.List.{slice_set}
 use Rattle.std.specs.declared.option.Option.TheVariants.{Some}
 use Rattle.std.proofs.lemmas.Bool.{cases_eq}
 use Rattle.std.proofs.lemmas.List.{get_or-set_other, length-set}
+use Rattle.std.proofs.lemmas.Option.{same_Some}
 use Rattle.std.proofs.Common.{refl, sym, ◌∙◌, ap, subst, inl, inr}
 use Rattle.node_model.specs.Step.{Post, nothing, post}
 use Rattle.network_model.specs.Session.{End, Session, is_peering}
 use Rattle.network_model.specs.Network.{Network}
 use Rattle.network_model.specs.Steps.{session_of}
-use Rattle.net_model.specs.Seats.{Seat, link, notice, others_of, seat, whos}
+use Rattle.net_model.specs.Seats.{Seat, breaks_in, far_of, kept_in, link, notice, others_of, seat, whos}
 use Rattle.net_model.specs.Steps.{with_seat}
-use Rattle.net_model.specs.Stands.{HasEnd, IsEnd, IsLong, Seats, octets_of}
+use Rattle.net_model.specs.Stands.{HasEnd, IsEnd, IsLong, KeepsPart, Seats, first_of, octets_of}
 use Rattle.net_model.specs.declared.place.Place.{Place}
 use Rattle.seat_laws.specs.Wiring.{IsPlace, name_at, other_at}
 use Rattle.net_steps.proofs.Lists.{AreAlike, same_name_at, same_other_at, seat_elsewhere, seat_here, with_alike}
@@ -19,14 +20,24 @@ use Rattle.net_steps.proofs.Lists.{AreAlike, same_name_at, same_other_at, seat_e
 -- ---- one end of a node
 pub record SameEnd (n n' : Seat) (i : ℕ) : Type 0 where
   pub post : post n'.posts i ≡ post n.posts i
+  pub kept : kept_in n' i ≡ kept_in n i
   pub link : link n' i ≡ link n i
+  pub breaks : breaks_in n' i ≡ breaks_in n i
   pub notice : notice n' i ≡ notice n i
+
+-- an end but for its notice and what is in flight
+pub record Stays (n n' : Seat) (i : ℕ) : Type 0 where
+  pub post : post n'.posts i ≡ post n.posts i
+  pub kept : kept_in n' i ≡ kept_in n i
+  pub breaks : breaks_in n' i ≡ breaks_in n i
 
 -- a node that differs at one of its ends alone
 pub record SameBut (n n' : Seat) (i : ℕ) : Type 0 where
   pub who : n'.who ≡ n.who
   pub posts_long : length n'.posts ≡ length n.posts
+  pub kept_long : length n'.kept ≡ length n.kept
   pub links_long : length n'.links ≡ length n.links
+  pub breaks_long : length n'.breaks ≡ length n.breaks
   pub notices_long : length n'.notices ≡ length n.notices
   pub ends : (j : ℕ) → j ≢ i → SameEnd n n' j
 
@@ -37,16 +48,46 @@ pub record AllBut (seats seats' : List Seat) (p : Place) : Type 0 where
   pub ends : (r : Place) → r ≢ p → SameEnd (seat seats r.node) (seat seats' r.node) r.session
 
 pub end_refl : (n : Seat) (i : ℕ) → SameEnd n n i
-end_refl n i = record { post = refl; link = refl; notice = refl }
+end_refl n i = record { post = refl; kept = refl; link = refl; breaks = refl; notice = refl }
 
 pub end_trans : (n n' m : Seat) (i : ℕ) → SameEnd n n' i → SameEnd n' m i → SameEnd n m i
-end_trans n n' m i a b = record { post = b.post ∙ a.post; link = b.link ∙ a.link; notice = b.notice ∙ a.notice }
+end_trans n n' m i a b = record {
+  post = b.post ∙ a.post;
+  kept = b.kept ∙ a.kept;
+  link = b.link ∙ a.link;
+  breaks = b.breaks ∙ a.breaks;
+  notice = b.notice ∙ a.notice;
+}
 
-pub long_again : (n n' : Seat) → n'.who ≡ n.who → length n'.posts ≡ length n.posts → length n'.links ≡ length n.links
-    → length n'.notices ≡ length n.notices → IsLong n → IsLong n'
-long_again n n' who posts links notices l = record {
+pub end_back : (n n' : Seat) (i : ℕ) → SameEnd n n' i → SameEnd n' n i
+end_back n n' i a = record {
+  post = sym a.post;
+  kept = sym a.kept;
+  link = sym a.link;
+  breaks = sym a.breaks;
+  notice = sym a.notice;
+}
+
+pub stays_refl : (n : Seat) (i : ℕ) → Stays n n i
+stays_refl n i = record { post = refl; kept = refl; breaks = refl }
+
+pub stays_trans : (n n' m : Seat) (i : ℕ) → Stays n n' i → Stays n' m i → Stays n m i
+stays_trans n n' m i a b = record { post = b.post ∙ a.post; kept = b.kept ∙ a.kept; breaks = b.breaks ∙ a.breaks }
+
+pub stays_back : (n n' : Seat) (i : ℕ) → Stays n n' i → Stays n' n i
+stays_back n n' i a = record { post = sym a.post; kept = sym a.kept; breaks = sym a.breaks }
+
+pub end_stays : (n n' : Seat) (i : ℕ) → SameEnd n n' i → Stays n n' i
+end_stays n n' i a = record { post = a.post; kept = a.kept; breaks = a.breaks }
+
+pub long_again : (n n' : Seat) → n'.who ≡ n.who → length n'.posts ≡ length n.posts → length n'.kept ≡ length n.kept
+    → length n'.links ≡ length n.links → length n'.breaks ≡ length n.breaks → length n'.notices ≡ length n.notices
+    → IsLong n → IsLong n'
+long_again n n' who posts kept links breaks notices l = record {
   posts = posts ∙ l.posts ∙ ap (λ x. length (others_of x)) (sym who);
+  kept = kept ∙ l.kept ∙ ap (λ x. length (others_of x)) (sym who);
   links = links ∙ l.links ∙ ap (λ x. length (others_of x)) (sym who);
+  breaks = breaks ∙ l.breaks ∙ ap (λ x. length (others_of x)) (sym who);
   notices = notices ∙ l.notices ∙ ap (λ x. length (others_of x)) (sym who);
 }
 
@@ -64,7 +105,7 @@ put_but seats p n' lt s = record {
     by_node_long all k (inl e) less =
         subst (λ k. IsLong (seat (with_seat p.node n' seats) k)) (sym e)
         (subst IsLong (sym (seat_here p.node n' seats lt))
-        (long_again (seat seats p.node) n' s.who s.posts_long s.links_long s.notices_long (all p.node lt)))
+        (long_again (seat seats p.node) n' s.who s.posts_long s.kept_long s.links_long s.breaks_long s.notices_long (all p.node lt)))
     by_node_long all k (inr ne) less = subst IsLong (sym (seat_elsewhere p.node k n' seats ne)) (all k less)
 
     by_node : (r : Place) → r ≢ p → (r.node ≡ p.node) ⊎ (r.node ≢ p.node)
@@ -82,21 +123,15 @@ pub stored_link : (n : Seat) (i : ℕ) (messages : List (List ℕ)) → SameBut 
 stored_link n i messages = record {
   who = refl;
   posts_long = refl;
+  kept_long = refl;
   links_long = length-set n.links i messages;
-  notices_long = refl;
-  ends = λ j ne. record { post = refl; link = get_or-set_other n.links i j messages [] ne; notice = refl };
-}
-
-pub stored_begun : (n : Seat) (i : ℕ) (p : Post) (messages : List (List ℕ))
-    → SameBut n (record n { posts = slice_set n.posts i p; links = slice_set n.links i messages }) i
-stored_begun n i p messages = record {
-  who = refl;
-  posts_long = length-set n.posts i p;
-  links_long = length-set n.links i messages;
+  breaks_long = refl;
   notices_long = refl;
   ends = λ j ne. record {
-    post = get_or-set_other n.posts i j p nothing ne;
+    post = refl;
+    kept = refl;
     link = get_or-set_other n.links i j messages [] ne;
+    breaks = refl;
     notice = refl;
   };
 }
@@ -105,34 +140,133 @@ pub stored_notice : (n : Seat) (i : ℕ) (waits : Bool) → SameBut n (record n 
 stored_notice n i waits = record {
   who = refl;
   posts_long = refl;
+  kept_long = refl;
   links_long = refl;
+  breaks_long = refl;
   notices_long = length-set n.notices i waits;
-  ends = λ j ne. record { post = refl; link = refl; notice = get_or-set_other n.notices i j waits false ne };
+  ends = λ j ne. record {
+    post = refl;
+    kept = refl;
+    link = refl;
+    breaks = refl;
+    notice = get_or-set_other n.notices i j waits false ne;
+  };
 }
 
--- ---- an end that stays, for a session whose near end stays
+pub stored_breaks : (n : Seat) (i : ℕ) (breaks : List ℕ) → SameBut n (record n { breaks = slice_set n.breaks i breaks }) i
+stored_breaks n i breaks = record {
+  who = refl;
+  posts_long = refl;
+  kept_long = refl;
+  links_long = refl;
+  breaks_long = length-set n.breaks i breaks;
+  notices_long = refl;
+  ends = λ j ne. record {
+    post = refl;
+    kept = refl;
+    link = refl;
+    breaks = get_or-set_other n.breaks i j breaks [] ne;
+    notice = refl;
+  };
+}
+
+-- a node that took an input, and what its end is then, with what is kept, in flight and to fail there
+abbrev pub began : Seat → ℕ → Post → List ℕ → List (List ℕ) → List ℕ → Seat
+began n i p kept messages breaks = record n {
+  posts = slice_set n.posts i p;
+  kept = slice_set n.kept i kept;
+  links = slice_set n.links i messages;
+  breaks = slice_set n.breaks i breaks;
+}
+
+pub stored_began : (n : Seat) (i : ℕ) (p : Post) (kept : List ℕ) (messages : List (List ℕ)) (breaks : List ℕ)
+    → SameBut n (began n i p kept messages breaks) i
+stored_began n i p kept messages breaks = record {
+  who = refl;
+  posts_long = length-set n.posts i p;
+  kept_long = length-set n.kept i kept;
+  links_long = length-set n.links i messages;
+  breaks_long = length-set n.breaks i breaks;
+  notices_long = refl;
+  ends = λ j ne. record {
+    post = get_or-set_other n.posts i j p nothing ne;
+    kept = get_or-set_other n.kept i j kept [] ne;
+    link = get_or-set_other n.links i j messages [] ne;
+    breaks = get_or-set_other n.breaks i j breaks [] ne;
+    notice = refl;
+  };
+}
+
+-- ---- an end that stays, for a session whose near end stays, and of which as much was taken there
 pub moved : (n n' : Seat) (i : ℕ) (s s' : Session) → n'.who ≡ n.who → SameEnd n n' i → s'.near ≡ s.near
-    → is_peering s' ≡ is_peering s → IsEnd n i s → IsEnd n' i s'
-moved n n' i s s' who same near peering h = record {
+    → s'.far.taken ≡ s.far.taken → is_peering s' ≡ is_peering s → IsEnd n i s → IsEnd n' i s'
+moved n n' i s s' who same near taken peering h = record {
   phase = ap (λ (e : End). e.phase) near ∙ h.phase ∙ ap (λ (p : Post). p.phase) (sym same.post);
   sent = ap (λ (e : End). e.sent) near ∙ h.sent ∙ ap (λ (p : Post). p.sent) (sym same.post);
   held = ap (λ (e : End). e.held) near ∙ h.held ∙ ap (λ (p : Post). p.held) (sym same.post);
   notice = ap (λ (e : End). e.notice) near ∙ h.notice ∙ sym same.notice;
   flight = same.link ∙ h.flight
       ∙ (λ j. map (octets_of (sym who j) (sym peering j)) (ap (λ (e : End). e.flight) (sym near) j));
-  taken = ap (λ (e : End). e.taken) near ∙ h.taken;
-  breaks = ap (λ (e : End). e.breaks) near ∙ h.breaks;
+  breaks = ap (λ (e : End). e.breaks) near ∙ h.breaks ∙ sym same.breaks;
+  taken = taken ∙ h.taken ∙ (λ j. cond (sym same.notice j) 0 (length (sym same.kept j)));
 }
+
+-- ---- what is kept at an end is a first part of the first message in flight to it
+abbrev pub IsPart : Seat → ℕ → Seat → ℕ → Type 0
+IsPart n i far j = notice n i ≡ false → kept_in n i ≡ take (length (kept_in n i)) (first_of (link far j))
+
+pub part_at : (seats : List Seat) (p q : Place) → far_of seats p ≡ Some q → KeepsPart seats p
+    → IsPart (seat seats p.node) p.session (seat seats q.node) q.session
+part_at seats p q found h = h q found
+
+pub part_of : (seats : List Seat) (p q : Place) → far_of seats p ≡ Some q
+    → IsPart (seat seats p.node) p.session (seat seats q.node) q.session → KeepsPart seats p
+part_of seats p q found h =
+    λ far is. subst (λ (r : Place). IsPart (seat seats p.node) p.session (seat seats r.node) r.session)
+    (same_Some q far (sym found ∙ is)) h
+
+-- nothing is a first part of all that is in flight
+pub part_none : (n : Seat) (i : ℕ) (far : Seat) (j : ℕ) → kept_in n i ≡ [] → IsPart n i far j
+part_none n i far j e =
+    λ quiet. subst (λ (kept : List ℕ). kept ≡ take (length kept) (first_of (link far j))) (sym e) refl
+
+pub part_again : (n n' : Seat) (i : ℕ) (far far' : Seat) (j : ℕ) → kept_in n' i ≡ kept_in n i → notice n' i ≡ notice n i
+    → link far' j ≡ link far j → IsPart n i far j → IsPart n' i far' j
+part_again n n' i far far' j kept waits flight h =
+    λ quiet. kept ∙ h (sym waits ∙ quiet) ∙ (λ x. take (length (sym kept x)) (first_of (sym flight x)))
+
+pub part_same : (n n' : Seat) (i : ℕ) (far far' : Seat) (j : ℕ) → SameEnd n n' i → link far' j ≡ link far j
+    → IsPart n i far j → IsPart n' i far' j
+part_same n n' i far far' j same flight h = part_again n n' i far far' j same.kept same.notice flight h
+
+-- of the first message, whatever is sent after it
+take_none : (n : ℕ) → ◌≡◌ {A = List ℕ} (take n []) []
+take_none zero = refl
+take_none (suc n) = refl
+
+take_more : (kept : List ℕ) (flight more : List (List ℕ)) → kept ≡ take (length kept) (first_of flight)
+    → kept ≡ take (length kept) (first_of (flight ++ more))
+take_more kept [] more e =
+    subst (λ (kept : List ℕ). kept ≡ take (length kept) (first_of more)) (sym (e ∙ take_none (length kept))) refl
+take_more kept (octets ∷ flight) more e = e
+
+pub part_more : (n n' : Seat) (i : ℕ) (far far' : Seat) (j : ℕ) (more : List (List ℕ)) → kept_in n' i ≡ kept_in n i
+    → notice n' i ≡ notice n i → link far' j ≡ link far j ++ more → IsPart n i far j → IsPart n' i far' j
+part_more n n' i far far' j more kept waits flight h =
+    λ quiet. kept ∙ take_more (kept_in n i) (link far j) more (h (sym waits ∙ quiet))
+    ∙ (λ x. take (length (sym kept x)) (first_of (sym flight x)))
 
 -- ---- seats are those of a state by their places
 pub seats_by_places : (seats : List Seat) (w : Network) → map (λ (n : Seat). n.who) seats ≡ whos w.setup
     → ((k : ℕ) → k < length seats → IsLong (seat seats k))
     → ((p : Place) → IsPlace seats p → HasEnd w (seat seats p.node) p.session)
+    → ((p : Place) → IsPlace seats p → KeepsPart seats p)
     → Seats seats w
-seats_by_places seats w who long each = record {
+seats_by_places seats w who long each parts = record {
   who = who;
   long = long;
   ends = λ k i lt less. each (record { node = k; session = i }) (record { node = lt; session = subst (λ n. i < n) (long k lt).posts less });
+  parts = λ k i lt less. parts (record { node = k; session = i }) (record { node = lt; session = subst (λ n. i < n) (long k lt).posts less });
 }
 
 -- an end of a place by the names of earlier seats

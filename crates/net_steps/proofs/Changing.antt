@@ -2,7 +2,7 @@
 use Rattle.std.specs.Prelude.{◌≡◌, ◌≢◌, ◌⊎◌, ◌<◌, ℕ, List, length}
 use Rattle.std.specs.declared.option.Option.TheVariants.{Some}
 use Rattle.std.proofs.lemmas.Option.{same_Some}
-use Rattle.std.proofs.Common.{refl, sym, ◌∙◌, subst, inl, inr}
+use Rattle.std.proofs.Common.{refl, sym, ◌∙◌, ap, subst, inl, inr}
 use Rattle.network_model.specs.Setup.{Name}
 use Rattle.network_model.specs.Session.{Session, turned}
 use Rattle.network_model.specs.Network.{Network}
@@ -10,14 +10,14 @@ use Rattle.network_model.specs.Steps.{change_session, session_of}
 use Rattle.network_model.specs.Moments.{Each}
 use Rattle.network_model.proofs.NetworkFact.{KeepsNodes}
 use Rattle.network_model.proofs.NodesFact.{session_nodes}
-use Rattle.net_model.specs.Seats.{Seat, place_of, seat}
-use Rattle.net_model.specs.Stands.{HasEnd, IsEnd, IsLong, Seats}
+use Rattle.net_model.specs.Seats.{Seat, far_of, place_of, seat}
+use Rattle.net_model.specs.Stands.{HasEnd, IsEnd, IsLong, KeepsPart, Seats}
 use Rattle.net_model.specs.declared.place.Place.{Place}
 use Rattle.seat_laws.specs.Wiring.{IsPlace, name_at, other_at}
-use Rattle.net_steps.proofs.Building.{SameEnd, has_end, moved, seats_by_places}
+use Rattle.net_steps.proofs.Building.{SameEnd, has_end, moved, part_at, part_of, part_same, seats_by_places}
 use Rattle.net_steps.proofs.Facts.{IsRight, Wired}
-use Rattle.net_steps.proofs.Here.{Here, here}
-use Rattle.net_steps.proofs.Lists.{AreAlike, same_or_other, same_place, same_who}
+use Rattle.net_steps.proofs.Here.{Here, here, part_here}
+use Rattle.net_steps.proofs.Lists.{AreAlike, same_far_of, same_or_other, same_place, same_who}
 use Rattle.net_steps.proofs.Quiet.{IsQuiet}
 use Rattle.net_steps.proofs.Sides.{changed_elsewhere, changed_here, changed_there}
 
@@ -56,7 +56,8 @@ module _ (wired : Wired) (seats : List Seat) (w : Network) (right : IsRight w) (
       (long : (k : ℕ) → k < length seats' → IsLong (seat seats' k))
       (near : IsEnd (seat seats' p.node) p.session (f h.session))
       (far : IsEnd (seat seats' h.far.far.node) h.far.far.session (turned (f h.session)))
-      (elsewhere : (r : Place) → IsPlace seats r → r ≢ p → r ≢ h.far.far → SameEnd (seat seats r.node) (seat seats' r.node) r.session) where
+      (elsewhere : (r : Place) → IsPlace seats r → r ≢ p → r ≢ h.far.far → SameEnd (seat seats r.node) (seat seats' r.node) r.session)
+      (near_part : KeepsPart seats' p) (far_part : KeepsPart seats' h.far.far) where
     abbrev changed : Network
     changed = change_session (name_at seats p) (other_at seats p) f w
 
@@ -77,11 +78,30 @@ module _ (wired : Wired) (seats : List Seat) (w : Network) (right : IsRight w) (
         has_end seats seats' changed r there.session alike
         (found_elsewhere p is h f keeps r is_r not_p not_q there.session there.found)
         (moved (seat seats r.node) (seat seats' r.node) r.session there.session there.session
-        (same_who seats seats' alike r.node) (elsewhere r is_r not_p not_q) refl refl there.near_is)
+        (same_who seats seats' alike r.node) (elsewhere r is_r not_p not_q) refl refl refl there.near_is)
+
+    parts_same : (r : Place) → IsPlace seats r → r ≢ p → r ≢ h.far.far → KeepsPart seats' r
+    parts_same r is_r not_p not_q =
+        let there = here wired seats w right stands r is_r in
+        let q = there.far.far in
+        let off_p : q ≢ p = λ e. not_q (same_Some r h.far.far (sym there.far.back ∙ ap (far_of seats) e ∙ h.far.found)) in
+        let off_q : q ≢ h.far.far = λ e. not_p (same_Some r p (sym there.far.back ∙ ap (far_of seats) e ∙ h.far.back)) in
+        part_of seats' r q (same_far_of seats seats' alike r ∙ there.far.found)
+        (part_same (seat seats r.node) (seat seats' r.node) r.session (seat seats q.node) (seat seats' q.node) q.session
+        (elsewhere r is_r not_p not_q) (elsewhere q there.far.is_place off_p off_q).link
+        (part_at seats r q there.far.found (part_here wired seats w right stands r is_r)))
 
     pub changes_at : Seats seats' changed
-    changes_at = seats_by_places seats' changed (alike ∙ stands.who) long (λ r is_r. by_place r (same_place seats seats' alike r is_r) (same_or_other r p) (same_or_other r h.far.far))
+    changes_at =
+        seats_by_places seats' changed (alike ∙ stands.who) long
+        (λ r is_r. by_place r (same_place seats seats' alike r is_r) (same_or_other r p) (same_or_other r h.far.far))
+        (λ r is_r. part_by_place r (same_place seats seats' alike r is_r) (same_or_other r p) (same_or_other r h.far.far))
       where
+        part_by_place : (r : Place) → IsPlace seats r → (r ≡ p) ⊎ (r ≢ p) → (r ≡ h.far.far) ⊎ (r ≢ h.far.far) → KeepsPart seats' r
+        part_by_place r is_r (inl e) b = subst (KeepsPart seats') (sym e) near_part
+        part_by_place r is_r (inr ne) (inl e) = subst (KeepsPart seats') (sym e) far_part
+        part_by_place r is_r (inr ne) (inr ne') = parts_same r is_r ne ne'
+
         by_place : (r : Place) → IsPlace seats r → (r ≡ p) ⊎ (r ≢ p) → (r ≡ h.far.far) ⊎ (r ≢ h.far.far) → HasEnd changed (seat seats' r.node) r.session
         by_place r is_r (inl e) b = subst (λ (r : Place). HasEnd changed (seat seats' r.node) r.session) (sym e) here_changed
         by_place r is_r (inr ne) (inl e) = subst (λ (r : Place). HasEnd changed (seat seats' r.node) r.session) (sym e) far_changed

@@ -1,21 +1,15 @@
 -- What stands at an end that is not live, and which sessions may be connected.
 use Rattle.std.specs.Prelude.{◌≡◌, ◌&&◌, length, not, false}
-use Rattle.std.proofs.lemmas.Bool.{true≢false}
 use Rattle.std.proofs.lemmas.List.{nil_from_length}
 use Rattle.std.proofs.Common.{ap, inl, inr, sym, ◌∙◌}
 use Rattle.network_model.specs.Session.{Session, is_idle, is_live, is_peering}
 use Rattle.network_model.specs.Steps.{may_connect}
-use Rattle.network_model.proofs.SessionFact.{Down, Fact, live_receiver}
-use Rattle.net_model.specs.Stands.{any_size}
+use Rattle.network_model.proofs.SessionFact.{Fact, live_receiver}
+use Rattle.net_model.specs.Stands.{message_size}
 use Rattle.net_steps.specs.Asking.{ClosedSessionsMayConnect, NothingWaitsAtClosedEnds}
 use Rattle.net_steps.proofs.Asked.{places_say}
-use Rattle.net_steps.proofs.AtMoments.{found_sound}
+use Rattle.net_steps.proofs.AtMoments.{closed_down, found_sound}
 use Rattle.net_steps.proofs.Facts.{Facts}
-
-closed_down : (s : Session) → Fact any_size s → is_live s.near ≡ false → Down s
-closed_down s (inl j) e =
-    absurd (true≢false (ap not (sym (live_receiver (is_peering s) s.near.phase s.far.phase j.inward.phases)) ∙ e))
-closed_down s (inr d) e = d
 
 pub nothing_waits_at_closed_ends : Facts → NothingWaitsAtClosedEnds
 nothing_waits_at_closed_ends facts seats w moment stands a b p far are closed =
@@ -29,7 +23,7 @@ nothing_waits_at_closed_ends facts seats w moment stands a b p far are closed =
     )
 
 -- by what holds of each session
-connects_where : (s : Session) → Fact any_size s → may_connect s ≡ (not (is_live s.near) && not (is_live s.far))
+connects_where : (s : Session) → Fact message_size s → may_connect s ≡ (not (is_live s.near) && not (is_live s.far))
 connects_where s (inl j) =
     let near : is_idle s.near.phase ≡ false = live_receiver (is_peering s) s.near.phase s.far.phase j.inward.phases in
     ap (λ b. b && (not s.near.notice && not s.far.notice)) j.whole

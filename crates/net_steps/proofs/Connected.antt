@@ -1,38 +1,45 @@
--- A session is connected: one end opens, then the other, and then what both nodes sent on sessions that are down is
--- discarded.
-use Rattle.std.specs.Prelude.{◌≡◌, ◌≢◌, ◌⊎◌, ◌<◌, ℕ, List, [], ◌∷◌, length, Bool, true, false, cond}
+-- A session is connected: one end opens and then, where that is live still, the other; then the sessions of which their
+-- nodes closed an end are cleared.
+use Rattle.std.specs.Prelude.{◌≡◌, ◌≢◌, ◌⊎◌, ◌<◌, ◌≤◌, ℕ, ◌+◌, List, [], ◌∷◌, length, Bool, true, false, cond, not, ◌&&◌}
 use Rattle.std.specs.List.{slice_index_or}
 use Rattle.std.specs.Option.{option_map, unwrap_or}
 use Rattle.std.specs.declared.option.Option.{Option}
-use Rattle.std.specs.declared.option.Option.TheVariants.{Some}
-use Rattle.std.proofs.lemmas.Bool.{cases_eq}
-use Rattle.std.proofs.lemmas.List.{length-set}
+use Rattle.std.specs.declared.option.Option.TheVariants.{Some, None}
+use Rattle.std.proofs.lemmas.Bool.{cases_eq, cases_lt, true≢false}
 use Rattle.std.proofs.lemmas.Option.{same_Some}
-use Rattle.std.proofs.Common.{refl, sym, ◌∙◌, ap, subst, inl, inr}
+use Rattle.std.proofs.Common.{refl, sym, ◌∙◌, ap, subst, inl, inr, arith}
 use Rattle.ov_link.specs.declared.step.Input.TheVariants as input
-use Rattle.node_model.specs.Step.{Opened, post}
+use Rattle.node_model.specs.Maps.{Map}
+use Rattle.node_model.specs.Step.{Post, post}
 use Rattle.network_model.specs.Setup.{Name}
-use Rattle.network_model.specs.Session.{Session, opened, passed, turned}
+use Rattle.network_model.specs.Session.{Session, is_idle, is_live, greeting, opened, passed, told, turned}
 use Rattle.network_model.specs.Network.{Network, view, views_of, wanted}
 use Rattle.network_model.specs.Steps.{around, change_session, connect, is_broken, joins, pass, session_of, with_session}
+use Rattle.network_model.specs.Moments.{nodes}
+use Rattle.network_model.proofs.Deeds.{others_stay, strangers_stay}
 use Rattle.network_model.proofs.NetworkFact.{opened_nodes, passed_nodes}
-use Rattle.net_model.specs.Seats.{Seat, far_of, is_down_at, link, link_at, name_of, notice, notice_at, others_of, seat, whole_at}
-use Rattle.net_model.specs.Steps.{BeginsAt, IsDiscarded, IsStepped, Takes, with_seat}
-use Rattle.net_model.specs.Stands.{IsLong, Seats}
+use Rattle.network_model.proofs.SessionFact.{Down, IsTidy}
+use Rattle.net_model.specs.Seats.{Seat, far_of, is_down_at, link, link_at, live_at, name_of, notice, notice_at, seat, whole_at}
+use Rattle.net_model.specs.Steps.{Takes, cleared, with_seat}
+use Rattle.net_model.specs.Stands.{Seats}
 use Rattle.net_model.specs.declared.place.Place.{Place}
 use Rattle.told_laws.specs.Moments.{IsMoment}
-use Rattle.seat_laws.specs.Wiring.{IsPlace, name_at, other_at}
+use Rattle.seat_laws.specs.Wiring.{HasFar, IsPlace, name_at, other_at}
 use Rattle.net_steps.proofs.Asked.{down_here}
-use Rattle.net_steps.proofs.AtMoments.{moment_right}
-use Rattle.net_steps.proofs.Building.{has_end, moved, seats_by_places}
+use Rattle.net_steps.proofs.AtMoments.{found_sound, moment_right}
+use Rattle.net_steps.proofs.Building.{SameEnd, Stays, stays_back, stays_trans}
 use Rattle.net_steps.proofs.Changing.{found_elsewhere, one_place}
+use Rattle.net_steps.proofs.Clearing.{IsCleared, all_cleared, clear_from, clear_nodes, cleared_from_same, far_or_not, is_cleared, place, stays_live}
+use Rattle.net_steps.proofs.Ends.{IsReady, fact_ready}
 use Rattle.net_steps.proofs.Facts.{Facts, IsRight}
 use Rattle.net_steps.proofs.Here.{Here, here}
-use Rattle.net_steps.proofs.Lists.{AreAlike, same_far_of, same_name_at, same_or_other, same_other_at, same_place, same_who, seat_elsewhere, seat_here, with_alike}
-use Rattle.net_steps.proofs.Opens.{is_kept, kept_seat, open_phase, open_stands, opened_right, passed_right}
-use Rattle.net_steps.proofs.Sides.{changed_here, joined_twice, node_elsewhere, node_here}
-use Rattle.net_steps.proofs.Unbroken.{opens, passed_is}
-use Rattle.net_steps.proofs.Wholes.{SamePosts, discarded_long, down_by_ends, not_down_by_ends, same_posts_discarded, same_posts_down, same_posts_trans, same_posts_with, stepped_long, stepped_open, stepped_whole, with_long}
+use Rattle.net_steps.proofs.Lists.{AreAlike, same_far_of, same_long, same_name_at, same_other_at, same_place, same_who, seat_elsewhere, seat_here, with_alike}
+use Rattle.net_steps.proofs.Opens.{open_passed, open_whole, opened_right, passed_right, stepped_live, stepped_long, told_whole}
+use Rattle.net_steps.proofs.Sent.{AllLeft, opened_tells, opening_session, passed_tells, telling_session, told_down, wanted_messages}
+use Rattle.net_steps.proofs.Sides.{changed_here, joined_twice, node_elsewhere, node_here, node_there}
+use Rattle.net_steps.proofs.Stepped.{count, far, off, own}
+use Rattle.net_steps.proofs.Telling.{Going}
+use Rattle.net_steps.proofs.Wholes.{down_by_ends, not_down_by_ends, with_long}
 
 -- a change at the other end is a change of the session the other way round
 around_back : (a b : Name) → a ≢ b → (f : Session → Session) → (ss : List Session)
@@ -49,8 +56,24 @@ around_back a b apart f (s ∷ ss) = by_tests (around_back a b apart f ss) (join
     by_tests rest false true e g = refl
     by_tests rest false false e g = ap (λ ts. s ∷ ts) rest
 
+abbrev down_of : Option Session → Bool
+down_of None = true
+down_of (Some s) = s.is_down
+
+all_full : (n : ℕ) → 0 + n ≤ n
+all_full n = omega arith
+
+at_least : (j : ℕ) → 0 ≤ j
+at_least j = omega arith
+
+at_most : (n j : ℕ) → j < n → j < 0 + n
+at_most n j h = omega (arith, h)
+
 module _ (facts : Facts) (seats : List Seat) (w : Network) (moment : IsMoment w) (stands : Seats seats w) (p : Place)
-    (is : IsPlace seats p) (quiet : notice_at seats p ≡ false) where
+    (is : IsPlace seats p) (down : Down (here facts.wired seats w (moment_right facts.moments w moment) stands p is).session)
+    (quiet : notice_at seats p ≡ false)
+    (quiet_there : notice_at seats (here facts.wired seats w (moment_right facts.moments w moment) stands p is).far.far ≡ false)
+    (n1 : Seat) (takes1 : Takes (seat seats p.node) n1 (input.Opened p.session)) where
   abbrev right : IsRight w
   right = moment_right facts.moments w moment
 
@@ -63,337 +86,642 @@ module _ (facts : Facts) (seats : List Seat) (w : Network) (moment : IsMoment w)
   abbrev s : Session
   s = at.session
 
-  module _ (quiet_there : notice_at seats q ≡ false) (n1 : Seat) (takes1 : Takes (seat seats p.node) n1 (input.Opened p.session))
-      (n2 : Seat) (takes2 : Takes (seat (with_seat p.node n1 seats) q.node) n2 (input.Opened q.session)) where
-    not_far : q.node ≢ p.node
-    not_far e = at.apart (sym (ap (λ k. name_of (seat seats k).who) e) ∙ at.far.name)
+  abbrev me : Name
+  me = name_at seats p
 
-    -- ---- the near end opens
-    abbrev w1 : Network
-    w1 = change_session (name_at seats p) (other_at seats p) opened w
+  not_far : q.node ≢ p.node
+  not_far e = at.apart (sym (ap (λ k. name_of (seat seats k).who) e) ∙ at.far.name)
 
-    abbrev w2 : Network
-    w2 = pass (name_at seats p) w1
+  -- ---- the near end opens
+  abbrev w1 : Network
+  w1 = change_session (name_at seats p) (other_at seats p) opened w
 
-    abbrev i2 : List Seat
-    i2 = with_seat p.node (kept_seat w1 n1) seats
+  abbrev w2 : Network
+  w2 = pass (name_at seats p) w1
 
-    stands2 : Seats i2 w2
-    stands2 = open_stands facts seats w right stands p is n1 takes1
+  right2 : IsRight w2
+  right2 = passed_right (name_at seats p) w1 (opened_right (name_at seats p) (other_at seats p) w right)
 
-    right2 : IsRight w2
-    right2 = passed_right (name_at seats p) w1 (opened_right (name_at seats p) (other_at seats p) w right)
+  abbrev opened_seats : List Seat
+  opened_seats = with_seat p.node n1 seats
 
-    alike2 : AreAlike seats i2
-    alike2 = with_alike p.node (kept_seat w1 n1) seats takes1.stepped.who
+  abbrev count1 : ℕ
+  count1 = count facts.wired seats w right stands p is
 
-    is_q : IsPlace i2 q
-    is_q = same_place i2 seats (sym alike2) q at.far.is_place
+  abbrev own1 : (j : ℕ) → j < count1 → IsPlace seats (place p.node j)
+  own1 = own facts.wired seats w right stands p is
 
-    -- ---- and the far one
-    seat_q : seat (with_seat p.node n1 seats) q.node ≡ seat i2 q.node
-    seat_q = seat_elsewhere p.node q.node n1 seats not_far ∙ sym (seat_elsewhere p.node q.node (kept_seat w1 n1) seats not_far)
+  abbrev far1 : (j : ℕ) → j < count1 → HasFar seats (place p.node j)
+  far1 = far facts.wired seats w right stands p is
 
-    abbrev takes2' : Takes (seat i2 q.node) n2 (input.Opened q.session)
-    takes2' = record {
-      given = takes2.given;
-      begins = subst (λ (n : Seat). BeginsAt n.who q.session (post n.posts q.session) (input.Opened q.session) takes2.given) seat_q takes2.begins;
-      stepped = subst (λ n. IsStepped n n2 q.session takes2.given) seat_q takes2.stepped;
-    }
+  abbrev off1 : (j : ℕ) (lt : j < count1) → (far1 j lt).far.node ≢ p.node
+  off1 = off facts.wired seats w right stands p is
+
+  bare1 : s.far.taken ≡ 0
+  bare1 = down.far.taken
+
+  fine1 : is_live s.far ≡ false → (s.far.notice ≡ false) × (s.near.taken ≡ 0)
+  fine1 e = (down.far.notice ∙ e, down.near.taken)
+
+  others1 : (b : Name) (t : Session) → b ≢ other_at seats p → session_of w (name_at seats p) b ≡ Some t → IsReady t
+  others1 b t _ found_it = fact_ready t (found_sound w moment (name_at seats p) b t found_it)
+
+  seat_p : seat opened_seats p.node ≡ n1
+  seat_p = seat_here p.node n1 seats is.node
+
+  posts_within : (j : ℕ) → j < count1 → j < length (seat seats p.node).posts
+  posts_within j less = subst (λ m. j < m) (sym (stands.long p.node is.node).posts) less
+
+  going_o : Going seats opened_seats
+  going_o = record {
+    alike = with_alike p.node n1 seats takes1.stepped.who;
+    long = with_long p.node n1 seats is.node stands.long
+        (stepped_long (seat seats p.node) n1 p.session takes1.given takes1.left takes1.stepped takes1.swept (stands.long p.node is.node));
+  }
+
+  count_o : length (seat opened_seats p.node).posts ≡ count1
+  count_o = ap (λ (n : Seat). length n.posts) seat_p ∙ takes1.stepped.posts_long ∙ (stands.long p.node is.node).posts
+
+  live_o : (j : ℕ) → live_at opened_seats (place p.node j) ≡ not (is_idle (post n1.posts j).phase)
+  live_o j = ap (λ (n : Seat). not (is_idle (post n.posts j).phase)) seat_p
+
+  live_of : (j : ℕ) → is_idle (post n1.posts j).phase ≡ false → live_at opened_seats (place p.node j) ≡ true
+  live_of j e = live_o j ∙ ap not e
+
+  -- the machine's session then is down where its near end is closed
+  abbrev tells : Session → Session
+  tells t = passed (wanted w1.setup (views_of (name_at seats p) w1.sessions) (view t)) t
+
+  tells_nodes : (t : Session) → nodes (tells t) ≡ nodes t
+  tells_nodes t = passed_nodes (wanted w1.setup (views_of (name_at seats p) w1.sessions) (view t)) t
+
+  abbrev t2 : Session
+  t2 = tells (opened s)
+
+  first : session_of w1 (name_at seats p) (other_at seats p) ≡ Some (opened s)
+  first = changed_here (name_at seats p) (other_at seats p) at.apart opened opened_nodes w.sessions s at.found
+
+  second : session_of w2 (name_at seats p) (other_at seats p) ≡ Some t2
+  second = node_here (name_at seats p) (other_at seats p) at.apart tells tells_nodes w1.sessions (opened s) first
+
+  opened_down : (opened s).is_down ≡ is_idle (opened s).near.phase
+  opened_down =
+      subst (λ (t : Session). t.is_down ≡ is_idle t.near.phase) (sym (opened_tells s)) (told_down (greeting s ∷ []) (opening_session s) refl)
+
+  abbrev wants : Map
+  wants = wanted w1.setup (views_of (name_at seats p) w1.sessions) (view (opened s))
+
+  t2_down : t2.is_down ≡ is_idle t2.near.phase
+  t2_down =
+      subst (λ (t : Session). t.is_down ≡ is_idle t.near.phase) (sym (passed_tells wants (opened s)))
+      (told_down (wanted_messages wants (opened s)) (telling_session wants (opened s)) opened_down)
+
+  broken_is : is_broken w2 (name_at seats p) (other_at seats p) ≡ t2.is_down
+  broken_is = ap (λ (o : Option Session). unwrap_or (option_map (λ (s : Session). s.is_down) o) true) second
+
+  -- as its seat says
+  down_is_idle : (after : List Seat) (gone : Going seats after) → Seats after w2
+      → post (seat after p.node).posts p.session ≡ post n1.posts p.session
+      → t2.is_down ≡ is_idle (post n1.posts p.session).phase
+  down_is_idle after gone stands2 same =
+      let is2 = same_place after seats (sym gone.alike) p is in
+      let h = here facts.wired after w2 right2 stands2 p is2 in
+      let same_session : h.session ≡ t2 =
+      same_Some h.session t2 (sym h.found ∙ (λ i. session_of w2 (same_name_at seats after gone.alike p i) (same_other_at seats after gone.alike p i)) ∙ second)
+      in
+      t2_down ∙ ap (λ (t : Session). is_idle t.near.phase) (sym same_session) ∙ ap is_idle h.near_is.phase
+      ∙ ap (λ (p : Post). is_idle p.phase) same
+
+  connects_by : (b : Bool) → t2.is_down ≡ b
+      → connect (name_at seats p) (other_at seats p) w
+      ≡ cond b w2 (pass (other_at seats p) (change_session (other_at seats p) (name_at seats p) opened w2))
+  connects_by b e =
+      ap (λ c. cond c w2 (pass (other_at seats p) (change_session (name_at seats p) (other_at seats p) (around opened) w2))) (broken_is ∙ e)
+      ∙ ap (λ ss. cond b w2 (pass (other_at seats p) (record { setup = w2.setup; sessions = ss })))
+      (around_back (name_at seats p) (other_at seats p) at.apart opened w2.sessions)
+
+  -- ---- the other sessions of the near node
+  -- its other sessions lead to other nodes
+  other_nodes : (j : ℕ) (less : j < count1) → j ≢ p.session → (far1 j less).far.node ≢ q.node
+  other_nodes j less ne e =
+      ne (ap (λ (r : Place). r.session)
+      (one_place facts.wired seats w right stands (place p.node j) p (own1 j less) is refl
+      (sym (far1 j less).name ∙ ap (λ k. name_of (seat seats k).who) e ∙ at.far.name)))
+
+  -- the session there is as it was
+  session_there : (j : ℕ) (less : j < count1) → j ≢ p.session → (t : Session)
+      → session_of w1 (name_at seats (place p.node j)) (other_at seats (place p.node j)) ≡ Some t
+      → (here facts.wired seats w right stands (place p.node j) (own1 j less)).session ≡ t
+  session_there j less ne t found_it =
+      let h = here facts.wired seats w right stands (place p.node j) (own1 j less) in
+      same_Some h.session t
+      (sym (found_elsewhere facts.wired seats w right stands p is at opened opened_nodes (place p.node j) (own1 j less)
+      (λ e. ne (ap (λ (r : Place). r.session) e)) (λ e. not_far (sym (ap (λ (r : Place). r.node) e))) h.session h.found) ∙ found_it)
+
+  -- and it is down as its ends say
+  down_there : (u : List Seat) → AreAlike seats u → (j : ℕ) (less : j < count1) → j ≢ p.session
+      → is_idle (post n1.posts j).phase ≡ false → seat u p.node ≡ n1
+      → seat u (far1 j less).far.node ≡ seat seats (far1 j less).far.node
+      → is_down_at u (place p.node j) ≡ (here facts.wired seats w right stands (place p.node j) (own1 j less)).session.is_down
+  down_there u alike j less ne live here_is there_is =
+      let r = place p.node j in
+      let h = here facts.wired seats w right stands r (own1 j less) in
+      let before = stepped_live (seat seats p.node) n1 p.session takes1.given takes1.stepped j (posts_within j less) ne live in
+      down_by_ends seats u alike r (far1 j less).far (far1 j less).found
+      ((λ i. not (is_idle (post (here_is i).posts j).phase) && not (notice (here_is i) j))
+      ∙ (λ i. not (live i) && not (slice_index_or (takes1.stepped.notices i) j false))
+      ∙ (λ i. not (sym before i) && not (notice (seat seats p.node) j)))
+      (λ i. not (is_idle (post (there_is i).posts (far1 j less).far.session).phase) && not (notice (there_is i) (far1 j less).far.session))
+      ∙ down_here facts seats w moment stands r (own1 j less) h
+
+  -- ---- where the near end is closed again
+  module _ (dead : live_at opened_seats p ≡ false) where
+    closed_c : IsCleared seats p.node count1 own1 far1 off1 (λ j. is_down_at opened_seats (place p.node j)) count1 0 opened_seats (cleared opened_seats p.node)
+    closed_c = all_cleared seats p.node count1 own1 far1 off1 opened_seats going_o count_o
+
+    pub closed_stands : Seats (cleared opened_seats p.node) w2
+    closed_stands =
+        open_passed facts seats w right stands p is n1 takes1 bare1 fine1 down.far.tidy others1 (λ j. is_down_at opened_seats (place p.node j))
+        (cleared opened_seats p.node) closed_c
+        (λ j less live t found_it.
+        let ne : j ≢ p.session = λ e. true≢false (sym (live_of j live) ∙ ap (λ j. live_at opened_seats (place p.node j)) e ∙ dead) in
+        down_there opened_seats going_o.alike j less ne live seat_p (seat_elsewhere p.node (far1 j less).far.node n1 seats (off1 j less))
+        ∙ ap (λ (s : Session). s.is_down) (session_there j less ne t found_it))
+
+    pub closed_connects : connect (name_at seats p) (other_at seats p) w ≡ w2
+    closed_connects =
+        connects_by true
+        (down_is_idle (cleared opened_seats p.node) closed_c.going closed_stands
+        ((closed_c.stays p).post ∙ ap (λ (n : Seat). post n.posts p.session) seat_p)
+        ∙ by_end (is_idle (post n1.posts p.session).phase) (sym (live_o p.session) ∙ dead))
+      where
+        by_end : (b : Bool) → not b ≡ false → b ≡ true
+        by_end true e = refl
+        by_end false e = absurd (true≢false e)
+
+  -- ---- where it is live still
+  module _ (alive : live_at opened_seats p ≡ true) where
+    live_p : is_idle (post n1.posts p.session).phase ≡ false
+    live_p = by_end (is_idle (post n1.posts p.session).phase) (sym (live_o p.session) ∙ alive)
+      where
+        by_end : (b : Bool) → not b ≡ true → b ≡ false
+        by_end true e = absurd (true≢false (sym e))
+        by_end false e = refl
+
+    abbrev down2 : ℕ → Bool
+    down2 j = down_of (session_of w1 (name_at seats (place p.node j)) (other_at seats (place p.node j)))
+
+    abbrev standing : List Seat
+    standing = clear_from down2 count1 p.node 0 opened_seats
+
+    c2 : IsCleared seats p.node count1 own1 far1 off1 down2 count1 0 opened_seats standing
+    c2 = is_cleared seats p.node count1 own1 far1 off1 down2 count1 0 opened_seats (all_full count1) going_o
+
+    stands2 : Seats standing w2
+    stands2 =
+        open_passed facts seats w right stands p is n1 takes1 bare1 fine1 down.far.tidy others1 down2 standing c2
+        (λ j less live t found_it. ap down_of found_it)
+
+    whole2 : t2.is_down ≡ false
+    whole2 = down_is_idle standing c2.going stands2 ((c2.stays p).post ∙ ap (λ (n : Seat). post n.posts p.session) seat_p) ∙ live_p
+
+    opened_whole : (opened s).is_down ≡ false
+    opened_whole = open_whole facts seats w right stands p is n1 takes1 bare1 fine1 down.far.tidy others1 live_p
+
+    first_left : (b : List ℕ) × AllLeft b (greeting s ∷ []) (opening_session s) (opened s)
+    first_left =
+        subst (λ (t : Session). t.is_down ≡ false → (b : List ℕ) × AllLeft b (greeting s ∷ []) (opening_session s) t) (sym (opened_tells s))
+        (told_whole (greeting s ∷ []) (opening_session s)) opened_whole
+
+    second_left : (b : List ℕ) × AllLeft b (wanted_messages wants (opened s)) (telling_session wants (opened s)) t2
+    second_left =
+        subst (λ (t : Session). t.is_down ≡ false
+        → (b : List ℕ) × AllLeft b (wanted_messages wants (opened s)) (telling_session wants (opened s)) t) (sym (passed_tells wants (opened s)))
+        (told_whole (wanted_messages wants (opened s)) (telling_session wants (opened s))) whole2
+
+    -- nothing that the near end sent was taken
+    untaken2 : t2.near.taken ≡ 0
+    untaken2 = second_left.1.taken ∙ first_left.1.taken ∙ down.near.taken
+
+    live2 : is_live t2.near ≡ true
+    live2 = ap not (sym t2_down ∙ whole2)
+
+    -- ---- the far end
+    is_q : IsPlace standing q
+    is_q = same_place standing seats (sym c2.going.alike) q at.far.is_place
+
+    not_dead : (j : ℕ) → live_at opened_seats (place p.node j) ≡ false → j ≢ p.session
+    not_dead j e f = true≢false (sym alive ∙ sym (ap (λ j. live_at opened_seats (place p.node j)) f) ∙ e)
+
+    seat_q : seat standing q.node ≡ seat opened_seats q.node
+    seat_q =
+        clear_nodes seats p.node count1 own1 far1 off1 down2 count1 0 opened_seats (all_full count1) going_o q.node not_far
+        (λ j less closed e. other_nodes j less (not_dead j closed) (sym e))
+
+    name_q : name_at standing q ≡ other_at seats p
+    name_q = same_name_at seats standing c2.going.alike q ∙ at.far.name
+
+    other_q : other_at standing q ≡ name_at seats p
+    other_q = same_other_at seats standing c2.going.alike q ∙ at.far.other
+
+    abbrev here_q : Here standing w2 q
+    here_q = here facts.wired standing w2 right2 stands2 q is_q
+
+    same_q : here_q.session ≡ turned t2
+    same_q =
+        same_Some here_q.session (turned t2)
+        (sym here_q.found ∙ (λ i. session_of w2 (name_q i) (other_q i))
+        ∙ node_there (name_at seats p) (other_at seats p) at.apart tells tells_nodes w1.sessions (opened s) first)
+
+    bare2 : here_q.session.far.taken ≡ 0
+    bare2 = ap (λ (t : Session). t.far.taken) same_q ∙ untaken2
+
+    live_far2 : is_live here_q.session.far ≡ true
+    live_far2 = ap (λ (t : Session). is_live t.far) same_q ∙ live2
+
+    fine2 : is_live here_q.session.far ≡ false → (here_q.session.far.notice ≡ false) × (here_q.session.near.taken ≡ 0)
+    fine2 e = absurd (true≢false (sym live_far2 ∙ e))
+
+    tidy2 : IsTidy here_q.session.far
+    tidy2 e = absurd (true≢false (sym live_far2 ∙ e))
+
+    others2 : (b : Name) (t : Session) → b ≢ other_at standing q → session_of w2 (name_at standing q) b ≡ Some t → IsReady t
+    others2 b t ne found_it =
+        let a = other_at seats p in
+        let not_me : b ≢ name_at seats p = λ e. ne (e ∙ sym other_q) in
+        fact_ready t (found_sound w moment a b t
+        (sym (others_stay (name_at seats p) a a b ((λ e _. at.apart e), (λ e _. not_me (sym e))) opened opened_nodes w.sessions)
+        ∙ sym (strangers_stay (name_at seats p) a b at.apart (λ e. not_me (sym e)) tells tells_nodes w1.sessions)
+        ∙ ap (λ c. session_of w2 c b) (sym name_q) ∙ found_it))
 
     abbrev w3 : Network
-    w3 = change_session (name_at i2 q) (other_at i2 q) opened w2
+    w3 = change_session (name_at standing q) (other_at standing q) opened w2
 
-    abbrev w4 : Network
-    w4 = pass (name_at i2 q) w3
-
-    abbrev i4 : List Seat
-    i4 = with_seat q.node (kept_seat w3 n2) i2
-
-    stands4 : Seats i4 w4
-    stands4 = open_stands facts i2 w2 right2 stands2 q is_q n2 takes2'
-
-    right4 : IsRight w4
-    right4 = passed_right (name_at i2 q) w3 (opened_right (name_at i2 q) (other_at i2 q) w2 right2)
-
-    alike4 : AreAlike seats i4
-    alike4 = with_alike q.node (kept_seat w3 n2) i2 takes2'.stepped.who ∙ alike2
-
-    name_q : name_at i2 q ≡ other_at seats p
-    name_q = same_name_at seats i2 alike2 q ∙ at.far.name
-
-    other_q : other_at i2 q ≡ name_at seats p
-    other_q = same_other_at seats i2 alike2 q ∙ at.far.other
-
-    -- ---- this is the connection
-    whole2 : is_broken w2 (name_at seats p) (other_at seats p) ≡ false
-    whole2 =
-        let a = name_at seats p in
-        let b = other_at seats p in
-        let tells : Session → Session = λ s. passed (wanted w1.setup (views_of a w1.sessions) (view s)) s in
-        let first = changed_here a b at.apart opened opened_nodes w.sessions s at.found in
-        let second : session_of w2 a b ≡ Some (tells (opened s)) =
-        node_here a b at.apart tells (λ s. passed_nodes (wanted w1.setup (views_of a w1.sessions) (view s)) s) w1.sessions (opened s) first
-        in
-        let is_open = opens s at.near_is.breaks in
-        ap (λ (o : Option Session). unwrap_or (option_map (λ (s : Session). s.is_down) o) true) second
-        ∙ (passed_is (wanted w1.setup (views_of a w1.sessions) (view (opened s))) (opened s)
-        (ap (λ (s : Session). s.near.breaks) is_open ∙ at.near_is.breaks)).down
-        ∙ ap (λ (s : Session). s.is_down) is_open
-
-    pub connects : connect (name_at seats p) (other_at seats p) w ≡ w4
-    connects =
-        let a = name_at seats p in
-        let b = other_at seats p in
-        ap (λ c. cond c w2 (pass b (change_session a b (around opened) w2))) whole2
-        ∙ ap (λ ss. pass b (record { setup = w2.setup; sessions = ss })) (around_back a b at.apart opened w2.sessions)
+    pub open_connects : connect (name_at seats p) (other_at seats p) w ≡ pass (name_at standing q) w3
+    open_connects =
+        connects_by false whole2
         ∙ (λ i. pass (sym name_q i) (change_session (sym name_q i) (sym other_q i) opened w2))
 
-    -- ---- what is discarded
-    abbrev s2 : List Seat
-    s2 = with_seat p.node n1 seats
+    module _ (n2 : Seat) (takes : Takes (seat opened_seats q.node) n2 (input.Opened q.session)) where
+      takes2 : Takes (seat standing q.node) n2 (input.Opened q.session)
+      takes2 = subst (λ n. Takes n n2 (input.Opened q.session)) (sym seat_q) takes
 
-    abbrev s4 : List Seat
-    s4 = with_seat q.node n2 s2
+      abbrev count2 : ℕ
+      count2 = count facts.wired standing w2 right2 stands2 q is_q
 
-    lt2 : (k : ℕ) → k < length seats → k < length s2
-    lt2 k lt = subst (λ m. k < m) (sym (length-set seats p.node n1)) lt
+      abbrev own2 : (j : ℕ) → j < count2 → IsPlace standing (place q.node j)
+      own2 = own facts.wired standing w2 right2 stands2 q is_q
 
-    lti2 : (k : ℕ) → k < length seats → k < length i2
-    lti2 k lt = subst (λ m. k < m) (sym (length-set seats p.node (kept_seat w1 n1))) lt
+      abbrev far2 : (j : ℕ) → j < count2 → HasFar standing (place q.node j)
+      far2 = far facts.wired standing w2 right2 stands2 q is_q
 
-    alike_s2 : AreAlike seats s2
-    alike_s2 = with_alike p.node n1 seats takes1.stepped.who
+      abbrev off2 : (j : ℕ) (lt : j < count2) → (far2 j lt).far.node ≢ q.node
+      off2 = off facts.wired standing w2 right2 stands2 q is_q
 
-    alike_s4 : AreAlike seats s4
-    alike_s4 = with_alike q.node n2 s2 takes2.stepped.who ∙ alike_s2
+      -- what there is, and what the theorem is of
+      abbrev both_opened : List Seat
+      both_opened = with_seat q.node n2 opened_seats
 
-    posts_of : (r : Place) → IsPlace seats r → r.session < length (seat seats r.node).posts
-    posts_of r is_r = subst (λ m. r.session < m) (sym (stands.long r.node is_r.node).posts) is_r.session
+      abbrev last_opened : List Seat
+      last_opened = with_seat q.node n2 standing
 
-    long1 : (j : ℕ) → j < length s2 → IsLong (seat s2 j)
-    long1 = with_long p.node n1 seats is.node stands.long (stepped_long (seat seats p.node) n1 p.session takes1.given takes1.stepped (stands.long p.node is.node))
+      abbrev near_cleared : List Seat
+      near_cleared = cleared both_opened p.node
 
-    posts_of2 : (r : Place) → IsPlace seats r → r.session < length (seat s2 r.node).posts
-    posts_of2 r is_r =
-        let there = same_place s2 seats (sym alike_s2) r is_r in
-        subst (λ m. r.session < m) (sym (long1 r.node there.node).posts) there.session
+      lt_o : q.node < length opened_seats
+      lt_o = subst (λ m. q.node < m) (sym (same_long seats opened_seats going_o.alike)) at.far.is_place.node
 
-    whole_elsewhere : (r : Place) → IsPlace seats r → r ≢ p → r ≢ q → whole_at s4 r ≡ whole_at seats r
-    whole_elsewhere r is_r not_p not_q =
-        stepped_whole s2 q (lt2 q.node at.far.is_place.node) n2 takes2.given takes2.stepped r (posts_of2 r is_r) not_q
-        ∙ stepped_whole seats p is.node n1 takes1.given takes1.stepped r (posts_of r is_r) not_p
+      y_q : seat both_opened q.node ≡ n2
+      y_q = seat_here q.node n2 opened_seats lt_o
 
-    down_elsewhere : (r : Place) (is_r : IsPlace seats r) → r ≢ p → r ≢ q
-        → is_down_at s4 r ≡ (here facts.wired seats w right stands r is_r).session.is_down
-    down_elsewhere r is_r not_p not_q =
-        let h = here facts.wired seats w right stands r is_r in
-        down_by_ends seats s4 alike_s4 r h.far.far h.far.found (whole_elsewhere r is_r not_p not_q)
-        (whole_elsewhere h.far.far h.far.is_place
-        (λ e. not_q (same_Some r q (sym h.far.back ∙ ap (far_of seats) e ∙ at.far.found)))
-        (λ e. not_p (same_Some r p (sym h.far.back ∙ ap (far_of seats) e ∙ at.far.back))))
-        ∙ down_here facts seats w moment stands r is_r h
+      z_q : seat last_opened q.node ≡ n2
+      z_q = seat_here q.node n2 standing is_q.node
 
-    near_not_q : p ≢ q
-    near_not_q e = not_far (sym (ap (λ (p : Place). p.node) e))
+      y_else : (m : ℕ) → m ≢ q.node → seat both_opened m ≡ seat opened_seats m
+      y_else m ne = seat_elsewhere q.node m n2 opened_seats ne
 
-    near_whole : whole_at s4 p ≡ true
-    near_whole =
-        stepped_whole s2 q (lt2 q.node at.far.is_place.node) n2 takes2.given takes2.stepped p (posts_of2 p is) near_not_q
-        ∙ stepped_open seats p is.node n1 takes1.given takes1.stepped Opened (open_phase facts seats w right stands p is n1 takes1) refl
-        (posts_of p is) quiet
+      z_else : (m : ℕ) → m ≢ q.node → seat last_opened m ≡ seat standing m
+      z_else m ne = seat_elsewhere q.node m n2 standing ne
 
-    far_whole : whole_at s4 q ≡ true
-    far_whole =
-        stepped_open s2 q (lt2 q.node at.far.is_place.node) n2 takes2.given takes2.stepped Opened
-        (open_phase facts i2 w2 right2 stands2 q is_q n2 takes2') refl (posts_of2 q at.far.is_place)
-        (ap (λ n. notice n q.session) (seat_elsewhere p.node q.node n1 seats not_far) ∙ quiet_there)
+      off_q : p.node ≢ q.node
+      off_q e = not_far (sym e)
 
-    -- ---- what is left at the two nodes
-    near_seat : seat s4 p.node ≡ n1
-    near_seat = seat_elsewhere q.node p.node n2 s2 (λ e. not_far (sym e)) ∙ seat_here p.node n1 seats is.node
+      y_p : seat both_opened p.node ≡ n1
+      y_p = y_else p.node off_q ∙ seat_p
 
-    far_seat : seat s4 q.node ≡ n2
-    far_seat = seat_here q.node n2 s2 (lt2 q.node at.far.is_place.node)
+      who_o : (seat opened_seats q.node).who ≡ (seat seats q.node).who
+      who_o = same_who seats opened_seats going_o.alike q.node
 
-    near_down : is_down_at s4 p ≡ false
-    near_down = not_down_by_ends seats s4 alike_s4 p q at.far.found near_whole far_whole
+      going_y : Going seats both_opened
+      going_y = record {
+        alike = with_alike q.node n2 opened_seats takes.stepped.who ∙ going_o.alike;
+        long = with_long q.node n2 opened_seats lt_o going_o.long
+            (stepped_long (seat opened_seats q.node) n2 q.session takes.given takes.left takes.stepped takes.swept (going_o.long q.node lt_o));
+      }
 
-    far_down : is_down_at s4 q ≡ false
-    far_down = not_down_by_ends seats s4 alike_s4 q p at.far.back far_whole near_whole
+      cx : IsCleared seats p.node count1 own1 far1 off1 (λ j. is_down_at both_opened (place p.node j)) count1 0 both_opened near_cleared
+      cx =
+          all_cleared seats p.node count1 own1 far1 off1 both_opened going_y
+          (ap (λ (n : Seat). length n.posts) (y_else p.node off_q) ∙ count_o)
 
-    long_n1 : IsLong n1
-    long_n1 = stepped_long (seat seats p.node) n1 p.session takes1.given takes1.stepped (stands.long p.node is.node)
+      live_y : (j : ℕ) → live_at both_opened (place p.node j) ≡ live_at opened_seats (place p.node j)
+      live_y j = ap (λ (n : Seat). not (is_idle (post n.posts j).phase)) (y_else p.node off_q)
 
-    long_n2 : IsLong n2
-    long_n2 =
-        stepped_long (seat s2 q.node) n2 q.session takes2.given takes2.stepped (long1 q.node (lt2 q.node at.far.is_place.node))
+      -- ---- what both make of each end
+      -- at the far node nothing is cleared yet
+      same_at_q : (r : Place) → r.node ≡ q.node → SameEnd (seat last_opened r.node) (seat near_cleared r.node) r.session
+      same_at_q r e =
+          subst (λ n. SameEnd n (seat near_cleared r.node) r.session) (ap (seat both_opened) e ∙ y_q ∙ sym z_q ∙ ap (seat last_opened) (sym e))
+          (cx.rest r (λ j _ _ _ f. off_q (sym (ap (λ (r : Place). r.node) f) ∙ e))
+          (λ j less _ _ closed f. other_nodes j less (not_dead j (sym (live_y j) ∙ closed)) (sym (ap (λ (r : Place). r.node) f) ∙ e)))
 
-    -- a session of the near node, once that has opened its end
-    near_session : (r : Place) (is_r : IsPlace seats r) → r.node ≡ p.node
-        → (t : Session) × (session_of w1 (name_at seats r) (other_at seats r) ≡ Some t) × (is_down_at s4 r ≡ t.is_down)
-    near_session r is_r e = by_place (same_or_other r p)
-      where
-        by_place : (r ≡ p) ⊎ (r ≢ p)
-            → (t : Session) × (session_of w1 (name_at seats r) (other_at seats r) ≡ Some t) × (is_down_at s4 r ≡ t.is_down)
-        by_place (inl same) = (
-          opened s,
-          (λ i. session_of w1 (name_at seats (same i)) (other_at seats (same i)))
-              ∙ changed_here (name_at seats p) (other_at seats p) at.apart opened opened_nodes w.sessions s at.found,
-          ap (is_down_at s4) same ∙ near_down ∙ sym (ap (λ (s : Session). s.is_down) (opens s at.near_is.breaks)),
-        )
-        by_place (inr ne) =
-            let h = here facts.wired seats w right stands r is_r in
-            let not_q : r ≢ q = λ f. not_far (sym (ap (λ (p : Place). p.node) f) ∙ e) in (
-              h.session,
-              found_elsewhere facts.wired seats w right stands p is at opened opened_nodes r is_r ne not_q h.session h.found,
-              down_elsewhere r is_r ne not_q,
-            )
-
-    -- and one of the far node, once that has
-    here_q : Here i2 w2 q
-    here_q = here facts.wired i2 w2 right2 stands2 q is_q
-
-    far_of_q : here_q.far.far ≡ p
-    far_of_q = same_Some here_q.far.far p (sym here_q.far.found ∙ same_far_of seats i2 alike2 q ∙ at.far.back)
-
-    far_session : (r : Place) (is_r : IsPlace seats r) → r.node ≡ q.node
-        → (t : Session) × (session_of w3 (name_at seats r) (other_at seats r) ≡ Some t) × (is_down_at s4 r ≡ t.is_down)
-    far_session r is_r e = by_place (same_or_other r q)
-      where
-        names : (r : Place) → session_of w3 (name_at seats r) (other_at seats r) ≡ session_of w3 (name_at i2 r) (other_at i2 r)
-        names r i = session_of w3 (sym (same_name_at seats i2 alike2 r) i) (sym (same_other_at seats i2 alike2 r) i)
-
-        by_place : (r ≡ q) ⊎ (r ≢ q)
-            → (t : Session) × (session_of w3 (name_at seats r) (other_at seats r) ≡ Some t) × (is_down_at s4 r ≡ t.is_down)
-        by_place (inl same) = (
-          opened here_q.session,
-          (λ i. session_of w3 (name_at seats (same i)) (other_at seats (same i))) ∙ names q
-              ∙ changed_here (name_at i2 q) (other_at i2 q) here_q.apart opened opened_nodes w2.sessions here_q.session here_q.found,
-          ap (is_down_at s4) same ∙ far_down ∙ sym (ap (λ (s : Session). s.is_down) (opens here_q.session here_q.near_is.breaks)),
-        )
-        by_place (inr ne) =
-            let h = here facts.wired seats w right stands r is_r in
-            let not_p : r ≢ p = λ f. not_far (sym e ∙ ap (λ (p : Place). p.node) f) in
-            let a = name_at seats p in
-            let tells : Session → Session = λ s. passed (wanted w1.setup (views_of a w1.sessions) (view s)) s in
-            let first = found_elsewhere facts.wired seats w right stands p is at opened opened_nodes r is_r not_p ne h.session h.found in
-            let second : session_of w2 (name_at seats r) (other_at seats r) ≡ Some h.session =
-            node_elsewhere a (name_at seats r) (other_at seats r)
-            (λ f. at.apart (f ∙ ap (λ k. name_of (seat seats k).who) e ∙ at.far.name))
-            (λ f. ne (one_place facts.wired seats w right stands r q is_r at.far.is_place (ap (λ k. name_of (seat seats k).who) e) (sym f ∙ sym at.far.other)))
-            tells (λ s. passed_nodes (wanted w1.setup (views_of a w1.sessions) (view s)) s) w1.sessions h.session first
-            in (
-              h.session,
-              names r
-                  ∙ found_elsewhere facts.wired i2 w2 right2 stands2 q is_q here_q opened opened_nodes r
-                  (same_place i2 seats (sym alike2) r is_r) ne (λ f. not_p (f ∙ far_of_q)) h.session
-                  ((λ i. session_of w2 (same_name_at seats i2 alike2 r i) (same_other_at seats i2 alike2 r i)) ∙ second),
-              down_elsewhere r is_r not_p ne,
-            )
-
-    module _ (n3 : Seat) (d3 : IsDiscarded s4 p.node n3) (n4 : Seat) (d4 : IsDiscarded (with_seat p.node n3 s4) q.node n4) where
-      abbrev s5 : List Seat
-      s5 = with_seat p.node n3 s4
-
-      abbrev s6 : List Seat
-      s6 = with_seat q.node n4 s5
-
-      lt4 : (k : ℕ) → k < length seats → k < length s4
-      lt4 k lt = subst (λ m. k < m) (sym (length-set s2 q.node n2)) (lt2 k lt)
-
-      lt5 : (k : ℕ) → k < length seats → k < length s5
-      lt5 k lt = subst (λ m. k < m) (sym (length-set s4 p.node n3)) (lt4 k lt)
-
-      near_at : p.node < length s4
-      near_at = lt4 p.node is.node
-
-      far_at : q.node < length s5
-      far_at = lt5 q.node at.far.is_place.node
-
-      alike45 : AreAlike s4 s5
-      alike45 = with_alike p.node n3 s4 d3.who
-
-      alike6 : AreAlike seats s6
-      alike6 = with_alike q.node n4 s5 d4.who ∙ alike45 ∙ alike_s4
-
-      posts45 : SamePosts s4 s5
-      posts45 = same_posts_discarded s4 p.node n3 near_at d3
-
-      posts46 : SamePosts i4 s6
-      posts46 =
-          same_posts_trans i4 s4 s6
-          (same_posts_with q.node (kept_seat w3 n2) n2 i2 s2 (lti2 q.node at.far.is_place.node) (lt2 q.node at.far.is_place.node) refl refl
-          (same_posts_with p.node (kept_seat w1 n1) n1 seats seats is.node is.node refl refl (λ j. (refl, refl))))
-          (same_posts_trans s4 s5 s6 posts45 (same_posts_discarded s5 q.node n4 far_at d4))
-
-      long_n3 : IsLong n3
-      long_n3 = discarded_long s4 p.node n3 d3 (subst IsLong (sym near_seat) long_n1)
-
-      seat_q5 : seat s5 q.node ≡ n2
-      seat_q5 = seat_elsewhere p.node q.node n3 s4 not_far ∙ far_seat
-
-      long_n4 : IsLong n4
-      long_n4 = discarded_long s5 q.node n4 d4 (subst IsLong (sym seat_q5) long_n2)
-
-      long6 : (j : ℕ) → j < length s6 → IsLong (seat s6 j)
-      long6 = with_long q.node n4 s5 far_at (with_long p.node n3 s4 near_at (with_long q.node n2 s2 (lt2 q.node at.far.is_place.node) long1 long_n2) long_n3) long_n4
-
-      -- what is left at each place is the same
-      near_links : (i : ℕ) → IsPlace seats (record { node = p.node; session = i }) → link n3 i ≡ link (kept_seat w1 n1) i
-      near_links i is_r =
-          let t = near_session (record { node = p.node; session = i }) is_r refl in
-          let less : i < length n1.posts = subst (λ m. i < m) (sym (long_n1.posts ∙ ap (λ x. length (others_of x)) takes1.stepped.who)) is_r.session in
-          d3.links i (subst (λ (n : Seat). i < length n.posts) (sym near_seat) less)
-          ∙ (λ j. cond (t.2 j) [] (link (near_seat j) i))
-          ∙ sym ((is_kept w1 n1).links i less t.0
-          ((λ j. session_of w1 (name_of (takes1.stepped.who j)) (slice_index_or (others_of (takes1.stepped.who j)) i [])) ∙ t.1))
-
-      far_links : (i : ℕ) → IsPlace seats (record { node = q.node; session = i }) → link n4 i ≡ link (kept_seat w3 n2) i
-      far_links i is_r =
-          let r : Place = record { node = q.node; session = i } in
-          let t = far_session r is_r refl in
-          let who : n2.who ≡ (seat seats q.node).who = takes2.stepped.who ∙ ap (λ (n : Seat). n.who) (seat_elsewhere p.node q.node n1 seats not_far) in
-          let less : i < length n2.posts = subst (λ m. i < m) (sym (long_n2.posts ∙ ap (λ x. length (others_of x)) who)) is_r.session in
-          d4.links i (subst (λ (n : Seat). i < length n.posts) (sym seat_q5) less)
-          ∙ (λ j. cond ((same_posts_down s4 s5 alike45 posts45 r ∙ t.2) j) [] (link (seat_q5 j) i))
-          ∙ sym ((is_kept w3 n2).links i less t.0
-          ((λ j. session_of w3 (name_of (who j)) (slice_index_or (others_of (who j)) i [])) ∙ t.1))
-
-      same_links : (r : Place) → IsPlace seats r → link_at s6 r ≡ link_at i4 r
-      same_links r is_r = by_node (cases_eq r.node q.node) (cases_eq r.node p.node)
+      stays_zx : (r : Place) → Stays (seat last_opened r.node) (seat near_cleared r.node) r.session
+      stays_zx r = by_node (cases_eq r.node q.node)
         where
-          by_node : (r.node ≡ q.node) ⊎ (r.node ≢ q.node) → (r.node ≡ p.node) ⊎ (r.node ≢ p.node) → link_at s6 r ≡ link_at i4 r
-          by_node (inl e) b =
-              ap (λ k. link (seat s6 k) r.session) e
-              ∙ ap (λ n. link n r.session) (seat_here q.node n4 s5 far_at)
-              ∙ far_links r.session (subst (λ k. IsPlace seats (record { node = k; session = r.session })) e is_r)
-              ∙ sym (ap (λ k. link (seat i4 k) r.session) e
-              ∙ ap (λ n. link n r.session) (seat_here q.node (kept_seat w3 n2) i2 (lti2 q.node at.far.is_place.node)))
-          by_node (inr ne) (inl e) =
-              ap (λ n. link n r.session) (seat_elsewhere q.node r.node n4 s5 ne)
-              ∙ ap (λ k. link (seat s5 k) r.session) e
-              ∙ ap (λ n. link n r.session) (seat_here p.node n3 s4 near_at)
-              ∙ near_links r.session (subst (λ k. IsPlace seats (record { node = k; session = r.session })) e is_r)
-              ∙ sym (ap (λ n. link n r.session) (seat_elsewhere q.node r.node (kept_seat w3 n2) i2 ne)
-              ∙ ap (λ k. link (seat i2 k) r.session) e
-              ∙ ap (λ n. link n r.session) (seat_here p.node (kept_seat w1 n1) seats is.node))
-          by_node (inr ne) (inr ne') =
-              ap (λ n. link n r.session)
-              (seat_elsewhere q.node r.node n4 s5 ne ∙ seat_elsewhere p.node r.node n3 s4 ne'
-              ∙ seat_elsewhere q.node r.node n2 s2 ne ∙ seat_elsewhere p.node r.node n1 seats ne'
-              ∙ sym (seat_elsewhere q.node r.node (kept_seat w3 n2) i2 ne ∙ seat_elsewhere p.node r.node (kept_seat w1 n1) seats ne'))
+          by_node : (r.node ≡ q.node) ⊎ (r.node ≢ q.node) → Stays (seat last_opened r.node) (seat near_cleared r.node) r.session
+          by_node (inl e) =
+              subst (λ n. Stays n (seat near_cleared r.node) r.session) (ap (seat both_opened) e ∙ y_q ∙ sym z_q ∙ ap (seat last_opened) (sym e)) (cx.stays r)
+          by_node (inr ne) =
+              subst (λ n. Stays n (seat near_cleared r.node) r.session) (sym (z_else r.node ne))
+              (stays_trans (seat standing r.node) (seat opened_seats r.node) (seat near_cleared r.node) r.session
+              (stays_back (seat opened_seats r.node) (seat standing r.node) r.session (c2.stays r))
+              (subst (λ n. Stays n (seat near_cleared r.node) r.session) (y_else r.node ne) (cx.stays r)))
 
-      pub connected_seats : Seats s6 w4
-      connected_seats =
-          seats_by_places s6 w4 (alike6 ∙ stands.who) long6 (λ r is_r.
-          let there = same_place seats s6 alike6 r is_r in
-          let is4 = same_place i4 seats (sym alike4) r there in
-          let h = here facts.wired i4 w4 right4 stands4 r is4 in
-          has_end i4 s6 w4 r h.session (alike6 ∙ sym alike4) h.found
-          (moved (seat i4 r.node) (seat s6 r.node) r.session h.session h.session (same_who i4 s6 (alike6 ∙ sym alike4) r.node)
-          (record {
-            post = ap (λ ps. post ps r.session) (posts46 r.node).0;
-            link = same_links r there;
-            notice = ap (λ bs. slice_index_or bs r.session false) (posts46 r.node).1;
-          }) refl refl h.near_is))
+      posts_zx : (j : ℕ) → (seat near_cleared j).posts ≡ (seat last_opened j).posts
+      posts_zx j = by_node (cases_eq j q.node)
+        where
+          by_node : (j ≡ q.node) ⊎ (j ≢ q.node) → (seat near_cleared j).posts ≡ (seat last_opened j).posts
+          by_node (inl e) = cx.posts j ∙ ap (λ (n : Seat). n.posts) (ap (seat both_opened) e ∙ y_q ∙ sym z_q ∙ ap (seat last_opened) (sym e))
+          by_node (inr ne) =
+              cx.posts j ∙ ap (λ (n : Seat). n.posts) (y_else j ne) ∙ sym (c2.posts j) ∙ sym (ap (λ (n : Seat). n.posts) (z_else j ne))
+
+      -- two ends that differ from a third one in the same way
+      same_marks : (r : Place) → r.node ≢ q.node → notice_at near_cleared r ≡ notice_at standing r → link_at near_cleared r ≡ link_at standing r
+          → SameEnd (seat last_opened r.node) (seat near_cleared r.node) r.session
+      same_marks r ne waits flight =
+          let s = stays_zx r in
+          record {
+            post = s.post;
+            kept = s.kept;
+            link = flight ∙ sym (ap (λ n. link n r.session) (z_else r.node ne));
+            breaks = s.breaks;
+            notice = waits ∙ sym (ap (λ n. notice n r.session) (z_else r.node ne));
+          }
+
+      -- whole ends of the session
+      whole_p : (u : List Seat) → live_at u p ≡ true → notice_at u p ≡ false → whole_at u p ≡ true
+      whole_p u e f = λ i. e i && not (f i)
+
+      quiet_n1 : notice n1 p.session ≡ false
+      quiet_n1 = ap (λ bs. slice_index_or bs p.session false) takes1.stepped.notices ∙ quiet
+
+      quiet_n2 : notice n2 q.session ≡ false
+      quiet_n2 =
+          ap (λ bs. slice_index_or bs q.session false)
+          (takes.stepped.notices ∙ ap (λ (n : Seat). n.notices) (seat_elsewhere p.node q.node n1 seats not_far))
+          ∙ quiet_there
+
+      up_p : (is_down_at both_opened p ≡ false) ⊎ (is_idle (post n2.posts q.session).phase ≡ true)
+      up_p = by_end (is_idle (post n2.posts q.session).phase) refl
+        where
+          by_end : (b : Bool) → is_idle (post n2.posts q.session).phase ≡ b
+              → (is_down_at both_opened p ≡ false) ⊎ (is_idle (post n2.posts q.session).phase ≡ true)
+          by_end true e = inr e
+          by_end false e =
+              inl (not_down_by_ends seats both_opened going_y.alike p q at.far.found
+              ((λ i. not (is_idle (post (y_p i).posts p.session).phase) && not (notice (y_p i) p.session))
+              ∙ (λ i. not (live_p i) && not (quiet_n1 i)))
+              ((λ i. not (is_idle (post (y_q i).posts q.session).phase) && not (notice (y_q i) q.session))
+              ∙ (λ i. not (e i) && not (quiet_n2 i))))
+
+      -- an end of the near node
+      near_marks : (j : ℕ) (less : j < count1) → (j ≡ p.session → is_down_at both_opened p ≡ false)
+          → SameEnd (seat last_opened p.node) (seat near_cleared p.node) j
+      near_marks j less up = by_live (live_at opened_seats (place p.node j)) refl
+        where
+          same_before : seat both_opened p.node ≡ seat opened_seats p.node
+          same_before = y_else p.node off_q
+
+          by_live : (b : Bool) → live_at opened_seats (place p.node j) ≡ b → SameEnd (seat last_opened p.node) (seat near_cleared p.node) j
+          by_live false e =
+              let a = (cx.ends j less (at_least j) (at_most count1 j less)).closed (live_y j ∙ e) in
+              let b = (c2.ends j less (at_least j) (at_most count1 j less)).closed e in
+              same_marks (place p.node j) off_q (a.0 ∙ sym b.0) (a.1 ∙ sym b.1)
+          by_live true e =
+              let a = (cx.ends j less (at_least j) (at_most count1 j less)).live (live_y j ∙ e) in
+              let b = (c2.ends j less (at_least j) (at_most count1 j less)).live e in
+              same_marks (place p.node j) off_q (a.0 ∙ ap (λ n. notice n j) same_before ∙ sym b.0)
+              (a.1 ∙ (λ i. cond (same_down (cases_eq j p.session) e i) [] (link (same_before i) j)) ∙ sym b.1)
+            where
+              live_n1 : live_at opened_seats (place p.node j) ≡ true → is_idle (post n1.posts j).phase ≡ false
+              live_n1 e = by_end (is_idle (post n1.posts j).phase) (sym (live_o j) ∙ e)
+                where
+                  by_end : (b : Bool) → not b ≡ true → b ≡ false
+                  by_end true e = absurd (true≢false (sym e))
+                  by_end false e = refl
+
+              same_down : (j ≡ p.session) ⊎ (j ≢ p.session) → live_at opened_seats (place p.node j) ≡ true → is_down_at both_opened (place p.node j) ≡ down2 j
+              same_down (inl f) e =
+                  ap (λ j. is_down_at both_opened (place p.node j)) f ∙ up f ∙ sym opened_whole ∙ sym (ap down_of first)
+                  ∙ ap (λ j. down2 j) (sym f)
+              same_down (inr ne) e =
+                  let h = here facts.wired seats w right stands (place p.node j) (own1 j less) in
+                  down_there both_opened going_y.alike j less ne (live_n1 e) y_p
+                  (y_else (far1 j less).far.node (other_nodes j less ne) ∙ seat_elsewhere p.node (far1 j less).far.node n1 seats (off1 j less))
+                  ∙ sym (ap down_of
+                  (found_elsewhere facts.wired seats w right stands p is at opened opened_nodes (place p.node j) (own1 j less)
+                  (λ e. ne (ap (λ (r : Place). r.session) e)) (λ e. not_far (sym (ap (λ (r : Place). r.node) e))) h.session h.found))
+
+      -- an end that there is not
+      beyond : (j : ℕ) → count1 ≤ j → SameEnd (seat last_opened p.node) (seat near_cleared p.node) j
+      beyond j more =
+          let r = place p.node j in
+          let a = cx.rest r (λ l less _ _ e. too_far l less e) (λ l less _ _ _ e. off1 l less (sym (ap (λ (r : Place). r.node) e))) in
+          let b = c2.rest r (λ l less _ _ e. too_far l less e) (λ l less _ _ _ e. off1 l less (sym (ap (λ (r : Place). r.node) e))) in
+          same_marks r off_q (a.notice ∙ ap (λ n. notice n j) (y_else p.node off_q) ∙ sym b.notice)
+          (a.link ∙ ap (λ n. link n j) (y_else p.node off_q) ∙ sym b.link)
+        where
+          apart_by : (l j : ℕ) → l < count1 → count1 ≤ j → j ≡ l → ⊥
+          apart_by l j less more e = omega (arith, less, more, e)
+
+          too_far : (l : ℕ) → l < count1 → place p.node j ≡ place p.node l → ⊥
+          too_far l less e = apart_by l j less more (ap (λ (r : Place). r.session) e)
+
+      -- an end of another node
+      strange_marks : (r : Place) → r.node ≢ p.node → r.node ≢ q.node → SameEnd (seat last_opened r.node) (seat near_cleared r.node) r.session
+      strange_marks r not_p not_q = by_far (far_or_not seats p.node count1 own1 far1 off1 r count1 (all_of count1))
+        where
+          all_of : (n : ℕ) → n ≤ n
+          all_of n = omega arith
+
+          same_before : seat both_opened r.node ≡ seat opened_seats r.node
+          same_before = y_else r.node not_q
+
+          untouched : ((l : ℕ) (less : l < count1) → live_at opened_seats (place p.node l) ≡ false → r ≢ (far1 l less).far)
+              → SameEnd (seat last_opened r.node) (seat near_cleared r.node) r.session
+          untouched none =
+              let a = cx.rest r (λ l _ _ _ e. not_p (ap (λ (r : Place). r.node) e)) (λ l less _ _ closed. none l less (sym (live_y l) ∙ closed)) in
+              let b = c2.rest r (λ l _ _ _ e. not_p (ap (λ (r : Place). r.node) e)) (λ l less _ _ closed. none l less closed) in
+              same_marks r not_q (a.notice ∙ ap (λ n. notice n r.session) same_before ∙ sym b.notice)
+              (a.link ∙ ap (λ n. link n r.session) same_before ∙ sym b.link)
+
+          told_there : (l : ℕ) (less : l < count1) → r ≡ (far1 l less).far → live_at opened_seats (place p.node l) ≡ false
+              → SameEnd (seat last_opened r.node) (seat near_cleared r.node) r.session
+          told_there l less e closed =
+              let a = (cx.ends l less (at_least l) (at_most count1 l less)).told (live_y l ∙ closed) in
+              let b = (c2.ends l less (at_least l) (at_most count1 l less)).told closed in
+              same_marks r not_q
+              (ap (notice_at near_cleared) e ∙ a.0 ∙ ap (live_at both_opened) (sym e) ∙ ap (λ n. not (is_idle (post n.posts r.session).phase)) same_before
+              ∙ ap (live_at opened_seats) e ∙ sym b.0 ∙ ap (notice_at standing) (sym e))
+              (ap (link_at near_cleared) e ∙ a.1 ∙ sym b.1 ∙ ap (link_at standing) (sym e))
+
+          by_far : ((l : ℕ) × (less : l < count1) × (r ≡ (far1 l less).far))
+              ⊎ ((l : ℕ) (less : l < count1) → l < count1 → r ≢ (far1 l less).far)
+              → SameEnd (seat last_opened r.node) (seat near_cleared r.node) r.session
+          by_far (inr none) = untouched (λ l less _. none l less less)
+          by_far (inl f) = by_live (live_at opened_seats (place p.node f.0)) refl
+            where
+              by_live : (b : Bool) → live_at opened_seats (place p.node f.0) ≡ b → SameEnd (seat last_opened r.node) (seat near_cleared r.node) r.session
+              by_live false closed = told_there f.0 f.1 f.2 closed
+              by_live true live =
+                  untouched (λ l less closed e. one_far l less closed (sym f.2 ∙ e))
+                where
+                  one_far : (l : ℕ) (less : l < count1) → live_at opened_seats (place p.node l) ≡ false → (far1 f.0 f.1).far ≡ (far1 l less).far → ⊥
+                  one_far l less closed e =
+                      true≢false (sym live
+                      ∙ ap (live_at opened_seats) (same_Some (place p.node f.0) (place p.node l) (sym (far1 f.0 f.1).back ∙ ap (far_of seats) e ∙ (far1 l less).back))
+                      ∙ closed)
+
+      -- ---- once the sessions of closed ends are cleared
+      abbrev last : List Seat
+      last = cleared near_cleared q.node
+
+      going_x : Going standing near_cleared
+      going_x = record { alike = cx.going.alike ∙ sym c2.going.alike; long = cx.going.long }
+
+      count_x : length (seat near_cleared q.node).posts ≡ count2
+      count_x =
+          ap length (posts_zx q.node) ∙ ap (λ (n : Seat). length n.posts) z_q ∙ takes2.stepped.posts_long
+          ∙ (stands2.long q.node is_q.node).posts
+
+      live_z : (j : ℕ) → live_at last_opened (place q.node j) ≡ not (is_idle (post n2.posts j).phase)
+      live_z j = ap (λ (n : Seat). not (is_idle (post n.posts j).phase)) z_q
+
+      q_within : q.session < count2
+      q_within = is_q.session
+
+      far_of_q : (far2 q.session q_within).far ≡ p
+      far_of_q =
+          same_Some (far2 q.session q_within).far p
+          (sym (far2 q.session q_within).found ∙ same_far_of seats standing c2.going.alike q ∙ at.far.back)
+
+      cl : IsCleared standing q.node count2 own2 far2 off2 (λ j. is_down_at near_cleared (place q.node j)) count2 0 last_opened last
+      cl =
+          cleared_from_same standing q.node count2 own2 far2 off2 (λ j. is_down_at near_cleared (place q.node j)) count2 0 last_opened near_cleared last posts_zx stays_zx
+          (λ j _ _ _. same_at_q (place q.node j) refl) elsewhere
+          (all_cleared standing q.node count2 own2 far2 off2 near_cleared going_x count_x)
+        where
+          elsewhere : (r : Place) → ((j : ℕ) → j < count2 → 0 ≤ j → j < 0 + count2 → r ≢ place q.node j)
+              → ((j : ℕ) (lt : j < count2) → 0 ≤ j → j < 0 + count2 → live_at last_opened (place q.node j) ≡ false → r ≢ (far2 j lt).far)
+              → SameEnd (seat last_opened r.node) (seat near_cleared r.node) r.session
+          elsewhere r not_own not_far2 = by_node (cases_eq r.node q.node) (cases_eq r.node p.node) (cases_lt r.session count1)
+            where
+              up : r.node ≡ p.node → r.session ≡ p.session → is_down_at both_opened p ≡ false
+              up e f = by_up up_p
+                where
+                  by_up : (is_down_at both_opened p ≡ false) ⊎ (is_idle (post n2.posts q.session).phase ≡ true) → is_down_at both_opened p ≡ false
+                  by_up (inl g) = g
+                  by_up (inr g) =
+                      absurd (not_far2 q.session q_within (at_least q.session) (at_most count2 q.session q_within)
+                      (live_z q.session ∙ ap not g) ((λ i. record { node = e i; session = f i }) ∙ sym far_of_q))
+
+              by_node : (r.node ≡ q.node) ⊎ (r.node ≢ q.node) → (r.node ≡ p.node) ⊎ (r.node ≢ p.node)
+                  → (r.session < count1) ⊎ (count1 ≤ r.session) → SameEnd (seat last_opened r.node) (seat near_cleared r.node) r.session
+              by_node (inl e) b c = same_at_q r e
+              by_node (inr ne) (inr ne') c = strange_marks r ne' ne
+              by_node (inr ne) (inl e) (inl less) =
+                  subst (λ k. SameEnd (seat last_opened k) (seat near_cleared k) r.session) (sym e) (near_marks r.session less (up e))
+              by_node (inr ne) (inl e) (inr more) =
+                  subst (λ k. SameEnd (seat last_opened k) (seat near_cleared k) r.session) (sym e) (beyond r.session more)
+
+      -- a session of the far node is down as its ends say
+      alike_x : AreAlike seats near_cleared
+      alike_x = cx.going.alike
+
+      same_names : (r : Place) → session_of w3 (name_at seats r) (other_at seats r) ≡ session_of w3 (name_at standing r) (other_at standing r)
+      same_names r i = session_of w3 (sym (same_name_at seats standing c2.going.alike r) i) (sym (same_other_at seats standing c2.going.alike r) i)
+
+      agree : (j : ℕ) → j < count2 → is_idle (post n2.posts j).phase ≡ false → (t : Session)
+          → session_of w3 (name_at standing (place q.node j)) (other_at standing (place q.node j)) ≡ Some t → is_down_at near_cleared (place q.node j) ≡ t.is_down
+      agree j less live t found_it = by_place (cases_eq j q.session)
+        where
+          here_q_end : (j ≡ q.session) → is_down_at near_cleared (place q.node j) ≡ t.is_down
+          here_q_end e =
+              let live_q : is_idle (post n2.posts q.session).phase ≡ false = ap (λ j. is_idle (post n2.posts j).phase) (sym e) ∙ live in
+              let opens_q = changed_here (name_at standing q) (other_at standing q) here_q.apart opened opened_nodes w2.sessions here_q.session here_q.found in
+              let same : opened here_q.session ≡ t =
+              same_Some (opened here_q.session) t
+              (sym opens_q ∙ ap (λ j. session_of w3 (name_at standing (place q.node j)) (other_at standing (place q.node j))) (sym e) ∙ found_it)
+              in
+              let near_x = (cx.ends p.session is.session (at_least p.session) (at_most count1 p.session is.session)).live (live_y p.session ∙ alive) in
+              let at_q = same_at_q q refl in
+              ap (λ j. is_down_at near_cleared (place q.node j)) e
+              ∙ not_down_by_ends seats near_cleared alike_x q p at.far.back
+              (λ i. not ((ap (λ (p : Post). is_idle p.phase) at_q.post ∙ ap (λ (n : Seat). is_idle (post n.posts q.session).phase) z_q ∙ live_q) i)
+              && not ((at_q.notice ∙ ap (λ n. notice n q.session) z_q ∙ quiet_n2) i))
+              (λ i. (stays_live both_opened near_cleared p (cx.stays p) ∙ live_y p.session ∙ alive) i
+              && not ((near_x.0 ∙ ap (λ n. notice n p.session) y_p ∙ quiet_n1) i))
+              ∙ sym (open_whole facts standing w2 right2 stands2 q is_q n2 takes2 bare2 fine2 tidy2 others2 live_q)
+              ∙ ap (λ (s : Session). s.is_down) same
+
+          other_q_end : (j ≢ q.session) → is_down_at near_cleared (place q.node j) ≡ t.is_down
+          other_q_end ne =
+              let is_r : IsPlace seats (place q.node j) = same_place seats standing c2.going.alike (place q.node j) (own2 j less) in
+              let h = here facts.wired seats w right stands (place q.node j) is_r in
+              let not_q : (place q.node j) ≢ q = λ e. ne (ap (λ (r : Place). r.session) e) in
+              let not_p : (place q.node j) ≢ p = λ e. not_far (ap (λ (r : Place). r.node) e) in
+              let a = found_elsewhere facts.wired seats w right stands p is at opened opened_nodes (place q.node j) is_r not_p not_q h.session h.found in
+              let strange : name_at seats p ≢ other_at seats (place q.node j) =
+              λ f. not_q (one_place facts.wired seats w right stands (place q.node j) q is_r at.far.is_place refl (sym f ∙ sym at.far.other))
+              in
+              let b : session_of w2 (name_at seats (place q.node j)) (other_at seats (place q.node j)) ≡ Some h.session =
+              node_elsewhere (name_at seats p) (name_at seats (place q.node j)) (other_at seats (place q.node j)) (λ f. at.apart (f ∙ at.far.name)) strange tells tells_nodes
+              w1.sessions h.session a
+              in
+              let c : session_of w3 (name_at standing (place q.node j)) (other_at standing (place q.node j)) ≡ Some h.session =
+              found_elsewhere facts.wired standing w2 right2 stands2 q is_q here_q opened opened_nodes (place q.node j) (own2 j less) not_q
+              (λ f. not_p (f ∙ same_Some here_q.far.far p (sym here_q.far.found ∙ same_far_of seats standing c2.going.alike q ∙ at.far.back))) h.session
+              ((λ i. session_of w2 (same_name_at seats standing c2.going.alike (place q.node j) i) (same_other_at seats standing c2.going.alike (place q.node j) i)) ∙ b)
+              in
+              let far_off_q : h.far.far.node ≢ q.node = λ e. h.apart (ap (λ k. name_of (seat seats k).who) (sym e) ∙ h.far.name) in
+              let far_off_p : h.far.far.node ≢ p.node = λ e. strange (ap (λ k. name_of (seat seats k).who) (sym e) ∙ h.far.name) in
+              let far_x : SameEnd (seat both_opened h.far.far.node) (seat near_cleared h.far.far.node) h.far.far.session =
+              cx.rest h.far.far (λ l _ _ _ e. far_off_p (ap (λ (r : Place). r.node) e))
+              (λ l more _ _ _ e. off_q (ap (λ (r : Place). r.node)
+              (same_Some (place p.node l) (place q.node j) (sym (far1 l more).back ∙ ap (far_of seats) (sym e) ∙ h.far.back))))
+              in
+              let far_y : seat both_opened h.far.far.node ≡ seat seats h.far.far.node =
+              y_else h.far.far.node far_off_q ∙ seat_elsewhere p.node h.far.far.node n1 seats far_off_p
+              in
+              let at_r = same_at_q (place q.node j) refl in
+              let o_q : seat opened_seats q.node ≡ seat seats q.node = seat_elsewhere p.node q.node n1 seats not_far in
+              let was_live : is_idle (post (seat seats q.node).posts j).phase ≡ false =
+              ap (λ (n : Seat). is_idle (post n.posts j).phase) (sym o_q)
+              ∙ stepped_live (seat opened_seats q.node) n2 q.session takes.given takes.stepped j
+              (subst (λ m. j < m) (sym (ap (λ (n : Seat). length n.posts) o_q ∙ (stands.long q.node at.far.is_place.node).posts)) is_r.session) ne live
+              in
+              down_by_ends seats near_cleared alike_x (place q.node j) h.far.far h.far.found
+              ((λ i. not ((ap (λ (p : Post). is_idle p.phase) at_r.post ∙ ap (λ (n : Seat). is_idle (post n.posts j).phase) z_q ∙ live ∙ sym was_live) i)
+              && not ((at_r.notice ∙ ap (λ n. notice n j) z_q ∙ ap (λ bs. slice_index_or bs j false) (takes.stepped.notices ∙ ap (λ (n : Seat). n.notices) o_q)) i)))
+              (λ i. not ((ap (λ (p : Post). is_idle p.phase) far_x.post ∙ ap (λ (n : Seat). is_idle (post n.posts h.far.far.session).phase) far_y) i)
+              && not ((far_x.notice ∙ ap (λ n. notice n h.far.far.session) far_y) i))
+              ∙ down_here facts seats w moment stands (place q.node j) is_r h
+              ∙ ap (λ (s : Session). s.is_down) (same_Some h.session t (sym c ∙ found_it))
+
+          by_place : (j ≡ q.session) ⊎ (j ≢ q.session) → is_down_at near_cleared (place q.node j) ≡ t.is_down
+          by_place (inl e) = here_q_end e
+          by_place (inr ne) = other_q_end ne
+
+      pub open_stands : Seats last (pass (name_at standing q) w3)
+      open_stands =
+          open_passed facts standing w2 right2 stands2 q is_q n2 takes2 bare2 fine2 tidy2 others2 (λ j. is_down_at near_cleared (place q.node j)) last cl agree

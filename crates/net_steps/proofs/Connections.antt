@@ -3,9 +3,9 @@ use Rattle.std.specs.Prelude.{◌≡◌, List, [], ◌∷◌, map, Bool, true, f
 use Rattle.std.specs.List.{AllByRecursion}
 use Rattle.std.specs.declared.option.Option.{Option}
 use Rattle.std.specs.declared.option.Option.TheVariants.{Some}
-use Rattle.std.proofs.lemmas.Bool.{and_from, and_parts, not-true}
+use Rattle.std.proofs.lemmas.Bool.{and_from, and_parts, not-true, true≢false}
 use Rattle.std.proofs.lemmas.Option.{same_Some}
-use Rattle.std.proofs.Common.{sym, ◌∙◌, ap, subst}
+use Rattle.std.proofs.Common.{refl, sym, ◌∙◌, ap, subst, inl, inr}
 use Rattle.ov_types.specs.First.{same_name}
 use Rattle.network_model.specs.Setup.{Name}
 use Rattle.network_model.specs.Session.{Configuration, Session}
@@ -14,23 +14,25 @@ use Rattle.network_model.specs.Steps.{connect, connect_found, connect_if, joins,
 use Rattle.network_model.specs.Events.{Connect, is_earlier, next}
 use Rattle.network_model.specs.Moments.{Each, nodes}
 use Rattle.network_model.proofs.NetworkFact.{connect_all_sound}
+use Rattle.network_model.proofs.SessionFact.{Down, Fact}
 use Rattle.network_model.proofs.Twins.{IsOther, NoTwins, itself, same_name_sym, swap_and}
-use Rattle.net_model.specs.Seats.{Seat, is_down_at, notice_at}
-use Rattle.net_model.specs.Stands.{Seats, StandsFor, any_size}
+use Rattle.net_model.specs.Seats.{Seat, is_down_at, live_at, notice_at}
+use Rattle.net_model.specs.Steps.{cleared, with_seat}
+use Rattle.net_model.specs.Stands.{Seats, StandsFor, message_size}
 use Rattle.net_model.specs.declared.place.Place.{Place}
 use Rattle.told_laws.specs.Moments.{IsMoment}
-use Rattle.seat_laws.specs.Wiring.{HasFar, IsPlaceOf}
-use Rattle.net_steps.specs.Connecting.{ConnectionsAreMade, EarlierConnectionsAreEvents, NearIsEarlier, NothingIsConnected, OpensBoth}
-use Rattle.net_steps.proofs.Asked.{places_say}
+use Rattle.seat_laws.specs.Wiring.{IsPlaceOf, name_at, other_at}
+use Rattle.net_steps.specs.Connecting.{ConnectionsAreMade, EarlierConnectionsAreEvents, NearIsEarlier, NothingIsConnected, OpensBehind, OpensBoth}
+use Rattle.net_steps.proofs.Asked.{down_here, places_say}
 use Rattle.net_model.proofs.Sizes.{positive}
-use Rattle.net_steps.proofs.AtMoments.{IsSound, all_down_where, moment_right, moment_sound}
-use Rattle.net_steps.proofs.Connected.{connected_seats, connects}
+use Rattle.net_steps.proofs.AtMoments.{IsSound, all_down_where, found_sound, moment_right, moment_sound}
+use Rattle.net_steps.proofs.Connected.{closed_connects, closed_stands, open_connects, open_stands}
 use Rattle.net_steps.proofs.Facts.{Facts, IsRight, right_twins}
-use Rattle.net_steps.proofs.Here.{here}
+use Rattle.net_steps.proofs.Here.{Here, here}
 
 -- a connection keeps what holds of each session
 connected_sound : (a b : Name) (w : Network) → IsSound w → IsSound (connect_if a b w)
-connected_sound a b w sound = connect_all_sound any_size positive (between a Configuration b Configuration ∷ []) w sound
+connected_sound a b w sound = connect_all_sound message_size positive (between a Configuration b Configuration ∷ []) w sound
 
 connect_when : (w : Network) (a b : Name) (s : Session) (may : Bool) → session_of w a b ≡ Some s → may_connect s ≡ may
     → connect_if a b w ≡ cond may (connect a b w) w
@@ -51,36 +53,57 @@ connections_are_made facts seats w moment stands a b p far are may after opens =
     place : IsPlaceOf seats a b p
     place = facts.wired.place_is w.setup seats a b p right.written stands.seats_are.who are.0
 
-    at : HasFar seats p
-    at = (here facts.wired seats w (moment_right facts.moments w moment) stands.seats_are p place.is_place).far
+    at : Here seats w p
+    at = here facts.wired seats w (moment_right facts.moments w moment) stands.seats_are p place.is_place
 
-    far_is : at.far ≡ far
-    far_is = same_Some at.far far (sym at.found ∙ are.1)
+    far_is : at.far.far ≡ far
+    far_is = same_Some at.far.far far (sym at.far.found ∙ are.1)
 
     Leaves : Place → Type 0
     Leaves far = (is_down_at seats p && (not (notice_at seats p) && not (notice_at seats far))) ≡ true
         → (after : List Seat) → OpensBoth seats p far after → StandsFor after (connect_if a b w)
 
-    by_place : Leaves at.far
+    by_place : Leaves at.far.far
     by_place may after opens =
-        let said = places_say facts seats w moment stands.seats_are a b p at.far (are.0, at.found) in
-        let parts = and_parts (not (notice_at seats p)) (not (notice_at seats at.far))
-        (and_parts (is_down_at seats p) (not (notice_at seats p) && not (notice_at seats at.far)) may).1
-        in
-        let quiet = not-true (notice_at seats p) parts.0 in
-        let quiet' = not-true (notice_at seats at.far) parts.1 in
-        subst (λ ss. StandsFor ss (connect_if a b w)) (sym opens.is) (record {
-          seats_are = subst (Seats _)
-              (sym (connects facts seats w moment stands.seats_are p place.is_place quiet quiet' opens.near_node opens.near_takes opens.far_node opens.far_takes)
-              ∙ (λ i. connect (place.name i) (place.other i) w)
+        let said = places_say facts seats w moment stands.seats_are a b p at.far.far (are.0, at.far.found) in
+        let first = and_parts (is_down_at seats p) (not (notice_at seats p) && not (notice_at seats at.far.far)) may in
+        let parts = and_parts (not (notice_at seats p)) (not (notice_at seats at.far.far)) first.1 in
+        record {
+          seats_are = subst (Seats after)
+              ((λ i. connect (place.name i) (place.other i) w)
               ∙ sym (connect_when w a b said.0 true said.1 (sym said.2.may_connect ∙ may)))
-              (connected_seats facts seats w moment stands.seats_are p place.is_place quiet quiet' opens.near_node opens.near_takes opens.far_node opens.far_takes
-              opens.near_left opens.near_discarded opens.far_left opens.far_discarded);
+              (by_live (not-true (notice_at seats p) parts.0) (not-true (notice_at seats at.far.far) parts.1)
+              (live_at (with_seat p.node opens.near_node seats) p) refl opens.behind);
           down = all_down_where (connect_if a b w) (connected_sound a b w (moment_sound w moment));
-        })
+        }
+      where
+        down : Down at.session
+        down = by_fact (found_sound w moment (name_at seats p) (other_at seats p) at.session at.found)
+          where
+            by_fact : Fact message_size at.session → Down at.session
+            by_fact (inl j) =
+                absurd (true≢false (sym (and_parts (is_down_at seats p) (not (notice_at seats p) && not (notice_at seats at.far.far)) may).0
+                ∙ down_here facts seats w moment stands.seats_are p place.is_place at ∙ j.whole))
+            by_fact (inr d) = d
+
+        by_live : notice_at seats p ≡ false → notice_at seats at.far.far ≡ false → (live : Bool)
+            → live_at (with_seat p.node opens.near_node seats) p ≡ live
+            → OpensBehind live (with_seat p.node opens.near_node seats) p at.far.far after
+            → Seats after (connect (name_at seats p) (other_at seats p) w)
+        by_live quiet quiet' true live behind =
+            subst (λ ss. Seats ss (connect (name_at seats p) (other_at seats p) w)) (sym behind.2)
+            (subst (Seats (cleared (cleared (with_seat at.far.far.node behind.0 (with_seat p.node opens.near_node seats)) p.node) at.far.far.node))
+            (sym (open_connects facts seats w moment stands.seats_are p place.is_place down quiet quiet' opens.near_node opens.near_takes live))
+            (open_stands facts seats w moment stands.seats_are p place.is_place down quiet quiet' opens.near_node opens.near_takes live
+            behind.0 behind.1))
+        by_live quiet quiet' false dead behind =
+            subst (λ ss. Seats ss (connect (name_at seats p) (other_at seats p) w)) (sym behind)
+            (subst (Seats (cleared (with_seat p.node opens.near_node seats) p.node))
+            (sym (closed_connects facts seats w moment stands.seats_are p place.is_place down quiet quiet' opens.near_node opens.near_takes dead))
+            (closed_stands facts seats w moment stands.seats_are p place.is_place down quiet quiet' opens.near_node opens.near_takes dead))
 
 -- ---- events
-pub connect_event : (w : Network) (a b : Name) → is_earlier w.sessions a b ≡ true → next any_size w (Connect a b) ≡ connect_if a b w
+pub connect_event : (w : Network) (a b : Name) → is_earlier w.sessions a b ≡ true → next message_size w (Connect a b) ≡ connect_if a b w
 unfolding next
 connect_event w a b e = ap (λ c. cond c (connect_if a b w) (connect_if b a w)) e
 

@@ -1,7 +1,7 @@
 -- What is known of seats, of what their nodes hear, and of moments, and states in which no session that is down has
 -- messages in flight.
-use Rattle.std.specs.Prelude.{◌≡◌, ◌<◌, ℕ, List, [], map, length, true, false}
-use Rattle.std.specs.List.{AllByRecursion, slice_index_or}
+use Rattle.std.specs.Prelude.{◌≡◌, ◌<◌, ℕ, List, [], ◌++◌, map, length, true, false}
+use Rattle.std.specs.List.{AllByRecursion, concat, slice_index_or}
 use Rattle.std.specs.declared.option.Option.TheVariants.{Some, None}
 use Rattle.std.specs.Borrow.{Bor}
 use Rattle.std.proofs.Common.{sym, subst}
@@ -14,7 +14,7 @@ use Rattle.network_model.specs.Session.{Message, Session, are_peers, is_idle}
 use Rattle.network_model.specs.Network.{Network}
 use Rattle.network_model.specs.Steps.{session_of}
 use Rattle.network_model.specs.Events.{Event, is_node, next}
-use Rattle.network_model.specs.Moments.{Each, cell, nodes}
+use Rattle.network_model.specs.Moments.{Each, NoneGoesDown, cell, nodes}
 use Rattle.network_laws.specs.Settling.{EditIsValid}
 use Rattle.network_model.proofs.Apart.{no_twins}
 use Rattle.network_model.proofs.Twins.{NoTwins}
@@ -22,11 +22,12 @@ use Rattle.headline_laws.specs.Headline.{IsOfForm, IsWritten}
 use Rattle.headline_laws.proofs.Written.{sound_setup}
 use Rattle.net_model.specs.Seats.{Seat, Who, name_of, others_of, place_of, role_of, seat, whos}
 use Rattle.net_model.specs.Steps.{BeginsAt}
-use Rattle.net_model.specs.Stands.{Seats, any_size, octets_of}
-use Rattle.net_model.specs.Taking.{closed, opened, taken}
+use Rattle.net_model.specs.Stands.{Seats, message_size, octets_of}
+use Rattle.net_model.specs.Taking.{closed, opened, taken, taken_all}
 use Rattle.net_model.specs.Telling.{CanBeHeard, CanSend}
 use Rattle.net_model.specs.declared.place.Place.{Place}
-use Rattle.told_laws.specs.Moments.{IsMoment}
+use Rattle.heard_laws.specs.Hearing.{IsMessageOf, IsPartial, IsPhaseOf}
+use Rattle.told_laws.specs.Moments.{IsMoment, unbroken}
 use Rattle.seat_laws.specs.Wiring.{AreSeats, GoesBy, HasFar, HasSession, HasSessions, IsFound, IsPlace, IsPlaceOf, ShowsAt, name_at, other_at}
 use Rattle.net_steps.proofs.Quiet.{IsQuiet}
 
@@ -56,20 +57,36 @@ pub record Heard : Type 0 where
       → (i : ℕ) → i < length (others_of a) → slice_index_or (others_of a) i [] ≡ name_of b
       → (p : Post) → is_idle p.phase ≡ false → (m : Message) (after : Phase)
       → cell (are_peers (role_of a) (role_of b)) p.phase m ≡ Some after → CanSend (role_of b) (role_of a) m
-      → (bytes : Bor (List ℕ)) → bytes.now ≡ octets_of b (are_peers (role_of a) (role_of b)) m
-      → (given : Begun) → BeginsAt a i p (input.Bytes i bytes) given
-      → given ≡ taken a (are_peers (role_of a) (role_of b)) p m after
+      → (kept : List ℕ) (bytes : Bor (List ℕ)) → kept ++ bytes.now ≡ octets_of b (are_peers (role_of a) (role_of b)) m
+      → (given : Begun) (left : List ℕ) → BeginsAt a i p kept (input.Bytes i bytes) given left
+      → (given ≡ taken a (are_peers (role_of a) (role_of b)) p m after) × (left ≡ [])
+  -- messages in turn, and a first part of one more
+  pub octets : (x : Checked) → IsWritten x → (a b : Who) → Member a (whos x) → Member b (whos x)
+      → (i : ℕ) → i < length (others_of a) → slice_index_or (others_of a) i [] ≡ name_of b
+      → (p : Post) → is_idle p.phase ≡ false → IsPhaseOf (are_peers (role_of a) (role_of b)) p.phase
+      → (ms : List Message) → NoneGoesDown (are_peers (role_of a) (role_of b)) p.phase ms
+      → AllByRecursion (CanSend (role_of b) (role_of a)) ms
+      → (part : List ℕ) → IsPartial a b part → (kept : List ℕ) (bytes : Bor (List ℕ))
+      → kept ++ bytes.now ≡ concat (map (octets_of b (are_peers (role_of a) (role_of b))) ms) ++ part
+      → (given : Begun) (left : List ℕ) → BeginsAt a i p kept (input.Bytes i bytes) given left
+      → (given ≡ taken_all a (are_peers (role_of a) (role_of b)) p ms) × (left ≡ part)
+  -- how many octets a message of a session has
+  pub sizes : (a b : Who) (m : Message) → CanSend (role_of a) (role_of b) m
+      → IsMessageOf (are_peers (role_of a) (role_of b)) m
+      → length (octets_of a (are_peers (role_of a) (role_of b)) m) ≡ message_size (name_of a) m
   pub opens : (x : Checked) → IsWritten x → (a b : Who) → Member a (whos x) → Member b (whos x)
       → (i : ℕ) → i < length (others_of a) → slice_index_or (others_of a) i [] ≡ name_of b
-      → (p : Post) (given : Begun) → BeginsAt a i p (input.Opened i) given
-      → given ≡ opened a (are_peers (role_of a) (role_of b)) p
-  pub closes : (a : Who) (i : ℕ) (p : Post) (given : Begun) → BeginsAt a i p (input.Closed i) given → given ≡ closed
+      → (p : Post) (kept : List ℕ) (given : Begun) (left : List ℕ) → BeginsAt a i p kept (input.Opened i) given left
+      → (given ≡ opened a (are_peers (role_of a) (role_of b)) p) × (left ≡ [])
+  pub closes : (a : Who) (i : ℕ) (p : Post) (kept : List ℕ) (given : Begun) (left : List ℕ)
+      → BeginsAt a i p kept (input.Closed i) given left → (given ≡ closed) × (left ≡ [])
 
 -- ---- of moments
 pub record Moments : Type 0 where
   pub written : (w : Network) → IsMoment w → IsWritten w.setup
   pub sessions : (w : Network) → IsMoment w → HasSessions w
-  pub after : (w : Network) (e : Event) → IsMoment w → EditIsValid IsOfForm w e → IsMoment (next any_size w e)
+  pub after : (w : Network) (e : Event) → IsMoment w → EditIsValid IsOfForm w e → IsMoment (next message_size w e)
+  pub unbreaks : (w : Network) → IsMoment w → IsMoment (unbroken w)
   pub heard : (w : Network) → IsMoment w → AllByRecursion CanBeHeard w.sessions
 
 pub record Facts : Type 0 where

@@ -1,8 +1,9 @@
 -- What is known of seats, of what nodes hear, and of moments, all together.
-use Rattle.heard_laws.proofs.Heard.{end_closed, end_opened, message_heard}
+use Rattle.heard_laws.proofs.Heard.{end_closed, end_opened, message_heard, octets_heard}
+use Rattle.heard_laws.proofs.Sizes.{has_size}
 use Rattle.seat_laws.proofs.Written as seats
 use Rattle.told_laws.proofs.Heard.{heard}
-use Rattle.told_laws.proofs.Moments.{moment_next, moment_sessions, moment_written}
+use Rattle.told_laws.proofs.Moments.{moment_next, moment_sessions, moment_unbroken, moment_written}
 use Rattle.net_steps.proofs.Facts.{Facts}
 
 pub given : Facts
@@ -19,18 +20,30 @@ given = record {
     shown = λ w ss name written has stands is. seats.shows_at w written ss stands has name is;
   };
   hears = record {
-    message = λ x written a b near far i within name p live m next cell can bytes is given begins.
-        (message_heard x written.topology written.valid a b i (record { near = near; far = far; within = within; name = name })
-        p live m next cell can bytes is given begins).0;
-    opens = λ x written a b near far i within name p given begins.
-        (end_opened x written.topology written.valid a b i (record { near = near; far = far; within = within; name = name })
-        p given begins).0;
-    closes = λ a i p given begins. (end_closed a i p given begins).0;
+    message = λ x written a b near far i within name p live m next cell can kept bytes is given left begins.
+        let heard = message_heard x written.topology written.valid a b i
+        (record { near = near; far = far; within = within; name = name }) p live m next cell can kept bytes is given left begins
+        in
+        (heard.0, heard.1);
+    octets = λ x written a b near far i within name p live phase ms passing can part partial kept bytes is given left begins.
+        let heard = octets_heard x written.topology written.valid a b i
+        (record { near = near; far = far; within = within; name = name }) p live phase ms passing can part partial kept bytes
+        is given left begins
+        in
+        (heard.0, heard.1);
+    sizes = λ a b m can of. (has_size a b m can of).0;
+    opens = λ x written a b near far i within name p kept given left begins.
+        let heard = end_opened x written.topology written.valid a b i
+        (record { near = near; far = far; within = within; name = name }) p kept given left begins
+        in
+        (heard.0, heard.1);
+    closes = λ a i p kept given left begins. let heard = end_closed a i p kept given left begins in (heard.0, heard.1);
   };
   moments = record {
     written = moment_written;
     sessions = moment_sessions;
     after = moment_next;
+    unbreaks = moment_unbroken;
     heard = heard;
   };
 }

@@ -8,7 +8,7 @@ use Rattle.network_model.specs.Network.{Network}
 use Rattle.network_model.specs.Steps.{session_of}
 use Rattle.network_model.proofs.NetworkFact.{found}
 use Rattle.net_model.specs.Seats.{Seat, name_of, seat, seat_named}
-use Rattle.net_model.specs.Stands.{HasEnd, IsEnd, Seats}
+use Rattle.net_model.specs.Stands.{HasEnd, IsEnd, KeepsPart, Seats}
 use Rattle.net_model.specs.declared.place.Place.{Place}
 use Rattle.seat_laws.specs.Wiring.{HasFar, IsPlace, name_at, other_at}
 use Rattle.net_steps.proofs.Facts.{IsRight, Wired, right_twins}
@@ -55,6 +55,11 @@ module _ (wired : Wired) (seats : List Seat) (w : Network) (right : IsRight w) (
         apart = apart;
         quiet = found IsQuiet quiet_turned w.sessions (name_at seats p) (other_at seats p) right.quiet near.session near.found;
       }
+
+  pub part_here : (p : Place) → IsPlace seats p → KeepsPart seats p
+  part_here p is =
+      stands.parts p.node p.session is.node
+      (subst (λ n. p.session < n) (sym (stands.long p.node is.node).posts) is.session)
 
   -- a node with a place is found by its name
   pub place_named : (p : Place) → IsPlace seats p → seat_named seats (name_at seats p) ≡ Some p.node

@@ -33,7 +33,7 @@ who_at [] k = refl
 who_at (n ∷ seats) zero = refl
 who_at (n ∷ seats) (suc k) = who_at seats k
 
-index_map : {A B : Type 0} (is : B → Bool) (f : A → B) (i : ℕ) (xs : List A)
+pub index_map : {A B : Type 0} (is : B → Bool) (f : A → B) (i : ℕ) (xs : List A)
     → index_from i (λ a. is (f a)) xs ≡ index_from i is (map f xs)
 index_map is f i [] = refl
 index_map is f i (a ∷ xs) = ap (λ o. cond (is (f a)) (Some i) o) (index_map is f (suc i) xs)

@@ -4,10 +4,10 @@ use Rattle.std.specs.List.{slice_index_or}
 use Rattle.std.specs.Option.{option_map, unwrap_or}
 use Rattle.std.specs.declared.option.Option.{Option}
 use Rattle.std.specs.declared.option.Option.TheVariants.{Some, None}
+use Rattle.std.proofs.lemmas.Bool.{true≢false}
 use Rattle.std.proofs.lemmas.Option.{same_Some}
 use Rattle.std.proofs.Common.{refl, sym, ◌∙◌, ap, subst}
 use Rattle.schedule_script.specs.declared.answer.Answer.TheVariants.{Did, Idle}
-use Rattle.node_model.specs.Step.{post}
 use Rattle.network_model.specs.Setup.{Name}
 use Rattle.network_model.specs.Session.{Session, lost, turned}
 use Rattle.network_model.specs.Network.{Network}
@@ -15,21 +15,20 @@ use Rattle.network_model.specs.Steps.{change_session, session_of}
 use Rattle.network_model.specs.Events.{Lose, answer_to, lose, next, unless}
 use Rattle.net_model.specs.Seats.{Seat, is_down_at, link_at, notice_at, others_of, place_of, seat}
 use Rattle.net_model.specs.Steps.{with_link, with_notice}
-use Rattle.net_model.specs.Stands.{IsLong, Seats, StandsFor, any_size}
+use Rattle.net_model.specs.Stands.{IsLong, Seats, StandsFor, message_size}
 use Rattle.net_model.specs.declared.place.Place.{Place}
 use Rattle.told_laws.specs.Moments.{IsMoment}
 use Rattle.seat_laws.specs.Wiring.{IsPlace, name_at, other_at}
 use Rattle.net_steps.specs.Asking.{AreAt}
 use Rattle.net_steps.specs.Losing.{LossesAreMade, NothingIsLost, cut}
 use Rattle.net_steps.proofs.Asked.{down_here}
-use Rattle.net_steps.proofs.AtMoments.{found_joined, moment_right}
-use Rattle.net_steps.proofs.Building.{AllBut, SameEnd, end_trans}
+use Rattle.net_steps.proofs.AtMoments.{found_joined, moment_right, stands_at}
+use Rattle.net_steps.proofs.Building.{AllBut, SameEnd, Stays, end_trans, stays_trans}
 use Rattle.net_steps.proofs.Changing.{changes_at}
-use Rattle.net_steps.proofs.Delivered.{stands_at}
 use Rattle.net_steps.proofs.Facts.{Facts, IsRight}
 use Rattle.net_steps.proofs.Here.{Here, here}
 use Rattle.net_steps.proofs.Lists.{AreAlike, same_long, same_who}
-use Rattle.net_steps.proofs.Marks.{end_noticed, link_but, link_here, link_keeps, notice_but, notice_here, notice_keeps}
+use Rattle.net_steps.proofs.Marks.{end_noticed, link_but, link_here, link_keeps, link_stays, notice_but, notice_here, notice_stays}
 
 -- ---- the seats
 module _ (seats : List Seat) (p q : Place) (apart : p ≢ q) (lt : p.node < length seats) (lt' : q.node < length seats)
@@ -77,10 +76,13 @@ module _ (seats : List Seat) (p q : Place) (apart : p ≢ q) (lt : p.node < leng
       (end_trans (seat seats r.node) (seat s1 r.node) (seat s2 r.node) r.session (but1.ends r not_p) (but2.ends r not_q))
       (end_trans (seat s2 r.node) (seat s3 r.node) (seat (cut p q seats) r.node) r.session (but3.ends r not_p) (but4.ends r not_q))
 
-  pub cut_posts : (j : ℕ) → (seat (cut p q seats) j).posts ≡ (seat seats j).posts
-  cut_posts j =
-      (link_keeps s3 q (in3 q.node lt') [] j).0 ∙ (link_keeps s2 p (in2 p.node lt) [] j).0
-      ∙ (notice_keeps s1 q (in1 q.node lt') true j).0 ∙ (notice_keeps seats p lt true j).0
+  pub cut_stays : (r : Place) → Stays (seat seats r.node) (seat (cut p q seats) r.node) r.session
+  cut_stays r =
+      stays_trans (seat seats r.node) (seat s2 r.node) (seat (cut p q seats) r.node) r.session
+      (stays_trans (seat seats r.node) (seat s1 r.node) (seat s2 r.node) r.session
+      (notice_stays seats p lt true r) (notice_stays s1 q (in1 q.node lt') true r))
+      (stays_trans (seat s2 r.node) (seat s3 r.node) (seat (cut p q seats) r.node) r.session
+      (link_stays s2 p (in2 p.node lt) [] r) (link_stays s3 q (in3 q.node lt') [] r))
 
   cut_notices : (j : ℕ) → (seat (cut p q seats) j).notices ≡ (seat s2 j).notices
   cut_notices j = (link_keeps s3 q (in3 q.node lt') [] j).1 ∙ (link_keeps s2 p (in2 p.node lt) [] j).1
@@ -134,20 +136,24 @@ module _ (facts : Facts) (seats : List Seat) (w : Network) (moment : IsMoment w)
         let long = stands.long in
         let within = is.session in
         let within' = at.far.is_place.session in
+        let near_waits = near_notice seats p q not_far lt lt' long within within' in
+        let far_waits = far_notice seats p q not_far lt lt' long within within' in
         changes_at facts.wired seats w right stands (cut p q seats) p is at lost (λ s. refl)
         (cut_alike seats p q not_far lt lt' long within within') (cut_long seats p q not_far lt lt' long within within')
         (end_noticed (seat seats p.node) (seat (cut p q seats) p.node) p.session at.session (lost at.session)
-        (ap (λ ps. post ps p.session) (cut_posts seats p q not_far lt lt' long within within' p.node))
-        (near_notice seats p q not_far lt lt' long within within' ∙ sym joined.near_live)
-        (near_link seats p q not_far lt lt' long within within') refl at.near_is)
+        (cut_stays seats p q not_far lt lt' long within within' p) (near_waits ∙ sym joined.near_live)
+        (near_link seats p q not_far lt lt' long within within') refl refl
+        (λ e. absurd (true≢false (sym joined.near_live ∙ e))) at.near_is)
         (end_noticed (seat seats q.node) (seat (cut p q seats) q.node) q.session (turned at.session) (turned (lost at.session))
-        (ap (λ ps. post ps q.session) (cut_posts seats p q not_far lt lt' long within within' q.node))
-        (far_notice seats p q not_far lt lt' long within within' ∙ sym joined.far_live)
-        (far_link seats p q not_far lt lt' long within within') refl at.far_is)
+        (cut_stays seats p q not_far lt lt' long within within' q) (far_waits ∙ sym joined.far_live)
+        (far_link seats p q not_far lt lt' long within within') refl refl
+        (λ e. absurd (true≢false (sym joined.far_live ∙ e))) at.far_is)
         (λ r _ not_p not_q. cut_elsewhere seats p q not_far lt lt' long within within' r not_p not_q)
+        (λ _ _ quiet. absurd (true≢false (sym near_waits ∙ quiet)))
+        (λ _ _ quiet. absurd (true≢false (sym far_waits ∙ quiet)))
 
   lost_at : (a b : Name) (s : Session) → session_of w a b ≡ Some s → s.is_down ≡ false
-      → (next any_size w (Lose a b) ≡ change_session a b lost w) × (answer_to w (Lose a b) ≡ Did)
+      → (next message_size w (Lose a b) ≡ change_session a b lost w) × (answer_to w (Lose a b) ≡ Did)
   unfolding next
   lost_at a b s found whole = (
     ap (λ (o : Option Session). lose o a b w) found ∙ ap (λ c. cond c w (change_session a b lost w)) whole,
@@ -155,7 +161,7 @@ module _ (facts : Facts) (seats : List Seat) (w : Network) (moment : IsMoment w)
   )
 
   pub losses_made : (a b : Name) (p far : Place) → AreAt seats a b p far → is_down_at seats p ≡ false
-      → StandsFor (cut p far seats) (next any_size w (Lose a b)) × IsMoment (next any_size w (Lose a b))
+      → StandsFor (cut p far seats) (next message_size w (Lose a b)) × IsMoment (next message_size w (Lose a b))
       × (answer_to w (Lose a b) ≡ Did)
   losses_made a b p far are whole =
       let place = facts.wired.place_is w.setup seats a b p right.written stands.who are.0 in
@@ -164,8 +170,8 @@ module _ (facts : Facts) (seats : List Seat) (w : Network) (moment : IsMoment w)
       let whole_is : h.session.is_down ≡ false = sym (down_here facts seats w moment stands p place.is_place h) ∙ whole in
       let step = lost_at a b h.session ((λ i. session_of w (sym place.name i) (sym place.other i)) ∙ h.found) whole_is in
       let later = facts.moments.after w (Lose a b) moment tt in (
-        stands_at (cut p far seats) (next any_size w (Lose a b)) later
-            (subst (λ far. Seats (cut p far seats) (next any_size w (Lose a b))) far_is
+        stands_at (cut p far seats) (next message_size w (Lose a b)) later
+            (subst (λ far. Seats (cut p far seats) (next message_size w (Lose a b))) far_is
             (subst (Seats (cut p h.far.far seats)) ((λ i. change_session (place.name i) (place.other i) lost w) ∙ sym step.0)
             (lost_seats p place.is_place whole_is))),
         later,
@@ -173,7 +179,7 @@ module _ (facts : Facts) (seats : List Seat) (w : Network) (moment : IsMoment w)
       )
 
   not_lost : (a b : Name) → unwrap_or (option_map (λ (s : Session). s.is_down) (session_of w a b)) true ≡ true
-      → (next any_size w (Lose a b) ≡ w) × (answer_to w (Lose a b) ≡ Idle)
+      → (next message_size w (Lose a b) ≡ w) × (answer_to w (Lose a b) ≡ Idle)
   unfolding next
   not_lost a b down = (by_session (session_of w a b) down, ap unless down)
     where

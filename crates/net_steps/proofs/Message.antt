@@ -1,41 +1,41 @@
--- A message is delivered: it leaves its link, its node takes it and makes its pass.
-use Rattle.std.specs.Prelude.{◌≡◌, ◌≢◌, ◌<◌, ℕ, suc, List, [], ◌∷◌, ◌++◌, map, length, drop, Bool, true, false, cond, ◌==◌}
+-- A message is delivered: what is left of it leaves its link, its node takes it and makes its pass.
+use Rattle.std.specs.Prelude.{◌≡◌, ◌≢◌, ◌<◌, ℕ, zero, suc, List, [], ◌∷◌, ◌++◌, map, length, drop, take, Bool, true, false, not, cond, ◌==◌}
 use Rattle.std.specs.Borrow.{Bor}
 use Rattle.std.specs.List.{AllByRecursion, slice_index_or, slice_set}
 use Rattle.std.specs.Option.{option_map, unwrap_or}
 use Rattle.std.specs.declared.option.Option.{Option}
-use Rattle.std.proofs.lemmas.Bool.{ne_eqb, not-true}
-use Rattle.std.proofs.lemmas.List.{get_or-set_same, length-set}
+use Rattle.std.proofs.lemmas.Bool.{ne_eqb, not-true, true≢false}
+use Rattle.std.proofs.lemmas.List.{get_or-set_same}
 use Rattle.std.proofs.lemmas.Option.{same_Some}
 use Rattle.std.proofs.Common.{refl, sym, ◌∙◌, ap, subst, suc-ne-zero}
 use Rattle.ov_link.specs.declared.step.Input.TheVariants as input
 use Rattle.node_model.specs.Step.{Begun, Phase, Post, end_of, nothing, post}
-use Rattle.network_model.specs.Session.{Message, End, Session, are_peers, arrived, is_idle, is_peering, took, turned, waiting, without_first}
+use Rattle.network_model.specs.Session.{Message, Session, are_peers, arrived, is_idle, is_peering, told, turned, waiting, without_first}
 use Rattle.network_model.specs.Network.{Network}
 use Rattle.network_model.specs.Steps.{change_session, deliver, in_flight, pass}
-use Rattle.network_model.specs.Moments.{NoneGoesDown, cell}
+use Rattle.network_model.specs.Moments.{IsJoined, NoneGoesDown, cell}
 use Rattle.network_model.proofs.NetworkFact.{with_session_keeps}
 use Rattle.network_model.proofs.NodesFact.{arrived_nodes}
-use Rattle.network_model.proofs.SessionFact.{Fact, Fact-turned, are_peers-turned, arrived_keeps, map_append}
-use Rattle.net_model.specs.Seats.{Seat, link, link_at, name_of, notice_at, role_of, seat, seat_named}
-use Rattle.net_model.specs.Steps.{BeginsAt, IsDiscarded, Takes, with_link, with_seat}
-use Rattle.net_model.specs.Stands.{IsEnd, Seats, any_size, octets_of}
+use Rattle.network_model.proofs.SessionFact.{Fact, Fact-turned, are_peers-turned, arrived_keeps}
+use Rattle.net_model.specs.Seats.{Seat, kept_at, kept_in, link, link_at, name_of, notice_at, role_of, seat}
+use Rattle.net_model.specs.Steps.{BeginsAt, Takes, cleared, with_link, with_seat}
+use Rattle.net_model.specs.Stands.{IsEnd, Seats, first_of, message_size, octets_of}
 use Rattle.net_model.specs.Taking.{held_after, replies_to, taken, wide_after}
 use Rattle.net_model.specs.Telling.{CanSend}
 use Rattle.net_model.specs.declared.place.Place.{Place}
 use Rattle.told_laws.specs.Moments.{IsMoment}
 use Rattle.seat_laws.specs.Wiring.{IsPlace, name_at, other_at}
 use Rattle.net_model.proofs.Sizes.{positive}
-use Rattle.net_steps.proofs.AtMoments.{IsSound, all_down_where, all_quiet, found_heard, found_joined, moment_right, moment_sound}
-use Rattle.net_steps.proofs.Building.{AllBut, end_refl, end_trans, moved, put_but, stored_begun, stored_link}
-use Rattle.net_steps.proofs.Changing.{changed_right, changes_at}
+use Rattle.net_steps.proofs.Arriving.{live_after}
+use Rattle.net_steps.proofs.AtMoments.{IsSound, found_heard, found_joined, moment_right, moment_sound}
+use Rattle.net_steps.proofs.Building.{AllBut, IsPart, part_at, part_none}
 use Rattle.net_steps.proofs.Facts.{Facts, IsRight}
-use Rattle.net_steps.proofs.Finishing.{begun_seats, finishes}
-use Rattle.net_steps.proofs.Here.{Here, here, place_named}
-use Rattle.net_steps.proofs.Lists.{AreAlike, same_name_at, seat_elsewhere, seat_here, same_named}
+use Rattle.net_steps.proofs.Here.{Here, here, part_here}
+use Rattle.net_steps.proofs.Lists.{seat_elsewhere, seat_here}
+use Rattle.net_steps.proofs.Marks.{link_but}
 use Rattle.net_steps.proofs.Members.{is_one_of}
-use Rattle.net_steps.proofs.Stepping.{begun_seat}
-use Rattle.net_steps.proofs.Unbroken.{IsTakenAs, arrived_takes, took_is}
+use Rattle.net_steps.proofs.Sent.{arrived_takes, taking_session, took_tells}
+use Rattle.net_steps.proofs.Stepped.{IsReady, stands_after, taking}
 
 -- ---- the first message in flight
 record IsFirst (g : Message → List ℕ) (flight : List Message) (octets : List ℕ) (rest : List (List ℕ)) : Type 0 where
@@ -45,10 +45,10 @@ record IsFirst (g : Message → List ℕ) (flight : List Message) (octets : List
   octets_are : octets ≡ g message
   rest_is : rest ≡ map g after
 
-first_of : (g : Message → List ℕ) (flight : List Message) (octets : List ℕ) (rest : List (List ℕ)) → octets ∷ rest ≡ map g flight
+first_in : (g : Message → List ℕ) (flight : List Message) (octets : List ℕ) (rest : List (List ℕ)) → octets ∷ rest ≡ map g flight
     → IsFirst g flight octets rest
-first_of g [] octets rest e = absurd (suc-ne-zero (length rest) (ap length e))
-first_of g (m ∷ ms) octets rest e = record {
+first_in g [] octets rest e = absurd (suc-ne-zero (length rest) (ap length e))
+first_in g (m ∷ ms) octets rest e = record {
   message = m;
   after = ms;
   is = refl;
@@ -56,36 +56,14 @@ first_of g (m ∷ ms) octets rest e = record {
   rest_is = ap (drop 1) e;
 }
 
--- ---- the end that takes it
-module _ (n : Seat) (i : ℕ) (given : Begun) (s t : Session) (m : Message) (next : Phase) (lt : i < length n.posts)
-    (linked : i < length n.links) (is : IsEnd n i s) (step : IsTakenAs (is_peering s) s.near.phase m next s t)
-    (given_is : given ≡ taken n.who (is_peering s) (post n.posts i) m next) where
-  post_then : post (begun_seat n i given).posts i ≡ record {
-    phase = next;
-    sent = (post n.posts i).sent;
-    held = held_after m (post n.posts i).held;
-    wide = wide_after m (post n.posts i).wide;
-  }
-  post_then = get_or-set_same n.posts i (end_of given.after) nothing lt ∙ ap (λ (g : Begun). end_of g.after) given_is
+none_either_way : {A : Type 0} (b : Bool) → ◌≡◌ {A = List A} (cond b [] []) []
+none_either_way true = refl
+none_either_way false = refl
 
-  link_then : link (begun_seat n i given) i ≡ map (octets_of n.who (is_peering s)) t.near.flight
-  link_then =
-      get_or-set_same n.links i (link n i ++ given.replies) [] linked
-      ∙ ap (λ (g : Begun). link n i ++ g.replies) given_is
-      ∙ (λ j. is.flight j ++ map (octets_of n.who (is_peering s)) (replies_to (is_peering s) (sym is.phase j) m))
-      ∙ sym (map_append (octets_of n.who (is_peering s)) s.near.flight (replies_to (is_peering s) s.near.phase m))
-      ∙ ap (map (octets_of n.who (is_peering s))) (sym step.flight)
-
-  end_then : IsEnd (begun_seat n i given) i t
-  end_then = record {
-    phase = step.phase ∙ sym (ap (λ (p : Post). p.phase) post_then);
-    sent = step.sent ∙ is.sent ∙ sym (ap (λ (p : Post). p.sent) post_then);
-    held = step.held ∙ ap (held_after m) is.held ∙ sym (ap (λ (p : Post). p.held) post_then);
-    notice = step.kept.notice ∙ is.notice;
-    flight = link_then ∙ (λ j. map (octets_of n.who (are_peers (sym step.kept.role j) (sym step.far j).role)) t.near.flight);
-    taken = step.kept.taken ∙ is.taken;
-    breaks = step.kept.breaks ∙ is.breaks;
-  }
+take_and_drop : (n : ℕ) (xs : List ℕ) → take n xs ++ drop n xs ≡ xs
+take_and_drop zero xs = refl
+take_and_drop (suc n) [] = refl
+take_and_drop (suc n) (x ∷ xs) = ap (λ ys. x ∷ ys) (take_and_drop n xs)
 
 -- ---- the theorem
 module _ (facts : Facts) (seats : List Seat) (w : Network) (moment : IsMoment w) (stands : Seats seats w) (p : Place)
@@ -115,9 +93,10 @@ module _ (facts : Facts) (seats : List Seat) (w : Network) (moment : IsMoment w)
       let h = facts.wired.session w seats p right.written right.sessions stands.who is in
       ap (λ (s : Session). s.far.role) (same_Some s h.session (sym at.found ∙ h.found)) ∙ h.far_role q at.far.found
 
-  module _ (bytes : Bor (List ℕ)) (rest : List (List ℕ)) (waits : link_at seats q ≡ bytes.now ∷ rest) where
-    first : IsFirst (octets_of (seat seats q.node).who (is_peering (turned s))) s.far.flight bytes.now rest
-    first = first_of (octets_of (seat seats q.node).who (is_peering (turned s))) s.far.flight bytes.now rest (sym waits ∙ at.far_is.flight)
+  -- the octets of the message, of which some may have been taken before
+  module _ (octets : List ℕ) (rest : List (List ℕ)) (waits : link_at seats q ≡ octets ∷ rest) where
+    first : IsFirst (octets_of (seat seats q.node).who (is_peering (turned s))) s.far.flight octets rest
+    first = first_in (octets_of (seat seats q.node).who (is_peering (turned s))) s.far.flight octets rest (sym waits ∙ at.far_is.flight)
 
     abbrev m : Message
     m = first.message
@@ -140,14 +119,21 @@ module _ (facts : Facts) (seats : List Seat) (w : Network) (moment : IsMoment w)
     abbrev next : Phase
     next = passing.0
 
-    abbrev t : Session
-    t = took m (without_first first.after s)
+    -- the session once the message is taken, before it is answered
+    abbrev t0 : Session
+    t0 = taking_session m next (without_first first.after s)
 
-    arrives : arrived s ≡ t
-    arrives = arrived_takes s m first.after (at.near_is.notice ∙ quiet) first.is
+    abbrev replies : List Message
+    replies = replies_to (is_peering s) s.near.phase m
 
-    step : IsTakenAs (is_peering s) s.near.phase m next (without_first first.after s) t
-    step = took_is m next (without_first first.after s) whole at.near_is.breaks live passing.1
+    arrives : arrived s ≡ told replies t0
+    arrives =
+        arrived_takes s m first.after (at.near_is.notice ∙ quiet) first.is
+        ∙ took_tells m next (without_first first.after s) live passing.1
+
+    -- a message does not close the end
+    stays_live : is_idle next ≡ false
+    stays_live = live_after (is_peering s) s.near.phase m next live passing.1
 
     peering_is : are_peers (role_of (seat seats p.node).who) (role_of (seat seats q.node).who) ≡ is_peering s
     peering_is i = are_peers (sym near_role i) (sym far_role i)
@@ -159,129 +145,144 @@ module _ (facts : Facts) (seats : List Seat) (w : Network) (moment : IsMoment w)
         (subst (AllByRecursion (CanSend s.far.role s.near.role)) first.is
         (found_heard w moment (name_at seats p) (other_at seats p) s at.found facts.moments).far).0)
 
-    module _ (n' : Seat) (takes : Takes (seat (with_link q rest seats) p.node) n' (input.Bytes p.session bytes)) where
+    -- what is kept of it and what is still to come are all of it
+    kept_and_next : (bytes : List ℕ) → bytes ≡ drop (length (kept_at seats p)) octets → kept_at seats p ++ bytes ≡ octets
+    kept_and_next bytes e =
+        (λ i. (part_at seats p q at.far.found (part_here facts.wired seats w right stands p is) quiet
+        ∙ ap (λ l. take (length (kept_at seats p)) (first_of l)) waits) i ++ e i)
+        ∙ take_and_drop (length (kept_at seats p)) octets
+
+    module _ (bytes : Bor (List ℕ)) (bytes_are : bytes.now ≡ drop (length (kept_at seats p)) octets) (n' : Seat)
+        (takes : Takes (seat (with_link q rest seats) p.node) n' (input.Bytes p.session bytes)) where
       abbrev given : Begun
       given = takes.given
 
-      seat_same : seat (with_link q rest seats) p.node ≡ seat seats p.node
-      seat_same =
-          seat_elsewhere q.node p.node (record (seat seats q.node) { links = slice_set (seat seats q.node).links q.session rest }) seats
-          (λ e. not_far (sym e))
+      abbrev left : List ℕ
+      left = takes.left
 
-      given_is : given ≡ taken (seat seats p.node).who (is_peering s) (post (seat seats p.node).posts p.session) m next
-      given_is =
-          subst (λ b. given ≡ taken (seat seats p.node).who b (post (seat seats p.node).posts p.session) m next) peering_is
+      abbrev far_seat : Seat
+      far_seat = record (seat seats q.node) { links = slice_set (seat seats q.node).links q.session rest }
+
+      abbrev begun : List Seat
+      begun = with_link q rest seats
+
+      seat_same : seat begun p.node ≡ seat seats p.node
+      seat_same = seat_elsewhere q.node p.node far_seat seats (λ e. not_far (sym e))
+
+      far_seat_is : seat begun q.node ≡ far_seat
+      far_seat_is = seat_here q.node far_seat seats at.far.is_place.node
+
+      but : AllBut seats begun q
+      but = link_but seats q at.far.is_place.node rest
+
+      heard : (given ≡ taken (seat seats p.node).who (is_peering s) (post (seat seats p.node).posts p.session) m next) × (left ≡ [])
+      heard =
+          subst (λ b. (given ≡ taken (seat seats p.node).who b (post (seat seats p.node).posts p.session) m next) × (left ≡ [])) peering_is
           (facts.hears.message w.setup right.written (seat seats p.node).who (seat seats q.node).who
           (is_one_of seats w stands p.node is.node) (is_one_of seats w stands q.node at.far.is_place.node)
           p.session is.session (sym at.far.name) (post (seat seats p.node).posts p.session)
           (ap is_idle (sym at.near_is.phase) ∙ live) m next
-          ((λ i. cell (peering_is i) (sym at.near_is.phase i) m) ∙ passing.1) sends bytes
-          (first.octets_are ∙ (λ i. octets_of (seat seats q.node).who (are_peers-turned s.far.role s.near.role i) m)
+          ((λ i. cell (peering_is i) (sym at.near_is.phase i) m) ∙ passing.1) sends (kept_at seats p) bytes
+          (kept_and_next bytes.now bytes_are
+          ∙ first.octets_are ∙ (λ i. octets_of (seat seats q.node).who (are_peers-turned s.far.role s.near.role i) m)
           ∙ (λ i. octets_of (seat seats q.node).who (sym peering_is i) m))
-          given (subst (λ (n : Seat). BeginsAt n.who p.session (post n.posts p.session) (input.Bytes p.session bytes) given) seat_same takes.begins))
+          given left (subst (λ (n : Seat). BeginsAt n.who p.session (post n.posts p.session) (kept_in n p.session)
+          (input.Bytes p.session bytes) given left) seat_same takes.begins))
 
-      -- ---- the seats once the end has taken it
-      abbrev seats1 : List Seat
-      seats1 = with_link q rest seats
+      -- ---- the two ends
+      abbrev near_seat : Seat
+      near_seat = taking (seat seats p.node) p.session given left
 
-      abbrev seats2 : List Seat
-      seats2 = begun_seats facts.wired seats1 p.node p.session given n' w
+      post_then : post near_seat.posts p.session ≡ record {
+        phase = next;
+        sent = (post (seat seats p.node).posts p.session).sent;
+        held = held_after m (post (seat seats p.node).posts p.session).held;
+        wide = wide_after m (post (seat seats p.node).posts p.session).wide;
+      }
+      post_then =
+          get_or-set_same (seat seats p.node).posts p.session (end_of given.after) nothing
+          (subst (λ n. p.session < n) (sym (stands.long p.node is.node).posts) is.session)
+          ∙ ap (λ (g : Begun). end_of g.after) heard.0
 
-      long1 : length seats1 ≡ length seats
-      long1 = length-set seats q.node (record (seat seats q.node) { links = slice_set (seat seats q.node).links q.session rest })
+      kept_then : kept_in near_seat p.session ≡ []
+      kept_then =
+          get_or-set_same (seat seats p.node).kept p.session (cond (is_idle (end_of given.after).phase) [] left) []
+          (subst (λ n. p.session < n) (sym (stands.long p.node is.node).kept) is.session)
+          ∙ ap (cond (is_idle (end_of given.after).phase) []) heard.1
+          ∙ none_either_way (is_idle (end_of given.after).phase)
 
-      but1 : AllBut seats seats1 q
-      but1 =
-          put_but seats q (record (seat seats q.node) { links = slice_set (seat seats q.node).links q.session rest }) at.far.is_place.node
-          (stored_link (seat seats q.node) q.session rest)
-
-      but2 : AllBut seats1 seats2 p
-      but2 =
-          put_but seats1 p (begun_seat (seat seats1 p.node) p.session given) (subst (λ n. p.node < n) (sym long1) is.node)
-          (stored_begun (seat seats1 p.node) p.session (end_of given.after) (link (seat seats1 p.node) p.session ++ given.replies))
-
-      alike : AreAlike seats seats2
-      alike = but2.alike ∙ but1.alike
-
-      posts_within : p.session < length (seat seats p.node).posts
-      posts_within = subst (λ n. p.session < n) (sym (stands.long p.node is.node).posts) is.session
-
-      links_within : p.session < length (seat seats p.node).links
-      links_within = subst (λ n. p.session < n) (sym (stands.long p.node is.node).links) is.session
-
-      near_seat : seat seats2 p.node ≡ begun_seat (seat seats p.node) p.session given
-      near_seat =
-          seat_here p.node (begun_seat (seat seats1 p.node) p.session given) seats1 (subst (λ n. p.node < n) (sym long1) is.node)
-          ∙ ap (λ n. begun_seat n p.session given) seat_same
-
-      near_end : IsEnd (seat seats2 p.node) p.session (arrived s)
-      near_end =
-          subst (λ n. IsEnd n p.session (arrived s)) (sym near_seat)
-          (subst (IsEnd (begun_seat (seat seats p.node) p.session given) p.session) (sym arrives)
-          (end_then (seat seats p.node) p.session given (without_first first.after s) t m next posts_within links_within
-          (moved (seat seats p.node) (seat seats p.node) p.session s (without_first first.after s) refl
-          (end_refl (seat seats p.node) p.session) refl refl at.near_is) step given_is))
-
-      far_seat : seat seats2 q.node ≡ record (seat seats q.node) { links = slice_set (seat seats q.node).links q.session rest }
-      far_seat =
-          seat_elsewhere p.node q.node (begun_seat (seat seats1 p.node) p.session given) seats1 not_far
-          ∙ seat_here q.node (record (seat seats q.node) { links = slice_set (seat seats q.node).links q.session rest }) seats at.far.is_place.node
-
-      far_links : q.session < length (seat seats q.node).links
-      far_links = subst (λ n. q.session < n) (sym (stands.long q.node at.far.is_place.node).links) at.far.is_place.session
-
-      far_then : IsEnd (record (seat seats q.node) { links = slice_set (seat seats q.node).links q.session rest }) q.session (turned t)
-      far_then = record {
-        phase = ap (λ (e : End). e.phase) step.far ∙ at.far_is.phase;
-        sent = ap (λ (e : End). e.sent) step.far ∙ at.far_is.sent;
-        held = ap (λ (e : End). e.held) step.far ∙ at.far_is.held;
-        notice = ap (λ (e : End). e.notice) step.far ∙ at.far_is.notice;
-        flight = get_or-set_same (seat seats q.node).links q.session rest [] far_links ∙ first.rest_is
-            ∙ (λ i. map (octets_of (seat seats q.node).who (are_peers (sym step.far i).role (sym step.kept.role i))) (sym step.far i).flight);
-        taken = ap (λ (e : End). e.taken) step.far;
-        breaks = ap (λ (e : End). e.breaks) step.far ∙ at.far_is.breaks;
+      near_end : IsEnd near_seat p.session t0
+      near_end = record {
+        phase = ap (λ (p : Post). p.phase) (sym post_then);
+        sent = at.near_is.sent ∙ ap (λ (p : Post). p.sent) (sym post_then);
+        held = ap (held_after m) at.near_is.held ∙ ap (λ (p : Post). p.held) (sym post_then);
+        notice = at.near_is.notice;
+        flight = at.near_is.flight;
+        breaks = at.near_is.breaks;
+        taken = sym (ap (λ (b : Bool). cond b 0 (length (kept_in near_seat p.session))) quiet ∙ ap length kept_then);
       }
 
-      far_end : IsEnd (seat seats2 q.node) q.session (turned (arrived s))
-      far_end =
-          subst (λ n. IsEnd n q.session (turned (arrived s))) (sym far_seat)
-          (subst (λ (t : Session). IsEnd (record (seat seats q.node) { links = slice_set (seat seats q.node).links q.session rest }) q.session (turned t))
-          (sym arrives) far_then)
+      far_link : link (seat begun q.node) q.session ≡ rest
+      far_link =
+          ap (λ n. link n q.session) far_seat_is
+          ∙ get_or-set_same (seat seats q.node).links q.session rest []
+          (subst (λ n. q.session < n) (sym (stands.long q.node at.far.is_place.node).links) at.far.is_place.session)
 
-      -- ---- and the network
-      abbrev w1 : Network
-      w1 = change_session (name_at seats p) (other_at seats p) arrived w
+      far_end : IsEnd (seat begun q.node) q.session (turned t0)
+      far_end = record {
+        phase = at.far_is.phase ∙ ap (λ n. (post n.posts q.session).phase) (sym far_seat_is);
+        sent = at.far_is.sent ∙ ap (λ n. (post n.posts q.session).sent) (sym far_seat_is);
+        held = at.far_is.held ∙ ap (λ n. (post n.posts q.session).held) (sym far_seat_is);
+        notice = at.far_is.notice ∙ ap (λ (n : Seat). slice_index_or n.notices q.session false) (sym far_seat_is);
+        flight = far_link ∙ first.rest_is
+            ∙ (λ i. map (octets_of (ap (λ (n : Seat). n.who) (sym far_seat_is) i) (is_peering (turned s))) first.after);
+        breaks = at.far_is.breaks ∙ ap (λ (n : Seat). slice_index_or n.breaks q.session []) (sym far_seat_is);
+        taken = at.far_is.taken
+            ∙ ap (λ (n : Seat). cond (slice_index_or n.notices q.session false) 0 (length (slice_index_or n.kept q.session []))) (sym far_seat_is);
+      }
 
-      stands1 : Seats seats2 w1
-      stands1 =
-          changes_at facts.wired seats w right stands seats2 p is at arrived arrived_nodes alike
-          (but2.long (but1.long stands.long)) near_end far_end
-          (λ r is_r not_p not_q. end_trans (seat seats r.node) (seat seats1 r.node) (seat seats2 r.node) r.session (but1.ends r not_q) (but2.ends r not_p))
+      far_keeps : IsPart (seat begun q.node) q.session (seat begun p.node) p.session
+      far_keeps =
+          subst (λ n. IsPart n q.session (seat begun p.node) p.session) (sym far_seat_is)
+          (subst (λ n. IsPart far_seat q.session n p.session) (sym seat_same)
+          (part_at seats q p at.far.back (part_here facts.wired seats w right stands q at.far.is_place)))
 
-      sound1 : IsSound w1
-      sound1 =
-          with_session_keeps (Fact any_size) (Fact-turned any_size) arrived (arrived_keeps any_size positive)
+      joined : IsJoined s
+      joined = found_joined w moment (name_at seats p) (other_at seats p) s at.found whole
+
+      ready : IsReady t0
+      ready = record {
+        near = λ e. absurd (true≢false (sym (ap not stays_live) ∙ e));
+        far = λ e. absurd (true≢false (sym joined.far_live ∙ e));
+        quiet = λ e. absurd (true≢false (sym e ∙ whole));
+      }
+
+      sound : IsSound (change_session (name_at seats p) (other_at seats p) arrived w)
+      sound =
+          with_session_keeps (Fact message_size) (Fact-turned message_size) arrived (arrived_keeps message_size positive)
           (name_at seats p) (other_at seats p) w.sessions (moment_sound w moment)
 
-      pub message_stands : (n'' : Seat) → IsDiscarded (with_seat p.node n' seats1) p.node n''
-          → Seats (with_seat p.node n'' (with_seat p.node n' seats1)) (pass (name_at seats p) w1)
-      message_stands n'' d =
-          subst (λ name. Seats (with_seat p.node n'' (with_seat p.node n' seats1)) (pass name w1)) (ap (λ (n : Seat). name_of n.who) seat_same)
-          (finishes facts.wired seats1 p.node p.session given n' w1
-          (changed_right (name_at seats p) (other_at seats p) arrived arrived_nodes w right (all_quiet w1 sound1))
-          stands1 (all_down_where w1 sound1) (subst (λ n. p.node < n) (sym long1) is.node)
-          (subst (λ (n : Seat). p.session < length n.links) (sym seat_same) links_within)
-          (same_named seats seats2 alike (name_of (seat seats2 p.node).who)
-          ∙ ap (seat_named seats) (same_name_at seats seats2 alike p) ∙ place_named facts.wired seats w right stands p is)
-          takes.stepped n'' d)
+      pub message_stands : Seats (cleared (with_seat p.node n' begun) p.node)
+          (pass (name_at seats p) (change_session (name_at seats p) (other_at seats p) arrived w))
+      message_stands =
+          stands_after facts seats w moment stands p is begun but.alike (but.long stands.long) (λ r _ _ not_q. but.ends r not_q)
+          arrived arrived_nodes sound given left t0 replies arrives
+          (ap (λ (g : Begun). g.replies) heard.0
+          ∙ (λ i. map (octets_of (seat seats p.node).who (is_peering s)) (replies_to (is_peering s) (sym at.near_is.phase i) m)))
+          (subst (λ n. IsEnd (taking n p.session given left) p.session t0) (sym seat_same) near_end) far_end
+          (subst (λ n. IsPart (taking n p.session given left) p.session (seat begun q.node) q.session) (sym seat_same)
+          (part_none near_seat p.session (seat begun q.node) q.session kept_then))
+          far_keeps ready (λ e. absurd (true≢false (sym e ∙ stays_live))) n' takes.stepped takes.swept
 
-      -- something waits there
-      some_waits : (in_flight w (other_at seats p) (name_at seats p) == 0) ≡ false
-      some_waits =
-          ap (λ (o : Option Session). unwrap_or (option_map waiting o) 0 == 0) at.found
-          ∙ ap (λ (b : Bool). cond b 1 (length s.far.flight) == 0) (at.near_is.notice ∙ quiet)
-          ∙ ap (λ (f : List Message). length f == 0) first.is
-          ∙ ne_eqb (suc (length first.after)) 0 (suc-ne-zero (length first.after))
+    -- something waits there
+    some_waits : (in_flight w (other_at seats p) (name_at seats p) == 0) ≡ false
+    some_waits =
+        ap (λ (o : Option Session). unwrap_or (option_map waiting o) 0 == 0) at.found
+        ∙ ap (λ (b : Bool). cond b 1 (length s.far.flight) == 0) (at.near_is.notice ∙ quiet)
+        ∙ ap (λ (f : List Message). length f == 0) first.is
+        ∙ ne_eqb (suc (length first.after)) 0 (suc-ne-zero (length first.after))
 
-      pub message_delivered : deliver (other_at seats p) (name_at seats p) w ≡ pass (name_at seats p) w1
-      message_delivered = ap (λ (b : Bool). cond b w (pass (name_at seats p) w1)) some_waits
+    pub message_delivered : deliver (other_at seats p) (name_at seats p) w
+        ≡ pass (name_at seats p) (change_session (name_at seats p) (other_at seats p) arrived w)
+    message_delivered =
+        ap (λ (b : Bool). cond b w (pass (name_at seats p) (change_session (name_at seats p) (other_at seats p) arrived w))) some_waits

@@ -16,17 +16,17 @@ use Rattle.network_model.proofs.NetworkFact.{found}
 use Rattle.network_model.proofs.SessionFact.{Fact, Fact-turned, greetings}
 use Rattle.network_model.proofs.Twins.{Found, found_each}
 use Rattle.net_model.specs.Seats.{Configuring, Seat, Who, place_of, seat, whos}
-use Rattle.net_model.specs.Stands.{IsDownWhere, IsEnd, StandsFor, any_size, octets_of}
+use Rattle.net_model.specs.Stands.{IsDownWhere, IsEnd, StandsFor, message_size, octets_of}
 use Rattle.net_model.specs.Telling.{CanBeHeard, CanSend, from_of}
 use Rattle.net_model.specs.declared.place.Place.{Place}
 use Rattle.told_laws.specs.Moments.{IsMoment}
 use Rattle.seat_laws.specs.Wiring.{IsPlace, name_at, other_at}
 use Rattle.net_steps.specs.OneState.{SeatsStandForOneState}
 use Rattle.net_steps.proofs.AtMoments.{found_heard, found_sound, moment_right}
+use Rattle.net_steps.proofs.Down.{down_turned}
 use Rattle.net_steps.proofs.Facts.{Facts, IsRight, right_twins}
 use Rattle.net_steps.proofs.Here.{Here, here}
 use Rattle.net_steps.proofs.Spelled.{head_or, one_flight, tail_of}
-use Rattle.net_steps.proofs.Stepping.{down_turned}
 
 -- ---- what is in flight
 all_right : {A : Type 0} (P : A → Type 0) (xs ys : List A) → AllByRecursion P (xs ++ ys) → AllByRecursion P ys
@@ -52,7 +52,7 @@ alike_turned s t a = record {
   down = a.down;
 }
 
-same_flight : (who : Who) (s t : Session) → AreAlike s t → Fact any_size s → Fact any_size t
+same_flight : (who : Who) (s t : Session) → AreAlike s t → Fact message_size s → Fact message_size t
     → AllByRecursion (CanSend s.near.role s.far.role) s.near.flight
     → AllByRecursion (CanSend t.near.role t.far.role) t.near.flight
     → map (octets_of who (is_peering s)) s.near.flight ≡ map (octets_of who (is_peering t)) t.near.flight
@@ -91,16 +91,17 @@ same_flight who s t a (inl j) (inl k) p q e =
     in
     j.outward.flight ∙ ap (λ cs. g ++ map Carries cs) same ∙ sym there
 
-same_near : (n : Seat) (i : ℕ) (s t : Session) → AreAlike s t → IsEnd n i s → IsEnd n i t → s.near.flight ≡ t.near.flight
-    → s.near ≡ t.near
-same_near n i s t a x y flight =
+-- of what is in flight from an end as much was taken as the other end keeps
+same_near : (n m : Seat) (i j : ℕ) (s t : Session) → AreAlike s t → IsEnd n i s → IsEnd n i t
+    → IsEnd m j (turned s) → IsEnd m j (turned t) → s.near.flight ≡ t.near.flight → s.near ≡ t.near
+same_near n m i j s t a x y x' y' flight =
     let names : s.near.name ≡ t.near.name = ap (λ (p : Nodes). p.0.0) a.nodes in
     let roles : s.near.role ≡ t.near.role = ap (λ (p : Nodes). p.0.1) a.nodes in
     let phase : s.near.phase ≡ t.near.phase = x.phase ∙ sym y.phase in
     let notice : s.near.notice ≡ t.near.notice = x.notice ∙ sym y.notice in
     let sent : s.near.sent ≡ t.near.sent = x.sent ∙ sym y.sent in
     let held : s.near.held ≡ t.near.held = x.held ∙ sym y.held in
-    let taken : s.near.taken ≡ t.near.taken = x.taken ∙ sym y.taken in
+    let taken : s.near.taken ≡ t.near.taken = x'.taken ∙ sym y'.taken in
     let breaks : s.near.breaks ≡ t.near.breaks = x.breaks ∙ sym y.breaks in
     λ i. record {
       name = names i;
@@ -174,10 +175,10 @@ module _ (facts : Facts) (seats : List Seat) (w v : Network) (moment : IsMoment 
       down = same_down;
     }
 
-    sound : Fact any_size s
+    sound : Fact message_size s
     sound = found_sound w moment (name_at seats p) (other_at seats p) s at.found
 
-    sound' : Fact any_size t
+    sound' : Fact message_size t
     sound' = found_sound v moment' (name_at seats p) (other_at seats p) t at'.found
 
     can_be_heard : CanBeHeard s
@@ -188,16 +189,18 @@ module _ (facts : Facts) (seats : List Seat) (w v : Network) (moment : IsMoment 
 
     nears : s.near ≡ t.near
     nears =
-        same_near (seat seats p.node) p.session s t alike at.near_is at'.near_is
+        same_near (seat seats p.node) (seat seats at.far.far.node) p.session at.far.far.session s t alike at.near_is at'.near_is
+        at.far_is there
         (same_flight (seat seats p.node).who s t alike sound sound' can_be_heard.near can_be_heard'.near
         (sym at.near_is.flight ∙ at'.near_is.flight))
 
     fars : s.far ≡ t.far
     fars =
         let q = at.far.far in
-        same_near (seat seats q.node) q.session (turned s) (turned t) (alike_turned s t alike) at.far_is there
-        (same_flight (seat seats q.node).who (turned s) (turned t) (alike_turned s t alike) (Fact-turned any_size s sound)
-        (Fact-turned any_size t sound') can_be_heard.far can_be_heard'.far (sym at.far_is.flight ∙ there.flight))
+        same_near (seat seats q.node) (seat seats p.node) q.session p.session (turned s) (turned t) (alike_turned s t alike)
+        at.far_is there at.near_is at'.near_is
+        (same_flight (seat seats q.node).who (turned s) (turned t) (alike_turned s t alike) (Fact-turned message_size s sound)
+        (Fact-turned message_size t sound') can_be_heard.far can_be_heard'.far (sym at.far_is.flight ∙ there.flight))
 
     one_session : s ≡ t
     one_session i = record { is_down = same_down i; near = nears i; far = fars i }

@@ -1,100 +1,107 @@
--- A node opens an end and makes its pass: the seats, without what it sent on sessions that are down, stand for the state
--- after it.
-use Rattle.std.specs.Prelude.{◌≡◌, ◌≢◌, ◌<◌, ℕ, zero, suc, List, [], ◌∷◌, ◌++◌, map, length, Bool, true, false, cond}
-use Rattle.std.specs.List.{slice_index_or}
-use Rattle.std.specs.declared.option.Option.{Option}
-use Rattle.std.specs.declared.option.Option.TheVariants.{Some, None}
-use Rattle.std.proofs.lemmas.List.{get_or-set_same, length-set, set-set}
+-- A node opens an end and makes its pass over links that may fail: the seats stand for the state after it.
+use Rattle.std.specs.Prelude.{◌≡◌, ◌≢◌, ◌⊎◌, ◌<◌, ℕ, List, [], ◌∷◌, map, length, Bool, true, false, cond, not}
+use Rattle.std.specs.List.{slice_set}
+use Rattle.std.specs.declared.option.Option.TheVariants.{Some}
+use Rattle.std.specs.Cmp.Lexicographic.{bytes_decides}
+use Rattle.std.proofs.lemmas.Bool.{true≢false}
+use Rattle.std.proofs.lemmas.List.{get_or-set_other, get_or-set_same, length-set}
 use Rattle.std.proofs.lemmas.Option.{same_Some}
 use Rattle.std.proofs.Common.{refl, sym, ◌∙◌, ap, subst}
+use Rattle.ov_types.specs.First.{same_name}
 use Rattle.ov_link.specs.declared.step.Input.TheVariants as input
-use Rattle.node_model.specs.Step.{Begun, Opened, Post, end_of, nothing, post}
+use Rattle.node_core.specs.Keeping.{AreSwept}
+use Rattle.node_model.specs.Step.{Begun, Opened, Post, begun, end_of, nothing, post, told_all}
 use Rattle.network_model.specs.Setup.{Name}
-use Rattle.network_model.specs.Session.{Session, are_peers, greeting, is_peering, opened, passed, turned}
+use Rattle.network_model.specs.Session.{Message, Session, are_peers, greeting, is_idle, is_live, is_peering, opened, passed, shut, told, turned, with_breaks}
 use Rattle.network_model.specs.Network.{Network, view, views_of, wanted}
 use Rattle.network_model.specs.Steps.{change_session, pass, session_of}
+use Rattle.network_model.proofs.Deeds.{others_stay}
 use Rattle.network_model.proofs.NetworkFact.{nodes_keep, opened_nodes, with_session_keeps}
 use Rattle.network_model.proofs.NodesFact.{pass_nodes}
-use Rattle.network_model.proofs.SessionFact.{map_append}
-use Rattle.net_model.specs.Seats.{Seat, link, name_of, other, role_of, seat, seat_named}
-use Rattle.net_model.specs.Steps.{Takes, with_seat}
-use Rattle.net_model.specs.Stands.{IsEnd, Seats, octets_of}
-use Rattle.net_model.specs.Taking.{greeting_of, opened as opened_by}
+use Rattle.network_model.proofs.SessionFact.{IsTidy, sends, shut_down}
+use Rattle.net_model.specs.Seats.{Seat, kept_in, kind_of, notice, role_of, seat}
+use Rattle.net_model.specs.Steps.{IsStepped, Sending, Takes, end_after, reply_fails, sending, sent_on, with_seat}
+use Rattle.net_model.specs.Stands.{IsEnd, IsLong, Seats, octets_of}
+use Rattle.net_model.specs.Taking.{opened as opened_by}
 use Rattle.net_model.specs.declared.place.Place.{Place}
 use Rattle.seat_laws.specs.Wiring.{IsPlace, name_at, other_at}
-use Rattle.net_steps.proofs.Building.{AllBut, end_refl, moved, put_but, stored_begun}
-use Rattle.net_steps.proofs.Changing.{changed_right, changes_at}
+use Rattle.net_steps.proofs.Building.{IsPart, SameEnd, end_refl, long_again, moved, part_at, part_none}
+use Rattle.net_steps.proofs.Changing.{changed_right}
+use Rattle.net_steps.proofs.Clearing.{IsCleared, place}
+use Rattle.net_steps.proofs.Ends.{IsReady}
 use Rattle.net_steps.proofs.Facts.{Facts, IsRight}
-use Rattle.net_steps.proofs.Here.{Here, here, place_named}
-use Rattle.net_steps.proofs.Lists.{same_name_at, same_named, seat_elsewhere, seat_here}
+use Rattle.net_steps.proofs.Here.{Here, here, part_here}
 use Rattle.net_steps.proofs.Members.{is_one_of}
-use Rattle.net_steps.proofs.Passing.{IsKept, IsTold, passes}
+use Rattle.net_steps.proofs.Passing.{AreReady, told_phase}
 use Rattle.net_steps.proofs.Quiet.{IsQuiet, opened_quiet, passed_quiet, quiet_turned}
-use Rattle.net_steps.proofs.Stepping.{begun_seat, stepped_told}
-use Rattle.net_steps.proofs.Unbroken.{opens}
+use Rattle.net_steps.proofs.Sent.{AllLeft, all_left, opened_tells, opening_session, told_as_sent, told_down}
+use Rattle.net_steps.proofs.Sides.{changed_here}
+use Rattle.net_steps.proofs.Stepped.{count, far, live_here, near1, off, own, passed_stands, post_here, taking}
 
--- ---- links without those of sessions that are down
-abbrev dropped : {A : Type 0} → (ℕ → Bool) → List (List A) → List (List A)
-dropped drops [] = []
-dropped drops (l ∷ ls) = cond (drops 0) [] l ∷ dropped (λ i. drops (suc i)) ls
+-- ---- a live end that tells is ready to tell more
+pub told_ready : (ms : List Message) (s : Session) → is_idle s.near.phase ≡ false → s.is_down ≡ false → IsTidy s.far → IsReady s
+    → IsReady (told ms s)
+told_ready ms s live whole tidy ready =
+    let r : Sending = sending s.near.breaks (map (λ m. []) ms) in
+    subst IsReady (sym (told_as_sent (λ m. []) ms s s.near.breaks refl)) (by_failed r.breaks r.failed)
+  where
+    left : (b : List ℕ) → IsReady (with_breaks b (sends ms s))
+    left b =
+        let l = all_left b ms s in
+        record {
+          near = λ e. absurd (true≢false (sym (ap (λ p. not (is_idle p)) l.phase ∙ ap not live) ∙ e));
+          far = λ e.
+              let f = ready.far (ap is_live (sym l.far) ∙ e) in
+              ((λ i. (l.far i).notice) ∙ f.0, l.taken ∙ f.1);
+          quiet = λ e. absurd (true≢false (sym e ∙ l.down ∙ whole));
+        }
 
-none_either_way : {A : Type 0} (b : Bool) → ◌≡◌ {A = List A} [] (cond b [] [])
-none_either_way true = refl
-none_either_way false = refl
+    by_failed : (b : List ℕ) (f : Bool) → IsReady (cond f (shut (with_breaks b s)) (with_breaks b (sends ms s)))
+    by_failed b true = record {
+      near = λ _. shut_down (with_breaks b s) tidy;
+      far = λ e. (e, refl);
+      quiet = λ _. (refl, refl);
+    }
+    by_failed b false = left b
 
-dropped_at : {A : Type 0} (drops : ℕ → Bool) (ls : List (List A)) (i : ℕ)
-    → slice_index_or (dropped drops ls) i [] ≡ cond (drops i) [] (slice_index_or ls i [])
-dropped_at drops [] i = none_either_way (drops i)
-dropped_at drops (l ∷ ls) zero = refl
-dropped_at drops (l ∷ ls) (suc i) = dropped_at (λ i. drops (suc i)) ls i
+-- where all leaves on a session that is not down
+pub told_whole : (ms : List Message) (s : Session) → (told ms s).is_down ≡ false → (b : List ℕ) × AllLeft b ms s (told ms s)
+told_whole ms s whole =
+    let r : Sending = sending s.near.breaks (map (λ m. []) ms) in
+    let is = told_as_sent (λ m. []) ms s s.near.breaks refl in
+    (r.breaks, subst (AllLeft r.breaks ms s) (sym is) (by_failed r.breaks r.failed (ap (λ (t : Session). t.is_down) (sym is) ∙ whole)))
+  where
+    by_failed : (b : List ℕ) (f : Bool) → (cond f (shut (with_breaks b s)) (with_breaks b (sends ms s))).is_down ≡ false
+        → AllLeft b ms s (cond f (shut (with_breaks b s)) (with_breaks b (sends ms s)))
+    by_failed b true e = absurd (true≢false e)
+    by_failed b false e = all_left b ms s
 
-dropped_long : {A : Type 0} (drops : ℕ → Bool) (ls : List (List A)) → length (dropped drops ls) ≡ length ls
-dropped_long drops [] = refl
-dropped_long drops (l ∷ ls) = ap suc (dropped_long (λ i. drops (suc i)) ls)
+-- ---- a step of a node
+-- another end that is live then was so before
+pub stepped_live : (n n' : Seat) (i : ℕ) (given : Begun) → IsStepped n n' i given → (j : ℕ) → j < length n.posts → j ≢ i
+    → is_idle (post n'.posts j).phase ≡ false → is_idle (post n.posts j).phase ≡ false
+stepped_live n n' i given stepped j less ne live = by_idle (is_idle (post n.posts j).phase) refl
+  where
+    by_idle : (b : Bool) → is_idle (post n.posts j).phase ≡ b → b ≡ false
+    by_idle false e = refl
+    by_idle true e =
+        absurd (true≢false (sym (after (sent_on n i given j).failed) ∙ ap (λ (p : Post). is_idle p.phase) (sym (stepped.posts j less)) ∙ live))
+      where
+        after : (f : Bool)
+            → is_idle (end_after f (told_all (kind_of n.who) (begun n.posts i given (reply_fails n i given)) j)).phase ≡ true
+        after true = refl
+        after false =
+            ap is_idle (told_phase (kind_of n.who) (begun n.posts i given (reply_fails n i given)) j)
+            ∙ ap (λ (p : Post). is_idle p.phase)
+            (get_or-set_other n.posts i j (cond (reply_fails n i given) nothing (end_of given.after)) nothing ne)
+            ∙ e
 
-abbrev down_of : Option Session → Bool
-down_of None = true
-down_of (Some s) = s.is_down
-
--- a node without what it sent on sessions that are down in this state
-abbrev pub kept_seat : Network → Seat → Seat
-kept_seat w n = record n { links = dropped (λ i. down_of (session_of w (name_of n.who) (other n i))) n.links }
-
-pub is_kept : (w : Network) (n : Seat) → IsKept w n (kept_seat w n)
-is_kept w n = record {
-  who = refl;
-  posts = refl;
-  notices = refl;
-  links_long = dropped_long (λ i. down_of (session_of w (name_of n.who) (other n i))) n.links;
-  links = λ i lt s found.
-      dropped_at (λ i. down_of (session_of w (name_of n.who) (other n i))) n.links i
-      ∙ ap (λ o. cond (down_of o) [] (link n i)) found;
-}
-
--- ---- the end that opens
-module _ (n : Seat) (i : ℕ) (given : Begun) (s : Session) (lt : i < length n.posts) (linked : i < length n.links)
-    (is : IsEnd n i s) (given_is : given ≡ opened_by n.who (is_peering s) (post n.posts i)) where
-  post_then : post (begun_seat n i given).posts i ≡ record (post n.posts i) { phase = Opened }
-  post_then = get_or-set_same n.posts i (end_of given.after) nothing lt ∙ ap (λ (g : Begun). end_of g.after) given_is
-
-  link_then : link (begun_seat n i given) i ≡ map (octets_of n.who (is_peering s)) (s.near.flight ++ greeting s ∷ [])
-  link_then =
-      get_or-set_same n.links i (link n i ++ given.replies) [] linked
-      ∙ ap (λ (g : Begun). link n i ++ g.replies) given_is
-      ∙ ap (λ l. l ++ (octets_of n.who (is_peering s) (greeting_of (is_peering s)) ∷ [])) is.flight
-      ∙ sym (map_append (octets_of n.who (is_peering s)) s.near.flight (greeting s ∷ []))
-
-  end_then : IsEnd (begun_seat n i given) i (opened s)
-  end_then =
-      subst (IsEnd (begun_seat n i given) i) (sym (opens s is.breaks)) (record {
-        phase = sym (ap (λ (p : Post). p.phase) post_then);
-        sent = is.sent ∙ sym (ap (λ (p : Post). p.sent) post_then);
-        held = is.held ∙ sym (ap (λ (p : Post). p.held) post_then);
-        notice = is.notice;
-        flight = link_then;
-        taken = is.taken;
-        breaks = is.breaks;
-      })
+-- room for all its sessions
+pub stepped_long : (n n' : Seat) (i : ℕ) (given : Begun) (left : List ℕ) → IsStepped n n' i given
+    → AreSwept n'.posts (slice_set n.kept i left) n'.kept → IsLong n → IsLong n'
+stepped_long n n' i given left stepped swept l =
+    long_again n n' stepped.who stepped.posts_long (swept.long ∙ length-set n.kept i left) stepped.links_long stepped.breaks_long
+    (ap length stepped.notices) l
 
 -- ---- states
 pub opened_right : (a b : Name) (w : Network) → IsRight w → IsRight (change_session a b opened w)
@@ -110,9 +117,15 @@ passed_right name w right = record {
       (λ s q. passed_quiet (wanted w.setup (views_of name w.sessions) (view s)) s q) name w.sessions right.quiet;
 }
 
--- ---- an end opens at a place
+-- ---- an end opens at a place, of which nothing was taken
 module _ (facts : Facts) (seats : List Seat) (w : Network) (right : IsRight w) (stands : Seats seats w) (p : Place)
-    (is : IsPlace seats p) (n' : Seat) (takes : Takes (seat seats p.node) n' (input.Opened p.session)) where
+    (is : IsPlace seats p) (n' : Seat) (takes : Takes (seat seats p.node) n' (input.Opened p.session))
+    (bare : (here facts.wired seats w right stands p is).session.far.taken ≡ 0)
+    (fine : is_live (here facts.wired seats w right stands p is).session.far ≡ false
+    → ((here facts.wired seats w right stands p is).session.far.notice ≡ false)
+    × ((here facts.wired seats w right stands p is).session.near.taken ≡ 0))
+    (tidy : IsTidy (here facts.wired seats w right stands p is).session.far)
+    (others : (b : Name) (t : Session) → b ≢ other_at seats p → session_of w (name_at seats p) b ≡ Some t → IsReady t) where
   abbrev at : Here seats w p
   at = here facts.wired seats w right stands p is
 
@@ -122,70 +135,138 @@ module _ (facts : Facts) (seats : List Seat) (w : Network) (right : IsRight w) (
   abbrev s : Session
   s = at.session
 
+  abbrev n : Seat
+  n = seat seats p.node
+
   abbrev given : Begun
   given = takes.given
 
-  not_far : q.node ≢ p.node
-  not_far e = at.apart (sym (ap (λ k. name_of (seat seats k).who) e) ∙ at.far.name)
+  abbrev left : List ℕ
+  left = takes.left
 
-  peering_is : are_peers (role_of (seat seats p.node).who) (role_of (seat seats q.node).who) ≡ is_peering s
+  abbrev t0 : Session
+  t0 = opening_session s
+
+  peering_is : are_peers (role_of n.who) (role_of (seat seats q.node).who) ≡ is_peering s
   peering_is =
       let h = facts.wired.session w seats p right.written right.sessions stands.who is in
       let same = same_Some s h.session (sym at.found ∙ h.found) in
       λ i. are_peers (sym (ap (λ (s : Session). s.near.role) same ∙ h.near_role) i) (sym (ap (λ (s : Session). s.far.role) same ∙ h.far_role q at.far.found) i)
 
-  given_is : given ≡ opened_by (seat seats p.node).who (is_peering s) (post (seat seats p.node).posts p.session)
-  given_is =
-      subst (λ b. given ≡ opened_by (seat seats p.node).who b (post (seat seats p.node).posts p.session)) peering_is
-      (facts.hears.opens w.setup right.written (seat seats p.node).who (seat seats q.node).who
+  heard : (given ≡ opened_by n.who (is_peering s) (post n.posts p.session)) × (left ≡ [])
+  heard =
+      subst (λ b. (given ≡ opened_by n.who b (post n.posts p.session)) × (left ≡ [])) peering_is
+      (facts.hears.opens w.setup right.written n.who (seat seats q.node).who
       (is_one_of seats w stands p.node is.node) (is_one_of seats w stands q.node at.far.is_place.node)
-      p.session is.session (sym at.far.name) (post (seat seats p.node).posts p.session) given takes.begins)
+      p.session is.session (sym at.far.name) (post n.posts p.session) (kept_in n p.session) given left takes.begins)
 
-  -- the end is open once the input is taken
-  pub open_phase : (end_of given.after).phase ≡ Opened
-  open_phase = ap (λ (g : Begun). (end_of g.after).phase) given_is
+  post_then : post (taking n p.session given left).posts p.session ≡ record (post n.posts p.session) { phase = Opened }
+  post_then =
+      get_or-set_same n.posts p.session (end_of given.after) nothing
+      (subst (λ m. p.session < m) (sym (stands.long p.node is.node).posts) is.session)
+      ∙ ap (λ (g : Begun). end_of g.after) heard.0
 
-  abbrev pub begun_at : Seat
-  begun_at = begun_seat (seat seats p.node) p.session given
+  kept_then : kept_in (taking n p.session given left) p.session ≡ []
+  kept_then =
+      get_or-set_same n.kept p.session (cond (is_idle (end_of given.after).phase) [] left) []
+      (subst (λ m. p.session < m) (sym (stands.long p.node is.node).kept) is.session)
+      ∙ ap (cond (is_idle (end_of given.after).phase) []) heard.1
+      ∙ none_either_way (is_idle (end_of given.after).phase)
+    where
+      none_either_way : (b : Bool) → ◌≡◌ {A = List ℕ} (cond b [] []) []
+      none_either_way true = refl
+      none_either_way false = refl
+
+  near_end : IsEnd (taking n p.session given left) p.session t0
+  near_end = record {
+    phase = ap (λ (p : Post). p.phase) (sym post_then);
+    sent = at.near_is.sent ∙ ap (λ (p : Post). p.sent) (sym post_then);
+    held = at.near_is.held ∙ ap (λ (p : Post). p.held) (sym post_then);
+    notice = at.near_is.notice;
+    flight = at.near_is.flight;
+    breaks = at.near_is.breaks;
+    taken = bare ∙ sym (nothing_taken (notice n p.session));
+  }
+    where
+      nothing_taken : (b : Bool) → cond b 0 (length (kept_in (taking n p.session given left) p.session)) ≡ 0
+      nothing_taken true = refl
+      nothing_taken false = ap length kept_then
+
+  far_end : IsEnd (seat seats q.node) q.session (turned t0)
+  far_end =
+      moved (seat seats q.node) (seat seats q.node) q.session (turned s) (turned t0) refl (end_refl (seat seats q.node) q.session)
+      refl refl refl at.far_is
+
+  ready0 : IsReady t0
+  ready0 = record {
+    near = λ e. absurd (true≢false e);
+    far = fine;
+    quiet = λ e. absurd (true≢false (sym e));
+  }
+
+  replies : given.replies ≡ map (octets_of n.who (is_peering t0)) (greeting s ∷ [])
+  replies = ap (λ (g : Begun). g.replies) heard.0
+
+  near_keeps : IsPart (taking n p.session given left) p.session (seat seats q.node) q.session
+  near_keeps = part_none (taking n p.session given left) p.session (seat seats q.node) q.session kept_then
+
+  far_keeps : IsPart (seat seats q.node) q.session n p.session
+  far_keeps = part_at seats q p at.far.back (part_here facts.wired seats w right stands q at.far.is_place)
 
   abbrev pub opened_network : Network
   opened_network = change_session (name_at seats p) (other_at seats p) opened w
 
-  posts_within : p.session < length (seat seats p.node).posts
-  posts_within = subst (λ n. p.session < n) (sym (stands.long p.node is.node).posts) is.session
+  right1 : IsRight opened_network
+  right1 = opened_right (name_at seats p) (other_at seats p) w right
 
-  links_within : p.session < length (seat seats p.node).links
-  links_within = subst (λ n. p.session < n) (sym (stands.long p.node is.node).links) is.session
+  ready1 : AreReady opened_network (name_at seats p)
+  ready1 b t found_it = by_name (same_name b (other_at seats p)) refl
+    where
+      by_name : (c : Bool) → same_name b (other_at seats p) ≡ c → IsReady t
+      by_name true e =
+          let same : b ≡ other_at seats p = (bytes_decides b (other_at seats p)).0 e in
+          let found_here = changed_here (name_at seats p) (other_at seats p) at.apart opened opened_nodes w.sessions s at.found in
+          subst IsReady
+          (sym (opened_tells s) ∙ same_Some (opened s) t
+          (sym found_here ∙ ap (session_of opened_network (name_at seats p)) (sym same) ∙ found_it))
+          (told_ready (greeting s ∷ []) t0 refl refl tidy ready0)
+      by_name false e =
+          let ne : b ≢ other_at seats p = λ f. true≢false (sym ((bytes_decides b (other_at seats p)).1 f) ∙ e) in
+          others b t ne
+          (sym (others_stay (name_at seats p) (other_at seats p) (name_at seats p) b
+          ((λ _ f. ne (sym f)), (λ _ f. at.apart (sym f))) opened opened_nodes w.sessions) ∙ found_it)
 
-  begun_but : AllBut seats (with_seat p.node begun_at seats) p
-  begun_but =
-      put_but seats p begun_at is.node
-      (stored_begun (seat seats p.node) p.session (end_of given.after) (link (seat seats p.node) p.session ++ given.replies))
+  same_all : (r : Place) → IsPlace seats r → r ≢ p → r ≢ q → SameEnd (seat seats r.node) (seat seats r.node) r.session
+  same_all r _ _ _ = end_refl (seat seats r.node) r.session
 
-  begun_stands : Seats (with_seat p.node begun_at seats) opened_network
-  begun_stands =
-      changes_at facts.wired seats w right stands (with_seat p.node begun_at seats) p is at opened opened_nodes begun_but.alike
-      (begun_but.long stands.long)
-      (subst (λ n. IsEnd n p.session (opened s)) (sym (seat_here p.node begun_at seats is.node))
-      (end_then (seat seats p.node) p.session given s posts_within links_within at.near_is given_is))
-      (subst (λ n. IsEnd n q.session (turned (opened s))) (sym (seat_elsewhere p.node q.node begun_at seats not_far))
-      (subst (λ (t : Session). IsEnd (seat seats q.node) q.session (turned t)) (sym (opens s at.near_is.breaks))
-      (moved (seat seats q.node) (seat seats q.node) q.session (turned s)
-      (turned (record { is_down = false; near = record s.near { phase = Opened; flight = s.near.flight ++ greeting s ∷ [] }; far = s.far }))
-      refl (end_refl (seat seats q.node) q.session) refl refl at.far_is)))
-      (λ r _ not_p _. begun_but.ends r not_p)
+  still : is_idle t0.near.phase ≡ true → ◌≡◌ {A = List Message} (greeting s ∷ []) []
+  still e = absurd (true≢false (sym e))
 
-  pub open_told : IsTold begun_at n'
-  open_told = stepped_told (seat seats p.node) n' p.session given links_within takes.stepped
+  pub open_passed : (down : ℕ → Bool) (after : List Seat)
+      → IsCleared seats p.node (count facts.wired seats w right stands p is) (own facts.wired seats w right stands p is)
+      (far facts.wired seats w right stands p is) (off facts.wired seats w right stands p is) down
+      (count facts.wired seats w right stands p is) 0 (with_seat p.node n' seats) after
+      → ((j : ℕ) → j < count facts.wired seats w right stands p is → is_idle (post n'.posts j).phase ≡ false → (t : Session)
+      → session_of opened_network (name_at seats (place p.node j)) (other_at seats (place p.node j)) ≡ Some t → down j ≡ t.is_down)
+      → Seats after (pass (name_at seats p) opened_network)
+  open_passed down after c agree =
+      passed_stands facts.wired seats w right stands p is seats refl stands.long same_all given left opened opened_nodes t0
+      (greeting s ∷ []) (opened_tells s) replies near_end far_end near_keeps far_keeps ready0 still right1 ready1 n' takes.stepped
+      takes.swept down after c agree
 
-  pub open_stands : Seats (with_seat p.node (kept_seat opened_network n') seats) (pass (name_at seats p) opened_network)
-  open_stands =
-      let here_begun = seat_here p.node begun_at seats is.node in
-      subst (λ ss. Seats ss (pass (name_at seats p) opened_network)) (set-set seats p.node begun_at (kept_seat opened_network n'))
-      (subst (λ (n : Seat). Seats (with_seat p.node (kept_seat opened_network n') (with_seat p.node begun_at seats)) (pass (name_of n.who) opened_network)) here_begun
-      (passes facts.wired (with_seat p.node begun_at seats) opened_network
-      (opened_right (name_at seats p) (other_at seats p) w right) begun_stands p.node n' (kept_seat opened_network n')
-      (subst (λ m. p.node < m) (sym (length-set seats p.node begun_at)) is.node)
-      (same_named seats (with_seat p.node begun_at seats) begun_but.alike (name_of (seat (with_seat p.node begun_at seats) p.node).who)
-      ∙ ap (seat_named seats) (same_name_at seats (with_seat p.node begun_at seats) begun_but.alike p) ∙ place_named facts.wired seats w right stands p is)
-      (subst (λ n. IsTold n n') (sym here_begun) open_told) (is_kept opened_network n')))
+  -- where its own end is live then, its session is not down
+  pub open_whole : is_idle (post n'.posts p.session).phase ≡ false → (opened s).is_down ≡ false
+  open_whole live =
+      ap (λ (t : Session). t.is_down) (opened_tells s)
+      ∙ told_down (greeting s ∷ []) t0 refl
+      ∙ ap (λ (t : Session). is_idle t.near.phase) (sym (opened_tells s))
+      ∙ ap is_idle
+      (near1 facts.wired seats w right stands p is seats refl stands.long same_all given left opened opened_nodes t0
+      (greeting s ∷ []) (opened_tells s) replies near_end far_end near_keeps far_keeps ready0 still right1 ready1 n' takes.stepped
+      takes.swept).phase
+      ∙ ap (λ (p : Post). is_idle p.phase)
+      (post_here facts.wired seats w right stands p is seats refl stands.long same_all given left opened opened_nodes t0
+      (greeting s ∷ []) (opened_tells s) replies near_end far_end near_keeps far_keeps ready0 still)
+      ∙ live_here facts.wired seats w right stands p is seats refl stands.long same_all given left opened opened_nodes t0
+      (greeting s ∷ []) (opened_tells s) replies near_end far_end near_keeps far_keeps ready0 still right1 ready1 n' takes.stepped
+      takes.swept p.session is.session live refl

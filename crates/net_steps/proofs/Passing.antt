@@ -1,52 +1,37 @@
--- A node that has told all its sessions what it wants, but for those that are down, stands for the machine's node after
--- its pass.
-use Rattle.std.specs.Prelude.{◌≡◌, ◌≢◌, ◌⊎◌, ◌<◌, ℕ, List, [], ◌++◌, map, length, Bool, true, false, cond}
-use Rattle.std.specs.List.{slice_index_or}
+-- A node that has told all its sessions what it wants, where some of them may fail, stands for the machine's node after its
+-- pass.
+use Rattle.std.specs.Prelude.{◌≡◌, ◌≢◌, ◌⊎◌, ◌<◌, ℕ, List, [], map, length, Bool, true, false, cond, not}
+use Rattle.std.specs.List.{slice_set}
 use Rattle.std.specs.declared.option.Option.TheVariants.{Some}
 use Rattle.std.proofs.lemmas.Bool.{cases_eq, true≢false}
-use Rattle.std.proofs.lemmas.List.{length-set}
+use Rattle.std.proofs.lemmas.List.{get_or-set_same}
+use Rattle.std.proofs.lemmas.Option.{same_Some}
 use Rattle.std.specs.Cmp.Lexicographic.{bytes_decides}
 use Rattle.std.proofs.Common.{refl, sym, ◌∙◌, ap, subst, inl, inr}
 use Rattle.ov_types.specs.First.{same_name}
-use Rattle.node_model.specs.Maps.{Change, difference}
-use Rattle.node_model.specs.Step.{Kind, Post, changes, post, told_all}
+use Rattle.node_model.specs.Maps.{Change, Map, difference}
+use Rattle.node_model.specs.Step.{Kind, Post, changes, nothing, post, told_all}
 use Rattle.network_model.specs.Setup.{Name}
-use Rattle.network_model.specs.Session.{Carries, Message, Session, are_peers, is_peering, may_send, passed, turned}
+use Rattle.network_model.specs.Session.{Carries, Message, Session, is_idle, is_live, is_peering, may_send, passed, told, turned}
 use Rattle.network_model.specs.Network.{Network, view, views_of, wanted}
 use Rattle.network_model.specs.Steps.{pass, session_of}
 use Rattle.network_model.specs.Moments.{nodes}
 use Rattle.network_model.proofs.NetworkFact.{passed_nodes}
-use Rattle.network_model.proofs.SessionFact.{map_append}
-use Rattle.net_model.specs.Seats.{Seat, kind_of, link, name_of, other, others_of, seat, seat_named}
-use Rattle.net_model.specs.Steps.{with_seat}
-use Rattle.net_model.specs.Stands.{HasEnd, IsEnd, IsLong, Seats, octets_of}
+use Rattle.network_model.proofs.SessionFact.{Down}
+use Rattle.net_model.specs.Seats.{Seat, breaks_in, far_of, kind_of, name_of, seat, seat_named}
+use Rattle.net_model.specs.Steps.{sending}
+use Rattle.net_model.specs.Stands.{HasEnd, IsEnd, IsLong, KeepsPart, Seats, octets_of}
 use Rattle.net_model.specs.declared.place.Place.{Place}
-use Rattle.seat_laws.specs.Wiring.{IsPlace, name_at, other_at}
-use Rattle.net_steps.proofs.Building.{end_refl, has_end, long_again, moved, seats_by_places}
+use Rattle.seat_laws.specs.Wiring.{GoesBy, IsPlace, name_at, other_at}
+use Rattle.net_steps.proofs.Building.{SameEnd, end_refl, has_end, moved, part_at, part_of, part_same, seats_by_places}
+use Rattle.net_steps.proofs.Clearing.{place}
+use Rattle.net_steps.proofs.Ends.{HearsEnd, IsReady, TellsEnd, far_part, far_told, near_part, near_told}
 use Rattle.net_steps.proofs.Facts.{IsRight, Wired}
-use Rattle.net_steps.proofs.Here.{Here, here, other_named}
-use Rattle.net_steps.proofs.Lists.{AreAlike, same_place, seat_elsewhere, seat_here, with_alike}
+use Rattle.net_steps.proofs.Here.{Here, here, other_named, part_here, place_named}
+use Rattle.net_steps.proofs.Lists.{AreAlike, same_far_of, same_place, same_who}
+use Rattle.net_steps.proofs.Sent.{idle_stays, idle_tells_nothing, passed_tells, telling_session, wanted_messages}
 use Rattle.net_steps.proofs.Sides.{node_elsewhere, node_here, node_there}
-use Rattle.net_steps.proofs.Unbroken.{IsPassedAs, passed_is}
 use Rattle.seat_laws.proofs.Lists.{map_twice}
-
--- each session was told what is wanted
-pub record IsTold (n n' : Seat) : Type 0 where
-  pub who : n'.who ≡ n.who
-  pub notices : n'.notices ≡ n.notices
-  pub posts_long : length n'.posts ≡ length n.posts
-  pub links_long : length n'.links ≡ length n.links
-  pub posts : (i : ℕ) → i < length n.posts → post n'.posts i ≡ told_all (kind_of n.who) n.posts i
-  pub links : (i : ℕ) → i < length n.posts → link n' i ≡ link n i ++ changes (kind_of n.who) n.posts i
-
--- what is on sessions that are down in this state is discarded
-pub record IsKept (w : Network) (n n' : Seat) : Type 0 where
-  pub who : n'.who ≡ n.who
-  pub posts : n'.posts ≡ n.posts
-  pub notices : n'.notices ≡ n.notices
-  pub links_long : length n'.links ≡ length n.links
-  pub links : (i : ℕ) → i < length n.posts → (s : Session) → session_of w (name_of n.who) (other n i) ≡ Some s
-      → link n' i ≡ cond s.is_down [] (link n i)
 
 -- ---- what a pass makes of an end
 pub told_phase : (k : Kind) (posts : List Post) (i : ℕ) → (told_all k posts i).phase ≡ (post posts i).phase
@@ -71,96 +56,154 @@ carried : (g : Message → List ℕ) (b : Bool) (cs : List Change)
 carried g true cs = sym (map_twice g Carries cs)
 carried g false cs = refl
 
--- what is in flight after it, message by message
-link_after : (g : Message → List ℕ) (down : Bool) (before : List (List ℕ)) (sent : List (List ℕ)) (flight ms : List Message)
-    → before ≡ map g flight → sent ≡ map g ms → (down ≡ true → flight ≡ [])
-    → cond down [] (before ++ sent) ≡ map g (cond down flight (flight ++ ms))
-link_after g true before sent flight ms e f quiet = ap (map g) (sym (quiet refl))
-link_after g false before sent flight ms e f quiet = (λ i. e i ++ f i) ∙ sym (map_append g flight ms)
+-- the node as one of its sessions is told: what is wanted counts as sent
+abbrev pub telling : Seat → ℕ → Seat
+telling n i = record n { posts = slice_set n.posts i (told_all (kind_of n.who) n.posts i) }
 
-module _ (n n' n'' : Seat) (i : ℕ) (s t : Session) (w : Network) (told : IsTold n n') (kept : IsKept w n' n'')
-    (lt : i < length n.posts) (found : session_of w (name_of n.who) (other n i) ≡ Some s) (is : IsEnd n i s)
-    (quiet : s.is_down ≡ true → s.near.flight ≡ []) where
+module _ (n : Seat) (i : ℕ) (s : Session) (w : Map) (lt : i < length n.posts) (is : IsEnd n i s)
+    (may : may_send s ≡ (kind_of n.who).may_send i (post n.posts i).phase) (wanted : w ≡ (kind_of n.who).wanted n.posts i) where
   abbrev kind : Kind
   kind = kind_of n.who
 
-  module _ (may : may_send s ≡ kind.may_send i (post n.posts i).phase)
-      (spelled : (c : Change) → octets_of n.who (is_peering s) (Carries c) ≡ kind.spelled i c)
-      (passed_to : IsPassedAs (may_send s) s.is_down (kind.wanted n.posts i) s t) where
-    post_after : post n''.posts i ≡ told_all kind n.posts i
-    post_after = ap (λ ps. post ps i) kept.posts ∙ told.posts i lt
+  post_is : post (telling n i).posts i ≡ told_all kind n.posts i
+  post_is = get_or-set_same n.posts i (told_all kind n.posts i) nothing lt
 
-    told_messages : changes kind n.posts i
-        ≡ map (octets_of n.who (is_peering s)) (cond (may_send s) (map Carries (difference s.near.sent (kind.wanted n.posts i))) [])
-    told_messages =
-        (λ j. cond (sym may j) (map (λ c. sym (spelled c) j) (difference (sym is.sent j) (kind.wanted n.posts i))) [])
-        ∙ carried (octets_of n.who (is_peering s)) (may_send s) (difference s.near.sent (kind.wanted n.posts i))
+  pub telling_end : IsEnd (telling n i) i (telling_session w s)
+  telling_end = record {
+    phase = is.phase ∙ sym (ap (λ (p : Post). p.phase) post_is ∙ told_phase kind n.posts i);
+    sent = (λ j. cond (may j) (wanted j) (is.sent j)) ∙ sym (ap (λ (p : Post). p.sent) post_is ∙ told_sent kind n.posts i);
+    held = is.held ∙ sym (ap (λ (p : Post). p.held) post_is ∙ told_held kind n.posts i);
+    notice = is.notice;
+    flight = is.flight;
+    breaks = is.breaks;
+    taken = is.taken;
+  }
 
-    who_after : n''.who ≡ n.who
-    who_after = kept.who ∙ told.who
+  pub told_messages : ((c : Change) → octets_of n.who (is_peering s) (Carries c) ≡ kind.spelled i c)
+      → changes kind n.posts i ≡ map (octets_of n.who (is_peering s)) (wanted_messages w s)
+  told_messages spelled =
+      (λ j. cond (sym may j) (map (λ c. sym (spelled c) j) (difference (sym is.sent j) (sym wanted j))) [])
+      ∙ carried (octets_of n.who (is_peering s)) (may_send s) (difference s.near.sent w)
 
-    found_again : session_of w (name_of n'.who) (other n' i) ≡ Some s
-    found_again = (λ j. session_of w (name_of (told.who j)) (slice_index_or (others_of (told.who j)) i [])) ∙ found
-
-    flight_after : link n'' i ≡ map (octets_of n.who (is_peering s)) t.near.flight
-    flight_after =
-        kept.links i (subst (λ m. i < m) (sym told.posts_long) lt) s found_again
-        ∙ ap (cond s.is_down []) (told.links i lt)
-        ∙ link_after (octets_of n.who (is_peering s)) s.is_down (link n i) (changes kind n.posts i) s.near.flight
-        (cond (may_send s) (map Carries (difference s.near.sent (kind.wanted n.posts i))) []) is.flight told_messages quiet
-        ∙ ap (map (octets_of n.who (is_peering s))) (sym passed_to.flight)
-
-    peering_after : is_peering t ≡ is_peering s
-    peering_after j = are_peers (passed_to.kept.role j) (passed_to.far j).role
-
-    pub end_after : IsEnd n'' i t
-    end_after = record {
-      phase = passed_to.phase ∙ is.phase ∙ sym (ap (λ (p : Post). p.phase) post_after ∙ told_phase kind n.posts i);
-      sent = passed_to.sent ∙ (λ j. cond (may j) (kind.wanted n.posts i) (is.sent j))
-          ∙ sym (ap (λ (p : Post). p.sent) post_after ∙ told_sent kind n.posts i);
-      held = passed_to.held ∙ is.held ∙ sym (ap (λ (p : Post). p.held) post_after ∙ told_held kind n.posts i);
-      notice = passed_to.kept.notice ∙ is.notice
-          ∙ sym (ap (λ (bs : List Bool). notice_in bs) (kept.notices ∙ told.notices));
-      flight = flight_after ∙ (λ j. map (octets_of (sym who_after j) (sym peering_after j)) t.near.flight);
-      taken = passed_to.kept.taken ∙ is.taken;
-      breaks = passed_to.kept.breaks ∙ is.breaks;
-    }
+pub telling_ready : (w : Map) (s : Session) → IsReady s → IsReady (telling_session w s)
+telling_ready w s r = record {
+  near = λ e. subst Down (sym (idle_stays w s (idle_of e))) (r.near e);
+  far = r.far;
+  quiet = r.quiet;
+}
+  where
+    idle_of : is_live s.near ≡ false → is_idle s.near.phase ≡ true
+    idle_of e = by_phase (is_idle s.near.phase) e
       where
-        notice_in : List Bool → Bool
-        notice_in bs = slice_index_or bs i false
+        by_phase : (b : Bool) → not b ≡ false → b ≡ true
+        by_phase true e = refl
+        by_phase false e = absurd (true≢false e)
 
 -- ---- the network after the pass
+-- the sessions of a node as its pass begins
+abbrev pub AreReady : Network → Name → Type 0
+AreReady w me = (b : Name) (s : Session) → session_of w me b ≡ Some s → IsReady s
+
+-- the node told each of its sessions what is wanted. Where a message failed the end is closed, and the other end is told
+pub record IsPassed (w : Network) (seats after : List Seat) (k : ℕ) : Type 0 where
+  pub alike : AreAlike seats after
+  pub long : (j : ℕ) → j < length after → IsLong (seat after j)
+  pub own : (i : ℕ) → IsPlace seats (place k i) → (s : Session)
+      → session_of w (name_at seats (place k i)) (other_at seats (place k i)) ≡ Some s
+      → TellsEnd (telling (seat seats k) i) (seat after k) i s.is_down
+      (sending (breaks_in (seat seats k) i) (changes (kind_of (seat seats k).who) (seat seats k).posts i))
+  pub far : (i : ℕ) → IsPlace seats (place k i) → (q : Place) → IsPlace seats q → far_of seats (place k i) ≡ Some q
+      → HearsEnd (seat seats q.node) (seat after q.node) q.session (is_idle (post (seat after k).posts i).phase)
+  pub rest : (r : Place) → IsPlace seats r → r.node ≢ k → ((i : ℕ) → far_of seats r ≢ Some (place k i))
+      → SameEnd (seat seats r.node) (seat after r.node) r.session
+
 module _ (wired : Wired) (seats : List Seat) (w : Network) (right : IsRight w) (stands : Seats seats w) (k : ℕ)
-    (n' n'' : Seat) (lt : k < length seats) (named : seat_named seats (name_of (seat seats k).who) ≡ Some k)
-    (told : IsTold (seat seats k) n') (kept : IsKept w n' n'') where
+    (after : List Seat) (lt : k < length seats) (named : seat_named seats (name_of (seat seats k).who) ≡ Some k)
+    (ready : AreReady w (name_of (seat seats k).who)) (done : IsPassed w seats after k) where
   abbrev me : Name
   me = name_of (seat seats k).who
 
-  abbrev tells : Session → Session
-  tells s = passed (wanted w.setup (views_of me w.sessions) (view s)) s
+  abbrev wants : Session → Map
+  wants s = wanted w.setup (views_of me w.sessions) (view s)
 
-  abbrev after : List Seat
-  after = with_seat k n'' seats
+  abbrev tells : Session → Session
+  tells s = passed (wants s) s
 
   tells_nodes : (s : Session) → nodes (tells s) ≡ nodes s
-  tells_nodes s = passed_nodes (wanted w.setup (views_of me w.sessions) (view s)) s
+  tells_nodes s = passed_nodes (wants s) s
 
-  alike : AreAlike seats after
-  alike = with_alike k n'' seats (kept.who ∙ told.who)
+  -- a session of the node
+  module _ (i : ℕ) (is : IsPlace seats (place k i)) where
+    abbrev at : Here seats w (place k i)
+    at = here wired seats w right stands (place k i) is
 
-  own_end : (i : ℕ) → IsPlace seats (record { node = k; session = i }) → HasEnd (pass me w) (seat after k) i
-  own_end i is =
-      let p : Place = record { node = k; session = i } in
-      let h = here wired seats w right stands p is in
-      let s = h.session in
-      let by = wired.goes_by w seats p s right.written right.sessions stands is h.found in
-      let step = passed_is (wanted w.setup (views_of me w.sessions) (view s)) s h.near_is.breaks in
-      let within : i < length (seat seats k).posts = subst (λ n. i < n) (sym (stands.long k lt).posts) is.session in
-      has_end seats after (pass me w) p (tells s) alike
-      (node_here me (other_at seats p) h.apart tells tells_nodes w.sessions s h.found)
-      (subst (λ n. IsEnd n i (tells s)) (sym (seat_here k n'' seats lt))
-      (end_after (seat seats k) n' n'' i s (tells s) w told kept within h.found h.near_is (λ e. (h.quiet e).0) by.may_send by.told
-      (subst (λ m. IsPassedAs (may_send s) s.is_down m s (tells s)) by.wanted step)))
+    abbrev s : Session
+    s = at.session
+
+    abbrev q : Place
+    q = at.far.far
+
+    by : GoesBy seats w (place k i) s
+    by = wired.goes_by w seats (place k i) s right.written right.sessions stands is at.found
+
+    within : i < length (seat seats k).posts
+    within = subst (λ n. i < n) (sym (stands.long k lt).posts) is.session
+
+    near_before : IsEnd (telling (seat seats k) i) i (telling_session (wants s) s)
+    near_before = telling_end (seat seats k) i s (wants s) within at.near_is by.may_send by.wanted
+
+    far_before : IsEnd (seat seats q.node) q.session (turned (telling_session (wants s) s))
+    far_before =
+        moved (seat seats q.node) (seat seats q.node) q.session (turned s) (turned (telling_session (wants s) s)) refl
+        (end_refl (seat seats q.node) q.session) refl refl refl at.far_is
+
+    ready_before : IsReady (telling_session (wants s) s)
+    ready_before = telling_ready (wants s) s (ready (other_at seats (place k i)) s at.found)
+
+    own_tells : TellsEnd (telling (seat seats k) i) (seat after k) i s.is_down
+        (sending (breaks_in (seat seats k) i) (map (octets_of (seat seats k).who (is_peering s)) (wanted_messages (wants s) s)))
+    own_tells =
+        subst (λ xs. TellsEnd (telling (seat seats k) i) (seat after k) i s.is_down (sending (breaks_in (seat seats k) i) xs))
+        (told_messages (seat seats k) i s (wants s) within at.near_is by.may_send by.wanted by.told)
+        (done.own i is s at.found)
+
+    far_hears : HearsEnd (seat seats q.node) (seat after q.node) q.session (is_idle (post (seat after k).posts i).phase)
+    far_hears = done.far i is q at.far.is_place at.far.found
+
+    own_end : HasEnd (pass me w) (seat after k) i
+    own_end =
+        has_end seats after (pass me w) (place k i) (tells s) done.alike
+        (node_here me (other_at seats (place k i)) at.apart tells tells_nodes w.sessions s at.found)
+        (subst (IsEnd (seat after k) i) (sym (passed_tells (wants s) s))
+        (near_told (telling (seat seats k) i) (seat after k) (seat seats q.node) (seat after q.node) i q.session
+        (telling_session (wants s) s) (wanted_messages (wants s) s) (same_who seats after done.alike k)
+        (same_who seats after done.alike q.node) near_before far_before ready_before (idle_tells_nothing (wants s) s) own_tells far_hears))
+
+    far_end : HasEnd (pass me w) (seat after q.node) q.session
+    far_end =
+        has_end seats after (pass me w) q (turned (tells s)) done.alike
+        ((λ x. session_of (pass me w) (at.far.name x) (at.far.other x))
+        ∙ node_there me (other_at seats (place k i)) at.apart tells tells_nodes w.sessions s at.found)
+        (subst (λ (t : Session). IsEnd (seat after q.node) q.session (turned t)) (sym (passed_tells (wants s) s))
+        (far_told (telling (seat seats k) i) (seat after k) (seat seats q.node) (seat after q.node) i q.session
+        (telling_session (wants s) s) (wanted_messages (wants s) s) (same_who seats after done.alike k)
+        (same_who seats after done.alike q.node) near_before far_before ready_before (idle_tells_nothing (wants s) s) own_tells far_hears))
+
+    own_part : KeepsPart after (place k i)
+    own_part =
+        part_of after (place k i) q (same_far_of seats after done.alike (place k i) ∙ at.far.found)
+        (near_part (telling (seat seats k) i) (seat after k) (seat seats q.node) (seat after q.node) i q.session
+        (telling_session (wants s) s) (wanted_messages (wants s) s) (same_who seats after done.alike k)
+        (same_who seats after done.alike q.node) near_before far_before ready_before (idle_tells_nothing (wants s) s) own_tells far_hears
+        (part_at seats (place k i) q at.far.found (part_here wired seats w right stands (place k i) is)))
+
+    other_part : KeepsPart after q
+    other_part =
+        part_of after q (place k i) (same_far_of seats after done.alike q ∙ at.far.back)
+        (far_part (telling (seat seats k) i) (seat after k) (seat seats q.node) (seat after q.node) i q.session
+        (telling_session (wants s) s) (wanted_messages (wants s) s) (same_who seats after done.alike k)
+        (same_who seats after done.alike q.node) near_before far_before ready_before (idle_tells_nothing (wants s) s) own_tells far_hears
+        (part_at seats q (place k i) at.far.back (part_here wired seats w right stands q at.far.is_place)))
 
   -- an end of another node
   module _ (p : Place) (is : IsPlace seats p) (off : p.node ≢ k) where
@@ -170,52 +213,85 @@ module _ (wired : Wired) (seats : List Seat) (w : Network) (right : IsRight w) (
     mine : me ≢ name_at seats p
     mine = other_named wired seats w right stands k named p is off
 
-    stays : (t : Session) → t.near ≡ there.session.near → is_peering t ≡ is_peering there.session
-        → session_of (pass me w) (name_at seats p) (other_at seats p) ≡ Some t
-        → HasEnd (pass me w) (seat after p.node) p.session
-    stays t near peering found =
-        has_end seats after (pass me w) p t alike found
-        (subst (λ n. IsEnd n p.session t) (sym (seat_elsewhere k p.node n'' seats off))
-        (moved (seat seats p.node) (seat seats p.node) p.session there.session t refl (end_refl (seat seats p.node) p.session)
-        near peering there.near_is))
+    -- whose other end is one of the node's
+    module _ (e : me ≡ other_at seats p) where
+      far_node : there.far.far.node ≡ k
+      far_node =
+          same_Some there.far.far.node k
+          (sym (place_named wired seats w right stands there.far.far there.far.is_place)
+          ∙ ap (seat_named seats) (there.far.name ∙ sym e) ∙ named)
 
-    far_end : me ≡ other_at seats p → HasEnd (pass me w) (seat after p.node) p.session
-    far_end e =
-        let s = there.session in
-        let step = passed_is (wanted w.setup (views_of me w.sessions) (view (turned s))) (turned s) there.far_is.breaks in
-        stays (turned (tells (turned s))) step.far (λ j. are_peers (step.far j).role (step.kept.role j))
-        (subst (λ m. session_of (pass me w) (name_at seats p) m ≡ Some (turned (tells (turned s)))) e
-        (node_there me (name_at seats p) mine tells tells_nodes w.sessions (turned s)
-        (subst (λ m. session_of w m (name_at seats p) ≡ Some (turned s)) (sym e) there.far_found)))
+      abbrev i : ℕ
+      i = there.far.far.session
 
-    strange_end : me ≢ other_at seats p → HasEnd (pass me w) (seat after p.node) p.session
-    strange_end ne =
-        stays there.session refl refl
-        (node_elsewhere me (name_at seats p) (other_at seats p) mine ne tells tells_nodes w.sessions there.session there.found)
+      own_place : there.far.far ≡ place k i
+      own_place x = record { node = far_node x; session = i }
 
-    other_end : HasEnd (pass me w) (seat after p.node) p.session
+      is_own : IsPlace seats (place k i)
+      is_own = subst (IsPlace seats) own_place there.far.is_place
+
+      is_far : (at i is_own).far.far ≡ p
+      is_far = same_Some (at i is_own).far.far p (sym (at i is_own).far.found ∙ ap (far_of seats) (sym own_place) ∙ there.far.back)
+
+      pub heard_end : HasEnd (pass me w) (seat after p.node) p.session
+      heard_end = subst (λ (p : Place). HasEnd (pass me w) (seat after p.node) p.session) is_far (far_end i is_own)
+
+      pub heard_part : KeepsPart after p
+      heard_part = subst (KeepsPart after) is_far (other_part i is_own)
+
+    -- and one whose other end is not
+    module _ (ne : me ≢ other_at seats p) where
+      abroad : (i : ℕ) → far_of seats p ≢ Some (place k i)
+      abroad i e =
+          ne (ap (name_at seats) (sym (same_Some there.far.far (place k i) (sym there.far.found ∙ e))) ∙ there.far.name)
+
+      same : SameEnd (seat seats p.node) (seat after p.node) p.session
+      same = done.rest p is off abroad
+
+      far_same : SameEnd (seat seats there.far.far.node) (seat after there.far.far.node) there.far.far.session
+      far_same =
+          done.rest there.far.far there.far.is_place
+          (λ e. ne (ap (λ k. name_of (seat seats k).who) (sym e) ∙ there.far.name))
+          (λ i e. off (ap (λ (p : Place). p.node) (same_Some p (place k i) (sym there.far.back ∙ e))))
+
+      pub strange_end : HasEnd (pass me w) (seat after p.node) p.session
+      strange_end =
+          has_end seats after (pass me w) p there.session done.alike
+          (node_elsewhere me (name_at seats p) (other_at seats p) mine ne tells tells_nodes w.sessions there.session there.found)
+          (moved (seat seats p.node) (seat after p.node) p.session there.session there.session
+          (same_who seats after done.alike p.node) same refl refl refl there.near_is)
+
+      pub strange_part : KeepsPart after p
+      strange_part =
+          part_of after p there.far.far (same_far_of seats after done.alike p ∙ there.far.found)
+          (part_same (seat seats p.node) (seat after p.node) p.session (seat seats there.far.far.node)
+          (seat after there.far.far.node) there.far.far.session same far_same.link
+          (part_at seats p there.far.far there.far.found (part_here wired seats w right stands p is)))
+
+    other_end : HasEnd (pass me w) (seat after p.node) p.session × KeepsPart after p
     other_end = by_test (same_name me (other_at seats p)) refl
       where
-        by_test : (b : Bool) → same_name me (other_at seats p) ≡ b → HasEnd (pass me w) (seat after p.node) p.session
-        by_test true e = far_end ((bytes_decides me (other_at seats p)).0 e)
-        by_test false e = strange_end (λ f. true≢false (sym ((bytes_decides me (other_at seats p)).1 f) ∙ e))
+        by_test : (b : Bool) → same_name me (other_at seats p) ≡ b → HasEnd (pass me w) (seat after p.node) p.session × KeepsPart after p
+        by_test true e =
+            let f = (bytes_decides me (other_at seats p)).0 e in
+            (heard_end f, heard_part f)
+        by_test false e =
+            let f : me ≢ other_at seats p = λ f. true≢false (sym ((bytes_decides me (other_at seats p)).1 f) ∙ e) in
+            (strange_end f, strange_part f)
 
-  long_after : (j : ℕ) → j < length after → IsLong (seat after j)
-  long_after j less = by_node (cases_eq j k) (subst (λ n. j < n) (length-set seats k n'') less)
+  each_end : (p : Place) → IsPlace seats p → HasEnd (pass me w) (seat after p.node) p.session × KeepsPart after p
+  each_end p is = by_node (cases_eq p.node k)
     where
-      by_node : (j ≡ k) ⊎ (j ≢ k) → j < length seats → IsLong (seat after j)
-      by_node (inl e) less =
-          subst (λ j. IsLong (seat after j)) (sym e) (subst IsLong (sym (seat_here k n'' seats lt))
-          (long_again (seat seats k) n'' (kept.who ∙ told.who) (ap length kept.posts ∙ told.posts_long)
-          (kept.links_long ∙ told.links_long) (ap length (kept.notices ∙ told.notices)) (stands.long k lt)))
-      by_node (inr ne) less = subst IsLong (sym (seat_elsewhere k j n'' seats ne)) (stands.long j less)
+      by_node : (p.node ≡ k) ⊎ (p.node ≢ k) → HasEnd (pass me w) (seat after p.node) p.session × KeepsPart after p
+      by_node (inl e) =
+          let same : p ≡ place k p.session = λ x. record { node = e x; session = p.session } in
+          let is_own = subst (IsPlace seats) same is in
+          subst (λ (p : Place). HasEnd (pass me w) (seat after p.node) p.session × KeepsPart after p) (sym same)
+          (own_end p.session is_own, own_part p.session is_own)
+      by_node (inr off) = other_end p is off
 
   pub passes : Seats after (pass me w)
   passes =
-      seats_by_places after (pass me w) (alike ∙ stands.who) long_after (λ p is. by_node p (same_place seats after alike p is) (cases_eq p.node k))
-    where
-      by_node : (p : Place) → IsPlace seats p → (p.node ≡ k) ⊎ (p.node ≢ k) → HasEnd (pass me w) (seat after p.node) p.session
-      by_node p is (inl e) =
-          subst (λ j. HasEnd (pass me w) (seat after j) p.session) (sym e)
-          (own_end p.session (subst (λ j. IsPlace seats (record { node = j; session = p.session })) e is))
-      by_node p is (inr off) = other_end p is off
+      seats_by_places after (pass me w) (done.alike ∙ stands.who) done.long
+      (λ p is. (each_end p (same_place seats after done.alike p is)).0)
+      (λ p is. (each_end p (same_place seats after done.alike p is)).1)

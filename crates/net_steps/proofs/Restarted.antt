@@ -11,27 +11,27 @@ use Rattle.ov_types.specs.First.{same_name}
 use Rattle.schedule_script.specs.declared.answer.Answer.TheVariants.{Idle}
 use Rattle.node_model.specs.Step.{nothing, post}
 use Rattle.network_model.specs.Setup.{Name}
-use Rattle.network_model.specs.Session.{is_idle, shut, turned}
+use Rattle.network_model.specs.Session.{is_idle, is_live, shut, turned}
 use Rattle.network_model.specs.Network.{Network}
 use Rattle.network_model.specs.Steps.{change_node, session_of}
 use Rattle.network_model.specs.Events.{Restart, answer_to, is_node, next, unless}
-use Rattle.net_model.specs.Seats.{Seat, far_of, index_from, link, name_of, nobody, notice, seat, seat_named}
+use Rattle.net_model.specs.Seats.{Seat, breaks_in, far_of, index_from, kept_in, link, name_of, nobody, notice, notice_at, seat}
+use Rattle.net_model.specs.Seats.{seat_named}
 use Rattle.net_model.specs.Steps.{emptied, with_seat}
-use Rattle.net_model.specs.Stands.{HasEnd, IsLong, Seats, any_size}
+use Rattle.net_model.specs.Stands.{HasEnd, IsLong, KeepsPart, Seats, message_size}
 use Rattle.net_model.specs.declared.place.Place.{Place}
 use Rattle.told_laws.specs.Moments.{IsMoment}
 use Rattle.seat_laws.specs.Wiring.{HasFar, IsPlace, name_at, other_at}
 use Rattle.net_steps.specs.Losing.{NothingIsRestarted, RestartsAreMade, all_told, restarted}
-use Rattle.net_steps.proofs.AtMoments.{moment_right}
-use Rattle.net_steps.proofs.Building.{SameEnd, has_end, long_again, moved, seats_by_places}
-use Rattle.net_steps.proofs.Delivered.{stands_at}
+use Rattle.net_steps.proofs.AtMoments.{found_sound, kept_closed, moment_right, stands_at}
+use Rattle.net_steps.proofs.Building.{SameEnd, Stays, has_end, long_again, moved, part_at, part_none, part_of, part_same, seats_by_places}
 use Rattle.net_steps.proofs.Facts.{Facts, IsRight}
-use Rattle.net_steps.proofs.Here.{Here, here, other_named, place_named}
-use Rattle.net_steps.proofs.Lists.{same_place, same_who, seat_elsewhere, seat_here, with_alike}
+use Rattle.net_steps.proofs.Here.{Here, here, other_named, part_here, place_named}
+use Rattle.net_steps.proofs.Lists.{same_far_of, same_place, same_who, seat_elsewhere, seat_here, with_alike}
 use Rattle.net_steps.proofs.Marks.{end_closed, end_noticed}
 use Rattle.net_steps.proofs.Sides.{node_elsewhere, node_here, node_there}
 use Rattle.net_steps.proofs.Started.{all_alike, all_long}
-use Rattle.net_steps.proofs.Telling.{Going, IsTold, all_are_told, all_going, all_others, all_posts, same_live}
+use Rattle.net_steps.proofs.Telling.{Going, IsTold, all_are_told, all_going, all_others, all_posts, all_stay, same_live}
 
 -- ---- a node by its name
 found_index : {A : Type 0} (is : A → Bool) (i : ℕ) (xs : List A) (j : ℕ) → index_from i is xs ≡ Some j
@@ -87,7 +87,8 @@ module _ (facts : Facts) (seats : List Seat) (w : Network) (moment : IsMoment w)
       by_node : (j : ℕ) → (j ≡ k) ⊎ (j ≢ k) → j < length seats → IsLong (seat empty j)
       by_node j (inl e) less =
           subst (λ j. IsLong (seat empty j)) (sym e) (subst IsLong (sym (seat_here k (emptied n) seats lt))
-          (long_again n (emptied n) refl (all_long nothing n.posts) (all_long [] n.links) (all_long false n.notices) (stands.long k lt)))
+          (long_again n (emptied n) refl (all_long nothing n.posts) (all_long [] n.kept) (all_long [] n.links) refl
+          (all_long false n.notices) (stands.long k lt)))
       by_node j (inr ne) less = subst IsLong (sym (seat_elsewhere k j (emptied n) seats ne)) (stands.long j less)
 
   abbrev after : List Seat
@@ -115,10 +116,25 @@ module _ (facts : Facts) (seats : List Seat) (w : Network) (moment : IsMoment w)
       let gone : seat empty k ≡ emptied n = seat_here k (emptied n) seats lt in
       has_end seats after later p (shut h.session) going.alike
       (node_here me (other_at seats p) h.apart shut (λ s. refl) w.sessions h.session h.found)
-      (end_closed n (seat after k) i h.session (shut h.session)
+      (end_closed (seat after k) i h.session.near (shut h.session)
       (same.post ∙ ap (λ (n : Seat). post n.posts i) gone ∙ all_alike nothing n.posts i)
+      (same.kept ∙ ap (λ (n : Seat). kept_in n i) gone ∙ all_alike [] n.kept i)
       (same.notice ∙ ap (λ (n : Seat). notice n i) gone ∙ all_alike false n.notices i)
-      (same.link ∙ ap (λ (n : Seat). link n i) gone ∙ all_alike [] n.links i) refl h.near_is)
+      (same.link ∙ ap (λ (n : Seat). link n i) gone ∙ all_alike [] n.links i)
+      (h.near_is.breaks ∙ sym (same.breaks ∙ ap (λ (n : Seat). breaks_in n i) gone)) refl refl)
+
+  -- nothing is kept there
+  own_part : (i : ℕ) → IsPlace seats (record { node = k; session = i }) → KeepsPart after (record { node = k; session = i })
+  own_part i is =
+      let p : Place = record { node = k; session = i } in
+      let same : SameEnd (seat empty k) (seat after k) i =
+      all_others seats k count far count 0 empty within empty_going p
+      (λ j less e. (here facts.wired seats w right stands (record { node = k; session = j }) (own_place j less)).apart
+      (ap (name_at seats) e ∙ (far j less).name))
+      in
+      let gone : seat empty k ≡ emptied n = seat_here k (emptied n) seats lt in
+      λ q _. part_none (seat after k) i (seat after q.node) q.session
+      (same.kept ∙ ap (λ (n : Seat). kept_in n i) gone ∙ all_alike [] n.kept i)
 
   -- ---- an end of another node
   module _ (p : Place) (is : IsPlace seats p) (off : p.node ≢ k) where
@@ -155,52 +171,93 @@ module _ (facts : Facts) (seats : List Seat) (w : Network) (moment : IsMoment w)
         (sym (far q.session less).found ∙ (λ i. far_of seats (record { node = sym at i; session = q.session })) ∙ there.far.back))
         told
 
+    stays : Stays (seat seats p.node) (seat after p.node) p.session
+    stays =
+        subst (λ n. Stays n (seat after p.node) p.session) (seat_elsewhere k p.node (emptied n) seats off)
+        (all_stay seats k count far count 0 empty within empty_going p)
+
+    told_notice : me ≡ other_at seats p → notice_at after p ≡ is_live there.session.near
+    told_notice e =
+        (told_there e).notice ∙ same_live seats after p posts_same ∙ (λ i. not (is_idle (sym there.near_is.phase i)))
+
+    idle : is_live there.session.near ≡ false → kept_in (seat seats p.node) p.session ≡ []
+    idle =
+        kept_closed (seat seats p.node) p.session there.session there.near_is
+        (found_sound w moment (name_at seats p) (other_at seats p) there.session there.found)
+
     far_end : me ≡ other_at seats p → HasEnd later (seat after p.node) p.session
     far_end e =
         let s = there.session in
-        let told = told_there e in
         has_end seats after later p (turned (shut (turned s))) going.alike
         (subst (λ m. session_of later (name_at seats p) m ≡ Some (turned (shut (turned s)))) e
         (node_there me (name_at seats p) mine shut (λ s. refl) w.sessions (turned s)
         (subst (λ m. session_of w m (name_at seats p) ≡ Some (turned s)) (sym e) there.far_found)))
-        (end_noticed (seat seats p.node) (seat after p.node) p.session s (turned (shut (turned s)))
-        (ap (λ ps. post ps p.session) posts_same)
-        (told.notice ∙ same_live seats after p posts_same ∙ (λ i. not (is_idle (sym there.near_is.phase i))))
-        told.link refl there.near_is)
+        (end_noticed (seat seats p.node) (seat after p.node) p.session s (turned (shut (turned s))) stays
+        (told_notice e) (told_there e).link refl refl idle there.near_is)
+
+    far_part : me ≡ other_at seats p → KeepsPart after p
+    far_part e =
+        λ q _ quiet. part_none (seat after p.node) p.session (seat after q.node) q.session
+        (stays.kept ∙ idle (sym (told_notice e) ∙ quiet)) quiet
+
+    -- at the end of a session with another node nothing changes, nor at its other end
+    abbrev q : Place
+    q = there.far.far
+
+    strange : me ≢ other_at seats p → SameEnd (seat seats p.node) (seat after p.node) p.session
+    strange ne =
+        subst (λ n. SameEnd n (seat after p.node) p.session) (seat_elsewhere k p.node (emptied n) seats off)
+        (all_others seats k count far count 0 empty within empty_going p
+        (λ j less e. ne (sym (ap (other_at seats) e ∙ (far j less).other))))
+
+    strange_there : me ≢ other_at seats p → SameEnd (seat seats q.node) (seat after q.node) q.session
+    strange_there ne =
+        subst (λ n. SameEnd n (seat after q.node) q.session)
+        (seat_elsewhere k q.node (emptied n) seats (λ e. ne (ap (λ j. name_of (seat seats j).who) (sym e) ∙ there.far.name)))
+        (all_others seats k count far count 0 empty within empty_going q
+        (λ j less e. mine (sym (sym there.far.other ∙ ap (other_at seats) e ∙ (far j less).other))))
+
+    strange_part : me ≢ other_at seats p → KeepsPart after p
+    strange_part ne =
+        part_of after p q (same_far_of seats after going.alike p ∙ there.far.found)
+        (part_same (seat seats p.node) (seat after p.node) p.session (seat seats q.node) (seat after q.node) q.session
+        (strange ne) (strange_there ne).link
+        (part_at seats p q there.far.found (part_here facts.wired seats w right stands p is)))
 
     strange_end : me ≢ other_at seats p → HasEnd later (seat after p.node) p.session
     strange_end ne =
         let s = there.session in
-        let same : SameEnd (seat empty p.node) (seat after p.node) p.session =
-        all_others seats k count far count 0 empty within empty_going p
-        (λ j less e. ne (sym (ap (other_at seats) e ∙ (far j less).other)))
-        in
         has_end seats after later p s going.alike
         (node_elsewhere me (name_at seats p) (other_at seats p) mine ne shut (λ s. refl) w.sessions s there.found)
         (moved (seat seats p.node) (seat after p.node) p.session s s (same_who seats after going.alike p.node)
-        (subst (λ n. SameEnd n (seat after p.node) p.session) (seat_elsewhere k p.node (emptied n) seats off) same)
-        refl refl there.near_is)
+        (strange ne) refl refl refl there.near_is)
 
-    other_end : HasEnd later (seat after p.node) p.session
+    other_end : HasEnd later (seat after p.node) p.session × KeepsPart after p
     other_end = by_test (same_name me (other_at seats p)) refl
       where
-        by_test : (b : Bool) → same_name me (other_at seats p) ≡ b → HasEnd later (seat after p.node) p.session
-        by_test true e = far_end ((bytes_decides me (other_at seats p)).0 e)
-        by_test false e = strange_end (λ f. true≢false (sym ((bytes_decides me (other_at seats p)).1 f) ∙ e))
+        by_test : (b : Bool) → same_name me (other_at seats p) ≡ b → HasEnd later (seat after p.node) p.session × KeepsPart after p
+        by_test true e = let is = (bytes_decides me (other_at seats p)).0 e in (far_end is, far_part is)
+        by_test false e =
+            let ne : me ≢ other_at seats p = λ f. true≢false (sym ((bytes_decides me (other_at seats p)).1 f) ∙ e) in
+            (strange_end ne, strange_part ne)
 
   pub restarted_seats : Seats after later
   restarted_seats =
-      seats_by_places after later (going.alike ∙ stands.who) going.long (λ p is. by_node p (same_place seats after going.alike p is) (cases_eq p.node k))
+      seats_by_places after later (going.alike ∙ stands.who) going.long
+      (λ p is. (by_node p (same_place seats after going.alike p is) (cases_eq p.node k)).0)
+      (λ p is. (by_node p (same_place seats after going.alike p is) (cases_eq p.node k)).1)
     where
-      by_node : (p : Place) → IsPlace seats p → (p.node ≡ k) ⊎ (p.node ≢ k) → HasEnd later (seat after p.node) p.session
+      by_node : (p : Place) → IsPlace seats p → (p.node ≡ k) ⊎ (p.node ≢ k)
+          → HasEnd later (seat after p.node) p.session × KeepsPart after p
       by_node p is (inl e) =
-          subst (λ j. HasEnd later (seat after j) p.session) (sym e)
-          (own_end p.session (subst (λ j. IsPlace seats (record { node = j; session = p.session })) e is))
+          let own = subst (λ j. IsPlace seats (record { node = j; session = p.session })) e is in
+          subst (λ j. HasEnd later (seat after j) p.session × KeepsPart after (record { node = j; session = p.session })) (sym e)
+          (own_end p.session own, own_part p.session own)
       by_node p is (inr off) = other_end p is off
 
 -- ---- by names
 restart_made : (w : Network) (name : Name) (b : Bool) → is_node w name ≡ b
-    → (next any_size w (Restart name) ≡ cond b (change_node name shut w) w) × (answer_to w (Restart name) ≡ unless (not b))
+    → (next message_size w (Restart name) ≡ cond b (change_node name shut w) w) × (answer_to w (Restart name) ≡ unless (not b))
 unfolding next
 restart_made w name b e = (ap (λ b. cond b (change_node name shut w) w) e, ap (λ b. unless (not b)) e)
 
@@ -214,7 +271,7 @@ restarts_are_made facts seats w moment stands name k e =
     in
     let step = restart_made w name true is in
     let later = facts.moments.after w (Restart name) moment tt in (
-      stands_at (restarted seats (suc k)) (next any_size w (Restart name)) later
+      stands_at (restarted seats (suc k)) (next message_size w (Restart name)) later
           (subst (Seats (restarted seats (suc k))) ((λ i. change_node (at.1 i) shut w) ∙ sym step.0)
           (restarted_seats facts seats w moment stands.seats_are (suc k) at.0 named)),
       later,
@@ -225,7 +282,7 @@ pub nothing_is_restarted : Facts → NothingIsRestarted
 nothing_is_restarted facts seats w moment stands name none = by_test (is_node w name) refl
   where
     by_test : (b : Bool) → is_node w name ≡ b
-        → (next any_size w (Restart name) ≡ w) × (answer_to w (Restart name) ≡ Idle)
+        → (next message_size w (Restart name) ≡ w) × (answer_to w (Restart name) ≡ Idle)
     by_test true e =
         let right = moment_right facts.moments w moment in
         let s = facts.wired.shown w seats name right.written right.sessions stands.seats_are e in

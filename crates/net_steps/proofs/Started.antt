@@ -1,5 +1,5 @@
 -- Seats of nodes that have nothing stand for the empty state.
-use Rattle.std.specs.Prelude.{◌≡◌, ◌<◌, ℕ, zero, suc, List, [], ◌∷◌, map, length, false}
+use Rattle.std.specs.Prelude.{◌≡◌, ◌<◌, ℕ, zero, suc, List, [], ◌∷◌, map, length, false, cond}
 use Rattle.std.specs.List.{slice_index_or}
 use Rattle.std.proofs.lemmas.List.{length-map}
 use Rattle.std.proofs.Common.{refl, sym, ◌∙◌, ap, subst, arith}
@@ -11,16 +11,16 @@ use Rattle.network_model.specs.Moments.{Each}
 use Rattle.network_model.proofs.NetworkFact.{found}
 use Rattle.network_model.proofs.Start.{start_each}
 use Rattle.headline_laws.specs.Headline.{IsWritten}
-use Rattle.net_model.specs.Seats.{Seat, Who, others_of, seat, whos}
+use Rattle.net_model.specs.Seats.{Seat, Who, kept_in, notice, others_of, seat, taken_in, whos}
 use Rattle.net_model.specs.Steps.{all_of, fresh_seat}
-use Rattle.net_model.specs.Stands.{HasEnd, IsEnd, IsLong, Seats, octets_of}
+use Rattle.net_model.specs.Stands.{HasEnd, IsEnd, IsLong, KeepsPart, Seats, octets_of}
 use Rattle.net_model.specs.declared.place.Place.{Place}
 use Rattle.told_laws.specs.Moments.{IsMoment}
+use Rattle.told_laws.proofs.Moments.{moment_start}
 use Rattle.seat_laws.specs.Wiring.{IsPlace, name_at, other_at}
 use Rattle.net_steps.specs.Starting.{FreshSeatsStandForTheStart}
-use Rattle.net_steps.proofs.AtMoments.{moment_right}
-use Rattle.net_steps.proofs.Building.{seats_by_places}
-use Rattle.net_steps.proofs.Delivered.{stands_at}
+use Rattle.net_steps.proofs.AtMoments.{moment_right, stands_at}
+use Rattle.net_steps.proofs.Building.{part_none, seats_by_places}
 use Rattle.net_steps.proofs.Facts.{Facts}
 
 -- ---- lists of one thing
@@ -45,8 +45,12 @@ fresh_at (x ∷ xs) (suc k) lt = fresh_at xs k (omega (arith, lt))
 pub record HasNothing (e : End) : Type 0 where
   pub is : e ≡ fresh_end e.name e.role
 
-nothing_end : (who : Who) (i : ℕ) (s : Session) → HasNothing s.near → IsEnd (fresh_seat who) i s
-nothing_end who i s h =
+-- where nothing is kept nothing is taken
+pub taken_nowhere : (n : Seat) (i : ℕ) → notice n i ≡ false → kept_in n i ≡ [] → taken_in n i ≡ 0
+taken_nowhere n i quiet bare = (λ j. cond (quiet j) 0 (length (bare j)))
+
+nothing_end : (who : Who) (i : ℕ) (s : Session) → HasNothing s.near → HasNothing s.far → IsEnd (fresh_seat who) i s
+nothing_end who i s h there =
     let none = all_alike nothing (others_of who) i in
     record {
       phase = ap (λ (e : End). e.phase) h.is ∙ sym (ap (λ (p : Post). p.phase) none);
@@ -54,13 +58,14 @@ nothing_end who i s h =
       held = ap (λ (e : End). e.held) h.is ∙ sym (ap (λ (p : Post). p.held) none);
       notice = ap (λ (e : End). e.notice) h.is ∙ sym (all_alike false (others_of who) i);
       flight = all_alike [] (others_of who) i ∙ sym (ap (λ (e : End). map (octets_of who (is_peering s)) e.flight) h.is);
-      taken = ap (λ (e : End). e.taken) h.is;
-      breaks = ap (λ (e : End). e.breaks) h.is;
+      breaks = ap (λ (e : End). e.breaks) h.is ∙ sym (all_alike [] (others_of who) i);
+      taken = ap (λ (e : End). e.taken) there.is
+          ∙ sym (taken_nowhere (fresh_seat who) i (all_alike false (others_of who) i) (all_alike [] (others_of who) i));
     }
 
 module _ (facts : Facts) (x : Checked) (written : IsWritten x) where
   start_moment : IsMoment (start x)
-  start_moment = record { opening = x; written = written; events = []; edits = tt; is = refl }
+  start_moment = moment_start x written
 
   abbrev seats : List Seat
   seats = map fresh_seat (whos x)
@@ -72,7 +77,13 @@ module _ (facts : Facts) (x : Checked) (written : IsWritten x) where
   fresh_long k lt =
       let at = fresh_at (whos x) k lt in
       subst IsLong (sym at.1)
-      (record { posts = all_long nothing (others_of at.0); links = all_long [] (others_of at.0); notices = all_long false (others_of at.0) })
+      (record {
+        posts = all_long nothing (others_of at.0);
+        kept = all_long [] (others_of at.0);
+        links = all_long [] (others_of at.0);
+        breaks = all_long [] (others_of at.0);
+        notices = all_long false (others_of at.0);
+      })
 
   end_is : (p : Place) → IsPlace seats p → HasEnd (start x) (seat seats p.node) p.session
   end_is p is =
@@ -82,16 +93,24 @@ module _ (facts : Facts) (x : Checked) (written : IsWritten x) where
       let each : Each BothNothing (start x).sessions =
       start_each BothNothing (λ n m r q. (record { is = refl }, record { is = refl })) x
       in
+      let both : BothNothing h.session =
+      found BothNothing (λ s b. (b.1, b.0)) (start x).sessions (name_at seats p) (other_at seats p) each h.session h.found
+      in
       record {
         session = h.session;
         found = h.found;
         is = subst (λ n. IsEnd n p.session h.session) (sym at.1)
-            (nothing_end at.0 p.session h.session
-            (found BothNothing (λ s b. (b.1, b.0)) (start x).sessions (name_at seats p) (other_at seats p) each h.session h.found).0);
+            (nothing_end at.0 p.session h.session both.0 both.1);
       }
 
+  part_is : (p : Place) → IsPlace seats p → KeepsPart seats p
+  part_is p is =
+      let at = fresh_at (whos x) p.node is.node in
+      λ far found. part_none (seat seats p.node) p.session (seat seats far.node) far.session
+      (ap (λ n. kept_in n p.session) at.1 ∙ all_alike [] (others_of at.0) p.session)
+
   start_seats : Seats seats (start x)
-  start_seats = seats_by_places seats (start x) (whos_again (whos x)) fresh_long end_is
+  start_seats = seats_by_places seats (start x) (whos_again (whos x)) fresh_long end_is part_is
 
 pub fresh_seats_stand : Facts → FreshSeatsStandForTheStart
 fresh_seats_stand facts x written =

@@ -12,10 +12,11 @@ use Rattle.net_model.specs.Steps.{with_link, with_notice}
 use Rattle.net_model.specs.Stands.{IsLong}
 use Rattle.net_model.specs.declared.place.Place.{Place}
 use Rattle.seat_laws.specs.Wiring.{HasFar, IsPlace}
-use Rattle.net_steps.specs.Losing.{all_told, told_of_loss}
-use Rattle.net_steps.proofs.Building.{AllBut, SameEnd, end_refl, end_trans}
+use Rattle.net_model.specs.Steps.{told_of_loss}
+use Rattle.net_steps.specs.Losing.{all_told}
+use Rattle.net_steps.proofs.Building.{AllBut, SameEnd, Stays, end_refl, end_trans, stays_refl, stays_trans}
 use Rattle.net_steps.proofs.Lists.{AreAlike, same_far_of, same_long, same_or_other, same_who}
-use Rattle.net_steps.proofs.Marks.{link_but, link_here, link_keeps, notice_but, notice_here, notice_keeps}
+use Rattle.net_steps.proofs.Marks.{link_but, link_here, link_keeps, link_stays, notice_but, notice_here, notice_keeps, notice_stays}
 
 -- seats of the same nodes, each with room for its sessions
 pub record Going (base s : List Seat) : Type 0 where
@@ -27,7 +28,7 @@ pub record IsTold (s : List Seat) (r : Place) : Type 0 where
   pub notice : notice_at s r ≡ live_at s r
   pub link : link_at s r ≡ []
 
-abbrev told_at : Place → List Seat → List Seat
+abbrev pub told_at : Place → List Seat → List Seat
 told_at q s = with_link q [] (with_notice q (live_at s q) s)
 
 pub same_live : (s s' : List Seat) (r : Place) → (seat s' r.node).posts ≡ (seat s r.node).posts → live_at s' r ≡ live_at s r
@@ -50,16 +51,21 @@ module _ (base s : List Seat) (going : Going base s) (q : Place) (is : IsPlace b
   but2 : AllBut s1 (told_at q s) q
   but2 = link_but s1 q lt1 []
 
-  one_going : Going base (told_at q s)
+  pub one_going : Going base (told_at q s)
   one_going = record { alike = but2.alike ∙ but1.alike ∙ going.alike; long = but2.long (but1.long going.long) }
 
-  one_posts : (j : ℕ) → (seat (told_at q s) j).posts ≡ (seat s j).posts
+  pub one_posts : (j : ℕ) → (seat (told_at q s) j).posts ≡ (seat s j).posts
   one_posts j = (link_keeps s1 q lt1 [] j).0 ∙ (notice_keeps s q lt (live_at s q) j).0
 
-  one_other : (r : Place) → r ≢ q → SameEnd (seat s r.node) (seat (told_at q s) r.node) r.session
+  pub one_stays : (r : Place) → Stays (seat s r.node) (seat (told_at q s) r.node) r.session
+  one_stays r =
+      stays_trans (seat s r.node) (seat s1 r.node) (seat (told_at q s) r.node) r.session
+      (notice_stays s q lt (live_at s q) r) (link_stays s1 q lt1 [] r)
+
+  pub one_other : (r : Place) → r ≢ q → SameEnd (seat s r.node) (seat (told_at q s) r.node) r.session
   one_other r ne = end_trans (seat s r.node) (seat s1 r.node) (seat (told_at q s) r.node) r.session (but1.ends r ne) (but2.ends r ne)
 
-  one_told : IsTold (told_at q s) q
+  pub one_told : IsTold (told_at q s) q
   one_told = record {
     notice = ap (λ bs. slice_index_or bs q.session false) (link_keeps s1 q lt1 [] q.node).1
         ∙ notice_here s q lt (live_at s q)
@@ -109,6 +115,17 @@ module _ (base : List Seat) (k count : ℕ) (far : (j : ℕ) → j < count → H
       subst (λ s'. (seat (all_told n k (i + 1) s') j).posts ≡ (seat s j).posts) (sym (told_here s going i lt))
       (all_posts n (i + 1) (told_at (far i lt).far s) (rest_within n i h) (one_going base s going (far i lt).far (far i lt).is_place) j
       ∙ one_posts base s going (far i lt).far (far i lt).is_place j)
+
+  pub all_stay : (n i : ℕ) (s : List Seat) → i + n ≤ count → Going base s → (r : Place)
+      → Stays (seat s r.node) (seat (all_told n k i s) r.node) r.session
+  all_stay zero i s h going r = stays_refl (seat s r.node) r.session
+  all_stay (suc n) i s h going r =
+      let lt = first_within n i h in
+      let s' = told_at (far i lt).far s in
+      subst (λ s'. Stays (seat s r.node) (seat (all_told n k (i + 1) s') r.node) r.session) (sym (told_here s going i lt))
+      (stays_trans (seat s r.node) (seat s' r.node) (seat (all_told n k (i + 1) s') r.node) r.session
+      (one_stays base s going (far i lt).far (far i lt).is_place r)
+      (all_stay n (i + 1) s' (rest_within n i h) (one_going base s going (far i lt).far (far i lt).is_place) r))
 
   pub all_others : (n i : ℕ) (s : List Seat) → i + n ≤ count → Going base s → (r : Place)
       → ((j : ℕ) (lt : j < count) → r ≢ (far j lt).far) → SameEnd (seat s r.node) (seat (all_told n k i s) r.node) r.session

@@ -1,32 +1,31 @@
 -- What a connection makes of the state for which seats stand.
-use Rattle.std.specs.Prelude.{◌≡◌, List, true, false}
+use Rattle.std.specs.Prelude.{◌≡◌, Bool, List, true, false}
 use Rattle.std.specs.List.{AllByRecursion}
 use Rattle.ov_link.specs.declared.step.Input.TheVariants.{Opened}
 use Rattle.network_model.specs.Setup.{Name}
 use Rattle.network_model.specs.Network.{Network}
 use Rattle.network_model.specs.Steps.{connect_if}
 use Rattle.network_model.specs.Events.{is_earlier}
-use Rattle.net_model.specs.Seats.{Seat, seat}
-use Rattle.net_model.specs.Steps.{IsDiscarded, Takes, with_seat}
+use Rattle.net_model.specs.Seats.{Seat, live_at, seat}
+use Rattle.net_model.specs.Steps.{Takes, cleared, with_seat}
 use Rattle.net_model.specs.Stands.{StandsFor}
 use Rattle.net_model.specs.declared.place.Place.{Place}
 use Rattle.told_laws.specs.Moments.{IsMoment}
 use Rattle.net_steps.specs.Asking.{AreAt, may_connect_at}
 
--- one end opens, and then the other. After both what their nodes sent on sessions that are down is discarded
+-- the far end opens behind the near one, where that is still live. The sessions of which their nodes closed an end go
+-- down
+abbrev pub OpensBehind : Bool → List Seat → Place → Place → List Seat → Type 0
+OpensBehind true opened p far after =
+    (far_node : Seat) × Takes (seat opened far.node) far_node (Opened far.session)
+    × (after ≡ cleared (cleared (with_seat far.node far_node opened) p.node) far.node)
+OpensBehind false opened p far after = after ≡ cleared opened p.node
+
+-- one end opens, and then the other
 pub record OpensBoth (seats : List Seat) (p far : Place) (after : List Seat) : Type 0 where
   pub near_node : Seat
   pub near_takes : Takes (seat seats p.node) near_node (Opened p.session)
-  pub far_node : Seat
-  pub far_takes : Takes (seat (with_seat p.node near_node seats) far.node) far_node (Opened far.session)
-  pub near_left : Seat
-  pub near_discarded : IsDiscarded (with_seat far.node far_node (with_seat p.node near_node seats)) p.node near_left
-  pub far_left : Seat
-  pub far_discarded : IsDiscarded
-      (with_seat p.node near_left (with_seat far.node far_node (with_seat p.node near_node seats))) far.node far_left
-  pub is : after
-      ≡ with_seat far.node far_left
-      (with_seat p.node near_left (with_seat far.node far_node (with_seat p.node near_node seats)))
+  pub behind : OpensBehind (live_at (with_seat p.node near_node seats) p) (with_seat p.node near_node seats) p far after
 
 -- the first node opens before the second
 abbrev pub ConnectionsAreMade : Type 0

@@ -10,22 +10,21 @@ use Rattle.network_model.specs.Events.{Edits, answer_to, next}
 use Rattle.network_laws.specs.Settling.{EditIsValid}
 use Rattle.headline_laws.specs.Headline.{IsOfForm}
 use Rattle.net_model.specs.Seats.{Seat}
-use Rattle.net_model.specs.Steps.{IsDiscarded, MakesEdit, with_seat}
-use Rattle.net_model.specs.Stands.{StandsFor, any_size}
+use Rattle.net_model.specs.Steps.{MakesEdit, cleared}
+use Rattle.net_model.specs.Stands.{StandsFor, message_size}
 use Rattle.told_laws.specs.Moments.{IsMoment}
 
--- an edit without a fault is made, and what the configuration node sent on sessions that are down is discarded
+-- an edit without a fault is made, and the sessions of which the configuration node closed its end go down
 abbrev pub EditsAreMade : Type 0
 EditsAreMade =
     (seats : List Seat) (w : Network) → IsMoment w → StandsFor seats w → (e : Edit)
     → EditIsValid IsOfForm w (Edits e) → edit_fault w.setup e ≡ None
     → (made : List Seat) → MakesEdit seats w.setup e None made
-    → (left : Seat) → IsDiscarded made 0 left
-    → StandsFor (with_seat 0 left made) (next any_size w (Edits e)) × IsMoment (next any_size w (Edits e))
+    → StandsFor (cleared made 0) (next message_size w (Edits e)) × IsMoment (next message_size w (Edits e))
     × (answer_to w (Edits e) ≡ Did)
 
 -- one with a fault changes nothing
 abbrev pub FaultyEditsAreRefused : Type 0
 FaultyEditsAreRefused =
     (w : Network) (e : Edit) (f : EditFault) → edit_fault w.setup e ≡ Some f
-    → (next any_size w (Edits e) ≡ w) × (answer_to w (Edits e) ≡ EditRefused f)
+    → (next message_size w (Edits e) ≡ w) × (answer_to w (Edits e) ≡ EditRefused f)

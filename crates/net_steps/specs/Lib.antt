@@ -5,5 +5,5 @@ pub mod Starting
 pub mod Losing
 pub mod Editing
 pub mod Connecting
-pub mod Unbroken
+pub mod Breaking
 pub mod OneState

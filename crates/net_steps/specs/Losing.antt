@@ -1,14 +1,13 @@
 -- What the loss of a session and the restart of a node make of the state for which seats stand.
 use Rattle.std.specs.Prelude.{◌≡◌, ℕ, zero, suc, ◌+◌, List, [], length, true, false}
-use Rattle.std.specs.declared.option.Option.{Option}
 use Rattle.std.specs.declared.option.Option.TheVariants.{Some, None}
 use Rattle.schedule_script.specs.declared.answer.Answer.TheVariants.{Did, Idle}
 use Rattle.network_model.specs.Setup.{Name}
 use Rattle.network_model.specs.Network.{Network}
 use Rattle.network_model.specs.Events.{Lose, Restart, answer_to, next}
-use Rattle.net_model.specs.Seats.{Seat, far_of, is_down_at, live_at, place_of, seat, seat_named}
-use Rattle.net_model.specs.Steps.{emptied, with_link, with_notice, with_seat}
-use Rattle.net_model.specs.Stands.{StandsFor, any_size}
+use Rattle.net_model.specs.Seats.{Seat, far_of, is_down_at, place_of, seat, seat_named}
+use Rattle.net_model.specs.Steps.{emptied, told_of_loss, with_link, with_notice, with_seat}
+use Rattle.net_model.specs.Stands.{StandsFor, message_size}
 use Rattle.net_model.specs.declared.place.Place.{Place}
 use Rattle.told_laws.specs.Moments.{IsMoment}
 use Rattle.net_steps.specs.Asking.{AreAt}
@@ -22,7 +21,7 @@ abbrev pub LossesAreMade : Type 0
 LossesAreMade =
     (seats : List Seat) (w : Network) → IsMoment w → StandsFor seats w → (a b : Name) (p far : Place)
     → AreAt seats a b p far → is_down_at seats p ≡ false
-    → StandsFor (cut p far seats) (next any_size w (Lose a b)) × IsMoment (next any_size w (Lose a b))
+    → StandsFor (cut p far seats) (next message_size w (Lose a b)) × IsMoment (next message_size w (Lose a b))
     × (answer_to w (Lose a b) ≡ Did)
 
 -- where the session is down, or there is none
@@ -30,15 +29,10 @@ abbrev pub NothingIsLost : Type 0
 NothingIsLost =
     (seats : List Seat) (w : Network) → IsMoment w → StandsFor seats w → (a b : Name)
     → ((p : Place) → place_of seats a b ≡ Some p → is_down_at seats p ≡ true)
-    → (next any_size w (Lose a b) ≡ w) × (answer_to w (Lose a b) ≡ Idle)
+    → (next message_size w (Lose a b) ≡ w) × (answer_to w (Lose a b) ≡ Idle)
 
 -- ---- a restart
--- the end at the other side of a node that restarts is told of the loss, where it is live, and what left it is gone
-abbrev pub told_of_loss : List Seat → Option Place → List Seat
-told_of_loss seats None = seats
-told_of_loss seats (Some q) = with_link q [] (with_notice q (live_at seats q) seats)
-
--- those of n sessions, from the one with this number on
+-- the other ends of n sessions of a node that restarts, from the one with this number on, are told of the loss
 abbrev pub all_told : ℕ → ℕ → ℕ → List Seat → List Seat
 all_told zero k i seats = seats
 all_told (suc n) k i seats =
@@ -52,7 +46,7 @@ abbrev pub RestartsAreMade : Type 0
 RestartsAreMade =
     (seats : List Seat) (w : Network) → IsMoment w → StandsFor seats w → (name : Name) (k : ℕ)
     → seat_named seats name ≡ Some (suc k)
-    → StandsFor (restarted seats (suc k)) (next any_size w (Restart name)) × IsMoment (next any_size w (Restart name))
+    → StandsFor (restarted seats (suc k)) (next message_size w (Restart name)) × IsMoment (next message_size w (Restart name))
     × (answer_to w (Restart name) ≡ Did)
 
 -- where no node but perhaps the configuration node has the name
@@ -60,4 +54,4 @@ abbrev pub NothingIsRestarted : Type 0
 NothingIsRestarted =
     (seats : List Seat) (w : Network) → IsMoment w → StandsFor seats w → (name : Name)
     → ((k : ℕ) → seat_named seats name ≡ Some k → k ≡ 0)
-    → (next any_size w (Restart name) ≡ w) × (answer_to w (Restart name) ≡ Idle)
+    → (next message_size w (Restart name) ≡ w) × (answer_to w (Restart name) ≡ Idle)

@@ -3,14 +3,15 @@
 
 ghost use Rattle.net_steps.specs.Asking.{ClosedSessionsMayConnect, NoPlaceIsNoSession, NothingWaitsAtClosedEnds};
 ghost use Rattle.net_steps.specs.Asking.{PlacesSayWhatSessionsAre};
+ghost use Rattle.net_steps.specs.Breaking.{BreaksAreRemoved, BreaksAreSet, NothingIsBroken};
 ghost use Rattle.net_steps.specs.Connecting.{ConnectionsAreMade, EarlierConnectionsAreEvents, NearIsEarlier};
 ghost use Rattle.net_steps.specs.Connecting.{NothingIsConnected};
 ghost use Rattle.net_steps.specs.Delivering.{MessagesAreDelivered, NothingIsDelivered, NoticesAreDelivered};
+ghost use Rattle.net_steps.specs.Delivering.{NoticesCountAsOctets, OctetsAreDelivered};
 ghost use Rattle.net_steps.specs.Editing.{EditsAreMade, FaultyEditsAreRefused};
 ghost use Rattle.net_steps.specs.Losing.{LossesAreMade, NothingIsLost, NothingIsRestarted, RestartsAreMade};
 ghost use Rattle.net_steps.specs.OneState.{SeatsStandForOneState};
 ghost use Rattle.net_steps.specs.Starting.{FreshSeatsStandForTheStart};
-ghost use Rattle.net_steps.specs.Unbroken.{NoBreaksArePending};
 
 /// The session of two nodes stands at the place of their names: both of its ends say how far it is, whether a notice
 /// waits, how many messages are in flight, and whether it is down, may be connected and is at rest. Nothing waits at an
@@ -23,11 +24,17 @@ pub fn places_say_what_sessions_are()
 {}
 
 /// A node that takes the first message, or the notice of loss, that waits at a place of it, makes of the seats those of
-/// the state after the delivery, once what it sent on sessions that are down is discarded.
+/// the state after the delivery, once the sessions of which it closed its end are down.
 pub fn messages_and_notices_are_delivered()
     ensures messages { MessagesAreDelivered }
     ensures notices { NoticesAreDelivered }
     ensures nothing { NothingIsDelivered }
+{}
+
+/// So does one that takes some octets, which may end within a message. A notice counts as one octet.
+pub fn octets_are_delivered()
+    ensures octets { OctetsAreDelivered }
+    ensures notices { NoticesCountAsOctets }
 {}
 
 /// A session that is not down is lost where a notice waits at both of its ends and nothing is left in flight.
@@ -50,9 +57,9 @@ pub fn edits_are_made()
     ensures refused { FaultyEditsAreRefused }
 {}
 
-/// A session that may connect is connected where its one end opens and then the other, and what both nodes sent on
-/// sessions that are down is discarded. From the earlier node of a session to the later one this is an event, and the
-/// near node of each session is the earlier one.
+/// A session that may connect is connected where its one end opens and then, where that is live still, the other; the
+/// sessions of which their nodes closed an end go down. From the earlier node of a session to the later one this is an
+/// event, and the near node of each session is the earlier one.
 pub fn connections_are_made()
     ensures made { ConnectionsAreMade }
     ensures nothing { NothingIsConnected }
@@ -70,7 +77,9 @@ pub fn seats_stand_for_one_state()
     ensures { SeatsStandForOneState }
 {}
 
-/// No send is to fail at a moment for which seats stand.
-pub fn no_breaks_are_pending()
-    ensures { NoBreaksArePending }
+/// A break is set at the first node's end of a session, and those that were not met are removed at every end.
+pub fn breaks_are_set_and_removed()
+    ensures set { BreaksAreSet }
+    ensures nothing { NothingIsBroken }
+    ensures removed { BreaksAreRemoved }
 {}
