@@ -1,6 +1,8 @@
 -- A list of which one item after another is replaced by the same one.
-use Rattle.std.proofs.Common.{◌≡◌, ◌≤◌, ◌+◌, ℕ, zero, suc, Bool, false, List, [], ◌∷◌, length, set, ap, refl, arith, add-one, ◌∙◌}
+use Rattle.std.proofs.Common.{◌≡◌, ◌≤◌, ◌+◌, ℕ, zero, suc, Bool, false, List, [], ◌∷◌, ◌++◌, length, get_or, map, set, take, drop, ap, refl, arith, add-one, ◌∙◌}
+use Rattle.std.proofs.lemmas.List.{take-append-le, take_all}
 use Rattle.net_model.specs.Steps.{all_of}
+use Rattle.net_seats.specs.Changes.{unbroken_outer}
 use Rattle.net_seats.specs.Halves.{Outer}
 
 abbrev pub cleared : {A : Type 0} → A → ℕ → List A → List A
@@ -47,3 +49,51 @@ both_all s now i before links notices =
     before
     ∙ (ap (λ (ls : List (List (List ℕ))). let p : Outer = record s { links = ls; notices = cleared false i s.notices } in p) (all_cleared [] i s.links links)
     ∙ ap (λ (ns : List Bool). let p : Outer = record s { links = all_of [] s.links; notices = ns } in p) (all_cleared false i s.notices notices))
+
+-- ---- the breaks alone
+abbrev pub unbroken_to : ℕ → Outer → Outer
+unbroken_to i s = record s { breaks = cleared [] i s.breaks }
+
+pub breaks_more : (s now next : Outer) (i : ℕ) → now ≡ unbroken_to i s → next ≡ record now { breaks = set now.breaks i [] }
+    → next ≡ unbroken_to (i + 1) s
+breaks_more s now next i before drops =
+    drops ∙ (ap (λ (o : Outer). let p : Outer = record o { breaks = set o.breaks i [] } in p) before
+    ∙ ap (λ (bs : List (List ℕ)). let p : Outer = record s { breaks = bs } in p) (one_more [] i s.breaks))
+
+pub breaks_all : (s now : Outer) (i : ℕ) → now ≡ unbroken_to i s → length s.breaks ≤ i → now ≡ unbroken_outer s
+breaks_all s now i before all =
+    before ∙ ap (λ (bs : List (List ℕ)). let p : Outer = record s { breaks = bs } in p) (all_cleared [] i s.breaks all)
+
+-- ---- a list of which one item after another is mapped
+abbrev pub mapped_to : {A : Type 0} → (A → A) → ℕ → List A → List A
+mapped_to f zero xs = xs
+mapped_to f (suc i) [] = []
+mapped_to f (suc i) (x ∷ xs) = f x ∷ mapped_to f i xs
+
+pub mapped_long : {A : Type 0} (f : A → A) (i : ℕ) (xs : List A) → length (mapped_to f i xs) ≡ length xs
+mapped_long f zero xs = refl
+mapped_long f (suc i) [] = refl
+mapped_long f (suc i) (x ∷ xs) = ap suc (mapped_long f i xs)
+
+pub mapped_more : {A : Type 0} (f : A → A) (i : ℕ) (xs : List A) (d : A)
+    → set (mapped_to f i xs) i (f (get_or (mapped_to f i xs) i d)) ≡ mapped_to f (i + 1) xs
+mapped_more f i xs d = rw add-one (step f i xs d)
+  where
+    step : {A : Type 0} (f : A → A) (i : ℕ) (xs : List A) (d : A)
+        → set (mapped_to f i xs) i (f (get_or (mapped_to f i xs) i d)) ≡ mapped_to f (suc i) xs
+    step f zero [] d = refl
+    step f zero (x ∷ xs) d = refl
+    step f (suc i) [] d = refl
+    step {A} f (suc i) (x ∷ xs) d = ap (λ (ys : List A). f x ∷ ys) (step f i xs d)
+
+pub all_mapped : {A : Type 0} (f : A → A) (i : ℕ) (xs : List A) → length xs ≤ i → mapped_to f i xs ≡ map f xs
+all_mapped f zero [] h = refl
+all_mapped f zero (x ∷ xs) h = absurd (omega arith)
+all_mapped f (suc i) [] h = refl
+all_mapped {A} f (suc i) (x ∷ xs) h = ap (λ (ys : List A). f x ∷ ys) (all_mapped f i xs (omega arith))
+
+-- a list of which all items were written
+pub all_written : {A : Type 0} (old new : List A) (len : ℕ) → len ≡ length old → length new ≡ length old
+    → take len (new ++ drop (length new) old) ≡ new
+all_written old new len many same =
+    take-append-le len new (drop (length new) old) (omega arith) ∙ take_all len new (omega arith)

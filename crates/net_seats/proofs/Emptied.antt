@@ -9,11 +9,11 @@ use Rattle.net_seats.proofs.Numbers.{changes_one}
 
 pub emptied_one : (v v' : List Inner) (k : ℕ) → v' ≡ set v k (emptied_inner (inner v k)) → k < length v → ChangesOne k v v'
 emptied_one v v' k is below =
-    changes_one v v' k (inner v k) (emptied_inner (inner v k)) refl is below refl refl (as_long nothing (inner v k).posts)
+    changes_one v v' k (inner v k) (emptied_inner (inner v k)) refl is below refl refl (as_long nothing (inner v k).posts) (as_long [] (inner v k).kept)
 
 abbrev pub emptied_outer : Outer → Outer
 emptied_outer e = record e { links = all_of [] e.links; notices = all_of false e.notices }
 
 pub emptied_even : (e o : Outer) → o ≡ emptied_outer e → IsEven e → IsEven o
 emptied_even e o is even =
-    subst IsEven (sym is) (record { links = as_long [] e.links ∙ even.links; notices = as_long false e.notices ∙ even.notices; few = even.few })
+    subst IsEven (sym is) (record { links = as_long [] e.links ∙ even.links; breaks = even.breaks; notices = as_long false e.notices ∙ even.notices; few = even.few })

@@ -2,6 +2,7 @@
 use Rattle.std.proofs.Common.{◌≡◌, suc, List, [], ◌∷◌, ◌++◌, Result, Ok, Err, IfOk, Option, map, sym, ◌∙◌, ap, refl, subst, arith}
 use Rattle.std.specs.List.{All}
 use Rattle.ov_types.specs.declared.rows.AgentRows.{AgentRows}
+use Rattle.ov_link.specs.FailingState.{FailingState}
 use Rattle.config_check.specs.Checked.{Checked}
 use Rattle.config_check.specs.declared.edits.EditFault.{EditFault}
 use Rattle.config_model.specs.declared.edit.Edit.{Edit}
@@ -14,7 +15,6 @@ use Rattle.net_model.specs.Seats.{Configuring}
 use Rattle.net_seats.specs.Changes.{EditsOver, forwarders}
 use Rattle.net_seats.specs.Cores.{IsRight, configured, controlled, forwarded, inners}
 use Rattle.net_seats.specs.Halves.{Inner}
-use Rattle.net_seats.proofs.Quiet.{Queue}
 
 abbrev pub shown_at : agent.Core → Forwarder
 shown_at a = record { address = a.plan.me.address; rows = a.rows }
@@ -35,7 +35,7 @@ pub all_forward : (x : configuration.Core) (controls : List control.Core) (agent
     → map shown_at agents ≡ forwarders (inners x controls agents)
 all_forward x controls agents h = agents_forward agents h ∙ past_controls controls (map forwarded agents)
 
-pub edits_there : {E : Type 0} (r : Result (Option EditFault) E) (n : Inner) (old : configuration.Core) (n' : Inner) (links links' : List Queue) (e : Edit)
+pub edits_there : {E : Type 0} (r : Result (Option EditFault) E) (n : Inner) (old : configuration.Core) (n' : Inner) (links links' : List FailingState) (e : Edit)
     → n ≡ configured old → IfOk r (λ fault. EditsOver links links' (configured old) n' old.setup e fault)
     → IfOk r (λ fault. (x : Checked) → n.who ≡ Configuring x → EditsOver links links' n n' x e fault)
 edits_there (Err y) n old n' links links' e is edits = tt

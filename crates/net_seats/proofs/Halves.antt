@@ -1,12 +1,13 @@
 -- Seats and their halves, by number.
-use Rattle.std.proofs.Common.{◌≡◌, ◌<◌, ℕ, zero, suc, if◌then◌else◌, Option, Some, List, [], ◌∷◌, length, get_or, set, ◌∙◌, ap, refl, arith}
+use Rattle.std.proofs.Common.{◌≡◌, ◌<◌, ℕ, zero, suc, if◌then◌else◌, Option, Some, List, [], ◌∷◌, length, get_or, set, map, ◌∙◌, ap, refl, arith}
+use Rattle.std.proofs.lemmas.List.{length-map}
 use Rattle.std.specs.List.{cons_option}
 use Rattle.ov_types.specs.First.{same_name}
 use Rattle.route_targets.specs.Forwarding.{Forwarder}
 use Rattle.network_model.specs.Setup.{Name}
 use Rattle.net_model.specs.Seats.{Seat, index_from, name_of, nobody}
-use Rattle.net_model.specs.Steps.{forwarder_of, forwarders_of}
-use Rattle.net_seats.specs.Changes.{forwarders}
+use Rattle.net_model.specs.Steps.{all_of, forwarder_of, forwarders_of, unbroken}
+use Rattle.net_seats.specs.Changes.{forwarders, unbroken_outer}
 use Rattle.net_seats.specs.Halves.{AreAllHalves, AreHalves, Inner, Outer, inner, joined, outer, whole}
 
 -- ---- lengths
@@ -66,6 +67,29 @@ pub set_itself : {A : Type 0} (xs : List A) (k : ℕ) (d : A) → set xs k (get_
 set_itself [] k d = refl
 set_itself (x ∷ xs) zero d = refl
 set_itself {A} (x ∷ xs) (suc k) d = ap (λ (ys : List A). x ∷ ys) (set_itself xs k d)
+
+-- ---- no send is to fail
+pub halves_unbroken : (ns : List Inner) (os : List Outer) → AreAllHalves ns os → AreAllHalves ns (map unbroken_outer os)
+halves_unbroken [] [] h = tt
+halves_unbroken [] (o ∷ os) h = absurd h
+halves_unbroken (n ∷ ns) [] h = absurd h
+halves_unbroken (n ∷ ns) (o ∷ os) h =
+    let was = h.0 in
+    let none : length (all_of [] o.breaks) ≡ length o.others = length-map o.breaks (λ _. []) ∙ was.even.breaks in (
+      record {
+        name = was.name;
+        others = was.others;
+        posts = was.posts;
+        kept = was.kept;
+        even = record { links = was.even.links; breaks = none; notices = was.even.notices; few = was.even.few };
+      },
+      halves_unbroken ns os h.1,
+    )
+
+pub joined_unbroken : (ns : List Inner) (os : List Outer) → joined ns (map unbroken_outer os) ≡ map unbroken (joined ns os)
+joined_unbroken [] os = refl
+joined_unbroken (n ∷ ns) [] = refl
+joined_unbroken (n ∷ ns) (o ∷ os) = ap (λ (seats : List Seat). unbroken (whole n o) ∷ seats) (joined_unbroken ns os)
 
 -- ---- by name
 pub named_at : (ns : List Inner) (os : List Outer) (k : ℕ) (name : Name) → AreAllHalves ns os

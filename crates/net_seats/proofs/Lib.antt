@@ -1,9 +1,12 @@
-pub mod Quiet
+pub mod Sends
+pub mod Links
+pub mod Failing
 pub mod Stepping
 pub mod Halves
 pub mod Numbers
 pub mod Found
 pub mod Pushed
+pub mod InFlight
 pub mod Cleared
 pub mod Forwarding
 pub mod Emptied

@@ -1,5 +1,5 @@
 -- The nodes that are made of a valid topology, with nothing of each other.
-use Rattle.std.proofs.Common.{◌≡◌, ◌<◌, ◌≤◌, ◌+◌, ◌^◌, zero, suc, Bool, true, false, cond, not, List, [], ◌∷◌, ◌++◌, length, map, sym, ◌∙◌, ap, refl, subst, arith, length-append}
+use Rattle.std.proofs.Common.{◌≡◌, ◌<◌, ◌≤◌, ◌^◌, ℕ, zero, suc, Bool, true, false, cond, not, List, [], ◌∷◌, ◌++◌, length, map, sym, ◌∙◌, ap, refl, subst, arith, length-append}
 use Rattle.std.proofs.lemmas.List.Elements.{All-append}
 use Rattle.std.specs.List.{All, AllByRecursion, filter}
 use Rattle.ov_types.specs.First.{same_name}
@@ -8,7 +8,9 @@ use Rattle.config_check.specs.Checked.{Checked}
 use Rattle.config_model.specs.declared.topology.Node.{Node}
 use Rattle.config_model.specs.declared.topology.Topology.{Topology}
 use Rattle.network_model.specs.Network.{lists}
-use Rattle.node_model.specs.Step.{Post, nothing}
+use Rattle.node_core.specs.Keeping.{nothing_kept}
+use Rattle.node_core.specs.Resting.{nothings}
+use Rattle.node_model.specs.Step.{nothing}
 use Rattle.config_node.specs.Core as configuration
 use Rattle.control_node.specs.Core as control
 use Rattle.agent_node.specs.Core as agent
@@ -17,7 +19,7 @@ use Rattle.net_model.specs.Steps.{fresh_seat}
 use Rattle.net_seats.specs.Cores.{configured, controlled, forwarded, inners}
 use Rattle.net_seats.specs.Fresh.{IsSetUp, fresh_inner, fresh_outer}
 use Rattle.net_seats.specs.Halves.{AreAllHalves, Inner, Outer, joined}
-use Rattle.net_seats.proofs.Stepping.{as_long, named, nothings_are, sessions_of_agent, sessions_of_config, sessions_of_control}
+use Rattle.net_seats.proofs.Stepping.{as_long, named, nothing_is_kept, nothings_are, sessions_of_agent, sessions_of_config, sessions_of_control}
 
 -- ---- one more at the end
 one_right : {A : Type 0} (P : A → Type 0) (y : A) → P y → All P (y ∷ [])
@@ -94,7 +96,13 @@ fresh_halves (w ∷ ws) h = (
     name = refl;
     others = refl;
     posts = as_long nothing (others_of w);
-    even = record { links = as_long [] (others_of w); notices = as_long false (others_of w); few = h.0 };
+    kept = as_long [] (others_of w);
+    even = record {
+      links = as_long [] (others_of w);
+      breaks = as_long [] (others_of w);
+      notices = as_long false (others_of w);
+      few = h.0;
+    };
   },
   fresh_halves ws h.1,
 )
@@ -104,17 +112,23 @@ fresh_joined [] = refl
 fresh_joined (w ∷ ws) = ap (λ (seats : List Seat). fresh_seat w ∷ seats) (fresh_joined ws)
 
 -- ---- what was made
+-- ends that are all closed
+inner_is : (who : Who) (n : ℕ) → length (others_of who) ≡ n
+    → record { who = who; posts = nothings n; kept = nothing_kept n } ≡ fresh_inner who
+inner_is who n many =
+    let none = nothings_are n (others_of who) many in
+    let kept = nothing_is_kept n (others_of who) many in
+    λ i. record { who = who; posts = none i; kept = kept i }
+
 inner_config : (x : Checked) → configured (configuration.fresh x) ≡ fresh_inner (Configuring x)
-inner_config x =
-    ap (λ (ps : List Post). let n : Inner = record { who = Configuring x; posts = ps } in n) (nothings_are (configuration.sessions x) (others_of (Configuring x)) (sessions_of_config x))
+inner_config x = inner_is (Configuring x) (configuration.sessions x) (sessions_of_config x)
 
 inner_controls : (t : Topology) (cs : List NodeId)
     → map controlled (map (λ (c : NodeId). control.fresh (control_plan t c)) cs) ≡ map fresh_inner (map (λ (c : NodeId). Controlling (control_plan t c)) cs)
 inner_controls t [] = refl
 inner_controls t (c ∷ cs) =
     let plan = control_plan t c in
-    ap (λ (ps : List Post). let n : Inner = record { who = Controlling plan; posts = ps } in n ∷ map controlled (map (λ (c : NodeId). control.fresh (control_plan t c)) cs))
-    (nothings_are (control.sessions plan) (others_of (Controlling plan)) (sessions_of_control plan))
+    ap (λ (n : Inner). n ∷ map controlled (map (λ (c : NodeId). control.fresh (control_plan t c)) cs)) (inner_is (Controlling plan) (control.sessions plan) (sessions_of_control plan))
     ∙ ap (λ (ns : List Inner). fresh_inner (Controlling plan) ∷ ns) (inner_controls t cs)
 
 inner_agents : (t : Topology) (ns : List Node)
@@ -122,8 +136,7 @@ inner_agents : (t : Topology) (ns : List Node)
 inner_agents t [] = refl
 inner_agents t (n ∷ ns) =
     let plan = agent_plan t n in
-    ap (λ (ps : List Post). let m : Inner = record { who = Forwarding plan; posts = ps } in m ∷ map forwarded (map (λ (n : Node). agent.fresh (agent_plan t n)) ns))
-    (nothings_are (agent.sessions plan) (others_of (Forwarding plan)) (sessions_of_agent plan))
+    ap (λ (m : Inner). m ∷ map forwarded (map (λ (n : Node). agent.fresh (agent_plan t n)) ns)) (inner_is (Forwarding plan) (agent.sessions plan) (sessions_of_agent plan))
     ∙ ap (λ (ms : List Inner). fresh_inner (Forwarding plan) ∷ ms) (inner_agents t ns)
 
 map_both : {A B : Type 0} (f : A → B) (xs ys : List A) → map f xs ++ map f ys ≡ map f (xs ++ ys)

@@ -109,12 +109,13 @@ set_at v v' node new is lt = ap (λ (ns : List Inner). inner ns node) is ∙ get
 
 pub changes_one : (v v' : List Inner) (node : ℕ) (old new : Inner) → inner v node ≡ old → v' ≡ set v node new → node < length v
     → name_of new.who ≡ name_of old.who → others_of new.who ≡ others_of old.who → length new.posts ≡ length old.posts
-    → ChangesOne node v v'
-changes_one v v' node old new was is lt name others long =
+    → length new.kept ≡ length old.kept → ChangesOne node v v'
+changes_one v v' node old new was is lt name others long kept =
     let now : inner v' node ≡ new = set_at v v' node new is lt in
     record {
       one = is ∙ ap (λ (n : Inner). set v node n) (sym now);
       name = ap (λ (n : Inner). name_of n.who) now ∙ (name ∙ ap (λ (n : Inner). name_of n.who) (sym was));
       others = ap (λ (n : Inner). others_of n.who) now ∙ (others ∙ ap (λ (n : Inner). others_of n.who) (sym was));
       long = ap (λ (n : Inner). length n.posts) now ∙ (long ∙ ap (λ (n : Inner). length n.posts) (sym was));
+      kept = ap (λ (n : Inner). length n.kept) now ∙ (kept ∙ ap (λ (n : Inner). length n.kept) (sym was));
     }

@@ -1,14 +1,17 @@
 -- The seats of all nodes, where one of them is looked at or changed.
 use Rattle.std.proofs.Common.{◌≡◌, ◌<◌, ℕ, Bool, Result, Ok, Err, IfOk, Option, Some, None, List, length, get_or, set, sym, ◌∙◌, ap, subst, arith}
+use Rattle.ov_link.specs.FailingState.{FailingState}
 use Rattle.ov_link.specs.declared.step.Input.{Input}
 use Rattle.config_check.specs.Checked.{Checked}
 use Rattle.config_check.specs.declared.edits.EditFault.{EditFault}
 use Rattle.config_model.specs.declared.edit.Edit.{Edit}
+use Rattle.node_core.specs.Keeping.{AreSwept}
 use Rattle.network_model.specs.Setup.{Name}
 use Rattle.net_model.specs.Seats.{Seat, Configuring, nobody, others_of, seat}
 use Rattle.net_model.specs.Steps.{IsStepped, MakesEdit, Takes, as_it_is, with_seat}
 use Rattle.net_seats.specs.Changes.{ChangesOne, EditsOver, TakesOver}
-use Rattle.net_seats.specs.Halves.{AreAllHalves, AreHalves, Inner, IsEven, Outer, inner, joined, no_inner, no_outer, outer, seated, whole}
+use Rattle.net_seats.specs.Halves.{AreAllHalves, AreHalves, Inner, IsEven, Outer, inner, joined, no_inner, no_outer, outer, whole}
+use Rattle.net_seats.proofs.Links.{edge_of}
 use Rattle.net_seats.proofs.Halves.{as_many, as_many_seats, halves_at, halves_set, joined_set, same_at, seat_at, set_itself}
 
 -- ---- one seat of them, at place k, which is j by another count
@@ -41,7 +44,7 @@ module _ (ns : List Inner) (os : List Outer) (h : AreAllHalves ns os) (j k : ℕ
       → AreAllHalves ns (set os j o')
   edge_kept e o' at name others even =
       let was = halves_are e at in
-      let new : AreHalves (inner ns k) o' = record { name = name ∙ was.name; others = others ∙ was.others; posts = was.posts; even = even } in
+      let new : AreHalves (inner ns k) o' = record { name = name ∙ was.name; others = others ∙ was.others; posts = was.posts; kept = was.kept; even = even } in
       subst (λ (i : ℕ). AreAllHalves ns (set os i o')) (sym same)
       (subst (λ (ms : List Inner). AreAllHalves ms (set os k o')) (set_itself ns k no_inner) (halves_set ns os k (inner ns k) o' h new))
 
@@ -60,56 +63,56 @@ module _ (ns : List Inner) (os : List Outer) (h : AreAllHalves ns os) (j k : ℕ
           name = name ∙ (was.name ∙ sym changes.name);
           others = others ∙ (was.others ∙ sym changes.others);
           posts = changes.long ∙ (was.posts ∙ ap length (sym changes.others));
+          kept = changes.kept ∙ (was.kept ∙ ap length (sym changes.others));
           even = even;
         } in
         subst (λ (i : ℕ). AreAllHalves ns' (set os i o')) (sym same)
         (subst (λ (ms : List Inner). AreAllHalves ms (set os k o')) (sym changes.one) (halves_set ns os k (inner ns' k) o' h new))
 
-    pub takes_at : {T E : Type 0} (r : Result T E) (input : Input) → ns' ≡ set ns k (inner ns' k) → o'.notices ≡ e.notices
-        → IfOk r (λ _. TakesOver e.links o'.links (inner ns k) (inner ns' k) input)
-        → IfOk r (λ _. (n' : Seat) × Takes (seat (joined ns os) k) n' input × (joined ns' (set os j o') ≡ with_seat k n' (joined ns os)))
-    takes_at (Err x) input one notices takes = tt
-    takes_at (Ok x) input one notices takes = (
-      whole (inner ns' k) o',
-      subst (λ (n : Seat). Takes n (whole (inner ns' k) o') input) (sym (whole_is e at))
-          (subst (λ (waits : List Bool). Takes (whole (inner ns k) e) (seated (inner ns' k) o'.links waits) input) (sym notices) (takes e.notices)),
-      seat_changed one,
+  -- ---- a step over the links of the edge
+  module _ (ns' : List Inner) (name : Name) (others : List Name) (notices : List Bool) (ls ls' : List FailingState) (e : Outer)
+      (at : e ≡ get_or os j e) (view : edge_of name others notices ls ≡ e) where
+    abbrev later : Outer
+    later = edge_of name others notices ls'
+
+    pub takes_at : {T E : Type 0} (r : Result T E) (input : Input) → ns' ≡ set ns k (inner ns' k)
+        → IfOk r (λ _. TakesOver ls ls' (inner ns k) (inner ns' k) input)
+        → IfOk r (λ _. (n' : Seat) × Takes (seat (joined ns os) k) n' input × (joined ns' (set os j later) ≡ with_seat k n' (joined ns os)))
+    takes_at (Err x) input one takes = tt
+    takes_at (Ok x) input one takes = (
+      whole (inner ns' k) later,
+      subst (λ (n : Seat). Takes n (whole (inner ns' k) later) input) (sym (whole_is e at))
+          (subst (λ (o : Outer). Takes (whole (inner ns k) o) (whole (inner ns' k) later) input) view (takes notices)),
+      seat_changed ns' e later at one,
     )
 
-    edit_made : (x : Checked) (edit : Edit) (fault : Option EditFault) → ns' ≡ set ns k (inner ns' k)
-        → o'.name ≡ e.name → o'.others ≡ e.others → o'.notices ≡ e.notices → k ≡ 0
-        → EditsOver e.links o'.links (inner ns k) (inner ns' k) x edit fault
-        → MakesEdit (joined ns os) x edit fault (joined ns' (set os j o'))
-    edit_made x edit (Some f) one name others notices first edits =
-        let as_it_was : o' ≡ e = same_outer name others edits.1 notices in
-        seat_changed one
-        ∙ (ap (λ (n : Inner). set (joined ns os) k (whole n o')) edits.0
-        ∙ (ap (λ (o : Outer). set (joined ns os) k (whole (inner ns k) o)) as_it_was
-        ∙ (ap (λ (n : Seat). set (joined ns os) k n) (sym (whole_is e at)) ∙ set_itself (joined ns os) k nobody)))
-      where
-        same_outer : o'.name ≡ e.name → o'.others ≡ e.others → o'.links ≡ e.links → o'.notices ≡ e.notices → o' ≡ e
-        same_outer a b c d =
-            ap (λ (n : Name). let o : Outer = record { name = n; others = o'.others; links = o'.links; notices = o'.notices } in o) a
-            ∙ (ap (λ (ns : List Name). let o : Outer = record { name = e.name; others = ns; links = o'.links; notices = o'.notices } in o) b
-            ∙ (ap (λ (ls : List (List (List ℕ))). let o : Outer = record { name = e.name; others = e.others; links = ls; notices = o'.notices } in o) c
-            ∙ ap (λ (ws : List Bool). let o : Outer = record { name = e.name; others = e.others; links = e.links; notices = ws } in o) d))
-    edit_made x edit None one name others notices first edits = (
+    edit_made : (x : Checked) (edit : Edit) (fault : Option EditFault) → ns' ≡ set ns k (inner ns' k) → k ≡ 0
+        → EditsOver ls ls' (inner ns k) (inner ns' k) x edit fault
+        → MakesEdit (joined ns os) x edit fault (joined ns' (set os j later))
+    edit_made x edit (Some f) one first edits =
+        seat_changed ns' e later at one
+        ∙ (ap (λ (n : Inner). set (joined ns os) k (whole n later)) edits.0
+        ∙ (ap (λ (links : List FailingState). set (joined ns os) k (whole (inner ns k) (edge_of name others notices links))) edits.1
+        ∙ (ap (λ (o : Outer). set (joined ns os) k (whole (inner ns k) o)) view
+        ∙ (ap (λ (n : Seat). set (joined ns os) k n) (sym (whole_is e at)) ∙ set_itself (joined ns os) k nobody))))
+    edit_made x edit None one first edits = (
       edits.0,
-      whole (inner ns' k) o',
+      whole (inner ns' k) later,
       edits.1,
-      subst (λ (i : ℕ). IsStepped (record (seat (joined ns os) i) { who = Configuring edits.0 }) (whole (inner ns' k) o') 0 (as_it_is (seat (joined ns os) i))) first
-          (subst (λ (n : Seat). IsStepped (record n { who = Configuring edits.0 }) (whole (inner ns' k) o') 0 (as_it_is n)) (sym (whole_is e at))
-          (subst (λ (waits : List Bool). IsStepped (record (whole (inner ns k) e) { who = Configuring edits.0 }) (seated (inner ns' k) o'.links waits) 0 (as_it_is (whole (inner ns k) e))) (sym notices) (edits.2 e.notices))),
-      subst (λ (i : ℕ). joined ns' (set os j o') ≡ with_seat i (whole (inner ns' k) o') (joined ns os)) first (seat_changed one),
+      subst (λ (i : ℕ). IsStepped (record (seat (joined ns os) i) { who = Configuring edits.0 }) (whole (inner ns' k) later) 0 (as_it_is (seat (joined ns os) i))) first
+          (subst (λ (n : Seat). IsStepped (record n { who = Configuring edits.0 }) (whole (inner ns' k) later) 0 (as_it_is n)) (sym (whole_is e at))
+          (subst (λ (o : Outer). IsStepped (record (whole (inner ns k) o) { who = Configuring edits.0 }) (whole (inner ns' k) later) 0 (as_it_is (whole (inner ns k) o))) view (edits.2 notices))),
+      subst (λ (i : ℕ). AreSwept (inner ns' k).posts (seat (joined ns os) i).kept (inner ns' k).kept) first
+          (subst (λ (n : Seat). AreSwept (inner ns' k).posts n.kept (inner ns' k).kept) (sym (whole_is e at)) edits.3),
+      subst (λ (i : ℕ). joined ns' (set os j later) ≡ with_seat i (whole (inner ns' k) later) (joined ns os)) first (seat_changed ns' e later at one),
     )
 
-    pub edits_at : {E : Type 0} (r : Result (Option EditFault) E) (edit : Edit) → ns' ≡ set ns k (inner ns' k)
-        → o'.name ≡ e.name → o'.others ≡ e.others → o'.notices ≡ e.notices → k ≡ 0
-        → IfOk r (λ fault. (x : Checked) → (inner ns k).who ≡ Configuring x → EditsOver e.links o'.links (inner ns k) (inner ns' k) x edit fault)
-        → IfOk r (λ fault. (x : Checked) → (seat (joined ns os) k).who ≡ Configuring x → MakesEdit (joined ns os) x edit fault (joined ns' (set os j o')))
-    edits_at (Err x) edit one name others notices first edits = tt
-    edits_at (Ok fault) edit one name others notices first edits =
-        λ x who. edit_made x edit fault one name others notices first (edits x (ap (λ (n : Seat). n.who) (sym (whole_is e at)) ∙ who))
+    pub edits_at : {E : Type 0} (r : Result (Option EditFault) E) (edit : Edit) → ns' ≡ set ns k (inner ns' k) → k ≡ 0
+        → IfOk r (λ fault. (x : Checked) → (inner ns k).who ≡ Configuring x → EditsOver ls ls' (inner ns k) (inner ns' k) x edit fault)
+        → IfOk r (λ fault. (x : Checked) → (seat (joined ns os) k).who ≡ Configuring x → MakesEdit (joined ns os) x edit fault (joined ns' (set os j later)))
+    edits_at (Err x) edit one first edits = tt
+    edits_at (Ok fault) edit one first edits =
+        λ x who. edit_made x edit fault one first (edits x (ap (λ (n : Seat). n.who) (sym (whole_is e at)) ∙ who))
 
 -- ---- of all that stands
 pub below_all : (ns : List Inner) (os : List Outer) (seats : List Seat) (k : ℕ) → AreAllHalves ns os → joined ns os ≡ seats
@@ -123,7 +126,45 @@ pub below_inner : (ns : List Inner) (os : List Outer) (k : ℕ) → AreAllHalves
 below_inner ns os k h below = let many : length ns ≡ length os = as_many ns os h in omega arith
 
 pub even_links : (e : Outer) (ls : List (List (List ℕ))) → IsEven e → length ls ≡ length e.links → IsEven (record e { links = ls })
-even_links e ls even long = record { links = long ∙ even.links; notices = even.notices; few = even.few }
+even_links e ls even long = record { links = long ∙ even.links; breaks = even.breaks; notices = even.notices; few = even.few }
+
+pub even_breaks : (e : Outer) (bs : List (List ℕ)) → IsEven e → length bs ≡ length e.breaks → IsEven (record e { breaks = bs })
+even_breaks e bs even long = record { links = even.links; breaks = long ∙ even.breaks; notices = even.notices; few = even.few }
 
 pub even_notices : (e : Outer) (ns : List Bool) → IsEven e → length ns ≡ length e.notices → IsEven (record e { notices = ns })
-even_notices e ns even long = record { links = even.links; notices = long ∙ even.notices; few = even.few }
+even_notices e ns even long = record { links = even.links; breaks = even.breaks; notices = long ∙ even.notices; few = even.few }
+
+-- one edge of them in place of another
+module _ (ns : List Inner) (os : List Outer) (h : AreAllHalves ns os) (seats : List Seat) (view : joined ns os ≡ seats) (j k : ℕ)
+    (same : j ≡ k) (there : k < length seats) where
+  below : k < length os
+  below = below_all ns os seats k h view there
+
+  pub edge_there : j < length os
+  edge_there = let lt : k < length os = below in omega arith
+
+  module _ (e : Outer) (at : e ≡ get_or os j e) where
+    pub sessions_are : length (seat seats k).posts ≡ length e.others
+    sessions_are =
+        ap (λ (ss : List Seat). length (seat ss k).posts) (sym view) ∙ others_are ns os h j k same below e at
+
+    pub halves_with : (o' : Outer) → o'.name ≡ e.name → o'.others ≡ e.others → IsEven o' → AreAllHalves ns (set os j o')
+    halves_with o' name others even = edge_kept ns os h j k same below e o' at name others even
+
+    pub even_there : IsEven e
+    even_there = (halves_are ns os h j k same below e at).even
+
+    -- what is at the end of a session there
+    pub seat_there : seat seats k ≡ whole (inner ns k) e
+    seat_there = ap (λ (ss : List Seat). seat ss k) (sym view) ∙ whole_is ns os h j k same below e at
+
+    pub seats_with : (f : Seat → Seat) (o' : Outer) → whole (inner ns k) o' ≡ f (whole (inner ns k) e)
+        → joined ns (set os j o') ≡ with_seat k (f (seat seats k)) seats
+    seats_with f o' is =
+        edge_changed ns os h j k same below o'
+        ∙ (ap (λ (n : Seat). set (joined ns os) k n) (is ∙ ap f (sym seat_there))
+        ∙ ap (λ (ss : List Seat). set ss k (f (seat seats k))) view)
+
+    pub seats_same : (o' : Outer) → o' ≡ e → joined ns (set os j o') ≡ seats
+    seats_same o' is =
+        seats_with (λ (n : Seat). n) o' (ap (λ (o : Outer). whole (inner ns k) o) is) ∙ set_itself seats k nobody

@@ -1,13 +1,17 @@
--- What a step over queues, an edit and a restart come to at a seat, for each kind of node.
-use Rattle.std.proofs.Common.{◌≡◌, ◌<◌, ℕ, zero, suc, Option, Some, None, Result, List, [], ◌∷◌, length, sym, ◌∙◌, ap, refl, arith, length-append}
+-- What a step over links, an edit and a restart come to at a seat, for each kind of node.
+use Rattle.std.proofs.Common.{◌≡◌, ◌≢◌, ◌<◌, ℕ, Bool, true, false, Err, zero, suc, Option, Some, None, Result, List, [], ◌∷◌, length, sym, ◌∙◌, ap, refl, arith, length-append}
+use Rattle.std.specs.List.{slice_set}
+use Rattle.ov_link.specs.FailingState.{FailingState}
 use Rattle.ov_link.specs.declared.step.Input.{Input}
 use Rattle.ov_link.specs.declared.step.NodeFault.{NodeFault}
+use Rattle.ov_link.specs.declared.step.NodeFault.TheVariants.{NoMemory}
 use Rattle.ov_link.specs.declared.step.Stepped.{Stepped}
 use Rattle.ov_types.specs.declared.rows.NodeId.{NodeId}
 use Rattle.config_check.specs.Checked.{Checked}
 use Rattle.config_check.specs.declared.edits.EditFault.{EditFault}
 use Rattle.config_model.specs.declared.edit.Edit.{Edit}
 use Rattle.config_model.specs.declared.topology.Topology.{Topology}
+use Rattle.node_core.specs.Keeping.{AreSwept, kept_at, nothing_kept}
 use Rattle.node_core.specs.Resting.{nothings}
 use Rattle.node_core.specs.Whole.{IsWholeStep, session_of}
 use Rattle.node_model.specs.Step.{Begun, Post, nothing, post}
@@ -19,23 +23,33 @@ use Rattle.agent_node.specs.declared.plan.AgentPlan.{AgentPlan}
 use Rattle.net_model.specs.Seats.{Who, Configuring, Controlling, Forwarding, kind_of, names_of, others_of}
 use Rattle.net_model.specs.Steps.{BeginsAt, all_of}
 use Rattle.net_seats.specs.Changes.{EditsOver, TakesOver, emptied_inner}
-use Rattle.net_seats.specs.Cores.{controlled, forwarded}
+use Rattle.net_seats.specs.Cores.{configured, controlled, forwarded}
 use Rattle.net_seats.specs.Halves.{Inner}
 use Rattle.config_node.specs.Editing.{IsEdited, as_it_is}
-use Rattle.net_seats.proofs.Quiet.{Queue, quiet_steps}
+use Rattle.net_seats.proofs.Failing.{failing_steps}
 
 -- ---- a step
-pub takes_over : {C : Type 0} (who who' : Who) (posts posts' : List Post) (input : Input) (links links' : List Queue)
+pub takes_over : {C : Type 0} (n n' : Inner) (input : Input) (links links' : List FailingState) (left : List ℕ)
     (Begins : Begun → Option C → Type 0) (result : Result (Stepped C) NodeFault)
-    → ((given : Begun) (cause : Option C) → Begins given cause → BeginsAt who (session_of input) (post posts (session_of input)) input given)
-    → who' ≡ who → session_of input < length posts → length links' ≡ length links
-    → IsWholeStep (λ (l : Queue). Some l) (λ (l : Queue). Some []) (λ (l : Queue). 0) (kind_of who) Begins posts posts' (session_of input) links links' result
-    → TakesOver links links' (record { who = who; posts = posts }) (record { who = who'; posts = posts' }) input
-takes_over who who' posts posts' input links links' Begins result begins same lt long whole notices = record {
+    → ((given : Begun) (cause : Option C) → Begins given cause
+    → BeginsAt n.who (session_of input) (post n.posts (session_of input)) (kept_at n.kept (session_of input)) input given left)
+    → n'.who ≡ n.who → session_of input < length n.posts → length links' ≡ length links
+    → IsWholeStep (λ (l : FailingState). Some l.accepted) (λ (l : FailingState). Some l.breaks) (λ (l : FailingState). l.faults)
+    (kind_of n.who) Begins n.posts n'.posts (session_of input) links links' result
+    → AreSwept n'.posts (slice_set n.kept (session_of input) left) n'.kept
+    → TakesOver links links' n n' input
+takes_over n n' input links links' left Begins result begins same lt long whole swept notices = record {
   given = whole.given;
+  left = left;
   begins = begins whole.given whole.cause whole.begins;
-  stepped = quiet_steps who who' posts posts' (session_of input) whole.given links links' _ same lt long whole.steps notices;
+  stepped = failing_steps n n' (session_of input) whole.given links links' _ same lt long whole.steps notices;
+  swept = swept;
 }
+
+-- a step that did not fail found memory
+pub never_failed : {T : Type 0} (result : Result T NodeFault) (failed : Bool) → (result ≡ Err NoMemory → failed ≡ true) → failed ≡ false
+    → result ≢ Err NoMemory
+never_failed result failed fails works none = let both : true ≡ false = sym (fails none) ∙ works in cc
 
 -- ---- how many sessions a node has
 pub named : (nodes : List NodeId) → length (names_of nodes) ≡ length nodes
@@ -66,61 +80,80 @@ pub as_long : {A B : Type 0} (b : B) (xs : List A) → length (all_of b xs) ≡ 
 as_long b [] = refl
 as_long b (x ∷ xs) = ap suc (as_long b xs)
 
-pub config_posts : (x : Checked) (posts : List Post) → length posts ≡ length (others_of (Configuring x))
-    → (configuration.fresh x).posts ≡ all_of nothing posts
-config_posts x posts long = nothings_are (configuration.sessions x) posts (long ∙ sessions_of_config x)
+-- nothing is kept
+pub nothing_is_kept : {A : Type 0} (n : ℕ) (xs : List A) → length xs ≡ n → nothing_kept n ≡ all_of [] xs
+nothing_is_kept zero [] h = refl
+nothing_is_kept zero (x ∷ xs) h = absurd (omega arith)
+nothing_is_kept (suc n) [] h = absurd (omega arith)
+nothing_is_kept (suc n) (x ∷ xs) h = ap (λ (ks : List (List ℕ)). [] ∷ ks) (nothing_is_kept n xs (omega arith))
 
-pub control_posts : (plan : ControlPlan) (posts : List Post) → length posts ≡ length (others_of (Controlling plan))
-    → (control.fresh plan).posts ≡ all_of nothing posts
-control_posts plan posts long = nothings_are (control.sessions plan) posts (long ∙ sessions_of_control plan)
+-- ends that are all closed, of as many sessions as there were
+module _ (who : Who) (posts : List Post) (kept : List (List ℕ)) (sessions : ℕ) (many : length (others_of who) ≡ sessions)
+    (posts_long : length posts ≡ length (others_of who)) (kept_long : length kept ≡ length (others_of who)) where
+  pub fresh_is : (n : Inner) → n ≡ record { who = who; posts = nothings sessions; kept = nothing_kept sessions }
+      → n ≡ emptied_inner (record { who = who; posts = posts; kept = kept })
+  fresh_is n is =
+      let none = nothings_are sessions posts (posts_long ∙ many) in
+      let nothing_left = nothing_is_kept sessions kept (kept_long ∙ many) in
+      let same : record { who = who; posts = nothings sessions; kept = nothing_kept sessions } ≡ emptied_inner (record { who = who; posts = posts; kept = kept }) =
+      λ i. record { who = who; posts = none i; kept = nothing_left i } in
+      is ∙ same
 
-pub agent_posts : (plan : AgentPlan) (posts : List Post) → length posts ≡ length (others_of (Forwarding plan))
-    → (agent.fresh plan).posts ≡ all_of nothing posts
-agent_posts plan posts long = nothings_are (agent.sessions plan) posts (long ∙ sessions_of_agent plan)
+  pub fresh_long : (n : Inner) → n ≡ record { who = who; posts = nothings sessions; kept = nothing_kept sessions }
+      → (length n.posts ≡ length posts) × (length n.kept ≡ length kept)
+  fresh_long n is = (
+    ap (λ (m : Inner). length m.posts) (fresh_is n is) ∙ as_long nothing posts,
+    ap (λ (m : Inner). length m.kept) (fresh_is n is) ∙ as_long [] kept,
+  )
 
 pub control_emptied : (c c' : control.Core) → c' ≡ control.fresh c.plan → length c.posts ≡ length (others_of (Controlling c.plan))
-    → controlled c' ≡ emptied_inner (controlled c)
-control_emptied c c' is long =
-    ap controlled is ∙ ap (λ (ps : List Post). let n : Inner = record { who = Controlling c.plan; posts = ps } in n) (control_posts c.plan c.posts long)
+    → length c.kept ≡ length (others_of (Controlling c.plan)) → controlled c' ≡ emptied_inner (controlled c)
+control_emptied c c' is long kept =
+    fresh_is (Controlling c.plan) c.posts c.kept (control.sessions c.plan) (sessions_of_control c.plan) long kept (controlled c') (ap controlled is)
 
 pub agent_emptied : (a a' : agent.Core) → a' ≡ agent.fresh a.plan → length a.posts ≡ length (others_of (Forwarding a.plan))
-    → forwarded a' ≡ emptied_inner (forwarded a)
-agent_emptied a a' is long =
-    ap forwarded is ∙ ap (λ (ps : List Post). let n : Inner = record { who = Forwarding a.plan; posts = ps } in n) (agent_posts a.plan a.posts long)
+    → length a.kept ≡ length (others_of (Forwarding a.plan)) → forwarded a' ≡ emptied_inner (forwarded a)
+agent_emptied a a' is long kept =
+    fresh_is (Forwarding a.plan) a.posts a.kept (agent.sessions a.plan) (sessions_of_agent a.plan) long kept (forwarded a') (ap forwarded is)
 
-pub config_long : (c c' : configuration.Core) → c' ≡ configuration.fresh c.setup → length c.posts ≡ length (others_of (Configuring c.setup))
-    → length c'.posts ≡ length c.posts
-config_long c c' is long =
-    ap (λ (d : configuration.Core). length d.posts) is ∙ (ap length (config_posts c.setup c.posts long) ∙ as_long nothing c.posts)
-
-pub config_again_long : (x y : Checked) (c' : configuration.Core) (posts : List Post) → c' ≡ configuration.fresh y → y.topology ≡ x.topology
-    → length posts ≡ length (others_of (Configuring x)) → length c'.posts ≡ length posts
-config_again_long x y c' posts is same long =
-    ap (λ (d : configuration.Core). length d.posts) is
-    ∙ (ap length (config_posts y posts (long ∙ ap (λ (t : Topology). length (names_of t.controllers)) (sym same))) ∙ as_long nothing posts)
+-- as many sessions as there were
+pub config_long : (x y : Checked) (c' : configuration.Core) (posts : List Post) (kept : List (List ℕ)) → c' ≡ configuration.fresh y
+    → y.topology ≡ x.topology → length posts ≡ length (others_of (Configuring x)) → length kept ≡ length (others_of (Configuring x))
+    → (length c'.posts ≡ length posts) × (length c'.kept ≡ length kept)
+config_long x y c' posts kept is same long kept_long =
+    let as_many : length (others_of (Configuring x)) ≡ length (others_of (Configuring y)) =
+    ap (λ (t : Topology). length (names_of t.controllers)) (sym same) in
+    fresh_long (Configuring y) posts kept (configuration.sessions y) (sessions_of_config y) (long ∙ as_many) (kept_long ∙ as_many) (configured c') (ap configured is)
 
 pub control_long : (c c' : control.Core) → c' ≡ control.fresh c.plan → length c.posts ≡ length (others_of (Controlling c.plan))
-    → length c'.posts ≡ length c.posts
-control_long c c' is long =
-    ap (λ (d : control.Core). length d.posts) is ∙ (ap length (control_posts c.plan c.posts long) ∙ as_long nothing c.posts)
+    → length c.kept ≡ length (others_of (Controlling c.plan)) → (length c'.posts ≡ length c.posts) × (length c'.kept ≡ length c.kept)
+control_long c c' is long kept =
+    fresh_long (Controlling c.plan) c.posts c.kept (control.sessions c.plan) (sessions_of_control c.plan) long kept (controlled c') (ap controlled is)
 
 pub agent_long : (a a' : agent.Core) → a' ≡ agent.fresh a.plan → length a.posts ≡ length (others_of (Forwarding a.plan))
-    → length a'.posts ≡ length a.posts
-agent_long a a' is long =
-    ap (λ (d : agent.Core). length d.posts) is ∙ (ap length (agent_posts a.plan a.posts long) ∙ as_long nothing a.posts)
+    → length a.kept ≡ length (others_of (Forwarding a.plan)) → (length a'.posts ≡ length a.posts) × (length a'.kept ≡ length a.kept)
+agent_long a a' is long kept =
+    fresh_long (Forwarding a.plan) a.posts a.kept (agent.sessions a.plan) (sessions_of_agent a.plan) long kept (forwarded a') (ap forwarded is)
 
 -- ---- an edit
-pub edits_over : (x y : Checked) (posts posts' : List Post) (e : Edit) (links links' : List Queue) (fault : Option EditFault)
-    → 0 < length posts → length links' ≡ length links
-    → ((f : EditFault) → fault ≡ Some f → (y ≡ x) × (posts' ≡ posts) × (links' ≡ links))
-    → (fault ≡ None → IsEdited (λ (l : Queue). Some l) (λ (l : Queue). Some []) (λ (l : Queue). 0) x y e posts posts' links links' None)
-    → EditsOver links links' (record { who = Configuring x; posts = posts }) (record { who = Configuring y; posts = posts' }) x e fault
-edits_over x y posts posts' e links links' (Some f) some long refused made =
-    let same = refused f refl in (
-      ap (λ (z : Checked). let n : Inner = record { who = Configuring z; posts = posts' } in n) same.0
-          ∙ ap (λ (ps : List Post). let n : Inner = record { who = Configuring x; posts = ps } in n) same.1,
-      same.2,
-    )
-edits_over x y posts posts' e links links' None some long refused made =
+-- what comes of one that has no fault, besides what is kept
+abbrev IsMade : Checked → Checked → Edit → Inner → Inner → List FailingState → List FailingState → Option ℕ → Type 0
+IsMade x y e n n' links links' lowest =
+    IsEdited (λ (l : FailingState). Some l.accepted) (λ (l : FailingState). Some l.breaks) (λ (l : FailingState). l.faults)
+    x y e n.posts n'.posts links links' lowest
+
+pub edits_over : (c c' : configuration.Core) (e : Edit) (links links' : List FailingState) (fault : Option EditFault) (lowest : Option ℕ)
+    → 0 < length c.posts → length links' ≡ length links
+    → ((f : EditFault) → fault ≡ Some f → (c' ≡ c) × (links' ≡ links))
+    → (fault ≡ None → IsMade c.setup c'.setup e (configured c) (configured c') links links' lowest × AreSwept c'.posts c.kept c'.kept)
+    → EditsOver links links' (configured c) (configured c') c.setup e fault
+edits_over c c' e links links' (Some f) lowest some long refused made =
+    let same = refused f refl in (ap configured same.0, same.1)
+edits_over c c' e links links' None lowest some long refused made =
     let is = made refl in
-    (y, is.made, λ notices. quiet_steps (Configuring y) (Configuring y) posts posts' 0 (as_it_is posts) links links' None refl some long is.steps notices)
+    let made_of : Inner = record (configured c) { who = Configuring c'.setup } in (
+      c'.setup,
+      is.0.made,
+      λ notices. failing_steps made_of (configured c') 0 (as_it_is c.posts) links links' lowest refl some long is.0.steps notices,
+      is.1,
+    )

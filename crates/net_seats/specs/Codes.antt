@@ -12,7 +12,7 @@ use Rattle.node_model.specs.Codes.{coded_post}
 use Rattle.node_model.specs.Step.{Post}
 use Rattle.network_model.specs.Setup.{Name}
 use Rattle.net_model.specs.Seats.{Who, Configuring, Controlling, Forwarding, Seat}
-use Rattle.net_seats.specs.Halves.{Inner, Outer, Standing}
+use Rattle.net_seats.specs.Halves.{Inner, Outer, Standing, seated}
 
 -- ---- who is there
 abbrev pub Plan : Type 0
@@ -39,34 +39,41 @@ coded_who =
     plan_of who_of plans_tell
 
 -- ---- halves
+-- octets, or breaks, of each session
+abbrev pub Lists : Type 0
+Lists = List (List ℕ)
+
+abbrev pub coded_lists : Coded Lists
+coded_lists = coded_list (coded_list coded_ℕ)
+
 abbrev pub coded_inner : Coded Inner
 coded_inner =
-    code_by (Who × List Post) (coded× coded_who (coded_list coded_post))
-    (λ n. (n.who, n.posts)) (λ c. record { who = c.0; posts = c.1 }) (λ _. refl)
+    code_by (Who × (List Post × Lists)) (coded× coded_who (coded× (coded_list coded_post) coded_lists))
+    (λ n. (n.who, (n.posts, n.kept))) (λ c. record { who = c.0; posts = c.1.0; kept = c.1.1 }) (λ _. refl)
 
 abbrev pub Links : Type 0
-Links = List (List (List ℕ))
+Links = List Lists
 
 abbrev pub coded_links : Coded Links
-coded_links = coded_list (coded_list (coded_list coded_ℕ))
+coded_links = coded_list coded_lists
 
 abbrev pub coded_names : Coded (List Name)
 coded_names = coded_list (coded_list coded_ℕ)
 
 abbrev pub coded_outer : Coded Outer
 coded_outer =
-    code_by (Name × (List Name × (Links × List Bool)))
-    (coded× (coded_list coded_ℕ) (coded× coded_names (coded× coded_links (coded_list coded_bool))))
-    (λ o. (o.name, (o.others, (o.links, o.notices))))
-    (λ c. record { name = c.0; others = c.1.0; links = c.1.1.0; notices = c.1.1.1 }) (λ _. refl)
+    code_by (Name × (List Name × (Links × (Lists × List Bool))))
+    (coded× (coded_list coded_ℕ) (coded× coded_names (coded× coded_links (coded× coded_lists (coded_list coded_bool)))))
+    (λ o. (o.name, (o.others, (o.links, (o.breaks, o.notices)))))
+    (λ c. record { name = c.0; others = c.1.0; links = c.1.1.0; breaks = c.1.1.1.0; notices = c.1.1.1.1 }) (λ _. refl)
 
 -- ---- seats
 abbrev pub coded_seat : Coded Seat
 coded_seat =
-    code_by (Who × (List Post × (Links × List Bool)))
-    (coded× coded_who (coded× (coded_list coded_post) (coded× coded_links (coded_list coded_bool))))
-    (λ n. (n.who, (n.posts, (n.links, n.notices))))
-    (λ c. record { who = c.0; posts = c.1.0; links = c.1.1.0; notices = c.1.1.1 }) (λ _. refl)
+    code_by (Inner × (Links × (Lists × List Bool)))
+    (coded× coded_inner (coded× coded_links (coded× coded_lists (coded_list coded_bool))))
+    (λ n. (record { who = n.who; posts = n.posts; kept = n.kept }, (n.links, (n.breaks, n.notices))))
+    (λ c. seated c.0 c.1.0 c.1.1.0 c.1.1.1) (λ _. refl)
 
 abbrev pub coded_standing : Coded Standing
 coded_standing =

@@ -1,5 +1,5 @@
 -- The cores of the nodes: the configuration node's, and those of the control nodes and of the agents.
-use Rattle.std.specs.Prelude.{◌≡◌, ◌<◌, ℕ, ◌+◌, List, [], ◌∷◌, ◌++◌, map, false}
+use Rattle.std.specs.Prelude.{◌≡◌, ◌<◌, ℕ, ◌+◌, List, ◌∷◌, ◌++◌, map, false}
 use Rattle.std.specs.declared.option.Option.{Option}
 use Rattle.std.specs.declared.option.Option.TheVariants.{Some, None}
 use Rattle.node_model.specs.Agent.{rows as rows_of}
@@ -14,13 +14,13 @@ use Rattle.net_seats.specs.declared.kinds.Kind.{Kind}
 use Rattle.net_seats.specs.declared.kinds.Kind.TheVariants.{Configuration, Control, Agent}
 
 abbrev pub configured : configuration.Core → Inner
-configured c = record { who = Configuring c.setup; posts = c.posts }
+configured c = record { who = Configuring c.setup; posts = c.posts; kept = c.kept }
 
 abbrev pub controlled : control.Core → Inner
-controlled c = record { who = Controlling c.plan; posts = c.posts }
+controlled c = record { who = Controlling c.plan; posts = c.posts; kept = c.kept }
 
 abbrev pub forwarded : agent.Core → Inner
-forwarded a = record { who = Forwarding a.plan; posts = a.posts }
+forwarded a = record { who = Forwarding a.plan; posts = a.posts; kept = a.kept }
 
 -- the configuration node, then the control nodes, then the agents
 abbrev pub inners : configuration.Core → List control.Core → List agent.Core → List Inner

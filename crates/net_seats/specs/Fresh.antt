@@ -10,13 +10,14 @@ use Rattle.net_seats.specs.Halves.{Inner, Outer}
 
 -- the halves of a fresh seat
 abbrev pub fresh_inner : Who → Inner
-fresh_inner who = record { who = who; posts = all_of nothing (others_of who) }
+fresh_inner who = record { who = who; posts = all_of nothing (others_of who); kept = all_of [] (others_of who) }
 
 abbrev pub fresh_outer : Who → Outer
 fresh_outer who = record {
   name = name_of who;
   others = others_of who;
   links = all_of [] (others_of who);
+  breaks = all_of [] (others_of who);
   notices = all_of false (others_of who);
 }
 

@@ -1,5 +1,5 @@
-//! What a node of each kind takes, and what it shows. No send fails, and where memory is wanting nothing is left of what
-//! the node had.
+//! What a node of each kind takes, and what it shows. A send that fails closes its end, and the step is taken all the
+//! same. Where memory is wanting nothing is left of what the node had.
 ghost use Rattle.std.specs.Prelude.{◌≡◌, ◌<◌, true, false, length, IfOk, IsTrue};
 ghost use Rattle.config_check.specs.Edits.{edit_fault};
 ghost use Rattle.config_model.specs.Edit.{has_edit_form};
@@ -14,95 +14,96 @@ use config_check::EditFault;
 use config_model::Edit;
 use config_node::ConfigNode;
 use control_node::ControlNode;
-use ov_link::{Input, Links, QueueLink};
+use ov_link::{FailingLink, Input, Links, NodeFault};
 use ov_types::{NoMemory, NodeRows};
 
 /// The configuration node takes an input, and tells each session what is wanted then.
 pub(crate) fn take_config(
     node: &mut ConfigNode,
     input: Input<'_>,
-    links: &mut Links<QueueLink>,
+    links: &mut Links<FailingLink>,
 ) -> Result<(), NoMemory>
     requires known { session_of input < length (others_of (configured node.old).who) }
     requires long { length node.old.posts ≡ length (others_of (configured node.old).who) }
+    requires kept { length node.old.kept ≡ length (others_of (configured node.old).who) }
     requires linked { length links.old ≡ length (others_of (configured node.old).who) }
     requires comes { Comes (λ i. live (configured node.old) i ≡ true) (λ i. live (configured node.old) i ≡ false)
         input }
     ensures setup { node.new.setup ≡ node.old.setup }
     ensures long { length node.new.posts ≡ length node.old.posts }
+    ensures kept { length node.new.kept ≡ length node.old.kept }
     ensures links { length links.new ≡ length links.old }
     ensures takes { IfOk result (λ _. TakesOver links.old links.new (configured node.old) (configured node.new)
         input.entry) }
 {
-    match node.step(input, links) {
-        Ok(_) => Ok(()),
-        Err(_) => {
-            node.restart();
-            Err(NoMemory)
-        }
+    let _stepped = node.step(input, links);
+    if node.failed() {
+        node.restart();
+        return Err(NoMemory);
     }
+    Ok(())
 }
 
 /// A control node takes an input, and tells each session what is wanted then.
 pub(crate) fn take_control(
     node: &mut ControlNode,
     input: Input<'_>,
-    links: &mut Links<QueueLink>,
+    links: &mut Links<FailingLink>,
 ) -> Result<(), NoMemory>
     requires known { session_of input < length (others_of (controlled node.old).who) }
     requires long { length node.old.posts ≡ length (others_of (controlled node.old).who) }
+    requires kept { length node.old.kept ≡ length (others_of (controlled node.old).who) }
     requires linked { length links.old ≡ length (others_of (controlled node.old).who) }
     requires comes { Comes (λ i. live (controlled node.old) i ≡ true) (λ i. live (controlled node.old) i ≡ false)
         input }
     ensures plan { node.new.plan ≡ node.old.plan }
     ensures long { length node.new.posts ≡ length node.old.posts }
+    ensures kept { length node.new.kept ≡ length node.old.kept }
     ensures links { length links.new ≡ length links.old }
     ensures takes { IfOk result (λ _. TakesOver links.old links.new (controlled node.old) (controlled node.new)
         input.entry) }
 {
-    match node.step(input, links) {
-        Ok(_) => Ok(()),
-        Err(_) => {
-            node.restart();
-            Err(NoMemory)
-        }
+    let _stepped = node.step(input, links);
+    if node.failed() {
+        node.restart();
+        return Err(NoMemory);
     }
+    Ok(())
 }
 
 /// An agent takes an input, and tells each session what is wanted then.
 pub(crate) fn take_agent(
     node: &mut AgentNode,
     input: Input<'_>,
-    links: &mut Links<QueueLink>,
+    links: &mut Links<FailingLink>,
 ) -> Result<(), NoMemory>
     requires known { session_of input < length (others_of (forwarded node.old).who) }
     requires long { length node.old.posts ≡ length (others_of (forwarded node.old).who) }
+    requires kept { length node.old.kept ≡ length (others_of (forwarded node.old).who) }
     requires linked { length links.old ≡ length (others_of (forwarded node.old).who) }
     requires comes { Comes (λ i. live (forwarded node.old) i ≡ true) (λ i. live (forwarded node.old) i ≡ false)
         input }
     ensures plan { node.new.plan ≡ node.old.plan }
     ensures long { length node.new.posts ≡ length node.old.posts }
+    ensures kept { length node.new.kept ≡ length node.old.kept }
     ensures links { length links.new ≡ length links.old }
     ensures takes { IfOk result (λ _. TakesOver links.old links.new (forwarded node.old) (forwarded node.new)
         input.entry) }
     ensures right { IsRight node.new }
 {
-    match node.step(input, links) {
-        Ok(_) => {
-            let _failed = node.failed();
-            Ok(())
-        },
-        Err(_) => {
-            node.restart();
-            let _failed = node.failed();
-            Err(NoMemory)
-        }
+    let _stepped = node.step(input, links);
+    if node.failed() {
+        node.restart();
+        let _failed = node.failed();
+        return Err(NoMemory);
     }
+    Ok(())
 }
 
 /// An agent loses all that it has.
 pub(crate) fn restart_agent(node: &mut AgentNode)
-    requires { length node.old.posts ≡ length (others_of (forwarded node.old).who) }
+    requires long { length node.old.posts ≡ length (others_of (forwarded node.old).who) }
+    requires kept { length node.old.kept ≡ length (others_of (forwarded node.old).who) }
     ensures emptied { forwarded node.new ≡ emptied_inner (forwarded node.old) }
     ensures right { IsRight node.new }
 {
@@ -132,13 +133,15 @@ pub(crate) fn show_agent(node: &AgentNode) -> Result<NodeRows, NoMemory>
 pub(crate) fn edit_config(
     node: &mut ConfigNode,
     edit: &Edit,
-    links: &mut Links<QueueLink>,
+    links: &mut Links<FailingLink>,
 ) -> Result<Option<EditFault>, NoMemory>
     requires form { IsTrue (has_edit_form edit.now) }
     requires long { length node.old.posts ≡ length (others_of (configured node.old).who) }
+    requires kept { length node.old.kept ≡ length (others_of (configured node.old).who) }
     requires linked { length links.old ≡ length (others_of (configured node.old).who) }
     ensures topology { node.new.setup.topology ≡ node.old.setup.topology }
     ensures long { length node.new.posts ≡ length node.old.posts }
+    ensures kept { length node.new.kept ≡ length node.old.kept }
     ensures links { length links.new ≡ length links.old }
     ensures edits { IfOk result (λ fault. EditsOver links.old links.new (configured node.old) (configured node.new)
         node.old.setup edit.now fault) }
@@ -147,7 +150,8 @@ pub(crate) fn edit_config(
     let _valid = node.valid();
     match node.edit(edit, links) {
         Ok(fault) => Ok(fault),
-        Err(_) => {
+        Err(NodeFault::LinkFailed { .. }) => Ok(None),
+        Err(NodeFault::NoMemory) => {
             node.restart();
             Err(NoMemory)
         }

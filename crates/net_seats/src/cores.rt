@@ -5,6 +5,7 @@ ghost use Rattle.config_check.specs.Checked.{Checked};
 ghost use Rattle.config_check.specs.Edits.{edit_fault};
 ghost use Rattle.config_model.specs.Edit.{has_edit_form};
 ghost use Rattle.control_node.specs.Core.{holdings};
+ghost use Rattle.node_core.specs.Keeping.{kept_at};
 ghost use Rattle.node_core.specs.Whole.{Comes, session_of};
 ghost use Rattle.route_targets.specs.Forwarding.{forwarding};
 ghost use Rattle.net_model.specs.Seats.{Configuring, is_up, others_of};
@@ -21,7 +22,7 @@ use config_check::{EditFault, Valid};
 use config_model::Edit;
 use config_node::ConfigNode;
 use control_node::ControlNode;
-use ov_link::{Input, Links, QueueLink};
+use ov_link::{FailingLink, Input, Links};
 use ov_types::{NoMemory, NodeRows, Outcome, Packet};
 use std::marker::Model;
 
@@ -69,12 +70,25 @@ impl Cores {
     pub(crate) fn is_up(&self, node: u16, session: u16) -> bool
         requires node { node < length self.now }
         requires session { session < length (others_of (inner self.now node).who) }
-        ensures { result ≡ is_up (seated (inner self.now node) [] []) session }
+        ensures { result ≡ is_up (seated (inner self.now node) [] [] []) session }
     {
         match kind_of(self.controls.len(), node) {
             Kind::Configuration => self.config.is_up(session),
             Kind::Control(place) => self.controls[place].is_up(session),
             Kind::Agent(place) => self.agents[place].is_up(session),
+        }
+    }
+
+    /// How many octets a node keeps of a session.
+    pub(crate) fn pending(&self, node: u16, session: u16) -> usize
+        requires node { node < length self.now }
+        requires session { session < length (others_of (inner self.now node).who) }
+        ensures { result ≡ length (kept_at (inner self.now node).kept session) }
+    {
+        match kind_of(self.controls.len(), node) {
+            Kind::Configuration => self.config.pending(session),
+            Kind::Control(place) => self.controls[place].pending(session),
+            Kind::Agent(place) => self.agents[place].pending(session),
         }
     }
 
@@ -84,11 +98,12 @@ impl Cores {
         &mut self,
         node: u16,
         input: Input<'_>,
-        links: &mut Links<QueueLink>,
+        links: &mut Links<FailingLink>,
     ) -> Result<(), NoMemory>
         requires node { node < length self.old }
         requires known { session_of input < length (others_of (inner self.old node).who) }
         requires long { length (inner self.old node).posts ≡ length (others_of (inner self.old node).who) }
+        requires kept { length (inner self.old node).kept ≡ length (others_of (inner self.old node).who) }
         requires linked { length links.old ≡ length (others_of (inner self.old node).who) }
         requires comes { Comes (λ i. live (inner self.old node) i ≡ true) (λ i. live (inner self.old node) i ≡ false)
             input }
@@ -109,6 +124,7 @@ impl Cores {
         requires above { 0 < node }
         requires node { node < length self.old }
         requires long { length (inner self.old node).posts ≡ length (others_of (inner self.old node).who) }
+        requires kept { length (inner self.old node).kept ≡ length (others_of (inner self.old node).who) }
         ensures { self.new ≡ slice_set self.old node (emptied_inner (inner self.old node)) }
     {
         match kind_of(self.controls.len(), node) {
@@ -130,10 +146,11 @@ impl Cores {
     pub(crate) fn edit(
         &mut self,
         edit: &Edit,
-        links: &mut Links<QueueLink>,
+        links: &mut Links<FailingLink>,
     ) -> Result<Option<EditFault>, NoMemory>
         requires form { IsTrue (has_edit_form edit.now) }
         requires long { length (inner self.old 0).posts ≡ length (others_of (inner self.old 0).who) }
+        requires kept { length (inner self.old 0).kept ≡ length (others_of (inner self.old 0).who) }
         requires linked { length links.old ≡ length (others_of (inner self.old 0).who) }
         ensures one { ChangesOne 0 self.old self.new }
         ensures links { length links.new ≡ length links.old }

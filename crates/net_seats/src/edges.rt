@@ -1,60 +1,73 @@
 //! What lies at the ends of a node's sessions.
-ghost use Rattle.std.specs.Prelude.{◌≡◌, ◌<◌, ◌^◌, [], drop, false, length, slice_get, slice_index_or, slice_set, IfOk};
+ghost use Rattle.std.specs.Prelude.{◌≡◌, ◌<◌, ◌≤◌, ◌+◌, ◌^◌, [], drop, false, length, slice_get, slice_index_or};
+ghost use Rattle.std.specs.Prelude.{slice_set, take, IfOk, OnErr, OnOk};
+ghost use Rattle.std.specs.List.{concat};
+ghost use Rattle.ov_link.specs.Breaks.{with_break};
 ghost use Rattle.ov_types.specs.First.{same_name};
 ghost use Rattle.net_model.specs.Seats.{index_from};
-ghost use Rattle.net_model.specs.Steps.{all_of};
+ghost use Rattle.net_model.specs.Steps.{all_of, untaken};
+ghost use Rattle.net_seats.specs.Changes.{unbroken_outer};
 ghost use Rattle.net_seats.specs.Halves.{IsEven};
 
 use crate::finding::index_of;
+use crate::octets;
 use bytes::Bytes;
-use ov_link::{Links, QueueLink};
+use ov_link::{FailingLink, Links};
 use ov_types::{Items, Name, NoMemory};
 use std::alloc::Global;
 use std::marker::Model;
 
-/// The name of a node and those at the other ends of its sessions, what left each of its ends and was not taken, and
-/// where a notice of loss waits.
+/// The name of a node and those at the other ends of its sessions, what left each of its ends and was not taken, the
+/// sends that are to fail there, and where a notice of loss waits.
 #[derive(Drop)]
 pub(crate) struct Edge {
     name: Name,
     others: Items<Name>,
-    pub(crate) links: Links<QueueLink>,
+    pub(crate) links: Links<FailingLink>,
     notices: Vec<bool>,
 }
 
 impl Model for Edge {
-    ghost use Rattle.net_seats.specs.Halves.{IsEven, Outer};
+    ghost use Rattle.net_seats.specs.Halves.{IsEven, Outer, accepted_of, breaks_of};
     ghost use Rattle.net_seats.specs.Codes.{coded_outer};
 
     ghost Value = { Outer };
 
     ghost coded = { coded_outer };
 
-    ghost view = { λ e. record { name = e.name; others = e.others; links = e.links; notices = e.notices.items } };
+    ghost view = { λ e. record {
+      name = e.name;
+      others = e.others;
+      links = accepted_of e.links;
+      breaks = breaks_of e.links;
+      notices = e.notices.items;
+    } };
 
     ghost invariant = { λ e. IsEven (record {
       name = e.name;
       others = e.others;
-      links = e.links;
+      links = accepted_of e.links;
+      breaks = breaks_of e.links;
       notices = e.notices.items;
     }) };
 }
 
 impl Edge {
-    /// The ends of sessions with these nodes: nothing left them, and no notice waits.
+    /// The ends of sessions with these nodes: nothing left them, no send is to fail, and no notice waits.
     pub(crate) fn new(alloc: Global, name: Name, others: Items<Name>) -> Result<Edge, NoMemory>
         requires { length others < 2 ^ 16 }
         ensures { IfOk result (λ edge. edge ≡ record {
           name = name;
           others = others;
           links = all_of [] others;
+          breaks = all_of [] others;
           notices = all_of false others;
         }) }
     {
         let mut links = Links::new(alloc);
         let mut notices = Vec::new(alloc);
         for _other in others.as_slice() {
-            links.push(QueueLink::new(alloc))?;
+            links.push(FailingLink::new(alloc))?;
             notices.push(false)?;
         }
         Ok(Edge {
@@ -130,6 +143,60 @@ impl Edge {
         self.links.get_mut(session).pop()
     }
 
+    /// Takes out n octets that left the end of a session, or all where there are fewer, behind those that are passed
+    /// over, as they were taken before. A message leaves with its last octet.
+    pub(crate) fn take_octets(
+        &mut self,
+        alloc: Global,
+        session: u16,
+        skip: usize,
+        n: usize,
+    ) -> Result<Vec<u8>, NoMemory>
+        requires { session < length self.old.others }
+        ensures octets { IfOk result (λ octets. octets.items
+            ≡ take n (drop skip (concat (slice_index_or self.old.links session [])))) }
+        ensures rest { IfOk result (λ _. self.new ≡ record self.old {
+          links = slice_set self.old.links session (untaken (skip + n) (slice_index_or self.old.links session []));
+        }) }
+        ensures name { self.new.name ≡ self.old.name }
+        ensures others { self.new.others ≡ self.old.others }
+        ensures even { IsEven self.new }
+    {
+        octets::take_octets(self.links.get_mut(session), alloc, skip, n)
+    }
+
+    /// The n-th send from now on fails at the end of a session.
+    pub(crate) fn add_break(&mut self, session: u16, n: u32) -> Result<(), NoMemory>
+        requires session { session < length self.old.others }
+        requires some { 1 ≤ n }
+        ensures ok { OnOk result (self.new ≡ record self.old {
+          breaks = slice_set self.old.breaks session (with_break n (slice_index_or self.old.breaks session []));
+        }) }
+        ensures err { OnErr result (self.new ≡ self.old) }
+        ensures name { self.new.name ≡ self.old.name }
+        ensures others { self.new.others ≡ self.old.others }
+        ensures even { IsEven self.new }
+    {
+        self.links.get_mut(session).add_break(n)
+    }
+
+    /// No send is to fail any more at the end of a session.
+    fn drop_breaks_at(&mut self, session: u16)
+        requires { session < length self.old.others }
+        ensures { self.new ≡ record self.old { breaks = slice_set self.old.breaks session [] } }
+    {
+        self.links.get_mut(session).drop_breaks();
+    }
+
+    /// No send is to fail any more.
+    pub(crate) fn drop_breaks(&mut self)
+        ensures { self.new ≡ unbroken_outer self.old }
+    {
+        for session in 0..self.sessions() {
+            self.drop_breaks_at(session);
+        }
+    }
+
     /// Takes out all messages that left the end of a session.
     pub(crate) fn clear(&mut self, session: u16)
         requires { session < length self.old.others }
@@ -138,7 +205,7 @@ impl Edge {
         self.links.get_mut(session).clear();
     }
 
-    /// Takes out all messages and all notices.
+    /// Takes out all messages and all notices. Which sends are to fail stays.
     pub(crate) fn restart(&mut self)
         ensures { self.new ≡ record self.old {
           links = all_of [] self.old.links;

@@ -1,4 +1,4 @@
-//! The nodes of a network, joined by links that keep their messages until they are taken.
+//! The nodes of a network, joined by links that keep their messages until they are taken, and on which sends may fail.
 #![tactic(auto)]
 
 mod acting;
@@ -8,6 +8,7 @@ mod finding;
 mod kinds;
 mod making;
 mod nodes;
+mod octets;
 mod plans;
 
 pub use nodes::Nodes;

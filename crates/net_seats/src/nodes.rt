@@ -1,6 +1,7 @@
 //! The nodes of a network, with their links.
-ghost use Rattle.std.specs.Prelude.{◌≡◌, ◌<◌, ◌≤◌, [], drop, true, false, length, map, option_copied, slice_get};
-ghost use Rattle.std.specs.Prelude.{IfOk, IsTrue};
+ghost use Rattle.std.specs.Prelude.{◌≡◌, ◌<◌, ◌≤◌, ◌+◌, [], drop, true, false, length, map, option_copied, slice_get};
+ghost use Rattle.std.specs.Prelude.{take, IfOk, IsTrue, OnErr, OnOk};
+ghost use Rattle.std.specs.List.{concat};
 ghost use Rattle.std.specs.Option.{option_map};
 ghost use Rattle.config_check.specs.Checked.{Checked};
 ghost use Rattle.config_check.specs.Edits.{edit_fault};
@@ -10,9 +11,11 @@ ghost use Rattle.control_node.specs.Core.{holdings};
 ghost use Rattle.node_core.specs.Whole.{Comes, session_of};
 ghost use Rattle.route_targets.specs.Forwarding.{forwarding};
 ghost use Rattle.net_model.specs.Seats as seats_of;
-ghost use Rattle.net_model.specs.Seats.{Configuring, Seat, is_live, link_at, live_at, notice_at, seat, up_at, whos};
+ghost use Rattle.net_model.specs.Seats.{Configuring, Seat, is_live, kept_at, link_at, live_at, notice_at, seat, up_at};
+ghost use Rattle.net_model.specs.Seats.{whos};
 ghost use Rattle.net_model.specs.Steps.{MakesEdit, Takes, emptied, forwarders_of, fresh_seat, shown_by};
-ghost use Rattle.net_model.specs.Steps.{with_link, with_notice, with_seat};
+ghost use Rattle.net_model.specs.Steps.{unbroken, untaken, with_break_at, with_link, with_notice, with_seat};
+ghost use Rattle.net_seats.specs.Changes.{unbroken_outer};
 ghost use Rattle.net_seats.specs.Cores.{held_by};
 ghost use Rattle.net_seats.specs.Halves.{AreAllHalves, joined};
 
@@ -83,8 +86,8 @@ fn edit_at(
     cores.edit(edit, &mut edge.links)
 }
 
-/// The nodes of a network, each with a queue for each of its sessions, which contracts see as their seats. An agent
-/// forwards packets by what it holds.
+/// The nodes of a network, each with a link for each of its sessions on which sends may fail, which contracts see as
+/// their seats. An agent forwards packets by what it holds.
 #[derive(Drop)]
 pub struct Nodes {
     cores: Cores,
@@ -104,6 +107,15 @@ impl Model for Nodes {
     ghost view = { λ n. record { seats = joined n.cores n.edges.items; failed = n.failed } };
 
     ghost invariant = { λ n. AreAllHalves n.cores n.edges.items × (length n.edges.items < 2 ^ 16) };
+}
+
+/// No send is to fail any more.
+fn drop_all_breaks(edges: &mut [Edge])
+    ensures { edges.new ≡ map unbroken_outer edges.old }
+{
+    for index in 0..edges.len() {
+        edges[index].drop_breaks();
+    }
 }
 
 /// The nodes of what is valid at the configuration node, which has nothing.
@@ -216,6 +228,15 @@ impl Nodes {
         self.edges[usize::from(place.node)].sent(place.session)
     }
 
+    /// How many octets the node of an end keeps there: those of a message that is not whole yet.
+    pub fn kept(&self, place: Place) -> usize
+        requires node { place.node < length self.now.seats }
+        requires session { place.session < length (seat self.now.seats place.node).posts }
+        ensures { result ≡ length (kept_at self.now.seats place) }
+    {
+        self.cores.pending(place.node, place.session)
+    }
+
     pub fn set_notice(&mut self, place: Place, waits: bool)
         requires node { place.node < length self.old.seats }
         requires session { place.session < length (seat self.old.seats place.node).posts }
@@ -234,6 +255,52 @@ impl Nodes {
         ensures failed { self.new.failed ≡ self.old.failed }
     {
         self.edges[usize::from(place.node)].pop(place.session)
+    }
+
+    /// Takes out n octets that left an end, or all where there are fewer, behind those that are passed over, as they
+    /// were taken before. A message leaves with its last octet.
+    pub fn take_octets(
+        &mut self,
+        alloc: Global,
+        place: Place,
+        skip: usize,
+        n: usize,
+    ) -> Result<Vec<u8>, NoMemory>
+        requires node { place.node < length self.old.seats }
+        requires session { place.session < length (seat self.old.seats place.node).posts }
+        ensures octets { IfOk result (λ octets. octets.items
+            ≡ take n (drop skip (concat (link_at self.old.seats place)))) }
+        ensures rest { IfOk result (λ _. self.new.seats
+            ≡ with_link place (untaken (skip + n) (link_at self.old.seats place)) self.old.seats) }
+        ensures failed { IfOk result (λ _. self.new.failed ≡ self.old.failed) }
+    {
+        match self.edges[usize::from(place.node)].take_octets(alloc, place.session, skip, n) {
+            Ok(octets) => Ok(octets),
+            Err(NoMemory) => {
+                self.failed = true;
+                Err(NoMemory)
+            }
+        }
+    }
+
+    /// The n-th send from now on fails at an end. Where memory is wanting nothing changes.
+    pub fn add_break(&mut self, place: Place, n: u32) -> Result<(), NoMemory>
+        requires node { place.node < length self.old.seats }
+        requires session { place.session < length (seat self.old.seats place.node).posts }
+        requires some { 1 ≤ n }
+        ensures ok { OnOk result (self.new.seats ≡ with_break_at place n self.old.seats) }
+        ensures err { OnErr result (self.new.seats ≡ self.old.seats) }
+        ensures failed { self.new.failed ≡ self.old.failed }
+    {
+        self.edges[usize::from(place.node)].add_break(place.session, n)
+    }
+
+    /// No send is to fail any more.
+    pub fn drop_breaks(&mut self)
+        ensures dropped { self.new.seats ≡ map unbroken self.old.seats }
+        ensures failed { self.new.failed ≡ self.old.failed }
+    {
+        drop_all_breaks(&mut self.edges);
     }
 
     /// Takes out all messages that left an end.
@@ -266,7 +333,7 @@ impl Nodes {
     }
 
     /// A node that is not the configuration node loses all that it has, with the messages that left it and the notices
-    /// at its ends.
+    /// at its ends. Which of its sends are to fail stays.
     pub fn restart(&mut self, node: u16)
         requires above { 0 < node }
         requires node { node < length self.old.seats }

@@ -1,4 +1,4 @@
-use Rattle.std.proofs.Common.{ap, sym, ◌∙◌, ◌<◌, ◌≤◌, ℕ, List, true, false, length, arith, refl}
+use Rattle.std.proofs.Common.{ap, sym, ◌∙◌, ◌<◌, ◌≤◌, ℕ, List, length, arith, refl}
 use Rattle.ov_types.specs.First.{same_name}
 use Rattle.net_seats.specs.Halves.{Outer}
 use Rattle.net_seats.proofs.Found.{here, later, none_left}

@@ -1,4 +1,4 @@
-use Rattle.std.proofs.Common.{ap, subst, sym, ◌<◌, ◌≤◌, ◌≡◌, ◌++◌, ◌∙◌, [], List, get_or, length, map, refl, arith}
+use Rattle.std.proofs.Common.{ap, subst, sym, ◌<◌, ◌≤◌, ◌≡◌, ◌++◌, ◌∙◌, List, get_or, length, map, refl, arith}
 use Rattle.std.proofs.lemmas.List.{append-nil}
 use Rattle.std.specs.List.{All, Contains}
 use Rattle.config_check.specs.Rules.{controller_names}

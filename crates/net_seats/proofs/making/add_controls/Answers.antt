@@ -1,4 +1,4 @@
-use Rattle.std.proofs.Common.{ap, sym, ◌≤◌, ◌++◌, ◌∙◌, [], List, length, map, refl, arith}
+use Rattle.std.proofs.Common.{ap, sym, ◌≤◌, ◌++◌, ◌∙◌, List, length, map, refl, arith}
 use Rattle.std.proofs.lemmas.List.{append-nil}
 use Rattle.ov_types.specs.declared.rows.NodeId.{NodeId}
 use Rattle.control_node.specs.Core.{fresh}

@@ -1,4 +1,4 @@
-use Rattle.std.proofs.Common.{[], List, ap, arith, length, set, sym, ◌<◌, ◌≡◌, ◌∙◌}
+use Rattle.std.proofs.Common.{List, ap, arith, length, set, sym, ◌<◌, ◌≡◌, ◌∙◌}
 use Rattle.std.proofs.lemmas.List.{get_or-set_same}
 use Rattle.net_model.specs.Seats.{Seat}
 use Rattle.net_model.specs.Steps.{emptied}
@@ -14,6 +14,9 @@ restart-requires-clause-node c = below_inner c.args.cores.now c.args.edges.now c
 
 pub restart-requires-clause-long : goal.restart-requires-clause-long
 restart-requires-clause-long c = (halves_at c.args.cores.now c.args.edges.now c.args.node c.requires.halves (let many : length (joined c.args.cores.now c.args.edges.now) ≡ length c.args.edges.now = as_many_seats c.args.cores.now c.args.edges.now c.requires.halves in let lt : c.args.node < length c.args.edges.now = omega (arith, c.requires.node) in lt)).posts
+
+pub restart-requires-clause-kept : goal.restart-requires-clause-kept
+restart-requires-clause-kept c = (halves_at c.args.cores.now c.args.edges.now c.args.node c.requires.halves (let many : length (joined c.args.cores.now c.args.edges.now) ≡ length c.args.edges.now = as_many_seats c.args.cores.now c.args.edges.now c.requires.halves in let lt : c.args.node < length c.args.edges.now = omega (arith, c.requires.node) in lt)).kept
 
 pub bounds-edges-from : goal.bounds-edges-from
 bounds-edges-from c = let below : c.args.node < length c.args.edges.now = (let many : length (joined c.args.cores.now c.args.edges.now) ≡ length c.args.edges.now = as_many_seats c.args.cores.now c.args.edges.now c.requires.halves in let lt : c.args.node < length c.args.edges.now = omega (arith, c.requires.node) in lt) in omega (arith, c.from.ensures)

@@ -1,9 +1,9 @@
-use Rattle.std.proofs.Common.{[], IfOk, ap, arith, true, false, length, subst, sym, ◌<◌, ◌≡◌, ◌∙◌}
+use Rattle.std.proofs.Common.{ap, arith, true, false, length, subst, sym, ◌<◌, ◌≡◌, ◌∙◌}
 use Rattle.node_core.specs.Whole.{Comes}
 use Rattle.net_model.specs.Seats.{Seat, is_live}
-use Rattle.net_seats.specs.Changes.{TakesOver}
-use Rattle.net_seats.specs.Halves.{IsEven, Outer, inner, joined}
+use Rattle.net_seats.specs.Halves.{Outer, joined}
 use Rattle.net_seats.proofs.Halves.{as_many_seats, halves_at, seat_at}
+use Rattle.net_seats.proofs.Links.{edge_of, even_of, links_long}
 use Rattle.net_seats.proofs.Standing.{below_inner, links_are, posts_are, seat_kept, takes_at}
 use Rattle.net_seats.proofs.nodes.take_at.Goals as goal
 
@@ -20,8 +20,13 @@ take-requires-clause-known c =
 pub take-requires-clause-long : goal.take-requires-clause-long
 take-requires-clause-long c = (halves_at c.args.cores.now c.args.edges.now c.args.node c.requires.halves (let many : length (joined c.args.cores.now c.args.edges.now) ≡ length c.args.edges.now = as_many_seats c.args.cores.now c.args.edges.now c.requires.halves in let lt : c.args.node < length c.args.edges.now = omega (arith, c.requires.node) in lt)).posts
 
+pub take-requires-clause-kept : goal.take-requires-clause-kept
+take-requires-clause-kept c = (halves_at c.args.cores.now c.args.edges.now c.args.node c.requires.halves (let many : length (joined c.args.cores.now c.args.edges.now) ≡ length c.args.edges.now = as_many_seats c.args.cores.now c.args.edges.now c.requires.halves in let lt : c.args.node < length c.args.edges.now = omega (arith, c.requires.node) in lt)).kept
+
 pub take-requires-clause-linked : goal.take-requires-clause-linked
-take-requires-clause-linked c = ap (λ (o : Outer). length o.links) (c.edge.view_is ∙ sym c.index-edges-from.is) ∙ links_are c.args.cores.now c.args.edges.now c.requires.halves c.from.result c.args.node c.from.ensures (let many : length (joined c.args.cores.now c.args.edges.now) ≡ length c.args.edges.now = as_many_seats c.args.cores.now c.args.edges.now c.requires.halves in let lt : c.args.node < length c.args.edges.now = omega (arith, c.requires.node) in lt) c.index-edges-from.result c.index-edges-from.is
+take-requires-clause-linked c =
+    links_long c.edge.inside.name c.edge.inside.others c.edge.inside.notices.items c.edge.inside.links c.index-edges-from.result (c.edge.view_is ∙ sym c.index-edges-from.is)
+    ∙ links_are c.args.cores.now c.args.edges.now c.requires.halves c.from.result c.args.node c.from.ensures (let many : length (joined c.args.cores.now c.args.edges.now) ≡ length c.args.edges.now = as_many_seats c.args.cores.now c.args.edges.now c.requires.halves in let lt : c.args.node < length c.args.edges.now = omega (arith, c.requires.node) in lt) c.index-edges-from.result c.index-edges-from.is
 
 pub take-requires-clause-comes : goal.take-requires-clause-comes
 take-requires-clause-comes c =
@@ -30,16 +35,13 @@ take-requires-clause-comes c =
 
 pub returns-clause-halves : goal.returns-clause-halves
 returns-clause-halves c =
-    let even : IsEven (let o : Outer = record { name = c.edge.inside.name; others = c.edge.inside.others; links = c.take.new.links; notices = c.edge.inside.notices.items } in o) = record {
-      links = c.take.ensures.links ∙ c.edge.invariant.links;
-      notices = c.edge.invariant.notices;
-      few = c.edge.invariant.few;
-    } in
-    seat_kept c.args.cores.now c.args.edges.now c.requires.halves c.from.result c.args.node c.from.ensures (let many : length (joined c.args.cores.now c.args.edges.now) ≡ length c.args.edges.now = as_many_seats c.args.cores.now c.args.edges.now c.requires.halves in let lt : c.args.node < length c.args.edges.now = omega (arith, c.requires.node) in lt) c.take.new.self c.index-edges-from.result (let o : Outer = record { name = c.edge.inside.name; others = c.edge.inside.others; links = c.take.new.links; notices = c.edge.inside.notices.items } in o) c.index-edges-from.is c.take.ensures.one
+    let later = edge_of c.edge.inside.name c.edge.inside.others c.edge.inside.notices.items c.take.new.links in
+    let even = even_of c.edge.inside.name c.edge.inside.others c.edge.inside.notices.items c.edge.inside.links c.take.new.links c.edge.invariant c.take.ensures.links in
+    seat_kept c.args.cores.now c.args.edges.now c.requires.halves c.from.result c.args.node c.from.ensures (let many : length (joined c.args.cores.now c.args.edges.now) ≡ length c.args.edges.now = as_many_seats c.args.cores.now c.args.edges.now c.requires.halves in let lt : c.args.node < length c.args.edges.now = omega (arith, c.requires.node) in lt) c.take.new.self c.index-edges-from.result later c.index-edges-from.is c.take.ensures.one
     (ap (λ (o : Outer). o.name) (c.edge.view_is ∙ sym c.index-edges-from.is)) (ap (λ (o : Outer). o.others) (c.edge.view_is ∙ sym c.index-edges-from.is)) even
 
 pub returns-clause-takes : goal.returns-clause-takes
 returns-clause-takes c =
-    takes_at c.args.cores.now c.args.edges.now c.requires.halves c.from.result c.args.node c.from.ensures (let many : length (joined c.args.cores.now c.args.edges.now) ≡ length c.args.edges.now = as_many_seats c.args.cores.now c.args.edges.now c.requires.halves in let lt : c.args.node < length c.args.edges.now = omega (arith, c.requires.node) in lt) c.take.new.self c.index-edges-from.result (let o : Outer = record { name = c.edge.inside.name; others = c.edge.inside.others; links = c.take.new.links; notices = c.edge.inside.notices.items } in o) c.index-edges-from.is c.take.result c.args.input c.take.ensures.one.one
-    (ap (λ (o : Outer). o.notices) (c.edge.view_is ∙ sym c.index-edges-from.is))
-    (subst (λ (o : Outer). IfOk c.take.result (λ _. TakesOver o.links c.take.new.links (inner c.args.cores.now c.args.node) (inner c.take.new.self c.args.node) c.args.input)) (c.edge.view_is ∙ sym c.index-edges-from.is) c.take.ensures.takes)
+    takes_at c.args.cores.now c.args.edges.now c.requires.halves c.from.result c.args.node c.from.ensures (let many : length (joined c.args.cores.now c.args.edges.now) ≡ length c.args.edges.now = as_many_seats c.args.cores.now c.args.edges.now c.requires.halves in let lt : c.args.node < length c.args.edges.now = omega (arith, c.requires.node) in lt) c.take.new.self
+    c.edge.inside.name c.edge.inside.others c.edge.inside.notices.items c.edge.inside.links c.take.new.links c.index-edges-from.result c.index-edges-from.is (c.edge.view_is ∙ sym c.index-edges-from.is)
+    c.take.result c.args.input c.take.ensures.one.one c.take.ensures.takes

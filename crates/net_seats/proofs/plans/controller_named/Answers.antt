@@ -1,4 +1,4 @@
-use Rattle.std.proofs.Common.{ap, sym, ◌∙◌, ◌≤◌, List, true, false, find, length, arith}
+use Rattle.std.proofs.Common.{ap, sym, ◌∙◌, ◌≤◌, List, find, length, arith}
 use Rattle.std.specs.Option.{unwrap_or}
 use Rattle.std.specs.declared.option.Option.{Option}
 use Rattle.ov_types.specs.First.{same_name}

@@ -35,9 +35,9 @@ is_up-requires-in-Agent c =
 pub returns-in-Control : goal.returns-in-Control
 returns-in-Control c =
     c.is_up-in-Control.ensures
-    ∙ ap (λ (n : Inner). is_up (seated n [] []) c.args.session) (sym (control_is c.args.self.now c.self.inside.config c.self.inside.controls.items c.self.inside.agents.items c.args.node c.len.result c.in-Control.place c.self.view_is (omega (arith, c.len.ensures, c.self.inside.controls.ok.0)) c.index.result.now c.in-Control.ensures.number c.in-Control.ensures.within c.index.ensures))
+    ∙ ap (λ (n : Inner). is_up (seated n [] [] []) c.args.session) (sym (control_is c.args.self.now c.self.inside.config c.self.inside.controls.items c.self.inside.agents.items c.args.node c.len.result c.in-Control.place c.self.view_is (omega (arith, c.len.ensures, c.self.inside.controls.ok.0)) c.index.result.now c.in-Control.ensures.number c.in-Control.ensures.within c.index.ensures))
 
 pub returns-in-Agent : goal.returns-in-Agent
 returns-in-Agent c =
     c.is_up-in-Agent.ensures
-    ∙ ap (λ (n : Inner). is_up (seated n [] []) c.args.session) (sym (agent_is c.args.self.now c.self.inside.config c.self.inside.controls.items c.self.inside.agents.items c.args.node c.len.result c.in-Agent.place c.self.view_is (omega (arith, c.len.ensures, c.self.inside.controls.ok.0)) c.index-in-Agent.result.now c.in-Agent.ensures.number c.requires.node c.index-in-Agent.ensures))
+    ∙ ap (λ (n : Inner). is_up (seated n [] [] []) c.args.session) (sym (agent_is c.args.self.now c.self.inside.config c.self.inside.controls.items c.self.inside.agents.items c.args.node c.len.result c.in-Agent.place c.self.view_is (omega (arith, c.len.ensures, c.self.inside.controls.ok.0)) c.index-in-Agent.result.now c.in-Agent.ensures.number c.requires.node c.index-in-Agent.ensures))

@@ -21,6 +21,18 @@ take_control-requires-clause-long c =
     (control_is c.args.self.now c.self.inside.config c.self.inside.controls.items c.self.inside.agents.items c.args.node c.len.result c.in-Control.place c.self.view_is (omega (arith, c.len.ensures, c.self.inside.controls.ok.0)) c.index_mut.result.now c.in-Control.ensures.number c.in-Control.ensures.within c.index_mut.ensures.value)
     c.requires.long
 
+pub take_control-requires-clause-linked : goal.take_control-requires-clause-linked
+take_control-requires-clause-linked c =
+    subst (λ (n : Inner). length c.args.links.now ≡ length (others_of n.who))
+    (control_is c.args.self.now c.self.inside.config c.self.inside.controls.items c.self.inside.agents.items c.args.node c.len.result c.in-Control.place c.self.view_is (omega (arith, c.len.ensures, c.self.inside.controls.ok.0)) c.index_mut.result.now c.in-Control.ensures.number c.in-Control.ensures.within c.index_mut.ensures.value)
+    c.requires.linked
+
+pub take_control-requires-clause-kept : goal.take_control-requires-clause-kept
+take_control-requires-clause-kept c =
+    subst (λ (n : Inner). length n.kept ≡ length (others_of n.who))
+    (control_is c.args.self.now c.self.inside.config c.self.inside.controls.items c.self.inside.agents.items c.args.node c.len.result c.in-Control.place c.self.view_is (omega (arith, c.len.ensures, c.self.inside.controls.ok.0)) c.index_mut.result.now c.in-Control.ensures.number c.in-Control.ensures.within c.index_mut.ensures.value)
+    c.requires.kept
+
 pub take_control-requires-clause-comes : goal.take_control-requires-clause-comes
 take_control-requires-clause-comes c =
     subst (λ (n : Inner). Comes (λ i. live n i ≡ true) (λ i. live n i ≡ false) c.args.input)
@@ -32,7 +44,7 @@ returns-in-Control-clause-one c =
     changes_one c.args.self.now (inners c.self.inside.config (set c.self.inside.controls.items c.in-Control.place c.take_control.new.node) c.self.inside.agents.items) c.args.node (controlled c.index_mut.result.now) (controlled c.take_control.new.node)
     (control_is c.args.self.now c.self.inside.config c.self.inside.controls.items c.self.inside.agents.items c.args.node c.len.result c.in-Control.place c.self.view_is (omega (arith, c.len.ensures, c.self.inside.controls.ok.0)) c.index_mut.result.now c.in-Control.ensures.number c.in-Control.ensures.within c.index_mut.ensures.value)
     (control_set c.args.self.now c.self.inside.config c.self.inside.controls.items c.self.inside.agents.items c.args.node c.len.result c.in-Control.place c.self.view_is (omega (arith, c.len.ensures, c.self.inside.controls.ok.0)) c.take_control.new.node c.in-Control.ensures.number c.in-Control.ensures.within)
-    c.requires.node (ap (λ (plan : ControlPlan). name_of (Controlling plan)) c.take_control.ensures.plan) (ap (λ (plan : ControlPlan). others_of (Controlling plan)) c.take_control.ensures.plan) c.take_control.ensures.long
+    c.requires.node (ap (λ (plan : ControlPlan). name_of (Controlling plan)) c.take_control.ensures.plan) (ap (λ (plan : ControlPlan). others_of (Controlling plan)) c.take_control.ensures.plan) c.take_control.ensures.long c.take_control.ensures.kept
 
 pub returns-in-Control-clause-takes : goal.returns-in-Control-clause-takes
 returns-in-Control-clause-takes c =
@@ -54,6 +66,12 @@ take_agent-requires-clause-long c =
     (agent_is c.args.self.now c.self.inside.config c.self.inside.controls.items c.self.inside.agents.items c.args.node c.len.result c.in-Agent.place c.self.view_is (omega (arith, c.len.ensures, c.self.inside.controls.ok.0)) c.index_mut-in-Agent.result.now c.in-Agent.ensures.number c.requires.node c.index_mut-in-Agent.ensures.value)
     c.requires.long
 
+pub take_agent-requires-clause-kept : goal.take_agent-requires-clause-kept
+take_agent-requires-clause-kept c =
+    subst (λ (n : Inner). length n.kept ≡ length (others_of n.who))
+    (agent_is c.args.self.now c.self.inside.config c.self.inside.controls.items c.self.inside.agents.items c.args.node c.len.result c.in-Agent.place c.self.view_is (omega (arith, c.len.ensures, c.self.inside.controls.ok.0)) c.index_mut-in-Agent.result.now c.in-Agent.ensures.number c.requires.node c.index_mut-in-Agent.ensures.value)
+    c.requires.kept
+
 pub take_agent-requires-clause-linked : goal.take_agent-requires-clause-linked
 take_agent-requires-clause-linked c =
     subst (λ (n : Inner). length c.args.links.now ≡ length (others_of n.who))
@@ -71,7 +89,7 @@ returns-in-Agent-clause-one c =
     changes_one c.args.self.now (inners c.self.inside.config c.self.inside.controls.items (set c.self.inside.agents.items c.in-Agent.place c.take_agent.new.node)) c.args.node (forwarded c.index_mut-in-Agent.result.now) (forwarded c.take_agent.new.node)
     (agent_is c.args.self.now c.self.inside.config c.self.inside.controls.items c.self.inside.agents.items c.args.node c.len.result c.in-Agent.place c.self.view_is (omega (arith, c.len.ensures, c.self.inside.controls.ok.0)) c.index_mut-in-Agent.result.now c.in-Agent.ensures.number c.requires.node c.index_mut-in-Agent.ensures.value)
     (agent_set c.args.self.now c.self.inside.config c.self.inside.controls.items c.self.inside.agents.items c.args.node c.len.result c.in-Agent.place c.self.view_is (omega (arith, c.len.ensures, c.self.inside.controls.ok.0)) c.take_agent.new.node c.in-Agent.ensures.number)
-    c.requires.node (ap (λ (plan : AgentPlan). name_of (Forwarding plan)) c.take_agent.ensures.plan) (ap (λ (plan : AgentPlan). others_of (Forwarding plan)) c.take_agent.ensures.plan) c.take_agent.ensures.long
+    c.requires.node (ap (λ (plan : AgentPlan). name_of (Forwarding plan)) c.take_agent.ensures.plan) (ap (λ (plan : AgentPlan). others_of (Forwarding plan)) c.take_agent.ensures.plan) c.take_agent.ensures.long c.take_agent.ensures.kept
 
 pub returns-in-Agent-clause-takes : goal.returns-in-Agent-clause-takes
 returns-in-Agent-clause-takes c =

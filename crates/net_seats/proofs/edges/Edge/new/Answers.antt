@@ -1,8 +1,10 @@
-use Rattle.std.proofs.Common.{ap, ◌∙◌, ◌≤◌, ◌≡◌, ℕ, Bool, false, List, [], length, take, refl, arith}
+use Rattle.std.proofs.Common.{ap, ◌∙◌, ◌≤◌, ◌≡◌, false, List, [], length, take, refl, arith}
 use Rattle.std.proofs.lemmas.List.{length-take-le}
 use Rattle.network_model.specs.Setup.{Name}
 use Rattle.net_model.specs.Steps.{all_of}
-use Rattle.net_seats.specs.Halves.{Outer}
+use Rattle.net_seats.specs.Halves.{accepted_of, breaks_of}
+use Rattle.ov_link.specs.FailingState.{FailingState}
+use Rattle.net_seats.proofs.Links.{fresh_accepted, fresh_breaks, fresh_link}
 use Rattle.net_seats.proofs.Pushed.{all_pushed, pushed}
 use Rattle.net_seats.proofs.Stepping.{as_long}
 use Rattle.net_seats.proofs.edges.Edge.new.Goals as goal
@@ -14,31 +16,40 @@ pub push-requires : goal.push-requires
 push-requires c =
     let items : length c.as_slice-other-items.result.now ≡ length c.args.others = ap length c.as_slice-other-items.ensures in
     let long : length c.loop-other.links ≡ length (take c.loop-other._other-index c.as_slice-other-items.result.now) =
-    ap length c.loop-other.invariant.links ∙ as_long [] (take c.loop-other._other-index c.as_slice-other-items.result.now) in
+    ap length c.loop-other.invariant.links ∙ as_long fresh_link (take c.loop-other._other-index c.as_slice-other-items.result.now) in
     omega (arith, length-take-le c.loop-other._other-index c.as_slice-other-items.result.now)
 
 pub loop-other-preserved : goal.loop-other-preserved
 loop-other-preserved c = record {
-  links = pushed (λ (n : Name). let q : List (List ℕ) = [] in q) [] c.loop-other.links c.push.new.self c.as_slice-other-items.result.now c.loop-other._other-index c._other-item.result c.new.result c.loop-other.invariant.links c.in_ok-push.ensures.ok c.new.ensures c._other-item.is c.loop-other-test.true;
+  links = pushed (λ (n : Name). fresh_link) [] c.loop-other.links c.push.new.self c.as_slice-other-items.result.now c.loop-other._other-index c._other-item.result c.new.result c.loop-other.invariant.links c.in_ok-push.ensures.ok c.new.ensures c._other-item.is c.loop-other-test.true;
   notices = pushed (λ (n : Name). false) [] c.loop-other.notices.items c.push-in-loop-other.new.self.items c.as_slice-other-items.result.now c.loop-other._other-index c._other-item.result false c.loop-other.invariant.notices c.in_ok-push-2.ensures.items refl c._other-item.is c.loop-other-test.true;
 }
 
+-- the links of fresh ends
+links_are : (others : List Name) (links : List FailingState) (items : List Name) → links ≡ all_of fresh_link items → items ≡ others → links ≡ all_of fresh_link others
+links_are others links items is same = is ∙ ap (λ (xs : List Name). all_of fresh_link xs) same
+
 pub invariant_of-result : goal.invariant_of-result
 invariant_of-result c =
-    let items : length c.as_slice-other-items.result.now ≡ length c.args.others = ap length c.as_slice-other-items.ensures in
     let all : length c.as_slice-other-items.result.now ≤ c.loop-other._other-index = omega arith in
+    let links : c.loop-other.links ≡ all_of fresh_link c.args.others =
+    links_are c.args.others c.loop-other.links c.as_slice-other-items.result.now (all_pushed (λ (n : Name). fresh_link) [] c.loop-other.links c.as_slice-other-items.result.now c.loop-other._other-index c.loop-other.invariant.links all) c.as_slice-other-items.ensures in
+    let notices : c.loop-other.notices.items ≡ all_of false c.args.others =
+    all_pushed (λ (n : Name). false) [] c.loop-other.notices.items c.as_slice-other-items.result.now c.loop-other._other-index c.loop-other.invariant.notices all ∙ ap (λ (xs : List Name). all_of false xs) c.as_slice-other-items.ensures in
     record {
-      links = ap length (all_pushed (λ (n : Name). let q : List (List ℕ) = [] in q) [] c.loop-other.links c.as_slice-other-items.result.now c.loop-other._other-index c.loop-other.invariant.links all) ∙ (as_long [] c.as_slice-other-items.result.now ∙ items);
-      notices = ap length (all_pushed (λ (n : Name). false) [] c.loop-other.notices.items c.as_slice-other-items.result.now c.loop-other._other-index c.loop-other.invariant.notices all) ∙ (as_long false c.as_slice-other-items.result.now ∙ items);
+      links = ap length (ap accepted_of links ∙ fresh_accepted c.args.others) ∙ as_long [] c.args.others;
+      breaks = ap length (ap breaks_of links ∙ fresh_breaks c.args.others) ∙ as_long [] c.args.others;
+      notices = ap length notices ∙ as_long false c.args.others;
       few = c.requires;
     }
 
 pub returns : goal.returns
 returns c =
     let all : length c.as_slice-other-items.result.now ≤ c.loop-other._other-index = omega arith in
-    let links : c.loop-other.links ≡ all_of [] c.args.others =
-    all_pushed (λ (n : Name). let q : List (List ℕ) = [] in q) [] c.loop-other.links c.as_slice-other-items.result.now c.loop-other._other-index c.loop-other.invariant.links all ∙ ap (λ (xs : List Name). all_of [] xs) c.as_slice-other-items.ensures in
+    let links : c.loop-other.links ≡ all_of fresh_link c.args.others =
+    links_are c.args.others c.loop-other.links c.as_slice-other-items.result.now (all_pushed (λ (n : Name). fresh_link) [] c.loop-other.links c.as_slice-other-items.result.now c.loop-other._other-index c.loop-other.invariant.links all) c.as_slice-other-items.ensures in
     let notices : c.loop-other.notices.items ≡ all_of false c.args.others =
     all_pushed (λ (n : Name). false) [] c.loop-other.notices.items c.as_slice-other-items.result.now c.loop-other._other-index c.loop-other.invariant.notices all ∙ ap (λ (xs : List Name). all_of false xs) c.as_slice-other-items.ensures in
-    ap (λ (ls : List (List (List ℕ))). let o : Outer = record { name = c.args.name; others = c.args.others; links = ls; notices = c.loop-other.notices.items } in o) links
-    ∙ ap (λ (ns : List Bool). let o : Outer = record { name = c.args.name; others = c.args.others; links = all_of [] c.args.others; notices = ns } in o) notices
+    let accepted = ap accepted_of links ∙ fresh_accepted c.args.others in
+    let breaks = ap breaks_of links ∙ fresh_breaks c.args.others in
+    λ i. record { name = c.args.name; others = c.args.others; links = accepted i; breaks = breaks i; notices = notices i }

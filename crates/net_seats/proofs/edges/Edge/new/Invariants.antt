@@ -1,9 +1,10 @@
-use Rattle.std.proofs.Common.{◌≡◌, [], false, take}
+use Rattle.std.proofs.Common.{◌≡◌, false, take}
 use Rattle.net_model.specs.Steps.{all_of}
+use Rattle.net_seats.proofs.Links.{fresh_link}
 use Rattle.net_seats.proofs.edges.Edge.new.Given as goal
 
 abbrev pub invariant-loop-other : goal.invariant-loop-other
 invariant-loop-other l = record {
-  links : l.links ≡ all_of [] (take l._other-index l._other-items);
+  links : l.links ≡ all_of fresh_link (take l._other-index l._other-items);
   notices : l.notices.items ≡ all_of false (take l._other-index l._other-items);
 }

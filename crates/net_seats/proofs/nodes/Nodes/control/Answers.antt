@@ -1,4 +1,4 @@
-use Rattle.std.proofs.Common.{List, ap, sym, ◌≡◌, ◌∙◌}
+use Rattle.std.proofs.Common.{List, ap, sym, ◌∙◌}
 use Rattle.net_model.specs.Seats.{Seat, seat}
 use Rattle.net_seats.specs.Cores.{held_by}
 use Rattle.net_seats.specs.Halves.{Standing}

@@ -1,4 +1,4 @@
-use Rattle.std.proofs.Common.{[], List, ap, arith, length, sym, ◌≡◌, ◌∙◌, refl}
+use Rattle.std.proofs.Common.{List, ap, arith, length, sym, ◌≡◌, ◌∙◌, refl}
 use Rattle.net_model.specs.Seats.{Seat, seat, is_up}
 use Rattle.net_seats.specs.Halves.{Standing, joined}
 use Rattle.net_seats.proofs.Halves.{seat_at}

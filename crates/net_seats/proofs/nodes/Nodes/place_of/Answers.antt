@@ -1,4 +1,4 @@
-use Rattle.std.proofs.Common.{[], List, ap, arith, length, sym, ◌<◌, ◌≡◌, ◌∙◌, ◌+◌, ℕ, Some}
+use Rattle.std.proofs.Common.{List, ap, arith, length, sym, ◌<◌, ◌≡◌, ◌∙◌, ◌+◌, ℕ, Some}
 use Rattle.std.specs.declared.option.Option.{Option}
 use Rattle.std.specs.Option.{option_map}
 use Rattle.ov_types.specs.First.{same_name}

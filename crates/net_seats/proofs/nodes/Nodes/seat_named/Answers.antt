@@ -1,4 +1,4 @@
-use Rattle.std.proofs.Common.{[], List, ap, ◌∙◌}
+use Rattle.std.proofs.Common.{List, ap, ◌∙◌}
 use Rattle.ov_types.specs.First.{same_name}
 use Rattle.net_model.specs.Seats.{Seat, index_from, seat_named}
 use Rattle.net_seats.specs.Halves.{Outer, Standing}

@@ -1,4 +1,4 @@
-use Rattle.std.proofs.Common.{[], List, ap, arith, length, sym, ◌∙◌}
+use Rattle.std.proofs.Common.{List, ap, arith, length, sym, ◌∙◌}
 use Rattle.net_model.specs.Seats.{Seat, seat}
 use Rattle.net_seats.specs.Halves.{Standing}
 use Rattle.net_seats.proofs.Standing.{below_all, others_are}

@@ -1,4 +1,4 @@
-use Rattle.std.proofs.Common.{[], List, ap, arith, length, set, subst, sym, ◌≡◌, ◌∙◌}
+use Rattle.std.proofs.Common.{List, ap, arith, length, set, subst, sym, ◌≡◌, ◌∙◌}
 use Rattle.std.proofs.lemmas.List.{length-set}
 use Rattle.net_model.specs.Seats.{Seat, seat}
 use Rattle.net_seats.specs.Halves.{IsEven, Outer, Standing, inner, joined, whole}

@@ -1,4 +1,4 @@
-use Rattle.std.proofs.Common.{[], List, ap, sym, ◌∙◌}
+use Rattle.std.proofs.Common.{List, ap, sym, ◌∙◌}
 use Rattle.net_model.specs.Seats.{Seat}
 use Rattle.net_seats.specs.Halves.{Standing}
 use Rattle.net_seats.proofs.Halves.{forwarded_by}
