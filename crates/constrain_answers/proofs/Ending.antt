@@ -5,7 +5,6 @@ use Rattle.std.specs.declared.option.Option.TheVariants.{Some}
 use Rattle.std.specs.declared.result.Result.{Result}
 use Rattle.std.specs.declared.result.Result.TheVariants.{Ok, Err}
 use Rattle.std.specs.Io.KnownBytes.{Appends}
-use Rattle.std.proofs.Common.{refl}
 use Rattle.config_check.specs.Checked.{Checked}
 use Rattle.document_answers.specs.declared.unfit.Verdict.{Verdict}
 use Rattle.document_answers.specs.declared.unfit.Verdict.TheVariants.{Good}
@@ -15,20 +14,21 @@ use Rattle.headline_laws.proofs.Written.{written_settle_settles}
 use Rattle.network_model.specs.Events.{Settle, next}
 use Rattle.network_model.specs.Steps.{is_settled}
 use Rattle.net_machine.specs.NetState.{NetState}
-use Rattle.net_model.specs.Stands.{any_size, moment}
+use Rattle.net_model.specs.Stands.{message_size, moment}
 use Rattle.net_model.proofs.Sizes.{positive}
 use Rattle.peering_laws.proofs.Heard.{all_hear}
 use Rattle.told_laws.specs.Moments.{IsMoment}
+use Rattle.told_laws.proofs.Moments.{moment_of}
 use Rattle.constrain_answers.specs.Constraint.{constrain_text, settling}
 use Rattle.constrain_answers.specs.Networks.{HasSettled, IsLeftSettled, IsReadAs, NoneNeedsMore, TookConstraint, input_of}
 
 -- the state after one settling
 once : (x : Checked) → IsWritten x → IsMoment (moment x settling)
-once x written = record { opening = x; written = written; events = Settle ∷ []; edits = (tt, tt); is = refl }
+once x written = moment_of x written (Settle ∷ []) (tt, tt)
 
 settled_once : (x : Checked) → IsWritten x → is_settled (moment x settling) ≡ true
 unfolding next
-settled_once x written = (written_settle_settles any_size positive x written [] tt).0
+settled_once x written = (written_settle_settles message_size positive x written [] tt).0
 
 -- the network that has settled
 pub left_settled : (octets : List ℕ) (x : Checked) (n : NetState) (left : Option NetState)

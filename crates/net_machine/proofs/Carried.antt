@@ -1,21 +1,22 @@
 -- What deliveries, rounds and connections keep.
-use Rattle.std.specs.Prelude.{◌≡◌, ◌<◌, ℕ, zero, suc, List, [], ◌∷◌, length, Bool, true, false}
+use Rattle.std.specs.Prelude.{◌≡◌, ◌<◌, ◌+◌, ℕ, zero, suc, List, [], ◌∷◌, length, Bool, true, false}
 use mathlib.Core.Bool.{beq}
 use Rattle.std.specs.declared.option.Option.{Option}
 use Rattle.std.specs.declared.option.Option.TheVariants.{Some, None}
 use Rattle.std.proofs.Common.{refl, sym, subst, arith}
 use Rattle.ov_link.specs.declared.step.Input.{Input}
 use Rattle.network_model.specs.Setup.{Name}
-use Rattle.net_model.specs.Seats.{Seat, far_of, link_at, live_at, notice_at, place_of}
-use Rattle.net_model.specs.Steps.{with_link, with_notice, with_seat}
+use Rattle.net_model.specs.Seats.{Seat, far_of, kept_at, link_at, live_at, notice_at, place_of}
+use Rattle.net_model.specs.Steps.{cleared, untaken, with_link, with_notice, with_seat}
 use Rattle.net_model.specs.declared.place.Place.{Place}
 use Rattle.net_machine.specs.declared.ends.SessionEnds.{SessionEnds}
 use Rattle.net_machine.specs.declared.round.Due.{Due}
-use Rattle.net_machine.specs.Connections.{Connects, ConnectsIf, OpensFar, OpensSecond, may_connect}
-use Rattle.net_machine.specs.Deliveries.{Delivers, DeliversIf, DeliversTo, TakesAt}
+use Rattle.net_machine.specs.Connections.{Connects, ConnectsIf, OpensFar, OpensSecond, goes_on, may_connect}
+use Rattle.net_machine.specs.Deliveries.{Delivers, DeliversIf, DeliversOctets, DeliversOctetsIf, DeliversOctetsTo}
+use Rattle.net_machine.specs.Deliveries.{DeliversTo, TakesAt}
 use Rattle.net_machine.specs.Rounds.{DeliversDue, DeliversDues, DeliversWhere}
 use Rattle.net_machine.specs.Seating.{AreLong, AreSeated, Keeps, ends_at, ends_from, ends_of}
-use Rattle.net_machine.proofs.Changes.{discards_keeps, link_keeps, notice_keeps, opens_keeps, takes_keeps}
+use Rattle.net_machine.proofs.Changes.{cleared_keeps, link_keeps, notice_keeps, opens_keeps, takes_keeps}
 use Rattle.net_machine.proofs.Kept.{ends_kept, keeps_all, keeps_both, seated_kept}
 use Rattle.net_machine.proofs.Seating.{ends_are_seated}
 
@@ -42,7 +43,7 @@ taken_keeps seats k input after long within h =
     let count = one.count in
     let there : k < length (with_seat k h.node seats) = omega (arith, within, count) in
     keeps_both seats (with_seat k h.node seats) after one
-    (discards_keeps (with_seat k h.node seats) k after one.long there h.discards)
+    (subst (Keeps (with_seat k h.node seats)) (sym h.is) (cleared_keeps (with_seat k h.node seats) k one.long there))
 
 to_keeps : (seats : List Seat) (e : SessionEnds) (notice : Bool) (messages : List (List ℕ)) (after : List Seat)
     → AreLong seats → AreSeated seats e → DeliversTo seats e notice messages after → Keeps seats after
@@ -66,6 +67,28 @@ if_keeps false seats e after long is h = subst (Keeps seats) (sym h) (keeps_all 
 pub delivers_keeps : (seats : List Seat) (e : SessionEnds) (after : List Seat) → AreLong seats → AreSeated seats e
     → Delivers seats e after → Keeps seats after
 delivers_keeps seats e after long is h = if_keeps (live_at seats e.near) seats e after long is h
+
+-- ---- octets
+octets_to_keep : (seats : List Seat) (e : SessionEnds) (n : ℕ) (notice : Bool) (messages : List (List ℕ)) (after : List Seat)
+    → AreLong seats → AreSeated seats e → DeliversOctetsTo seats e n notice messages after → Keeps seats after
+octets_to_keep seats e n true messages after long is h = to_keeps seats e true messages after long is h
+octets_to_keep seats e n false [] after long is h = subst (Keeps seats) (sym h) (keeps_all seats long)
+octets_to_keep seats e n false (octets ∷ messages) after long is h =
+    let rest = untaken (length (kept_at seats e.near) + n) (octets ∷ messages) in
+    let one = link_keeps seats e.far rest long is.far.node in
+    keeps_both seats (with_link e.far rest seats) after one
+    (taken_keeps (with_link e.far rest seats) e.near.node _ after one.long
+    (seated_kept seats (with_link e.far rest seats) e.near one is.near).node h.takes)
+
+octets_if_keep : (b : Bool) (seats : List Seat) (e : SessionEnds) (n : ℕ) (after : List Seat) → AreLong seats
+    → AreSeated seats e → DeliversOctetsIf b seats e n after → Keeps seats after
+octets_if_keep true seats e n after long is h =
+    octets_to_keep seats e n (notice_at seats e.near) (link_at seats e.far) after long is h
+octets_if_keep false seats e n after long is h = subst (Keeps seats) (sym h) (keeps_all seats long)
+
+pub octets_keep : (seats : List Seat) (e : SessionEnds) (n : ℕ) (after : List Seat) → AreLong seats → AreSeated seats e
+    → DeliversOctets seats e n after → Keeps seats after
+octets_keep seats e n after long is h = octets_if_keep (live_at seats e.near) seats e n after long is h
 
 -- ---- in a round
 where_keeps : (b : Bool) (d : Due) (seats after : List Seat) → AreLong seats → AreSeated seats d.ends
@@ -91,22 +114,25 @@ far_keeps : (seats : List Seat) (e : SessionEnds) (after : List Seat) → AreLon
 far_keeps seats e after long is h =
     let one = opens_keeps seats e.far h.opened long is.far.node h.opens in
     let near = seated_kept seats h.opened e.near one is.near in
-    let two = discards_keeps h.opened e.near.node h.between one.long near.node h.near in
-    let far = seated_kept seats h.between e.far (keeps_both seats h.opened h.between one two) is.far in
-    keeps_both seats h.opened after one (keeps_both h.opened h.between after two
-    (discards_keeps h.between e.far.node after two.long far.node h.far))
+    let two = cleared_keeps h.opened e.near.node one.long near.node in
+    let between = cleared h.opened e.near.node in
+    let far = seated_kept seats between e.far (keeps_both seats h.opened between one two) is.far in
+    subst (Keeps seats) (sym h.is)
+    (keeps_both seats h.opened (cleared between e.far.node) one (keeps_both h.opened between (cleared between e.far.node) two
+    (cleared_keeps between e.far.node two.long far.node)))
 
 second_keeps : (b : Bool) (seats : List Seat) (e : SessionEnds) (after : List Seat) → AreLong seats → AreSeated seats e
     → OpensSecond b seats e after → Keeps seats after
-second_keeps true seats e after long is h = subst (Keeps seats) (sym h) (keeps_all seats long)
-second_keeps false seats e after long is h = far_keeps seats e after long is h
+second_keeps true seats e after long is h = far_keeps seats e after long is h
+second_keeps false seats e after long is h =
+    subst (Keeps seats) (sym h) (cleared_keeps seats e.near.node long is.near.node)
 
 connects_if : (b : Bool) (seats : List Seat) (e : SessionEnds) (after : List Seat) → AreLong seats → AreSeated seats e
     → ConnectsIf b seats e after → Keeps seats after
 connects_if true seats e after long is h =
     let one = opens_keeps seats e.near h.opened long is.near.node h.first in
     keeps_both seats h.opened after one
-    (second_keeps (live_at h.opened e.far) h.opened e after one.long (ends_kept seats h.opened e one is) h.second)
+    (second_keeps (goes_on h.opened e) h.opened e after one.long (ends_kept seats h.opened e one is) h.second)
 connects_if false seats e after long is h = subst (Keeps seats) (sym h) (keeps_all seats long)
 
 pub connects_keeps : (seats : List Seat) (e : SessionEnds) (after : List Seat) → AreLong seats → AreSeated seats e

@@ -12,7 +12,7 @@ use Rattle.network_model.specs.Events.{Connect, is_earlier, next}
 use Rattle.network_model.specs.Moments.{Nodes, nodes}
 use Rattle.network_model.proofs.NodesFact.{connect_if_nodes}
 use Rattle.net_model.specs.Seats.{Seat}
-use Rattle.net_model.specs.Stands.{any_size}
+use Rattle.net_model.specs.Stands.{message_size}
 use Rattle.net_machine.specs.declared.ends.SessionEnds.{SessionEnds}
 use Rattle.net_machine.specs.Connections.{Connects, ConnectsAll}
 use Rattle.net_machine.specs.Seating.{Keeps, ends_of, order_among}
@@ -76,7 +76,7 @@ next_kept seats after w v (s ∷ ss) k e all = (
 
 module _ (M : Network → Type 0) (f : Facts M) where
   one_connection : (w : Network) (a b : Name) → is_earlier w.sessions a b ≡ true
-      → next any_size w (Connect a b) ≡ connect_if a b w
+      → next message_size w (Connect a b) ≡ connect_if a b w
   unfolding next
   one_connection w a b e = ap (λ c. cond c (connect_if a b w) (connect_if b a w)) e
 

@@ -1,5 +1,5 @@
 -- What several deliveries, and those of a round, make of the state for which seats stand.
-use Rattle.std.specs.Prelude.{◌≡◌, ℕ, zero, suc, List, [], ◌∷◌, Bool, true, false, cond}
+use Rattle.std.specs.Prelude.{◌≡◌, ◌<◌, ℕ, zero, suc, List, [], ◌∷◌, Bool, true, false, cond}
 use mathlib.Core.Bool.{beq}
 use Rattle.std.specs.declared.option.Option.TheVariants.{Some}
 use Rattle.std.specs.Option.{option_map, unwrap_or}
@@ -8,19 +8,19 @@ use Rattle.network_model.specs.Setup.{Name}
 use Rattle.network_model.specs.Session.{Session}
 use Rattle.network_model.specs.Network.{Network}
 use Rattle.network_model.specs.Steps.{Due as Waiting, deliver, deliver_all, deliver_due, notice_stands, repeat}
-use Rattle.network_model.specs.Events.{Deliver, next}
+use Rattle.network_model.specs.Events.{Deliver, DeliverOctets, next}
 use Rattle.net_model.specs.Seats.{Seat, notice_at}
-use Rattle.net_model.specs.Stands.{any_size}
+use Rattle.net_model.specs.Stands.{message_size}
 use Rattle.net_machine.specs.declared.ends.SessionEnds.{SessionEnds}
 use Rattle.net_machine.specs.declared.round.Due.{Due}
-use Rattle.net_machine.specs.Deliveries.{Delivers, DeliversMany}
+use Rattle.net_machine.specs.Deliveries.{Delivers, DeliversMany, DeliversOctets}
 use Rattle.net_machine.specs.Rounds.{DeliversAll, DeliversDue, DeliversDues, DeliversWhere}
 use Rattle.net_machine.specs.Seating.{AreSeated, Keeps, ends_of}
 use Rattle.net_machine.proofs.Carried.{delivers_keeps, due_keeps, dues_keeps, found_seated}
 use Rattle.net_machine.proofs.Facts.{At, Facts}
 use Rattle.net_machine.proofs.Kept.{ends_of_kept, keeps_all, keeps_both}
 
-one_delivery : (w : Network) (from to : Name) → next any_size w (Deliver from to 1) ≡ deliver from to w
+one_delivery : (w : Network) (from to : Name) → next message_size w (Deliver from to 1) ≡ deliver from to w
 unfolding next
 one_delivery w from to = refl
 
@@ -73,6 +73,16 @@ module _ (M : Network → Type 0) (f : Facts M) where
       let k = delivers_keeps seats e between h.stands.seats_are.long (ends_here seats w to from e h is) one in
       many_delivered n between after (deliver from to w) from to e (one_delivered seats between w from to e h is one)
       (ends_of_kept seats between to from k ∙ is) rest
+
+  -- ---- octets
+  pub octets_delivered : (seats after : List Seat) (w : Network) (from to : Name) (e : SessionEnds) (n : ℕ) → At M seats w
+      → ends_of seats to from ≡ Some e → 0 < n → DeliversOctets seats e n after
+      → At M after (next message_size w (DeliverOctets from to n))
+  unfolding next
+  octets_delivered seats after w from to e n h is some d = record {
+    moment = f.next w (DeliverOctets from to n) some h.moment;
+    stands = f.delivers_octets seats after w from to e n h.moment h.stands is some d;
+  }
 
   -- ---- in a round
   notice_there : (seats : List Seat) (w : Network) (d : Due) (m : Waiting) → At M seats w → IsDue seats d m

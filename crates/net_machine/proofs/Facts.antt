@@ -1,5 +1,5 @@
 -- What is asked of the seats of a network at a moment, for one step at a time.
-use Rattle.std.specs.Prelude.{◌≡◌, ℕ, suc, List, map, true, false, IsTrue}
+use Rattle.std.specs.Prelude.{◌≡◌, ◌<◌, ℕ, suc, List, map, true, false, IsTrue}
 use Rattle.std.specs.declared.option.Option.{Option}
 use Rattle.std.specs.declared.option.Option.TheVariants.{Some, None}
 use Rattle.std.specs.List.{AllByRecursion}
@@ -10,15 +10,17 @@ use Rattle.network_model.specs.Session as session
 use Rattle.network_model.specs.Session.{Session}
 use Rattle.network_model.specs.Network.{Network}
 use Rattle.network_model.specs.Steps as steps
-use Rattle.network_model.specs.Steps.{connect_if, deliver, session_of, without_breaks}
+use Rattle.network_model.specs.Steps.{connect_if, deliver, deliver_octets, session_of}
 use Rattle.network_model.specs.Events as events
-use Rattle.network_model.specs.Events.{Event, Edits as Changes, Lose, Restart, forwarders, is_node, next, shown}
+use Rattle.network_model.specs.Events.{Event, Break, DeliverOctets, Edits as Changes, Lose, Restart, forwarders, is_node}
+use Rattle.network_model.specs.Events.{next, shown}
 use Rattle.net_model.specs.Seats.{Seat, notice_at, seat, seat_named}
-use Rattle.net_model.specs.Stands.{StandsFor, any_size}
-use Rattle.net_model.specs.Steps.{forwarders_of, shown_by}
+use Rattle.net_model.specs.Stands.{StandsFor, message_size}
+use Rattle.net_model.specs.Steps.{forwarders_of, shown_by, unbroken as unbroken_seat, with_break_at}
+use Rattle.told_laws.specs.Moments.{unbroken}
 use Rattle.net_machine.specs.declared.ends.SessionEnds.{SessionEnds}
 use Rattle.net_machine.specs.Connections.{Connects, may_connect}
-use Rattle.net_machine.specs.Deliveries.{Delivers}
+use Rattle.net_machine.specs.Deliveries.{Delivers, DeliversOctets}
 use Rattle.net_machine.specs.Happenings.{Edits}
 use Rattle.net_steps.specs.Losing.{restarted}
 use Rattle.net_machine.specs.Losses.{lost}
@@ -52,9 +54,11 @@ abbrev pub IsNotAfter : Option ℕ → Type 0
 IsNotAfter (Some (suc k)) = ⊥
 IsNotAfter _ = Unit {0}
 
--- an edit is of the written form
+-- an edit is of the written form, and octets and sends are counted from 1
 abbrev pub MayHappen : Event → Type 0
 MayHappen (Changes e) = IsTrue (has_edit_form e)
+MayHappen (DeliverOctets from to n) = 0 < n
+MayHappen (Break from to n) = 0 < n
 MayHappen _ = Unit {0}
 
 -- ---- all of it, where M are the moments
@@ -66,25 +70,32 @@ pub record Facts (M : Network → Type 0) : Type 0 where
   pub turns : (seats : List Seat) (w : Network) (a b : Name) (e : SessionEnds) → M w → StandsFor seats w
       → ends_of seats a b ≡ Some e → ends_of seats b a ≡ Some (turned e)
   pub stood : (seats : List Seat) (w : Network) → M w → StandsFor seats w → AllByRecursion (IsStood seats w) w.sessions
-  pub unbroken : (seats : List Seat) (w : Network) → M w → StandsFor seats w → map without_breaks w.sessions ≡ w.sessions
+  pub removes : (seats : List Seat) (w : Network) → M w → StandsFor seats w
+      → StandsFor (map unbroken_seat seats) (unbroken w) × M (unbroken w)
+  pub breaks : (seats : List Seat) (w : Network) (from to : Name) (e : SessionEnds) (n : ℕ) → M w → StandsFor seats w
+      → ends_of seats from to ≡ Some e → 0 < n
+      → StandsFor (with_break_at e.near n seats) (next message_size w (Break from to n))
+  pub delivers_octets : (seats after : List Seat) (w : Network) (from to : Name) (e : SessionEnds) (n : ℕ) → M w
+      → StandsFor seats w → ends_of seats to from ≡ Some e → 0 < n → DeliversOctets seats e n after
+      → StandsFor after (deliver_octets message_size from to n w)
   pub delivers : (seats after : List Seat) (w : Network) (from to : Name) (e : SessionEnds) → M w → StandsFor seats w
       → ends_of seats to from ≡ Some e → Delivers seats e after → StandsFor after (deliver from to w)
   pub connects : (seats after : List Seat) (w : Network) (a b : Name) (e : SessionEnds) → M w → StandsFor seats w
       → events.is_earlier w.sessions a b ≡ true → ends_of seats a b ≡ Some e → Connects seats e after
       → StandsFor after (connect_if a b w)
   pub loses : (seats : List Seat) (w : Network) (a b : Name) (e : SessionEnds) → M w → StandsFor seats w
-      → ends_of seats a b ≡ Some e → StandsFor (lost seats e) (next any_size w (Lose a b))
+      → ends_of seats a b ≡ Some e → StandsFor (lost seats e) (next message_size w (Lose a b))
   pub restarts : (seats : List Seat) (w : Network) (name : Name) (k : ℕ) → M w → StandsFor seats w
-      → seat_named seats name ≡ Some (suc k) → StandsFor (restarted seats (suc k)) (next any_size w (Restart name))
+      → seat_named seats name ≡ Some (suc k) → StandsFor (restarted seats (suc k)) (next message_size w (Restart name))
   pub edits : (seats after : List Seat) (w : Network) (e : Edit) → MayHappen (Changes e) → M w → StandsFor seats w
-      → Edits seats w.setup e after → StandsFor after (next any_size w (Changes e))
+      → Edits seats w.setup e after → StandsFor after (next message_size w (Changes e))
   pub nodes : (seats : List Seat) (w : Network) (name : Name) (k : ℕ) → M w → StandsFor seats w
       → seat_named seats name ≡ Some (suc k)
       → (is_node w name ≡ true) × (shown w name ≡ shown_by (seat seats (suc k)))
   pub others : (seats : List Seat) (w : Network) (name : Name) → M w → StandsFor seats w
       → IsNotAfter (seat_named seats name) → is_node w name ≡ false
   pub forwards : (seats : List Seat) (w : Network) → M w → StandsFor seats w → forwarders w ≡ forwarders_of seats
-  pub next : (w : Network) (e : Event) → MayHappen e → M w → M (next any_size w e)
+  pub next : (w : Network) (e : Event) → MayHappen e → M w → M (next message_size w e)
 
 -- seats that stand for a moment
 pub record At (M : Network → Type 0) (seats : List Seat) (w : Network) : Type 0 where

@@ -1,14 +1,16 @@
 -- What the form of an event says of what it holds.
-use Rattle.std.specs.Prelude.{◌≡◌, ◌≤◌, ◌&&◌, ℕ, true, nat_le, IsTrue}
+use Rattle.std.specs.Prelude.{◌≡◌, ◌≤◌, ◌&&◌, ℕ, List, Bool, true, nat_le, IsTrue}
 use Rattle.std.specs.declared.option.Option.{Option}
 use Rattle.std.specs.declared.option.Option.TheVariants.{Some, None}
 use Rattle.std.proofs.Common.{arith, subst}
 use Rattle.std.proofs.lemmas.Bool.{and_parts}
 use Rattle.std.proofs.lemmas.Bool.Decides.{nat_tests}
 use Rattle.std.proofs.lemmas.Option.{same_Some}
+use Rattle.ov_types.specs.Bounds.{is_from_to}
+use Rattle.ov_types.specs.Name.{is_name}
 use Rattle.ov_types.specs.declared.packet.Packet.{Packet}
 use Rattle.config_model.specs.declared.edit.Edit.{Edit as Change}
-use Rattle.config_model.specs.declared.event.Event.TheVariants.{Edit, Trace}
+use Rattle.config_model.specs.declared.event.Event.TheVariants.{Break, DeliverOctets, Edit, Trace}
 use Rattle.config_model.specs.Edit.{has_edit_form}
 use Rattle.config_model.specs.Event.{has_event_form}
 use Rattle.config_model.specs.Form.{has_config_form, has_packet_form}
@@ -23,6 +25,20 @@ use Rattle.headline_laws.specs.Headline.{IsOfForm}
 pub edit_form : (e : Change) → IsTrue (has_event_form (Edit e)) → IsTrue (has_edit_form e)
 unfolding has_event_form
 edit_form e h = h
+
+-- octets, and sends, are counted from 1
+counted_from : (b : Bool) (n : ℕ) → (b && is_from_to 1 1000000 n) ≡ true → 1 ≤ n
+counted_from b n form =
+    let low = (and_parts (nat_le 1 n) (nat_le n 1000000) (and_parts b (is_from_to 1 1000000 n) form).1).0 in
+    grind (arith, nat_tests, low)
+
+pub octets_form : (from to : List ℕ) (n : ℕ) → IsTrue (has_event_form (DeliverOctets from to n)) → 1 ≤ n
+unfolding has_event_form
+octets_form from to n form = counted_from (is_name from && is_name to) n form
+
+pub break_form : (from to : List ℕ) (n : ℕ) → IsTrue (has_event_form (Break from to n)) → 1 ≤ n
+unfolding has_event_form
+break_form from to n form = counted_from (is_name from && is_name to) n form
 
 within : (n : ℕ) → nat_le n 524271 ≡ true → n ≤ 524271
 within n h = grind (arith, nat_tests, h)

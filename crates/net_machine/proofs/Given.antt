@@ -1,11 +1,13 @@
 -- What single steps make of the state for which seats stand, as it is proved.
 use Rattle.told_laws.specs.Moments.{IsMoment}
 use Rattle.net_steps.proofs.Asked.{sessions_said}
+use Rattle.net_steps.proofs.Broken.{breaks_are_removed, breaks_are_set}
 use Rattle.net_steps.proofs.Connections.{connections_are_made, near_is_earlier, nothing_is_connected}
 use Rattle.net_steps.proofs.Delivered.{messages_are_delivered, nothing_is_delivered, notices_are_delivered}
 use Rattle.net_steps.proofs.Edited.{edits_are_made, faulty_edits_are_refused}
 use Rattle.net_steps.proofs.Given.{given}
 use Rattle.net_steps.proofs.Lost.{losses_are_made, nothing_is_lost}
+use Rattle.net_steps.proofs.Octets.{notices_count_as_octets, octets_are_delivered}
 use Rattle.net_steps.proofs.Restarted.{restarts_are_made}
 use Rattle.net_machine.proofs.Facts.{Facts}
 use Rattle.net_machine.proofs.Known.{known}
@@ -17,6 +19,10 @@ proved = record {
   messages = messages_are_delivered given;
   notices = notices_are_delivered given;
   nothing = nothing_is_delivered given;
+  octets = octets_are_delivered given;
+  notice_octets = notices_count_as_octets given;
+  breaks = breaks_are_set given;
+  removed = breaks_are_removed given;
   losses = losses_are_made given;
   no_loss = nothing_is_lost given;
   restarts = restarts_are_made given;

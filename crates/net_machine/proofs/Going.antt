@@ -8,6 +8,7 @@ use Rattle.net_machine.specs.declared.round.Due.{Due}
 use Rattle.net_machine.specs.Connections.{Connects, ConnectsAll}
 use Rattle.net_machine.specs.Deliveries.{Delivers, DeliversIf, DeliversMany, DeliversTo}
 use Rattle.net_steps.specs.Losing.{all_told}
+use Rattle.net_model.specs.Steps.{cleared_from}
 use Rattle.net_machine.specs.Rounds.{DeliversAll, DeliversDue, DeliversDues, IsRound}
 use Rattle.net_machine.specs.Seating.{waiting}
 use Rattle.net_machine.specs.Settling.{RoundsFrom, is_quiet}
@@ -99,3 +100,11 @@ told_more n i k a h = ap (λ m. all_told m k i a) (one_left n i h)
 
 pub told_none : (n i k : ℕ) (a : List Seat) → n ≤ i → all_told (n - i) k i a ≡ a
 told_none n i k a h = ap (λ m. all_told m k i a) (none_left n i h)
+
+-- ---- the ends of a node after its step
+pub cleared_more : (n i k : ℕ) (a : List Seat) → i < n
+    → cleared_from (n - i) k i a ≡ cleared_from (suc (n - (i + 1))) k i a
+cleared_more n i k a h = ap (λ m. cleared_from m k i a) (one_left n i h)
+
+pub cleared_none : (n i k : ℕ) (a : List Seat) → n ≤ i → cleared_from (n - i) k i a ≡ a
+cleared_none n i k a h = ap (λ m. cleared_from m k i a) (none_left n i h)

@@ -1,5 +1,5 @@
 -- What an event makes of the state for which seats stand, and what it answers.
-use Rattle.std.specs.Prelude.{◌≡◌, ◌==◌, ℕ, zero, suc, List, Bool, true, false, cond, not}
+use Rattle.std.specs.Prelude.{◌≡◌, ◌<◌, ◌==◌, ℕ, zero, suc, List, [], ◌∷◌, Bool, true, false, cond, not, is_some}
 use Rattle.std.specs.declared.option.Option.{Option}
 use Rattle.std.specs.declared.option.Option.TheVariants.{Some, None}
 use Rattle.std.specs.Option.{option_map, unwrap_or}
@@ -17,21 +17,23 @@ use Rattle.network_model.specs.Session.{Session, shut}
 use Rattle.network_model.specs.Network.{Network}
 use Rattle.network_model.specs.Steps as steps
 use Rattle.network_model.specs.Steps.{connect_found, connect_if, deliver, in_flight, is_broken, repeat, session_of, settle}
-use Rattle.network_model.specs.Steps.{change_node, pass, change_session}
-use Rattle.network_model.specs.Session.{arrived}
+use Rattle.network_model.specs.Steps.{change_node, change_session, deliver_octets, joins, pass, session_in, with_session}
+use Rattle.network_model.specs.Session.{arrived, octets_arrived}
 use Rattle.network_model.specs.Events as events
-use Rattle.network_model.specs.Events.{Connect, Deliver, Edits as Changes, Lose, Restart, answer_to, edit_answer}
+use Rattle.network_model.specs.Events.{Break, Connect, Deliver, DeliverOctets, Edits as Changes, Lose, Restart}
+use Rattle.network_model.specs.Events.{add_break, answer_to, edit_answer}
 use Rattle.network_model.specs.Events.{event_of, is_node, lose, next, shown, unless}
 use Rattle.net_model.specs.Seats.{Seat, seat_named}
-use Rattle.net_model.specs.Stands.{any_size}
+use Rattle.net_model.specs.Stands.{message_size}
 use Rattle.net_machine.specs.declared.ends.SessionEnds.{SessionEnds}
 use Rattle.net_machine.specs.Connections.{Connects}
-use Rattle.net_machine.specs.Happenings.{ConnectsOn, DeliversOn, Edits, Happens, LosesOn, RestartsAt}
+use Rattle.net_machine.specs.Happenings.{BreaksOn, ConnectsOn, DeliversOctetsOn, DeliversOn, Edits, Happens, LosesOn}
+use Rattle.net_machine.specs.Happenings.{RestartsAt}
 use Rattle.net_machine.specs.Happenings.{shown_at}
 use Rattle.net_machine.specs.Seating.{ends_of, order_among, turned}
 use Rattle.net_machine.specs.Settling.{Settles}
 use Rattle.net_machine.proofs.Connecting.{one_connected, other_earlier}
-use Rattle.net_machine.proofs.Delivering.{many_delivered, stays}
+use Rattle.net_machine.proofs.Delivering.{many_delivered, octets_delivered, stays}
 use Rattle.net_machine.proofs.Facts.{At, Facts, IsNotAfter, MayHappen}
 use Rattle.net_machine.proofs.Named.{earlier_is}
 use Rattle.net_machine.proofs.Resting.{settled_is}
@@ -41,6 +43,26 @@ use Rattle.net_machine.proofs.Settled.{settle_leads}
 again : (n : ℕ) (f : Network → Network) (w : Network) → f w ≡ w → repeat n f w ≡ w
 again zero f w e = refl
 again (suc n) f w e = ap (repeat n f) e ∙ again n f w e
+
+-- where two nodes have no session, nothing is changed there
+no_session : (a b : Name) (g : Session → Session) (ss : List Session) → session_in ss a b ≡ None
+    → with_session a b g ss ≡ ss
+no_session a b g [] e = refl
+no_session a b g (s ∷ ss) e =
+    elim (joins a b s) as (λ c. cond c (Some s) (cond (joins b a s) (Some (session.turned s)) (session_in ss a b)) ≡ None
+    → cond c (g s ∷ ss) (cond (joins b a s) (session.turned (g (session.turned s)) ∷ ss) (s ∷ with_session a b g ss)) ≡ s ∷ ss) [
+      | true ↦ λ e. cc
+      | false ↦ λ e. elim (joins b a s) as (λ c. cond c (Some (session.turned s)) (session_in ss a b) ≡ None
+          → cond c (session.turned (g (session.turned s)) ∷ ss) (s ∷ with_session a b g ss) ≡ s ∷ ss) [
+            | true ↦ λ e. cc
+            | false ↦ λ e. ap (λ ts. s ∷ ts) (no_session a b g ss e)
+          ] e
+    ] e
+
+unbroken_so : (w : Network) (a b : Name) (n : ℕ) → session_of w a b ≡ None → next message_size w (Break a b n) ≡ w
+unfolding next
+unbroken_so w a b n e =
+    ap (λ (ss : List Session). record { setup = w.setup; sessions = ss }) (no_session a b (add_break n) w.sessions e)
 
 module _ (M : Network → Type 0) (f : Facts M) where
   -- the answer, and the state after it
@@ -58,7 +80,7 @@ module _ (M : Network → Type 0) (f : Facts M) where
         ap (λ n. cond (n == 0) w (pass a (change_session a b arrived w))) (none_in_flight e)
 
     delivered_on : (n : ℕ) (o : Option SessionEnds) → ends_of seats a b ≡ o → DeliversOn o n seats answer after
-        → Makes w (next any_size w (Deliver b a n)) answer (answer_to w (Deliver b a n)) after
+        → Makes w (next message_size w (Deliver b a n)) answer (answer_to w (Deliver b a n)) after
     unfolding next
     delivered_on n None is d =
         let none = f.none seats w a b h.moment h.stands is in
@@ -74,12 +96,53 @@ module _ (M : Network → Type 0) (f : Facts M) where
           stands = many_delivered M f n seats after w b a e h is d.1;
         }
 
+    -- ---- octets
+    no_octets : session_of w a b ≡ None → (n : ℕ) → deliver_octets message_size b a n w ≡ w
+    no_octets e n =
+        ap (λ k. cond (k == 0) w (pass a (change_session a b (octets_arrived message_size n) w))) (none_in_flight e)
+
+    octets_on : (n : ℕ) → 0 < n → (o : Option SessionEnds) → ends_of seats a b ≡ o → DeliversOctetsOn o n seats answer after
+        → Makes w (next message_size w (DeliverOctets b a n)) answer (answer_to w (DeliverOctets b a n)) after
+    unfolding next
+    octets_on n some None is d =
+        let none = f.none seats w a b h.moment h.stands is in
+        record {
+          answers = d.0 ∙ ap (λ k. unless (k == 0)) (sym (none_in_flight none));
+          stands = subst (At M after) (sym (no_octets none n)) (stays M f seats after w d.1 h);
+        }
+    octets_on n some (Some e) is d =
+        let s = f.says seats w a b e h.moment h.stands is in
+        record {
+          answers = d.0 ∙ ap (λ k. unless (k == 0))
+              (s.says.waits ∙ sym (ap (λ o. unwrap_or (option_map session.waiting o) 0) s.found));
+          stands = octets_delivered M f seats after w b a e n h is some d.1;
+        }
+
+    -- ---- breaks
+    broken_on : (n : ℕ) → 0 < n → (o : Option SessionEnds) → ends_of seats a b ≡ o → BreaksOn o n seats answer after
+        → Makes w (next message_size w (Break a b n)) answer (answer_to w (Break a b n)) after
+    broken_on n some None is d =
+        let none = f.none seats w a b h.moment h.stands is in
+        record {
+          answers = d.0 ∙ ap (λ o. unless (not (is_some o))) (sym none);
+          stands = subst (At M after) (sym (unbroken_so w a b n none)) (stays M f seats after w d.1 h);
+        }
+    broken_on n some (Some e) is d =
+        let s = f.says seats w a b e h.moment h.stands is in
+        record {
+          answers = d.0 ∙ ap (λ o. unless (not (is_some o))) (sym s.found);
+          stands = subst (λ ss. At M ss (next message_size w (Break a b n))) (sym d.1) (record {
+            moment = f.next w (Break a b n) some h.moment;
+            stands = f.breaks seats w a b e n h.moment h.stands is some;
+          });
+        }
+
     -- ---- lost sessions
     none_broken : session_of w a b ≡ None → is_broken w a b ≡ true
     none_broken e = ap (λ o. unwrap_or (option_map (λ (s : Session). s.is_down) o) true) e
 
     lost_on : (o : Option SessionEnds) → ends_of seats a b ≡ o → LosesOn o seats answer after
-        → Makes w (next any_size w (Lose a b)) answer (answer_to w (Lose a b)) after
+        → Makes w (next message_size w (Lose a b)) answer (answer_to w (Lose a b)) after
     unfolding next
     lost_on None is l =
         let none = f.none seats w a b h.moment h.stands is in
@@ -92,7 +155,7 @@ module _ (M : Network → Type 0) (f : Facts M) where
         record {
           answers = l.0 ∙ ap unless (s.says.down
               ∙ sym (ap (λ o. unwrap_or (option_map (λ (s : Session). s.is_down) o) true) s.found));
-          stands = subst (λ ss. At M ss (next any_size w (Lose a b))) (sym l.1) (record {
+          stands = subst (λ ss. At M ss (next message_size w (Lose a b))) (sym l.1) (record {
             moment = f.next w (Lose a b) tt h.moment;
             stands = f.loses seats w a b e h.moment h.stands is;
           });
@@ -124,7 +187,7 @@ module _ (M : Network → Type 0) (f : Facts M) where
   connected_on : (seats after : List Seat) (w : Network) (order : List SessionEnds) (a b : Name) (answer : Answer)
       (o : Option SessionEnds) → At M seats w → order ≡ order_among seats w.sessions → ends_of seats a b ≡ o
       → ConnectsOn o order seats answer after
-      → Makes w (next any_size w (Connect a b)) answer (answer_to w (Connect a b)) after
+      → Makes w (next message_size w (Connect a b)) answer (answer_to w (Connect a b)) after
   unfolding next
   connected_on seats after w order a b answer None h ordered is c =
       let none = none_connected seats w a b h is in
@@ -152,27 +215,27 @@ module _ (M : Network → Type 0) (f : Facts M) where
       }
 
   -- ---- at one node
-  not_restarted : (w : Network) (name : Name) → is_node w name ≡ false → next any_size w (Restart name) ≡ w
+  not_restarted : (w : Network) (name : Name) → is_node w name ≡ false → next message_size w (Restart name) ≡ w
   unfolding next
   not_restarted w name e = ap (λ b. cond b (change_node name shut w) w) e
 
   module _ (seats after : List Seat) (w : Network) (name : Name) (answer : Answer) (h : At M seats w) where
     restarted_none : is_node w name ≡ false → (answer ≡ Idle) × (after ≡ seats)
-        → Makes w (next any_size w (Restart name)) answer (answer_to w (Restart name)) after
+        → Makes w (next message_size w (Restart name)) answer (answer_to w (Restart name)) after
     restarted_none e r = record {
       answers = r.0 ∙ ap (λ b. unless (not b)) (sym e);
       stands = subst (At M after) (sym (not_restarted w name e)) (stays M f seats after w r.1 h);
     }
 
     restarted_at : (o : Option ℕ) → seat_named seats name ≡ o → RestartsAt o seats answer after
-        → Makes w (next any_size w (Restart name)) answer (answer_to w (Restart name)) after
+        → Makes w (next message_size w (Restart name)) answer (answer_to w (Restart name)) after
     restarted_at None is r =
         restarted_none (f.others seats w name h.moment h.stands (subst IsNotAfter (sym is) tt)) r
     restarted_at (Some zero) is r =
         restarted_none (f.others seats w name h.moment h.stands (subst IsNotAfter (sym is) tt)) r
     restarted_at (Some (suc k)) is r = record {
       answers = r.0 ∙ ap (λ b. unless (not b)) (sym (f.nodes seats w name k h.moment h.stands is).0);
-      stands = subst (λ ss. At M ss (next any_size w (Restart name))) (sym r.1) (record {
+      stands = subst (λ ss. At M ss (next message_size w (Restart name))) (sym r.1) (record {
         moment = f.next w (Restart name) tt h.moment;
         stands = f.restarts seats w name k h.moment h.stands is;
       });
@@ -193,7 +256,7 @@ module _ (M : Network → Type 0) (f : Facts M) where
   pub happens : (seats after : List Seat) (w : Network) (x : Checked) (order : List SessionEnds) (e : Written)
       (answer : Answer) → At M seats w → x ≡ w.setup → order ≡ order_among seats w.sessions → MayHappen (event_of e)
       → Happens x order e seats answer after
-      → Makes w (next any_size w (event_of e)) answer (answer_to w (event_of e)) after
+      → Makes w (next message_size w (event_of e)) answer (answer_to w (event_of e)) after
   unfolding next
   happens seats after w x order (event.Edit e) answer h setup ordered may d = record {
     answers = d.0 ∙ ap (λ x. edit_answer (edit_fault x e)) setup;
@@ -205,6 +268,10 @@ module _ (M : Network → Type 0) (f : Facts M) where
   }
   happens seats after w x order (event.Deliver from to n) answer h setup ordered may d =
       delivered_on seats after w to from answer h n (ends_of seats to from) refl d
+  happens seats after w x order (event.DeliverOctets from to n) answer h setup ordered may d =
+      octets_on seats after w to from answer h n may (ends_of seats to from) refl d
+  happens seats after w x order (event.Break from to n) answer h setup ordered may d =
+      broken_on seats after w from to answer h n may (ends_of seats from to) refl d
   happens seats after w x order (event.Lose a b) answer h setup ordered may d =
       lost_on seats after w a b answer h (ends_of seats a b) refl d
   happens seats after w x order (event.Connect a b) answer h setup ordered may d =

@@ -1,5 +1,7 @@
 -- What is asked of the seats of a network at a moment is known of them.
-use Rattle.std.specs.Prelude.{◌≡◌, ◌≢◌, ◌<◌, ◌==◌, ◌&&◌, ℕ, zero, suc, List, [], ◌∷◌, Bool, true, false, not, cond}
+use Rattle.std.specs.Prelude.{◌≡◌, ◌≢◌, ◌<◌, ◌+◌, ◌==◌, ◌&&◌, ℕ, zero, suc, List, [], ◌∷◌, Bool, true, false, not, cond}
+use Rattle.std.specs.Prelude.{drop, length, take}
+use Rattle.std.specs.List.{concat}
 use Rattle.std.specs.declared.option.Option.{Option}
 use Rattle.std.specs.declared.option.Option.TheVariants.{Some, None}
 use Rattle.std.specs.Option.{option_map, unwrap_or}
@@ -14,70 +16,56 @@ use Rattle.config_check.specs.Edits.{edit_fault}
 use Rattle.config_check.specs.declared.edits.EditFault.{EditFault}
 use Rattle.network_model.specs.Setup.{Name}
 use Rattle.network_model.specs.Session as session
-use Rattle.network_model.specs.Session.{arrived}
+use Rattle.network_model.specs.Session.{arrived, octets_arrived}
 use Rattle.network_model.specs.Network.{Network}
 use Rattle.network_model.specs.Steps as machine
-use Rattle.network_model.specs.Steps.{change_session, connect_if, deliver, pass}
+use Rattle.network_model.specs.Steps.{change_session, connect_if, deliver, deliver_octets, pass}
 use Rattle.network_model.specs.Events.{Connect, Deliver, DeliverOctets, Break, Event, Edits as Changes, Lose, Restart}
 use Rattle.network_model.specs.Events.{Round, Settle, Show, Trace, is_node, next, shown}
 use Rattle.network_model.proofs.NetworkFact.{found}
 use Rattle.network_model.proofs.Twins.{itself}
 use Rattle.network_laws.specs.Settling.{EditIsValid}
 use Rattle.headline_laws.specs.Headline.{IsOfForm}
-use Rattle.net_model.specs.Seats.{Seat, is_down_at, is_live, link_at, live_at, name_of, notice_at, seat, seat_named}
+use Rattle.net_model.specs.Seats.{Seat, is_down_at, is_live, kept_at, link_at, live_at, name_of, notice_at, seat}
+use Rattle.net_model.specs.Seats.{seat_named}
 use Rattle.net_model.specs.Seats.{whole_at, whole_there}
-use Rattle.net_model.specs.Steps.{IsDiscarded, MakesEdit, Takes, shown_by, with_link, with_notice, with_seat}
-use Rattle.net_model.specs.Stands.{StandsFor, any_size}
+use Rattle.net_model.specs.Steps.{MakesEdit, Takes, cleared, shown_by, untaken, with_link, with_notice, with_seat}
+use Rattle.net_model.specs.Stands.{StandsFor, message_size}
 use Rattle.net_model.specs.declared.place.Place.{Place}
 use Rattle.told_laws.specs.Moments.{IsMoment}
 use Rattle.told_laws.proofs.Moments.{moment_next, moment_sessions, moment_written}
 use Rattle.seat_laws.specs.Wiring.{name_at, other_at}
 use Rattle.seat_laws.proofs.Written.{forwarders_are, has_far, has_session, names_differ, no_node_above, place_is, shows_at}
-use Rattle.net_steps.specs.Connecting.{OpensBoth}
+use Rattle.net_steps.specs.Connecting.{OpensBehind, OpensBoth}
 use Rattle.net_steps.specs.Delivering as deliveries
 use Rattle.net_steps.specs.Losing.{cut, restarted}
 use Rattle.net_machine.specs.declared.ends.SessionEnds.{SessionEnds}
-use Rattle.net_machine.specs.Connections.{ConnectsAt, ConnectsIf, OpensSecond, may_connect}
-use Rattle.net_machine.specs.Deliveries.{DeliversIf, DeliversTo, TakesAt}
-use Rattle.net_machine.specs.Happenings.{DiscardsUnless}
+use Rattle.net_machine.specs.Connections.{ConnectsAt, ConnectsIf, OpensSecond, goes_on, may_connect}
+use Rattle.net_machine.specs.Deliveries.{DeliversIf, DeliversOctetsIf, DeliversOctetsTo, DeliversTo, TakesAt}
+use Rattle.net_machine.specs.Happenings.{ClearsUnless}
 use Rattle.net_machine.specs.Seating.{ends_of, is_down}
 use Rattle.net_machine.proofs.Facts.{Facts, IsNotAfter, MayHappen}
 use Rattle.net_machine.proofs.Kept.{with_there}
-use Rattle.net_machine.proofs.KnownEnds.{all_stood, all_unbroken, closed_waits, ends_are_at, ends_turn, fact_of, no_session_of, says_of}
+use Rattle.net_machine.proofs.KnownEnds.{all_stood, closed_waits, ends_are_at, ends_turn, fact_of, no_session_of, says_of}
 use Rattle.net_machine.proofs.Proved.{Proved}
 use Rattle.net_machine.proofs.Forms.{edited_form}
 
 -- ---- the same, as it is said there
 takes_there : (seats : List Seat) (q : Place) (input : Input) (after : List Seat) → TakesAt seats q.node input after
     → deliveries.TakesAt seats q input after
-takes_there seats q input after h = record {
-  taken = h.node;
-  left = h.discards.node;
-  takes = h.takes;
-  discarded = h.discards.discarded;
-  is = h.discards.is;
-}
+takes_there seats q input after h = record { taken = h.node; takes = h.takes; is = h.is }
 
-opens_there : (seats : List Seat) (p q : Place) (n : Seat) (one : List Seat) (m : Seat) (two : List Seat) (near far : Seat)
-    (three four : List Seat) → Takes (seat seats p.node) n (Opened p.session) → one ≡ with_seat p.node n seats
-    → Takes (seat one q.node) m (Opened q.session) → two ≡ with_seat q.node m one
-    → IsDiscarded two p.node near → three ≡ with_seat p.node near two
-    → IsDiscarded three q.node far → four ≡ with_seat q.node far three → OpensBoth seats p q four
-opens_there seats p q n one m two near far three four first one_is second two_is third three_is fourth four_is =
-    let two_at : two ≡ with_seat q.node m (with_seat p.node n seats) = two_is ∙ ap (with_seat q.node m) one_is in
-    let three_at : three ≡ with_seat p.node near (with_seat q.node m (with_seat p.node n seats)) =
-    three_is ∙ ap (with_seat p.node near) two_at in
-    record {
-      near_node = n;
-      near_takes = first;
-      far_node = m;
-      far_takes = subst (λ ss. Takes (seat ss q.node) m (Opened q.session)) one_is second;
-      near_left = near;
-      near_discarded = subst (λ ss. IsDiscarded ss p.node near) two_at third;
-      far_left = far;
-      far_discarded = subst (λ ss. IsDiscarded ss q.node far) three_at fourth;
-      is = four_is ∙ ap (with_seat q.node far) three_at;
-    }
+-- where the near end is live still, the far one opens behind it
+opens_behind : (seats : List Seat) (p q : Place) (n : Seat) (one : List Seat) (b : Bool) (after : List Seat)
+    → one ≡ with_seat p.node n seats → live_at (with_seat p.node n seats) p ≡ b
+    → OpensSecond b one (record { near = p; far = q }) after
+    → OpensBehind b (with_seat p.node n seats) p q after
+opens_behind seats p q n one true after is live o = (
+  o.opens.node,
+  subst (λ ss. Takes (seat ss q.node) o.opens.node (Opened q.session)) is o.opens.takes,
+  o.is ∙ ap (λ ss. cleared (cleared ss p.node) q.node) (o.opens.is ∙ ap (with_seat q.node o.opens.node) is),
+)
+opens_behind seats p q n one false after is live o = o ∙ ap (λ ss. cleared ss p.node) is
 
 module _ (p : Proved) (seats : List Seat) (w : Network) (m : IsMoment w) (st : StandsFor seats w) where
   -- ---- deliveries
@@ -100,11 +88,10 @@ module _ (p : Proved) (seats : List Seat) (w : Network) (m : IsMoment w) (st : S
   delivers_to after from to e is false [] notice link d =
       let at = ends_are_at seats to from e is in
       let none = p.nothing seats w m st from to (inr (e.near, e.far, at, notice, link)) in
-      subst (StandsFor after) (sym none) (subst (λ s. StandsFor s w) (sym d) st)
+      subst (StandsFor after) (sym none.0) (subst (λ s. StandsFor s w) (sym d) st)
   delivers_to after from to e is false (octets ∷ messages) notice link d =
       let at = ends_are_at seats to from e is in
-      (p.messages seats w m st from to e.near e.far at notice d.bytes messages
-      (link ∙ ap (λ o. o ∷ messages) (sym d.are)) after
+      (p.messages seats w m st from to e.near e.far at notice octets messages link d.bytes d.are after
       (takes_there (with_link e.far messages seats) e.near (Bytes e.near.session d.bytes) after d.takes)).0
 
   delivers_if : (after : List Seat) (from to : Name) (e : SessionEnds) → ends_of seats to from ≡ Some e
@@ -113,6 +100,48 @@ module _ (p : Proved) (seats : List Seat) (w : Network) (m : IsMoment w) (st : S
       delivers_to after from to e is (notice_at seats e.near) (link_at seats e.far) refl refl d
   delivers_if after from to e is false live d =
       subst (StandsFor after) (sym (nothing_there from to e is live)) (subst (λ s. StandsFor s w) (sym d) st)
+
+  -- ---- octets
+  no_octets : (from to : Name) (e : SessionEnds) (n : ℕ) → ends_of seats to from ≡ Some e → live_at seats e.near ≡ false
+      → deliver_octets message_size from to n w ≡ w
+  no_octets from to e n is closed =
+      let at = ends_are_at seats to from e is in
+      let s = p.say seats w m st to from e.near e.far at in
+      let none = closed_waits s.0 (fact_of w to from s.0 m s.1) (sym s.2.live ∙ closed) in
+      ap (λ k. cond (k == 0) w (pass to (change_session to from (octets_arrived message_size n) w)))
+      (ap (λ o. unwrap_or (option_map session.waiting o) 0) s.1 ∙ none)
+
+  octets_to : (after : List Seat) (from to : Name) (e : SessionEnds) (n : ℕ) → ends_of seats to from ≡ Some e → 0 < n
+      → (b : Bool) (messages : List (List ℕ)) → notice_at seats e.near ≡ b → link_at seats e.far ≡ messages
+      → DeliversOctetsTo seats e n b messages after → StandsFor after (deliver_octets message_size from to n w)
+  octets_to after from to e n is some true messages notice link d =
+      let at = ends_are_at seats to from e is in
+      subst (StandsFor after) (sym (p.notice_octets seats w m st from to e.near e.far at notice n))
+      (delivers_to after from to e is true messages notice link d)
+  octets_to after from to e n is some false [] notice link d =
+      let at = ends_are_at seats to from e is in
+      let none = p.nothing seats w m st from to (inr (e.near, e.far, at, notice, link)) in
+      subst (StandsFor after) (sym (none.1 n)) (subst (λ s. StandsFor s w) (sym d) st)
+  octets_to after from to e n is some false (octets ∷ messages) notice link d =
+      let at = ends_are_at seats to from e is in
+      let k = length (kept_at seats e.near) in
+      (p.octets seats w m st from to e.near e.far at notice (λ none. absurd (no_octet (sym link ∙ none))) n some d.bytes
+      (d.are ∙ ap (λ ms. take n (drop k (concat ms))) (sym link)) after
+      (subst (λ ms. deliveries.TakesAt (with_link e.far (untaken (k + n) ms) seats) e.near
+      (Bytes e.near.session d.bytes) after) (sym link)
+      (takes_there (with_link e.far (untaken (k + n) (octets ∷ messages)) seats) e.near (Bytes e.near.session d.bytes) after
+      d.takes))).0
+    where
+      no_octet : octets ∷ messages ≡ [] → ⊥
+      no_octet none = cc
+
+  octets_if : (after : List Seat) (from to : Name) (e : SessionEnds) (n : ℕ) → ends_of seats to from ≡ Some e → 0 < n
+      → (b : Bool) → live_at seats e.near ≡ b → DeliversOctetsIf b seats e n after
+      → StandsFor after (deliver_octets message_size from to n w)
+  octets_if after from to e n is some true live d =
+      octets_to after from to e n is some (notice_at seats e.near) (link_at seats e.far) refl refl d
+  octets_if after from to e n is some false live d =
+      subst (StandsFor after) (sym (no_octets from to e n is live)) (subst (λ s. StandsFor s w) (sym d) st)
 
   -- ---- connections
   nodes_differ : (a b : Name) (e : SessionEnds) → ends_of seats a b ≡ Some e → e.far.node ≢ e.near.node
@@ -144,13 +173,24 @@ module _ (p : Proved) (seats : List Seat) (w : Network) (m : IsMoment w) (st : S
       let closed = and_parts (not (live_at seats e.near)) (not (live_at seats e.far)) may in
       let still = opened_still e c.first.node c.opened (nodes_differ a b e is) c.first.is in
       let quiet : live_at c.opened e.far ≡ false = still ∙ not_true (live_at seats e.far) closed.1 in
-      let o = subst (λ b. OpensSecond b c.opened e after) quiet c.second in
-      opens_there seats e.near e.far c.first.node c.opened o.opens.node o.opened o.near.node o.far.node o.between after
-      c.first.takes c.first.is o.opens.takes o.opens.is o.near.discarded o.near.is o.far.discarded o.far.is
+      let live = ap (λ ss. live_at ss e.near) c.first.is in
+      let goes : goes_on c.opened e ≡ live_at (with_seat e.near.node c.first.node seats) e.near =
+      (λ i. live i && not (quiet i)) ∙ and_true (live_at (with_seat e.near.node c.first.node seats) e.near) in
+      record {
+        near_node = c.first.node;
+        near_takes = c.first.takes;
+        behind = opens_behind seats e.near e.far c.first.node c.opened
+            (live_at (with_seat e.near.node c.first.node seats) e.near) after c.first.is refl
+            (subst (λ b. OpensSecond b c.opened e after) goes c.second);
+      }
     where
       not_true : (b : Bool) → not b ≡ true → b ≡ false
       not_true true h = sym h
       not_true false h = refl
+
+      and_true : (b : Bool) → (b && true) ≡ b
+      and_true true = refl
+      and_true false = refl
 
   connects_if : (after : List Seat) (a b : Name) (e : SessionEnds) → ends_of seats a b ≡ Some e → (c : Bool)
       → may_connect seats e ≡ c → ConnectsIf c seats e after → StandsFor after (connect_if a b w)
@@ -176,7 +216,7 @@ module _ (p : Proved) (seats : List Seat) (w : Network) (m : IsMoment w) (st : S
       ap (λ o. not (whole_at seats e.near && whole_there seats o)) (ends_are_at seats a b e is).1
 
   loses_if : (a b : Name) (e : SessionEnds) → ends_of seats a b ≡ Some e → (c : Bool) → is_down seats e ≡ c
-      → StandsFor (cond c seats (cut e.near e.far seats)) (next any_size w (Lose a b))
+      → StandsFor (cond c seats (cut e.near e.far seats)) (next message_size w (Lose a b))
   loses_if a b e is true down =
       let at = ends_are_at seats a b e is in
       let none = (p.no_loss seats w m st a b (λ q there. subst (λ q. is_down_at seats q ≡ true)
@@ -187,20 +227,20 @@ module _ (p : Proved) (seats : List Seat) (w : Network) (m : IsMoment w) (st : S
 
   -- ---- restarts, edits, and what is shown
   restarts_at : (name : Name) (k : ℕ) → seat_named seats name ≡ Some (suc k)
-      → StandsFor (restarted seats (suc k)) (next any_size w (Restart name))
+      → StandsFor (restarted seats (suc k)) (next message_size w (Restart name))
   restarts_at name k is = (p.restarts seats w m st name k is).0
 
   edits_if : (after made : List Seat) (e : Edit) → MayHappen (Changes e) → (o : Option EditFault)
-      → edit_fault w.setup e ≡ o → MakesEdit seats w.setup e o made → DiscardsUnless o made after
-      → StandsFor after (next any_size w (Changes e))
+      → edit_fault w.setup e ≡ o → MakesEdit seats w.setup e o made → ClearsUnless o made after
+      → StandsFor after (next message_size w (Changes e))
   edits_if after made e may (Some f) is makes d =
       subst (StandsFor after) (sym (p.refused w e f is).0)
       (subst (λ s. StandsFor s w) (sym (d ∙ makes)) st)
   edits_if after made e may None is makes d =
-      subst (λ s. StandsFor s (next any_size w (Changes e))) (sym d.is)
+      subst (λ s. StandsFor s (next message_size w (Changes e))) (sym d)
       (p.edits seats w m st e
       (λ y at. edited_form w.setup y e may (moment_written w m).config at)
-      is made makes d.node d.discarded).0
+      is made makes).0
 
   node_at : (name : Name) (k : ℕ) → seat_named seats name ≡ Some (suc k)
       → (is_node w name ≡ true) × (shown w name ≡ shown_by (seat seats (suc k)))
@@ -250,7 +290,11 @@ known p = record {
   none = λ seats w a b m st is. no_session_of p seats w m st a b is;
   turns = λ seats w a b e m st is. ends_turn p seats w m st a b e is;
   stood = λ seats w m st. all_stood p seats w m st;
-  unbroken = λ seats w m st. all_unbroken p seats w m st;
+  removes = p.removed;
+  breaks = λ seats w from to e n m st is some.
+      (p.breaks seats w m st from to e.near e.far (ends_are_at seats from to e is) n some).0;
+  delivers_octets = λ seats after w from to e n m st is some d.
+      octets_if p seats w m st after from to e n is some (live_at seats e.near) refl d;
   delivers = λ seats after w from to e m st is d.
       delivers_if p seats w m st after from to e is (live_at seats e.near) refl d;
   connects = λ seats after w a b e m st first is c.
@@ -258,7 +302,7 @@ known p = record {
   loses = λ seats w a b e m st is. loses_if p seats w m st a b e is (is_down seats e) refl;
   restarts = λ seats w name k m st is. restarts_at p seats w m st name k is;
   edits = λ seats after w e may m st d.
-      edits_if p seats w m st after d.made e may (edit_fault w.setup e) refl d.makes d.discards;
+      edits_if p seats w m st after d.made e may (edit_fault w.setup e) refl d.makes d.clears;
   nodes = λ seats w name k m st is. node_at p seats w m st name k is;
   others = λ seats w name m st off. no_node p seats w m st name off;
   forwards = λ seats w m st. forwarders_are w (moment_written w m) seats st.seats_are (moment_sessions w m);

@@ -1,32 +1,29 @@
 -- What the ends of sessions are at a moment.
-use Rattle.std.specs.Prelude.{◌≡◌, ◌<◌, ◌&&◌, List, [], ◌∷◌, map, length, true, false, not, cond}
+use Rattle.std.specs.Prelude.{◌≡◌, ◌&&◌, List, [], ◌∷◌, map, length, true, false, not, cond}
 use Rattle.std.specs.declared.option.Option.{Option}
 use Rattle.std.specs.declared.option.Option.TheVariants.{Some, None}
 use Rattle.std.specs.List.{AllByRecursion}
-use Rattle.std.proofs.Common.{refl, sym, ◌∙◌, ap, subst, inl, inr, arith}
-use Rattle.std.proofs.lemmas.Option.{same_Some}
+use Rattle.std.proofs.Common.{refl, sym, ◌∙◌, ap, subst, inl, inr}
 use Rattle.headline_laws.specs.Headline.{IsWritten}
 use Rattle.headline_laws.proofs.Written.{sound_setup}
 use Rattle.network_model.specs.Setup.{Name}
 use Rattle.network_model.specs.Session as session
 use Rattle.network_model.specs.Session.{Session, is_idle, is_peering}
-use Rattle.network_model.specs.Network.{Network, start}
+use Rattle.network_model.specs.Network.{Network}
 use Rattle.network_model.specs.Steps as steps
-use Rattle.network_model.specs.Steps.{session_of, without_breaks}
+use Rattle.network_model.specs.Steps.{session_of}
 use Rattle.network_model.specs.Events as events
 use Rattle.network_model.specs.Moments.{Each, nodes}
 use Rattle.network_model.proofs.Apart.{no_twins}
-use Rattle.network_model.proofs.NetworkFact.{after_sound, found}
+use Rattle.network_model.proofs.NetworkFact.{found}
 use Rattle.network_model.proofs.SessionFact.{Fact, Fact-turned, live_receiver}
-use Rattle.network_model.proofs.Start.{start_sound}
 use Rattle.network_model.proofs.Twins.{Found, NoTwins, found_each}
-use Rattle.net_model.specs.Seats.{Seat, far_of, place_of, seat, whole_at, whole_there}
-use Rattle.net_model.specs.Stands.{StandsFor, any_size}
+use Rattle.net_model.specs.Seats.{Seat, far_of, place_of, whole_at, whole_there}
+use Rattle.net_model.specs.Stands.{StandsFor, message_size}
 use Rattle.net_model.specs.declared.place.Place.{Place}
-use Rattle.net_model.proofs.Sizes.{positive}
 use Rattle.told_laws.specs.Moments.{IsMoment}
-use Rattle.told_laws.proofs.Moments.{moment_sessions, moment_written}
-use Rattle.seat_laws.specs.Wiring.{AreSeats, HasSessions, IsFound, IsPlace, name_at, other_at}
+use Rattle.told_laws.proofs.Moments.{moment_sessions, moment_sound, moment_written}
+use Rattle.seat_laws.specs.Wiring.{AreSeats, HasSessions, IsFound}
 use Rattle.seat_laws.proofs.Written.{far_is, has_far, place_is, session_without_place, sessions_found}
 use Rattle.net_steps.specs.Asking.{AreAt}
 use Rattle.net_machine.specs.declared.ends.SessionEnds.{SessionEnds}
@@ -55,16 +52,11 @@ pub at_are_ends : (seats : List Seat) (a b : Name) (p q : Place) → AreAt seats
 at_are_ends seats a b p q at = ap (ends_at seats) at.0 ∙ ap (ends_from p) at.1
 
 -- ---- a session that is down is one of which no end is live, or where a notice waits
-pub sound_now : (w : Network) → IsMoment w → Each (Fact any_size) w.sessions
-sound_now w m =
-    subst (λ (w : Network). Each (Fact any_size) w.sessions) (sym m.is)
-    (after_sound any_size positive (start m.opening) m.events (start_sound any_size positive m.opening))
-
-pub fact_of : (w : Network) (a b : Name) (s : Session) → IsMoment w → session_of w a b ≡ Some s → Fact any_size s
-fact_of w a b s m is = found (Fact any_size) (Fact-turned any_size) w.sessions a b (sound_now w m) s is
+pub fact_of : (w : Network) (a b : Name) (s : Session) → IsMoment w → session_of w a b ≡ Some s → Fact message_size s
+fact_of w a b s m is = found (Fact message_size) (Fact-turned message_size) w.sessions a b (moment_sound w m) s is
 
 -- the two ends are closed exactly where the session may be connected
-closed_may : (s : Session) → Fact any_size s
+closed_may : (s : Session) → Fact message_size s
     → (not (session.is_live s.near) && not (session.is_live s.far)) ≡ steps.may_connect s
 closed_may s (inl j) =
     let near : is_idle s.near.phase ≡ false = live_receiver (is_peering s) s.near.phase s.far.phase j.inward.phases in
@@ -74,7 +66,7 @@ closed_may s (inr d) =
     sym (ap (λ b. b && (not s.near.notice && not s.far.notice)) d.down
     ∙ (λ i. not (d.near.notice i) && not (d.far.notice i)))
 
-pub closed_waits : (s : Session) → Fact any_size s → session.is_live s.near ≡ false → session.waiting s ≡ 0
+pub closed_waits : (s : Session) → Fact message_size s → session.is_live s.near ≡ false → session.waiting s ≡ 0
 closed_waits s (inl j) closed =
     let near : is_idle s.near.phase ≡ false = live_receiver (is_peering s) s.near.phase s.far.phase j.inward.phases in
     let live = sym (ap not near) ∙ closed in
@@ -154,33 +146,3 @@ module _ (p : Proved) (seats : List Seat) (w : Network) (m : IsMoment w) (st : S
   pub all_stood : AllByRecursion (IsStood seats w) w.sessions
   all_stood =
       stood_all w.sessions (sessions_found w written seats are has) (found_each w.sessions twins) (p.near_earlier w m)
-
-  -- ---- no send is to fail
-  no_breaks_at : (q : Place) (a b : Name) (s : Session) → IsPlace seats q → name_at seats q ≡ a → other_at seats q ≡ b
-      → session_of w a b ≡ Some s → s.near.breaks ≡ []
-  no_breaks_at q a b s is name other at =
-      let long = st.seats_are.long q.node is.node in
-      let fits : q.session < length (seat seats q.node).posts = (let i = is.session in let l = long.posts in omega (arith, i, l)) in
-      let e = st.seats_are.ends q.node q.session is.node fits in
-      let same : e.session ≡ s =
-      same_Some e.session s (sym e.found ∙ (λ i. session_of w (name i) (other i)) ∙ at) in
-      subst (λ (s : Session). s.near.breaks ≡ []) same e.is.breaks
-
-  unbroken_all : (ss : List Session) → AllByRecursion (IsFound seats w) ss → Each (Found w.sessions) ss
-      → map without_breaks ss ≡ ss
-  unbroken_all [] f g = refl
-  unbroken_all (s ∷ ss) f g =
-      let there = place_is w.setup written seats are s.near.name s.far.name f.0.place f.0.place_is in
-      let far = has_far w.setup written seats are f.0.place f.0.is_place in
-      let near = no_breaks_at f.0.place s.near.name s.far.name s f.0.is_place there.name there.other g.0.0 in
-      let back = no_breaks_at far.far s.far.name s.near.name (session.turned s) far.is_place (far.name ∙ there.other)
-      (far.other ∙ there.name) g.0.1 in
-      (λ i. record {
-        is_down = s.is_down;
-        near = record s.near { breaks = sym near i };
-        far = record s.far { breaks = sym back i };
-      } ∷ unbroken_all ss f.1 g.1 i)
-
-  pub all_unbroken : map without_breaks w.sessions ≡ w.sessions
-  all_unbroken =
-      unbroken_all w.sessions (sessions_found w written seats are has) (found_each w.sessions twins)

@@ -3,39 +3,52 @@ use Rattle.std.specs.Prelude.{◌≡◌, ◌<◌, ℕ, zero, suc, List, length, 
 use Rattle.std.proofs.Common.{sym, ◌∙◌, ap, subst, arith}
 use Rattle.std.proofs.lemmas.Option.{same_Some}
 use Rattle.config_check.specs.Checked.{Checked}
-use Rattle.network_model.specs.Network.{Network}
-use Rattle.network_model.specs.Events.{shown}
+use Rattle.network_model.specs.Network.{Network, start}
+use Rattle.network_model.specs.Events.{Event, after, shown}
 use Rattle.network_model.specs.Steps.{is_settled}
-use Rattle.headline_laws.specs.Headline.{AgentsShowRows, ControlNodesShowTables}
+use Rattle.network_laws.specs.Settling.{EditsAreValid}
+use Rattle.headline_laws.specs.Headline.{AgentsShowRows, ControlNodesShowTables, IsOfForm, IsWritten}
 use Rattle.headline_laws.proofs.Configured.{agents_show_rows, control_nodes_show_tables}
 use Rattle.net_model.specs.Seats.{Configuring, Seat, Who, name_of, seat}
-use Rattle.net_model.specs.Stands.{StandsFor, any_size}
+use Rattle.net_model.specs.Stands.{StandsFor, message_size}
 use Rattle.net_model.specs.Steps.{shown_by}
 use Rattle.net_model.proofs.Sizes.{positive}
 use Rattle.seat_laws.proofs.Parties.{by_node}
 use Rattle.seat_laws.proofs.Seating.{root_at, seat_found, who_above}
 use Rattle.seat_laws.proofs.Written.{seats_are_nodes, shows_at, written_apart, written_named}
 use Rattle.told_laws.specs.Moments.{IsMoment}
-use Rattle.told_laws.proofs.Moments.{moment_asked, moment_sessions, moment_written}
+use Rattle.told_laws.proofs.Moments.{moment_of, moment_sessions, moment_written}
 use Rattle.net_machine.specs.Shown.{ShowsCompiled, compiled_for}
 
--- ---- what all schedules promise, at a moment
-moment_controls : (w : Network) → IsMoment w → ControlNodesShowTables w
-moment_controls w m =
-    subst ControlNodesShowTables (sym m.is)
-    (control_nodes_show_tables any_size positive m.opening m.written m.events (moment_asked w m))
+-- ---- what all schedules promise, of the state after one
+pub record IsAfter (w : Network) : Type 0 where
+  pub opening : Checked
+  pub written : IsWritten opening
+  pub events : List Event
+  pub asked : EditsAreValid message_size IsOfForm (start opening) events
+  pub is : w ≡ after message_size (start opening) events
 
-moment_agents : (w : Network) → IsMoment w → AgentsShowRows w
-moment_agents w m =
-    subst AgentsShowRows (sym m.is)
-    (agents_show_rows any_size positive m.opening m.written m.events (moment_asked w m))
+pub after_moment : (w : Network) → IsAfter w → IsMoment w
+after_moment w a = subst IsMoment (sym a.is) (moment_of a.opening a.written a.events a.asked)
+
+after_controls : (w : Network) → IsAfter w → ControlNodesShowTables w
+after_controls w a =
+    subst ControlNodesShowTables (sym a.is)
+    (control_nodes_show_tables message_size positive a.opening a.written a.events a.asked)
+
+after_agents : (w : Network) → IsAfter w → AgentsShowRows w
+after_agents w a =
+    subst AgentsShowRows (sym a.is) (agents_show_rows message_size positive a.opening a.written a.events a.asked)
 
 -- ---- at each seat
 first_shows : (n : Seat) (x y : Checked) → n.who ≡ Configuring y → shown_by n ≡ compiled_for x n.who
 first_shows n x y e = ap (λ (v : Who). shown_by (record n { who = v })) e ∙ sym (ap (compiled_for x) e)
 
-module _ (w : Network) (m : IsMoment w) (seats : List Seat) (stands : StandsFor seats w)
+module _ (w : Network) (a : IsAfter w) (seats : List Seat) (stands : StandsFor seats w)
     (settled : is_settled w ≡ true) where
+  abbrev m : IsMoment w
+  m = after_moment w a
+
   abbrev ShowsPart : Who → Type 0
   ShowsPart v = shown w (name_of v) ≡ compiled_for w.setup v
 
@@ -51,7 +64,7 @@ module _ (w : Network) (m : IsMoment w) (seats : List Seat) (stands : StandsFor 
       let q = shows_at w written seats stands.seats_are has name there in
       let same : q.0 ≡ k = same_Some q.0 k (sym q.1.seat_is ∙ seat_found w.setup named apart seats are k within) in
       let part : ShowsPart (seat seats k).who =
-      by_node w.setup named ShowsPart (moment_controls w m settled) (moment_agents w m settled) (seat seats k).who
+      by_node w.setup named ShowsPart (after_controls w a settled) (after_agents w a settled) (seat seats k).who
       (who_above w.setup named apart seats are k above within) in
       ap (λ j. shown_by (seat seats j)) (sym same) ∙ sym q.1.shows ∙ part
 

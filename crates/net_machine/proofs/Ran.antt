@@ -6,7 +6,8 @@ use Rattle.std.proofs.Common.{refl, sym, ◌∙◌, ap, subst, arith}
 use Rattle.std.proofs.lemmas.Bool.{and_from, and_parts}
 use Rattle.std.proofs.lemmas.List.Elements.{All-cons}
 use Rattle.config_model.specs.declared.event.Event.{Event}
-use Rattle.config_model.specs.declared.event.Event.TheVariants.{Edit, Deliver, Lose, Connect, Restart, Round, Settle, Show, Trace}
+use Rattle.config_model.specs.declared.event.Event.TheVariants.{Break, Connect, Deliver, DeliverOctets, Edit, Lose, Restart}
+use Rattle.config_model.specs.declared.event.Event.TheVariants.{Round, Settle, Show, Trace}
 use Rattle.config_model.specs.Event.{has_event_form}
 use Rattle.config_check.specs.Checked.{Checked}
 use Rattle.config_ties.specs.Kept.{AreAlike, Kept, ties_in}
@@ -22,7 +23,7 @@ use Rattle.network_model.specs.Events.{after, event_of}
 use Rattle.network_model.specs.Steps as machine
 use Rattle.network_model.proofs.NodesFact.{after_nodes}
 use Rattle.net_model.specs.Seats.{Configuring, Seat, Who, seat, whos}
-use Rattle.net_model.specs.Stands.{StandsFor, any_size}
+use Rattle.net_model.specs.Stands.{StandsFor, message_size}
 use Rattle.told_laws.specs.Moments.{IsMoment}
 use Rattle.net_model.specs.Steps.{fresh_seat}
 use Rattle.net_steps.proofs.Given.{given}
@@ -40,9 +41,10 @@ use Rattle.net_machine.specs.Settling.{is_settled}
 use Rattle.net_machine.specs.Tying.{HappensTied, OfTie}
 use Rattle.net_machine.proofs.Carried.{found_seated}
 use Rattle.net_machine.proofs.Facts.{MayHappen}
-use Rattle.net_machine.proofs.Forms.{edit_form}
+use Rattle.net_machine.proofs.Forms.{break_form, edit_form, octets_form}
 use Rattle.net_machine.proofs.Given.{facts}
 use Rattle.net_machine.proofs.Kept.{order_kept}
+use Rattle.net_machine.proofs.Promised.{IsAfter, after_moment}
 use Rattle.net_machine.proofs.Resting.{settled_is}
 use Rattle.net_machine.proofs.Rounding.{same_order}
 use Rattle.net_machine.proofs.Tied.{Steps, by_answer, unchanged}
@@ -68,6 +70,7 @@ among_seated seats (s ∷ ss) long =
 may_happen : (e : Event) → IsTrue (has_event_form e) → MayHappen (event_of e)
 may_happen (Edit e) form = edit_form e form
 may_happen (Deliver from to n) form = tt
+may_happen (DeliverOctets from to n) form = octets_form from to n form
 may_happen (Lose a b) form = tt
 may_happen (Connect a b) form = tt
 may_happen (Restart name) form = tt
@@ -75,6 +78,7 @@ may_happen Round form = tt
 may_happen Settle form = tt
 may_happen (Show name) form = tt
 may_happen (Trace p) form = tt
+may_happen (Break from to n) form = break_form from to n form
 
 forms_more : (es : List Event) (e : Event) → IsTrue (list_all has_event_form es) → IsTrue (has_event_form e)
     → IsTrue (list_all has_event_form (es ++ e ∷ []))
@@ -89,14 +93,17 @@ module _ (x : Checked) (es : List Event) (ties : Kept) (seats : List Seat) (orde
   abbrev now : TiedNetwork
   now = tied_moment x es
 
-  pub run_moment : IsMoment now.network
-  run_moment = record {
+  pub run_after : IsAfter now.network
+  run_after = record {
     opening = x;
     written = r.written;
-    events = kept_events any_size (tied_start x) (map event_of es);
-    edits = asked_with_ties x r.written es r.forms;
-    is = keeps_what_is_not_refused any_size (tied_start x) (map event_of es);
+    events = kept_events message_size (tied_start x) (map event_of es);
+    asked = asked_with_ties x r.written es r.forms;
+    is = keeps_what_is_not_refused message_size (tied_start x) (map event_of es);
   }
+
+  pub run_moment : IsMoment now.network
+  run_moment = after_moment now.network run_after
 
   pub run_long : AreLong seats
   run_long = r.stands.seats_are.long
@@ -112,11 +119,11 @@ module _ (x : Checked) (es : List Event) (ties : Kept) (seats : List Seat) (orde
 
   run_ordered : order ≡ order_among seats now.network.sessions
   run_ordered =
-      let kept = kept_events any_size (tied_start x) (map event_of es) in
-      r.ordered ∙ sym (same_order seats (after any_size (start x) kept).sessions (start x).sessions
-      (after_nodes any_size (start x) kept))
+      let kept = kept_events message_size (tied_start x) (map event_of es) in
+      r.ordered ∙ sym (same_order seats (after message_size (start x) kept).sessions (start x).sessions
+      (after_nodes message_size (start x) kept))
       ∙ ap (λ (w : Network). order_among seats w.sessions)
-      (sym (keeps_what_is_not_refused any_size (tied_start x) (map event_of es)))
+      (sym (keeps_what_is_not_refused message_size (tied_start x) (map event_of es)))
 
   pub run_settled : is_settled seats order ≡ machine.is_settled now.network
   run_settled =
@@ -138,7 +145,7 @@ module _ (x : Checked) (es : List Event) (ties : Kept) (seats : List Seat) (orde
 
     pub step_runs : (fs : List Event) → fs ≡ es ++ e ∷ [] → IsRunning x fs then_ties then_seats order
     step_runs fs is =
-        let more : tied_moment x fs ≡ next_tied any_size now (event_of e) =
+        let more : tied_moment x fs ≡ next_tied message_size now (event_of e) =
         ap (tied_moment x) is ∙ tied_more x es e in
         record {
           written = r.written;
@@ -167,7 +174,7 @@ module _ (x : Checked) (es : List Event) (ties : Kept) (seats : List Seat) (orde
     pub step_ends : (fs : List Event) → fs ≡ es ++ e ∷ [] → EndsAtOnce now e answer (tied_moment x fs)
     step_ends fs is =
         subst (EndsAtOnce now e answer) (sym (ap (tied_moment x) is ∙ tied_more x es e))
-        (subst (λ (a : TiedAnswer). EndsAtOnce now e a (next_tied any_size now (event_of e))) (sym step_answers)
+        (subst (λ (a : TiedAnswer). EndsAtOnce now e a (next_tied message_size now (event_of e))) (sym step_answers)
         (ends_here x r.written es r.forms e))
 
 -- ---- a network that begins

@@ -1,6 +1,6 @@
 -- What settling makes of the state for which seats stand.
-use Rattle.std.specs.Prelude.{◌≡◌, ◌+◌, ℕ, zero, suc, List, map, true, false, cond, MatchBool}
-use Rattle.std.proofs.Common.{sym, ◌∙◌, ap, subst}
+use Rattle.std.specs.Prelude.{◌≡◌, ◌+◌, ℕ, zero, suc, List, [], ◌∷◌, map, true, false, cond, MatchBool}
+use Rattle.std.proofs.Common.{refl, sym, ◌∙◌, ap, subst}
 use Rattle.network_model.specs.Setup.{longest}
 use Rattle.network_model.specs.Session.{Session}
 use Rattle.network_model.specs.Network.{Network}
@@ -9,16 +9,24 @@ use Rattle.network_model.specs.Steps.{connect_all, round, rounds_from, settle, w
 use Rattle.network_model.specs.Moments.{nodes}
 use Rattle.network_model.proofs.NodesFact.{connect_all_nodes, round_nodes}
 use Rattle.net_model.specs.Seats.{Seat}
+use Rattle.net_model.specs.Steps.{unbroken as unbroken_seat}
+use Rattle.told_laws.specs.Moments.{unbroken}
 use Rattle.net_machine.specs.declared.ends.SessionEnds.{SessionEnds}
 use Rattle.net_machine.specs.Rounds.{IsRound}
 use Rattle.net_machine.specs.Seating.{Keeps, order_among}
 use Rattle.net_machine.specs.Settling.{RoundsFrom, Settles}
+use Rattle.net_machine.proofs.Changes.{unbroken_keeps}
 use Rattle.net_machine.proofs.Connecting.{all_connected, are_next}
 use Rattle.net_machine.proofs.Facts.{At, Facts}
 use Rattle.net_machine.proofs.Kept.{among_kept}
 use Rattle.net_machine.proofs.Delivering.{stays}
 use Rattle.net_machine.proofs.Resting.{quiet_is}
 use Rattle.net_machine.proofs.Rounding.{round_stands, same_order}
+
+-- a session that loses its breaks keeps its nodes
+unbroken_nodes : (ss : List Session) → map nodes (map without_breaks ss) ≡ map nodes ss
+unbroken_nodes [] = refl
+unbroken_nodes (s ∷ ss) = ap (λ ns. nodes s ∷ ns) (unbroken_nodes ss)
 
 -- the order stays
 pub order_stays : (seats after : List Seat) (w v : Network) (order : List SessionEnds) → Keeps seats after
@@ -66,16 +74,18 @@ module _ (M : Network → Type 0) (f : Facts M) where
       → Leads (settle w) w order rounds after
   unfolding settle
   settle_leads seats after w order rounds h is s =
-      let whole : record { setup = w.setup; sessions = map without_breaks w.sessions } ≡ w =
-      ap (λ (ss : List Session). record { setup = w.setup; sessions = ss }) (f.unbroken seats w h.moment h.stands) in
-      let v = round w in
-      let r = round_stands M f seats s.cleared w order h is s.first in
-      let there = order_stays seats s.cleared w v order r.0 (round_nodes w) is in
-      let c = all_connected M f v.sessions s.cleared s.connected v order r.1
-      (are_next s.cleared v v.sessions (f.stood s.cleared v r.1.moment r.1.stands)) there s.connects in
+      let removed = f.removes seats w h.moment h.stands in
+      let u0 = unbroken w in
+      let begun : At M (map unbroken_seat seats) u0 = record { moment = removed.1; stands = removed.0 } in
+      let ordered : order ≡ order_among (map unbroken_seat seats) u0.sessions =
+      order_stays seats (map unbroken_seat seats) w u0 order (unbroken_keeps seats h.stands.seats_are.long)
+      (unbroken_nodes w.sessions) is in
+      let v = round u0 in
+      let r = round_stands M f (map unbroken_seat seats) s.taken u0 order begun ordered s.first in
+      let there = order_stays (map unbroken_seat seats) s.taken u0 v order r.0 (round_nodes u0) ordered in
+      let c = all_connected M f v.sessions s.taken s.connected v order r.1
+      (are_next s.taken v v.sessions (f.stood s.taken v r.1.moment r.1.stands)) there s.connects in
       let u = connect_all v.sessions v in
       let l = rounds_lead (longest w.setup + 5) 1 s.connected after u order rounds c.1
-      (order_stays s.cleared s.connected v u order c.0 (connect_all_nodes v.sessions v) there) s.rest in
-      subst (λ (x : Network). Leads (rounds_from (longest w.setup + 5) 1 (connect_all (round x).sessions (round x))) w order
-      rounds after) (sym whole)
-      (record { count = l.count; stands = l.stands; ordered = l.ordered })
+      (order_stays s.taken s.connected v u order c.0 (connect_all_nodes v.sessions v) there) s.rest in
+      record { count = l.count; stands = l.stands; ordered = l.ordered }

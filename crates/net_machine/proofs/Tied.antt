@@ -13,7 +13,7 @@ use Rattle.isolation_laws.specs.Refusing.{TiedNetwork, next_tied}
 use Rattle.isolation_laws.specs.Running.{ties_next}
 use Rattle.network_model.specs.Events.{Event, answer_to, event_of, next}
 use Rattle.net_model.specs.Seats.{Configuring, Seat, Who, seat}
-use Rattle.net_model.specs.Stands.{StandsFor, any_size}
+use Rattle.net_model.specs.Stands.{StandsFor, message_size}
 use Rattle.told_laws.specs.Moments.{IsMoment}
 use Rattle.schedule_script.specs.declared.answer.Answer.{Answer}
 use Rattle.tied_answers.specs.Answers.{IsEdit}
@@ -33,6 +33,7 @@ use Rattle.net_machine.proofs.Happening.{Makes, happens}
 broken_is : (s : TiedNetwork) (e : Written) → tie_broken s (event_of e) ≡ broken_at s.ties s.network.setup e
 broken_is s (written.Edit d) = refl
 broken_is s (written.Deliver from to n) = refl
+broken_is s (written.DeliverOctets from to n) = refl
 broken_is s (written.Lose a b) = refl
 broken_is s (written.Connect a b) = refl
 broken_is s (written.Restart name) = refl
@@ -40,10 +41,12 @@ broken_is s written.Round = refl
 broken_is s written.Settle = refl
 broken_is s (written.Show name) = refl
 broken_is s (written.Trace p) = refl
+broken_is s (written.Break from to n) = refl
 
 then_is : (s : TiedNetwork) (e : Written) → ties_next s.ties s.network (event_of e) ≡ ties_then s.ties s.network.setup e
 then_is s (written.Edit d) = refl
 then_is s (written.Deliver from to n) = refl
+then_is s (written.DeliverOctets from to n) = refl
 then_is s (written.Lose a b) = refl
 then_is s (written.Connect a b) = refl
 then_is s (written.Restart name) = refl
@@ -51,19 +54,20 @@ then_is s written.Round = refl
 then_is s written.Settle = refl
 then_is s (written.Show name) = refl
 then_is s (written.Trace p) = refl
+then_is s (written.Break from to n) = refl
 
 abbrev stepped : TiedNetwork → Event → TiedNetwork
-stepped s e = record { ties = ties_next s.ties s.network e; network = next any_size s.network e }
+stepped s e = record { ties = ties_next s.ties s.network e; network = next message_size s.network e }
 
 next_where : (s : TiedNetwork) (e : Event) (o : Option Tie) → tie_broken s e ≡ o
-    → next_tied any_size s e ≡ cond (is_some o) s (stepped s e)
+    → next_tied message_size s e ≡ cond (is_some o) s (stepped s e)
 next_where s e o is = ap (λ (b : Bool). cond b s (stepped s e)) (refused_is s e ∙ ap is_some is)
 
 -- ---- an answer is that of the machine, and the ties and the seats are those of its next state
 pub record Steps (s : TiedNetwork) (e : Written) (answer : TiedAnswer) (kept : Kept) (seats : List Seat) : Type 0 where
   pub answers : answer ≡ answer_tied s (event_of e)
-  pub ties : AreAlike (ties_in kept) (next_tied any_size s (event_of e)).ties
-  pub stands : StandsFor seats (next_tied any_size s (event_of e)).network
+  pub ties : AreAlike (ties_in kept) (next_tied message_size s (event_of e)).ties
+  pub stands : StandsFor seats (next_tied message_size s (event_of e)).network
 
 module _ (s : TiedNetwork) (m : IsMoment s.network) (ties : Kept) (seats : List Seat) (order : List SessionEnds)
     (e : Written) where
@@ -74,7 +78,7 @@ module _ (s : TiedNetwork) (m : IsMoment s.network) (ties : Kept) (seats : List 
   by_answer (EditTied tie) then_ties then_seats same stands ordered may h =
       let broken : tie_broken s (event_of e) ≡ Some tie =
       broken_is s e ∙ ap (λ (t : Ties). broken_at t s.network.setup e) (sym same) ∙ h.0 in
-      let stays : next_tied any_size s (event_of e) ≡ s = next_where s (event_of e) (Some tie) broken in
+      let stays : next_tied message_size s (event_of e) ≡ s = next_where s (event_of e) (Some tie) broken in
       record {
         answers = sym (ap (λ (o : Option Tie). unless_tied o (answer_to s.network (event_of e))) broken);
         ties = subst (λ (u : TiedNetwork). AreAlike (ties_in then_ties) u.ties) (sym stays)
@@ -86,8 +90,8 @@ module _ (s : TiedNetwork) (m : IsMoment s.network) (ties : Kept) (seats : List 
   by_answer (Answered answer) then_ties then_seats same stands ordered may h =
       let broken : tie_broken s (event_of e) ≡ None =
       broken_is s e ∙ ap (λ (t : Ties). broken_at t s.network.setup e) (sym same) ∙ h.0 in
-      let goes : next_tied any_size s (event_of e) ≡ stepped s (event_of e) = next_where s (event_of e) None broken in
-      let makes : Makes IsMoment facts s.network (next any_size s.network (event_of e)) answer
+      let goes : next_tied message_size s (event_of e) ≡ stepped s (event_of e) = next_where s (event_of e) None broken in
+      let makes : Makes IsMoment facts s.network (next message_size s.network (event_of e)) answer
       (answer_to s.network (event_of e)) then_seats =
       happens IsMoment facts seats then_seats s.network s.network.setup order e answer
       (record { moment = m; stands = stands }) refl ordered may h.2 in
@@ -146,6 +150,7 @@ module _ (x found : Checked) (seats : List Seat) (order : List SessionEnds) (e :
 pub only_edits : (t : Ties) (x : Checked) (e : Written) (tie : Tie) → broken_at t x e ≡ Some tie → IsEdit e
 only_edits t x (written.Edit d) tie is = tt
 only_edits t x (written.Deliver from to n) tie is = absurd cc
+only_edits t x (written.DeliverOctets from to n) tie is = absurd cc
 only_edits t x (written.Lose a b) tie is = absurd cc
 only_edits t x (written.Connect a b) tie is = absurd cc
 only_edits t x (written.Restart name) tie is = absurd cc
@@ -153,3 +158,4 @@ only_edits t x written.Round tie is = absurd cc
 only_edits t x written.Settle tie is = absurd cc
 only_edits t x (written.Show name) tie is = absurd cc
 only_edits t x (written.Trace p) tie is = absurd cc
+only_edits t x (written.Break from to n) tie is = absurd cc

@@ -2,10 +2,9 @@
 use Rattle.std.specs.Prelude.{◌≡◌, List, [], ◌∷◌, Bool, true, false, not, ◌&&◌}
 use Rattle.ov_link.specs.declared.step.Input.TheVariants.{Opened}
 use Rattle.net_model.specs.Seats.{Seat, live_at, seat}
-use Rattle.net_model.specs.Steps.{Takes, with_seat}
+use Rattle.net_model.specs.Steps.{Takes, cleared, with_seat}
 use Rattle.net_model.specs.declared.place.Place.{Place}
 use Rattle.net_machine.specs.declared.ends.SessionEnds.{SessionEnds}
-use Rattle.net_machine.specs.Seating.{Discards}
 
 -- where both ends are closed
 abbrev pub may_connect : List Seat → SessionEnds → Bool
@@ -17,23 +16,24 @@ pub record Opens (seats : List Seat) (p : Place) (after : List Seat) : Type 0 wh
   pub takes : Takes (seat seats p.node) node (Opened p.session)
   pub is : after ≡ with_seat p.node node seats
 
--- then what both sent on sessions that are down is discarded
+-- then the sessions go down of which a node closed an end
 pub record OpensFar (seats : List Seat) (e : SessionEnds) (after : List Seat) : Type 0 where
   pub opened : List Seat
   pub opens : Opens seats e.far opened
-  pub between : List Seat
-  pub near : Discards opened e.near.node between
-  pub far : Discards between e.far.node after
+  pub is : after ≡ cleared (cleared opened e.near.node) e.far.node
 
--- the far node opens after the near one, where its end is still closed
+-- whether the far end opens, once the near one did
+abbrev pub goes_on : List Seat → SessionEnds → Bool
+goes_on seats e = live_at seats e.near && not (live_at seats e.far)
+
 abbrev pub OpensSecond : Bool → List Seat → SessionEnds → List Seat → Type 0
-OpensSecond true seats e after = after ≡ seats
-OpensSecond false seats e after = OpensFar seats e after
+OpensSecond true seats e after = OpensFar seats e after
+OpensSecond false seats e after = after ≡ cleared seats e.near.node
 
 pub record ConnectsAt (seats : List Seat) (e : SessionEnds) (after : List Seat) : Type 0 where
   pub opened : List Seat
   pub first : Opens seats e.near opened
-  pub second : OpensSecond (live_at opened e.far) opened e after
+  pub second : OpensSecond (goes_on opened e) opened e after
 
 abbrev pub ConnectsIf : Bool → List Seat → SessionEnds → List Seat → Type 0
 ConnectsIf true seats e after = ConnectsAt seats e after

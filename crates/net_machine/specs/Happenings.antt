@@ -14,30 +14,40 @@ use Rattle.schedule_script.specs.declared.answer.Answer.TheVariants.{Did, Idle, 
 use Rattle.network_model.specs.Setup.{longest}
 use Rattle.network_model.specs.Events.{edit_answer, unless}
 use Rattle.net_model.specs.Seats.{Seat, seat, seat_named}
-use Rattle.net_model.specs.Steps.{MakesEdit, forwarders_of, shown_by}
+use Rattle.net_model.specs.Steps.{MakesEdit, cleared, forwarders_of, shown_by, with_break_at}
 use Rattle.net_machine.specs.declared.ends.SessionEnds.{SessionEnds}
 use Rattle.net_machine.specs.Connections.{Connects, may_connect}
-use Rattle.net_machine.specs.Deliveries.{DeliversMany}
+use Rattle.net_machine.specs.Deliveries.{DeliversMany, DeliversOctets}
 use Rattle.net_steps.specs.Losing.{restarted}
 use Rattle.net_machine.specs.Losses.{lost}
 use Rattle.net_machine.specs.Rounds.{IsRound}
-use Rattle.net_machine.specs.Seating.{Discards, ends_of, is_down, is_earlier, turned, waiting}
+use Rattle.net_machine.specs.Seating.{ends_of, is_down, is_earlier, turned, waiting}
 use Rattle.net_machine.specs.Settling.{Settles, is_settled}
 
 -- ---- edits
-abbrev pub DiscardsUnless : Option EditFault → List Seat → List Seat → Type 0
-DiscardsUnless (Some f) seats after = after ≡ seats
-DiscardsUnless None seats after = Discards seats 0 after
+abbrev pub ClearsUnless : Option EditFault → List Seat → List Seat → Type 0
+ClearsUnless (Some f) seats after = after ≡ seats
+ClearsUnless None seats after = after ≡ cleared seats 0
 
 pub record Edits (seats : List Seat) (x : Checked) (e : Edit) (after : List Seat) : Type 0 where
   pub made : List Seat
   pub makes : MakesEdit seats x e (edit_fault x e) made
-  pub discards : DiscardsUnless (edit_fault x e) made after
+  pub clears : ClearsUnless (edit_fault x e) made after
 
 -- ---- on the session of two nodes, where there is one
 abbrev pub DeliversOn : Option SessionEnds → ℕ → List Seat → Answer → List Seat → Type 0
 DeliversOn None n seats answer after = (answer ≡ Idle) × (after ≡ seats)
 DeliversOn (Some e) n seats answer after = (answer ≡ unless (waiting seats e == 0)) × DeliversMany n seats e after
+
+abbrev pub DeliversOctetsOn : Option SessionEnds → ℕ → List Seat → Answer → List Seat → Type 0
+DeliversOctetsOn None n seats answer after = (answer ≡ Idle) × (after ≡ seats)
+DeliversOctetsOn (Some e) n seats answer after =
+    (answer ≡ unless (waiting seats e == 0)) × DeliversOctets seats e n after
+
+-- the near end's n-th send from now on is to fail
+abbrev pub BreaksOn : Option SessionEnds → ℕ → List Seat → Answer → List Seat → Type 0
+BreaksOn None n seats answer after = (answer ≡ Idle) × (after ≡ seats)
+BreaksOn (Some e) n seats answer after = (answer ≡ Did) × (after ≡ with_break_at e.near n seats)
 
 abbrev pub LosesOn : Option SessionEnds → List Seat → Answer → List Seat → Type 0
 LosesOn None seats answer after = (answer ≡ Idle) × (after ≡ seats)
@@ -73,6 +83,8 @@ pub record SettlesAs (x : Checked) (order : List SessionEnds) (seats : List Seat
 abbrev pub Happens : Checked → List SessionEnds → Event → List Seat → Answer → List Seat → Type 0
 Happens x order (event.Edit e) seats answer after = (answer ≡ edit_answer (edit_fault x e)) × Edits seats x e after
 Happens x order (event.Deliver from to n) seats answer after = DeliversOn (ends_of seats to from) n seats answer after
+Happens x order (event.DeliverOctets from to n) seats answer after =
+    DeliversOctetsOn (ends_of seats to from) n seats answer after
 Happens x order (event.Lose a b) seats answer after = LosesOn (ends_of seats a b) seats answer after
 Happens x order (event.Connect a b) seats answer after = ConnectsOn (ends_of seats a b) order seats answer after
 Happens x order (event.Restart name) seats answer after = RestartsAt (seat_named seats name) seats answer after
@@ -82,3 +94,4 @@ Happens x order (event.Show name) seats answer after =
     (answer ≡ shown_at (seat_named seats name) seats) × (after ≡ seats)
 Happens x order (event.Trace p) seats answer after =
     (answer ≡ Traced (forwarding (forwarders_of seats) p)) × (after ≡ seats)
+Happens x order (event.Break from to n) seats answer after = BreaksOn (ends_of seats from to) n seats answer after

@@ -11,10 +11,9 @@ use Rattle.config_check.specs.Checked.{Checked}
 use Rattle.network_model.specs.Setup.{Name}
 use Rattle.network_model.specs.Session.{Session, Controller, Agent}
 use Rattle.network_model.specs.Network.{between, lists, start}
-use Rattle.net_model.specs.Seats.{Configuring, Seat, far_of, is_down_at, link_at, name_of, notice_at, others_of}
+use Rattle.net_model.specs.Seats.{Configuring, Seat, far_of, link_at, name_of, notice_at, others_of}
 use Rattle.net_model.specs.Seats.{place_of, seat, whole_at}
 use Rattle.net_model.specs.Stands.{IsLong}
-use Rattle.net_model.specs.Steps.{IsDiscarded, with_link, with_seat}
 use Rattle.net_model.specs.declared.place.Place.{Place}
 use Rattle.net_machine.specs.declared.ends.SessionEnds.{SessionEnds}
 
@@ -96,12 +95,3 @@ waiting seats e = if notice_at seats e.near then 1 else length (link_at seats e.
 -- a session is down where an end is not live, or a notice waits
 abbrev pub is_down : List Seat → SessionEnds → Bool
 is_down seats e = not (whole_at seats e.near && whole_at seats e.far)
-
--- ---- what a node sent on sessions that are down is discarded
-abbrev pub discarded_at : List Seat → Place → List Seat
-discarded_at seats p = if is_down_at seats p then with_link p [] seats else seats
-
-pub record Discards (seats : List Seat) (k : ℕ) (after : List Seat) : Type 0 where
-  pub node : Seat
-  pub discarded : IsDiscarded seats k node
-  pub is : after ≡ with_seat k node seats

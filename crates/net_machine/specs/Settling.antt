@@ -1,7 +1,8 @@
 -- What settling makes of a network.
-use Rattle.std.specs.Prelude.{◌≡◌, ℕ, zero, suc, ◌+◌, List, Bool, ◌&&◌, ◌==◌, MatchBool}
+use Rattle.std.specs.Prelude.{◌≡◌, ℕ, zero, suc, ◌+◌, List, map, Bool, ◌&&◌, ◌==◌, MatchBool}
 use Rattle.std.specs.List.{list_all}
 use Rattle.net_model.specs.Seats.{Seat, up_at}
+use Rattle.net_model.specs.Steps.{unbroken}
 use Rattle.net_machine.specs.declared.ends.SessionEnds.{SessionEnds}
 use Rattle.net_machine.specs.Connections.{ConnectsAll}
 use Rattle.net_machine.specs.Rounds.{IsRound}
@@ -29,11 +30,12 @@ RoundsFrom (suc n) done order seats rounds after =
     MatchBool (is_quiet seats order) ((rounds ≡ done) × (after ≡ seats))
     ((between : List Seat) × IsRound order seats between × RoundsFrom n (done + 1) order between rounds after)
 
--- one round, every session that is down is connected, and then rounds, at most 6 in all more than the number
+-- no send is to fail any more. Then one round, every session that is down is connected, and then rounds, at most 6 in
+-- all more than the number
 pub record Settles (most : ℕ) (order : List SessionEnds) (seats : List Seat) (rounds : ℕ) (after : List Seat)
     : Type 0 where
-  pub cleared : List Seat
-  pub first : IsRound order seats cleared
+  pub taken : List Seat
+  pub first : IsRound order (map unbroken seats) taken
   pub connected : List Seat
-  pub connects : ConnectsAll order cleared connected
+  pub connects : ConnectsAll order taken connected
   pub rest : RoundsFrom (most + 5) 1 order connected rounds after

@@ -5,7 +5,7 @@ ghost use Rattle.net_model.specs.Seats.{live_at};
 ghost use Rattle.net_machine.specs.Connections.{Connects, ConnectsAll, ConnectsAt, Opens, OpensFar, may_connect};
 ghost use Rattle.net_machine.specs.Seating.{AreLong, AreSeated, IsSeated, Keeps};
 
-use crate::discard::discard;
+use crate::clear::clear_node;
 use crate::ends::SessionEnds;
 use net_model::Place;
 use net_seats::Nodes;
@@ -47,12 +47,12 @@ fn open_far(nodes: &mut Nodes, ends: SessionEnds) -> Result<(), NoMemory>
     ensures failed { IfOk result (λ _. nodes.new.failed ≡ nodes.old.failed) }
 {
     open(nodes, ends.far)?;
-    discard(nodes, ends.near.node);
-    discard(nodes, ends.far.node);
+    clear_node(nodes, ends.near.node);
+    clear_node(nodes, ends.far.node);
     Ok(())
 }
 
-/// Both nodes open, the near one first.
+/// Both nodes open, the near one first. Where a send of the near node closed its end again, the far one does not.
 fn open_both(nodes: &mut Nodes, ends: SessionEnds) -> Result<(), NoMemory>
     requires long { AreLong nodes.old.seats }
     requires seated { AreSeated nodes.old.seats ends }
@@ -62,10 +62,11 @@ fn open_both(nodes: &mut Nodes, ends: SessionEnds) -> Result<(), NoMemory>
     ensures failed { IfOk result (λ _. nodes.new.failed ≡ nodes.old.failed) }
 {
     open(nodes, ends.near)?;
-    if nodes.is_live(ends.far) {
-        return Ok(());
+    if nodes.is_live(ends.near) && !nodes.is_live(ends.far) {
+        return open_far(nodes, ends);
     }
-    open_far(nodes, ends)
+    clear_node(nodes, ends.near.node);
+    Ok(())
 }
 
 /// A session is connected, where both its ends are closed.

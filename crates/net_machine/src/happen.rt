@@ -1,5 +1,5 @@
 //! Events.
-ghost use Rattle.std.specs.Prelude.{◌≡◌, false, IfOk, IsTrue};
+ghost use Rattle.std.specs.Prelude.{◌≡◌, ◌≤◌, false, IfOk, IsTrue};
 ghost use Rattle.std.specs.List.{All};
 ghost use Rattle.report.specs.Answers.{IsAnswerTo};
 ghost use Rattle.config_model.specs.Edit.{has_edit_form};
@@ -10,13 +10,13 @@ ghost use Rattle.config_check.specs.Edits.{edit_fault};
 ghost use Rattle.network_model.specs.Events.{edit_answer, unless};
 ghost use Rattle.net_model.specs.Seats as seats_of;
 ghost use Rattle.net_model.specs.Seats.{Configuring, seat};
-ghost use Rattle.net_machine.specs.Happenings.{ConnectsOn, DeliversOn, Edits, Happens, LosesOn, RestartsAt, SettlesAs};
-ghost use Rattle.net_machine.specs.Happenings.{earlier_first, shown_at};
+ghost use Rattle.net_machine.specs.Happenings.{BreaksOn, ConnectsOn, DeliversOctetsOn, DeliversOn, Edits, Happens};
+ghost use Rattle.net_machine.specs.Happenings.{LosesOn, RestartsAt, SettlesAs, earlier_first, shown_at};
 ghost use Rattle.net_machine.specs.Seating.{AreLong, AreSeated, IsConfigured, Keeps, ends_of};
 
+use crate::clear::clear_node;
 use crate::connect::{connect, may_connect};
-use crate::deliver::deliver_many;
-use crate::discard::discard;
+use crate::deliver::{deliver_many, deliver_octets};
 use crate::ends::{SessionEnds, ends_of, is_down, is_earlier, turned, waiting};
 use crate::longest::longest;
 use crate::lose::{lose, restart};
@@ -45,7 +45,7 @@ fn edit_answer(fault: Option<EditFault>) -> Answer
     }
 }
 
-/// Makes an edit, unless it has a fault, and discards what the configuration node sent on sessions that are down.
+/// Makes an edit, unless it has a fault. The sessions of which the configuration node closed its end go down.
 fn edited(nodes: &mut Nodes, edit: &Edit) -> Result<Answer, NoMemory>
     requires form { IsTrue (has_edit_form edit.now) }
     requires long { AreLong nodes.old.seats }
@@ -60,7 +60,7 @@ fn edited(nodes: &mut Nodes, edit: &Edit) -> Result<Answer, NoMemory>
 {
     let fault = nodes.edit(edit)?;
     if fault.is_none() {
-        discard(nodes, 0);
+        clear_node(nodes, 0);
     }
     Ok(edit_answer(fault))
 }
@@ -79,6 +79,44 @@ fn delivered(nodes: &mut Nodes, from: &Name, to: &Name, n: u32) -> Result<Answer
     let answer = unless(waiting(nodes, ends) == 0);
     deliver_many(nodes, ends, n)?;
     Ok(answer)
+}
+
+/// Delivers up to so many octets from one node to another.
+fn octets_delivered(
+    alloc: Global,
+    nodes: &mut Nodes,
+    from: &Name,
+    to: &Name,
+    n: u32,
+) -> Result<Answer, NoMemory>
+    requires { AreLong nodes.old.seats }
+    ensures delivers { IfOk result (λ a. DeliversOctetsOn (ends_of nodes.old.seats to.now from.now) n
+        nodes.old.seats a nodes.new.seats) }
+    ensures keeps { IfOk result (λ _. Keeps nodes.old.seats nodes.new.seats) }
+    ensures failed { IfOk result (λ _. nodes.new.failed ≡ nodes.old.failed) }
+{
+    let Some(ends) = ends_of(nodes, to, from) else {
+        return Ok(Answer::Idle);
+    };
+    let answer = unless(waiting(nodes, ends) == 0);
+    deliver_octets(alloc, nodes, ends, n)?;
+    Ok(answer)
+}
+
+/// Lets a send fail: the n-th from now on that goes from one node to another.
+fn broken(nodes: &mut Nodes, from: &Name, to: &Name, n: u32) -> Result<Answer, NoMemory>
+    requires long { AreLong nodes.old.seats }
+    requires some { 1 ≤ n }
+    ensures breaks { IfOk result (λ a. BreaksOn (ends_of nodes.old.seats from.now to.now) n
+        nodes.old.seats a nodes.new.seats) }
+    ensures keeps { IfOk result (λ _. Keeps nodes.old.seats nodes.new.seats) }
+    ensures failed { IfOk result (λ _. nodes.new.failed ≡ nodes.old.failed) }
+{
+    let Some(ends) = ends_of(nodes, from, to) else {
+        return Ok(Answer::Idle);
+    };
+    nodes.add_break(ends.near, n)?;
+    Ok(Answer::Did)
 }
 
 /// Loses the session of two nodes, where it is not down.
@@ -200,6 +238,7 @@ pub(crate) fn happen(
     match event {
         Event::Edit(edit) => edited(nodes, edit),
         Event::Deliver { from, to, n } => delivered(nodes, from, to, *n),
+        Event::DeliverOctets { from, to, n } => octets_delivered(alloc, nodes, from, to, *n),
         Event::Lose { a, b } => Ok(lost(nodes, a, b)),
         Event::Connect { a, b } => connected(nodes, order, a, b),
         Event::Restart { node } => Ok(restarted(nodes, node)),
@@ -210,5 +249,6 @@ pub(crate) fn happen(
         Event::Settle => settled(alloc, nodes, order),
         Event::Show { node } => shown(nodes, node),
         Event::Trace(packet) => Ok(Answer::Traced(nodes.trace(*packet))),
+        Event::Break { from, to, n } => broken(nodes, from, to, *n),
     }
 }

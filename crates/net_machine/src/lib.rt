@@ -1,9 +1,9 @@
 //! The whole network: its nodes over queue links, and the state of the network's machine for which it stands.
 #![tactic(auto)]
 
+mod clear;
 mod connect;
 mod deliver;
-mod discard;
 mod ends;
 mod happen;
 mod longest;

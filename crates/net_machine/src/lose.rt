@@ -1,8 +1,8 @@
 //! Lost sessions, and nodes that restart.
 ghost use Rattle.std.specs.Prelude.{◌≡◌, ◌<◌, [], length, false};
 ghost use Rattle.net_model.specs.Seats as seats_of;
-ghost use Rattle.net_model.specs.Steps.{with_link, with_notice};
-ghost use Rattle.net_steps.specs.Losing.{cut, restarted, told_of_loss};
+ghost use Rattle.net_model.specs.Steps.{told_of_loss, with_link, with_notice};
+ghost use Rattle.net_steps.specs.Losing.{cut, restarted};
 ghost use Rattle.net_machine.specs.Losses.{lost};
 ghost use Rattle.net_machine.specs.Seating.{AreLong, AreSeated, IsSeated, Keeps};
 
@@ -10,7 +10,8 @@ use crate::ends::{SessionEnds, is_down};
 use net_model::Place;
 use net_seats::Nodes;
 
-fn set_notice(nodes: &mut Nodes, place: Place, waits: bool)
+/// Whether a notice waits at an end from now on.
+pub(crate) fn set_notice(nodes: &mut Nodes, place: Place, waits: bool)
     requires long { AreLong nodes.old.seats }
     requires seated { IsSeated nodes.old.seats place }
     ensures set { nodes.new.seats ≡ with_notice place waits nodes.old.seats }
@@ -20,7 +21,8 @@ fn set_notice(nodes: &mut Nodes, place: Place, waits: bool)
     nodes.set_notice(place, waits);
 }
 
-fn clear(nodes: &mut Nodes, place: Place)
+/// Takes out all messages that left an end.
+pub(crate) fn clear(nodes: &mut Nodes, place: Place)
     requires long { AreLong nodes.old.seats }
     requires seated { IsSeated nodes.old.seats place }
     ensures cleared { nodes.new.seats ≡ with_link place [] nodes.old.seats }
@@ -58,7 +60,7 @@ pub(crate) fn lose(nodes: &mut Nodes, ends: SessionEnds)
 }
 
 /// The other end of a session is told of its loss, where it is live, and what left it is gone.
-fn tell_of_loss(nodes: &mut Nodes, place: Place)
+pub(crate) fn tell_of_loss(nodes: &mut Nodes, place: Place)
     requires long { AreLong nodes.old.seats }
     requires seated { IsSeated nodes.old.seats place }
     ensures told { nodes.new.seats

@@ -8,7 +8,7 @@ ghost use Rattle.network_model.specs.Events.{event_of};
 ghost use Rattle.network_model.specs.Steps.{is_settled};
 ghost use Rattle.compiled_laws.specs.Moments.{SettlesInTime};
 ghost use Rattle.net_model.specs.Seats.{whos};
-ghost use Rattle.net_model.specs.Stands.{StandsFor, any_size};
+ghost use Rattle.net_model.specs.Stands.{StandsFor, message_size};
 ghost use Rattle.net_model.specs.Steps.{fresh_seat};
 ghost use Rattle.tied_answers.specs.Answers.{OfAnswer};
 ghost use Rattle.tied_laws.specs.Compiled.{EndsAtOnce, IsAsCompiled};
@@ -79,7 +79,7 @@ fn with_nodes(alloc: Global, nodes: Nodes, opening: Valid, ties: Ties) -> Result
     ensures works { IfOk result (λ net. net.failed ≡ false) }
     ensures state { IfOk result (λ net. StandsFor net.seats (tied_moment net.opening net.events).network) }
     ensures ties { IfOk result (λ net. AreAlike (ties_in net.ties) (tied_moment net.opening net.events).ties) }
-    ensures rounds { IfOk result (λ net. SettlesInTime any_size (tied_moment net.opening net.events).network) }
+    ensures rounds { IfOk result (λ net. SettlesInTime message_size (tied_moment net.opening net.events).network) }
 {
     let _config = opening.config();
     let order = order_of(alloc, &nodes, &opening)?;
@@ -103,7 +103,7 @@ impl Net {
         ensures works { IfOk result (λ net. net.failed ≡ false) }
         ensures state { IfOk result (λ net. StandsFor net.seats (tied_moment net.opening net.events).network) }
         ensures ties { IfOk result (λ net. AreAlike (ties_in net.ties) (tied_moment net.opening net.events).ties) }
-        ensures rounds { IfOk result (λ net. SettlesInTime any_size (tied_moment net.opening net.events).network) }
+        ensures rounds { IfOk result (λ net. SettlesInTime message_size (tied_moment net.opening net.events).network) }
     {
         let ties = Ties::new(alloc, &valid)?;
         let opening = valid.copy()?;
@@ -123,7 +123,7 @@ impl Net {
         ensures state { OnOk result (StandsFor self.new.seats (tied_moment self.new.opening self.new.events).network) }
         ensures ties { OnOk result (AreAlike (ties_in self.new.ties)
             (tied_moment self.new.opening self.new.events).ties) }
-        ensures rounds { OnOk result (SettlesInTime any_size
+        ensures rounds { OnOk result (SettlesInTime message_size
             (tied_moment self.new.opening self.new.events).network) }
         ensures settles { IfOk result (λ a. EndsAtOnce (tied_moment self.old.opening self.old.events) event a
             (tied_moment self.new.opening self.new.events)) }

@@ -1,6 +1,7 @@
 //! Settling.
-ghost use Rattle.std.specs.Prelude.{◌≡◌, ◌≤◌, ◌<◌, ◌+◌, ◌^◌, IfOk};
+ghost use Rattle.std.specs.Prelude.{◌≡◌, ◌≤◌, ◌<◌, ◌+◌, ◌^◌, map, IfOk};
 ghost use Rattle.std.specs.List.{All};
+ghost use Rattle.net_model.specs.Steps.{unbroken};
 ghost use Rattle.net_machine.specs.Seating.{AreLong, AreSeated, Keeps};
 ghost use Rattle.net_machine.specs.Settling.{RoundsFrom, Settles, is_quiet, is_rested, is_settled, is_still};
 
@@ -76,8 +77,19 @@ fn rounds(
     Ok(done)
 }
 
-/// One round, then every session that may be is connected, and then rounds until nothing is in flight, at most 6 more
-/// in all than the longest chain in effect has services. Answers the number of rounds.
+/// No send is to fail any more.
+fn drop_breaks(nodes: &mut Nodes)
+    requires long { AreLong nodes.old.seats }
+    ensures dropped { nodes.new.seats ≡ map unbroken nodes.old.seats }
+    ensures keeps { Keeps nodes.old.seats nodes.new.seats }
+    ensures failed { nodes.new.failed ≡ nodes.old.failed }
+{
+    nodes.drop_breaks();
+}
+
+/// Breaks that were not met are removed. Then one round, then every session that may be is connected, and then rounds
+/// until nothing is in flight, at most 6 more in all than the longest chain in effect has services. Answers the number of
+/// rounds.
 pub(crate) fn settle(
     alloc: Global,
     nodes: &mut Nodes,
@@ -91,6 +103,7 @@ pub(crate) fn settle(
     ensures keeps { IfOk result (λ _. Keeps nodes.old.seats nodes.new.seats) }
     ensures failed { IfOk result (λ _. nodes.new.failed ≡ nodes.old.failed) }
 {
+    drop_breaks(nodes);
     round(alloc, nodes, order)?;
     connect_all(nodes, order)?;
     rounds(alloc, nodes, order, longest + 5)

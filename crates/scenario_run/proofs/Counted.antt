@@ -1,6 +1,6 @@
 -- The counts of a schedule are those of its answers.
 use Rattle.std.specs.Prelude.{◌≡◌, ◌≤◌, ◌==◌, ℕ, zero, suc, ◌+◌, Bool, true, false, not, List, [], ◌∷◌, ◌++◌, map, take, length}
-use Rattle.std.specs.Prelude.{slice_get, if◌then◌else◌}
+use Rattle.std.specs.Prelude.{slice_get, is_some, if◌then◌else◌}
 use Rattle.std.specs.List.{cons_option, filter, filter_map}
 use Rattle.std.specs.declared.option.Option.{Option}
 use Rattle.std.specs.declared.option.Option.TheVariants.{Some, None}
@@ -22,7 +22,7 @@ use Rattle.network_model.specs.Session.{Session}
 use Rattle.network_model.specs.Network.{Network}
 use Rattle.network_model.specs.Steps.{in_flight, is_broken, may_connect, session_of}
 use Rattle.network_model.specs.Events.{edit_answer, event_of, forwarders, is_node, next, shown, unless}
-use Rattle.net_model.specs.Stands.{any_size}
+use Rattle.net_model.specs.Stands.{message_size}
 use Rattle.tied_answers.specs.declared.answer.TiedAnswer.{TiedAnswer}
 use Rattle.tied_answers.specs.declared.answer.TiedAnswer.TheVariants.{Answered}
 use Rattle.tied_laws.specs.Runs.{answer_tied, answers, run_tied, tie_broken, unless_tied}
@@ -81,6 +81,7 @@ counts_one : (y : Checked) (s : TiedNetwork) (e : Event) (t : Tally)
 counts_one y s (written.Edit e) t =
     stays t _ (plain_edit (tie_broken s (event_of (written.Edit e))) (edit_fault s.network.setup e))
 counts_one y s (written.Deliver from to n) t = stays t _ (plain_unless (in_flight s.network from to == 0))
+counts_one y s (written.DeliverOctets from to n) t = stays t _ (plain_unless (in_flight s.network from to == 0))
 counts_one y s (written.Lose a b) t = stays t _ (plain_unless (is_broken s.network a b))
 counts_one y s (written.Connect a b) t = stays t _ (plain_connect (session_of s.network a b))
 counts_one y s (written.Restart name) t = stays t _ (plain_unless (not (is_node s.network name)))
@@ -91,6 +92,7 @@ counts_one y s (written.Trace p) t = record {
   delivered = ap (λ b. t.delivered + one_if b) (delivery_is (forwarding (forwarders s.network) p));
   rounds = refl;
 }
+counts_one y s (written.Break from to n) t = stays t _ (plain_unless (not (is_some (session_of s.network from to))))
 
 -- ---- what was delivered
 one_delivered : (b : Bool) (x : TiedAnswer) (xs : List TiedAnswer) → is_delivery x ≡ b
@@ -102,13 +104,13 @@ sums : (a b c d e : ℕ) → a ≡ b + c → c + d ≡ e → a + d ≡ b + e
 sums a b c d e one more = omega (arith, one, more)
 
 deliveries : (s : TiedNetwork) (es : List Event) (t : Tally)
-    → (tally_from s es t).delivered ≡ t.delivered + length (filter is_delivery (run_tied any_size s (map event_of es)))
+    → (tally_from s es t).delivered ≡ t.delivered + length (filter is_delivery (run_tied message_size s (map event_of es)))
 deliveries s [] t = nothing_more t.delivered
 deliveries s (e ∷ es) t =
-    let s' = next_tied any_size s (event_of e) in
+    let s' = next_tied message_size s (event_of e) in
     let answer = answer_tied s (event_of e) in
     let t' = counted s'.network.setup e answer t in
-    let rest = run_tied any_size s' (map event_of es) in
+    let rest = run_tied message_size s' (map event_of es) in
     deliveries s' es t'
     ∙ sums t'.delivered t.delivered (one_if (is_delivery answer)) (length (filter is_delivery rest))
     (length (filter is_delivery (answer ∷ rest)))
@@ -124,12 +126,12 @@ one_later two None ns = refl
 one_later two (Some n) ns = refl
 
 rounds_so_far : (s : TiedNetwork) (es : List Event) (t : Tally)
-    → (tally_from s es t).rounds ≡ all_later t.rounds (filter_map rounds_of (run_tied any_size s (map event_of es)))
+    → (tally_from s es t).rounds ≡ all_later t.rounds (filter_map rounds_of (run_tied message_size s (map event_of es)))
 rounds_so_far s [] t = refl
 rounds_so_far s (e ∷ es) t =
-    let s' = next_tied any_size s (event_of e) in
+    let s' = next_tied message_size s (event_of e) in
     let answer = answer_tied s (event_of e) in
-    let rest = filter_map rounds_of (run_tied any_size s' (map event_of es)) in
+    let rest = filter_map rounds_of (run_tied message_size s' (map event_of es)) in
     rounds_so_far s' es (counted s'.network.setup e answer t)
     ∙ ap (λ two. all_later two rest) (counts_one s'.network.setup s e t).rounds
     ∙ one_later t.rounds (rounds_of answer) rest
@@ -142,8 +144,8 @@ the_last_two two (n ∷ ns) one other = the_last_two (two.1, n) ns one other
 -- from a state, each packet that was traced has the outcome of the configuration of its moment
 abbrev AgreesFrom : TiedNetwork → List Event → Type 0
 AgreesFrom s es = (place : ℕ) (p : Packet) (o : Outcome) → slice_get es place ≡ Some (written.Trace p)
-    → slice_get (run_tied any_size s (map event_of es)) place ≡ Some (Answered (Traced o))
-    → o ≡ reachability (after_tied any_size s (map event_of (take place es))).network.setup.config p
+    → slice_get (run_tied message_size s (map event_of es)) place ≡ Some (Answered (Traced o))
+    → o ≡ reachability (after_tied message_size s (map event_of (take place es))).network.setup.config p
 
 -- whether an event is the trace of a packet, and its outcome is that of the configuration
 abbrev agrees_here : TiedNetwork → Event → Bool
@@ -151,10 +153,11 @@ agrees_here s (written.Trace p) = same_outcome (forwarding (forwarders s.network
 agrees_here s e = false
 
 agreed_one : (s : TiedNetwork) (e : Event) (t : Tally)
-    → (counted (next_tied any_size s (event_of e)).network.setup e (answer_tied s (event_of e)) t).agreed ≡ t.agreed + one_if (agrees_here s e)
+    → (counted (next_tied message_size s (event_of e)).network.setup e (answer_tied s (event_of e)) t).agreed ≡ t.agreed + one_if (agrees_here s e)
 unfolding next
 agreed_one s (written.Edit e) t = nothing_more t.agreed
 agreed_one s (written.Deliver from to n) t = nothing_more t.agreed
+agreed_one s (written.DeliverOctets from to n) t = nothing_more t.agreed
 agreed_one s (written.Lose a b) t = nothing_more t.agreed
 agreed_one s (written.Connect a b) t = nothing_more t.agreed
 agreed_one s (written.Restart name) t = nothing_more t.agreed
@@ -162,10 +165,12 @@ agreed_one s written.Round t = nothing_more t.agreed
 agreed_one s written.Settle t = nothing_more t.agreed
 agreed_one s (written.Show name) t = nothing_more t.agreed
 agreed_one s (written.Trace p) t = refl
+agreed_one s (written.Break from to n) t = nothing_more t.agreed
 
 traces_at_most : (s : TiedNetwork) (e : Event) → one_if (agrees_here s e) ≤ one_if (is_trace e)
 traces_at_most s (written.Edit e) = omega arith
 traces_at_most s (written.Deliver from to n) = omega arith
+traces_at_most s (written.DeliverOctets from to n) = omega arith
 traces_at_most s (written.Lose a b) = omega arith
 traces_at_most s (written.Connect a b) = omega arith
 traces_at_most s (written.Restart name) = omega arith
@@ -173,6 +178,7 @@ traces_at_most s written.Round = omega arith
 traces_at_most s written.Settle = omega arith
 traces_at_most s (written.Show name) = omega arith
 traces_at_most s (written.Trace p) = one_at_most (same_outcome (forwarding (forwarders s.network) p) (reachability s.network.setup.config p))
+traces_at_most s (written.Break from to n) = omega arith
 
 one_traced : (b : Bool) (e : Event) (es : List Event) → is_trace e ≡ b
     → length (filter is_trace (e ∷ es)) ≡ one_if b + length (filter is_trace es)
@@ -189,7 +195,7 @@ traces_more e es = one_traced (is_trace e) e es refl
 agreed_at_most : (s : TiedNetwork) (es : List Event) (t : Tally) → (tally_from s es t).agreed ≤ t.agreed + traces es
 agreed_at_most s [] t = omega arith
 agreed_at_most s (e ∷ es) t =
-    let s' = next_tied any_size s (event_of e) in
+    let s' = next_tied message_size s (event_of e) in
     let t' = counted s'.network.setup e (answer_tied s (event_of e)) t in
     let one = agreed_one s e t in
     let few = traces_at_most s e in
@@ -209,6 +215,7 @@ is_one false h = absurd (omega (arith, h))
 here : (s : TiedNetwork) (e : Event) → one_if (is_trace e) ≤ one_if (agrees_here s e) → AgreesHere s e
 here s (written.Edit e) counts p o is answered = absurd cc
 here s (written.Deliver from to n) counts p o is answered = absurd cc
+here s (written.DeliverOctets from to n) counts p o is answered = absurd cc
 here s (written.Lose a b) counts p o is answered = absurd cc
 here s (written.Connect a b) counts p o is answered = absurd cc
 here s (written.Restart name) counts p o is answered = absurd cc
@@ -223,10 +230,12 @@ here s (written.Trace q) counts p o is answered =
     let same : q ≡ p = cc in
     let told : outcome ≡ o = cc in
     sym told ∙ one ∙ ap (reachability s.network.setup.config) same
+here s (written.Break from to n) counts p o is answered = absurd cc
 
 counts_here : (s : TiedNetwork) (e : Event) → AgreesHere s e → one_if (agrees_here s e) ≡ one_if (is_trace e)
 counts_here s (written.Edit e) agrees = refl
 counts_here s (written.Deliver from to n) agrees = refl
+counts_here s (written.DeliverOctets from to n) agrees = refl
 counts_here s (written.Lose a b) agrees = refl
 counts_here s (written.Connect a b) agrees = refl
 counts_here s (written.Restart name) agrees = refl
@@ -236,17 +245,18 @@ counts_here s (written.Show name) agrees = refl
 counts_here s (written.Trace p) agrees =
     let outcome = forwarding (forwarders s.network) p in
     ap one_if ((same_is_one outcome (reachability s.network.setup.config p)).1 (agrees p outcome refl refl))
+counts_here s (written.Break from to n) agrees = refl
 
 all_agree : (s : TiedNetwork) (es : List Event) (t : Tally) → (tally_from s es t).agreed ≡ t.agreed + traces es → AgreesFrom s es
 all_agree s [] t counts place p o is answered = absurd cc
 all_agree s (e ∷ es) t counts zero p o is answered =
-    let s' = next_tied any_size s (event_of e) in
+    let s' = next_tied message_size s (event_of e) in
     let one = agreed_one s e t in
     let more = agreed_at_most s' es (counted s'.network.setup e (answer_tied s (event_of e)) t) in
     let sum = traces_more e es in
     here s e (omega (arith, one, more, sum, counts)) p o is answered
 all_agree s (e ∷ es) t counts (suc place) p o is answered =
-    let s' = next_tied any_size s (event_of e) in
+    let s' = next_tied message_size s (event_of e) in
     let t' = counted s'.network.setup e (answer_tied s (event_of e)) t in
     let one = agreed_one s e t in
     let few = traces_at_most s e in
@@ -258,7 +268,7 @@ all_count : (s : TiedNetwork) (es : List Event) (t : Tally) → AgreesFrom s es 
 unfolding traces
 all_count s [] t agrees = nothing_more t.agreed
 all_count s (e ∷ es) t agrees =
-    let s' = next_tied any_size s (event_of e) in
+    let s' = next_tied message_size s (event_of e) in
     let t' = counted s'.network.setup e (answer_tied s (event_of e)) t in
     let one = agreed_one s e t in
     let same = counts_here s e (λ p o is answered. agrees zero p o is answered) in

@@ -4,14 +4,14 @@ use Rattle.std.proofs.Common.{refl, sym, ap, subst, ◌∙◌, arith}
 use Rattle.std.proofs.lemmas.List.{append_assoc}
 use Rattle.ov_types.specs.declared.packet.Packet.{Packet}
 use Rattle.config_model.specs.declared.event.Event.{Event}
-use Rattle.config_model.specs.declared.event.Event.TheVariants.{Edit, Deliver, Lose, Connect, Restart, Round, Settle, Show, Trace}
+use Rattle.config_model.specs.declared.event.Event.TheVariants.{Edit, Deliver, DeliverOctets, Lose, Connect, Restart, Round, Settle, Show, Trace, Break}
 use Rattle.config_check.specs.Checked.{Checked}
 use Rattle.schedule_script.specs.declared.answer.Answer.TheVariants.{Did, Idle, EditRefused, Rounds, Shown, Traced}
 use Rattle.reach_plain.specs.Reachability.{reachability}
 use Rattle.route_targets.specs.Forwarding.{forwarding}
 use Rattle.isolation_laws.specs.Refusing.{TiedNetwork, after_tied, next_tied, tied_start}
 use Rattle.network_model.specs.Events.{event_of, forwarders, next}
-use Rattle.net_model.specs.Stands.{any_size}
+use Rattle.net_model.specs.Stands.{message_size}
 use Rattle.tied_answers.specs.declared.answer.TiedAnswer.{TiedAnswer}
 use Rattle.tied_answers.specs.declared.answer.TiedAnswer.TheVariants.{Answered, EditTied}
 use Rattle.tied_laws.specs.Runs.{answer_tied, tied_moment}
@@ -21,10 +21,10 @@ use Rattle.scenario_run.specs.Tallies.{counted, is_delivered, nothing, one_if, s
 use Rattle.scenario_run.proofs.Sameness.{outcome_self}
 
 pub tally_more : (s : TiedNetwork) (es fs : List Event) (t : Tally)
-    → tally_from s (es ++ fs) t ≡ tally_from (after_tied any_size s (map event_of es)) fs (tally_from s es t)
+    → tally_from s (es ++ fs) t ≡ tally_from (after_tied message_size s (map event_of es)) fs (tally_from s es t)
 tally_more s [] fs t = refl
 tally_more s (e ∷ es) fs t =
-    let s' = next_tied any_size s (event_of e) in
+    let s' = next_tied message_size s (event_of e) in
     tally_more s' es fs (counted s'.network.setup e (answer_tied s (event_of e)) t)
 
 pub nothing_more : (k : ℕ) → k ≡ k + 0
@@ -41,7 +41,7 @@ unfolding next
 traces_agree s delivers [] t = nothing_more t.agreed
 traces_agree s delivers (p ∷ ps) t =
     let c = s.network.setup.config in
-    traces_agree (next_tied any_size s (event_of (Trace p))) delivers ps
+    traces_agree (next_tied message_size s (event_of (Trace p))) delivers ps
     (counted s.network.setup (Trace p) (answer_tied s (event_of (Trace p))) t)
     ∙ ap (λ b. (t.agreed + one_if b) + length ps)
     (ap (λ o. same_outcome o (reachability c p)) (delivers p) ∙ outcome_self (reachability c p))
@@ -98,11 +98,13 @@ few_more y Settle answer t n few = settled_few answer t n few
 few_more y (Trace p) answer t n few = traced_few y p answer t n few
 few_more y (Edit d) answer t n few = plain t n few
 few_more y (Deliver from to k) answer t n few = plain t n few
+few_more y (DeliverOctets from to k) answer t n few = plain t n few
 few_more y (Lose a b) answer t n few = plain t n few
 few_more y (Connect a b) answer t n few = plain t n few
 few_more y (Restart name) answer t n few = plain t n few
 few_more y Round answer t n few = plain t n few
 few_more y (Show name) answer t n few = plain t n few
+few_more y (Break from to k) answer t n few = plain t n few
 
 -- the count so far goes on, where the network's opening and events are those of the schedule so far
 pub counted_on : (x o o' : Checked) (ys es es' : List Event) (e : Event) (t t' : Tally)

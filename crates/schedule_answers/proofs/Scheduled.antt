@@ -5,7 +5,7 @@ use Rattle.config_check.specs.Checked.{Checked}
 use Rattle.config_model.specs.declared.event.Event.{Event}
 use Rattle.isolation_laws.specs.Refusing.{TiedNetwork, after_tied, next_tied, tied_start}
 use Rattle.network_model.specs.Events.{event_of}
-use Rattle.net_model.specs.Stands.{any_size}
+use Rattle.net_model.specs.Stands.{message_size}
 use Rattle.ov_io.specs.Inputs.{TookFront}
 use Rattle.ov_io.specs.Pieces.{IsOnItsWay}
 use Rattle.report.specs.Answers.{tied_answer_lines}
@@ -15,20 +15,20 @@ use Rattle.document_answers.proofs.Ways.{front_first, front_then, way_then}
 
 -- the lines of events from a state, the first with a number
 abbrev lines_at : ℕ → TiedNetwork → List Event → List ℕ
-lines_at n s es = lines_from n es (run_tied any_size s (map event_of es))
+lines_at n s es = lines_from n es (run_tied message_size s (map event_of es))
 
 abbrev line_at : ℕ → TiedNetwork → Event → List ℕ
 line_at n s e = tied_answer_lines n e (answer_tied s (event_of e))
 
 split : (ys rest : List Event) (n : ℕ) (s : TiedNetwork)
-    → lines_at n s (ys ++ rest) ≡ lines_at n s ys ++ lines_at (n + length ys) (after_tied any_size s (map event_of ys)) rest
+    → lines_at n s (ys ++ rest) ≡ lines_at n s ys ++ lines_at (n + length ys) (after_tied message_size s (map event_of ys)) rest
 split [] rest n s = ap (λ k. lines_at k s rest) (same n)
   where
     same : (n : ℕ) → n ≡ n + 0
     same n = omega arith
 split (y ∷ ys) rest n s =
-    let s' = next_tied any_size s (event_of y) in
-    let more = after_tied any_size s' (map event_of ys) in
+    let s' = next_tied message_size s (event_of y) in
+    let more = after_tied message_size s' (map event_of ys) in
     ap (λ t. line_at n s y ++ t) (split ys rest (n + 1) s'
     ∙ ap (λ k. lines_at (n + 1) s' ys ++ lines_at k more rest) (shifted (length ys)))
     ∙ sym (append_assoc (line_at n s y) (lines_at (n + 1) s' ys) (lines_at (n + suc (length ys)) more rest))
@@ -39,12 +39,12 @@ split (y ∷ ys) rest n s =
 -- the text of a schedule is that of its first events, and then the line of the next, and more
 text_goes_on : (x : Checked) (ys : List Event) (e : Event) (rest : List Event)
     → run_text x (ys ++ e ∷ rest)
-    ≡ (run_text x ys ++ line_at (length ys + 1) (tied_moment x ys) e) ++ lines_at (length ys + 1 + 1) (next_tied any_size (tied_moment x ys) (event_of e)) rest
+    ≡ (run_text x ys ++ line_at (length ys + 1) (tied_moment x ys) e) ++ lines_at (length ys + 1 + 1) (next_tied message_size (tied_moment x ys) (event_of e)) rest
 unfolding run_text
 text_goes_on x ys e rest =
     split ys (e ∷ rest) 1 (tied_start x)
     ∙ ap (λ k. run_text x ys ++ lines_at k (tied_moment x ys) (e ∷ rest)) (next_number (length ys))
-    ∙ sym (append_assoc (run_text x ys) (line_at (length ys + 1) (tied_moment x ys) e) (lines_at (length ys + 1 + 1) (next_tied any_size (tied_moment x ys) (event_of e)) rest))
+    ∙ sym (append_assoc (run_text x ys) (line_at (length ys + 1) (tied_moment x ys) e) (lines_at (length ys + 1 + 1) (next_tied message_size (tied_moment x ys) (event_of e)) rest))
   where
     next_number : (k : ℕ) → 1 + k ≡ k + 1
     next_number k = omega arith
@@ -72,7 +72,7 @@ pub front_steps : (old mid new : Option (List ℕ)) (before : List ℕ) (x o : C
     → TookFront old new (run_text x all)
 front_steps old mid new before x o ys es e rest all same events is way stop =
     let line = line_at (length ys + 1) (tied_moment x ys) e in
-    let more = lines_at (length ys + 1 + 1) (next_tied any_size (tied_moment x ys) (event_of e)) rest in
+    let more = lines_at (length ys + 1 + 1) (next_tied message_size (tied_moment x ys) (event_of e)) rest in
     subst (λ t. TookFront old new t) (sym (text_goes_on x ys e rest) ∙ ap (run_text x) is)
     (front_first old new [] (run_text x ys ++ line) more
     (front_then old mid new [] before (run_text x ys) line way

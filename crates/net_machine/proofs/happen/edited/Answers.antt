@@ -7,8 +7,8 @@ use Rattle.net_machine.proofs.Kept.{keeps_both}
 use Rattle.net_machine.proofs.happen.edited.Goals as goal
 use Rattle.net_machine.proofs.happen.edited.Goals.{then-is_none, else-is_none}
 
-pub discard-requires-clause-node : goal.discard-requires-clause-node
-discard-requires-clause-node c =
+pub clear_node-requires-clause-node : goal.clear_node-requires-clause-node
+clear_node-requires-clause-node c =
     let i = c.requires.configured in
     let k = edit_keeps _ i.setup c.args.edit.now c.in_ok-fault.fault _ c.requires.long i.some i.is
     (c.in_ok-fault.ensures.made i.setup i.is) in
@@ -16,8 +16,8 @@ discard-requires-clause-node c =
     let some = i.some in
     omega (arith, count, some)
 
-pub discard-requires-clause-long : goal.discard-requires-clause-long
-discard-requires-clause-long c =
+pub clear_node-requires-clause-long : goal.clear_node-requires-clause-long
+clear_node-requires-clause-long c =
     let i = c.requires.configured in
     (edit_keeps _ i.setup c.args.edit.now c.in_ok-fault.fault _ c.requires.long i.some i.is
     (c.in_ok-fault.ensures.made i.setup i.is)).long
@@ -28,7 +28,7 @@ returns-clause-edits c = λ x is.
     elim c.if-is_none.branch [
       | then-is_none w ↦ subst (λ (s : Standing). Edits before x c.args.edit.now s.seats) (sym w.nodes-is)
           (edit_made before x c.args.edit.now c.in_ok-fault.fault _ _ (c.in_ok-fault.ensures.fault x is)
-          (c.in_ok-fault.ensures.made x is) (c.is_none.ensures ∙ ap not w.if-is_none.true) w.discard.ensures.discards)
+          (c.in_ok-fault.ensures.made x is) (c.is_none.ensures ∙ ap not w.if-is_none.true) w.clear_node.ensures.cleared)
       | else-is_none w ↦ subst (λ (s : Standing). Edits before x c.args.edit.now s.seats) (sym w.nodes-is)
           (edit_refused before x c.args.edit.now c.in_ok-fault.fault _ (c.in_ok-fault.ensures.fault x is)
           (c.in_ok-fault.ensures.made x is) (c.is_none.ensures ∙ ap not w.if-is_none.false))
@@ -42,6 +42,6 @@ returns-clause-keeps c =
     (c.in_ok-fault.ensures.made i.setup i.is) in
     elim c.if-is_none.branch [
       | then-is_none w ↦ subst (λ (s : Standing). Keeps before s.seats) (sym w.nodes-is)
-          (keeps_both before _ _ made w.discard.ensures.keeps)
+          (keeps_both before _ _ made w.clear_node.ensures.keeps)
       | else-is_none w ↦ subst (λ (s : Standing). Keeps before s.seats) (sym w.nodes-is) made
     ]

@@ -7,7 +7,7 @@ use Rattle.net_machine.specs.Seating.{AreSeated}
 use Rattle.net_machine.specs.Settling.{is_settled}
 use Rattle.net_machine.specs.Shown.{ShowsCompiled}
 use Rattle.net_machine.proofs.Promised.{settled_shows}
-use Rattle.net_machine.proofs.Ran.{run_moment, run_seated, run_settled}
+use Rattle.net_machine.proofs.Ran.{run_after, run_seated, run_settled}
 use Rattle.net_machine.proofs.net.Net.settled.Goals as goal
 
 pub is_settled-requires : goal.is_settled-requires
@@ -32,6 +32,6 @@ returns-clause-compiled c = λ h.
     let running = (c.self.invariant works).0 in
     subst (λ (n : NetState). ShowsCompiled (tied_moment n.opening n.events).network.setup n.seats) c.self.view_is
     (settled_shows (tied_moment n.opening n.events).network
-    (run_moment n.opening n.events n.ties n.nodes.seats n.order.items running) n.nodes.seats running.stands
+    (run_after n.opening n.events n.ties n.nodes.seats n.order.items running) n.nodes.seats running.stands
     (sym (run_settled n.opening n.events n.ties n.nodes.seats n.order.items running)
     ∙ sym (ap (is_settled n.nodes.seats) c.as_slice.ensures.value) ∙ sym c.is_settled.ensures ∙ h))

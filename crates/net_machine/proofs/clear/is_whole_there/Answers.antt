@@ -1,6 +1,6 @@
 use Rattle.std.proofs.Common.{sym, ◌∙◌}
 use Rattle.net_machine.proofs.Seating.{far_is_seated}
-use Rattle.net_machine.proofs.discard.is_whole_there.Goals as goal
+use Rattle.net_machine.proofs.clear.is_whole_there.Goals as goal
 
 pub is_whole-requires : goal.is_whole-requires
 is_whole-requires c =
