@@ -77,7 +77,8 @@ MESSAGES = [
 
 # every kind of event and of edit; what the events refer to is of no account to the form
 EVENTS = [
-    "round", {"deliver": ["c1", "n1", 1]}, {"lose": ["c1", "c2"]}, {"connect": ["c1", "c2"]}, {"restart": "n1"}, {"show": "c1"},
+    "round", {"deliver": ["c1", "n1", 1]}, {"deliver-bytes": ["c1", "n1", 1]}, {"lose": ["c1", "c2"]}, {"connect": ["c1", "c2"]},
+    {"restart": "n1"}, {"show": "c1"}, {"break": ["c1", "n1", 1]},
     {"trace": {"port": 1, "to": "10.2.0.2", "protocol": 6, "sport": 50000, "dport": 80}},
     {"edit": {"put": {"network": {"name": "red", "id": 1, "subnets": ["10.1.0.0/24"], "policies": ["sec"]}}}},
     {"edit": {"put": {"port": {"name": "vm1", "id": 1, "network": "red", "address": "10.1.0.1", "node": "n1"}}}},
