@@ -27,7 +27,7 @@ down-empty = ap (λ (es : List (DownKey × DownValue)). from_entries {R = key_cm
 pub closed_is : (e : AgentEnd) → IsAgentEnd e → IsAgentEnd (closed_agent e)
 closed_is e is = record { peer = is.peer; from = is.from; sent = subst AllFit (sym down-empty) nothing_fits }
 
-emptied-past : (ms : List Map) (i : ℕ) → length ms ≤ i → emptied_at ms i ≡ ms
+pub emptied-past : (ms : List Map) (i : ℕ) → length ms ≤ i → emptied_at ms i ≡ ms
 emptied-past [] i h = refl
 emptied-past (m ∷ ms) zero h = absurd (omega (arith, h))
 emptied-past (m ∷ ms) (suc i) h = ap (λ (l : List Map). m ∷ l) (emptied-past ms i (omega (arith, h)))

@@ -45,6 +45,7 @@ plan-peer me asn es ts i e d same = (λ k. record {
   asn = asn;
   peers = map-set_same (λ (e : PeerEnd). e.session.peer) es i e d same k;
   agents = map (λ (e : AgentEnd). e.id) ts;
+  retired = [];
 })
 
 pub plan-agent : (me : NodeId) (asn : ℕ) (es : List PeerEnd) (ts : List AgentEnd) (i : ℕ) (e d : AgentEnd)
@@ -54,6 +55,7 @@ plan-agent me asn es ts i e d same = (λ k. record {
   asn = asn;
   peers = map (λ (e : PeerEnd). e.session.peer) es;
   agents = map-set_same (λ (e : AgentEnd). e.id) ts i e d same k;
+  retired = [];
 })
 
 pub seats-set : (first : ℕ) (es : List AgentEnd) (i : ℕ) (e d : AgentEnd) → i < length es → e.id ≡ (get_or es i d).id → seats first (set es i e) ≡ seats first es

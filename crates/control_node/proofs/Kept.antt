@@ -51,7 +51,7 @@ module _ (me : NodeId) (asn : ℕ) (feed : SessionFields) (peers peers' : List P
       map_twice (λ (e : PeerEnd). e.session) (λ (s : session.SessionFields). s.peer) peers'
       ∙ ap (map (λ (s : session.SessionFields). s.peer)) sessions
       ∙ sym (map_twice (λ (e : PeerEnd). e.session) (λ (s : session.SessionFields). s.peer) peers) in
-      λ i. record { me = me; asn = asn; peers = those i; agents = ids i }
+      λ i. record { me = me; asn = asn; peers = those i; agents = ids i; retired = [] }
 
   peers_many : length peers' ≡ length peers
   peers_many = as_many (λ (e : PeerEnd). e.session) peers' peers sessions

@@ -16,3 +16,7 @@ pub mod Made
 pub mod Shown
 pub mod Octets
 pub mod AtTheEnd
+pub mod Retired
+pub mod Placed
+pub mod Seated
+pub mod Removed

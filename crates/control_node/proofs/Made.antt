@@ -155,7 +155,7 @@ pub made_seen : (me : NodeId) (asn : ℕ) (peers agents : List NodeId)
     → record {
       plan = plan_of me asn (map (new_peer asn) peers) (map new_agent agents);
       posts = posts_of ItemState.Idle (map (new_peer asn) peers) (map new_agent agents) (none_told asn peers agents);
-    } ≡ new_ends (record { me = me; asn = asn; peers = peers; agents = agents })
+    } ≡ new_ends (record { me = me; asn = asn; peers = peers; agents = agents; retired = [] })
 made_seen me asn peers agents =
     let all : posts_of ItemState.Idle (map (new_peer asn) peers) (map new_agent agents) (none_told asn peers agents)
     ≡ nothings (1 + (length peers + length agents)) =
@@ -163,7 +163,7 @@ made_seen me asn peers agents =
     ∙ ap (λ (l : List Post). nothing ∷ l) (nothings-append (length peers) (length agents))
     ∙ ap nothings (let z : suc (length peers + length agents) ≡ 1 + (length peers + length agents) = omega arith in z) in
     λ i. record {
-      plan = record { me = me; asn = asn; peers = peers_again asn peers i; agents = agents_again agents i };
+      plan = record { me = me; asn = asn; peers = peers_again asn peers i; agents = agents_again agents i; retired = [] };
       posts = all i;
     }
 
@@ -182,11 +182,12 @@ module _ (plan : ControlPlan) (feed : SessionFields) (peers : List PeerEnd) (age
       (map new_agent plan.agents)) (sym t)
       (made_are plan.me plan.asn plan.peers plan.agents address small few))))
 
-  pub view_made : record { plan = plan_of plan.me plan.asn peers agents; posts = posts_of feed.state peers agents h }
-      ≡ new_ends plan
-  view_made =
+  pub view_made : plan.retired ≡ []
+      → record { plan = plan_of plan.me plan.asn peers agents; posts = posts_of feed.state peers agents h } ≡ new_ends plan
+  view_made none =
       (λ i. record {
         plan = plan_of plan.me plan.asn (p i) (a i);
         posts = posts_of (f i).state (p i) (a i) (t i);
       })
       ∙ made_seen plan.me plan.asn plan.peers plan.agents
+      ∙ ap (λ (retired : List ℕ). new_ends (record plan { retired = retired })) (sym none)

@@ -28,12 +28,14 @@ pub record Ends : Type 0 where
   pub plan : ControlPlan
   pub posts : List Post
 
+-- who is at them. Which numbers are retired the node keeps, and not its ends
 abbrev pub plan_of : NodeId → ℕ → List PeerEnd → List AgentEnd → ControlPlan
 plan_of me asn peers agents = record {
   me = me;
   asn = asn;
   peers = map (λ (e : PeerEnd). e.session.peer) peers;
   agents = map (λ (e : AgentEnd). e.id) agents;
+  retired = [];
 }
 
 -- ---- one end, with what the tables hold of it. An OPEN comes from peers alone

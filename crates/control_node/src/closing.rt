@@ -8,8 +8,8 @@ ghost use Rattle.control_node.specs.Ends.{closed_peer, closed_agent};
 
 use crate::ends::{AgentEnd, ControlEnds, PeerEnd};
 use dirty_keys::Dirty;
+use indexed_tables::IndexedTables;
 use item_wire::ItemSession;
-use vpn_tables::VpnTables;
 
 /// Where the end of a session stands.
 #[derive(Clone, Copy)]
@@ -57,7 +57,7 @@ fn shut_agent(end: &mut AgentEnd)
 }
 
 /// Nothing is held any more of a session, and everything is marked.
-fn lose(tables: &mut VpnTables, dirty: &mut Dirty, session: u16)
+pub(crate) fn lose(tables: &mut IndexedTables, dirty: &mut Dirty, session: u16)
     ensures tables { tables.new ≡ without tables.old session }
     ensures all { dirty.new.all ≡ true }
 {

@@ -14,6 +14,7 @@ use crate::looking::{item_end, peer_end};
 use crate::planning::plan_marked;
 use bgp_session::{Session, State};
 use dirty_keys::Dirty;
+use indexed_tables::IndexedTables;
 use item_wire::{ItemSession, ItemState};
 use node_core::{End, Ends, Plan, Started};
 use ov_link::Input;
@@ -21,7 +22,6 @@ use ov_sync::SyncOut;
 use ov_types::{DownKey, DownValue, NoMemory, NodeId, VpnKey, VpnRoute};
 use std::alloc::Global;
 use std::marker::Model;
-use vpn_tables::VpnTables;
 
 /// The end of a session with a peer, and what was sent on it.
 #[derive(Drop)]
@@ -59,7 +59,7 @@ impl AgentEnd {
 pub(crate) struct ControlEnds {
     pub(crate) me: NodeId,
     pub(crate) asn: u32,
-    pub(crate) tables: VpnTables,
+    pub(crate) tables: IndexedTables,
     /// What may have changed of what sessions are to be told, since the last pass.
     pub(crate) dirty: Dirty,
     pub(crate) feed: ItemSession,

@@ -4,14 +4,18 @@
 mod begin;
 mod cause;
 mod closing;
+mod coming;
 mod ends;
+mod going;
 mod inputs;
+pub mod laws;
 mod looking;
 mod making;
 mod node;
 mod offering;
 mod plan;
 mod planning;
+mod seating;
 mod taking;
 
 pub use cause::NodeCause;

@@ -8,12 +8,12 @@ use crate::ends::{AgentEnd, ControlEnds, PeerEnd};
 use crate::plan::ControlPlan;
 use bgp_session::Session;
 use dirty_keys::Dirty;
+use indexed_tables::IndexedTables;
 use item_wire::{ItemFrom, ItemSession};
 use node_items::config_name;
 use ov_sync::{Delta, SyncOut};
 use ov_types::{Addr, NoMemory, NodeId, Prefix, Rd, VpnKey};
 use std::alloc::Global;
-use vpn_tables::VpnTables;
 
 fn new_peers(alloc: Global, asn: u32, ids: &[NodeId]) -> Result<Vec<PeerEnd>, NoMemory>
     ensures { IfOk result (λ ends. ends.items ≡ map (new_peer asn) ids.now) }
@@ -28,22 +28,29 @@ fn new_peers(alloc: Global, asn: u32, ids: &[NodeId]) -> Result<Vec<PeerEnd>, No
     Ok(ends)
 }
 
+/// The end of a session with an agent, which was not opened yet.
+pub(crate) fn new_agent(alloc: Global, agent: &NodeId) -> AgentEnd
+    ensures { result ≡ new_agent agent.now }
+{
+    AgentEnd {
+        id: *agent,
+        session: ItemSession::new(agent.name, ItemFrom::Agent),
+        sent: SyncOut::new(alloc),
+    }
+}
+
 fn new_agents(alloc: Global, ids: &[NodeId]) -> Result<Vec<AgentEnd>, NoMemory>
     ensures { IfOk result (λ ends. ends.items ≡ map new_agent ids.now) }
 {
     let mut ends = Vec::new(alloc);
     for id in ids {
-        ends.push(AgentEnd {
-            id: *id,
-            session: ItemSession::new(id.name, ItemFrom::Agent),
-            sent: SyncOut::new(alloc),
-        })?;
+        ends.push(new_agent(alloc, id))?;
     }
     Ok(ends)
 }
 
 /// Makes a place in the tables for each peer up to the last, by a change that tells nothing.
-fn seat_peers(tables: &mut VpnTables, last: u16) -> Result<(), NoMemory>
+fn seat_peers(tables: &mut IndexedTables, last: u16) -> Result<(), NoMemory>
     requires { tables.old.peers ≡ [] }
     ensures { OnOk result (tables.new ≡ record tables.old { peers = replicate last empty }) }
 {
@@ -56,7 +63,7 @@ fn seat_peers(tables: &mut VpnTables, last: u16) -> Result<(), NoMemory>
 }
 
 /// Makes a place in the tables for each agent, whose sessions have the numbers from the first on.
-fn seat_agents(tables: &mut VpnTables, first: u16, agents: &[NodeId]) -> Result<(), NoMemory>
+fn seat_agents(tables: &mut IndexedTables, first: u16, agents: &[NodeId]) -> Result<(), NoMemory>
     requires few { first + length agents.now ≤ 65535 }
     requires none { tables.old.agents ≡ [] }
     ensures { OnOk result (tables.new ≡ record tables.old { agents = told_from first agents.now [] }) }
@@ -75,11 +82,11 @@ fn new_tables(
     asn: u32,
     peers: &[NodeId],
     agents: &[NodeId],
-) -> Result<VpnTables, NoMemory>
+) -> Result<IndexedTables, NoMemory>
     requires few { length peers.now + length agents.now < 65535 }
     ensures { IfOk result (λ tables. tables ≡ none_told asn peers.now agents.now) }
 {
-    let mut tables = VpnTables::new(alloc, asn);
+    let mut tables = IndexedTables::new(alloc, asn);
     let last = peers.len() as u16;
     seat_peers(&mut tables, last)?;
     seat_agents(&mut tables, last + 1, agents)?;
@@ -91,6 +98,7 @@ impl ControlEnds {
     pub(crate) fn new(alloc: Global, plan: ControlPlan) -> Result<ControlEnds, NoMemory>
         requires few { length plan.peers + length plan.agents < 65535 }
         requires address { plan.me.address.0 ≢ 0 }
+        requires retired { plan.retired ≡ [] }
         ensures { IfOk result (λ ends. ends ≡ new_ends plan) }
     {
         let ids = plan.peers.as_slice();

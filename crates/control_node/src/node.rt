@@ -1,5 +1,5 @@
 //! A control node and its step.
-ghost use Rattle.std.specs.Prelude.{◌≡◌, ◌≢◌, ◌<◌, ◌≤◌, ◌↔◌, ◌+◌, ℕ, List, length, map, not, false, true, IfOk};
+ghost use Rattle.std.specs.Prelude.{◌≡◌, ◌≢◌, ◌<◌, ◌≤◌, ◌↔◌, ◌+◌, ℕ, List, [], length, map, not, false, true, IfOk};
 ghost use Rattle.std.specs.List.{slice_set};
 ghost use Rattle.std.specs.List.Sorted.{IsStrictlySortedBy};
 ghost use Rattle.ov_types.specs.Keys.{row_key_cmp};
@@ -10,6 +10,7 @@ ghost use Rattle.node_core.specs.Whole.{Comes, IsWholeStep, session_of};
 ghost use Rattle.node_model.specs.Step.{post};
 ghost use Rattle.node_model.specs.Tables.{rows as rows_of};
 ghost use Rattle.node_laws.specs.Stepped.{AreTold};
+ghost use Rattle.control_node.specs.Agents.{AreRetired, is_agent, is_retired};
 ghost use Rattle.control_node.specs.Core.{AreSwept, fresh, holdings, kept_at, sessions};
 ghost use Rattle.control_node.specs.Wanting.{is_idle, is_up, kind};
 ghost use Rattle.control_node.specs.Beginning.{BeginsKeeping};
@@ -28,11 +29,14 @@ use vpn_tables::VpnTables;
 /// A control node, which contracts see as its plan, its ends, the octets that it keeps, and whether it failed.
 #[derive(Drop)]
 pub struct ControlNode {
-    node: Node<ControlEnds>,
+    pub(crate) node: Node<ControlEnds>,
+    /// The numbers of sessions that no agent has now, ascending.
+    pub(crate) retired: Vec<u16>,
 }
 
 impl Model for ControlNode {
     ghost use Rattle.std.specs.Prelude.{◌≡◌, length};
+    ghost use Rattle.control_node.specs.Agents.{AreRetired, with_retired};
     ghost use Rattle.control_node.specs.Core.{AreFew, AreOfLive, Core};
     ghost use Rattle.control_node.specs.Codes.{coded_core};
 
@@ -41,14 +45,15 @@ impl Model for ControlNode {
     ghost coded = { coded_core };
 
     ghost view = { λ n. record {
-      plan = n.node.ends.plan;
+      plan = with_retired n.node.ends.plan n.retired.items;
       posts = n.node.ends.posts;
       kept = n.node.inboxes.items;
       failed = n.node.failed;
     } };
 
     ghost invariant = { λ n. (length n.node.inboxes.items ≡ length n.node.ends.posts) × AreFew n.node.inboxes.items
-        × AreOfLive n.node.ends.posts n.node.inboxes.items };
+        × AreOfLive n.node.ends.posts n.node.inboxes.items
+        × AreRetired (with_retired n.node.ends.plan n.retired.items) };
 }
 
 impl ControlNode {
@@ -56,11 +61,15 @@ impl ControlNode {
     pub fn new(alloc: Global, plan: ControlPlan) -> Result<ControlNode, NoMemory>
         requires few { length plan.peers + length plan.agents < 65535 }
         requires address { plan.me.address.0 ≢ 0 }
+        requires retired { plan.retired ≡ [] }
         ensures { IfOk result (λ node. node ≡ fresh plan) }
     {
         let ends = ControlEnds::new(alloc, plan)?;
         let node = Node::new(alloc, ends)?;
-        Ok(ControlNode { node })
+        Ok(ControlNode {
+            node,
+            retired: Vec::new(alloc),
+        })
     }
 
     /// How many sessions there are. It takes no memory.
@@ -68,6 +77,21 @@ impl ControlNode {
         ensures { result ≡ sessions self.now.plan }
     {
         self.node.ends.sessions()
+    }
+
+    /// Whether the session is with an agent, or was until its agent was removed. It takes no memory.
+    pub fn is_agent(&self, session: u16) -> bool
+        ensures { result ≡ is_agent self.now.plan session }
+    {
+        self.node.ends.is_agent(session)
+    }
+
+    /// Whether no agent has the session now, since the one that had it was removed. It takes no memory.
+    pub fn is_retired(&self, session: u16) -> bool
+        ensures retired { result ≡ is_retired self.now.plan session }
+        ensures numbers { AreRetired self.now.plan }
+    {
+        self.retired.iter().any(|number| *number == session)
     }
 
     /// Whether an end is not idle. It takes no memory.
@@ -106,7 +130,7 @@ impl ControlNode {
         self.node.pending(session)
     }
 
-    /// Closes every end, holds nothing, and keeps no octets. It takes no memory.
+    /// Closes every end, holds nothing, and keeps no octets. Retired sessions stay so. It takes no memory.
     pub fn restart(&mut self)
         ensures { self.new ≡ fresh self.old.plan }
     {
@@ -138,6 +162,7 @@ impl ControlNode {
         links: &mut Links<L>,
     ) -> Result<Stepped<NodeCause>, NodeFault>
         requires known { session_of input < sessions self.old.plan }
+        requires kept { is_retired self.old.plan (session_of input) ≡ false }
         requires linked { length links.old ≡ sessions self.old.plan }
         requires comes { Comes (λ i. is_idle (post self.old.posts i).phase ≡ false)
             (λ i. is_idle (post self.old.posts i).phase ≡ true) input }

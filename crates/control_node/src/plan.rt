@@ -8,5 +8,8 @@ pub struct ControlPlan {
     pub me: NodeId,
     pub asn: u32,
     pub peers: Items<NodeId>,
+    /// At a retired number the agent that had it last.
     pub agents: Items<NodeId>,
+    /// The numbers of sessions that no agent has now, ascending.
+    pub retired: Items<u16>,
 }

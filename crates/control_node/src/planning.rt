@@ -26,6 +26,7 @@ ghost use Rattle.marked_sends.specs.Wanted.{AreRoutesWanted};
 
 use crate::ends::{AgentEnd, PeerEnd};
 use dirty_keys::Dirty;
+use indexed_tables::IndexedTables;
 use marked_sends::{MarkedItem, RoutesWanted, items_marked, routes_wanted, tell_agent, tell_peer};
 use node_core::Plan;
 use ov_sync::Delta;
@@ -172,11 +173,41 @@ fn plan_agents(
 }
 
 /// The plans of all sessions by what is held: the feed is told nothing, peers the routes that they are to have, agents
-/// their slices and rows. Where not everything is marked, it looks at the marked keys alone, and selects each of
-/// their rows once for all agents.
-fn plan_all(
+/// their slices and rows. Where not everything is marked, it looks at the marked keys alone, of agents with their rows.
+fn plan_sessions(
     alloc: Global,
     tables: &VpnTables,
+    dirty: &Dirty,
+    marked: &[MarkedItem],
+    peers: &mut [PeerEnd],
+    agents: &mut [AgentEnd],
+) -> Result<Vec<Plan>, NoMemory>
+    requires few { length peers.old + length agents.old < 65535 }
+    requires asn { tables.now.asn < 2 ^ 32 }
+    requires held { HoldingsFit tables.now }
+    requires agents { AllByRecursion IsAgentEnd agents.old }
+    requires marked { AreMarkedItems dirty.now tables.now marked.now }
+    requires tracked { Tracks dirty.now tables.now peers.old agents.old }
+    ensures sessions { map (λ e. e.session) peers.new ≡ map (λ e. e.session) peers.old }
+    ensures agents { AllByRecursion IsAgentEnd agents.new }
+    ensures ids { map (λ e. e.id) agents.new ≡ map (λ e. e.id) agents.old }
+    ensures told { IfOk result (λ plans. ArePlanned tables.now peers.old peers.new agents.old agents.new plans.items) }
+{
+    let wanted = routes_wanted(alloc, tables, dirty)?;
+    let first = 1 + peers.len() as u16;
+    let mut plans = Vec::new(alloc);
+    plans.push(Plan {
+        messages: Items::new(alloc),
+    })?;
+    plan_peers(alloc, peers, tables, dirty, &wanted, &mut plans)?;
+    plan_agents(alloc, agents, tables, dirty, marked, first, &mut plans)?;
+    Ok(plans)
+}
+
+/// The plans of all sessions by what is held. Each row of a marked key is selected once for all agents.
+fn plan_all(
+    alloc: Global,
+    tables: &IndexedTables,
     dirty: &Dirty,
     peers: &mut [PeerEnd],
     agents: &mut [AgentEnd],
@@ -191,22 +222,14 @@ fn plan_all(
     ensures ids { map (λ e. e.id) agents.new ≡ map (λ e. e.id) agents.old }
     ensures told { IfOk result (λ plans. ArePlanned tables.now peers.old peers.new agents.old agents.new plans.items) }
 {
-    let wanted = routes_wanted(alloc, tables, dirty)?;
     let marked = items_marked(alloc, tables, dirty)?;
-    let first = 1 + peers.len() as u16;
-    let mut plans = Vec::new(alloc);
-    plans.push(Plan {
-        messages: Items::new(alloc),
-    })?;
-    plan_peers(alloc, peers, tables, dirty, &wanted, &mut plans)?;
-    plan_agents(alloc, agents, tables, dirty, &marked, first, &mut plans)?;
-    Ok(plans)
+    plan_sessions(alloc, tables.held(), dirty, &marked, peers, agents)
 }
 
 /// The plans of all sessions by what is held, after which nothing is marked. Where memory is wanting, everything is.
 pub(crate) fn plan_marked(
     alloc: Global,
-    tables: &VpnTables,
+    tables: &IndexedTables,
     dirty: &mut Dirty,
     peers: &mut [PeerEnd],
     agents: &mut [AgentEnd],

@@ -12,6 +12,7 @@ ghost use Rattle.slice_laws.specs.Here.{is_here};
 ghost use Rattle.dirty_keys.specs.Marks.{Covered, IsCleanItem, IsPlace, IsWithin};
 
 use crate::dirty::Dirty;
+use indexed_tables::IndexedTables;
 use ov_sync::Delta;
 use ov_types::{Addr, DownKey, LowKey, LowValue, NoMemory};
 use vpn_tables::VpnTables;
@@ -84,7 +85,7 @@ impl Dirty {
     /// Applies a change that the feed told, and marks what it may change.
     pub fn set_low(
         &mut self,
-        tables: &mut VpnTables,
+        tables: &mut IndexedTables,
         delta: Delta<LowKey, LowValue>,
     ) -> Result<(), NoMemory>
         requires { PutOf Fits delta }
@@ -93,7 +94,7 @@ impl Dirty {
         ensures within { IsWithin self.old self.new }
         ensures covers { Covered self.new tables.old tables.new }
     {
-        mark_object(self, tables, &delta);
+        mark_object(self, tables.held(), &delta);
         tables.set_low(delta)
     }
 }

@@ -16,6 +16,7 @@ ghost use Rattle.vpn_tables.specs.TouchedKeys.{key_published, keys_led};
 ghost use Rattle.dirty_keys.specs.Marks.{AreRoutesMarked, AreRowsMarked, Covered, IsCleanItem, IsCleanRoute, IsWithin};
 
 use crate::dirty::Dirty;
+use indexed_tables::IndexedTables;
 use ov_sync::Delta;
 use ov_types::{DownKey, InstanceId, Label, NoMemory, Prefix, Target, UpKey, VpnKey, VpnRoute};
 use vpn_tables::VpnTables;
@@ -125,7 +126,7 @@ impl Dirty {
     /// Applies a change that an agent told on its session, and marks what it may change.
     pub fn set_publication(
         &mut self,
-        tables: &mut VpnTables,
+        tables: &mut IndexedTables,
         session: u16,
         delta: Delta<UpKey, Label>,
     ) -> Result<(), NoMemory>
@@ -134,12 +135,13 @@ impl Dirty {
         ensures within { IsWithin self.old self.new }
         ensures covers { Covered self.new tables.old tables.new }
     {
-        tables.uses_are_short();
-        mark_own(self, tables, session, &key_of(&delta));
-        match mark_publication(self, tables, session, &delta) {
+        let before = tables.held();
+        before.uses_are_short();
+        mark_own(self, before, session, &key_of(&delta));
+        match mark_publication(self, before, session, &delta) {
             Ok(targets) => {
                 tables.set_publication(session, delta)?;
-                mark_led(self, tables, &targets);
+                mark_led(self, tables.held(), &targets);
                 Ok(())
             }
             Err(_) => {
@@ -152,7 +154,7 @@ impl Dirty {
     /// Applies a change that a peer told on its session, and marks what it may change.
     pub fn set_peer_route(
         &mut self,
-        tables: &mut VpnTables,
+        tables: &mut IndexedTables,
         session: u16,
         delta: Delta<VpnKey, VpnRoute>,
     ) -> Result<(), NoMemory>
@@ -161,12 +163,13 @@ impl Dirty {
         ensures within { IsWithin self.old self.new }
         ensures covers { Covered self.new tables.old tables.new }
     {
-        tables.uses_are_short();
+        let before = tables.held();
+        before.uses_are_short();
         self.add_route(key_of(&delta));
-        match mark_route(self, tables, session, &delta) {
+        match mark_route(self, before, session, &delta) {
             Ok(targets) => {
                 tables.set_peer_route(session, delta)?;
-                mark_led(self, tables, &targets);
+                mark_led(self, tables.held(), &targets);
                 Ok(())
             }
             Err(_) => {

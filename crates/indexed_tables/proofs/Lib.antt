@@ -4,3 +4,5 @@ pub mod Staying
 pub mod Peers
 pub mod Agents
 pub mod Gathered
+pub mod Subnets
+pub mod Led

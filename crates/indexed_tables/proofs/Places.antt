@@ -1,17 +1,18 @@
 -- The orders of places tell them apart, and between two places stands what has the prefix.
-use Rattle.std.specs.Prelude.{◌≡◌, ◌<◌, ℕ, ◌+◌, ◌==◌, Bool, true, false, not, ◌&&◌}
+use Rattle.std.specs.Prelude.{◌≡◌, ◌<◌, ℕ, ◌+◌, ◌-◌, ◌==◌, nat_le, Bool, true, false, not, ◌&&◌}
 use Rattle.std.specs.declared.cmp.Ordering.{Ordering}
 use Rattle.std.specs.declared.cmp.Ordering.TheVariants.{Less, Equal, Greater}
-use Rattle.std.specs.declared.ops.Bound.TheVariants.{Included, Excluded}
+use Rattle.std.specs.declared.ops.Bound.TheVariants.{Included, Excluded, Unbounded}
 use Rattle.std.specs.BTreeMap.Range.{range_contains}
 use Rattle.std.specs.Ordering.{is_le, nat_cmp, ordering_then}
 use Rattle.std.specs.FinMap.{nat_cmp-IsAntisymmetric}
 use Rattle.std.specs.Cmp.{IsTotalOrder, nat_cmp_total, on_total, then_total, tied_itself}
 use Rattle.std.proofs.lemmas.Bool.Decides.{nat_tests}
+use Rattle.std.proofs.lemmas.Nat.{pow_pos}
 use Rattle.std.proofs.Common.{refl, sym, ◌∙◌, ap, arith, rules}
-use Rattle.ov_types.specs.Prefix.{Block}
+use Rattle.ov_types.specs.Prefix.{Block, size_of}
 use Rattle.ov_types.specs.declared.prefix.Addr.{Addr}
-use Rattle.indexed_tables.specs.Indexed.{is_label_to, is_route_to, label_order, route_order}
+use Rattle.indexed_tables.specs.Indexed.{is_label_to, is_label_within, is_route_to, is_route_within, label_order, route_order}
 use Rattle.indexed_tables.specs.declared.keys.LabelAt.{LabelAt}
 use Rattle.indexed_tables.specs.declared.keys.RouteAt.{RouteAt}
 
@@ -92,3 +93,30 @@ between_routes prefix a b m n ea eb em en k = between_at prefix a.0 b.0 m n k.ad
 pub between_labels : (prefix : Block) (a b : Addr) (m n : ℕ) → a.0 ≡ prefix.addr → b.0 ≡ prefix.addr → m ≡ prefix.len → n ≡ prefix.len → (k : LabelAt)
     → range_contains label_order (Included (record { addr = a; len = m; session = 0; instance = record { 0 = 0 } })) (Excluded (record { addr = b; len = n + 1; session = 0; instance = record { 0 = 0 } })) k ≡ is_label_to prefix k
 between_labels prefix a b m n ea eb em en k = between_at prefix a.0 b.0 m n k.addr.0 k.len k.session k.instance.0 ea eb em en
+
+-- ---- what is within a subnet begins in it
+inside : (start size x y s e z : ℕ) → 0 < z → (nat_le start x && nat_le (x + z) (start + size)) ≡ true → is_between start 0 (start + size) 0 x y s e ≡ true
+inside start size x y s e z pos w = grind (arith, nat_tests)
+
+onward : (start size x y s e z : ℕ) → (nat_le start x && nat_le (x + z) (start + size)) ≡ true → (is_le (four_cmp start 0 0 0 x y s e) && true) ≡ true
+onward start size x y s e z w = grind (arith, nat_tests)
+
+pub routes_inside : (subnet : Block) (a b : Addr) → a.0 ≡ subnet.addr → b.0 ≡ subnet.addr + size_of subnet.len → (k : RouteAt) → is_route_within subnet k ≡ true
+    → range_contains route_order (Included (record { addr = a; len = 0; session = 0; rd = record { 0 = 0 } })) (Excluded (record { addr = b; len = 0; session = 0; rd = record { 0 = 0 } })) k ≡ true
+routes_inside subnet a b ea eb k w =
+    (λ i. is_between (ea i) 0 (eb i) 0 k.addr.0 k.len k.session k.rd.0) ∙ inside subnet.addr (size_of subnet.len) k.addr.0 k.len k.session k.rd.0 (size_of k.len) (pow_pos (32 - k.len)) w
+
+pub routes_onward : (subnet : Block) (a : Addr) → a.0 ≡ subnet.addr → (k : RouteAt) → is_route_within subnet k ≡ true
+    → range_contains route_order (Included (record { addr = a; len = 0; session = 0; rd = record { 0 = 0 } })) Unbounded k ≡ true
+routes_onward subnet a ea k w =
+    (λ i. is_le (four_cmp (ea i) 0 0 0 k.addr.0 k.len k.session k.rd.0) && true) ∙ onward subnet.addr (size_of subnet.len) k.addr.0 k.len k.session k.rd.0 (size_of k.len) w
+
+pub labels_inside : (subnet : Block) (a b : Addr) → a.0 ≡ subnet.addr → b.0 ≡ subnet.addr + size_of subnet.len → (k : LabelAt) → is_label_within subnet k ≡ true
+    → range_contains label_order (Included (record { addr = a; len = 0; session = 0; instance = record { 0 = 0 } })) (Excluded (record { addr = b; len = 0; session = 0; instance = record { 0 = 0 } })) k ≡ true
+labels_inside subnet a b ea eb k w =
+    (λ i. is_between (ea i) 0 (eb i) 0 k.addr.0 k.len k.session k.instance.0) ∙ inside subnet.addr (size_of subnet.len) k.addr.0 k.len k.session k.instance.0 (size_of k.len) (pow_pos (32 - k.len)) w
+
+pub labels_onward : (subnet : Block) (a : Addr) → a.0 ≡ subnet.addr → (k : LabelAt) → is_label_within subnet k ≡ true
+    → range_contains label_order (Included (record { addr = a; len = 0; session = 0; instance = record { 0 = 0 } })) Unbounded k ≡ true
+labels_onward subnet a ea k w =
+    (λ i. is_le (four_cmp (ea i) 0 0 0 k.addr.0 k.len k.session k.instance.0) && true) ∙ onward subnet.addr (size_of subnet.len) k.addr.0 k.len k.session k.instance.0 (size_of k.len) w

@@ -1,5 +1,5 @@
 -- What peers and agents told, in the order of prefixes.
-use Rattle.std.specs.Prelude.{◌≡◌, ◌<◌, ℕ, zero, suc, List, [], ◌∷◌, map, Bool, ◌==◌, ◌&&◌, if◌then◌else◌}
+use Rattle.std.specs.Prelude.{◌≡◌, ◌<◌, ℕ, zero, suc, List, [], ◌∷◌, map, Bool, ◌==◌, ◌&&◌, is_some, if◌then◌else◌}
 use Rattle.std.specs.declared.cmp.Ordering.{Ordering}
 use Rattle.std.specs.declared.option.Option.{Option}
 use Rattle.std.specs.declared.option.Option.TheVariants.{Some, None}
@@ -7,7 +7,7 @@ use Rattle.std.specs.BTreeMap as tree
 use Rattle.std.specs.BTreeMap.{BTreeMap}
 use Rattle.std.specs.FinMap.{empty, get}
 use Rattle.std.specs.List.{list_any}
-use Rattle.ov_types.specs.Prefix.{Block}
+use Rattle.ov_types.specs.Prefix.{Block, is_inside}
 use Rattle.ov_types.specs.declared.keys.UpKey.{UpKey}
 use Rattle.ov_types.specs.declared.keys.UpKey.TheVariants as Up
 use Rattle.ov_types.specs.declared.numbers.InstanceId.{InstanceId}
@@ -129,3 +129,16 @@ label_path h wanted e =
     })
     else None)
     else None
+
+-- ---- what leads within a subnet
+abbrev pub is_route_within : Block → RouteAt → Bool
+is_route_within subnet k = is_inside (record { addr = k.addr.0; len = k.len }) subnet
+
+abbrev pub is_label_within : Block → LabelAt → Bool
+is_label_within subnet k = is_inside (record { addr = k.addr.0; len = k.len }) subnet
+
+abbrev pub leads_route : List Target → Block → RouteAt × VpnRoute → Bool
+leads_route wanted subnet e = is_route_within subnet e.0 && is_some (route_path wanted e)
+
+abbrev pub leads_label : Holdings → List Target → Block → LabelAt × LabelNo → Bool
+leads_label h wanted subnet e = is_label_within subnet e.0 && is_some (label_path h wanted e)

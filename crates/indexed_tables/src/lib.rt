@@ -5,7 +5,11 @@
 mod forgetting;
 mod kept;
 mod keys;
+mod leading;
 mod received;
+mod selecting;
+mod sides;
 mod tables;
+mod within;
 
 pub use tables::IndexedTables;

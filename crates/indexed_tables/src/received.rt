@@ -14,7 +14,7 @@ use std::alloc::Global;
 use vpn_tables::VpnTables;
 
 /// Appends a path, where there is one.
-fn keep(paths: &mut Vec<Path>, path: Option<Path>) -> Result<(), NoMemory>
+pub(crate) fn keep(paths: &mut Vec<Path>, path: Option<Path>) -> Result<(), NoMemory>
     ensures { OnOk result (paths.new.items ≡ paths.old.items ++ cons_option path []) }
 {
     if let Some(path) = path {
@@ -59,7 +59,7 @@ pub(crate) fn has_one(wanted: &[Target], targets: &[Target]) -> bool
 }
 
 /// The path of a route, where it has a wanted target.
-fn route_path(wanted: &[Target], at: &RouteAt, route: &VpnRoute) -> Option<Path>
+pub(crate) fn route_path(wanted: &[Target], at: &RouteAt, route: &VpnRoute) -> Option<Path>
     ensures { result ≡ route_path wanted.now (at.now, route.now) }
 {
     if !has_one(wanted, route.targets.items()) {
@@ -74,7 +74,12 @@ fn route_path(wanted: &[Target], at: &RouteAt, route: &VpnRoute) -> Option<Path>
 }
 
 /// The path of a publication of a known instance, where it has a wanted target.
-fn label_path(held: &VpnTables, wanted: &[Target], at: &LabelAt, label: Label) -> Option<Path>
+pub(crate) fn label_path(
+    held: &VpnTables,
+    wanted: &[Target],
+    at: &LabelAt,
+    label: Label,
+) -> Option<Path>
     ensures { result ≡ label_path held.now wanted.now (at.now, label) }
 {
     if !held.is_known(at.instance) {

@@ -5,7 +5,7 @@ ghost use Rattle.ov_sync.specs.Keyed.{PutOf, IsPut, key_of};
 ghost use Rattle.node_model.specs.Members.{Member};
 ghost use Rattle.node_model.specs.Reaching.{AreShort};
 ghost use Rattle.path_select.specs.declared.selection.Path.{Path as PathOf};
-ghost use Rattle.vpn_tables.specs.At.{paths_at};
+ghost use Rattle.vpn_tables.specs.At.{paths_at, row_at};
 ghost use Rattle.vpn_tables.specs.Changes.{nothing, with_agent, with_low, with_publication, with_route, without};
 ghost use Rattle.vpn_tables.specs.Ranges.{Fits};
 ghost use Rattle.indexed_tables.specs.Indexed.{place_told, received_at};
@@ -14,12 +14,12 @@ use crate::forgetting::{forget_labels, forget_routes};
 use crate::kept::{drop_label, drop_route, put_label, put_route};
 use crate::keys::{LabelAt, Labels, Routes, place_told, told_key};
 use crate::received::{push_labels, push_routes, wanted};
+use crate::selecting::{best_of, shown};
 use ov_sync::Delta;
 use ov_types::{
-    Addr, InstanceId, Label, LowKey, LowValue, NoMemory, Prefix, UpKey, VpnKey, VpnRoute,
+    Addr, InstanceId, Label, LowKey, LowValue, NoMemory, Prefix, TableRow, UpKey, VpnKey, VpnRoute,
 };
 use path_select::Path;
-use route_targets::hop_of;
 use std::alloc::Global;
 use std::collections::BTreeMap;
 use std::marker::Model;
@@ -28,10 +28,10 @@ use vpn_tables::VpnTables;
 /// What a control node holds of its sessions, and the same of peers and agents in the order of prefixes.
 #[derive(Drop)]
 pub struct IndexedTables {
-    held: VpnTables,
-    routes: Routes,
-    labels: Labels,
-    alloc: Global,
+    pub(crate) held: VpnTables,
+    pub(crate) routes: Routes,
+    pub(crate) labels: Labels,
+    pub(crate) alloc: Global,
 }
 
 impl Model for IndexedTables {
@@ -162,16 +162,26 @@ impl IndexedTables {
         Ok(paths)
     }
 
-    /// The paths of an instance to a prefix, in some order: the received ones, and the re-originated ones. For a network
-    /// it looks at what was told with this prefix alone.
+    /// The paths of an instance to a prefix, in some order: the received ones, and the re-originated ones. It looks at
+    /// what was told with this prefix alone, and for a place of a use at what was told within it too.
     pub fn paths_at(&self, i: InstanceId, prefix: &Prefix) -> Result<Vec<Path>, NoMemory>
         ensures { IfOk result (λ paths. (p : PathOf)
             → Member p paths.items ↔ Member p (paths_at self.now i prefix.now)) }
     {
-        match hop_of(i) {
-            Some(_) => self.held.paths_at(i, prefix),
-            None => self.received_at(i, prefix),
-        }
+        self.uses_are_short();
+        let mut paths = self.received_at(i, prefix)?;
+        self.push_led(&mut paths, i, prefix, true)?;
+        self.push_led(&mut paths, i, prefix, false)?;
+        Ok(paths)
+    }
+
+    /// The row of an instance for a prefix, where it has one: what its table has there. It looks at what `paths_at` does.
+    pub fn row(&self, i: InstanceId, prefix: &Prefix) -> Result<Option<TableRow>, NoMemory>
+        ensures { IfOk result (λ row. row ≡ row_at self.now i prefix.now) }
+    {
+        let paths = self.paths_at(i, prefix)?;
+        let best = best_of(paths.as_slice());
+        Ok(shown(best))
     }
 
     /// No held use has more than 15 services.

@@ -12,6 +12,7 @@ ghost use Rattle.marked_sends.specs.Marked.{AreMarkedItems, HasItsRow, marked_ke
 
 use control_wants::wanted_down;
 use dirty_keys::Dirty;
+use indexed_tables::IndexedTables;
 use ov_types::{DownKey, DownValue, Entry, InstanceId, LowKey, NoMemory, Prefix, TableRow};
 use std::alloc::Global;
 use vpn_tables::VpnTables;
@@ -39,7 +40,7 @@ fn entry_of(row: Option<TableRow>) -> Option<Entry>
     })
 }
 
-fn marked_item(tables: &VpnTables, key: &DownKey) -> Result<MarkedItem, NoMemory>
+fn marked_item(tables: &IndexedTables, key: &DownKey) -> Result<MarkedItem, NoMemory>
     ensures key { IfOk result (λ item. marked_key item ≡ key.now) }
     ensures row { IfOk result (λ item. HasItsRow tables.now item) }
 {
@@ -59,7 +60,7 @@ fn marked_item(tables: &VpnTables, key: &DownKey) -> Result<MarkedItem, NoMemory
 /// What is marked of agents, in the order of keys.
 pub fn items_marked(
     alloc: Global,
-    tables: &VpnTables,
+    tables: &IndexedTables,
     dirty: &Dirty,
 ) -> Result<Vec<MarkedItem>, NoMemory>
     ensures { IfOk result (λ marked. AreMarkedItems dirty.now tables.now marked.items) }

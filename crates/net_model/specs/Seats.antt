@@ -59,13 +59,14 @@ abbrev pub id_of : Node → NodeId
 id_of n = record { name = n.name; address = n.address }
 
 -- the sessions of a control node: with the other control nodes, and with the agents that list it, both in the order of
--- the topology
+-- the topology. None is retired
 abbrev pub control_plan : Topology → NodeId → ControlPlan
 control_plan t c = record {
   me = c;
   asn = t.asn;
   peers = filter (λ (d : NodeId). not (same_name d.name c.name)) t.controllers;
   agents = map id_of (filter (λ n. lists n c) t.nodes);
+  retired = [];
 }
 
 abbrev pub controller_named : Topology → Name → NodeId

@@ -1,5 +1,5 @@
 -- The nodes that are made of a valid topology, with nothing of each other.
-use Rattle.std.proofs.Common.{◌≡◌, ◌<◌, ◌≤◌, ◌^◌, ℕ, zero, suc, Bool, true, false, cond, not, List, [], ◌∷◌, ◌++◌, length, map, sym, ◌∙◌, ap, refl, subst, arith, length-append}
+use Rattle.std.proofs.Common.{◌≡◌, ◌<◌, ◌≤◌, ◌^◌, ℕ, zero, suc, Bool, true, false, cond, not, List, [], ◌∷◌, ◌++◌, length, map, sym, ◌∙◌, ap, refl, subst, arith, get_or, length-append}
 use Rattle.std.proofs.lemmas.List.Elements.{All-append}
 use Rattle.std.specs.List.{All, AllByRecursion, filter}
 use Rattle.ov_types.specs.First.{same_name}
@@ -16,7 +16,7 @@ use Rattle.control_node.specs.Core as control
 use Rattle.agent_node.specs.Core as agent
 use Rattle.net_model.specs.Seats.{Configuring, Controlling, Forwarding, Seat, Who, agent_plan, control_plan, controller_named, id_of, names_of, others_of, whos}
 use Rattle.net_model.specs.Steps.{fresh_seat}
-use Rattle.net_seats.specs.Cores.{configured, controlled, forwarded, inners}
+use Rattle.net_seats.specs.Cores.{HasAll, configured, controlled, forwarded, inners}
 use Rattle.net_seats.specs.Fresh.{IsSetUp, fresh_inner, fresh_outer}
 use Rattle.net_seats.specs.Halves.{AreAllHalves, Inner, Outer, joined}
 use Rattle.net_seats.proofs.Stepping.{as_long, named, nothing_is_kept, nothings_are, sessions_of_agent, sessions_of_config, sessions_of_control}
@@ -31,6 +31,14 @@ all_right {A} P xs ys y h is p = subst (λ (zs : List A). All P zs) (sym is) (Al
 
 pub none_right : {A : Type 0} (P : A → Type 0) (xs : List A) → xs ≡ [] → All P xs
 none_right {A} P xs is = subst (λ (ys : List A). All P ys) (sym is) (λ k d lt. absurd (omega arith))
+
+-- no session of a control node is retired
+pub all_have : (t : Topology) (cs : List NodeId) → All HasAll (map (λ (c : NodeId). control.fresh (control_plan t c)) cs)
+all_have t [] = λ k d lt. absurd (omega arith)
+all_have t (c ∷ cs) = λ k d lt. elim k as (λ k. k < length (map (λ (c : NodeId). control.fresh (control_plan t c)) (c ∷ cs)) → HasAll (get_or (map (λ (c : NodeId). control.fresh (control_plan t c)) (c ∷ cs)) k d)) [
+  | zero ↦ λ lt. refl
+  | suc j ↦ λ lt. all_have t cs j d (omega (arith, lt))
+] lt
 
 -- ---- how many sessions there are
 mapped_long : {A B : Type 0} (f : A → B) (xs : List A) → length (map f xs) ≡ length xs

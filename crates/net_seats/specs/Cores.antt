@@ -1,5 +1,5 @@
 -- The cores of the nodes: the configuration node's, and those of the control nodes and of the agents.
-use Rattle.std.specs.Prelude.{◌≡◌, ◌<◌, ℕ, ◌+◌, List, ◌∷◌, ◌++◌, map, false}
+use Rattle.std.specs.Prelude.{◌≡◌, ◌<◌, ℕ, ◌+◌, List, [], ◌∷◌, ◌++◌, map, false}
 use Rattle.std.specs.declared.option.Option.{Option}
 use Rattle.std.specs.declared.option.Option.TheVariants.{Some, None}
 use Rattle.node_model.specs.Agent.{rows as rows_of}
@@ -25,6 +25,10 @@ forwarded a = record { who = Forwarding a.plan; posts = a.posts; kept = a.kept }
 -- the configuration node, then the control nodes, then the agents
 abbrev pub inners : configuration.Core → List control.Core → List agent.Core → List Inner
 inners c controls agents = configured c ∷ (map controlled controls ++ map forwarded agents)
+
+-- no session of a control node is retired
+abbrev pub HasAll : control.Core → Type 0
+HasAll c = c.plan.retired ≡ []
 
 -- an agent forwards by what it holds
 pub record IsRight (a : agent.Core) : Type 0 where

@@ -3,10 +3,11 @@
 ghost use Rattle.std.specs.Prelude.{◌≡◌, ◌<◌, true, false, length, IfOk, IsTrue};
 ghost use Rattle.config_check.specs.Edits.{edit_fault};
 ghost use Rattle.config_model.specs.Edit.{has_edit_form};
+ghost use Rattle.control_node.specs.Core.{fresh};
 ghost use Rattle.node_core.specs.Whole.{Comes, session_of};
 ghost use Rattle.net_model.specs.Seats.{others_of};
 ghost use Rattle.net_seats.specs.Changes.{EditsOver, TakesOver, emptied_inner, shown};
-ghost use Rattle.net_seats.specs.Cores.{IsRight, configured, controlled, forwarded};
+ghost use Rattle.net_seats.specs.Cores.{HasAll, IsRight, configured, controlled, forwarded};
 ghost use Rattle.net_seats.specs.Halves.{live};
 
 use agent_node::AgentNode;
@@ -51,6 +52,7 @@ pub(crate) fn take_control(
     links: &mut Links<FailingLink>,
 ) -> Result<(), NoMemory>
     requires known { session_of input < length (others_of (controlled node.old).who) }
+    requires all { HasAll node.old }
     requires long { length node.old.posts ≡ length (others_of (controlled node.old).who) }
     requires kept { length node.old.kept ≡ length (others_of (controlled node.old).who) }
     requires linked { length links.old ≡ length (others_of (controlled node.old).who) }
@@ -62,6 +64,7 @@ pub(crate) fn take_control(
     ensures links { length links.new ≡ length links.old }
     ensures takes { IfOk result (λ _. TakesOver links.old links.new (controlled node.old) (controlled node.new)
         input.entry) }
+    ensures all { HasAll node.new }
 {
     let _stepped = node.step(input, links);
     if node.failed() {
@@ -98,6 +101,15 @@ pub(crate) fn take_agent(
         return Err(NoMemory);
     }
     Ok(())
+}
+
+/// A control node loses all that it has.
+pub(crate) fn restart_control(node: &mut ControlNode)
+    requires { HasAll node.old }
+    ensures fresh { node.new ≡ fresh node.old.plan }
+    ensures all { HasAll node.new }
+{
+    node.restart();
 }
 
 /// An agent loses all that it has.

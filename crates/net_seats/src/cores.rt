@@ -14,7 +14,8 @@ ghost use Rattle.net_seats.specs.Changes.{ChangesOne, EditsOver, TakesOver, empt
 ghost use Rattle.net_seats.specs.Halves.{inner, live, seated};
 
 use crate::acting::{
-    edit_config, restart_agent, show_agent, show_control, take_agent, take_config, take_control,
+    edit_config, restart_agent, restart_control, show_agent, show_control, take_agent, take_config,
+    take_control,
 };
 use crate::kinds::{Kind, kind_of};
 use agent_node::AgentNode;
@@ -26,8 +27,8 @@ use ov_link::{FailingLink, Input, Links};
 use ov_types::{NoMemory, NodeRows, Outcome, Packet};
 use std::marker::Model;
 
-/// The nodes by their numbers: the configuration node, then the control nodes, then the agents. Each agent forwards by
-/// what it holds.
+/// The nodes by their numbers: the configuration node, then the control nodes, then the agents. No session of a control
+/// node is retired, and each agent forwards by what it holds.
 #[derive(Drop)]
 pub(crate) struct Cores {
     pub(crate) config: ConfigNode,
@@ -40,7 +41,7 @@ impl Model for Cores {
     ghost use Rattle.std.specs.Coded.{coded_list};
     ghost use Rattle.std.specs.List.{All};
     ghost use Rattle.net_seats.specs.Codes.{coded_inner};
-    ghost use Rattle.net_seats.specs.Cores.{IsRight, inners};
+    ghost use Rattle.net_seats.specs.Cores.{HasAll, IsRight, inners};
     ghost use Rattle.net_seats.specs.Halves.{Inner};
 
     ghost Value = { List Inner };
@@ -49,7 +50,7 @@ impl Model for Cores {
 
     ghost view = { λ c. inners c.config c.controls.items c.agents.items };
 
-    ghost invariant = { λ c. All IsRight c.agents.items };
+    ghost invariant = { λ c. All IsRight c.agents.items × All HasAll c.controls.items };
 }
 
 impl Cores {
@@ -129,7 +130,7 @@ impl Cores {
     {
         match kind_of(self.controls.len(), node) {
             Kind::Configuration => (),
-            Kind::Control(place) => self.controls[place].restart(),
+            Kind::Control(place) => restart_control(&mut self.controls[place]),
             Kind::Agent(place) => restart_agent(&mut self.agents[place]),
         }
     }

@@ -5,7 +5,7 @@ ghost use Rattle.config_check.specs.Rules.{controller_names};
 ghost use Rattle.agent_node.specs.Core.{fresh as fresh_agent};
 ghost use Rattle.control_node.specs.Core.{fresh as fresh_control};
 ghost use Rattle.net_model.specs.Seats.{Configuring, Controlling, Forwarding, agent_plan, control_plan, whos};
-ghost use Rattle.net_seats.specs.Cores.{IsRight};
+ghost use Rattle.net_seats.specs.Cores.{HasAll, IsRight};
 ghost use Rattle.net_seats.specs.Fresh.{IsSetUp, fresh_outer};
 
 use crate::edges::Edge;
@@ -146,6 +146,7 @@ pub(crate) fn add_all(
     ensures agents { IfOk result (λ _. agents.new.items
         ≡ map (λ n. fresh_agent (agent_plan valid.now.topology n)) valid.now.topology.nodes) }
     ensures right { IfOk result (λ _. All IsRight agents.new.items) }
+    ensures all { IfOk result (λ _. All HasAll controls.new.items) }
     ensures edges { IfOk result (λ _. edges.new.items ≡ map fresh_outer (whos valid.now)) }
 {
     let topology = valid.topology();

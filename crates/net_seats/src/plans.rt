@@ -54,7 +54,7 @@ fn agents_of(alloc: Global, nodes: &[Node], me: &NodeId) -> Result<Vec<NodeId>, 
         .collect(alloc)
 }
 
-/// The sessions of a control node: with the other control nodes, and with the agents that list it.
+/// The sessions of a control node: with the other control nodes, and with the agents that list it. None is retired.
 pub(crate) fn control_plan(
     alloc: Global,
     topology: &Topology,
@@ -69,6 +69,7 @@ pub(crate) fn control_plan(
         asn: topology.asn,
         peers: Items::from_vec(peers),
         agents: Items::from_vec(agents),
+        retired: Items::new(alloc),
     })
 }
 

@@ -1,6 +1,7 @@
 ghost use Rattle.std.specs.Prelude.{◌≤◌};
 
 use crate::links::{add_queues, were_sent};
+use crate::scenes::{AtAgent, at_an_agent};
 use agent_node::{AgentNode, AgentPlan};
 use item_wire::ItemCause;
 use ov_link::{FailingLink, Input, Link, Links, NodeFault, QueueLink, Stepped};
@@ -128,7 +129,7 @@ const PORT_7: Attached = Attached::Port {
 };
 
 /// The first control node comes, then the second, and then the first is lost.
-fn change_control_nodes(rt: &impl Abort, node: &mut AgentNode, links: &mut Links<QueueLink>) {
+pub fn change_control_nodes(rt: &impl Abort, node: &mut AgentNode, links: &mut Links<QueueLink>) {
     open(rt, node, links, 0);
     were_sent(rt, links, 0, &[HELLO]);
     stands(rt, node, 0, true, false);
@@ -150,10 +151,7 @@ fn change_control_nodes(rt: &impl Abort, node: &mut AgentNode, links: &mut Links
 
 #[test]
 fn an_agent_comes_up_and_goes_on_with_the_second_control_node(rt: HostRuntime) {
-    let mut links = Links::new(rt.alloc());
-    add_queues(&rt, rt.alloc(), &mut links, 2);
-    let mut node = with_two(&rt, rt.alloc());
-    change_control_nodes(&rt, &mut node, &mut links);
+    at_an_agent(&rt, rt.alloc(), AtAgent::ChangeControlNodes);
 }
 
 const TO_9: Entry = Entry {
@@ -163,47 +161,77 @@ const TO_9: Entry = Entry {
 
 const AT_9: Addr = Addr(0x0a01_0009);
 
-/// The label of port 7 and the route of 10.1.0.9 are all that is shown.
-fn shows_both(rt: &impl Abort, rows: &AgentRows) {
+/// The label of port 7 is the only one that is shown, and no list is.
+fn has_port_7(rt: &impl Abort, rows: &AgentRows) {
     assert!(rt; rows.labels.as_slice() == [(Label(23), PORT_7)].as_slice());
     assert!(rt; rows.acls.is_empty());
+}
+
+/// The route of 10.1.0.9 is the only one.
+fn has_route_9(rt: &impl Abort, rows: &AgentRows) {
     let route = ((InstanceId(1), Prefix::host(AT_9)), TO_9);
     assert!(rt; rows.routes.as_slice() == [route].as_slice());
 }
 
-fn forwards(rt: &impl Abort, node: &mut AgentNode) {
+/// The label of port 7 and the route of 10.1.0.9 are all that is shown.
+fn shows_both(rt: &impl Abort, node: &AgentNode) {
+    let rows = node.rows().expect(rt, "memory");
+    has_port_7(rt, &rows);
+    has_route_9(rt, &rows);
+}
+
+/// The label of port 7 is all that is shown.
+fn shows_the_port(rt: &impl Abort, node: &AgentNode) {
+    let rows = node.rows().expect(rt, "memory");
+    has_port_7(rt, &rows);
+    assert!(rt; rows.routes.is_empty());
+}
+
+/// No label is shown.
+fn shows_no_label(rt: &impl Abort, node: &AgentNode) {
+    let rows = node.rows().expect(rt, "memory");
+    assert!(rt; rows.labels.is_empty());
+}
+
+fn finds(rt: &impl Abort, node: &AgentNode) {
     assert!(rt; node.address() == N1);
     assert!(rt; node.find(Label(23)) == Some(PORT_7));
     assert!(rt; node.find(Label(24)).is_none());
+}
+
+fn leads(rt: &impl Abort, node: &AgentNode) {
     assert!(rt; node.route(InstanceId(1), AT_9) == Some(TO_9));
     assert!(rt; node.route(InstanceId(2), AT_9).is_none());
+}
+
+/// The access lists say nothing of 10.1.0.9.
+fn decides(rt: &impl Abort, node: &mut AgentNode) {
     let verdict = node.verdict(InstanceId(1), &packet(7, AT_9.0));
     assert!(rt; verdict == Verdict::NoDestination);
 }
 
 /// The second control node tells its rows, and then the agent is started again.
-fn show_and_restart(rt: &impl Abort, node: &mut AgentNode, links: &mut Links<QueueLink>) {
+pub fn show_and_restart(rt: &impl Abort, node: &mut AgentNode, links: &mut Links<QueueLink>) {
     open(rt, node, links, 1);
     bring(rt, node, links, 1, SECOND);
-    shows_both(rt, &node.rows().expect(rt, "memory"));
-    forwards(rt, node);
+    shows_both(rt, node);
+    finds(rt, node);
+    leads(rt, node);
+    decides(rt, node);
     node.restart();
     assert!(rt; !node.failed());
     stands(rt, node, 1, false, false);
-    assert!(rt; node.rows().expect(rt, "memory").labels.is_empty());
+    shows_no_label(rt, node);
     assert!(rt; node.route(InstanceId(1), AT_9).is_none());
 }
 
 #[test]
 fn rows_are_shown_and_forwarded_by(rt: HostRuntime) {
-    let mut links = Links::new(rt.alloc());
-    add_queues(&rt, rt.alloc(), &mut links, 2);
-    let mut node = with_two(&rt, rt.alloc());
-    show_and_restart(&rt, &mut node, &mut links);
+    at_an_agent(&rt, rt.alloc(), AtAgent::ShowAndRestart);
 }
 
 /// The second control node greets on the session of the first.
-fn greet_by_another_name(rt: &impl Abort, node: &mut AgentNode, links: &mut Links<QueueLink>) {
+pub fn greet_by_another_name(rt: &impl Abort, node: &mut AgentNode, links: &mut Links<QueueLink>) {
     open(rt, node, links, 0);
     match told(rt, node, links, 0, SECOND_HELLO) {
         Ok(Stepped::Closed { session, cause }) => {
@@ -219,39 +247,46 @@ fn greet_by_another_name(rt: &impl Abort, node: &mut AgentNode, links: &mut Link
 
 #[test]
 fn a_hello_of_another_node_closes_the_session(rt: HostRuntime) {
-    let mut links = Links::new(rt.alloc());
-    add_queues(&rt, rt.alloc(), &mut links, 2);
-    let mut node = with_two(&rt, rt.alloc());
-    greet_by_another_name(&rt, &mut node, &mut links);
+    at_an_agent(&rt, rt.alloc(), AtAgent::GreetByAnotherName);
+}
+
+/// The second send from now on fails on the link of the second session.
+fn break_second(rt: &impl Abort, links: &mut Links<FailingLink>) {
+    assert!(rt; 1 < links.len());
+    links.get_mut(1).add_break(2).expect(rt, "memory");
+}
+
+/// The second session is opened, and its link fails.
+fn open_in_vain(rt: &impl Abort, node: &mut AgentNode, links: &mut Links<FailingLink>) {
+    let answer = opened(rt, node, links, 1);
+    assert!(rt; matches!(answer, Err(NodeFault::LinkFailed { session: 1 })));
 }
 
 /// The link of the second session fails as the agent publishes.
 fn publish_over_a_break(rt: &impl Abort, node: &mut AgentNode, links: &mut Links<FailingLink>) {
     open(rt, node, links, 0);
     bring(rt, node, links, 0, FIRST);
-    assert!(rt; 1 < links.len());
-    links.get_mut(1).add_break(2).expect(rt, "memory");
-    let answer = opened(rt, node, links, 1);
-    assert!(rt; matches!(answer, Err(NodeFault::LinkFailed { session: 1 })));
+    break_second(rt, links);
+    open_in_vain(rt, node, links);
     stands(rt, node, 0, true, true);
     stands(rt, node, 1, false, false);
-    let rows = node.rows().expect(rt, "memory");
-    assert!(rt; rows.labels.as_slice() == [(Label(23), PORT_7)].as_slice());
-    assert!(rt; rows.acls.is_empty());
-    assert!(rt; rows.routes.is_empty());
+    shows_the_port(rt, node);
     assert!(rt; !node.failed());
     open(rt, node, links, 1);
+}
+
+/// Two links on which sends may fail.
+fn add_failing(rt: &impl Abort, alloc: Global, links: &mut Links<FailingLink>) {
+    for _ in 0..2 {
+        assert!(rt; links.len() < 9);
+        links.push(FailingLink::new(alloc)).expect(rt, "memory");
+    }
 }
 
 #[test]
 fn a_publication_that_fails_closes_its_session_alone(rt: HostRuntime) {
     let mut links = Links::new(rt.alloc());
-    links
-        .push(FailingLink::new(rt.alloc()))
-        .expect(&rt, "memory");
-    links
-        .push(FailingLink::new(rt.alloc()))
-        .expect(&rt, "memory");
+    add_failing(&rt, rt.alloc(), &mut links);
     let mut node = with_two(&rt, rt.alloc());
     publish_over_a_break(&rt, &mut node, &mut links);
 }
@@ -390,17 +425,27 @@ fn row(rt: &impl Abort, wanted: &Row) -> ((InstanceId, Prefix), Entry) {
     ((InstanceId(instance), prefix), entry)
 }
 
+/// What is shown has exactly these labels.
+fn labels_are(rt: &impl Abort, shown: &[(Label, Attached)], labels: &[u32]) {
+    assert!(rt; shown.len() == labels.len());
+    for (one, label) in shown.iter().zip(labels) {
+        assert!(rt; one.0.0 == *label);
+    }
+}
+
+/// What is shown has exactly these routes.
+fn routes_are(rt: &impl Abort, shown: &[((InstanceId, Prefix), Entry)], routes: &[Row]) {
+    assert!(rt; shown.len() == routes.len());
+    for (one, wanted) in shown.iter().zip(routes) {
+        assert!(rt; *one == row(rt, wanted));
+    }
+}
+
 /// The agent shows exactly these labels and these rows.
 fn shows(rt: &impl Abort, node: &AgentNode, labels: &[u32], routes: &[Row]) {
     let rows = node.rows().expect(rt, "memory");
-    assert!(rt; rows.labels.len() == labels.len());
-    for (shown, label) in rows.labels.as_slice().iter().zip(labels) {
-        assert!(rt; shown.0.0 == *label);
-    }
-    assert!(rt; rows.routes.len() == routes.len());
-    for (shown, wanted) in rows.routes.as_slice().iter().zip(routes) {
-        assert!(rt; *shown == row(rt, wanted));
-    }
+    labels_are(rt, rows.labels.as_slice(), labels);
+    routes_are(rt, rows.routes.as_slice(), routes);
 }
 
 /// A record that a session brings, and the rows that the agent shows then.
@@ -446,8 +491,8 @@ const TURNS: [Turn; 7] = [
     ),
 ];
 
-/// Both control nodes come, and tell routes one by one, of which nothing is told on; then the first is lost.
-fn take_turns(rt: &impl Abort, alloc: Global, node: &mut AgentNode, links: &mut Links<QueueLink>) {
+/// Both control nodes come, and the second leads 10.1.0.9 to 192.0.2.12.
+fn hear_of_two(rt: &impl Abort, node: &mut AgentNode, links: &mut Links<QueueLink>) {
     open(rt, node, links, 0);
     bring(rt, node, links, 0, FIRST);
     shows(rt, node, &[23], &[]);
@@ -456,10 +501,31 @@ fn take_turns(rt: &impl Abort, alloc: Global, node: &mut AgentNode, links: &mut 
     shows(rt, node, &[23], &[(1, 0x0a01_0009, 32, N2, 24)]);
     were_sent(rt, links, 0, &[HELLO, PUBLISH, SUBSCRIBE]);
     were_sent(rt, links, 1, &[HELLO, PUBLISH, SUBSCRIBE]);
-    for (session, record, rows) in &TURNS {
-        let octets = framed(rt, alloc, &[record]);
-        bring(rt, node, links, *session, octets.as_slice());
-        shows(rt, node, &[23], rows);
+}
+
+/// A session brings its record.
+fn take_turn(
+    rt: &impl Abort,
+    alloc: Global,
+    node: &mut AgentNode,
+    links: &mut Links<QueueLink>,
+    turn: &Turn,
+) {
+    let octets = framed(rt, alloc, &[turn.1]);
+    bring(rt, node, links, turn.0, octets.as_slice());
+    shows(rt, node, &[23], turn.2);
+}
+
+/// Both control nodes come, and tell routes one by one, of which nothing is told on; then the first is lost.
+pub fn take_turns(
+    rt: &impl Abort,
+    alloc: Global,
+    node: &mut AgentNode,
+    links: &mut Links<QueueLink>,
+) {
+    hear_of_two(rt, node, links);
+    for turn in &TURNS {
+        take_turn(rt, alloc, node, links, turn);
     }
     were_sent(rt, links, 0, &[]);
     were_sent(rt, links, 1, &[]);
@@ -469,11 +535,7 @@ fn take_turns(rt: &impl Abort, alloc: Global, node: &mut AgentNode, links: &mut 
 
 #[test]
 fn routes_come_and_go_one_by_one(rt: HostRuntime) {
-    let alloc = rt.alloc();
-    let mut links = Links::new(alloc);
-    add_queues(&rt, alloc, &mut links, 2);
-    let mut node = with_two(&rt, alloc);
-    take_turns(&rt, alloc, &mut node, &mut links);
+    at_an_agent(&rt, rt.alloc(), AtAgent::TakeTurns);
 }
 
 /// Traces a packet each way.
@@ -486,14 +548,23 @@ fn pass_both_ways(rt: &impl Abort, agents: &mut [AgentNode]) {
     arrived(rt, &back, 1, &[ServiceNo(2), ServiceNo(1)], &hops);
 }
 
+/// The agent with one control node, which tells these records.
+pub fn told_of_a_chain(
+    rt: &impl Abort,
+    alloc: Global,
+    address: Addr,
+    records: &[&[u8]],
+) -> AgentNode {
+    let mut node = agent(rt, alloc, address, &[id(rt, "c1", 0xc000_0201)]);
+    fill(rt, alloc, &mut node, records);
+    node
+}
+
 #[test]
 fn both_packets_pass_the_chain(rt: HostRuntime) {
     let alloc = rt.alloc();
-    let controllers = [id(&rt, "c1", 0xc000_0201)];
-    let mut near = agent(&rt, alloc, N1, &controllers);
-    let mut far = agent(&rt, alloc, N2, &controllers);
-    fill(&rt, alloc, &mut near, &TOLD_AT_N1);
-    fill(&rt, alloc, &mut far, &TOLD_AT_N2);
+    let near = told_of_a_chain(&rt, alloc, N1, &TOLD_AT_N1);
+    let far = told_of_a_chain(&rt, alloc, N2, &TOLD_AT_N2);
     shows(&rt, &near, &[17, 557_057, 557_058], &ROUTES_AT_N1);
     shows(&rt, &far, &[18, 557_059, 557_060], &ROUTES_AT_N2);
     pass_both_ways(&rt, &mut [near, far]);

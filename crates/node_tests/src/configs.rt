@@ -75,6 +75,55 @@ fn edit_of(alloc: Global, text: &str) -> Option<Edit>
     read_edit(alloc, &value).ok()
 }
 
+/// What happens at a configuration node over a link on which nothing fails.
+#[derive(Clone, Copy)]
+enum Scene {
+    BeToldChanges,
+    BeRefused,
+    CloseAtARecord,
+    KeepWhatIsValid,
+    BeGreetedInTwoParts,
+}
+
+fn happen(
+    rt: &impl Abort,
+    alloc: Global,
+    scene: Scene,
+    node: &mut ConfigNode,
+    links: &mut Links<QueueLink>,
+) {
+    match scene {
+        Scene::BeToldChanges => be_told_changes(rt, alloc, node, links),
+        Scene::BeRefused => be_refused(rt, alloc, node, links),
+        Scene::CloseAtARecord => close_at_a_record(rt, alloc, node, links),
+        Scene::KeepWhatIsValid => keep_what_is_valid(rt, alloc, node, links),
+        Scene::BeGreetedInTwoParts => be_greeted_in_two_parts(rt, alloc, node, links),
+    }
+}
+
+fn over_a_queue(rt: &impl Abort, alloc: Global, scene: Scene, node: &mut ConfigNode) {
+    let mut links = Links::new(alloc);
+    add_queues(rt, alloc, &mut links, 1);
+    happen(rt, alloc, scene, node, &mut links);
+}
+
+/// It happens at a node that is new.
+fn at_the_node(rt: &impl Abort, alloc: Global, scene: Scene) {
+    let mut node = node(rt, alloc);
+    over_a_queue(rt, alloc, scene, &mut node);
+}
+
+/// The link fails at times, and octets are kept as it does or not.
+fn over_breaks(rt: &impl Abort, alloc: Global, are_kept: bool, node: &mut ConfigNode) {
+    let mut links = Links::new(alloc);
+    links.push(FailingLink::new(alloc)).expect(rt, "memory");
+    if are_kept {
+        forget_what_was_kept(rt, alloc, node, &mut links);
+    } else {
+        go_over_breaks(rt, alloc, node, &mut links);
+    }
+}
+
 /// What comes of opening the one session, which is closed.
 fn opened<L: Link>(
     rt: &impl Abort,
@@ -189,10 +238,7 @@ fn be_told_changes(
 
 #[test]
 fn a_control_node_is_told_the_objects_and_what_an_edit_changes(rt: HostRuntime) {
-    let mut links = Links::new(rt.alloc());
-    add_queues(&rt, rt.alloc(), &mut links, 1);
-    let mut node = node(&rt, rt.alloc());
-    be_told_changes(&rt, rt.alloc(), &mut node, &mut links);
+    at_the_node(&rt, rt.alloc(), Scene::BeToldChanges);
 }
 
 fn be_refused(rt: &impl Abort, alloc: Global, node: &mut ConfigNode, links: &mut Links<QueueLink>) {
@@ -209,10 +255,7 @@ fn be_refused(rt: &impl Abort, alloc: Global, node: &mut ConfigNode, links: &mut
 
 #[test]
 fn an_edit_with_a_fault_changes_nothing(rt: HostRuntime) {
-    let mut links = Links::new(rt.alloc());
-    add_queues(&rt, rt.alloc(), &mut links, 1);
-    let mut node = node(&rt, rt.alloc());
-    be_refused(&rt, rt.alloc(), &mut node, &mut links);
+    at_the_node(&rt, rt.alloc(), Scene::BeRefused);
 }
 
 fn close_at_a_record(
@@ -236,10 +279,7 @@ fn close_at_a_record(
 
 #[test]
 fn a_record_of_a_control_node_closes_the_session(rt: HostRuntime) {
-    let mut links = Links::new(rt.alloc());
-    add_queues(&rt, rt.alloc(), &mut links, 1);
-    let mut node = node(&rt, rt.alloc());
-    close_at_a_record(&rt, rt.alloc(), &mut node, &mut links);
+    at_the_node(&rt, rt.alloc(), Scene::CloseAtARecord);
 }
 
 fn keep_what_is_valid(
@@ -259,10 +299,7 @@ fn keep_what_is_valid(
 
 #[test]
 fn a_restart_closes_the_session_and_keeps_what_is_valid(rt: HostRuntime) {
-    let mut links = Links::new(rt.alloc());
-    add_queues(&rt, rt.alloc(), &mut links, 1);
-    let mut node = node(&rt, rt.alloc());
-    keep_what_is_valid(&rt, rt.alloc(), &mut node, &mut links);
+    at_the_node(&rt, rt.alloc(), Scene::KeepWhatIsValid);
 }
 
 /// Of the sends on the link the nth from now on fails.
@@ -295,12 +332,8 @@ fn go_over_breaks(
 
 #[test]
 fn a_link_that_fails_closes_its_session_and_the_edit_stays(rt: HostRuntime) {
-    let mut links = Links::new(rt.alloc());
-    links
-        .push(FailingLink::new(rt.alloc()))
-        .expect(&rt, "memory");
     let mut node = node(&rt, rt.alloc());
-    go_over_breaks(&rt, rt.alloc(), &mut node, &mut links);
+    over_breaks(&rt, rt.alloc(), false, &mut node);
 }
 
 /// So many octets are kept of the session.
@@ -334,10 +367,7 @@ fn be_greeted_in_two_parts(
 
 #[test]
 fn a_hello_in_two_parts_is_heard_once_it_is_whole(rt: HostRuntime) {
-    let mut links = Links::new(rt.alloc());
-    add_queues(&rt, rt.alloc(), &mut links, 1);
-    let mut node = node(&rt, rt.alloc());
-    be_greeted_in_two_parts(&rt, rt.alloc(), &mut node, &mut links);
+    at_the_node(&rt, rt.alloc(), Scene::BeGreetedInTwoParts);
 }
 
 /// Octets are kept, and then the link fails in an edit, or the node restarts.
@@ -368,10 +398,6 @@ fn forget_what_was_kept(
 
 #[test]
 fn nothing_is_kept_of_a_session_whose_link_failed(rt: HostRuntime) {
-    let mut links = Links::new(rt.alloc());
-    links
-        .push(FailingLink::new(rt.alloc()))
-        .expect(&rt, "memory");
     let mut node = node(&rt, rt.alloc());
-    forget_what_was_kept(&rt, rt.alloc(), &mut node, &mut links);
+    over_breaks(&rt, rt.alloc(), true, &mut node);
 }

@@ -34,14 +34,15 @@ pub const CONFIG_HELLO: &[u8] = b"{\"name\":\"config\",\"op\":\"hello\"}";
 
 pub const A1_HELLO: &[u8] = b"{\"name\":\"a1\",\"op\":\"hello\"}";
 
-const A2_HELLO: &[u8] = b"{\"name\":\"a2\",\"op\":\"hello\"}";
+pub const A2_HELLO: &[u8] = b"{\"name\":\"a2\",\"op\":\"hello\"}";
 
-const PUBLISH: &[u8] =
+pub const PUBLISH: &[u8] =
     b"{\"instance\":1,\"label\":17,\"op\":\"publish\",\"prefix\":\"10.1.0.6/32\"}";
 
 pub const SUBSCRIBE: &[u8] = b"{\"instance\":1,\"op\":\"subscribe\"}";
 
-const ROUTE: &[u8] = b"{\"instance\":1,\"label\":17,\"next_hop\":\"192.0.2.11\",\"op\":\"route\",\
+pub const ROUTE: &[u8] =
+    b"{\"instance\":1,\"label\":17,\"next_hop\":\"192.0.2.11\",\"op\":\"route\",\
     \"prefix\":\"10.1.0.6/32\"}";
 
 /// The OPEN of 192.0.2.3 in AS 64512, and the UPDATE that tells 10.1.0.6/32 of the agent with label 17.
@@ -62,7 +63,7 @@ const UPDATE_IN_A_WIDE_AS: &[u8] =
     \x80\x0e\x21\x00\x01\x80\x0c\x00\x00\x00\x00\x00\x00\x00\x00\xc0\x00\x02\x0b\x00\x78\x00\x01\x11\
     \x00\x01\xc0\x00\x02\x0b\x00\x01\x0a\x01\x00\x06\xc0\x10\x08\x02\x02\xfa\x56\xea\x00\x00\x01";
 
-const OWN_ROW: &str = "1 10.1.0.6/32 192.0.2.11:1 192.0.2.11 17\n";
+pub const OWN_ROW: &str = "1 10.1.0.6/32 192.0.2.11:1 192.0.2.11 17\n";
 
 const BOTH_ROWS: &str =
     "1 10.1.0.5/32 192.0.2.11:1 192.0.2.11 23\n1 10.1.0.6/32 192.0.2.11:1 192.0.2.11 17\n";
@@ -119,6 +120,7 @@ fn node_in(
         asn,
         peers: ids(rt, alloc, peers),
         agents: ids(rt, alloc, agents),
+        retired: Items::new(alloc),
     };
     assert!(rt; plan.me.address.0 != 0);
     assert!(rt; plan.peers.len() <= 9);
@@ -131,15 +133,17 @@ pub fn open<L: Link>(rt: &impl Abort, node: &mut ControlNode, links: &mut Links<
     assert!(rt; links.len() == node.sessions());
     assert!(rt; session < node.sessions());
     assert!(rt; !node.is_live(session));
+    assert!(rt; !node.is_retired(session));
     let answer = node.step(Input::Opened { session }, links);
     assert!(rt; matches!(answer, Ok(Stepped::Done)), "{session}");
 }
 
 /// The session is lost, and nothing else comes of it.
-fn lose<L: Link>(rt: &impl Abort, node: &mut ControlNode, links: &mut Links<L>, session: u16) {
+pub fn lose<L: Link>(rt: &impl Abort, node: &mut ControlNode, links: &mut Links<L>, session: u16) {
     assert!(rt; links.len() == node.sessions());
     assert!(rt; session < node.sessions());
     assert!(rt; node.is_live(session));
+    assert!(rt; !node.is_retired(session));
     let answer = node.step(Input::Closed { session }, links);
     assert!(rt; matches!(answer, Ok(Stepped::Done)), "{session}");
 }
@@ -155,6 +159,7 @@ pub fn told<L: Link>(
     assert!(rt; links.len() == node.sessions());
     assert!(rt; session < node.sessions());
     assert!(rt; node.is_live(session));
+    assert!(rt; !node.is_retired(session));
     node.step(Input::Bytes { session, bytes }, links)
 }
 

@@ -1,5 +1,5 @@
 //! What agents keep of verdicts.
-use crate::agents::{N1, TOLD_AT_N1, agent, bring, fill, framed, id, packet};
+use crate::agents::{N1, TOLD_AT_N1, bring, framed, packet, told_of_a_chain};
 use crate::links::add_queues;
 use agent_node::AgentNode;
 use ov_link::Links;
@@ -70,10 +70,7 @@ fn trace_by_what_is_kept(rt: &impl Abort, alloc: Global, agents: &mut [AgentNode
 
 /// The one agent, whose slice has the access lists of a chain.
 fn with_lists(rt: &impl Abort, alloc: Global) -> AgentNode {
-    let controllers = [id(rt, "c1", 0xc000_0201)];
-    let mut node = agent(rt, alloc, N1, &controllers);
-    fill(rt, alloc, &mut node, &TOLD_AT_N1);
-    node
+    told_of_a_chain(rt, alloc, N1, &TOLD_AT_N1)
 }
 
 #[test]

@@ -4,6 +4,8 @@
 #[cfg(test)]
 mod agents;
 #[cfg(test)]
+mod changing;
+#[cfg(test)]
 mod configs;
 #[cfg(test)]
 mod controls;
@@ -15,3 +17,5 @@ mod links;
 mod malformed;
 #[cfg(test)]
 mod parts;
+#[cfg(test)]
+mod scenes;

@@ -106,6 +106,48 @@ fn with_peer(rt: &impl Abort, alloc: Global, peer: u8) -> ControlNode {
     node(rt, alloc, id(rt, "c1", 0xc000_0201), &peers, &agents)
 }
 
+/// What happens at a control node of a peer and an agent.
+#[derive(Clone, Copy)]
+enum Scene<'a> {
+    HearFromAPeer(&'a OfPeer),
+    HearOneOctet,
+    HearInTwoParts,
+    HearFromAnAgent(&'a OfAgent),
+    GreetOnTheFeed,
+}
+
+fn happen(
+    rt: &impl Abort,
+    alloc: Global,
+    scene: Scene<'_>,
+    node: &mut ControlNode,
+    links: &mut Links<QueueLink>,
+) {
+    match scene {
+        Scene::HearFromAPeer(line) => hear_from_a_peer(rt, alloc, line, node, links),
+        Scene::HearOneOctet => hear_one_octet(rt, alloc, node, links),
+        Scene::HearInTwoParts => hear_in_two_parts(rt, alloc, node, links),
+        Scene::HearFromAnAgent(line) => hear_from_an_agent(rt, alloc, line, node, links),
+        Scene::GreetOnTheFeed => greet_on_the_feed(rt, alloc, node, links),
+    }
+}
+
+fn over_three_queues(rt: &impl Abort, alloc: Global, scene: Scene<'_>, node: &mut ControlNode) {
+    let mut links = Links::new(alloc);
+    add_queues(rt, alloc, &mut links, 3);
+    happen(rt, alloc, scene, node, &mut links);
+}
+
+/// It happens at a node that is new, whose peer is the one of a line, or else 192.0.2.2.
+fn at_a_control_node(rt: &impl Abort, alloc: Global, scene: Scene<'_>) {
+    let peer = match scene {
+        Scene::HearFromAPeer(line) => line.peer,
+        _ => 2,
+    };
+    let mut node = with_peer(rt, alloc, peer);
+    over_three_queues(rt, alloc, scene, &mut node);
+}
+
 /// A message comes on the session of the peer.
 fn hear_from_a_peer(
     rt: &impl Abort,
@@ -134,12 +176,8 @@ fn hear_from_a_peer(
 
 #[test]
 fn messages_that_a_peer_may_not_send_close_its_session(rt: HostRuntime) {
-    let alloc = rt.alloc();
     for line in &OF_PEERS {
-        let mut links = Links::new(alloc);
-        add_queues(&rt, alloc, &mut links, 3);
-        let mut node = with_peer(&rt, alloc, line.peer);
-        hear_from_a_peer(&rt, alloc, line, &mut node, &mut links);
+        at_a_control_node(&rt, rt.alloc(), Scene::HearFromAPeer(line));
     }
 }
 
@@ -164,11 +202,7 @@ fn hear_one_octet(
 
 #[test]
 fn one_wrong_octet_closes_the_session_of_a_peer(rt: HostRuntime) {
-    let alloc = rt.alloc();
-    let mut links = Links::new(alloc);
-    add_queues(&rt, alloc, &mut links, 3);
-    let mut node = with_peer(&rt, alloc, 2);
-    hear_one_octet(&rt, alloc, &mut node, &mut links);
+    at_a_control_node(&rt, rt.alloc(), Scene::HearOneOctet);
 }
 
 /// The route of the UPDATE, as the agent is told it.
@@ -212,11 +246,7 @@ fn hear_in_two_parts(
 
 #[test]
 fn a_message_in_two_parts_is_heard_once_it_is_whole(rt: HostRuntime) {
-    let alloc = rt.alloc();
-    let mut links = Links::new(alloc);
-    add_queues(&rt, alloc, &mut links, 3);
-    let mut node = with_peer(&rt, alloc, 2);
-    hear_in_two_parts(&rt, alloc, &mut node, &mut links);
+    at_a_control_node(&rt, rt.alloc(), Scene::HearInTwoParts);
 }
 
 /// Records that an agent may not send, each behind its length, and why they close its session.
@@ -254,12 +284,8 @@ fn hear_from_an_agent(
 
 #[test]
 fn records_that_an_agent_may_not_send_close_its_session(rt: HostRuntime) {
-    let alloc = rt.alloc();
     for line in &OF_AGENTS {
-        let mut links = Links::new(alloc);
-        add_queues(&rt, alloc, &mut links, 3);
-        let mut node = with_peer(&rt, alloc, 2);
-        hear_from_an_agent(&rt, alloc, line, &mut node, &mut links);
+        at_a_control_node(&rt, rt.alloc(), Scene::HearFromAnAgent(line));
     }
 }
 
@@ -280,9 +306,5 @@ fn greet_on_the_feed(
 
 #[test]
 fn the_feed_is_of_the_configuration_node_alone(rt: HostRuntime) {
-    let alloc = rt.alloc();
-    let mut links = Links::new(alloc);
-    add_queues(&rt, alloc, &mut links, 3);
-    let mut node = with_peer(&rt, alloc, 2);
-    greet_on_the_feed(&rt, alloc, &mut node, &mut links);
+    at_a_control_node(&rt, rt.alloc(), Scene::GreetOnTheFeed);
 }

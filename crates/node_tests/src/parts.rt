@@ -1,6 +1,7 @@
 //! Octets that come in parts: what is kept of them, and that it is heard once a record is whole.
-use crate::agents::{FIRST, HELLO, PUBLISH, SUBSCRIBE, bring, close, open, stands, told, with_two};
-use crate::links::{add_queues, were_sent};
+use crate::agents::{FIRST, HELLO, PUBLISH, SUBSCRIBE, bring, close, open, stands, told};
+use crate::links::were_sent;
+use crate::scenes::{AtAgent, at_an_agent};
 use agent_node::AgentNode;
 use item_wire::{ItemCause, ItemFault};
 use ov_link::{Links, QueueLink, Stepped};
@@ -23,7 +24,7 @@ fn published(rt: &impl Abort, links: &mut Links<QueueLink>) {
 }
 
 /// What a control node tells comes in two parts.
-fn bring_two_parts(
+pub fn bring_two_parts(
     rt: &impl Abort,
     node: &mut AgentNode,
     links: &mut Links<QueueLink>,
@@ -44,17 +45,13 @@ fn bring_two_parts(
 
 #[test]
 fn records_are_heard_wherever_their_octets_are_cut(rt: HostRuntime) {
-    let alloc = rt.alloc();
     for cut in [0, 1, 3, 4, 5, 29, 30, 31, 34, 109] {
-        let mut links = Links::new(alloc);
-        add_queues(&rt, alloc, &mut links, 2);
-        let mut node = with_two(&rt, alloc);
-        bring_two_parts(&rt, &mut node, &mut links, cut);
+        at_an_agent(&rt, rt.alloc(), AtAgent::BringTwoParts { cut });
     }
 }
 
 /// The same comes octet by octet.
-fn bring_octets(rt: &impl Abort, node: &mut AgentNode, links: &mut Links<QueueLink>) {
+pub fn bring_octets(rt: &impl Abort, node: &mut AgentNode, links: &mut Links<QueueLink>) {
     open(rt, node, links, 0);
     for octet in FIRST {
         bring(rt, node, links, 0, &[*octet]);
@@ -65,15 +62,11 @@ fn bring_octets(rt: &impl Abort, node: &mut AgentNode, links: &mut Links<QueueLi
 
 #[test]
 fn records_are_heard_octet_by_octet(rt: HostRuntime) {
-    let alloc = rt.alloc();
-    let mut links = Links::new(alloc);
-    add_queues(&rt, alloc, &mut links, 2);
-    let mut node = with_two(&rt, alloc);
-    bring_octets(&rt, &mut node, &mut links);
+    at_an_agent(&rt, rt.alloc(), AtAgent::BringOctets);
 }
 
 /// Octets are kept, and then the session is lost or the agent restarts: what comes then is heard from its beginning.
-fn keep_and_forget(rt: &impl Abort, node: &mut AgentNode, links: &mut Links<QueueLink>) {
+pub fn keep_and_forget(rt: &impl Abort, node: &mut AgentNode, links: &mut Links<QueueLink>) {
     let octets = FIRST;
     assert!(rt; octets.len() > 40);
     open(rt, node, links, 0);
@@ -94,11 +87,7 @@ fn keep_and_forget(rt: &impl Abort, node: &mut AgentNode, links: &mut Links<Queu
 
 #[test]
 fn nothing_is_kept_of_a_session_that_was_closed(rt: HostRuntime) {
-    let alloc = rt.alloc();
-    let mut links = Links::new(alloc);
-    add_queues(&rt, alloc, &mut links, 2);
-    let mut node = with_two(&rt, alloc);
-    keep_and_forget(&rt, &mut node, &mut links);
+    at_an_agent(&rt, rt.alloc(), AtAgent::KeepAndForget);
 }
 
 /// The length of the longest record, and as many blanks as it lacks but one.
@@ -111,7 +100,7 @@ fn almost_the_longest(rt: &impl Abort, alloc: Global) -> Vec<u8> {
 }
 
 /// All octets of the longest record but the last are kept, and with the last it is heard.
-fn bring_the_longest(
+pub fn bring_the_longest(
     rt: &impl Abort,
     alloc: Global,
     node: &mut AgentNode,
@@ -133,9 +122,5 @@ fn bring_the_longest(
 
 #[test]
 fn all_octets_of_the_longest_record_but_one_are_kept(rt: HostRuntime) {
-    let alloc = rt.alloc();
-    let mut links = Links::new(alloc);
-    add_queues(&rt, alloc, &mut links, 2);
-    let mut node = with_two(&rt, alloc);
-    bring_the_longest(&rt, alloc, &mut node, &mut links);
+    at_an_agent(&rt, rt.alloc(), AtAgent::BringTheLongest);
 }

@@ -1,3 +1,4 @@
+use Rattle.std.specs.List.{All}
 use Rattle.std.proofs.Common.{ap, subst, sym, ◌∙◌, ◌++◌, ◌∷◌, [], List, map, refl}
 use Rattle.ov_types.specs.declared.rows.NodeId.{NodeId}
 use Rattle.config_model.specs.declared.topology.Node.{Node}
@@ -5,10 +6,10 @@ use Rattle.config_model.specs.declared.topology.Topology.{Topology}
 use Rattle.control_node.specs.Core as control
 use Rattle.agent_node.specs.Core as agent
 use Rattle.net_model.specs.Seats.{Configuring, agent_plan, control_plan}
-use Rattle.net_seats.specs.Cores.{IsRight}
+use Rattle.net_seats.specs.Cores.{HasAll, IsRight}
 use Rattle.net_seats.specs.Fresh.{IsSetUp, fresh_outer}
 use Rattle.net_seats.specs.Halves.{Outer}
-use Rattle.net_seats.proofs.Made.{none_right, outers_are}
+use Rattle.net_seats.proofs.Made.{all_have, none_right, outers_are}
 use Rattle.net_seats.proofs.SetUp.{set_up}
 use Rattle.net_seats.proofs.making.add_all.Goals as goal
 
@@ -54,3 +55,11 @@ returns-clause-edges c =
     (fresh_outer (Configuring c.args.valid.now)) c.topology-topology.ensures.part refl
     (c.in_ok-add_config.ensures ∙ ap (λ (os : List Outer). os ++ fresh_outer (Configuring c.args.valid.now) ∷ []) c.requires.edges)
     c.in_ok-add_controls.ensures.edges c.in_ok-add_agents.ensures.edges
+
+pub returns-clause-all : goal.returns-clause-all
+returns-clause-all c =
+    let t = c.topology-topology.result.now in
+    subst (All HasAll)
+    (sym (c.in_ok-add_controls.ensures.controls
+    ∙ ap (λ (xs : List control.Core). xs ++ map (λ (x : NodeId). control.fresh (control_plan t x)) t.controllers) c.requires.controls))
+    (all_have t t.controllers)

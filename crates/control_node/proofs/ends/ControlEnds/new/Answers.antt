@@ -28,3 +28,4 @@ returns c =
     (c.in_ok-peers.ensures ∙ ap (map (new_peer plan.asn)) c.as_slice-ids.ensures)
     (c.in_ok-agents.ensures ∙ ap (map new_agent) c.as_slice-agent_ids.ensures)
     (c.in_ok-tables.ensures ∙ (λ i. none_told plan.asn (c.as_slice-ids.ensures i) (c.as_slice-agent_ids.ensures i)))
+    c.requires.retired

@@ -1,7 +1,8 @@
-use Rattle.std.proofs.Common.{◌∙◌, sym, ap, subst, length, []}
+use Rattle.std.proofs.Common.{◌∙◌, ℕ, List, sym, ap, subst, length, []}
 use Rattle.std.proofs.lemmas.List.{length-replicate}
 use Rattle.node_core.specs.Keeping.{AreFew, AreOfLive, nothing_kept}
-use Rattle.control_node.specs.Core.{sessions}
+use Rattle.control_node.specs.Agents.{AreRetired, with_retired}
+use Rattle.control_node.specs.Core.{fresh, sessions}
 use Rattle.control_node.specs.Ends.{Ends}
 use Rattle.node_core.proofs.Kept.{none_few, none_live, nothings_long}
 use Rattle.control_node.proofs.node.ControlNode.new.Goals as goal
@@ -12,6 +13,7 @@ invariant_of-result c =
       ap length c.in_ok-node.ensures.kept ∙ length-replicate n [] ∙ sym (ap (λ (e : Ends). length e.posts) c.in_ok-node.ensures.ends),
       subst AreFew (sym c.in_ok-node.ensures.kept) (none_few n),
       subst (AreOfLive c.in_ok-node.node.ends.posts) (sym c.in_ok-node.ensures.kept) (none_live c.in_ok-node.node.ends.posts n),
+      subst (λ (retired : List ℕ). AreRetired (with_retired c.in_ok-node.node.ends.plan retired)) (sym c.new-3.ensures.items) tt,
     )
 
 pub returns : goal.returns
@@ -19,4 +21,10 @@ returns c =
     let ends = c.in_ok-node.ensures.ends ∙ c.in_ok-ends.ensures in
     let many = ap (λ (e : Ends). length e.posts) c.in_ok-ends.ensures ∙ nothings_long (sessions c.args.plan) in
     let kept = c.in_ok-node.ensures.kept ∙ ap nothing_kept many in
-    λ i. record { plan = (ends i).plan; posts = (ends i).posts; kept = kept i; failed = c.in_ok-node.ensures.works i }
+    (λ i. record {
+      plan = with_retired (ends i).plan (c.new-3.ensures.items i);
+      posts = (ends i).posts;
+      kept = kept i;
+      failed = c.in_ok-node.ensures.works i;
+    })
+    ∙ (λ i. record (fresh c.args.plan) { plan = with_retired c.args.plan (sym c.requires.retired i) })

@@ -20,8 +20,8 @@ restart_agent-requires-clause-kept c =
 
 pub returns-in-Control : goal.returns-in-Control
 returns-in-Control c =
-    control_set c.args.self.now c.self.inside.config c.self.inside.controls.items c.self.inside.agents.items c.args.node c.len.result c.in-Control.place c.self.view_is (omega (arith, c.len.ensures, c.self.inside.controls.ok.0)) c.restart.new.self c.in-Control.ensures.number c.in-Control.ensures.within
-    ∙ ap (λ (n : Inner). set c.args.self.now c.args.node n) (control_emptied c.index_mut.result.now c.restart.new.self c.restart.ensures
+    control_set c.args.self.now c.self.inside.config c.self.inside.controls.items c.self.inside.agents.items c.args.node c.len.result c.in-Control.place c.self.view_is (omega (arith, c.len.ensures, c.self.inside.controls.ok.0)) c.restart_control.new.node c.in-Control.ensures.number c.in-Control.ensures.within
+    ∙ ap (λ (n : Inner). set c.args.self.now c.args.node n) (control_emptied c.index_mut.result.now c.restart_control.new.node c.restart_control.ensures.fresh
     (subst (λ (n : Inner). length n.posts ≡ length (others_of n.who))
     (control_is c.args.self.now c.self.inside.config c.self.inside.controls.items c.self.inside.agents.items c.args.node c.len.result c.in-Control.place c.self.view_is (omega (arith, c.len.ensures, c.self.inside.controls.ok.0)) c.index_mut.result.now c.in-Control.ensures.number c.in-Control.ensures.within c.index_mut.ensures.value)
     c.requires.long)

@@ -10,5 +10,5 @@ pub returns-clause-outcome : goal.returns-clause-outcome
 returns-clause-outcome c =
     c.trace.ensures.outcome
     ∙ (ap (λ (as' : List Core). forwarding (map shown_at as') c.args.packet) c.deref_mut.ensures.value
-    ∙ (ap (λ (fs : List Forwarder). forwarding fs c.args.packet) (all_forward c.self.inside.config c.self.inside.controls.items c.self.inside.agents.items c.self.invariant)
+    ∙ (ap (λ (fs : List Forwarder). forwarding fs c.args.packet) (all_forward c.self.inside.config c.self.inside.controls.items c.self.inside.agents.items c.self.invariant.0)
     ∙ ap (λ (ns : List Inner). forwarding (forwarders ns) c.args.packet) c.self.view_is))
