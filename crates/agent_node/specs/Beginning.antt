@@ -21,10 +21,7 @@ controller_at plan i = slice_index_or plan.controllers i no_node
 abbrev pub session_at : AgentPlan → ℕ → Phase → SessionFields
 session_at plan i phase = record { peer = (controller_at plan i).name; from = Control; state = state_at phase }
 
--- what an input makes of the end of its session, and the cause for which that goes down
-abbrev pub Begins : AgentPlan → ℕ → Post → Input → Begun → Option ItemCause → Type 0
-Begins plan i p = item.Begins plan.me.name (session_at plan i p.phase) p
-
--- the same, where these octets were kept of the session before, and what is kept of it then
+-- what an input makes of the end of its session, where these octets were kept of it before, the cause for which that goes
+-- down, and what is kept of it then
 abbrev pub BeginsKeeping : AgentPlan → ℕ → Post → List ℕ → Input → Begun → Option ItemCause → List ℕ → Type 0
 BeginsKeeping plan i p = item.BeginsKeeping plan.me.name (session_at plan i p.phase) p

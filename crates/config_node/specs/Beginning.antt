@@ -1,5 +1,5 @@
 -- What an input makes of an end of the configuration node.
-use Rattle.std.specs.Prelude.{ℕ, List, []}
+use Rattle.std.specs.Prelude.{ℕ, List}
 use Rattle.std.specs.declared.option.Option.{Option}
 use Rattle.std.specs.List.{slice_index_or}
 use Rattle.ov_link.specs.declared.step.Input.{Input}
@@ -22,10 +22,7 @@ controller_at x i = slice_index_or x.topology.controllers i no_node
 abbrev pub session_at : Checked → ℕ → Phase → SessionFields
 session_at x i phase = record { peer = (controller_at x i).name; from = From.Nothing; state = state_at phase }
 
--- what an input makes of the end of its session, and the cause for which that goes down
-abbrev pub Begins : Checked → ℕ → Post → Input → Begun → Option ItemCause → Type 0
-Begins x i p = item.Begins config (session_at x i p.phase) p
-
--- the same, where these octets were kept of the session before, and what is kept of it then
+-- what an input makes of the end of its session, where these octets were kept of it before, the cause for which that goes
+-- down, and what is kept of it then
 abbrev pub BeginsKeeping : Checked → ℕ → Post → List ℕ → Input → Begun → Option ItemCause → List ℕ → Type 0
 BeginsKeeping x i p = item.BeginsKeeping config (session_at x i p.phase) p

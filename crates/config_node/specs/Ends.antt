@@ -1,5 +1,5 @@
 -- The ends of the configuration node's sessions, and what always holds of them.
-use Rattle.std.specs.Prelude.{◌≡◌, ◌≤◌, ℕ, List, [], map, length, false, refl}
+use Rattle.std.specs.Prelude.{◌≡◌, ◌≤◌, ℕ, List, [], map, length, true, false, refl}
 use Rattle.std.specs.Coded.{Coded, code_by, coded×, coded_list}
 use Rattle.std.specs.FinMap.{empty}
 use Rattle.std.specs.List.{AllByRecursion}
@@ -44,7 +44,11 @@ posts_of es = map end_at es
 
 -- the end of the session with a control node, from the start
 abbrev pub new_end : NodeId → FeedEnd
-new_end n = record { session = idle_session n.name Nothing; sent = [] }
+new_end n = record { session = idle_session n.name Nothing; sent = []; told = false }
+
+-- an end that may have to be told something anew
+abbrev pub doubted : FeedEnd → FeedEnd
+doubted e = record e { told = false }
 
 -- ---- what always holds
 -- whom a session is with, and what that one may send
@@ -57,18 +61,19 @@ whom_at e = whom e.session
 abbrev pub controller : NodeId → List ℕ × ItemFrom
 controller n = (n.name, Nothing)
 
-abbrev pub SentFits : FeedEnd → Type 0
-SentFits e = AllFit (low_of e.sent)
+-- what was sent on a session can be told, and is what is wanted where the session counts as told
+abbrev pub HasSent : Objects → FeedEnd → Type 0
+HasSent wants e = AllFit (low_of e.sent) × (e.told ≡ true → e.sent ≡ wants)
 
 -- a session with each control node, in their order. What is to be told are the low-level objects of what is valid, and
--- these and what was sent can be told
+-- these and what was sent can be told. A session that counts as told was sent them
 pub record AreEnds (x : Checked) (wants : Objects) (ends : List FeedEnd) : Type 0 where
   pub some : 1 ≤ length x.topology.controllers
   pub few : length x.topology.controllers ≤ 8
   pub whose : map whom_at ends ≡ map controller x.topology.controllers
   pub wanted : low_of wants ≡ low x
   pub fits : AllFit (low x)
-  pub sent : AllByRecursion SentFits ends
+  pub sent : AllByRecursion (HasSent wants) ends
 
 -- ---- how they are told apart
 abbrev pub coded_ends : Coded Ends

@@ -1,5 +1,5 @@
 -- What the sessions of the configuration node are to be told in a pass.
-use Rattle.std.specs.Prelude.{[], map, Bool, not, if◌then◌else◌}
+use Rattle.std.specs.Prelude.{[], map, Bool, not, true, if◌then◌else◌}
 use Rattle.node_core.specs.declared.ends.Plan.{Plan}
 use Rattle.node_items.specs.Beginning.{phase_of}
 use Rattle.node_items.specs.Told.{spelled}
@@ -19,5 +19,5 @@ plan_of wants e = record {
 }
 
 -- an end, once it is told
-abbrev pub told : Objects → FeedEnd → FeedEnd
-told wants e = if sends e then record e { sent = wants } else e
+abbrev pub once_told : Objects → FeedEnd → FeedEnd
+once_told wants e = if sends e then record e { sent = wants; told = true } else e

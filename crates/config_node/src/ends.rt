@@ -1,5 +1,5 @@
 //! The ends of the configuration node's sessions.
-ghost use Rattle.std.specs.Prelude.{◌≡◌, ◌<◌, [], length, map, not, None, Some, IfOk, IfSome, IsTrue, OnErr};
+ghost use Rattle.std.specs.Prelude.{◌≡◌, ◌<◌, [], length, map, not, false, None, Some, IfOk, IfSome, IsTrue, OnErr};
 ghost use Rattle.config_model.specs.Edit.{has_edit_form};
 ghost use Rattle.config_model.specs.Form.{has_config_form, has_topology_form};
 ghost use Rattle.config_check.specs.Edits.{edit_fault};
@@ -9,7 +9,7 @@ ghost use Rattle.item_wire.specs.declared.input.Came.TheVariants.{Closed};
 ghost use Rattle.node_items.specs.Beginning.{phase_of};
 ghost use Rattle.network_model.specs.Setup.{edited};
 ghost use Rattle.config_node.specs.Core.{is_idle, nothings, sessions};
-ghost use Rattle.config_node.specs.Ends.{new_end};
+ghost use Rattle.config_node.specs.Ends.{doubted, new_end};
 
 use crate::planning::plan_all;
 use crate::wants::{Objects, wanted};
@@ -28,6 +28,8 @@ use std::marker::Model;
 pub(crate) struct FeedEnd {
     pub(crate) session: ItemSession,
     pub(crate) sent: SyncOut<LowKey, LowValue>,
+    /// Whether it was told all: what was sent is what is wanted. Nothing is compared then.
+    pub(crate) told: bool,
 }
 
 impl FeedEnd {
@@ -41,9 +43,11 @@ impl FeedEnd {
     fn shut(&mut self)
         ensures session { self.new.session ≡ after self.old.session Closed }
         ensures sent { self.new.sent ≡ [] }
+        ensures told { self.new.told ≡ false }
     {
         let _down = self.session.closed();
         self.sent.reset();
+        self.told = false;
     }
 }
 
@@ -136,9 +140,19 @@ fn new_ends(alloc: Global, controllers: &[NodeId]) -> Result<Vec<FeedEnd>, NoMem
         ends.push(FeedEnd {
             session: ItemSession::new(controller.name, ItemFrom::Nothing),
             sent: SyncOut::new(alloc),
+            told: false,
         })?;
     }
     Ok(ends)
+}
+
+/// Each end may have to be told something anew.
+fn doubt_all(ends: &mut [FeedEnd])
+    ensures { ends.new ≡ map doubted ends.old }
+{
+    for end in ends.iter_mut() {
+        end.told = false;
+    }
 }
 
 impl ConfigEnds {
@@ -168,7 +182,7 @@ impl ConfigEnds {
         &self.valid
     }
 
-    /// Makes an edit of what is valid, unless it has a fault.
+    /// Makes an edit of what is valid, unless it has a fault. Each session may have to be told something then.
     pub(crate) fn edit(&mut self, edit: &Edit) -> Result<Option<EditFault>, NoMemory>
         requires { IsTrue (has_edit_form edit.now) }
         ensures topology { self.new.setup.topology ≡ self.old.setup.topology }
@@ -183,6 +197,7 @@ impl ConfigEnds {
                 let wants = wanted(self.alloc, &valid)?;
                 self.valid = valid;
                 self.wants = wants;
+                doubt_all(&mut self.ends);
                 Ok(None)
             }
             Err(EditRefusal::Edit(fault)) => Ok(Some(fault)),

@@ -1,12 +1,12 @@
 //! What the sessions of the configuration node are to be told in a pass.
-ghost use Rattle.std.specs.Prelude.{◌≡◌, IfOk, map};
+ghost use Rattle.std.specs.Prelude.{◌≡◌, IfOk, map, true, false};
 ghost use Rattle.std.specs.List.{All, AllByRecursion};
 ghost use Rattle.ov_sync.specs.Embed.{moved_delta};
 ghost use Rattle.node_items.specs.Told.{AllFit, ChangeFits, spelled};
 ghost use Rattle.node_model.specs.Keys.{Low};
 ghost use Rattle.node_model.specs.Values.{Object};
-ghost use Rattle.config_node.specs.Ends.{SentFits, low_of};
-ghost use Rattle.config_node.specs.Planning.{plan_of, told};
+ghost use Rattle.config_node.specs.Ends.{HasSent, low_of};
+ghost use Rattle.config_node.specs.Planning.{once_told, plan_of, sends};
 
 use crate::ends::FeedEnd;
 use crate::wants::Objects;
@@ -31,24 +31,44 @@ fn spell_all(
     Ok(messages)
 }
 
-/// What one session is to be told: nothing where it is idle, and else what changes from what was sent to what is
-/// wanted, which is sent then.
-fn plan_one(alloc: Global, end: &mut FeedEnd, wants: &Objects) -> Result<Plan, NoMemory>
-    requires sent { SentFits end.old }
+/// What a session that may send is to be told: what changes from what was sent to what is wanted, which is sent then.
+fn plan_changes(alloc: Global, end: &mut FeedEnd, wants: &Objects) -> Result<Plan, NoMemory>
+    requires sends { sends end.old ≡ true }
+    requires untold { end.old.told ≡ false }
+    requires sent { AllFit (low_of end.old.sent) }
     requires wants { AllFit (low_of wants.now.entries) }
     ensures session { end.new.session ≡ end.old.session }
-    ensures sent { SentFits end.new }
-    ensures told { IfOk result (λ plan. end.new ≡ told wants.now.entries end.old) }
+    ensures sent { HasSent wants.now.entries end.new }
+    ensures told { IfOk result (λ plan. end.new ≡ once_told wants.now.entries end.old) }
     ensures plan { IfOk result (λ plan. plan ≡ plan_of wants.now.entries end.old) }
 {
+    let deltas = end.sent.replace(wants)?;
+    let messages = spell_all(alloc, &deltas)?;
+    end.told = true;
+    Ok(Plan { messages })
+}
+
+/// What one session is to be told. It is nothing where the session is idle, and where it is told: nothing is compared
+/// there.
+fn plan_one(alloc: Global, end: &mut FeedEnd, wants: &Objects) -> Result<Plan, NoMemory>
+    requires sent { HasSent wants.now.entries end.old }
+    requires wants { AllFit (low_of wants.now.entries) }
+    ensures session { end.new.session ≡ end.old.session }
+    ensures sent { HasSent wants.now.entries end.new }
+    ensures told { IfOk result (λ plan. end.new ≡ once_told wants.now.entries end.old) }
+    ensures plan { IfOk result (λ plan. plan ≡ plan_of wants.now.entries end.old) }
+{
+    if end.told {
+        return Ok(Plan {
+            messages: Items::new(alloc),
+        });
+    }
     if !end.is_live() {
         return Ok(Plan {
             messages: Items::new(alloc),
         });
     }
-    let deltas = end.sent.replace(wants)?;
-    let messages = spell_all(alloc, &deltas)?;
-    Ok(Plan { messages })
+    plan_changes(alloc, end, wants)
 }
 
 /// What each session is to be told.
@@ -57,11 +77,11 @@ pub(crate) fn plan_all(
     ends: &mut [FeedEnd],
     wants: &Objects,
 ) -> Result<Vec<Plan>, NoMemory>
-    requires sent { AllByRecursion SentFits ends.old }
+    requires sent { AllByRecursion (HasSent wants.now.entries) ends.old }
     requires wants { AllFit (low_of wants.now.entries) }
     ensures sessions { map (λ e. e.session) ends.new ≡ map (λ e. e.session) ends.old }
-    ensures sent { AllByRecursion SentFits ends.new }
-    ensures told { IfOk result (λ plans. ends.new ≡ map (told wants.now.entries) ends.old) }
+    ensures sent { AllByRecursion (HasSent wants.now.entries) ends.new }
+    ensures told { IfOk result (λ plans. ends.new ≡ map (once_told wants.now.entries) ends.old) }
     ensures plans { IfOk result (λ plans. plans.items ≡ map (plan_of wants.now.entries) ends.old) }
 {
     let mut plans = Vec::new(alloc);

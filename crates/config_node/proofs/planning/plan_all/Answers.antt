@@ -1,8 +1,8 @@
 use Rattle.std.proofs.Common.{◌<◌, length, sym, ◌∙◌, ap, set, arith}
 use Rattle.std.proofs.Math.Seq.{map-set_same}
 use Rattle.std.proofs.lemmas.List.Edits.{map_over_more}
-use Rattle.config_node.specs.Ends.{SentFits}
-use Rattle.config_node.specs.Planning.{plan_of, told}
+use Rattle.config_node.specs.Ends.{HasSent}
+use Rattle.config_node.specs.Planning.{once_told, plan_of}
 use Rattle.config_node.specs.declared.ends.FeedEnd.{FeedEnd}
 use Rattle.node_core.proofs.Lists.{all-at, all-set}
 use Rattle.config_node.proofs.Posts.{plans_more}
@@ -11,7 +11,7 @@ use Rattle.config_node.proofs.planning.plan_all.Goals as goal
 pub plan_one-requires-clause-sent : goal.plan_one-requires-clause-sent
 plan_one-requires-clause-sent c =
     let l = c.loop-end in
-    all-at SentFits l.ends l.end-index c.end-item.result l.invariant.sent (omega arith)
+    all-at (HasSent c.args.wants.now.entries) l.ends l.end-index c.end-item.result l.invariant.sent (omega arith)
 
 pub loop-end-preserved : goal.loop-end-preserved
 loop-end-preserved c =
@@ -22,9 +22,9 @@ loop-end-preserved c =
       sessions = map-set_same (λ (e : FeedEnd). e.session) l.ends l.end-index c.plan_one.new.end c.end-item.result
           c.in_ok-plan_one.ensures.session
           ∙ l.invariant.sessions;
-      sent = all-set SentFits l.ends l.end-index c.plan_one.new.end l.invariant.sent c.in_ok-plan_one.ensures.sent;
-      told = ap (set l.ends l.end-index) (c.in_ok-plan_one.ensures.told ∙ ap (told wants) (sym c.end-item.is))
-          ∙ map_over_more (told wants) c.args.ends.now l.ends l.end-index c.end-item.result lt l.invariant.told
+      sent = all-set (HasSent wants) l.ends l.end-index c.plan_one.new.end l.invariant.sent c.in_ok-plan_one.ensures.sent;
+      told = ap (set l.ends l.end-index) (c.in_ok-plan_one.ensures.told ∙ ap (once_told wants) (sym c.end-item.is))
+          ∙ map_over_more (once_told wants) c.args.ends.now l.ends l.end-index c.end-item.result lt l.invariant.told
           c.end-item.is;
       plans = plans_more wants c.args.ends.now l.ends l.end-index c.end-item.result l.plans.items _ _ lt
           l.invariant.told c.end-item.is l.invariant.plans

@@ -13,7 +13,7 @@ invariant_of-self c =
     let controllers = ap (λ (s : Ends). length s.setup.topology.controllers) c.self.view_is in
     let long = ends_long c.self.inside.valid c.self.inside.wants.entries es c.self.invariant in
     let lt : c.from.result < length es = omega (arith, long, controllers, c.requires.known, c.from.ensures) in
-    let e' : FeedEnd = record { session = c.greet.new.session; sent = e.sent } in
+    let e' : FeedEnd = record { session = c.greet.new.session; sent = e.sent; told = e.told } in
     let same : whom_at e' ≡ whom_at e = ap whom c.greet.ensures.opened in
     ends_set c.self.inside.valid c.self.inside.wants.entries es c.from.result e' e c.self.invariant
     (same ∙ ap whom_at c.index_mut-end.ensures.value)

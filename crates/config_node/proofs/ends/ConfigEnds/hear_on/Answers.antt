@@ -58,7 +58,7 @@ pub returns-in-None-clause-heard : goal.returns-in-None-clause-heard
 returns-in-None-clause-heard c =
     let es = c.self.inside.ends.items in
     let e = c.index_mut-end.result.now in
-    let e' : FeedEnd = record { session = c.hear_at.new.session; sent = e.sent } in
+    let e' : FeedEnd = record { session = c.hear_at.new.session; sent = e.sent; told = e.told } in
     let controllers = ap (λ (s : Ends). length s.setup.topology.controllers) c.self.view_is in
     let long = ends_long c.self.inside.valid c.self.inside.wants.entries es c.self.invariant in
     let lt : c.from.result < length es = omega (arith, long, controllers, c.requires.known, c.from.ensures) in
@@ -75,7 +75,7 @@ pub returns-in-Some-clause-heard : goal.returns-in-Some-clause-heard
 returns-in-Some-clause-heard c =
     let es = c.self.inside.ends.items in
     let e = c.index_mut-end.result.now in
-    let e' : FeedEnd = record { session = c.hear_at.new.session; sent = e.sent } in
+    let e' : FeedEnd = record { session = c.hear_at.new.session; sent = e.sent; told = e.told } in
     let controllers = ap (λ (s : Ends). length s.setup.topology.controllers) c.self.view_is in
     let long = ends_long c.self.inside.valid c.self.inside.wants.entries es c.self.invariant in
     let lt : c.from.result < length es = omega (arith, long, controllers, c.requires.known, c.from.ensures) in

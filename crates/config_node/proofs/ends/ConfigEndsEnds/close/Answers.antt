@@ -10,7 +10,7 @@ invariant_of-self c =
     let same : whom_at new ≡ whom_at c.index_mut.result.now = ap whom c.shut.ensures.session in
     ends_set c.self.inside.valid c.self.inside.wants.entries c.self.inside.ends.items c.from.result new
     c.index_mut.result.now c.self.invariant (same ∙ ap whom_at c.index_mut.ensures.value)
-    (nothing_sent new c.shut.ensures.sent)
+    (nothing_sent c.self.inside.wants.entries new c.shut.ensures.sent c.shut.ensures.told)
 
 pub returns-clause-closed : goal.returns-clause-closed
 returns-clause-closed c =

@@ -2,7 +2,7 @@ use Rattle.std.proofs.Common.{◌≡◌, ◌++◌, List, length, map, take, drop
 use Rattle.node_core.specs.Plans.{ArePlans}
 use Rattle.config_node.specs.Core.{kind}
 use Rattle.config_node.specs.Ends.{AreEnds, Ends, posts_of}
-use Rattle.config_node.specs.Planning.{plan_of, told}
+use Rattle.config_node.specs.Planning.{once_told, plan_of}
 use Rattle.config_node.specs.declared.ends.FeedEnd.{FeedEnd}
 use Rattle.config_node.proofs.Posts.{are_plans, ends_told}
 use Rattle.node_core.proofs.Lists.{written}
@@ -38,7 +38,7 @@ returns-clause-plans c =
     let plans = c.in_ok-plans.plans.items in
     let long : length new ≡ c.self.inside.ends.len =
     c.plan_all.auto.ends ∙ ap length c.deref_mut.ensures.value ∙ sym c.self.inside.ends.ok.0 in
-    let told_to = c.in_ok-plans.ensures.told ∙ ap (map (told wants)) c.deref_mut.ensures.value in
+    let told_to = c.in_ok-plans.ensures.told ∙ ap (map (once_told wants)) c.deref_mut.ensures.value in
     let made = c.in_ok-plans.ensures.plans ∙ ap (map (plan_of wants)) c.deref_mut.ensures.value in
     subst (λ (s : Ends). ArePlans (kind s.setup) s.posts
     (posts_of (take c.self.inside.ends.len (new ++ drop (length new) es))) plans) c.self.view_is
