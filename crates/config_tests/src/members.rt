@@ -3,7 +3,7 @@ use crate::documents::{valid_of, value_of};
 use config_check::Valid;
 use config_model::{DocKind, ReadRefusal};
 use ov_types::{Addr, Packet, PortNo, Tuple};
-use scale_out::{Groups, Spread, choose, read_scale, scale_reach};
+use scale_out::{Group, Groups, Spread, choose, read_scale, scale_reach};
 use std::alloc::Global;
 use std::process::Abort;
 
@@ -126,12 +126,16 @@ fn chooses(rt: &impl Abort, alloc: Global, valid: &Valid, text: &str, wanted: [(
     are_visited(rt, valid, &groups, wanted);
 }
 
+fn visit_members(rt: &impl Abort, alloc: Global, valid: &Valid) {
+    for (text, wanted) in VISITS {
+        chooses(rt, alloc, valid, text, wanted);
+    }
+}
+
 #[test]
 fn packets_visit_members(rt: HostRuntime) {
     let valid = plan_of(&rt, rt.alloc());
-    for (text, wanted) in VISITS {
-        chooses(&rt, rt.alloc(), &valid, text, wanted);
-    }
+    visit_members(&rt, rt.alloc(), &valid);
 }
 
 /// Whether this is the fault of a list of groups.
@@ -142,14 +146,38 @@ fn is_fault(read: &Result<Groups, ReadRefusal>, path: &str, kind: DocKind) -> bo
     }
 }
 
+/// A list of groups has this as its first fault.
+fn has_fault(rt: &impl Abort, alloc: Global, valid: &Valid, text: &str, path: &str, kind: DocKind) {
+    let value = value_of(rt, alloc, text);
+    let read = Groups::read(alloc, &value, valid.config());
+    assert!(rt; is_fault(&read, path, kind), "{text}");
+}
+
+fn have_faults(rt: &impl Abort, alloc: Global, valid: &Valid) {
+    for (text, path, kind) in FAULTS {
+        has_fault(rt, alloc, valid, text, path, kind);
+    }
+}
+
 #[test]
 fn the_first_fault_of_a_list_is_found(rt: HostRuntime) {
     let valid = plan_of(&rt, rt.alloc());
-    for (text, path, kind) in FAULTS {
-        let value = value_of(&rt, rt.alloc(), text);
-        let read = Groups::read(rt.alloc(), &value, valid.config());
-        assert!(rt; is_fault(&read, path, kind), "{text}");
+    have_faults(&rt, rt.alloc(), &valid);
+}
+
+/// The second service is asked for with the members 7 and 9.
+fn is_asked(rt: &impl Abort, groups: &[Group]) {
+    match groups {
+        [group] => assert!(rt; group.members.as_slice() == [7, 9].as_slice()),
+        _ => assert!(rt; false, "another number of groups"),
     }
+}
+
+fn ask(rt: &impl Abort, alloc: Global, text: &str) {
+    let value = value_of(rt, alloc, text);
+    let asked = read_scale(alloc, &value).expect(rt, "a document");
+    is_asked(rt, asked.groups.as_slice());
+    assert!(rt; asked.packets.as_slice().is_empty());
 }
 
 #[test]
@@ -157,9 +185,5 @@ fn a_document_of_groups_is_read(rt: HostRuntime) {
     let text = format!(in rt.alloc();
         r#"{{{PLAN},"groups":[{{"service":"s2","members":[7,9]}}],"packets":[]}}"#
     ).expect(&rt, "memory");
-    let value = value_of(&rt, rt.alloc(), text.as_str());
-    let asked = read_scale(rt.alloc(), &value).expect(&rt, "a document");
-    assert!(rt; asked.groups.as_slice().len() == 1);
-    assert!(rt; asked.groups.as_slice()[0].members.as_slice() == [7, 9].as_slice());
-    assert!(rt; asked.packets.as_slice().is_empty());
+    ask(&rt, rt.alloc(), text.as_str());
 }

@@ -81,77 +81,128 @@ const BLUE: InstanceId = InstanceId(2);
 
 const GREEN: InstanceId = InstanceId(3);
 
+/// The network to which a port is tied, if to one.
+fn ties_port(rt: &impl Abort, ties: &Ties, port: u32, network: Option<InstanceId>) {
+    assert!(rt; ties.port(PortNo(port)) == network, "{port}");
+}
+
+/// The use 7 is tied to red and blue.
+fn ties_use(rt: &impl Abort, ties: &Ties) {
+    assert!(rt; ties.chain_use(7) == Some((RED, BLUE)));
+}
+
+/// Red and blue were related.
+fn relates(rt: &impl Abort, ties: &Ties) {
+    assert!(rt; ties.was_related(RED, BLUE));
+    assert!(rt; ties.was_related(BLUE, RED));
+}
+
+fn tie_what_stands(rt: &impl Abort, ties: &Ties) {
+    ties_port(rt, ties, 1, Some(RED));
+    ties_port(rt, ties, 2, Some(BLUE));
+    ties_port(rt, ties, 3, None);
+    ties_use(rt, ties);
+    assert!(rt; ties.chain_use(0).is_none());
+    relates(rt, ties);
+    assert!(rt; !ties.was_related(RED, RED));
+    assert!(rt; !ties.was_related(RED, GREEN));
+}
+
+/// What happens to what is valid, with its ties.
+#[derive(Clone, Copy)]
+enum Scene {
+    TieWhatStands,
+    AnswerAfterRules,
+    StayTied,
+    StayBetweenNetworks,
+    TryPortsFirst,
+}
+
+fn happen(rt: &impl Abort, alloc: Global, scene: Scene, run: &mut Run) {
+    match scene {
+        Scene::TieWhatStands => tie_what_stands(rt, &run.ties),
+        Scene::AnswerAfterRules => answer_after_rules(rt, alloc, run),
+        Scene::StayTied => stay_tied(rt, alloc, run),
+        Scene::StayBetweenNetworks => stay_between_networks(rt, alloc, run),
+        Scene::TryPortsFirst => try_ports_first(rt, alloc, run),
+    }
+}
+
+/// It happens to the document.
+fn in_a_run(rt: &impl Abort, alloc: Global, scene: Scene) {
+    let mut run = opened(alloc).expect(rt, "a valid document");
+    happen(rt, alloc, scene, &mut run);
+}
+
 #[test]
 fn ties_are_of_what_stands_in_a_configuration(rt: HostRuntime) {
-    let run = opened(rt.alloc()).expect(&rt, "a valid document");
-    assert!(rt; run.ties.port(PortNo(1)) == Some(RED));
-    assert!(rt; run.ties.port(PortNo(2)) == Some(BLUE));
-    assert!(rt; run.ties.port(PortNo(3)).is_none());
-    assert!(rt; run.ties.chain_use(7) == Some((RED, BLUE)));
-    assert!(rt; run.ties.chain_use(0).is_none());
-    assert!(rt; run.ties.was_related(RED, BLUE) && run.ties.was_related(BLUE, RED));
-    assert!(rt; !run.ties.was_related(RED, RED));
-    assert!(rt; !run.ties.was_related(RED, GREEN));
+    in_a_run(&rt, rt.alloc(), Scene::TieWhatStands);
+}
+
+const NO_PORT: &str = r#"{"delete":{"port":"vm9"}}"#;
+
+const PORT_OUTSIDE: &str =
+    r#"{"put":{"port":{"name":"vm2","id":2,"network":"red","address":"10.3.0.1","node":"n2"}}}"#;
+
+const PORT_MOVED: &str =
+    r#"{"put":{"port":{"name":"vm2","id":2,"network":"red","address":"10.1.0.2","node":"n1"}}}"#;
+
+const PORT_AS_IT_WAS: &str =
+    r#"{"put":{"port":{"name":"vm2","id":2,"network":"blue","address":"10.2.0.2","node":"n2"}}}"#;
+
+fn answer_after_rules(rt: &impl Abort, alloc: Global, run: &mut Run) {
+    let name = Name::new("vm9").expect(rt, "a name");
+    let missing = TiedFault::Edit(EditFault::Missing { name });
+    is_refused(rt, alloc, run, NO_PORT, missing);
+    let port = Name::new("vm2").expect(rt, "a name");
+    let outside = TiedFault::Edit(EditFault::Rule(Refusal::AddressOutside { port }));
+    is_refused(rt, alloc, run, PORT_OUTSIDE, outside);
+    port_is_tied(rt, alloc, run);
+    is_made(rt, alloc, run, PORT_AS_IT_WAS);
+}
+
+/// The second port cannot move to red.
+fn port_is_tied(rt: &impl Abort, alloc: Global, run: &mut Run) {
+    is_refused(
+        rt,
+        alloc,
+        run,
+        PORT_MOVED,
+        TiedFault::Tied(Tie::Port(PortNo(2))),
+    );
 }
 
 #[test]
 fn edits_are_answered_after_their_rules_by_ties(rt: HostRuntime) {
-    let alloc = rt.alloc();
-    let mut run = opened(alloc).expect(&rt, "a valid document");
-    let missing = Name::new("vm9").expect(&rt, "a name");
-    let outside = Name::new("vm2").expect(&rt, "a name");
-    is_refused(
-        &rt,
-        alloc,
-        &mut run,
-        r#"{"delete":{"port":"vm9"}}"#,
-        TiedFault::Edit(EditFault::Missing { name: missing }),
-    );
-    is_refused(
-        &rt,
-        alloc,
-        &mut run,
-        r#"{"put":{"port":{"name":"vm2","id":2,"network":"red","address":"10.3.0.1","node":"n2"}}}"#,
-        TiedFault::Edit(EditFault::Rule(Refusal::AddressOutside { port: outside })),
-    );
-    is_refused(
-        &rt,
-        alloc,
-        &mut run,
-        r#"{"put":{"port":{"name":"vm2","id":2,"network":"red","address":"10.1.0.2","node":"n1"}}}"#,
-        TiedFault::Tied(Tie::Port(PortNo(2))),
-    );
-    is_made(
-        &rt,
-        alloc,
-        &mut run,
-        r#"{"put":{"port":{"name":"vm2","id":2,"network":"blue","address":"10.2.0.2","node":"n2"}}}"#,
-    );
+    in_a_run(&rt, rt.alloc(), Scene::AnswerAfterRules);
+}
+
+/// The second port and `led` go, red attaches no policy any more, and green has a port.
+const GONE: [&str; 4] = [
+    r#"{"delete":{"port":"vm2"}}"#,
+    r#"{"put":{"network":{"name":"red","id":1,"subnets":["10.1.0.0/24"],"policies":[]}}}"#,
+    r#"{"delete":{"policy":"led"}}"#,
+    r#"{"put":{"port":{"name":"vm3","id":3,"network":"green","address":"10.3.0.3","node":"n1"}}}"#,
+];
+
+fn tie_what_is_gone(rt: &impl Abort, ties: &Ties) {
+    ties_port(rt, ties, 2, Some(BLUE));
+    ties_port(rt, ties, 3, Some(GREEN));
+    relates(rt, ties);
+    ties_use(rt, ties);
+}
+
+fn stay_tied(rt: &impl Abort, alloc: Global, run: &mut Run) {
+    for text in &GONE {
+        is_made(rt, alloc, run, text);
+    }
+    tie_what_is_gone(rt, &run.ties);
+    port_is_tied(rt, alloc, run);
 }
 
 #[test]
 fn what_is_gone_stays_tied(rt: HostRuntime) {
-    let alloc = rt.alloc();
-    let mut run = opened(alloc).expect(&rt, "a valid document");
-    for text in [
-        r#"{"delete":{"port":"vm2"}}"#,
-        r#"{"put":{"network":{"name":"red","id":1,"subnets":["10.1.0.0/24"],"policies":[]}}}"#,
-        r#"{"delete":{"policy":"led"}}"#,
-        r#"{"put":{"port":{"name":"vm3","id":3,"network":"green","address":"10.3.0.3","node":"n1"}}}"#,
-    ] {
-        is_made(&rt, alloc, &mut run, text);
-    }
-    assert!(rt; run.ties.port(PortNo(2)) == Some(BLUE));
-    assert!(rt; run.ties.port(PortNo(3)) == Some(GREEN));
-    assert!(rt; run.ties.was_related(RED, BLUE) && run.ties.was_related(BLUE, RED));
-    assert!(rt; run.ties.chain_use(7) == Some((RED, BLUE)));
-    is_refused(
-        &rt,
-        alloc,
-        &mut run,
-        r#"{"put":{"port":{"name":"vm2","id":2,"network":"red","address":"10.1.0.2","node":"n1"}}}"#,
-        TiedFault::Tied(Tie::Port(PortNo(2))),
-    );
+    in_a_run(&rt, rt.alloc(), Scene::StayTied);
 }
 
 /// The rule of `led` again, from one network to another.
@@ -166,27 +217,33 @@ fn use_is_tied(rt: &impl Abort, alloc: Global, run: &mut Run, text: &str) {
     is_refused(rt, alloc, run, text, TiedFault::Tied(Tie::ChainUse(7)));
 }
 
+/// The rule from one network to another breaks the tie of its use.
+fn led_is_tied(rt: &impl Abort, alloc: Global, run: &mut Run, from: &str, to: &str) {
+    let text = led(alloc, from, to).expect(rt, "memory");
+    use_is_tied(rt, alloc, run, text.as_str());
+}
+
+fn stay_between_networks(rt: &impl Abort, alloc: Global, run: &mut Run) {
+    led_is_tied(rt, alloc, run, "blue", "red");
+    led_is_tied(rt, alloc, run, "red", "green");
+    let as_it_was = led(alloc, "red", "blue").expect(rt, "memory");
+    is_made(rt, alloc, run, as_it_was.as_str());
+}
+
 #[test]
 fn a_use_stays_between_its_networks(rt: HostRuntime) {
-    let alloc = rt.alloc();
-    let mut run = opened(alloc).expect(&rt, "a valid document");
-    let turned = led(alloc, "blue", "red").expect(&rt, "memory");
-    let moved = led(alloc, "red", "green").expect(&rt, "memory");
-    let as_it_was = led(alloc, "red", "blue").expect(&rt, "memory");
-    use_is_tied(&rt, alloc, &mut run, turned.as_str());
-    use_is_tied(&rt, alloc, &mut run, moved.as_str());
-    is_made(&rt, alloc, &mut run, as_it_was.as_str());
+    in_a_run(&rt, rt.alloc(), Scene::StayBetweenNetworks);
+}
+
+const NUMBER_CHANGED: &str =
+    r#"{"put":{"network":{"name":"red","id":9,"subnets":["10.1.0.0/24"],"policies":["web"]}}}"#;
+
+fn try_ports_first(rt: &impl Abort, alloc: Global, run: &mut Run) {
+    let tied = TiedFault::Tied(Tie::Port(PortNo(1)));
+    is_refused(rt, alloc, run, NUMBER_CHANGED, tied);
 }
 
 #[test]
 fn ports_are_tried_before_uses(rt: HostRuntime) {
-    let alloc = rt.alloc();
-    let mut run = opened(alloc).expect(&rt, "a valid document");
-    is_refused(
-        &rt,
-        alloc,
-        &mut run,
-        r#"{"put":{"network":{"name":"red","id":9,"subnets":["10.1.0.0/24"],"policies":["web"]}}}"#,
-        TiedFault::Tied(Tie::Port(PortNo(1))),
-    );
+    in_a_run(&rt, rt.alloc(), Scene::TryPortsFirst);
 }

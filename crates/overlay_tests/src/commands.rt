@@ -7,16 +7,16 @@ use std::test::Fail;
 use top_call::Status;
 
 /// The words of no command.
-const NO_COMMANDS: [(usize, [&str; 3]); 9] = [
-    (0, ["", "", ""]),
-    (2, ["compile", "compile", ""]),
-    (1, ["gen", "", ""]),
-    (2, ["gen", "0", ""]),
-    (2, ["gen", "03", ""]),
-    (2, ["gen", "1000", ""]),
-    (2, ["gen", "+3", ""]),
-    (2, ["gen", "3 ", ""]),
-    (3, ["gen", "3", "3"]),
+const NO_COMMANDS: [&[&str]; 9] = [
+    &[],
+    &["compile", "compile"],
+    &["gen"],
+    &["gen", "0"],
+    &["gen", "03"],
+    &["gen", "1000"],
+    &["gen", "+3"],
+    &["gen", "3 "],
+    &["gen", "3", "3"],
 ];
 
 /// Words are no command. Nothing is read or written: each would fail.
@@ -30,8 +30,8 @@ fn are_no_command(rt: &impl Abort, alloc: Global, words: &[&str]) -> Result<(), 
 
 #[test]
 fn other_words_are_usage(rt: HostRuntime) -> Result<(), Fail> {
-    for (count, words) in NO_COMMANDS {
-        are_no_command(&rt, rt.alloc(), &words[..count.min(3)])?;
+    for words in &NO_COMMANDS {
+        are_no_command(&rt, rt.alloc(), words)?;
     }
     Ok(())
 }
@@ -48,14 +48,11 @@ fn is_run(rt: &impl Abort, alloc: Global, sink: &mut MemSink) -> Result<(), Fail
 fn a_scenario_is_run(rt: HostRuntime) -> Result<(), Fail> {
     let mut sink = MemSink::new(rt.alloc(), Vec::new(rt.alloc()));
     is_run(&rt, rt.alloc(), &mut sink)?;
-    assert_eq!(rt;
-        sink.taken(),
-        "\
+    let wanted = "\
 gen 3 controllers 3 nodes 20 networks 12 ports 192 uses 3
 rounds 6 5
 traces 40 delivered 8 agreed 40
-"
-            .as_bytes()
-    );
+";
+    assert!(rt; sink.taken() == wanted.as_bytes());
     Ok(())
 }

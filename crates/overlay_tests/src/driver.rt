@@ -1,4 +1,7 @@
 //! Runs over memory, and what is compared of them.
+ghost use Rattle.std.specs.Prelude.{◌≡◌, length, IfOk};
+
+use net_machine::Net;
 use ov_io::{MemSink, MemSource, Sink, Source};
 use std::alloc::{AllocError, Global};
 use std::process::Abort;
@@ -45,6 +48,15 @@ pub(crate) fn words_of(alloc: Global, words: &[&str]) -> Result<Vec<String>, All
     Ok(owned)
 }
 
+/// A place for the network that a run leaves. There is none in it.
+pub(crate) fn no_network(alloc: Global) -> Result<Vec<Option<Net>>, AllocError>
+    ensures { IfOk result (λ nets. length nets.items ≡ 1) }
+{
+    let mut nets = Vec::new(alloc);
+    nets.push(None)?;
+    Ok(nets)
+}
+
 /// How a run ended. The network that it leaves is let go.
 pub(crate) fn run_over<S: Source, K: Sink>(
     alloc: Global,
@@ -53,8 +65,8 @@ pub(crate) fn run_over<S: Source, K: Sink>(
     sink: &mut K,
 ) -> Result<Status, Fail> {
     let words = words_of(alloc, words)?;
-    let mut net = None;
-    Ok(overlay(alloc, words.as_slice(), source, sink, &mut net))
+    let mut nets = no_network(alloc)?;
+    Ok(overlay(alloc, words.as_slice(), source, sink, &mut nets[0]))
 }
 
 /// Runs one case from a source.
@@ -67,7 +79,7 @@ pub(crate) fn answers_from<S: Source>(
     let mut sink = MemSink::new(alloc, Vec::new(alloc));
     let status = run_over(alloc, &[case.word], source, &mut sink)?;
     let more = case.more;
-    assert_eq!(rt; sink.taken(), case.output.as_bytes(), "{more}");
+    assert!(rt; sink.taken() == case.output.as_bytes(), "{more}");
     assert!(rt; status == case.status, "{more}");
     Ok(())
 }

@@ -1,6 +1,8 @@
 //! Whole runs over ends that fail, or that take little at a time.
+ghost use Rattle.std.specs.Prelude.{◌≤◌};
+
 use crate::document_cases::{NOT_HEX, SMALLEST};
-use crate::driver::{answers_from, input_of, run_over};
+use crate::driver::{Case, answers_from, input_of, run_over};
 use ov_io::{MemSink, MemSource, Sink, SinkFault, Source, SourceFault};
 use std::alloc::Global;
 use std::process::Abort;
@@ -24,22 +26,39 @@ const FAILING: [(Failing, Status); 5] = [
     (Failing::Write(2), Status::Done),
 ];
 
+/// The read that fails, if one does.
+fn reads_of(alloc: Global, failing: Failing) -> Result<Vec<u64>, Fail> {
+    match failing {
+        Failing::Read(number) => Ok(vec![in alloc; number]?),
+        Failing::Write(_) => Ok(Vec::new(alloc)),
+    }
+}
+
+/// The write that fails, if one does.
+fn writes_of(alloc: Global, failing: Failing) -> Result<Vec<u64>, Fail> {
+    match failing {
+        Failing::Read(_) => Ok(Vec::new(alloc)),
+        Failing::Write(number) => Ok(vec![in alloc; number]?),
+    }
+}
+
+/// Runs the smallest document where these reads fail.
+fn run_the_smallest(alloc: Global, reads: Vec<u64>, sink: &mut MemSink) -> Result<Status, Fail> {
+    let mut source = MemSource::new(alloc, input_of(alloc, &SMALLEST)?, reads);
+    run_over(alloc, &[SMALLEST.word], &mut source, sink)
+}
+
 /// How a run of the smallest document ends where a call fails. Nothing is written where that is no good end.
 fn ends_so(rt: &impl Abort, alloc: Global, failing: Failing, status: Status) -> Result<(), Fail> {
-    let (reads, writes) = match failing {
-        Failing::Read(number) => (vec![in alloc; number]?, Vec::new(alloc)),
-        Failing::Write(number) => (Vec::new(alloc), vec![in alloc; number]?),
-    };
-    let mut source = MemSource::new(alloc, input_of(alloc, &SMALLEST)?, reads);
-    let mut sink = MemSink::new(alloc, writes);
-    let ended = run_over(alloc, &[SMALLEST.word], &mut source, &mut sink)?;
+    let mut sink = MemSink::new(alloc, writes_of(alloc, failing)?);
+    let ended = run_the_smallest(alloc, reads_of(alloc, failing)?, &mut sink)?;
     assert!(rt; ended == status);
     let output = if status == Status::Done {
         SMALLEST.output
     } else {
         ""
     };
-    assert_eq!(rt; sink.taken(), output.as_bytes());
+    assert!(rt; sink.taken() == output.as_bytes());
     Ok(())
 }
 
@@ -72,16 +91,25 @@ fn told(alloc: Global, failing: Vec<u64>) -> Result<(Status, MemSink), Fail> {
 fn many_messages_are_told(rt: HostRuntime) -> Result<(), Fail> {
     let (status, sink) = told(rt.alloc(), Vec::new(rt.alloc()))?;
     assert!(rt; status == Status::Done);
-    assert_eq!(rt; sink.taken().len(), 163_840);
+    assert!(rt; sink.taken().len() == 163_840);
+    Ok(())
+}
+
+/// What was written before the write that fails is all that is left.
+fn leaves_a_front(rt: &impl Abort, alloc: Global, failing: u64) -> Result<(), Fail>
+    requires first { 1 ≤ failing }
+    requires last { failing ≤ 3 }
+{
+    let (status, sink) = told(alloc, vec![in alloc; failing]?)?;
+    assert!(rt; status == Status::WriteFault);
+    assert!(rt; sink.taken().len() == 65_540 * (failing as usize - 1));
     Ok(())
 }
 
 #[test]
 fn each_failed_write_leaves_a_front(rt: HostRuntime) -> Result<(), Fail> {
     for failing in 1..=3u64 {
-        let (status, sink) = told(rt.alloc(), vec![in rt.alloc(); failing]?)?;
-        assert!(rt; status == Status::WriteFault);
-        assert_eq!(rt; sink.taken().len(), 65_540 * (failing as usize - 1));
+        leaves_a_front(&rt, rt.alloc(), failing)?;
     }
     Ok(())
 }
@@ -129,15 +157,20 @@ impl Sink for Dribble {
     }
 }
 
-/// The smallest document is answered through ends that take so much a call.
-fn is_answered_through(rt: &impl Abort, alloc: Global, most: usize) -> Result<(), Fail> {
+/// Runs the smallest document from a source that gives so much a call.
+fn run_by_trickles(alloc: Global, most: usize, sink: &mut Dribble) -> Result<Status, Fail> {
     let inner = MemSource::new(alloc, input_of(alloc, &SMALLEST)?, Vec::new(alloc));
     let mut source = Trickle { inner, most };
+    run_over(alloc, &[SMALLEST.word], &mut source, sink)
+}
+
+/// The smallest document is answered through ends that take so much a call.
+fn is_answered_through(rt: &impl Abort, alloc: Global, most: usize) -> Result<(), Fail> {
     let inner = MemSink::new(alloc, Vec::new(alloc));
     let mut sink = Dribble { inner, most };
-    let status = run_over(alloc, &[SMALLEST.word], &mut source, &mut sink)?;
+    let status = run_by_trickles(alloc, most, &mut sink)?;
     assert!(rt; status == Status::Done);
-    assert_eq!(rt; sink.inner.taken(), SMALLEST.output.as_bytes());
+    assert!(rt; sink.inner.taken() == SMALLEST.output.as_bytes());
     Ok(())
 }
 
@@ -149,13 +182,17 @@ fn short_reads_and_writes_lose_nothing(rt: HostRuntime) -> Result<(), Fail> {
     Ok(())
 }
 
+/// A case is answered from a source that gives 7 octets a call.
+fn is_so_by_trickles(rt: &impl Abort, alloc: Global, case: &Case) -> Result<(), Fail> {
+    let inner = MemSource::new(alloc, input_of(alloc, case)?, Vec::new(alloc));
+    let mut source = Trickle { inner, most: 7 };
+    answers_from(rt, alloc, case, &mut source)
+}
+
 #[test]
 fn what_spells_no_octets_is_so_from_each_source(rt: HostRuntime) -> Result<(), Fail> {
-    let alloc = rt.alloc();
-    for case in NOT_HEX {
-        let inner = MemSource::new(alloc, input_of(alloc, &case)?, Vec::new(alloc));
-        let mut source = Trickle { inner, most: 7 };
-        answers_from(&rt, alloc, &case, &mut source)?;
+    for case in &NOT_HEX {
+        is_so_by_trickles(&rt, rt.alloc(), case)?;
     }
     Ok(())
 }

@@ -52,21 +52,28 @@ fn is_compiled(
     let mut sink = MemSink::new(alloc, Vec::new(alloc));
     let ended = compiled(alloc, octets, &mut sink)?;
     assert!(rt; ended == status);
-    assert_eq!(rt; sink.taken(), output.as_bytes());
+    assert!(rt; sink.taken() == output.as_bytes());
     Ok(())
+}
+
+/// What a chain of so many services comes to.
+fn has_services(
+    rt: &impl Abort,
+    alloc: Global,
+    count: u32,
+    status: Status,
+    output: &str,
+) -> Result<(), Fail> {
+    let configuration = chain_of(alloc, count)?;
+    let octets = of_one_node(alloc, configuration.as_str())?;
+    is_compiled(rt, alloc, octets, status, output)
 }
 
 #[test]
 fn chains_have_at_most_fifteen_services(rt: HostRuntime) -> Result<(), Fail> {
-    let alloc = rt.alloc();
-    for (count, status, output) in [
-        (15, Status::Done, ONE_TEXT),
-        (16, Status::Refused, "refused ChainTooLong long\n"),
-    ] {
-        let octets = of_one_node(alloc, chain_of(alloc, count)?.as_str())?;
-        is_compiled(&rt, alloc, octets, status, output)?;
-    }
-    Ok(())
+    let refused = "refused ChainTooLong long\n";
+    has_services(&rt, rt.alloc(), 15, Status::Done, ONE_TEXT)?;
+    has_services(&rt, rt.alloc(), 16, Status::Refused, refused)
 }
 
 #[test]
@@ -87,9 +94,8 @@ fn as_many_octets_as_the_limit_are_read(rt: HostRuntime) -> Result<(), Fail> {
     is_compiled(&rt, rt.alloc(), spaces, Status::NotJson, "not json\n")
 }
 
-/// 128 unrelated networks of one subnet, and 8 ports in each.
-fn at_the_limits(alloc: Global) -> Result<Vec<u8>, AllocError> {
-    let mut networks = String::new(alloc);
+/// 128 unrelated networks of one subnet.
+fn networks_written(networks: &mut String) -> Result<(), AllocError> {
     for network in 1..=128u32 {
         let comma = if network == 1 { "" } else { "," };
         write!(
@@ -97,7 +103,11 @@ fn at_the_limits(alloc: Global) -> Result<Vec<u8>, AllocError> {
             r#"{comma}{{"name":"w{network}","id":{network},"subnets":["10.0.0.0/24"]}}"#
         )?;
     }
-    let mut ports = String::new(alloc);
+    Ok(())
+}
+
+/// 8 ports in each of them.
+fn ports_written(ports: &mut String) -> Result<(), AllocError> {
     for port in 0..1024u32 {
         let comma = if port == 0 { "" } else { "," };
         let network = 1 + port / 8;
@@ -107,6 +117,15 @@ fn at_the_limits(alloc: Global) -> Result<Vec<u8>, AllocError> {
             r#"{comma}{{"name":"p{port}","id":{port},"network":"w{network}","address":"10.0.0.{host}","node":"n1"}}"#
         )?;
     }
+    Ok(())
+}
+
+/// A document of both.
+fn at_the_limits(alloc: Global) -> Result<Vec<u8>, AllocError> {
+    let mut networks = String::new(alloc);
+    networks_written(&mut networks)?;
+    let mut ports = String::new(alloc);
+    ports_written(&mut ports)?;
     let configuration = format!(in alloc; r#"{{"networks":[{networks}],"ports":[{ports}]}}"#)?;
     of_one_node(alloc, configuration.as_str())
 }

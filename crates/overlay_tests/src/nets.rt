@@ -1,6 +1,6 @@
 //! The network that a run leaves.
 use crate::documents::{ACROSS, TWO_NODES};
-use crate::driver::{document, words_of};
+use crate::driver::{document, no_network, words_of};
 use crate::run_cases::{CHAIN_SETTLES, SEVEN_ROUNDS, SIX_ROUNDS};
 use config_model::Event;
 use net_machine::Net;
@@ -49,14 +49,14 @@ fn rounds_leave(
 
 #[test]
 fn six_rounds_that_go_backwards_do_not_settle_a_chain_of_two(rt: HostRuntime) -> Result<(), Fail> {
-    let mut net = None;
-    rounds_leave(&rt, rt.alloc(), SIX_ROUNDS, false, &mut net)
+    let mut nets = no_network(rt.alloc())?;
+    rounds_leave(&rt, rt.alloc(), SIX_ROUNDS, false, &mut nets[0])
 }
 
 #[test]
 fn seven_rounds_that_go_backwards_settle_it(rt: HostRuntime) -> Result<(), Fail> {
-    let mut net = None;
-    rounds_leave(&rt, rt.alloc(), SEVEN_ROUNDS, true, &mut net)
+    let mut nets = no_network(rt.alloc())?;
+    rounds_leave(&rt, rt.alloc(), SEVEN_ROUNDS, true, &mut nets[0])
 }
 
 /// Runs the chain that settles where these writes fail.
@@ -92,8 +92,8 @@ fn is_left(rt: &impl Abort, alloc: Global, net: &mut Option<Net>) -> Result<(), 
 
 #[test]
 fn the_network_that_took_the_events_is_left(rt: HostRuntime) -> Result<(), Fail> {
-    let mut net = None;
-    is_left(&rt, rt.alloc(), &mut net)
+    let mut nets = no_network(rt.alloc())?;
+    is_left(&rt, rt.alloc(), &mut nets[0])
 }
 
 fn is_not_left(rt: &impl Abort, alloc: Global, net: &mut Option<Net>) -> Result<(), Fail> {
@@ -104,6 +104,6 @@ fn is_not_left(rt: &impl Abort, alloc: Global, net: &mut Option<Net>) -> Result<
 
 #[test]
 fn no_network_is_left_of_a_run_that_fails(rt: HostRuntime) -> Result<(), Fail> {
-    let mut net = None;
-    is_not_left(&rt, rt.alloc(), &mut net)
+    let mut nets = no_network(rt.alloc())?;
+    is_not_left(&rt, rt.alloc(), &mut nets[0])
 }

@@ -115,19 +115,38 @@ fn rows_of(alloc: Global, octets: &[u8], node: &str) -> Result<String, Fail> {
     Ok(rows)
 }
 
+/// The lines of the rows of a node that a command writes of a document.
+fn rows_told(
+    rt: &impl Abort,
+    alloc: Global,
+    word: &str,
+    text: &str,
+    node: &str,
+) -> Result<String, Fail> {
+    let mut sink = MemSink::new(alloc, Vec::new(alloc));
+    let status = written(alloc, word, text, &mut sink)?;
+    assert!(rt; status == Status::Done);
+    rows_of(alloc, sink.taken(), node)
+}
+
+/// The rows that a node shows at the end of the schedule.
+fn rows_shown(rt: &impl Abort, alloc: Global, shown: &Shown) -> Result<String, Fail> {
+    let schedule = document(alloc, shown.topology, shown.opening, shown.events)?;
+    rows_told(rt, alloc, "run", schedule.as_str(), shown.node)
+}
+
+/// The rows that `compile` says it has then.
+fn rows_compiled(rt: &impl Abort, alloc: Global, shown: &Shown) -> Result<String, Fail> {
+    let configured = document(alloc, shown.topology, shown.configuration, "")?;
+    rows_told(rt, alloc, "compile", configured.as_str(), shown.node)
+}
+
 /// A node shows what `compile` says of it.
 fn shows_what_is_compiled(rt: &impl Abort, alloc: Global, shown: &Shown) -> Result<(), Fail> {
-    let schedule = document(alloc, shown.topology, shown.opening, shown.events)?;
-    let mut answers = MemSink::new(alloc, Vec::new(alloc));
-    let ran = written(alloc, "run", schedule.as_str(), &mut answers)?;
-    let configured = document(alloc, shown.topology, shown.configuration, "")?;
-    let mut tables = MemSink::new(alloc, Vec::new(alloc));
-    let compiled = written(alloc, "compile", configured.as_str(), &mut tables)?;
-    assert!(rt; ran == Status::Done && compiled == Status::Done);
-    let rows = rows_of(alloc, answers.taken(), shown.node)?;
-    let asked = rows_of(alloc, tables.taken(), shown.node)?;
+    let rows = rows_shown(rt, alloc, shown)?;
+    let asked = rows_compiled(rt, alloc, shown)?;
     assert!(rt; !rows.is_empty());
-    assert_eq!(rt; rows.as_str(), asked.as_str());
+    assert!(rt; rows.as_str() == asked.as_str(), "{rows}");
     Ok(())
 }
 

@@ -3,16 +3,23 @@ ghost use Rattle.std.specs.Prelude.{◌≡◌, None, Some};
 
 use net_machine::Net;
 
+/// A value is put in a place, and what was there is let go.
+fn put<T: Drop>(place: &mut T, value: T)
+    ensures { place.new ≡ value }
+{
+    *place = value;
+}
+
 /// Leaves no network.
 pub fn leave_none(net: &mut Option<Net>)
     ensures { net.new ≡ None }
 {
-    *net = None;
+    put(net, None);
 }
 
 /// Leaves a network.
 pub(crate) fn leave(net: &mut Option<Net>, took: Net)
     ensures { net.new ≡ Some took }
 {
-    *net = Some(took);
+    put(net, Some(took));
 }

@@ -22,38 +22,72 @@ fn entry(len: u8) -> Entry {
     }
 }
 
+fn set(rt: &impl Abort, fib: &mut Fib, len: u8)
+    requires { len ≤ 32 }
+{
+    fib.set(prefix(rt, len), entry(len)).expect(rt, "memory");
+}
+
+/// The row of an address is that of the prefix of this length.
+fn leads(rt: &impl Abort, fib: &Fib, address: Addr, len: u8) {
+    assert!(rt; fib.lookup(address) == Some(entry(len)), "to bit {len}");
+}
+
+/// Each prefix leads the addresses that are in it and in none that is longer.
+fn lead_to_the_last_common_bit(rt: &impl Abort, fib: &Fib) {
+    for bit in 0..32u8 {
+        leads(rt, fib, Addr(ADDRESS ^ (0x8000_0000 >> bit)), bit);
+    }
+}
+
 fn take_the_longest(rt: &impl Abort, fib: &mut Fib) {
     for len in 0..33 {
-        fib.set(prefix(rt, len), entry(len)).expect(rt, "memory");
+        set(rt, fib, len);
     }
-    for bit in 0..32u8 {
-        let other = Addr(ADDRESS ^ (0x8000_0000 >> bit));
-        assert!(rt; fib.lookup(other) == Some(entry(bit)), "to bit {bit}");
-    }
+    lead_to_the_last_common_bit(rt, fib);
+    remove_the_longest_first(rt, fib);
+    assert!(rt; fib.lookup(Addr(ADDRESS)).is_none());
+}
+
+fn remove_the_longest_first(rt: &impl Abort, fib: &mut Fib) {
     for len in (0..33).rev() {
-        assert!(rt; fib.lookup(Addr(ADDRESS)) == Some(entry(len)), "{len}");
+        leads(rt, fib, Addr(ADDRESS), len);
         fib.remove(&prefix(rt, len));
     }
-    assert!(rt; fib.lookup(Addr(ADDRESS)).is_none());
+}
+
+fn has_routes(rt: &impl Abort, fib: &Fib, count: usize) {
+    let routes = fib.routes().expect(rt, "memory");
+    assert!(rt; routes.len() == count);
+}
+
+fn remove(rt: &impl Abort, fib: &mut Fib, len: u8)
+    requires { len ≤ 32 }
+{
+    let gone = prefix(rt, len);
+    assert!(rt; fib.get(&gone) == Some(entry(len)), "{len}");
+    fib.remove(&gone);
+    assert!(rt; fib.get(&gone).is_none(), "{len}");
+}
+
+fn remove_the_shortest_first(rt: &impl Abort, fib: &mut Fib) {
+    for len in 0..33 {
+        remove(rt, fib, len);
+        let longest = if len < 32 { Some(entry(32)) } else { None };
+        assert!(rt; fib.lookup(Addr(ADDRESS)) == longest, "{len}");
+    }
 }
 
 /// The same prefixes, the longest first, and removed from the shortest on.
 fn keep_the_longer(rt: &impl Abort, fib: &mut Fib) {
     for len in (0..33).rev() {
-        fib.set(prefix(rt, len), entry(len)).expect(rt, "memory");
+        set(rt, fib, len);
     }
-    let routes = fib.routes().expect(rt, "memory");
-    assert!(rt; routes.len() == 33);
-    for len in 0..33 {
-        assert!(rt; fib.get(&prefix(rt, len)) == Some(entry(len)), "{len}");
-        fib.remove(&prefix(rt, len));
-        assert!(rt; fib.get(&prefix(rt, len)).is_none(), "{len}");
-        let longest = if len < 32 { Some(entry(32)) } else { None };
-        assert!(rt; fib.lookup(Addr(ADDRESS)) == longest, "{len}");
-    }
-    assert!(rt; fib.routes().expect(rt, "memory").is_empty());
-    fib.set(prefix(rt, 8), entry(8)).expect(rt, "memory");
-    assert!(rt; fib.lookup(Addr(ADDRESS)) == Some(entry(8)));
+    has_routes(rt, fib, 33);
+    remove_the_shortest_first(rt, fib);
+    has_routes(rt, fib, 0);
+    set(rt, fib, 8);
+    leads(rt, fib, Addr(ADDRESS), 8);
 }
 
 #[test]

@@ -3,12 +3,12 @@ ghost use Rattle.item_wire.specs.declared.event.ItemState.TheVariants.{Idle};
 
 use item_wire::{Item, ItemCause, ItemFrom, ItemSession, ItemState};
 use node_items::{
-    down_change, greet, hear, low_change, spell_down, spell_low, spell_up, up_change,
+    Heard, down_change, greet, hear, low_change, spell_down, spell_low, spell_up, up_change,
 };
 use ov_sync::Delta;
 use ov_types::{
-    Addr, DownKey, DownValue, Entry, InstanceId, Label, LowKey, LowValue, Name, PortNo, Prefix,
-    UpKey,
+    Addr, DownKey, DownValue, Entry, InstanceId, Items, Label, LowKey, LowValue, Name, PortNo,
+    Prefix, UpKey,
 };
 use std::alloc::Global;
 use std::process::Abort;
@@ -43,15 +43,20 @@ fn publication() -> Item {
     }
 }
 
+/// The only reply is a hello.
+fn is_a_hello(rt: &impl Abort, replies: &[Items<u8>]) {
+    match replies {
+        [reply] => assert!(rt; reply.as_slice() == HELLO),
+        _ => assert!(rt; false, "another number of replies"),
+    }
+}
+
 fn be_greeted(rt: &impl Abort, alloc: Global, session: &mut ItemSession)
     requires { session.old.state ≡ Idle }
 {
     let replies = greet(alloc, session, &node(rt, "c1")).expect(rt, "memory");
+    is_a_hello(rt, replies.as_slice());
     assert!(rt; session.state() == ItemState::Opened);
-    assert!(rt; replies.as_slice().len() == 1);
-    for reply in replies.as_slice() {
-        assert!(rt; reply.as_slice() == HELLO);
-    }
 }
 
 #[test]
@@ -60,11 +65,19 @@ fn a_node_greets(rt: HostRuntime) {
     be_greeted(&rt, rt.alloc(), &mut session);
 }
 
+/// The publication was heard, and nothing else.
+fn is_a_publication(rt: &impl Abort, heard: &Heard) {
+    match heard.records.as_slice() {
+        [record] => assert!(rt; *record == publication()),
+        _ => assert!(rt; false, "another number of records"),
+    }
+    assert!(rt; heard.cause.is_none());
+}
+
 fn hear_both(rt: &impl Abort, alloc: Global, session: &mut ItemSession) {
     let _hello = session.opened();
     let heard = hear(alloc, session, HELLO_AND_PUBLICATION).expect(rt, "memory");
-    assert!(rt; heard.records.as_slice() == [publication()].as_slice());
-    assert!(rt; heard.cause.is_none());
+    is_a_publication(rt, &heard);
     assert!(rt; session.state() == ItemState::Up);
 }
 
@@ -72,6 +85,12 @@ fn hear_both(rt: &impl Abort, alloc: Global, session: &mut ItemSession) {
 fn a_hello_and_a_publication_are_heard(rt: HostRuntime) {
     let mut session = ItemSession::new(node(&rt, "c1"), ItemFrom::Agent);
     hear_both(&rt, rt.alloc(), &mut session);
+}
+
+/// No record was heard, for this cause.
+fn has_cause(rt: &impl Abort, heard: &Heard, cause: ItemCause) {
+    assert!(rt; heard.records.is_empty());
+    assert!(rt; heard.cause == Some(cause));
 }
 
 fn go_down(
@@ -83,8 +102,7 @@ fn go_down(
 ) {
     let _hello = session.opened();
     let heard = hear(alloc, session, octets).expect(rt, "memory");
-    assert!(rt; heard.records.is_empty());
-    assert!(rt; heard.cause == Some(cause));
+    has_cause(rt, &heard, cause);
     assert!(rt; session.state() == ItemState::Idle);
 }
 
@@ -101,18 +119,31 @@ fn what_is_wrong_takes_a_session_down(rt: HostRuntime) {
     }
 }
 
-#[test]
-fn items_are_changes(rt: HostRuntime) {
+fn be_a_publication(rt: &impl Abort) {
     let published = Delta::Put(UpKey::Publish(InstanceId(1), host()), Label(23));
     assert!(rt; up_change(publication()) == Some(published));
+}
+
+fn be_a_route_that_goes(rt: &impl Abort) {
     let routed = Item::Unroute {
         instance: InstanceId(1),
         prefix: host(),
     };
+    let change = down_change(routed);
     let route = Delta::Drop(DownKey::Route(InstanceId(1), host()));
-    assert!(rt; down_change(routed) == Some(route));
-    let gone = Item::NoAttach { label: Label(23) };
-    assert!(rt; low_change(gone) == Some(Delta::Drop(LowKey::Attach(23))));
+    assert!(rt; change == Some(route));
+}
+
+fn be_a_label_that_goes(rt: &impl Abort) {
+    let change = low_change(Item::NoAttach { label: Label(23) });
+    assert!(rt; change == Some(Delta::Drop(LowKey::Attach(23))));
+}
+
+#[test]
+fn items_are_changes(rt: HostRuntime) {
+    be_a_publication(&rt);
+    be_a_route_that_goes(&rt);
+    be_a_label_that_goes(&rt);
 }
 
 #[test]

@@ -56,13 +56,19 @@ fn packet(destination: u32, proto: u8, dport: u16) -> Packet {
     }
 }
 
-fn denied(position: u16) -> Verdict {
-    let rule = RuleNo {
+const DENIED_BY_1: Verdict = Verdict::Denied {
+    rule: Some(RuleNo {
         sequence: 10,
-        position,
-    };
-    Verdict::Denied { rule: Some(rule) }
-}
+        position: 1,
+    }),
+};
+
+const DENIED_BY_9: Verdict = Verdict::Denied {
+    rule: Some(RuleNo {
+        sequence: 10,
+        position: 9,
+    }),
+};
 
 /// Three lists of red: to blue, to green, whose network has blue's addresses in it, and within red.
 fn fill(rt: &impl Abort, alloc: Global, acls: &mut Acls) {
@@ -80,30 +86,38 @@ fn fill(rt: &impl Abort, alloc: Global, acls: &mut Acls) {
     acls.set(RED, RED, within).expect(rt, "memory");
 }
 
+/// A packet's destination, its protocol and its port, and what the lists of red say of it.
+type Line = (u32, u8, u16, Verdict);
+
+const LINES: [Line; 9] = [
+    (0x0a02_0002, 6, 21, Verdict::Pass),
+    (0x0a02_0002, 6, 22, DENIED_BY_1),
+    (0x0a02_0002, 6, 23, DENIED_BY_1),
+    (0x0a02_0002, 6, 24, Verdict::Pass),
+    (0x0a02_0002, 17, 22, Verdict::Enter(InstanceId(16384))),
+    (0x0a02_0002, 1, 22, Verdict::Denied { rule: None }),
+    (0x0a01_0009, 1, 22, Verdict::Pass),
+    (0x0a02_0100, 6, 80, DENIED_BY_9),
+    (0x0a03_0001, 6, 80, Verdict::NoDestination),
+];
+
+/// Red's lists say this, and blue has none.
+fn decides(rt: &impl Abort, acls: &Acls, line: &Line) {
+    let (destination, proto, dport, verdict) = *line;
+    let packet = packet(destination, proto, dport);
+    let said = evaluate(acls, RED, &packet);
+    assert!(rt; said == verdict, "{destination} {proto} {dport}");
+    assert!(rt; evaluate(acls, BLUE, &packet) == Verdict::NoDestination);
+}
+
 fn decide_by_the_least(rt: &impl Abort, alloc: Global, acls: &mut Acls) {
     fill(rt, alloc, acls);
-    let enters = Verdict::Enter(InstanceId(16384));
-    for (destination, proto, dport, verdict) in [
-        (0x0a02_0002, 6, 21, Verdict::Pass),
-        (0x0a02_0002, 6, 22, denied(1)),
-        (0x0a02_0002, 6, 23, denied(1)),
-        (0x0a02_0002, 6, 24, Verdict::Pass),
-        (0x0a02_0002, 17, 22, enters),
-        (0x0a02_0002, 1, 22, Verdict::Denied { rule: None }),
-        (0x0a01_0009, 1, 22, Verdict::Pass),
-        (0x0a02_0100, 6, 80, denied(9)),
-        (0x0a03_0001, 6, 80, Verdict::NoDestination),
-    ] {
-        let packet = packet(destination, proto, dport);
-        assert!(rt;
-            evaluate(acls, RED, &packet) == verdict,
-            "{destination} {proto} {dport}"
-        );
-        assert!(rt; evaluate(acls, BLUE, &packet) == Verdict::NoDestination);
+    for line in &LINES {
+        decides(rt, acls, line);
     }
     acls.remove(RED, BLUE);
     let to_green = evaluate(acls, RED, &packet(0x0a02_0002, 6, 80));
-    assert!(rt; to_green == denied(9));
+    assert!(rt; to_green == DENIED_BY_9);
 }
 
 #[test]

@@ -241,16 +241,21 @@ fn reason(outcome: &Outcome) -> Option<Why> {
     }
 }
 
-/// The hops are these, and the packet arrives at a port past these services.
-fn arrived(rt: &impl Abort, trace: &Trace, to: u32, visited: &[ServiceNo], hops: &[Hop]) {
-    assert!(rt; trace.hops.as_slice() == hops);
-    match &trace.outcome {
+/// The packet arrives at a port past these services.
+fn delivered(rt: &impl Abort, outcome: &Outcome, to: u32, visited: &[ServiceNo]) {
+    match outcome {
         Outcome::Delivered { port, services } => {
             assert!(rt; port.0 == to);
             assert!(rt; services.as_slice() == visited);
         }
         Outcome::Dropped { .. } => assert!(rt; false, "dropped"),
     }
+}
+
+/// The hops are these, and the packet arrives at a port past these services.
+fn arrived(rt: &impl Abort, trace: &Trace, to: u32, visited: &[ServiceNo], hops: &[Hop]) {
+    assert!(rt; trace.hops.as_slice() == hops);
+    delivered(rt, &trace.outcome, to, visited);
 }
 
 fn pass_the_chain(rt: &impl Abort, agents: &mut [Agent]) {
@@ -271,16 +276,16 @@ fn both_packets_pass_the_chain(rt: HostRuntime) {
     pass_the_chain(&rt, &mut [one, two]);
 }
 
+/// The packet is dropped for this reason after so many hops.
+fn dropped(rt: &impl Abort, trace: &Trace, why: Why, hops: usize) {
+    assert!(rt; trace.hops.as_slice().len() == hops, "{hops}");
+    assert!(rt; reason(&trace.outcome) == Some(why), "{hops}");
+}
+
 fn be_dropped(rt: &impl Abort, agents: &mut [Agent]) {
-    for (source, destination, why, lookups) in [
-        (2, 0x0a02_0002, Why::NoSourcePort, 0),
-        (1, 0x0a03_0001, Why::NoDestination, 0),
-        (1, 0x0a02_0002, Why::NoLabel, 2),
-    ] {
-        let trace = follow(agents, source, destination);
-        assert!(rt; trace.hops.as_slice().len() == lookups, "{lookups}");
-        assert!(rt; reason(&trace.outcome) == Some(why), "{lookups}");
-    }
+    dropped(rt, &follow(agents, 2, 0x0a02_0002), Why::NoSourcePort, 0);
+    dropped(rt, &follow(agents, 1, 0x0a03_0001), Why::NoDestination, 0);
+    dropped(rt, &follow(agents, 1, 0x0a02_0002), Why::NoLabel, 2);
 }
 
 #[test]
@@ -313,19 +318,27 @@ fn begin_at_the_first(rt: &impl Abort, agents: &mut [Agent], is_known: bool) {
     }
 }
 
+/// Ports 1 and 9 of red.
+fn fill_own(rt: &impl Abort, alloc: Global, agent: &mut Agent) {
+    agent.attach(17, port(1, 1)).expect(rt, "memory");
+    agent.attach(19, port(9, 1)).expect(rt, "memory");
+    agent.enter(rt, alloc, 1, 1, 0x0a01_0000, 16384);
+    agent.table(rt, alloc, 1, OWN);
+}
+
+/// The agent that knows its network is the first, or the second.
+fn begin_with(rt: &impl Abort, alloc: Global, is_known: bool) {
+    let (mut one, mut two) = (Agent::new(alloc, N1), Agent::new(alloc, N2));
+    fill_own(rt, alloc, &mut one);
+    two.attach(17, port(1, 1)).expect(rt, "memory");
+    let mut agents = if is_known { [one, two] } else { [two, one] };
+    begin_at_the_first(rt, &mut agents, is_known);
+}
+
 #[test]
 fn a_packet_begins_at_the_first_agent_with_its_port(rt: HostRuntime) {
-    for is_known in [true, false] {
-        let alloc = rt.alloc();
-        let (mut one, mut two) = (Agent::new(alloc, N1), Agent::new(alloc, N2));
-        one.attach(17, port(1, 1)).expect(&rt, "memory");
-        one.attach(19, port(9, 1)).expect(&rt, "memory");
-        one.enter(&rt, alloc, 1, 1, 0x0a01_0000, 16384);
-        one.table(&rt, alloc, 1, OWN);
-        two.attach(17, port(1, 1)).expect(&rt, "memory");
-        let mut agents = if is_known { [one, two] } else { [two, one] };
-        begin_at_the_first(&rt, &mut agents, is_known);
-    }
+    begin_with(&rt, rt.alloc(), true);
+    begin_with(&rt, rt.alloc(), false);
 }
 
 /// The service's other side leads back to the circuit in front of it.
@@ -333,26 +346,28 @@ const ROUND: Routes = &[(0x0a02_0000, 24, N1, 557_057)];
 
 const AND_ROUND: Routes = &[(0x0a02_0000, 24, N1, 557_058)];
 
+fn fill_round(rt: &impl Abort, alloc: Global, agent: &mut Agent) {
+    agent.attach(17, port(1, 1)).expect(rt, "memory");
+    agent
+        .attach(557_057, circuit(32_769, 1))
+        .expect(rt, "memory");
+    agent
+        .attach(557_058, circuit(32_770, 1))
+        .expect(rt, "memory");
+    agent.enter(rt, alloc, 1, 2, 0x0a02_0000, 16384);
+    agent.table(rt, alloc, 16384, ROUND);
+    agent.table(rt, alloc, 16385, AND_ROUND);
+}
+
 fn go_round(rt: &impl Abort, agents: &mut [Agent]) {
     let trace = follow(agents, 1, 0x0a02_0002);
-    assert!(rt; trace.hops.as_slice().len() == 64);
     assert!(rt; trace.hops.as_slice().last().copied() == Some(hop(N1, 16385)));
-    assert!(rt; reason(&trace.outcome) == Some(Why::TtlExpired));
+    dropped(rt, &trace, Why::TtlExpired, 64);
 }
 
 #[test]
 fn no_packet_has_more_than_64_lookups(rt: HostRuntime) {
-    let alloc = rt.alloc();
-    let mut agent = Agent::new(alloc, N1);
-    agent.attach(17, port(1, 1)).expect(&rt, "memory");
-    agent
-        .attach(557_057, circuit(32_769, 1))
-        .expect(&rt, "memory");
-    agent
-        .attach(557_058, circuit(32_770, 1))
-        .expect(&rt, "memory");
-    agent.enter(&rt, alloc, 1, 2, 0x0a02_0000, 16384);
-    agent.table(&rt, alloc, 16384, ROUND);
-    agent.table(&rt, alloc, 16385, AND_ROUND);
+    let mut agent = Agent::new(rt.alloc(), N1);
+    fill_round(&rt, rt.alloc(), &mut agent);
     go_round(&rt, &mut [agent]);
 }

@@ -93,6 +93,20 @@ fn check_reply(rt: &impl Abort, alloc: Global, replies: &Items<Items<u8>>, wante
     }
 }
 
+/// So many changes were heard, and the replies are this one message, or none.
+fn brings(
+    rt: &impl Abort,
+    alloc: Global,
+    heard: &Heard,
+    changes: usize,
+    wanted: Option<&str>,
+    cause: Option<Cause>,
+) {
+    assert!(rt; heard.changes.len() == changes);
+    check_reply(rt, alloc, &heard.replies, wanted);
+    assert!(rt; heard.cause == cause);
+}
+
 fn be_greeted(rt: &impl Abort, alloc: Global, session: &mut Session)
     requires system { session.old.asn ≡ 64512 }
     requires idle { session.old.state ≡ Idle }
@@ -115,16 +129,22 @@ const OWN_OPEN_IN_A_WIDE_AS: &str =
 const OPEN_IN_A_WIDE_AS: &str =
     "M 002b 01 04 5ba0 0000 c0000202 0e 020c 0104 00010080 4104 fa56ea00";
 
+fn hear_an_open_in_a_wide_as(rt: &impl Abort, alloc: Global, session: &mut Session)
+    requires { session.old.asn ≡ 4200000000 }
+{
+    let open = octets(rt, alloc, OPEN_IN_A_WIDE_AS);
+    let heard = hear(alloc, session, 4_200_000_000, ME, open.as_slice()).expect(rt, "memory");
+    check_reply(rt, alloc, &heard.replies, Some(KEEPALIVE));
+    assert!(rt; heard.cause.is_none());
+}
+
 fn come_up_in_a_wide_as(rt: &impl Abort, alloc: Global, session: &mut Session)
     requires system { session.old.asn ≡ 4200000000 }
     requires idle { session.old.state ≡ Idle }
 {
     let replies = greet(alloc, session, 4_200_000_000, ME).expect(rt, "memory");
     check_reply(rt, alloc, &replies, Some(OWN_OPEN_IN_A_WIDE_AS));
-    let open = octets(rt, alloc, OPEN_IN_A_WIDE_AS);
-    let heard = hear(alloc, session, 4_200_000_000, ME, open.as_slice()).expect(rt, "memory");
-    check_reply(rt, alloc, &heard.replies, Some(KEEPALIVE));
-    assert!(rt; heard.cause.is_none());
+    hear_an_open_in_a_wide_as(rt, alloc, session);
 }
 
 #[test]
@@ -140,9 +160,7 @@ fn come_up(rt: &impl Abort, alloc: Global, session: &mut Session)
     let _hello = greet(alloc, session, 64512, ME).expect(rt, "memory");
     let both = "M 001d 01 04 fc00 0000 c0000202 00 M 0013 04";
     let heard = hear_text(rt, alloc, session, both);
-    check_reply(rt, alloc, &heard.replies, Some(KEEPALIVE));
-    assert!(rt; heard.changes.is_empty());
-    assert!(rt; heard.cause.is_none());
+    brings(rt, alloc, &heard, 0, Some(KEEPALIVE), None);
     assert!(rt; session.state() == State::Established);
 }
 
@@ -152,24 +170,28 @@ fn a_session_comes_up_at_an_open_and_a_keepalive(rt: HostRuntime) {
     come_up(&rt, rt.alloc(), &mut session);
 }
 
+fn is_the_route(rt: &impl Abort, change: &Delta<VpnKey, VpnRoute>) {
+    match change {
+        Delta::Put(key, route) => {
+            assert!(rt; key.rd.0 == 0x0001_c000_020b_0001);
+            assert!(rt; key.prefix == Prefix::host(Addr(0x0a01_0005)));
+            assert!(rt; route.next_hop.0 == 0xc000_020b);
+            assert!(rt; route.label.0 == 23);
+        }
+        Delta::Drop(_) => assert!(rt; false, "a put"),
+    }
+}
+
 fn hear_an_update(rt: &impl Abort, alloc: Global, session: &mut Session)
     requires system { session.old.asn ≡ 64512 }
     requires idle { session.old.state ≡ Idle }
 {
     establish(rt, alloc, session);
     let heard = hear_text(rt, alloc, session, UPDATE);
-    assert!(rt; heard.changes.len() == 1);
     for change in heard.changes.as_slice() {
-        let Delta::Put(key, route) = change else {
-            assert!(rt; false, "a put");
-            return;
-        };
-        assert!(rt; key.rd.0 == 0x0001_c000_020b_0001);
-        assert!(rt; key.prefix == Prefix::host(Addr(0x0a01_0005)));
-        assert!(rt; route.next_hop.0 == 0xc000_020b && route.label.0 == 23);
+        is_the_route(rt, change);
     }
-    check_reply(rt, alloc, &heard.replies, None);
-    assert!(rt; heard.cause.is_none());
+    brings(rt, alloc, &heard, 1, None, None);
     assert!(rt; session.state() == State::Established);
 }
 
@@ -185,9 +207,7 @@ fn hear_numbers_of_four_octets(rt: &impl Abort, alloc: Global, session: &mut Ses
 {
     establish_by(rt, alloc, session, WIDE_OPEN);
     let heard = hear_text(rt, alloc, session, WIDE_UPDATE);
-    assert!(rt; heard.changes.len() == 1);
-    check_reply(rt, alloc, &heard.replies, None);
-    assert!(rt; heard.cause.is_none());
+    brings(rt, alloc, &heard, 1, None, None);
     assert!(rt; session.state() == State::Established);
 }
 
@@ -223,13 +243,12 @@ fn go_down(rt: &impl Abort, alloc: Global, session: &mut Session)
     establish(rt, alloc, session);
     let more = "M 001b 02 0000 0004 40010103 M 0013 04";
     let heard = hear_text(rt, alloc, session, more);
-    check_reply(rt, alloc, &heard.replies, Some("M 0015 03 0306"));
     let fault = WireFault {
         code: 3,
         subcode: 6,
     };
-    assert!(rt; heard.cause == Some(Cause::Wire(fault)));
-    assert!(rt; heard.changes.is_empty());
+    let cause = Some(Cause::Wire(fault));
+    brings(rt, alloc, &heard, 0, Some("M 0015 03 0306"), cause);
     assert!(rt; session.state() == State::Idle);
 }
 
@@ -268,21 +287,34 @@ fn key(rt: &impl Abort, addr: u32, len: u8) -> VpnKey {
     }
 }
 
-#[test]
-fn changes_are_spelled(rt: HostRuntime) {
-    let alloc = rt.alloc();
+/// What was spelled are these octets.
+fn is_spelled(rt: &impl Abort, alloc: Global, spelled: &[u8], text: &str) {
+    let wanted = octets(rt, alloc, text);
+    assert!(rt; spelled == wanted.as_slice());
+}
+
+fn spell_a_put(rt: &impl Abort, alloc: Global) {
     let route = VpnRoute {
         next_hop: Addr(0xc000_020b),
         label: Label(23),
         targets: Targets::new(alloc),
     };
-    let change = Delta::Put(key(&rt, 0x0a01_0000, 16), route);
-    let put = spell(alloc, &change).expect(&rt, "memory");
+    let change = Delta::Put(key(rt, 0x0a01_0000, 16), route);
+    let put = spell(alloc, &change).expect(rt, "memory");
     let wanted = "M 0047 02 0000 0030 40010100 400200 40050400000064
         800e1f 000180 0c 0000000000000000 c000020b 00 68 000171 0001c000020b0001 0a01";
-    assert!(rt; put.as_slice() == octets(&rt, alloc, wanted).as_slice());
-    let change = Delta::Drop(key(&rt, 0x0a01_0005, 32));
-    let gone = spell(alloc, &change).expect(&rt, "memory");
+    is_spelled(rt, alloc, put.as_slice(), wanted);
+}
+
+fn spell_a_drop(rt: &impl Abort, alloc: Global) {
+    let change = Delta::Drop(key(rt, 0x0a01_0005, 32));
+    let gone = spell(alloc, &change).expect(rt, "memory");
     let wanted = "M 002d 02 0000 0016 800f13 000180 78 800000 0001c000020b0001 0a010005";
-    assert!(rt; gone.as_slice() == octets(&rt, alloc, wanted).as_slice());
+    is_spelled(rt, alloc, gone.as_slice(), wanted);
+}
+
+#[test]
+fn changes_are_spelled(rt: HostRuntime) {
+    spell_a_put(&rt, rt.alloc());
+    spell_a_drop(&rt, rt.alloc());
 }

@@ -3,6 +3,7 @@ ghost use Rattle.std.specs.Prelude.{◌≡◌, ◌<◌};
 use ov_types::{Addr, Label, Rd};
 use path_select::{Path, Steps, better, select, select_counted};
 use std::marker::Brand;
+use std::process::Abort;
 use std::sync::ledger::{Blank, Ledger};
 
 fn path(next_hop: u32, label: u32, rd: u64, session: u16) -> Path {
@@ -27,6 +28,20 @@ fn counted<L: Ledger>(paths: &[Path], blank: Blank) -> Option<usize>
 /// Which of the first so many paths of the test is selected.
 const WANTED: [Option<usize>; 6] = [None, Some(0), Some(1), Some(2), Some(3), Some(3)];
 
+/// This is selected, also where steps are counted.
+fn is_selected(rt: &impl Abort, paths: &[Path], want: Option<usize>) {
+    assert!(rt; select(paths) == want);
+    assert!(rt; counted::<Brand>(paths, Blank::new(1)) == want);
+}
+
+fn select_of_some(rt: &impl Abort, paths: &[Path; 5]) {
+    for count in 0..paths.len() + 1 {
+        is_selected(rt, &paths[..count], WANTED[count]);
+    }
+    assert!(rt; better(&paths[1], &paths[0]));
+    assert!(rt; !better(&paths[3], &paths[4]));
+}
+
 #[test]
 fn the_first_of_the_least_is_selected(rt: HostRuntime) {
     let paths = [
@@ -36,11 +51,5 @@ fn the_first_of_the_least_is_selected(rt: HostRuntime) {
         path(1, 1, 1, 9),
         path(1, 1, 1, 9),
     ];
-    for count in 0..paths.len() + 1 {
-        assert!(rt; select(&paths[..count]) == WANTED[count], "{count}");
-        let counted = counted::<Brand>(&paths[..count], Blank::new(1));
-        assert!(rt; counted == WANTED[count], "{count}");
-    }
-    assert!(rt; better(&paths[1], &paths[0]));
-    assert!(rt; !better(&paths[3], &paths[4]));
+    select_of_some(&rt, &paths);
 }

@@ -46,8 +46,8 @@ fn network(rt: &impl Abort, alloc: Global, imports: &[u16]) -> LowValue {
     }
 }
 
-/// A line for each row and each key that the withdrawal touches.
-fn touch_a_chain(rt: &impl Abort, alloc: Global, tables: &mut VpnTables) {
+/// The chain, with the port of network 2 at the peer.
+fn chain_to_a_port(rt: &impl Abort, alloc: Global, tables: &mut VpnTables) {
     let (left, right) = (subnet(rt, 0x0a01_0000), subnet(rt, 0x0a02_0000));
     chain(rt, alloc, tables, left, right);
     let fed = tables.set_low(Delta::Put(LowKey::Instance(2), network(rt, alloc, &[2])));
@@ -55,17 +55,45 @@ fn touch_a_chain(rt: &impl Abort, alloc: Global, tables: &mut VpnTables) {
     lead_right(rt, alloc, tables, right);
     let told = tables.set_peer_route(1, to_right_port(rt, alloc));
     told.expect(rt, "memory");
-    let mut text = String::new(alloc);
-    let withdrawal = Delta::Drop(right_port());
-    let rows = tables.touched_by_route(1, &withdrawal).expect(rt, "memory");
+}
+
+/// A line for each row that a change touches.
+fn rows_written(
+    rt: &impl Abort,
+    text: &mut String,
+    tables: &VpnTables,
+    change: &Delta<VpnKey, VpnRoute>,
+) {
+    let rows = tables.touched_by_route(1, change).expect(rt, "memory");
     for (instance, prefix) in &rows {
         writeln!(text, "{} {prefix}", instance.0).expect(rt, "memory");
     }
-    let targets = tables.targets_by_route(1, &withdrawal).expect(rt, "memory");
-    let keys = tables.keys_led(targets.as_slice()).expect(rt, "memory");
+}
+
+/// A line for each key towards peers that these targets lead.
+fn keys_written(rt: &impl Abort, text: &mut String, tables: &VpnTables, targets: &[Target]) {
+    let keys = tables.keys_led(targets).expect(rt, "memory");
     for key in &keys {
         writeln!(text, "{} {}", key.rd, key.prefix).expect(rt, "memory");
     }
+}
+
+/// A line for each row and each key that a change touches.
+fn touched_written(
+    rt: &impl Abort,
+    text: &mut String,
+    tables: &VpnTables,
+    change: &Delta<VpnKey, VpnRoute>,
+) {
+    rows_written(rt, text, tables, change);
+    let targets = tables.targets_by_route(1, change).expect(rt, "memory");
+    keys_written(rt, text, tables, targets.as_slice());
+}
+
+fn touch_a_chain(rt: &impl Abort, alloc: Global, tables: &mut VpnTables) {
+    chain_to_a_port(rt, alloc, tables);
+    let mut text = String::new(alloc);
+    touched_written(rt, &mut text, tables, &Delta::Drop(right_port()));
     let want = "2 10.2.0.2/32\n\
 16386 10.2.0.2/32\n\
 16384 10.1.0.0/24\n\
@@ -125,15 +153,19 @@ fn change(tables: &mut Tables) -> Result<(), NoMemory> {
     Ok(())
 }
 
+/// A line for each row of a network.
+fn table_written(rt: &impl Abort, text: &mut String, tables: &Tables, number: u16) {
+    let rows = tables.table(InstanceId(number)).expect(rt, "memory");
+    for (prefix, row) in &rows {
+        writeln!(text, "{number} {prefix} {row}").expect(rt, "memory");
+    }
+}
+
 /// The tables of both networks.
 fn are_left(rt: &impl Abort, alloc: Global, tables: &Tables) {
     let mut text = String::new(alloc);
-    for number in [1, 2] {
-        let rows = tables.table(InstanceId(number)).expect(rt, "memory");
-        for (prefix, row) in &rows {
-            writeln!(text, "{number} {prefix} {row}").expect(rt, "memory");
-        }
-    }
+    table_written(rt, &mut text, tables, 1);
+    table_written(rt, &mut text, tables, 2);
     let want = "1 10.1.0.1/32 192.0.2.11:1 192.0.2.11 17\n\
 1 10.1.0.2/32 192.0.2.11:1 192.0.2.11 18\n\
 2 10.1.0.1/32 192.0.2.11:1 192.0.2.11 17\n\
@@ -141,22 +173,34 @@ fn are_left(rt: &impl Abort, alloc: Global, tables: &Tables) {
     assert!(rt; text.as_str() == want, "{text}");
 }
 
-fn leave_the_same(rt: &impl Abort, alloc: Global, counted: &mut Tables, plain: &mut Tables) {
-    relate(rt, alloc, counted);
-    let changed = change_counted::<Brand>(counted, Blank::new(1));
-    changed.expect(rt, "memory");
-    are_left(rt, alloc, counted);
-    relate(rt, alloc, plain);
-    change(plain).expect(rt, "memory");
-    are_left(rt, alloc, plain);
-    plain.drop_session(2);
-    let rows = plain.table(InstanceId(1)).expect(rt, "memory");
+fn is_empty(rt: &impl Abort, tables: &Tables) {
+    let rows = tables.table(InstanceId(1)).expect(rt, "memory");
     assert!(rt; rows.is_empty());
+}
+
+fn change_by_counted_calls(rt: &impl Abort, alloc: Global, tables: &mut Tables) {
+    relate(rt, alloc, tables);
+    let changed = change_counted::<Brand>(tables, Blank::new(1));
+    changed.expect(rt, "memory");
+    are_left(rt, alloc, tables);
+}
+
+fn change_by_plain_calls(rt: &impl Abort, alloc: Global, tables: &mut Tables) {
+    relate(rt, alloc, tables);
+    change(tables).expect(rt, "memory");
+    are_left(rt, alloc, tables);
+    tables.drop_session(2);
+    is_empty(rt, tables);
 }
 
 #[test]
 fn counted_calls_leave_the_tables_of_plain_calls(rt: HostRuntime) {
-    let mut counted = Tables::new(rt.alloc(), 64512);
-    let mut plain = Tables::new(rt.alloc(), 64512);
-    leave_the_same(&rt, rt.alloc(), &mut counted, &mut plain);
+    let mut tables = Tables::new(rt.alloc(), 64512);
+    change_by_counted_calls(&rt, rt.alloc(), &mut tables);
+}
+
+#[test]
+fn plain_calls_leave_the_same(rt: HostRuntime) {
+    let mut tables = Tables::new(rt.alloc(), 64512);
+    change_by_plain_calls(&rt, rt.alloc(), &mut tables);
 }

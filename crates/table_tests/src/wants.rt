@@ -50,15 +50,31 @@ fn subnets_are_led_into_the_next_place(rt: HostRuntime) {
     tell_led_routes(&rt, rt.alloc(), &mut tables);
 }
 
+/// A line for a route that peers are to be told, which is that of its key alone too.
+fn told_written(
+    rt: &impl Abort,
+    alloc: Global,
+    text: &mut String,
+    tables: &VpnTables,
+    told: (&VpnKey, &VpnRoute),
+) {
+    let (key, route) = told;
+    route_written(rt, text, key, route);
+    let alone = wanted_route(alloc, tables, key).expect(rt, "memory");
+    assert!(rt; alone.as_ref() == Some(route), "{}", key.prefix);
+}
+
+fn all_told_written(rt: &impl Abort, alloc: Global, text: &mut String, tables: &VpnTables) {
+    let wanted = wanted_by_peers(alloc, tables).expect(rt, "memory");
+    for told in &wanted {
+        told_written(rt, alloc, text, tables, told);
+    }
+}
+
 /// Peers are to be told these routes, a line each.
 fn are_told_to_peers(rt: &impl Abort, alloc: Global, tables: &VpnTables, want: &str) {
     let mut text = String::new(alloc);
-    let wanted = wanted_by_peers(alloc, tables).expect(rt, "memory");
-    for (key, route) in &wanted {
-        route_written(rt, &mut text, key, route);
-        let alone = wanted_route(alloc, tables, key).expect(rt, "memory");
-        assert!(rt; alone.is_some_and(|told| told == *route), "{}", key.prefix);
-    }
+    all_told_written(rt, alloc, &mut text, tables);
     assert!(rt; text.as_str() == want, "{text}");
 }
 
@@ -123,36 +139,68 @@ fn the_lower_session_counts(rt: HostRuntime) {
     count_the_lower(&rt, rt.alloc(), &mut tables);
 }
 
-fn entry_written(rt: &impl Abort, text: &mut String, key: &DownKey, value: &DownValue) {
+fn object_written(rt: &impl Abort, text: &mut String, key: &LowKey) {
     let done = match key {
-        DownKey::Slice(LowKey::Attach(label)) => writeln!(text, "label {label}"),
-        DownKey::Slice(LowKey::Acl { from, to }) => writeln!(text, "list {from} {to}"),
-        DownKey::Slice(_) => writeln!(text, "no object of a slice"),
-        DownKey::Route(instance, prefix) => write!(text, "{} {prefix}", instance.0),
+        LowKey::Attach(label) => writeln!(text, "label {label}"),
+        LowKey::Acl { from, to } => writeln!(text, "list {from} {to}"),
+        _ => writeln!(text, "no object of a slice"),
     };
     done.expect(rt, "memory");
+}
+
+fn hop_written(rt: &impl Abort, text: &mut String, value: &DownValue) {
     if let DownValue::Row(entry) = value {
         writeln!(text, " {} {}", entry.next_hop, entry.label).expect(rt, "memory");
     }
 }
 
+fn entry_written(rt: &impl Abort, text: &mut String, key: &DownKey, value: &DownValue) {
+    match key {
+        DownKey::Slice(object) => object_written(rt, text, object),
+        DownKey::Route(instance, prefix) => {
+            write!(text, "{} {prefix}", instance.0).expect(rt, "memory");
+        }
+    }
+    hop_written(rt, text, value);
+}
+
+/// A line for an entry that the agent of session 2 is to be told, which is that of its key alone too.
+fn down_written(
+    rt: &impl Abort,
+    text: &mut String,
+    tables: &VpnTables,
+    told: (&DownKey, &DownValue),
+) {
+    let (key, value) = told;
+    entry_written(rt, text, key, value);
+    let alone = wanted_down(tables, 2, key).expect(rt, "memory");
+    assert!(rt; alone.as_ref() == Some(value), "{text}");
+}
+
+fn all_down_written(rt: &impl Abort, alloc: Global, text: &mut String, tables: &VpnTables) {
+    let wanted = wanted_by_agent(alloc, tables, 2).expect(rt, "memory");
+    for told in &wanted {
+        down_written(rt, text, tables, told);
+    }
+}
+
+/// The agent of session 3 is to be told nothing.
+fn is_told_nothing(rt: &impl Abort, alloc: Global, tables: &VpnTables) {
+    let none = wanted_by_agent(alloc, tables, 3).expect(rt, "memory");
+    assert!(rt; none.is_empty());
+}
+
 fn tell_agents(rt: &impl Abort, alloc: Global, tables: &mut VpnTables) {
     whole(rt, alloc, tables);
     let mut text = String::new(alloc);
-    let wanted = wanted_by_agent(alloc, tables, 2).expect(rt, "memory");
-    for (key, value) in &wanted {
-        entry_written(rt, &mut text, key, value);
-        let alone = wanted_down(tables, 2, key).expect(rt, "memory");
-        assert!(rt; alone.is_some_and(|told| told == *value), "{text}");
-    }
+    all_down_written(rt, alloc, &mut text, tables);
     let want = "label 17\n\
 list 1 2\n\
 16384 10.1.0.1/32 192.0.2.11 17\n\
 16384 10.2.0.0/24 192.0.2.11 557057\n\
 16384 250.0.128.1/32 192.0.2.11 557057\n";
     assert!(rt; text.as_str() == want, "{text}");
-    let none = wanted_by_agent(alloc, tables, 3).expect(rt, "memory");
-    assert!(rt; none.is_empty());
+    is_told_nothing(rt, alloc, tables);
 }
 
 #[test]

@@ -1,4 +1,4 @@
-use Rattle.table_tests.proofs.selection.the_first_of_the_least_is_selected.Given as goal
+use Rattle.table_tests.proofs.selection.is_selected.Given as goal
 
 abbrev pub ghosts-counted : goal.ghosts-counted
 ghosts-counted g a = record { name = a.blank.name; parts = a.blank.parts }
