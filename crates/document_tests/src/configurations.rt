@@ -4,7 +4,7 @@ ghost use Rattle.config_model.specs.Edit.{has_edit_form};
 
 use crate::fault::CaseFault;
 use config_check::{CheckRefusal, EditFault, EditRefusal, Valid, apply_edit, check};
-use config_model::{Config, Edit, read_compile, read_edit};
+use config_model::{Config, Edit, Topology, read_compile, read_edit};
 use ov_io::TextOut;
 use ov_types::NoMemory;
 use serde_json::Value;
@@ -57,14 +57,29 @@ fn push_edited(
     requires { IsTrue (has_edit_form edit.now) }
 {
     match apply_edit(alloc, valid, edit) {
-        Ok(made) => push_config(made.config(), out)?,
+        Ok(made) => push_made(&made, out)?,
         Err(EditRefusal::Edit(fault)) => push_fault(&fault, out)?,
         Err(EditRefusal::NoMemory) => return Err(CaseFault::NoMemory),
     }
     Ok(())
 }
 
-/// The names of networks, and the names and addresses of ports.
+/// The names of networks, and the names and addresses of ports and of compute nodes.
+fn push_made(made: &Valid, out: &mut TextOut) -> Result<(), NoMemory> {
+    push_config(made.config(), out)?;
+    push_nodes(made.topology(), out)
+}
+
+fn push_nodes(topology: &Topology, out: &mut TextOut) -> Result<(), NoMemory> {
+    out.push(b" ")?;
+    for node in topology.nodes.as_slice() {
+        let name = node.name;
+        let address = node.address;
+        write!(out, "{name}@{address},")?;
+    }
+    Ok(())
+}
+
 fn push_config(config: &Config, out: &mut TextOut) -> Result<(), NoMemory> {
     for network in config.networks.as_slice() {
         let name = network.name;

@@ -10,7 +10,7 @@ use Rattle.node_model.specs.Members.{Member}
 use Rattle.node_model.specs.Step.{Idle, Opened}
 use Rattle.network_model.specs.Setup.{Name}
 use Rattle.network_model.specs.Session.{End, Session}
-use Rattle.network_model.specs.Network.{Network}
+use Rattle.network_model.specs.Network.{Network, is_of}
 use Rattle.network_model.specs.Steps.{session_of}
 use Rattle.network_model.specs.Events.{Event, Deliver, DeliverOctets, Lose, Connect, Restart, Show, Break}
 
@@ -33,6 +33,16 @@ pub record IsClosed (e : End) : Type 0 where
   pub sent : e.sent ≡ empty
   pub held : e.held ≡ empty
   pub flight : e.flight ≡ []
+
+-- a session that is down and of which nothing is there
+pub record IsNew (s : Session) : Type 0 where
+  pub down : s.is_down ≡ true
+  pub near : IsClosed s.near
+  pub far : IsClosed s.far
+
+-- where it is one of the agent of this name
+abbrev pub IsNewFor : Name → Session → Type 0
+IsNewFor name s = is_of name s ≡ true → IsNew s
 
 -- ---- events for which there is nothing to do
 -- there is no session of the two nodes, or one that is so

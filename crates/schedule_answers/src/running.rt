@@ -8,6 +8,7 @@ ghost use Rattle.config_ties.specs.Kept.{AreAlike, ties_in};
 ghost use Rattle.headline_laws.specs.Headline.{IsWritten};
 ghost use Rattle.net_model.specs.Stands.{StandsFor};
 ghost use Rattle.network_model.specs.Events.{event_of};
+ghost use Rattle.network_model.specs.Setup.{opening};
 ghost use Rattle.ov_io.specs.Inputs.{TookFront};
 ghost use Rattle.ov_io.specs.Pieces.{HasWriteCause, IsOnItsWay};
 ghost use Rattle.report.specs.Answers.{tied_answer_lines};
@@ -150,7 +151,7 @@ fn run_written<K: Sink>(
 
 /// What a valid configuration is.
 fn know_valid(valid: &Valid)
-    ensures { IsWritten valid.now }
+    ensures { IsWritten (opening valid.now) }
 {
     let _topology = valid.topology();
 }

@@ -1,5 +1,6 @@
-use Rattle.std.specs.Prelude.{◌≡◌, is_some, option_copied, IfSome}
+use Rattle.std.specs.Prelude.{option_copied, IfSome}
 use Rattle.std.proofs.Common.{ap, subst, sym, ◌∙◌}
+use Rattle.quiet_laws.specs.Quiet.{SameButQuiet}
 use Rattle.tied_laws.specs.Runs.{tied_moment}
 use Rattle.net_machine.specs.Looking.{held_at, is_control_node}
 use Rattle.net_machine.specs.NetState.{NetState}
@@ -29,7 +30,7 @@ returns-in-Some-clause-holds c =
     let name = c.args.name.now in
     let w = (tied_moment n.opening n.events).network in
     let found = finds w (run_moment n.opening n.events n.ties n.nodes.seats n.order.items running) n.nodes.seats running.stands name c.in-Some.node (sym c.seat_named.ensures ∙ c.in-Some.is) in
-    subst (λ (n : NetState). IfSome (option_copied c.control.result) (λ node. held_of node ≡ held_at (tied_moment n.opening n.events).network name)) c.self.view_is
+    subst (λ (n : NetState). IfSome (option_copied c.control.result) (λ node. SameButQuiet (held_of node) (held_at (tied_moment n.opening n.events).network name))) c.self.view_is
     (core_is w name (option_copied c.control.result) _ c.control.ensures found).1
 
 pub returns-in-None-clause-found : goal.returns-in-None-clause-found
