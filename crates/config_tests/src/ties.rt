@@ -40,6 +40,7 @@ struct Run {
     ties: Ties,
 }
 
+#[tactic(auto, using(crate::proofs::Forms::nodes_form))]
 fn opened(alloc: Global) -> Option<Run> {
     let value = Value::from_str(alloc, OPENING).ok()?;
     let input = read_compile(alloc, &value).ok()?;

@@ -11,6 +11,7 @@ use serde_json::Value;
 use std::alloc::Global;
 
 /// The first rule that the configuration of a document breaks.
+#[tactic(auto, using(crate::proofs::Forms::nodes_form))]
 pub(crate) fn tell_check(
     alloc: Global,
     document: &str,
@@ -26,6 +27,7 @@ pub(crate) fn tell_check(
     Ok(())
 }
 
+#[tactic(auto, using(crate::proofs::Forms::nodes_form))]
 fn valid_of(alloc: Global, document: &str) -> Result<Valid, CaseFault> {
     let value = Value::from_str(alloc, document)?;
     let input = read_compile(alloc, &value)?;

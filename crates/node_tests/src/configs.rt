@@ -70,6 +70,7 @@ const ALL_MOVED: Messages = &[HELLO, INSTANCE, MOVED, ACL];
 
 type Messages = &'static [&'static [u8]];
 
+#[tactic(auto, using(crate::proofs::Forms::nodes_form))]
 fn valid_of(alloc: Global, text: &str) -> Option<Valid> {
     let value = Value::from_str(alloc, text).ok()?;
     let input = read_compile(alloc, &value).ok()?;
