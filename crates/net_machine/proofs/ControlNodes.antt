@@ -23,7 +23,7 @@ use Rattle.headline_laws.specs.Headline.{IsWritten}
 use Rattle.net_model.specs.Seats.{Configuring, Controlling, Forwarding, Seat, Who, agent_plan, control_plan, name_of, seat}
 use Rattle.net_model.specs.Seats.{seat_named}
 use Rattle.net_model.specs.Stands.{StandsFor}
-use Rattle.net_seats.specs.Cores.{HoldsAs, held_by}
+use Rattle.net_seats.specs.Cores.{HoldsAs, held_by, present}
 use Rattle.seat_laws.specs.Wiring.{HasNumbers, HasSessions}
 use Rattle.seat_laws.proofs.Ends.{Ends, seat_ends}
 use Rattle.seat_laws.proofs.Going.{site_holds}
@@ -140,4 +140,11 @@ pub core_is : (w : Network) (name : Name) (core : Option Core) (held : Option Ho
 core_is w name None None e f = (f.is, tt)
 core_is w name None (Some h) e f = absurd e
 core_is w name (Some c) None e f = absurd e
-core_is w name (Some c) (Some h) e f = (f.is, subst (SameButQuiet (held_of c)) f.holds e)
+core_is w name (Some c) (Some h) e f = (f.is, subst (SameButQuiet (held_of c)) f.holds e.1)
+
+pub core_exact : (w : Network) (name : Name) (core : Option Core) (held : Option Holdings) → HoldsAs core held
+    → Finds w name held → IfSome core (λ c. present c ≡ held_at w name)
+core_exact w name None None e f = tt
+core_exact w name None (Some h) e f = absurd e
+core_exact w name (Some c) None e f = absurd e
+core_exact w name (Some c) (Some h) e f = e.0 ∙ f.holds

@@ -44,9 +44,14 @@ abbrev pub held_by : Who → List Post → Option Holdings
 held_by (Controlling c) posts = Some (controls.holdings c posts)
 held_by who posts = None
 
--- the node holds this, but for agents that told nothing, where it is a control node
+-- what a control node holds of the sessions that are somebody's: of all but those whose numbers are retired
+abbrev pub present : control.Core → Holdings
+present c = controls.holdings (controls_of c.plan) c.posts
+
+-- where the node is a control node, it holds this of the sessions that are somebody's, and all that it holds beside are
+-- agents that told nothing
 abbrev pub HoldsAs : Option control.Core → Option Holdings → Type 0
-HoldsAs (Some c) (Some h) = SameButQuiet (control.holdings c.plan c.posts) h
+HoldsAs (Some c) (Some h) = (present c ≡ h) × SameButQuiet (control.holdings c.plan c.posts) h
 HoldsAs None None = Unit {0}
 HoldsAs _ _ = ⊥
 

@@ -12,15 +12,16 @@ ghost use Rattle.network_model.specs.Moments.{ArePositive, Each, WhereLaidOut};
 ghost use Rattle.network_laws.specs.Settling.{IsCalmed, SettleSettlesIn, SettlesIn, WhereRanked};
 ghost use Rattle.network_laws.specs.Small.{LeavesNodes, small};
 
-/// Where names tell nodes apart, the configuration is of a kind that edits keep, all that is told is of a kind that
-/// wants keep, and all that is wanted is right up to the next rank wherever all that is held is right up to a rank:
-/// from a state in which no session is down and no break is pending, as many rounds as the greatest rank end settled,
-/// and so do more. Every rank is at least 1, between control nodes at least 3.
+/// Where the topology of each moment is laid out, the configuration is of a kind that edits keep, all that is told is of
+/// a kind that wants keep, and all that is wanted is right up to the next rank wherever all that is held is right up to
+/// a rank: from a state in which no session is down and no break is pending, as many rounds as the greatest rank end
+/// settled, and so do more. Every rank is at least 1, between control nodes at least 3.
 pub fn rounds_settle()
     ensures { WhereRanked SettlesIn }
 {}
 
-/// After the first round of `settle` and its connections no session is down, no notice is pending and no break is left.
+/// Where the topology of each moment is laid out, after the first round of `settle` and its connections no session is
+/// down, no notice is pending and no break is left.
 pub fn settling_begins_calm()
     ensures { WhereLaidOut (λ size w. Each IsCalmed (resumed w).sessions) }
 {}

@@ -42,7 +42,8 @@ pub fn nodes_have_told_what_they_want()
     ensures { WhereNamed (λ size w. (n : Name) → NodeHasTold w n) }
 {}
 
-/// At a settled moment, in each direction, what is held is what was sent, and what the sender's holdings want.
+/// Where names tell nodes apart at the start: at a settled moment, in each direction, what is held is what was sent, and
+/// what the sender's holdings want.
 pub fn settled_moments_are_at_rest()
     ensures { WhereNamed (λ size w. is_settled w ≡ true → IsAtRest w) }
 {}
@@ -52,8 +53,8 @@ pub fn sessions_are_those_of_the_topology()
     ensures { WhereLaidOut (λ size w. HasSessions w) }
 {}
 
-/// At each control node the numbers of sessions are of the agents that list it, each once and under its address, or
-/// retired.
+/// There too, at each control node the numbers of sessions are of the agents that list it, each once and under its
+/// address, or retired.
 pub fn numbers_are_of_agents()
     ensures { WhereLaidOut (λ size w. (c : NodeId) → Member c w.setup.topology.controllers
         → NumbersFit w.setup.topology c (agents_of w.setup c.name)) }

@@ -15,14 +15,14 @@ pub fn deliveries_take_what_they_say()
         → in_flight (next size w (Deliver from to n)) from to ≡ in_flight w from to - n) }
 {}
 
-/// A round takes each direction in its turn, in the order of a round: as many messages or notices as were in flight
-/// there when the round began, where they are still there.
+/// Where the topology of each moment is laid out, a round takes each direction in its turn, in the order of a round: as
+/// many messages or notices as were in flight there when the round began, where they are still there.
 pub fn rounds_take_turns()
     ensures { WhereLaidOut (λ size w. IsTakenInTurns size w) }
 {}
 
-/// Where no session is down and no break is pending, it is a round of deliveries, which take of each direction exactly
-/// what was in flight when it began.
+/// There too, where no session is down and no break is pending, it is a round of deliveries, which take of each direction
+/// exactly what was in flight when it began.
 pub fn rounds_are_of_deliveries()
     ensures { WhereLaidOut (λ size w. is_whole w ≡ true → is_unbroken w ≡ true → IsOfDeliveries size w) }
 {}

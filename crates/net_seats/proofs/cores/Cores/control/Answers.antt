@@ -1,4 +1,4 @@
-use Rattle.std.proofs.Common.{◌≡◌, None, Some, length, arith, subst, sym}
+use Rattle.std.proofs.Common.{◌≡◌, None, Some, length, arith, refl, subst, sym}
 use Rattle.net_seats.specs.Cores.{HoldsAs, IsVacated, held_by}
 use Rattle.net_seats.specs.Halves.{Inner}
 use Rattle.net_seats.proofs.Numbers.{agent_is, agent_within, all_there, config_is, control_is, standing_at}
@@ -13,9 +13,11 @@ returns-in-Configuration c =
 pub returns-in-Control : goal.returns-in-Control
 returns-in-Control c =
     subst (λ (n : Inner). HoldsAs (Some c.index.result.now) (held_by n.who n.posts))
-    (sym (control_is c.args.self.now c.self.inside.config c.self.inside.controls.items c.self.inside.agents.items c.args.node c.len.result c.in-Control.place c.self.view_is (omega (arith, c.len.ensures, c.self.inside.controls.ok.0)) c.index.result.now c.in-Control.ensures.number c.in-Control.ensures.within c.index.ensures))
-    (same_but_quiet c.index.result.now.plan c.index.result.now.posts
-    (all_there IsVacated c.self.inside.controls.items c.in-Control.place c.index.result.now c.self.invariant.1 (omega (arith, c.len.ensures, c.self.inside.controls.ok.0, c.in-Control.ensures.within)) c.index.ensures).none)
+    (sym (control_is c.args.self.now c.self.inside.config c.self.inside.controls.items c.self.inside.agents.items c.args.node c.len.result c.in-Control.place c.self.view_is (omega (arith, c.len.ensures, c.self.inside.controls.ok.0)) c.index.result.now c.in-Control.ensures.number c.in-Control.ensures.within c.index.ensures)) (
+      refl,
+      same_but_quiet c.index.result.now.plan c.index.result.now.posts
+          (all_there IsVacated c.self.inside.controls.items c.in-Control.place c.index.result.now c.self.invariant.1 (omega (arith, c.len.ensures, c.self.inside.controls.ok.0, c.in-Control.ensures.within)) c.index.ensures).none,
+    )
 
 pub returns-in-Agent : goal.returns-in-Agent
 returns-in-Agent c =
