@@ -19,7 +19,9 @@ pub mod Apart
 pub mod Asking
 pub mod Numbered
 pub mod Moving
+pub mod Renumbered
 pub mod Calm
+pub mod Telling
 pub mod RoundFact
 pub mod CalmOf
 pub mod Turns

@@ -283,10 +283,10 @@ module _ (t u : Topology) (m : Move) (l : Leaves t u (Some m)) (c : NodeId) (tho
           ] refl
 
 -- ---- at every moment
-abbrev HasEntry : List Numbers → Name → Type 0
+abbrev pub HasEntry : List Numbers → Name → Type 0
 HasEntry ns c = list_any (λ (n : Numbers). same_name n.control c) ns ≡ true
 
-agents_renumbered : (m : Move) (c : Name) (ns : List Numbers) → HasEntry ns c → agents_in (map (renumbered_at m) ns) c ≡ came_at m.now c (without_agent m.name (agents_in ns c))
+pub agents_renumbered : (m : Move) (c : Name) (ns : List Numbers) → HasEntry ns c → agents_in (map (renumbered_at m) ns) c ≡ came_at m.now c (without_agent m.name (agents_in ns c))
 agents_renumbered m c [] h = absurd (true≢false (sym h))
 agents_renumbered m c (n ∷ ns) h =
     elim (same_name n.control c) as (λ b. same_name n.control c ≡ b → (b || list_any (λ (n : Numbers). same_name n.control c) ns) ≡ true
@@ -295,7 +295,7 @@ agents_renumbered m c (n ∷ ns) h =
       | false ↦ λ _ h. agents_renumbered m c ns h
     ] refl h
 
-entry_kept : (m : Move) (c : Name) (ns : List Numbers) → HasEntry ns c → HasEntry (map (renumbered_at m) ns) c
+pub entry_kept : (m : Move) (c : Name) (ns : List Numbers) → HasEntry ns c → HasEntry (map (renumbered_at m) ns) c
 entry_kept m c [] h = h
 entry_kept m c (n ∷ ns) h =
     elim (same_name n.control c) as (λ b. (b || list_any (λ (n : Numbers). same_name n.control c) ns) ≡ true → (b || list_any (λ (n : Numbers). same_name n.control c) (map (renumbered_at m) ns)) ≡ true) [
@@ -363,7 +363,7 @@ module _ (size : Name → Message → ℕ) where
       after_fits (next size w e) es v.1 (next_walk size (Holds LaidAndFit) (holds_steps size LaidAndFit) w e (λ d is q. fits_edits d w (subst (EditIsValid LaidOut w) is v.0) q) q)
 
 -- ---- the start
-start_entries : (c : NodeId) (nodes : List Node) (cs : List NodeId) → Member c cs → HasEntry (first_numbers nodes cs) c.name
+pub start_entries : (c : NodeId) (nodes : List Node) (cs : List NodeId) → Member c cs → HasEntry (first_numbers nodes cs) c.name
 start_entries c nodes cs m = entry cs m
   where
     entry : (cs : List NodeId) → Member c cs → HasEntry (first_numbers nodes cs) c.name

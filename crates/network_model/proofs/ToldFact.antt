@@ -49,7 +49,7 @@ told_touches ms s =
 pub told_from : (ms : List Message) (s t : Session) → Touches s t → Touches s (told ms t)
 told_from ms s t a = alike_trans (turned s) (turned t) (turned (told ms t)) a (told_touches ms t)
 
-passed_touches : (m : Map) (s : Session) → Touches s (passed m s)
+pub passed_touches : (m : Map) (s : Session) → Touches s (passed m s)
 unfolding passed
 passed_touches m s =
     elim (may_send s) as (λ b. Touches s (cond b (told (map Carries (difference s.near.sent m)) (record s { near = record s.near { sent = m } })) s)) [
@@ -177,7 +177,7 @@ module _ (n m : Name) (apart : same_name n m ≡ false) where
 abbrev may_view : View → Bool
 may_view v = may_send_at (are_peers v.role v.other_role) v.phase
 
-alike_views : (ss ts : List Session) → AllAlike ss ts → map view ts ≡ map view ss
+pub alike_views : (ss ts : List Session) → AllAlike ss ts → map view ts ≡ map view ss
 alike_views [] [] a = refl
 alike_views (s ∷ ss) (t ∷ ts) a = λ i. a.0.view i ∷ alike_views ss ts a.1 i
 alike_views [] (t ∷ ts) a = absurd a
@@ -189,7 +189,7 @@ alike_whole (s ∷ ss) (t ∷ ts) a w = (a.0.down w.0, alike_whole ss ts a.1 w.1
 alike_whole [] (t ∷ ts) a w = absurd a
 alike_whole (s ∷ ss) [] a w = absurd a
 
-alike_tells : (x : Setup) (vs : List View) (ss ts : List Session) → AllAlike ss ts → TellsWanted x vs ss → TellsWanted x vs ts
+pub alike_tells : (x : Setup) (vs : List View) (ss ts : List Session) → AllAlike ss ts → TellsWanted x vs ss → TellsWanted x vs ts
 alike_tells x vs [] [] a h = tt
 alike_tells x vs (s ∷ ss) (t ∷ ts) a h =
     ((λ may. a.0.sent ∙ h.0 (ap may_view (sym a.0.view) ∙ may) ∙ ap (wanted x vs) (sym a.0.view)), alike_tells x vs ss ts a.1 h.1)
