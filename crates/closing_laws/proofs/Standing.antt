@@ -9,11 +9,14 @@ use Rattle.std.proofs.lemmas.List.{append_assoc}
 use Rattle.std.proofs.Common.{refl, sym, ◌∙◌, ap, subst, inl, inr}
 use Rattle.ov_types.specs.declared.rows.NodeId.{NodeId}
 use Rattle.config_model.specs.declared.edit.Edit.{Edit}
+use Rattle.config_model.specs.declared.edit.Edit.TheVariants.{Put}
+use Rattle.config_model.specs.declared.edit.Object.TheVariants as Objects
 use Rattle.config_model.specs.declared.topology.Node.{Node}
 use Rattle.config_model.specs.declared.topology.Topology.{Topology}
 use Rattle.config_check.specs.Edits.{edit_fault, edited as checked_edited}
 use Rattle.config_check.specs.declared.edits.EditFault.{EditFault}
 use Rattle.node_model.specs.Maps.{Map, Change, difference}
+use Rattle.node_model.proofs.Members.{none_some}
 use Rattle.network_model.specs.Setup.{Name, Move, Setup, checked, edited_without, lists, moves, remade, renumbered}
 use Rattle.network_model.specs.Session.{Agent, Carries, Controller, Message, Session, may_send, passed, told, turned}
 use Rattle.network_model.specs.Network.{Network, between, brought, config, is_at, is_of, replaced, same_role, view, views_of, wanted}
@@ -21,10 +24,12 @@ use Rattle.network_model.specs.Steps.{at_node, joins, pass, session_in, session_
 use Rattle.network_model.specs.Rounds.{is_empty}
 use Rattle.network_model.specs.Events.{Edits, edits, moved, next, passes}
 use Rattle.network_model.specs.Moments.{Each}
+use Rattle.network_model.specs.Deeds.{StandsThere}
 use Rattle.network_model.proofs.Calm.{told_easy}
 use Rattle.network_model.proofs.Changing.{MoverIs, Renews, renews}
 use Rattle.network_model.proofs.Distinct.{same_false}
 use Rattle.network_model.proofs.NetworkFact.{passed_nodes}
+use Rattle.network_model.proofs.Renumbered.{put_moves_none}
 use Rattle.network_model.proofs.Replaced.{each_of}
 use Rattle.network_model.proofs.SessionFact.{append_nil, sends}
 use Rattle.network_model.proofs.Twins.{MaybeBoth, pairs_found, pairs_node}
@@ -226,3 +231,11 @@ unfolding next
 others_stay size w d a b not =
     where_free (session_of w a b) (session_of (edits (moves d w.setup.topology) (edited_without (edit_fault (checked w.setup) d) w.setup d) w) a b)
     (by_fault w d a b (λ m. not (inl m)) (λ m. not (inr m)) (edit_fault (checked w.setup) d) refl)
+
+-- where a compute node is put as it stands, none moves
+pub put_stays : (size : Name → Message → ℕ) (w : Network) (n : Node) → StandsThere w.setup.topology n → (a b : Name)
+    → StaysOrNone (session_of w a b) (session_of (next size w (Edits (Put (Objects.Node n)))) a b)
+put_stays size w n there a b =
+    let stay : moves (Put (Objects.Node n)) w.setup.topology ≡ None = (put_moves_none n w.setup.topology).1 there in
+    let off : (name : Name) → MovesNode w (Put (Objects.Node n)) name → ⊥ = λ name m. none_some m.move (sym stay ∙ m.moved) in
+    others_stay size w (Put (Objects.Node n)) a b (λ t. elim t as (λ _. ⊥) [ inl m ↦ off a m | inr m ↦ off b m ])
