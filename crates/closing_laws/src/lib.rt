@@ -29,9 +29,9 @@ pub fn nodes_close_no_session_but_by_a_failed_send()
 
 /// An accepted edit by which a compute node comes, goes, or lists other control nodes takes all sessions of that node
 /// away: of each control node and it there is a new one then, of which nothing is there, where it lists that control
-/// node, and none else. An edit takes no other session away, and brings no other: what both ends hold, what is in flight
-/// and how far it is taken stays, but for the changes that their nodes tell more. So a put of a compute node with the
-/// address and the list of control nodes that it has takes no session away.
+/// node, and none else. An edit takes no other session away, and brings no other: where no break is pending on it, what
+/// both ends hold, what is in flight and how far it is taken stays, but for the changes that their nodes tell more. So a
+/// put of a compute node with the address and the list of control nodes that it has takes no session away.
 pub fn edits_take_away_the_sessions_of_a_node_that_moves()
     ensures anew { WhereLaidOut (λ size w. (d : Edit) (name : Name) → EditIsValid LaidOut w (Edits d) → MovesNode w d name
         → (c : NodeId) → Member c w.setup.topology.controllers
