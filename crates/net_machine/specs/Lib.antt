@@ -14,3 +14,4 @@ pub mod Shown
 pub mod Running
 pub mod Codes
 pub mod Looking
+pub use Rattle.tied_laws.specs.Runs

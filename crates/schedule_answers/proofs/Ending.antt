@@ -12,7 +12,7 @@ use Rattle.config_model.specs.Event.{has_event_form}
 use Rattle.config_model.specs.declared.event.Event.{Event}
 use Rattle.document_answers.specs.declared.unfit.Verdict.TheVariants.{Good}
 use Rattle.headline_laws.specs.Headline.{IsWritten}
-use Rattle.net_machine.specs.NetState.{NetState}
+use Rattle.scenario_run.specs.NetState.{NetState}
 use Rattle.config_ties.specs.Kept.{AreAlike, ties_in}
 use Rattle.net_model.specs.Stands.{StandsFor}
 use Rattle.network_model.specs.Setup.{opening as opening_setup}

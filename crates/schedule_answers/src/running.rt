@@ -23,11 +23,11 @@ use crate::left::{leave, leave_none};
 use config_check::Valid;
 use config_model::{Event, ReadRefusal, RunInput, read_run};
 use document_answers::{Unfit, Verdict, valid_of, write_unfit};
-use net_machine::Net;
 use ov_io::{Sink, TextOut, WriteRefusal, write_gathered, write_piece};
 use ov_json::value_of;
 use ov_types::{Items, NoMemory};
 use report::tied_answer_lines;
+use scenario_run::Net;
 use serde_json::Value;
 use std::alloc::Global;
 

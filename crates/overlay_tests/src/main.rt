@@ -23,3 +23,6 @@ mod run_cases;
 mod shown;
 #[cfg(test)]
 mod words;
+
+/// Nothing is run but the tests.
+fn main() {}
