@@ -6,7 +6,9 @@ and system, the least of three runs), peak memory in millions of octets, and the
 a network from nothing: it is settled; or settled, edited and settled again; or settled, and then 10,000 deliveries are asked
 for of which none has anything in flight; or settled, and then edited and settled a hundred times, where no other network has
 rows of the port that is edited, so that an edit makes the same messages whatever the size. Of the last the rounds are those
-of the first settle.
+of the first settle. Last come 64 compute nodes: in a settled network one of them is put and deleted, or listens to another
+control node and back, ten times, each settled. A second table has the messages of one such edit, from the edit to the next
+settled moment, counted by deliveries of one message each.
 
 usage: bench/runs.py PROGRAM [WORD]
 
@@ -19,21 +21,24 @@ import subprocess
 import sys
 
 RUNS = 3
+MOVES = 10
 SECONDS = 900
 
 
-def topology(controllers=2):
-    """Some control nodes and eight compute nodes, each of which lists two of them in turn."""
+def compute_node(number, controllers=2):
+    """A compute node, which lists two of so many control nodes in turn."""
+    return {
+        "name": f"n{number}", "address": f"192.0.2.{10 + number}",
+        "controllers": [f"c{1 + (number - 1) % controllers}", f"c{1 + number % controllers}"],
+    }
+
+
+def topology(controllers=2, nodes=8):
+    """Some control nodes and compute nodes."""
     return {
         "as": 64512,
         "controllers": [{"name": f"c{i}", "address": f"192.0.2.{i}"} for i in range(1, controllers + 1)],
-        "nodes": [
-            {
-                "name": f"n{i}", "address": f"192.0.2.{10 + i}",
-                "controllers": [f"c{1 + (i - 1) % controllers}", f"c{1 + i % controllers}"],
-            }
-            for i in range(1, 9)
-        ],
+        "nodes": [compute_node(i, controllers) for i in range(1, nodes + 1)],
     }
 
 
@@ -62,11 +67,13 @@ def related(ports):
     }
 
 
-def unrelated(ports):
-    """The same without the policy."""
+def unrelated(ports, nodes=8):
+    """The same without the policy, on so many compute nodes."""
     made = related(ports)
     for network in made["networks"]:
         network["policies"] = []
+    for port in made["ports"]:
+        port["node"] = f"n{1 + port['id'] % nodes}"
     return dict(made, policies=[])
 
 
@@ -121,6 +128,53 @@ def lines():
     )
 
 
+def moves(ports):
+    """Edits of compute nodes in a cloud of 64 of them and so many ports: by name the document without events, and two edits."""
+    def put(node):
+        return {"edit": {"put": {"node": node}}}
+
+    with_ports = {"topology": topology(2, 64), "configuration": unrelated(ports, 64)}
+    without = {"topology": topology(2, 63), "configuration": unrelated(ports, 63)}
+    yield "without ports is put and deleted", without, put(compute_node(64)), {"edit": {"delete": {"node": "n64"}}}
+    alone = dict(compute_node(1), controllers=["c2"])
+    yield f"with {ports // 64} ports moves and moves back", with_ports, put(alone), put(compute_node(1))
+
+
+def move_lines():
+    """The lines of compute nodes that come, go and move."""
+    for ports in (64, 256, 1024):
+        for what, document, edit, back in moves(ports):
+            name = f"{ports:,} ports on 64 compute nodes, {ports // 8} unrelated networks"
+            if "put" in what:
+                yield f"{name}: settle", dict(document, events=["settle"])
+            again = [edit, "settle", back, "settle"] * MOVES
+            yield f"{name}: settle, and a compute node {what}, {MOVES} times", dict(document, events=["settle"] + again)
+
+
+def sessions(controllers, nodes):
+    """All pairs of nodes that may have a session."""
+    for place, controller in enumerate(controllers):
+        yield "config", controller
+        for other in controllers[place + 1:] + nodes:
+            yield controller, other
+
+
+def messages(program, document, events):
+    """How many messages are delivered behind these events until none is in flight; sessions that are down connect first."""
+    controllers = [node["name"] for node in document["topology"]["controllers"]]
+    pairs = list(sessions(controllers, [f"n{i}" for i in range(1, 65)]))
+    connects = [{"connect": list(pair)} for pair in pairs]
+    sweep = [{"deliver": [near, far, 1]} for a, b in pairs for near, far in ((a, b), (b, a))]
+    sweeps = 4
+    while True:
+        played = events + connects + sweep * sweeps
+        _, _, text = measured(program, dict(document, events=played))
+        delivered = [line.split()[1] == "did" for line in text.splitlines()[len(events) + len(connects):]]
+        if not any(delivered[-len(sweep):]):
+            return sum(delivered)
+        sweeps *= 2
+
+
 def measured(program, document):
     """Processor time, peak memory in octets, and what was written."""
     read, write = os.pipe()
@@ -136,16 +190,31 @@ def measured(program, document):
     return usage.ru_utime + usage.ru_stime, usage.ru_maxrss * 1024, text.decode()
 
 
+def print_messages(program, word):
+    """Prints the second table."""
+    print()
+    print("| Edit in a settled network | Messages until it is settled again |")
+    print("|---|---|")
+    for ports in (64, 256, 1024):
+        for what, document, edit, back in moves(ports):
+            name = f"{ports:,} ports on 64 compute nodes: a compute node {what}"
+            if word in name:
+                there = messages(program, document, ["settle", edit])
+                again = messages(program, document, ["settle", edit, "settle", back])
+                print(f"| {name} | {there}, {again} |", flush=True)
+
+
 def main(program, word):
     print("| Network from nothing | Processor time, s | Peak memory, MB | Rounds |")
     print("|---|---|---|---|")
-    for name, document in lines():
+    for name, document in [*lines(), *move_lines()]:
         if word in name:
             runs = [measured(program, document) for _ in range(RUNS)]
             seconds, memory, text = min(runs)
             rounds = [line.split()[-1] for line in text.splitlines() if " rounds " in line]
             rounds = rounds if len(rounds) <= 2 else rounds[:1]
             print(f"| {name} | {seconds:.3f} | {memory / 1e6:.1f} | {', '.join(rounds)} |", flush=True)
+    print_messages(program, word)
 
 
 if __name__ == "__main__":

@@ -87,7 +87,8 @@ EVENTS = [
          "action": "pass"}]}}}},
     {"edit": {"put": {"service": {"name": "s1", "id": 1, "node": "n1"}}}},
     {"edit": {"put": {"chain": {"name": "pair", "hops": ["s1"]}}}},
-    *({"edit": {"delete": {kind: "gone"}}} for kind in ("network", "port", "policy", "service", "chain")),
+    {"edit": {"put": {"node": {"name": "n9", "address": "192.0.2.19", "controllers": ["c1"]}}}},
+    *({"edit": {"delete": {kind: "gone"}}} for kind in ("network", "port", "policy", "service", "chain", "node")),
 ]
 
 

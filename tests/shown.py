@@ -3,7 +3,7 @@
 
 Runs the built program on each schedule of tests/schedules.jsonl. After a `settle` that answers settled, and up to the next
 event that is no `show` and no `trace`, each `show` of a node is to print exactly the lines that `compile` prints of that
-node for the configuration then: the opening one with each edit that was answered by `did`.
+node for the topology and the configuration then: the opening ones with each edit that was answered by `did`.
 
 usage: tests/shown.py PROGRAM
 
@@ -24,12 +24,13 @@ def ran(program, word, document):
     return run.stdout.decode().splitlines()
 
 
-def edited(configuration, edit):
-    """The configuration with one object put or deleted."""
-    made = {name: list(objects) for name, objects in configuration.items()}
+def edited(document, edit):
+    """The topology and the configuration with one object put or deleted."""
     (what, change), = edit.items()
     (kind, value), = change.items()
-    objects = made.setdefault(LISTS[kind], [])
+    part, held = ("topology", "nodes") if kind == "node" else ("configuration", LISTS[kind])
+    objects = list(document[part].get(held, []))
+    made = {**document, part: {**document[part], held: objects}}
     name = value["name"] if what == "put" else value
     places = [place for place, found in enumerate(objects) if found["name"] == name]
     if what == "delete":
@@ -54,17 +55,17 @@ def answers_of(lines):
 
 def shows(program, document):
     """How many shows of a settled network there are, and those that printed something else."""
-    configuration, settled, compared, wrong = document["configuration"], False, 0, []
+    given, settled, compared, wrong = {part: document[part] for part in ("topology", "configuration")}, False, 0, []
     for event, answer in zip(document["events"], answers_of(ran(program, "run", document))):
         if event == "settle":
             settled = " settled " in answer[0]
         elif isinstance(event, dict) and "edit" in event:
             settled = False
             if answer[0].endswith(" did"):
-                configuration = edited(configuration, event["edit"])
+                given = edited(given, event["edit"])
         elif isinstance(event, dict) and "show" in event:
             if settled and not answer[0].endswith(" idle"):
-                whole = ran(program, "compile", {"topology": document["topology"], "configuration": configuration})
+                whole = ran(program, "compile", given)
                 begins = (f"control {event['show']} ", f"agent {event['show']} ")
                 compared += 1
                 if answer[1:] != [line for line in whole if line.startswith(begins)]:

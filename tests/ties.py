@@ -3,16 +3,17 @@
 
 A FILE is of lines, each an object with `name`, `document` and `answers`, as `tests/schedules.jsonl` is; in a FOLDER a case of
 `run` is NAME.in and NAME.out, beside a NAME.args that is `run`. Of each document this keeps the configuration so far by its
-edits that are answered `did`, and with it what it ties: the network number of each port number and the two network numbers of
-each use number that a chain rule has, from the first time on. It says where an edit is answered `did` that would move one of
-them, where one is answered `refused Tied ..` that moves nothing, or another tie first. It knows nothing else of networks, and
-nothing of the program. Needs Python 3.8. Ends with status 1 where it says anything.
+edits that are answered `did`, and with it what it ties: the network number of each port number, the two network numbers of
+each use number that a chain rule has, the address of each name of a compute node and the name at each of their addresses,
+from the first time on. It says where an edit is answered `did` that would move one of them, where one is answered `refused
+Tied ..` that moves nothing, or another tie first. It knows nothing else of networks, and nothing of the program. Needs Python
+3.8. Ends with status 1 where it says anything.
 """
 import json
 import pathlib
 import sys
 
-KINDS = {"network": "networks", "port": "ports", "policy": "policies", "service": "services", "chain": "chains"}
+KINDS = {"network": "networks", "port": "ports", "policy": "policies", "service": "services", "chain": "chains", "node": "nodes"}
 
 
 def edited(config, edit):
@@ -31,19 +32,30 @@ def edited(config, edit):
 
 
 def tied_by(config):
-    """What a configuration ties, in the document's order: ports, then uses."""
+    """What a configuration ties, in the document's order: ports, then uses, then compute nodes. Of each tie what it is of, as
+    it is printed, what it is kept by, and where that is."""
     numbers = {it["name"]: it["id"] for it in config.get("networks") or []}
     for port in config.get("ports") or []:
-        yield f"port {port['id']}", numbers.get(port["network"])
+        yield f"port {port['id']}", ("port", port["id"]), numbers.get(port["network"])
     for policy in config.get("policies") or []:
         for rule in policy["rules"]:
             if rule["action"] == "chain":
-                yield f"use {rule['use']}", (numbers.get(rule["source"]), numbers.get(rule["destination"]))
+                ends = numbers.get(rule["source"]), numbers.get(rule["destination"])
+                yield f"use {rule['use']}", ("use", rule["use"]), ends
+    for node in config.get("nodes") or []:
+        yield f"node {node['address']}", ("name", node["name"]), node["address"]
+        yield f"node {node['address']}", ("address", node["address"]), node["name"]
 
 
 def first_moved(ties, config):
     """The first tie that a configuration breaks."""
-    return next((what for what, where in tied_by(config) if ties.get(what, where) != where), None)
+    return next((what for what, key, where in tied_by(config) if ties.get(key, where) != where), None)
+
+
+def tie(ties, config):
+    """Ties what a configuration has, where it has no tie."""
+    for what, key, where in tied_by(config):
+        ties.setdefault(key, where)
 
 
 def faults(document, answers):
@@ -53,14 +65,11 @@ def faults(document, answers):
         number, _, rest = line.partition(" ")
         if number.isdigit():
             told[int(number)] = rest
-    config = document["configuration"]
+    config = {**document["configuration"], "nodes": document["topology"]["nodes"]}
     ties = {}
-    for what, where in tied_by(config):
-        ties.setdefault(what, where)
+    tie(ties, config)
     for number, event in enumerate(document["events"], 1):
         if not isinstance(event, dict) or "edit" not in event or number not in told:
-            continue
-        if "node" in (event["edit"].get("put") or event["edit"].get("delete") or {}):
             continue
         answer = told[number]
         made = edited(config, event["edit"]) if answer == "did" or answer.startswith("refused Tied") else config
@@ -71,8 +80,7 @@ def faults(document, answers):
             yield number, f"is answered {answer}, and moves {moved} first"
         if answer == "did" and not moved:
             config = made
-            for what, where in tied_by(config):
-                ties.setdefault(what, where)
+            tie(ties, config)
 
 
 def schedules_of(path):

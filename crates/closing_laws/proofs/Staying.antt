@@ -7,15 +7,17 @@ use Rattle.std.specs.Cmp.Lexicographic.{bytes_decides}
 use Rattle.std.proofs.lemmas.Bool.{true≢false, and_parts}
 use Rattle.std.proofs.lemmas.Option.{same_Some}
 use Rattle.std.proofs.Common.{refl, sym, ◌∙◌, ap, subst, inl, inr}
-use Rattle.config_check.specs.Checked.{Checked}
+use Rattle.config_model.specs.declared.edit.Edit.{Edit}
+use Rattle.config_check.specs.Edits.{edit_fault, edited as checked_edited}
+use Rattle.config_check.specs.declared.edits.EditFault.{EditFault}
 use Rattle.ov_types.specs.First.{same_name}
 use Rattle.node_model.specs.Maps.{Map}
-use Rattle.network_model.specs.Setup.{Name, edited}
+use Rattle.network_model.specs.Setup.{Name, Move, checked, edited, edited_without, moves, remade, renumbered}
 use Rattle.network_model.specs.Session.{Message, Session, turned, closed, may_send, took, without_first, took_first, opened, arrived, took_octets, octets_arrived, passed}
-use Rattle.network_model.specs.Network.{Network, config, start, view, views_of, wanted}
+use Rattle.network_model.specs.Network.{Network, brought, config, replaced, start, view, views_of, wanted}
 use Rattle.network_model.specs.Steps.{joins, with_session, change_session, around, at_node, pass, session_in, session_of, in_flight, is_broken, may_connect, connect, connect_if, without_breaks}
 use Rattle.network_model.specs.Rounds.{is_empty}
-use Rattle.network_model.specs.Events.{Event, Edits, Deliver, DeliverOctets, Lose, Connect, Restart, Round, Settle, Show, Trace, Break, add_break, edits, is_earlier, next, after}
+use Rattle.network_model.specs.Events.{Event, Edits, Deliver, DeliverOctets, Lose, Connect, Restart, Round, Settle, Show, Trace, Break, add_break, edits, is_earlier, moved, next, passes, after}
 use Rattle.network_model.specs.Deeds.{AreOthers}
 use Rattle.network_model.specs.Moments.{Each, AtEveryMoment}
 use Rattle.network_model.proofs.SessionFact.{Fact, Joined, Fact-turned, passed_keeps, arrived_keeps, octets_arrived_keeps}
@@ -27,7 +29,8 @@ use Rattle.network_model.proofs.Twins.{itself, Pairs, MaybeBoth, pairs_found, pa
 use Rattle.network_model.proofs.Calm.{telling, passed_easy, ArrivalOf, arrives}
 use Rattle.network_model.proofs.RoundFact.{IsCalm, fact_joined}
 use Rattle.network_model.proofs.Deeds.{others_stay, lost_others, restarted_others}
-use Rattle.closing_laws.specs.Closing.{TakesDown, IsUnbroken, IsWhole}
+use Rattle.closing_laws.specs.Closing.{MovesNode, TakesDown, IsUnbroken, IsWhole}
+use Rattle.closing_laws.proofs.Standing.{moved_found}
 
 -- ---- pairs of names
 same_pair : (a b c d : Name) → (same_name c a && same_name d b) ≡ true → (c ≡ a) × (d ≡ b)
@@ -193,11 +196,28 @@ module _ (size : Name → Message → ℕ) (positive : (n : Name) (m : Message) 
           ] refl
         ] refl
 
-    edited_stays : (o : Option Checked) (w : Network) → Stays w → Stays (edits o w)
-    edited_stays None w q = q
-    edited_stays (Some x) w q = pass_in config (record { setup = x; sessions = w.sessions }) q
+    passes_in : (ns : List Name) (w : Network) → Stays w → Stays (passes ns w)
+    passes_in [] w q = q
+    passes_in (n ∷ ns) w q = passes_in ns (pass n w) (pass_in n w q)
 
-    -- ---- every event but the two
+    abbrev made : Network → Edit → Network
+    made w d = record { setup = remade (checked_edited d (checked w.setup)) (renumbered (moves d w.setup.topology) w.setup.numbers); sessions = w.sessions }
+
+    edited_stays : (w : Network) (d : Edit) → (MovesNode w d a → ⊥) → (MovesNode w d b → ⊥) → Stays w → Stays (edits (moves d w.setup.topology) (edited w.setup d) w)
+    edited_stays w d off off_back q = by_fault (edit_fault (checked w.setup) d) refl
+      where
+        by_move : edit_fault (checked w.setup) d ≡ None → (m : Option Move) → moves d w.setup.topology ≡ m → Stays (pass config (moved m (made w d)))
+        by_move none None is = pass_in config (made w d) q
+        by_move none (Some m) is =
+            pass_in config (moved (Some m) (made w d))
+            (passes_in m.left (record { setup = (made w d).setup; sessions = replaced m.name (brought (made w d).setup.topology.controllers m.now) w.sessions })
+            (q.0, moved_found w d a b off off_back none m is ∙ q.1, q.2))
+
+        by_fault : (f : Option EditFault) → edit_fault (checked w.setup) d ≡ f → Stays (edits (moves d w.setup.topology) (edited_without f w.setup d) w)
+        by_fault None none = by_move none (moves d w.setup.topology) refl
+        by_fault (Some f) is = q
+
+    -- ---- every event but those
     whole_of : (w : Network) → Stays w → IsWhole w a b
     whole_of w q = record { session = q.0; found = q.1; whole = q.2.0.whole }
 
@@ -224,9 +244,9 @@ module _ (size : Name → Message → ℕ) (positive : (n : Name) (m : Message) 
         by_found (Some s) e is = record { session = s; found = e; whole = same_Some s.is_down false is }
         by_found None e is = cc
 
-    stays : (w : Network) (e : Event) → Stays w → (TakesDown a b e → ⊥) → IsWhole (next size w e) a b
+    stays : (w : Network) (e : Event) → Stays w → (TakesDown w a b e → ⊥) → IsWhole (next size w e) a b
     unfolding next
-    stays w (Edits d) q not = whole_of _ (edited_stays (edited w.setup d) w q)
+    stays w (Edits d) q not = whole_of _ (edited_stays w d (λ m. not (inl m)) (λ m. not (inr m)) q)
     stays w (Deliver from to n) q not = whole_of _ (delivers_walk Stays takes n from to w q)
     stays w (DeliverOctets from to n) q not =
         whole_of _ (elim (in_flight w from to == 0) as (λ c. Stays (cond c w (pass to (change_session to from (octets_arrived size n) w)))) [ true ↦ q | false ↦ takes_octets from to n w q ])
@@ -245,7 +265,7 @@ none_of [] e = refl
 none_of (n ∷ ns) e = cc
 
 -- at every moment
-pub nodes_stay_joined : AtEveryMoment (λ size w. (a b : Name) (e : Event) → IsUnbroken w a b → (TakesDown a b e → ⊥) → IsWhole (next size w e) a b)
+pub nodes_stay_joined : AtEveryMoment (λ size w. (a b : Name) (e : Event) → IsUnbroken w a b → (TakesDown w a b e → ⊥) → IsWhole (next size w e) a b)
 nodes_stay_joined size positive x es a b e u not =
     let w = after size (start x) es in
     let sound = after_sound size positive (start x) es (start_sound size positive x) in

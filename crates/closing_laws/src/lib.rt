@@ -1,21 +1,47 @@
-//! When nodes close sessions: only where one of their sends fails. Which send a break makes fail, and how octets are
-//! taken. Laws alone.
+//! When nodes close sessions: only where one of their sends fails. Which sessions an edit takes away, which send a break
+//! makes fail, and how octets are taken. Laws alone.
 #![tactic(auto)]
 
 ghost use Rattle.std.specs.Prelude.{◌≡◌, ◌⊎◌, ◌↔◌, ◌≤◌, ◌<◌, ◌+◌, ◌-◌, ℕ, List, [], ◌∷◌, length, true, false};
+ghost use Rattle.ov_types.specs.declared.rows.NodeId.{NodeId};
+ghost use Rattle.config_model.specs.declared.edit.Edit.{Edit};
+ghost use Rattle.config_model.specs.declared.edit.Edit.TheVariants.{Put};
+ghost use Rattle.config_model.specs.declared.edit.Object.TheVariants as Objects;
+ghost use Rattle.config_model.specs.declared.topology.Node.{Node};
+ghost use Rattle.node_model.specs.Members.{Member};
 ghost use Rattle.network_model.specs.Setup.{Name};
 ghost use Rattle.network_model.specs.Session.{Message, Session, arrived, counted, octets_arrived, told, with_breaks};
 ghost use Rattle.network_model.specs.Network.{Network};
-ghost use Rattle.network_model.specs.Events.{Event, add_break, next};
-ghost use Rattle.network_model.specs.Moments.{AtEveryMoment};
-ghost use Rattle.closing_laws.specs.Closing.{IsUnbroken, IsWhole, TakesDown};
+ghost use Rattle.network_model.specs.Steps.{session_of};
+ghost use Rattle.network_model.specs.Events.{Event, Edits, add_break, next};
+ghost use Rattle.network_model.specs.Moments.{AtEveryMoment, EditIsValid, LaidOut, WhereLaidOut};
+ghost use Rattle.network_model.specs.Deeds.{StandsThere};
+ghost use Rattle.closing_laws.specs.Closing.{IsUnbroken, IsWhole, MovesNode, StaysOrNone, TakesDown, anew};
 
-/// At every moment of every schedule: where no break is pending on a session, no event takes it down but its own loss
-/// and a restart of one of its two nodes. So no message that nodes send each other, no edit and no connection makes a
-/// node close a session: only a send that fails does.
+/// At every moment of every schedule: where no break is pending on a session, no event takes it down but its own loss, a
+/// restart of one of its two nodes, and an edit by which one of them comes, goes, or lists other control nodes. So no
+/// message that nodes send each other, no other edit and no connection makes a node close a session: only a send that
+/// fails does.
 pub fn nodes_close_no_session_but_by_a_failed_send()
-    ensures { AtEveryMoment (λ size w. (a b : Name) (e : Event) → IsUnbroken w a b → (TakesDown a b e → ⊥)
+    ensures { AtEveryMoment (λ size w. (a b : Name) (e : Event) → IsUnbroken w a b → (TakesDown w a b e → ⊥)
         → IsWhole (next size w e) a b) }
+{}
+
+/// An accepted edit by which a compute node comes, goes, or lists other control nodes takes all sessions of that node
+/// away: of each control node and it there is a new one then, of which nothing is there, where it lists that control
+/// node, and none else. An edit takes no other session away, and brings no other: where no break is pending on it, what
+/// both ends hold, what is in flight and how far it is taken stays, but for the changes that their nodes tell more. So a
+/// put of a compute node with the address and the list of control nodes that it has takes no session away.
+pub fn edits_take_away_the_sessions_of_a_node_that_moves()
+    ensures anew { WhereLaidOut (λ size w. (d : Edit) (name : Name) → EditIsValid LaidOut w (Edits d) → MovesNode w d name
+        → (c : NodeId) → Member c w.setup.topology.controllers
+        → session_of (next size w (Edits d)) c.name name ≡ anew (next size w (Edits d)) c.name name) }
+    ensures others { (size : Name → Message → ℕ) (w : Network) (d : Edit) (a b : Name)
+        → (TakesDown w a b (Edits d) → ⊥)
+        → StaysOrNone (session_of w a b) (session_of (next size w (Edits d)) a b) }
+    ensures stays { (size : Name → Message → ℕ) (w : Network) (n : Node) → StandsThere w.setup.topology n
+        → (a b : Name)
+        → StaysOrNone (session_of w a b) (session_of (next size w (Edits (Put (Objects.Node n)))) a b) }
 {}
 
 /// A break n makes the n-th send of its direction from then on fail, beside those that fail without it, and changes

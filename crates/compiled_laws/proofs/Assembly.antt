@@ -8,10 +8,11 @@ use Rattle.std.specs.declared.option.Option.{Option}
 use Rattle.std.proofs.Common.{ap, arith, inl, inr, refl, subst, sym, ◌∙◌}
 use Rattle.ov_types.specs.First.{same_name}
 use Rattle.ov_types.specs.declared.objects.LowKey.{LowKey}
+use Rattle.ov_types.specs.declared.prefix.Addr.{Addr}
+use Rattle.ov_types.specs.declared.rows.NodeId.{NodeId}
 use Rattle.ov_types.specs.declared.objects.LowValue.{LowValue}
 use Rattle.route_targets.specs.Numbers.{target_of}
 use Rattle.config_model.specs.declared.topology.Node.{Node}
-use Rattle.config_check.specs.Checked.{Checked}
 use Rattle.config_check.specs.Finding.{node_named}
 use Rattle.node_model.specs.Agent as agent
 use Rattle.node_model.specs.Agent.{slice_in_use, told_of}
@@ -30,15 +31,15 @@ use Rattle.node_model.proofs.Objects.{object_of}
 use Rattle.node_model.proofs.Orders.{key_exact, key_total}
 use Rattle.node_model.proofs.Wanted.{named, object_to, wanted_object}
 use Rattle.network_model.specs.Moments.{Each, Nodes, nodes}
-use Rattle.network_model.specs.Network.{address_of, agent_holdings, config, control_holdings, heard_from, sessions_of, told_by_agent, view, wanted, wanted_from, wanted_from_control}
+use Rattle.network_model.specs.Network.{address_in, agent_holdings, config, control_holdings, heard_from, sessions_of, told_on, view, wanted, wanted_from, wanted_from_control}
 use Rattle.network_model.specs.Session.{Agent, Configuration, Controller, Role, Session, are_peers, is_up_phase, turned}
-use Rattle.network_model.specs.Setup.{Name, longest, low}
+use Rattle.network_model.specs.Setup.{Name, Setup, agents_of, longest, low}
 use Rattle.network_model.proofs.Twins.{all_to_own}
 use Rattle.network_laws.specs.Settling as settling
 use Rattle.network_laws.specs.Settling.{Steps}
 use Rattle.compiled_laws.specs.Compiled as compiled
 use Rattle.compiled_laws.specs.Compiled.{Agents, compiled_holdings, compiled_routes, told_to_agent, told_to_peers}
-use Rattle.compiled_laws.specs.Goal.{HasRoles, IsLaid, Party, agent_rank, agents_among, agents_at, goal, goal_map, is_in_role, others, rank, rank_by, role_in, role_of}
+use Rattle.compiled_laws.specs.Goal.{HasRoles, IsLaid, Party, address_of, agent_rank, agents_among, agents_at, goal, goal_map, is_in_role, others, rank, rank_by, role_in, role_of}
 use Rattle.compiled_laws.specs.Sound.{IsServed, IsSound}
 use Rattle.compiled_laws.proofs.AgentMaps.{objects-told_to_agent, told_object, wants_itself_by_agent}
 use Rattle.compiled_laws.proofs.Fixpoint.{wants_itself_by_peers}
@@ -62,7 +63,7 @@ each_at F [] s f m = absurd m
 each_at F (t ∷ ss) s f (inl e) = subst F e f.0
 each_at F (t ∷ ss) s f (inr m) = each_at F ss s f.1 m
 
-pub role_agent : (x : Checked) (n : Name) → role_of x n ≡ Agent → (c : Node) × (node_named x.topology n ≡ Some c)
+pub role_agent : (x : Setup) (n : Name) → role_of x n ≡ Agent → (c : Node) × (node_named x.topology n ≡ Some c)
 role_agent x n e = go (same_name n config) (node_named x.topology n) refl e
   where
     none : Configuration ≡ Agent → ⊥
@@ -102,7 +103,7 @@ told_slices h a feed e k v w =
 slice_wanted : (h : Holdings) (a : Told) (feed : Map) → h.feed ≡ feed → (k : LowKey) → get (wanted_by_agent h a) (Low k) ≡ get (told_to_agent feed a.address) (Low k)
 slice_wanted h a feed e k = same_options (get (wanted_by_agent h a) (Low k)) (get (told_to_agent feed a.address) (Low k)) (same_slices h a feed e k) (told_slices h a feed e k)
 
-module _ (x : Checked) (places : List Nodes) (laid : IsLaid x places) where
+module _ (x : Setup) (places : List Nodes) (laid : IsLaid x places) where
   abbrev RightAt : ℕ → Session → Type 0
   RightAt r s = settling.RightAt (rank x) (goal x places) r s
 
@@ -143,30 +144,47 @@ module _ (x : Checked) (places : List Nodes) (laid : IsLaid x places) where
         fed = let q = laid.fed n (far one) in_places control in (q.0, subst (Member (q.0, Configuration)) (sym os) q.1)
 
         abbrev pub mine : Agents
-        mine = agents_among x (map far own)
+        mine = agents_among x n (map far own)
 
         abbrev pub theirs : List Agents
         theirs = map (λ o. agents_at x places o.0) (filter (is_in_role Controller) (map far own))
 
         pub served : IsServed (low x) mine theirs
-        served = subst (λ os. IsServed (low x) (agents_among x os) (map (λ o. agents_at x places o.0) (filter (is_in_role Controller) os))) (sym os) (laid.served n (far one) in_places control)
+        served = subst (λ os. IsServed (low x) (agents_among x n os) (map (λ o. agents_at x places o.0) (filter (is_in_role Controller) os))) (sym os) (laid.served n (far one) in_places control)
 
-        holds_feed : 1 ≤ r → (control_holdings x (views own)).feed ≡ (low x)
+        holds_feed : 1 ≤ r → (control_holdings x n (views own)).feed ≡ (low x)
         holds_feed h = feed_held (low x) own (each_weak (Own r n) (λ s. s.far.role ≡ Configuration → s.near.held ≡ (low x)) own (λ s o. feed_right s h o) facts) fed.0 fed.1
 
         abbrev with_peers : List Map → Holdings
         with_peers ps = record { asn = x.topology.asn; feed = (low x); peers = ps; agents = map (compiled.told_by_agent (low x)) mine }
 
-        holds : 3 ≤ r → control_holdings x (views own) ≡ with_peers (peer_maps own)
+        -- what the agent of a number told
+        told_right : 3 ≤ r → (a : NodeId) → Member (a.name, Agent) (others n places) × (address_of x a.name ≡ a.address) → (heard_from (views own) a.name).map ≡ told_map (low x) a.address
+        told_right h a q =
+            let in_own : Member (a.name, Agent) (map far own) = subst (Member (a.name, Agent)) (sym os) q.0 in
+            let o = from_map far (a.name, Agent) own in_own in
+            let there = each_at (Own r n) own o.0 facts o.1 in
+            let is_agent : role_of x a.name ≡ Agent = ap (λ (n : Party). role_of x n.0) (sym o.2) ∙ sym there.far_role ∙ ap (λ (n : Party). n.1) o.2 in
+            let t = heard (Own r n) own a.name Agent facts in_own in
+            ap (λ (h : agent.Heard). h.map) t.3
+            ∙ agent_right t.0 h t.1 (t.1.far_role ∙ ap (role_of x) t.2 ∙ is_agent)
+            ∙ ap (λ (m : Name). told_map (low x) (address_of x m)) t.2
+            ∙ ap (told_map (low x)) q.1
+
+        -- an agent is told under the address of its number
+        address_right : (s : Session) → Member s own → s.far.role ≡ Agent → address_in (agents_of x n) s.far.name ≡ address_of x s.far.name
+        address_right s i e = laid.addressed n (far s) (subst (Member (far s)) os (in_map far s own i)) control e
+
+        holds : 3 ≤ r → control_holdings x n (views own) ≡ with_peers (peer_maps own)
         holds h =
-            control_is x own (each_weak (Own r n) (λ s. s.far.role ≡ Configuration → s.near.held ≡ (low x)) own (λ s o. feed_right s (weaker r h) o) facts)
-            (each_weak (Own r n) (λ s. s.far.role ≡ Agent → s.near.held ≡ told_map (low x) (address_of x s.far.name)) own (λ s o. agent_right s h o) facts) fed.0 fed.1
+            control_is x n own (each_weak (Own r n) (λ s. s.far.role ≡ Configuration → s.near.held ≡ (low x)) own (λ s o. feed_right s (weaker r h) o) facts)
+            (λ a i. told_right h a (laid.numbered n (far one) in_places control a i)) fed.0 fed.1
           where
             weaker : (r : ℕ) → 3 ≤ r → 1 ≤ r
             weaker r h = omega arith
 
         -- towards a peer
-        peer_wanted : (k : Key) → peer_rank (low x) k ≤ suc r → get (wanted_by_peers (control_holdings x (views own))) k ≡ get (told_to_peers x.topology.asn (low x) mine) k
+        peer_wanted : (k : Key) → peer_rank (low x) k ≤ suc r → get (wanted_by_peers (control_holdings x n (views own))) k ≡ get (told_to_peers x.topology.asn (low x) mine) k
         peer_wanted k h =
             ap (λ (hs : Holdings). get (wanted_by_peers hs) k) (holds (three (peer_rank (low x) k) r (peer_rank-ge (low x) k) h))
             ∙ local_by_peers x.topology.asn (low x) (map (compiled.told_by_agent (low x)) mine) laid.sound.ordered r (peer_maps own) (map (told_to_peers x.topology.asn (low x)) theirs)
@@ -180,7 +198,7 @@ module _ (x : Checked) (places : List Nodes) (laid : IsLaid x places) where
             three a r h k = omega arith
 
         -- all that a control node holds, once every rank between control nodes is right
-        pub all_held : longest x + 4 ≤ r → control_holdings x (views own) ≡ compiled_holdings x.topology.asn (low x) mine theirs
+        pub all_held : longest x + 4 ≤ r → control_holdings x n (views own) ≡ compiled_holdings x.topology.asn (low x) mine theirs
         all_held h =
             holds (three (longest x) r h)
             ∙ ap with_peers (same_zip (peer_maps own) (map (told_to_peers x.topology.asn (low x)) theirs)
@@ -194,9 +212,9 @@ module _ (x : Checked) (places : List Nodes) (laid : IsLaid x places) where
             within : (a b r : ℕ) → a ≤ 4 + b → b + 4 ≤ r → a ≤ r
             within a b r h k = omega arith
 
-        rows_wanted : (s : Session) → Own r n s → s.far.role ≡ Agent → (k : Key) → longest x + 5 ≤ suc r → get (wanted_by_agent (control_holdings x (views own)) (told_by_agent x 0 (view s))) k ≡ get (told_to_agent (low x) (address_of x s.far.name)) k
-        rows_wanted s o e k h =
-            (λ i. get (wanted_by_agent (all_held (four (longest x) r h) i) (record { session = 0; address = address_of x s.far.name; map = agent_right s (three (longest x) r h) o e i })) k)
+        rows_wanted : (s : Session) → Member s own → Own r n s → s.far.role ≡ Agent → (k : Key) → longest x + 5 ≤ suc r → get (wanted_by_agent (control_holdings x n (views own)) (told_on (agents_of x n) (view s))) k ≡ get (told_to_agent (low x) (address_of x s.far.name)) k
+        rows_wanted s m o e k h =
+            (λ i. get (wanted_by_agent (all_held (four (longest x) r h) i) (record { session = 0; address = address_right s m e i; map = agent_right s (three (longest x) r h) o e i })) k)
             ∙ ap (λ (m : Map). get m k) (wants_itself_by_agent x.topology.asn (low x) mine theirs laid.sound served (has_one_row (low x) laid.sound) 0 (address_of x s.far.name))
           where
             four : (a r : ℕ) → a + 5 ≤ suc r → a + 4 ≤ r
@@ -206,15 +224,15 @@ module _ (x : Checked) (places : List Nodes) (laid : IsLaid x places) where
             three a r h = omega arith
 
         -- towards an agent
-        agent_wanted : (s : Session) → Own r n s → s.far.role ≡ Agent → (k : Key) → agent_rank (longest x) k ≤ suc r → get (wanted_by_agent (control_holdings x (views own)) (told_by_agent x 0 (view s))) k ≡ get (told_to_agent (low x) (address_of x s.far.name)) k
-        agent_wanted s o e (Low k) h = slice_wanted (control_holdings x (views own)) (told_by_agent x 0 (view s)) (low x) (holds_feed (one_of r h)) k
+        agent_wanted : (s : Session) → Member s own → Own r n s → s.far.role ≡ Agent → (k : Key) → agent_rank (longest x) k ≤ suc r → get (wanted_by_agent (control_holdings x n (views own)) (told_on (agents_of x n) (view s))) k ≡ get (told_to_agent (low x) (address_of x s.far.name)) k
+        agent_wanted s m o e (Low k) h = slice_wanted (control_holdings x n (views own)) (told_on (agents_of x n) (view s)) (low x) (holds_feed (one_of r h)) k ∙ ap (λ (a : Addr). get (told_to_agent (low x) a) (Low k)) (address_right s m e)
           where
             one_of : (r : ℕ) → 2 ≤ suc r → 1 ≤ r
             one_of r h = omega arith
-        agent_wanted s o e (Vpn v) h = rows_wanted s o e (Vpn v) h
-        agent_wanted s o e (Row i p) h = rows_wanted s o e (Row i p) h
-        agent_wanted s o e (Publish i p) h = rows_wanted s o e (Publish i p) h
-        agent_wanted s o e (Subscribe i) h = rows_wanted s o e (Subscribe i) h
+        agent_wanted s m o e (Vpn v) h = rows_wanted s m o e (Vpn v) h
+        agent_wanted s m o e (Row i p) h = rows_wanted s m o e (Row i p) h
+        agent_wanted s m o e (Publish i p) h = rows_wanted s m o e (Publish i p) h
+        agent_wanted s m o e (Subscribe i) h = rows_wanted s m o e (Subscribe i) h
 
     -- ---- an agent
     module _ (is_agent : role_of x n ≡ Agent) (own : List Session) (facts : Each (Own r n) own) (os : map far own ≡ others n places) where
@@ -255,15 +273,18 @@ module _ (x : Checked) (places : List Nodes) (laid : IsLaid x places) where
         where
           two : (r : ℕ) → 3 ≤ suc r → 2 ≤ r
           two r h = omega arith
-      wanted_by Controller Configuration s m o e a b k h = ap (λ q. get (wanted_from_control x (views own) (view s) q) k) b
+      wanted_by Controller Configuration s m o e a b k h = ap (λ (m : Name). get (wanted_from_control x.topology.asn (agents_of x m) (views own) (view s) s.far.role) k) o.name
+          ∙ ap (λ q. get (wanted_from_control x.topology.asn (agents_of x n) (views own) (view s) q) k) b
       wanted_by Controller Controller s m o e a b k h =
-          ap (λ q. get (wanted_from_control x (views own) (view s) q) k) b
+          ap (λ (m : Name). get (wanted_from_control x.topology.asn (agents_of x m) (views own) (view s) s.far.role) k) o.name
+          ∙ ap (λ q. get (wanted_from_control x.topology.asn (agents_of x n) (views own) (view s) q) k) b
           ∙ peer_wanted e own facts os s m k h
-          ∙ ap (λ os. get (told_to_peers x.topology.asn (low x) (agents_among x os)) k) os
+          ∙ ap (λ os. get (told_to_peers x.topology.asn (low x) (agents_among x n os)) k) os
           ∙ ap (λ (n : Name). get (told_to_peers x.topology.asn (low x) (agents_at x places n)) k) (sym o.name)
       wanted_by Controller Agent s m o e a b k h =
-          ap (λ q. get (wanted_from_control x (views own) (view s) q) k) b
-          ∙ agent_wanted e own facts os s m s o b k h
+          ap (λ (m : Name). get (wanted_from_control x.topology.asn (agents_of x m) (views own) (view s) s.far.role) k) o.name
+          ∙ ap (λ q. get (wanted_from_control x.topology.asn (agents_of x n) (views own) (view s) q) k) b
+          ∙ agent_wanted e own facts os s m s m o b k h
 
       wanted_right : (s : Session) → Member s own → Own r n s → (k : Key) → rank x s.near.name s.far.name k ≤ suc r → get (wanted x (views own) (view s)) k ≡ goal x places s.near.name s.far.name k
       unfolding wanted

@@ -10,10 +10,10 @@ use Rattle.ov_types.specs.Prefix.{Block, is_inside}
 use Rattle.ov_types.specs.declared.objects.LowKey.{LowKey}
 use Rattle.ov_types.specs.declared.objects.LowValue.{LowValue}
 use Rattle.route_targets.specs.Numbers.{target_of}
-use Rattle.config_check.specs.Checked.{Checked}
+use Rattle.network_model.specs.Setup.{Setup}
 use Rattle.transform_model.specs.Objects.{low_objects}
 use Rattle.node_model.specs.Agent.{needed_by, publication, slice_in_use, told_of}
-use Rattle.node_model.specs.Keys.{Key, Low, Vpn, key_cmp, numbers}
+use Rattle.node_model.specs.Keys.{Key, Low, Vpn, key_cmp}
 use Rattle.node_model.specs.Maps.{Map, objects}
 use Rattle.node_model.specs.Members.{Member}
 use Rattle.node_model.specs.Paths.{Holdings, Told, own_paths}
@@ -29,9 +29,9 @@ use Rattle.node_model.proofs.Objects.{in_objects, object_of}
 use Rattle.node_model.proofs.Orders.{key_exact, key_total}
 use Rattle.node_model.proofs.Wanted.{row_of_path}
 use Rattle.network_model.specs.Moments.{Each}
-use Rattle.network_model.specs.Network.{View, agent_holdings, control_holdings, first_held, same_role, sessions_of, told_by_agent, view, views_of, wanted, wanted_from, with_role}
+use Rattle.network_model.specs.Network.{View, agent_holdings, control_holdings, first_held, same_role, sessions_of, told_on, view, views_of, wanted, wanted_from, with_role}
 use Rattle.network_model.specs.Session.{Agent, Configuration, Controller, Role, Session, turned}
-use Rattle.network_model.specs.Setup.{Name}
+use Rattle.network_model.specs.Setup.{Name, agents_of}
 use Rattle.network_model.specs.Setup.{low as low_map}
 use Rattle.network_model.proofs.Feed.{entries-low}
 use Rattle.network_model.proofs.Twins.{all_to_own, each_weaker}
@@ -97,7 +97,7 @@ ordered_use feed o u m = record {
 }
 
 -- the low-level objects of a configuration are fair where its uses are in order
-pub low_fair : (asn : ℕ) (x : Checked) → AreOrdered (low_map x) → AreFair asn (low_map x)
+pub low_fair : (asn : ℕ) (x : Setup) → AreOrdered (low_map x) → AreFair asn (low_map x)
 low_fair asn x ordered k v e =
     let m = subst (λ (es : List (Key × Value)). Member (pair k v) es) (entries-low x) (member_get key_total key_exact (low_map x) k v e) in
     let q = from_map slice_entry (pair k v) (low_objects x.topology x.config) m in
@@ -152,7 +152,7 @@ feed_of : (asn : ℕ) (own : List Session) → Each (Held asn) own → AreFair a
 feed_of asn [] h = no_fair asn
 feed_of asn (s ∷ own) h = elim (same_role Configuration s.far.role) as (λ b. AreFair asn (first_held (cond b (view s ∷ with_role Configuration (views own)) (with_role Configuration (views own))))) [ true ↦ h.0 | false ↦ feed_of asn own h.1 ]
 
-wanted_fair : (x : Checked) (own : List Session) (v : View) → AreFair x.topology.asn (low_map x) → Each (Held x.topology.asn) own → AreFair x.topology.asn (wanted x (views own) v)
+wanted_fair : (x : Setup) (own : List Session) (v : View) → AreFair x.topology.asn (low_map x) → Each (Held x.topology.asn) own → AreFair x.topology.asn (wanted x (views own) v)
 unfolding wanted
 wanted_fair x own v fed h = go v.role v.other_role
   where
@@ -160,8 +160,8 @@ wanted_fair x own v fed h = go v.role v.other_role
     go Configuration q = fed
     go Agent q = told_fair x.topology.asn (slice_in_use (agent_holdings x v.name (views own)))
     go Controller Configuration = no_fair x.topology.asn
-    go Controller Controller = peers_fair (control_holdings x (views own)) (feed_of x.topology.asn own h)
-    go Controller Agent = agent_fair (control_holdings x (views own)) (feed_of x.topology.asn own h) (told_by_agent x 0 v)
+    go Controller Controller = peers_fair (control_holdings x v.name (views own)) (feed_of x.topology.asn own h)
+    go Controller Agent = agent_fair (control_holdings x v.name (views own)) (feed_of x.topology.asn own h) (told_on (agents_of x v.name) v)
 
 -- ---- of every node
 abbrev pub fair : ℕ → Party → Party → Key → Value → Type 0
@@ -170,11 +170,11 @@ fair asn from to k v = IsFair asn k v
 abbrev pub AllFair : ℕ → Session → Type 0
 AllFair asn = Fair (fair asn)
 
-each_wanted : (asn : ℕ) (x : Checked) (vs : List View) (own : List Session) → ((v : View) → AreFair asn (wanted x vs v)) → Each (λ s. AreFair asn (wanted x vs (view s))) own
+each_wanted : (asn : ℕ) (x : Setup) (vs : List View) (own : List Session) → ((v : View) → AreFair asn (wanted x vs v)) → Each (λ s. AreFair asn (wanted x vs (view s))) own
 each_wanted asn x vs [] h = tt
 each_wanted asn x vs (s ∷ own) h = (h (view s), each_wanted asn x vs own h)
 
-pub fair_wants : (asn : ℕ) (x : Checked) (ss : List Session) (n : Name) → x.topology.asn ≡ asn → AreOrdered (low_map x) → Each (AllFair asn) ss → Each (λ s. AreFair asn (wanted x (views_of n ss) (view s))) (sessions_of n ss)
+pub fair_wants : (asn : ℕ) (x : Setup) (ss : List Session) (n : Name) → x.topology.asn ≡ asn → AreOrdered (low_map x) → Each (AllFair asn) ss → Each (λ s. AreFair asn (wanted x (views_of n ss) (view s))) (sessions_of n ss)
 fair_wants asn x ss n is ordered f =
     let own = sessions_of n ss in
     let held : Each (Held asn) own = all_to_own (Held asn) n ss (each_weaker (AllFair asn) (λ s. Held asn s × Held asn (turned s)) (λ s f. (f.near_held, f.far_held)) ss f) in

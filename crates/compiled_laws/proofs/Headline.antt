@@ -14,7 +14,7 @@ use Rattle.ov_types.specs.declared.numbers.InstanceId.{InstanceId}
 use Rattle.ov_types.specs.declared.rows.Entry.{Entry as Hop}
 use Rattle.ov_types.specs.declared.rows.NodeRows.TheVariants as Rows
 use Rattle.config_model.specs.declared.topology.Node.{Node}
-use Rattle.config_check.specs.Checked.{Checked}
+use Rattle.network_model.specs.Setup.{Setup}
 use Rattle.config_check.specs.Finding.{node_named}
 use Rattle.node_model.specs.Agent as agent
 use Rattle.node_model.specs.Agent.{as_hop, first_some, slice_in_use}
@@ -26,16 +26,15 @@ use Rattle.node_model.specs.Tables.{rows as control_rows_of}
 use Rattle.node_model.specs.Wants.{slice}
 use Rattle.network_model.specs.Events.{shown, shown_of}
 use Rattle.network_model.specs.Moments.{Each, IsAtRest, IsAtRestWith, Nodes, nodes}
-use Rattle.network_model.specs.Network.{Network, address_of, agent_holdings, control_holdings, heard_from, sessions_of, view, views_of, wanted}
-use Rattle.network_model.specs.Session.{Agent, Controller, Role, Session, are_peers, is_up, is_up_phase, turned, waiting}
+use Rattle.network_model.specs.Network.{Network, agent_holdings, config, control_holdings, heard_from, sessions_of, view, views_of, wanted}
+use Rattle.network_model.specs.Session.{Agent, Configuration, Controller, Role, Session, are_peers, is_up, is_up_phase, turned, waiting}
 use Rattle.network_model.specs.Setup.{Name, longest, low}
 use Rattle.network_model.specs.Steps.{is_rested, is_settled}
 use Rattle.network_model.proofs.Twins.{NoTwins, each_and, each_weaker, own_to_all}
 use Rattle.network_laws.specs.Settling as settling
 use Rattle.compiled_laws.specs.Compiled.{agent_rows, compiled, control_rows, rows_for, told_to_agent}
-use Rattle.compiled_laws.specs.Goal.{IsLaid, agents_among, goal, others, rank, role_of}
+use Rattle.compiled_laws.specs.Goal.{IsLaid, address_of, agents_among, goal, others, rank, role_in, role_of}
 use Rattle.compiled_laws.proofs.Assembly.{Own, all_held, near_is, own_each, right_by, role_agent, served, slice_right, steps, theirs}
-use Rattle.compiled_laws.proofs.Fair.{fair}
 use Rattle.compiled_laws.proofs.RankBounds.{rank-ge}
 use Rattle.compiled_laws.proofs.Shown.{agent_compiled, rows_compiled}
 use Rattle.compiled_laws.proofs.Views.{far, fars_are, heard, views}
@@ -51,6 +50,9 @@ all_up (s ∷ ss) e =
     let a = and_parts (is_up s.near && is_up s.far && (waiting s == 0)) (waiting (turned s) == 0) p.0 in
     let b = and_parts (is_up s.near && is_up s.far) (waiting s == 0) a.0 in
     let c = and_parts (is_up s.near) (is_up s.far) b.0 in ((c.0, c.1), all_up ss p.1)
+
+role_not : (x : Setup) (n : Name) (r : Role) → same_name n config ≡ false → role_in (node_named x.topology n) ≡ r → role_of x n ≡ r
+role_not x n r e h = ap (λ b. cond b Configuration (role_in (node_named x.topology n))) e ∙ h
 
 -- ---- the routes of an agent
 module _ (i : InstanceId) (p : Block) (g : Option Hop) where
@@ -99,7 +101,7 @@ heard_either F (s ∷ own) m h = go (heard_either F own m h.1) (same_name s.far.
 
 module _ (w : Network) (laid : IsLaid w.setup (map nodes w.sessions)) (apart : NoTwins (map nodes w.sessions))
     (P : Session → Type 0) (fairs : (s : Session) → P s → IsTargeted w.setup.topology.asn s.near.held × IsTargeted w.setup.topology.asn s.far.held) (fair : Each P w.sessions) (rest : IsAtRest w) (settled : is_settled w ≡ true) where
-  abbrev x : Checked
+  abbrev x : Setup
   x = w.setup
 
   abbrev places : List Nodes
@@ -146,11 +148,11 @@ module _ (w : Network) (laid : IsLaid w.setup (map nodes w.sessions)) (apart : N
   facts n = own_each x places laid P fairs last w.sessions refl fair (rights last) n
 
   -- ---- a control node
-  control_holds : (n : Name) → role_of x n ≡ Controller → (one : Session) → Member one (sessions_of n w.sessions) → control_rows_of (control_holdings x (views_of n w.sessions)) ≡ control_rows (low x)
+  control_holds : (n : Name) → role_of x n ≡ Controller → (one : Session) → Member one (sessions_of n w.sessions) → control_rows_of (control_holdings x n (views_of n w.sessions)) ≡ control_rows (low x)
   unfolding last
   control_holds n is one m =
       let own = sessions_of n w.sessions in let os = fars_are n w.sessions in
-      let mine' = agents_among x (map far own) in
+      let mine' = agents_among x n (map far own) in
       let theirs' = theirs x places laid last n is own (facts n) os one m in
       let served' = served x places laid last n is own (facts n) os one m in
       ap control_rows_of (all_held x places laid last n is own (facts n) os one m (less (longest x)))

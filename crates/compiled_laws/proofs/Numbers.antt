@@ -1,7 +1,7 @@
 -- Instances, circuits and what places import.
 use Rattle.std.specs.Prelude.{Bool, cond, false, not, true, ℕ, ◌+◌, ◌-◌, ◌/◌, ◌<◌, ◌≡◌, ◌≤◌, ◌⊎◌}
 use Rattle.std.proofs.Common.{ap, arith, inl, inr, refl, ◌*◌}
-use Rattle.std.proofs.lemmas.Bool.{eq-eqb, eqb-true, true≢false}
+use Rattle.std.proofs.lemmas.Bool.{eq-eqb, eqb-true}
 use Rattle.ov_types.specs.declared.numbers.InstanceId.{InstanceId}
 use Rattle.route_targets.specs.Numbers.{circuit_instance_of, left_circuit_of, right_circuit_of}
 use Rattle.node_model.specs.Maps.{Map}

@@ -14,8 +14,6 @@ use Rattle.ov_types.specs.declared.numbers.Rd.{Rd}
 use Rattle.ov_types.specs.declared.prefix.Addr.{Addr}
 use Rattle.ov_types.specs.declared.vpn.VpnKey.{VpnKey}
 use Rattle.route_targets.specs.Numbers.{distinguisher_of, target_of}
-use Rattle.transform_model.specs.IsObject.{of_use}
-use Rattle.node_model.specs.Agent.{attached}
 use Rattle.node_model.specs.Keys.{Key, Low, Publish, Row, Subscribe, Vpn}
 use Rattle.node_model.specs.Maps.{Map}
 use Rattle.node_model.specs.Members.{Member}

@@ -11,20 +11,21 @@ use Rattle.std.proofs.lemmas.Option.{same_Some}
 use Rattle.ov_types.specs.First.{same_name}
 use Rattle.ov_types.specs.declared.rows.NodeId.{NodeId}
 use Rattle.config_model.specs.declared.topology.Node.{Node}
-use Rattle.config_check.specs.Checked.{Checked}
 use Rattle.config_check.specs.Finding.{node_named}
 use Rattle.config_check.specs.Rules.{controller_names, node_names}
 use Rattle.node_model.specs.Keys.{at}
 use Rattle.node_model.specs.Members.{Member}
 use Rattle.node_model.proofs.Members.{any_in, from_any, from_filter_map, from_map, in_either, in_filter, in_filter_map, in_flat_map, in_left, in_map, in_right, none_some}
-use Rattle.network_model.specs.Moments.{Nodes, nodes}
-use Rattle.network_model.specs.Network.{accesses, address_of, config, feeds, lists, peerings, start}
-use Rattle.network_model.specs.Session.{Agent, Configuration, Controller, Session}
-use Rattle.network_model.specs.Setup.{Name, longest, low}
+use Rattle.network_model.specs.Moments.{AreOnce, Nodes, NumbersFit, nodes}
+use Rattle.network_model.specs.Network.{accesses, address_in, asked, config, feeds, peerings}
+use Rattle.network_model.specs.Session.{Agent, Configuration, Controller, Role, Session}
+use Rattle.network_model.specs.Setup.{Name, Setup, agents_of, id_of, lists, low}
+use Rattle.network_model.proofs.Listed.{listed_member}
 use Rattle.network_model.proofs.Twins.{itself}
-use Rattle.network_model.proofs.Apart.{IsPeering, IsAccess, peer_link, access_link, feed_session, peer_session, access_session, from_peerings, from_accesses, Apart, NamesApart, same_false}
+use Rattle.network_model.proofs.Apart.{IsAccess, IsPeering, NamesApart, access_link, access_session, feed_session, from_accesses, from_peerings, peer_link, peer_session}
+use Rattle.network_model.proofs.Distinct.{Apart, same_false}
 use Rattle.compiled_laws.specs.Compiled.{Agents}
-use Rattle.compiled_laws.specs.Goal.{HasRoles, IsLaid, Party, agents_at, is_in_role, other_end, others, peers_at, role_in, role_of}
+use Rattle.compiled_laws.specs.Goal.{HasRoles, IsLaid, Party, address_of, agents_at, numbered_at, is_in_role, other_end, others, peers_at, role_in, role_of}
 use Rattle.compiled_laws.specs.Setups.{IsSoundSetup}
 use Rattle.compiled_laws.specs.Sound.{IsAmong, IsServed}
 use Rattle.compiled_laws.proofs.Names.{apart_names}
@@ -68,12 +69,12 @@ all_of : (P : Nodes → Type 0) (ps : List Nodes) → ((p : Nodes) → Member p 
 all_of P [] h = tt
 all_of P (p ∷ ps) h = (h p (inl refl), all_of P ps (λ q m. h q (inr m)))
 
-module _ (x : Checked) (valid : IsSoundSetup x) where
-  names : NamesApart x
-  names = apart_names x valid.named.apart
+module _ (x : Setup) (valid : IsSoundSetup x) (fits : (c : NodeId) → Member c x.topology.controllers → NumbersFit x.topology c (agents_of x c.name)) where
+  names : NamesApart x.topology
+  names = apart_names x.topology valid.named.apart
 
   abbrev pub places : List Nodes
-  places = map nodes (start x).sessions
+  places = map nodes (asked x.topology)
 
   site_name : (c : NodeId) → Member c x.topology.controllers → Member c.name (controller_names x.topology)
   site_name c m = in_map (λ (c : NodeId). c.name) c x.topology.controllers m
@@ -98,25 +99,25 @@ module _ (x : Checked) (valid : IsSoundSetup x) where
   -- ---- kinds
   kind : (p : Nodes) → Member p places → IsFeed x.topology.controllers p ⊎ (IsPeering x.topology.controllers p ⊎ IsAccess x.topology.controllers x.topology.nodes p)
   kind p m =
-      let q = from_map nodes p (start x).sessions m in
+      let q = from_map nodes p (asked x.topology) m in
       elim (in_either q.0 (feeds x.topology.controllers ++ peerings x.topology.controllers) (accesses x.topology.controllers x.topology.nodes) q.1) as (λ _. IsFeed x.topology.controllers p ⊎ (IsPeering x.topology.controllers p ⊎ IsAccess x.topology.controllers x.topology.nodes p)) [
         | inl l ↦ elim (in_either q.0 (feeds x.topology.controllers) (peerings x.topology.controllers) l) as (λ _. IsFeed x.topology.controllers p ⊎ (IsPeering x.topology.controllers p ⊎ IsAccess x.topology.controllers x.topology.nodes p)) [
           | inl f ↦ let c = from_map feed_session q.0 x.topology.controllers f in inl (c.0, c.1, ap nodes c.2 ∙ q.2)
           | inr f ↦ let c = from_peerings x.topology.controllers q.0 f in inr (inl (c.0, c.1, c.2, c.3, c.4 ∙ q.2))
         ]
-        | inr r ↦ let c = from_accesses x.topology.controllers x.topology.nodes q.0 r in inr (inr (c.0, c.1, c.2, c.3, c.4 ∙ q.2))
+        | inr r ↦ let c = from_accesses x.topology.controllers x.topology.nodes q.0 r in inr (inr (c.0, c.1, c.2, c.3, c.4 ∙ q.2, c.5))
       ]
 
   in_feeds : (c : NodeId) → Member c x.topology.controllers → Member (feed_link c) places
   in_feeds c m =
-      in_map nodes (feed_session c) (start x).sessions (in_left (feed_session c) (feeds x.topology.controllers ++ peerings x.topology.controllers) (accesses x.topology.controllers x.topology.nodes)
+      in_map nodes (feed_session c) (asked x.topology) (in_left (feed_session c) (feeds x.topology.controllers ++ peerings x.topology.controllers) (accesses x.topology.controllers x.topology.nodes)
       (in_left (feed_session c) (feeds x.topology.controllers) (peerings x.topology.controllers) (in_map feed_session c x.topology.controllers m)))
 
   peer_in : (s : Session) → Member s (peerings x.topology.controllers) → Member (nodes s) places
-  peer_in s m = in_map nodes s (start x).sessions (in_left s (feeds x.topology.controllers ++ peerings x.topology.controllers) (accesses x.topology.controllers x.topology.nodes) (in_right s (feeds x.topology.controllers) (peerings x.topology.controllers) m))
+  peer_in s m = in_map nodes s (asked x.topology) (in_left s (feeds x.topology.controllers ++ peerings x.topology.controllers) (accesses x.topology.controllers x.topology.nodes) (in_right s (feeds x.topology.controllers) (peerings x.topology.controllers) m))
 
   access_in : (s : Session) → Member s (accesses x.topology.controllers x.topology.nodes) → Member (nodes s) places
-  access_in s m = in_map nodes s (start x).sessions (in_right s (feeds x.topology.controllers ++ peerings x.topology.controllers) (accesses x.topology.controllers x.topology.nodes) m)
+  access_in s m = in_map nodes s (asked x.topology) (in_right s (feeds x.topology.controllers ++ peerings x.topology.controllers) (accesses x.topology.controllers x.topology.nodes) m)
 
   roles_at : (p : Nodes) → Member p places → HasRoles x p
   roles_at p m =
@@ -200,16 +201,12 @@ module _ (x : Checked) (valid : IsSoundSetup x) where
   site_named : (name : Name) → Member name (controller_names x.topology) → SiteOf name
   site_named name m = from_map (λ (c : NodeId). c.name) name x.topology.controllers m
 
-  -- an agent among the others is among the agents
-  is_among : (c : NodeId) (n : Node) → Member n x.topology.nodes → Member (n.name, Agent) (others c.name places) → IsAmong n.address (agents_at x places c.name)
-  is_among c n k m =
-      let os = others c.name places in
-      let first = 1 + length (filter (is_in_role Controller) os) in
-      let e = in_enumerate first (n.name, Agent) (filter (is_in_role Agent) os) (in_filter (is_in_role Agent) (n.name, Agent) os m refl) in (
-        (e.0, address_of x n.name),
-        in_map (λ (e : ℕ × Party). (e.0, address_of x e.1.0)) (e.0, (n.name, Agent)) (enumerate_from first (filter (is_in_role Agent) os)) e.1,
-        ap (λ (o : Option Node). unwrap_or (option_map (λ (c : Node). c.address) o) (record { 0 = 0 })) (computer_found x.topology.nodes n names.computers_apart k),
-      )
+  -- an agent that lists a control node is among its agents
+  is_among : (c : NodeId) (n : Node) → Member c x.topology.controllers → Member n x.topology.nodes → Member c.name n.controllers → IsAmong n.address (agents_at x places c.name)
+  is_among c n i k l =
+      let first = 1 + length (filter (is_in_role Controller) (others c.name places)) in
+      let e = in_enumerate first (Some (id_of n)) (agents_of x c.name) ((fits c i).all n k (lists_it n c l)) in
+      ((e.0, n.address), in_filter_map (λ (e : ℕ × Option NodeId). numbered_at e.0 e.1) (e.0, Some (id_of n)) (e.0, n.address) (enumerate_from first (agents_of x c.name)) e.1 refl, refl)
 
   served : (c : NodeId) → Member c x.topology.controllers → IsServed (low x) (agents_at x places c.name) (peers_at x places c.name)
   served c m a at =
@@ -219,7 +216,7 @@ module _ (x : Checked) (valid : IsSoundSetup x) where
       let first : Member l.0 n.controllers = subst (Member l.0) (sym l.2) (inl refl) in
       let d = site_named l.0 (valid.named.listed n l.0 h.1 first) in
       let lists_d : Member d.0.name n.controllers = subst (λ name. Member name n.controllers) (sym d.2) first in
-      let among : IsAmong a.node (agents_at x places d.0.name) = subst (λ address. IsAmong address (agents_at x places d.0.name)) h.2 (is_among d.0 n h.1 (agent_among d.0 n d.1 h.1 lists_d)) in
+      let among : IsAmong a.node (agents_at x places d.0.name) = subst (λ address. IsAmong address (agents_at x places d.0.name)) h.2 (is_among d.0 n d.1 h.1 lists_d) in
       elim (same_name c.name d.0.name) as (λ b. same_name c.name d.0.name ≡ b → IsAmong a.node (agents_at x places c.name) ⊎ ((o : Agents) × Member o (peers_at x places c.name) × IsAmong a.node o)) [
         | true ↦ λ e. inl (subst (λ name. IsAmong a.node (agents_at x places name)) (sym (name_is c.name d.0.name e)) among)
         | false ↦ λ e. inr (
@@ -229,6 +226,79 @@ module _ (x : Checked) (valid : IsSoundSetup x) where
           among,
         )
       ] refl
+
+  node_address : (n : Node) → Member n x.topology.nodes → address_of x n.name ≡ n.address
+  node_address n k = ap (λ (o : Option Node). unwrap_or (option_map (λ (c : Node). c.address) o) (record { 0 = 0 })) (computer_found x.topology.nodes n names.computers_apart k)
+
+  -- each number
+  numbered : (c : NodeId) → Member c x.topology.controllers → (a : NodeId) → Member (Some a) (agents_of x c.name) → Member (a.name, Agent) (others c.name places) × (address_of x a.name ≡ a.address)
+  numbered c i a m =
+      let n = (fits c i).only a m in
+      let lists_c : Member c.name n.0.controllers = listed_member c n.0 n.3 in
+      subst (λ (a : NodeId). Member (a.name, Agent) (others c.name places) × (address_of x a.name ≡ a.address)) n.2 (agent_among c n.0 i n.1 lists_c, node_address n.0 n.1)
+
+  end_is : (n : Name) (p : Nodes) (o : Party) → other_end n p ≡ Some o → ((p.0.0 ≡ n) × (p.1 ≡ o)) ⊎ ((p.1.0 ≡ n) × (p.0 ≡ o))
+  end_is n p o e =
+      elim (same_name p.0.0 n) as (λ b. same_name p.0.0 n ≡ b → cond b (Some p.1) (cond (same_name p.1.0 n) (Some p.0) None) ≡ Some o → ((p.0.0 ≡ n) × (p.1 ≡ o)) ⊎ ((p.1.0 ≡ n) × (p.0 ≡ o))) [
+        | true ↦ λ t e. inl (name_is p.0.0 n t, same_Some p.1 o e)
+        | false ↦ λ _ e. elim (same_name p.1.0 n) as (λ b. same_name p.1.0 n ≡ b → cond b (Some p.0) None ≡ Some o → ((p.0.0 ≡ n) × (p.1 ≡ o)) ⊎ ((p.1.0 ≡ n) × (p.0 ≡ o))) [
+          | true ↦ λ t e. inr (name_is p.1.0 n t, same_Some p.0 o e)
+          | false ↦ λ _ e. absurd (none_some o e)
+        ] refl e
+      ] refl e
+
+  no_agent : (r : Role) (o : Party) → (r ≡ Agent → ⊥) → r ≡ o.1 → o.1 ≡ Agent → ⊥
+  no_agent r o h e f = h (e ∙ f)
+
+  control_no : Controller ≡ Agent → ⊥
+  control_no e = cc
+
+  config_no : Configuration ≡ Agent → ⊥
+  config_no e = cc
+
+  -- an agent among the others lists the control node
+  abbrev AgentOf : Name → Name → Type 0
+  AgentOf n m = (c : NodeId) × Member c x.topology.controllers × (c.name ≡ n) × (k : Node) × Member k x.topology.nodes × (k.name ≡ m) × (lists k c ≡ true)
+
+  agent_of : (n : Name) (o : Party) → Member o (others n places) → o.1 ≡ Agent → AgentOf n o.0
+  agent_of n o m h =
+      let q = from_filter_map (other_end n) o places m in
+      let p = q.0 in
+      let e = end_is n p o q.2 in
+      elim (kind p q.1) as (λ _. AgentOf n o.0) [
+        | inl f ↦ elim e as (λ _. AgentOf n o.0) [
+          | inl a ↦ absurd (no_agent Controller o control_no (ap (λ (p : Nodes). p.1.1) f.2 ∙ ap (λ (o : Party). o.1) a.1) h)
+          | inr a ↦ absurd (no_agent Configuration o config_no (ap (λ (p : Nodes). p.0.1) f.2 ∙ ap (λ (o : Party). o.1) a.1) h)
+        ]
+        | inr r ↦ elim r as (λ _. AgentOf n o.0) [
+          | inl f ↦ elim e as (λ _. AgentOf n o.0) [
+            | inl a ↦ absurd (no_agent Controller o control_no (ap (λ (p : Nodes). p.1.1) f.4 ∙ ap (λ (o : Party). o.1) a.1) h)
+            | inr a ↦ absurd (no_agent Controller o control_no (ap (λ (p : Nodes). p.0.1) f.4 ∙ ap (λ (o : Party). o.1) a.1) h)
+          ]
+          | inr f ↦ elim e as (λ _. AgentOf n o.0) [
+            | inl a ↦ (f.0, f.1, ap (λ (p : Nodes). p.0.0) f.4 ∙ a.0, f.2, f.3, ap (λ (p : Nodes). p.1.0) f.4 ∙ ap (λ (o : Party). o.0) a.1, f.5)
+            | inr a ↦ absurd (no_agent Controller o control_no (ap (λ (p : Nodes). p.0.1) f.4 ∙ ap (λ (o : Party). o.1) a.1) h)
+          ]
+        ]
+      ]
+
+  address_found : (a : NodeId) (agents : List (Option NodeId)) → AreOnce agents → Member (Some a) agents → address_in agents a.name ≡ a.address
+  address_found a [] h m = absurd m
+  address_found a (None ∷ agents) h (inl e) = absurd (none_some a e)
+  address_found a (None ∷ agents) h (inr m) = address_found a agents h m
+  address_found a (Some b ∷ agents) h (inl e) =
+      let f : b ≡ a = same_Some b a e in
+      ap (λ c. cond c b.address (address_in agents a.name)) (subst (λ (k : NodeId). same_name b.name k.name ≡ true) f (itself b.name)) ∙ ap (λ (k : NodeId). k.address) f
+  address_found a (Some b ∷ agents) h (inr m) =
+      ap (λ c. cond c b.address (address_in agents a.name)) (same_false b.name a.name (h.0 a m)) ∙ address_found a agents h.1 m
+
+  addressed : (n : Name) (o : Party) → Member o (others n places) → o.1 ≡ Agent → address_in (agents_of x n) o.0 ≡ address_of x o.0
+  addressed n o m e =
+      let q = agent_of n o m e in
+      let fit = fits q.0 q.1 in
+      let found : address_in (agents_of x q.0.name) q.3.name ≡ q.3.address = address_found (id_of q.3) (agents_of x q.0.name) fit.once (fit.all q.3 q.4 q.6) in
+      let there : address_in (agents_of x n) o.0 ≡ q.3.address = subst (λ (n : Name). address_in (agents_of x n) o.0 ≡ q.3.address) q.2 (subst (λ (k : Name). address_in (agents_of x q.0.name) k ≡ q.3.address) q.5 found) in
+      there ∙ sym (subst (λ (k : Name). address_of x k ≡ q.3.address) q.5 (node_address q.3 q.4))
 
   computer_is : (ns : List Node) (name : Name) (c : Node) → find (λ n. same_name n.name name) ns ≡ Some c → Member c ns × (c.name ≡ name)
   computer_is [] name c e = absurd (none_some c e)
@@ -246,6 +316,8 @@ module _ (x : Checked) (valid : IsSoundSetup x) where
     roles = all_of (HasRoles x) places roles_at;
     fed = λ n o m h. let s = site_of n o m h in (config, subst (λ n. Member (config, Configuration) (others n places)) s.2 (feed_among s.0 s.1));
     served = λ n o m h. let s = site_of n o m h in subst (λ n. IsServed (low x) (agents_at x places n) (peers_at x places n)) s.2 (served s.0 s.1);
+    numbered = λ n o m h. let s = site_of n o m h in subst (λ n. (a : NodeId) → Member (Some a) (agents_of x n) → Member (a.name, Agent) (others n places) × (address_of x a.name ≡ a.address)) s.2 (numbered s.0 s.1);
+    addressed = λ n o m h e. addressed n o m e;
     first = λ n c e h.
         let k = computer_is x.topology.nodes n c e in
         let l = valid.named.lists c k.0 in

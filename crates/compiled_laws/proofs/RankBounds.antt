@@ -7,8 +7,7 @@ use Rattle.std.proofs.Common.{arith, refl, subst, sym, ◌∙◌}
 use Rattle.std.proofs.lemmas.Bool.{leb-true, true≢false}
 use Rattle.ov_types.specs.Prefix.{Block}
 use Rattle.ov_types.specs.declared.numbers.InstanceId.{InstanceId}
-use Rattle.config_check.specs.Checked.{Checked}
-use Rattle.transform_model.proofs.Circuits.{is_right}
+use Rattle.network_model.specs.Setup.{Setup}
 use Rattle.node_model.specs.Keys.{Key, Low, Publish, Row, Subscribe, Vpn}
 use Rattle.node_model.specs.Maps.{Map}
 use Rattle.node_model.specs.Ranks.{depth, depth_in, instance_in, peer_rank}
@@ -37,7 +36,7 @@ agent_rank-ge n (Row i p) = omega arith
 agent_rank-ge n (Publish i p) = omega arith
 agent_rank-ge n (Subscribe i) = omega arith
 
-pub rank-ge : (x : Checked) (p q : Role) (k : Key) → 1 ≤ rank_by x p q k
+pub rank-ge : (x : Setup) (p q : Role) (k : Key) → 1 ≤ rank_by x p q k
 rank-ge x Configuration q k = omega arith
 rank-ge x Agent q k = omega arith
 rank-ge x Controller Configuration k = omega arith
@@ -63,7 +62,7 @@ depth_in-le u j p =
     inner false true h = h
     inner false false h = omega arith
 
-depth-le : (x : Checked) (places : List Nodes) → IsLaid x places → (i : InstanceId) (p : Block) → depth (low x) i p ≤ longest x
+depth-le : (x : Setup) (places : List Nodes) → IsLaid x places → (i : InstanceId) (p : Block) → depth (low x) i p ≤ longest x
 depth-le x places laid i p =
     elim (is_hop i) as (λ b. cond b (depth_in p (place_of i) (held_use (low x) i)) 0 ≤ longest x) [
       | true ↦ go (held_use (low x) i) refl
@@ -80,7 +79,7 @@ depth-le x places laid i p =
     go None e = zero_le (longest x)
     go (Some u) e = more (depth_in p (place_of i) (Some u)) u.services (longest x) (depth_in-le u (place_of i) p) (laid.longest (record { chain = u; is_right = true }) (in_sides (low x) u true (use_found (low x) (use_of i) u e).0))
 
-pub peer_rank-le : (x : Checked) (places : List Nodes) → IsLaid x places → (k : Key) → peer_rank (low x) k ≤ 4 + longest x
+pub peer_rank-le : (x : Setup) (places : List Nodes) → IsLaid x places → (k : Key) → peer_rank (low x) k ≤ 4 + longest x
 peer_rank-le x places laid (Vpn k) = add (depth (low x) (instance_in k.rd) k.prefix) (longest x) (depth-le x places laid (instance_in k.rd) k.prefix)
   where
     add : (a b : ℕ) → a ≤ b → 4 + a ≤ 4 + b
@@ -103,7 +102,7 @@ one_le n = omega arith
 three_le : (n : ℕ) → 3 ≤ n + 5
 three_le n = omega arith
 
-rank_by-le : (y : Checked) (places : List Nodes) → IsLaid y places → (p q : Role) (k : Key) → rank_by y p q k ≤ longest y + 5
+rank_by-le : (y : Setup) (places : List Nodes) → IsLaid y places → (p q : Role) (k : Key) → rank_by y p q k ≤ longest y + 5
 rank_by-le y places laid Configuration q k = one_le (longest y)
 rank_by-le y places laid Agent q k = three_le (longest y)
 rank_by-le y places laid Controller Configuration k = one_le (longest y)
@@ -113,7 +112,7 @@ rank_by-le y places laid Controller Controller k = more (peer_rank (low y) k) (l
     more a n h = omega arith
 rank_by-le y places laid Controller Agent k = agent_rank-le (longest y) k
 
-pub rank-le : (y : Checked) (places : List Nodes) → IsLaid y places → (from to : Name) (k : Key) → rank y from to k ≤ longest y + 5
+pub rank-le : (y : Setup) (places : List Nodes) → IsLaid y places → (from to : Name) (k : Key) → rank y from to k ≤ longest y + 5
 rank-le y places laid from to k = rank_by-le y places laid (role_of y from) (role_of y to) k
 
 -- ---- on a session
@@ -124,7 +123,7 @@ peers_are Controller Agent e = absurd (true≢false (sym e))
 peers_are Configuration q e = absurd (true≢false (sym e))
 peers_are Agent q e = absurd (true≢false (sym e))
 
-module _ (y : Checked) (places : List Nodes) (laid : IsLaid y places) where
+module _ (y : Setup) (places : List Nodes) (laid : IsLaid y places) where
   fit : (p : Nodes) → HasRoles y p → RanksFit (rank y) p
   fit p r = (
     (λ k. rank-ge y (role_of y p.1.0) (role_of y p.0.0) k),

@@ -32,7 +32,6 @@ use Rattle.node_model.specs.Wants.{slice}
 use Rattle.node_model.proofs.Heard.{first_rows, route_is, row_exact, row_total}
 use Rattle.node_model.proofs.Members.{any_in, entry_in, from_any, from_entry, from_flat_map, from_map, get_member, in_flat_map, in_map, member_get, none_some}
 use Rattle.node_model.proofs.Orders.{prefix_exact, prefix_total}
-use Rattle.node_model.proofs.Wanted.{slice_is}
 use Rattle.compiled_laws.specs.Compiled.{Agents, agent_rows, compiled_holdings, compiled_table, control_rows, row_at, rows_in, told_to_agent}
 use Rattle.compiled_laws.specs.Sound.{IsServed, IsSound}
 use Rattle.compiled_laws.proofs.AgentMaps.{hop_of, rows-told_to_agent}

@@ -16,7 +16,6 @@ use Rattle.ov_types.specs.declared.objects.LowValue.TheVariants as low
 use Rattle.ov_types.specs.declared.objects.LowValue.{LowValue}
 use Rattle.ov_types.specs.declared.prefix.Addr.{Addr}
 use Rattle.route_targets.specs.Numbers.{circuit_instance_of, distinguisher_of, target_of}
-use Rattle.node_model.specs.Agent as agent
 use Rattle.node_model.specs.Agent.{needed_by, publication, told_of}
 use Rattle.node_model.specs.Keys.{Key, Low, Publish, Row, Subscribe, Vpn}
 use Rattle.node_model.specs.Maps.{Map, as_label, objects}
@@ -29,7 +28,6 @@ use Rattle.node_model.proofs.Members.{entry_in, from_entry, from_filter, from_fi
 use Rattle.node_model.proofs.Orders.{key_exact, key_total}
 use Rattle.node_model.proofs.Routes.{own_route_from, own_route_in, label_is, led_by}
 use Rattle.node_model.proofs.Wanted.{instance_at, address_is}
-use Rattle.network_model.specs.Session.{told}
 use Rattle.node_model.proofs.Alike.{as_label_no}
 use Rattle.compiled_laws.specs.Compiled.{Agents, Attachment, as_attachment, attachments, circuit_prefix, holds, local, told_by_agent}
 use Rattle.compiled_laws.specs.Sound.{IsAmong, IsSound}

@@ -5,8 +5,6 @@ use Rattle.std.proofs.lemmas.Bool.{and_from, and_parts, le-leb, leb-true, or_cas
 use Rattle.ov_types.specs.Prefix.{Block, is_inside, size_of}
 use Rattle.ov_types.specs.declared.numbers.InstanceId.{InstanceId}
 use Rattle.route_targets.specs.Numbers.{circuit_instance_of, target_of}
-use Rattle.transform_model.specs.IsObject.{of_use}
-use Rattle.transform_model.proofs.Circuits.{is_right}
 use Rattle.node_model.specs.Maps.{Map}
 use Rattle.node_model.specs.Members.{Member}
 use Rattle.node_model.specs.Paths.{Holdings, Path, has_target, own_paths, peer_paths, received}

@@ -1,21 +1,23 @@
 -- The holdings of a node from its sessions.
 use Rattle.std.specs.Cmp.Lexicographic.{bytes_decides}
-use Rattle.std.specs.List.{AllByRecursion, AllZip, cons_option, enumerate_from, filter}
+use Rattle.std.specs.List.{AllByRecursion, AllZip, cons_option, enumerate_from, filter, filter_map}
 use Rattle.std.specs.Prelude.{List, cond, false, length, map, suc, true, ℕ, [], ◌+◌, ◌∷◌, ◌≡◌}
 use Rattle.std.specs.declared.option.Option.TheVariants.{None, Some}
 use Rattle.std.proofs.Common.{ap, inl, inr, refl, sym, ◌∙◌}
 use Rattle.std.proofs.lemmas.Bool.{true≢false}
+use Rattle.std.specs.declared.option.Option.{Option}
 use Rattle.ov_types.specs.First.{same_name}
-use Rattle.config_check.specs.Checked.{Checked}
+use Rattle.ov_types.specs.declared.rows.NodeId.{NodeId}
+use Rattle.network_model.specs.Setup.{Setup}
 use Rattle.node_model.specs.Maps.{Map}
 use Rattle.node_model.specs.Members.{Member}
 use Rattle.network_model.specs.Moments.{Each, nodes}
-use Rattle.network_model.specs.Network.{View, address_of, control_holdings, first_held, heard_from, is_at, same_role, sessions_of, told_by_agent, view, with_role}
-use Rattle.network_model.specs.Session.{Agent, Configuration, Controller, Role, Session, is_up, is_up_phase, turned}
-use Rattle.network_model.specs.Setup.{Name, low}
+use Rattle.network_model.specs.Network.{View, control_holdings, first_held, heard_from, is_at, same_role, sessions_of, told_by, view, with_role}
+use Rattle.network_model.specs.Session.{Agent, Configuration, Controller, Role, Session, is_up_phase, turned}
+use Rattle.network_model.specs.Setup.{Name, agents_of, low}
 use Rattle.compiled_laws.specs.Compiled as compiled
 use Rattle.compiled_laws.specs.Compiled.{Agents}
-use Rattle.compiled_laws.specs.Goal.{Party, agents_among, is_in_role, others}
+use Rattle.compiled_laws.specs.Goal.{Party, agents_among, is_in_role, numbered_at, others}
 use Rattle.compiled_laws.proofs.Told.{told_map}
 
 abbrev pub far : Session → Party
@@ -67,15 +69,12 @@ feed_held feed (s ∷ own) h m i =
       | false ↦ λ e. feed_held feed own h.1 m (elim i as (λ _. Member (m, Configuration) (map far own)) [ inl is ↦ absurd (true≢false (sym (ap (λ (o : Party). same_role Configuration o.1) is) ∙ e)) | inr i ↦ i ])
     ] refl
 
-agents_held : (x : Checked) (m : ℕ) (own : List Session) → Each (λ s. s.far.role ≡ Agent → s.near.held ≡ told_map (low x) (address_of x s.far.name)) own
-    → map (λ e. told_by_agent x e.0 e.1) (enumerate_from m (with_role Agent (views own))) ≡ map (compiled.told_by_agent (low x)) (map (λ e. (e.0, address_of x e.1.0)) (enumerate_from m (filter (is_in_role Agent) (map far own))))
-agents_held x m [] h = refl
-agents_held x m (s ∷ own) h =
-    elim (same_role Agent s.far.role) as (λ b. same_role Agent s.far.role ≡ b → map (λ e. told_by_agent x e.0 e.1) (enumerate_from m (cond b (view s ∷ with_role Agent (views own)) (with_role Agent (views own))))
-    ≡ map (compiled.told_by_agent (low x)) (map (λ e. (e.0, address_of x e.1.0)) (enumerate_from m (cond b (far s ∷ filter (is_in_role Agent) (map far own)) (filter (is_in_role Agent) (map far own)))))) [
-      | true ↦ λ e. λ i. record { session = m; address = address_of x s.far.name; map = h.0 (role_is Agent s.far.role e) i } ∷ agents_held x (m + 1) own h.1 i
-      | false ↦ λ e. agents_held x m own h.1
-    ] refl
+agents_held : (x : Setup) (m : ℕ) (own : List Session) (agents : List (Option NodeId)) → ((a : NodeId) → Member (Some a) agents → (heard_from (views own) a.name).map ≡ told_map (low x) a.address)
+    → filter_map (λ e. told_by (views own) e.0 e.1) (enumerate_from m agents) ≡ map (compiled.told_by_agent (low x)) (filter_map (λ e. numbered_at e.0 e.1) (enumerate_from m agents))
+agents_held x m own [] h = refl
+agents_held x m own (None ∷ agents) h = agents_held x (m + 1) own agents (λ a i. h a (inr i))
+agents_held x m own (Some a ∷ agents) h =
+    λ i. record { session = m; address = a.address; map = h a (inl refl) i } ∷ agents_held x (m + 1) own agents (λ a i. h a (inr i)) i
 
 controllers_many : (own : List Session) → length (with_role Controller (views own)) ≡ length (filter (is_in_role Controller) (map far own))
 controllers_many [] = refl
@@ -116,12 +115,12 @@ same_zip (m ∷ ms) [] z = absurd z
 same_zip (m ∷ ms) (n ∷ ns) z = λ i. z.0 i ∷ same_zip ms ns z.1 i
 
 -- what a control node holds, by the maps of its peers
-pub control_is : (x : Checked) (own : List Session) → Each (λ s. s.far.role ≡ Configuration → s.near.held ≡ (low x)) own → Each (λ s. s.far.role ≡ Agent → s.near.held ≡ told_map (low x) (address_of x s.far.name)) own → (m : Name) → Member (m, Configuration) (map far own)
-    → control_holdings x (views own) ≡ record { asn = x.topology.asn; feed = (low x); peers = peer_maps own; agents = map (compiled.told_by_agent (low x)) (agents_among x (map far own)) }
-control_is x own f a m i =
+pub control_is : (x : Setup) (name : Name) (own : List Session) → Each (λ s. s.far.role ≡ Configuration → s.near.held ≡ (low x)) own → ((a : NodeId) → Member (Some a) (agents_of x name) → (heard_from (views own) a.name).map ≡ told_map (low x) a.address) → (m : Name) → Member (m, Configuration) (map far own)
+    → control_holdings x name (views own) ≡ record { asn = x.topology.asn; feed = (low x); peers = peer_maps own; agents = map (compiled.told_by_agent (low x)) (agents_among x name (map far own)) }
+control_is x name own f a m i =
     let fed = feed_held (low x) own f m i in
     let many = controllers_many own in
-    let agents = ap (λ n. map (λ e. told_by_agent x e.0 e.1) (enumerate_from (1 + n) (with_role Agent (views own)))) many ∙ agents_held x (1 + length (filter (is_in_role Controller) (map far own))) own a in
+    let agents = ap (λ n. filter_map (λ e. told_by (views own) e.0 e.1) (enumerate_from (1 + n) (agents_of x name))) many ∙ agents_held x (1 + length (filter (is_in_role Controller) (map far own))) own (agents_of x name) a in
     λ j. record { asn = x.topology.asn; feed = fed j; peers = peer_maps own; agents = agents j }
 
 -- ---- an agent

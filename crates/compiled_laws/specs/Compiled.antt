@@ -19,7 +19,7 @@ use Rattle.ov_types.specs.declared.rows.NodeRows.TheVariants as Rows
 use Rattle.ov_types.specs.declared.rows.TableRow.{TableRow}
 use Rattle.route_targets.specs.Numbers.{circuit_address_of, circuit_instance_of, distinguisher_of}
 use Rattle.config_model.specs.declared.topology.Node.{Node}
-use Rattle.config_check.specs.Checked.{Checked}
+use Rattle.network_model.specs.Setup.{Setup}
 use Rattle.config_check.specs.Finding.{node_named}
 use Rattle.transform_model.specs.Tables.{Row}
 use Rattle.transform_model.specs.Compiled.{route_of}
@@ -136,7 +136,7 @@ rows_for feed None = Rows.Control (control_rows feed)
 rows_for feed (Some n) = Rows.Agent (agent_rows feed n.address)
 
 -- the compiled rows of a node, by the configuration alone
-abbrev pub compiled : Checked → Name → NodeRows
+abbrev pub compiled : Setup → Name → NodeRows
 compiled x name = rows_for (low_map x) (node_named x.topology name)
 
 -- ---- what is told, where control nodes have agents by session and address

@@ -1,20 +1,20 @@
 -- What holds after any schedule of a network whose configurations have sound low-level objects.
 use Rattle.std.specs.Prelude.{◌≡◌, ℕ, ◌+◌, ◌≤◌, List, true}
 use Rattle.config_check.specs.Checked.{Checked}
-use Rattle.network_model.specs.Setup.{Name, longest}
+use Rattle.network_model.specs.Setup.{Name, longest, opening}
 use Rattle.network_model.specs.Session.{Message}
 use Rattle.network_model.specs.Network.{Network, start}
 use Rattle.network_model.specs.Steps.{is_settled, settle}
 use Rattle.network_model.specs.Events.{Event, after, is_node, shown}
-use Rattle.network_model.specs.Moments.{ArePositive}
-use Rattle.network_laws.specs.Settling.{EditsAreValid, SettlesIn}
+use Rattle.network_model.specs.Moments.{ArePositive, EditsAreValid}
+use Rattle.network_laws.specs.Settling.{SettlesIn}
 use Rattle.compiled_laws.specs.Compiled.{compiled}
 use Rattle.compiled_laws.specs.Setups.{IsSoundSetup}
 
 abbrev pub AtMoments : ((Name → Message → ℕ) → Network → Type 0) → Type 0
 AtMoments P =
     (size : Name → Message → ℕ) → ArePositive size
-    → (x : Checked) → IsSoundSetup x
+    → (x : Checked) → IsSoundSetup (opening x)
     → (es : List Event) → EditsAreValid size IsSoundSetup (start x) es
     → P size (after size (start x) es)
 

@@ -2,7 +2,7 @@
 use Rattle.std.specs.Prelude.{◌≡◌, ◌≤◌, List, ◌∷◌}
 use Rattle.config_model.specs.declared.topology.Node.{Node}
 use Rattle.config_model.specs.declared.topology.Topology.{Topology}
-use Rattle.config_check.specs.Checked.{Checked}
+use Rattle.network_model.specs.Setup.{Setup}
 use Rattle.config_check.specs.Rules.{controller_names}
 use Rattle.node_model.specs.Members.{Member}
 use Rattle.node_model.specs.Reaching.{Side, sides}
@@ -17,7 +17,7 @@ pub record IsNamed (t : Topology) : Type 0 where
   pub lists : (n : Node) → Member n t.nodes → (m : Name) × (rest : List Name) × (n.controllers ≡ m ∷ rest)
   pub listed : (n : Node) (m : Name) → Member n t.nodes → Member m n.controllers → Member m (controller_names t)
 
-pub record IsSoundSetup (x : Checked) : Type 0 where
+pub record IsSoundSetup (x : Setup) : Type 0 where
   pub named : IsNamed x.topology
   pub sound : IsSound (low x)
   pub within : (s : Side) → Member s (sides (low x)) → s.chain.services ≤ longest x

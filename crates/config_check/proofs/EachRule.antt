@@ -1,7 +1,7 @@
 -- For each rule: it is kept exactly where its sentence holds.
 use Rattle.std.proofs.Common.{◌≡◌, ◌≢◌, ◌↔◌, ◌≤◌, ◌++◌, leb, ltb, ℕ, Bool, true, false, List, Option, None, option_map, IfSome, map, find, length, refl, sym, ◌∙◌, arith}
 use Rattle.std.specs.List.{All, AllPairs, Any, Contains, list_all}
-use Rattle.std.proofs.lemmas.Bool.{leb-true, le-leb, le-ltb}
+use Rattle.std.proofs.lemmas.Bool.{and_parts, leb-true, le-leb, le-ltb}
 use Rattle.std.proofs.lemmas.Bool.Decides.{nat_tests}
 use Rattle.ov_types.specs.Prefix.{Block, contains}
 use Rattle.config_model.specs.declared.config.Chain.{Chain}
@@ -40,7 +40,8 @@ limits_kept t c h =
     let e = each_kept _ _ _ _ (parts_kept t c h) in
     record {
       controllers = leb-true _ _ a.controllers_kept;
-      nodes = leb-true _ _ a.nodes_kept;
+      some_nodes = leb-true _ _ (and_parts (leb 1 (length t.nodes)) (leb (length t.nodes) 64) a.nodes_kept).0;
+      nodes = leb-true _ _ (and_parts (leb 1 (length t.nodes)) (leb (length t.nodes) 64) a.nodes_kept).1;
       networks = leb-true _ _ a.networks_kept;
       ports = leb-true _ _ a.ports_kept;
       policies = leb-true _ _ a.policies_kept;
@@ -57,6 +58,7 @@ unfolding broken_limit
 limits_keep t c k =
     let e1 : leb (length t.controllers) 8 ≡ true = le-leb _ _ k.controllers in
     let e2 : leb (length t.nodes) 64 ≡ true = le-leb _ _ k.nodes in
+    let e0 : leb 1 (length t.nodes) ≡ true = le-leb _ _ k.some_nodes in
     let e3 : leb (length c.networks) 128 ≡ true = le-leb _ _ k.networks in
     let e4 : leb (length c.ports) 1024 ≡ true = le-leb _ _ k.ports in
     let e5 : leb (length c.policies) 128 ≡ true = le-leb _ _ k.policies in
@@ -66,7 +68,7 @@ limits_keep t c k =
     let s2 : list_all (λ n. leb (length n.policies) 4) c.networks ≡ true = (few_iff (λ (n : Network). length n.policies) 4 c.networks).1 k.attachments in
     let s3 : list_all (λ p. leb (length p.rules) 16) c.policies ≡ true = (few_iff (λ (p : Policy). length p.rules) 16 c.policies).1 k.rules in
     let s4 : list_all (λ d. leb (length d.hops) 64) c.chains ≡ true = (few_iff (λ (d : Chain). length d.hops) 64 c.chains).1 k.hops in
-    let counts : broken_count t c ≡ None = rw (e1, e2, e3, e4, e5, e6, e7) refl in
+    let counts : broken_count t c ≡ None = rw (e1, e0, e2, e3, e4, e5, e6, e7) refl in
     let parts : broken_part c ≡ None = rw (s1, s2, s3, s4) refl in
     (both_none (broken_count t c) (broken_part c)).1 (counts, parts)
 

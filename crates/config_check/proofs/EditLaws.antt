@@ -14,8 +14,8 @@ use Rattle.ov_types.proofs.FirstLemmas.{all_head, all_tail, all_cons, pairs_head
 use Rattle.config_model.specs.declared.edit.Object.TheVariants as Objects
 use Rattle.config_model.specs.declared.edit.ObjectKind.TheVariants as Kinds
 use Rattle.config_check.specs.Sentences.{AreDistinct}
-use Rattle.config_check.specs.Edits.{place_of, with_put, without, network_name, port_name, policy_name, service_name, chain_name, edited, missing_name}
-use Rattle.config_check.specs.EditLaws.{Replaces, Appends, Removes, PutIs, DeleteIs, MissingIs, networks_of, ports_of, policies_of, services_of, chains_of, with_networks, with_ports, with_policies, with_services, with_chains}
+use Rattle.config_check.specs.Edits.{place_of, with_put, without, network_name, port_name, policy_name, service_name, chain_name, node_name, edited_config, edited_topology, missing_name}
+use Rattle.config_check.specs.EditLaws.{Replaces, Appends, Removes, PutIs, DeleteIs, MissingIs, networks_of, ports_of, policies_of, services_of, chains_of, with_networks, with_ports, with_policies, with_services, with_chains, nodes_of, with_nodes}
 
 -- a list with its item at a place apart
 splits : {A : Type 0} (xs : List A) (i : ℕ) (d : A) → i < length xs → xs ≡ take i xs ++ get_or xs i d ∷ drop (suc i) xs
@@ -137,61 +137,73 @@ missing_iff {A} name_of name xs = (by (place_of name_of name xs) refl, λ all no
     never at none = let one : Some name ≡ None = rw at at none in cc
 
 pub network_put : PutIs network_name (λ x. Objects.Network x) networks_of with_networks
-unfolding edited
-network_put x c = (with_put network_name x c.networks, puts network_name x c.networks, refl)
+unfolding edited_config edited_topology
+network_put x v = (with_put network_name x v.config.networks, puts network_name x v.config.networks, refl)
 
 pub port_put : PutIs port_name (λ x. Objects.Port x) ports_of with_ports
-unfolding edited
-port_put x c = (with_put port_name x c.ports, puts port_name x c.ports, refl)
+unfolding edited_config edited_topology
+port_put x v = (with_put port_name x v.config.ports, puts port_name x v.config.ports, refl)
 
 pub policy_put : PutIs policy_name (λ x. Objects.Policy x) policies_of with_policies
-unfolding edited
-policy_put x c = (with_put policy_name x c.policies, puts policy_name x c.policies, refl)
+unfolding edited_config edited_topology
+policy_put x v = (with_put policy_name x v.config.policies, puts policy_name x v.config.policies, refl)
 
 pub service_put : PutIs service_name (λ x. Objects.Service x) services_of with_services
-unfolding edited
-service_put x c = (with_put service_name x c.services, puts service_name x c.services, refl)
+unfolding edited_config edited_topology
+service_put x v = (with_put service_name x v.config.services, puts service_name x v.config.services, refl)
 
 pub chain_put : PutIs chain_name (λ x. Objects.Chain x) chains_of with_chains
-unfolding edited
-chain_put x c = (with_put chain_name x c.chains, puts chain_name x c.chains, refl)
+unfolding edited_config edited_topology
+chain_put x v = (with_put chain_name x v.config.chains, puts chain_name x v.config.chains, refl)
+
+pub node_put : PutIs node_name (λ x. Objects.Node x) nodes_of with_nodes
+unfolding edited_config edited_topology
+node_put x v = (with_put node_name x v.topology.nodes, puts node_name x v.topology.nodes, refl)
 
 pub network_deleted : DeleteIs network_name Kinds.Network networks_of with_networks
-unfolding edited missing_name
-network_deleted name c h = (without network_name name c.networks, removes network_name name c.networks h, refl)
+unfolding edited_config edited_topology missing_name
+network_deleted name v h = (without network_name name v.config.networks, removes network_name name v.config.networks h, refl)
 
 pub port_deleted : DeleteIs port_name Kinds.Port ports_of with_ports
-unfolding edited missing_name
-port_deleted name c h = (without port_name name c.ports, removes port_name name c.ports h, refl)
+unfolding edited_config edited_topology missing_name
+port_deleted name v h = (without port_name name v.config.ports, removes port_name name v.config.ports h, refl)
 
 pub policy_deleted : DeleteIs policy_name Kinds.Policy policies_of with_policies
-unfolding edited missing_name
-policy_deleted name c h = (without policy_name name c.policies, removes policy_name name c.policies h, refl)
+unfolding edited_config edited_topology missing_name
+policy_deleted name v h = (without policy_name name v.config.policies, removes policy_name name v.config.policies h, refl)
 
 pub service_deleted : DeleteIs service_name Kinds.Service services_of with_services
-unfolding edited missing_name
-service_deleted name c h = (without service_name name c.services, removes service_name name c.services h, refl)
+unfolding edited_config edited_topology missing_name
+service_deleted name v h = (without service_name name v.config.services, removes service_name name v.config.services h, refl)
 
 pub chain_deleted : DeleteIs chain_name Kinds.Chain chains_of with_chains
-unfolding edited missing_name
-chain_deleted name c h = (without chain_name name c.chains, removes chain_name name c.chains h, refl)
+unfolding edited_config edited_topology missing_name
+chain_deleted name v h = (without chain_name name v.config.chains, removes chain_name name v.config.chains h, refl)
+
+pub node_deleted : DeleteIs node_name Kinds.Node nodes_of with_nodes
+unfolding edited_config edited_topology missing_name
+node_deleted name v h = (without node_name name v.topology.nodes, removes node_name name v.topology.nodes h, refl)
 
 pub network_missing : MissingIs network_name Kinds.Network networks_of
 unfolding missing_name
-network_missing name c = missing_iff network_name name c.networks
+network_missing name v = missing_iff network_name name v.config.networks
 
 pub port_missing : MissingIs port_name Kinds.Port ports_of
 unfolding missing_name
-port_missing name c = missing_iff port_name name c.ports
+port_missing name v = missing_iff port_name name v.config.ports
 
 pub policy_missing : MissingIs policy_name Kinds.Policy policies_of
 unfolding missing_name
-policy_missing name c = missing_iff policy_name name c.policies
+policy_missing name v = missing_iff policy_name name v.config.policies
 
 pub service_missing : MissingIs service_name Kinds.Service services_of
 unfolding missing_name
-service_missing name c = missing_iff service_name name c.services
+service_missing name v = missing_iff service_name name v.config.services
 
 pub chain_missing : MissingIs chain_name Kinds.Chain chains_of
 unfolding missing_name
-chain_missing name c = missing_iff chain_name name c.chains
+chain_missing name v = missing_iff chain_name name v.config.chains
+
+pub node_missing : MissingIs node_name Kinds.Node nodes_of
+unfolding missing_name
+node_missing name v = missing_iff node_name name v.topology.nodes

@@ -1,4 +1,4 @@
--- What holds where no count is above its limit.
+-- What holds where no count is outside its limits.
 use Rattle.std.proofs.Common.{◌≡◌, ◌≤◌, leb, Bool, true, false, Option, Some, None, length, refl}
 use Rattle.std.specs.List.{list_all}
 use Rattle.std.proofs.lemmas.Bool.{leb-true}

@@ -1,5 +1,7 @@
 -- A configuration breaks no rule exactly where the fourteen sentences hold.
-use Rattle.std.proofs.Common.{◌≡◌, ◌↔◌, Option, None}
+use Rattle.std.proofs.Common.{◌≡◌, ◌↔◌, Option, None, IsTrue, length, refl}
+use Rattle.std.proofs.lemmas.Bool.{le-leb}
+use Rattle.config_model.specs.Form.{has_nodes_form, has_topology_form}
 use Rattle.config_model.specs.declared.config.Config.{Config}
 use Rattle.config_model.specs.declared.topology.Topology.{Topology}
 use Rattle.ov_types.specs.First.{◌<|>◌}
@@ -125,3 +127,8 @@ valid_iff t c = (
         overlap = (apart_around_iff c).1 v.apart;
       }),
 )
+
+-- a valid topology has compute nodes
+pub form_of : (t : Topology) (c : Config) → IsTrue (has_nodes_form t) → first_broken t c ≡ None → IsTrue (has_topology_form t)
+unfolding has_topology_form
+form_of t c form none = let some = le-leb 1 (length t.nodes) ((valid_iff t c).0 none).limits.some_nodes in rw (form, some) refl

@@ -2,15 +2,16 @@
 use Rattle.std.specs.Prelude.{◌≡◌, ◌≢◌, ◌↔◌, ℕ, ◌⊎◌, List, [], ◌∷◌, ◌++◌, map, None}
 use Rattle.std.specs.List.{All}
 use Rattle.config_model.specs.declared.config.Chain.{Chain}
-use Rattle.config_model.specs.declared.config.Config.{Config}
 use Rattle.config_model.specs.declared.config.Network.{Network}
 use Rattle.config_model.specs.declared.config.Policy.{Policy}
 use Rattle.config_model.specs.declared.config.Port.{Port}
 use Rattle.config_model.specs.declared.config.Service.{Service}
+use Rattle.config_model.specs.declared.topology.Node.{Node}
 use Rattle.config_model.specs.declared.edit.Edit.TheVariants.{Put, Delete}
 use Rattle.config_model.specs.declared.edit.Object.{Object}
 use Rattle.config_model.specs.declared.edit.ObjectKind.{ObjectKind}
 use Rattle.config_check.specs.Sentences.{AreDistinct}
+use Rattle.config_check.specs.Checked.{Checked}
 use Rattle.config_check.specs.Edits.{edited, missing_name}
 
 -- a list has x in the place of one of its name, and each other object as it was; where names were distinct, none of
@@ -40,49 +41,55 @@ pub record Removes {A : Type 0} (name_of : A → List ℕ) (name : List ℕ) (ol
   pub others : AreDistinct (map name_of old) → All (λ y. name_of y ≢ name) new
 
 -- a put of an object of this kind replaces or appends it in the list of its kind, and leaves the other lists
-abbrev pub PutIs : {A : Type 0} → (A → List ℕ) → (A → Object) → (Config → List A) → (Config → List A → Config) → Type 0
+abbrev pub PutIs : {A : Type 0} → (A → List ℕ) → (A → Object) → (Checked → List A) → (Checked → List A → Checked) → Type 0
 PutIs {A} name_of object list with_list =
-    (x : A) (c : Config)
-    → (new : List A) × (Replaces name_of x (list c) new ⊎ Appends name_of x (list c) new)
-    × (edited (Put (object x)) c ≡ with_list c new)
+    (x : A) (v : Checked)
+    → (new : List A) × (Replaces name_of x (list v) new ⊎ Appends name_of x (list v) new)
+    × (edited (Put (object x)) v ≡ with_list v new)
 
 -- a delete of a name that is not missing removes it from the list of its kind, and leaves the other lists
-abbrev pub DeleteIs : {A : Type 0} → (A → List ℕ) → ObjectKind → (Config → List A) → (Config → List A → Config) → Type 0
+abbrev pub DeleteIs : {A : Type 0} → (A → List ℕ) → ObjectKind → (Checked → List A) → (Checked → List A → Checked) → Type 0
 DeleteIs {A} name_of kind list with_list =
-    (name : List ℕ) (c : Config) → missing_name (Delete kind name) c ≡ None
-    → (new : List A) × Removes name_of name (list c) new × (edited (Delete kind name) c ≡ with_list c new)
+    (name : List ℕ) (v : Checked) → missing_name (Delete kind name) v ≡ None
+    → (new : List A) × Removes name_of name (list v) new × (edited (Delete kind name) v ≡ with_list v new)
 
 -- a name is missing exactly where no object of the kind has it
-abbrev pub MissingIs : {A : Type 0} → (A → List ℕ) → ObjectKind → (Config → List A) → Type 0
+abbrev pub MissingIs : {A : Type 0} → (A → List ℕ) → ObjectKind → (Checked → List A) → Type 0
 MissingIs {A} name_of kind list =
-    (name : List ℕ) (c : Config) → (missing_name (Delete kind name) c ≢ None) ↔ All (λ y. name_of y ≢ name) (list c)
+    (name : List ℕ) (v : Checked) → (missing_name (Delete kind name) v ≢ None) ↔ All (λ y. name_of y ≢ name) (list v)
 
-abbrev pub networks_of : Config → List Network
-networks_of c = c.networks
+abbrev pub networks_of : Checked → List Network
+networks_of v = v.config.networks
 
-abbrev pub ports_of : Config → List Port
-ports_of c = c.ports
+abbrev pub ports_of : Checked → List Port
+ports_of v = v.config.ports
 
-abbrev pub policies_of : Config → List Policy
-policies_of c = c.policies
+abbrev pub policies_of : Checked → List Policy
+policies_of v = v.config.policies
 
-abbrev pub services_of : Config → List Service
-services_of c = c.services
+abbrev pub services_of : Checked → List Service
+services_of v = v.config.services
 
-abbrev pub chains_of : Config → List Chain
-chains_of c = c.chains
+abbrev pub chains_of : Checked → List Chain
+chains_of v = v.config.chains
 
-abbrev pub with_networks : Config → List Network → Config
-with_networks c xs = record c { networks = xs }
+abbrev pub with_networks : Checked → List Network → Checked
+with_networks v xs = record { topology = v.topology; config = record v.config { networks = xs } }
 
-abbrev pub with_ports : Config → List Port → Config
-with_ports c xs = record c { ports = xs }
+abbrev pub with_ports : Checked → List Port → Checked
+with_ports v xs = record { topology = v.topology; config = record v.config { ports = xs } }
 
-abbrev pub with_policies : Config → List Policy → Config
-with_policies c xs = record c { policies = xs }
+abbrev pub with_policies : Checked → List Policy → Checked
+with_policies v xs = record { topology = v.topology; config = record v.config { policies = xs } }
 
-abbrev pub with_services : Config → List Service → Config
-with_services c xs = record c { services = xs }
+abbrev pub with_services : Checked → List Service → Checked
+with_services v xs = record { topology = v.topology; config = record v.config { services = xs } }
 
-abbrev pub with_chains : Config → List Chain → Config
-with_chains c xs = record c { chains = xs }
+abbrev pub with_chains : Checked → List Chain → Checked
+with_chains v xs = record { topology = v.topology; config = record v.config { chains = xs } }
+
+abbrev pub nodes_of : Checked → List Node
+nodes_of v = v.topology.nodes
+
+abbrev pub with_nodes : Checked → List Node → Checked
+with_nodes v xs = record { topology = record v.topology { nodes = xs }; config = v.config }

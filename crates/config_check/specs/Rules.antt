@@ -32,7 +32,7 @@ use Rattle.config_check.specs.declared.refusal.Refusal.TheVariants.{AddressTaken
 use Rattle.config_check.specs.declared.refusal.Refusal.TheVariants.{ChainSameNetwork, ChainLoop, ChainTooLong}
 use Rattle.config_check.specs.declared.refusal.Refusal.TheVariants.{ServiceTwice, SubnetOverlap}
 
--- 1. No count is above its limit.
+-- 1. No count is outside its limits.
 
 abbrev pub limit_unless : LimitKind → Bool → Option Refusal
 limit_unless what true = None
@@ -42,7 +42,7 @@ limit_unless what false = Some (Limit what)
 abbrev pub broken_count : Topology → Config → Option Refusal
 broken_count t c =
     limit_unless Counted.Controllers (nat_le (length t.controllers) 8)
-    <|> (limit_unless Counted.Nodes (nat_le (length t.nodes) 64)
+    <|> (limit_unless Counted.Nodes (nat_le 1 (length t.nodes) && nat_le (length t.nodes) 64)
     <|> (limit_unless Counted.Networks (nat_le (length c.networks) 128)
     <|> (limit_unless Counted.Ports (nat_le (length c.ports) 1024)
     <|> (limit_unless Counted.Policies (nat_le (length c.policies) 128)

@@ -19,9 +19,10 @@ use Rattle.config_check.specs.Rules.{policy_names, service_names, chain_names, n
 abbrev pub AreDistinct : {A : Type 0} → List A → Type 0
 AreDistinct xs = AllPairs (λ a b. a ≢ b) xs
 
--- no count is above its limit
+-- no count is outside its limits
 pub record KeepsLimits (t : Topology) (c : Config) : Type 0 where
   pub controllers : length t.controllers ≤ 8
+  pub some_nodes : 1 ≤ length t.nodes
   pub nodes : length t.nodes ≤ 64
   pub networks : length c.networks ≤ 128
   pub ports : length c.ports ≤ 1024

@@ -2,9 +2,10 @@
 ghost use Rattle.config_model.specs.declared.edit.Object.TheVariants as Objects;
 ghost use Rattle.config_model.specs.declared.edit.ObjectKind.TheVariants as Kinds;
 ghost use Rattle.config_check.specs.Edits.{network_name, port_name, policy_name, service_name, chain_name};
+ghost use Rattle.config_check.specs.Edits.{node_name};
 ghost use Rattle.config_check.specs.EditLaws.{PutIs, DeleteIs, MissingIs, networks_of, ports_of, policies_of};
 ghost use Rattle.config_check.specs.EditLaws.{services_of, chains_of, with_networks, with_ports, with_policies};
-ghost use Rattle.config_check.specs.EditLaws.{with_services, with_chains};
+ghost use Rattle.config_check.specs.EditLaws.{with_services, with_chains, nodes_of, with_nodes};
 
 /// A put takes the place of the object of its kind and name, or is appended where there is none, and each other object
 /// stays in its place.
@@ -14,6 +15,7 @@ pub fn a_put_replaces_or_appends()
     ensures policy { PutIs policy_name (λ x. Objects.Policy x) policies_of with_policies }
     ensures service { PutIs service_name (λ x. Objects.Service x) services_of with_services }
     ensures chain { PutIs chain_name (λ x. Objects.Chain x) chains_of with_chains }
+    ensures node { PutIs node_name (λ x. Objects.Node x) nodes_of with_nodes }
 {}
 
 /// A delete of a name that is there leaves all but the object of its kind and name.
@@ -23,6 +25,7 @@ pub fn a_delete_removes_one()
     ensures policy { DeleteIs policy_name Kinds.Policy policies_of with_policies }
     ensures service { DeleteIs service_name Kinds.Service services_of with_services }
     ensures chain { DeleteIs chain_name Kinds.Chain chains_of with_chains }
+    ensures node { DeleteIs node_name Kinds.Node nodes_of with_nodes }
 {}
 
 /// What a delete names is missing exactly where no object of its kind has the name.
@@ -32,4 +35,5 @@ pub fn missing_names_are_of_no_object()
     ensures policy { MissingIs policy_name Kinds.Policy policies_of }
     ensures service { MissingIs service_name Kinds.Service services_of }
     ensures chain { MissingIs chain_name Kinds.Chain chains_of }
+    ensures node { MissingIs node_name Kinds.Node nodes_of }
 {}

@@ -19,7 +19,7 @@ ghost use Rattle.config_check.specs.Sentences.{HasReferents, ReservesCircuits, H
 ghost use Rattle.config_check.specs.Sentences.{HasDistinctAddresses, NamesEnds, NamesTwo, IsAround, AreApart};
 ghost use Rattle.config_check.specs.Sentences.{IsValid};
 
-/// The first rule is kept exactly where no count is above its limit.
+/// The first rule is kept exactly where no count is outside its limits.
 pub fn limits_are_kept()
     ensures { (t : Topology) (c : Config) → (broken_limit t c ≡ None) ↔ KeepsLimits t c }
 {}

@@ -1,5 +1,5 @@
-//! The first rule: no count is above its limit.
-ghost use Rattle.std.specs.Prelude.{◌≡◌, nat_le, length};
+//! The first rule: no count is outside its limits.
+ghost use Rattle.std.specs.Prelude.{◌≡◌, ◌&&◌, nat_le, length};
 ghost use Rattle.std.specs.List.{list_all};
 ghost use Rattle.config_check.specs.Rules.{limit_unless, broken_count, broken_part, broken_limit};
 
@@ -37,6 +37,12 @@ fn limit_unless(what: LimitKind, is_kept: bool) -> Option<Refusal>
     }
 }
 
+fn has_nodes(topology: &Topology) -> bool
+    ensures { result ≡ (nat_le 1 (length topology.now.nodes) && nat_le (length topology.now.nodes) 64) }
+{
+    1 <= topology.nodes.len() && topology.nodes.len() <= NODES
+}
+
 fn broken_count(topology: &Topology, config: &Config) -> Option<Refusal>
     ensures { result ≡ broken_count topology.now config.now }
 {
@@ -44,7 +50,7 @@ fn broken_count(topology: &Topology, config: &Config) -> Option<Refusal>
         LimitKind::Controllers,
         topology.controllers.len() <= CONTROLLERS,
     );
-    let nodes = limit_unless(LimitKind::Nodes, topology.nodes.len() <= NODES);
+    let nodes = limit_unless(LimitKind::Nodes, has_nodes(topology));
     let networks = limit_unless(LimitKind::Networks, config.networks.len() <= NETWORKS);
     let ports = limit_unless(LimitKind::Ports, config.ports.len() <= PORTS);
     let policies = limit_unless(LimitKind::Policies, config.policies.len() <= POLICIES);
@@ -88,7 +94,7 @@ fn broken_part(config: &Config) -> Option<Refusal>
     subnets.or(attachments.or(rules.or(hops)))
 }
 
-/// The first count that is above its limit.
+/// The first count that is outside its limits.
 #[tactic(auto, unfolding(crate::specs::Rules::broken_limit))]
 pub(crate) fn broken_limit(topology: &Topology, config: &Config) -> Option<Refusal>
     ensures { result ≡ broken_limit topology.now config.now }

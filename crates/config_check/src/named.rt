@@ -1,9 +1,9 @@
 //! Lists of objects that have names.
 ghost use Rattle.std.specs.Prelude.{◌≡◌, List, ℕ, IfOk};
 ghost use Rattle.config_check.specs.Edits.{place_of, with_put, without, network_name, port_name, policy_name};
-ghost use Rattle.config_check.specs.Edits.{service_name, chain_name};
+ghost use Rattle.config_check.specs.Edits.{service_name, chain_name, node_name};
 
-use config_model::{Chain, Network, Policy, Port, Service};
+use config_model::{Chain, Network, Node, Policy, Port, Service};
 use ov_types::{Items, Name, NoMemory};
 
 /// What has a name, which is its own among those of its kind.
@@ -48,6 +48,14 @@ impl Named for Service {
 
 impl Named for Chain {
     ghost name_of = { chain_name };
+
+    fn name(&self) -> Name {
+        self.name
+    }
+}
+
+impl Named for Node {
+    ghost name_of = { node_name };
 
     fn name(&self) -> Name {
         self.name

@@ -1,6 +1,6 @@
 //! Valid configurations.
 ghost use Rattle.std.specs.Prelude.{◌≡◌, ◌≤◌, length, IfOk, IfErr, IsTrue};
-ghost use Rattle.config_model.specs.Form.{has_topology_form, has_config_form};
+ghost use Rattle.config_model.specs.Form.{has_nodes_form, has_topology_form, has_config_form};
 ghost use Rattle.config_check.specs.Rules.{broken_place, broken_use, broken_chain, first_broken};
 ghost use Rattle.config_check.specs.Checked.{Checked, Refuses};
 
@@ -151,8 +151,9 @@ fn first_broken(
 }
 
 /// Answers the first broken rule, in the order of the rules, else that the two are valid.
+#[tactic(auto, using(crate::proofs::Validity::form_of))]
 pub fn check(alloc: Global, topology: Topology, config: Config) -> Result<Valid, CheckRefusal>
-    requires topology_form { IsTrue (has_topology_form topology) }
+    requires topology_form { IsTrue (has_nodes_form topology) }
     requires config_form { IsTrue (has_config_form config) }
     ensures ok { IfOk result (λ v. v ≡ record { topology = topology; config = config }) }
     ensures valid { IfOk result (λ v. first_broken topology config ≡ None) }

@@ -70,30 +70,32 @@ edit_unknown path word d h =
     let b = or_parts (same word (codes "delete")) false a.1 in
     rw (a.0, b.0) refl
 
--- a word is that of none of the five kinds
+-- a word is that of none of the six kinds
 record NoKind (word : List ℕ) : Type 0 where
   network : same word (codes "network") ≡ false
   port : same word (codes "port") ≡ false
   policy : same word (codes "policy") ≡ false
   service : same word (codes "service") ≡ false
   chain : same word (codes "chain") ≡ false
+  node : same word (codes "node") ≡ false
 
-no_kind : (word : List ℕ) → is_among (codes "network" ∷ codes "port" ∷ codes "policy" ∷ codes "service" ∷ codes "chain" ∷ []) word ≡ false → NoKind word
+no_kind : (word : List ℕ) → is_among (codes "network" ∷ codes "port" ∷ codes "policy" ∷ codes "service" ∷ codes "chain" ∷ codes "node" ∷ []) word ≡ false → NoKind word
 no_kind word h =
-    let a = or_parts (same word (codes "network")) (is_among (codes "port" ∷ codes "policy" ∷ codes "service" ∷ codes "chain" ∷ []) word) h in
-    let b = or_parts (same word (codes "port")) (is_among (codes "policy" ∷ codes "service" ∷ codes "chain" ∷ []) word) a.1 in
-    let c = or_parts (same word (codes "policy")) (is_among (codes "service" ∷ codes "chain" ∷ []) word) b.1 in
-    let e = or_parts (same word (codes "service")) (is_among (codes "chain" ∷ []) word) c.1 in
-    let f = or_parts (same word (codes "chain")) false e.1 in
-    record { network = a.0; port = b.0; policy = c.0; service = e.0; chain = f.0 }
+    let a = or_parts (same word (codes "network")) (is_among (codes "port" ∷ codes "policy" ∷ codes "service" ∷ codes "chain" ∷ codes "node" ∷ []) word) h in
+    let b = or_parts (same word (codes "port")) (is_among (codes "policy" ∷ codes "service" ∷ codes "chain" ∷ codes "node" ∷ []) word) a.1 in
+    let c = or_parts (same word (codes "policy")) (is_among (codes "service" ∷ codes "chain" ∷ codes "node" ∷ []) word) b.1 in
+    let e = or_parts (same word (codes "service")) (is_among (codes "chain" ∷ codes "node" ∷ []) word) c.1 in
+    let f = or_parts (same word (codes "chain")) (is_among (codes "node" ∷ []) word) e.1 in
+    let g = or_parts (same word (codes "node")) false f.1 in
+    record { network = a.0; port = b.0; policy = c.0; service = e.0; chain = f.0; node = g.0 }
 
-pub put_unknown : OtherIsUnknown put_at (codes "network" ∷ codes "port" ∷ codes "policy" ∷ codes "service" ∷ codes "chain" ∷ [])
+pub put_unknown : OtherIsUnknown put_at (codes "network" ∷ codes "port" ∷ codes "policy" ∷ codes "service" ∷ codes "chain" ∷ codes "node" ∷ [])
 unfolding put_at one_member_at object_at
-put_unknown path word d h = let n = no_kind word h in rw (n.network, n.port, n.policy, n.service, n.chain) refl
+put_unknown path word d h = let n = no_kind word h in rw (n.network, n.port, n.policy, n.service, n.chain, n.node) refl
 
-pub delete_unknown : OtherIsUnknown delete_at (codes "network" ∷ codes "port" ∷ codes "policy" ∷ codes "service" ∷ codes "chain" ∷ [])
+pub delete_unknown : OtherIsUnknown delete_at (codes "network" ∷ codes "port" ∷ codes "policy" ∷ codes "service" ∷ codes "chain" ∷ codes "node" ∷ [])
 unfolding delete_at one_member_at object_at
-delete_unknown path word d h = let n = no_kind word h in rw (n.network, n.port, n.policy, n.service, n.chain) refl
+delete_unknown path word d h = let n = no_kind word h in rw (n.network, n.port, n.policy, n.service, n.chain, n.node) refl
 
 pub other_event : OtherTextIsRange event_at (is_among (codes "round" ∷ codes "settle" ∷ []))
 unfolding event_at

@@ -19,7 +19,7 @@ use Rattle.config_model.specs.Event.{two_names_at, three_at, names_and_number_at
 use Rattle.config_model.specs.EventDocuments.{object_document, edit_document, two_names_document, names_and_number_document, event_document, run_document}
 use Rattle.config_model.specs.EventLaws.{object_form, edit_form, event_form, run_form}
 use Rattle.config_model.specs.Laws.{IsRead, compile_form}
-use Rattle.config_model.proofs.Read.{name_is_read, whole_is_read, list_is_read, topology_is_read, network_is_read, port_is_read, policy_is_read, service_is_read, chain_is_read, config_is_read, packet_is_read}
+use Rattle.config_model.proofs.Read.{name_is_read, whole_is_read, list_is_read, node_is_read, topology_is_read, network_is_read, port_is_read, policy_is_read, service_is_read, chain_is_read, config_is_read, packet_is_read}
 
 put_is_read : (x : Object) → IsTrue (object_form x) → (path : List ℕ) → put_at path (object_document x) ≡ Ok (Put x)
 unfolding put_at one_member_at object_at object_of_kind_at
@@ -28,6 +28,7 @@ put_is_read (Objects.Port x) h path = rw (port_is_read x h) refl
 put_is_read (Objects.Policy x) h path = rw (policy_is_read x h) refl
 put_is_read (Objects.Service x) h path = rw (service_is_read x h) refl
 put_is_read (Objects.Chain x) h path = rw (chain_is_read x h) refl
+put_is_read (Objects.Node x) h path = rw (node_is_read x h) refl
 
 delete_is_read : (kind : ObjectKind) (name : List ℕ) → is_name name ≡ true → (path : List ℕ) → edit_at path (edit_document (Delete kind name)) ≡ Ok (Delete kind name)
 unfolding edit_at delete_at one_member_at object_at
@@ -36,6 +37,7 @@ delete_is_read Kinds.Port name h path = rw (name_is_read name h) refl
 delete_is_read Kinds.Policy name h path = rw (name_is_read name h) refl
 delete_is_read Kinds.Service name h path = rw (name_is_read name h) refl
 delete_is_read Kinds.Chain name h path = rw (name_is_read name h) refl
+delete_is_read Kinds.Node name h path = rw (name_is_read name h) refl
 
 pub edit_is_read : IsRead edit_at edit_form edit_document
 unfolding edit_at one_member_at object_at

@@ -13,8 +13,9 @@ use Rattle.config_model.specs.declared.edit.Edit.TheVariants.{Put, Delete}
 use Rattle.config_model.specs.Paths.{member_path}
 use Rattle.config_model.specs.Faults.{Fault, ◌>>=◌, refused, wanted}
 use Rattle.config_model.specs.Fields.{Reads, name_at}
-use Rattle.config_model.specs.Form.{has_network_form, has_port_form, has_policy_form, has_service_form, has_chain_form}
+use Rattle.config_model.specs.Form.{has_network_form, has_port_form, has_policy_form, has_service_form, has_chain_form, has_node_form}
 use Rattle.config_model.specs.Config.{network_at, port_at, policy_at, service_at, chain_at}
+use Rattle.config_model.specs.Topology.{node_at}
 use Rattle.config_model.specs.OneMember.{one_member_at}
 
 -- the kind that a word names
@@ -25,7 +26,8 @@ kind_named word =
     else (if same_name word (codes "policy") then Some Kinds.Policy
     else (if same_name word (codes "service") then Some Kinds.Service
     else (if same_name word (codes "chain") then Some Kinds.Chain
-    else None))))
+    else (if same_name word (codes "node") then Some Kinds.Node
+    else None)))))
 
 -- the kind that the name of a member is
 abbrev pub kind_at : List ℕ → List ℕ → Result ObjectKind Fault
@@ -38,6 +40,7 @@ object_of_kind_at Kinds.Port path d = port_at path d >>= λ x. Ok (Objects.Port 
 object_of_kind_at Kinds.Policy path d = policy_at path d >>= λ x. Ok (Objects.Policy x)
 object_of_kind_at Kinds.Service path d = service_at path d >>= λ x. Ok (Objects.Service x)
 object_of_kind_at Kinds.Chain path d = chain_at path d >>= λ x. Ok (Objects.Chain x)
+object_of_kind_at Kinds.Node path d = node_at path d >>= λ x. Ok (Objects.Node x)
 
 -- what is put: an object with one member, whose name is the kind
 unfoldable pub put_at : Reads Edit
@@ -74,6 +77,7 @@ has_object_form (Objects.Port x) = has_port_form x
 has_object_form (Objects.Policy x) = has_policy_form x
 has_object_form (Objects.Service x) = has_service_form x
 has_object_form (Objects.Chain x) = has_chain_form x
+has_object_form (Objects.Node x) = has_node_form x
 
 -- which edits a document can write
 unfoldable pub has_edit_form : Edit → Bool

@@ -10,8 +10,8 @@ use Rattle.config_model.specs.declared.edit.ObjectKind.TheVariants as Kinds
 use Rattle.config_model.specs.declared.event.Event.{Event}
 use Rattle.config_model.specs.declared.event.Event.TheVariants as Events
 use Rattle.config_model.specs.declared.event.RunInput.{RunInput}
-use Rattle.config_model.specs.Documents.{list_document, number_document, topology_document, network_document}
-use Rattle.config_model.specs.Documents.{port_document, policy_document, service_document, chain_document}
+use Rattle.config_model.specs.Documents.{list_document, number_document, node_document, topology_document}
+use Rattle.config_model.specs.Documents.{network_document, port_document, policy_document, service_document, chain_document}
 use Rattle.config_model.specs.Documents.{config_document, packet_document}
 
 -- an object with one member
@@ -24,6 +24,7 @@ kind_word Kinds.Port = codes "port"
 kind_word Kinds.Policy = codes "policy"
 kind_word Kinds.Service = codes "service"
 kind_word Kinds.Chain = codes "chain"
+kind_word Kinds.Node = codes "node"
 
 abbrev pub object_document : Object → Data
 object_document (Objects.Network x) = one_document (codes "network") (network_document x)
@@ -31,6 +32,7 @@ object_document (Objects.Port x) = one_document (codes "port") (port_document x)
 object_document (Objects.Policy x) = one_document (codes "policy") (policy_document x)
 object_document (Objects.Service x) = one_document (codes "service") (service_document x)
 object_document (Objects.Chain x) = one_document (codes "chain") (chain_document x)
+object_document (Objects.Node x) = one_document (codes "node") (node_document x)
 
 abbrev pub edit_word : Edit → List ℕ
 edit_word (Put x) = codes "put"

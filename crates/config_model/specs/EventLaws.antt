@@ -15,7 +15,7 @@ use Rattle.config_model.specs.declared.event.RunInput.{RunInput}
 use Rattle.config_model.specs.declared.fault.DocKind.TheVariants.{Kind, Range, Unknown}
 use Rattle.config_model.specs.Paths.{member_path}
 use Rattle.config_model.specs.Fields.{Reads}
-use Rattle.config_model.specs.Form.{has_network_form, has_port_form, has_policy_form, has_service_form, has_chain_form}
+use Rattle.config_model.specs.Form.{has_network_form, has_port_form, has_policy_form, has_service_form, has_chain_form, has_node_form}
 use Rattle.config_model.specs.Edit.{edit_at}
 use Rattle.config_model.specs.Event.{event_at, run_at, has_event_form}
 use Rattle.config_model.specs.EventDocuments.{one_document, edit_word, event_word}
@@ -28,6 +28,7 @@ object_form (Objects.Port x) = has_port_form x
 object_form (Objects.Policy x) = has_policy_form x
 object_form (Objects.Service x) = has_service_form x
 object_form (Objects.Chain x) = has_chain_form x
+object_form (Objects.Node x) = has_node_form x
 
 abbrev pub edit_form : Edit → Bool
 edit_form (Put x) = object_form x

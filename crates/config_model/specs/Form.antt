@@ -51,11 +51,15 @@ unfoldable pub has_node_form : Node → Bool
 has_node_form n = is_node_name n.name && is_node_address n.address.0 && list_all is_name n.controllers
     && is_from_to 1 2 (length n.controllers)
 
-unfoldable pub has_topology_form : Topology → Bool
-has_topology_form t =
+-- but for the number of compute nodes, about which a rule of valid configurations is
+abbrev pub has_nodes_form : Topology → Bool
+has_nodes_form t =
     is_as_number t.asn
     && list_all has_controller_form t.controllers && nat_le 1 (length t.controllers)
-    && list_all has_node_form t.nodes && nat_le 1 (length t.nodes)
+    && list_all has_node_form t.nodes
+
+unfoldable pub has_topology_form : Topology → Bool
+has_topology_form t = has_nodes_form t && nat_le 1 (length t.nodes)
 
 unfoldable pub has_network_form : Network → Bool
 has_network_form n = is_network_name n.name && is_from_to 1 16383 n.id.0 && list_all is_block n.subnets

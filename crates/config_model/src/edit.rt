@@ -1,8 +1,9 @@
-//! Edits of a configuration.
+//! Edits of a configuration and of its compute nodes.
 use crate::config::{Chain, Network, Policy, Port, Service};
+use crate::topology::Node;
 use ov_types::Name;
 
-/// An object of a configuration.
+/// An object of a configuration, or a compute node.
 #[derive(Clone, Debug, Drop)]
 pub enum Object {
     Network(Network),
@@ -10,9 +11,10 @@ pub enum Object {
     Policy(Policy),
     Service(Service),
     Chain(Chain),
+    Node(Node),
 }
 
-/// The kinds of objects of a configuration. Names are looked up among those of one kind.
+/// The kinds of objects. Names are looked up among those of one kind.
 #[derive(Clone, Copy, Debug, PartialEq, Eq)]
 pub enum ObjectKind {
     Network,
@@ -20,6 +22,7 @@ pub enum ObjectKind {
     Policy,
     Service,
     Chain,
+    Node,
 }
 
 /// A change of one object: a put replaces or appends it, a delete removes it.

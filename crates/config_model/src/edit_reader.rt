@@ -11,6 +11,7 @@ use crate::edit::{Edit, Object, ObjectKind};
 use crate::fault::{DocKind, Place, ReadRefusal};
 use crate::fields::FromDocument;
 use crate::one_member::one_member_of;
+use crate::topology::Node;
 use ov_types::Name;
 use serde_json::Value;
 use std::alloc::Global;
@@ -24,6 +25,7 @@ fn kind_named(word: &str) -> Option<ObjectKind>
         "policy" => Some(ObjectKind::Policy),
         "service" => Some(ObjectKind::Service),
         "chain" => Some(ObjectKind::Chain),
+        "node" => Some(ObjectKind::Node),
         _ => None,
     }
 }
@@ -54,6 +56,7 @@ fn object_of_kind(
         ObjectKind::Policy => Ok(Object::Policy(Policy::read(alloc, place, value)?)),
         ObjectKind::Service => Ok(Object::Service(Service::read(alloc, place, value)?)),
         ObjectKind::Chain => Ok(Object::Chain(Chain::read(alloc, place, value)?)),
+        ObjectKind::Node => Ok(Object::Node(Node::read(alloc, place, value)?)),
     }
 }
 

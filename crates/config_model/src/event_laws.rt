@@ -37,9 +37,11 @@ pub fn other_words_are_unknown()
         ∷ codes "show" ∷ codes "trace" ∷ codes "break" ∷ []) }
     ensures edit { OtherIsUnknown edit_at (codes "put" ∷ codes "delete" ∷ []) }
     ensures put { OtherIsUnknown put_at
-        (codes "network" ∷ codes "port" ∷ codes "policy" ∷ codes "service" ∷ codes "chain" ∷ []) }
+        (codes "network" ∷ codes "port" ∷ codes "policy" ∷ codes "service" ∷ codes "chain"
+        ∷ codes "node" ∷ []) }
     ensures delete { OtherIsUnknown delete_at
-        (codes "network" ∷ codes "port" ∷ codes "policy" ∷ codes "service" ∷ codes "chain" ∷ []) }
+        (codes "network" ∷ codes "port" ∷ codes "policy" ∷ codes "service" ∷ codes "chain"
+        ∷ codes "node" ∷ []) }
 {}
 
 /// Another text than an event's is out of range; what is neither text nor object is of another kind.

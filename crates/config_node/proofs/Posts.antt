@@ -12,7 +12,6 @@ use Rattle.item_wire.specs.Happenings.{SessionFields, after}
 use Rattle.item_wire.specs.declared.event.ItemState.TheVariants.{Idle}
 use Rattle.item_wire.specs.declared.event.ItemFrom.{ItemFrom}
 use Rattle.item_wire.specs.declared.input.Came.TheVariants.{Closed}
-use Rattle.config_model.specs.declared.topology.Topology.{Topology}
 use Rattle.config_check.specs.Checked.{Checked}
 use Rattle.node_core.specs.Plans.{ArePlans}
 use Rattle.node_core.specs.declared.ends.Plan.{Plan}
@@ -25,7 +24,7 @@ use Rattle.node_core.proofs.Lists.{all-at, all-set}
 use Rattle.node_model.specs.Step.{Post, changes, nothing, post, told_all}
 use Rattle.node_model.specs.Values.{same_value}
 use Rattle.node_model.proofs.Alike.{same_value_decides}
-use Rattle.network_model.specs.Setup.{low}
+use Rattle.network_model.specs.Setup.{low_in}
 use Rattle.config_node.specs.Beginning.{no_node}
 use Rattle.config_node.specs.Core.{is_idle, kind, nothings}
 use Rattle.config_node.specs.Ends.{AreEnds, HasSent, Objects, controller, doubted, end_at, low_of, new_end, posts_of}
@@ -123,11 +122,12 @@ doubted_posts [] = refl
 doubted_posts (e ∷ es) = ap (λ (ps : List Post). end_at e ∷ ps) (doubted_posts es)
 
 pub ends_doubted : (x y : Checked) (wants wants' : Objects) (es : List FeedEnd) → AreEnds x wants es
-    → y.topology ≡ x.topology → low_of wants' ≡ low y → AllFit (low y) → AreEnds y wants' (map doubted es)
+    → y.topology.controllers ≡ x.topology.controllers → low_of wants' ≡ low_in y → AllFit (low_in y)
+    → AreEnds y wants' (map doubted es)
 ends_doubted x y wants wants' es are same is fits = record {
-  some = subst (λ (t : Topology). 1 ≤ length t.controllers) (sym same) are.some;
-  few = subst (λ (t : Topology). length t.controllers ≤ 8) (sym same) are.few;
-  whose = doubted_whose es ∙ are.whose ∙ ap (λ (t : Topology). map controller t.controllers) (sym same);
+  some = subst (λ (cs : List NodeId). 1 ≤ length cs) (sym same) are.some;
+  few = subst (λ (cs : List NodeId). length cs ≤ 8) (sym same) are.few;
+  whose = doubted_whose es ∙ are.whose ∙ ap (map controller) (sym same);
   wanted = is;
   fits = fits;
   sent = doubted_sent wants wants' es are.sent;
@@ -149,7 +149,7 @@ fresh_posts (n ∷ ns) =
     λ i. here i ∷ fresh_posts ns i
 
 pub fresh_ends : (x : Checked) (wants : Objects) → 1 ≤ length x.topology.controllers
-    → length x.topology.controllers ≤ 8 → low_of wants ≡ low x → AllFit (low x)
+    → length x.topology.controllers ≤ 8 → low_of wants ≡ low_in x → AllFit (low_in x)
     → AreEnds x wants (map new_end x.topology.controllers)
 fresh_ends x wants one few is fits = record {
   some = one;
@@ -210,7 +210,7 @@ told_post wants e =
     elim (sends e) as (λ b. end_at (if b then record e { sent = wants; told = true } else e)
     ≡ (if b then record (end_at e) { sent = low_of wants } else end_at e)) [ true ↦ refl | false ↦ refl ]
 
-module _ (x : Checked) (wants : Objects) (es : List FeedEnd) (is : low_of wants ≡ low x) (i : ℕ)
+module _ (x : Checked) (wants : Objects) (es : List FeedEnd) (is : low_of wants ≡ low_in x) (i : ℕ)
     (lt : i < length es) where
   abbrev here : FeedEnd
   here = slice_index_or es i (new_end no_node)
@@ -232,7 +232,7 @@ module _ (x : Checked) (wants : Objects) (es : List FeedEnd) (is : low_of wants 
       ∙ told_post wants here
       ∙ (λ j. if not (is_idle (sym at j).phase) then record (sym at j) { sent = is j } else sym at j)
 
-pub are_plans : (x : Checked) (wants : Objects) (es es' : List FeedEnd) (plans : List Plan) → low_of wants ≡ low x
+pub are_plans : (x : Checked) (wants : Objects) (es es' : List FeedEnd) (plans : List Plan) → low_of wants ≡ low_in x
     → es' ≡ map (once_told wants) es → plans ≡ map (plan_of wants) es
     → ArePlans (kind x) (posts_of es) (posts_of es') plans
 are_plans x wants es es' plans is e p =

@@ -16,14 +16,14 @@ use Rattle.transform_model.specs.Objects.{low_objects}
 use Rattle.node_model.specs.Keys.{Low, key_cmp}
 use Rattle.node_model.specs.Values.{Object}
 use Rattle.node_model.specs.Wants.{slice_entry}
-use Rattle.network_model.specs.Setup.{low}
+use Rattle.network_model.specs.Setup.{low_in}
 use Rattle.config_node.specs.Ends.{Objects, low_of, low_order}
 use Rattle.config_node.proofs.Images.{low-entries}
 
 -- ---- they are those of the model
 pub as_wanted : (x : Checked) (objects held : Objects) → objects ≡ low_objects x.topology x.config
-    → map_of low_order held ≡ from_entries objects → low_of held ≡ low x
-unfolding low
+    → map_of low_order held ≡ from_entries objects → low_of held ≡ low_in x
+unfolding low_in
 as_wanted x objects held is h =
     ap (embedded {S = key_cmp} Low Object) h ∙ low-entries objects
     ∙ ap (λ (es : Objects). from_entries (map slice_entry es)) is

@@ -9,7 +9,7 @@ use Rattle.node_model.specs.Maps.{Map}
 pub use Rattle.node_core.specs.Keeping.{AreFew, AreOfLive, AreSwept, kept_at, nothing_kept}
 pub use Rattle.node_core.specs.Resting.{is_idle, is_up, may_send, nothings}
 use Rattle.node_model.specs.Step.{Kind, Post}
-use Rattle.network_model.specs.Setup.{low}
+use Rattle.network_model.specs.Setup.{low_in}
 
 -- its ends are those of the control nodes, in the order of the topology
 pub record Core : Type 0 where
@@ -24,7 +24,7 @@ sessions x = length x.topology.controllers
 
 -- ---- what it wants its sessions to have been told: the low-level objects of the configuration, from their opening on
 abbrev pub wanted : Checked → List Post → ℕ → Map
-wanted x posts i = low x
+wanted x posts i = low_in x
 
 abbrev pub kind : Checked → Kind
 kind x = record { wanted = wanted x; may_send = may_send; spelled = λ i c. spelled c }

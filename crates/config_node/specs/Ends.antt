@@ -21,7 +21,7 @@ use Rattle.node_model.specs.Keys.{Low, key_cmp}
 use Rattle.node_model.specs.Maps.{Map}
 use Rattle.node_model.specs.Step.{Post}
 use Rattle.node_model.specs.Values.{Object}
-use Rattle.network_model.specs.Setup.{low}
+use Rattle.network_model.specs.Setup.{low_in}
 use Rattle.config_node.specs.declared.ends.FeedEnd.{FeedEnd}
 
 pub record Ends : Type 0 where
@@ -71,8 +71,8 @@ pub record AreEnds (x : Checked) (wants : Objects) (ends : List FeedEnd) : Type 
   pub some : 1 ≤ length x.topology.controllers
   pub few : length x.topology.controllers ≤ 8
   pub whose : map whom_at ends ≡ map controller x.topology.controllers
-  pub wanted : low_of wants ≡ low x
-  pub fits : AllFit (low x)
+  pub wanted : low_of wants ≡ low_in x
+  pub fits : AllFit (low_in x)
   pub sent : AllByRecursion (HasSent wants) ends
 
 -- ---- how they are told apart

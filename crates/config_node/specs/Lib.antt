@@ -4,5 +4,4 @@ pub mod Beginning
 pub mod Ends
 pub mod Planning
 pub mod Taking
-pub mod Editing
-pub mod Advancing
+pub mod Setting

@@ -1,20 +1,16 @@
 //! The ends of the configuration node's sessions.
 ghost use Rattle.std.specs.Prelude.{◌≡◌, ◌<◌, [], length, map, not, false, None, Some, IfOk, IfSome, IsTrue, OnErr};
-ghost use Rattle.config_model.specs.Edit.{has_edit_form};
 ghost use Rattle.config_model.specs.Form.{has_config_form, has_topology_form};
-ghost use Rattle.config_check.specs.Edits.{edit_fault};
 ghost use Rattle.config_check.specs.Rules.{first_broken};
 ghost use Rattle.item_wire.specs.Happenings.{after};
 ghost use Rattle.item_wire.specs.declared.input.Came.TheVariants.{Closed};
 ghost use Rattle.node_items.specs.Beginning.{phase_of};
-ghost use Rattle.network_model.specs.Setup.{edited};
 ghost use Rattle.config_node.specs.Core.{is_idle, nothings, sessions};
 ghost use Rattle.config_node.specs.Ends.{doubted, new_end};
 
 use crate::planning::plan_all;
 use crate::wants::{Objects, wanted};
-use config_check::{EditFault, EditRefusal, Valid, apply_edit};
-use config_model::Edit;
+use config_check::Valid;
 use item_wire::{ItemCause, ItemFrom, ItemSession, ItemState};
 use node_core::{End, Ends, Plan, Started};
 use ov_link::Input;
@@ -182,26 +178,17 @@ impl ConfigEnds {
         &self.valid
     }
 
-    /// Makes an edit of what is valid, unless it has a fault. Each session may have to be told something then.
-    pub(crate) fn edit(&mut self, edit: &Edit) -> Result<Option<EditFault>, NoMemory>
-        requires { IsTrue (has_edit_form edit.now) }
-        ensures topology { self.new.setup.topology ≡ self.old.setup.topology }
+    /// Sets what is valid. Each session may have to be told something then.
+    pub(crate) fn set_valid(&mut self, valid: Valid) -> Result<(), NoMemory>
+        requires same { valid.topology.controllers ≡ self.old.setup.topology.controllers }
+        ensures setup { IfOk result (λ _. self.new.setup ≡ valid) }
         ensures posts { self.new.posts ≡ self.old.posts }
-        ensures fault { IfOk result (λ fault. fault ≡ edit_fault self.old.setup edit.now) }
-        ensures refused { IfOk result (λ fault. IfSome fault (λ _. self.new ≡ self.old)) }
-        ensures made { IfOk result (λ fault. fault ≡ None → edited self.old.setup edit.now ≡ Some self.new.setup) }
         ensures err { OnErr result (self.new ≡ self.old) }
     {
-        match apply_edit(self.alloc, &self.valid, edit) {
-            Ok(valid) => {
-                let wants = wanted(self.alloc, &valid)?;
-                self.valid = valid;
-                self.wants = wants;
-                doubt_all(&mut self.ends);
-                Ok(None)
-            }
-            Err(EditRefusal::Edit(fault)) => Ok(Some(fault)),
-            Err(EditRefusal::NoMemory) => Err(NoMemory),
-        }
+        let wants = wanted(self.alloc, &valid)?;
+        self.valid = valid;
+        self.wants = wants;
+        doubt_all(&mut self.ends);
+        Ok(())
     }
 }

@@ -1,24 +1,19 @@
-//! The configuration node, its step and its edits.
+//! The configuration node, its step and what is set as valid.
 ghost use Rattle.std.specs.Prelude.{◌≡◌, ◌≢◌, ◌<◌, ◌≤◌, ◌↔◌, ◌⊎◌, ℕ, List, length, not, slice_set, true, false};
-ghost use Rattle.std.specs.Prelude.{None, Some, IfOk, IfSome, IsTrue};
+ghost use Rattle.std.specs.Prelude.{None, IfOk, IsTrue};
 ghost use Rattle.ov_link.specs.declared.step.Stepped.TheVariants.{Closed};
 ghost use Rattle.item_wire.specs.declared.event.ItemCause.TheVariants.{Ended};
-ghost use Rattle.config_model.specs.Edit.{has_edit_form};
 ghost use Rattle.config_model.specs.Form.{has_config_form, has_topology_form};
-ghost use Rattle.config_check.specs.Edits.{edit_fault};
 ghost use Rattle.config_check.specs.Rules.{first_broken};
 ghost use Rattle.node_core.specs.Whole.{Comes, IsWholeStep, session_of};
 ghost use Rattle.node_model.specs.Step.{post};
 ghost use Rattle.node_laws.specs.Stepped.{AreTold};
-ghost use Rattle.network_model.specs.Setup.{edited};
-ghost use Rattle.config_node.specs.Advancing.{Remakes};
 ghost use Rattle.config_node.specs.Beginning.{BeginsKeeping};
 ghost use Rattle.config_node.specs.Core.{AreSwept, fresh, is_idle, is_up, kept_at, kind, sessions};
-ghost use Rattle.config_node.specs.Editing.{IsEdited, failed_link, fault_in};
+ghost use Rattle.config_node.specs.Setting.{IsToldOf, failed_link};
 
 use crate::ends::ConfigEnds;
-use config_check::{EditFault, Valid};
-use config_model::Edit;
+use config_check::Valid;
 use item_wire::ItemCause;
 use node_core::{Ends, Node, tell};
 use ov_link::{Input, Link, Links, NodeFault, Stepped};
@@ -26,34 +21,25 @@ use ov_types::NoMemory;
 use std::alloc::Global;
 use std::marker::Model;
 
-/// What an edit came to, before it is answered.
-enum Remade {
-    Refused(EditFault),
-    /// The edit was made. This is the lowest session whose link failed then.
-    Made(Option<u16>),
-}
-
-/// Makes an edit, and tells each session what has changed for it.
-fn remake<L: Link>(
+/// Sets what is valid, and tells each session what has changed for it. Gives the lowest session whose link failed then.
+fn set_and_tell<L: Link>(
     ends: &mut ConfigEnds,
-    edit: &Edit,
+    valid: Valid,
     links: &mut Links<L>,
-) -> Result<Remade, NoMemory>
-    requires form { IsTrue (has_edit_form edit.now) }
+) -> Result<Option<u16>, NoMemory>
+    requires same { valid.topology.controllers ≡ ends.old.setup.topology.controllers }
     requires linked { length links.old ≡ sessions ends.old.setup }
-    ensures topology { ends.new.setup.topology ≡ ends.old.setup.topology }
-    ensures setup { (ends.new.setup ≡ ends.old.setup) ⊎ (edited ends.old.setup edit.now ≡ Some ends.new.setup) }
+    ensures set { IfOk result (λ _. ends.new.setup ≡ valid) }
+    ensures setup { (ends.new.setup ≡ ends.old.setup) ⊎ (ends.new.setup ≡ valid) }
+    ensures told { IfOk result (λ lowest. IsToldOf L.accepted L.breaks L.faults valid ends.old.posts ends.new.posts
+        links.old links.new lowest) }
     ensures links { length links.new ≡ length links.old }
     ensures sessions { length ends.new.posts ≡ length ends.old.posts }
-    ensures remakes { IfOk result (λ remade. Remakes L.accepted L.breaks L.faults edit.now ends.old ends.new links.old
-        links.new remade) }
 {
-    if let Some(fault) = ends.edit(edit)? {
-        return Ok(Remade::Refused(fault));
-    }
+    ends.set_valid(valid)?;
     let _sessions = ends.sessions();
     let lowest = tell(ends, links, 0, &[])?;
-    Ok(Remade::Made(lowest))
+    Ok(lowest)
 }
 
 /// The configuration node: a valid configuration, and the ends of its sessions with the control nodes.
@@ -138,7 +124,7 @@ impl ConfigNode {
         self.node.pending(session)
     }
 
-    /// Whether memory was wanting in a step or an edit since the node was made or restarted. It takes no memory.
+    /// Whether memory was wanting in a step, or as something valid was set, since the node was made or restarted. It takes no memory.
     pub fn failed(&self) -> bool
         ensures { result ≡ self.now.failed }
     {
@@ -183,26 +169,22 @@ impl ConfigNode {
         self.node.step(input, links)
     }
 
-    /// Makes an edit of what is valid, and then tells each session what has changed for it. A fault is answered, and
-    /// changes nothing. Where a link fails the edit is made all the same, and the session of that link is closed. After
-    /// want of memory every edit answers it, until a restart, and the edit may have been made.
-    pub fn edit<L: Link>(
+    /// Sets what is valid, with the same control nodes, and then tells each session what has changed for it. Where a link
+    /// fails it is set all the same, and the session of that link is closed. After want of memory every call answers it,
+    /// until a restart, and it may have been set.
+    pub fn set_valid<L: Link>(
         &mut self,
-        edit: &Edit,
+        valid: Valid,
         links: &mut Links<L>,
-    ) -> Result<Option<EditFault>, NodeFault>
-        requires form { IsTrue (has_edit_form edit.now) }
+    ) -> Result<(), NodeFault>
+        requires same { valid.topology.controllers ≡ self.old.setup.topology.controllers }
         requires linked { length links.old ≡ sessions self.old.setup }
-        ensures fault { result ≢ Err NodeFault.NoMemory → fault_in result ≡ edit_fault self.old.setup edit.now }
-        ensures refused { result ≢ Err NodeFault.NoMemory → IfSome (edit_fault self.old.setup edit.now)
-            (λ _. (self.new ≡ self.old) × (links.new ≡ links.old)) }
-        ensures made { result ≢ Err NodeFault.NoMemory → edit_fault self.old.setup edit.now ≡ None
-            → IsEdited L.accepted L.breaks L.faults self.old.setup self.new.setup edit.now self.old.posts self.new.posts
-            links.old links.new (failed_link result) }
-        ensures swept { result ≢ Err NodeFault.NoMemory → edit_fault self.old.setup edit.now ≡ None
-            → AreSwept self.new.posts self.old.kept self.new.kept }
-        ensures topology { self.new.setup.topology ≡ self.old.setup.topology }
-        ensures setup { (self.new.setup ≡ self.old.setup) ⊎ (edited self.old.setup edit.now ≡ Some self.new.setup) }
+        ensures set { result ≢ Err NodeFault.NoMemory → self.new.setup ≡ valid }
+        ensures told { result ≢ Err NodeFault.NoMemory → IsToldOf L.accepted L.breaks L.faults valid self.old.posts
+            self.new.posts links.old links.new (failed_link result) }
+        ensures swept { result ≢ Err NodeFault.NoMemory → AreSwept self.new.posts self.old.kept self.new.kept }
+        ensures controllers { self.new.setup.topology.controllers ≡ self.old.setup.topology.controllers }
+        ensures setup { (self.new.setup ≡ self.old.setup) ⊎ (self.new.setup ≡ valid) }
         ensures links { length links.new ≡ length links.old }
         ensures failed { (self.new.failed ≡ true) ↔ (result ≡ Err NodeFault.NoMemory) }
         ensures until_restart { self.old.failed ≡ true → result ≡ Err NodeFault.NoMemory }
@@ -210,13 +192,12 @@ impl ConfigNode {
         if self.node.failed {
             return Err(NodeFault::NoMemory);
         }
-        match remake(&mut self.node.ends, edit, links) {
-            Ok(Remade::Refused(fault)) => Ok(Some(fault)),
-            Ok(Remade::Made(None)) => {
+        match set_and_tell(&mut self.node.ends, valid, links) {
+            Ok(None) => {
                 self.node.sweep();
-                Ok(None)
+                Ok(())
             }
-            Ok(Remade::Made(Some(session))) => {
+            Ok(Some(session)) => {
                 self.node.sweep();
                 Err(NodeFault::LinkFailed { session })
             }

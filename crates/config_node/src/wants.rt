@@ -1,7 +1,7 @@
 //! What the control nodes are to be told of a configuration.
 ghost use Rattle.std.specs.Prelude.{◌≡◌, IfOk};
 ghost use Rattle.node_items.specs.Told.{AllFit};
-ghost use Rattle.network_model.specs.Setup.{low};
+ghost use Rattle.network_model.specs.Setup.{low_in};
 ghost use Rattle.config_node.specs.Ends.{low_of};
 
 use config_check::Valid;
@@ -16,8 +16,8 @@ pub(crate) type Objects = BTreeMap<LowKey, LowValue>;
 
 /// The low-level objects of a valid configuration.
 pub(crate) fn wanted(alloc: Global, valid: &Valid) -> Result<Objects, NoMemory>
-    ensures wanted { IfOk result (λ objects. low_of objects.entries ≡ low valid.now) }
-    ensures fits { AllFit (low valid.now) }
+    ensures wanted { IfOk result (λ objects. low_of objects.entries ≡ low_in valid.now) }
+    ensures fits { AllFit (low_in valid.now) }
 {
     let _config = valid.config();
     let objects = low(alloc, valid)?;

@@ -10,6 +10,7 @@ pub(crate) fn value_of(rt: &impl Abort, alloc: Global, text: &str) -> Value {
 }
 
 /// The valid configuration of a document of `compile`.
+#[tactic(auto, using(crate::proofs::Forms::nodes_form))]
 pub(crate) fn valid_of(rt: &impl Abort, alloc: Global, text: &str) -> Valid {
     let value = value_of(rt, alloc, text);
     let plan = read_compile(alloc, &value).expect(rt, "a document");

@@ -5,7 +5,7 @@ ghost use Rattle.config_model.specs.Edit.{has_edit_form};
 use config_check::{EditFault, Refusal, Valid, check};
 use config_model::{Edit, read_compile, read_edit};
 use config_ties::{Tie, TiedFault, TiedRefusal, Ties, apply_tied_edit};
-use ov_types::{InstanceId, Name, PortNo};
+use ov_types::{Addr, InstanceId, Name, PortNo};
 use serde_json::Value;
 use std::alloc::Global;
 use std::process::Abort;
@@ -40,6 +40,7 @@ struct Run {
     ties: Ties,
 }
 
+#[tactic(auto, using(crate::proofs::Forms::nodes_form))]
 fn opened(alloc: Global) -> Option<Run> {
     let value = Value::from_str(alloc, OPENING).ok()?;
     let input = read_compile(alloc, &value).ok()?;
@@ -97,6 +98,30 @@ fn relates(rt: &impl Abort, ties: &Ties) {
     assert!(rt; ties.was_related(BLUE, RED));
 }
 
+const CONTROLLER: Addr = Addr(0xc000_0201);
+
+const FIRST: Addr = Addr(0xc000_020b);
+
+const SECOND: Addr = Addr(0xc000_020c);
+
+const THIRD: Addr = Addr(0xc000_020d);
+
+const FOURTH: Addr = Addr(0xc000_020e);
+
+/// A name and an address are tied to each other.
+fn ties_node(rt: &impl Abort, ties: &Ties, name: &str, address: Addr) {
+    let name = Name::new(name).expect(rt, "a name");
+    assert!(rt; ties.address(&name) == Some(address), "{name}");
+    assert!(rt; ties.name(address) == Some(name), "{name}");
+}
+
+/// Neither a name nor an address is tied.
+fn ties_nothing_of(rt: &impl Abort, ties: &Ties, name: &str, address: Addr) {
+    let name = Name::new(name).expect(rt, "a name");
+    assert!(rt; ties.address(&name).is_none(), "{name}");
+    assert!(rt; ties.name(address).is_none(), "{name}");
+}
+
 fn tie_what_stands(rt: &impl Abort, ties: &Ties) {
     ties_port(rt, ties, 1, Some(RED));
     ties_port(rt, ties, 2, Some(BLUE));
@@ -106,6 +131,10 @@ fn tie_what_stands(rt: &impl Abort, ties: &Ties) {
     relates(rt, ties);
     assert!(rt; !ties.was_related(RED, RED));
     assert!(rt; !ties.was_related(RED, GREEN));
+    ties_node(rt, ties, "n1", FIRST);
+    ties_node(rt, ties, "n2", SECOND);
+    ties_nothing_of(rt, ties, "n3", THIRD);
+    ties_nothing_of(rt, ties, "c1", CONTROLLER);
 }
 
 /// What happens to what is valid, with its ties.
@@ -116,6 +145,8 @@ enum Scene {
     StayTied,
     StayBetweenNetworks,
     TryPortsFirst,
+    StayAtAddresses,
+    StayAtAddressesThatAreGone,
 }
 
 fn happen(rt: &impl Abort, alloc: Global, scene: Scene, run: &mut Run) {
@@ -125,6 +156,8 @@ fn happen(rt: &impl Abort, alloc: Global, scene: Scene, run: &mut Run) {
         Scene::StayTied => stay_tied(rt, alloc, run),
         Scene::StayBetweenNetworks => stay_between_networks(rt, alloc, run),
         Scene::TryPortsFirst => try_ports_first(rt, alloc, run),
+        Scene::StayAtAddresses => stay_at_addresses(rt, alloc, run),
+        Scene::StayAtAddressesThatAreGone => stay_at_addresses_that_are_gone(rt, alloc, run),
     }
 }
 
@@ -246,4 +279,60 @@ fn try_ports_first(rt: &impl Abort, alloc: Global, run: &mut Run) {
 #[test]
 fn ports_are_tried_before_uses(rt: HostRuntime) {
     in_a_run(&rt, rt.alloc(), Scene::TryPortsFirst);
+}
+
+/// A put of a compute node.
+fn node_put(alloc: Global, name: &str, address: &str) -> Option<String> {
+    let head = r#"{"put":{"node":{"#;
+    let rest = r#""controllers":["c1"]}}}"#;
+    format!(in alloc; r#"{head}"name":"{name}","address":"{address}",{rest}"#).ok()
+}
+
+fn node_is_put(rt: &impl Abort, alloc: Global, run: &mut Run, name: &str, address: &str) {
+    let text = node_put(alloc, name, address).expect(rt, "memory");
+    is_made(rt, alloc, run, text.as_str());
+}
+
+/// The compute node of a name cannot be at an address.
+fn node_is_tied(
+    rt: &impl Abort,
+    alloc: Global,
+    run: &mut Run,
+    name: &str,
+    address: &str,
+    tied: Addr,
+) {
+    let text = node_put(alloc, name, address).expect(rt, "memory");
+    let fault = TiedFault::Tied(Tie::Node(tied));
+    is_refused(rt, alloc, run, text.as_str(), fault);
+}
+
+fn stay_at_addresses(rt: &impl Abort, alloc: Global, run: &mut Run) {
+    node_is_tied(rt, alloc, run, "n2", "192.0.2.13", THIRD);
+    node_is_put(rt, alloc, run, "n2", "192.0.2.12");
+    node_is_put(rt, alloc, run, "n3", "192.0.2.13");
+    ties_node(rt, &run.ties, "n3", THIRD);
+    node_is_tied(rt, alloc, run, "n3", "192.0.2.14", FOURTH);
+    ties_node(rt, &run.ties, "n3", THIRD);
+}
+
+#[test]
+fn a_compute_node_stays_at_its_address(rt: HostRuntime) {
+    in_a_run(&rt, rt.alloc(), Scene::StayAtAddresses);
+}
+
+const NODE_DELETED: &str = r#"{"delete":{"node":"n3"}}"#;
+
+fn stay_at_addresses_that_are_gone(rt: &impl Abort, alloc: Global, run: &mut Run) {
+    node_is_put(rt, alloc, run, "n3", "192.0.2.13");
+    is_made(rt, alloc, run, NODE_DELETED);
+    ties_node(rt, &run.ties, "n3", THIRD);
+    node_is_tied(rt, alloc, run, "n3", "192.0.2.14", FOURTH);
+    node_is_tied(rt, alloc, run, "n4", "192.0.2.13", THIRD);
+    node_is_put(rt, alloc, run, "n3", "192.0.2.13");
+}
+
+#[test]
+fn a_compute_node_that_is_gone_stays_tied(rt: HostRuntime) {
+    in_a_run(&rt, rt.alloc(), Scene::StayAtAddressesThatAreGone);
 }

@@ -7,6 +7,7 @@ use Rattle.std.proofs.lemmas.List.Elements.{All-contains}
 use Rattle.ov_types.specs.First.{first_of, ◌<|>◌}
 use Rattle.ov_types.specs.declared.numbers.InstanceId.{InstanceId}
 use Rattle.ov_types.specs.declared.numbers.PortNo.{PortNo}
+use Rattle.ov_types.specs.declared.prefix.Addr.{Addr}
 use Rattle.ov_types.proofs.FirstLemmas.{contains_at, first_of_none}
 use Rattle.config_model.specs.declared.config.Config.{Config}
 use Rattle.config_model.specs.declared.config.Port.{Port}
@@ -14,12 +15,14 @@ use Rattle.config_model.specs.declared.topology.Topology.{Topology}
 use Rattle.network_rules.proofs.Taking.{first_answer}
 use Rattle.network_rules.specs.Related.{all_rules}
 use Rattle.network_rules.specs.declared.numbered.NumberedRule.{NumberedRule}
+use Rattle.config_check.specs.Checked.{Checked}
 use Rattle.config_check.specs.Rules.{first_broken}
 use Rattle.config_check.specs.Sentences.{IsValid}
 use Rattle.config_check.proofs.Few.{few_rules, first_none}
-use Rattle.config_ties.specs.Kept.{Adds, AreAlike, Kept, Relates, RelatesBothWays, are_in, home_by, port_in, ties_in, use_in}
+use Rattle.config_ties.specs.Kept.{Adds, AreAlike, Kept, Relates, RelatesBothWays, address_by, address_in, are_in, home_by, name_in, port_in, ties_in, use_in}
 use Rattle.config_ties.specs.Ties.{HasPort, Ties}
-use Rattle.config_ties.specs.Tying.{ends_by, home_id, joined, no_ties, port_network, relates}
+use Rattle.config_ties.specs.Tying.{ends_by, home_id, joined, name_by, no_ties, port_network, relates}
+use Rattle.config_ties.proofs.OfNodes.{first_address}
 use Rattle.config_ties.proofs.Having.{home_is, of_port, port_iff, related_back, relates_iff}
 
 never : {A : Type 0} (x : A) → None ≡ Some x → ⊥
@@ -57,7 +60,13 @@ module _ (s : Topology) (c : Config) (v : IsValid s c) (p : PortNo) where
 
 -- ---- ties that answer alike
 pub alike_is_one : (s t : Ties) → AreAlike s t → s ≡ t
-alike_is_one s t h = λ k. record { port = λ p. h.ports p k; chain_use = λ number. h.uses number k; was_related = λ a b. h.related a b k }
+alike_is_one s t h = λ k. record {
+  port = λ p. h.ports p k;
+  chain_use = λ number. h.uses number k;
+  was_related = λ a b. h.related a b k;
+  address = λ name. h.addresses name k;
+  name = λ a. h.names a k;
+}
 
 -- ---- relations go both ways
 same_tests : (x y : Bool) → (x ≡ true → y ≡ true) → (y ≡ true → x ≡ true) → x ≡ y
@@ -71,8 +80,8 @@ relates_back c a b e = (relates_iff c b a).1 (related_back c a b ((relates_iff c
 pub none_both_ways : RelatesBothWays no_ties
 none_both_ways a b = refl
 
-pub joined_both_ways : (t : Ties) (c : Config) → RelatesBothWays t → RelatesBothWays (joined t c)
-joined_both_ways t c h a b = λ k. h a b k || same_tests (relates c a b) (relates c b a) (relates_back c a b) (relates_back c b a) k
+pub joined_both_ways : (t : Ties) (x : Checked) → RelatesBothWays t → RelatesBothWays (joined t x)
+joined_both_ways t x h a b = λ k. h a b k || same_tests (relates x.config a b) (relates x.config b a) (relates_back x.config a b) (relates_back x.config b a) k
 
 -- ---- a valid configuration has few rules in a policy
 pub few_rules_of : (s : Topology) (c d : Config) → d ≡ c → first_broken s c ≡ None → list_all (λ p. nat_le (length p.rules) 16) d.policies ≡ true
@@ -80,16 +89,22 @@ unfolding first_broken
 few_rules_of s c d same h = ap (λ (e : Config). list_all (λ p. nat_le (length p.rules) 16) e.policies) same ∙ few_rules s c (first_none _ _ h)
 
 -- ---- what is kept with one configuration more
-module _ (s : Topology) (c d : Config) (same : d ≡ c) (v : IsValid s c) (rules : List NumberedRule) (all : rules ≡ all_rules c) where
+module _ (x : Checked) (s : Topology) (d : Config) (same_s : s ≡ x.topology) (same : d ≡ x.config) (v : IsValid x.topology x.config) (rules : List NumberedRule) (all : rules ≡ all_rules x.config) where
   pub joined_is : (before after : Kept) (old : Kept) → before ≡ old
       → Adds (port_in before.ports) (λ p. first_of (home_by d p) d.ports) (port_in after.ports)
       → Adds (use_in before.uses) (λ u. first_of (λ r. ends_by d r.rule u r.rule.action) rules) (use_in after.uses)
       → Relates (are_in before.related) (relates d) (are_in after.related)
-      → AreAlike (ties_in after) (joined (ties_in old) c)
-  joined_is before after old is ports uses related = record {
+      → Adds (address_in before.addresses) (λ name. first_of (address_by name) s.nodes) (address_in after.addresses)
+      → Adds (name_in before.names) (λ a. first_of (name_by a) s.nodes) (name_in after.names)
+      → AreAlike (ties_in after) (joined (ties_in old) x)
+  joined_is before after old is ports uses related addresses names = record {
     ports = λ p.
         ports p ∙ (λ k. port_in (is k).ports p <|> first_of (home_by (same k) p) (same k).ports)
-        ∙ ap (λ (o : Option InstanceId). port_in old.ports p <|> o) (first_home s c v p);
+        ∙ ap (λ (o : Option InstanceId). port_in old.ports p <|> o) (first_home x.topology x.config v p);
     uses = λ u. uses u ∙ (λ k. use_in (is k).uses u <|> first_of (λ (r : NumberedRule). ends_by (same k) r.rule u r.rule.action) (all k));
     related = λ a b. related a b ∙ (λ k. are_in (is k).related a b || relates (same k) a b);
+    addresses = λ name.
+        addresses name ∙ (λ k. address_in (is k).addresses name <|> first_of (address_by name) (same_s k).nodes)
+        ∙ ap (λ (o : Option Addr). address_in old.addresses name <|> o) (first_address x.topology name);
+    names = λ a. names a ∙ (λ k. name_in (is k).names a <|> first_of (name_by a) (same_s k).nodes);
   }

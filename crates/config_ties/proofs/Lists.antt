@@ -1,5 +1,5 @@
 -- Lists of which items are found by a key.
-use Rattle.std.proofs.Common.{◌≡◌, ◌≢◌, ℕ, Bool, true, List, [], ◌∷◌, Option, Some, None, ap, arith, inl, inr, refl, subst, sym, ◌∙◌}
+use Rattle.std.proofs.Common.{◌≡◌, ◌≢◌, ℕ, Bool, true, List, map, [], ◌∷◌, Option, Some, None, ap, arith, inl, inr, refl, subst, sym, ◌∙◌}
 use Rattle.std.specs.List.{AllPairs, Any, Contains, cons_option, filter_map, list_any}
 use Rattle.std.proofs.lemmas.List.Elements.{All-contains}
 use Rattle.std.proofs.lemmas.List.Folds.{Any-from_list_any, list_any-from_Any}
@@ -49,3 +49,27 @@ module _ {A : Type 0} (key : A → Option ℕ) (n : ℕ) where
       alone y later first also =
           let here : Apart (n ∷ filter_map key xs) = subst (λ (o : Option ℕ). Apart (cons_option o (filter_map key xs))) first apart in
           All-contains (λ m. n ≢ m) (filter_map key xs) n (pairs_head (λ a b. a ≢ b) n (filter_map key xs) here) (given xs y later also) refl
+
+-- where the numbers of items are distinct, one item has each
+module _ {A : Type 0} (number : A → ℕ) where
+  numbered : (xs : List A) (x : A) → Contains xs x → Contains (map number xs) (number x)
+  numbered [] x there = absurd (omega (arith, there.1))
+  numbered (y ∷ xs) x there =
+      elim (contains_cases y xs x there) [
+        | inl same ↦ subst (λ (z : A). Contains (map number (y ∷ xs)) (number z)) same (contains_here (number y) (map number xs))
+        | inr later ↦ contains_later (number x) (number y) (map number xs) (numbered xs x later)
+      ]
+
+  pub one_of_numbers : (xs : List A) → AllPairs (λ a b. a ≢ b) (map number xs) → (x y : A) → Contains xs x → Contains xs y → number x ≡ number y → x ≡ y
+  one_of_numbers [] apart x y in_x in_y e = absurd (omega (arith, in_x.1))
+  one_of_numbers (z ∷ xs) apart x y in_x in_y e =
+      elim (contains_cases z xs x in_x) [
+        | inl here ↦ elim (contains_cases z xs y in_y) [ inl there ↦ sym here ∙ there | inr later ↦ absurd (alone y later (ap number here ∙ e)) ]
+        | inr later ↦ elim (contains_cases z xs y in_y) [
+          | inl here ↦ absurd (alone x later (ap number here ∙ sym e))
+          | inr also ↦ one_of_numbers xs (pairs_tail (λ a b. a ≢ b) (number z) (map number xs) apart) x y later also e
+        ]
+      ]
+    where
+      alone : (y : A) → Contains xs y → number z ≡ number y → ⊥
+      alone y later same = All-contains (λ m. number z ≢ m) (map number xs) (number y) (pairs_head (λ a b. a ≢ b) (number z) (map number xs) apart) (numbered xs y later) same

@@ -1,7 +1,6 @@
 -- When an edit is refused by what it makes, or by the ties of the configurations so far.
 use Rattle.std.specs.Prelude.{◌≡◌, Option, Some, option_map}
 use Rattle.ov_types.specs.First.{◌<|>◌}
-use Rattle.config_model.specs.declared.config.Config.{Config}
 use Rattle.config_model.specs.declared.edit.Edit.{Edit}
 use Rattle.config_check.specs.Checked.{Checked}
 use Rattle.config_check.specs.Edits.{edit_fault, edited}
@@ -14,13 +13,13 @@ use Rattle.config_ties.specs.declared.edits.TiedFault.TheVariants.{Edit as Fault
 use Rattle.config_ties.specs.declared.edits.TiedRefusal.{TiedRefusal}
 use Rattle.config_ties.specs.declared.edits.TiedRefusal.TheVariants as Tied_refusals
 
--- the fault of a configuration that breaks a tie: the first that it breaks
-abbrev pub tie_fault : Ties → Config → Option TiedFault
-tie_fault t c = option_map (λ tie. Tied tie) (broken_tie t c)
+-- the fault of what breaks a tie: the first that it breaks
+abbrev pub tie_fault : Ties → Checked → Option TiedFault
+tie_fault t x = option_map (λ tie. Tied tie) (broken_tie t x)
 
 -- the fault of an edit, if it has one: what it deletes is missing, what it makes breaks a rule, or it breaks a tie
 abbrev pub tied_fault : Checked → Ties → Edit → Option TiedFault
-tied_fault v t e = option_map (λ f. Faulty f) (edit_fault v e) <|> tie_fault t (edited e v.config)
+tied_fault v t e = option_map (λ f. Faulty f) (edit_fault v e) <|> tie_fault t (edited e v)
 
 -- a refusal names the fault that was found; want of memory says nothing
 abbrev pub RefusesTied : TiedRefusal → Option TiedFault → Type 0

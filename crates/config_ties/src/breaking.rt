@@ -2,20 +2,23 @@
 ghost use Rattle.std.specs.Prelude.{◌≡◌};
 ghost use Rattle.ov_types.specs.First.{first_of};
 ghost use Rattle.network_rules.specs.Related.{all_rules};
-ghost use Rattle.config_ties.specs.Broken.{broken_port, broken_tie, broken_use, moved, moved_pair};
+ghost use Rattle.config_ties.specs.Broken.{broken_node, broken_port, broken_tie, broken_use};
+ghost use Rattle.config_ties.specs.Broken.{moved, moved_address, moved_pair, renamed};
 ghost use Rattle.config_ties.specs.Kept.{ties_in};
 
 use crate::kept::Ties;
 use crate::naming::{ends_of, home_id};
-use config_model::{Action, Config, Port, Rule};
+use config_check::Valid;
+use config_model::{Action, Config, Node, Port, Rule, Topology};
 use network_rules::NumberedRule;
-use ov_types::{InstanceId, PortNo};
+use ov_types::{Addr, InstanceId, Name, PortNo};
 
-/// What has a tie: a port number, or the number of a chain's use.
+/// What has a tie: a port number, the number of a chain's use, or the compute node at an address.
 #[derive(Clone, Copy, PartialEq, Eq)]
 pub enum Tie {
     Port(PortNo),
     ChainUse(u16),
+    Node(Addr),
 }
 
 fn moved(tied: Option<InstanceId>, home: Option<InstanceId>) -> bool
@@ -39,6 +42,24 @@ fn moved_pair(
     }
 }
 
+fn moved_address(tied: Option<Addr>, address: Addr) -> bool
+    ensures { result ≡ moved_address tied address }
+{
+    match tied {
+        Some(tied) => tied != address,
+        None => false,
+    }
+}
+
+fn renamed(tied: Option<Name>, name: &Name) -> bool
+    ensures { result ≡ renamed tied name.now }
+{
+    match tied {
+        Some(tied) => tied != *name,
+        None => false,
+    }
+}
+
 fn broken_port(ties: &Ties, config: &Config, port: &Port) -> Option<Tie>
     ensures { result ≡ broken_port (ties_in ties.now) config.now port.now }
 {
@@ -57,6 +78,18 @@ fn broken_use(ties: &Ties, config: &Config, rule: &Rule) -> Option<Tie>
     };
     if moved_pair(ties.chain_use(use_no), ends_of(config, rule)) {
         Some(Tie::ChainUse(use_no))
+    } else {
+        None
+    }
+}
+
+fn broken_node(ties: &Ties, node: &Node) -> Option<Tie>
+    ensures { result ≡ broken_node (ties_in ties.now) node.now }
+{
+    if moved_address(ties.address(&node.name), node.address)
+        || renamed(ties.name(node.address), &node.name)
+    {
+        Some(Tie::Node(node.address))
     } else {
         None
     }
@@ -84,14 +117,28 @@ fn first_broken_use(ties: &Ties, config: &Config, rules: &[NumberedRule]) -> Opt
     None
 }
 
-/// The first tie that a configuration of these rules breaks: those of ports before those of uses, each in the
-/// document's order.
-pub(crate) fn broken_tie(ties: &Ties, config: &Config, rules: &[NumberedRule]) -> Option<Tie>
-    requires { rules.now ≡ all_rules config.now }
-    ensures { result ≡ broken_tie (ties_in ties.now) config.now }
+fn first_broken_node(ties: &Ties, topology: &Topology) -> Option<Tie>
+    ensures { result ≡ first_of (broken_node (ties_in ties.now)) topology.now.nodes }
 {
-    if let Some(tie) = first_broken_port(ties, config) {
+    for node in topology.nodes.as_slice() {
+        if let Some(tie) = broken_node(ties, node) {
+            return Some(tie);
+        }
+    }
+    None
+}
+
+/// The first tie that a valid configuration of these rules breaks: those of ports before those of uses, and these before
+/// those of compute nodes, each in the document's order.
+pub(crate) fn broken_tie(ties: &Ties, valid: &Valid, rules: &[NumberedRule]) -> Option<Tie>
+    requires { rules.now ≡ all_rules valid.now.config }
+    ensures { result ≡ broken_tie (ties_in ties.now) valid.now }
+{
+    if let Some(tie) = first_broken_port(ties, valid.config()) {
         return Some(tie);
     }
-    first_broken_use(ties, config, rules)
+    if let Some(tie) = first_broken_use(ties, valid.config(), rules) {
+        return Some(tie);
+    }
+    first_broken_node(ties, valid.topology())
 }

@@ -57,12 +57,12 @@ impl From<EditRefusal> for TiedRefusal {
 
 /// The ties with those of a valid configuration, where it breaks none.
 fn kept_by(alloc: Global, ties: &Ties, valid: &Valid) -> Result<Ties, TiedRefusal>
-    ensures ties { IfOk result (λ more. AreAlike (ties_in more) (joined (ties_in ties.now) valid.now.config)) }
-    ensures kept { IfOk result (λ more. tie_fault (ties_in ties.now) valid.now.config ≡ None) }
-    ensures refused { IfErr result (λ e. RefusesTied e (tie_fault (ties_in ties.now) valid.now.config)) }
+    ensures ties { IfOk result (λ more. AreAlike (ties_in more) (joined (ties_in ties.now) valid.now)) }
+    ensures kept { IfOk result (λ more. tie_fault (ties_in ties.now) valid.now ≡ None) }
+    ensures refused { IfErr result (λ e. RefusesTied e (tie_fault (ties_in ties.now) valid.now)) }
 {
     let rules = rules_of(alloc, valid)?;
-    if let Some(tie) = broken_tie(ties, valid.config(), &rules) {
+    if let Some(tie) = broken_tie(ties, valid, &rules) {
         return Err(TiedRefusal::Edit(TiedFault::Tied(tie)));
     }
     Ok(joined(alloc, ties, valid, &rules)?)
@@ -77,10 +77,9 @@ pub fn apply_tied_edit(
     edit: &Edit,
 ) -> Result<(Valid, Ties), TiedRefusal>
     requires { IsTrue (has_edit_form edit.now) }
-    ensures configuration { IfOk result (λ made. made.0
-        ≡ record { topology = valid.now.topology; config = edited edit.now valid.now.config }) }
+    ensures configuration { IfOk result (λ made. made.0 ≡ edited edit.now valid.now) }
     ensures ties { IfOk result (λ made. AreAlike (ties_in made.1)
-        (joined (ties_in ties.now) (edited edit.now valid.now.config))) }
+        (joined (ties_in ties.now) (edited edit.now valid.now))) }
     ensures accepted { IfOk result (λ made. tied_fault valid.now (ties_in ties.now) edit.now ≡ None) }
     ensures refused { IfErr result (λ e. RefusesTied e (tied_fault valid.now (ties_in ties.now) edit.now)) }
 {

@@ -5,6 +5,7 @@ ghost use Rattle.network_rules.specs.Related.{all_rules};
 ghost use Rattle.config_ties.specs.Kept.{Adds, AreAlike, home_by, port_in, ties_in, use_in};
 ghost use Rattle.config_ties.specs.Tying.{ends_by, joined};
 
+use crate::addressing::{joined_addresses, joined_names};
 use crate::kept::{Ports, Ties, Uses};
 use crate::naming::{ends_of, home_id};
 use crate::relating::joined_related;
@@ -112,15 +113,20 @@ pub(crate) fn joined(
     rules: &[NumberedRule],
 ) -> Result<Ties, NoMemory>
     requires { rules.now ≡ all_rules valid.now.config }
-    ensures { IfOk result (λ more. AreAlike (ties_in more) (joined (ties_in ties.now) valid.now.config)) }
+    ensures { IfOk result (λ more. AreAlike (ties_in more) (joined (ties_in ties.now) valid.now)) }
 {
     let config = valid.config();
     let ports = joined_ports(&ties.ports, config)?;
     let uses = joined_uses(&ties.uses, config, rules)?;
     let related = joined_related(alloc, &ties.related, config)?;
+    let topology = valid.topology();
+    let addresses = joined_addresses(&ties.addresses, topology)?;
+    let names = joined_names(&ties.names, topology)?;
     Ok(Ties {
         ports,
         uses,
         related,
+        addresses,
+        names,
     })
 }

@@ -1,12 +1,15 @@
 //! What ties mean, as laws: each is the contract of a function that does nothing.
-ghost use Rattle.std.specs.Prelude.{◌≡◌, ◌↔◌, ℕ, IsTrue, None, Some};
+ghost use Rattle.std.specs.Prelude.{◌≡◌, ◌↔◌, ℕ, IsTrue, List, None, Some};
 ghost use Rattle.ov_types.specs.declared.numbers.InstanceId.{InstanceId};
 ghost use Rattle.ov_types.specs.declared.numbers.PortNo.{PortNo};
+ghost use Rattle.ov_types.specs.declared.prefix.Addr.{Addr};
 ghost use Rattle.config_model.specs.declared.config.Config.{Config};
 ghost use Rattle.config_model.specs.declared.topology.Topology.{Topology};
+ghost use Rattle.config_check.specs.Checked.{Checked};
 ghost use Rattle.config_check.specs.Sentences.{IsValid};
-ghost use Rattle.config_ties.specs.Ties.{BreaksNone, Grows, HasPort, HasRelated, HasUse, IsTiedBy, Ties};
-ghost use Rattle.config_ties.specs.Tying.{joined, no_ties, port_network, relates, use_networks};
+ghost use Rattle.config_ties.specs.Ties.{BreaksNone, Grows, HasNode, HasPort, HasRelated, HasUse, IsTiedBy, Ties};
+ghost use Rattle.config_ties.specs.Ties.{AreNodesTied, NodesBreakNone};
+ghost use Rattle.config_ties.specs.Tying.{joined, no_ties, node_address, node_name, port_network, relates, use_networks};
 ghost use Rattle.config_ties.specs.declared.breaking.Tie.{Tie};
 ghost use Rattle.config_ties.specs.Broken.{IsBroken, broken_tie};
 ghost use Rattle.config_ties.specs.Kept.{AreAlike, RelatesBothWays};
@@ -23,23 +26,38 @@ pub fn ties_are_of_ports_rules_and_relations()
     ensures both_ways { (c : Config) (a b : InstanceId) → HasRelated c a b → HasRelated c b a }
 {}
 
+/// A valid topology ties a name to an address, and the address to the name, exactly where a compute node of the name is
+/// at the address.
+pub fn ties_are_of_compute_nodes()
+    ensures addresses { (t : Topology) (c : Config) (name : List ℕ) (a : Addr) → IsValid t c
+        → (node_address t name ≡ Some a) ↔ HasNode t name a }
+    ensures names { (t : Topology) (c : Config) (name : List ℕ) (a : Addr) → IsValid t c
+        → (node_name t a ≡ Some name) ↔ HasNode t name a }
+{}
+
 /// A configuration more removes no tie, whatever it has.
 pub fn ties_only_grow()
-    ensures { (t : Ties) (c : Config) → Grows t (joined t c) }
+    ensures { (t : Ties) (x : Checked) → Grows t (joined t x) }
 {}
 
-/// A valid configuration that breaks no tie is as the ties with it have it; the first breaks none.
+/// A valid configuration that breaks no tie is as the ties with it have it, and so is a valid topology; the first breaks
+/// none.
 pub fn configurations_are_as_their_ties_have_them()
-    ensures tied { (s : Topology) (t : Ties) (c : Config) → IsValid s c → BreaksNone t c → IsTiedBy (joined t c) c }
+    ensures tied { (t : Ties) (x : Checked) → IsValid x.topology x.config → BreaksNone t x.config
+        → IsTiedBy (joined t x) x.config }
+    ensures nodes { (t : Ties) (x : Checked) → IsValid x.topology x.config → NodesBreakNone t x.topology
+        → AreNodesTied (joined t x) x.topology }
     ensures first { (c : Config) → BreaksNone no_ties c }
+    ensures first_nodes { (t : Topology) → NodesBreakNone no_ties t }
 {}
 
-/// No broken tie is found in a valid configuration exactly where it breaks none. One that is found is broken, and is of
-/// a use only where no port breaks its own.
+/// No broken tie is found in what is valid exactly where it breaks none. One that is found is broken, is of a use only
+/// where no port breaks its own, and is of a compute node only where no port and no use does.
 pub fn broken_ties_are_found()
-    ensures found { (s : Topology) (t : Ties) (c : Config) (tie : Tie) → IsValid s c
-        → broken_tie t c ≡ Some tie → IsBroken t c tie }
-    ensures none { (s : Topology) (t : Ties) (c : Config) → IsValid s c → (broken_tie t c ≡ None) ↔ BreaksNone t c }
+    ensures found { (t : Ties) (x : Checked) (tie : Tie) → IsValid x.topology x.config
+        → broken_tie t x ≡ Some tie → IsBroken t x tie }
+    ensures none { (t : Ties) (x : Checked) → IsValid x.topology x.config
+        → (broken_tie t x ≡ None) ↔ (BreaksNone t x.config × NodesBreakNone t x.topology) }
 {}
 
 /// Ties that answer alike are one: nothing that is said of the ones is false of the others.
@@ -50,5 +68,5 @@ pub fn ties_that_answer_alike_are_one()
 /// Whether two networks were related does not depend on which of them comes first, in the ties of any configurations.
 pub fn ties_relate_both_ways()
     ensures first { RelatesBothWays no_ties }
-    ensures joined { (t : Ties) (c : Config) → RelatesBothWays t → RelatesBothWays (joined t c) }
+    ensures joined { (t : Ties) (x : Checked) → RelatesBothWays t → RelatesBothWays (joined t x) }
 {}

@@ -1,6 +1,7 @@
 //! Ties: what the configurations of a run agree on, and edits that keep them.
 #![tactic(auto)]
 
+mod addressing;
 mod breaking;
 mod edits;
 mod joining;

@@ -12,6 +12,7 @@ impl fmt::Display for Tie {
         match *self {
             Tie::Port(number) => write!(f, "port {number}"),
             Tie::ChainUse(number) => write!(f, "use {number}"),
+            Tie::Node(address) => write!(f, "node {address}"),
         }
     }
 }

@@ -12,6 +12,7 @@ use Rattle.ov_io.specs.declared.pieces.WriteRefusal.{WriteRefusal}
 use Rattle.headline_laws.specs.Headline.{IsWritten}
 use Rattle.headline_laws.proofs.Written.{written_settle_settles}
 use Rattle.network_model.specs.Events.{Settle, next}
+use Rattle.network_model.specs.Setup.{opening}
 use Rattle.network_model.specs.Steps.{is_settled}
 use Rattle.net_machine.specs.NetState.{NetState}
 use Rattle.net_model.specs.Stands.{message_size, moment}
@@ -23,10 +24,10 @@ use Rattle.constrain_answers.specs.Constraint.{constrain_text, settling}
 use Rattle.constrain_answers.specs.Networks.{HasSettled, IsLeftSettled, IsReadAs, NoneNeedsMore, TookConstraint, input_of}
 
 -- the state after one settling
-once : (x : Checked) → IsWritten x → IsMoment (moment x settling)
+once : (x : Checked) → IsWritten (opening x) → IsMoment (moment x settling)
 once x written = moment_of x written (Settle ∷ []) (tt, tt)
 
-settled_once : (x : Checked) → IsWritten x → is_settled (moment x settling) ≡ true
+settled_once : (x : Checked) → IsWritten (opening x) → is_settled (moment x settling) ≡ true
 unfolding next
 settled_once x written = (written_settle_settles message_size positive x written [] tt).0
 
@@ -37,7 +38,7 @@ left_settled octets x n left read has is = record { input = input_of x; read = r
 
 -- what was written of it
 pub constraint_promised : (octets : List ℕ) (old new : Option (List ℕ)) (x : Checked) → IsReadAs octets (input_of x)
-    → IsWritten x → Appends old new (constrain_text x) → NoneNeedsMore (moment x settling)
+    → IsWritten (opening x) → Appends old new (constrain_text x) → NoneNeedsMore (moment x settling)
     → TookConstraint octets old new
 constraint_promised octets old new x read written taken enough = record {
   input = input_of x;

@@ -6,6 +6,7 @@ ghost use Rattle.config_model.specs.Input.{compile_at};
 ghost use Rattle.document_answers.specs.Answers.{IsAnswered, WasGiven, answer_good};
 ghost use Rattle.headline_laws.specs.Headline.{IsWritten};
 ghost use Rattle.net_model.specs.Stands.{moment};
+ghost use Rattle.network_model.specs.Setup.{opening};
 ghost use Rattle.ov_io.specs.Inputs.{TookFront};
 ghost use Rattle.ov_io.specs.Pieces.{HasWriteCause};
 ghost use Rattle.constrain_answers.specs.Answers.{constrain_answer, constrain_value};
@@ -89,7 +90,7 @@ fn leave(net: &mut Option<Net>, settled: Net)
 
 /// What a valid configuration is.
 fn know_valid(valid: &Valid)
-    ensures { IsWritten valid.now }
+    ensures { IsWritten (opening valid.now) }
 {
     let _topology = valid.topology();
 }

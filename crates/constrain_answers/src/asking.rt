@@ -1,6 +1,6 @@
 //! What the control nodes of a settled network ask of their peers.
 ghost use Rattle.std.specs.Prelude.{◌≡◌, false, map, true, IfOk, OnOk};
-ghost use Rattle.tied_laws.specs.Runs.{tied_moment};
+ghost use Rattle.net_machine.specs.Runs.{tied_moment};
 ghost use Rattle.net_machine.specs.Looking.{held_at, is_control_node};
 ghost use Rattle.rt_constrain.specs.Asking.{asked as asked_of};
 ghost use Rattle.constrain_answers.specs.Constraint.{AreControlNodes, asking_of, askings};

@@ -4,13 +4,14 @@ ghost use Rattle.config_model.specs.Edit.{has_edit_form};
 
 use crate::fault::CaseFault;
 use config_check::{CheckRefusal, EditFault, EditRefusal, Valid, apply_edit, check};
-use config_model::{Config, Edit, read_compile, read_edit};
+use config_model::{Config, Edit, Topology, read_compile, read_edit};
 use ov_io::TextOut;
 use ov_types::NoMemory;
 use serde_json::Value;
 use std::alloc::Global;
 
 /// The first rule that the configuration of a document breaks.
+#[tactic(auto, using(crate::proofs::Forms::nodes_form))]
 pub(crate) fn tell_check(
     alloc: Global,
     document: &str,
@@ -26,6 +27,7 @@ pub(crate) fn tell_check(
     Ok(())
 }
 
+#[tactic(auto, using(crate::proofs::Forms::nodes_form))]
 fn valid_of(alloc: Global, document: &str) -> Result<Valid, CaseFault> {
     let value = Value::from_str(alloc, document)?;
     let input = read_compile(alloc, &value)?;
@@ -57,14 +59,29 @@ fn push_edited(
     requires { IsTrue (has_edit_form edit.now) }
 {
     match apply_edit(alloc, valid, edit) {
-        Ok(made) => push_config(made.config(), out)?,
+        Ok(made) => push_made(&made, out)?,
         Err(EditRefusal::Edit(fault)) => push_fault(&fault, out)?,
         Err(EditRefusal::NoMemory) => return Err(CaseFault::NoMemory),
     }
     Ok(())
 }
 
-/// The names of networks, and the names and addresses of ports.
+/// The names of networks, and the names and addresses of ports and of compute nodes.
+fn push_made(made: &Valid, out: &mut TextOut) -> Result<(), NoMemory> {
+    push_config(made.config(), out)?;
+    push_nodes(made.topology(), out)
+}
+
+fn push_nodes(topology: &Topology, out: &mut TextOut) -> Result<(), NoMemory> {
+    out.push(b" ")?;
+    for node in topology.nodes.as_slice() {
+        let name = node.name;
+        let address = node.address;
+        write!(out, "{name}@{address},")?;
+    }
+    Ok(())
+}
+
 fn push_config(config: &Config, out: &mut TextOut) -> Result<(), NoMemory> {
     for network in config.networks.as_slice() {
         let name = network.name;

@@ -83,7 +83,7 @@ fn each_limit_has_a_sentence(rt: HostRuntime) {
         ),
         (
             "refused Limit nodes\n",
-            "overlay: a topology has at most 64 compute nodes, and this one has more\n",
+            "overlay: a topology has 1 to 64 compute nodes, and this one has none or more\n",
         ),
         (
             "refused Limit networks\n",

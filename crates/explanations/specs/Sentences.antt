@@ -22,11 +22,11 @@ rule_named word =
     else (if pointwise nat_eq word (codes "ServiceTwice") then Some Rule.ServiceTwice
     else (if pointwise nat_eq word (codes "SubnetOverlap") then Some Rule.SubnetOverlap else None)))))))))))))
 
--- how much there may be at most, by the word for what is counted
+-- how much there may be, by the word for what is counted
 abbrev pub limit_claim : List ℕ → List ℕ
 limit_claim word =
     if pointwise nat_eq word (codes "controllers") then codes "a topology has at most 8 control nodes, and this one has more"
-    else (if pointwise nat_eq word (codes "nodes") then codes "a topology has at most 64 compute nodes, and this one has more"
+    else (if pointwise nat_eq word (codes "nodes") then codes "a topology has 1 to 64 compute nodes, and this one has none or more"
     else (if pointwise nat_eq word (codes "networks") then codes "a configuration has at most 128 networks, and this one has more"
     else (if pointwise nat_eq word (codes "ports") then codes "a configuration has at most 1,024 ports, and this one has more"
     else (if pointwise nat_eq word (codes "policies") then codes "a configuration has at most 128 policies, and this one has more"

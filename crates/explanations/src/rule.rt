@@ -50,7 +50,7 @@ pub(crate) fn limit_claim(word: &str) -> &'static str
 {
     match word {
         "controllers" => "a topology has at most 8 control nodes, and this one has more",
-        "nodes" => "a topology has at most 64 compute nodes, and this one has more",
+        "nodes" => "a topology has 1 to 64 compute nodes, and this one has none or more",
         "networks" => "a configuration has at most 128 networks, and this one has more",
         "ports" => "a configuration has at most 1,024 ports, and this one has more",
         "policies" => "a configuration has at most 128 policies, and this one has more",

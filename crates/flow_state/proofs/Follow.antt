@@ -14,7 +14,7 @@ use Rattle.flow_state.specs.declared.answer.FlowAnswer.TheVariants.{Traced}
 use Rattle.flow_state.specs.Recent.{same_flow, without, each_once, recent, after_use}
 use Rattle.flow_state.specs.Flows.{flow_outcome, flow_use}
 use Rattle.flow_state.specs.Playing.{Playing, Follows, played, played_edit, answer_in, answers_in, opening}
-use Rattle.flow_state.specs.Replay.{Replay, after_edit, after_step, answer_to, answers, at_start, checked_by, edit_answer, used}
+use Rattle.flow_state.specs.Replay.{Replay, after_edit, after_step, answer_to, answers, at_start, edit_answer, used}
 use Rattle.flow_state.proofs.Recent.{Misses, same_flow_is, without_missing, distinct_once}
 
 misses_without : (j k : Flow) (ks : List Flow) → Misses j ks → Misses j (without k ks)
@@ -92,8 +92,8 @@ recent_none (suc n) = refl
 
 edit_follows : (s : Playing) (r : Replay) (e : Edit) (o : Option TiedFault) → Follows s r → Follows (played_edit e o s) (after_edit e o r)
 edit_follows s r e None h = record {
-  checked = ap (λ (v : Checked). checked_by e v) h.checked;
-  ties = λ k. joined (h.ties k) (edited e (h.checked k).config);
+  checked = ap (edited e) h.checked;
+  ties = λ k. joined (h.ties k) (edited e (h.checked k));
   flows = sym (recent_none s.capacity);
 }
 edit_follows s r e (Some fault) h = h

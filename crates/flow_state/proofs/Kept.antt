@@ -7,18 +7,17 @@ use Rattle.config_ties.specs.Kept.{AreAlike, Kept, ties_in}
 use Rattle.config_ties.specs.Tying.{joined, ties_of}
 use Rattle.config_ties.proofs.Alike.{alike_is_one}
 use Rattle.flow_state.specs.Playing.{Playing, opening, played_edit, playing}
-use Rattle.flow_state.specs.Replay.{checked_by}
 
-pub starts : (capacity : ℕ) (v : Checked) (kept : Kept) → AreAlike (ties_in kept) (ties_of v.config)
+pub starts : (capacity : ℕ) (v : Checked) (kept : Kept) → AreAlike (ties_in kept) (ties_of v)
     → playing (record { checked = v; kept = kept; capacity = capacity; flows = [] }) ≡ opening capacity v
 starts capacity v kept h =
-    λ k. record { checked = v; ties = alike_is_one (ties_in kept) (ties_of v.config) h k; capacity = capacity; flows = [] }
+    λ k. record { checked = v; ties = alike_is_one (ties_in kept) (ties_of v) h k; capacity = capacity; flows = [] }
 
-pub goes_on : (e : Edit) (s : Playing) (kept : Kept) → AreAlike (ties_in kept) (joined s.ties (edited e s.checked.config))
-    → playing (record { checked = checked_by e s.checked; kept = kept; capacity = s.capacity; flows = [] }) ≡ played_edit e None s
+pub goes_on : (e : Edit) (s : Playing) (kept : Kept) → AreAlike (ties_in kept) (joined s.ties (edited e s.checked))
+    → playing (record { checked = edited e s.checked; kept = kept; capacity = s.capacity; flows = [] }) ≡ played_edit e None s
 goes_on e s kept h = λ k. record {
-  checked = checked_by e s.checked;
-  ties = alike_is_one (ties_in kept) (joined s.ties (edited e s.checked.config)) h k;
+  checked = edited e s.checked;
+  ties = alike_is_one (ties_in kept) (joined s.ties (edited e s.checked)) h k;
   capacity = s.capacity;
   flows = [];
 }

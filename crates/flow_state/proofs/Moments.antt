@@ -10,7 +10,7 @@ use Rattle.config_model.specs.Edit.{has_edit_form}
 use Rattle.config_model.specs.Form.{has_config_form}
 use Rattle.config_model.specs.declared.edit.Edit.{Edit}
 use Rattle.config_check.specs.Checked.{Checked}
-use Rattle.config_check.specs.Edits.{edit_fault, edited, missing_name}
+use Rattle.config_check.specs.Edits.{edit_fault, edited_config, edited_topology, missing_name}
 use Rattle.config_check.specs.Rules.{first_broken}
 use Rattle.config_check.specs.declared.edits.EditFault.{EditFault}
 use Rattle.config_check.specs.declared.edits.EditFault.TheVariants.{Missing, Rule}
@@ -41,13 +41,13 @@ no_image : {A B : Type 0} (f : A → B) (o : Option A) → option_map f o ≡ No
 no_image f None h = refl
 no_image f (Some x) h = absurd (cc)
 
-no_broken : (v : Checked) (e : Edit) → edit_fault v e ≡ None → first_broken v.topology (edited e v.config) ≡ None
+no_broken : (v : Checked) (e : Edit) → edit_fault v e ≡ None → first_broken (edited_topology e v.topology) (edited_config e v.config) ≡ None
 unfolding edit_fault
 no_broken v e h =
-    no_image (λ (r : Refusal). Rule r) (first_broken v.topology (edited e v.config))
-    (no_first (λ (name : List ℕ). Missing name) (missing_name e v.config) (option_map (λ (r : Refusal). Rule r) (first_broken v.topology (edited e v.config))) h).1
+    no_image (λ (r : Refusal). Rule r) (first_broken (edited_topology e v.topology) (edited_config e v.config))
+    (no_first (λ (name : List ℕ). Missing name) (missing_name e v) (option_map (λ (r : Refusal). Rule r) (first_broken (edited_topology e v.topology) (edited_config e v.config))) h).1
 
-stays_valid : (s : Replay) (e : Edit) → fault_in e s ≡ None → first_broken s.checked.topology (edited e s.checked.config) ≡ None
+stays_valid : (s : Replay) (e : Edit) → fault_in e s ≡ None → first_broken (edited_topology e s.checked.topology) (edited_config e s.checked.config) ≡ None
 stays_valid s e h = no_broken s.checked e (no_first (λ (f : EditFault). Faulty f) (edit_fault s.checked e) _ h).0
 
 -- step by step
@@ -60,7 +60,7 @@ edit_moment : (s : Replay) (e : Edit) (o : Option TiedFault) → IsTrue (has_edi
 edit_moment s e None form is m = record {
   form = form_is_kept e s.checked.config form m.form;
   valid = stays_valid s e is;
-  permitted = All-nil (PermitsOneWay (edited e s.checked.config));
+  permitted = All-nil (PermitsOneWay (edited_config e s.checked.config));
 }
 edit_moment s e (Some fault) form is m = m
 

@@ -13,7 +13,7 @@ use Rattle.flow_script.specs.declared.step.Step.TheVariants as Steps
 use Rattle.flow_state.specs.declared.flow.Flow.{Flow}
 use Rattle.flow_state.specs.Recent.{after_use, recent}
 use Rattle.flow_state.specs.Flows.{flow_outcome, flow_use}
-use Rattle.flow_state.specs.Replay.{Replay, checked_by, edit_answer}
+use Rattle.flow_state.specs.Replay.{Replay, edit_answer}
 use Rattle.flow_state.specs.declared.answer.FlowAnswer.{FlowAnswer}
 use Rattle.flow_state.specs.declared.answer.FlowAnswer.TheVariants.{Traced}
 
@@ -28,8 +28,8 @@ fault_in e s = tied_fault s.checked s.ties e
 
 abbrev pub played_edit : Edit → Option TiedFault → Playing → Playing
 played_edit e None s = record {
-  checked = checked_by e s.checked;
-  ties = joined s.ties (edited e s.checked.config);
+  checked = edited e s.checked;
+  ties = joined s.ties (edited e s.checked);
   capacity = s.capacity;
   flows = [];
 }
@@ -64,7 +64,7 @@ playing h = record { checked = h.checked; ties = ties_in h.kept; capacity = h.ca
 
 -- an empty table beside the opening configuration
 abbrev pub opening : ℕ → Checked → Playing
-opening capacity v = record { checked = v; ties = ties_of v.config; capacity = capacity; flows = [] }
+opening capacity v = record { checked = v; ties = ties_of v; capacity = capacity; flows = [] }
 
 -- what is kept is what the steps left
 pub record Follows (s : Playing) (r : Replay) : Type 0 where

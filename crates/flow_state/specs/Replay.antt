@@ -30,14 +30,9 @@ abbrev pub used : Option Flow → List Flow → List Flow
 used None uses = uses
 used (Some f) uses = f ∷ uses
 
--- what is configured after an accepted edit
-abbrev pub checked_by : Edit → Checked → Checked
-checked_by e v = record { topology = v.topology; config = edited e v.config }
-
--- an accepted edit leaves no use, and its configuration joins the ties; a refused one leaves all as it was
+-- an accepted edit leaves no use, and what it makes joins the ties; a refused one leaves all as it was
 abbrev pub after_edit : Edit → Option TiedFault → Replay → Replay
-after_edit e None s =
-    record { checked = checked_by e s.checked; ties = joined s.ties (edited e s.checked.config); uses = [] }
+after_edit e None s = record { checked = edited e s.checked; ties = joined s.ties (edited e s.checked); uses = [] }
 after_edit e (Some fault) s = s
 
 abbrev pub fault_in : Edit → Replay → Option TiedFault
@@ -64,4 +59,4 @@ answers capacity (x ∷ xs) s = answer_to capacity x s ∷ answers capacity xs (
 
 -- at the start nothing was used, and the ties are those of the opening configuration
 abbrev pub at_start : Checked → Replay
-at_start v = record { checked = v; ties = ties_of v.config; uses = [] }
+at_start v = record { checked = v; ties = ties_of v; uses = [] }

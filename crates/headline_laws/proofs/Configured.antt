@@ -50,7 +50,7 @@ module _ (w : Network) (written : IsWritten w.setup) (shows : ShowsCompiled w) (
       go None e = refl
       go (Some d) e =
           let at = node_is w.setup.topology n.name d e in
-          absurd ((apart_names w.setup (is_named w.setup.topology w.setup.config written.topology valid).apart).kinds_apart n.name d.name
+          absurd ((apart_names w.setup.topology (is_named w.setup.topology w.setup.config written.topology valid).apart).kinds_apart n.name d.name
           (in_map name_of_site n w.setup.topology.controllers m) (in_map name_of_computer d w.setup.topology.nodes (member_of w.setup.topology.nodes d at.1)) (sym at.0))
 
   control_shows : (n : NodeId) → Member n w.setup.topology.controllers → shown w n.name ≡ Rows.Control (control_rows w.setup.topology w.setup.config)

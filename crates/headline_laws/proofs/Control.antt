@@ -15,7 +15,7 @@ use Rattle.ov_types.specs.declared.objects.LowKey.TheVariants as key
 use Rattle.ov_types.specs.declared.objects.LowValue.TheVariants as low
 use Rattle.ov_types.specs.declared.prefix.Addr.{Addr}
 use Rattle.config_model.specs.Form.{has_config_form}
-use Rattle.config_check.specs.Checked.{Checked}
+use Rattle.network_model.specs.Setup.{Setup}
 use Rattle.config_check.specs.Sentences.{IsValid}
 use Rattle.transform_model.specs.IsRow.{IsRow, at_left_end, at_right_end, to_left_circuit, to_left_subnet, to_port, to_right_circuit, to_right_subnet}
 use Rattle.transform_model.specs.IsUse.{IsInstance, of_hop, of_network}
@@ -80,7 +80,7 @@ le_itself n = omega arith
 abbrev agent_of : Attachment → ℕ × Addr
 agent_of a = (0, a.node)
 
-module _ (x : Checked) (form : IsTrue (has_config_form x.config)) (v : IsValid x.topology x.config) where
+module _ (x : Setup) (form : IsTrue (has_config_form x.config)) (v : IsValid x.topology x.config) where
   abbrev feed : Map
   feed = low_map x
 

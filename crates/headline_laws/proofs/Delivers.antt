@@ -27,7 +27,7 @@ use Rattle.node_model.specs.Members.{Member}
 use Rattle.network_model.specs.Events as events
 use Rattle.network_model.specs.Events.{after}
 use Rattle.network_model.specs.Network.{Network, start}
-use Rattle.network_model.specs.Setup.{low as low_map}
+use Rattle.network_model.specs.Setup.{checked, low as low_map}
 use Rattle.network_model.specs.Steps.{is_settled}
 use Rattle.compiled_laws.specs.Compiled as compiled
 use Rattle.compiled_laws.specs.Moments.{ShowsCompiled}
@@ -63,7 +63,7 @@ module _ (w : Network) (written : IsWritten w.setup) (shows : ShowsCompiled w) (
   unfolding compiled_rows.compiled_tables
   delivers p =
       ap (λ (fs : List Forwarder). forwarding fs p) (forwarders_are w.setup.topology.nodes rows_are)
-      ∙ forwarding_is_reachability w.setup written.config written.valid p
+      ∙ forwarding_is_reachability (checked w.setup) written.config written.valid p
 
 pub written_delivers : AfterAnySchedule (λ size w. SettledIsReachable w)
 written_delivers size positive x written es asked settled p =

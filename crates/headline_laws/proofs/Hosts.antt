@@ -12,7 +12,7 @@ use Rattle.config_model.specs.Form.{has_config_form}
 use Rattle.config_model.specs.declared.config.Network.{Network}
 use Rattle.config_model.specs.declared.config.Port.{Port}
 use Rattle.config_model.specs.declared.topology.Node.{Node}
-use Rattle.config_check.specs.Checked.{Checked}
+use Rattle.network_model.specs.Setup.{Setup}
 use Rattle.config_check.specs.Sentences.{IsValid}
 use Rattle.config_check.proofs.OneHome.{two_among}
 use Rattle.transform_model.specs.IsRow.{IsPort, IsRow, at_left_end, at_right_end, to_left_circuit, to_port, to_right_circuit}
@@ -38,7 +38,7 @@ apart_number n u j h e = no n.0 u j h (ap (λ (i : InstanceId). i.0) e)
     no : (n u j : ℕ) → n ≤ 16383 → n ≡ 16384 + 16 * u + j → ⊥
     no n u j h e = omega (arith, h, e)
 
-module _ (x : Checked) (form : IsTrue (has_config_form x.config)) (v : IsValid x.topology x.config) where
+module _ (x : Setup) (form : IsTrue (has_config_form x.config)) (v : IsValid x.topology x.config) where
   abbrev RowOf : InstanceId → Attachment → Type 0
   RowOf i a = IsRow x.topology x.config i (entry i a.prefix (row_of a))
 

@@ -19,7 +19,7 @@ use Rattle.ov_types.specs.declared.objects.LowValue.{LowValue}
 use Rattle.route_targets.specs.Numbers.{hop_instance_of}
 use Rattle.config_model.specs.Form.{has_config_form}
 use Rattle.config_model.specs.declared.config.Network.{Network}
-use Rattle.config_check.specs.Checked.{Checked}
+use Rattle.network_model.specs.Setup.{Setup}
 use Rattle.config_check.specs.Sentences.{IsValid}
 use Rattle.transform_model.specs.IsObject.{AreImports, IsObject, of_left_circuit, of_network, of_networks, of_port, of_right_circuit, of_use}
 use Rattle.transform_model.specs.IsUse.{IsUse}
@@ -46,7 +46,7 @@ use Rattle.network_model.specs.Setup.{low as low_map}
 use Rattle.headline_laws.proofs.Objects.{held_is, held_of, is_held, is_object, object_at, object_is, used_few}
 
 -- an instance is that of a network with what it imports, or a place of a use in effect
-pub data Imported (x : Checked) (i n : InstanceId) : Type 0 where
+pub data Imported (x : Setup) (i n : InstanceId) : Type 0 where
   network_import : (a b : Network) → Contains x.config.networks a → Contains x.config.networks b → i ≡ a.id → n ≡ b.id → (a.name ≡ b.name) ⊎ PassesBetween x.config a b → Imported x i n
   hop_import : (u : InEffect) (j : ℕ) → IsUse x.config u → j ≤ length u.services → i ≡ hop_instance_of u.number j → IsImportedAt (held_of u) j n → Imported x i n
 
@@ -70,7 +70,7 @@ instance_number (key.Acl a b) = 0
 instance_number (key.ChainUse u) = 0
 
 -- what an instance object is
-pub record IsNetworkObject (x : Checked) (i : ℕ) (w : LowValue) : Type 0 where
+pub record IsNetworkObject (x : Setup) (i : ℕ) (w : LowValue) : Type 0 where
   pub home : Network
   pub list : List InstanceId
   pub has : Contains x.config.networks home
@@ -78,7 +78,7 @@ pub record IsNetworkObject (x : Checked) (i : ℕ) (w : LowValue) : Type 0 where
   pub number : i ≡ home.id.0
   pub is : w ≡ low.Instance list
 
-pub instance_by : (x : Checked) (i : ℕ) (w : LowValue) → IsObject x.topology x.config (object_at (key.Instance i) w) → IsNetworkObject x i w
+pub instance_by : (x : Setup) (i : ℕ) (w : LowValue) → IsObject x.topology x.config (object_at (key.Instance i) w) → IsNetworkObject x i w
 instance_by x i w (of_network a list in_a are e) = record { home = a; list = list; has = in_a; are = are; number = ap (λ (o : LowObject). instance_number o.0) e; is = ap (λ (o : LowObject). o.1) e }
 instance_by x i w (of_port n p d at e) = absurd (apart 0 (ap kind_number e))
   where
@@ -101,7 +101,7 @@ instance_by x i w (of_use u hops used zip e) = absurd (apart 2 (ap kind_number e
     apart : (n : ℕ) → 0 ≡ 1 + n → ⊥
     apart n e = omega (arith, e)
 
-module _ (x : Checked) (form : IsTrue (has_config_form x.config)) (v : IsValid x.topology x.config) where
+module _ (x : Setup) (form : IsTrue (has_config_form x.config)) (v : IsValid x.topology x.config) where
   abbrev feed : Map
   feed = low_map x
 
@@ -119,7 +119,7 @@ module _ (x : Checked) (form : IsTrue (has_config_form x.config)) (v : IsValid x
         ap as_object (object_of feed (key.Instance a.id.0) (low.Instance (imports_of x.config a)) held) ∙ ap Some q.is,
       )
     where
-      rest_of : (x : Checked) → List LowObject
+      rest_of : (x : Setup) → List LowObject
       rest_of x = filter_map (port_object x.topology x.config) x.config.ports ++ (flat_map (circuit_objects x.topology) (in_effect x.config) ++ (flat_map (acl_objects x.config) x.config.networks ++ map (use_object x.topology) (in_effect x.config)))
 
   pub small : (a : Network) → Contains x.config.networks a → a.id.0 < 16384

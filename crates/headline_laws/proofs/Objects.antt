@@ -27,7 +27,7 @@ use Rattle.config_model.specs.declared.config.Network.{Network}
 use Rattle.config_model.specs.declared.config.Port.{Port}
 use Rattle.config_model.specs.declared.config.Service.{Service}
 use Rattle.config_model.specs.declared.topology.Node.{Node}
-use Rattle.config_check.specs.Checked.{Checked}
+use Rattle.network_model.specs.Setup.{Setup}
 use Rattle.config_check.specs.Rules.{circuit_addresses}
 use Rattle.config_check.specs.Sentences.{AreApart, IsAround, IsValid, Overlap}
 use Rattle.config_check.proofs.Circuits.{circuits_iff}
@@ -60,7 +60,7 @@ port_attachment p n d = record { label = port_label_of p.id; instance = n.id; pr
 abbrev pub circuit_attachment : Circuit → Node → Attachment
 circuit_attachment k d = record { label = circuit_label_of k.number; instance = circuit_instance_of k.number; prefix = circuit_prefix k.number; node = d.address }
 
-pub data Kind (x : Checked) (a : Attachment) : Type 0 where
+pub data Kind (x : Setup) (a : Attachment) : Type 0 where
   port_kind : (n : Network) (p : Port) (d : Node) → IsPort x.topology x.config n p d → port_attachment p n d ≡ a → Kind x a
   left_kind : (u : InEffect) (j : ℕ) (k : Circuit) (d : Node) → IsUse x.config u → IsLeftCircuit u j k → IsCircuitAtNode x.topology k d → circuit_attachment k d ≡ a → Kind x a
   right_kind : (u : InEffect) (j : ℕ) (k : Circuit) (d : Node) → IsUse x.config u → IsRightCircuit u j k → IsCircuitAtNode x.topology k d → circuit_attachment k d ≡ a → Kind x a
@@ -72,7 +72,7 @@ with_services n u = record { number = u.number; left = u.left.id; right = u.righ
 abbrev pub held_of : InEffect → Use
 held_of u = with_services (length u.services) u
 
-pub record HeldUse (x : Checked) (w : Use) : Type 0 where
+pub record HeldUse (x : Setup) (w : Use) : Type 0 where
   pub effect : InEffect
   pub used : IsUse x.config effect
   pub is : held_of effect ≡ w
@@ -86,7 +86,7 @@ use_in o = as_use o.0 o.1
 abbrev pub object_at : LowKey → LowValue → Object
 object_at k v = (k, v)
 
-module _ (x : Checked) (form : IsTrue (has_config_form x.config)) (v : IsValid x.topology x.config) where
+module _ (x : Setup) (form : IsTrue (has_config_form x.config)) (v : IsValid x.topology x.config) where
   pub object_is : (o : Object) → Member o (objects (low_map x)) → IsObject x.topology x.config o
   object_is o m = (low_iff x.topology x.config o v form).0 (contains_of (low_objects x.topology x.config) o (subst (λ (es : List Object). Member o es) (objects-low x) m))
 
@@ -196,7 +196,7 @@ ascending_to ps p m = Contains-permutation (ascending ps) ps p (IsPermutation-sy
 pub ascending_in : (ps : List Block) (p : Block) → Contains ps p → Member p (ascending ps)
 ascending_in ps p h = member_of (ascending ps) p (Contains-permutation ps (ascending ps) p (ascending_permutes ps) h)
 
-module _ (x : Checked) (form : IsTrue (has_config_form x.config)) (v : IsValid x.topology x.config) where
+module _ (x : Setup) (form : IsTrue (has_config_form x.config)) (v : IsValid x.topology x.config) where
   pub uses_ordered : AreOrdered (low_map x)
   uses_ordered = record {
     numbers = λ w m. let u = held_is x form v w m in subst (λ (w : Use). w.number ≤ 3071) u.is (use_number x.config u.effect form u.used);

@@ -9,7 +9,7 @@ use Rattle.ov_types.specs.declared.rows.TableRow.{TableRow}
 use Rattle.route_targets.specs.Numbers.{circuit_instance_of, circuit_label_of, distinguisher_of, hop_instance_of, left_circuit_of, right_circuit_of}
 use Rattle.config_model.specs.Form.{has_config_form}
 use Rattle.config_model.specs.declared.config.Network.{Network}
-use Rattle.config_check.specs.Checked.{Checked}
+use Rattle.network_model.specs.Setup.{Setup}
 use Rattle.config_check.specs.Sentences.{IsValid}
 use Rattle.transform_model.specs.IsRow.{HoldsPort, IsRow, to_left_subnet, to_right_subnet}
 use Rattle.transform_model.specs.IsUse.{IsLeftCircuit, IsRightCircuit, IsUse}
@@ -32,7 +32,7 @@ use Rattle.headline_laws.proofs.Hosts.{apart_number, entry, host_is, one_network
 use Rattle.headline_laws.proofs.Imports.{imported_is}
 use Rattle.headline_laws.proofs.Objects.{Kind, ascending_to, attachment_is, held_is, held_of, inside_holds, left_kind, port_kind, right_kind, used_few}
 
-module _ (x : Checked) (form : IsTrue (has_config_form x.config)) (v : IsValid x.topology x.config) where
+module _ (x : Setup) (form : IsTrue (has_config_form x.config)) (v : IsValid x.topology x.config) where
   abbrev feed : Map
   feed = low_map x
 

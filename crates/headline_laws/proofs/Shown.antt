@@ -20,7 +20,7 @@ use Rattle.ov_types.specs.declared.rows.Entry.{Entry as Hop}
 use Rattle.ov_types.specs.declared.rows.TableRow.{TableRow}
 use Rattle.ov_types.proofs.FirstLemmas.{pairs_head, pairs_tail}
 use Rattle.config_model.specs.Form.{has_config_form}
-use Rattle.config_check.specs.Checked.{Checked}
+use Rattle.network_model.specs.Setup.{Setup}
 use Rattle.config_check.specs.Sentences.{IsValid}
 use Rattle.transform_model.specs.Compiled as compiled_rows
 use Rattle.transform_model.specs.Compiled.{concerns, route_of, slice_of}
@@ -61,7 +61,7 @@ filters_same : (p q : LowObject → Bool) (os : List LowObject) → ((o : LowObj
 filters_same p q [] h = refl
 filters_same p q (o ∷ os) h = λ i. cond (h o i) (o ∷ filters_same p q os h i) (filters_same p q os h i)
 
-pub slice_is : (x : Checked) (a : Addr) → slice (low_map x) a ≡ slice_of (low_objects x.topology x.config) a
+pub slice_is : (x : Setup) (a : Addr) → slice (low_map x) a ≡ slice_of (low_objects x.topology x.config) a
 slice_is x a =
     filters_same (λ o. is_in_slice (low_map x) a o.0 o.1) (λ o. concerns (objects (low_map x)) a o.0 o.1) (objects (low_map x)) (λ o. concerned (low_map x) a o.0 o.1)
     ∙ ap (λ (os : List LowObject). slice_of os a) (objects-low x)
@@ -80,7 +80,7 @@ pairs_rise {V = V} (e ∷ es) h = (
 abbrev compiled_map : Map → Addr → FinMap row_key_cmp Hop
 compiled_map feed a = from_entries {R = row_key_cmp} (map route_of (flat_map (rows_in feed) (needed_by (slice feed a))))
 
-module _ (x : Checked) (form : IsTrue (has_config_form x.config)) (v : IsValid x.topology x.config) where
+module _ (x : Setup) (form : IsTrue (has_config_form x.config)) (v : IsValid x.topology x.config) where
   abbrev feed : Map
   feed = low_map x
 

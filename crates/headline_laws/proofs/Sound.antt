@@ -13,7 +13,7 @@ use Rattle.config_model.specs.Form.{has_config_form}
 use Rattle.config_model.specs.declared.config.Network.{Network}
 use Rattle.config_model.specs.declared.config.Port.{Port}
 use Rattle.config_model.specs.declared.topology.Node.{Node}
-use Rattle.config_check.specs.Checked.{Checked}
+use Rattle.network_model.specs.Setup.{Setup}
 use Rattle.config_check.specs.Sentences.{IsValid}
 use Rattle.transform_model.specs.IsUse.{IsLeftCircuit, IsRightCircuit, IsUse}
 use Rattle.transform_model.specs.Uses.{Circuit}
@@ -42,7 +42,7 @@ use Rattle.node_model.proofs.Members.{member_of}
 use Rattle.headline_laws.proofs.Lists.{some_at}
 use Rattle.headline_laws.proofs.Objects.{Kind, ascending_to, attachment_is, circuit_attachment, ends_apart, held_is, held_of, inside_holds, is_held, left_attached, left_kind, no_circuit_in, port_kind, right_attached, right_kind, used_few, uses_ordered}
 
-module _ (x : Checked) (form : IsTrue (has_config_form x.config)) (v : IsValid x.topology x.config) where
+module _ (x : Setup) (form : IsTrue (has_config_form x.config)) (v : IsValid x.topology x.config) where
   abbrev feed : Map
   feed = low_map x
 

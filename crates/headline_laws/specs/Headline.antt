@@ -13,30 +13,29 @@ use Rattle.reach_plain.specs.Reachability.{reachability}
 use Rattle.transform_model.specs.Compiled.{agent_rows}
 use Rattle.transform_model.specs.Tables.{control_rows}
 use Rattle.node_model.specs.Members.{Member}
-use Rattle.network_model.specs.Setup.{Name}
+use Rattle.network_model.specs.Setup.{Name, Setup, opening}
 use Rattle.network_model.specs.Session.{Message}
 use Rattle.network_model.specs.Network.{Network, start}
 use Rattle.network_model.specs.Steps.{is_settled}
 use Rattle.network_model.specs.Events.{Event, after, forwarders, shown}
-use Rattle.network_model.specs.Moments.{ArePositive}
-use Rattle.network_laws.specs.Settling.{EditsAreValid}
+use Rattle.network_model.specs.Moments.{ArePositive, EditsAreValid}
 
 -- a topology with a configuration, of the written form and with no broken rule
-pub record IsWritten (x : Checked) : Type 0 where
+pub record IsWritten (x : Setup) : Type 0 where
   pub topology : IsTrue (has_topology_form x.topology)
   pub config : IsTrue (has_config_form x.config)
   pub valid : first_broken x.topology x.config ≡ None
 
 -- what an edit puts is of the written form
-abbrev pub IsOfForm : Checked → Type 0
-IsOfForm x = IsTrue (has_config_form x.config)
+abbrev pub IsOfForm : Setup → Type 0
+IsOfForm x = IsTrue (has_topology_form x.topology) × IsTrue (has_config_form x.config)
 
 -- after any schedule from a valid configuration, whose edits are of the written form. A refused edit changes nothing,
 -- and an accepted one breaks no rule
 abbrev pub AfterAnySchedule : ((Name → Message → ℕ) → Network → Type 0) → Type 0
 AfterAnySchedule P =
     (size : Name → Message → ℕ) → ArePositive size
-    → (x : Checked) → IsWritten x
+    → (x : Checked) → IsWritten (opening x)
     → (es : List Event) → EditsAreValid size IsOfForm (start x) es
     → P size (after size (start x) es)
 

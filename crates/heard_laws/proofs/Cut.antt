@@ -22,6 +22,7 @@ use Rattle.control_node.specs.declared.cause.NodeCause.{NodeCause}
 use Rattle.control_node.specs.declared.plan.ControlPlan.{ControlPlan}
 use Rattle.agent_node.specs.Beginning as agent
 use Rattle.network_model.specs.Network.{config}
+use Rattle.net_model.specs.Controls.{plan_of}
 use Rattle.net_model.specs.Seats.{Who, Configuring, Controlling, Forwarding}
 use Rattle.net_model.specs.Steps.{BeginsAt}
 use Rattle.heard_laws.specs.Cutting.{AreAlike, BeginsInTurn, GoesOn, PartsAreAsWhole, WholeIsAsParts, and_then, octets_in, told, with_sent}
@@ -167,8 +168,8 @@ cut_up (Configuring x) i p q kept between left a b whole first more live f up y 
   items_up config (configuration.controller_at x i).name From.Nothing i p kept a first f.0 between live f.1 b whole is q more
       y.0 left up y.1,
 )
-cut_up (Controlling plan) i p q kept between left a b whole first more live f up y is =
-    control_up plan i (is_peer plan i) p q kept between left a b whole first more live f up y is
+cut_up (Controlling c) i p q kept between left a b whole first more live f up y is =
+    control_up (plan_of c) i (is_peer (plan_of c) i) p q kept between left a b whole first more live f up y is
 cut_up (Forwarding plan) i p q kept between left a b whole first more live f up y is = (
   y.0,
   items_up plan.me.name (agent.controller_at plan i).name From.Control i p kept a first f.0 between live f.1 b whole is q
@@ -182,8 +183,8 @@ cut_down (Configuring x) i p kept between a b whole first live f down is = (
   f.0,
   items_down config (configuration.controller_at x i).name From.Nothing i p kept a first f.0 between live f.1 b whole is down,
 )
-cut_down (Controlling plan) i p kept between a b whole first live f down is =
-    control_down plan i (is_peer plan i) p kept between a b whole first live f down is
+cut_down (Controlling c) i p kept between a b whole first live f down is =
+    control_down (plan_of c) i (is_peer (plan_of c) i) p kept between a b whole first live f down is
 cut_down (Forwarding plan) i p kept between a b whole first live f down is = (
   f.0,
   items_down plan.me.name (agent.controller_at plan i).name From.Control i p kept a first f.0 between live f.1 b whole is
@@ -195,8 +196,8 @@ stays_live : (who : Who) (i : ℕ) (p q : Post) (kept between : List ℕ) (a : B
     → is_idle q.phase ≡ false
 stays_live (Configuring x) i p q kept between a first live f up =
     items_live config (configuration.controller_at x i).name From.Nothing i p kept a first f.0 between live f.1 q up
-stays_live (Controlling plan) i p q kept between a first live f up =
-    control_live plan i (is_peer plan i) p q kept between a first live f up
+stays_live (Controlling c) i p q kept between a first live f up =
+    control_live (plan_of c) i (is_peer (plan_of c) i) p q kept between a first live f up
 stays_live (Forwarding plan) i p q kept between a first live f up =
     items_live plan.me.name (agent.controller_at plan i).name From.Control i p kept a first f.0 between live f.1 q up
 
@@ -207,8 +208,8 @@ pub begins_one : (who : Who) (i : ℕ) (p : Post) (kept left left' : List ℕ) (
 begins_one (Configuring x) i p kept left left' octets given given' f g =
     items_one config (configuration.controller_at x i).name From.Nothing i p kept octets given given' f.0 g.0 left left' f.1
     g.1
-begins_one (Controlling plan) i p kept left left' octets given given' f g =
-    control_one plan i (is_peer plan i) p kept left left' octets given given' f g
+begins_one (Controlling c) i p kept left left' octets given given' f g =
+    control_one (plan_of c) i (is_peer (plan_of c) i) p kept left left' octets given given' f g
 begins_one (Forwarding plan) i p kept left left' octets given given' f g =
     items_one plan.me.name (agent.controller_at plan i).name From.Control i p kept octets given given' f.0 g.0 left left' f.1
     g.1
@@ -220,8 +221,8 @@ begins_sent (Configuring x) i p kept left octets given sent f = (
   f.0,
   items_sent config (configuration.controller_at x i).name From.Nothing i p kept octets given f.0 left sent f.1,
 )
-begins_sent (Controlling plan) i p kept left octets given sent f =
-    control_sent plan i (is_peer plan i) p kept left octets given sent f
+begins_sent (Controlling c) i p kept left octets given sent f =
+    control_sent (plan_of c) i (is_peer (plan_of c) i) p kept left octets given sent f
 begins_sent (Forwarding plan) i p kept left octets given sent f = (
   f.0,
   items_sent plan.me.name (agent.controller_at plan i).name From.Control i p kept octets given f.0 left sent f.1,
@@ -244,7 +245,8 @@ same_octets : (who : Who) (i : ℕ) (p : Post) (kept left : List ℕ) (a b : Bor
     → BeginsAt who i p kept (Bytes i a) given left → BeginsAt who i p kept (Bytes i b) given left
 same_octets (Configuring x) i p kept left a b given e f =
     subst (λ (o : List ℕ). BeginsAt (Configuring x) i p kept (Bytes i (with_octets a o)) given left) e f
-same_octets (Controlling plan) i p kept left a b given e f = same_by (is_peer plan i) plan i p kept left a b given e f
+same_octets (Controlling c) i p kept left a b given e f =
+    same_by (is_peer (plan_of c) i) (plan_of c) i p kept left a b given e f
 same_octets (Forwarding plan) i p kept left a b given e f =
     subst (λ (o : List ℕ). BeginsAt (Forwarding plan) i p kept (Bytes i (with_octets a o)) given left) e f
 

@@ -1,7 +1,7 @@
 -- What messages in flight make of the end that takes them, and what opening and closing make of an end.
 use Rattle.std.specs.Prelude.{◌≡◌, ◌==◌, ◌<◌, ℕ, length, take, List, [], ◌∷◌, ◌++◌, map, Bool, true, false, cond, IsTrue, Ok}
 use Rattle.std.specs.Borrow.{Bor}
-use Rattle.std.specs.List.{AllByRecursion, concat}
+use Rattle.std.specs.List.{AllByRecursion, concat, slice_index_or}
 use Rattle.std.specs.Option.{option_map, unwrap_or}
 use Rattle.std.specs.declared.option.Option.{Option}
 use Rattle.std.specs.declared.option.Option.TheVariants.{Some, None}
@@ -32,7 +32,6 @@ use Rattle.bgp_wire.specs.Spelling as wire
 use Rattle.bgp_wire.specs.declared.write.OpenOut.{OpenOut}
 use Rattle.bgp_wire.proofs.Spelling.{keepalive_says, open_says}
 use Rattle.config_model.specs.Form.{has_topology_form}
-use Rattle.config_check.specs.Checked.{Checked}
 use Rattle.config_check.specs.Rules.{first_broken}
 use Rattle.node_model.specs.Keys.{Vpn}
 use Rattle.node_model.specs.Maps.{Change}
@@ -53,8 +52,10 @@ use Rattle.control_node.specs.declared.cause.NodeCause.TheVariants as Cause
 use Rattle.control_node.specs.declared.plan.ControlPlan.{ControlPlan}
 use Rattle.agent_node.specs.Beginning as agent
 use Rattle.network_model.specs.Session.{Controller, Role, Message, Open, Keepalive, Hello, Carries, are_peers, is_idle}
-use Rattle.network_model.specs.Moments.{NoneGoesDown, cell}
+use Rattle.network_model.specs.Moments.{HasNumbers, NoneGoesDown, cell}
 use Rattle.network_model.specs.Network.{config}
+use Rattle.network_model.specs.Setup.{Name, Setup}
+use Rattle.net_model.specs.Controls.{Controls, plan_of}
 use Rattle.net_model.specs.Seats.{Who, Configuring, Controlling, Forwarding, name_of, others_of, role_of, whos}
 use Rattle.net_model.specs.Stands.{octets_of}
 use Rattle.net_model.specs.Steps.{BeginsAt}
@@ -65,7 +66,7 @@ use Rattle.heard_laws.proofs.FirstParts.{message_part, record_part, update_says}
 use Rattle.heard_laws.proofs.Messages.{SaysRoute, messages_taken}
 use Rattle.heard_laws.proofs.Named.{are_nodes}
 use Rattle.heard_laws.proofs.Records.{SaysItem, records_taken, session_in}
-use Rattle.heard_laws.proofs.Wired.{IsSound, Meets, has_other, meets, sound}
+use Rattle.heard_laws.proofs.Wired.{IsSound, Meets, has_other, meets, sound, within_at}
 
 -- ---- what a cell that leads on says
 pub message_of : (peering : Bool) (phase : Phase) (m : Message) (next : Phase) → is_idle phase ≡ false
@@ -117,12 +118,12 @@ says_item b to from (Carries c) named kind is can =
 says_item b to from Open named kind is can = tt
 says_item b to from Keepalive named kind is can = tt
 
-says_route : (plan : ControlPlan) (m : Message) → IsSound (Controlling plan) → CanSend Controller Controller m
-    → SaysRoute plan.asn plan.me.address m (octets_of (Controlling plan) true m)
-says_route plan Open s can = (refl, s.numbers.0, s.numbers.1.within, s.numbers.1.some)
-says_route plan Keepalive s can = refl
-says_route plan (Carries c) s can = (refl, can)
-says_route plan Hello s can = tt
+says_route : (self : Controls) (m : Message) → IsSound (Controlling self) → CanSend Controller Controller m
+    → SaysRoute self.asn self.me.address m (octets_of (Controlling self) true m)
+says_route self Open s can = (refl, s.numbers.0, s.numbers.1.within, s.numbers.1.some)
+says_route self Keepalive s can = refl
+says_route self (Carries c) s can = (refl, can)
+says_route self Hello s can = tt
 
 -- ---- first parts
 front_none : (b : Who) (to : Role) (m : Message) → IsTrue (is_name (name_of b)) → are_peers (role_of b) to ≡ false
@@ -150,28 +151,28 @@ spelled_is : (d : Delta VpnKey VpnRoute) → routes.spelled (moved_delta Vpn Rou
 spelled_is (Put k r) = refl
 spelled_is (Drop k) = refl
 
-front_proper : (plan : ControlPlan) (m : Message) → IsSound (Controlling plan) → CanSend Controller Controller m → (k : ℕ)
-    → k < length (octets_of (Controlling plan) true m) → IsProperPrefix (take k (octets_of (Controlling plan) true m))
-front_proper plan Open s can k few =
-    let part : OpenOut = record { asn = plan.asn; id = plan.me.address } in
-    message_part (open_octets plan.asn plan.me.address) (Opens (wire.open_fields part))
+front_proper : (self : Controls) (m : Message) → IsSound (Controlling self) → CanSend Controller Controller m → (k : ℕ)
+    → k < length (octets_of (Controlling self) true m) → IsProperPrefix (take k (octets_of (Controlling self) true m))
+front_proper self Open s can k few =
+    let part : OpenOut = record { asn = self.asn; id = self.me.address } in
+    message_part (open_octets self.asn self.me.address) (Opens (wire.open_fields part))
     (open_says part s.numbers.1.within s.numbers.1.some) k few
-front_proper plan Keepalive s can k few = message_part (wire.spelling KeepsAlive) KeepsAlive keepalive_says k few
-front_proper plan (Carries c) s can k few =
+front_proper self Keepalive s can k few = message_part (wire.spelling KeepsAlive) KeepsAlive keepalive_says k few
+front_proper self (Carries c) s can k few =
     let d = can.change in
     let same : routes.spelled c ≡ wire.spelling (written d) = ap routes.spelled can.is ∙ spelled_is d in
     subst (λ (o : List ℕ). IsProperPrefix (take k o)) (sym same)
     (message_part (wire.spelling (written d)) (written d) (update_says d can.writable can.typed) k
     (subst (λ (o : List ℕ). k < length o) same few))
-front_proper plan Hello s can k few = absurd (omega (arith, few))
+front_proper self Hello s can k few = absurd (omega (arith, few))
 
 nothing_left : IsProperPrefix []
 nothing_left = record { passes = refl; short = inl (lit< tt) }
 
-route_part : (plan other : ControlPlan) (part : List ℕ) → IsSound (Controlling other)
-    → IsPartial (Controlling plan) (Controlling other) part → IsProperPrefix part
-route_part plan other part s (inl e) = subst IsProperPrefix (sym e) nothing_left
-route_part plan other part s (inr f) =
+route_part : (self other : Controls) (part : List ℕ) → IsSound (Controlling other)
+    → IsPartial (Controlling self) (Controlling other) part → IsProperPrefix part
+route_part self other part s (inl e) = subst IsProperPrefix (sym e) nothing_left
+route_part self other part s (inr f) =
     subst IsProperPrefix (sym f.is) (front_proper other f.message s f.can f.count f.fewer)
 
 -- ---- the states of ends, by the kinds of nodes
@@ -264,45 +265,45 @@ module _ (i : ℕ) (p : Post) (kept : List ℕ) (octets : Bor (List ℕ)) (given
       )
 
   -- on one of a control node
-  control_heard : (plan : ControlPlan) (b : Who) (peer : List ℕ) (from : ItemFrom) → is_peer plan i ≡ false
-      → control.item_session plan i p.phase ≡ session_in peer from (control.item_state p.phase)
+  control_heard : (c : Controls) (b : Who) (peer : List ℕ) (from : ItemFrom) → is_peer (plan_of c) i ≡ false
+      → control.item_session (plan_of c) i p.phase ≡ session_in peer from (control.item_state p.phase)
       → are_peers Controller (role_of b) ≡ false → are_peers (role_of b) Controller ≡ false
       → from_of (role_of b) Controller ≡ from → name_of b ≡ peer → IsSound b
       → IsPhaseOf false p.phase → NoneGoesDown false p.phase ms → AllByRecursion (CanSend (role_of b) Controller) ms
-      → IsPartial (Controlling plan) b part → kept ++ octets.now ≡ concat (map (octets_of b false) ms) ++ part
-      → (begins : BeginsAt (Controlling plan) i p kept (input.Bytes i octets) given left)
-      → (given ≡ taken_all (Controlling plan) false p ms) × (left ≡ part) × (begins.0 ≡ None)
-  control_heard plan b peer from is_item at kind back says_from named s phase goes can partial is begins =
-      let k = begins_item plan i p kept (input.Bytes i octets) given left begins.0 is_item begins.1 in
-      of_item given (taken_all (Controlling plan) false p ms) left part begins.0 k.0 k.1
-      (items_heard (Controlling plan) b plan.me.name peer from (control.item_state p.phase) k.0 kind back says_from named s
+      → IsPartial (Controlling c) b part → kept ++ octets.now ≡ concat (map (octets_of b false) ms) ++ part
+      → (begins : BeginsAt (Controlling c) i p kept (input.Bytes i octets) given left)
+      → (given ≡ taken_all (Controlling c) false p ms) × (left ≡ part) × (begins.0 ≡ None)
+  control_heard c b peer from is_item at kind back says_from named s phase goes can partial is begins =
+      let k = begins_item (plan_of c) i p kept (input.Bytes i octets) given left begins.0 is_item begins.1 in
+      of_item given (taken_all (Controlling c) false p ms) left part begins.0 k.0 k.1
+      (items_heard (Controlling c) b c.me.name peer from (control.item_state p.phase) k.0 kind back says_from named s
       refl phase goes can partial is
       (subst
-      (λ (q : SessionFields). item.BeginsKeeping plan.me.name q p kept (input.Bytes i octets) given k.0 left) at k.2))
+      (λ (q : SessionFields). item.BeginsKeeping c.me.name q p kept (input.Bytes i octets) given k.0 left) at k.2))
 
   heard : (a b : Who) → Meets a b i → IsSound b → heard_as a b
   heard (Configuring x) (Controlling other) joined s phase goes can partial is begins =
       items_heard (Configuring x) (Controlling other) config (configuration.controller_at x i).name From.Nothing
       (configuration.state_at p.phase) begins.0 refl refl refl (sym joined) s (config_state p.phase) phase goes can partial is
       begins.1
-  heard (Controlling plan) (Configuring x) joined s phase goes can partial is begins =
-      control_heard plan (Configuring x) config From.Feed (first_is_no_peer plan i joined)
-      (feed_session plan i p.phase joined) refl refl refl refl s phase goes can partial is begins
-  heard (Controlling plan) (Controlling other) joined s phase goes can partial is begins =
-      let k = begins_peer plan i p kept (input.Bytes i octets) given left begins.0 joined.0 begins.1 in
+  heard (Controlling c) (Configuring x) joined s phase goes can partial is begins =
+      control_heard c (Configuring x) config From.Feed (first_is_no_peer (plan_of c) i joined)
+      (feed_session (plan_of c) i p.phase joined) refl refl refl refl s phase goes can partial is begins
+  heard (Controlling c) (Controlling other) joined s phase goes can partial is begins =
+      let k = begins_peer (plan_of c) i p kept (input.Bytes i octets) given left begins.0 joined.0 begins.1 in
       let says : (m : Message) → CanSend Controller Controller m
-      → SaysRoute plan.asn (control.peer_at plan i).address m (octets_of (Controlling other) true m) =
+      → SaysRoute c.asn (control.peer_at (plan_of c) i).address m (octets_of (Controlling other) true m) =
       λ m can'. subst
-      (λ (asn : ℕ). SaysRoute asn (control.peer_at plan i).address m (octets_of (Controlling other) true m)) joined.1
+      (λ (asn : ℕ). SaysRoute asn (control.peer_at (plan_of c) i).address m (octets_of (Controlling other) true m)) joined.1
       (subst (λ (n : NodeId). SaysRoute other.asn n.address m (octets_of (Controlling other) true m)) (sym joined.2)
       (says_route other m s can')) in
-      of_peer given (taken_all (Controlling plan) true p ms) left part begins.0 k.0 k.1
-      (messages_taken (Controlling plan) plan.me.address plan.asn (control.peer_at plan i) p kept i octets given k.0 left
-      part (route_part plan other part s partial) (octets_of (Controlling other) true) (CanSend Controller Controller) says
+      of_peer given (taken_all (Controlling c) true p ms) left part begins.0 k.0 k.1
+      (messages_taken (Controlling c) c.me.address c.asn (control.peer_at (plan_of c) i) p kept i octets given k.0 left
+      part (route_part c other part s partial) (octets_of (Controlling other) true) (CanSend Controller Controller) says
       ms live goes can is k.2)
-  heard (Controlling plan) (Forwarding other) joined s phase goes can partial is begins =
-      control_heard plan (Forwarding other) (control.agent_at plan i).name From.Agent joined.0
-      (agent_session plan i p.phase joined.1) refl refl refl (sym joined.2) s phase goes can partial is begins
+  heard (Controlling c) (Forwarding other) joined s phase goes can partial is begins =
+      control_heard c (Forwarding other) (control.agent_at (plan_of c) i).name From.Agent joined.0
+      (agent_session (plan_of c) i p.phase joined.1) refl refl refl (sym joined.2) s phase goes can partial is begins
   heard (Forwarding plan) (Controlling other) joined s phase goes can partial is begins =
       items_heard (Forwarding plan) (Controlling other) plan.me.name (agent.controller_at plan i).name From.Control
       (agent.state_at p.phase) begins.0 refl refl refl (sym joined) s (agent_state p.phase) phase goes can partial is
@@ -316,18 +317,18 @@ module _ (i : ℕ) (p : Post) (kept : List ℕ) (given : Begun) (left : List ℕ
       (begins : BeginsAt a i p kept (input.Opened i) given left)
       → (given ≡ opened a peering p) × (left ≡ []) × HasNoCause a i p kept (input.Opened i) given left begins
 
-  opens_item : (plan : ControlPlan) → is_peer plan i ≡ false → opens_as (Controlling plan) false
-  opens_item plan kind begins =
-      let b = begins_item plan i p kept (input.Opened i) given left begins.0 kind begins.1 in
-      of_item given (opened (Controlling plan) false p) left [] begins.0 b.0 b.1 (b.2.0.0, b.2.1, b.2.0.1)
+  opens_item : (c : Controls) → is_peer (plan_of c) i ≡ false → opens_as (Controlling c) false
+  opens_item c kind begins =
+      let b = begins_item (plan_of c) i p kept (input.Opened i) given left begins.0 kind begins.1 in
+      of_item given (opened (Controlling c) false p) left [] begins.0 b.0 b.1 (b.2.0.0, b.2.1, b.2.0.1)
 
   opens : (a b : Who) → Meets a b i → opens_as a (are_peers (role_of a) (role_of b))
   opens (Configuring x) (Controlling other) joined begins = (begins.1.0.0, begins.1.1, begins.1.0.1)
-  opens (Controlling plan) (Configuring x) joined begins = opens_item plan (first_is_no_peer plan i joined) begins
-  opens (Controlling plan) (Controlling other) joined begins =
-      let b = begins_peer plan i p kept (input.Opened i) given left begins.0 joined.0 begins.1 in
-      of_peer given (opened (Controlling plan) true p) left [] begins.0 b.0 b.1 (b.2.0.0, b.2.1, b.2.0.1)
-  opens (Controlling plan) (Forwarding other) joined begins = opens_item plan joined.0 begins
+  opens (Controlling c) (Configuring x) joined begins = opens_item c (first_is_no_peer (plan_of c) i joined) begins
+  opens (Controlling c) (Controlling other) joined begins =
+      let b = begins_peer (plan_of c) i p kept (input.Opened i) given left begins.0 joined.0 begins.1 in
+      of_peer given (opened (Controlling c) true p) left [] begins.0 b.0 b.1 (b.2.0.0, b.2.1, b.2.0.1)
+  opens (Controlling c) (Forwarding other) joined begins = opens_item c joined.0 begins
   opens (Forwarding plan) (Controlling other) joined begins = (begins.1.0.0, begins.1.1, begins.1.0.1)
   opens _ _ joined begins = absurd joined
 
@@ -339,7 +340,7 @@ module _ (i : ℕ) (p : Post) (kept : List ℕ) (given : Begun) (left : List ℕ
   closes : (a : Who) (begins : BeginsAt a i p kept (input.Closed i) given left)
       → (given ≡ closed) × (left ≡ []) × HasNoCause a i p kept (input.Closed i) given left begins
   closes (Configuring x) begins = (begins.1.0.0, begins.1.1, begins.1.0.1)
-  closes (Controlling plan) begins = closes_by plan (is_peer plan i) begins.0 begins.1
+  closes (Controlling c) begins = closes_by (plan_of c) (is_peer (plan_of c) i) begins.0 begins.1
   closes (Forwarding plan) begins = (begins.1.0.0, begins.1.1, begins.1.0.1)
 
 -- ---- one message
@@ -355,10 +356,11 @@ last_taken a peering p m next e =
     }
 
 -- ---- between the nodes of a valid configuration
-module _ (x : Checked) (form : IsTrue (has_topology_form x.topology))
-    (valid : first_broken x.topology x.config ≡ None) (a b : Who) (i : ℕ) (between : IsBetween x a b i) where
+module _ (x : Setup) (form : IsTrue (has_topology_form x.topology))
+    (valid : first_broken x.topology x.config ≡ None) (numbers : HasNumbers x) (a b : Who) (i : ℕ)
+    (between : IsBetween x a b i) where
   met : Meets a b i
-  met = meets x (are_nodes x form valid) a between.near b between.far i between.within between.name
+  met = meets x (are_nodes x form valid) numbers a between.near b between.far i between.within between.name
 
   pub octets_heard : (p : Post) → is_idle p.phase ≡ false → IsPhaseOf (are_peers (role_of a) (role_of b)) p.phase
       → (ms : List Message) → NoneGoesDown (are_peers (role_of a) (role_of b)) p.phase ms
@@ -397,8 +399,9 @@ pub end_closed : (a : Who) (i : ℕ) (p : Post) (kept : List ℕ) (given : Begun
     → (given ≡ closed) × (left ≡ []) × HasNoCause a i p kept (input.Closed i) given left begins
 end_closed a i p kept given left begins = closes i p kept given left a begins
 
-pub session_between : (x : Checked) → IsTrue (has_topology_form x.topology) → first_broken x.topology x.config ≡ None
-    → (a : Who) → Member a (whos x) → (i : ℕ) → i < length (others_of a) → (b : Who) × IsBetween x a b i
-session_between x form valid a m i lt =
-    let q = has_other x (are_nodes x form valid) a m i lt in
-    (q.0, record { near = m; far = q.1; within = lt; name = q.2 })
+pub session_between : (x : Setup) → IsTrue (has_topology_form x.topology) → first_broken x.topology x.config ≡ None
+    → HasNumbers x → (a : Who) → Member a (whos x) → (i : ℕ) (name : Name)
+    → slice_index_or (others_of a) i None ≡ Some name → (b : Who) × IsBetween x a b i
+session_between x form valid numbers a m i name e =
+    let q = has_other x (are_nodes x form valid) numbers a m i name e in
+    (q.0, record { near = m; far = q.1; within = within_at (others_of a) i name e; name = q.2 })

@@ -11,13 +11,12 @@ use Rattle.ov_types.proofs.FirstLemmas.{all_head, all_tail, same_name_self}
 use Rattle.config_model.specs.Form.{has_controller_form, has_node_form, has_topology_form, is_as_number, is_from_to, is_reserved_as, is_node_address, is_node_name}
 use Rattle.config_model.specs.declared.topology.Node.{Node}
 use Rattle.config_model.specs.declared.topology.Topology.{Topology}
-use Rattle.config_check.specs.Checked.{Checked}
 use Rattle.config_check.specs.Rules.{controller_names, node_names, first_broken}
 use Rattle.config_check.proofs.Validity.{valid_iff}
 use Rattle.node_model.specs.Members.{Member}
 use Rattle.node_model.proofs.Members.{in_map, member_of}
 use Rattle.network_model.specs.Network.{config}
-use Rattle.network_model.specs.Setup.{Name}
+use Rattle.network_model.specs.Setup.{Name, Setup}
 use Rattle.network_model.proofs.Apart.{Apart, apart_of, apart_left, apart_between}
 
 -- ---- names that are apart
@@ -113,7 +112,7 @@ pub record AreNodes (t : Topology) : Type 0 where
   -- an agent lists control nodes that there are
   pub listed : (n : Node) → Member n t.nodes → (m : Name) → Member m n.controllers → Member m (controller_names t)
 
-pub are_nodes : (x : Checked) → IsTrue (has_topology_form x.topology) → first_broken x.topology x.config ≡ None → AreNodes x.topology
+pub are_nodes : (x : Setup) → IsTrue (has_topology_form x.topology) → first_broken x.topology x.config ≡ None → AreNodes x.topology
 are_nodes x form valid =
     let t = x.topology in
     let f = forms t form in

@@ -14,8 +14,8 @@ use Rattle.node_model.specs.Maps.{Change}
 use Rattle.node_model.specs.Values.{Route}
 use Rattle.node_model.proofs.Members.{none_some}
 use Rattle.node_peers.specs.Told as routes
-use Rattle.control_node.specs.declared.plan.ControlPlan.{ControlPlan}
 use Rattle.network_model.specs.Session.{Configuration, Controller, Agent, Role, Message, Open, Keepalive, Hello, Carries, are_peers}
+use Rattle.net_model.specs.Controls.{Controls}
 use Rattle.net_model.specs.Seats.{Who, Configuring, Controlling, Forwarding, name_of, role_of}
 use Rattle.net_model.specs.Stands.{at_least_one, carried_octets, message_size, octets_of}
 use Rattle.net_model.specs.Telling.{CanCarryAs, CanSend, IsRecordChange, from_of}
@@ -65,11 +65,11 @@ update_is_some : (d : Delta VpnKey VpnRoute) → 0 < length (routes.spelled (mov
 update_is_some (Put k r) = omega arith
 update_is_some (Drop k) = omega arith
 
-route_size : (plan : ControlPlan) (m : Message) → CanSend Controller Controller m → IsMessageOf true m
-    → HasSize (Controlling plan) true m
-route_size plan Open can is = (refl, omega arith)
-route_size plan Keepalive can is = (refl, omega arith)
-route_size plan (Carries c) can is =
+route_size : (self : Controls) (m : Message) → CanSend Controller Controller m → IsMessageOf true m
+    → HasSize (Controlling self) true m
+route_size self Open can is = (refl, omega arith)
+route_size self Keepalive can is = (refl, omega arith)
+route_size self (Carries c) can is =
     let d = can.change in
     let some = subst (λ (x : Change). 0 < length (routes.spelled x)) (sym can.is) (update_is_some d) in (
       at_least (routes.spelled c) some
@@ -78,7 +78,7 @@ route_size plan (Carries c) can is =
           ∙ ap (λ (x : Change). at_least_one (carried_octets x)) (sym can.is),
       some,
     )
-route_size plan Hello can is = absurd is
+route_size self Hello can is = absurd is
 
 -- ---- from one node to another
 pub has_size : (a b : Who) (m : Message) → CanSend (role_of a) (role_of b) m
@@ -86,9 +86,9 @@ pub has_size : (a b : Who) (m : Message) → CanSend (role_of a) (role_of b) m
 has_size (Configuring x) (Configuring y) m can is = item_size (Configuring x) Configuration m refl can is
 has_size (Configuring x) (Controlling other) m can is = item_size (Configuring x) Controller m refl can is
 has_size (Configuring x) (Forwarding other) m can is = item_size (Configuring x) Agent m refl can is
-has_size (Controlling plan) (Configuring x) m can is = item_size (Controlling plan) Configuration m refl can is
-has_size (Controlling plan) (Controlling other) m can is = route_size plan m can is
-has_size (Controlling plan) (Forwarding other) m can is = item_size (Controlling plan) Agent m refl can is
+has_size (Controlling c) (Configuring x) m can is = item_size (Controlling c) Configuration m refl can is
+has_size (Controlling c) (Controlling other) m can is = route_size c m can is
+has_size (Controlling c) (Forwarding other) m can is = item_size (Controlling c) Agent m refl can is
 has_size (Forwarding plan) (Configuring x) m can is = item_size (Forwarding plan) Configuration m refl can is
 has_size (Forwarding plan) (Controlling other) m can is = item_size (Forwarding plan) Controller m refl can is
 has_size (Forwarding plan) (Forwarding other) m can is = item_size (Forwarding plan) Agent m refl can is

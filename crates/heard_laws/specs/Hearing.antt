@@ -1,11 +1,11 @@
 -- An end of a session between two nodes, which messages it may hear, and an input that takes no session down.
 use Rattle.std.specs.Prelude.{◌≡◌, ◌<◌, ◌⊎◌, ℕ, List, [], length, take, Bool, true, false}
 use Rattle.std.specs.List.{slice_index_or}
-use Rattle.std.specs.declared.option.Option.TheVariants.{None}
+use Rattle.std.specs.declared.option.Option.TheVariants.{None, Some}
 use Rattle.ov_link.specs.declared.step.Input.{Input}
-use Rattle.config_check.specs.Checked.{Checked}
 use Rattle.node_model.specs.Members.{Member}
 use Rattle.node_model.specs.Step.{Begun, Phase, Confirmed, Post}
+use Rattle.network_model.specs.Setup.{Setup}
 use Rattle.network_model.specs.Session.{Message, Open, Keepalive, Hello, are_peers}
 use Rattle.net_model.specs.Seats.{Who, Configuring, Controlling, Forwarding, name_of, others_of, role_of, whos}
 use Rattle.net_model.specs.Stands.{octets_of}
@@ -13,17 +13,17 @@ use Rattle.net_model.specs.Steps.{BeginsAt}
 use Rattle.net_model.specs.Telling.{CanSend}
 
 -- the first node's session of this number is with the second
-pub record IsBetween (x : Checked) (a b : Who) (i : ℕ) : Type 0 where
+pub record IsBetween (x : Setup) (a b : Who) (i : ℕ) : Type 0 where
   pub near : Member a (whos x)
   pub far : Member b (whos x)
   pub within : i < length (others_of a)
-  pub name : slice_index_or (others_of a) i [] ≡ name_of b
+  pub name : slice_index_or (others_of a) i None ≡ Some (name_of b)
 
 -- the input brings no cause for which its session goes down
 abbrev pub HasNoCause : (who : Who) (i : ℕ) (p : Post) (kept : List ℕ) (input : Input) (given : Begun) (left : List ℕ)
     → BeginsAt who i p kept input given left → Type 0
 HasNoCause (Configuring x) i p kept input given left begins = begins.0 ≡ None
-HasNoCause (Controlling plan) i p kept input given left begins = begins.0 ≡ None
+HasNoCause (Controlling c) i p kept input given left begins = begins.0 ≡ None
 HasNoCause (Forwarding plan) i p kept input given left begins = begins.0 ≡ None
 
 -- ---- what a session has, between control nodes or elsewhere

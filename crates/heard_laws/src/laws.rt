@@ -1,16 +1,16 @@
 //! What the inputs of a node make of its ends, as laws: each is the contract of a function that does nothing.
 ghost use Rattle.std.specs.Prelude.{◌≡◌, ◌<◌, ◌++◌, [], ℕ, List, IsTrue, Some, None, Bool, false, length};
 ghost use Rattle.std.specs.Borrow.{Bor};
-ghost use Rattle.std.specs.List.{AllByRecursion, concat};
+ghost use Rattle.std.specs.List.{AllByRecursion, concat, slice_index_or};
 ghost use Rattle.std.specs.Prelude.{map};
 ghost use Rattle.ov_link.specs.declared.step.Input.TheVariants.{Bytes, Closed, Opened};
 ghost use Rattle.config_model.specs.Form.{has_topology_form};
-ghost use Rattle.config_check.specs.Checked.{Checked};
 ghost use Rattle.config_check.specs.Rules.{first_broken};
 ghost use Rattle.node_model.specs.Maps.{Map};
 ghost use Rattle.node_model.specs.Members.{Member};
 ghost use Rattle.node_model.specs.Step.{Begun, Phase, Post};
-ghost use Rattle.network_model.specs.Moments.{NoneGoesDown, cell};
+ghost use Rattle.network_model.specs.Setup.{Name, Setup};
+ghost use Rattle.network_model.specs.Moments.{HasNumbers, NoneGoesDown, cell};
 ghost use Rattle.network_model.specs.Session.{Message, are_peers, is_idle};
 ghost use Rattle.net_model.specs.Seats.{Who, name_of, others_of, role_of, whos};
 ghost use Rattle.net_model.specs.Stands.{message_size, octets_of};
@@ -20,10 +20,11 @@ ghost use Rattle.net_model.specs.Telling.{CanSend};
 ghost use Rattle.heard_laws.specs.Cutting.{PartsAreAsWhole, WholeIsAsParts, and_then, told, with_sent};
 ghost use Rattle.heard_laws.specs.Hearing.{HasNoCause, IsBetween, IsMessageOf, IsPartial, IsPhaseOf};
 
-/// Each session of a node of a valid configuration is with one of its nodes.
+/// Each session of a node of a valid configuration is with one of its nodes, unless its number is retired.
 pub fn sessions_are_between()
-    ensures { (x : Checked) → IsTrue (has_topology_form x.topology) → first_broken x.topology x.config ≡ None
-        → (a : Who) → Member a (whos x) → (i : ℕ) → i < length (others_of a) → (b : Who) × IsBetween x a b i }
+    ensures { (x : Setup) → IsTrue (has_topology_form x.topology) → first_broken x.topology x.config ≡ None
+        → HasNumbers x → (a : Who) → Member a (whos x) → (i : ℕ) (name : Name)
+        → slice_index_or (others_of a) i None ≡ Some name → (b : Who) × IsBetween x a b i }
 {}
 
 /// A message that leads a live end on is one of its session, and the end's state is one of its session too.
@@ -47,8 +48,8 @@ pub fn messages_have_sizes()
 /// other's end down, with a first part of one more behind them, make of that end what the machine's cells say, one
 /// message after another, with all the machine's replies and without a cause. The part changes nothing and is kept.
 pub fn octets_are_heard()
-    ensures { (x : Checked) → IsTrue (has_topology_form x.topology) → first_broken x.topology x.config ≡ None
-        → (a b : Who) (i : ℕ) → IsBetween x a b i → (p : Post) → is_idle p.phase ≡ false
+    ensures { (x : Setup) → IsTrue (has_topology_form x.topology) → first_broken x.topology x.config ≡ None
+        → HasNumbers x → (a b : Who) (i : ℕ) → IsBetween x a b i → (p : Post) → is_idle p.phase ≡ false
         → IsPhaseOf (are_peers (role_of a) (role_of b)) p.phase
         → (ms : List Message) → NoneGoesDown (are_peers (role_of a) (role_of b)) p.phase ms
         → AllByRecursion (CanSend (role_of b) (role_of a)) ms → (part : List ℕ) → IsPartial a b part
@@ -61,8 +62,8 @@ pub fn octets_are_heard()
 
 /// The octets of one such message make of the end what the machine's cell says, and nothing of them is left.
 pub fn messages_are_heard()
-    ensures { (x : Checked) → IsTrue (has_topology_form x.topology) → first_broken x.topology x.config ≡ None
-        → (a b : Who) (i : ℕ) → IsBetween x a b i → (p : Post) → is_idle p.phase ≡ false
+    ensures { (x : Setup) → IsTrue (has_topology_form x.topology) → first_broken x.topology x.config ≡ None
+        → HasNumbers x → (a b : Who) (i : ℕ) → IsBetween x a b i → (p : Post) → is_idle p.phase ≡ false
         → (m : Message) (next : Phase) → cell (are_peers (role_of a) (role_of b)) p.phase m ≡ Some next
         → CanSend (role_of b) (role_of a) m → (kept : List ℕ) (octets : Bor (List ℕ))
         → kept ++ octets.now ≡ octets_of b (are_peers (role_of a) (role_of b)) m
@@ -73,8 +74,8 @@ pub fn messages_are_heard()
 
 /// An end that opens sends its greeting and nothing else.
 pub fn ends_open()
-    ensures { (x : Checked) → IsTrue (has_topology_form x.topology) → first_broken x.topology x.config ≡ None
-        → (a b : Who) (i : ℕ) → IsBetween x a b i → (p : Post) (kept : List ℕ) (given : Begun) (left : List ℕ)
+    ensures { (x : Setup) → IsTrue (has_topology_form x.topology) → first_broken x.topology x.config ≡ None
+        → HasNumbers x → (a b : Who) (i : ℕ) → IsBetween x a b i → (p : Post) (kept : List ℕ) (given : Begun) (left : List ℕ)
         → (begins : BeginsAt a i p kept (Opened i) given left)
         → (given ≡ opened a (are_peers (role_of a) (role_of b)) p) × (left ≡ [])
         × HasNoCause a i p kept (Opened i) given left begins }

@@ -10,7 +10,6 @@ use Rattle.config_model.specs.declared.edit.Edit.{Edit}
 use Rattle.config_check.specs.Checked.{Checked}
 use Rattle.config_check.specs.Sentences.{IsValid}
 use Rattle.config_check.proofs.Validity.{valid_iff}
-use Rattle.config_model.specs.declared.topology.Topology.{Topology}
 use Rattle.config_ties.specs.Ties.{AreNear, HasPort, HasRelated, HasUse, Ties}
 use Rattle.config_ties.specs.Tying.{joined, no_ties, port_network, relates, ties_of, use_networks}
 use Rattle.config_ties.proofs.Having.{port_iff, relates_iff, use_iff}
@@ -22,7 +21,8 @@ use Rattle.network_model.specs.Events.{Break, Connect, Deliver, DeliverOctets, E
 use Rattle.network_model.specs.Events.{edits as applied}
 use Rattle.network_model.specs.Network.{Network, start}
 use Rattle.network_model.specs.Session.{Message}
-use Rattle.network_model.specs.Setup.{Name, edited}
+use Rattle.network_model.specs.Setup.{Name, Setup, checked, edited, moves}
+use Rattle.network_model.proofs.Listed.{moved_setup}
 use Rattle.isolation_laws.specs.Running.{AtMomentsOfRuns, configs, ties_after, ties_next, ties_with}
 use Rattle.isolation_laws.specs.Stood.{ComeFrom, DeliversToThoseJoined, HasItsTies, InSome, IsStayingAmong}
 use Rattle.isolation_laws.proofs.Edited.{edited_valid}
@@ -39,19 +39,19 @@ either_of : {A : Type 0} (o r : Option A) (n : A) → (o <|> r) ≡ Some n → (
 either_of (Some m) r n e = inl e
 either_of None r n e = inr e
 
-joined_come : (s : Topology) (t : Ties) (c : Config) (cs : List Config) → IsValid s c → ComeFrom t cs → ComeFrom (joined t c) (c ∷ cs)
-joined_come s t c cs v h = record {
-  port = λ p n e. elim (either_of (t.port p) (port_network c p) n e) as (λ _. InSome (c ∷ cs) (λ c. HasPort c p n)) [
+joined_come : (t : Ties) (x : Checked) (cs : List Config) → IsValid x.topology x.config → ComeFrom t cs → ComeFrom (joined t x) (x.config ∷ cs)
+joined_come t x cs v h = record {
+  port = λ p n e. elim (either_of (t.port p) (port_network x.config p) n e) as (λ _. InSome (x.config ∷ cs) (λ c. HasPort c p n)) [
     | inl l ↦ let q = h.port p n l in (q.0, inr q.1, q.2)
-    | inr r ↦ (c, inl refl, (port_iff s c v p n).0 r)
+    | inr r ↦ (x.config, inl refl, (port_iff x.topology x.config v p n).0 r)
   ];
-  chain_use = λ u n e. elim (either_of (t.chain_use u) (use_networks c u) n e) as (λ _. InSome (c ∷ cs) (λ c. HasUse c u n)) [
+  chain_use = λ u n e. elim (either_of (t.chain_use u) (use_networks x.config u) n e) as (λ _. InSome (x.config ∷ cs) (λ c. HasUse c u n)) [
     | inl l ↦ let q = h.chain_use u n l in (q.0, inr q.1, q.2)
-    | inr r ↦ (c, inl refl, (use_iff s c v u n).0 r)
+    | inr r ↦ (x.config, inl refl, (use_iff x.topology x.config v u n).0 r)
   ];
-  related = λ a b e. elim (or_cases (t.was_related a b) (relates c a b) e) as (λ _. InSome (c ∷ cs) (λ c. HasRelated c a b)) [
+  related = λ a b e. elim (or_cases (t.was_related a b) (relates x.config a b) e) as (λ _. InSome (x.config ∷ cs) (λ c. HasRelated c a b)) [
     | inl l ↦ let q = h.related a b l in (q.0, inr q.1, q.2)
-    | inr r ↦ (c, inl refl, (relates_iff c a b).0 r)
+    | inr r ↦ (x.config, inl refl, (relates_iff x.config a b).0 r)
   ];
 }
 
@@ -62,9 +62,11 @@ first_config : (size : Name → Message → ℕ) (w : Network) (es : List Event)
 first_config size w [] = inl refl
 first_config size w (e ∷ es) = inl refl
 
-edited_next : (size : Name → Message → ℕ) (w : Network) (d : Edit) (y : Checked) → edited w.setup d ≡ Some y → (next size w (Edits d)).setup ≡ y
+edited_next : (size : Name → Message → ℕ) (w : Network) (d : Edit) (y : Setup) → edited w.setup d ≡ Some y → (next size w (Edits d)).setup ≡ y
 unfolding next
-edited_next size w d y is = ap (λ (o : Option Checked). (applied o w).setup) is
+edited_next size w d y is =
+    ap (λ (o : Option Setup). (applied (moves d w.setup.topology) o w).setup) is
+    ∙ moved_setup (moves d w.setup.topology) (record { setup = y; sessions = w.sessions })
 
 module _ (size : Name → Message → ℕ) (all : List Config) where
   next_come : (t : Ties) (w : Network) (e : Event) → ComeFrom t all → Member (next size w e).setup.config all → ComeFrom (ties_next t w e) all
@@ -74,9 +76,9 @@ module _ (size : Name → Message → ℕ) (all : List Config) where
       into c there d (inl e) = subst (λ (d : Config). Member d all) e there
       into c there d (inr m) = m
 
-      by_edit : (o : Option Checked) → edited w.setup d ≡ o → ComeFrom (ties_with o t) all
+      by_edit : (o : Option Setup) → edited w.setup d ≡ o → ComeFrom (ties_with o t) all
       by_edit None is = h
-      by_edit (Some y) is = more_come (joined t y.config) (y.config ∷ all) all (into y.config (subst (λ (z : Checked). Member z.config all) (edited_next size w d y is) m)) (joined_come y.topology t y.config all (edited_valid w.setup d y is) h)
+      by_edit (Some y) is = more_come (joined t (checked y)) (y.config ∷ all) all (into y.config (subst (λ (z : Setup). Member z.config all) (edited_next size w d y is) m)) (joined_come t (checked y) all (edited_valid w.setup d y is) h)
   next_come t w (Deliver a b n) h m = h
   next_come t w (DeliverOctets a b n) h m = h
   next_come t w (Lose a b) h m = h
@@ -96,8 +98,8 @@ module _ (size : Name → Message → ℕ) (all : List Config) where
 pub ties_come : AtMomentsOfRuns HasItsTies
 ties_come size positive x written es keep =
     let all = configs size (start x) es in
-    after_come size all (ties_of x.config) (start x) es
-    (more_come (ties_of x.config) (x.config ∷ []) all (λ c m. elim m as (λ _. Member c all) [ inl e ↦ subst (λ (c : Config). Member c all) e (first_config size (start x) es) | inr n ↦ absurd n ]) (joined_come x.topology no_ties x.config [] ((valid_iff x.topology x.config).0 written.valid) (none_come [])))
+    after_come size all (ties_of x) (start x) es
+    (more_come (ties_of x) (x.config ∷ []) all (λ c m. elim m as (λ _. Member c all) [ inl e ↦ subst (λ (c : Config). Member c all) e (first_config size (start x) es) | inr n ↦ absurd n ]) (joined_come no_ties x [] ((valid_iff x.topology x.config).0 written.valid) (none_come [])))
     (λ c m. m)
 
 -- ---- of configurations alone
@@ -115,7 +117,7 @@ joined_so_far size positive x written es keep p q services e =
 
 pub stays_among : AtMomentsOfRuns IsStayingAmong
 stays_among size positive x written es keep p q services e m n from to =
-    let t = ties_after size (ties_of x.config) (start x) es in
+    let t = ties_after size (ties_of x) (start x) es in
     let cs = configs size (start x) es in
     let j = runs_isolate size positive x written es keep p q services e in
     let all = all_are_tied size positive x written es keep in

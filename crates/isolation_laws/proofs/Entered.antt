@@ -20,7 +20,7 @@ use Rattle.config_model.specs.declared.config.Action.{Action}
 use Rattle.config_model.specs.declared.config.End.TheVariants.{Any, Named}
 use Rattle.config_model.specs.declared.config.End.{End}
 use Rattle.config_model.specs.declared.config.Network.{Network}
-use Rattle.config_check.specs.Checked.{Checked}
+use Rattle.network_model.specs.Setup.{Setup}
 use Rattle.config_check.specs.Sentences.{IsValid, NamesEnds}
 use Rattle.config_check.proofs.Validity.{valid_iff}
 use Rattle.network_rules.specs.Matching.{speaks_both_ways}
@@ -43,7 +43,7 @@ end_named : (e : End) (n : Network) → e ≢ Any → IsEnd e n → e ≡ Named 
 end_named Any n h is = absurd (h refl)
 end_named (Named name) n h is = ap Named is
 
-module _ (t : Ties) (x : Checked) (form : IsTrue (has_config_form x.config)) (v : IsValid x.topology x.config) (is : IsTiedBy t x.config) where
+module _ (t : Ties) (x : Setup) (form : IsTrue (has_config_form x.config)) (v : IsValid x.topology x.config) (is : IsTiedBy t x.config) where
   -- ---- what access lists enter
   ends_of : (a b : Network) (r : NumberedRule) → IsBetween x.config a b r → NamesEnds r.rule
   ends_of a b r h =

@@ -15,6 +15,7 @@ pub mod Walk
 pub mod Runs
 pub mod Come
 pub mod Refused
+pub mod Still
 pub mod Yet
 pub mod AtOnce
 pub mod Untied

@@ -1,11 +1,10 @@
 -- At every moment of a schedule all that is held or in flight is tied.
 use Rattle.std.specs.Prelude.{List, ℕ, ◌≡◌}
 use Rattle.std.specs.declared.option.Option.TheVariants.{Some}
-use Rattle.std.proofs.Common.{ap, refl, subst, ◌∙◌}
+use Rattle.std.proofs.Common.{refl, subst, ◌∙◌}
 use Rattle.route_targets.specs.Forwarding.{Forwarder}
 use Rattle.config_model.specs.declared.edit.Edit.{Edit}
 use Rattle.config_model.specs.declared.topology.Node.{Node}
-use Rattle.config_model.specs.declared.topology.Topology.{Topology}
 use Rattle.config_check.specs.Checked.{Checked}
 use Rattle.config_check.proofs.Validity.{valid_iff}
 use Rattle.node_model.specs.Agent as agent
@@ -14,33 +13,33 @@ use Rattle.node_model.specs.Members.{Member}
 use Rattle.node_model.proofs.Members.{from_map}
 use Rattle.network_model.specs.Events.{Event, after, forwarders}
 use Rattle.network_model.specs.Events.{agent_rows as held_by_agent}
-use Rattle.network_model.specs.Moments.{ArePositive, Each}
+use Rattle.network_model.specs.Moments.{ArePositive, Each, EditsAreValid}
 use Rattle.network_model.specs.Network.{Network, sessions_of, start}
 use Rattle.network_model.specs.Session.{Message}
-use Rattle.network_model.specs.Setup.{Name, edited}
-use Rattle.network_laws.specs.Settling.{EditsAreValid, WantsFair}
+use Rattle.network_model.specs.Setup.{Name, Setup, edited, opening}
+use Rattle.network_laws.specs.Settling.{WantsFair}
 use Rattle.network_laws.proofs.RanksSettle.{kept, stay_valid}
 use Rattle.headline_laws.specs.Headline.{IsWritten}
 use Rattle.config_ties.specs.Ties.{IsTiedBy, Ties}
 use Rattle.isolation_laws.specs.Tied.{AreTied, tied}
 use Rattle.isolation_laws.specs.Moments.{AtTiedMoments, IsTiedState, KeepsTies}
-use Rattle.isolation_laws.proofs.Edited.{same_topology, written_edit}
+use Rattle.isolation_laws.proofs.Edited.{same_asn, written_edit}
 use Rattle.isolation_laws.proofs.Objects.{low_tied}
 use Rattle.isolation_laws.proofs.Labels.{none_tied}
 use Rattle.isolation_laws.proofs.Agents.{IsTiedForwarder, rows_tied}
 use Rattle.isolation_laws.proofs.Wants.{AllTied, agent_holds, own_held, wants_tied}
 
 -- a valid configuration that is as the ties have it, in an autonomous system
-pub record IsKept (t : Ties) (asn : ℕ) (y : Checked) : Type 0 where
+pub record IsKept (t : Ties) (asn : ℕ) (y : Setup) : Type 0 where
   pub written : IsWritten y
   pub as_tied : IsTiedBy t y.config
   pub asn_is : y.topology.asn ≡ asn
 
-edits_keep : (t : Ties) (asn : ℕ) (y : Checked) (d : Edit) (z : Checked) → IsKept t asn y → edited y d ≡ Some z → KeepsTies t z → IsKept t asn z
-edits_keep t asn y d z k e asked = record { written = written_edit y d z k.written e asked.0; as_tied = asked.1; asn_is = ap (λ (t : Topology). t.asn) (same_topology y d z e) ∙ k.asn_is }
+edits_keep : (t : Ties) (asn : ℕ) (y : Setup) (d : Edit) (z : Setup) → IsKept t asn y → edited y d ≡ Some z → KeepsTies t z → IsKept t asn z
+edits_keep t asn y d z k e asked = record { written = written_edit y d z e asked.0; as_tied = asked.1; asn_is = same_asn y d z e ∙ k.asn_is }
 
 -- ---- every moment
-module _ (size : Name → Message → ℕ) (positive : ArePositive size) (t : Ties) (x : Checked) (written : IsWritten x) (as_tied : IsTiedBy t x.config) (es : List Event) (asked : EditsAreValid size (KeepsTies t) (start x) es) where
+module _ (size : Name → Message → ℕ) (positive : ArePositive size) (t : Ties) (x : Checked) (written : IsWritten (opening x)) (as_tied : IsTiedBy t x.config) (es : List Event) (asked : EditsAreValid size (KeepsTies t) (start x) es) where
   abbrev pub asn : ℕ
   asn = x.topology.asn
 
@@ -50,7 +49,7 @@ module _ (size : Name → Message → ℕ) (positive : ArePositive size) (t : Ti
   wants : WantsFair (tied t asn) (IsKept t asn)
   wants y ss n k f = wants_tied t asn y ss n k.asn_is (low_tied t y k.written.config ((valid_iff y.topology y.config).0 k.written.valid) k.as_tied asn) f
 
-  first : IsKept t asn x
+  first : IsKept t asn (opening x)
   first = record { written = written; as_tied = as_tied; asn_is = refl }
 
   all_kept : EditsAreValid size (IsKept t asn) (start x) es

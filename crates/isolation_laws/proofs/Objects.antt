@@ -8,7 +8,6 @@ use Rattle.ov_types.specs.declared.numbers.InstanceId.{InstanceId}
 use Rattle.ov_types.proofs.FirstLemmas.{same_name_iff}
 use Rattle.config_model.specs.Form.{has_config_form}
 use Rattle.config_model.specs.declared.config.Network.{Network}
-use Rattle.config_check.specs.Checked.{Checked}
 use Rattle.config_check.specs.Sentences.{IsValid}
 use Rattle.network_rules.specs.Standing.{AreRelated, LetsThrough}
 use Rattle.transform_model.specs.IsObject.{IsObject, of_left_circuit, of_network, of_networks, of_port, of_right_circuit, of_use}
@@ -27,7 +26,7 @@ use Rattle.node_model.specs.Wants.{slice_entry}
 use Rattle.node_model.proofs.Members.{from_map, member_get}
 use Rattle.node_model.proofs.Orders.{key_exact, key_total}
 use Rattle.node_model.proofs.Places.{is_hop-network}
-use Rattle.network_model.specs.Setup.{low as low_map}
+use Rattle.network_model.specs.Setup.{Setup, low as low_map}
 use Rattle.network_model.proofs.Feed.{entries-low}
 use Rattle.compiled_laws.proofs.Told.{pair}
 use Rattle.node_model.proofs.Members.{contains_of}
@@ -39,7 +38,7 @@ use Rattle.isolation_laws.specs.Tied.{AreTied, IsTied, IsTiedObject}
 use Rattle.isolation_laws.proofs.Circuits.{next_hop, other_of_left, other_of_right, sides_in}
 use Rattle.isolation_laws.proofs.Entered.{of_rules}
 
-module _ (t : Ties) (x : Checked) (form : IsTrue (has_config_form x.config)) (v : IsValid x.topology x.config) (is : IsTiedBy t x.config) where
+module _ (t : Ties) (x : Setup) (form : IsTrue (has_config_form x.config)) (v : IsValid x.topology x.config) (is : IsTiedBy t x.config) where
   related_here : (a b : Network) → Contains x.config.networks a → Contains x.config.networks b → AreRelated x.config a b → IsTrue (t.was_related a.id b.id)
   related_here a b in_a in_b r = is.related a.id b.id (record { first = a; second = b; has_first = in_a; has_second = in_b; related = r; first_is = refl; second_is = refl })
 

@@ -18,6 +18,7 @@ use Rattle.config_check.specs.Sentences.{IsValid}
 use Rattle.config_ties.proofs.Having.{port_iff, relates_iff}
 use Rattle.network_model.specs.Events.{Edits, Event, Settle, after}
 use Rattle.network_model.specs.Network.{start}
+use Rattle.network_model.specs.Setup.{opening as setup_of}
 use Rattle.isolation_laws.specs.Untied.{packet}
 use Rattle.isolation_laws.specs.Past.{StaysAmongPresent, leave, related, with_first_attaching}
 use Rattle.isolation_laws.specs.Running.{AtMomentsOfRuns, EditsKeep}
@@ -29,7 +30,7 @@ use Rattle.isolation_laws.proofs.AtOnce.{edit_leads, leads_to_form, never_one, n
 abbrev parted : Config
 parted = with_first_attaching []
 
-related_written : IsWritten related
+related_written : IsWritten (setup_of related)
 unfolding has_topology_form has_controller_form has_node_form has_config_form has_network_form has_port_form has_policy_form has_rule_form first_broken broken_limit broken_name broken_id broken_reference broken_reserved broken_nested broken_outside broken_taken broken_needs broken_same broken_loop broken_long broken_twice broken_overlap
 related_written = record { topology = refl; config = refl; valid = refl }
 
@@ -40,12 +41,12 @@ arrives = refl
 unrelated : relates parted (record { 0 = 1 }) (record { 0 = 2 }) ≡ false
 unrelated = refl
 
-left : edits.edited leave related.config ≡ parted
-unfolding edits.edited
+left : edits.edited leave related ≡ record { topology = related.topology; config = parted }
+unfolding edits.edited_topology edits.edited_config
 left = refl
 
 no_fault : edit_fault related leave ≡ None
-unfolding edit_fault missing_name edits.edited first_broken broken_limit broken_name broken_id broken_reference broken_reserved broken_nested broken_outside broken_taken broken_needs broken_same broken_loop broken_long broken_twice broken_overlap
+unfolding edit_fault missing_name edits.edited_topology edits.edited_config first_broken broken_limit broken_name broken_id broken_reference broken_reserved broken_nested broken_outside broken_taken broken_needs broken_same broken_loop broken_long broken_twice broken_overlap
 no_fault = refl
 
 of_form : IsTrue (has_config_form parted)
@@ -53,25 +54,25 @@ unfolding has_config_form has_network_form has_port_form has_policy_form has_rul
 of_form = refl
 
 valid : IsValid related.topology parted
-valid = valid_after related related_written leave parted no_fault left of_form
+valid = valid_after related related_written leave parted no_fault left refl of_form
 
-breaks_none : BreaksNone (ties_of related.config) parted
-breaks_none = (broken_iff related.topology (ties_of related.config) parted valid).0 refl
+breaks_none : BreaksNone (ties_of related) parted
+breaks_none = ((broken_iff (ties_of related) (record { topology = related.topology; config = parted }) valid).0 refl).0
 
 abbrev schedule : List Event
 schedule = Settle ∷ Edits leave ∷ []
 
-keeps : EditsKeep size (ties_of related.config) (start related) schedule
+keeps : EditsKeep size (ties_of related) (start related) schedule
 keeps = (
   tt,
-  ((λ y e. (leads_to_form related related_written leave parted no_fault left of_form y e, subst (BreaksNone (ties_of related.config)) (sym (edit_leads related related_written leave parted no_fault left of_form y e)) breaks_none)), tt),
+  ((λ y e. (leads_to_form related related_written leave parted no_fault left refl of_form y e, subst (BreaksNone (ties_of related)) (sym (edit_leads related related_written leave parted no_fault left refl of_form y e)) breaks_none)), tt),
 )
 
 abbrev last : Config
 last = (after size (start related) schedule).setup.config
 
 last_is : last ≡ parted
-last_is = now_config related related_written leave parted no_fault left of_form
+last_is = now_config related related_written leave parted no_fault left refl of_form
 
 port_in : (number : ℕ) → port_network parted (record { 0 = number }) ≡ Some (record { 0 = number }) → HasPort last (record { 0 = number }) (record { 0 = number })
 port_in number e = subst (λ (c : Config). HasPort c (record { 0 = number }) (record { 0 = number })) (sym last_is) ((port_iff related.topology parted valid (record { 0 = number }) (record { 0 = number })).0 e)
@@ -83,7 +84,7 @@ never_related h =
 
 pub not_present : AtMomentsOfRuns StaysAmongPresent → ⊥
 not_present h =
-    let delivered = still_goes related related_written leave parted no_fault left of_form packet ∙ arrives in
+    let delivered = still_goes related related_written leave parted no_fault left refl of_form packet ∙ arrives in
     elim (h size positive related related_written schedule keeps packet (record { 0 = 2 }) [] delivered (record { 0 = 1 }) (record { 0 = 2 }) (port_in 1 refl) (port_in 2 refl)) as (λ _. ⊥) [
       | inl same ↦ never_one same
       | inr is ↦ never_related is

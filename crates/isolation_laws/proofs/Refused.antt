@@ -8,8 +8,8 @@ use Rattle.config_model.specs.declared.config.Config.{Config}
 use Rattle.network_model.specs.Events.{Break, Connect, Deliver, DeliverOctets, Edits, Event, Lose, Restart, Round, Settle, Show, Trace, after, next}
 use Rattle.network_model.specs.Network.{Network, start}
 use Rattle.network_model.specs.Session.{Message}
-use Rattle.network_model.specs.Setup.{Name}
-use Rattle.network_laws.specs.Settling.{EditIsValid, EditsAreValid}
+use Rattle.network_model.specs.Setup.{Name, checked}
+use Rattle.network_model.specs.Moments.{EditIsValid, EditsAreValid}
 use Rattle.headline_laws.specs.Headline.{IsOfForm}
 use Rattle.config_ties.specs.declared.breaking.Tie.{Tie}
 use Rattle.config_ties.specs.Broken.{broken_tie}
@@ -48,7 +48,7 @@ module _ (size : Name → Message → ℕ) where
 
   -- an edit that is not refused breaks no tie
   edit_keeps : (t : Ties) (w : Network) (e : Event) → refuses t w e ≡ false → EditIsValid IsOfForm w e → EditKeeps t w e
-  edit_keeps t w (Edits d) h v = λ y is. (v y is, (broken_iff y.topology t y.config (edited_valid w.setup d y is)).0 (no_tie (broken_tie t y.config) (sym (ap (breaks t) is) ∙ h)))
+  edit_keeps t w (Edits d) h v = λ y is. (v y is, ((broken_iff t (checked y) (edited_valid w.setup d y is)).0 (no_tie (broken_tie t (checked y)) (sym (ap (breaks t) is) ∙ h))).0)
   edit_keeps t w (Deliver a b n) h v = tt
   edit_keeps t w (DeliverOctets a b n) h v = tt
   edit_keeps t w (Lose a b) h v = tt

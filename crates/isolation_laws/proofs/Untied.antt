@@ -17,12 +17,13 @@ use Rattle.config_check.proofs.Validity.{valid_iff}
 use Rattle.config_ties.proofs.Having.{port_iff, relates_iff}
 use Rattle.network_model.specs.Events.{Edits, Settle}
 use Rattle.network_model.specs.Network.{start}
+use Rattle.network_model.specs.Setup.{opening as setup_of}
 use Rattle.isolation_laws.specs.Running.{configs}
 use Rattle.isolation_laws.specs.Stood.{InSome, StaysAmong}
 use Rattle.isolation_laws.specs.Untied.{AtMomentsWithout, move, opening, packet, with_second_in}
 use Rattle.isolation_laws.proofs.AtOnce.{asked, each_is, never_one, now_config, positive, size, still_goes, valid_after}
 
-opening_written : IsWritten opening
+opening_written : IsWritten (setup_of opening)
 unfolding has_topology_form has_controller_form has_node_form has_config_form has_network_form has_port_form first_broken broken_limit broken_name broken_id broken_reference broken_reserved broken_nested broken_outside broken_taken broken_needs broken_same broken_loop broken_long broken_twice broken_overlap
 opening_written = record { topology = refl; config = refl; valid = refl }
 
@@ -33,12 +34,12 @@ arrives = refl
 unrelated : (home : List ℕ) → relates (with_second_in home) (record { 0 = 1 }) (record { 0 = 2 }) ≡ false
 unrelated home = refl
 
-moved : edits.edited move opening.config ≡ with_second_in (codes "blue")
-unfolding edits.edited
+moved : edits.edited move opening ≡ record { topology = opening.topology; config = with_second_in (codes "blue") }
+unfolding edits.edited_topology edits.edited_config
 moved = refl
 
 no_fault : edit_fault opening move ≡ None
-unfolding edit_fault missing_name edits.edited first_broken broken_limit broken_name broken_id broken_reference broken_reserved broken_nested broken_outside broken_taken broken_needs broken_same broken_loop broken_long broken_twice broken_overlap
+unfolding edit_fault missing_name edits.edited_topology edits.edited_config first_broken broken_limit broken_name broken_id broken_reference broken_reserved broken_nested broken_outside broken_taken broken_needs broken_same broken_loop broken_long broken_twice broken_overlap
 no_fault = refl
 
 -- ---- the second port is moved once the network is settled
@@ -58,8 +59,8 @@ ends_in_blue : InSome all (λ c. HasPort c (record { 0 = 2 }) (record { 0 = 2 })
 ends_in_blue =
     let blue = with_second_in (codes "blue") in (
       blue,
-      inr (inr (inl (now_config opening opening_written move blue no_fault moved of_form))),
-      (port_iff opening.topology blue (valid_after opening opening_written move blue no_fault moved of_form) (record { 0 = 2 }) (record { 0 = 2 })).0 refl,
+      inr (inr (inl (now_config opening opening_written move blue no_fault moved refl of_form))),
+      (port_iff opening.topology blue (valid_after opening opening_written move blue no_fault moved refl of_form) (record { 0 = 2 }) (record { 0 = 2 })).0 refl,
     )
 
 related_not : (home : List ℕ) → HasRelated (with_second_in home) (record { 0 = 1 }) (record { 0 = 2 }) → ⊥
@@ -67,7 +68,7 @@ related_not home h = true≢false (sym ((relates_iff (with_second_in home) (reco
 
 never_related : InSome all (λ c. HasRelated c (record { 0 = 1 }) (record { 0 = 2 })) → ⊥
 never_related q =
-    elim (each_is opening opening_written move (with_second_in (codes "blue")) no_fault moved of_form q.0 q.1) as (λ _. ⊥) [
+    elim (each_is opening opening_written move (with_second_in (codes "blue")) no_fault moved refl of_form q.0 q.1) as (λ _. ⊥) [
       | inl e ↦ related_not (codes "red") (subst (λ (c : Config). HasRelated c (record { 0 = 1 }) (record { 0 = 2 })) e q.2)
       | inr e ↦ related_not (codes "blue") (subst (λ (c : Config). HasRelated c (record { 0 = 1 }) (record { 0 = 2 })) e q.2)
     ]
@@ -75,8 +76,8 @@ never_related q =
 pub not_without : AtMomentsWithout StaysAmong → ⊥
 not_without h =
     let blue = with_second_in (codes "blue") in
-    let delivered = still_goes opening opening_written move blue no_fault moved of_form packet ∙ arrives in
-    elim (h size positive opening opening_written (Settle ∷ Edits move ∷ []) (asked opening opening_written move blue no_fault moved of_form) packet (record { 0 = 2 }) [] delivered (record { 0 = 1 }) (record { 0 = 2 }) starts_in_red ends_in_blue) as (λ _. ⊥) [
+    let delivered = still_goes opening opening_written move blue no_fault moved refl of_form packet ∙ arrives in
+    elim (h size positive opening opening_written (Settle ∷ Edits move ∷ []) (asked opening opening_written move blue no_fault moved refl of_form) packet (record { 0 = 2 }) [] delivered (record { 0 = 1 }) (record { 0 = 2 }) starts_in_red ends_in_blue) as (λ _. ⊥) [
       | inl same ↦ never_one same
       | inr related ↦ never_related related
     ]

@@ -9,16 +9,16 @@ use Rattle.route_targets.specs.Forwarding.{forwarding}
 use Rattle.config_check.specs.Checked.{Checked}
 use Rattle.config_ties.specs.Ties.{AreNear, IsTiedBy, Ties}
 use Rattle.network_model.specs.Events.{Event, after, forwarders}
-use Rattle.network_model.specs.Moments.{ArePositive, Each}
+use Rattle.network_model.specs.Moments.{ArePositive, Each, EditsAreValid}
 use Rattle.network_model.specs.Network.{Network, start}
 use Rattle.network_model.specs.Session.{Message}
-use Rattle.network_model.specs.Setup.{Name, low}
-use Rattle.network_laws.specs.Settling.{EditsAreValid, Fair}
+use Rattle.network_model.specs.Setup.{Name, Setup, low, opening}
+use Rattle.network_laws.specs.Settling.{Fair}
 use Rattle.headline_laws.specs.Headline.{IsOfForm, IsWritten}
 use Rattle.isolation_laws.specs.Tied.{AreTied, tied}
 
 -- a configuration of the written form that is as the ties have it
-abbrev pub KeepsTies : Ties → Checked → Type 0
+abbrev pub KeepsTies : Ties → Setup → Type 0
 KeepsTies t x = IsOfForm x × IsTiedBy t x.config
 
 -- after any schedule from a valid configuration, where it and each that an accepted edit leads to are as the ties have
@@ -26,7 +26,7 @@ KeepsTies t x = IsOfForm x × IsTiedBy t x.config
 abbrev pub AtTiedMoments : (Ties → ℕ → Network → Type 0) → Type 0
 AtTiedMoments P =
     (size : Name → Message → ℕ) → ArePositive size
-    → (t : Ties) (x : Checked) → IsWritten x → IsTiedBy t x.config
+    → (t : Ties) (x : Checked) → IsWritten (opening x) → IsTiedBy t x.config
     → (es : List Event) → EditsAreValid size (KeepsTies t) (start x) es
     → P t x.topology.asn (after size (start x) es)
 

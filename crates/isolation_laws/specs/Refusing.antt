@@ -6,11 +6,10 @@ use Rattle.config_ties.specs.Broken.{broken_tie}
 use Rattle.config_ties.specs.Ties.{Ties}
 use Rattle.config_ties.specs.Tying.{ties_of}
 use Rattle.network_model.specs.Events.{Event, Edits, after, next}
-use Rattle.network_model.specs.Moments.{ArePositive}
+use Rattle.network_model.specs.Moments.{ArePositive, EditsAreValid}
 use Rattle.network_model.specs.Network.{Network, start}
 use Rattle.network_model.specs.Session.{Message}
-use Rattle.network_model.specs.Setup.{Name, edited}
-use Rattle.network_laws.specs.Settling.{EditsAreValid}
+use Rattle.network_model.specs.Setup.{Name, Setup, checked, edited, opening}
 use Rattle.headline_laws.specs.Headline.{IsOfForm, IsWritten}
 use Rattle.isolation_laws.specs.Running.{configs, ties_next}
 
@@ -18,9 +17,9 @@ pub record TiedNetwork : Type 0 where
   pub ties : Ties
   pub network : Network
 
-abbrev pub breaks : Ties → Option Checked → Bool
+abbrev pub breaks : Ties → Option Setup → Bool
 breaks t None = false
-breaks t (Some y) = is_some (broken_tie t y.config)
+breaks t (Some y) = is_some (broken_tie t (checked y))
 
 -- an edit without another fault that breaks a tie
 abbrev pub refuses : Ties → Network → Event → Bool
@@ -28,7 +27,7 @@ refuses t w (Edits e) = breaks t (edited w.setup e)
 refuses t w _ = false
 
 abbrev pub tied_start : Checked → TiedNetwork
-tied_start x = record { ties = ties_of x.config; network = start x }
+tied_start x = record { ties = ties_of x; network = start x }
 
 module _ (size : Name → Message → ℕ) where
   abbrev pub next_tied : TiedNetwork → Event → TiedNetwork
@@ -52,7 +51,7 @@ module _ (size : Name → Message → ℕ) where
 abbrev pub AtMomentsWithTies : (Ties → List Config → Network → Type 0) → Type 0
 AtMomentsWithTies P =
     (size : Name → Message → ℕ) → ArePositive size
-    → (x : Checked) → IsWritten x
+    → (x : Checked) → IsWritten (opening x)
     → (es : List Event) → EditsAreValid size IsOfForm (start x) (kept_events size (tied_start x) es)
     → P (after_tied size (tied_start x) es).ties (configs size (start x) (kept_events size (tied_start x) es))
     (after_tied size (tied_start x) es).network

@@ -9,14 +9,14 @@ use Rattle.network_model.specs.Events.{Event, Edits, after, next}
 use Rattle.network_model.specs.Moments.{ArePositive}
 use Rattle.network_model.specs.Network.{Network, start}
 use Rattle.network_model.specs.Session.{Message}
-use Rattle.network_model.specs.Setup.{Name, edited}
+use Rattle.network_model.specs.Setup.{Name, Setup, checked, edited, opening}
 use Rattle.headline_laws.specs.Headline.{IsOfForm, IsWritten}
 use Rattle.isolation_laws.specs.Moments.{DeliversToJoined}
 
 -- the ties with those of the configuration that an edit leads to, if it is accepted
-abbrev pub ties_with : Option Checked → Ties → Ties
+abbrev pub ties_with : Option Setup → Ties → Ties
 ties_with None t = t
-ties_with (Some y) t = joined t y.config
+ties_with (Some y) t = joined t (checked y)
 
 abbrev pub ties_next : Ties → Network → Event → Ties
 ties_next t w (Edits e) = ties_with (edited w.setup e) t
@@ -24,7 +24,7 @@ ties_next t w _ = t
 
 -- an accepted edit leads to a configuration of the written form that breaks no tie of the run so far
 abbrev pub EditKeeps : Ties → Network → Event → Type 0
-EditKeeps t w (Edits e) = (y : Checked) → edited w.setup e ≡ Some y → IsOfForm y × BreaksNone t y.config
+EditKeeps t w (Edits e) = (y : Setup) → edited w.setup e ≡ Some y → IsOfForm y × BreaksNone t y.config
 EditKeeps t w _ = Unit {0}
 
 module _ (size : Name → Message → ℕ) where
@@ -46,9 +46,9 @@ module _ (size : Name → Message → ℕ) where
 abbrev pub AtMomentsOfRuns : (Ties → List Config → Network → Type 0) → Type 0
 AtMomentsOfRuns P =
     (size : Name → Message → ℕ) → ArePositive size
-    → (x : Checked) → IsWritten x
-    → (es : List Event) → EditsKeep size (ties_of x.config) (start x) es
-    → P (ties_after size (ties_of x.config) (start x) es) (configs size (start x) es) (after size (start x) es)
+    → (x : Checked) → IsWritten (opening x)
+    → (es : List Event) → EditsKeep size (ties_of x) (start x) es
+    → P (ties_after size (ties_of x) (start x) es) (configs size (start x) es) (after size (start x) es)
 
 -- the ties of the run so far join the two ports of each packet that is delivered
 abbrev pub IsIsolated : Ties → List Config → Network → Type 0

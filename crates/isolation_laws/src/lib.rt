@@ -61,7 +61,8 @@ pub fn machines_that_keep_ties_are_isolated()
     ensures networks { AtMomentsWithTies IsStayingAmong }
 {}
 
-/// An edit moves no packet by itself: agents forward after it by what they forwarded by before.
+/// An edit moves no packet by itself: agents forward after it by what they forwarded by before. The agent of a compute
+/// node that it puts anew or with another list of control nodes forwards by nothing.
 pub fn edits_move_no_packet_yet()
     ensures { AfterAnySchedule MovesNothingYet }
 {}

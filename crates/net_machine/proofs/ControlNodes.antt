@@ -3,7 +3,6 @@ use Rattle.std.specs.Prelude.{◌≡◌, ◌<◌, ℕ, zero, suc, length, List, 
 use Rattle.std.specs.Cmp.Lexicographic.{bytes_decides}
 use Rattle.std.specs.declared.option.Option.{Option}
 use Rattle.std.specs.declared.option.Option.TheVariants.{Some, None}
-use Rattle.std.specs.Option.{option_map}
 use Rattle.std.proofs.Common.{refl, sym, ◌∙◌, ap, subst, arith, Bor}
 use Rattle.ov_types.specs.First.{same_name}
 use Rattle.ov_types.specs.declared.rows.NodeId.{NodeId}
@@ -13,18 +12,19 @@ use Rattle.node_model.specs.Paths.{Holdings}
 use Rattle.node_model.specs.Step.{Post}
 use Rattle.node_model.proofs.Members.{any_in, from_any, in_map, none_some}
 use Rattle.control_node.specs.Core.{Core, holdings}
-use Rattle.control_node.specs.declared.plan.ControlPlan.{ControlPlan}
+use Rattle.net_model.specs.Controls.{Controls}
+use Rattle.quiet_laws.specs.Quiet.{SameButQuiet}
 use Rattle.network_model.specs.Network.{Network, config}
-use Rattle.network_model.specs.Setup.{Name}
+use Rattle.network_model.specs.Setup.{Name, checked}
 use Rattle.network_model.proofs.Apart.{NamesApart}
 use Rattle.compiled_laws.specs.Setups.{IsNamed}
 use Rattle.compiled_laws.proofs.Names.{apart_names}
 use Rattle.headline_laws.specs.Headline.{IsWritten}
 use Rattle.net_model.specs.Seats.{Configuring, Controlling, Forwarding, Seat, Who, agent_plan, control_plan, name_of, seat}
-use Rattle.net_model.specs.Seats.{seat_named, whos}
+use Rattle.net_model.specs.Seats.{seat_named}
 use Rattle.net_model.specs.Stands.{StandsFor}
-use Rattle.net_seats.specs.Cores.{held_by}
-use Rattle.seat_laws.specs.Wiring.{HasSessions}
+use Rattle.net_seats.specs.Cores.{HoldsAs, held_by, present}
+use Rattle.seat_laws.specs.Wiring.{HasNumbers, HasSessions}
 use Rattle.seat_laws.proofs.Ends.{Ends, seat_ends}
 use Rattle.seat_laws.proofs.Going.{site_holds}
 use Rattle.seat_laws.proofs.Parties.{by_node, site_in}
@@ -32,7 +32,7 @@ use Rattle.seat_laws.proofs.Seating.{ListsApart, root_at, seat_found, seat_is, s
 use Rattle.seat_laws.proofs.Sessions.{all_found}
 use Rattle.seat_laws.proofs.Written.{written_apart, written_named}
 use Rattle.told_laws.specs.Moments.{IsMoment}
-use Rattle.told_laws.proofs.Moments.{moment_sessions, moment_written}
+use Rattle.told_laws.proofs.Moments.{moment_numbers, moment_sessions, moment_written}
 use Rattle.net_machine.specs.Looking.{held_at, is_control_node}
 
 -- what is found by a name, or nothing, is what the control node of that name holds
@@ -54,8 +54,11 @@ module _ (w : Network) (m : IsMoment w) (seats : List Seat) (stands : StandsFor 
   apart : ListsApart w.setup
   apart = written_apart w.setup written
 
-  names : NamesApart w.setup
-  names = apart_names w.setup named.apart
+  names : NamesApart w.setup.topology
+  names = apart_names w.setup.topology named.apart
+
+  numbers : HasNumbers w.setup
+  numbers = moment_numbers w m
 
   has : HasSessions w
   has = moment_sessions w m
@@ -63,15 +66,15 @@ module _ (w : Network) (m : IsMoment w) (seats : List Seat) (stands : StandsFor 
   abbrev cs : List NodeId
   cs = w.setup.topology.controllers
 
-  abbrev plan_of : NodeId → ControlPlan
-  plan_of c = control_plan w.setup.topology c
+  abbrev plan_of : NodeId → Controls
+  plan_of c = control_plan w.setup c
 
   none_named : (name : Name) → ((c : NodeId) → Member c cs → c.name ≡ name → ⊥) → is_control_node w.setup.topology name ≡ false
   none_named name h =
       false_when (is_control_node w.setup.topology name) (λ e.
       let q = from_any (λ (c : NodeId). same_name c.name name) cs e in h q.0 q.1 ((bytes_decides q.0.name name).0 q.2))
 
-  at_root : (posts : List Post) → Finds w config (held_by (Configuring w.setup) posts)
+  at_root : (posts : List Post) → Finds w config (held_by (Configuring (checked w.setup)) posts)
   at_root posts = record {
     is = sym (none_named config (λ c i e. names.no_site_config c.name (in_map (λ (c : NodeId). c.name) c cs i) e));
     holds = tt;
@@ -89,7 +92,7 @@ module _ (w : Network) (m : IsMoment w) (seats : List Seat) (stands : StandsFor 
       → Finds w c.name (held_by (Controlling (plan_of c)) posts)
   at_control c i posts ends = record {
     is = sym (any_in (λ (d : NodeId). same_name d.name c.name) c cs i ((bytes_decides c.name c.name).1 refl));
-    holds = sym (site_holds w named has (all_found w named apart seats stands.seats_are.who has) c i posts ends);
+    holds = sym (site_holds w named numbers has (all_found w named numbers apart seats stands.seats_are.who has) c i posts ends);
   }
 
   abbrev FindsAs : ℕ → Who → Type 0
@@ -97,17 +100,17 @@ module _ (w : Network) (m : IsMoment w) (seats : List Seat) (stands : StandsFor 
 
   finds_at : (k : ℕ) → k < length seats → FindsAs k (seat seats k).who
   finds_at zero within =
-      subst (FindsAs 0) (sym (root_at w.setup named apart seats stands.seats_are.who)) (λ _. at_root (seat seats 0).posts)
+      subst (FindsAs 0) (sym (root_at w.setup named numbers apart seats stands.seats_are.who)) (λ _. at_root (seat seats 0).posts)
   finds_at (suc k) within =
-      by_node w.setup named (FindsAs (suc k)) (λ c i. at_control c i (seat seats (suc k)).posts)
+      by_node w.setup named numbers (FindsAs (suc k)) (λ c i. at_control c i (seat seats (suc k)).posts)
       (λ n i _. at_agent n i (seat seats (suc k)).posts) (seat seats (suc k)).who
-      (who_above w.setup named apart seats stands.seats_are.who (suc k) (omega arith) within)
+      (who_above w.setup named numbers apart seats stands.seats_are.who (suc k) (omega arith) within)
 
   -- the seat of a name
   pub finds : (name : Name) (k : ℕ) → seat_named seats name ≡ Some k
       → Finds w name (held_by (seat seats k).who (seat seats k).posts)
   finds name k e =
-      let q = seat_is w.setup named apart seats stands.seats_are.who name k e in
+      let q = seat_is w.setup named numbers apart seats stands.seats_are.who name k e in
       subst (λ name. Finds w name (held_by (seat seats k).who (seat seats k).posts)) q.1
       (finds_at k q.0 (seat_ends w seats stands.seats_are k q.0))
 
@@ -115,10 +118,10 @@ module _ (w : Network) (m : IsMoment w) (seats : List Seat) (stands : StandsFor 
   pub finds_none : (name : Name) → seat_named seats name ≡ None → Finds w name None
   finds_none name e = record {
     is = sym (none_named name (λ c i is.
-        let q = seat_of w.setup named apart seats stands.seats_are.who (Controlling (plan_of c)) (site_in w.setup named c i) in
+        let q = seat_of w.setup named numbers apart seats stands.seats_are.who (Controlling (plan_of c)) (site_in w.setup named numbers c i) in
         let found : seat_named seats name ≡ Some q.0 =
         subst (λ name. seat_named seats name ≡ Some q.0) (ap name_of q.2 ∙ is)
-        (seat_found w.setup named apart seats stands.seats_are.who q.0 q.1) in
+        (seat_found w.setup named numbers apart seats stands.seats_are.who q.0 q.1) in
         none_some q.0 (sym e ∙ found)));
     holds = tt;
   }
@@ -131,8 +134,17 @@ copied_some (Some x) = refl
 abbrev pub held_of : Core → Holdings
 held_of c = holdings c.plan c.posts
 
-pub core_is : (w : Network) (name : Name) (core : Option Core) (held : Option Holdings) → option_map held_of core ≡ held
+pub core_is : (w : Network) (name : Name) (core : Option Core) (held : Option Holdings) → HoldsAs core held
     → Finds w name held
-    → (is_some core ≡ is_control_node w.setup.topology name) × IfSome core (λ c. held_of c ≡ held_at w name)
-core_is w name None held e f = let g = subst (Finds w name) (sym e) f in (g.is, tt)
-core_is w name (Some c) held e f = let g = subst (Finds w name) (sym e) f in (g.is, g.holds)
+    → (is_some core ≡ is_control_node w.setup.topology name) × IfSome core (λ c. SameButQuiet (held_of c) (held_at w name))
+core_is w name None None e f = (f.is, tt)
+core_is w name None (Some h) e f = absurd e
+core_is w name (Some c) None e f = absurd e
+core_is w name (Some c) (Some h) e f = (f.is, subst (SameButQuiet (held_of c)) f.holds e.1)
+
+pub core_exact : (w : Network) (name : Name) (core : Option Core) (held : Option Holdings) → HoldsAs core held
+    → Finds w name held → IfSome core (λ c. present c ≡ held_at w name)
+core_exact w name None None e f = tt
+core_exact w name None (Some h) e f = absurd e
+core_exact w name (Some c) None e f = absurd e
+core_exact w name (Some c) (Some h) e f = e.0 ∙ f.holds

@@ -5,7 +5,8 @@ use Rattle.std.specs.declared.option.Option.TheVariants.{Some, None}
 use Rattle.std.specs.List.{AllByRecursion}
 use Rattle.config_model.specs.declared.edit.Edit.{Edit}
 use Rattle.config_model.specs.Edit.{has_edit_form}
-use Rattle.network_model.specs.Setup.{Name}
+use Rattle.config_check.specs.Edits.{edit_fault}
+use Rattle.network_model.specs.Setup.{Name, checked}
 use Rattle.network_model.specs.Session as session
 use Rattle.network_model.specs.Session.{Session}
 use Rattle.network_model.specs.Network.{Network}
@@ -21,7 +22,7 @@ use Rattle.told_laws.specs.Moments.{unbroken}
 use Rattle.net_machine.specs.declared.ends.SessionEnds.{SessionEnds}
 use Rattle.net_machine.specs.Connections.{Connects, may_connect}
 use Rattle.net_machine.specs.Deliveries.{Delivers, DeliversOctets}
-use Rattle.net_machine.specs.Happenings.{Edits}
+use Rattle.net_machine.specs.Happenings.{EditsUnless}
 use Rattle.net_steps.specs.Losing.{restarted}
 use Rattle.net_machine.specs.Losses.{lost}
 use Rattle.net_machine.specs.Seating.{ends_of, is_down, turned, waiting}
@@ -88,7 +89,8 @@ pub record Facts (M : Network → Type 0) : Type 0 where
   pub restarts : (seats : List Seat) (w : Network) (name : Name) (k : ℕ) → M w → StandsFor seats w
       → seat_named seats name ≡ Some (suc k) → StandsFor (restarted seats (suc k)) (next message_size w (Restart name))
   pub edits : (seats after : List Seat) (w : Network) (e : Edit) → MayHappen (Changes e) → M w → StandsFor seats w
-      → Edits seats w.setup e after → StandsFor after (next message_size w (Changes e))
+      → EditsUnless (edit_fault (checked w.setup) e) seats (checked w.setup) e after
+      → StandsFor after (next message_size w (Changes e))
   pub nodes : (seats : List Seat) (w : Network) (name : Name) (k : ℕ) → M w → StandsFor seats w
       → seat_named seats name ≡ Some (suc k)
       → (is_node w name ≡ true) × (shown w name ≡ shown_by (seat seats (suc k)))

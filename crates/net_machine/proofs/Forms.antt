@@ -2,7 +2,7 @@
 use Rattle.std.specs.Prelude.{◌≡◌, ◌≤◌, ◌&&◌, ℕ, List, Bool, true, nat_le, IsTrue}
 use Rattle.std.specs.declared.option.Option.{Option}
 use Rattle.std.specs.declared.option.Option.TheVariants.{Some, None}
-use Rattle.std.proofs.Common.{arith, subst}
+use Rattle.std.proofs.Common.{arith, refl, subst}
 use Rattle.std.proofs.lemmas.Bool.{and_parts}
 use Rattle.std.proofs.lemmas.Bool.Decides.{nat_tests}
 use Rattle.std.proofs.lemmas.Option.{same_Some}
@@ -13,14 +13,15 @@ use Rattle.config_model.specs.declared.edit.Edit.{Edit as Change}
 use Rattle.config_model.specs.declared.event.Event.TheVariants.{Break, DeliverOctets, Edit, Trace}
 use Rattle.config_model.specs.Edit.{has_edit_form}
 use Rattle.config_model.specs.Event.{has_event_form}
-use Rattle.config_model.specs.Form.{has_config_form, has_packet_form}
-use Rattle.config_check.specs.Checked.{Checked}
+use Rattle.config_model.specs.Form.{has_packet_form}
 use Rattle.config_check.specs.Edits as edits
 use Rattle.config_check.specs.Edits.{edit_fault}
 use Rattle.config_check.specs.declared.edits.EditFault.{EditFault}
-use Rattle.config_check.proofs.Edited.{form_is_kept}
-use Rattle.network_model.specs.Setup.{edited, edited_without}
-use Rattle.headline_laws.specs.Headline.{IsOfForm}
+use Rattle.config_check.proofs.Edited.{form_is_kept, nodes_form_is_kept}
+use Rattle.config_check.proofs.Validity.{form_of}
+use Rattle.network_model.specs.Setup.{Setup, checked, edited, edited_without, moves, remade, renumbered}
+use Rattle.headline_laws.specs.Headline.{IsOfForm, IsWritten}
+use Rattle.headline_laws.proofs.Written.{none_broken}
 
 pub edit_form : (e : Change) → IsTrue (has_event_form (Edit e)) → IsTrue (has_edit_form e)
 unfolding has_event_form
@@ -54,14 +55,16 @@ trace_source p h =
     let two = and_parts (a && b) (nat_le t.proto 255) three.0 in
     within p.source.0 (and_parts a b two.0).0
 
--- an edit of the written form keeps the form of a configuration
-form_without : (o : Option EditFault) (x y : Checked) (e : Change) → IsTrue (has_edit_form e)
-    → IsTrue (has_config_form x.config) → edited_without o x e ≡ Some y → IsOfForm y
-form_without (Some f) x y e form whole is = cc
-form_without None x y e form whole is =
-    subst IsOfForm (same_Some (record { topology = x.topology; config = edits.edited e x.config }) y is)
-    (form_is_kept e x.config form whole)
+-- an edit of the written form keeps the form of a configuration, and that of its topology
+form_without : (o : Option EditFault) (x y : Setup) (e : Change) → IsTrue (has_edit_form e) → IsWritten x
+    → edit_fault (checked x) e ≡ o → edited_without o x e ≡ Some y → IsOfForm y
+form_without (Some f) x y e form written found is = cc
+form_without None x y e form written found is =
+    subst IsOfForm (same_Some (remade (edits.edited e (checked x)) (renumbered (moves e x.topology) x.numbers)) y is) (
+      form_of (edits.edited_topology e x.topology) (edits.edited_config e x.config)
+          (nodes_form_is_kept e x.topology form written.topology) (none_broken x e found),
+      form_is_kept e x.config form written.config,
+    )
 
-pub edited_form : (x y : Checked) (e : Change) → IsTrue (has_edit_form e) → IsTrue (has_config_form x.config)
-    → edited x e ≡ Some y → IsOfForm y
-edited_form x y e form whole is = form_without (edit_fault x e) x y e form whole is
+pub edited_form : (x y : Setup) (e : Change) → IsTrue (has_edit_form e) → IsWritten x → edited x e ≡ Some y → IsOfForm y
+edited_form x y e form written is = form_without (edit_fault (checked x) e) x y e form written refl is

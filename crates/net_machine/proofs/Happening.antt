@@ -11,7 +11,7 @@ use Rattle.config_check.specs.Edits.{edit_fault}
 use Rattle.route_targets.specs.Forwarding.{forwarding}
 use Rattle.schedule_script.specs.declared.answer.Answer.{Answer}
 use Rattle.schedule_script.specs.declared.answer.Answer.TheVariants.{Idle, Rounds, Shown, Traced}
-use Rattle.network_model.specs.Setup.{Name, longest}
+use Rattle.network_model.specs.Setup.{Name, checked, longest_in}
 use Rattle.network_model.specs.Session as session
 use Rattle.network_model.specs.Session.{Session, shut}
 use Rattle.network_model.specs.Network.{Network}
@@ -27,7 +27,7 @@ use Rattle.net_model.specs.Seats.{Seat, seat_named}
 use Rattle.net_model.specs.Stands.{message_size}
 use Rattle.net_machine.specs.declared.ends.SessionEnds.{SessionEnds}
 use Rattle.net_machine.specs.Connections.{Connects}
-use Rattle.net_machine.specs.Happenings.{BreaksOn, ConnectsOn, DeliversOctetsOn, DeliversOn, Edits, Happens, LosesOn}
+use Rattle.net_machine.specs.Happenings.{BreaksOn, ConnectsOn, DeliversOctetsOn, DeliversOn, EditsUnless, Happens, LosesOn}
 use Rattle.net_machine.specs.Happenings.{RestartsAt}
 use Rattle.net_machine.specs.Happenings.{shown_at}
 use Rattle.net_machine.specs.Seating.{ends_of, order_among, turned}
@@ -254,16 +254,16 @@ module _ (M : Network → Type 0) (f : Facts M) where
 
   -- ---- every event
   pub happens : (seats after : List Seat) (w : Network) (x : Checked) (order : List SessionEnds) (e : Written)
-      (answer : Answer) → At M seats w → x ≡ w.setup → order ≡ order_among seats w.sessions → MayHappen (event_of e)
+      (answer : Answer) → At M seats w → x ≡ checked w.setup → order ≡ order_among seats w.sessions → MayHappen (event_of e)
       → Happens x order e seats answer after
       → Makes w (next message_size w (event_of e)) answer (answer_to w (event_of e)) after
   unfolding next
   happens seats after w x order (event.Edit e) answer h setup ordered may d = record {
-    answers = d.0 ∙ ap (λ x. edit_answer (edit_fault x e)) setup;
+    answers = d.0 ∙ ap (λ y. edit_answer (edit_fault y e)) setup;
     stands = record {
       moment = f.next w (Changes e) may h.moment;
       stands = f.edits seats after w e may h.moment h.stands
-          (subst (λ x. Edits seats x e after) setup d.1);
+          (subst (λ y. EditsUnless (edit_fault y e) seats y e after) setup d.1);
     };
   }
   happens seats after w x order (event.Deliver from to n) answer h setup ordered may d =
@@ -282,7 +282,7 @@ module _ (M : Network → Type 0) (f : Facts M) where
       record { answers = d.0; stands = (round_stands M f seats after w order h ordered d.1).1 }
   happens seats after w x order event.Settle answer h setup ordered may d =
       let l = settle_leads M f seats after w order d.rounds h ordered
-      (subst (λ x. Settles (longest x) order seats d.rounds after) setup d.settles) in
+      (subst (λ x. Settles (longest_in x) order seats d.rounds after) setup d.settles) in
       record {
         answers = d.answers ∙ (λ i. Rounds (sym l.count i) (settled_is M f after (settle w).1 order l.stands l.ordered i));
         stands = l.stands;

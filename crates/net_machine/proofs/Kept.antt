@@ -1,5 +1,5 @@
 -- What keeps nodes and sessions keeps where they are found.
-use Rattle.std.specs.Prelude.{◌≡◌, ◌≢◌, ◌<◌, ℕ, suc, List, [], ◌∷◌, length, Bool, cond}
+use Rattle.std.specs.Prelude.{◌≡◌, ◌≢◌, ◌<◌, ℕ, suc, List, [], ◌∷◌, length, Bool, cond, option_and_then}
 use Rattle.std.specs.declared.option.Option.{Option}
 use Rattle.std.specs.declared.option.Option.TheVariants.{Some, None}
 use Rattle.std.specs.List.{All, cons_option}
@@ -8,17 +8,17 @@ use Rattle.std.proofs.Common.{refl, sym, ◌∙◌, ap, subst, arith, inl, inr, 
 use Rattle.std.proofs.lemmas.Bool.{cases_eq}
 use Rattle.std.proofs.lemmas.List.{length-set, get_or-set_same, get_or-set_other, set-set}
 use Rattle.ov_types.specs.First.{same_name}
-use Rattle.config_check.specs.Checked.{Checked}
+use Rattle.config_model.specs.declared.topology.Topology.{Topology}
 use Rattle.network_model.specs.Setup.{Name}
 use Rattle.network_model.specs.Session.{Session}
-use Rattle.network_model.specs.Network.{start}
-use Rattle.net_model.specs.Seats.{Seat, far_of, index_from, name_of, nobody, other, others_of, place_at, place_of, seat}
+use Rattle.network_model.specs.Network.{asked}
+use Rattle.net_model.specs.Seats.{Seat, far_of, index_from, is_name, name_of, nobody, other, others_of, place_at, place_of, seat}
 use Rattle.net_model.specs.Seats.{seat_named}
 use Rattle.net_model.specs.Stands.{IsLong}
 use Rattle.net_model.specs.Steps.{with_seat}
 use Rattle.net_model.specs.declared.place.Place.{Place}
 use Rattle.net_machine.specs.declared.ends.SessionEnds.{SessionEnds}
-use Rattle.net_machine.specs.Seating.{AreLong, AreSeated, IsSeated, Keeps, ends_at, ends_from, ends_of, order_among, order_of}
+use Rattle.net_machine.specs.Seating.{AreLong, AreSeated, HasOther, IsSeated, Keeps, ends_at, ends_from, ends_of, order_among, order_of}
 
 -- ---- one seat is changed
 pub with_here : (seats : List Seat) (k : ℕ) (n : Seat) → k < length seats → seat (with_seat k n seats) k ≡ n
@@ -79,9 +79,20 @@ seated_kept seats after p h is = record {
   session = (let c = h.posts p.node in omega (arith, c, is.session));
 }
 
+pub other_is_kept : (seats after : List Seat) (p : Place) → Keeps seats after
+    → other (seat after p.node) p.session ≡ other (seat seats p.node) p.session
+other_is_kept seats after p h = ap (λ (os : List (Option Name)). get_or os p.session None) (h.others p.node)
+
+pub other_kept : (seats after : List Seat) (p : Place) → Keeps seats after → HasOther seats p → HasOther after p
+other_kept seats after p h is = (is.0, other_is_kept seats after p h ∙ is.1)
+
 pub ends_kept : (seats after : List Seat) (e : SessionEnds) → Keeps seats after → AreSeated seats e → AreSeated after e
-ends_kept seats after e h is =
-    record { near = seated_kept seats after e.near h is.near; far = seated_kept seats after e.far h is.far }
+ends_kept seats after e h is = record {
+  near = seated_kept seats after e.near h is.near;
+  far = seated_kept seats after e.far h is.far;
+  near_other = other_kept seats after e.near h is.near_other;
+  far_other = other_kept seats after e.far h is.far_other;
+}
 
 pub all_kept : (seats after : List Seat) (order : List SessionEnds) → Keeps seats after → All (AreSeated seats) order
     → All (AreSeated after) order
@@ -105,16 +116,21 @@ named_kept seats after name h =
 at_kept : (seats after : List Seat) (b : Name) (o : Option ℕ) → Keeps seats after → place_at after b o ≡ place_at seats b o
 at_kept seats after b None h = refl
 at_kept seats after b (Some k) h =
-    ap (λ (others : List Name). option_map (λ (i : ℕ). record { node = k; session = i })
-    (index_from 0 (λ (m : Name). same_name m b) others)) (h.others k)
+    ap (λ (others : List (Option Name)). option_map (λ (i : ℕ). record { node = k; session = i })
+    (index_from 0 (is_name b) others)) (h.others k)
 
 pub place_kept : (seats after : List Seat) (a b : Name) → Keeps seats after → place_of after a b ≡ place_of seats a b
 place_kept seats after a b h = ap (place_at after b) (named_kept seats after a h) ∙ at_kept seats after b (seat_named seats a) h
 
+far_from_kept : (seats after : List Seat) (name : Name) (o : Option Name) → Keeps seats after
+    → option_and_then (λ b. place_of after b name) o ≡ option_and_then (λ b. place_of seats b name) o
+far_from_kept seats after name None h = refl
+far_from_kept seats after name (Some b) h = place_kept seats after b name h
+
 pub far_kept : (seats after : List Seat) (p : Place) → Keeps seats after → far_of after p ≡ far_of seats p
 far_kept seats after p h =
-    place_kept seats after (other (seat after p.node) p.session) (name_of (seat after p.node).who) h
-    ∙ (λ i. place_of seats (get_or (h.others p.node i) p.session []) (h.name p.node i))
+    (λ i. option_and_then (λ b. place_of after b (h.name p.node i)) (other_is_kept seats after p h i))
+    ∙ far_from_kept seats after (name_of (seat seats p.node).who) (other (seat seats p.node) p.session) h
 
 ends_at_kept : (seats after : List Seat) (o : Option Place) → Keeps seats after → ends_at after o ≡ ends_at seats o
 ends_at_kept seats after None h = refl
@@ -129,5 +145,5 @@ among_kept seats after [] h = refl
 among_kept seats after (s ∷ ss) h =
     (λ i. cons_option (ends_of_kept seats after s.near.name s.far.name h i) (among_kept seats after ss h i))
 
-pub order_kept : (seats after : List Seat) (x : Checked) → Keeps seats after → order_of after x ≡ order_of seats x
-order_kept seats after x h = among_kept seats after (start x).sessions h
+pub order_kept : (seats after : List Seat) (t : Topology) → Keeps seats after → order_of after t ≡ order_of seats t
+order_kept seats after t h = among_kept seats after (asked t) h

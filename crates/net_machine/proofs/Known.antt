@@ -14,7 +14,7 @@ use Rattle.ov_link.specs.declared.step.Input.TheVariants.{Bytes, Closed, Opened}
 use Rattle.config_model.specs.declared.edit.Edit.{Edit}
 use Rattle.config_check.specs.Edits.{edit_fault}
 use Rattle.config_check.specs.declared.edits.EditFault.{EditFault}
-use Rattle.network_model.specs.Setup.{Name}
+use Rattle.network_model.specs.Setup.{Name, checked}
 use Rattle.network_model.specs.Session as session
 use Rattle.network_model.specs.Session.{arrived, octets_arrived}
 use Rattle.network_model.specs.Network.{Network}
@@ -24,16 +24,16 @@ use Rattle.network_model.specs.Events.{Connect, Deliver, DeliverOctets, Break, E
 use Rattle.network_model.specs.Events.{Round, Settle, Show, Trace, is_node, next, shown}
 use Rattle.network_model.proofs.NetworkFact.{found}
 use Rattle.network_model.proofs.Twins.{itself}
-use Rattle.network_laws.specs.Settling.{EditIsValid}
+use Rattle.network_model.specs.Moments.{EditIsValid}
 use Rattle.headline_laws.specs.Headline.{IsOfForm}
 use Rattle.net_model.specs.Seats.{Seat, is_down_at, is_live, kept_at, link_at, live_at, name_of, notice_at, seat}
 use Rattle.net_model.specs.Seats.{seat_named}
 use Rattle.net_model.specs.Seats.{whole_at, whole_there}
-use Rattle.net_model.specs.Steps.{MakesEdit, Takes, cleared, shown_by, untaken, with_link, with_notice, with_seat}
+use Rattle.net_model.specs.Steps.{Takes, cleared, shown_by, untaken, with_link, with_notice, with_seat}
 use Rattle.net_model.specs.Stands.{StandsFor, message_size}
 use Rattle.net_model.specs.declared.place.Place.{Place}
 use Rattle.told_laws.specs.Moments.{IsMoment}
-use Rattle.told_laws.proofs.Moments.{moment_next, moment_sessions, moment_written}
+use Rattle.told_laws.proofs.Moments.{moment_next, moment_numbers, moment_sessions, moment_written}
 use Rattle.seat_laws.specs.Wiring.{name_at, other_at}
 use Rattle.seat_laws.proofs.Written.{forwarders_are, has_far, has_session, names_differ, no_node_above, place_is, shows_at}
 use Rattle.net_steps.specs.Connecting.{OpensBehind, OpensBoth}
@@ -42,7 +42,7 @@ use Rattle.net_steps.specs.Losing.{cut, restarted}
 use Rattle.net_machine.specs.declared.ends.SessionEnds.{SessionEnds}
 use Rattle.net_machine.specs.Connections.{ConnectsAt, ConnectsIf, OpensSecond, goes_on, may_connect}
 use Rattle.net_machine.specs.Deliveries.{DeliversIf, DeliversOctetsIf, DeliversOctetsTo, DeliversTo, TakesAt}
-use Rattle.net_machine.specs.Happenings.{ClearsUnless}
+use Rattle.net_machine.specs.Happenings.{EditsUnless}
 use Rattle.net_machine.specs.Seating.{ends_of, is_down}
 use Rattle.net_machine.proofs.Facts.{Facts, IsNotAfter, MayHappen}
 use Rattle.net_machine.proofs.Kept.{with_there}
@@ -149,13 +149,13 @@ module _ (p : Proved) (seats : List Seat) (w : Network) (m : IsMoment w) (st : S
       let written = moment_written w m in
       let has = moment_sessions w m in
       let at = ends_are_at seats a b e is in
-      let there = place_is w.setup written seats st.seats_are.who a b e.near at.0 in
-      let far = has_far w.setup written seats st.seats_are.who e.near there.is_place in
+      let there = place_is w.setup written (moment_numbers w m) seats st.seats_are.who a b e.near at.0 in
+      let far = has_far w.setup written (moment_numbers w m) seats st.seats_are.who e.near there.is_place in
       let far_is : far.far ≡ e.far = same_Some far.far e.far (sym far.found ∙ at.1) in
-      let s = has_session w written seats st.seats_are.who has e.near there.is_place in
+      let s = has_session w written (moment_numbers w m) seats st.seats_are.who has e.near there.is_place in
       let apart = found (λ s. (same_name s.near.name s.far.name ≡ false) × (same_name s.far.name s.near.name ≡ false))
       (λ s h. (h.1, h.0)) w.sessions (name_at seats e.near) (other_at seats e.near)
-      (names_differ w written seats st.seats_are.who has) s.session s.found in
+      (names_differ w written (moment_numbers w m) seats st.seats_are.who has) s.session s.found in
       let one : s.session.far.name ≡ s.session.near.name =
       s.far_name ∙ sym far.name ∙ (λ i. name_of (seat seats (far_is i).node).who)
       ∙ (λ i. name_of (seat seats (same i)).who) ∙ sym s.near_name in
@@ -230,17 +230,13 @@ module _ (p : Proved) (seats : List Seat) (w : Network) (m : IsMoment w) (st : S
       → StandsFor (restarted seats (suc k)) (next message_size w (Restart name))
   restarts_at name k is = (p.restarts seats w m st name k is).0
 
-  edits_if : (after made : List Seat) (e : Edit) → MayHappen (Changes e) → (o : Option EditFault)
-      → edit_fault w.setup e ≡ o → MakesEdit seats w.setup e o made → ClearsUnless o made after
+  edits_if : (after : List Seat) (e : Edit) → MayHappen (Changes e) → (o : Option EditFault)
+      → edit_fault (checked w.setup) e ≡ o → EditsUnless o seats (checked w.setup) e after
       → StandsFor after (next message_size w (Changes e))
-  edits_if after made e may (Some f) is makes d =
-      subst (StandsFor after) (sym (p.refused w e f is).0)
-      (subst (λ s. StandsFor s w) (sym (d ∙ makes)) st)
-  edits_if after made e may None is makes d =
-      subst (λ s. StandsFor s (next message_size w (Changes e))) (sym d)
-      (p.edits seats w m st e
-      (λ y at. edited_form w.setup y e may (moment_written w m).config at)
-      is made makes).0
+  edits_if after e may (Some f) is d =
+      subst (StandsFor after) (sym (p.refused w e f is).0) (subst (λ s. StandsFor s w) (sym d) st)
+  edits_if after e may None is d =
+      (p.edits seats w m st e (λ y at. edited_form w.setup y e may (moment_written w m) at) is after d).0
 
   node_at : (name : Name) (k : ℕ) → seat_named seats name ≡ Some (suc k)
       → (is_node w name ≡ true) × (shown w name ≡ shown_by (seat seats (suc k)))
@@ -248,11 +244,11 @@ module _ (p : Proved) (seats : List Seat) (w : Network) (m : IsMoment w) (st : S
       elim (is_node w name) as (λ b. is_node w name ≡ b
       → (b ≡ true) × (shown w name ≡ shown_by (seat seats (suc k)))) [
         | true ↦ λ at.
-            let s = shows_at w (moment_written w m) seats st.seats_are (moment_sessions w m) name at in
+            let s = shows_at w (moment_written w m) (moment_numbers w m) seats st.seats_are (moment_sessions w m) name at in
             let same : s.0 ≡ suc k = same_Some s.0 (suc k) (sym s.1.seat_is ∙ is) in
             (refl, s.1.shows ∙ ap (λ j. shown_by (seat seats j)) same)
         | false ↦ λ at.
-            let none = no_node_above w (moment_written w m) seats st.seats_are (moment_sessions w m) name at (suc k) is in
+            let none = no_node_above w (moment_written w m) (moment_numbers w m) seats st.seats_are (moment_sessions w m) name at (suc k) is in
             absurd (omega (arith, none))
       ] refl
 
@@ -260,7 +256,7 @@ module _ (p : Proved) (seats : List Seat) (w : Network) (m : IsMoment w) (st : S
   no_node name off =
       elim (is_node w name) as (λ b. is_node w name ≡ b → b ≡ false) [
         | true ↦ λ at.
-            let s = shows_at w (moment_written w m) seats st.seats_are (moment_sessions w m) name at in
+            let s = shows_at w (moment_written w m) (moment_numbers w m) seats st.seats_are (moment_sessions w m) name at in
             absurd (not_after s.0 s.1.above (subst IsNotAfter s.1.seat_is off))
         | false ↦ λ at. refl
       ] refl
@@ -272,7 +268,7 @@ module _ (p : Proved) (seats : List Seat) (w : Network) (m : IsMoment w) (st : S
 -- what may happen leads on
 asked_of : (w : Network) (e : Event) → IsMoment w → MayHappen e → EditIsValid IsOfForm w e
 asked_of w (Changes e) m may =
-    λ y at. edited_form w.setup y e may (moment_written w m).config at
+    λ y at. edited_form w.setup y e may (moment_written w m) at
 asked_of w (Deliver from to n) m may = tt
 asked_of w (DeliverOctets from to n) m may = tt
 asked_of w (Lose a b) m may = tt
@@ -302,9 +298,9 @@ known p = record {
   loses = λ seats w a b e m st is. loses_if p seats w m st a b e is (is_down seats e) refl;
   restarts = λ seats w name k m st is. restarts_at p seats w m st name k is;
   edits = λ seats after w e may m st d.
-      edits_if p seats w m st after d.made e may (edit_fault w.setup e) refl d.makes d.clears;
+      edits_if p seats w m st after e may (edit_fault (checked w.setup) e) refl d;
   nodes = λ seats w name k m st is. node_at p seats w m st name k is;
   others = λ seats w name m st off. no_node p seats w m st name off;
-  forwards = λ seats w m st. forwarders_are w (moment_written w m) seats st.seats_are (moment_sessions w m);
+  forwards = λ seats w m st. forwarders_are w (moment_written w m) (moment_numbers w m) seats st.seats_are (moment_sessions w m);
   next = λ w e may m. moment_next w e m (asked_of w e m may);
 }

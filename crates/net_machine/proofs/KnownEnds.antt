@@ -6,7 +6,7 @@ use Rattle.std.specs.List.{AllByRecursion}
 use Rattle.std.proofs.Common.{refl, sym, ◌∙◌, ap, subst, inl, inr}
 use Rattle.headline_laws.specs.Headline.{IsWritten}
 use Rattle.headline_laws.proofs.Written.{sound_setup}
-use Rattle.network_model.specs.Setup.{Name}
+use Rattle.network_model.specs.Setup.{Name, checked}
 use Rattle.network_model.specs.Session as session
 use Rattle.network_model.specs.Session.{Session, is_idle, is_peering}
 use Rattle.network_model.specs.Network.{Network}
@@ -22,8 +22,8 @@ use Rattle.net_model.specs.Seats.{Seat, far_of, place_of, whole_at, whole_there}
 use Rattle.net_model.specs.Stands.{StandsFor, message_size}
 use Rattle.net_model.specs.declared.place.Place.{Place}
 use Rattle.told_laws.specs.Moments.{IsMoment}
-use Rattle.told_laws.proofs.Moments.{moment_sessions, moment_sound, moment_written}
-use Rattle.seat_laws.specs.Wiring.{AreSeats, HasSessions, IsFound}
+use Rattle.told_laws.proofs.Moments.{moment_numbers, moment_sessions, moment_sound, moment_written}
+use Rattle.seat_laws.specs.Wiring.{AreSeats, HasNumbers, HasSessions, IsFound}
 use Rattle.seat_laws.proofs.Written.{far_is, has_far, place_is, session_without_place, sessions_found}
 use Rattle.net_steps.specs.Asking.{AreAt}
 use Rattle.net_machine.specs.declared.ends.SessionEnds.{SessionEnds}
@@ -77,6 +77,9 @@ module _ (p : Proved) (seats : List Seat) (w : Network) (m : IsMoment w) (st : S
   written : IsWritten w.setup
   written = moment_written w m
 
+  numbers : HasNumbers w.setup
+  numbers = moment_numbers w m
+
   has : HasSessions w
   has = moment_sessions w m
 
@@ -106,33 +109,33 @@ module _ (p : Proved) (seats : List Seat) (w : Network) (m : IsMoment w) (st : S
   pub ends_turn : (a b : Name) (e : SessionEnds) → ends_of seats a b ≡ Some e → ends_of seats b a ≡ Some (turned e)
   ends_turn a b e is =
       let at = ends_are_at seats a b e is in
-      let back : place_of seats b a ≡ Some e.far = sym (far_is w.setup written seats are a b e.near at.0) ∙ at.1 in
-      at_are_ends seats b a e.far e.near (back, far_is w.setup written seats are b a e.far back ∙ at.0)
+      let back : place_of seats b a ≡ Some e.far = sym (far_is w.setup written numbers seats are a b e.near at.0) ∙ at.1 in
+      at_are_ends seats b a e.far e.near (back, far_is w.setup written numbers seats are b a e.far back ∙ at.0)
 
   -- ---- where there is no place there is no session
   no_far : (a b : Name) (q : Place) → place_of seats a b ≡ Some q → ends_of seats a b ≡ None → ⊥
   no_far a b q is none =
-      let far = has_far w.setup written seats are q (place_is w.setup written seats are a b q is).is_place in
+      let far = has_far w.setup written numbers seats are q (place_is w.setup written numbers seats are a b q is).is_place in
       let some = sym none ∙ at_are_ends seats a b q far.far (is, far.found) in
       cc
 
   pub no_session_of : (a b : Name) → ends_of seats a b ≡ None → session_of w a b ≡ None
   no_session_of a b none =
       elim (place_of seats a b) as (λ o. place_of seats a b ≡ o → session_of w a b ≡ None) [
-        | None ↦ λ is. session_without_place w written seats are has a b is
+        | None ↦ λ is. session_without_place w written numbers seats are has a b is
         | Some q ↦ λ is. absurd (no_far a b q is none)
       ] refl
 
   -- ---- all sessions
   twins : NoTwins (map nodes w.sessions)
-  twins = subst NoTwins (sym has) (no_twins w.setup (sound_setup w.setup written).named.apart)
+  twins = subst NoTwins (sym has) (no_twins (checked w.setup) (sound_setup w.setup written).named.apart)
 
   stood_all : (ss : List Session) → AllByRecursion (IsFound seats w) ss → Each (Found w.sessions) ss
       → AllByRecursion (λ s. events.is_earlier w.sessions s.near.name s.far.name ≡ true) ss
       → AllByRecursion (IsStood seats w) ss
   stood_all [] f g h = tt
   stood_all (s ∷ ss) f g h =
-      let far = has_far w.setup written seats are f.0.place f.0.is_place in (
+      let far = has_far w.setup written numbers seats are f.0.place f.0.is_place in (
         record {
           ends = record { near = f.0.place; far = far.far };
           are = at_are_ends seats s.near.name s.far.name f.0.place far.far (f.0.place_is, far.found);
@@ -145,4 +148,4 @@ module _ (p : Proved) (seats : List Seat) (w : Network) (m : IsMoment w) (st : S
 
   pub all_stood : AllByRecursion (IsStood seats w) w.sessions
   all_stood =
-      stood_all w.sessions (sessions_found w written seats are has) (found_each w.sessions twins) (p.near_earlier w m)
+      stood_all w.sessions (sessions_found w written numbers seats are has) (found_each w.sessions twins) (p.near_earlier w m)

@@ -4,7 +4,6 @@ pub mod Changes
 pub mod Along
 pub mod Going
 pub mod Ordering
-pub mod Editing
 pub mod Forms
 pub mod Facts
 pub mod Carried
@@ -21,5 +20,15 @@ pub mod Known
 pub mod Given
 pub mod Promised
 pub mod Tied
+pub mod Found
+pub mod Alike
+pub mod Leaving
+pub mod Coming
+pub mod Moved
+pub mod Made
+pub mod Ordered
+pub mod Room
+pub mod Asked
+pub mod CanMove
 pub mod Ran
 pub mod ControlNodes

@@ -1,11 +1,10 @@
 -- The ends that are found for two names are those of these names.
-use Rattle.std.specs.Prelude.{◌≡◌, ◌+◌, ◌≤◌, ◌&&◌, ◌==◌, ℕ, zero, suc, List, [], ◌∷◌, Bool, true, false, cond}
+use Rattle.std.specs.Prelude.{◌≡◌, ◌&&◌, ◌==◌, ℕ, List, [], ◌∷◌, Bool, true, false, cond}
 use Rattle.std.specs.declared.option.Option.{Option}
 use Rattle.std.specs.declared.option.Option.TheVariants.{Some, None}
 use Rattle.std.specs.Cmp.Lexicographic.{bytes_decides}
 use Rattle.std.specs.List.{AllByRecursion, cons_option}
-use Rattle.std.specs.Option.{option_map}
-use Rattle.std.proofs.Common.{refl, sym, ◌∙◌, ap, subst, arith, get_or}
+use Rattle.std.proofs.Common.{refl, sym, ◌∙◌, ap, subst, arith}
 use Rattle.std.proofs.lemmas.Bool.{and_parts}
 use Rattle.std.proofs.lemmas.Bool.Decides.{nat_tests}
 use Rattle.std.proofs.lemmas.Option.{same_Some}
@@ -16,62 +15,12 @@ use Rattle.network_model.specs.Network.{Network}
 use Rattle.network_model.specs.Steps.{joins}
 use Rattle.network_model.specs.Events as events
 use Rattle.network_model.proofs.Twins.{itself}
-use Rattle.net_model.specs.Seats.{Seat, far_of, index_from, name_of, nobody, other, others_of, place_at, place_of, seat}
-use Rattle.net_model.specs.Seats.{seat_named, session_with}
+use Rattle.net_model.specs.Seats.{Seat, far_of, place_of}
 use Rattle.net_model.specs.declared.place.Place.{Place}
 use Rattle.net_machine.specs.declared.ends.SessionEnds.{SessionEnds}
 use Rattle.net_machine.specs.Seating.{ends_at, ends_from, ends_of, is_earlier, order_among, same_ends, same_place, turned}
 use Rattle.net_machine.proofs.Facts.{At, Facts, IsStood}
-use Rattle.net_machine.proofs.Seating.{index_within}
-
--- what is found passes the test
-found_passes : {A : Type 0} → (is : A → Bool) (xs : List A) (i k j : ℕ) (d : A) → index_from i is xs ≡ Some k
-    → k ≡ i + j → is (get_or xs j d) ≡ true
-found_passes is [] i k j d e at = cc
-found_passes is (x ∷ xs) i k j d e at =
-    elim (is x) as (λ b. is x ≡ b → cond b (Some i) (index_from (suc i) is xs) ≡ Some k → is (get_or (x ∷ xs) j d) ≡ true) [
-      | true ↦ λ t found. first j (same_Some i k found) at t
-      | false ↦ λ f found. later j (index_within is xs (suc i) k found).0 at
-          (λ m. found_passes is xs (suc i) k m d found)
-    ] refl e
-  where
-    first : (j : ℕ) → i ≡ k → k ≡ i + j → is x ≡ true → is (get_or (x ∷ xs) j d) ≡ true
-    first zero s a t = t
-    first (suc j) s a t = absurd (omega (arith, s, a))
-
-    later : (j : ℕ) → suc i ≤ k → k ≡ i + j → ((m : ℕ) → k ≡ suc i + m → is (get_or xs m d) ≡ true)
-        → is (get_or (x ∷ xs) j d) ≡ true
-    later zero s a r = absurd (omega (arith, s, a))
-    later (suc j) s a r = r j (omega (arith, a))
-
-named_so : (seats : List Seat) (a : Name) (k : ℕ) → seat_named seats a ≡ Some k → name_of (seat seats k).who ≡ a
-named_so seats a k e =
-    (bytes_decides (name_of (seat seats k).who) a).0
-    (found_passes (λ (n : Seat). same_name (name_of n.who) a) seats 0 k k nobody e (omega arith))
-
--- the names at the near end
-pub record AreNamed (seats : List Seat) (a b : Name) (p : Place) : Type 0 where
-  pub here : name_of (seat seats p.node).who ≡ a
-  pub there : other (seat seats p.node) p.session ≡ b
-
-with_so : (seats : List Seat) (a b : Name) (k : ℕ) (o : Option ℕ) (p : Place) → seat_named seats a ≡ Some k
-    → session_with (seat seats k) b ≡ o → option_map (λ i. record { node = k; session = i }) o ≡ Some p
-    → AreNamed seats a b p
-with_so seats a b k None p named at e = cc
-with_so seats a b k (Some i) p named at e =
-    let is : record { node = k; session = i } ≡ p = cc in
-    subst (AreNamed seats a b) is (record {
-      here = named_so seats a k named;
-      there = (bytes_decides (other (seat seats k) i) b).0
-          (found_passes (λ (m : Name). same_name m b) (others_of (seat seats k).who) 0 i i [] at (omega arith));
-    })
-
-pub place_names : (seats : List Seat) (a b : Name) (p : Place) → place_of seats a b ≡ Some p → AreNamed seats a b p
-place_names seats a b p e =
-    elim (seat_named seats a) as (λ o. seat_named seats a ≡ o → place_at seats b o ≡ Some p → AreNamed seats a b p) [
-      | None ↦ λ at found. cc
-      | Some k ↦ λ at found. with_so seats a b k (session_with (seat seats k) b) p at refl found
-    ] refl e
+use Rattle.net_machine.proofs.Seating.{AreNamed, place_names}
 
 from_names : (seats : List Seat) (a b : Name) (p : Place) (o : Option Place) (e : SessionEnds) → AreNamed seats a b p
     → ends_from p o ≡ Some e → AreNamed seats a b e.near
@@ -127,7 +76,8 @@ joins_is seats a b e s d is at =
     let here = ends_names seats a b e is in
     let there = subst (λ (e : SessionEnds). AreNamed seats s.near.name s.far.name e.near) one
     (ends_names seats s.near.name s.far.name d at) in
-    (λ i. same_name ((sym there.here ∙ here.here) i) a && same_name ((sym there.there ∙ here.there) i) b)
+    let far : s.far.name ≡ b = same_Some s.far.name b (sym there.there ∙ here.there) in
+    (λ i. same_name ((sym there.here ∙ here.here) i) a && same_name (far i) b)
     ∙ (λ i. itself a i && same_name b b) ∙ itself b)
     (λ join.
     let names = and_parts (same_name s.near.name a) (same_name s.far.name b) join in

@@ -9,14 +9,13 @@ use Rattle.std.proofs.lemmas.List.Elements.{All-append, All-cons, filter_map-app
 use Rattle.ov_types.specs.declared.rows.NodeId.{NodeId}
 use Rattle.config_model.specs.declared.topology.Node.{Node}
 use Rattle.config_model.specs.declared.topology.Topology.{Topology}
-use Rattle.config_check.specs.Checked.{Checked}
 use Rattle.network_model.specs.Session.{Session, Agent, Controller}
-use Rattle.network_model.specs.Network.{between, feeds, lists, peerings, accesses}
+use Rattle.network_model.specs.Network.{accesses, accesses_of, between, feeds, lists, peerings}
 use Rattle.net_model.specs.Seats.{Seat}
 use Rattle.net_machine.specs.declared.ends.SessionEnds.{SessionEnds}
 use Rattle.net_machine.specs.declared.round.Due.{Due}
 use Rattle.net_machine.specs.Rounds.{IsDueSeated, due_at, dues}
-use Rattle.net_machine.specs.Seating.{AreSeated, accesses_of, ends_of, order_among, order_of, peerings_of, turned}
+use Rattle.net_machine.specs.Seating.{AreSeated, ends_of, order_among, order_of, peerings_of, turned}
 use Rattle.net_machine.proofs.Along.{one_more}
 
 -- where each item may give one session
@@ -92,22 +91,20 @@ module _ (seats : List Seat) where
       subst (All (IsDueSeated seats)) (sym pushed)
       (All-append (IsDueSeated seats) before (due_at seats (turned e) ∷ due_at seats e ∷ []) all
       (All-cons (IsDueSeated seats) (due_at seats (turned e)) (due_at seats e ∷ [])
-      (record { near = is.far; far = is.near })
+      (record { near = is.far; far = is.near; near_other = is.far_other; far_other = is.near_other })
       (All-cons (IsDueSeated seats) (due_at seats e) [] is (λ k d h. absurd (omega (arith, h))))))
 
 -- ---- feeds, then the sessions between control nodes, and then those of agents
-pub order_parts : (seats : List Seat) (x : Checked) (t : Topology) (cs : List NodeId) (ns : List Node)
-    (none first second third : List SessionEnds) → t ≡ x.topology → cs ≡ t.controllers → ns ≡ t.nodes → none ≡ []
+pub order_parts : (seats : List Seat) (t : Topology) (cs : List NodeId) (ns : List Node)
+    (none first second third : List SessionEnds) → cs ≡ t.controllers → ns ≡ t.nodes → none ≡ []
     → first ≡ none ++ order_among seats (feeds cs) → second ≡ first ++ order_among seats (peerings cs)
-    → third ≡ second ++ order_among seats (accesses cs ns) → third ≡ order_of seats x
-order_parts seats x t cs ns none first second third t_is cs_is ns_is none_is f s a =
-    let c = cs_is ∙ ap (λ (t : Topology). t.controllers) t_is in
-    let n = ns_is ∙ ap (λ (t : Topology). t.nodes) t_is in
+    → third ≡ second ++ order_among seats (accesses cs ns) → third ≡ order_of seats t
+order_parts seats t cs ns none first second third c n none_is f s a =
     let give = λ (s : Session). ends_of seats s.near.name s.far.name in
-    let cx = x.topology.controllers in
+    let ct = t.controllers in
     a ∙ (λ j. s j ++ order_among seats (accesses (c j) (n j)))
-    ∙ (λ j. (f j ++ order_among seats (peerings (c j))) ++ order_among seats (accesses cx x.topology.nodes))
-    ∙ (λ j. ((none_is j ++ order_among seats (feeds (c j))) ++ order_among seats (peerings cx))
-    ++ order_among seats (accesses cx x.topology.nodes))
-    ∙ sym (filter_map-append give (feeds cx ++ peerings cx) (accesses cx x.topology.nodes)
-    ∙ ap (λ es. es ++ order_among seats (accesses cx x.topology.nodes)) (filter_map-append give (feeds cx) (peerings cx)))
+    ∙ (λ j. (f j ++ order_among seats (peerings (c j))) ++ order_among seats (accesses ct t.nodes))
+    ∙ (λ j. ((none_is j ++ order_among seats (feeds (c j))) ++ order_among seats (peerings ct))
+    ++ order_among seats (accesses ct t.nodes))
+    ∙ sym (filter_map-append give (feeds ct ++ peerings ct) (accesses ct t.nodes)
+    ∙ ap (λ es. es ++ order_among seats (accesses ct t.nodes)) (filter_map-append give (feeds ct) (peerings ct)))

@@ -6,7 +6,9 @@ use Rattle.config_check.specs.Checked.{Checked}
 use Rattle.network_model.specs.Network.{Network, start}
 use Rattle.network_model.specs.Events.{Event, after, shown}
 use Rattle.network_model.specs.Steps.{is_settled}
-use Rattle.network_laws.specs.Settling.{EditsAreValid}
+use Rattle.network_model.specs.Moments.{EditsAreValid}
+use Rattle.network_model.specs.Setup.{checked}
+use Rattle.network_model.specs.Setup.{opening as opening_setup}
 use Rattle.headline_laws.specs.Headline.{AgentsShowRows, ControlNodesShowTables, IsOfForm, IsWritten}
 use Rattle.headline_laws.proofs.Configured.{agents_show_rows, control_nodes_show_tables}
 use Rattle.net_model.specs.Seats.{Configuring, Seat, Who, name_of, seat}
@@ -17,13 +19,13 @@ use Rattle.seat_laws.proofs.Parties.{by_node}
 use Rattle.seat_laws.proofs.Seating.{root_at, seat_found, who_above}
 use Rattle.seat_laws.proofs.Written.{seats_are_nodes, shows_at, written_apart, written_named}
 use Rattle.told_laws.specs.Moments.{IsMoment}
-use Rattle.told_laws.proofs.Moments.{moment_of, moment_sessions, moment_written}
+use Rattle.told_laws.proofs.Moments.{moment_numbers, moment_of, moment_sessions, moment_written}
 use Rattle.net_machine.specs.Shown.{ShowsCompiled, compiled_for}
 
 -- ---- what all schedules promise, of the state after one
 pub record IsAfter (w : Network) : Type 0 where
   pub opening : Checked
-  pub written : IsWritten opening
+  pub written : IsWritten (opening_setup opening)
   pub events : List Event
   pub asked : EditsAreValid message_size IsOfForm (start opening) events
   pub is : w ≡ after message_size (start opening) events
@@ -50,27 +52,28 @@ module _ (w : Network) (a : IsAfter w) (seats : List Seat) (stands : StandsFor s
   m = after_moment w a
 
   abbrev ShowsPart : Who → Type 0
-  ShowsPart v = shown w (name_of v) ≡ compiled_for w.setup v
+  ShowsPart v = shown w (name_of v) ≡ compiled_for (checked w.setup) v
 
-  later_shows : (k : ℕ) → 0 < k → k < length seats → shown_by (seat seats k) ≡ compiled_for w.setup (seat seats k).who
+  later_shows : (k : ℕ) → 0 < k → k < length seats → shown_by (seat seats k) ≡ compiled_for (checked w.setup) (seat seats k).who
   later_shows k above within =
       let written = moment_written w m in
+      let numbers = moment_numbers w m in
       let named = written_named w.setup written in
       let apart = written_apart w.setup written in
       let are = stands.seats_are.who in
       let has = moment_sessions w m in
       let name = name_of (seat seats k).who in
-      let there = seats_are_nodes w written seats stands.seats_are has k above within in
-      let q = shows_at w written seats stands.seats_are has name there in
-      let same : q.0 ≡ k = same_Some q.0 k (sym q.1.seat_is ∙ seat_found w.setup named apart seats are k within) in
+      let there = seats_are_nodes w written numbers seats stands.seats_are has k above within in
+      let q = shows_at w written numbers seats stands.seats_are has name there in
+      let same : q.0 ≡ k = same_Some q.0 k (sym q.1.seat_is ∙ seat_found w.setup named numbers apart seats are k within) in
       let part : ShowsPart (seat seats k).who =
-      by_node w.setup named ShowsPart (after_controls w a settled) (after_agents w a settled) (seat seats k).who
-      (who_above w.setup named apart seats are k above within) in
+      by_node w.setup named numbers ShowsPart (after_controls w a settled) (after_agents w a settled) (seat seats k).who
+      (who_above w.setup named numbers apart seats are k above within) in
       ap (λ j. shown_by (seat seats j)) (sym same) ∙ sym q.1.shows ∙ part
 
-  pub settled_shows : ShowsCompiled w.setup seats
+  pub settled_shows : ShowsCompiled (checked w.setup) seats
   settled_shows zero within =
       let written = moment_written w m in
-      first_shows (seat seats 0) w.setup w.setup
-      (root_at w.setup (written_named w.setup written) (written_apart w.setup written) seats stands.seats_are.who)
+      first_shows (seat seats 0) (checked w.setup) (checked w.setup)
+      (root_at w.setup (written_named w.setup written) (moment_numbers w m) (written_apart w.setup written) seats stands.seats_are.who)
   settled_shows (suc k) within = later_shows (suc k) (omega arith) within

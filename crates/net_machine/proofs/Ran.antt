@@ -18,13 +18,14 @@ use Rattle.headline_laws.specs.Headline.{IsWritten}
 use Rattle.isolation_laws.specs.Refusing.{TiedNetwork, kept_events, next_tied, tied_start}
 use Rattle.isolation_laws.proofs.Refused.{keeps_what_is_not_refused}
 use Rattle.network_model.specs.Session.{Session}
-use Rattle.network_model.specs.Network.{Network, start}
-use Rattle.network_model.specs.Events.{after, event_of}
+use Rattle.network_model.specs.Network.{asked, start}
+use Rattle.network_model.specs.Events.{event_of}
+use Rattle.network_model.specs.Setup.{checked, opening}
 use Rattle.network_model.specs.Steps as machine
-use Rattle.network_model.proofs.NodesFact.{after_nodes}
 use Rattle.net_model.specs.Seats.{Configuring, Seat, Who, seat, whos}
 use Rattle.net_model.specs.Stands.{StandsFor, message_size}
 use Rattle.told_laws.specs.Moments.{IsMoment}
+use Rattle.told_laws.proofs.Moments.{moment_sessions}
 use Rattle.net_model.specs.Steps.{fresh_seat}
 use Rattle.net_steps.proofs.Given.{given}
 use Rattle.net_steps.proofs.Started.{fresh_seats_stand}
@@ -36,14 +37,17 @@ use Rattle.tied_laws.proofs.Kept.{asked_with_ties, tied_more}
 use Rattle.tied_laws.proofs.Moments.{compiled_here, ends_here, isolated_here, joined_here}
 use Rattle.net_machine.specs.declared.ends.SessionEnds.{SessionEnds}
 use Rattle.net_machine.specs.Running.{IsRunning}
-use Rattle.net_machine.specs.Seating.{AreLong, AreSeated, IsConfigured, Keeps, ends_of, order_among, order_of}
+use Rattle.net_machine.specs.Seating.{AreLong, AreSeated, IsConfigured, ends_of, order_among, order_of}
 use Rattle.net_machine.specs.Settling.{is_settled}
-use Rattle.net_machine.specs.Tying.{HappensTied, OfTie}
+use Rattle.net_machine.specs.Tying.{HappensTied, OfTie, Orders}
+use Rattle.net_machine.specs.Moving.{CanHappen}
+use Rattle.net_machine.proofs.CanMove.{can_happen}
 use Rattle.net_machine.proofs.Carried.{found_seated}
 use Rattle.net_machine.proofs.Facts.{MayHappen}
 use Rattle.net_machine.proofs.Forms.{break_form, edit_form, octets_form}
 use Rattle.net_machine.proofs.Given.{facts}
-use Rattle.net_machine.proofs.Kept.{order_kept}
+use Rattle.net_machine.proofs.Found.{same_setup}
+use Rattle.net_machine.proofs.Ordered.{ordered_then}
 use Rattle.net_machine.proofs.Promised.{IsAfter, after_moment}
 use Rattle.net_machine.proofs.Resting.{settled_is}
 use Rattle.net_machine.proofs.Rounding.{same_order}
@@ -88,19 +92,24 @@ forms_more (d ∷ es) e forms form =
     and_from (has_event_form d) (list_all has_event_form (es ++ e ∷ [])) parts.0 (forms_more es e parts.1 form)
 
 -- ---- a network that runs
+-- its moments
+module _ (x : Checked) (es : List Event) (written : IsWritten (opening x)) (forms : IsTrue (list_all has_event_form es)) where
+  is_after : IsAfter (tied_moment x es).network
+  is_after = record {
+    opening = x;
+    written = written;
+    events = kept_events message_size (tied_start x) (map event_of es);
+    asked = asked_with_ties x written es forms;
+    is = keeps_what_is_not_refused message_size (tied_start x) (map event_of es);
+  }
+
 module _ (x : Checked) (es : List Event) (ties : Kept) (seats : List Seat) (order : List SessionEnds)
     (r : IsRunning x es ties seats order) where
   abbrev now : TiedNetwork
   now = tied_moment x es
 
   pub run_after : IsAfter now.network
-  run_after = record {
-    opening = x;
-    written = r.written;
-    events = kept_events message_size (tied_start x) (map event_of es);
-    asked = asked_with_ties x r.written es r.forms;
-    is = keeps_what_is_not_refused message_size (tied_start x) (map event_of es);
-  }
+  run_after = is_after x es r.written r.forms
 
   pub run_moment : IsMoment now.network
   run_moment = after_moment now.network run_after
@@ -109,21 +118,26 @@ module _ (x : Checked) (es : List Event) (ties : Kept) (seats : List Seat) (orde
   run_long = r.stands.seats_are.long
 
   pub run_seated : All (AreSeated seats) order
-  run_seated = subst (All (AreSeated seats)) (sym r.ordered) (among_seated seats (start x).sessions run_long)
+  run_seated =
+      subst (All (AreSeated seats)) (sym r.ordered) (among_seated seats (asked now.network.setup.topology) run_long)
 
-  run_first : (0 < length seats) × ((seat seats 0).who ≡ Configuring now.network.setup)
-  run_first = first_who seats now.network.setup _ r.stands.seats_are.who
+  run_first : (0 < length seats) × ((seat seats 0).who ≡ Configuring (checked now.network.setup))
+  run_first = first_who seats (checked now.network.setup) _ r.stands.seats_are.who
 
   pub run_configured : IsConfigured seats
-  run_configured = record { some = run_first.0; setup = now.network.setup; is = run_first.1 }
+  run_configured =
+      record { some = run_first.0; setup = checked now.network.setup; is = run_first.1 }
+
+  pub run_can : (e : Event) → IsTrue (has_event_form e) → (y : Checked) → (seat seats 0).who ≡ Configuring y
+      → CanHappen y e seats
+  run_can e form y is =
+      subst (λ (z : Checked). CanHappen z e seats) (same_setup (checked now.network.setup) y (sym run_first.1 ∙ is))
+      (can_happen now.network run_moment seats r.stands e form)
 
   run_ordered : order ≡ order_among seats now.network.sessions
   run_ordered =
-      let kept = kept_events message_size (tied_start x) (map event_of es) in
-      r.ordered ∙ sym (same_order seats (after message_size (start x) kept).sessions (start x).sessions
-      (after_nodes message_size (start x) kept))
-      ∙ ap (λ (w : Network). order_among seats w.sessions)
-      (sym (keeps_what_is_not_refused message_size (tied_start x) (map event_of es)))
+      r.ordered
+      ∙ sym (same_order seats now.network.sessions (asked now.network.setup.topology) (moment_sessions now.network run_moment))
 
   pub run_settled : is_settled seats order ≡ machine.is_settled now.network
   run_settled =
@@ -132,32 +146,40 @@ module _ (x : Checked) (es : List Event) (ties : Kept) (seats : List Seat) (orde
   run_ties : ties_in ties ≡ now.ties
   run_ties = alike_is_one (ties_in ties) now.ties r.tied
 
-  module _ (e : Event) (answer : TiedAnswer) (then_ties : Kept) (then_seats : List Seat) (form : IsTrue (has_event_form e))
+  module _ (e : Event) (answer : TiedAnswer) (then_ties : Kept) (then_seats : List Seat) (then_order : List SessionEnds)
+      (form : IsTrue (has_event_form e))
       (h : (y : Checked) → (seat seats 0).who ≡ Configuring y → HappensTied y order e ties seats answer then_ties then_seats)
-      (k : Keeps seats then_seats) where
+      (k : (y : Checked) → (seat seats 0).who ≡ Configuring y → Orders y e answer seats then_seats order then_order) where
     steps : Steps now e answer then_ties then_seats
     steps =
         by_answer now run_moment ties seats order e answer then_ties then_seats run_ties r.stands run_ordered
-        (may_happen e form) (h now.network.setup run_first.1)
+        (may_happen e form) (h (checked now.network.setup) run_first.1)
 
     pub step_answers : answer ≡ answer_tied now (event_of e)
     step_answers = steps.answers
 
-    pub step_runs : (fs : List Event) → fs ≡ es ++ e ∷ [] → IsRunning x fs then_ties then_seats order
+    pub step_runs : (fs : List Event) → fs ≡ es ++ e ∷ [] → IsRunning x fs then_ties then_seats then_order
     step_runs fs is =
         let more : tied_moment x fs ≡ next_tied message_size now (event_of e) =
         ap (tied_moment x) is ∙ tied_more x es e in
+        let forms = subst (λ (gs : List Event). IsTrue (list_all has_event_form gs)) (sym is) (forms_more es e r.forms form) in
+        let v = (tied_moment x fs).network in
+        let stands = subst (λ (s : TiedNetwork). StandsFor then_seats s.network) (sym more) steps.stands in
+        let first = first_who then_seats (checked v.setup) _ stands.seats_are.who in
+        let sessions = moment_sessions v (after_moment v (is_after x fs r.written forms)) in
         record {
           written = r.written;
-          forms = subst (λ (gs : List Event). IsTrue (list_all has_event_form gs)) (sym is) (forms_more es e r.forms form);
+          forms = forms;
           tied = subst (λ (s : TiedNetwork). AreAlike (ties_in then_ties) s.ties) (sym more) steps.ties;
-          stands = subst (λ (s : TiedNetwork). StandsFor then_seats s.network) (sym more) steps.stands;
-          ordered = r.ordered ∙ sym (order_kept seats then_seats x k);
+          stands = stands;
+          ordered = ordered_then now e v (ap (λ (s : TiedNetwork). s.network) more) sessions seats then_seats order then_order
+              first.1 run_ordered answer step_answers (k (checked now.network.setup) run_first.1);
         }
 
     pub step_unchanged : OfTie (λ _. (then_ties ≡ ties) × (then_seats ≡ seats)) answer
     step_unchanged =
-        unchanged now.network.setup ties seats order e answer then_ties then_seats (h now.network.setup run_first.1)
+        unchanged (checked now.network.setup) ties seats order e answer then_ties then_seats
+        (h (checked now.network.setup) run_first.1)
 
     -- what is said of the next answer, and of the moment that it leads to
     pub step_compiled : IsAsCompiled now e answer
@@ -178,8 +200,8 @@ module _ (x : Checked) (es : List Event) (ties : Kept) (seats : List Seat) (orde
         (ends_here x r.written es r.forms e))
 
 -- ---- a network that begins
-module _ (x : Checked) (seats : List Seat) (written : IsWritten x)
-    (is : seats ≡ map fresh_seat (whos x)) where
+module _ (x : Checked) (seats : List Seat) (written : IsWritten (opening x))
+    (is : seats ≡ map fresh_seat (whos (opening x))) where
   start_stands : StandsFor seats (start x)
   start_stands = subst (λ ss. StandsFor ss (start x)) (sym is) (fresh_seats_stand given x written).0
 
@@ -187,7 +209,7 @@ module _ (x : Checked) (seats : List Seat) (written : IsWritten x)
   start_long = start_stands.seats_are.long
 
   pub start_runs : (es : List Event) (ties : Kept) (order : List SessionEnds) → es ≡ []
-      → AreAlike (ties_in ties) (ties_of x.config) → order ≡ order_of seats x → IsRunning x es ties seats order
+      → AreAlike (ties_in ties) (ties_of x) → order ≡ order_of seats x.topology → IsRunning x es ties seats order
   start_runs es ties order none tied ordered =
       let begins : tied_moment x es ≡ tied_start x = ap (tied_moment x) none in
       record {
@@ -195,5 +217,5 @@ module _ (x : Checked) (seats : List Seat) (written : IsWritten x)
         forms = ap (list_all has_event_form) none;
         tied = subst (λ (s : TiedNetwork). AreAlike (ties_in ties) s.ties) (sym begins) tied;
         stands = subst (λ (s : TiedNetwork). StandsFor seats s.network) (sym begins) start_stands;
-        ordered = ordered;
+        ordered = ordered ∙ ap (λ (s : TiedNetwork). order_of seats s.network.setup.topology) (sym begins);
       }

@@ -1,37 +1,49 @@
 -- What an event makes of a network that keeps ties.
-use Rattle.std.specs.Prelude.{◌≡◌, List, Bool, cond, is_some, IfSome}
+use Rattle.std.specs.Prelude.{◌≡◌, List, Bool, cond, is_some}
 use Rattle.std.specs.declared.option.Option.{Option}
 use Rattle.std.specs.declared.option.Option.TheVariants.{Some, None}
 use Rattle.std.proofs.Common.{refl, sym, ◌∙◌, ap, subst}
+use Rattle.config_model.specs.declared.edit.Edit.{Edit}
 use Rattle.config_model.specs.declared.event.Event.{Event as Written}
 use Rattle.config_model.specs.declared.event.Event.TheVariants as written
 use Rattle.config_check.specs.Checked.{Checked}
+use Rattle.config_check.specs.Edits.{edit_fault}
+use Rattle.config_check.specs.declared.edits.EditFault.{EditFault}
 use Rattle.config_ties.specs.Kept.{AreAlike, Kept, ties_in}
 use Rattle.config_ties.specs.Ties.{Ties}
 use Rattle.config_ties.specs.declared.breaking.Tie.{Tie}
 use Rattle.isolation_laws.specs.Refusing.{TiedNetwork, next_tied}
-use Rattle.isolation_laws.specs.Running.{ties_next}
+use Rattle.isolation_laws.specs.Running.{ties_next, ties_with}
 use Rattle.network_model.specs.Events.{Event, answer_to, event_of, next}
-use Rattle.net_model.specs.Seats.{Configuring, Seat, Who, seat}
+use Rattle.network_model.specs.Setup.{Setup, checked, edited_without, opening}
+use Rattle.net_model.specs.Seats.{Seat}
 use Rattle.net_model.specs.Stands.{StandsFor, message_size}
 use Rattle.told_laws.specs.Moments.{IsMoment}
-use Rattle.schedule_script.specs.declared.answer.Answer.{Answer}
-use Rattle.tied_answers.specs.Answers.{IsEdit}
 use Rattle.tied_answers.specs.declared.answer.TiedAnswer.{TiedAnswer}
 use Rattle.tied_answers.specs.declared.answer.TiedAnswer.TheVariants.{Answered, EditTied}
-use Rattle.tied_laws.specs.Runs.{answer_tied, tie_broken, unless_tied}
+use Rattle.tied_laws.specs.Runs.{answer_tied, broken_by, tie_broken, unless_tied}
 use Rattle.tied_laws.proofs.Kept.{refused_is}
 use Rattle.net_machine.specs.declared.ends.SessionEnds.{SessionEnds}
 use Rattle.net_machine.specs.Seating.{order_among}
-use Rattle.net_machine.specs.Happenings.{Happens}
-use Rattle.net_machine.specs.Tying.{HappensTied, OfTie, broken_at, ties_then, ties_unless}
+use Rattle.net_machine.specs.Tying.{HappensTied, OfTie, broken_at, ties_then}
 use Rattle.net_machine.proofs.Facts.{MayHappen}
 use Rattle.net_machine.proofs.Given.{facts}
 use Rattle.net_machine.proofs.Happening.{Makes, happens}
 
 -- ---- what the machine says of an event, in terms of its configuration
-broken_is : (s : TiedNetwork) (e : Written) → tie_broken s (event_of e) ≡ broken_at s.ties s.network.setup e
-broken_is s (written.Edit d) = refl
+broken_without : (t : Ties) (x : Setup) (e : Edit) (o : Option EditFault)
+    → broken_by t (edited_without o x e) ≡ broken_by t (edited_without o (opening (checked x)) e)
+broken_without t x e None = refl
+broken_without t x e (Some f) = refl
+
+ties_without : (t : Ties) (x : Setup) (e : Edit) (o : Option EditFault)
+    → ties_with (edited_without o x e) t ≡ ties_with (edited_without o (opening (checked x)) e) t
+ties_without t x e None = refl
+ties_without t x e (Some f) = refl
+
+broken_is : (s : TiedNetwork) (e : Written)
+    → tie_broken s (event_of e) ≡ broken_at s.ties (checked s.network.setup) e
+broken_is s (written.Edit d) = broken_without s.ties s.network.setup d (edit_fault (checked s.network.setup) d)
 broken_is s (written.Deliver from to n) = refl
 broken_is s (written.DeliverOctets from to n) = refl
 broken_is s (written.Lose a b) = refl
@@ -43,8 +55,9 @@ broken_is s (written.Show name) = refl
 broken_is s (written.Trace p) = refl
 broken_is s (written.Break from to n) = refl
 
-then_is : (s : TiedNetwork) (e : Written) → ties_next s.ties s.network (event_of e) ≡ ties_then s.ties s.network.setup e
-then_is s (written.Edit d) = refl
+then_is : (s : TiedNetwork) (e : Written)
+    → ties_next s.ties s.network (event_of e) ≡ ties_then s.ties (checked s.network.setup) e
+then_is s (written.Edit d) = ties_without s.ties s.network.setup d (edit_fault (checked s.network.setup) d)
 then_is s (written.Deliver from to n) = refl
 then_is s (written.DeliverOctets from to n) = refl
 then_is s (written.Lose a b) = refl
@@ -56,10 +69,10 @@ then_is s (written.Show name) = refl
 then_is s (written.Trace p) = refl
 then_is s (written.Break from to n) = refl
 
-abbrev stepped : TiedNetwork → Event → TiedNetwork
+abbrev pub stepped : TiedNetwork → Event → TiedNetwork
 stepped s e = record { ties = ties_next s.ties s.network e; network = next message_size s.network e }
 
-next_where : (s : TiedNetwork) (e : Event) (o : Option Tie) → tie_broken s e ≡ o
+pub next_where : (s : TiedNetwork) (e : Event) (o : Option Tie) → tie_broken s e ≡ o
     → next_tied message_size s e ≡ cond (is_some o) s (stepped s e)
 next_where s e o is = ap (λ (b : Bool). cond b s (stepped s e)) (refused_is s e ∙ ap is_some is)
 
@@ -73,30 +86,36 @@ module _ (s : TiedNetwork) (m : IsMoment s.network) (ties : Kept) (seats : List 
     (e : Written) where
   pub by_answer : (answer : TiedAnswer) (then_ties : Kept) (then_seats : List Seat)
       → ties_in ties ≡ s.ties → StandsFor seats s.network → order ≡ order_among seats s.network.sessions
-      → MayHappen (event_of e) → HappensTied s.network.setup order e ties seats answer then_ties then_seats
+      → MayHappen (event_of e) → HappensTied (checked s.network.setup) order e ties seats answer then_ties then_seats
       → Steps s e answer then_ties then_seats
   by_answer (EditTied tie) then_ties then_seats same stands ordered may h =
       let broken : tie_broken s (event_of e) ≡ Some tie =
-      broken_is s e ∙ ap (λ (t : Ties). broken_at t s.network.setup e) (sym same) ∙ h.0 in
+      broken_is s e ∙ ap (λ (t : Ties). broken_at t (checked s.network.setup) e) (sym same) ∙ h.0 in
       let stays : next_tied message_size s (event_of e) ≡ s = next_where s (event_of e) (Some tie) broken in
       record {
         answers = sym (ap (λ (o : Option Tie). unless_tied o (answer_to s.network (event_of e))) broken);
         ties = subst (λ (u : TiedNetwork). AreAlike (ties_in then_ties) u.ties) (sym stays)
             (subst (λ (t : Ties). AreAlike (ties_in then_ties) t) (ap ties_in h.1 ∙ same)
-            (record { ports = λ p. refl; uses = λ number. refl; related = λ a b. refl }));
+            (record {
+              ports = λ p. refl;
+              uses = λ number. refl;
+              related = λ a b. refl;
+              addresses = λ name. refl;
+              names = λ address. refl;
+            }));
         stands = subst (λ (u : TiedNetwork). StandsFor then_seats u.network) (sym stays)
             (subst (λ (ss : List Seat). StandsFor ss s.network) (sym h.2) stands);
       }
   by_answer (Answered answer) then_ties then_seats same stands ordered may h =
       let broken : tie_broken s (event_of e) ≡ None =
-      broken_is s e ∙ ap (λ (t : Ties). broken_at t s.network.setup e) (sym same) ∙ h.0 in
+      broken_is s e ∙ ap (λ (t : Ties). broken_at t (checked s.network.setup) e) (sym same) ∙ h.0 in
       let goes : next_tied message_size s (event_of e) ≡ stepped s (event_of e) = next_where s (event_of e) None broken in
       let makes : Makes IsMoment facts s.network (next message_size s.network (event_of e)) answer
       (answer_to s.network (event_of e)) then_seats =
-      happens IsMoment facts seats then_seats s.network s.network.setup order e answer
+      happens IsMoment facts seats then_seats s.network (checked s.network.setup) order e answer
       (record { moment = m; stands = stands }) refl ordered may h.2 in
-      let joined : ties_then (ties_in ties) s.network.setup e ≡ ties_next s.ties s.network (event_of e) =
-      ap (λ (t : Ties). ties_then t s.network.setup e) same ∙ sym (then_is s e) in
+      let joined : ties_then (ties_in ties) (checked s.network.setup) e ≡ ties_next s.ties s.network (event_of e) =
+      ap (λ (t : Ties). ties_then t (checked s.network.setup) e) same ∙ sym (then_is s e) in
       record {
         answers = ap (λ a. Answered a) makes.answers
             ∙ sym (ap (λ (o : Option Tie). unless_tied o (answer_to s.network (event_of e))) broken);
@@ -112,50 +131,3 @@ pub unchanged : (x : Checked) (ties : Kept) (seats : List Seat) (order : List Se
     → OfTie (λ _. (then_ties ≡ ties) × (then_seats ≡ seats)) answer
 unchanged x ties seats order e (Answered answer) then_ties then_seats h = tt
 unchanged x ties seats order e (EditTied tie) then_ties then_seats h = (h.1, h.2)
-
--- ---- what is found of the ties of an event, and what happens
-setup_of : Who → Checked → Checked
-setup_of (Configuring x) other = x
-setup_of _ other = other
-
-same_setup : (x y : Checked) → Configuring x ≡ Configuring y → x ≡ y
-unfolding setup_of
-same_setup x y e = ap (λ (w : Who). setup_of w x) e
-
-module _ (x found : Checked) (seats : List Seat) (order : List SessionEnds) (e : Written) (ties then_ties : Kept)
-    (broken : Option Tie) (is : broken ≡ broken_at (ties_in ties) found e) (who : (seat seats 0).who ≡ Configuring found)
-    (asked : (seat seats 0).who ≡ Configuring x) where
-  one : found ≡ x
-  one = same_setup found x (sym who ∙ asked)
-
-  broken_there : broken_at (ties_in ties) x e ≡ broken
-  broken_there = sym (ap (λ (y : Checked). broken_at (ties_in ties) y e) one) ∙ sym is
-
-  pub tie_is_told : (tie : Tie) → broken ≡ Some tie → IfSome broken (λ _. then_ties ≡ ties)
-      → HappensTied x order e ties seats (EditTied tie) then_ties seats
-  tie_is_told tie told same =
-      (broken_there ∙ told, subst (λ (o : Option Tie). IfSome o (λ _. then_ties ≡ ties)) told same, refl)
-
-  pub event_happens : (answer : Answer) (after : List Seat) → broken ≡ None
-      → AreAlike (ties_in then_ties) (ties_unless broken (ties_in ties) found e) → Happens x order e seats answer after
-      → HappensTied x order e ties seats (Answered answer) then_ties after
-  event_happens answer after none alike h = (
-    broken_there ∙ none,
-    subst (λ (y : Checked). AreAlike (ties_in then_ties) (ties_then (ties_in ties) y e)) one
-        (subst (λ (o : Option Tie). AreAlike (ties_in then_ties) (ties_unless o (ties_in ties) found e)) none alike),
-    h,
-  )
-
--- only an edit breaks a tie
-pub only_edits : (t : Ties) (x : Checked) (e : Written) (tie : Tie) → broken_at t x e ≡ Some tie → IsEdit e
-only_edits t x (written.Edit d) tie is = tt
-only_edits t x (written.Deliver from to n) tie is = absurd cc
-only_edits t x (written.DeliverOctets from to n) tie is = absurd cc
-only_edits t x (written.Lose a b) tie is = absurd cc
-only_edits t x (written.Connect a b) tie is = absurd cc
-only_edits t x (written.Restart name) tie is = absurd cc
-only_edits t x written.Round tie is = absurd cc
-only_edits t x written.Settle tie is = absurd cc
-only_edits t x (written.Show name) tie is = absurd cc
-only_edits t x (written.Trace p) tie is = absurd cc
-only_edits t x (written.Break from to n) tie is = absurd cc

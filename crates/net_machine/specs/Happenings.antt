@@ -11,10 +11,11 @@ use Rattle.config_check.specs.Edits.{edit_fault}
 use Rattle.config_check.specs.declared.edits.EditFault.{EditFault}
 use Rattle.schedule_script.specs.declared.answer.Answer.{Answer}
 use Rattle.schedule_script.specs.declared.answer.Answer.TheVariants.{Did, Idle, Rounds, Shown, Traced}
-use Rattle.network_model.specs.Setup.{longest}
+use Rattle.network_model.specs.Setup.{longest_in}
 use Rattle.network_model.specs.Events.{edit_answer, unless}
 use Rattle.net_model.specs.Seats.{Seat, seat, seat_named}
-use Rattle.net_model.specs.Steps.{MakesEdit, cleared, forwarders_of, shown_by, with_break_at}
+use Rattle.net_model.specs.Steps.{forwarders_of, shown_by, with_break_at}
+use Rattle.net_steps.specs.Editing.{MakesEdit}
 use Rattle.net_machine.specs.declared.ends.SessionEnds.{SessionEnds}
 use Rattle.net_machine.specs.Connections.{Connects, may_connect}
 use Rattle.net_machine.specs.Deliveries.{DeliversMany, DeliversOctets}
@@ -24,15 +25,10 @@ use Rattle.net_machine.specs.Rounds.{IsRound}
 use Rattle.net_machine.specs.Seating.{ends_of, is_down, is_earlier, turned, waiting}
 use Rattle.net_machine.specs.Settling.{Settles, is_settled}
 
--- ---- edits
-abbrev pub ClearsUnless : Option EditFault → List Seat → List Seat → Type 0
-ClearsUnless (Some f) seats after = after ≡ seats
-ClearsUnless None seats after = after ≡ cleared seats 0
-
-pub record Edits (seats : List Seat) (x : Checked) (e : Edit) (after : List Seat) : Type 0 where
-  pub made : List Seat
-  pub makes : MakesEdit seats x e (edit_fault x e) made
-  pub clears : ClearsUnless (edit_fault x e) made after
+-- ---- edits: one with a fault changes nothing
+abbrev pub EditsUnless : Option EditFault → List Seat → Checked → Edit → List Seat → Type 0
+EditsUnless (Some f) seats x e after = after ≡ seats
+EditsUnless None seats x e after = MakesEdit seats x e after
 
 -- ---- on the session of two nodes, where there is one
 abbrev pub DeliversOn : Option SessionEnds → ℕ → List Seat → Answer → List Seat → Type 0
@@ -75,13 +71,18 @@ shown_at _ seats = Idle
 pub record SettlesAs (x : Checked) (order : List SessionEnds) (seats : List Seat) (answer : Answer) (after : List Seat)
     : Type 0 where
   pub rounds : ℕ
-  pub settles : Settles (longest x) order seats rounds after
+  pub settles : Settles (longest_in x) order seats rounds after
   pub answers : answer ≡ Rounds rounds (is_settled after order)
+
+abbrev pub IsNotEdit : Event → Type 0
+IsNotEdit (event.Edit e) = ⊥
+IsNotEdit _ = Unit {0}
 
 -- ---- all events
 -- where this is the configuration, with its topology, and this the order of a round
 abbrev pub Happens : Checked → List SessionEnds → Event → List Seat → Answer → List Seat → Type 0
-Happens x order (event.Edit e) seats answer after = (answer ≡ edit_answer (edit_fault x e)) × Edits seats x e after
+Happens x order (event.Edit e) seats answer after =
+    (answer ≡ edit_answer (edit_fault x e)) × EditsUnless (edit_fault x e) seats x e after
 Happens x order (event.Deliver from to n) seats answer after = DeliversOn (ends_of seats to from) n seats answer after
 Happens x order (event.DeliverOctets from to n) seats answer after =
     DeliversOctetsOn (ends_of seats to from) n seats answer after

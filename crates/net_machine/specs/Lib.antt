@@ -1,6 +1,7 @@
 -- The files of definitions, in the order in which they stand on each other.
 pub mod NetState
 pub mod Seating
+pub mod Moving
 pub mod Deliveries
 pub mod Rounds
 pub mod Connections
@@ -13,3 +14,4 @@ pub mod Shown
 pub mod Running
 pub mod Codes
 pub mod Looking
+pub use Rattle.tied_laws.specs.Runs

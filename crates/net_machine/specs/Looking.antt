@@ -14,4 +14,4 @@ is_control_node t name = list_any (λ (c : NodeId). same_name c.name name) t.con
 
 -- what the control node of a name holds of all its sessions
 abbrev pub held_at : Network → Name → Holdings
-held_at w name = control_holdings w.setup (views_of name w.sessions)
+held_at w name = control_holdings w.setup name (views_of name w.sessions)

@@ -6,6 +6,8 @@ use Rattle.config_model.specs.Event.{has_event_form}
 use Rattle.config_model.specs.declared.event.Event.{Event}
 use Rattle.config_ties.specs.Kept.{AreAlike, Kept, ties_in}
 use Rattle.headline_laws.specs.Headline.{IsWritten}
+use Rattle.network_model.specs.Setup.{checked}
+use Rattle.network_model.specs.Setup.{opening as opening_setup}
 use Rattle.net_model.specs.Seats.{Seat}
 use Rattle.net_model.specs.Stands.{StandsFor}
 use Rattle.tied_laws.specs.Runs.{tied_moment}
@@ -16,8 +18,8 @@ use Rattle.net_machine.specs.Seating.{order_of}
 -- the state after them, and the order of a round is that of its sessions
 pub record IsRunning (opening : Checked) (events : List Event) (ties : Kept) (seats : List Seat)
     (order : List SessionEnds) : Type 0 where
-  pub written : IsWritten opening
+  pub written : IsWritten (opening_setup opening)
   pub forms : IsTrue (list_all has_event_form events)
   pub tied : AreAlike (ties_in ties) (tied_moment opening events).ties
   pub stands : StandsFor seats (tied_moment opening events).network
-  pub ordered : order ≡ order_of seats opening
+  pub ordered : order ≡ order_of seats (tied_moment opening events).network.setup.topology

@@ -4,14 +4,14 @@ use Rattle.std.specs.Prelude.{if◌then◌else◌}
 use Rattle.std.specs.declared.option.Option.{Option}
 use Rattle.std.specs.declared.option.Option.TheVariants.{Some, None}
 use Rattle.std.specs.Option.{option_map}
-use Rattle.std.specs.List.{filter, filter_map}
+use Rattle.std.specs.List.{filter_map}
 use Rattle.ov_types.specs.declared.rows.NodeId.{NodeId}
-use Rattle.config_model.specs.declared.topology.Node.{Node}
+use Rattle.config_model.specs.declared.topology.Topology.{Topology}
 use Rattle.config_check.specs.Checked.{Checked}
 use Rattle.network_model.specs.Setup.{Name}
-use Rattle.network_model.specs.Session.{Session, Controller, Agent}
-use Rattle.network_model.specs.Network.{between, lists, start}
-use Rattle.net_model.specs.Seats.{Configuring, Seat, far_of, link_at, name_of, notice_at, others_of}
+use Rattle.network_model.specs.Session.{Session, Controller}
+use Rattle.network_model.specs.Network.{asked, between}
+use Rattle.net_model.specs.Seats.{Configuring, Seat, far_of, link_at, name_of, notice_at, other, others_of}
 use Rattle.net_model.specs.Seats.{place_of, seat, whole_at}
 use Rattle.net_model.specs.Stands.{IsLong}
 use Rattle.net_model.specs.declared.place.Place.{Place}
@@ -23,9 +23,15 @@ pub record IsSeated (seats : List Seat) (p : Place) : Type 0 where
   pub node : p.node < length seats
   pub session : p.session < length (seat seats p.node).posts
 
+-- somebody is at the other end of its session
+abbrev pub HasOther : List Seat → Place → Type 0
+HasOther seats p = (name : Name) × (other (seat seats p.node) p.session ≡ Some name)
+
 pub record AreSeated (seats : List Seat) (e : SessionEnds) : Type 0 where
   pub near : IsSeated seats e.near
   pub far : IsSeated seats e.far
+  pub near_other : HasOther seats e.near
+  pub far_other : HasOther seats e.far
 
 -- each node has an end, a link and room for a notice for each of its sessions
 abbrev pub AreLong : List Seat → Type 0
@@ -37,7 +43,7 @@ pub record IsConfigured (seats : List Seat) : Type 0 where
   pub setup : Checked
   pub is : (seat seats 0).who ≡ Configuring setup
 
--- what every event keeps: the nodes by their names, each with its sessions
+-- what every event keeps in which no node moves: the nodes by their names, each with its sessions
 pub record Keeps (seats after : List Seat) : Type 0 where
   pub count : length after ≡ length seats
   pub name : (k : ℕ) → name_of (seat after k).who ≡ name_of (seat seats k).who
@@ -61,16 +67,12 @@ ends_of seats a b = ends_at seats (place_of seats a b)
 abbrev pub order_among : List Seat → List Session → List SessionEnds
 order_among seats sessions = filter_map (λ (s : Session). ends_of seats s.near.name s.far.name) sessions
 
--- those of a control node with others, and those of a compute node
+-- those of a control node with others
 abbrev pub peerings_of : NodeId → List NodeId → List Session
 peerings_of c others = map (λ (d : NodeId). between c.name Controller d.name Controller) others
 
-abbrev pub accesses_of : List NodeId → Node → List Session
-accesses_of controllers n =
-    map (λ (c : NodeId). between c.name Controller n.name Agent) (filter (lists n) controllers)
-
-abbrev pub order_of : List Seat → Checked → List SessionEnds
-order_of seats x = order_among seats (start x).sessions
+abbrev pub order_of : List Seat → Topology → List SessionEnds
+order_of seats t = order_among seats (asked t)
 
 -- as the other end sees it
 abbrev pub turned : SessionEnds → SessionEnds

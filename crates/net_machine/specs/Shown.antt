@@ -12,7 +12,7 @@ use Rattle.net_model.specs.Steps.{shown_by}
 -- configuration node has none
 abbrev pub compiled_for : Checked → Who → NodeRows
 compiled_for x (Configuring y) = Rows.Control []
-compiled_for x (Controlling plan) = Rows.Control (control_rows x.topology x.config)
+compiled_for x (Controlling c) = Rows.Control (control_rows x.topology x.config)
 compiled_for x (Forwarding plan) = Rows.Agent (agent_rows x.topology x.config plan.me.address)
 
 -- every node shows its part

@@ -3,7 +3,7 @@ ghost use Rattle.std.specs.Prelude.{◌≡◌, false, IfOk};
 ghost use Rattle.std.specs.List.{All};
 ghost use Rattle.net_model.specs.Seats.{live_at};
 ghost use Rattle.net_machine.specs.Connections.{Connects, ConnectsAll, ConnectsAt, Opens, OpensFar, may_connect};
-ghost use Rattle.net_machine.specs.Seating.{AreLong, AreSeated, IsSeated, Keeps};
+ghost use Rattle.net_machine.specs.Seating.{AreLong, AreSeated, HasOther, IsSeated, Keeps};
 
 use crate::clear::clear_node;
 use crate::ends::SessionEnds;
@@ -20,10 +20,11 @@ pub(crate) fn may_connect(nodes: &Nodes, ends: SessionEnds) -> bool
     !nodes.is_live(ends.near) && !nodes.is_live(ends.far)
 }
 
-/// A node opens its end.
+/// A node opens its end of a session that is somebody's.
 fn open(nodes: &mut Nodes, place: Place) -> Result<(), NoMemory>
     requires long { AreLong nodes.old.seats }
     requires seated { IsSeated nodes.old.seats place }
+    requires somebody { HasOther nodes.old.seats place }
     requires closed { live_at nodes.old.seats place ≡ false }
     ensures opens { IfOk result (λ _. Opens nodes.old.seats place nodes.new.seats) }
     ensures keeps { IfOk result (λ _. Keeps nodes.old.seats nodes.new.seats) }

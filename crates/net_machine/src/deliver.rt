@@ -1,7 +1,8 @@
 //! Deliveries.
-ghost use Rattle.std.specs.Prelude.{◌≡◌, ◌<◌, drop, length, true, false, IfOk};
+ghost use Rattle.std.specs.Prelude.{◌≡◌, ◌<◌, drop, length, true, false, IfOk, Some};
 ghost use Rattle.node_core.specs.Whole.{Comes, session_of};
-ghost use Rattle.net_model.specs.Seats.{is_live, seat};
+ghost use Rattle.network_model.specs.Setup.{Name as NameOf};
+ghost use Rattle.net_model.specs.Seats.{is_live, other, seat};
 ghost use Rattle.net_machine.specs.Deliveries.{Delivers, DeliversMany, DeliversOctets, TakesAt};
 ghost use Rattle.net_machine.specs.Seating.{AreLong, AreSeated, Keeps};
 
@@ -12,10 +13,11 @@ use ov_link::Input;
 use ov_types::NoMemory;
 use std::alloc::Global;
 
-/// A node takes an input, and the sessions of which it closed its end go down.
+/// A node takes an input on a session that is somebody's, and the sessions of which it closed its end go down.
 pub(crate) fn take(nodes: &mut Nodes, node: u16, input: Input<'_>) -> Result<(), NoMemory>
     requires node { node < length nodes.old.seats }
     requires session { session_of input < length (seat nodes.old.seats node).posts }
+    requires taken { (b : NameOf) × (other (seat nodes.old.seats node) (session_of input) ≡ Some b) }
     requires comes { Comes (λ i. is_live (seat nodes.old.seats node) i ≡ true)
         (λ i. is_live (seat nodes.old.seats node) i ≡ false) input }
     requires long { AreLong nodes.old.seats }

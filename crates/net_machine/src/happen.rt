@@ -2,19 +2,16 @@
 ghost use Rattle.std.specs.Prelude.{◌≡◌, ◌≤◌, false, IfOk, IsTrue};
 ghost use Rattle.std.specs.List.{All};
 ghost use Rattle.report.specs.Answers.{IsAnswerTo};
-ghost use Rattle.config_model.specs.Edit.{has_edit_form};
 ghost use Rattle.config_model.specs.Event.{has_event_form};
 ghost use Rattle.config_model.specs.declared.event.Event.{Event as Written};
 ghost use Rattle.config_check.specs.Checked.{Checked};
-ghost use Rattle.config_check.specs.Edits.{edit_fault};
-ghost use Rattle.network_model.specs.Events.{edit_answer, unless};
+ghost use Rattle.network_model.specs.Events.{unless};
 ghost use Rattle.net_model.specs.Seats as seats_of;
 ghost use Rattle.net_model.specs.Seats.{Configuring, seat};
-ghost use Rattle.net_machine.specs.Happenings.{BreaksOn, ConnectsOn, DeliversOctetsOn, DeliversOn, Edits, Happens};
+ghost use Rattle.net_machine.specs.Happenings.{BreaksOn, ConnectsOn, DeliversOctetsOn, DeliversOn, Happens, IsNotEdit};
 ghost use Rattle.net_machine.specs.Happenings.{LosesOn, RestartsAt, SettlesAs, earlier_first, shown_at};
-ghost use Rattle.net_machine.specs.Seating.{AreLong, AreSeated, IsConfigured, Keeps, ends_of};
+ghost use Rattle.net_machine.specs.Seating.{AreLong, AreSeated, Keeps, ends_of};
 
-use crate::clear::clear_node;
 use crate::connect::{connect, may_connect};
 use crate::deliver::{deliver_many, deliver_octets};
 use crate::ends::{SessionEnds, ends_of, is_down, is_earlier, turned, waiting};
@@ -22,8 +19,7 @@ use crate::longest::longest;
 use crate::lose::{lose, restart};
 use crate::round::round;
 use crate::settle::{is_settled, settle};
-use config_check::EditFault;
-use config_model::{Edit, Event};
+use config_model::Event;
 use net_seats::Nodes;
 use ov_types::{Name, NoMemory};
 use schedule_script::Answer;
@@ -33,36 +29,6 @@ fn unless(is_idle: bool) -> Answer
     ensures { result ≡ unless is_idle }
 {
     if is_idle { Answer::Idle } else { Answer::Did }
-}
-
-fn edit_answer(fault: Option<EditFault>) -> Answer
-    ensures answer { result ≡ edit_answer fault }
-    ensures plain { (event : Written) → IsAnswerTo event result }
-{
-    match fault {
-        None => Answer::Did,
-        Some(fault) => Answer::EditRefused(fault),
-    }
-}
-
-/// Makes an edit, unless it has a fault. The sessions of which the configuration node closed its end go down.
-fn edited(nodes: &mut Nodes, edit: &Edit) -> Result<Answer, NoMemory>
-    requires form { IsTrue (has_edit_form edit.now) }
-    requires long { AreLong nodes.old.seats }
-    requires configured { IsConfigured nodes.old.seats }
-    ensures answer { IfOk result (λ a. (x : Checked) → (seat nodes.old.seats 0).who ≡ Configuring x
-        → a ≡ edit_answer (edit_fault x edit.now)) }
-    ensures plain { IfOk result (λ a. (event : Written) → IsAnswerTo event a) }
-    ensures edits { IfOk result (λ _. (x : Checked) → (seat nodes.old.seats 0).who ≡ Configuring x
-        → Edits nodes.old.seats x edit.now nodes.new.seats) }
-    ensures keeps { IfOk result (λ _. Keeps nodes.old.seats nodes.new.seats) }
-    ensures failed { IfOk result (λ _. nodes.new.failed ≡ nodes.old.failed) }
-{
-    let fault = nodes.edit(edit)?;
-    if fault.is_none() {
-        clear_node(nodes, 0);
-    }
-    Ok(edit_answer(fault))
 }
 
 /// Delivers up to so many messages from one node to another.
@@ -217,7 +183,7 @@ fn shown(nodes: &Nodes, name: &Name) -> Result<Answer, NoMemory>
     }
 }
 
-/// An event happens.
+/// An event happens that is no edit.
 pub(crate) fn happen(
     alloc: Global,
     nodes: &mut Nodes,
@@ -226,9 +192,9 @@ pub(crate) fn happen(
 ) -> Result<Answer, NoMemory>
     requires form { IsTrue (has_event_form event.now) }
     requires long { AreLong nodes.old.seats }
-    requires configured { IsConfigured nodes.old.seats }
     requires seated { All (AreSeated nodes.old.seats) order.now }
     requires works { nodes.old.failed ≡ false }
+    requires not_edit { IsNotEdit event.now }
     ensures happens { IfOk result (λ a. (x : Checked) → (seat nodes.old.seats 0).who ≡ Configuring x
         → Happens x order.now event.now nodes.old.seats a nodes.new.seats) }
     ensures keeps { IfOk result (λ _. Keeps nodes.old.seats nodes.new.seats) }
@@ -236,7 +202,7 @@ pub(crate) fn happen(
     ensures shown { IfOk result (λ a. IsAnswerTo event.now a) }
 {
     match event {
-        Event::Edit(edit) => edited(nodes, edit),
+        Event::Edit(_) => unreachable!(),
         Event::Deliver { from, to, n } => delivered(nodes, from, to, *n),
         Event::DeliverOctets { from, to, n } => octets_delivered(alloc, nodes, from, to, *n),
         Event::Lose { a, b } => Ok(lost(nodes, a, b)),

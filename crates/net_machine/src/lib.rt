@@ -4,11 +4,13 @@
 mod clear;
 mod connect;
 mod deliver;
+mod editing;
 mod ends;
 mod happen;
 mod longest;
 mod looking;
 mod lose;
+mod moving;
 mod net;
 mod order;
 mod round;

@@ -3,7 +3,7 @@ ghost use Rattle.std.specs.Prelude.{◌≡◌, ◌≤◌, max, length, option_co
 ghost use Rattle.acl_compile.specs.Bounds.{KeepsBounds};
 ghost use Rattle.chain_expand.specs.Expansion.{expansion};
 ghost use Rattle.transform_model.specs.Uses.{network_at, use_between, use_by, uses_of};
-ghost use Rattle.network_model.specs.Setup.{longest, longest_of};
+ghost use Rattle.network_model.specs.Setup.{longest_in, longest_of};
 ghost use Rattle.net_machine.specs.Longest.{services_in};
 
 use chain_expand::expand_straight;
@@ -81,7 +81,7 @@ fn longest_by(config: &Config, policy: &Policy) -> u32
 
 /// The greatest number of services of a use in effect, or 0.
 pub(crate) fn longest(valid: &Valid) -> u32
-    ensures most { result ≡ longest valid.now }
+    ensures most { result ≡ longest_in valid.now }
     ensures few { result ≤ 15 }
 {
     let config = valid.config();

@@ -1,6 +1,8 @@
 //! The control nodes of a network that runs.
 ghost use Rattle.std.specs.Prelude.{◌≡◌, false, is_some, option_copied, IfSome};
 ghost use Rattle.control_node.specs.Core.{holdings};
+ghost use Rattle.net_seats.specs.Cores.{present};
+ghost use Rattle.quiet_laws.specs.Quiet.{SameButQuiet};
 ghost use Rattle.tied_laws.specs.Runs.{tied_moment};
 ghost use Rattle.net_machine.specs.Looking.{held_at, is_control_node};
 
@@ -9,12 +11,15 @@ use control_node::ControlNode;
 use ov_types::Name;
 
 impl Net {
-    /// The control node of this name, which holds what the machine's node of this name does. It takes no memory.
+    /// The control node of this name. Of the sessions that are somebody's it holds what the machine's node of this name
+    /// does; it has those of agents that went too, of which it holds nothing. It takes no memory.
     pub fn control(&self, name: &Name) -> Option<&ControlNode>
         requires { self.now.failed ≡ false }
         ensures found { is_some result
             ≡ is_control_node (tied_moment self.now.opening self.now.events).network.setup.topology name.now }
-        ensures holds { IfSome (option_copied result) (λ node. holdings node.plan node.posts
+        ensures holds { IfSome (option_copied result) (λ node. SameButQuiet (holdings node.plan node.posts)
+            (held_at (tied_moment self.now.opening self.now.events).network name.now)) }
+        ensures exact { IfSome (option_copied result) (λ node. present node
             ≡ held_at (tied_moment self.now.opening self.now.events).network name.now) }
     {
         match self.nodes.seat_named(name) {

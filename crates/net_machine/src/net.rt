@@ -5,6 +5,8 @@ ghost use Rattle.config_model.specs.Event.{has_event_form};
 ghost use Rattle.config_ties.specs.Kept.{AreAlike, ties_in};
 ghost use Rattle.config_ties.specs.Tying.{ties_of};
 ghost use Rattle.network_model.specs.Events.{event_of};
+ghost use Rattle.network_model.specs.Setup.{checked};
+ghost use Rattle.network_model.specs.Setup.{opening as opening_setup};
 ghost use Rattle.network_model.specs.Steps.{is_settled};
 ghost use Rattle.compiled_laws.specs.Moments.{SettlesInTime};
 ghost use Rattle.net_model.specs.Seats.{whos};
@@ -71,8 +73,8 @@ impl Model for Net {
 
 /// A network of nodes that have nothing of each other, with the ties of its configuration.
 fn with_nodes(alloc: Global, nodes: Nodes, opening: Valid, ties: Ties) -> Result<Net, NoMemory>
-    requires seats { nodes.seats ≡ map fresh_seat (whos opening) }
-    requires ties { AreAlike (ties_in ties) (ties_of opening.config) }
+    requires seats { nodes.seats ≡ map fresh_seat (whos (opening_setup opening)) }
+    requires ties { AreAlike (ties_in ties) (ties_of opening) }
     requires works { nodes.failed ≡ false }
     ensures opening { IfOk result (λ net. net.opening ≡ opening) }
     ensures events { IfOk result (λ net. net.events ≡ []) }
@@ -82,7 +84,7 @@ fn with_nodes(alloc: Global, nodes: Nodes, opening: Valid, ties: Ties) -> Result
     ensures rounds { IfOk result (λ net. SettlesInTime message_size (tied_moment net.opening net.events).network) }
 {
     let _config = opening.config();
-    let order = order_of(alloc, &nodes, &opening)?;
+    let order = order_of(alloc, &nodes, opening.topology())?;
     Ok(Net {
         alloc,
         nodes,
@@ -147,7 +149,7 @@ impl Net {
         let answer = happen_tied(
             self.alloc,
             &mut self.nodes,
-            self.order.as_slice(),
+            &mut self.order,
             &mut self.ties,
             &event,
         )?;
@@ -161,7 +163,7 @@ impl Net {
         requires { self.now.failed ≡ false }
         ensures settled { result ≡ is_settled (tied_moment self.now.opening self.now.events).network }
         ensures compiled { result ≡ true
-            → ShowsCompiled (tied_moment self.now.opening self.now.events).network.setup self.now.seats }
+            → ShowsCompiled (checked (tied_moment self.now.opening self.now.events).network.setup) self.now.seats }
     {
         is_settled(&self.nodes, self.order.as_slice())
     }
@@ -169,7 +171,7 @@ impl Net {
     /// The configuration that is valid now, with its topology. It takes no memory.
     pub fn config(&self) -> &Valid
         requires { self.now.failed ≡ false }
-        ensures { result.now ≡ (tied_moment self.now.opening self.now.events).network.setup }
+        ensures { result.now ≡ checked (tied_moment self.now.opening self.now.events).network.setup }
     {
         self.nodes.valid()
     }

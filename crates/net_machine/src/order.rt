@@ -1,13 +1,12 @@
 //! The sessions of a network, in the order of a round.
 ghost use Rattle.std.specs.Prelude.{◌≡◌, ◌≤◌, ◌++◌, ◌∷◌, [], drop, length, option_to_list, IfOk, OnOk};
 ghost use Rattle.std.specs.List.{All};
-ghost use Rattle.network_model.specs.Network.{accesses, feeds, peerings};
-ghost use Rattle.net_machine.specs.Seating.{AreLong, AreSeated, accesses_of, ends_of, order_among, order_of};
+ghost use Rattle.network_model.specs.Network.{accesses, accesses_of, feeds, peerings};
+ghost use Rattle.net_machine.specs.Seating.{AreLong, AreSeated, ends_of, order_among, order_of};
 ghost use Rattle.net_machine.specs.Seating.{peerings_of};
 
 use crate::ends::{SessionEnds, ends_of};
-use config_check::Valid;
-use config_model::Node;
+use config_model::{Node, Topology};
 use net_seats::{Nodes, lists};
 use node_items::config_name;
 use ov_types::{Name, NoMemory, NodeId};
@@ -154,17 +153,16 @@ fn push_accesses(
     Ok(())
 }
 
-/// All sessions: feeds, then those between control nodes, then those of agents.
+/// All sessions of a topology: feeds, then those between control nodes, then those of agents.
 pub(crate) fn order_of(
     alloc: Global,
     nodes: &Nodes,
-    valid: &Valid,
+    topology: &Topology,
 ) -> Result<Vec<SessionEnds>, NoMemory>
     requires { AreLong nodes.now.seats }
-    ensures order { IfOk result (λ order. order.items ≡ order_of nodes.now.seats valid.now) }
+    ensures order { IfOk result (λ order. order.items ≡ order_of nodes.now.seats topology.now) }
     ensures seated { IfOk result (λ order. All (AreSeated nodes.now.seats) order.items) }
 {
-    let topology = valid.topology();
     let controllers = topology.controllers.as_slice();
     let mut order = Vec::new(alloc);
     push_feeds(nodes, controllers, &mut order)?;

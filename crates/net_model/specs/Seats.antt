@@ -1,6 +1,6 @@
 -- The seats of a network: each node, with its links and with the notices of loss that wait at its ends.
-use Rattle.std.specs.Prelude.{ℕ, suc, List, [], ◌∷◌, ◌++◌, length, map, Bool, false, not, ◌&&◌}
-use Rattle.std.specs.Prelude.{find, if◌then◌else◌}
+use Rattle.std.specs.Prelude.{ℕ, suc, ◌+◌, List, [], ◌∷◌, ◌++◌, length, map, Bool, false, not, ◌&&◌}
+use Rattle.std.specs.Prelude.{find, option_and_then, if◌then◌else◌}
 use Rattle.std.specs.declared.option.Option.{Option}
 use Rattle.std.specs.declared.option.Option.TheVariants.{Some, None}
 use Rattle.std.specs.Option.{option_map, unwrap_or}
@@ -12,61 +12,60 @@ use Rattle.config_model.specs.declared.topology.Topology.{Topology}
 use Rattle.config_check.specs.Checked.{Checked}
 pub use Rattle.node_model.specs.Naming.{no_node}
 use Rattle.node_model.specs.Step.{Kind, Post, post}
-use Rattle.network_model.specs.Setup.{Name}
-use Rattle.network_model.specs.Network.{config, lists}
+use Rattle.network_model.specs.Setup.{Name, Setup, agents_of, checked, id_of}
+use Rattle.network_model.specs.Network.{config}
 use Rattle.network_model.specs.Session.{Role, Configuration, Controller, Agent, is_idle, is_up_phase}
 use Rattle.config_node.specs.Core as configuration
-use Rattle.control_node.specs.Wanting as control
-use Rattle.control_node.specs.declared.plan.ControlPlan.{ControlPlan}
 use Rattle.agent_node.specs.Core as agent
 use Rattle.agent_node.specs.declared.plan.AgentPlan.{AgentPlan}
+use Rattle.net_model.specs.Controls as control
+use Rattle.net_model.specs.Controls.{Controls}
 use Rattle.net_model.specs.declared.place.Place.{Place}
 
 -- ---- who is there
 pub data Who : Type 0 where
   -- the configuration node, with what is valid now
   Configuring : Checked → Who
-  Controlling : ControlPlan → Who
+  Controlling : Controls → Who
   Forwarding : AgentPlan → Who
 
 abbrev pub name_of : Who → Name
 name_of (Configuring x) = config
-name_of (Controlling plan) = plan.me.name
+name_of (Controlling c) = c.me.name
 name_of (Forwarding plan) = plan.me.name
 
 abbrev pub role_of : Who → Role
 role_of (Configuring x) = Configuration
-role_of (Controlling plan) = Controller
+role_of (Controlling c) = Controller
 role_of (Forwarding plan) = Agent
 
--- the names at the other ends of its sessions, by their numbers
-abbrev pub names_of : List NodeId → List Name
-names_of nodes = map (λ (n : NodeId). n.name) nodes
+-- the names at the other ends of its sessions, by their numbers. At a retired number there is nobody
+abbrev pub names_of : List NodeId → List (Option Name)
+names_of nodes = map (λ (n : NodeId). Some n.name) nodes
 
-abbrev pub others_of : Who → List Name
+abbrev pub name_there : Option NodeId → Option Name
+name_there o = option_map (λ (n : NodeId). n.name) o
+
+abbrev pub others_of : Who → List (Option Name)
 others_of (Configuring x) = names_of x.topology.controllers
-others_of (Controlling plan) = config ∷ (names_of plan.peers ++ names_of plan.agents)
+others_of (Controlling c) = Some config ∷ (names_of c.peers ++ map name_there c.agents)
 others_of (Forwarding plan) = names_of plan.controllers
 
 -- what it wants its sessions to have been told, where it may send, and how it spells a change
 abbrev pub kind_of : Who → Kind
 kind_of (Configuring x) = configuration.kind x
-kind_of (Controlling plan) = control.kind plan
+kind_of (Controlling c) = control.kind c
 kind_of (Forwarding plan) = agent.kind
 
--- ---- the nodes of a topology
-abbrev pub id_of : Node → NodeId
-id_of n = record { name = n.name; address = n.address }
-
--- the sessions of a control node: with the other control nodes, and with the agents that list it, both in the order of
--- the topology. None is retired
-abbrev pub control_plan : Topology → NodeId → ControlPlan
-control_plan t c = record {
+-- ---- the nodes of a setup
+-- the sessions of a control node: with the other control nodes, in the order of the topology, and with the agents that
+-- list it, by their numbers
+abbrev pub control_plan : Setup → NodeId → Controls
+control_plan x c = record {
   me = c;
-  asn = t.asn;
-  peers = filter (λ (d : NodeId). not (same_name d.name c.name)) t.controllers;
-  agents = map id_of (filter (λ n. lists n c) t.nodes);
-  retired = [];
+  asn = x.topology.asn;
+  peers = filter (λ (d : NodeId). not (same_name d.name c.name)) x.topology.controllers;
+  agents = agents_of x c.name;
 }
 
 abbrev pub controller_named : Topology → Name → NodeId
@@ -77,9 +76,9 @@ abbrev pub agent_plan : Topology → Node → AgentPlan
 agent_plan t n = record { me = id_of n; controllers = map (controller_named t) n.controllers }
 
 -- all nodes: the configuration node, then the control nodes and then the agents, both in the order of the topology
-abbrev pub whos : Checked → List Who
+abbrev pub whos : Setup → List Who
 whos x =
-    Configuring x ∷ (map (λ c. Controlling (control_plan x.topology c)) x.topology.controllers
+    Configuring (checked x) ∷ (map (λ c. Controlling (control_plan x c)) x.topology.controllers
     ++ map (λ n. Forwarding (agent_plan x.topology n)) x.topology.nodes)
 
 -- ---- seats
@@ -123,8 +122,9 @@ notice n i = slice_index_or n.notices i false
 abbrev pub taken_in : Seat → ℕ → ℕ
 taken_in n i = if notice n i then 0 else length (kept_in n i)
 
-abbrev pub other : Seat → ℕ → Name
-other n i = slice_index_or (others_of n.who) i []
+-- the name at the other end, where there is somebody
+abbrev pub other : Seat → ℕ → Option Name
+other n i = slice_index_or (others_of n.who) i None
 
 abbrev pub is_live : Seat → ℕ → Bool
 is_live n i = not (is_idle (post n.posts i).phase)
@@ -137,9 +137,13 @@ abbrev pub index_from : {A : Type 0} → ℕ → (A → Bool) → List A → Opt
 index_from i is [] = None
 index_from i is (x ∷ xs) = if is x then Some i else index_from (suc i) is xs
 
+abbrev pub is_name : Name → Option Name → Bool
+is_name name None = false
+is_name name (Some m) = same_name m name
+
 -- the first session of a node with the node of this name
 abbrev pub session_with : Seat → Name → Option ℕ
-session_with n name = index_from 0 (λ m. same_name m name) (others_of n.who)
+session_with n name = index_from 0 (is_name name) (others_of n.who)
 
 abbrev pub seat_named : List Seat → Name → Option ℕ
 seat_named seats name = index_from 0 (λ (n : Seat). same_name (name_of n.who) name) seats
@@ -154,7 +158,8 @@ place_of seats a b = place_at seats b (seat_named seats a)
 
 -- the other end of the session
 abbrev pub far_of : List Seat → Place → Option Place
-far_of seats p = place_of seats (other (seat seats p.node) p.session) (name_of (seat seats p.node).who)
+far_of seats p =
+    option_and_then (λ b. place_of seats b (name_of (seat seats p.node).who)) (other (seat seats p.node) p.session)
 
 -- ---- what stands at a place
 abbrev pub live_at : List Seat → Place → Bool

@@ -1,6 +1,6 @@
 -- Which state of the machine the seats of a network stand for.
 use Rattle.std.specs.Prelude.{◌≡◌, ◌<◌, ℕ, List, [], ◌∷◌, map, length, take, Bool, true, false, not, ◌&&◌}
-use Rattle.std.specs.declared.option.Option.TheVariants.{Some}
+use Rattle.std.specs.declared.option.Option.TheVariants.{Some, None}
 use Rattle.std.specs.List.{AllByRecursion}
 use Rattle.bgp_wire.specs.Content.{KeepsAlive}
 use Rattle.bgp_wire.specs.Spelling as wire
@@ -12,7 +12,7 @@ use Rattle.config_model.specs.declared.event.Event.{Event as Written}
 use Rattle.node_items.specs.Told as items
 use Rattle.node_model.specs.Keys.{Vpn}
 use Rattle.node_model.specs.Maps.{Change}
-use Rattle.node_model.specs.Step.{post}
+use Rattle.node_model.specs.Step.{nothing, post}
 use Rattle.node_peers.specs.Hearing.{open_octets}
 use Rattle.node_peers.specs.Told as routes
 use Rattle.network_model.specs.Setup.{Name}
@@ -21,13 +21,13 @@ use Rattle.network_model.specs.Network.{Network, start}
 use Rattle.network_model.specs.Steps.{session_of}
 use Rattle.network_model.specs.Events.{after, event_of}
 use Rattle.net_model.specs.Seats.{Who, Controlling, Seat, whos, name_of, others_of}
-use Rattle.net_model.specs.Seats.{breaks_in, far_of, kept_at, link, link_at, notice, notice_at, other, seat, taken_in}
+use Rattle.net_model.specs.Seats.{breaks_in, far_of, kept_at, kept_in, link, link_at, notice, notice_at, other, seat, taken_in}
 use Rattle.net_model.specs.declared.place.Place.{Place}
 
 -- ---- the octets of a message on a link
 -- the OPEN of a control node
 abbrev pub open_of : Who → List ℕ
-open_of (Controlling plan) = open_octets plan.asn plan.me.address
+open_of (Controlling c) = open_octets c.asn c.me.address
 open_of _ = []
 
 abbrev pub octets_of : Who → Bool → Message → List ℕ
@@ -71,11 +71,19 @@ pub record IsEnd (n : Seat) (i : ℕ) (s : Session) : Type 0 where
   pub breaks : s.near.breaks ≡ breaks_in n i
   pub taken : s.far.taken ≡ taken_in n i
 
--- it stands among the sessions of the network, with the node at its other end
-pub record HasEnd (w : Network) (n : Seat) (i : ℕ) : Type 0 where
+-- it stands among the sessions of the network, with the node of this name at its other end
+pub record HasEnd (w : Network) (n : Seat) (i : ℕ) (b : Name) : Type 0 where
   pub session : Session
-  pub found : session_of w (name_of n.who) (other n i) ≡ Some session
+  pub found : session_of w (name_of n.who) b ≡ Some session
   pub is : IsEnd n i session
+
+-- an end of a session that is nobody's: there is nothing at it
+pub record IsVacant (n : Seat) (i : ℕ) : Type 0 where
+  pub post : post n.posts i ≡ nothing
+  pub kept : kept_in n i ≡ []
+  pub link : link n i ≡ []
+  pub breaks : breaks_in n i ≡ []
+  pub notice : notice n i ≡ false
 
 pub record IsLong (n : Seat) : Type 0 where
   pub posts : length n.posts ≡ length (others_of n.who)
@@ -107,7 +115,10 @@ KeepsPart seats p =
 pub record Seats (seats : List Seat) (w : Network) : Type 0 where
   pub who : map (λ (n : Seat). n.who) seats ≡ whos w.setup
   pub long : (k : ℕ) → k < length seats → IsLong (seat seats k)
-  pub ends : (k i : ℕ) → k < length seats → i < length (seat seats k).posts → HasEnd w (seat seats k) i
+  pub ends : (k i : ℕ) → k < length seats → i < length (seat seats k).posts
+      → (b : Name) → other (seat seats k) i ≡ Some b → HasEnd w (seat seats k) i b
+  pub vacant : (k i : ℕ) → k < length seats → i < length (seat seats k).posts
+      → other (seat seats k) i ≡ None → IsVacant (seat seats k) i
   pub parts : (k i : ℕ) → k < length seats → i < length (seat seats k).posts
       → KeepsPart seats (record { node = k; session = i })
 

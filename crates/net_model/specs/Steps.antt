@@ -10,21 +10,18 @@ use Rattle.item_wire.specs.declared.event.ItemCause.{ItemCause}
 use Rattle.ov_types.specs.declared.rows.NodeRows.{NodeRows}
 use Rattle.ov_types.specs.declared.rows.NodeRows.TheVariants as Rows
 use Rattle.route_targets.specs.Forwarding.{Forwarder}
-use Rattle.config_model.specs.declared.edit.Edit.{Edit}
 use Rattle.config_check.specs.Checked.{Checked}
-use Rattle.config_check.specs.declared.edits.EditFault.{EditFault}
 use Rattle.node_core.specs.Keeping.{AreSwept}
 use Rattle.node_core.specs.Whole.{session_of}
 use Rattle.node_model.specs.Agent.{rows as agent_rows}
 use Rattle.node_model.specs.Tables.{rows as control_rows}
 use Rattle.node_model.specs.Step.{Begun, Post, nothing, post, begun, planned, told_all}
-use Rattle.network_model.specs.Setup.{edited}
 use Rattle.config_node.specs.Beginning as configuration
 use Rattle.control_node.specs.Beginning as control
-use Rattle.control_node.specs.Core as controls
 use Rattle.control_node.specs.declared.cause.NodeCause.{NodeCause}
 use Rattle.agent_node.specs.Beginning as agent
 use Rattle.agent_node.specs.Core as agents
+use Rattle.net_model.specs.Controls as controls
 use Rattle.net_model.specs.Seats.{Who, Configuring, Controlling, Forwarding, Seat, breaks_at, breaks_in, far_of}
 use Rattle.net_model.specs.Seats.{is_down_at, kept_in, kind_of, link, live_at, others_of, seat}
 use Rattle.net_model.specs.declared.place.Place.{Place}
@@ -33,8 +30,8 @@ use Rattle.net_model.specs.declared.place.Place.{Place}
 abbrev pub BeginsAt : Who → ℕ → Post → List ℕ → Input → Begun → List ℕ → Type 0
 BeginsAt (Configuring x) i p kept input given left =
     (c : Option ItemCause) × configuration.BeginsKeeping x i p kept input given c left
-BeginsAt (Controlling plan) i p kept input given left =
-    (c : Option NodeCause) × control.BeginsKeeping plan i p kept input given c left
+BeginsAt (Controlling c) i p kept input given left =
+    (cause : Option NodeCause) × control.BeginsKeeping (controls.plan_of c) i p kept input given cause left
 BeginsAt (Forwarding plan) i p kept input given left =
     (c : Option ItemCause) × agent.BeginsKeeping plan i p kept input given c left
 
@@ -174,22 +171,19 @@ fresh_seat who = record {
   notices = all_of false (others_of who);
 }
 
--- ---- an edit at the configuration node, whose number is 0: a fault changes nothing, and else every control node is
--- told what the edited configuration wants
-abbrev pub MakesEdit : List Seat → Checked → Edit → Option EditFault → List Seat → Type 0
-MakesEdit seats x e (Some f) seats' = seats' ≡ seats
-MakesEdit seats x e None seats' =
-    (y : Checked) × (n' : Seat) × (edited x e ≡ Some y)
-    × IsStepped (record (seat seats 0) { who = Configuring y }) n' 0 (as_it_is (seat seats 0))
-    × AreSwept n'.posts (seat seats 0).kept n'.kept
-    × (seats' ≡ with_seat 0 n' seats)
+-- ---- the configuration node, whose number is 0, has another configuration: every control node is told what it wants
+pub record Configures (seats : List Seat) (y : Checked) (seats' : List Seat) : Type 0 where
+  pub node : Seat
+  pub stepped : IsStepped (record (seat seats 0) { who = Configuring y }) node 0 (as_it_is (seat seats 0))
+  pub swept : AreSwept node.posts (seat seats 0).kept node.kept
+  pub is : seats' ≡ with_seat 0 node seats
 
 -- ---- what is shown
 abbrev pub shown_by : Seat → NodeRows
 shown_by n =
     elim n.who [
       | Configuring x ↦ Rows.Control []
-      | Controlling plan ↦ Rows.Control (control_rows (controls.holdings plan n.posts))
+      | Controlling c ↦ Rows.Control (control_rows (controls.holdings c n.posts))
       | Forwarding plan ↦ Rows.Agent (agent_rows (agents.holdings n.posts))
     ]
 
@@ -198,7 +192,7 @@ abbrev pub forwarder_of : Seat → Option Forwarder
 forwarder_of n =
     elim n.who [
       | Configuring x ↦ None
-      | Controlling plan ↦ None
+      | Controlling c ↦ None
       | Forwarding plan ↦ Some (record { address = plan.me.address; rows = agent_rows (agents.holdings n.posts) })
     ]
 

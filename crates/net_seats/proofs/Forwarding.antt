@@ -1,18 +1,15 @@
--- What the agents forward by, and an edit at the first node.
-use Rattle.std.proofs.Common.{◌≡◌, suc, List, [], ◌∷◌, ◌++◌, Result, Ok, Err, IfOk, Option, map, sym, ◌∙◌, ap, refl, subst, arith}
+-- What the agents forward by, and another configuration at the first node.
+use Rattle.std.proofs.Common.{◌≡◌, suc, List, [], ◌∷◌, ◌++◌, Result, Ok, Err, IfOk, map, sym, ◌∙◌, ap, refl, subst, arith}
 use Rattle.std.specs.List.{All}
 use Rattle.ov_types.specs.declared.rows.AgentRows.{AgentRows}
 use Rattle.ov_link.specs.FailingState.{FailingState}
 use Rattle.config_check.specs.Checked.{Checked}
-use Rattle.config_check.specs.declared.edits.EditFault.{EditFault}
-use Rattle.config_model.specs.declared.edit.Edit.{Edit}
 use Rattle.route_targets.specs.Forwarding.{Forwarder}
 use Rattle.node_model.specs.Agent.{rows as node_rows}
 use Rattle.config_node.specs.Core as configuration
 use Rattle.control_node.specs.Core as control
 use Rattle.agent_node.specs.Core as agent
-use Rattle.net_model.specs.Seats.{Configuring}
-use Rattle.net_seats.specs.Changes.{EditsOver, forwarders}
+use Rattle.net_seats.specs.Changes.{SetsOver, forwarders}
 use Rattle.net_seats.specs.Cores.{IsRight, configured, controlled, forwarded, inners}
 use Rattle.net_seats.specs.Halves.{Inner}
 
@@ -35,12 +32,7 @@ pub all_forward : (x : configuration.Core) (controls : List control.Core) (agent
     → map shown_at agents ≡ forwarders (inners x controls agents)
 all_forward x controls agents h = agents_forward agents h ∙ past_controls controls (map forwarded agents)
 
-pub edits_there : {E : Type 0} (r : Result (Option EditFault) E) (n : Inner) (old : configuration.Core) (n' : Inner) (links links' : List FailingState) (e : Edit)
-    → n ≡ configured old → IfOk r (λ fault. EditsOver links links' (configured old) n' old.setup e fault)
-    → IfOk r (λ fault. (x : Checked) → n.who ≡ Configuring x → EditsOver links links' n n' x e fault)
-edits_there (Err y) n old n' links links' e is edits = tt
-edits_there (Ok fault) n old n' links links' e is edits = λ x who.
-    let both : Configuring old.setup ≡ Configuring x = ap (λ (m : Inner). m.who) (sym is) ∙ who in
-    let same : old.setup ≡ x = cc in
-    subst (λ (m : Inner). EditsOver links links' m n' x e fault) (sym is)
-    (subst (λ (y : Checked). EditsOver links links' (configured old) n' y e fault) same edits)
+pub sets_there : {T E : Type 0} (r : Result T E) (n : Inner) (old : configuration.Core) (n' : Inner) (links links' : List FailingState) (y : Checked)
+    → n ≡ configured old → IfOk r (λ _. SetsOver links links' (configured old) n' y) → IfOk r (λ _. SetsOver links links' n n' y)
+sets_there (Err e) n old n' links links' y is sets = tt
+sets_there (Ok x) n old n' links links' y is sets = subst (λ (m : Inner). SetsOver links links' m n' y) (sym is) sets

@@ -1,6 +1,7 @@
 pub mod Sends
 pub mod Links
 pub mod Failing
+pub mod Vacant
 pub mod Stepping
 pub mod Halves
 pub mod Numbers
@@ -13,3 +14,9 @@ pub mod Emptied
 pub mod Standing
 pub mod SetUp
 pub mod Made
+pub mod Leaving
+pub mod Joining
+pub mod Reseating
+pub mod Moved
+pub mod Seating
+pub mod Shifts

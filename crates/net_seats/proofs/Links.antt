@@ -1,5 +1,5 @@
 -- Links that may fail, by what they keep.
-use Rattle.std.proofs.Common.{◌≡◌, ◌<◌, ℕ, Bool, Some, List, [], ◌∷◌, length, get_or, set, sym, ◌∙◌, ap, refl}
+use Rattle.std.proofs.Common.{◌≡◌, ◌<◌, ℕ, Bool, Option, Some, List, [], ◌∷◌, length, get_or, set, sym, ◌∙◌, ap, refl}
 use Rattle.std.proofs.Math.ListN.{get_or-map as get_or-mapped}
 use Rattle.std.proofs.lemmas.List.{get_or-map, length-map, map-set, set-get_or}
 use Rattle.std.proofs.lemmas.Option.{get_or_from_slice_get, slice_get_within}
@@ -11,7 +11,7 @@ use Rattle.net_model.specs.Steps.{all_of}
 use Rattle.net_seats.specs.Halves.{IsEven, Outer, accepted_of, breaks_of}
 
 -- an edge with these links
-abbrev pub edge_of : Name → List Name → List Bool → List FailingState → Outer
+abbrev pub edge_of : Name → List (Option Name) → List Bool → List FailingState → Outer
 edge_of name others notices links = record {
   name = name;
   others = others;
@@ -20,7 +20,7 @@ edge_of name others notices links = record {
   notices = notices;
 }
 
-pub even_of : (name : Name) (others : List Name) (notices : List Bool) (ls ls' : List FailingState)
+pub even_of : (name : Name) (others : List (Option Name)) (notices : List Bool) (ls ls' : List FailingState)
     → IsEven (edge_of name others notices ls) → length ls' ≡ length ls → IsEven (edge_of name others notices ls')
 even_of name others notices ls ls' even long = record {
   links = length-map ls' (λ (l : FailingState). l.accepted) ∙ (long ∙ (sym (length-map ls (λ (l : FailingState). l.accepted)) ∙ even.links));
@@ -29,7 +29,7 @@ even_of name others notices ls ls' even long = record {
   few = even.few;
 }
 
-pub links_long : (name : Name) (others : List Name) (notices : List Bool) (ls : List FailingState) (e : Outer)
+pub links_long : (name : Name) (others : List (Option Name)) (notices : List Bool) (ls : List FailingState) (e : Outer)
     → edge_of name others notices ls ≡ e → length ls ≡ length e.links
 links_long name others notices ls e view =
     sym (length-map ls (λ (l : FailingState). l.accepted)) ∙ ap (λ (o : Outer). length o.links) view
@@ -83,7 +83,7 @@ module _ (ls : List FailingState) (i : ℕ) (l : FailingState) (at : slice_get l
         ∙ (ap (λ (bs : List ℕ). set (breaks_of ls) i bs) (sym breaks_at) ∙ set-get_or (breaks_of ls) i [])
 
     -- ---- in an edge
-    module _ (o : Outer) (name : Name) (others : List Name) (notices : List Bool) where
+    module _ (o : Outer) (name : Name) (others : List (Option Name)) (notices : List Bool) where
       module _ (view : edge_of name others notices ls ≡ o) where
         -- the messages of one end change
         pub links_changed : (f : List (List ℕ) → List (List ℕ)) → new.accepted ≡ f l.accepted → new.breaks ≡ l.breaks

@@ -1,6 +1,7 @@
 -- Nodes by their numbers: the configuration node, the control nodes and the agents.
-use Rattle.std.proofs.Common.{◌≡◌, ◌<◌, ◌+◌, ℕ, zero, suc, List, [], ◌∷◌, ◌++◌, length, map, get_or, set, sym, ◌∙◌, ap, refl, arith, zero-add}
+use Rattle.std.proofs.Common.{◌≡◌, ◌<◌, ◌+◌, ℕ, zero, suc, List, [], ◌∷◌, ◌++◌, length, map, get_or, set, sym, ◌∙◌, ap, refl, subst, arith, zero-add}
 use Rattle.std.proofs.lemmas.List.{get_or-set_same}
+use Rattle.std.specs.List.{All}
 use Rattle.config_node.specs.Core as configuration
 use Rattle.control_node.specs.Core as control
 use Rattle.agent_node.specs.Core as agent
@@ -102,6 +103,9 @@ pub standing_at : {A : Type 0} (xs : List A) (k : ℕ) → k < length xs → (x 
 standing_at [] k lt = absurd (omega arith)
 standing_at (x ∷ xs) zero lt = (x, refl)
 standing_at (x ∷ xs) (suc k) lt = standing_at xs k (omega arith)
+
+pub all_there : {A : Type 0} (P : A → Type 0) (xs : List A) (k : ℕ) (x : A) → All P xs → k < length xs → x ≡ get_or xs k x → P x
+all_there P xs k x all lt at = subst P (sym at) (all k x lt)
 
 -- ---- one node in place of another
 pub set_at : (v v' : List Inner) (node : ℕ) (new : Inner) → v' ≡ set v node new → node < length v → inner v' node ≡ new

@@ -1,15 +1,13 @@
 -- The seats of all nodes, where one of them is looked at or changed.
-use Rattle.std.proofs.Common.{◌≡◌, ◌<◌, ℕ, Bool, Result, Ok, Err, IfOk, Option, Some, None, List, length, get_or, set, sym, ◌∙◌, ap, subst, arith}
+use Rattle.std.proofs.Common.{◌≡◌, ◌<◌, ℕ, Bool, Result, Ok, Err, IfOk, Option, List, length, get_or, set, sym, ◌∙◌, ap, subst, arith}
 use Rattle.ov_link.specs.FailingState.{FailingState}
 use Rattle.ov_link.specs.declared.step.Input.{Input}
 use Rattle.config_check.specs.Checked.{Checked}
-use Rattle.config_check.specs.declared.edits.EditFault.{EditFault}
-use Rattle.config_model.specs.declared.edit.Edit.{Edit}
 use Rattle.node_core.specs.Keeping.{AreSwept}
 use Rattle.network_model.specs.Setup.{Name}
 use Rattle.net_model.specs.Seats.{Seat, Configuring, nobody, others_of, seat}
-use Rattle.net_model.specs.Steps.{IsStepped, MakesEdit, Takes, as_it_is, with_seat}
-use Rattle.net_seats.specs.Changes.{ChangesOne, EditsOver, TakesOver}
+use Rattle.net_model.specs.Steps.{Configures, IsStepped, Takes, as_it_is, with_seat}
+use Rattle.net_seats.specs.Changes.{ChangesOne, SetsOver, TakesOver}
 use Rattle.net_seats.specs.Halves.{AreAllHalves, AreHalves, Inner, IsEven, Outer, inner, joined, no_inner, no_outer, outer, whole}
 use Rattle.net_seats.proofs.Links.{edge_of}
 use Rattle.net_seats.proofs.Halves.{as_many, as_many_seats, halves_at, halves_set, joined_set, same_at, seat_at, set_itself}
@@ -70,7 +68,7 @@ module _ (ns : List Inner) (os : List Outer) (h : AreAllHalves ns os) (j k : ℕ
         (subst (λ (ms : List Inner). AreAllHalves ms (set os k o')) (sym changes.one) (halves_set ns os k (inner ns' k) o' h new))
 
   -- ---- a step over the links of the edge
-  module _ (ns' : List Inner) (name : Name) (others : List Name) (notices : List Bool) (ls ls' : List FailingState) (e : Outer)
+  module _ (ns' : List Inner) (name : Name) (others : List (Option Name)) (notices : List Bool) (ls ls' : List FailingState) (e : Outer)
       (at : e ≡ get_or os j e) (view : edge_of name others notices ls ≡ e) where
     abbrev later : Outer
     later = edge_of name others notices ls'
@@ -86,33 +84,23 @@ module _ (ns : List Inner) (os : List Outer) (h : AreAllHalves ns os) (j k : ℕ
       seat_changed ns' e later at one,
     )
 
-    edit_made : (x : Checked) (edit : Edit) (fault : Option EditFault) → ns' ≡ set ns k (inner ns' k) → k ≡ 0
-        → EditsOver ls ls' (inner ns k) (inner ns' k) x edit fault
-        → MakesEdit (joined ns os) x edit fault (joined ns' (set os j later))
-    edit_made x edit (Some f) one first edits =
-        seat_changed ns' e later at one
-        ∙ (ap (λ (n : Inner). set (joined ns os) k (whole n later)) edits.0
-        ∙ (ap (λ (links : List FailingState). set (joined ns os) k (whole (inner ns k) (edge_of name others notices links))) edits.1
-        ∙ (ap (λ (o : Outer). set (joined ns os) k (whole (inner ns k) o)) view
-        ∙ (ap (λ (n : Seat). set (joined ns os) k n) (sym (whole_is e at)) ∙ set_itself (joined ns os) k nobody))))
-    edit_made x edit None one first edits = (
-      edits.0,
-      whole (inner ns' k) later,
-      edits.1,
-      subst (λ (i : ℕ). IsStepped (record (seat (joined ns os) i) { who = Configuring edits.0 }) (whole (inner ns' k) later) 0 (as_it_is (seat (joined ns os) i))) first
-          (subst (λ (n : Seat). IsStepped (record n { who = Configuring edits.0 }) (whole (inner ns' k) later) 0 (as_it_is n)) (sym (whole_is e at))
-          (subst (λ (o : Outer). IsStepped (record (whole (inner ns k) o) { who = Configuring edits.0 }) (whole (inner ns' k) later) 0 (as_it_is (whole (inner ns k) o))) view (edits.2 notices))),
-      subst (λ (i : ℕ). AreSwept (inner ns' k).posts (seat (joined ns os) i).kept (inner ns' k).kept) first
-          (subst (λ (n : Seat). AreSwept (inner ns' k).posts n.kept (inner ns' k).kept) (sym (whole_is e at)) edits.3),
-      subst (λ (i : ℕ). joined ns' (set os j later) ≡ with_seat i (whole (inner ns' k) later) (joined ns os)) first (seat_changed ns' e later at one),
-    )
+    sets_made : (y : Checked) → ns' ≡ set ns k (inner ns' k) → k ≡ 0 → SetsOver ls ls' (inner ns k) (inner ns' k) y
+        → Configures (joined ns os) y (joined ns' (set os j later))
+    sets_made y one first sets = record {
+      node = whole (inner ns' k) later;
+      stepped = subst (λ (i : ℕ). IsStepped (record (seat (joined ns os) i) { who = Configuring y }) (whole (inner ns' k) later) 0 (as_it_is (seat (joined ns os) i))) first
+          (subst (λ (n : Seat). IsStepped (record n { who = Configuring y }) (whole (inner ns' k) later) 0 (as_it_is n)) (sym (whole_is e at))
+          (subst (λ (o : Outer). IsStepped (record (whole (inner ns k) o) { who = Configuring y }) (whole (inner ns' k) later) 0 (as_it_is (whole (inner ns k) o))) view (sets.0 notices)));
+      swept = subst (λ (i : ℕ). AreSwept (inner ns' k).posts (seat (joined ns os) i).kept (inner ns' k).kept) first
+          (subst (λ (n : Seat). AreSwept (inner ns' k).posts n.kept (inner ns' k).kept) (sym (whole_is e at)) sets.1);
+      is = subst (λ (i : ℕ). joined ns' (set os j later) ≡ with_seat i (whole (inner ns' k) later) (joined ns os)) first (seat_changed ns' e later at one);
+    }
 
-    pub edits_at : {E : Type 0} (r : Result (Option EditFault) E) (edit : Edit) → ns' ≡ set ns k (inner ns' k) → k ≡ 0
-        → IfOk r (λ fault. (x : Checked) → (inner ns k).who ≡ Configuring x → EditsOver ls ls' (inner ns k) (inner ns' k) x edit fault)
-        → IfOk r (λ fault. (x : Checked) → (seat (joined ns os) k).who ≡ Configuring x → MakesEdit (joined ns os) x edit fault (joined ns' (set os j later)))
-    edits_at (Err x) edit one first edits = tt
-    edits_at (Ok fault) edit one first edits =
-        λ x who. edit_made x edit fault one first (edits x (ap (λ (n : Seat). n.who) (sym (whole_is e at)) ∙ who))
+    pub sets_at : {T E : Type 0} (r : Result T E) (y : Checked) → ns' ≡ set ns k (inner ns' k) → k ≡ 0
+        → IfOk r (λ _. SetsOver ls ls' (inner ns k) (inner ns' k) y)
+        → IfOk r (λ _. Configures (joined ns os) y (joined ns' (set os j later)))
+    sets_at (Err x) y one first sets = tt
+    sets_at (Ok x) y one first sets = sets_made y one first sets
 
 -- ---- of all that stands
 pub below_all : (ns : List Inner) (os : List Outer) (seats : List Seat) (k : ℕ) → AreAllHalves ns os → joined ns os ≡ seats

@@ -1,5 +1,5 @@
 -- What a step over links, an edit and a restart come to at a seat, for each kind of node.
-use Rattle.std.proofs.Common.{◌≡◌, ◌≢◌, ◌<◌, ℕ, Bool, true, false, Err, zero, suc, Option, Some, None, Result, List, [], ◌∷◌, length, sym, ◌∙◌, ap, refl, arith, length-append}
+use Rattle.std.proofs.Common.{◌≡◌, ◌≢◌, ◌<◌, ℕ, Bool, true, false, Err, zero, suc, Option, Some, Result, List, [], ◌∷◌, length, sym, ◌∙◌, ap, refl, arith}
 use Rattle.std.specs.List.{slice_set}
 use Rattle.ov_link.specs.FailingState.{FailingState}
 use Rattle.ov_link.specs.declared.step.Input.{Input}
@@ -8,25 +8,28 @@ use Rattle.ov_link.specs.declared.step.NodeFault.TheVariants.{NoMemory}
 use Rattle.ov_link.specs.declared.step.Stepped.{Stepped}
 use Rattle.ov_types.specs.declared.rows.NodeId.{NodeId}
 use Rattle.config_check.specs.Checked.{Checked}
-use Rattle.config_check.specs.declared.edits.EditFault.{EditFault}
-use Rattle.config_model.specs.declared.edit.Edit.{Edit}
-use Rattle.config_model.specs.declared.topology.Topology.{Topology}
 use Rattle.node_core.specs.Keeping.{AreSwept, kept_at, nothing_kept}
 use Rattle.node_core.specs.Resting.{nothings}
 use Rattle.node_core.specs.Whole.{IsWholeStep, session_of}
-use Rattle.node_model.specs.Step.{Begun, Post, nothing, post}
+use Rattle.node_model.specs.Step.{Begun, Post, Steps, nothing, post}
 use Rattle.config_node.specs.Core as configuration
+use Rattle.control_node.specs.Agents.{is_retired}
+use Rattle.control_node.specs.Beginning.{BeginsKeeping}
 use Rattle.control_node.specs.Core as control
+use Rattle.control_node.specs.Wanting as wanting
+use Rattle.control_node.specs.declared.cause.NodeCause.{NodeCause}
 use Rattle.control_node.specs.declared.plan.ControlPlan.{ControlPlan}
 use Rattle.agent_node.specs.Core as agent
 use Rattle.agent_node.specs.declared.plan.AgentPlan.{AgentPlan}
+use Rattle.net_model.specs.Controls.{controls_of}
 use Rattle.net_model.specs.Seats.{Who, Configuring, Controlling, Forwarding, kind_of, names_of, others_of}
 use Rattle.net_model.specs.Steps.{BeginsAt, all_of}
-use Rattle.net_seats.specs.Changes.{EditsOver, TakesOver, emptied_inner}
-use Rattle.net_seats.specs.Cores.{configured, controlled, forwarded}
+use Rattle.net_seats.specs.Changes.{SetsOver, TakesOver, emptied_inner}
+use Rattle.net_seats.specs.Cores.{IsVacated, configured, controlled, forwarded}
 use Rattle.net_seats.specs.Halves.{Inner}
-use Rattle.config_node.specs.Editing.{IsEdited, as_it_is}
+use Rattle.config_node.specs.Setting.{as_it_is}
 use Rattle.net_seats.proofs.Failing.{failing_steps}
+use Rattle.net_seats.proofs.Vacant.{begins_alike, node_steps, none_after, none_fresh, sessions_there}
 
 -- ---- a step
 pub takes_over : {C : Type 0} (n n' : Inner) (input : Input) (links links' : List FailingState) (left : List ℕ)
@@ -46,6 +49,36 @@ takes_over n n' input links links' left Begins result begins same lt long whole 
   swept = swept;
 }
 
+-- of a control node
+pub control_takes : (c c' : control.Core) (input : Input) (links links' : List FailingState) (left : List ℕ)
+    (result : Result (Stepped NodeCause) NodeFault) → IsVacated c → is_retired c.plan (session_of input) ≡ false → c'.plan ≡ c.plan
+    → session_of input < length c.posts → length links' ≡ length links
+    → IsWholeStep (λ (l : FailingState). Some l.accepted) (λ (l : FailingState). Some l.breaks) (λ (l : FailingState). l.faults)
+    (wanting.kind c.plan)
+    (λ given cause. BeginsKeeping c.plan (session_of input) (post c.posts (session_of input)) (kept_at c.kept (session_of input)) input given cause left)
+    c.posts c'.posts (session_of input) links links' result
+    → AreSwept c'.posts (slice_set c.kept (session_of input) left) c'.kept
+    → TakesOver links links' (controlled c) (controlled c') input × IsVacated c'
+control_takes c c' input links links' left result vacated stays same lt long whole swept =
+    let i = session_of input in (
+      λ notices. record {
+        given = whole.given;
+        left = left;
+        begins = (whole.cause, begins_alike c.plan i (post c.posts i) (kept_at c.kept i) input whole.given whole.cause left stays whole.begins);
+        stepped = failing_steps (controlled c) (controlled c') i whole.given links links' _ (ap (λ (plan : ControlPlan). Controlling (controls_of plan)) same) lt long
+            (node_steps c.plan c.posts c'.posts vacated.none i stays whole.given links links' _ whole.steps) notices;
+        swept = swept;
+      },
+      record {
+        none = λ j gone. none_after c.plan c.posts c'.posts vacated.none i stays whole.given links links' _ whole.steps j
+            (ap (λ (plan : ControlPlan). is_retired plan j) (sym same) ∙ gone);
+      },
+    )
+
+pub fresh_vacated : (c : control.Core) (plan : ControlPlan) → c ≡ control.fresh plan → IsVacated c
+fresh_vacated c plan is =
+    record { none = λ i gone. ap (λ (n : control.Core). post n.posts i) is ∙ none_fresh (control.sessions plan) i }
+
 -- a step that did not fail found memory
 pub never_failed : {T : Type 0} (result : Result T NodeFault) (failed : Bool) → (result ≡ Err NoMemory → failed ≡ true) → failed ≡ false
     → result ≢ Err NoMemory
@@ -58,13 +91,6 @@ named (n ∷ nodes) = ap suc (named nodes)
 
 pub sessions_of_config : (x : Checked) → length (others_of (Configuring x)) ≡ configuration.sessions x
 sessions_of_config x = named x.topology.controllers
-
-pub sessions_of_control : (plan : ControlPlan) → length (others_of (Controlling plan)) ≡ control.sessions plan
-sessions_of_control plan =
-    let both = length-append (names_of plan.peers) (names_of plan.agents) in
-    let peers = named plan.peers in
-    let agents = named plan.agents in
-    omega arith
 
 pub sessions_of_agent : (plan : AgentPlan) → length (others_of (Forwarding plan)) ≡ agent.sessions plan
 sessions_of_agent plan = named plan.controllers
@@ -106,10 +132,10 @@ module _ (who : Who) (posts : List Post) (kept : List (List ℕ)) (sessions : �
     ap (λ (m : Inner). length m.kept) (fresh_is n is) ∙ as_long [] kept,
   )
 
-pub control_emptied : (c c' : control.Core) → c' ≡ control.fresh c.plan → length c.posts ≡ length (others_of (Controlling c.plan))
-    → length c.kept ≡ length (others_of (Controlling c.plan)) → controlled c' ≡ emptied_inner (controlled c)
+pub control_emptied : (c c' : control.Core) → c' ≡ control.fresh c.plan → length c.posts ≡ length (others_of (Controlling (controls_of c.plan)))
+    → length c.kept ≡ length (others_of (Controlling (controls_of c.plan))) → controlled c' ≡ emptied_inner (controlled c)
 control_emptied c c' is long kept =
-    fresh_is (Controlling c.plan) c.posts c.kept (control.sessions c.plan) (sessions_of_control c.plan) long kept (controlled c') (ap controlled is)
+    fresh_is (Controlling (controls_of c.plan)) c.posts c.kept (control.sessions c.plan) (sessions_there c.plan) long kept (controlled c') (ap controlled is)
 
 pub agent_emptied : (a a' : agent.Core) → a' ≡ agent.fresh a.plan → length a.posts ≡ length (others_of (Forwarding a.plan))
     → length a.kept ≡ length (others_of (Forwarding a.plan)) → forwarded a' ≡ emptied_inner (forwarded a)
@@ -118,42 +144,32 @@ agent_emptied a a' is long kept =
 
 -- as many sessions as there were
 pub config_long : (x y : Checked) (c' : configuration.Core) (posts : List Post) (kept : List (List ℕ)) → c' ≡ configuration.fresh y
-    → y.topology ≡ x.topology → length posts ≡ length (others_of (Configuring x)) → length kept ≡ length (others_of (Configuring x))
+    → y.topology.controllers ≡ x.topology.controllers → length posts ≡ length (others_of (Configuring x)) → length kept ≡ length (others_of (Configuring x))
     → (length c'.posts ≡ length posts) × (length c'.kept ≡ length kept)
 config_long x y c' posts kept is same long kept_long =
     let as_many : length (others_of (Configuring x)) ≡ length (others_of (Configuring y)) =
-    ap (λ (t : Topology). length (names_of t.controllers)) (sym same) in
+    ap (λ (cs : List NodeId). length (names_of cs)) (sym same) in
     fresh_long (Configuring y) posts kept (configuration.sessions y) (sessions_of_config y) (long ∙ as_many) (kept_long ∙ as_many) (configured c') (ap configured is)
 
-pub control_long : (c c' : control.Core) → c' ≡ control.fresh c.plan → length c.posts ≡ length (others_of (Controlling c.plan))
-    → length c.kept ≡ length (others_of (Controlling c.plan)) → (length c'.posts ≡ length c.posts) × (length c'.kept ≡ length c.kept)
+pub control_long : (c c' : control.Core) → c' ≡ control.fresh c.plan → length c.posts ≡ length (others_of (Controlling (controls_of c.plan)))
+    → length c.kept ≡ length (others_of (Controlling (controls_of c.plan))) → (length c'.posts ≡ length c.posts) × (length c'.kept ≡ length c.kept)
 control_long c c' is long kept =
-    fresh_long (Controlling c.plan) c.posts c.kept (control.sessions c.plan) (sessions_of_control c.plan) long kept (controlled c') (ap controlled is)
+    fresh_long (Controlling (controls_of c.plan)) c.posts c.kept (control.sessions c.plan) (sessions_there c.plan) long kept (controlled c') (ap controlled is)
 
 pub agent_long : (a a' : agent.Core) → a' ≡ agent.fresh a.plan → length a.posts ≡ length (others_of (Forwarding a.plan))
     → length a.kept ≡ length (others_of (Forwarding a.plan)) → (length a'.posts ≡ length a.posts) × (length a'.kept ≡ length a.kept)
 agent_long a a' is long kept =
     fresh_long (Forwarding a.plan) a.posts a.kept (agent.sessions a.plan) (sessions_of_agent a.plan) long kept (forwarded a') (ap forwarded is)
 
--- ---- an edit
--- what comes of one that has no fault, besides what is kept
-abbrev IsMade : Checked → Checked → Edit → Inner → Inner → List FailingState → List FailingState → Option ℕ → Type 0
-IsMade x y e n n' links links' lowest =
-    IsEdited (λ (l : FailingState). Some l.accepted) (λ (l : FailingState). Some l.breaks) (λ (l : FailingState). l.faults)
-    x y e n.posts n'.posts links links' lowest
-
-pub edits_over : (c c' : configuration.Core) (e : Edit) (links links' : List FailingState) (fault : Option EditFault) (lowest : Option ℕ)
-    → 0 < length c.posts → length links' ≡ length links
-    → ((f : EditFault) → fault ≡ Some f → (c' ≡ c) × (links' ≡ links))
-    → (fault ≡ None → IsMade c.setup c'.setup e (configured c) (configured c') links links' lowest × AreSwept c'.posts c.kept c'.kept)
-    → EditsOver links links' (configured c) (configured c') c.setup e fault
-edits_over c c' e links links' (Some f) lowest some long refused made =
-    let same = refused f refl in (ap configured same.0, same.1)
-edits_over c c' e links links' None lowest some long refused made =
-    let is = made refl in
-    let made_of : Inner = record (configured c) { who = Configuring c'.setup } in (
-      c'.setup,
-      is.0.made,
-      λ notices. failing_steps made_of (configured c') 0 (as_it_is c.posts) links links' lowest refl some long is.0.steps notices,
-      is.1,
+-- ---- another configuration
+pub sets_over : (c c' : configuration.Core) (y : Checked) (links links' : List FailingState) (lowest : Option ℕ)
+    → 0 < length c.posts → length links' ≡ length links → c'.setup ≡ y
+    → Steps (configuration.kind y) (λ (l : FailingState). Some l.accepted) (λ (l : FailingState). Some l.breaks) (λ (l : FailingState). l.faults)
+    c.posts c'.posts 0 (as_it_is c.posts) links links' lowest
+    → AreSwept c'.posts c.kept c'.kept
+    → SetsOver links links' (configured c) (configured c') y
+sets_over c c' y links links' lowest some long is steps swept =
+    let set_to : Inner = record (configured c) { who = Configuring y } in (
+      λ notices. failing_steps set_to (configured c') 0 (as_it_is c.posts) links links' lowest (ap Configuring is) some long steps notices,
+      swept,
     )

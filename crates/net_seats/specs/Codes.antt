@@ -1,41 +1,51 @@
 -- How seats are told apart: by the codes of their parts.
 use Rattle.std.specs.Prelude.{◌≡◌, ◌⊎◌, ℕ, List, Bool, refl}
-use Rattle.std.specs.Coded.{Coded, code_by, coded×, coded⊎, coded_ℕ, coded_bool, coded_list}
+use Rattle.std.specs.Coded.{Coded, code_by, coded×, coded⊎, coded_ℕ, coded_bool, coded_list, coded_option}
+use Rattle.std.specs.declared.option.Option.{Option}
 use Rattle.std.proofs.Common.{inl, inr}
 use Rattle.config_check.specs.Checked.{Checked}
 use Rattle.config_check.specs.contracts.valid.Valid as valid
-use Rattle.control_node.specs.contracts.plan.ControlPlan as controls
-use Rattle.control_node.specs.declared.plan.ControlPlan.{ControlPlan}
+use Rattle.ov_types.specs.contracts.rows.NodeId as nodes
+use Rattle.ov_types.specs.declared.rows.NodeId.{NodeId}
 use Rattle.agent_node.specs.contracts.plan.AgentPlan as agents
 use Rattle.agent_node.specs.declared.plan.AgentPlan.{AgentPlan}
 use Rattle.node_model.specs.Codes.{coded_post}
 use Rattle.node_model.specs.Step.{Post}
 use Rattle.network_model.specs.Setup.{Name}
+use Rattle.net_model.specs.Controls.{Controls}
 use Rattle.net_model.specs.Seats.{Who, Configuring, Controlling, Forwarding, Seat}
 use Rattle.net_seats.specs.Halves.{Inner, Outer, Standing, seated}
 
 -- ---- who is there
+abbrev pub coded_controls : Coded Controls
+coded_controls =
+    code_by (NodeId × (ℕ × (List NodeId × List (Option NodeId))))
+    (coded× nodes.the_row.coded
+    (coded× coded_ℕ (coded× (coded_list nodes.the_row.coded) (coded_list (coded_option nodes.the_row.coded)))))
+    (λ c. (c.me, (c.asn, (c.peers, c.agents))))
+    (λ c. record { me = c.0; asn = c.1.0; peers = c.1.1.0; agents = c.1.1.1 }) (λ _. refl)
+
 abbrev pub Plan : Type 0
-Plan = Checked ⊎ (ControlPlan ⊎ AgentPlan)
+Plan = Checked ⊎ (Controls ⊎ AgentPlan)
 
 abbrev pub plan_of : Who → Plan
 plan_of (Configuring x) = inl x
-plan_of (Controlling plan) = inr (inl plan)
+plan_of (Controlling c) = inr (inl c)
 plan_of (Forwarding plan) = inr (inr plan)
 
 abbrev pub who_of : Plan → Who
 who_of (inl x) = Configuring x
-who_of (inr (inl plan)) = Controlling plan
+who_of (inr (inl c)) = Controlling c
 who_of (inr (inr plan)) = Forwarding plan
 
 pub plans_tell : (who : Who) → who_of (plan_of who) ≡ who
 plans_tell (Configuring x) = refl
-plans_tell (Controlling plan) = refl
+plans_tell (Controlling c) = refl
 plans_tell (Forwarding plan) = refl
 
 abbrev pub coded_who : Coded Who
 coded_who =
-    code_by Plan (coded⊎ valid.the_row.coded (coded⊎ controls.the_row.coded agents.the_row.coded))
+    code_by Plan (coded⊎ valid.the_row.coded (coded⊎ coded_controls agents.the_row.coded))
     plan_of who_of plans_tell
 
 -- ---- halves
@@ -57,12 +67,12 @@ Links = List Lists
 abbrev pub coded_links : Coded Links
 coded_links = coded_list coded_lists
 
-abbrev pub coded_names : Coded (List Name)
-coded_names = coded_list (coded_list coded_ℕ)
+abbrev pub coded_names : Coded (List (Option Name))
+coded_names = coded_list (coded_option (coded_list coded_ℕ))
 
 abbrev pub coded_outer : Coded Outer
 coded_outer =
-    code_by (Name × (List Name × (Links × (Lists × List Bool))))
+    code_by (Name × (List (Option Name) × (Links × (Lists × List Bool))))
     (coded× (coded_list coded_ℕ) (coded× coded_names (coded× coded_links (coded× coded_lists (coded_list coded_bool)))))
     (λ o. (o.name, (o.others, (o.links, (o.breaks, o.notices)))))
     (λ c. record { name = c.0; others = c.1.0; links = c.1.1.0; breaks = c.1.1.1.0; notices = c.1.1.1.1 }) (λ _. refl)

@@ -1,5 +1,6 @@
 -- Seats in two halves: the nodes themselves, and what lies at the ends of their sessions.
 use Rattle.std.specs.Prelude.{◌≡◌, ◌<◌, ◌^◌, ℕ, List, [], ◌∷◌, map, length, Bool}
+use Rattle.std.specs.declared.option.Option.{Option}
 use Rattle.std.specs.List.{slice_index_or}
 use Rattle.ov_link.specs.FailingState.{FailingState}
 use Rattle.node_model.specs.Step.{Post}
@@ -13,9 +14,9 @@ pub record Inner : Type 0 where
   pub kept : List (List ℕ)
 
 pub record Outer : Type 0 where
-  -- its name, and the names at the other ends of its sessions
+  -- its name, and the names at the other ends of its sessions, where there is somebody
   pub name : Name
-  pub others : List Name
+  pub others : List (Option Name)
   -- what left each of its ends and was not taken, the sends that are to fail there, and where a notice waits
   pub links : List (List (List ℕ))
   pub breaks : List (List ℕ)

@@ -1,22 +1,23 @@
 //! What a node of each kind takes, and what it shows. A send that fails closes its end, and the step is taken all the
 //! same. Where memory is wanting nothing is left of what the node had.
-ghost use Rattle.std.specs.Prelude.{◌≡◌, ◌<◌, true, false, length, IfOk, IsTrue};
-ghost use Rattle.config_check.specs.Edits.{edit_fault};
-ghost use Rattle.config_model.specs.Edit.{has_edit_form};
+ghost use Rattle.std.specs.Prelude.{◌≡◌, ◌<◌, true, false, length, slice_index_or, None, Some, IfOk, OnErr, OnOk};
 ghost use Rattle.control_node.specs.Core.{fresh};
 ghost use Rattle.node_core.specs.Whole.{Comes, session_of};
+ghost use Rattle.network_model.specs.Setup.{Name as NameOf};
+ghost use Rattle.net_model.specs.Controls.{controls_of};
+ghost use Rattle.net_model.specs.Moving.{number_for, retired_of};
 ghost use Rattle.net_model.specs.Seats.{others_of};
-ghost use Rattle.net_seats.specs.Changes.{EditsOver, TakesOver, emptied_inner, shown};
-ghost use Rattle.net_seats.specs.Cores.{HasAll, IsRight, configured, controlled, forwarded};
+ghost use Rattle.net_seats.specs.Changes.{IsAlone, LeavesOver, SetsOver, TakesOver, emptied_inner, joined_inner};
+ghost use Rattle.net_seats.specs.Changes.{shown};
+ghost use Rattle.net_seats.specs.Cores.{IsRight, IsVacated, configured, controlled, forwarded};
 ghost use Rattle.net_seats.specs.Halves.{live};
 
 use agent_node::AgentNode;
-use config_check::EditFault;
-use config_model::Edit;
+use config_check::Valid;
 use config_node::ConfigNode;
 use control_node::ControlNode;
 use ov_link::{FailingLink, Input, Links, NodeFault};
-use ov_types::{NoMemory, NodeRows};
+use ov_types::{Name, NoMemory, NodeId, NodeRows};
 
 /// The configuration node takes an input, and tells each session what is wanted then.
 pub(crate) fn take_config(
@@ -45,14 +46,16 @@ pub(crate) fn take_config(
     Ok(())
 }
 
-/// A control node takes an input, and tells each session what is wanted then.
+/// A control node takes an input on a session that is somebody's, and tells each session what is wanted then.
 pub(crate) fn take_control(
     node: &mut ControlNode,
     input: Input<'_>,
     links: &mut Links<FailingLink>,
 ) -> Result<(), NoMemory>
     requires known { session_of input < length (others_of (controlled node.old).who) }
-    requires all { HasAll node.old }
+    requires taken { (b : NameOf)
+        × (slice_index_or (others_of (controlled node.old).who) (session_of input) None ≡ Some b) }
+    requires vacated { IsVacated node.old }
     requires long { length node.old.posts ≡ length (others_of (controlled node.old).who) }
     requires kept { length node.old.kept ≡ length (others_of (controlled node.old).who) }
     requires linked { length links.old ≡ length (others_of (controlled node.old).who) }
@@ -64,14 +67,65 @@ pub(crate) fn take_control(
     ensures links { length links.new ≡ length links.old }
     ensures takes { IfOk result (λ _. TakesOver links.old links.new (controlled node.old) (controlled node.new)
         input.entry) }
-    ensures all { HasAll node.new }
+    ensures vacated { IsVacated node.new }
 {
+    let _retired = node.is_retired(0);
     let _stepped = node.step(input, links);
     if node.failed() {
         node.restart();
         return Err(NoMemory);
     }
     Ok(())
+}
+
+/// The agent of this name goes from its session with a control node, which tells each other session what is wanted
+/// without it. A send that fails closes its end, and the agent goes all the same. Where memory is wanting, the agent
+/// stays, and nothing is left of what the node had.
+pub(crate) fn leave_control(
+    node: &mut ControlNode,
+    session: u16,
+    name: &Name,
+    links: &mut Links<FailingLink>,
+) -> Result<(), NoMemory>
+    requires alone { IsAlone name.now session (controlled node.old) }
+    requires vacated { IsVacated node.old }
+    requires long { length node.old.posts ≡ length (others_of (controlled node.old).who) }
+    requires kept { length node.old.kept ≡ length (others_of (controlled node.old).who) }
+    requires linked { length links.old ≡ length (others_of (controlled node.old).who) }
+    ensures who { OnOk result ((controlled node.new).who ≡ retired_of name.now (controlled node.old).who) }
+    ensures stays { OnErr result (node.new.plan ≡ node.old.plan) }
+    ensures long { length node.new.posts ≡ length node.old.posts }
+    ensures kept { length node.new.kept ≡ length node.old.kept }
+    ensures links { length links.new ≡ length links.old }
+    ensures leaves { IfOk result (λ _. LeavesOver name.now session links.old links.new (controlled node.old)
+        (controlled node.new)) }
+    ensures vacated { IsVacated node.new }
+{
+    let _retired = node.is_retired(0);
+    match node.remove_agent(session, links) {
+        Ok(()) => Ok(()),
+        Err(NodeFault::LinkFailed { .. }) => Ok(()),
+        Err(NodeFault::NoMemory) => {
+            node.restart();
+            Err(NoMemory)
+        }
+    }
+}
+
+/// An agent comes to a control node, at whose session with it there is nothing. Gives the number of the session. Where
+/// memory is wanting, nothing changes.
+pub(crate) fn join_control(node: &mut ControlNode, agent: NodeId) -> Result<u16, NoMemory>
+    requires vacated { IsVacated node.old }
+    requires long { length node.old.posts ≡ length (others_of (controlled node.old).who) }
+    requires kept { length node.old.kept ≡ length (others_of (controlled node.old).who) }
+    requires room { length (others_of (controlled node.old).who) < 65535 }
+    ensures number { IfOk result (λ number. number ≡ number_for (controls_of node.old.plan)) }
+    ensures joined { OnOk result (controlled node.new ≡ joined_inner agent (controlled node.old)) }
+    ensures err { OnErr result (node.new ≡ node.old) }
+    ensures vacated { IsVacated node.new }
+{
+    let _retired = node.is_retired(0);
+    node.add_agent(agent)
 }
 
 /// An agent takes an input, and tells each session what is wanted then.
@@ -105,9 +159,8 @@ pub(crate) fn take_agent(
 
 /// A control node loses all that it has.
 pub(crate) fn restart_control(node: &mut ControlNode)
-    requires { HasAll node.old }
     ensures fresh { node.new ≡ fresh node.old.plan }
-    ensures all { HasAll node.new }
+    ensures vacated { IsVacated node.new }
 {
     node.restart();
 }
@@ -125,6 +178,7 @@ pub(crate) fn restart_agent(node: &mut AgentNode)
 
 /// A control node's tables.
 pub(crate) fn show_control(node: &ControlNode) -> Result<NodeRows, NoMemory>
+    requires { IsVacated node.now }
     ensures { IfOk result (λ rows. rows ≡ shown (controlled node.now)) }
 {
     let rows = node.rows()?;
@@ -140,29 +194,27 @@ pub(crate) fn show_agent(node: &AgentNode) -> Result<NodeRows, NoMemory>
     Ok(NodeRows::Agent(rows))
 }
 
-/// The configuration node makes an edit, unless it has a fault, and tells each session what is wanted then. What is
-/// valid stays where memory is wanting.
-pub(crate) fn edit_config(
+/// Another configuration, of the same control nodes, is valid at the configuration node, and each session is told what
+/// is wanted then.
+pub(crate) fn set_config(
     node: &mut ConfigNode,
-    edit: &Edit,
+    valid: Valid,
     links: &mut Links<FailingLink>,
-) -> Result<Option<EditFault>, NoMemory>
-    requires form { IsTrue (has_edit_form edit.now) }
+) -> Result<(), NoMemory>
+    requires same { valid.topology.controllers ≡ node.old.setup.topology.controllers }
     requires long { length node.old.posts ≡ length (others_of (configured node.old).who) }
     requires kept { length node.old.kept ≡ length (others_of (configured node.old).who) }
     requires linked { length links.old ≡ length (others_of (configured node.old).who) }
-    ensures topology { node.new.setup.topology ≡ node.old.setup.topology }
+    ensures controllers { node.new.setup.topology.controllers ≡ node.old.setup.topology.controllers }
     ensures long { length node.new.posts ≡ length node.old.posts }
     ensures kept { length node.new.kept ≡ length node.old.kept }
     ensures links { length links.new ≡ length links.old }
-    ensures edits { IfOk result (λ fault. EditsOver links.old links.new (configured node.old) (configured node.new)
-        node.old.setup edit.now fault) }
-    ensures fault { IfOk result (λ fault. fault ≡ edit_fault node.old.setup edit.now) }
+    ensures sets { IfOk result (λ _. SetsOver links.old links.new (configured node.old) (configured node.new) valid) }
 {
     let _valid = node.valid();
-    match node.edit(edit, links) {
-        Ok(fault) => Ok(fault),
-        Err(NodeFault::LinkFailed { .. }) => Ok(None),
+    match node.set_valid(valid, links) {
+        Ok(()) => Ok(()),
+        Err(NodeFault::LinkFailed { .. }) => Ok(()),
         Err(NodeFault::NoMemory) => {
             node.restart();
             Err(NoMemory)

@@ -1,34 +1,34 @@
 //! The cores of all nodes.
-ghost use Rattle.std.specs.Prelude.{◌≡◌, ◌<◌, ◌≤◌, [], true, false, length, option_copied, slice_set, IfOk, IsTrue};
-ghost use Rattle.std.specs.Option.{option_map};
+ghost use Rattle.std.specs.Prelude.{◌≡◌, ◌<◌, ◌≤◌, [], ◌∷◌, true, false, length, option_copied, slice_index_or, slice_set};
+ghost use Rattle.std.specs.Prelude.{None, Some, IfOk, OnErr, OnOk};
 ghost use Rattle.config_check.specs.Checked.{Checked};
-ghost use Rattle.config_check.specs.Edits.{edit_fault};
-ghost use Rattle.config_model.specs.Edit.{has_edit_form};
-ghost use Rattle.control_node.specs.Core.{holdings};
 ghost use Rattle.node_core.specs.Keeping.{kept_at};
 ghost use Rattle.node_core.specs.Whole.{Comes, session_of};
 ghost use Rattle.route_targets.specs.Forwarding.{forwarding};
-ghost use Rattle.net_model.specs.Seats.{Configuring, is_up, others_of};
-ghost use Rattle.net_seats.specs.Cores.{held_by};
-ghost use Rattle.net_seats.specs.Changes.{ChangesOne, EditsOver, TakesOver, emptied_inner, forwarders, shown};
+ghost use Rattle.net_model.specs.Seats.{Configuring, Controlling, is_up, others_of};
+ghost use Rattle.network_model.specs.Setup.{Name as NameOf};
+ghost use Rattle.net_model.specs.Controls.{Controls};
+ghost use Rattle.net_model.specs.Moving.{number_for, retired_of};
+ghost use Rattle.net_seats.specs.Cores.{HoldsAs, held_by};
+ghost use Rattle.net_seats.specs.Changes.{ChangesOne, IsAlone, LeavesOver, SetsOver, TakesOver, emptied_inner};
+ghost use Rattle.net_seats.specs.Changes.{forwarders, joined_inner, shown};
 ghost use Rattle.net_seats.specs.Halves.{inner, live, seated};
 
 use crate::acting::{
-    edit_config, restart_agent, restart_control, show_agent, show_control, take_agent, take_config,
-    take_control,
+    join_control, leave_control, restart_agent, restart_control, set_config, show_agent,
+    show_control, take_agent, take_config, take_control,
 };
 use crate::kinds::{Kind, kind_of};
 use agent_node::AgentNode;
-use config_check::{EditFault, Valid};
-use config_model::Edit;
+use config_check::Valid;
 use config_node::ConfigNode;
 use control_node::ControlNode;
 use ov_link::{FailingLink, Input, Links};
-use ov_types::{NoMemory, NodeRows, Outcome, Packet};
+use ov_types::{Name, NoMemory, NodeId, NodeRows, Outcome, Packet};
 use std::marker::Model;
 
-/// The nodes by their numbers: the configuration node, then the control nodes, then the agents. No session of a control
-/// node is retired, and each agent forwards by what it holds.
+/// The nodes by their numbers: the configuration node, then the control nodes, then the agents. At each session of a
+/// control node that is nobody's there is nothing, and each agent forwards by what it holds.
 #[derive(Drop)]
 pub(crate) struct Cores {
     pub(crate) config: ConfigNode,
@@ -41,7 +41,7 @@ impl Model for Cores {
     ghost use Rattle.std.specs.Coded.{coded_list};
     ghost use Rattle.std.specs.List.{All};
     ghost use Rattle.net_seats.specs.Codes.{coded_inner};
-    ghost use Rattle.net_seats.specs.Cores.{HasAll, IsRight, inners};
+    ghost use Rattle.net_seats.specs.Cores.{IsRight, IsVacated, inners};
     ghost use Rattle.net_seats.specs.Halves.{Inner};
 
     ghost Value = { List Inner };
@@ -50,7 +50,7 @@ impl Model for Cores {
 
     ghost view = { λ c. inners c.config c.controls.items c.agents.items };
 
-    ghost invariant = { λ c. All IsRight c.agents.items × All HasAll c.controls.items };
+    ghost invariant = { λ c. All IsRight c.agents.items × All IsVacated c.controls.items };
 }
 
 impl Cores {
@@ -93,8 +93,8 @@ impl Cores {
         }
     }
 
-    /// A node takes an input, and tells each of its sessions what it wants then. Where memory is wanting, nothing is
-    /// left of what the node had.
+    /// A node takes an input on a session that is somebody's, and tells each of its sessions what it wants then. Where
+    /// memory is wanting, nothing is left of what the node had.
     pub(crate) fn take(
         &mut self,
         node: u16,
@@ -103,6 +103,8 @@ impl Cores {
     ) -> Result<(), NoMemory>
         requires node { node < length self.old }
         requires known { session_of input < length (others_of (inner self.old node).who) }
+        requires taken { (b : NameOf)
+            × (slice_index_or (others_of (inner self.old node).who) (session_of input) None ≡ Some b) }
         requires long { length (inner self.old node).posts ≡ length (others_of (inner self.old node).who) }
         requires kept { length (inner self.old node).kept ≡ length (others_of (inner self.old node).who) }
         requires linked { length links.old ≡ length (others_of (inner self.old node).who) }
@@ -118,6 +120,62 @@ impl Cores {
             Kind::Control(place) => take_control(&mut self.controls[place], input, links),
             Kind::Agent(place) => take_agent(&mut self.agents[place], input, links),
         }
+    }
+
+    /// The agent of this name goes from its session with a control node.
+    pub(crate) fn leave(
+        &mut self,
+        node: u16,
+        session: u16,
+        name: &Name,
+        links: &mut Links<FailingLink>,
+    ) -> Result<(), NoMemory>
+        requires node { node < length self.old }
+        requires alone { IsAlone name.now session (inner self.old node) }
+        requires long { length (inner self.old node).posts ≡ length (others_of (inner self.old node).who) }
+        requires kept { length (inner self.old node).kept ≡ length (others_of (inner self.old node).who) }
+        requires linked { length links.old ≡ length (others_of (inner self.old node).who) }
+        ensures one { self.new ≡ slice_set self.old node (inner self.new node) }
+        ensures who { OnOk result ((inner self.new node).who ≡ retired_of name.now (inner self.old node).who) }
+        ensures stays { OnErr result ((inner self.new node).who ≡ (inner self.old node).who) }
+        ensures long { length (inner self.new node).posts ≡ length (inner self.old node).posts }
+        ensures kept { length (inner self.new node).kept ≡ length (inner self.old node).kept }
+        ensures links { length links.new ≡ length links.old }
+        ensures leaves { IfOk result (λ _. LeavesOver name.now session links.old links.new (inner self.old node)
+            (inner self.new node)) }
+    {
+        match kind_of(self.controls.len(), node) {
+            Kind::Control(place) => leave_control(&mut self.controls[place], session, name, links),
+            Kind::Configuration => unreachable!(),
+            Kind::Agent(_) => unreachable!(),
+        }
+    }
+
+    /// An agent comes to a control node. Gives the number of its session. Where memory is wanting, nothing changes.
+    pub(crate) fn join(&mut self, node: u16, agent: NodeId) -> Result<u16, NoMemory>
+        requires node { node < length self.old }
+        requires control { (c : Controls) × ((inner self.old node).who ≡ Controlling c) }
+        requires long { length (inner self.old node).posts ≡ length (others_of (inner self.old node).who) }
+        requires kept { length (inner self.old node).kept ≡ length (others_of (inner self.old node).who) }
+        requires room { length (others_of (inner self.old node).who) < 65535 }
+        ensures number { IfOk result (λ number. (c : Controls) → (inner self.old node).who ≡ Controlling c
+            → number ≡ number_for c) }
+        ensures joined { OnOk result (self.new ≡ slice_set self.old node (joined_inner agent (inner self.old node))) }
+        ensures err { OnErr result (self.new ≡ self.old) }
+    {
+        match kind_of(self.controls.len(), node) {
+            Kind::Control(place) => join_control(&mut self.controls[place], agent),
+            Kind::Configuration => unreachable!(),
+            Kind::Agent(_) => unreachable!(),
+        }
+    }
+
+    /// Nothing is left but the configuration node.
+    pub(crate) fn keep_first(&mut self)
+        ensures first { self.new ≡ inner self.old 0 ∷ [] }
+    {
+        self.controls.clear();
+        self.agents.clear();
     }
 
     /// A control node or an agent loses all that it has.
@@ -143,24 +201,24 @@ impl Cores {
         self.config.valid()
     }
 
-    /// Makes an edit at the configuration node, unless it has a fault, and tells each control node what is wanted then.
-    pub(crate) fn edit(
+    /// Another configuration, of the same control nodes, is valid at the configuration node, which tells each of them
+    /// what is wanted then.
+    pub(crate) fn set_valid(
         &mut self,
-        edit: &Edit,
+        valid: Valid,
         links: &mut Links<FailingLink>,
-    ) -> Result<Option<EditFault>, NoMemory>
-        requires form { IsTrue (has_edit_form edit.now) }
+    ) -> Result<(), NoMemory>
+        requires same { (x : Checked) → (inner self.old 0).who ≡ Configuring x
+            → valid.topology.controllers ≡ x.topology.controllers }
         requires long { length (inner self.old 0).posts ≡ length (others_of (inner self.old 0).who) }
         requires kept { length (inner self.old 0).kept ≡ length (others_of (inner self.old 0).who) }
         requires linked { length links.old ≡ length (others_of (inner self.old 0).who) }
+        ensures some { 0 < length self.old }
         ensures one { ChangesOne 0 self.old self.new }
         ensures links { length links.new ≡ length links.old }
-        ensures edits { IfOk result (λ fault. (x : Checked) → (inner self.old 0).who ≡ Configuring x
-            → EditsOver links.old links.new (inner self.old 0) (inner self.new 0) x edit.now fault) }
-        ensures fault { IfOk result (λ fault. (x : Checked) → (inner self.old 0).who ≡ Configuring x
-            → fault ≡ edit_fault x edit.now) }
+        ensures sets { IfOk result (λ _. SetsOver links.old links.new (inner self.old 0) (inner self.new 0) valid) }
     {
-        edit_config(&mut self.config, edit, links)
+        set_config(&mut self.config, valid, links)
     }
 
     /// The tables of a control node or of an agent.
@@ -179,8 +237,8 @@ impl Cores {
     /// The node of this number, where it is a control node.
     pub(crate) fn control(&self, node: u16) -> Option<&ControlNode>
         requires { node < length self.now }
-        ensures { option_map (λ c. holdings c.plan c.posts) (option_copied result)
-            ≡ held_by (inner self.now node).who (inner self.now node).posts }
+        ensures { HoldsAs (option_copied result)
+            (held_by (inner self.now node).who (inner self.now node).posts) }
     {
         match kind_of(self.controls.len(), node) {
             Kind::Configuration => None,

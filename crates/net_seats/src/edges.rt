@@ -1,12 +1,11 @@
 //! What lies at the ends of a node's sessions.
 ghost use Rattle.std.specs.Prelude.{◌≡◌, ◌<◌, ◌≤◌, ◌+◌, ◌^◌, [], drop, false, length, slice_get, slice_index_or};
-ghost use Rattle.std.specs.Prelude.{slice_set, take, IfOk, OnErr, OnOk};
+ghost use Rattle.std.specs.Prelude.{slice_set, take, None, IfOk, OnErr, OnOk};
 ghost use Rattle.std.specs.List.{concat};
 ghost use Rattle.ov_link.specs.Breaks.{with_break};
-ghost use Rattle.ov_types.specs.First.{same_name};
-ghost use Rattle.net_model.specs.Seats.{index_from};
+ghost use Rattle.net_model.specs.Seats.{index_from, is_name};
 ghost use Rattle.net_model.specs.Steps.{all_of, untaken};
-ghost use Rattle.net_seats.specs.Changes.{unbroken_outer};
+ghost use Rattle.net_seats.specs.Changes.{emptied_at, joined_outer, longer_outer, unbroken_outer};
 ghost use Rattle.net_seats.specs.Halves.{IsEven};
 
 use crate::finding::index_of;
@@ -17,14 +16,15 @@ use ov_types::{Items, Name, NoMemory};
 use std::alloc::Global;
 use std::marker::Model;
 
-/// The name of a node and those at the other ends of its sessions, what left each of its ends and was not taken, the
+/// The name of a node and those at the other ends of its sessions, where there is somebody, what left each of its ends and was not taken, the
 /// sends that are to fail there, and where a notice of loss waits.
 #[derive(Drop)]
 pub(crate) struct Edge {
     name: Name,
-    others: Items<Name>,
+    others: Vec<Option<Name>>,
     pub(crate) links: Links<FailingLink>,
     notices: Vec<bool>,
+    alloc: Global,
 }
 
 impl Model for Edge {
@@ -37,7 +37,7 @@ impl Model for Edge {
 
     ghost view = { λ e. record {
       name = e.name;
-      others = e.others;
+      others = e.others.items;
       links = accepted_of e.links;
       breaks = breaks_of e.links;
       notices = e.notices.items;
@@ -45,7 +45,7 @@ impl Model for Edge {
 
     ghost invariant = { λ e. IsEven (record {
       name = e.name;
-      others = e.others;
+      others = e.others.items;
       links = accepted_of e.links;
       breaks = breaks_of e.links;
       notices = e.notices.items;
@@ -54,7 +54,11 @@ impl Model for Edge {
 
 impl Edge {
     /// The ends of sessions with these nodes: nothing left them, no send is to fail, and no notice waits.
-    pub(crate) fn new(alloc: Global, name: Name, others: Items<Name>) -> Result<Edge, NoMemory>
+    pub(crate) fn new(
+        alloc: Global,
+        name: Name,
+        others: Items<Option<Name>>,
+    ) -> Result<Edge, NoMemory>
         requires { length others < 2 ^ 16 }
         ensures { IfOk result (λ edge. edge ≡ record {
           name = name;
@@ -72,9 +76,10 @@ impl Edge {
         }
         Ok(Edge {
             name,
-            others,
+            others: others.into_vec(),
             links,
             notices,
+            alloc,
         })
     }
 
@@ -92,18 +97,18 @@ impl Edge {
         self.links.len()
     }
 
-    /// The name at the other end of a session.
-    pub(crate) fn other(&self, session: u16) -> &Name
+    /// The name at the other end of a session, where there is somebody.
+    pub(crate) fn other(&self, session: u16) -> Option<Name>
         requires { session < length self.now.others }
-        ensures { result.now ≡ slice_index_or self.now.others session [] }
+        ensures { result ≡ slice_index_or self.now.others session None }
     {
         let others = self.others.as_slice();
-        &others[usize::from(session)]
+        others[usize::from(session)]
     }
 
     /// The first session with the node of this name.
     pub(crate) fn session_with(&self, name: &Name) -> Option<u16>
-        ensures { result ≡ index_from 0 (λ m. same_name m name.now) self.now.others }
+        ensures { result ≡ index_from 0 (is_name name.now) self.now.others }
     {
         index_of(self.others.as_slice(), name)
     }
@@ -203,6 +208,55 @@ impl Edge {
         ensures { self.new ≡ record self.old { links = slice_set self.old.links session [] } }
     {
         self.links.get_mut(session).clear();
+    }
+
+    /// Nothing left the end of a session, no send is to fail there, and no notice waits.
+    pub(crate) fn empty(&mut self, session: u16)
+        requires { session < length self.old.others }
+        ensures { self.new ≡ emptied_at session self.old }
+    {
+        self.clear(session);
+        self.drop_breaks_at(session);
+        self.set_notice(session, false);
+    }
+
+    /// Who is at the other end of a session.
+    pub(crate) fn set_other(&mut self, session: u16, other: Option<Name>)
+        requires { session < length self.old.others }
+        ensures { self.new ≡ record self.old { others = slice_set self.old.others session other } }
+    {
+        self.others[usize::from(session)] = other;
+    }
+
+    /// One more session, with the node of this name. Where memory is wanting, nothing changes.
+    fn add(&mut self, name: Name) -> Result<(), NoMemory>
+        requires { length self.old.others < 65535 }
+        ensures ok { OnOk result (self.new ≡ longer_outer name self.old) }
+        ensures err { OnErr result (self.new ≡ self.old) }
+    {
+        self.others.reserve(1)?;
+        self.notices.reserve(1)?;
+        self.links.push(FailingLink::new(self.alloc))?;
+        self.others.push_reserved(Some(name));
+        self.notices.push_reserved(false);
+        Ok(())
+    }
+
+    /// A node of this name is at the other end of a session that there is, at which there is nothing then, or of one
+    /// more. Where memory is wanting, nothing changes.
+    pub(crate) fn join(&mut self, session: u16, name: Name) -> Result<(), NoMemory>
+        requires next { session ≤ length self.old.others }
+        requires few { session < 65535 }
+        ensures ok { OnOk result (self.new ≡ joined_outer name session self.old) }
+        ensures err { OnErr result (self.new ≡ self.old) }
+    {
+        if session < self.sessions() {
+            self.empty(session);
+            self.set_other(session, Some(name));
+            Ok(())
+        } else {
+            self.add(name)
+        }
     }
 
     /// Takes out all messages and all notices. Which sends are to fail stays.

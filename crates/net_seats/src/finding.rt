@@ -1,18 +1,28 @@
 //! Nodes and sessions by names.
 ghost use Rattle.std.specs.Prelude.{◌≡◌, ◌<◌, ◌≤◌, ◌^◌, length};
 ghost use Rattle.ov_types.specs.First.{same_name};
-ghost use Rattle.net_model.specs.Seats.{index_from};
+ghost use Rattle.net_model.specs.Seats.{index_from, is_name};
 
 use crate::edges::Edge;
 use ov_types::Name;
 
-/// The place of the first name that is this one.
-pub(crate) fn index_of(names: &[Name], name: &Name) -> Option<u16>
-    requires { length names.now ≤ 2 ^ 16 }
-    ensures { result ≡ index_from 0 (λ m. same_name m name.now) names.now }
+/// Whether somebody is there who has this name.
+fn is_name(name: &Name, there: &Option<Name>) -> bool
+    ensures { result ≡ is_name name.now there.now }
 {
-    for (index, other) in names.iter().enumerate() {
-        if *other == *name {
+    match there {
+        None => false,
+        Some(other) => *other == *name,
+    }
+}
+
+/// The first place at which somebody has this name.
+pub(crate) fn index_of(names: &[Option<Name>], name: &Name) -> Option<u16>
+    requires { length names.now ≤ 2 ^ 16 }
+    ensures { result ≡ index_from 0 (is_name name.now) names.now }
+{
+    for (index, there) in names.iter().enumerate() {
+        if is_name(name, there) {
             return Some(index as u16);
         }
     }

@@ -1,40 +1,42 @@
 //! The nodes of a network, with their links.
-ghost use Rattle.std.specs.Prelude.{◌≡◌, ◌<◌, ◌≤◌, ◌+◌, [], drop, true, false, length, map, option_copied, slice_get};
-ghost use Rattle.std.specs.Prelude.{take, IfOk, IsTrue, OnErr, OnOk};
-ghost use Rattle.std.specs.List.{concat};
-ghost use Rattle.std.specs.Option.{option_map};
+ghost use Rattle.std.specs.Prelude.{◌≡◌, ◌<◌, ◌≤◌, ◌+◌, ◌^◌, [], drop, true, false, length, map, option_copied, slice_get};
+ghost use Rattle.std.specs.Prelude.{slice_set, take, ℕ, Some, IfOk, IfSome, OnErr, OnOk};
+ghost use Rattle.std.specs.List.{All, Contains, concat};
+ghost use Rattle.ov_types.specs.First.{same_name};
+ghost use Rattle.config_check.specs.Rules.{controller_names};
 ghost use Rattle.config_check.specs.Checked.{Checked};
-ghost use Rattle.config_check.specs.Edits.{edit_fault};
-ghost use Rattle.config_model.specs.Edit.{has_edit_form};
 ghost use Rattle.config_node.specs.Core.{fresh as fresh_config};
-ghost use Rattle.control_node.specs.Core.{holdings};
 ghost use Rattle.node_core.specs.Whole.{Comes, session_of};
 ghost use Rattle.route_targets.specs.Forwarding.{forwarding};
 ghost use Rattle.net_model.specs.Seats as seats_of;
-ghost use Rattle.net_model.specs.Seats.{Configuring, Seat, is_live, kept_at, link_at, live_at, notice_at, seat, up_at};
-ghost use Rattle.net_model.specs.Seats.{whos};
-ghost use Rattle.net_model.specs.Steps.{MakesEdit, Takes, emptied, forwarders_of, fresh_seat, shown_by};
+ghost use Rattle.net_model.specs.Seats.{Configuring, Seat, is_live, kept_at, link_at, live_at, notice_at, other, seat};
+ghost use Rattle.net_model.specs.Seats.{Controlling, index_from, up_at, whos};
+ghost use Rattle.net_model.specs.Controls.{Controls, first_agent};
+ghost use Rattle.net_model.specs.Moving.{Leaves, joined as joined_by_agent, reseated, retired_of};
+ghost use Rattle.net_model.specs.Moving.{seats_of as new_seats};
+ghost use Rattle.net_model.specs.Steps.{Configures, Takes, emptied, forwarders_of, fresh_seat, shown_by};
 ghost use Rattle.net_model.specs.Steps.{unbroken, untaken, with_break_at, with_link, with_notice, with_seat};
-ghost use Rattle.net_seats.specs.Changes.{unbroken_outer};
-ghost use Rattle.net_seats.specs.Cores.{held_by};
-ghost use Rattle.net_seats.specs.Halves.{AreAllHalves, joined};
+ghost use Rattle.net_seats.specs.Changes.{IsAlone, LeavesFrom, unbroken_outer};
+ghost use Rattle.network_model.specs.Setup.{Name as NameOf, opening};
+ghost use Rattle.net_seats.specs.Cores.{HoldsAs, held_by};
+ghost use Rattle.net_seats.specs.Halves.{AreAllHalves, AreHalves, IsEven, inner, joined, whole};
 
 use crate::cores::Cores;
 use crate::edges::Edge;
 use crate::finding::edge_named;
-use crate::making::add_all;
+use crate::making::{add_all, reseat_agent};
 use bytes::Bytes;
-use config_check::{EditFault, Valid};
-use config_model::Edit;
+use config_check::Valid;
+use config_model::{Node, Topology};
 use config_node::ConfigNode;
 use control_node::ControlNode;
 use net_model::Place;
 use ov_link::Input;
-use ov_types::{Name, NoMemory, NodeRows, Outcome, Packet};
+use ov_types::{Name, NoMemory, NodeId, NodeRows, Outcome, Packet};
 use std::alloc::Global;
 use std::marker::Model;
 
-/// A node takes an input. The seats keep their halves, also where memory is wanting.
+/// A node takes an input on a session that is somebody's. The seats keep their halves, also where memory is wanting.
 fn take_at(
     cores: &mut Cores,
     edges: &mut [Edge],
@@ -44,6 +46,7 @@ fn take_at(
     requires halves { AreAllHalves cores.old edges.old }
     requires node { node < length (joined cores.old edges.old) }
     requires session { session_of input < length (seat (joined cores.old edges.old) node).posts }
+    requires taken { (b : NameOf) × (other (seat (joined cores.old edges.old) node) (session_of input) ≡ Some b) }
     requires comes { Comes (λ i. is_live (seat (joined cores.old edges.old) node) i ≡ true)
         (λ i. is_live (seat (joined cores.old edges.old) node) i ≡ false) input }
     ensures halves { AreAllHalves cores.new edges.new }
@@ -67,23 +70,160 @@ fn restart_at(cores: &mut Cores, edges: &mut [Edge], node: u16)
     edges[usize::from(node)].restart();
 }
 
-/// Makes an edit at the configuration node, unless it has a fault.
-fn edit_at(
-    cores: &mut Cores,
-    edges: &mut [Edge],
-    edit: &Edit,
-) -> Result<Option<EditFault>, NoMemory>
+/// Another configuration, of the same control nodes, is valid at the configuration node.
+fn set_valid_at(cores: &mut Cores, edges: &mut [Edge], valid: Valid) -> Result<(), NoMemory>
     requires halves { AreAllHalves cores.old edges.old }
-    requires form { IsTrue (has_edit_form edit.now) }
+    requires same { (x : Checked) → (seat (joined cores.old edges.old) 0).who ≡ Configuring x
+        → valid.topology.controllers ≡ x.topology.controllers }
     ensures halves { AreAllHalves cores.new edges.new }
-    ensures made { IfOk result (λ fault. (x : Checked) → (seat (joined cores.old edges.old) 0).who ≡ Configuring x
-        → MakesEdit (joined cores.old edges.old) x edit.now fault (joined cores.new edges.new)) }
-    ensures fault { IfOk result (λ fault. (x : Checked) → (seat (joined cores.old edges.old) 0).who ≡ Configuring x
-        → fault ≡ edit_fault x edit.now) }
+    ensures configures { IfOk result (λ _. Configures (joined cores.old edges.old) valid (joined cores.new edges.new)) }
 {
     let _valid = cores.valid();
     let edge = &mut edges[0];
-    cores.edit(edit, &mut edge.links)
+    cores.set_valid(valid, &mut edge.links)
+}
+
+/// The agent of this name goes from its session with a control node, whose ends these are, and at which there is
+/// nothing of the session.
+fn leave_linked(
+    cores: &mut Cores,
+    edge: &mut Edge,
+    place: Place,
+    name: &Name,
+) -> Result<(), NoMemory>
+    requires node { place.node < length cores.old }
+    requires halves { AreHalves (inner cores.old place.node) edge.old }
+    requires alone { IsAlone name.now place.session (inner cores.old place.node) }
+    ensures one { cores.new ≡ slice_set cores.old place.node (inner cores.new place.node) }
+    ensures who { OnOk result ((inner cores.new place.node).who ≡ retired_of name.now (inner cores.old place.node).who) }
+    ensures halves { OnErr result (AreHalves (inner cores.new place.node) edge.new) }
+    ensures long { length (inner cores.new place.node).posts ≡ length (inner cores.old place.node).posts }
+    ensures kept { length (inner cores.new place.node).kept ≡ length (inner cores.old place.node).kept }
+    ensures name { edge.new.name ≡ edge.old.name }
+    ensures others { edge.new.others ≡ edge.old.others }
+    ensures even { IsEven edge.new }
+    ensures leaves { IfOk result (λ _. LeavesFrom name.now place.session (inner cores.old place.node) edge.old
+        (inner cores.new place.node) edge.new) }
+{
+    cores.leave(place.node, place.session, name, &mut edge.links)
+}
+
+/// The agent of this name goes from its session with a control node, whose ends these are.
+fn leave_over(cores: &mut Cores, edge: &mut Edge, place: Place, name: &Name) -> Result<(), NoMemory>
+    requires node { place.node < length cores.old }
+    requires halves { AreHalves (inner cores.old place.node) edge.old }
+    requires alone { IsAlone name.now place.session (inner cores.old place.node) }
+    ensures one { cores.new ≡ slice_set cores.old place.node (inner cores.new place.node) }
+    ensures halves { AreHalves (inner cores.new place.node) edge.new }
+    ensures leaves { IfOk result (λ _. Leaves name.now (whole (inner cores.old place.node) edge.old)
+        (whole (inner cores.new place.node) edge.new)) }
+{
+    edge.empty(place.session);
+    leave_linked(cores, edge, place, name)?;
+    edge.set_other(place.session, None);
+    Ok(())
+}
+
+/// The agent of this name goes from its session with a control node.
+fn leave_at(
+    cores: &mut Cores,
+    edges: &mut [Edge],
+    place: Place,
+    name: &Name,
+) -> Result<(), NoMemory>
+    requires halves { AreAllHalves cores.old edges.old }
+    requires node { place.node < length (joined cores.old edges.old) }
+    requires alone { IsAlone name.now place.session (inner cores.old place.node) }
+    ensures halves { AreAllHalves cores.new edges.new }
+    ensures leaves { IfOk result (λ _. (n' : Seat) × Leaves name.now (seat (joined cores.old edges.old) place.node) n'
+        × (joined cores.new edges.new ≡ with_seat place.node n' (joined cores.old edges.old))) }
+{
+    leave_over(cores, &mut edges[usize::from(place.node)], place, name)
+}
+
+/// An agent comes to a control node, whose ends these are. Where memory is wanting, the two may not agree.
+fn join_over(cores: &mut Cores, edge: &mut Edge, node: u16, agent: NodeId) -> Result<(), NoMemory>
+    requires node { node < length cores.old }
+    requires halves { AreHalves (inner cores.old node) edge.old }
+    requires control { (c : Controls) × ((inner cores.old node).who ≡ Controlling c) }
+    requires room { length (inner cores.old node).posts < 65535 }
+    ensures one { cores.new ≡ slice_set cores.old node (inner cores.new node) }
+    ensures halves { OnOk result (AreHalves (inner cores.new node) edge.new) }
+    ensures joined { OnOk result (whole (inner cores.new node) edge.new
+        ≡ joined_by_agent agent (whole (inner cores.old node) edge.old)) }
+{
+    let name = agent.name;
+    let number = cores.join(node, agent)?;
+    edge.join(number, name)
+}
+
+/// An agent comes to a control node. Where memory is wanting, nothing is left but the configuration node.
+fn join_at(
+    cores: &mut Cores,
+    edges: &mut Vec<Edge>,
+    node: u16,
+    agent: NodeId,
+) -> Result<(), NoMemory>
+    requires halves { AreAllHalves cores.old edges.old.items }
+    requires few { length edges.old.items < 2 ^ 16 }
+    requires node { node < length (joined cores.old edges.old.items) }
+    requires control { (c : Controls) × ((seat (joined cores.old edges.old.items) node).who ≡ Controlling c) }
+    requires room { length (seat (joined cores.old edges.old.items) node).posts < 65535 }
+    ensures halves { AreAllHalves cores.new edges.new.items }
+    ensures few { length edges.new.items < 2 ^ 16 }
+    ensures joined { IfOk result (λ _. joined cores.new edges.new.items
+        ≡ with_seat node (joined_by_agent agent (seat (joined cores.old edges.old.items) node))
+        (joined cores.old edges.old.items)) }
+{
+    let _valid = cores.valid();
+    match join_over(cores, &mut edges[usize::from(node)], node, agent) {
+        Ok(()) => Ok(()),
+        Err(NoMemory) => {
+            cores.keep_first();
+            edges.truncate(1);
+            Err(NoMemory)
+        }
+    }
+}
+
+/// The place among the agents of the one of this name, where their edges come behind so many others.
+fn agent_named(edges: &[Edge], first: usize, name: &Name) -> Option<u16>
+    requires within { first ≤ length edges.now }
+    requires few { length edges.now < 2 ^ 16 }
+    ensures { result ≡ index_from 0 (λ e. same_name e.name name.now) (drop first edges.now) }
+{
+    edge_named(&edges[first..], name)
+}
+
+/// Another agent, or none, is in the place of the first one of a name, or behind all where none has the name.
+fn reseat_at(
+    cores: &mut Cores,
+    edges: &mut Vec<Edge>,
+    alloc: Global,
+    topology: &Topology,
+    name: &Name,
+    node: Option<&Node>,
+) -> Result<(), NoMemory>
+    requires halves { AreAllHalves cores.old edges.old.items }
+    requires few { length edges.old.items < 65535 }
+    requires listed { IfSome (option_copied node) (λ n. All (Contains (controller_names topology.now)) n.controllers) }
+    requires two { IfSome (option_copied node) (λ n. length n.controllers ≤ 2) }
+    ensures halves { AreAllHalves cores.new edges.new.items }
+    ensures few { length edges.new.items < 2 ^ 16 }
+    ensures reseated { IfOk result (λ _. joined cores.new edges.new.items
+        ≡ reseated name.now (new_seats topology.now (option_copied node.entry)) (joined cores.old edges.old.items)) }
+{
+    let first = 1 + cores.controls.len();
+    let place = agent_named(edges, first, name);
+    reseat_agent(
+        alloc,
+        topology,
+        place,
+        node,
+        first,
+        &mut cores.agents,
+        edges,
+    )
 }
 
 /// The nodes of a network, each with a link for each of its sessions on which sends may fail, which contracts see as
@@ -121,7 +261,7 @@ fn drop_all_breaks(edges: &mut [Edge])
 /// The nodes of what is valid at the configuration node, which has nothing.
 fn with_config(alloc: Global, config: ConfigNode) -> Result<Nodes, NoMemory>
     requires { config ≡ fresh_config config.setup }
-    ensures seats { IfOk result (λ nodes. nodes.seats ≡ map fresh_seat (whos config.setup)) }
+    ensures seats { IfOk result (λ nodes. nodes.seats ≡ map fresh_seat (whos (opening config.setup))) }
     ensures works { IfOk result (λ nodes. nodes.failed ≡ false) }
 {
     let mut controls = Vec::new(alloc);
@@ -149,7 +289,7 @@ fn with_config(alloc: Global, config: ConfigNode) -> Result<Nodes, NoMemory>
 impl Nodes {
     /// The nodes of a valid topology. Every session is idle, and nothing is in flight.
     pub fn new(alloc: Global, valid: Valid) -> Result<Nodes, NoMemory>
-        ensures seats { IfOk result (λ nodes. nodes.seats ≡ map fresh_seat (whos valid)) }
+        ensures seats { IfOk result (λ nodes. nodes.seats ≡ map fresh_seat (whos (opening valid))) }
         ensures works { IfOk result (λ nodes. nodes.failed ≡ false) }
     {
         let config = ConfigNode::new(alloc, valid)?;
@@ -177,14 +317,17 @@ impl Nodes {
         }
     }
 
-    /// The other end of a session.
+    /// The other end of a session, where there is somebody.
     pub fn far_of(&self, place: Place) -> Option<Place>
         requires node { place.node < length self.now.seats }
         requires session { place.session < length (seat self.now.seats place.node).posts }
         ensures { result ≡ seats_of.far_of self.now.seats place }
     {
         let edge = &self.edges[usize::from(place.node)];
-        self.place_of(edge.other(place.session), edge.name())
+        match edge.other(place.session) {
+            None => None,
+            Some(name) => self.place_of(&name, edge.name()),
+        }
     }
 
     /// The number of the node of this name.
@@ -313,10 +456,11 @@ impl Nodes {
         self.edges[usize::from(place.node)].clear(place.session);
     }
 
-    /// A node takes an input, and tells each of its sessions what it wants then.
+    /// A node takes an input on a session that is somebody's, and tells each of its sessions what it wants then.
     pub fn take(&mut self, node: u16, input: Input<'_>) -> Result<(), NoMemory>
         requires node { node < length self.old.seats }
         requires session { session_of input < length (seat self.old.seats node).posts }
+        requires taken { (b : NameOf) × (other (seat self.old.seats node) (session_of input) ≡ Some b) }
         requires comes { Comes (λ i. is_live (seat self.old.seats node) i ≡ true)
             (λ i. is_live (seat self.old.seats node) i ≡ false) input }
         ensures takes { IfOk result (λ _. (n' : Seat) × Takes (seat self.old.seats node) n' input.entry
@@ -350,18 +494,88 @@ impl Nodes {
         self.cores.valid()
     }
 
-    /// Makes an edit at the configuration node, unless it has a fault, and tells each control node what the
-    /// configuration wants then.
-    pub fn edit(&mut self, edit: &Edit) -> Result<Option<EditFault>, NoMemory>
-        requires form { IsTrue (has_edit_form edit.now) }
-        ensures made { IfOk result (λ fault. (x : Checked) → (seat self.old.seats 0).who ≡ Configuring x
-            → MakesEdit self.old.seats x edit.now fault self.new.seats) }
-        ensures fault { IfOk result (λ fault. (x : Checked) → (seat self.old.seats 0).who ≡ Configuring x
-            → fault ≡ edit_fault x edit.now) }
+    /// Another configuration, of the same control nodes, is valid at the configuration node, which tells each of them
+    /// what is wanted then.
+    pub fn set_valid(&mut self, valid: Valid) -> Result<(), NoMemory>
+        requires same { (x : Checked) → (seat self.old.seats 0).who ≡ Configuring x
+            → valid.topology.controllers ≡ x.topology.controllers }
+        ensures configures { IfOk result (λ _. Configures self.old.seats valid self.new.seats) }
         ensures failed { IfOk result (λ _. self.new.failed ≡ self.old.failed) }
     {
-        match edit_at(&mut self.cores, &mut self.edges, edit) {
-            Ok(fault) => Ok(fault),
+        match set_valid_at(&mut self.cores, &mut self.edges, valid) {
+            Ok(()) => Ok(()),
+            Err(NoMemory) => {
+                self.failed = true;
+                Err(NoMemory)
+            }
+        }
+    }
+
+    /// The agent of this name goes from its session with a control node: at its place there is nothing then and nobody,
+    /// and all other sessions of the node are told what is wanted without it.
+    pub fn remove_agent(&mut self, place: Place, name: &Name) -> Result<(), NoMemory>
+        requires node { place.node < length self.old.seats }
+        requires agent { (c : Controls) × ((seat self.old.seats place.node).who ≡ Controlling c)
+            × (first_agent c ≤ place.session) }
+        requires there { other (seat self.old.seats place.node) place.session ≡ Some name.now }
+        requires alone { (i : ℕ) → other (seat self.old.seats place.node) i ≡ Some name.now → i ≡ place.session }
+        ensures leaves { IfOk result (λ _. (n' : Seat) × Leaves name.now (seat self.old.seats place.node) n'
+            × (self.new.seats ≡ with_seat place.node n' self.old.seats)) }
+        ensures failed { IfOk result (λ _. self.new.failed ≡ self.old.failed) }
+    {
+        match leave_at(&mut self.cores, &mut self.edges, place, name) {
+            Ok(()) => Ok(()),
+            Err(NoMemory) => {
+                self.failed = true;
+                Err(NoMemory)
+            }
+        }
+    }
+
+    /// Another agent, or none, is in the place of the first one of a name, or behind all where none has the name.
+    pub fn reseat(
+        &mut self,
+        alloc: Global,
+        topology: &Topology,
+        name: Name,
+        node: Option<&Node>,
+    ) -> Result<(), NoMemory>
+        requires few { length self.old.seats < 65535 }
+        requires listed { IfSome (option_copied node) (λ n.
+            All (Contains (controller_names topology.now)) n.controllers) }
+        requires two { IfSome (option_copied node) (λ n. length n.controllers ≤ 2) }
+        ensures reseated { IfOk result (λ _. self.new.seats
+            ≡ reseated name (new_seats topology.now (option_copied node.entry)) self.old.seats) }
+        ensures failed { IfOk result (λ _. self.new.failed ≡ self.old.failed) }
+    {
+        match reseat_at(
+            &mut self.cores,
+            &mut self.edges,
+            alloc,
+            topology,
+            &name,
+            node,
+        ) {
+            Ok(()) => Ok(()),
+            Err(NoMemory) => {
+                self.failed = true;
+                Err(NoMemory)
+            }
+        }
+    }
+
+    /// An agent comes to a control node: it has the session with the least number that is nobody's, or one more, at
+    /// which there is nothing.
+    pub fn add_agent(&mut self, node: u16, agent: NodeId) -> Result<(), NoMemory>
+        requires node { node < length self.old.seats }
+        requires control { (c : Controls) × ((seat self.old.seats node).who ≡ Controlling c) }
+        requires room { length (seat self.old.seats node).posts < 65535 }
+        ensures joined { IfOk result (λ _. self.new.seats
+            ≡ with_seat node (joined_by_agent agent (seat self.old.seats node)) self.old.seats) }
+        ensures failed { IfOk result (λ _. self.new.failed ≡ self.old.failed) }
+    {
+        match join_at(&mut self.cores, &mut self.edges, node, agent) {
+            Ok(()) => Ok(()),
             Err(NoMemory) => {
                 self.failed = true;
                 Err(NoMemory)
@@ -382,8 +596,8 @@ impl Nodes {
     /// The node of this number, where it is a control node.
     pub fn control(&self, node: u16) -> Option<&ControlNode>
         requires { node < length self.now.seats }
-        ensures { option_map (λ c. holdings c.plan c.posts) (option_copied result)
-            ≡ held_by (seat self.now.seats node).who (seat self.now.seats node).posts }
+        ensures { HoldsAs (option_copied result)
+            (held_by (seat self.now.seats node).who (seat self.now.seats node).posts) }
     {
         self.cores.control(node)
     }

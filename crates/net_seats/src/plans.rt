@@ -1,11 +1,13 @@
 //! The plans of the nodes of a topology.
-ghost use Rattle.std.specs.Prelude.{◌≡◌, ◌∷◌, ◌++◌, map, not, IfOk};
+ghost use Rattle.std.specs.Prelude.{◌≡◌, ◌∷◌, ◌++◌, [], map, not, Some, IfOk};
 ghost use Rattle.std.specs.List.{All, Contains, filter};
 ghost use Rattle.ov_types.specs.First.{same_name};
 ghost use Rattle.config_check.specs.Rules.{controller_names};
-ghost use Rattle.network_model.specs.Network.{lists};
-ghost use Rattle.net_model.specs.Seats.{agent_plan, control_plan, controller_named, id_of, names_of, others_of};
-ghost use Rattle.net_model.specs.Seats.{Forwarding};
+ghost use Rattle.network_model.specs.Network.{config as named_config, lists};
+ghost use Rattle.network_model.specs.Setup.{id_of};
+ghost use Rattle.net_model.specs.Controls.{controls_of};
+ghost use Rattle.net_model.specs.Seats.{Controlling, Forwarding, agent_plan, controller_named, names_of, others_of};
+ghost use Rattle.net_seats.specs.Fresh.{opening_plan};
 
 use agent_node::AgentPlan;
 use config_model::{Node, Topology};
@@ -60,7 +62,7 @@ pub(crate) fn control_plan(
     topology: &Topology,
     me: &NodeId,
 ) -> Result<ControlPlan, NoMemory>
-    ensures { IfOk result (λ plan. plan ≡ control_plan topology.now me.now) }
+    ensures { IfOk result (λ plan. plan ≡ opening_plan topology.now me.now) }
 {
     let peers = peers_of(alloc, topology.controllers.as_slice(), me)?;
     let agents = agents_of(alloc, topology.nodes.as_slice(), me)?;
@@ -105,14 +107,17 @@ pub(crate) fn agent_plan(
     })
 }
 
-fn names_of(alloc: Global, nodes: &[NodeId]) -> Result<Vec<Name>, AllocError>
+fn names_of(alloc: Global, nodes: &[NodeId]) -> Result<Vec<Option<Name>>, AllocError>
     ensures { IfOk result (λ names. names.items ≡ names_of nodes.now) }
 {
-    nodes.iter().map(|node| node.name).collect(alloc)
+    nodes.iter().map(|node| Some(node.name)).collect(alloc)
 }
 
 /// The names at the other ends of the configuration node's sessions.
-pub(crate) fn others_of_config(alloc: Global, topology: &Topology) -> Result<Items<Name>, NoMemory>
+pub(crate) fn others_of_config(
+    alloc: Global,
+    topology: &Topology,
+) -> Result<Items<Option<Name>>, NoMemory>
     ensures { IfOk result (λ names. names ≡ names_of topology.now.controllers) }
 {
     let names = names_of(alloc, topology.controllers.as_slice())?;
@@ -120,33 +125,47 @@ pub(crate) fn others_of_config(alloc: Global, topology: &Topology) -> Result<Ite
 }
 
 /// The names at the other ends of an agent's sessions.
-pub(crate) fn others_of_agent(alloc: Global, plan: &AgentPlan) -> Result<Items<Name>, NoMemory>
+pub(crate) fn others_of_agent(
+    alloc: Global,
+    plan: &AgentPlan,
+) -> Result<Items<Option<Name>>, NoMemory>
     ensures { IfOk result (λ names. names ≡ others_of (Forwarding plan.now)) }
 {
     let names = names_of(alloc, plan.controllers.as_slice())?;
     Ok(Items::from_vec(names))
 }
 
-fn extend(names: &mut Vec<Name>, nodes: &[NodeId]) -> Result<(), NoMemory>
+fn extend(names: &mut Vec<Option<Name>>, nodes: &[NodeId]) -> Result<(), NoMemory>
     ensures { IfOk result (λ _. names.new.items ≡ names.old.items ++ names_of nodes.now) }
 {
     for node in nodes {
-        names.push(node.name)?;
+        names.push(Some(node.name))?;
     }
     Ok(())
 }
 
-/// The names at the other ends of a control node's sessions.
+/// The configuration node's name, and then those of the peers and of the agents.
+fn all_names(alloc: Global, config: Name, plan: &ControlPlan) -> Result<Vec<Option<Name>>, NoMemory>
+    ensures { IfOk result (λ names. names.items
+        ≡ Some config ∷ (names_of plan.now.peers ++ names_of plan.now.agents)) }
+{
+    let mut names = Vec::new(alloc);
+    names.push(Some(config))?;
+    extend(&mut names, plan.peers.as_slice())?;
+    extend(&mut names, plan.agents.as_slice())?;
+    Ok(names)
+}
+
+/// The names at the other ends of a control node's sessions, of which none is retired.
 pub(crate) fn others_of_control(
     alloc: Global,
     config: Name,
     plan: &ControlPlan,
-) -> Result<Items<Name>, NoMemory>
-    ensures { IfOk result (λ names. names ≡ config ∷ (names_of plan.now.peers ++ names_of plan.now.agents)) }
+) -> Result<Items<Option<Name>>, NoMemory>
+    requires name { config ≡ named_config }
+    requires none { plan.now.retired ≡ [] }
+    ensures { IfOk result (λ names. names ≡ others_of (Controlling (controls_of plan.now))) }
 {
-    let mut names = Vec::new(alloc);
-    names.push(config)?;
-    extend(&mut names, plan.peers.as_slice())?;
-    extend(&mut names, plan.agents.as_slice())?;
+    let names = all_names(alloc, config, plan)?;
     Ok(Items::from_vec(names))
 }

@@ -53,7 +53,7 @@ module _ (facts : Facts) (seats : List Seat) (w : Network) (moment : IsMoment w)
 
   pub at_names : (a b : Name) (p far : Place) → AreAt seats a b p far → AtNames seats w a b p far
   at_names a b p far are =
-      let place = facts.wired.place_is w.setup seats a b p right.written stands.who are.0 in
+      let place = facts.wired.place_is w.setup seats a b p right.written right.numbers stands.who are.0 in
       let at = here facts.wired seats w right stands p place.is_place in
       record {
         is_place = place.is_place;
@@ -96,4 +96,4 @@ sessions_said facts seats w moment stands = places_say facts seats w moment stan
 pub no_session : Facts → NoPlaceIsNoSession
 no_session facts seats w moment stands a b none =
     let right = moment_right facts.moments w moment in
-    facts.wired.none w seats a b right.written right.sessions stands.seats_are.who none
+    facts.wired.none w seats a b right.written right.numbers right.sessions stands.seats_are.who none

@@ -1,14 +1,14 @@
 -- What holds at a moment: of its sessions, and of a session that is found.
 use Rattle.std.specs.Prelude.{◌≡◌, ℕ, List, [], length, Bool, true, false, not, ◌&&◌, cond}
 use Rattle.std.specs.declared.option.Option.TheVariants.{Some}
-use Rattle.std.proofs.Common.{refl, sym, ◌∙◌, ap, subst, inl, inr}
+use Rattle.std.proofs.Common.{refl, sym, ◌∙◌, ap, inl, inr}
 use Rattle.std.proofs.lemmas.Bool.{true≢false}
 use Rattle.std.proofs.lemmas.List.{nil_from_length}
 use Rattle.network_model.specs.Setup.{Name}
-use Rattle.network_model.specs.Session.{Session, is_idle, is_live, is_peering, turned}
+use Rattle.network_model.specs.Session.{Session, is_idle, is_live, is_peering}
 use Rattle.network_model.specs.Network.{Network}
 use Rattle.network_model.specs.Steps.{session_of}
-use Rattle.network_model.specs.Moments.{Each, IsFlowing, IsJoined}
+use Rattle.network_model.specs.Moments.{Each, IsJoined}
 use Rattle.network_model.proofs.EveryMoment.{joined_is}
 use Rattle.network_model.proofs.NetworkFact.{found}
 use Rattle.network_model.proofs.SessionFact.{Down, Fact, Fact-turned, live_receiver}
@@ -24,6 +24,7 @@ use Rattle.net_steps.proofs.Quiet.{IsQuiet, quiet_of}
 pub moment_right : Moments → (w : Network) → IsMoment w → IsRight w
 moment_right moments w m = record {
   written = moments.written w m;
+  numbers = moments.numbers w m;
   sessions = moments.sessions w m;
   quiet = each_weaker (Fact message_size) IsQuiet (quiet_of message_size) w.sessions (moment_sound w m);
 }

@@ -3,9 +3,9 @@ use Rattle.std.specs.Prelude.{◌≡◌, ◌≢◌, ◌<◌, ℕ, zero, suc, Lis
 use Rattle.std.specs.List.{slice_set}
 use Rattle.std.specs.Option.{option_map}
 use Rattle.std.specs.declared.option.Option.{Option}
-use Rattle.std.specs.declared.option.Option.TheVariants.{Some, None}
-use Rattle.std.proofs.lemmas.List.{get_or-set_same, length-map}
-use Rattle.std.proofs.lemmas.Option.{none-some, same_Some}
+use Rattle.std.specs.declared.option.Option.TheVariants.{Some}
+use Rattle.std.proofs.lemmas.List.{get_or-set_same}
+use Rattle.std.proofs.lemmas.Option.{none-some}
 use Rattle.std.proofs.Common.{refl, sym, ◌∙◌, ap, subst}
 use Rattle.ov_link.specs.Breaks.{with_break}
 use Rattle.schedule_script.specs.declared.answer.Answer.TheVariants.{Did, Idle}
@@ -15,21 +15,22 @@ use Rattle.network_model.specs.Network.{Network}
 use Rattle.network_model.specs.Steps.{change_session, joins, session_in, session_of, without_breaks}
 use Rattle.network_model.specs.Events.{Break, add_break, answer_to, next, unless}
 use Rattle.network_model.proofs.Idle.{idle_same}
-use Rattle.net_model.specs.Seats.{Seat, breaks_at, kept_in, link, others_of, place_of, seat}
+use Rattle.net_model.specs.Seats.{Seat, breaks_at, kept_in, link, seat}
 use Rattle.net_model.specs.Steps.{unbroken as unbroken_seat, with_break_at}
-use Rattle.net_model.specs.Stands.{HasEnd, IsEnd, IsLong, KeepsPart, Seats, StandsFor, first_of, message_size}
+use Rattle.net_model.specs.Stands.{IsEnd, IsLong, IsVacant, KeepsPart, Seats, StandsFor, first_of, message_size}
 use Rattle.net_model.specs.declared.place.Place.{Place}
 use Rattle.told_laws.specs.Moments.{IsMoment, unbroken}
 use Rattle.seat_laws.specs.Wiring.{IsPlace, name_at, other_at}
 use Rattle.net_steps.specs.Asking.{AreAt}
 use Rattle.net_steps.specs.Breaking.{BreaksAreRemoved, BreaksAreSet, NothingIsBroken}
 use Rattle.net_steps.proofs.AtMoments.{moment_right, stands_at}
-use Rattle.net_steps.proofs.Building.{AllBut, IsPart, SameEnd, has_end, long_again, moved, part_at, part_of, part_same, put_but}
+use Rattle.net_steps.proofs.Building.{AllBut, IsPart, SameEnd, fit_but, has_end, long_again, moved, part_at, part_of, part_same, put_but}
 use Rattle.net_steps.proofs.Building.{seats_by_places, stored_breaks}
 use Rattle.net_steps.proofs.Changing.{changes_at}
 use Rattle.net_steps.proofs.Facts.{Facts, IsRight}
 use Rattle.net_steps.proofs.Here.{Here, here, part_here}
-use Rattle.net_steps.proofs.Lists.{AreAlike, same_far_of, same_long, same_place, same_who, seat_here}
+use Rattle.net_steps.proofs.Lists.{AreAlike, AreVacant, EndAt, same_far_of, same_long, same_other, same_place, same_who, seat_here}
+use Rattle.net_steps.proofs.Lists.{seats_fit}
 use Rattle.net_steps.proofs.Started.{all_alike, all_long}
 
 -- ---- one that is set
@@ -106,7 +107,8 @@ module _ (facts : Facts) (seats : List Seat) (w : Network) (moment : IsMoment w)
 
     pub broken_seats : Seats after (change_session (name_at seats p) (other_at seats p) (add_break n) w)
     broken_seats =
-        changes_at facts.wired seats w right stands after p is at (add_break n) (λ s. refl) but.alike (but.long stands.long)
+        changes_at facts.wired seats w right stands after p is at (add_break n) (λ s. refl) but.alike
+        (fit_but seats after p is but (seats_fit seats w stands))
         near_end far_end (λ r _ not_p _. but.ends r not_p) near_part far_part
 
   set_at : (a b : Name) (n : ℕ) (s : Session) → session_of w a b ≡ Some s
@@ -118,7 +120,7 @@ module _ (facts : Facts) (seats : List Seat) (w : Network) (moment : IsMoment w)
       → StandsFor (with_break_at p n seats) (next message_size w (Break a b n))
       × IsMoment (next message_size w (Break a b n)) × (answer_to w (Break a b n) ≡ Did)
   break_set a b p far are n =
-      let place = facts.wired.place_is w.setup seats a b p right.written stands.who are.0 in
+      let place = facts.wired.place_is w.setup seats a b p right.written right.numbers stands.who are.0 in
       let h = here facts.wired seats w right stands p place.is_place in
       let step = set_at a b n h.session ((λ i. session_of w (sym place.name i) (sym place.other i)) ∙ h.found) in
       let later = facts.moments.after w (Break a b n) moment tt in (
@@ -139,7 +141,7 @@ nothing_is_broken facts seats w moment stands a b none n =
     let right = moment_right facts.moments w moment in
     let idle : answer_to w (Break a b n) ≡ Idle =
     ap (λ (o : Option Session). unless (not (is_some o)))
-    (facts.wired.none w seats a b right.written right.sessions stands.seats_are.who none)
+    (facts.wired.none w seats a b right.written right.numbers right.sessions stands.seats_are.who none)
     in
     (idle_same message_size w (Break a b n) idle, idle)
 
@@ -195,7 +197,19 @@ module _ (facts : Facts) (seats : List Seat) (w : Network) (moment : IsMoment w)
       (long_again n (unbroken_seat n) refl refl refl refl (all_long [] n.breaks) refl
       (stands.long k (subst (λ m. k < m) (same_long seats unbroken_now alike) lt)))
 
-  after_end : (p : Place) → IsPlace seats p → HasEnd (unbroken w) (seat unbroken_now p.node) p.session
+  after_vacant : AreVacant unbroken_now
+  after_vacant p none =
+      let v = (seats_fit seats w stands).vacant p (sym (same_other seats unbroken_now alike p) ∙ none) in
+      subst (λ n. IsVacant n p.session) (sym (unbroken_at seats p.node))
+      (record {
+        post = v.post;
+        kept = v.kept;
+        link = v.link;
+        breaks = all_alike [] (seat seats p.node).breaks p.session;
+        notice = v.notice;
+      })
+
+  after_end : (p : Place) → IsPlace seats p → EndAt (unbroken w) unbroken_now p
   after_end p is =
       let h = here facts.wired seats w calm stands p is in
       has_end seats unbroken_now (unbroken w) p (without_breaks h.session) alike
@@ -214,7 +228,7 @@ module _ (facts : Facts) (seats : List Seat) (w : Network) (moment : IsMoment w)
 
   pub unbroken_seats : Seats unbroken_now (unbroken w)
   unbroken_seats =
-      seats_by_places unbroken_now (unbroken w) (alike ∙ stands.who) after_long
+      seats_by_places unbroken_now (unbroken w) (alike ∙ stands.who) (record { long = after_long; vacant = after_vacant })
       (λ p is. after_end p (same_place seats unbroken_now alike p is)) (λ p is. after_part p (same_place seats unbroken_now alike p is))
 
 pub breaks_are_removed : Facts → BreaksAreRemoved

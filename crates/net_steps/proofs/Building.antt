@@ -1,21 +1,22 @@
 -- Seats that change at single places.
 use Rattle.std.specs.Prelude.{◌≡◌, ◌≢◌, ◌⊎◌, ◌<◌, ℕ, zero, suc, List, [], ◌∷◌, ◌++◌, map, length, take, Bool, false, cond}
 use Rattle.std.specs.List.{slice_set}
-use Rattle.std.specs.declared.option.Option.TheVariants.{Some}
+use Rattle.std.specs.declared.option.Option.TheVariants.{Some, None}
 use Rattle.std.proofs.lemmas.Bool.{cases_eq}
 use Rattle.std.proofs.lemmas.List.{get_or-set_other, length-set}
-use Rattle.std.proofs.lemmas.Option.{same_Some}
+use Rattle.std.proofs.lemmas.Option.{none-some, same_Some}
 use Rattle.std.proofs.Common.{refl, sym, ◌∙◌, ap, subst, inl, inr}
 use Rattle.node_model.specs.Step.{Post, nothing, post}
 use Rattle.network_model.specs.Session.{End, Session, is_peering}
 use Rattle.network_model.specs.Network.{Network}
 use Rattle.network_model.specs.Steps.{session_of}
-use Rattle.net_model.specs.Seats.{Seat, breaks_in, far_of, kept_in, link, notice, others_of, seat, whos}
+use Rattle.net_model.specs.Seats.{Seat, breaks_in, far_of, kept_in, link, notice, other, others_of, seat, whos}
 use Rattle.net_model.specs.Steps.{with_seat}
-use Rattle.net_model.specs.Stands.{HasEnd, IsEnd, IsLong, KeepsPart, Seats, first_of, octets_of}
+use Rattle.net_model.specs.Stands.{HasEnd, IsEnd, IsLong, IsVacant, KeepsPart, Seats, first_of, octets_of}
 use Rattle.net_model.specs.declared.place.Place.{Place}
 use Rattle.seat_laws.specs.Wiring.{IsPlace, name_at, other_at}
-use Rattle.net_steps.proofs.Lists.{AreAlike, same_name_at, same_other_at, seat_elsewhere, seat_here, with_alike}
+use Rattle.net_steps.proofs.Lists.{AreAlike, AreFit, EndAt, far_nowhere, not_nobody, place_with, same_name_at, same_other}
+use Rattle.net_steps.proofs.Lists.{same_other_at, seat_elsewhere, seat_here, there_or_nobody, with_alike}
 
 -- ---- one end of a node
 pub record SameEnd (n n' : Seat) (i : ℕ) : Type 0 where
@@ -80,6 +81,25 @@ stays_back n n' i a = record { post = sym a.post; kept = sym a.kept; breaks = sy
 pub end_stays : (n n' : Seat) (i : ℕ) → SameEnd n n' i → Stays n n' i
 end_stays n n' i a = record { post = a.post; kept = a.kept; breaks = a.breaks }
 
+-- an end at which there is nothing
+pub vacant_same : (n n' : Seat) (i : ℕ) → SameEnd n n' i → IsVacant n i → IsVacant n' i
+vacant_same n n' i a v = record {
+  post = a.post ∙ v.post;
+  kept = a.kept ∙ v.kept;
+  link = a.link ∙ v.link;
+  breaks = a.breaks ∙ v.breaks;
+  notice = a.notice ∙ v.notice;
+}
+
+pub both_vacant : (n n' : Seat) (i : ℕ) → IsVacant n i → IsVacant n' i → SameEnd n n' i
+both_vacant n n' i v u = record {
+  post = u.post ∙ sym v.post;
+  kept = u.kept ∙ sym v.kept;
+  link = u.link ∙ sym v.link;
+  breaks = u.breaks ∙ sym v.breaks;
+  notice = u.notice ∙ sym v.notice;
+}
+
 pub long_again : (n n' : Seat) → n'.who ≡ n.who → length n'.posts ≡ length n.posts → length n'.kept ≡ length n.kept
     → length n'.links ≡ length n.links → length n'.breaks ≡ length n.breaks → length n'.notices ≡ length n.notices
     → IsLong n → IsLong n'
@@ -89,6 +109,16 @@ long_again n n' who posts kept links breaks notices l = record {
   links = links ∙ l.links ∙ ap (λ x. length (others_of x)) (sym who);
   breaks = breaks ∙ l.breaks ∙ ap (λ x. length (others_of x)) (sym who);
   notices = notices ∙ l.notices ∙ ap (λ x. length (others_of x)) (sym who);
+}
+
+-- what is nobody's stays so where a place changes
+pub fit_but : (seats seats' : List Seat) (p : Place) → IsPlace seats p → AllBut seats seats' p → AreFit seats → AreFit seats'
+fit_but seats seats' p is but fit = record {
+  long = but.long fit.long;
+  vacant = λ r none.
+      let before = sym (same_other seats seats' but.alike r) ∙ none in
+      vacant_same (seat seats r.node) (seat seats' r.node) r.session (but.ends r (not_nobody seats p r is before))
+      (fit.vacant r before);
 }
 
 -- where one node changes at one of its ends
@@ -258,21 +288,29 @@ part_more n n' i far far' j more kept waits flight h =
 
 -- ---- seats are those of a state by their places
 pub seats_by_places : (seats : List Seat) (w : Network) → map (λ (n : Seat). n.who) seats ≡ whos w.setup
-    → ((k : ℕ) → k < length seats → IsLong (seat seats k))
-    → ((p : Place) → IsPlace seats p → HasEnd w (seat seats p.node) p.session)
+    → AreFit seats
+    → ((p : Place) → IsPlace seats p → EndAt w seats p)
     → ((p : Place) → IsPlace seats p → KeepsPart seats p)
     → Seats seats w
-seats_by_places seats w who long each parts = record {
+seats_by_places seats w who fit each parts = record {
   who = who;
-  long = long;
-  ends = λ k i lt less. each (record { node = k; session = i }) (record { node = lt; session = subst (λ n. i < n) (long k lt).posts less });
-  parts = λ k i lt less. parts (record { node = k; session = i }) (record { node = lt; session = subst (λ n. i < n) (long k lt).posts less });
+  long = fit.long;
+  ends = λ k i lt less b is.
+      let at = place_with seats (record { node = k; session = i }) b is in
+      subst (HasEnd w (seat seats k) i) (same_Some (other_at seats (record { node = k; session = i })) b (sym at.somebody ∙ is))
+      (each (record { node = k; session = i }) at);
+  vacant = λ k i lt less none. fit.vacant (record { node = k; session = i }) none;
+  parts = λ k i lt less. part (record { node = k; session = i }) (there_or_nobody seats (record { node = k; session = i }));
 }
+  where
+    part : (p : Place) → IsPlace seats p ⊎ (other (seat seats p.node) p.session ≡ None) → KeepsPart seats p
+    part p (inl is) = parts p is
+    part p (inr none) = λ far found. absurd (none-some far (sym (far_nowhere seats p none) ∙ found))
 
 -- an end of a place by the names of earlier seats
 pub has_end : (seats seats' : List Seat) (w : Network) (p : Place) (s : Session) → AreAlike seats seats'
     → session_of w (name_at seats p) (other_at seats p) ≡ Some s → IsEnd (seat seats' p.node) p.session s
-    → HasEnd w (seat seats' p.node) p.session
+    → EndAt w seats' p
 has_end seats seats' w p s alike found is = record {
   session = s;
   found = (λ i. session_of w (same_name_at seats seats' alike p i) (same_other_at seats seats' alike p i)) ∙ found;

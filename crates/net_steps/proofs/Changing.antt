@@ -1,5 +1,5 @@
 -- A change of one session: seats that change at its two places stand for the state after it.
-use Rattle.std.specs.Prelude.{◌≡◌, ◌≢◌, ◌⊎◌, ◌<◌, ℕ, List, length}
+use Rattle.std.specs.Prelude.{◌≡◌, ◌≢◌, ◌⊎◌, List}
 use Rattle.std.specs.declared.option.Option.TheVariants.{Some}
 use Rattle.std.proofs.lemmas.Option.{same_Some}
 use Rattle.std.proofs.Common.{refl, sym, ◌∙◌, ap, subst, inl, inr}
@@ -11,13 +11,13 @@ use Rattle.network_model.specs.Moments.{Each}
 use Rattle.network_model.proofs.NetworkFact.{KeepsNodes}
 use Rattle.network_model.proofs.NodesFact.{session_nodes}
 use Rattle.net_model.specs.Seats.{Seat, far_of, place_of, seat}
-use Rattle.net_model.specs.Stands.{HasEnd, IsEnd, IsLong, KeepsPart, Seats}
+use Rattle.net_model.specs.Stands.{IsEnd, KeepsPart, Seats}
 use Rattle.net_model.specs.declared.place.Place.{Place}
 use Rattle.seat_laws.specs.Wiring.{IsPlace, name_at, other_at}
 use Rattle.net_steps.proofs.Building.{SameEnd, has_end, moved, part_at, part_of, part_same, seats_by_places}
 use Rattle.net_steps.proofs.Facts.{IsRight, Wired}
 use Rattle.net_steps.proofs.Here.{Here, here, part_here}
-use Rattle.net_steps.proofs.Lists.{AreAlike, same_far_of, same_or_other, same_place, same_who}
+use Rattle.net_steps.proofs.Lists.{AreAlike, AreFit, EndAt, same_far_of, same_or_other, same_place, same_who}
 use Rattle.net_steps.proofs.Quiet.{IsQuiet}
 use Rattle.net_steps.proofs.Sides.{changed_elsewhere, changed_here, changed_there}
 
@@ -26,6 +26,7 @@ pub changed_right : (a b : Name) (f : Session → Session) → KeepsNodes f → 
     → Each IsQuiet (change_session a b f w).sessions → IsRight (change_session a b f w)
 changed_right a b f kept w right quiet = record {
   written = right.written;
+  numbers = right.numbers;
   sessions = session_nodes a b f kept w.sessions ∙ right.sessions;
   quiet = quiet;
 }
@@ -36,9 +37,9 @@ module _ (wired : Wired) (seats : List Seat) (w : Network) (right : IsRight w) (
       → other_at seats p ≡ other_at seats q → p ≡ q
   one_place p q is is' e f =
       same_Some p q
-      (sym (wired.place w.setup seats p right.written stands.who is)
+      (sym (wired.place w.setup seats p right.written right.numbers stands.who is)
       ∙ (λ i. place_of seats (e i) (f i))
-      ∙ wired.place w.setup seats q right.written stands.who is')
+      ∙ wired.place w.setup seats q right.written right.numbers stands.who is')
 
   -- the session at another place stays
   pub found_elsewhere : (p : Place) → IsPlace seats p → (h : Here seats w p) → (f : Session → Session) → KeepsNodes f
@@ -53,7 +54,7 @@ module _ (wired : Wired) (seats : List Seat) (w : Network) (right : IsRight w) (
 
   module _ (seats' : List Seat) (p : Place) (is : IsPlace seats p) (h : Here seats w p) (f : Session → Session)
       (keeps : KeepsNodes f) (alike : AreAlike seats seats')
-      (long : (k : ℕ) → k < length seats' → IsLong (seat seats' k))
+      (fit : AreFit seats')
       (near : IsEnd (seat seats' p.node) p.session (f h.session))
       (far : IsEnd (seat seats' h.far.far.node) h.far.far.session (turned (f h.session)))
       (elsewhere : (r : Place) → IsPlace seats r → r ≢ p → r ≢ h.far.far → SameEnd (seat seats r.node) (seat seats' r.node) r.session)
@@ -61,18 +62,18 @@ module _ (wired : Wired) (seats : List Seat) (w : Network) (right : IsRight w) (
     abbrev changed : Network
     changed = change_session (name_at seats p) (other_at seats p) f w
 
-    here_changed : HasEnd changed (seat seats' p.node) p.session
+    here_changed : EndAt changed seats' p
     here_changed =
         has_end seats seats' changed p (f h.session) alike
         (changed_here (name_at seats p) (other_at seats p) h.apart f keeps w.sessions h.session h.found) near
 
-    far_changed : HasEnd changed (seat seats' h.far.far.node) h.far.far.session
+    far_changed : EndAt changed seats' h.far.far
     far_changed =
         has_end seats seats' changed h.far.far (turned (f h.session)) alike
         ((λ i. session_of changed (h.far.name i) (h.far.other i))
         ∙ changed_there (name_at seats p) (other_at seats p) h.apart f keeps w.sessions h.session h.found) far
 
-    others_same : (r : Place) → IsPlace seats r → r ≢ p → r ≢ h.far.far → HasEnd changed (seat seats' r.node) r.session
+    others_same : (r : Place) → IsPlace seats r → r ≢ p → r ≢ h.far.far → EndAt changed seats' r
     others_same r is_r not_p not_q =
         let there = here wired seats w right stands r is_r in
         has_end seats seats' changed r there.session alike
@@ -93,7 +94,7 @@ module _ (wired : Wired) (seats : List Seat) (w : Network) (right : IsRight w) (
 
     pub changes_at : Seats seats' changed
     changes_at =
-        seats_by_places seats' changed (alike ∙ stands.who) long
+        seats_by_places seats' changed (alike ∙ stands.who) fit
         (λ r is_r. by_place r (same_place seats seats' alike r is_r) (same_or_other r p) (same_or_other r h.far.far))
         (λ r is_r. part_by_place r (same_place seats seats' alike r is_r) (same_or_other r p) (same_or_other r h.far.far))
       where
@@ -102,7 +103,7 @@ module _ (wired : Wired) (seats : List Seat) (w : Network) (right : IsRight w) (
         part_by_place r is_r (inr ne) (inl e) = subst (KeepsPart seats') (sym e) far_part
         part_by_place r is_r (inr ne) (inr ne') = parts_same r is_r ne ne'
 
-        by_place : (r : Place) → IsPlace seats r → (r ≡ p) ⊎ (r ≢ p) → (r ≡ h.far.far) ⊎ (r ≢ h.far.far) → HasEnd changed (seat seats' r.node) r.session
-        by_place r is_r (inl e) b = subst (λ (r : Place). HasEnd changed (seat seats' r.node) r.session) (sym e) here_changed
-        by_place r is_r (inr ne) (inl e) = subst (λ (r : Place). HasEnd changed (seat seats' r.node) r.session) (sym e) far_changed
+        by_place : (r : Place) → IsPlace seats r → (r ≡ p) ⊎ (r ≢ p) → (r ≡ h.far.far) ⊎ (r ≢ h.far.far) → EndAt changed seats' r
+        by_place r is_r (inl e) b = subst (EndAt changed seats') (sym e) here_changed
+        by_place r is_r (inr ne) (inl e) = subst (EndAt changed seats') (sym e) far_changed
         by_place r is_r (inr ne) (inr ne') = others_same r is_r ne ne'

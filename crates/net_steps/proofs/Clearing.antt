@@ -2,18 +2,21 @@
 -- other end of it is told of the loss, and what left a live end is discarded where its session is down.
 use Rattle.std.specs.Prelude.{◌≡◌, ◌≢◌, ◌⊎◌, ◌<◌, ◌≤◌, ℕ, zero, suc, ◌+◌, List, [], length, Bool, true, false, cond, not, ◌&&◌, if◌then◌else◌}
 use Rattle.std.specs.List.{slice_index_or, slice_set}
-use Rattle.std.specs.declared.option.Option.TheVariants.{Some}
+use Rattle.std.specs.declared.option.Option.TheVariants.{Some, None}
 use Rattle.std.proofs.lemmas.Bool.{cases_eq, true≢false}
+use Rattle.std.proofs.lemmas.List.{set-get_or}
 use Rattle.std.proofs.lemmas.Option.{same_Some}
 use Rattle.std.proofs.Common.{refl, sym, ◌∙◌, ap, subst, inl, inr, arith}
 use Rattle.node_model.specs.Step.{Post}
 use Rattle.network_model.specs.Session.{is_idle}
-use Rattle.net_model.specs.Seats.{Seat, far_of, is_down_at, link_at, live_at, notice_at, others_of, seat}
-use Rattle.net_model.specs.Steps.{cleared, cleared_at, cleared_from, told_of_loss, with_link, with_notice}
+use Rattle.net_model.specs.Seats.{Seat, far_of, is_down_at, link_at, live_at, nobody, notice_at, other, seat}
+use Rattle.net_model.specs.Stands.{IsVacant}
+use Rattle.net_model.specs.Steps.{cleared, cleared_at, cleared_from, told_of_loss, with_link, with_notice, with_seat}
 use Rattle.net_model.specs.declared.place.Place.{Place}
 use Rattle.seat_laws.specs.Wiring.{HasFar, IsPlace}
-use Rattle.net_steps.proofs.Building.{AllBut, SameEnd, Stays, end_refl, end_trans, stays_refl, stays_trans}
-use Rattle.net_steps.proofs.Lists.{same_far_of, same_long, same_or_other, same_who, seat_elsewhere}
+use Rattle.net_steps.proofs.Building.{AllBut, SameEnd, Stays, end_refl, end_trans, fit_but, stays_refl, stays_trans}
+use Rattle.net_steps.proofs.Lists.{far_nowhere, not_nobody, same_far_of, same_or_other, same_other, same_place, seat_elsewhere}
+use Rattle.net_steps.proofs.Lists.{there_or_nobody}
 use Rattle.net_steps.proofs.Marks.{link_but, link_here, link_keeps, link_stays, notice_but, notice_here, notice_keeps, notice_stays}
 use Rattle.net_steps.proofs.Telling.{Going, one_going, one_other, one_posts, one_stays, one_told, told_at}
 use Rattle.net_steps.proofs.Wholes.{down_by_ends}
@@ -67,11 +70,11 @@ pub record OneCleared (base : List Seat) (down : Bool) (s s' : List Seat) (p q :
 
 module _ (base s : List Seat) (going : Going base s) (p q : Place) (is : IsPlace base p) (is_q : IsPlace base q)
     (found : far_of base p ≡ Some q) (apart : q.node ≢ p.node) where
-  lt : p.node < length s
-  lt = subst (λ n. p.node < n) (sym (same_long base s going.alike)) is.node
+  is_s : IsPlace s p
+  is_s = same_place s base (sym going.alike) p is
 
-  within : (s : List Seat) → Going base s → p.session < length (others_of (seat s p.node).who)
-  within s g = subst (λ x. p.session < length (others_of x)) (sym (same_who base s g.alike p.node)) is.session
+  lt : p.node < length s
+  lt = is_s.node
 
   -- its link is emptied
   abbrev s1 : List Seat
@@ -81,10 +84,10 @@ module _ (base s : List Seat) (going : Going base s) (p q : Place) (is : IsPlace
   but1 = link_but s p lt []
 
   going1 : Going base s1
-  going1 = record { alike = but1.alike ∙ going.alike; long = but1.long going.long }
+  going1 = record { alike = but1.alike ∙ going.alike; fit = fit_but s s1 p is_s but1 going.fit }
 
   emptied_link : link_at s1 p ≡ []
-  emptied_link = link_here s p lt [] (subst (λ n. p.session < n) (sym (going.long p.node lt).links) (within s going))
+  emptied_link = link_here s p lt [] (subst (λ n. p.session < n) (sym (going.fit.long p.node lt).links) is_s.session)
 
   elsewhere1 : (m : ℕ) → m ≢ p.node → seat s1 m ≡ seat s m
   elsewhere1 m ne = seat_elsewhere p.node m (record (seat s p.node) { links = slice_set (seat s p.node).links p.session [] }) s ne
@@ -118,8 +121,11 @@ module _ (base s : List Seat) (going : Going base s) (p q : Place) (is : IsPlace
   }
 
   -- the end that is not live
+  is_1 : IsPlace s1 p
+  is_1 = same_place s1 base (sym going1.alike) p is
+
   lt1 : p.node < length s1
-  lt1 = subst (λ n. p.node < n) (sym (same_long s s1 but1.alike)) lt
+  lt1 = is_1.node
 
   abbrev s2 : List Seat
   s2 = with_notice p false s1
@@ -128,7 +134,7 @@ module _ (base s : List Seat) (going : Going base s) (p q : Place) (is : IsPlace
   but2 = notice_but s1 p lt1 false
 
   going2 : Going base s2
-  going2 = record { alike = but2.alike ∙ going1.alike; long = but2.long going1.long }
+  going2 = record { alike = but2.alike ∙ going1.alike; fit = fit_but s1 s2 p is_1 but2 going1.fit }
 
   abbrev s3 : List Seat
   s3 = told_at q s2
@@ -154,7 +160,7 @@ module _ (base s : List Seat) (going : Going base s) (p q : Place) (is : IsPlace
       closed = λ _. (
         (one_other base s2 going2 q is_q p not_q).notice
             ∙ notice_here s1 p lt1 false
-            (subst (λ n. p.session < n) (sym (going1.long p.node lt1).notices) (within s1 going1)),
+            (subst (λ n. p.session < n) (sym (going1.fit.long p.node lt1).notices) is_1.session),
         (one_other base s2 going2 q is_q p not_q).link
             ∙ ap (λ ls. slice_index_or ls p.session []) (notice_keeps s1 p lt1 false p.node).1
             ∙ emptied_link,
@@ -192,18 +198,55 @@ module _ (base s : List Seat) (going : Going base s) (p q : Place) (is : IsPlace
       by_live false down e = one_closed down e
 
 -- ---- n sessions, from the one with this number on
-module _ (base : List Seat) (k count : ℕ) (own : (j : ℕ) → j < count → IsPlace base (place k j))
-    (far : (j : ℕ) → j < count → HasFar base (place k j)) (off : (j : ℕ) (lt : j < count) → (far j lt).far.node ≢ k) where
-  own_not_far : (i j : ℕ) (lt : j < count) → place k i ≢ (far j lt).far
+module _ (base : List Seat) (k : ℕ) (far : (j : ℕ) → IsPlace base (place k j) → HasFar base (place k j))
+    (off : (j : ℕ) (is : IsPlace base (place k j)) → (far j is).far.node ≢ k) where
+  -- nothing is cleared at an end that is nobody's
+  module _ (s : List Seat) (going : Going base s) (i : ℕ) (none : other (seat base k) i ≡ None) where
+    vacant_there : IsVacant (seat s k) i
+    vacant_there = going.fit.vacant (place k i) (same_other base s going.alike (place k i) ∙ none)
+
+    dead_there : live_at s (place k i) ≡ false
+    dead_there = ap (λ (p : Post). not (is_idle p.phase)) vacant_there.post
+
+    far_there : far_of s (place k i) ≡ None
+    far_there = same_far_of base s going.alike (place k i) ∙ far_nowhere base (place k i) none
+
+    same_link : with_link (place k i) [] s ≡ s
+    same_link =
+        ap (λ ls. with_seat k (record (seat s k) { links = ls }) s)
+        (ap (slice_set (seat s k).links i) (sym vacant_there.link) ∙ set-get_or (seat s k).links i [])
+        ∙ set-get_or s k nobody
+
+    same_notice : with_notice (place k i) false s ≡ s
+    same_notice =
+        ap (λ bs. with_seat k (record (seat s k) { notices = bs }) s)
+        (ap (slice_set (seat s k).notices i) (sym vacant_there.notice) ∙ set-get_or (seat s k).notices i false)
+        ∙ set-get_or s k nobody
+
+    told_nobody : told_of_loss (with_notice (place k i) false (with_link (place k i) [] s)) (far_of s (place k i)) ≡ s
+    told_nobody =
+        ap (told_of_loss (with_notice (place k i) false (with_link (place k i) [] s))) far_there
+        ∙ ap (with_notice (place k i) false) same_link ∙ same_notice
+
+    pub clear_nobody : (down : Bool) → clear_at down s (place k i) ≡ s
+    clear_nobody down =
+        ap (λ (live : Bool). cond live (cond down (with_link (place k i) [] s) s)
+        (told_of_loss (with_notice (place k i) false (with_link (place k i) [] s)) (far_of s (place k i)))) dead_there
+        ∙ told_nobody
+
+    cleared_nobody : cleared_at s (place k i) ≡ s
+    cleared_nobody = clear_nobody (is_down_at s (place k i))
+
+  own_not_far : (i j : ℕ) (lt : IsPlace base (place k j)) → place k i ≢ (far j lt).far
   own_not_far i j lt e = off j lt (sym (ap (λ (p : Place). p.node) e))
 
-  pub far_once : (i j : ℕ) (lt : i < count) (lt' : j < count) → i ≢ j → (far i lt).far ≢ (far j lt').far
+  pub far_once : (i j : ℕ) (lt : IsPlace base (place k i)) (lt' : IsPlace base (place k j)) → i ≢ j → (far i lt).far ≢ (far j lt').far
   far_once i j lt lt' ne e =
       ne (ap (λ (p : Place). p.session)
       (same_Some (place k i) (place k j) (sym (far i lt).back ∙ ap (far_of base) e ∙ (far j lt').back)))
 
   -- whichever proof it is that there is such a session
-  far_same : (i j : ℕ) (lt : i < count) (lt' : j < count) → i ≡ j → (far i lt).far ≡ (far j lt').far
+  far_same : (i j : ℕ) (lt : IsPlace base (place k i)) (lt' : IsPlace base (place k j)) → i ≡ j → (far i lt).far ≡ (far j lt').far
   far_same i j lt lt' e =
       same_Some (far i lt).far (far j lt').far
       (sym (far i lt).found ∙ ap (λ i. far_of base (place k i)) e ∙ (far j lt').found)
@@ -215,16 +258,10 @@ module _ (base : List Seat) (k count : ℕ) (own : (j : ℕ) → j < count → I
     pub going : Going base s'
     pub posts : (j : ℕ) → (seat s' j).posts ≡ (seat s j).posts
     pub stays : (r : Place) → Stays (seat s r.node) (seat s' r.node) r.session
-    pub ends : (j : ℕ) (lt : j < count) → i ≤ j → j < i + n → AtEnds (down j) s s' (place k j) (far j lt).far
-    pub rest : (r : Place) → ((j : ℕ) → j < count → i ≤ j → j < i + n → r ≢ place k j)
-        → ((j : ℕ) (lt : j < count) → i ≤ j → j < i + n → live_at s (place k j) ≡ false → r ≢ (far j lt).far)
+    pub ends : (j : ℕ) (lt : IsPlace base (place k j)) → i ≤ j → j < i + n → AtEnds (down j) s s' (place k j) (far j lt).far
+    pub rest : (r : Place) → ((j : ℕ) → i ≤ j → j < i + n → r ≢ place k j)
+        → ((j : ℕ) (lt : IsPlace base (place k j)) → i ≤ j → j < i + n → live_at s (place k j) ≡ false → r ≢ (far j lt).far)
         → SameEnd (seat s r.node) (seat s' r.node) r.session
-
-  first_within : (n i : ℕ) → i + suc n ≤ count → i < count
-  first_within n i h = omega (arith, h)
-
-  rest_within : (n i : ℕ) → i + suc n ≤ count → i + 1 + n ≤ count
-  rest_within n i h = omega (arith, h)
 
   first_low : (i : ℕ) → i ≤ i
   first_low i = omega arith
@@ -248,7 +285,7 @@ module _ (base : List Seat) (k count : ℕ) (own : (j : ℕ) → j < count → I
   not_first i j h e = omega (arith, h, e)
 
   module _ (down : ℕ → Bool) where
-    step_cleared : (n i : ℕ) (s t u : List Seat) (lt : i < count)
+    step_cleared : (n i : ℕ) (s t u : List Seat) (lt : IsPlace base (place k i))
         → OneCleared base (down i) s t (place k i) (far i lt).far → IsCleared down n (i + 1) t u → IsCleared down (suc n) i s u
     step_cleared n i s t u lt one r = record {
       going = r.going;
@@ -257,8 +294,8 @@ module _ (base : List Seat) (k count : ℕ) (own : (j : ℕ) → j < count → I
       ends = λ j less low high. by_number j less low high (cases_eq i j);
       rest = λ p not_own not_far.
           end_trans (seat s p.node) (seat t p.node) (seat u p.node) p.session
-          (one.rest p (not_own i lt (first_low i) (first_high n i)) (not_far i lt (first_low i) (first_high n i)))
-          (r.rest p (λ j less low high. not_own j less (below i j low) (higher n i j high))
+          (one.rest p (not_own i (first_low i) (first_high n i)) (not_far i lt (first_low i) (first_high n i)))
+          (r.rest p (λ j low high. not_own j (below i j low) (higher n i j high))
           (λ j less low high e. not_far j less (below i j low) (higher n i j high) (sym (same_live j) ∙ e)));
     }
       where
@@ -267,17 +304,17 @@ module _ (base : List Seat) (k count : ℕ) (own : (j : ℕ) → j < count → I
 
         later_own : SameEnd (seat t k) (seat u k) i
         later_own =
-            r.rest (place k i) (λ j _ low _. own_once i j (not_first i j low)) (λ j less _ _ _. own_not_far i j less)
+            r.rest (place k i) (λ j low _. own_once i j (not_first i j low)) (λ j less _ _ _. own_not_far i j less)
 
         later_far : SameEnd (seat t (far i lt).far.node) (seat u (far i lt).far.node) (far i lt).far.session
         later_far =
-            r.rest (far i lt).far (λ j _ _ _ e. own_not_far j i lt (sym e))
+            r.rest (far i lt).far (λ j _ _ e. own_not_far j i lt (sym e))
             (λ j less low _ _. far_once i j lt less (not_first i j low))
 
         earlier_own : (j : ℕ) → i ≢ j → SameEnd (seat s k) (seat t k) j
         earlier_own j ne = one.rest (place k j) (λ e. own_once i j ne (sym e)) (λ _. own_not_far j i lt)
 
-        by_number : (j : ℕ) (less : j < count) → i ≤ j → j < i + suc n → (i ≡ j) ⊎ (i ≢ j)
+        by_number : (j : ℕ) (less : IsPlace base (place k j)) → i ≤ j → j < i + suc n → (i ≡ j) ⊎ (i ≢ j)
             → AtEnds (down j) s u (place k j) (far j less).far
         by_number j less low high (inl e) =
             subst (AtEnds (down j) s u (place k j)) (far_same i j lt less e)
@@ -288,8 +325,30 @@ module _ (base : List Seat) (k count : ℕ) (own : (j : ℕ) → j < count → I
             (stays_live s t (far j less).far (one.stays (far j less).far)) (earlier_own j ne)
             (r.ends j less (lower i j low ne) (further n i j high))
 
-    pub is_cleared : (n i : ℕ) (s : List Seat) → i + n ≤ count → Going base s → IsCleared down n i s (clear_from down n k i s)
-    is_cleared zero i s h going = record {
+    -- one that is nobody's
+    skip_cleared : (n i : ℕ) (s u : List Seat) → other (seat base k) i ≡ None → IsCleared down n (i + 1) s u
+        → IsCleared down (suc n) i s u
+    skip_cleared n i s u none r = record {
+      going = r.going;
+      posts = r.posts;
+      stays = r.stays;
+      ends = λ j lt low high.
+          r.ends j lt (lower i j low (λ e. not_nobody base (place k j) (place k i) lt none (ap (place k) e))) (further n i j high);
+      rest = λ p not_own not_far.
+          r.rest p (λ j low high. not_own j (below i j low) (higher n i j high))
+          (λ j lt low high. not_far j lt (below i j low) (higher n i j high));
+    }
+
+    abbrev next_of : ℕ → List Seat → List Seat
+    next_of i s = clear_at (down i) s (place k i)
+
+    one_of : (s : List Seat) → Going base s → (i : ℕ) (is : IsPlace base (place k i))
+        → OneCleared base (down i) s (next_of i s) (place k i) (far i is).far
+    one_of s going i is =
+        one_cleared base s going (place k i) (far i is).far is (far i is).is_place (far i is).found (off i is) (down i)
+
+    pub is_cleared : (n i : ℕ) (s : List Seat) → Going base s → IsCleared down n i s (clear_from down n k i s)
+    is_cleared zero i s going = record {
       going = going;
       posts = λ j. refl;
       stays = λ r. stays_refl (seat s r.node) r.session;
@@ -299,104 +358,119 @@ module _ (base : List Seat) (k count : ℕ) (own : (j : ℕ) → j < count → I
       where
         none : (i j : ℕ) → i ≤ j → j < i + 0 → ⊥
         none i j low high = omega (arith, low, high)
-    is_cleared (suc n) i s h going =
-        let lt = first_within n i h in
-        let one = one_cleared base s going (place k i) (far i lt).far (own i lt) (far i lt).is_place (far i lt).found (off i lt) (down i) in
-        step_cleared n i s (clear_at (down i) s (place k i)) (clear_from down n k (i + 1) (clear_at (down i) s (place k i))) lt one
-        (is_cleared n (i + 1) (clear_at (down i) s (place k i)) (rest_within n i h) one.going)
+    is_cleared (suc n) i s going =
+        elim (there_or_nobody base (place k i)) as (λ _. IsCleared down (suc n) i s (clear_from down n k (i + 1) (next_of i s))) [
+          | inl is ↦
+              step_cleared n i s (next_of i s) (clear_from down n k (i + 1) (next_of i s)) is (one_of s going i is)
+              (is_cleared n (i + 1) (next_of i s) (one_of s going i is).going)
+          | inr none ↦
+              subst (λ t. IsCleared down (suc n) i s (clear_from down n k (i + 1) t)) (sym (clear_nobody s going i none (down i)))
+              (skip_cleared n i s (clear_from down n k (i + 1) s) none (is_cleared n (i + 1) s going))
+        ]
 
     -- a node that has none of these ends
-    pub clear_nodes : (n i : ℕ) (s : List Seat) → i + n ≤ count → Going base s → (m : ℕ) → m ≢ k
-        → ((j : ℕ) (lt : j < count) → live_at s (place k j) ≡ false → m ≢ (far j lt).far.node)
+    pub clear_nodes : (n i : ℕ) (s : List Seat) → Going base s → (m : ℕ) → m ≢ k
+        → ((j : ℕ) (lt : IsPlace base (place k j)) → live_at s (place k j) ≡ false → m ≢ (far j lt).far.node)
         → seat (clear_from down n k i s) m ≡ seat s m
-    clear_nodes zero i s h going m ne not_far = refl
-    clear_nodes (suc n) i s h going m ne not_far =
-        let lt = first_within n i h in
-        let t = clear_at (down i) s (place k i) in
-        let one = one_cleared base s going (place k i) (far i lt).far (own i lt) (far i lt).is_place (far i lt).found (off i lt) (down i) in
-        clear_nodes n (i + 1) t (rest_within n i h) one.going m ne
-        (λ j less e. not_far j less (sym (stays_live s t (place k j) (one.stays (place k j))) ∙ e))
-        ∙ one.nodes m ne (not_far i lt)
+    clear_nodes zero i s going m ne not_far = refl
+    clear_nodes (suc n) i s going m ne not_far =
+        elim (there_or_nobody base (place k i)) as (λ _. seat (clear_from down n k (i + 1) (next_of i s)) m ≡ seat s m) [
+          | inl is ↦
+              clear_nodes n (i + 1) (next_of i s) (one_of s going i is).going m ne
+              (λ j less e. not_far j less
+              (sym (stays_live s (next_of i s) (place k j) ((one_of s going i is).stays (place k j))) ∙ e))
+              ∙ (one_of s going i is).nodes m ne (not_far i is)
+          | inr none ↦
+              ap (λ t. seat (clear_from down n k (i + 1) t) m) (clear_nobody s going i none (down i))
+              ∙ clear_nodes n (i + 1) s going m ne not_far
+        ]
 
     -- where a session is down as its ends say
-    pub cleared_by : (n i : ℕ) (s : List Seat) → i + n ≤ count → Going base s
-        → ((j : ℕ) → i ≤ j → j < i + n → live_at s (place k j) ≡ true → is_down_at s (place k j) ≡ down j)
+    pub cleared_by : (n i : ℕ) (s : List Seat) → Going base s
+        → ((j : ℕ) → IsPlace base (place k j) → i ≤ j → j < i + n → live_at s (place k j) ≡ true
+        → is_down_at s (place k j) ≡ down j)
         → cleared_from n k i s ≡ clear_from down n k i s
-    cleared_by zero i s h going same = refl
-    cleared_by (suc n) i s h going same =
-        let lt = first_within n i h in
-        let t = clear_at (down i) s (place k i) in
-        let one = one_cleared base s going (place k i) (far i lt).far (own i lt) (far i lt).is_place (far i lt).found (off i lt) (down i) in
-        ap (cleared_from n k (i + 1)) (first (live_at s (place k i)) refl)
-        ∙ cleared_by n (i + 1) t (rest_within n i h) one.going (λ j low high live.
-        later j (omega_less n i j h high) low one
-        ∙ same j (below i j low) (higher n i j high) (sym (stays_live s t (place k j) (one.stays (place k j))) ∙ live))
+    cleared_by zero i s going same = refl
+    cleared_by (suc n) i s going same =
+        elim (there_or_nobody base (place k i)) as (λ _. cleared_from n k (i + 1) (cleared_at s (place k i))
+        ≡ clear_from down n k (i + 1) (next_of i s)) [
+          | inl is ↦
+              ap (cleared_from n k (i + 1)) (first (same i is (first_low i) (first_high n i)) (live_at s (place k i)) refl)
+              ∙ cleared_by n (i + 1) (next_of i s) (one_of s going i is).going (λ j less low high live.
+              later is j less low
+              ∙ same j less (below i j low) (higher n i j high)
+              (sym (stays_live s (next_of i s) (place k j) ((one_of s going i is).stays (place k j))) ∙ live))
+          | inr none ↦
+              ap (cleared_from n k (i + 1)) (cleared_nobody s going i none)
+              ∙ cleared_by n (i + 1) s going (λ j less low high. same j less (below i j low) (higher n i j high))
+              ∙ ap (clear_from down n k (i + 1)) (sym (clear_nobody s going i none (down i)))
+        ]
       where
-        omega_less : (n i j : ℕ) → i + suc n ≤ count → j < i + 1 + n → j < count
-        omega_less n i j h high = omega (arith, h, high)
-
-        first : (live : Bool) → live_at s (place k i) ≡ live
+        first : (live_at s (place k i) ≡ true → is_down_at s (place k i) ≡ down i) → (live : Bool) → live_at s (place k i) ≡ live
             → cleared_at s (place k i) ≡ clear_at (down i) s (place k i)
-        first true e =
+        first at true e =
             ap (λ (b : Bool). cond (live_at s (place k i)) (cond b (with_link (place k i) [] s) s)
             (told_of_loss (with_notice (place k i) false (with_link (place k i) [] s)) (far_of s (place k i))))
-            (same i (first_low i) (first_high n i) e)
-        first false e =
+            (at e)
+        first at false e =
             ap (λ (b : Bool). cond b (cond (is_down_at s (place k i)) (with_link (place k i) [] s) s)
             (told_of_loss (with_notice (place k i) false (with_link (place k i) [] s)) (far_of s (place k i)))) e
             ∙ sym (ap (λ (b : Bool). cond b (cond (down i) (with_link (place k i) [] s) s)
             (told_of_loss (with_notice (place k i) false (with_link (place k i) [] s)) (far_of s (place k i)))) e)
 
-        later : (j : ℕ) (less : j < count) → i + 1 ≤ j
-            → OneCleared base (down i) s (clear_at (down i) s (place k i)) (place k i) (far i (first_within n i h)).far
-            → is_down_at (clear_at (down i) s (place k i)) (place k j) ≡ is_down_at s (place k j)
-        later j less low one =
-            let lt = first_within n i h in
-            let t = clear_at (down i) s (place k i) in
+        later : IsPlace base (place k i) → (j : ℕ) (less : IsPlace base (place k j)) → i + 1 ≤ j
+            → is_down_at (next_of i s) (place k j) ≡ is_down_at s (place k j)
+        later is j less low =
+            let t = next_of i s in
+            let one = one_of s going i is in
             let ne = not_first i j low in
             let q = (far j less).far in
-            let near = one.rest (place k j) (λ e. own_once i j ne (sym e)) (λ _. own_not_far j i lt) in
-            let there = one.rest q (λ e. own_not_far i j less (sym e)) (λ _ e. far_once i j lt less ne (sym e)) in
+            let near = one.rest (place k j) (λ e. own_once i j ne (sym e)) (λ _. own_not_far j i is) in
+            let there = one.rest q (λ e. own_not_far i j less (sym e)) (λ _ e. far_once i j is less ne (sym e)) in
             down_by_ends s t (one.going.alike ∙ sym going.alike) (place k j) q
             (same_far_of base s going.alike (place k j) ∙ (far j less).found)
             (λ x. not (is_idle (near.post x).phase) && not (near.notice x))
             (λ x. not (is_idle (there.post x).phase) && not (there.notice x))
 
   -- whether an end is the other end of one of these
-  pub far_or_not : (r : Place) (m : ℕ) → m ≤ count
-      → ((j : ℕ) × (lt : j < count) × (r ≡ (far j lt).far)) ⊎ ((j : ℕ) (lt : j < count) → j < m → r ≢ (far j lt).far)
-  far_or_not r zero h = inr (λ j lt below e. nothing_below j below)
+  abbrev IsFar : Place → Type 0
+  IsFar r = (j : ℕ) × (lt : IsPlace base (place k j)) × (r ≡ (far j lt).far)
+
+  pub far_or_not : (r : Place) (m : ℕ) → IsFar r ⊎ ((j : ℕ) (lt : IsPlace base (place k j)) → j < m → r ≢ (far j lt).far)
+  far_or_not r zero = inr (λ j lt below e. nothing_below j below)
     where
       nothing_below : (j : ℕ) → j < 0 → ⊥
       nothing_below j h = omega (arith, h)
-  far_or_not r (suc m) h = by_rest (far_or_not r m (lower_end m h)) (same_or_other r (far m (last m h)).far)
+  far_or_not r (suc m) = by_rest (far_or_not r m) (there_or_nobody base (place k m))
     where
-      lower_end : (m : ℕ) → suc m ≤ count → m ≤ count
-      lower_end m h = omega (arith, h)
-
-      last : (m : ℕ) → suc m ≤ count → m < count
-      last m h = omega (arith, h)
-
       earlier : (j : ℕ) → j < suc m → j ≢ m → j < m
       earlier j h ne = omega (arith, h, ne)
 
-      by_rest : ((j : ℕ) × (lt : j < count) × (r ≡ (far j lt).far)) ⊎ ((j : ℕ) (lt : j < count) → j < m → r ≢ (far j lt).far)
-          → (r ≡ (far m (last m h)).far) ⊎ (r ≢ (far m (last m h)).far)
-          → ((j : ℕ) × (lt : j < count) × (r ≡ (far j lt).far)) ⊎ ((j : ℕ) (lt : j < count) → j < suc m → r ≢ (far j lt).far)
+      by_rest : (IsFar r ⊎ ((j : ℕ) (lt : IsPlace base (place k j)) → j < m → r ≢ (far j lt).far))
+          → (IsPlace base (place k m) ⊎ (other (seat base k) m ≡ None))
+          → IsFar r ⊎ ((j : ℕ) (lt : IsPlace base (place k j)) → j < suc m → r ≢ (far j lt).far)
       by_rest (inl found) b = inl found
-      by_rest (inr none) (inl e) = inl (m, last m h, e)
-      by_rest (inr none) (inr ne) = inr (λ j lt below e. by_number j lt below e (cases_eq j m))
+      by_rest (inr none) (inr nobody_there) =
+          inr (λ j lt below.
+          none j lt (earlier j below (λ e. not_nobody base (place k j) (place k m) lt nobody_there (ap (place k) (sym e)))))
+      by_rest (inr none) (inl is) = by_place (same_or_other r (far m is).far)
         where
-          by_number : (j : ℕ) (lt : j < count) → j < suc m → r ≡ (far j lt).far → (j ≡ m) ⊎ (j ≢ m) → ⊥
-          by_number j lt below e (inl g) = ne (e ∙ far_same j m lt (last m h) g)
-          by_number j lt below e (inr off) = none j lt (earlier j below off) e
+          by_number : r ≢ (far m is).far → (j : ℕ) (lt : IsPlace base (place k j)) → j < suc m → r ≡ (far j lt).far
+              → (j ≡ m) ⊎ (j ≢ m) → ⊥
+          by_number ne j lt below e (inl g) = ne (e ∙ far_same j m lt is g)
+          by_number ne j lt below e (inr off) = none j lt (earlier j below off) e
+
+          by_place : (r ≡ (far m is).far) ⊎ (r ≢ (far m is).far)
+              → IsFar r ⊎ ((j : ℕ) (lt : IsPlace base (place k j)) → j < suc m → r ≢ (far j lt).far)
+          by_place (inl e) = inl (m, is, e)
+          by_place (inr ne) = inr (λ j lt below e. by_number ne j lt below e (cases_eq j m))
 
   -- from seats that differ at ends that are cleared alone
   pub cleared_from_same : (down : ℕ → Bool) (n i : ℕ) (s t u : List Seat) → ((j : ℕ) → (seat t j).posts ≡ (seat s j).posts)
       → ((r : Place) → Stays (seat s r.node) (seat t r.node) r.session)
-      → ((j : ℕ) → j < count → i ≤ j → j < i + n → SameEnd (seat s k) (seat t k) j)
-      → ((r : Place) → ((j : ℕ) → j < count → i ≤ j → j < i + n → r ≢ place k j)
-      → ((j : ℕ) (lt : j < count) → i ≤ j → j < i + n → live_at s (place k j) ≡ false → r ≢ (far j lt).far)
+      → ((j : ℕ) → IsPlace base (place k j) → i ≤ j → j < i + n → SameEnd (seat s k) (seat t k) j)
+      → ((r : Place) → ((j : ℕ) → i ≤ j → j < i + n → r ≢ place k j)
+      → ((j : ℕ) (lt : IsPlace base (place k j)) → i ≤ j → j < i + n → live_at s (place k j) ≡ false → r ≢ (far j lt).far)
       → SameEnd (seat s r.node) (seat t r.node) r.session)
       → IsCleared down n i t u → IsCleared down n i s u
   cleared_from_same down n i s t u posts stays same others c = record {
@@ -411,12 +485,9 @@ module _ (base : List Seat) (k count : ℕ) (own : (j : ℕ) → j < count → I
         (c.rest r not_own (λ j lt low high e. not_far j lt low high (sym (stays_live s t (place k j) (stays (place k j))) ∙ e)));
   }
 
-  pub all_cleared : (s : List Seat) → Going base s → length (seat s k).posts ≡ count
+  pub all_cleared : (s : List Seat) → Going base s → (count : ℕ) → length (seat s k).posts ≡ count
       → IsCleared (λ j. is_down_at s (place k j)) count 0 s (cleared s k)
-  all_cleared s going long =
+  all_cleared s going count long =
       subst (IsCleared (λ j. is_down_at s (place k j)) count 0 s)
-      (sym (ap (λ n. cleared_from n k 0 s) long ∙ cleared_by (λ j. is_down_at s (place k j)) count 0 s full going (λ j _ _ _. refl)))
-      (is_cleared (λ j. is_down_at s (place k j)) count 0 s full going)
-    where
-      full : 0 + count ≤ count
-      full = omega arith
+      (sym (ap (λ n. cleared_from n k 0 s) long ∙ cleared_by (λ j. is_down_at s (place k j)) count 0 s going (λ j _ _ _ _. refl)))
+      (is_cleared (λ j. is_down_at s (place k j)) count 0 s going)

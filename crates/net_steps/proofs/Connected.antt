@@ -5,7 +5,7 @@ use Rattle.std.specs.List.{slice_index_or}
 use Rattle.std.specs.Option.{option_map, unwrap_or}
 use Rattle.std.specs.declared.option.Option.{Option}
 use Rattle.std.specs.declared.option.Option.TheVariants.{Some, None}
-use Rattle.std.proofs.lemmas.Bool.{cases_eq, cases_lt, true≢false}
+use Rattle.std.proofs.lemmas.Bool.{cases_eq, true≢false}
 use Rattle.std.proofs.lemmas.Option.{same_Some}
 use Rattle.std.proofs.Common.{refl, sym, ◌∙◌, ap, subst, inl, inr, arith}
 use Rattle.ov_link.specs.declared.step.Input.TheVariants as input
@@ -19,7 +19,7 @@ use Rattle.network_model.specs.Moments.{nodes}
 use Rattle.network_model.proofs.Deeds.{others_stay, strangers_stay}
 use Rattle.network_model.proofs.NetworkFact.{opened_nodes, passed_nodes}
 use Rattle.network_model.proofs.SessionFact.{Down, IsTidy}
-use Rattle.net_model.specs.Seats.{Seat, far_of, is_down_at, link, link_at, live_at, name_of, notice, notice_at, seat, whole_at}
+use Rattle.net_model.specs.Seats.{Seat, far_of, is_down_at, link, link_at, live_at, name_of, notice, notice_at, other, seat, whole_at}
 use Rattle.net_model.specs.Steps.{Takes, cleared, with_seat}
 use Rattle.net_model.specs.Stands.{Seats}
 use Rattle.net_model.specs.declared.place.Place.{Place}
@@ -27,19 +27,21 @@ use Rattle.told_laws.specs.Moments.{IsMoment}
 use Rattle.seat_laws.specs.Wiring.{HasFar, IsPlace, name_at, other_at}
 use Rattle.net_steps.proofs.Asked.{down_here}
 use Rattle.net_steps.proofs.AtMoments.{found_sound, moment_right}
-use Rattle.net_steps.proofs.Building.{SameEnd, Stays, stays_back, stays_trans}
+use Rattle.net_steps.proofs.Building.{SameEnd, Stays, both_vacant, stays_back, stays_trans}
 use Rattle.net_steps.proofs.Changing.{found_elsewhere, one_place}
 use Rattle.net_steps.proofs.Clearing.{IsCleared, all_cleared, clear_from, clear_nodes, cleared_from_same, far_or_not, is_cleared, place, stays_live}
 use Rattle.net_steps.proofs.Ends.{IsReady, fact_ready}
 use Rattle.net_steps.proofs.Facts.{Facts, IsRight}
 use Rattle.net_steps.proofs.Here.{Here, here}
-use Rattle.net_steps.proofs.Lists.{AreAlike, same_far_of, same_long, same_name_at, same_other_at, same_place, same_who, seat_elsewhere, seat_here, with_alike}
-use Rattle.net_steps.proofs.Opens.{open_passed, open_whole, opened_right, passed_right, stepped_live, stepped_long, told_whole}
+use Rattle.net_steps.proofs.Lists.{AreAlike, same_far_of, same_name_at, same_other, same_other_at, same_place, same_who, seat_elsewhere, seat_here}
+use Rattle.net_steps.proofs.Lists.{seats_fit, there_or_nobody, with_alike}
+use Rattle.net_steps.proofs.Opens.{open_passed, open_whole, opened_right, passed_right, stepped_live, told_whole}
 use Rattle.net_steps.proofs.Sent.{AllLeft, opened_tells, opening_session, passed_tells, telling_session, told_down, wanted_messages}
 use Rattle.net_steps.proofs.Sides.{changed_here, joined_twice, node_elsewhere, node_here, node_there}
-use Rattle.net_steps.proofs.Stepped.{count, far, off, own}
+use Rattle.net_steps.proofs.Stepped.{count, far, off}
 use Rattle.net_steps.proofs.Telling.{Going}
-use Rattle.net_steps.proofs.Wholes.{down_by_ends, not_down_by_ends, with_long}
+use Rattle.net_steps.proofs.Vacant.{stepped_fit}
+use Rattle.net_steps.proofs.Wholes.{down_by_ends, not_down_by_ends}
 
 -- a change at the other end is a change of the session the other way round
 around_back : (a b : Name) → a ≢ b → (f : Session → Session) → (ss : List Session)
@@ -59,9 +61,6 @@ around_back a b apart f (s ∷ ss) = by_tests (around_back a b apart f ss) (join
 abbrev down_of : Option Session → Bool
 down_of None = true
 down_of (Some s) = s.is_down
-
-all_full : (n : ℕ) → 0 + n ≤ n
-all_full n = omega arith
 
 at_least : (j : ℕ) → 0 ≤ j
 at_least j = omega arith
@@ -108,13 +107,10 @@ module _ (facts : Facts) (seats : List Seat) (w : Network) (moment : IsMoment w)
   abbrev count1 : ℕ
   count1 = count facts.wired seats w right stands p is
 
-  abbrev own1 : (j : ℕ) → j < count1 → IsPlace seats (place p.node j)
-  own1 = own facts.wired seats w right stands p is
-
-  abbrev far1 : (j : ℕ) → j < count1 → HasFar seats (place p.node j)
+  abbrev far1 : (j : ℕ) → IsPlace seats (place p.node j) → HasFar seats (place p.node j)
   far1 = far facts.wired seats w right stands p is
 
-  abbrev off1 : (j : ℕ) (lt : j < count1) → (far1 j lt).far.node ≢ p.node
+  abbrev off1 : (j : ℕ) (lt : IsPlace seats (place p.node j)) → (far1 j lt).far.node ≢ p.node
   off1 = off facts.wired seats w right stands p is
 
   bare1 : s.far.taken ≡ 0
@@ -135,8 +131,7 @@ module _ (facts : Facts) (seats : List Seat) (w : Network) (moment : IsMoment w)
   going_o : Going seats opened_seats
   going_o = record {
     alike = with_alike p.node n1 seats takes1.stepped.who;
-    long = with_long p.node n1 seats is.node stands.long
-        (stepped_long (seat seats p.node) n1 p.session takes1.given takes1.left takes1.stepped takes1.swept (stands.long p.node is.node));
+    fit = stepped_fit seats p n1 takes1.given takes1.left is takes1.stepped takes1.swept (seats_fit seats w stands);
   }
 
   count_o : length (seat opened_seats p.node).posts ≡ count1
@@ -202,42 +197,42 @@ module _ (facts : Facts) (seats : List Seat) (w : Network) (moment : IsMoment w)
 
   -- ---- the other sessions of the near node
   -- its other sessions lead to other nodes
-  other_nodes : (j : ℕ) (less : j < count1) → j ≢ p.session → (far1 j less).far.node ≢ q.node
+  other_nodes : (j : ℕ) (less : IsPlace seats (place p.node j)) → j ≢ p.session → (far1 j less).far.node ≢ q.node
   other_nodes j less ne e =
       ne (ap (λ (r : Place). r.session)
-      (one_place facts.wired seats w right stands (place p.node j) p (own1 j less) is refl
+      (one_place facts.wired seats w right stands (place p.node j) p less is refl
       (sym (far1 j less).name ∙ ap (λ k. name_of (seat seats k).who) e ∙ at.far.name)))
 
   -- the session there is as it was
-  session_there : (j : ℕ) (less : j < count1) → j ≢ p.session → (t : Session)
+  session_there : (j : ℕ) (less : IsPlace seats (place p.node j)) → j ≢ p.session → (t : Session)
       → session_of w1 (name_at seats (place p.node j)) (other_at seats (place p.node j)) ≡ Some t
-      → (here facts.wired seats w right stands (place p.node j) (own1 j less)).session ≡ t
+      → (here facts.wired seats w right stands (place p.node j) less).session ≡ t
   session_there j less ne t found_it =
-      let h = here facts.wired seats w right stands (place p.node j) (own1 j less) in
+      let h = here facts.wired seats w right stands (place p.node j) less in
       same_Some h.session t
-      (sym (found_elsewhere facts.wired seats w right stands p is at opened opened_nodes (place p.node j) (own1 j less)
+      (sym (found_elsewhere facts.wired seats w right stands p is at opened opened_nodes (place p.node j) less
       (λ e. ne (ap (λ (r : Place). r.session) e)) (λ e. not_far (sym (ap (λ (r : Place). r.node) e))) h.session h.found) ∙ found_it)
 
   -- and it is down as its ends say
-  down_there : (u : List Seat) → AreAlike seats u → (j : ℕ) (less : j < count1) → j ≢ p.session
+  down_there : (u : List Seat) → AreAlike seats u → (j : ℕ) (less : IsPlace seats (place p.node j)) → j ≢ p.session
       → is_idle (post n1.posts j).phase ≡ false → seat u p.node ≡ n1
       → seat u (far1 j less).far.node ≡ seat seats (far1 j less).far.node
-      → is_down_at u (place p.node j) ≡ (here facts.wired seats w right stands (place p.node j) (own1 j less)).session.is_down
+      → is_down_at u (place p.node j) ≡ (here facts.wired seats w right stands (place p.node j) less).session.is_down
   down_there u alike j less ne live here_is there_is =
       let r = place p.node j in
-      let h = here facts.wired seats w right stands r (own1 j less) in
-      let before = stepped_live (seat seats p.node) n1 p.session takes1.given takes1.stepped j (posts_within j less) ne live in
+      let h = here facts.wired seats w right stands r less in
+      let before = stepped_live (seat seats p.node) n1 p.session takes1.given takes1.stepped j (posts_within j less.session) ne live in
       down_by_ends seats u alike r (far1 j less).far (far1 j less).found
       ((λ i. not (is_idle (post (here_is i).posts j).phase) && not (notice (here_is i) j))
       ∙ (λ i. not (live i) && not (slice_index_or (takes1.stepped.notices i) j false))
       ∙ (λ i. not (sym before i) && not (notice (seat seats p.node) j)))
       (λ i. not (is_idle (post (there_is i).posts (far1 j less).far.session).phase) && not (notice (there_is i) (far1 j less).far.session))
-      ∙ down_here facts seats w moment stands r (own1 j less) h
+      ∙ down_here facts seats w moment stands r less h
 
   -- ---- where the near end is closed again
   module _ (dead : live_at opened_seats p ≡ false) where
-    closed_c : IsCleared seats p.node count1 own1 far1 off1 (λ j. is_down_at opened_seats (place p.node j)) count1 0 opened_seats (cleared opened_seats p.node)
-    closed_c = all_cleared seats p.node count1 own1 far1 off1 opened_seats going_o count_o
+    closed_c : IsCleared seats p.node far1 off1 (λ j. is_down_at opened_seats (place p.node j)) count1 0 opened_seats (cleared opened_seats p.node)
+    closed_c = all_cleared seats p.node far1 off1 opened_seats going_o count1 count_o
 
     pub closed_stands : Seats (cleared opened_seats p.node) w2
     closed_stands =
@@ -274,8 +269,8 @@ module _ (facts : Facts) (seats : List Seat) (w : Network) (moment : IsMoment w)
     abbrev standing : List Seat
     standing = clear_from down2 count1 p.node 0 opened_seats
 
-    c2 : IsCleared seats p.node count1 own1 far1 off1 down2 count1 0 opened_seats standing
-    c2 = is_cleared seats p.node count1 own1 far1 off1 down2 count1 0 opened_seats (all_full count1) going_o
+    c2 : IsCleared seats p.node far1 off1 down2 count1 0 opened_seats standing
+    c2 = is_cleared seats p.node far1 off1 down2 count1 0 opened_seats going_o
 
     stands2 : Seats standing w2
     stands2 =
@@ -315,7 +310,7 @@ module _ (facts : Facts) (seats : List Seat) (w : Network) (moment : IsMoment w)
 
     seat_q : seat standing q.node ≡ seat opened_seats q.node
     seat_q =
-        clear_nodes seats p.node count1 own1 far1 off1 down2 count1 0 opened_seats (all_full count1) going_o q.node not_far
+        clear_nodes seats p.node far1 off1 down2 count1 0 opened_seats going_o q.node not_far
         (λ j less closed e. other_nodes j less (not_dead j closed) (sym e))
 
     name_q : name_at standing q ≡ other_at seats p
@@ -369,13 +364,10 @@ module _ (facts : Facts) (seats : List Seat) (w : Network) (moment : IsMoment w)
       abbrev count2 : ℕ
       count2 = count facts.wired standing w2 right2 stands2 q is_q
 
-      abbrev own2 : (j : ℕ) → j < count2 → IsPlace standing (place q.node j)
-      own2 = own facts.wired standing w2 right2 stands2 q is_q
-
-      abbrev far2 : (j : ℕ) → j < count2 → HasFar standing (place q.node j)
+      abbrev far2 : (j : ℕ) → IsPlace standing (place q.node j) → HasFar standing (place q.node j)
       far2 = far facts.wired standing w2 right2 stands2 q is_q
 
-      abbrev off2 : (j : ℕ) (lt : j < count2) → (far2 j lt).far.node ≢ q.node
+      abbrev off2 : (j : ℕ) (lt : IsPlace standing (place q.node j)) → (far2 j lt).far.node ≢ q.node
       off2 = off facts.wired standing w2 right2 stands2 q is_q
 
       -- what there is, and what the theorem is of
@@ -388,8 +380,11 @@ module _ (facts : Facts) (seats : List Seat) (w : Network) (moment : IsMoment w)
       abbrev near_cleared : List Seat
       near_cleared = cleared both_opened p.node
 
+      is_o : IsPlace opened_seats q
+      is_o = same_place opened_seats seats (sym going_o.alike) q at.far.is_place
+
       lt_o : q.node < length opened_seats
-      lt_o = subst (λ m. q.node < m) (sym (same_long seats opened_seats going_o.alike)) at.far.is_place.node
+      lt_o = is_o.node
 
       y_q : seat both_opened q.node ≡ n2
       y_q = seat_here q.node n2 opened_seats lt_o
@@ -415,13 +410,12 @@ module _ (facts : Facts) (seats : List Seat) (w : Network) (moment : IsMoment w)
       going_y : Going seats both_opened
       going_y = record {
         alike = with_alike q.node n2 opened_seats takes.stepped.who ∙ going_o.alike;
-        long = with_long q.node n2 opened_seats lt_o going_o.long
-            (stepped_long (seat opened_seats q.node) n2 q.session takes.given takes.left takes.stepped takes.swept (going_o.long q.node lt_o));
+        fit = stepped_fit opened_seats q n2 takes.given takes.left is_o takes.stepped takes.swept going_o.fit;
       }
 
-      cx : IsCleared seats p.node count1 own1 far1 off1 (λ j. is_down_at both_opened (place p.node j)) count1 0 both_opened near_cleared
+      cx : IsCleared seats p.node far1 off1 (λ j. is_down_at both_opened (place p.node j)) count1 0 both_opened near_cleared
       cx =
-          all_cleared seats p.node count1 own1 far1 off1 both_opened going_y
+          all_cleared seats p.node far1 off1 both_opened going_y count1
           (ap (λ (n : Seat). length n.posts) (y_else p.node off_q) ∙ count_o)
 
       live_y : (j : ℕ) → live_at both_opened (place p.node j) ≡ live_at opened_seats (place p.node j)
@@ -432,7 +426,7 @@ module _ (facts : Facts) (seats : List Seat) (w : Network) (moment : IsMoment w)
       same_at_q : (r : Place) → r.node ≡ q.node → SameEnd (seat last_opened r.node) (seat near_cleared r.node) r.session
       same_at_q r e =
           subst (λ n. SameEnd n (seat near_cleared r.node) r.session) (ap (seat both_opened) e ∙ y_q ∙ sym z_q ∙ ap (seat last_opened) (sym e))
-          (cx.rest r (λ j _ _ _ f. off_q (sym (ap (λ (r : Place). r.node) f) ∙ e))
+          (cx.rest r (λ j _ _ f. off_q (sym (ap (λ (r : Place). r.node) f) ∙ e))
           (λ j less _ _ closed f. other_nodes j less (not_dead j (sym (live_y j) ∙ closed)) (sym (ap (λ (r : Place). r.node) f) ∙ e)))
 
       stays_zx : (r : Place) → Stays (seat last_opened r.node) (seat near_cleared r.node) r.session
@@ -495,7 +489,7 @@ module _ (facts : Facts) (seats : List Seat) (w : Network) (moment : IsMoment w)
               ∙ (λ i. not (e i) && not (quiet_n2 i))))
 
       -- an end of the near node
-      near_marks : (j : ℕ) (less : j < count1) → (j ≡ p.session → is_down_at both_opened p ≡ false)
+      near_marks : (j : ℕ) (less : IsPlace seats (place p.node j)) → (j ≡ p.session → is_down_at both_opened p ≡ false)
           → SameEnd (seat last_opened p.node) (seat near_cleared p.node) j
       near_marks j less up = by_live (live_at opened_seats (place p.node j)) refl
         where
@@ -504,12 +498,12 @@ module _ (facts : Facts) (seats : List Seat) (w : Network) (moment : IsMoment w)
 
           by_live : (b : Bool) → live_at opened_seats (place p.node j) ≡ b → SameEnd (seat last_opened p.node) (seat near_cleared p.node) j
           by_live false e =
-              let a = (cx.ends j less (at_least j) (at_most count1 j less)).closed (live_y j ∙ e) in
-              let b = (c2.ends j less (at_least j) (at_most count1 j less)).closed e in
+              let a = (cx.ends j less (at_least j) (at_most count1 j less.session)).closed (live_y j ∙ e) in
+              let b = (c2.ends j less (at_least j) (at_most count1 j less.session)).closed e in
               same_marks (place p.node j) off_q (a.0 ∙ sym b.0) (a.1 ∙ sym b.1)
           by_live true e =
-              let a = (cx.ends j less (at_least j) (at_most count1 j less)).live (live_y j ∙ e) in
-              let b = (c2.ends j less (at_least j) (at_most count1 j less)).live e in
+              let a = (cx.ends j less (at_least j) (at_most count1 j less.session)).live (live_y j ∙ e) in
+              let b = (c2.ends j less (at_least j) (at_most count1 j less.session)).live e in
               same_marks (place p.node j) off_q (a.0 ∙ ap (λ n. notice n j) same_before ∙ sym b.0)
               (a.1 ∙ (λ i. cond (same_down (cases_eq j p.session) e i) [] (link (same_before i) j)) ∙ sym b.1)
             where
@@ -525,60 +519,51 @@ module _ (facts : Facts) (seats : List Seat) (w : Network) (moment : IsMoment w)
                   ap (λ j. is_down_at both_opened (place p.node j)) f ∙ up f ∙ sym opened_whole ∙ sym (ap down_of first)
                   ∙ ap (λ j. down2 j) (sym f)
               same_down (inr ne) e =
-                  let h = here facts.wired seats w right stands (place p.node j) (own1 j less) in
+                  let h = here facts.wired seats w right stands (place p.node j) less in
                   down_there both_opened going_y.alike j less ne (live_n1 e) y_p
                   (y_else (far1 j less).far.node (other_nodes j less ne) ∙ seat_elsewhere p.node (far1 j less).far.node n1 seats (off1 j less))
                   ∙ sym (ap down_of
-                  (found_elsewhere facts.wired seats w right stands p is at opened opened_nodes (place p.node j) (own1 j less)
+                  (found_elsewhere facts.wired seats w right stands p is at opened opened_nodes (place p.node j) less
                   (λ e. ne (ap (λ (r : Place). r.session) e)) (λ e. not_far (sym (ap (λ (r : Place). r.node) e))) h.session h.found))
 
-      -- an end that there is not
-      beyond : (j : ℕ) → count1 ≤ j → SameEnd (seat last_opened p.node) (seat near_cleared p.node) j
-      beyond j more =
+      -- an end that is nobody's
+      nobodys : (j : ℕ) → other (seat seats p.node) j ≡ None → SameEnd (seat last_opened p.node) (seat near_cleared p.node) j
+      nobodys j none =
           let r = place p.node j in
-          let a = cx.rest r (λ l less _ _ e. too_far l less e) (λ l less _ _ _ e. off1 l less (sym (ap (λ (r : Place). r.node) e))) in
-          let b = c2.rest r (λ l less _ _ e. too_far l less e) (λ l less _ _ _ e. off1 l less (sym (ap (λ (r : Place). r.node) e))) in
-          same_marks r off_q (a.notice ∙ ap (λ n. notice n j) (y_else p.node off_q) ∙ sym b.notice)
-          (a.link ∙ ap (λ n. link n j) (y_else p.node off_q) ∙ sym b.link)
-        where
-          apart_by : (l j : ℕ) → l < count1 → count1 ≤ j → j ≡ l → ⊥
-          apart_by l j less more e = omega (arith, less, more, e)
-
-          too_far : (l : ℕ) → l < count1 → place p.node j ≡ place p.node l → ⊥
-          too_far l less e = apart_by l j less more (ap (λ (r : Place). r.session) e)
+          subst (λ n. SameEnd n (seat near_cleared p.node) j) (sym (z_else p.node off_q))
+          (both_vacant (seat standing p.node) (seat near_cleared p.node) j
+          (c2.going.fit.vacant r (same_other seats standing c2.going.alike r ∙ none))
+          (cx.going.fit.vacant r (same_other seats near_cleared cx.going.alike r ∙ none)))
 
       -- an end of another node
       strange_marks : (r : Place) → r.node ≢ p.node → r.node ≢ q.node → SameEnd (seat last_opened r.node) (seat near_cleared r.node) r.session
-      strange_marks r not_p not_q = by_far (far_or_not seats p.node count1 own1 far1 off1 r count1 (all_of count1))
+      strange_marks r not_p not_q = by_far (far_or_not seats p.node far1 off1 r count1)
         where
-          all_of : (n : ℕ) → n ≤ n
-          all_of n = omega arith
-
           same_before : seat both_opened r.node ≡ seat opened_seats r.node
           same_before = y_else r.node not_q
 
-          untouched : ((l : ℕ) (less : l < count1) → live_at opened_seats (place p.node l) ≡ false → r ≢ (far1 l less).far)
+          untouched : ((l : ℕ) (less : IsPlace seats (place p.node l)) → live_at opened_seats (place p.node l) ≡ false → r ≢ (far1 l less).far)
               → SameEnd (seat last_opened r.node) (seat near_cleared r.node) r.session
           untouched none =
-              let a = cx.rest r (λ l _ _ _ e. not_p (ap (λ (r : Place). r.node) e)) (λ l less _ _ closed. none l less (sym (live_y l) ∙ closed)) in
-              let b = c2.rest r (λ l _ _ _ e. not_p (ap (λ (r : Place). r.node) e)) (λ l less _ _ closed. none l less closed) in
+              let a = cx.rest r (λ l _ _ e. not_p (ap (λ (r : Place). r.node) e)) (λ l less _ _ closed. none l less (sym (live_y l) ∙ closed)) in
+              let b = c2.rest r (λ l _ _ e. not_p (ap (λ (r : Place). r.node) e)) (λ l less _ _ closed. none l less closed) in
               same_marks r not_q (a.notice ∙ ap (λ n. notice n r.session) same_before ∙ sym b.notice)
               (a.link ∙ ap (λ n. link n r.session) same_before ∙ sym b.link)
 
-          told_there : (l : ℕ) (less : l < count1) → r ≡ (far1 l less).far → live_at opened_seats (place p.node l) ≡ false
+          told_there : (l : ℕ) (less : IsPlace seats (place p.node l)) → r ≡ (far1 l less).far → live_at opened_seats (place p.node l) ≡ false
               → SameEnd (seat last_opened r.node) (seat near_cleared r.node) r.session
           told_there l less e closed =
-              let a = (cx.ends l less (at_least l) (at_most count1 l less)).told (live_y l ∙ closed) in
-              let b = (c2.ends l less (at_least l) (at_most count1 l less)).told closed in
+              let a = (cx.ends l less (at_least l) (at_most count1 l less.session)).told (live_y l ∙ closed) in
+              let b = (c2.ends l less (at_least l) (at_most count1 l less.session)).told closed in
               same_marks r not_q
               (ap (notice_at near_cleared) e ∙ a.0 ∙ ap (live_at both_opened) (sym e) ∙ ap (λ n. not (is_idle (post n.posts r.session).phase)) same_before
               ∙ ap (live_at opened_seats) e ∙ sym b.0 ∙ ap (notice_at standing) (sym e))
               (ap (link_at near_cleared) e ∙ a.1 ∙ sym b.1 ∙ ap (link_at standing) (sym e))
 
-          by_far : ((l : ℕ) × (less : l < count1) × (r ≡ (far1 l less).far))
-              ⊎ ((l : ℕ) (less : l < count1) → l < count1 → r ≢ (far1 l less).far)
+          by_far : ((l : ℕ) × (less : IsPlace seats (place p.node l)) × (r ≡ (far1 l less).far))
+              ⊎ ((l : ℕ) (less : IsPlace seats (place p.node l)) → l < count1 → r ≢ (far1 l less).far)
               → SameEnd (seat last_opened r.node) (seat near_cleared r.node) r.session
-          by_far (inr none) = untouched (λ l less _. none l less less)
+          by_far (inr none) = untouched (λ l less _. none l less less.session)
           by_far (inl f) = by_live (live_at opened_seats (place p.node f.0)) refl
             where
               by_live : (b : Bool) → live_at opened_seats (place p.node f.0) ≡ b → SameEnd (seat last_opened r.node) (seat near_cleared r.node) r.session
@@ -586,7 +571,7 @@ module _ (facts : Facts) (seats : List Seat) (w : Network) (moment : IsMoment w)
               by_live true live =
                   untouched (λ l less closed e. one_far l less closed (sym f.2 ∙ e))
                 where
-                  one_far : (l : ℕ) (less : l < count1) → live_at opened_seats (place p.node l) ≡ false → (far1 f.0 f.1).far ≡ (far1 l less).far → ⊥
+                  one_far : (l : ℕ) (less : IsPlace seats (place p.node l)) → live_at opened_seats (place p.node l) ≡ false → (far1 f.0 f.1).far ≡ (far1 l less).far → ⊥
                   one_far l less closed e =
                       true≢false (sym live
                       ∙ ap (live_at opened_seats) (same_Some (place p.node f.0) (place p.node l) (sym (far1 f.0 f.1).back ∙ ap (far_of seats) e ∙ (far1 l less).back))
@@ -597,7 +582,7 @@ module _ (facts : Facts) (seats : List Seat) (w : Network) (moment : IsMoment w)
       last = cleared near_cleared q.node
 
       going_x : Going standing near_cleared
-      going_x = record { alike = cx.going.alike ∙ sym c2.going.alike; long = cx.going.long }
+      going_x = record { alike = cx.going.alike ∙ sym c2.going.alike; fit = cx.going.fit }
 
       count_x : length (seat near_cleared q.node).posts ≡ count2
       count_x =
@@ -607,24 +592,21 @@ module _ (facts : Facts) (seats : List Seat) (w : Network) (moment : IsMoment w)
       live_z : (j : ℕ) → live_at last_opened (place q.node j) ≡ not (is_idle (post n2.posts j).phase)
       live_z j = ap (λ (n : Seat). not (is_idle (post n.posts j).phase)) z_q
 
-      q_within : q.session < count2
-      q_within = is_q.session
-
-      far_of_q : (far2 q.session q_within).far ≡ p
+      far_of_q : (far2 q.session is_q).far ≡ p
       far_of_q =
-          same_Some (far2 q.session q_within).far p
-          (sym (far2 q.session q_within).found ∙ same_far_of seats standing c2.going.alike q ∙ at.far.back)
+          same_Some (far2 q.session is_q).far p
+          (sym (far2 q.session is_q).found ∙ same_far_of seats standing c2.going.alike q ∙ at.far.back)
 
-      cl : IsCleared standing q.node count2 own2 far2 off2 (λ j. is_down_at near_cleared (place q.node j)) count2 0 last_opened last
+      cl : IsCleared standing q.node far2 off2 (λ j. is_down_at near_cleared (place q.node j)) count2 0 last_opened last
       cl =
-          cleared_from_same standing q.node count2 own2 far2 off2 (λ j. is_down_at near_cleared (place q.node j)) count2 0 last_opened near_cleared last posts_zx stays_zx
+          cleared_from_same standing q.node far2 off2 (λ j. is_down_at near_cleared (place q.node j)) count2 0 last_opened near_cleared last posts_zx stays_zx
           (λ j _ _ _. same_at_q (place q.node j) refl) elsewhere
-          (all_cleared standing q.node count2 own2 far2 off2 near_cleared going_x count_x)
+          (all_cleared standing q.node far2 off2 near_cleared going_x count2 count_x)
         where
-          elsewhere : (r : Place) → ((j : ℕ) → j < count2 → 0 ≤ j → j < 0 + count2 → r ≢ place q.node j)
-              → ((j : ℕ) (lt : j < count2) → 0 ≤ j → j < 0 + count2 → live_at last_opened (place q.node j) ≡ false → r ≢ (far2 j lt).far)
+          elsewhere : (r : Place) → ((j : ℕ) → 0 ≤ j → j < 0 + count2 → r ≢ place q.node j)
+              → ((j : ℕ) (lt : IsPlace standing (place q.node j)) → 0 ≤ j → j < 0 + count2 → live_at last_opened (place q.node j) ≡ false → r ≢ (far2 j lt).far)
               → SameEnd (seat last_opened r.node) (seat near_cleared r.node) r.session
-          elsewhere r not_own not_far2 = by_node (cases_eq r.node q.node) (cases_eq r.node p.node) (cases_lt r.session count1)
+          elsewhere r not_own not_far2 = by_node (cases_eq r.node q.node) (cases_eq r.node p.node) (there_or_nobody seats (place p.node r.session))
             where
               up : r.node ≡ p.node → r.session ≡ p.session → is_down_at both_opened p ≡ false
               up e f = by_up up_p
@@ -632,17 +614,17 @@ module _ (facts : Facts) (seats : List Seat) (w : Network) (moment : IsMoment w)
                   by_up : (is_down_at both_opened p ≡ false) ⊎ (is_idle (post n2.posts q.session).phase ≡ true) → is_down_at both_opened p ≡ false
                   by_up (inl g) = g
                   by_up (inr g) =
-                      absurd (not_far2 q.session q_within (at_least q.session) (at_most count2 q.session q_within)
+                      absurd (not_far2 q.session is_q (at_least q.session) (at_most count2 q.session is_q.session)
                       (live_z q.session ∙ ap not g) ((λ i. record { node = e i; session = f i }) ∙ sym far_of_q))
 
               by_node : (r.node ≡ q.node) ⊎ (r.node ≢ q.node) → (r.node ≡ p.node) ⊎ (r.node ≢ p.node)
-                  → (r.session < count1) ⊎ (count1 ≤ r.session) → SameEnd (seat last_opened r.node) (seat near_cleared r.node) r.session
+                  → (IsPlace seats (place p.node r.session) ⊎ (other (seat seats p.node) r.session ≡ None)) → SameEnd (seat last_opened r.node) (seat near_cleared r.node) r.session
               by_node (inl e) b c = same_at_q r e
               by_node (inr ne) (inr ne') c = strange_marks r ne' ne
               by_node (inr ne) (inl e) (inl less) =
                   subst (λ k. SameEnd (seat last_opened k) (seat near_cleared k) r.session) (sym e) (near_marks r.session less (up e))
-              by_node (inr ne) (inl e) (inr more) =
-                  subst (λ k. SameEnd (seat last_opened k) (seat near_cleared k) r.session) (sym e) (beyond r.session more)
+              by_node (inr ne) (inl e) (inr none) =
+                  subst (λ k. SameEnd (seat last_opened k) (seat near_cleared k) r.session) (sym e) (nobodys r.session none)
 
       -- a session of the far node is down as its ends say
       alike_x : AreAlike seats near_cleared
@@ -651,7 +633,7 @@ module _ (facts : Facts) (seats : List Seat) (w : Network) (moment : IsMoment w)
       same_names : (r : Place) → session_of w3 (name_at seats r) (other_at seats r) ≡ session_of w3 (name_at standing r) (other_at standing r)
       same_names r i = session_of w3 (sym (same_name_at seats standing c2.going.alike r) i) (sym (same_other_at seats standing c2.going.alike r) i)
 
-      agree : (j : ℕ) → j < count2 → is_idle (post n2.posts j).phase ≡ false → (t : Session)
+      agree : (j : ℕ) → IsPlace standing (place q.node j) → is_idle (post n2.posts j).phase ≡ false → (t : Session)
           → session_of w3 (name_at standing (place q.node j)) (other_at standing (place q.node j)) ≡ Some t → is_down_at near_cleared (place q.node j) ≡ t.is_down
       agree j less live t found_it = by_place (cases_eq j q.session)
         where
@@ -663,7 +645,7 @@ module _ (facts : Facts) (seats : List Seat) (w : Network) (moment : IsMoment w)
               same_Some (opened here_q.session) t
               (sym opens_q ∙ ap (λ j. session_of w3 (name_at standing (place q.node j)) (other_at standing (place q.node j))) (sym e) ∙ found_it)
               in
-              let near_x = (cx.ends p.session is.session (at_least p.session) (at_most count1 p.session is.session)).live (live_y p.session ∙ alive) in
+              let near_x = (cx.ends p.session is (at_least p.session) (at_most count1 p.session is.session)).live (live_y p.session ∙ alive) in
               let at_q = same_at_q q refl in
               ap (λ j. is_down_at near_cleared (place q.node j)) e
               ∙ not_down_by_ends seats near_cleared alike_x q p at.far.back
@@ -676,7 +658,7 @@ module _ (facts : Facts) (seats : List Seat) (w : Network) (moment : IsMoment w)
 
           other_q_end : (j ≢ q.session) → is_down_at near_cleared (place q.node j) ≡ t.is_down
           other_q_end ne =
-              let is_r : IsPlace seats (place q.node j) = same_place seats standing c2.going.alike (place q.node j) (own2 j less) in
+              let is_r : IsPlace seats (place q.node j) = same_place seats standing c2.going.alike (place q.node j) less in
               let h = here facts.wired seats w right stands (place q.node j) is_r in
               let not_q : (place q.node j) ≢ q = λ e. ne (ap (λ (r : Place). r.session) e) in
               let not_p : (place q.node j) ≢ p = λ e. not_far (ap (λ (r : Place). r.node) e) in
@@ -689,14 +671,14 @@ module _ (facts : Facts) (seats : List Seat) (w : Network) (moment : IsMoment w)
               w1.sessions h.session a
               in
               let c : session_of w3 (name_at standing (place q.node j)) (other_at standing (place q.node j)) ≡ Some h.session =
-              found_elsewhere facts.wired standing w2 right2 stands2 q is_q here_q opened opened_nodes (place q.node j) (own2 j less) not_q
+              found_elsewhere facts.wired standing w2 right2 stands2 q is_q here_q opened opened_nodes (place q.node j) less not_q
               (λ f. not_p (f ∙ same_Some here_q.far.far p (sym here_q.far.found ∙ same_far_of seats standing c2.going.alike q ∙ at.far.back))) h.session
               ((λ i. session_of w2 (same_name_at seats standing c2.going.alike (place q.node j) i) (same_other_at seats standing c2.going.alike (place q.node j) i)) ∙ b)
               in
               let far_off_q : h.far.far.node ≢ q.node = λ e. h.apart (ap (λ k. name_of (seat seats k).who) (sym e) ∙ h.far.name) in
               let far_off_p : h.far.far.node ≢ p.node = λ e. strange (ap (λ k. name_of (seat seats k).who) (sym e) ∙ h.far.name) in
               let far_x : SameEnd (seat both_opened h.far.far.node) (seat near_cleared h.far.far.node) h.far.far.session =
-              cx.rest h.far.far (λ l _ _ _ e. far_off_p (ap (λ (r : Place). r.node) e))
+              cx.rest h.far.far (λ l _ _ e. far_off_p (ap (λ (r : Place). r.node) e))
               (λ l more _ _ _ e. off_q (ap (λ (r : Place). r.node)
               (same_Some (place p.node l) (place q.node j) (sym (far1 l more).back ∙ ap (far_of seats) (sym e) ∙ h.far.back))))
               in

@@ -51,7 +51,7 @@ connections_are_made facts seats w moment stands a b p far are may after opens =
     right = moment_right facts.moments w moment
 
     place : IsPlaceOf seats a b p
-    place = facts.wired.place_is w.setup seats a b p right.written stands.seats_are.who are.0
+    place = facts.wired.place_is w.setup seats a b p right.written right.numbers stands.seats_are.who are.0
 
     at : Here seats w p
     at = here facts.wired seats w (moment_right facts.moments w moment) stands.seats_are p place.is_place

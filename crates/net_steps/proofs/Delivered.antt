@@ -48,7 +48,7 @@ module _ (facts : Facts) where
       right = moment_right facts.moments w moment
 
       place : IsPlaceOf seats to from p
-      place = facts.wired.place_is w.setup seats to from p right.written stands.seats_are.who are.0
+      place = facts.wired.place_is w.setup seats to from p right.written right.numbers stands.seats_are.who are.0
 
       at : HasFar seats p
       at = (here facts.wired seats w (moment_right facts.moments w moment) stands.seats_are p place.is_place).far
@@ -74,7 +74,7 @@ module _ (facts : Facts) where
   pub notices_are_delivered : NoticesAreDelivered
   notices_are_delivered seats w moment stands from to p far are waits after takes =
       let right = moment_right facts.moments w moment in
-      let place = facts.wired.place_is w.setup seats to from p right.written stands.seats_are.who are.0 in
+      let place = facts.wired.place_is w.setup seats to from p right.written right.numbers stands.seats_are.who are.0 in
       let left = cleared (with_seat p.node takes.taken (with_notice p false seats)) p.node in (
         subst (λ ss. StandsFor ss (deliver from to w)) (sym takes.is)
             (stands_at left (deliver from to w) (deliver_moment w from to moment)
@@ -90,7 +90,7 @@ module _ (facts : Facts) where
       let right = moment_right facts.moments w moment in
       idle_delivery w from to
       (ap (λ (o : Option Session). unwrap_or (option_map waiting o) 0)
-      (facts.wired.none w seats to from right.written right.sessions stands.seats_are.who none))
+      (facts.wired.none w seats to from right.written right.numbers right.sessions stands.seats_are.who none))
   nothing_is_delivered seats w moment stands from to (inr q) =
       let said = places_say facts seats w moment stands.seats_are to from q.0 q.1 q.2 in
       idle_delivery w from to

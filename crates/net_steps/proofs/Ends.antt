@@ -1,6 +1,6 @@
 -- What an end tells on its link, message by message, is what the machine's near end tells: where a message fails both are
 -- closed, and the other end is told of the loss.
-use Rattle.std.specs.Prelude.{◌≡◌, ◌⊎◌, ℕ, List, [], ◌++◌, map, length, Bool, true, false, not, cond}
+use Rattle.std.specs.Prelude.{◌≡◌, ℕ, List, [], ◌++◌, map, length, Bool, true, false, not, cond}
 use Rattle.std.proofs.lemmas.Bool.{true≢false}
 use Rattle.std.proofs.Common.{refl, sym, ◌∙◌, ap, subst, inl, inr}
 use Rattle.node_model.specs.Step.{Post, nothing, post}

@@ -8,11 +8,11 @@ use Rattle.network_model.specs.Network.{Network}
 use Rattle.network_model.specs.Steps.{session_of}
 use Rattle.network_model.proofs.NetworkFact.{found}
 use Rattle.net_model.specs.Seats.{Seat, name_of, seat, seat_named}
-use Rattle.net_model.specs.Stands.{HasEnd, IsEnd, KeepsPart, Seats}
+use Rattle.net_model.specs.Stands.{IsEnd, KeepsPart, Seats}
 use Rattle.net_model.specs.declared.place.Place.{Place}
 use Rattle.seat_laws.specs.Wiring.{HasFar, IsPlace, name_at, other_at}
 use Rattle.net_steps.proofs.Facts.{IsRight, Wired, right_twins}
-use Rattle.net_steps.proofs.Lists.{named_by}
+use Rattle.net_steps.proofs.Lists.{EndAt, named_by}
 use Rattle.net_steps.proofs.Quiet.{IsQuiet, quiet_turned}
 use Rattle.net_steps.proofs.Sides.{found_apart, seen_back}
 
@@ -27,16 +27,15 @@ pub record Here (seats : List Seat) (w : Network) (p : Place) : Type 0 where
   pub quiet : IsQuiet session
 
 -- an end of a place that there is
-pub end_at : (seats : List Seat) (w : Network) → Seats seats w → (p : Place) → IsPlace seats p
-    → HasEnd w (seat seats p.node) p.session
+pub end_at : (seats : List Seat) (w : Network) → Seats seats w → (p : Place) → IsPlace seats p → EndAt w seats p
 end_at seats w stands p is =
     stands.ends p.node p.session is.node
-    (subst (λ n. p.session < n) (sym (stands.long p.node is.node).posts) is.session)
+    (subst (λ n. p.session < n) (sym (stands.long p.node is.node).posts) is.session) (other_at seats p) is.somebody
 
 module _ (wired : Wired) (seats : List Seat) (w : Network) (right : IsRight w) (stands : Seats seats w) where
   pub here : (p : Place) → IsPlace seats p → Here seats w p
   here p is =
-      let far = wired.far w.setup seats p right.written stands.who is in
+      let far = wired.far w.setup seats p right.written right.numbers stands.who is in
       let near = end_at seats w stands p is in
       let there = end_at seats w stands far.far far.is_place in
       let apart = found_apart (name_at seats p) (other_at seats p) w.sessions near.session (right_twins w right) near.found in
@@ -64,7 +63,7 @@ module _ (wired : Wired) (seats : List Seat) (w : Network) (right : IsRight w) (
   -- a node with a place is found by its name
   pub place_named : (p : Place) → IsPlace seats p → seat_named seats (name_at seats p) ≡ Some p.node
   place_named p is =
-      named_by seats (name_at seats p) (other_at seats p) p (wired.place w.setup seats p right.written stands.who is)
+      named_by seats (name_at seats p) (other_at seats p) p (wired.place w.setup seats p right.written right.numbers stands.who is)
 
   -- a place of another node has another name
   pub other_named : (k : ℕ) → seat_named seats (name_of (seat seats k).who) ≡ Some k → (p : Place) → IsPlace seats p

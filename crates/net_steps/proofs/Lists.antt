@@ -1,17 +1,21 @@
 -- Elements of lists that were stored, and what depends on the nodes of seats alone: their names, sessions and places.
-use Rattle.std.specs.Prelude.{◌≡◌, ◌≢◌, ◌⊎◌, ◌<◌, ℕ, suc, zero, List, [], ◌∷◌, map, length, Bool, cond, slice_index_or}
+use Rattle.std.specs.Prelude.{◌≡◌, ◌≢◌, ◌⊎◌, ◌<◌, ◌≤◌, ℕ, suc, zero, List, [], ◌∷◌, map, length, Bool, false, cond, option_and_then}
+use Rattle.std.specs.Prelude.{slice_index_or}
 use Rattle.std.specs.declared.option.Option.{Option}
 use Rattle.std.specs.declared.option.Option.TheVariants.{Some, None}
-use Rattle.std.specs.Option.{option_map}
+use Rattle.std.specs.Option.{option_map, unwrap_or}
 use Rattle.std.specs.List.{slice_set}
-use Rattle.std.proofs.lemmas.Bool.{cases_eq}
-use Rattle.std.proofs.lemmas.List.{get_or-set_same, get_or-set_other, length-map, map-set, set-get_or}
+use Rattle.std.proofs.lemmas.Bool.{cases_eq, cases_lt}
+use Rattle.std.proofs.lemmas.List.{get_or-set_same, get_or-set_other, get_or_past, length-map, map-set, set-get_or}
 use Rattle.std.proofs.lemmas.Option.{none-some, same_Some}
 use Rattle.std.proofs.Common.{refl, sym, ◌∙◌, ap, subst, inl, inr}
 use Rattle.ov_types.specs.First.{same_name}
+use Rattle.node_model.specs.Step.{nothing}
 use Rattle.network_model.specs.Setup.{Name}
-use Rattle.net_model.specs.Seats.{Seat, far_of, index_from, name_of, nobody, others_of, place_at, place_of, seat}
-use Rattle.net_model.specs.Seats.{seat_named, session_with}
+use Rattle.network_model.specs.Network.{Network}
+use Rattle.net_model.specs.Seats.{Seat, far_of, index_from, is_name, name_of, nobody, other, others_of, place_at, place_of}
+use Rattle.net_model.specs.Seats.{seat, seat_named, session_with}
+use Rattle.net_model.specs.Stands.{HasEnd, IsLong, IsVacant, Seats}
 use Rattle.net_model.specs.Steps.{with_seat}
 use Rattle.net_model.specs.declared.place.Place.{Place}
 use Rattle.seat_laws.specs.Wiring.{IsPlace, name_at, other_at}
@@ -54,13 +58,17 @@ module _ (seats seats' : List Seat) (alike : AreAlike seats seats') where
   pub same_name_at : (p : Place) → name_at seats' p ≡ name_at seats p
   same_name_at p = ap name_of (same_who p.node)
 
+  pub same_other : (p : Place) → other (seat seats' p.node) p.session ≡ other (seat seats p.node) p.session
+  same_other p = ap (λ x. slice_index_or (others_of x) p.session None) (same_who p.node)
+
   pub same_other_at : (p : Place) → other_at seats' p ≡ other_at seats p
-  same_other_at p = ap (λ x. slice_index_or (others_of x) p.session []) (same_who p.node)
+  same_other_at p = ap (λ o. unwrap_or o []) (same_other p)
 
   pub same_place : (p : Place) → IsPlace seats' p → IsPlace seats p
   same_place p h = record {
     node = subst (λ n. p.node < n) same_long h.node;
     session = subst (λ x. p.session < length (others_of x)) (same_who p.node) h.session;
+    somebody = sym (same_other p) ∙ h.somebody ∙ ap Some (same_other_at p);
   }
 
   pub same_named : (a : Name) → seat_named seats' a ≡ seat_named seats a
@@ -72,7 +80,7 @@ module _ (seats seats' : List Seat) (alike : AreAlike seats seats') where
   same_place_at : (b : Name) (o : Option ℕ) → place_at seats' b o ≡ place_at seats b o
   same_place_at b None = refl
   same_place_at b (Some k) =
-      ap (λ x. option_map (λ i. record { node = k; session = i }) (index_from 0 (λ m. same_name m b) (others_of x)))
+      ap (λ x. option_map (λ i. record { node = k; session = i }) (index_from 0 (is_name b) (others_of x)))
       (same_who k)
 
   pub same_place_of : (a b : Name) → place_of seats' a b ≡ place_of seats a b
@@ -80,8 +88,8 @@ module _ (seats seats' : List Seat) (alike : AreAlike seats seats') where
 
   pub same_far_of : (p : Place) → far_of seats' p ≡ far_of seats p
   same_far_of p =
-      (λ i. place_of seats' (same_other_at p i) (same_name_at p i))
-      ∙ same_place_of (other_at seats p) (name_at seats p)
+      (λ i. option_and_then (λ b. place_of seats' b (same_name_at p i)) (same_other p i))
+      ∙ (λ i. option_and_then (λ b. same_place_of b (name_at seats p) i) (other (seat seats p.node) p.session))
 
 -- ---- which place
 pub same_or_other : (p q : Place) → (p ≡ q) ⊎ (p ≢ q)
@@ -103,3 +111,93 @@ place_node seats b (Some k) p is = by_session (session_with (seat seats k) b) is
 
 pub named_by : (seats : List Seat) (a b : Name) (p : Place) → place_of seats a b ≡ Some p → seat_named seats a ≡ Some p.node
 named_by seats a b p is = place_node seats b (seat_named seats a) p is
+
+-- ---- who is at the other end
+found_within : {A : Type 0} (xs : List (Option A)) (i : ℕ) (a : A) → slice_index_or xs i None ≡ Some a → i < length xs
+found_within xs i a is = by_length (cases_lt i (length xs))
+  where
+    by_length : (i < length xs) ⊎ (length xs ≤ i) → i < length xs
+    by_length (inl less) = less
+    by_length (inr more) = absurd (none-some a (sym (get_or_past xs i None more) ∙ is))
+
+-- past all seats there is nobody
+past_seats : (seats : List Seat) (p : Place) → length seats ≤ p.node → other (seat seats p.node) p.session ≡ None
+past_seats seats p more = ap (λ (n : Seat). other n p.session) (get_or_past seats p.node nobody more)
+
+-- where somebody is there is a place
+pub place_with : (seats : List Seat) (p : Place) (b : Name) → other (seat seats p.node) p.session ≡ Some b
+    → IsPlace seats p
+place_with seats p b is = record {
+  node = by_length (cases_lt p.node (length seats));
+  session = found_within (others_of (seat seats p.node).who) p.session b is;
+  somebody = is ∙ ap Some (sym (ap (λ o. unwrap_or o []) is));
+}
+  where
+    by_length : (p.node < length seats) ⊎ (length seats ≤ p.node) → p.node < length seats
+    by_length (inl less) = less
+    by_length (inr more) = absurd (none-some b (sym (past_seats seats p more) ∙ is))
+
+pub there_or_nobody : (seats : List Seat) (p : Place) → IsPlace seats p ⊎ (other (seat seats p.node) p.session ≡ None)
+there_or_nobody seats p = by_other (other (seat seats p.node) p.session) refl
+  where
+    by_other : (o : Option Name) → other (seat seats p.node) p.session ≡ o
+        → IsPlace seats p ⊎ (other (seat seats p.node) p.session ≡ None)
+    by_other None is = inr is
+    by_other (Some b) is = inl (place_with seats p b is)
+
+pub not_nobody : (seats : List Seat) (p r : Place) → IsPlace seats p → other (seat seats r.node) r.session ≡ None → r ≢ p
+not_nobody seats p r is none e =
+    none-some (other_at seats p)
+    (sym none ∙ ap (λ (p : Place). other (seat seats p.node) p.session) e ∙ is.somebody)
+
+-- a session that is nobody's leads nowhere
+pub far_nowhere : (seats : List Seat) (p : Place) → other (seat seats p.node) p.session ≡ None → far_of seats p ≡ None
+far_nowhere seats p none = ap (option_and_then (λ b. place_of seats b (name_at seats p))) none
+
+-- ---- nothing is at the ends that are nobody's
+abbrev pub AreVacant : List Seat → Type 0
+AreVacant seats = (p : Place) → other (seat seats p.node) p.session ≡ None → IsVacant (seat seats p.node) p.session
+
+-- nor past all ends
+pub vacant_past : (n : Seat) (i : ℕ) → IsLong n → length (others_of n.who) ≤ i → IsVacant n i
+vacant_past n i l more = record {
+  post = get_or_past n.posts i nothing (subst (λ m. m ≤ i) (sym l.posts) more);
+  kept = get_or_past n.kept i [] (subst (λ m. m ≤ i) (sym l.kept) more);
+  link = get_or_past n.links i [] (subst (λ m. m ≤ i) (sym l.links) more);
+  breaks = get_or_past n.breaks i [] (subst (λ m. m ≤ i) (sym l.breaks) more);
+  notice = get_or_past n.notices i false (subst (λ m. m ≤ i) (sym l.notices) more);
+}
+
+pub vacant_nobody : (i : ℕ) → IsVacant nobody i
+vacant_nobody i = record { post = refl; kept = refl; link = refl; breaks = refl; notice = refl }
+
+-- each seat has room for its sessions, and nothing is at those that are nobody's
+pub record AreFit (seats : List Seat) : Type 0 where
+  pub long : (k : ℕ) → k < length seats → IsLong (seat seats k)
+  pub vacant : AreVacant seats
+
+pub fit_within : (seats : List Seat) → ((k : ℕ) → k < length seats → IsLong (seat seats k))
+    → ((k i : ℕ) → k < length seats → i < length (others_of (seat seats k).who) → other (seat seats k) i ≡ None
+    → IsVacant (seat seats k) i)
+    → AreFit seats
+fit_within seats long vacant = record {
+  long = long;
+  vacant = λ p none. by_node p none (cases_lt p.node (length seats)) (cases_lt p.session (length (others_of (seat seats p.node).who)));
+}
+  where
+    by_node : (p : Place) → other (seat seats p.node) p.session ≡ None → (p.node < length seats) ⊎ (length seats ≤ p.node)
+        → (p.session < length (others_of (seat seats p.node).who)) ⊎ (length (others_of (seat seats p.node).who) ≤ p.session)
+        → IsVacant (seat seats p.node) p.session
+    by_node p none (inl lt) (inl less) = vacant p.node p.session lt less none
+    by_node p none (inl lt) (inr more) = vacant_past (seat seats p.node) p.session (long p.node lt) more
+    by_node p none (inr out) b =
+        subst (λ n. IsVacant n p.session) (sym (get_or_past seats p.node nobody out)) (vacant_nobody p.session)
+
+pub seats_fit : (seats : List Seat) (w : Network) → Seats seats w → AreFit seats
+seats_fit seats w stands =
+    fit_within seats stands.long
+    (λ k i lt less none. stands.vacant k i lt (subst (λ m. i < m) (sym (stands.long k lt).posts) less) none)
+
+-- what stands at a place
+abbrev pub EndAt : Network → List Seat → Place → Type 0
+EndAt w seats p = HasEnd w (seat seats p.node) p.session (other_at seats p)

@@ -23,11 +23,11 @@ use Rattle.net_steps.specs.Asking.{AreAt}
 use Rattle.net_steps.specs.Losing.{LossesAreMade, NothingIsLost, cut}
 use Rattle.net_steps.proofs.Asked.{down_here}
 use Rattle.net_steps.proofs.AtMoments.{found_joined, moment_right, stands_at}
-use Rattle.net_steps.proofs.Building.{AllBut, SameEnd, Stays, end_trans, stays_trans}
+use Rattle.net_steps.proofs.Building.{AllBut, SameEnd, Stays, end_trans, fit_but, stays_trans}
 use Rattle.net_steps.proofs.Changing.{changes_at}
 use Rattle.net_steps.proofs.Facts.{Facts, IsRight}
 use Rattle.net_steps.proofs.Here.{Here, here}
-use Rattle.net_steps.proofs.Lists.{AreAlike, same_long, same_who}
+use Rattle.net_steps.proofs.Lists.{AreAlike, AreFit, same_long, same_place, same_who, seats_fit}
 use Rattle.net_steps.proofs.Marks.{end_noticed, link_but, link_here, link_keeps, link_stays, notice_but, notice_here, notice_stays}
 
 -- ---- the seats
@@ -67,8 +67,11 @@ module _ (seats : List Seat) (p q : Place) (apart : p ≢ q) (lt : p.node < leng
   pub cut_alike : AreAlike seats (cut p q seats)
   cut_alike = but4.alike ∙ but3.alike ∙ but2.alike ∙ but1.alike
 
-  pub cut_long : (k : ℕ) → k < length (cut p q seats) → IsLong (seat (cut p q seats) k)
-  cut_long = but4.long (but3.long (but2.long (but1.long long)))
+  pub cut_fit : AreFit seats → IsPlace seats p → IsPlace seats q → AreFit (cut p q seats)
+  cut_fit fit is is_q =
+      fit_but s3 (cut p q seats) q (same_place s3 seats (sym (but3.alike ∙ but2.alike ∙ but1.alike)) q is_q) but4
+      (fit_but s2 s3 p (same_place s2 seats (sym (but2.alike ∙ but1.alike)) p is) but3
+      (fit_but s1 s2 q (same_place s1 seats (sym but1.alike) q is_q) but2 (fit_but seats s1 p is but1 fit)))
 
   pub cut_elsewhere : (r : Place) → r ≢ p → r ≢ q → SameEnd (seat seats r.node) (seat (cut p q seats) r.node) r.session
   cut_elsewhere r not_p not_q =
@@ -133,13 +136,14 @@ module _ (facts : Facts) (seats : List Seat) (w : Network) (moment : IsMoment w)
         let joined = found_joined w moment (name_at seats p) (other_at seats p) at.session at.found whole in
         let lt = is.node in
         let lt' = at.far.is_place.node in
-        let long = stands.long in
+        let fit = seats_fit seats w stands in
+        let long = fit.long in
         let within = is.session in
         let within' = at.far.is_place.session in
         let near_waits = near_notice seats p q not_far lt lt' long within within' in
         let far_waits = far_notice seats p q not_far lt lt' long within within' in
         changes_at facts.wired seats w right stands (cut p q seats) p is at lost (λ s. refl)
-        (cut_alike seats p q not_far lt lt' long within within') (cut_long seats p q not_far lt lt' long within within')
+        (cut_alike seats p q not_far lt lt' long within within') (cut_fit seats p q not_far lt lt' long within within' fit is at.far.is_place)
         (end_noticed (seat seats p.node) (seat (cut p q seats) p.node) p.session at.session (lost at.session)
         (cut_stays seats p q not_far lt lt' long within within' p) (near_waits ∙ sym joined.near_live)
         (near_link seats p q not_far lt lt' long within within') refl refl
@@ -164,7 +168,7 @@ module _ (facts : Facts) (seats : List Seat) (w : Network) (moment : IsMoment w)
       → StandsFor (cut p far seats) (next message_size w (Lose a b)) × IsMoment (next message_size w (Lose a b))
       × (answer_to w (Lose a b) ≡ Did)
   losses_made a b p far are whole =
-      let place = facts.wired.place_is w.setup seats a b p right.written stands.who are.0 in
+      let place = facts.wired.place_is w.setup seats a b p right.written right.numbers stands.who are.0 in
       let h = here facts.wired seats w right stands p place.is_place in
       let far_is : h.far.far ≡ far = same_Some h.far.far far (sym h.far.found ∙ are.1) in
       let whole_is : h.session.is_down ≡ false = sym (down_here facts seats w moment stands p place.is_place h) ∙ whole in
@@ -191,9 +195,9 @@ module _ (facts : Facts) (seats : List Seat) (w : Network) (moment : IsMoment w)
       → unwrap_or (option_map (λ (s : Session). s.is_down) (session_of w a b)) true ≡ true
   broken_at a b None none down =
       ap (λ (o : Option Session). unwrap_or (option_map (λ (s : Session). s.is_down) o) true)
-      (facts.wired.none w seats a b right.written right.sessions stands.who none)
+      (facts.wired.none w seats a b right.written right.numbers right.sessions stands.who none)
   broken_at a b (Some p) is down =
-      let place = facts.wired.place_is w.setup seats a b p right.written stands.who is in
+      let place = facts.wired.place_is w.setup seats a b p right.written right.numbers stands.who is in
       let h = here facts.wired seats w right stands p place.is_place in
       ap (λ (o : Option Session). unwrap_or (option_map (λ (s : Session). s.is_down) o) true)
       ((λ i. session_of w (sym place.name i) (sym place.other i)) ∙ h.found)

@@ -4,6 +4,7 @@ use Rattle.std.specs.Borrow.{Bor}
 use Rattle.std.specs.List.{AllByRecursion, slice_index_or, slice_set}
 use Rattle.std.specs.Option.{option_map, unwrap_or}
 use Rattle.std.specs.declared.option.Option.{Option}
+use Rattle.std.specs.declared.option.Option.TheVariants.{Some}
 use Rattle.std.proofs.lemmas.Bool.{ne_eqb, not-true, true≢false}
 use Rattle.std.proofs.lemmas.List.{get_or-set_same}
 use Rattle.std.proofs.lemmas.Option.{same_Some}
@@ -28,10 +29,10 @@ use Rattle.seat_laws.specs.Wiring.{IsPlace, name_at, other_at}
 use Rattle.net_model.proofs.Sizes.{positive}
 use Rattle.net_steps.proofs.Arriving.{live_after}
 use Rattle.net_steps.proofs.AtMoments.{IsSound, found_heard, found_joined, moment_right, moment_sound}
-use Rattle.net_steps.proofs.Building.{AllBut, IsPart, part_at, part_none}
+use Rattle.net_steps.proofs.Building.{AllBut, IsPart, fit_but, part_at, part_none}
 use Rattle.net_steps.proofs.Facts.{Facts, IsRight}
 use Rattle.net_steps.proofs.Here.{Here, here, part_here}
-use Rattle.net_steps.proofs.Lists.{seat_elsewhere, seat_here}
+use Rattle.net_steps.proofs.Lists.{seat_elsewhere, seat_here, seats_fit}
 use Rattle.net_steps.proofs.Marks.{link_but}
 use Rattle.net_steps.proofs.Members.{is_one_of}
 use Rattle.net_steps.proofs.Sent.{arrived_takes, taking_session, took_tells}
@@ -85,12 +86,12 @@ module _ (facts : Facts) (seats : List Seat) (w : Network) (moment : IsMoment w)
 
   near_role : s.near.role ≡ role_of (seat seats p.node).who
   near_role =
-      let h = facts.wired.session w seats p right.written right.sessions stands.who is in
+      let h = facts.wired.session w seats p right.written right.numbers right.sessions stands.who is in
       ap (λ (s : Session). s.near.role) (same_Some s h.session (sym at.found ∙ h.found)) ∙ h.near_role
 
   far_role : s.far.role ≡ role_of (seat seats q.node).who
   far_role =
-      let h = facts.wired.session w seats p right.written right.sessions stands.who is in
+      let h = facts.wired.session w seats p right.written right.numbers right.sessions stands.who is in
       ap (λ (s : Session). s.far.role) (same_Some s h.session (sym at.found ∙ h.found)) ∙ h.far_role q at.far.found
 
   -- the octets of the message, of which some may have been taken before
@@ -178,9 +179,9 @@ module _ (facts : Facts) (seats : List Seat) (w : Network) (moment : IsMoment w)
       heard : (given ≡ taken (seat seats p.node).who (is_peering s) (post (seat seats p.node).posts p.session) m next) × (left ≡ [])
       heard =
           subst (λ b. (given ≡ taken (seat seats p.node).who b (post (seat seats p.node).posts p.session) m next) × (left ≡ [])) peering_is
-          (facts.hears.message w.setup right.written (seat seats p.node).who (seat seats q.node).who
+          (facts.hears.message w.setup right.written right.numbers (seat seats p.node).who (seat seats q.node).who
           (is_one_of seats w stands p.node is.node) (is_one_of seats w stands q.node at.far.is_place.node)
-          p.session is.session (sym at.far.name) (post (seat seats p.node).posts p.session)
+          p.session is.session (is.somebody ∙ ap Some (sym at.far.name)) (post (seat seats p.node).posts p.session)
           (ap is_idle (sym at.near_is.phase) ∙ live) m next
           ((λ i. cell (peering_is i) (sym at.near_is.phase i) m) ∙ passing.1) sends (kept_at seats p) bytes
           (kept_and_next bytes.now bytes_are
@@ -265,7 +266,8 @@ module _ (facts : Facts) (seats : List Seat) (w : Network) (moment : IsMoment w)
       pub message_stands : Seats (cleared (with_seat p.node n' begun) p.node)
           (pass (name_at seats p) (change_session (name_at seats p) (other_at seats p) arrived w))
       message_stands =
-          stands_after facts seats w moment stands p is begun but.alike (but.long stands.long) (λ r _ _ not_q. but.ends r not_q)
+          stands_after facts seats w moment stands p is begun but.alike
+          (fit_but seats begun q at.far.is_place but (seats_fit seats w stands)) (λ r _ _ not_q. but.ends r not_q)
           arrived arrived_nodes sound given left t0 replies arrives
           (ap (λ (g : Begun). g.replies) heard.0
           ∙ (λ i. map (octets_of (seat seats p.node).who (is_peering s)) (replies_to (is_peering s) (sym at.near_is.phase i) m)))

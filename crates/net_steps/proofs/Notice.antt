@@ -1,5 +1,5 @@
 -- A notice of loss is delivered: it leaves its end, which closes, and the node makes its pass.
-use Rattle.std.specs.Prelude.{◌≡◌, ◌≢◌, ◌<◌, ℕ, List, [], ◌++◌, map, length, Bool, true, false, cond, ◌==◌}
+use Rattle.std.specs.Prelude.{◌≡◌, ◌≢◌, ◌<◌, ℕ, List, [], map, length, Bool, true, false, cond, ◌==◌}
 use Rattle.std.specs.List.{slice_set}
 use Rattle.std.specs.Option.{option_map, unwrap_or}
 use Rattle.std.specs.declared.option.Option.{Option}
@@ -23,10 +23,10 @@ use Rattle.told_laws.specs.Moments.{IsMoment}
 use Rattle.seat_laws.specs.Wiring.{IsPlace, name_at, other_at}
 use Rattle.net_model.proofs.Sizes.{positive}
 use Rattle.net_steps.proofs.AtMoments.{IsSound, found_sound, moment_right, moment_sound}
-use Rattle.net_steps.proofs.Building.{AllBut, IsPart, part_none}
+use Rattle.net_steps.proofs.Building.{AllBut, IsPart, fit_but, part_none}
 use Rattle.net_steps.proofs.Facts.{Facts, IsRight}
 use Rattle.net_steps.proofs.Here.{Here, here}
-use Rattle.net_steps.proofs.Lists.{seat_elsewhere, seat_here}
+use Rattle.net_steps.proofs.Lists.{seat_elsewhere, seat_here, seats_fit}
 use Rattle.net_steps.proofs.Marks.{end_closed, kept_nothing, notice_but}
 use Rattle.net_steps.proofs.Sent.{arrived_closes, told_none}
 use Rattle.net_steps.proofs.Stepped.{IsReady, stands_after, taking}
@@ -156,7 +156,8 @@ module _ (facts : Facts) (seats : List Seat) (w : Network) (moment : IsMoment w)
     pub notice_stands : Seats (cleared (with_seat p.node n' begun) p.node)
         (pass (name_at seats p) (change_session (name_at seats p) (other_at seats p) arrived w))
     notice_stands =
-        stands_after facts seats w moment stands p is begun but.alike (but.long stands.long) (λ r _ not_p _. but.ends r not_p)
+        stands_after facts seats w moment stands p is begun but.alike
+        (fit_but seats begun p is but (seats_fit seats w stands)) (λ r _ not_p _. but.ends r not_p)
         arrived arrived_nodes sound given left t0 [] arrives (ap (λ (g : Begun). g.replies) heard.0)
         (subst (λ n. IsEnd (taking n p.session given left) p.session t0) (sym seat_seen) near_end) far_end
         (subst (λ n. IsPart (taking n p.session given left) p.session (seat begun q.node) q.session) (sym seat_seen)

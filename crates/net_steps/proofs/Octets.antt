@@ -8,15 +8,15 @@ use Rattle.std.specs.declared.option.Option.{Option}
 use Rattle.std.specs.declared.option.Option.TheVariants.{Some}
 use Rattle.std.proofs.lemmas.Bool.{ne_eqb, not-true, true≢false}
 use Rattle.std.proofs.lemmas.List.{get_or-set_same, nil_from_length}
-use Rattle.std.proofs.lemmas.Option.{none-some, same_Some}
-use Rattle.std.proofs.Common.{refl, sym, ◌∙◌, ap, subst, inl, inr, suc-ne-zero}
+use Rattle.std.proofs.lemmas.Option.{same_Some}
+use Rattle.std.proofs.Common.{refl, sym, ◌∙◌, ap, subst, inl, inr}
 use Rattle.ov_link.specs.declared.step.Input.TheVariants as input
 use Rattle.node_model.specs.Step.{Begun, Phase, Post, end_of, nothing, post}
 use Rattle.network_model.specs.Setup.{Name}
 use Rattle.network_model.specs.Session.{Message, End, Session, are_peers, arrived, closed, is_idle, is_live, is_peering, octets_arrived}
 use Rattle.network_model.specs.Session.{took_first, took_octets, told, turned, waiting}
 use Rattle.network_model.specs.Network.{Network}
-use Rattle.network_model.specs.Steps.{change_session, deliver, deliver_octets, in_flight, joins, pass, session_in, session_of}
+use Rattle.network_model.specs.Steps.{change_session, deliver_octets, in_flight, joins, pass, session_in, session_of}
 use Rattle.network_model.specs.Steps.{with_session}
 use Rattle.network_model.specs.Events.{DeliverOctets, next}
 use Rattle.network_model.specs.Moments.{IsJoined, IsPartly, NoneGoesDown, cell}
@@ -27,7 +27,7 @@ use Rattle.net_model.specs.Seats.{Seat, Who, kept_at, kept_in, link, link_at, na
 use Rattle.net_model.specs.Steps.{BeginsAt, Takes, cleared, untaken, with_link, with_seat}
 use Rattle.net_model.specs.Stands.{IsEnd, Seats, StandsFor, first_of, message_size, octets_of}
 use Rattle.net_model.specs.Taking.{replies_to_all, taken_all, took_all}
-use Rattle.net_model.specs.Telling.{CanBeHeard, CanSend}
+use Rattle.net_model.specs.Telling.{CanSend}
 use Rattle.net_model.specs.declared.place.Place.{Place}
 use Rattle.heard_laws.specs.Hearing.{IsMessageOf, IsPartial, IsPhaseOf}
 use Rattle.heard_laws.proofs.Heard.{message_of, phase_of_cell}
@@ -37,11 +37,11 @@ use Rattle.net_model.proofs.Sizes.{positive}
 use Rattle.net_steps.specs.Delivering.{NoticesCountAsOctets, OctetsAreDelivered, TakesAt}
 use Rattle.net_steps.proofs.Arriving.{live_after, octets_taken, rest_of, still, taken_of, unanswered, whole_of}
 use Rattle.net_steps.proofs.AtMoments.{IsSound, found_heard, found_joined, found_sound, moment_right, moment_sound, stands_at}
-use Rattle.net_steps.proofs.Building.{AllBut, IsPart, SameEnd, moved, part_at, put_but, stored_link}
+use Rattle.net_steps.proofs.Building.{AllBut, IsPart, fit_but, part_at}
 use Rattle.net_steps.proofs.Cutting.{AreLong, both_parts, first_part, kept_and_next, part_in, part_is, part_long, untaken_is}
 use Rattle.net_steps.proofs.Facts.{Facts, IsRight}
 use Rattle.net_steps.proofs.Here.{Here, here, part_here}
-use Rattle.net_steps.proofs.Lists.{seat_elsewhere, seat_here}
+use Rattle.net_steps.proofs.Lists.{seat_elsewhere, seat_here, seats_fit}
 use Rattle.net_steps.proofs.Marks.{link_but}
 use Rattle.net_steps.proofs.Members.{is_one_of}
 use Rattle.net_steps.proofs.Stepped.{IsReady, stands_after, taking}
@@ -89,7 +89,7 @@ module _ (facts : Facts) (seats : List Seat) (w : Network) (moment : IsMoment w)
   not_far e = at.apart (sym (ap (λ k. name_of (seat seats k).who) e) ∙ at.far.name)
 
   has : HasSession seats w p
-  has = facts.wired.session w seats p right.written right.sessions stands.who is
+  has = facts.wired.session w seats p right.written right.numbers right.sessions stands.who is
 
   same_session : has.session ≡ s
   same_session = same_Some has.session s (sym has.found ∙ at.found)
@@ -322,8 +322,8 @@ module _ (facts : Facts) (seats : List Seat) (w : Network) (moment : IsMoment w)
       heard : (given ≡ taken_all who b before ms) × (left ≡ part)
       heard =
           subst (λ b. (given ≡ taken_all who b before ms) × (left ≡ part)) peering_is
-          (facts.hears.octets w.setup right.written who who_there (is_one_of seats w stands p.node is.node)
-          (is_one_of seats w stands q.node at.far.is_place.node) p.session is.session (sym at.far.name) before
+          (facts.hears.octets w.setup right.written right.numbers who who_there (is_one_of seats w stands p.node is.node)
+          (is_one_of seats w stands q.node at.far.is_place.node) p.session is.session (is.somebody ∙ ap Some (sym at.far.name)) before
           (ap is_idle (sym at.near_is.phase) ∙ live) phase_is ms
           (subst (λ b. NoneGoesDown b before.phase ms) (sym peering_is)
           (subst (λ phase. NoneGoesDown b phase ms) at.near_is.phase ms_pass))
@@ -395,7 +395,8 @@ module _ (facts : Facts) (seats : List Seat) (w : Network) (moment : IsMoment w)
       pub octets_stand : Seats (cleared (with_seat p.node n' begun) p.node)
           (pass (name_at seats p) (change_session (name_at seats p) (other_at seats p) (octets_arrived message_size n) w))
       octets_stand =
-          stands_after facts seats w moment stands p is begun but.alike (but.long stands.long)
+          stands_after facts seats w moment stands p is begun but.alike
+          (fit_but seats begun q at.far.is_place but (seats_fit seats w stands))
           (λ r _ _ not_q. but.ends r not_q) (octets_arrived message_size n) (octets_nodes message_size n) sound given left t0
           (replies_to_all b s.near.phase ms) arrives replies_are
           (subst (λ m. IsEnd (taking m p.session given left) p.session t0) (sym near_seat_is) near_end) far_end
@@ -429,7 +430,7 @@ octets_are_delivered facts seats w moment stands from to p far are quiet waits n
     right = moment_right facts.moments w moment
 
     place : IsPlaceOf seats to from p
-    place = facts.wired.place_is w.setup seats to from p right.written stands.seats_are.who are.0
+    place = facts.wired.place_is w.setup seats to from p right.written right.numbers stands.seats_are.who are.0
 
     at : HasFar seats p
     at = (here facts.wired seats w (moment_right facts.moments w moment) stands.seats_are p place.is_place).far
@@ -488,7 +489,7 @@ same_change f g a b (t ∷ ts) s found equal =
 pub notices_count_as_octets : Facts → NoticesCountAsOctets
 notices_count_as_octets facts seats w moment stands from to p far are waits n =
     let right = moment_right facts.moments w moment in
-    let place = facts.wired.place_is w.setup seats to from p right.written stands.seats_are.who are.0 in
+    let place = facts.wired.place_is w.setup seats to from p right.written right.numbers stands.seats_are.who are.0 in
     let h = here facts.wired seats w right stands.seats_are p place.is_place in
     ap (λ (ss : List Session). cond (in_flight w from to == 0) w (pass to (record { setup = w.setup; sessions = ss })))
     (same_change (octets_arrived message_size n) arrived to from w.sessions h.session

@@ -6,16 +6,19 @@ use Rattle.std.specs.declared.option.Option.TheVariants.{Some, None}
 use Rattle.std.proofs.lemmas.Bool.{true≢false}
 use Rattle.std.proofs.lemmas.Option.{none-some, same_Some}
 use Rattle.std.proofs.Common.{refl, sym, ◌∙◌, ap, subst, inl, inr, suc-ne-zero}
+use Rattle.ov_types.specs.declared.rows.NodeId.{NodeId}
 use Rattle.config_check.specs.Checked.{Checked}
+use Rattle.config_check.specs.Rules.{controller_names}
 use Rattle.node_model.specs.Maps.{Change}
 use Rattle.network_model.specs.Session.{Carries, Message, Session, are_peers, is_idle, is_peering, turned}
-use Rattle.network_model.specs.Network.{Network, start}
+use Rattle.network_model.specs.Setup.{Setup, agents_in, checked}
+use Rattle.network_model.specs.Network.{Network, asked}
 use Rattle.network_model.specs.Steps.{session_of}
 use Rattle.network_model.specs.Moments.{Each, Nodes, nodes}
 use Rattle.network_model.proofs.NetworkFact.{found}
 use Rattle.network_model.proofs.SessionFact.{Fact, Fact-turned, greetings}
 use Rattle.network_model.proofs.Twins.{Found, found_each}
-use Rattle.net_model.specs.Seats.{Configuring, Seat, Who, place_of, seat, whos}
+use Rattle.net_model.specs.Seats.{Configuring, Controlling, Forwarding, Seat, Who, agent_plan, control_plan, place_of, seat, whos}
 use Rattle.net_model.specs.Stands.{IsDownWhere, IsEnd, StandsFor, message_size, octets_of}
 use Rattle.net_model.specs.Telling.{CanBeHeard, CanSend, from_of}
 use Rattle.net_model.specs.declared.place.Place.{Place}
@@ -24,7 +27,8 @@ use Rattle.seat_laws.specs.Wiring.{IsPlace, name_at, other_at}
 use Rattle.net_steps.specs.OneState.{SeatsStandForOneState}
 use Rattle.net_steps.proofs.AtMoments.{found_heard, found_sound, moment_right}
 use Rattle.net_steps.proofs.Down.{down_turned}
-use Rattle.net_steps.proofs.Facts.{Facts, IsRight, right_twins}
+use Rattle.net_steps.proofs.Entries.{entries, same_numbers}
+use Rattle.net_steps.proofs.Facts.{Facts, IsRight, right_sites, right_twins}
 use Rattle.net_steps.proofs.Here.{Here, here}
 use Rattle.net_steps.proofs.Spelled.{head_or, one_flight, tail_of}
 
@@ -115,6 +119,23 @@ same_near n m i j s t a x y x' y' flight =
       breaks = breaks i;
     }
 
+-- ---- the agents of control nodes
+abbrev agents_behind : Setup → List Who
+agents_behind x = map (λ n. Forwarding (agent_plan x.topology n)) x.topology.nodes
+
+abbrev agents_at : List (Option NodeId) → Who → List (Option NodeId)
+agents_at d (Controlling c) = c.agents
+agents_at d who = d
+
+agents_alike : (x y : Setup) (cs : List NodeId) (behind behind' : List Who)
+    → map (λ c. Controlling (control_plan x c)) cs ++ behind ≡ map (λ c. Controlling (control_plan y c)) cs ++ behind'
+    → AllByRecursion (λ k. agents_in x.numbers k ≡ agents_in y.numbers k) (map (λ (c : NodeId). c.name) cs)
+agents_alike x y [] behind behind' e = tt
+agents_alike x y (c ∷ cs) behind behind' e = (
+  ap (λ ws. agents_at [] (head_or (Controlling (control_plan x c)) ws)) e,
+  agents_alike x y cs behind behind' (ap tail_of e),
+)
+
 -- ---- the session at a place
 module _ (facts : Facts) (seats : List Seat) (w v : Network) (moment : IsMoment w) (moment' : IsMoment v)
     (stands : StandsFor seats w) (stands' : StandsFor seats v) where
@@ -145,8 +166,8 @@ module _ (facts : Facts) (seats : List Seat) (w v : Network) (moment : IsMoment 
 
     same_nodes : nodes s ≡ nodes t
     same_nodes =
-        let x = facts.wired.session w seats p right.written right.sessions stands.seats_are.who is in
-        let y = facts.wired.session v seats p right'.written right'.sessions stands'.seats_are.who is in
+        let x = facts.wired.session w seats p right.written right.numbers right.sessions stands.seats_are.who is in
+        let y = facts.wired.session v seats p right'.written right'.numbers right'.sessions stands'.seats_are.who is in
         let is_s : x.session ≡ s = same_Some x.session s (sym x.found ∙ at.found) in
         let is_t : y.session ≡ t = same_Some y.session t (sym y.found ∙ at'.found) in
         let both : nodes x.session ≡ nodes y.session =
@@ -212,9 +233,9 @@ module _ (facts : Facts) (seats : List Seat) (w v : Network) (moment : IsMoment 
       by_place : (o : Option Place) → place_of seats s.near.name s.far.name ≡ o → s ≡ t
       by_place None none =
           absurd (none-some s
-          (sym (facts.wired.none w seats s.near.name s.far.name right.written right.sessions stands.seats_are.who none) ∙ f.0))
+          (sym (facts.wired.none w seats s.near.name s.far.name right.written right.numbers right.sessions stands.seats_are.who none) ∙ f.0))
       by_place (Some p) is =
-          let of = facts.wired.place_is w.setup seats s.near.name s.far.name p right.written stands.seats_are.who is in
+          let of = facts.wired.place_is w.setup seats s.near.name s.far.name p right.written right.numbers stands.seats_are.who is in
           let h = at p of.is_place in
           let h' = at' p of.is_place in
           let first : h.session ≡ s =
@@ -238,18 +259,43 @@ module _ (facts : Facts) (seats : List Seat) (w v : Network) (moment : IsMoment 
       let rest = same_sessions ss ts (ap tail_of e) f.1 g.1 in
       λ i. first i ∷ rest i
 
-  abbrev setup_of : List Who → Checked → Checked
-  setup_of (Configuring x ∷ whos) d = x
-  setup_of whos d = d
+  abbrev checked_of : List Who → Checked → Checked
+  checked_of (Configuring x ∷ whos) d = x
+  checked_of whos d = d
+
+  same_whos : whos w.setup ≡ whos v.setup
+  same_whos = sym stands.seats_are.who ∙ stands'.seats_are.who
+
+  same_checked : checked w.setup ≡ checked v.setup
+  same_checked = ap (λ whos. checked_of whos (checked w.setup)) same_whos
+
+  same_controllers : v.setup.topology.controllers ≡ w.setup.topology.controllers
+  same_controllers = ap (λ (x : Checked). x.topology.controllers) (sym same_checked)
+
+  -- the agents of each control node are alike
+  same_agents : AllByRecursion (λ k. agents_in w.setup.numbers k ≡ agents_in v.setup.numbers k) (controller_names w.setup.topology)
+  same_agents =
+      agents_alike w.setup v.setup w.setup.topology.controllers (agents_behind w.setup) (agents_behind v.setup)
+      (ap tail_of same_whos
+      ∙ ap (λ cs. map (λ c. Controlling (control_plan v.setup c)) cs ++ agents_behind v.setup) same_controllers)
+
+  setups_alike : w.setup.numbers ≡ v.setup.numbers
+  setups_alike =
+      same_numbers (controller_names w.setup.topology) w.setup.numbers v.setup.numbers (right_sites w right)
+      (entries w moment) (entries v moment' ∙ ap (map (λ (c : NodeId). c.name)) same_controllers) same_agents
 
   same_setup : w.setup ≡ v.setup
-  same_setup = ap (λ whos. setup_of whos w.setup) (sym stands.seats_are.who ∙ stands'.seats_are.who)
+  same_setup i = record {
+    topology = (same_checked i).topology;
+    config = (same_checked i).config;
+    numbers = setups_alike i;
+  }
 
   one_state : w ≡ v
   one_state =
       let same : w.sessions ≡ v.sessions =
       same_sessions w.sessions v.sessions
-      (right.sessions ∙ ap (λ x. map nodes (start x).sessions) same_setup ∙ sym right'.sessions)
+      (right.sessions ∙ ap (λ (x : Setup). map nodes (asked x.topology)) same_setup ∙ sym right'.sessions)
       (found_each w.sessions (right_twins w right)) (found_each v.sessions (right_twins v right'))
       in
       λ i. record { setup = same_setup i; sessions = same i }

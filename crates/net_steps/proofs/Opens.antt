@@ -1,15 +1,13 @@
 -- A node opens an end and makes its pass over links that may fail: the seats stand for the state after it.
-use Rattle.std.specs.Prelude.{◌≡◌, ◌≢◌, ◌⊎◌, ◌<◌, ℕ, List, [], ◌∷◌, map, length, Bool, true, false, cond, not}
-use Rattle.std.specs.List.{slice_set}
+use Rattle.std.specs.Prelude.{◌≡◌, ◌≢◌, ◌<◌, ℕ, List, [], ◌∷◌, map, length, Bool, true, false, cond, not}
 use Rattle.std.specs.declared.option.Option.TheVariants.{Some}
 use Rattle.std.specs.Cmp.Lexicographic.{bytes_decides}
 use Rattle.std.proofs.lemmas.Bool.{true≢false}
-use Rattle.std.proofs.lemmas.List.{get_or-set_other, get_or-set_same, length-set}
+use Rattle.std.proofs.lemmas.List.{get_or-set_other, get_or-set_same}
 use Rattle.std.proofs.lemmas.Option.{same_Some}
 use Rattle.std.proofs.Common.{refl, sym, ◌∙◌, ap, subst}
 use Rattle.ov_types.specs.First.{same_name}
 use Rattle.ov_link.specs.declared.step.Input.TheVariants as input
-use Rattle.node_core.specs.Keeping.{AreSwept}
 use Rattle.node_model.specs.Step.{Begun, Opened, Post, begun, end_of, nothing, post, told_all}
 use Rattle.network_model.specs.Setup.{Name}
 use Rattle.network_model.specs.Session.{Message, Session, are_peers, greeting, is_idle, is_live, is_peering, opened, passed, shut, told, turned, with_breaks}
@@ -21,22 +19,23 @@ use Rattle.network_model.proofs.NodesFact.{pass_nodes}
 use Rattle.network_model.proofs.SessionFact.{IsTidy, sends, shut_down}
 use Rattle.net_model.specs.Seats.{Seat, kept_in, kind_of, notice, role_of, seat}
 use Rattle.net_model.specs.Steps.{IsStepped, Sending, Takes, end_after, reply_fails, sending, sent_on, with_seat}
-use Rattle.net_model.specs.Stands.{IsEnd, IsLong, Seats, octets_of}
+use Rattle.net_model.specs.Stands.{IsEnd, Seats, octets_of}
 use Rattle.net_model.specs.Taking.{opened as opened_by}
 use Rattle.net_model.specs.declared.place.Place.{Place}
 use Rattle.seat_laws.specs.Wiring.{IsPlace, name_at, other_at}
-use Rattle.net_steps.proofs.Building.{IsPart, SameEnd, end_refl, long_again, moved, part_at, part_none}
+use Rattle.net_steps.proofs.Building.{IsPart, SameEnd, end_refl, moved, part_at, part_none}
 use Rattle.net_steps.proofs.Changing.{changed_right}
 use Rattle.net_steps.proofs.Clearing.{IsCleared, place}
 use Rattle.net_steps.proofs.Ends.{IsReady}
 use Rattle.net_steps.proofs.Facts.{Facts, IsRight}
 use Rattle.net_steps.proofs.Here.{Here, here, part_here}
+use Rattle.net_steps.proofs.Lists.{seats_fit}
 use Rattle.net_steps.proofs.Members.{is_one_of}
 use Rattle.net_steps.proofs.Passing.{AreReady, told_phase}
 use Rattle.net_steps.proofs.Quiet.{IsQuiet, opened_quiet, passed_quiet, quiet_turned}
 use Rattle.net_steps.proofs.Sent.{AllLeft, all_left, opened_tells, opening_session, told_as_sent, told_down}
 use Rattle.net_steps.proofs.Sides.{changed_here}
-use Rattle.net_steps.proofs.Stepped.{count, far, live_here, near1, off, own, passed_stands, post_here, taking}
+use Rattle.net_steps.proofs.Stepped.{count, far, live_here, near1, off, passed_stands, post_here, taking}
 
 -- ---- a live end that tells is ready to tell more
 pub told_ready : (ms : List Message) (s : Session) → is_idle s.near.phase ≡ false → s.is_down ≡ false → IsTidy s.far → IsReady s
@@ -96,13 +95,6 @@ stepped_live n n' i given stepped j less ne live = by_idle (is_idle (post n.post
             (get_or-set_other n.posts i j (cond (reply_fails n i given) nothing (end_of given.after)) nothing ne)
             ∙ e
 
--- room for all its sessions
-pub stepped_long : (n n' : Seat) (i : ℕ) (given : Begun) (left : List ℕ) → IsStepped n n' i given
-    → AreSwept n'.posts (slice_set n.kept i left) n'.kept → IsLong n → IsLong n'
-stepped_long n n' i given left stepped swept l =
-    long_again n n' stepped.who stepped.posts_long (swept.long ∙ length-set n.kept i left) stepped.links_long stepped.breaks_long
-    (ap length stepped.notices) l
-
 -- ---- states
 pub opened_right : (a b : Name) (w : Network) → IsRight w → IsRight (change_session a b opened w)
 opened_right a b w right =
@@ -112,6 +104,7 @@ opened_right a b w right =
 pub passed_right : (name : Name) (w : Network) → IsRight w → IsRight (pass name w)
 passed_right name w right = record {
   written = right.written;
+  numbers = right.numbers;
   sessions = pass_nodes name w ∙ right.sessions;
   quiet = nodes_keep IsQuiet quiet_turned (λ s. passed (wanted w.setup (views_of name w.sessions) (view s)) s)
       (λ s q. passed_quiet (wanted w.setup (views_of name w.sessions) (view s)) s q) name w.sessions right.quiet;
@@ -149,16 +142,16 @@ module _ (facts : Facts) (seats : List Seat) (w : Network) (right : IsRight w) (
 
   peering_is : are_peers (role_of n.who) (role_of (seat seats q.node).who) ≡ is_peering s
   peering_is =
-      let h = facts.wired.session w seats p right.written right.sessions stands.who is in
+      let h = facts.wired.session w seats p right.written right.numbers right.sessions stands.who is in
       let same = same_Some s h.session (sym at.found ∙ h.found) in
       λ i. are_peers (sym (ap (λ (s : Session). s.near.role) same ∙ h.near_role) i) (sym (ap (λ (s : Session). s.far.role) same ∙ h.far_role q at.far.found) i)
 
   heard : (given ≡ opened_by n.who (is_peering s) (post n.posts p.session)) × (left ≡ [])
   heard =
       subst (λ b. (given ≡ opened_by n.who b (post n.posts p.session)) × (left ≡ [])) peering_is
-      (facts.hears.opens w.setup right.written n.who (seat seats q.node).who
+      (facts.hears.opens w.setup right.written right.numbers n.who (seat seats q.node).who
       (is_one_of seats w stands p.node is.node) (is_one_of seats w stands q.node at.far.is_place.node)
-      p.session is.session (sym at.far.name) (post n.posts p.session) (kept_in n p.session) given left takes.begins)
+      p.session is.session (is.somebody ∙ ap Some (sym at.far.name)) (post n.posts p.session) (kept_in n p.session) given left takes.begins)
 
   post_then : post (taking n p.session given left).posts p.session ≡ record (post n.posts p.session) { phase = Opened }
   post_then =
@@ -243,14 +236,13 @@ module _ (facts : Facts) (seats : List Seat) (w : Network) (right : IsRight w) (
   still e = absurd (true≢false (sym e))
 
   pub open_passed : (down : ℕ → Bool) (after : List Seat)
-      → IsCleared seats p.node (count facts.wired seats w right stands p is) (own facts.wired seats w right stands p is)
-      (far facts.wired seats w right stands p is) (off facts.wired seats w right stands p is) down
+      → IsCleared seats p.node (far facts.wired seats w right stands p is) (off facts.wired seats w right stands p is) down
       (count facts.wired seats w right stands p is) 0 (with_seat p.node n' seats) after
-      → ((j : ℕ) → j < count facts.wired seats w right stands p is → is_idle (post n'.posts j).phase ≡ false → (t : Session)
+      → ((j : ℕ) → IsPlace seats (place p.node j) → is_idle (post n'.posts j).phase ≡ false → (t : Session)
       → session_of opened_network (name_at seats (place p.node j)) (other_at seats (place p.node j)) ≡ Some t → down j ≡ t.is_down)
       → Seats after (pass (name_at seats p) opened_network)
   open_passed down after c agree =
-      passed_stands facts.wired seats w right stands p is seats refl stands.long same_all given left opened opened_nodes t0
+      passed_stands facts.wired seats w right stands p is seats refl (seats_fit seats w stands) same_all given left opened opened_nodes t0
       (greeting s ∷ []) (opened_tells s) replies near_end far_end near_keeps far_keeps ready0 still right1 ready1 n' takes.stepped
       takes.swept down after c agree
 
@@ -261,12 +253,12 @@ module _ (facts : Facts) (seats : List Seat) (w : Network) (right : IsRight w) (
       ∙ told_down (greeting s ∷ []) t0 refl
       ∙ ap (λ (t : Session). is_idle t.near.phase) (sym (opened_tells s))
       ∙ ap is_idle
-      (near1 facts.wired seats w right stands p is seats refl stands.long same_all given left opened opened_nodes t0
+      (near1 facts.wired seats w right stands p is seats refl (seats_fit seats w stands) same_all given left opened opened_nodes t0
       (greeting s ∷ []) (opened_tells s) replies near_end far_end near_keeps far_keeps ready0 still right1 ready1 n' takes.stepped
       takes.swept).phase
       ∙ ap (λ (p : Post). is_idle p.phase)
-      (post_here facts.wired seats w right stands p is seats refl stands.long same_all given left opened opened_nodes t0
+      (post_here facts.wired seats w right stands p is seats refl (seats_fit seats w stands) same_all given left opened opened_nodes t0
       (greeting s ∷ []) (opened_tells s) replies near_end far_end near_keeps far_keeps ready0 still)
-      ∙ live_here facts.wired seats w right stands p is seats refl stands.long same_all given left opened opened_nodes t0
+      ∙ live_here facts.wired seats w right stands p is seats refl (seats_fit seats w stands) same_all given left opened opened_nodes t0
       (greeting s ∷ []) (opened_tells s) replies near_end far_end near_keeps far_keeps ready0 still right1 ready1 n' takes.stepped
       takes.swept p.session is.session live refl

@@ -20,7 +20,7 @@ use Rattle.network_model.proofs.NetworkFact.{passed_nodes}
 use Rattle.network_model.proofs.SessionFact.{Down}
 use Rattle.net_model.specs.Seats.{Seat, breaks_in, far_of, kind_of, name_of, seat, seat_named}
 use Rattle.net_model.specs.Steps.{sending}
-use Rattle.net_model.specs.Stands.{HasEnd, IsEnd, IsLong, KeepsPart, Seats, octets_of}
+use Rattle.net_model.specs.Stands.{IsEnd, KeepsPart, Seats, octets_of}
 use Rattle.net_model.specs.declared.place.Place.{Place}
 use Rattle.seat_laws.specs.Wiring.{GoesBy, IsPlace, name_at, other_at}
 use Rattle.net_steps.proofs.Building.{SameEnd, end_refl, has_end, moved, part_at, part_of, part_same, seats_by_places}
@@ -28,7 +28,7 @@ use Rattle.net_steps.proofs.Clearing.{place}
 use Rattle.net_steps.proofs.Ends.{HearsEnd, IsReady, TellsEnd, far_part, far_told, near_part, near_told}
 use Rattle.net_steps.proofs.Facts.{IsRight, Wired}
 use Rattle.net_steps.proofs.Here.{Here, here, other_named, part_here, place_named}
-use Rattle.net_steps.proofs.Lists.{AreAlike, same_far_of, same_place, same_who}
+use Rattle.net_steps.proofs.Lists.{AreAlike, AreFit, EndAt, same_far_of, same_place, same_who}
 use Rattle.net_steps.proofs.Sent.{idle_stays, idle_tells_nothing, passed_tells, telling_session, wanted_messages}
 use Rattle.net_steps.proofs.Sides.{node_elsewhere, node_here, node_there}
 use Rattle.seat_laws.proofs.Lists.{map_twice}
@@ -107,7 +107,7 @@ AreReady w me = (b : Name) (s : Session) → session_of w me b ≡ Some s → Is
 -- the node told each of its sessions what is wanted. Where a message failed the end is closed, and the other end is told
 pub record IsPassed (w : Network) (seats after : List Seat) (k : ℕ) : Type 0 where
   pub alike : AreAlike seats after
-  pub long : (j : ℕ) → j < length after → IsLong (seat after j)
+  pub fit : AreFit after
   pub own : (i : ℕ) → IsPlace seats (place k i) → (s : Session)
       → session_of w (name_at seats (place k i)) (other_at seats (place k i)) ≡ Some s
       → TellsEnd (telling (seat seats k) i) (seat after k) i s.is_down
@@ -144,7 +144,7 @@ module _ (wired : Wired) (seats : List Seat) (w : Network) (right : IsRight w) (
     q = at.far.far
 
     by : GoesBy seats w (place k i) s
-    by = wired.goes_by w seats (place k i) s right.written right.sessions stands is at.found
+    by = wired.goes_by w seats (place k i) s right.written right.numbers right.sessions stands is at.found
 
     within : i < length (seat seats k).posts
     within = subst (λ n. i < n) (sym (stands.long k lt).posts) is.session
@@ -170,7 +170,7 @@ module _ (wired : Wired) (seats : List Seat) (w : Network) (right : IsRight w) (
     far_hears : HearsEnd (seat seats q.node) (seat after q.node) q.session (is_idle (post (seat after k).posts i).phase)
     far_hears = done.far i is q at.far.is_place at.far.found
 
-    own_end : HasEnd (pass me w) (seat after k) i
+    own_end : EndAt (pass me w) after (place k i)
     own_end =
         has_end seats after (pass me w) (place k i) (tells s) done.alike
         (node_here me (other_at seats (place k i)) at.apart tells tells_nodes w.sessions s at.found)
@@ -179,7 +179,7 @@ module _ (wired : Wired) (seats : List Seat) (w : Network) (right : IsRight w) (
         (telling_session (wants s) s) (wanted_messages (wants s) s) (same_who seats after done.alike k)
         (same_who seats after done.alike q.node) near_before far_before ready_before (idle_tells_nothing (wants s) s) own_tells far_hears))
 
-    far_end : HasEnd (pass me w) (seat after q.node) q.session
+    far_end : EndAt (pass me w) after q
     far_end =
         has_end seats after (pass me w) q (turned (tells s)) done.alike
         ((λ x. session_of (pass me w) (at.far.name x) (at.far.other x))
@@ -233,8 +233,8 @@ module _ (wired : Wired) (seats : List Seat) (w : Network) (right : IsRight w) (
       is_far : (at i is_own).far.far ≡ p
       is_far = same_Some (at i is_own).far.far p (sym (at i is_own).far.found ∙ ap (far_of seats) (sym own_place) ∙ there.far.back)
 
-      pub heard_end : HasEnd (pass me w) (seat after p.node) p.session
-      heard_end = subst (λ (p : Place). HasEnd (pass me w) (seat after p.node) p.session) is_far (far_end i is_own)
+      pub heard_end : EndAt (pass me w) after p
+      heard_end = subst (EndAt (pass me w) after) is_far (far_end i is_own)
 
       pub heard_part : KeepsPart after p
       heard_part = subst (KeepsPart after) is_far (other_part i is_own)
@@ -254,7 +254,7 @@ module _ (wired : Wired) (seats : List Seat) (w : Network) (right : IsRight w) (
           (λ e. ne (ap (λ k. name_of (seat seats k).who) (sym e) ∙ there.far.name))
           (λ i e. off (ap (λ (p : Place). p.node) (same_Some p (place k i) (sym there.far.back ∙ e))))
 
-      pub strange_end : HasEnd (pass me w) (seat after p.node) p.session
+      pub strange_end : EndAt (pass me w) after p
       strange_end =
           has_end seats after (pass me w) p there.session done.alike
           (node_elsewhere me (name_at seats p) (other_at seats p) mine ne tells tells_nodes w.sessions there.session there.found)
@@ -268,10 +268,10 @@ module _ (wired : Wired) (seats : List Seat) (w : Network) (right : IsRight w) (
           (seat after there.far.far.node) there.far.far.session same far_same.link
           (part_at seats p there.far.far there.far.found (part_here wired seats w right stands p is)))
 
-    other_end : HasEnd (pass me w) (seat after p.node) p.session × KeepsPart after p
+    other_end : EndAt (pass me w) after p × KeepsPart after p
     other_end = by_test (same_name me (other_at seats p)) refl
       where
-        by_test : (b : Bool) → same_name me (other_at seats p) ≡ b → HasEnd (pass me w) (seat after p.node) p.session × KeepsPart after p
+        by_test : (b : Bool) → same_name me (other_at seats p) ≡ b → EndAt (pass me w) after p × KeepsPart after p
         by_test true e =
             let f = (bytes_decides me (other_at seats p)).0 e in
             (heard_end f, heard_part f)
@@ -279,19 +279,19 @@ module _ (wired : Wired) (seats : List Seat) (w : Network) (right : IsRight w) (
             let f : me ≢ other_at seats p = λ f. true≢false (sym ((bytes_decides me (other_at seats p)).1 f) ∙ e) in
             (strange_end f, strange_part f)
 
-  each_end : (p : Place) → IsPlace seats p → HasEnd (pass me w) (seat after p.node) p.session × KeepsPart after p
+  each_end : (p : Place) → IsPlace seats p → EndAt (pass me w) after p × KeepsPart after p
   each_end p is = by_node (cases_eq p.node k)
     where
-      by_node : (p.node ≡ k) ⊎ (p.node ≢ k) → HasEnd (pass me w) (seat after p.node) p.session × KeepsPart after p
+      by_node : (p.node ≡ k) ⊎ (p.node ≢ k) → EndAt (pass me w) after p × KeepsPart after p
       by_node (inl e) =
           let same : p ≡ place k p.session = λ x. record { node = e x; session = p.session } in
           let is_own = subst (IsPlace seats) same is in
-          subst (λ (p : Place). HasEnd (pass me w) (seat after p.node) p.session × KeepsPart after p) (sym same)
+          subst (λ (p : Place). EndAt (pass me w) after p × KeepsPart after p) (sym same)
           (own_end p.session is_own, own_part p.session is_own)
       by_node (inr off) = other_end p is off
 
   pub passes : Seats after (pass me w)
   passes =
-      seats_by_places after (pass me w) (done.alike ∙ stands.who) done.long
+      seats_by_places after (pass me w) (done.alike ∙ stands.who) done.fit
       (λ p is. (each_end p (same_place seats after done.alike p is)).0)
       (λ p is. (each_end p (same_place seats after done.alike p is)).1)

@@ -1,5 +1,5 @@
 -- A node restarts: it has nothing, and the other end of each of its sessions is told of the loss.
-use Rattle.std.specs.Prelude.{◌≡◌, ◌≢◌, ◌⊎◌, ◌<◌, ◌≤◌, ℕ, suc, ◌+◌, List, [], ◌∷◌, length, Bool, true, false, cond, not}
+use Rattle.std.specs.Prelude.{◌≡◌, ◌≢◌, ◌⊎◌, ◌<◌, ℕ, suc, ◌+◌, List, [], ◌∷◌, length, Bool, true, false, cond, not}
 use Rattle.std.specs.List.{slice_index_or}
 use Rattle.std.specs.Cmp.Lexicographic.{bytes_decides}
 use Rattle.std.specs.declared.option.Option.TheVariants.{Some}
@@ -18,7 +18,7 @@ use Rattle.network_model.specs.Events.{Restart, answer_to, is_node, next, unless
 use Rattle.net_model.specs.Seats.{Seat, breaks_in, far_of, index_from, kept_in, link, name_of, nobody, notice, notice_at, seat}
 use Rattle.net_model.specs.Seats.{seat_named}
 use Rattle.net_model.specs.Steps.{emptied, with_seat}
-use Rattle.net_model.specs.Stands.{HasEnd, IsLong, KeepsPart, Seats, message_size}
+use Rattle.net_model.specs.Stands.{IsLong, IsVacant, KeepsPart, Seats, message_size}
 use Rattle.net_model.specs.declared.place.Place.{Place}
 use Rattle.told_laws.specs.Moments.{IsMoment}
 use Rattle.seat_laws.specs.Wiring.{HasFar, IsPlace, name_at, other_at}
@@ -27,7 +27,8 @@ use Rattle.net_steps.proofs.AtMoments.{found_sound, kept_closed, moment_right, s
 use Rattle.net_steps.proofs.Building.{SameEnd, Stays, has_end, long_again, moved, part_at, part_none, part_of, part_same, seats_by_places}
 use Rattle.net_steps.proofs.Facts.{Facts, IsRight}
 use Rattle.net_steps.proofs.Here.{Here, here, other_named, part_here, place_named}
-use Rattle.net_steps.proofs.Lists.{same_far_of, same_place, same_who, seat_elsewhere, seat_here, with_alike}
+use Rattle.net_steps.proofs.Lists.{EndAt, same_far_of, same_other, same_place, same_who, seat_elsewhere, seat_here, seats_fit}
+use Rattle.net_steps.proofs.Lists.{with_alike}
 use Rattle.net_steps.proofs.Marks.{end_closed, end_noticed}
 use Rattle.net_steps.proofs.Sides.{node_elsewhere, node_here, node_there}
 use Rattle.net_steps.proofs.Started.{all_alike, all_long}
@@ -69,11 +70,8 @@ module _ (facts : Facts) (seats : List Seat) (w : Network) (moment : IsMoment w)
   abbrev count : ℕ
   count = length n.posts
 
-  own_place : (j : ℕ) → j < count → IsPlace seats (record { node = k; session = j })
-  own_place j less = record { node = lt; session = subst (λ m. j < m) (stands.long k lt).posts less }
-
-  far : (j : ℕ) → j < count → HasFar seats (record { node = k; session = j })
-  far j less = facts.wired.far w.setup seats (record { node = k; session = j }) right.written stands.who (own_place j less)
+  far : (j : ℕ) → IsPlace seats (record { node = k; session = j }) → HasFar seats (record { node = k; session = j })
+  far j is = facts.wired.far w.setup seats (record { node = k; session = j }) right.written right.numbers stands.who is
 
   abbrev empty : List Seat
   empty = with_seat k (emptied n) seats
@@ -81,9 +79,28 @@ module _ (facts : Facts) (seats : List Seat) (w : Network) (moment : IsMoment w)
   empty_going : Going seats empty
   empty_going = record {
     alike = with_alike k (emptied n) seats refl;
-    long = λ j less. by_node j (cases_eq j k) (subst (λ m. j < m) (length-set seats k (emptied n)) less);
+    fit = record {
+      long = λ j less. by_node j (cases_eq j k) (subst (λ m. j < m) (length-set seats k (emptied n)) less);
+      vacant = λ r none.
+          vacant_node r (cases_eq r.node k)
+          ((seats_fit seats w stands).vacant r
+          (sym (same_other seats empty (with_alike k (emptied n) seats refl) r) ∙ none));
+    };
   }
     where
+      vacant_node : (r : Place) → (r.node ≡ k) ⊎ (r.node ≢ k) → IsVacant (seat seats r.node) r.session
+          → IsVacant (seat empty r.node) r.session
+      vacant_node r (inl e) v =
+          subst (λ m. IsVacant m r.session) (sym (ap (seat empty) e ∙ seat_here k (emptied n) seats lt))
+          (record {
+            post = all_alike nothing n.posts r.session;
+            kept = all_alike [] n.kept r.session;
+            link = all_alike [] n.links r.session;
+            breaks = ap (λ j. breaks_in (seat seats j) r.session) (sym e) ∙ v.breaks;
+            notice = all_alike false n.notices r.session;
+          })
+      vacant_node r (inr ne) v = subst (λ m. IsVacant m r.session) (sym (seat_elsewhere k r.node (emptied n) seats ne)) v
+
       by_node : (j : ℕ) → (j ≡ k) ⊎ (j ≢ k) → j < length seats → IsLong (seat empty j)
       by_node j (inl e) less =
           subst (λ j. IsLong (seat empty j)) (sym e) (subst IsLong (sym (seat_here k (emptied n) seats lt))
@@ -94,24 +111,21 @@ module _ (facts : Facts) (seats : List Seat) (w : Network) (moment : IsMoment w)
   abbrev after : List Seat
   after = all_told count k 0 empty
 
-  within : 0 + count ≤ count
-  within = omega arith
-
   going : Going seats after
-  going = all_going seats k count far count 0 empty within empty_going
+  going = all_going seats k far count 0 empty empty_going
 
   abbrev later : Network
   later = change_node me shut w
 
   -- ---- the node's own ends
-  own_end : (i : ℕ) → IsPlace seats (record { node = k; session = i }) → HasEnd later (seat after k) i
+  own_end : (i : ℕ) → IsPlace seats (record { node = k; session = i }) → EndAt later after (record { node = k; session = i })
   own_end i is =
       let p : Place = record { node = k; session = i } in
       let h = here facts.wired seats w right stands p is in
       let same : SameEnd (seat empty k) (seat after k) i =
-      all_others seats k count far count 0 empty within empty_going p
-      (λ j less e. (here facts.wired seats w right stands (record { node = k; session = j }) (own_place j less)).apart
-      (ap (name_at seats) e ∙ (far j less).name))
+      all_others seats k far count 0 empty empty_going p
+      (λ j own e. (here facts.wired seats w right stands (record { node = k; session = j }) own).apart
+      (ap (name_at seats) e ∙ (far j own).name))
       in
       let gone : seat empty k ≡ emptied n = seat_here k (emptied n) seats lt in
       has_end seats after later p (shut h.session) going.alike
@@ -128,9 +142,9 @@ module _ (facts : Facts) (seats : List Seat) (w : Network) (moment : IsMoment w)
   own_part i is =
       let p : Place = record { node = k; session = i } in
       let same : SameEnd (seat empty k) (seat after k) i =
-      all_others seats k count far count 0 empty within empty_going p
-      (λ j less e. (here facts.wired seats w right stands (record { node = k; session = j }) (own_place j less)).apart
-      (ap (name_at seats) e ∙ (far j less).name))
+      all_others seats k far count 0 empty empty_going p
+      (λ j own e. (here facts.wired seats w right stands (record { node = k; session = j }) own).apart
+      (ap (name_at seats) e ∙ (far j own).name))
       in
       let gone : seat empty k ≡ emptied n = seat_here k (emptied n) seats lt in
       λ q _. part_none (seat after k) i (seat after q.node) q.session
@@ -146,7 +160,7 @@ module _ (facts : Facts) (seats : List Seat) (w : Network) (moment : IsMoment w)
 
     posts_same : (seat after p.node).posts ≡ (seat seats p.node).posts
     posts_same =
-        all_posts seats k count far count 0 empty within empty_going p.node
+        all_posts seats k far count 0 empty empty_going p.node
         ∙ ap (λ (n : Seat). n.posts) (seat_elsewhere k p.node (emptied n) seats off)
 
     far_node : me ≡ other_at seats p → there.far.far.node ≡ k
@@ -159,22 +173,22 @@ module _ (facts : Facts) (seats : List Seat) (w : Network) (moment : IsMoment w)
     told_there e =
         let q = there.far.far in
         let at = far_node e in
-        let less : q.session < count =
-        subst (λ j. q.session < length (seat seats j).posts) at
-        (subst (λ m. q.session < m) (sym (stands.long q.node there.far.is_place.node).posts) there.far.is_place.session)
+        let own : IsPlace seats (record { node = k; session = q.session }) =
+        subst (λ j. IsPlace seats (record { node = j; session = q.session })) at there.far.is_place
         in
-        let told : IsTold after (far q.session less).far =
-        all_are_told seats k count far count 0 empty within empty_going q.session less (omega arith) (omega (arith, less))
+        let less : q.session < count = subst (λ m. q.session < m) (sym (stands.long k lt).posts) own.session in
+        let told : IsTold after (far q.session own).far =
+        all_are_told seats k far count 0 empty empty_going q.session own (omega arith) (omega (arith, less))
         in
         subst (IsTold after)
-        (same_Some (far q.session less).far p
-        (sym (far q.session less).found ∙ (λ i. far_of seats (record { node = sym at i; session = q.session })) ∙ there.far.back))
+        (same_Some (far q.session own).far p
+        (sym (far q.session own).found ∙ (λ i. far_of seats (record { node = sym at i; session = q.session })) ∙ there.far.back))
         told
 
     stays : Stays (seat seats p.node) (seat after p.node) p.session
     stays =
         subst (λ n. Stays n (seat after p.node) p.session) (seat_elsewhere k p.node (emptied n) seats off)
-        (all_stay seats k count far count 0 empty within empty_going p)
+        (all_stay seats k far count 0 empty empty_going p)
 
     told_notice : me ≡ other_at seats p → notice_at after p ≡ is_live there.session.near
     told_notice e =
@@ -185,7 +199,7 @@ module _ (facts : Facts) (seats : List Seat) (w : Network) (moment : IsMoment w)
         kept_closed (seat seats p.node) p.session there.session there.near_is
         (found_sound w moment (name_at seats p) (other_at seats p) there.session there.found)
 
-    far_end : me ≡ other_at seats p → HasEnd later (seat after p.node) p.session
+    far_end : me ≡ other_at seats p → EndAt later after p
     far_end e =
         let s = there.session in
         has_end seats after later p (turned (shut (turned s))) going.alike
@@ -207,15 +221,15 @@ module _ (facts : Facts) (seats : List Seat) (w : Network) (moment : IsMoment w)
     strange : me ≢ other_at seats p → SameEnd (seat seats p.node) (seat after p.node) p.session
     strange ne =
         subst (λ n. SameEnd n (seat after p.node) p.session) (seat_elsewhere k p.node (emptied n) seats off)
-        (all_others seats k count far count 0 empty within empty_going p
-        (λ j less e. ne (sym (ap (other_at seats) e ∙ (far j less).other))))
+        (all_others seats k far count 0 empty empty_going p
+        (λ j own e. ne (sym (ap (other_at seats) e ∙ (far j own).other))))
 
     strange_there : me ≢ other_at seats p → SameEnd (seat seats q.node) (seat after q.node) q.session
     strange_there ne =
         subst (λ n. SameEnd n (seat after q.node) q.session)
         (seat_elsewhere k q.node (emptied n) seats (λ e. ne (ap (λ j. name_of (seat seats j).who) (sym e) ∙ there.far.name)))
-        (all_others seats k count far count 0 empty within empty_going q
-        (λ j less e. mine (sym (sym there.far.other ∙ ap (other_at seats) e ∙ (far j less).other))))
+        (all_others seats k far count 0 empty empty_going q
+        (λ j own e. mine (sym (sym there.far.other ∙ ap (other_at seats) e ∙ (far j own).other))))
 
     strange_part : me ≢ other_at seats p → KeepsPart after p
     strange_part ne =
@@ -224,7 +238,7 @@ module _ (facts : Facts) (seats : List Seat) (w : Network) (moment : IsMoment w)
         (strange ne) (strange_there ne).link
         (part_at seats p q there.far.found (part_here facts.wired seats w right stands p is)))
 
-    strange_end : me ≢ other_at seats p → HasEnd later (seat after p.node) p.session
+    strange_end : me ≢ other_at seats p → EndAt later after p
     strange_end ne =
         let s = there.session in
         has_end seats after later p s going.alike
@@ -232,10 +246,10 @@ module _ (facts : Facts) (seats : List Seat) (w : Network) (moment : IsMoment w)
         (moved (seat seats p.node) (seat after p.node) p.session s s (same_who seats after going.alike p.node)
         (strange ne) refl refl refl there.near_is)
 
-    other_end : HasEnd later (seat after p.node) p.session × KeepsPart after p
+    other_end : EndAt later after p × KeepsPart after p
     other_end = by_test (same_name me (other_at seats p)) refl
       where
-        by_test : (b : Bool) → same_name me (other_at seats p) ≡ b → HasEnd later (seat after p.node) p.session × KeepsPart after p
+        by_test : (b : Bool) → same_name me (other_at seats p) ≡ b → EndAt later after p × KeepsPart after p
         by_test true e = let is = (bytes_decides me (other_at seats p)).0 e in (far_end is, far_part is)
         by_test false e =
             let ne : me ≢ other_at seats p = λ f. true≢false (sym ((bytes_decides me (other_at seats p)).1 f) ∙ e) in
@@ -243,15 +257,15 @@ module _ (facts : Facts) (seats : List Seat) (w : Network) (moment : IsMoment w)
 
   pub restarted_seats : Seats after later
   restarted_seats =
-      seats_by_places after later (going.alike ∙ stands.who) going.long
+      seats_by_places after later (going.alike ∙ stands.who) going.fit
       (λ p is. (by_node p (same_place seats after going.alike p is) (cases_eq p.node k)).0)
       (λ p is. (by_node p (same_place seats after going.alike p is) (cases_eq p.node k)).1)
     where
       by_node : (p : Place) → IsPlace seats p → (p.node ≡ k) ⊎ (p.node ≢ k)
-          → HasEnd later (seat after p.node) p.session × KeepsPart after p
+          → EndAt later after p × KeepsPart after p
       by_node p is (inl e) =
           let own = subst (λ j. IsPlace seats (record { node = j; session = p.session })) e is in
-          subst (λ j. HasEnd later (seat after j) p.session × KeepsPart after (record { node = j; session = p.session })) (sym e)
+          subst (λ j. EndAt later after (record { node = j; session = p.session }) × KeepsPart after (record { node = j; session = p.session })) (sym e)
           (own_end p.session own, own_part p.session own)
       by_node p is (inr off) = other_end p is off
 
@@ -267,7 +281,7 @@ restarts_are_made facts seats w moment stands name k e =
     let at = seat_of_name seats name (suc k) e in
     let named : seat_named seats (name_of (seat seats (suc k)).who) ≡ Some (suc k) = ap (seat_named seats) at.1 ∙ e in
     let is : is_node w name ≡ true =
-    ap (is_node w) (sym at.1) ∙ facts.wired.nodes w seats (suc k) right.written right.sessions stands.seats_are (omega arith) at.0
+    ap (is_node w) (sym at.1) ∙ facts.wired.nodes w seats (suc k) right.written right.numbers right.sessions stands.seats_are (omega arith) at.0
     in
     let step = restart_made w name true is in
     let later = facts.moments.after w (Restart name) moment tt in (
@@ -285,7 +299,7 @@ nothing_is_restarted facts seats w moment stands name none = by_test (is_node w 
         → (next message_size w (Restart name) ≡ w) × (answer_to w (Restart name) ≡ Idle)
     by_test true e =
         let right = moment_right facts.moments w moment in
-        let s = facts.wired.shown w seats name right.written right.sessions stands.seats_are e in
+        let s = facts.wired.shown w seats name right.written right.numbers right.sessions stands.seats_are e in
         absurd (above s.0 (none s.0 s.1.seat_is) s.1.above)
       where
         above : (k : ℕ) → k ≡ 0 → 0 < k → ⊥

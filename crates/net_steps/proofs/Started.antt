@@ -5,6 +5,7 @@ use Rattle.std.proofs.lemmas.List.{length-map}
 use Rattle.std.proofs.Common.{refl, sym, ◌∙◌, ap, subst, arith}
 use Rattle.config_check.specs.Checked.{Checked}
 use Rattle.node_model.specs.Step.{Post, nothing}
+use Rattle.network_model.specs.Setup.{opening}
 use Rattle.network_model.specs.Session.{End, Session, is_peering}
 use Rattle.network_model.specs.Network.{start, fresh as fresh_end}
 use Rattle.network_model.specs.Moments.{Each}
@@ -13,7 +14,7 @@ use Rattle.network_model.proofs.Start.{start_each}
 use Rattle.headline_laws.specs.Headline.{IsWritten}
 use Rattle.net_model.specs.Seats.{Seat, Who, kept_in, notice, others_of, seat, taken_in, whos}
 use Rattle.net_model.specs.Steps.{all_of, fresh_seat}
-use Rattle.net_model.specs.Stands.{HasEnd, IsEnd, IsLong, KeepsPart, Seats, octets_of}
+use Rattle.net_model.specs.Stands.{IsEnd, IsLong, IsVacant, KeepsPart, Seats, octets_of}
 use Rattle.net_model.specs.declared.place.Place.{Place}
 use Rattle.told_laws.specs.Moments.{IsMoment}
 use Rattle.told_laws.proofs.Moments.{moment_start}
@@ -22,6 +23,7 @@ use Rattle.net_steps.specs.Starting.{FreshSeatsStandForTheStart}
 use Rattle.net_steps.proofs.AtMoments.{moment_right, stands_at}
 use Rattle.net_steps.proofs.Building.{part_none, seats_by_places}
 use Rattle.net_steps.proofs.Facts.{Facts}
+use Rattle.net_steps.proofs.Lists.{EndAt, vacant_nobody}
 
 -- ---- lists of one thing
 pub all_alike : {A B : Type 0} (b : B) (xs : List A) (i : ℕ) → slice_index_or (all_of b xs) i b ≡ b
@@ -40,6 +42,18 @@ fresh_at : (xs : List Who) (k : ℕ) → k < length (map fresh_seat xs) → (x :
 fresh_at [] k lt = absurd (omega (arith, lt))
 fresh_at (x ∷ xs) zero lt = (x, refl)
 fresh_at (x ∷ xs) (suc k) lt = fresh_at xs k (omega (arith, lt))
+
+-- nothing is at any end
+fresh_vacant : (xs : List Who) (k i : ℕ) → IsVacant (seat (map fresh_seat xs) k) i
+fresh_vacant [] k i = vacant_nobody i
+fresh_vacant (x ∷ xs) zero i = record {
+  post = all_alike nothing (others_of x) i;
+  kept = all_alike [] (others_of x) i;
+  link = all_alike [] (others_of x) i;
+  breaks = all_alike [] (others_of x) i;
+  notice = all_alike false (others_of x) i;
+}
+fresh_vacant (x ∷ xs) (suc k) i = fresh_vacant xs k i
 
 -- ---- an end that has nothing
 pub record HasNothing (e : End) : Type 0 where
@@ -63,19 +77,19 @@ nothing_end who i s h there =
           ∙ sym (taken_nowhere (fresh_seat who) i (all_alike false (others_of who) i) (all_alike [] (others_of who) i));
     }
 
-module _ (facts : Facts) (x : Checked) (written : IsWritten x) where
+module _ (facts : Facts) (x : Checked) (written : IsWritten (opening x)) where
   start_moment : IsMoment (start x)
   start_moment = moment_start x written
 
   abbrev seats : List Seat
-  seats = map fresh_seat (whos x)
+  seats = map fresh_seat (whos (opening x))
 
   abbrev BothNothing : Session → Type 0
   BothNothing s = HasNothing s.near × HasNothing s.far
 
   fresh_long : (k : ℕ) → k < length seats → IsLong (seat seats k)
   fresh_long k lt =
-      let at = fresh_at (whos x) k lt in
+      let at = fresh_at (whos (opening x)) k lt in
       subst IsLong (sym at.1)
       (record {
         posts = all_long nothing (others_of at.0);
@@ -85,11 +99,11 @@ module _ (facts : Facts) (x : Checked) (written : IsWritten x) where
         notices = all_long false (others_of at.0);
       })
 
-  end_is : (p : Place) → IsPlace seats p → HasEnd (start x) (seat seats p.node) p.session
+  end_is : (p : Place) → IsPlace seats p → EndAt (start x) seats p
   end_is p is =
       let right = moment_right facts.moments (start x) start_moment in
-      let h = facts.wired.session (start x) seats p written right.sessions (whos_again (whos x)) is in
-      let at = fresh_at (whos x) p.node is.node in
+      let h = facts.wired.session (start x) seats p written right.numbers right.sessions (whos_again (whos (opening x))) is in
+      let at = fresh_at (whos (opening x)) p.node is.node in
       let each : Each BothNothing (start x).sessions =
       start_each BothNothing (λ n m r q. (record { is = refl }, record { is = refl })) x
       in
@@ -105,13 +119,17 @@ module _ (facts : Facts) (x : Checked) (written : IsWritten x) where
 
   part_is : (p : Place) → IsPlace seats p → KeepsPart seats p
   part_is p is =
-      let at = fresh_at (whos x) p.node is.node in
+      let at = fresh_at (whos (opening x)) p.node is.node in
       λ far found. part_none (seat seats p.node) p.session (seat seats far.node) far.session
       (ap (λ n. kept_in n p.session) at.1 ∙ all_alike [] (others_of at.0) p.session)
 
   start_seats : Seats seats (start x)
-  start_seats = seats_by_places seats (start x) (whos_again (whos x)) fresh_long end_is part_is
+  start_seats =
+      seats_by_places seats (start x) (whos_again (whos (opening x)))
+      (record { long = fresh_long; vacant = λ p _. fresh_vacant (whos (opening x)) p.node p.session }) end_is part_is
 
 pub fresh_seats_stand : Facts → FreshSeatsStandForTheStart
-fresh_seats_stand facts x written =
-    (stands_at (map fresh_seat (whos x)) (start x) (start_moment facts x written) (start_seats facts x written), start_moment facts x written)
+fresh_seats_stand facts x written = (
+  stands_at (map fresh_seat (whos (opening x))) (start x) (start_moment facts x written) (start_seats facts x written),
+  start_moment facts x written,
+)

@@ -1,6 +1,6 @@
 -- A node takes an input and makes its pass over links of which some may fail: once the sessions of which it closed its end
 -- are cleared, its seats stand for the state after it.
-use Rattle.std.specs.Prelude.{◌≡◌, ◌≢◌, ◌⊎◌, ◌<◌, ◌≤◌, ℕ, ◌+◌, List, [], ◌++◌, map, length, Bool, true, false, cond, not, ◌&&◌, ◌==◌}
+use Rattle.std.specs.Prelude.{◌≡◌, ◌≢◌, ◌⊎◌, ◌<◌, ◌≤◌, ℕ, ◌+◌, List, [], ◌++◌, map, length, Bool, true, false, cond, not, ◌&&◌}
 use Rattle.std.specs.List.{slice_index_or, slice_set}
 use Rattle.std.specs.declared.option.Option.TheVariants.{Some}
 use Rattle.std.proofs.lemmas.Bool.{cases_eq, eq-eqb, ne_eqb, true≢false}
@@ -25,7 +25,7 @@ use Rattle.net_model.specs.declared.place.Place.{Place}
 use Rattle.seat_laws.specs.Wiring.{HasFar, IsPlace, name_at, other_at}
 use Rattle.told_laws.specs.Moments.{IsMoment}
 use Rattle.net_steps.proofs.AtMoments.{IsSound, all_down_where, all_quiet, moment_right}
-use Rattle.net_steps.proofs.Building.{AllBut, IsPart, SameEnd, Stays, began, end_back, end_trans, long_again, part_of, put_but, stays_back}
+use Rattle.net_steps.proofs.Building.{AllBut, IsPart, SameEnd, Stays, began, end_back, end_trans, fit_but, part_of, put_but, stays_back}
 use Rattle.net_steps.proofs.Building.{stays_trans, stored_began}
 use Rattle.net_steps.proofs.Changing.{changed_right, changes_at}
 use Rattle.net_steps.proofs.Clearing.{IsCleared, all_cleared, clear_from, far_once, is_cleared, place, stays_live}
@@ -33,13 +33,14 @@ pub use Rattle.net_steps.proofs.Ends.{IsReady}
 use Rattle.net_steps.proofs.Ends.{HearsEnd, TellsEnd, fact_ready, far_part, far_told, near_part, near_told}
 use Rattle.net_steps.proofs.Facts.{Facts, IsRight, Wired}
 use Rattle.net_steps.proofs.Here.{Here, here, place_named}
-use Rattle.net_steps.proofs.Lists.{AreAlike, same_far_of, same_long, same_name_at, same_named, same_place, same_who, seat_elsewhere, seat_here, same_other_at, with_alike}
+use Rattle.net_steps.proofs.Lists.{AreAlike, AreFit, same_far_of, same_long, same_name_at, same_named, same_place, same_who, seat_elsewhere, seat_here, same_other_at, with_alike}
 use Rattle.net_steps.proofs.Passing.{AreReady, IsPassed, passes, telling, told_phase}
 use Rattle.net_steps.proofs.Sent.{all_left, onward, sending_all, sends_go_on, sends_stop, silent, told_as_sent}
 use Rattle.net_steps.proofs.Sides.{changed_here}
 use Rattle.net_steps.proofs.Down.{down_is, down_turned}
 use Rattle.net_steps.proofs.Telling.{Going}
-use Rattle.net_steps.proofs.Wholes.{down_by_ends, with_long}
+use Rattle.net_steps.proofs.Vacant.{stepped_fit}
+use Rattle.net_steps.proofs.Wholes.{down_by_ends}
 
 -- the node once it took an input, before any reply leaves
 abbrev pub taking : Seat → ℕ → Begun → List ℕ → Seat
@@ -113,9 +114,6 @@ swept_twice false p left = by_idle (is_idle p.phase)
 only_one : (i j : ℕ) → i ≤ j → j < i + 1 → j ≡ i
 only_one i j low high = omega (arith, low, high)
 
-one_within : (i count : ℕ) → i < count → i + 1 ≤ count
-one_within i count lt = omega (arith, lt)
-
 one_low : (i : ℕ) → i ≤ i
 one_low i = omega arith
 
@@ -127,9 +125,6 @@ all_low j = omega arith
 
 all_high : (j count : ℕ) → j < count → j < 0 + count
 all_high j count lt = omega (arith, lt)
-
-all_full : (count : ℕ) → 0 + count ≤ count
-all_full count = omega arith
 
 module _ (wired : Wired) (seats : List Seat) (w : Network) (right : IsRight w) (stands : Seats seats w) (p : Place)
     (is : IsPlace seats p) where
@@ -155,19 +150,16 @@ module _ (wired : Wired) (seats : List Seat) (w : Network) (right : IsRight w) (
   abbrev pub count : ℕ
   count = length (others_of (seat seats p.node).who)
 
-  abbrev pub own : (j : ℕ) → j < count → IsPlace seats (place p.node j)
-  own j lt = record { node = is.node; session = lt }
+  abbrev pub far : (j : ℕ) → IsPlace seats (place p.node j) → HasFar seats (place p.node j)
+  far j own = (here wired seats w right stands (place p.node j) own).far
 
-  abbrev pub far : (j : ℕ) → j < count → HasFar seats (place p.node j)
-  far j lt = (here wired seats w right stands (place p.node j) (own j lt)).far
-
-  pub off : (j : ℕ) (lt : j < count) → (far j lt).far.node ≢ p.node
-  off j lt e =
-      (here wired seats w right stands (place p.node j) (own j lt)).apart
-      (ap (λ k. name_of (seat seats k).who) (sym e) ∙ (far j lt).name)
+  pub off : (j : ℕ) (own : IsPlace seats (place p.node j)) → (far j own).far.node ≢ p.node
+  off j own e =
+      (here wired seats w right stands (place p.node j) own).apart
+      (ap (λ k. name_of (seat seats k).who) (sym e) ∙ (far j own).name)
 
   -- ---- the seats as the node takes the input: those of the state but at the two ends of its session
-  module _ (begun : List Seat) (alike : AreAlike seats begun) (long : (j : ℕ) → j < length begun → IsLong (seat begun j))
+  module _ (begun : List Seat) (alike : AreAlike seats begun) (fit : AreFit begun)
       (same : (r : Place) → IsPlace seats r → r ≢ p → r ≢ q → SameEnd (seat seats r.node) (seat begun r.node) r.session)
       (given : Begun) (left : List ℕ) where
     abbrev n : Seat
@@ -185,8 +177,11 @@ module _ (wired : Wired) (seats : List Seat) (w : Network) (right : IsRight w) (
     abbrev begun1 : List Seat
     begun1 = with_seat p.node n1 begun
 
+    is_b : IsPlace begun p
+    is_b = same_place begun seats (sym alike) p is
+
     lt : p.node < length begun
-    lt = subst (λ m. p.node < m) (sym (same_long seats begun alike)) is.node
+    lt = is_b.node
 
     but1 : AllBut begun begun1 p
     but1 =
@@ -203,7 +198,7 @@ module _ (wired : Wired) (seats : List Seat) (w : Network) (right : IsRight w) (
     within xs e j less = subst (λ m. j < m) (sym (e ∙ ap (λ x. length (others_of x)) who_n)) less
 
     long_n : IsLong n
-    long_n = long p.node lt
+    long_n = fit.long p.node lt
 
     -- once its replies have left
     module _ (f : Session → Session) (keeps : KeepsNodes f) (t0 : Session) (ms : List Message) (tells : f s ≡ told ms t0)
@@ -215,10 +210,10 @@ module _ (wired : Wired) (seats : List Seat) (w : Network) (right : IsRight w) (
       abbrev replied_seats : List Seat
       replied_seats = clear_from (λ _. t0.is_down) 1 p.node p.session begun1
 
-      c1 : IsCleared seats p.node count own far off (λ _. t0.is_down) 1 p.session begun1 replied_seats
+      c1 : IsCleared seats p.node far off (λ _. t0.is_down) 1 p.session begun1 replied_seats
       c1 =
-          is_cleared seats p.node count own far off (λ _. t0.is_down) 1 p.session begun1 (one_within p.session count is.session)
-          (record { alike = but1.alike ∙ alike; long = but1.long long })
+          is_cleared seats p.node far off (λ _. t0.is_down) 1 p.session begun1
+          (record { alike = but1.alike ∙ alike; fit = fit_but begun begun1 p is_b but1 fit })
 
       abbrev m : Seat
       m = seat replied_seats p.node
@@ -253,10 +248,10 @@ module _ (wired : Wired) (seats : List Seat) (w : Network) (right : IsRight w) (
             (sym (get_or-set_same n.kept p.session (cond (is_idle (end_of given.after).phase) [] left) []
             (within n.kept long_n.kept p.session is.session)) x));
         closed = λ e.
-            (c1.ends p.session is.session (one_low p.session) (one_high p.session)).closed
+            (c1.ends p.session is (one_low p.session) (one_high p.session)).closed
             (live_before ∙ ap (λ (p : Post). not (is_idle p.phase)) (sym post_here) ∙ ap not e);
         live = λ e.
-            let l = (c1.ends p.session is.session (one_low p.session) (one_high p.session)).live
+            let l = (c1.ends p.session is (one_low p.session) (one_high p.session)).live
             (live_before ∙ ap (λ (p : Post). not (is_idle p.phase)) (sym post_here) ∙ ap not e) in (
               l.0 ∙ ap (λ n. notice n p.session) here1,
               l.1 ∙ ap (cond t0.is_down []) (ap (λ n. link n p.session) here1 ∙ link_stored),
@@ -268,15 +263,15 @@ module _ (wired : Wired) (seats : List Seat) (w : Network) (right : IsRight w) (
 
       far_hears : HearsEnd (seat begun q.node) (seat replied_seats q.node) q.session (is_idle (post m.posts p.session).phase)
       far_hears = record {
-        stays = subst (λ b. Stays b (seat replied_seats q.node) q.session) (elsewhere1 q (off p.session is.session)) (c1.stays q);
+        stays = subst (λ b. Stays b (seat replied_seats q.node) q.session) (elsewhere1 q (off p.session is)) (c1.stays q);
         told = λ e.
-            let t = (c1.ends p.session is.session (one_low p.session) (one_high p.session)).told
+            let t = (c1.ends p.session is (one_low p.session) (one_high p.session)).told
             (live_before ∙ ap (λ (p : Post). not (is_idle p.phase)) (sym post_here) ∙ ap not e) in
-            (t.0 ∙ ap (λ n. not (is_idle (post n.posts q.session).phase)) (elsewhere1 q (off p.session is.session)), t.1);
+            (t.0 ∙ ap (λ n. not (is_idle (post n.posts q.session).phase)) (elsewhere1 q (off p.session is)), t.1);
         same = λ e.
             let g : SameEnd (seat begun q.node) (seat replied_seats q.node) q.session =
-            subst (λ b. SameEnd b (seat replied_seats q.node) q.session) (elsewhere1 q (off p.session is.session))
-            (c1.rest q (λ j _ _ _ f. off p.session is.session (ap (λ (p : Place). p.node) f))
+            subst (λ b. SameEnd b (seat replied_seats q.node) q.session) (elsewhere1 q (off p.session is))
+            (c1.rest q (λ j _ _ f. off p.session is (ap (λ (p : Place). p.node) f))
             (λ j less low high closed. absurd (true≢false
             (sym (live_before ∙ ap (λ (p : Post). not (is_idle p.phase)) (sym post_here) ∙ ap not e)
             ∙ ap (λ j. live_at begun1 (place p.node j)) (sym (only_one p.session j low high)) ∙ closed))))
@@ -299,7 +294,7 @@ module _ (wired : Wired) (seats : List Seat) (w : Network) (right : IsRight w) (
 
       pub stands1 : Seats replied_seats w1
       stands1 =
-          changes_at wired seats w right stands replied_seats p is at f keeps c1.going.alike c1.going.long
+          changes_at wired seats w right stands replied_seats p is at f keeps c1.going.alike c1.going.fit
           (subst (IsEnd m p.session) (sym tells)
           (near_told (taking n p.session given left) m (seat begun q.node) (seat replied_seats q.node) p.session q.session t0 ms
           who_m who_far near far_is ready still tells_it far_hears))
@@ -309,7 +304,7 @@ module _ (wired : Wired) (seats : List Seat) (w : Network) (right : IsRight w) (
           (λ r is_r not_p not_q.
           end_trans (seat seats r.node) (seat begun1 r.node) (seat replied_seats r.node) r.session
           (end_trans (seat seats r.node) (seat begun r.node) (seat begun1 r.node) r.session (same r is_r not_p not_q) (but1.ends r not_p))
-          (c1.rest r (λ j _ low high e. not_p (e ∙ ap (place p.node) (only_one p.session j low high)))
+          (c1.rest r (λ j low high e. not_p (e ∙ ap (place p.node) (only_one p.session j low high)))
           (λ j less low high _ e. not_q (e ∙ same_far j less (only_one p.session j low high)))))
           (part_of replied_seats p q (same_far_of seats replied_seats c1.going.alike p ∙ at.far.found)
           (near_part (taking n p.session given left) m (seat begun q.node) (seat replied_seats q.node) p.session q.session t0 ms
@@ -318,7 +313,7 @@ module _ (wired : Wired) (seats : List Seat) (w : Network) (right : IsRight w) (
           (far_part (taking n p.session given left) m (seat begun q.node) (seat replied_seats q.node) p.session q.session t0 ms
           who_m who_far near far_is ready still tells_it far_hears far_keeps))
         where
-          same_far : (j : ℕ) (less : j < count) → j ≡ p.session → (far j less).far ≡ q
+          same_far : (j : ℕ) (less : IsPlace seats (place p.node j)) → j ≡ p.session → (far j less).far ≡ q
           same_far j less e =
               same_Some (far j less).far q (sym (far j less).found ∙ ap (λ j. far_of seats (place p.node j)) e ∙ at.far.found)
 
@@ -363,7 +358,7 @@ module _ (wired : Wired) (seats : List Seat) (w : Network) (right : IsRight w) (
             (λ x. session_of w1 (same_name_at seats replied_seats c1.going.alike p x) (same_other_at seats replied_seats c1.going.alike p x))
             ∙ machine_session
             in
-            let by = wired.goes_by w1 replied_seats p (f s) right1.written right1.sessions stands1 is1 found1 in
+            let by = wired.goes_by w1 replied_seats p (f s) right1.written right1.numbers right1.sessions stands1 is1 found1 in
             (λ x. (kind_of (sym who_m x)).may_send p.session (post (sym posts_m x) p.session).phase)
             ∙ sym by.may_send
             ∙ silent (f s) (ap is_idle near1.phase ∙ ap (λ (p : Post). is_idle p.phase) (post_here ∙ gone e))
@@ -439,13 +434,13 @@ module _ (wired : Wired) (seats : List Seat) (w : Network) (right : IsRight w) (
           where
             by_place : (j ≡ p.session) ⊎ (j ≢ p.session) → Before j
             by_place (inl g) =
-                let l = (c1.ends p.session is.session (one_low p.session) (one_high p.session)).live (live_before ∙ ap not (live_here j less e g)) in
+                let l = (c1.ends p.session is (one_low p.session) (one_high p.session)).live (live_before ∙ ap not (live_here j less e g)) in
                 record {
                   notice_is = ap (notice m) g ∙ l.0 ∙ ap (λ n. notice n p.session) here1 ∙ ap (notice n) (sym g);
                   link_is = inr (g, ap (link m) g ∙ l.1 ∙ (λ x. cond t0.is_down [] (link (here1 x) p.session)) ∙ ap (λ j. cond t0.is_down [] (link n1 j)) (sym g));
                 }
             by_place (inr ne) =
-                let r = c1.rest (place p.node j) (λ l _ low high g. ne (ap (λ (p : Place). p.session) g ∙ only_one p.session l low high))
+                let r = c1.rest (place p.node j) (λ l low high g. ne (ap (λ (p : Place). p.session) g ∙ only_one p.session l low high))
                 (λ l more _ _ _ g. off l more (sym (ap (λ (p : Place). p.node) g))) in
                 record {
                   notice_is = r.notice ∙ ap (λ n. notice n j) here1;
@@ -502,8 +497,8 @@ module _ (wired : Wired) (seats : List Seat) (w : Network) (right : IsRight w) (
 
         -- ---- once the sessions of closed ends are cleared
         module _ (down : ℕ → Bool) (after : List Seat)
-            (c2 : IsCleared seats p.node count own far off down count 0 stepped_seats after)
-            (agree : (j : ℕ) → j < count → is_idle (post n'.posts j).phase ≡ false → (t : Session)
+            (c2 : IsCleared seats p.node far off down count 0 stepped_seats after)
+            (agree : (j : ℕ) → IsPlace seats (place p.node j) → is_idle (post n'.posts j).phase ≡ false → (t : Session)
             → session_of w1 (name_at seats (place p.node j)) (other_at seats (place p.node j)) ≡ Some t → down j ≡ t.is_down) where
           here2 : seat stepped_seats p.node ≡ n'
           here2 = seat_here p.node n' begun lt
@@ -520,8 +515,8 @@ module _ (wired : Wired) (seats : List Seat) (w : Network) (right : IsRight w) (
           alike_again : AreAlike replied_seats after
           alike_again = c2.going.alike ∙ sym c1.going.alike
 
-          less_of : (j : ℕ) → IsPlace replied_seats (place p.node j) → j < count
-          less_of j is_j = (same_place seats replied_seats c1.going.alike (place p.node j) is_j).session
+          own_of : (j : ℕ) → IsPlace replied_seats (place p.node j) → IsPlace seats (place p.node j)
+          own_of j is_j = same_place seats replied_seats c1.going.alike (place p.node j) is_j
 
           telling_post : (j : ℕ) → j < count → post (telling m j).posts j ≡ told_all (kind_of m.who) m.posts j
           telling_post j less =
@@ -534,22 +529,22 @@ module _ (wired : Wired) (seats : List Seat) (w : Network) (right : IsRight w) (
               sending (sym ((c1.stays (place p.node j)).breaks ∙ ap (λ n. breaks_in n j) here1) x)
               (changes (kind_of (sym who_m x)) (sym posts_m x) j)
 
-          own_after : (j : ℕ) → j < count → (t : Session)
+          own_after : (j : ℕ) → IsPlace seats (place p.node j) → (t : Session)
               → session_of w1 (name_at seats (place p.node j)) (other_at seats (place p.node j)) ≡ Some t
               → TellsEnd (telling m j) m' j t.is_down (sending (breaks_in m j) (changes (kind_of m.who) m.posts j))
-          own_after j less t found_it = record {
-            ended = post_then j ∙ post_after j less
+          own_after j own t found_it = record {
+            ended = post_then j ∙ post_after j own.session
                 ∙ (λ x. end_after (same_told j x).failed (told_all (kind_of (sym who_m x)) (sym posts_m x) j))
-                ∙ ap (end_after (sending (breaks_in m j) (changes (kind_of m.who) m.posts j)).failed) (sym (telling_post j less));
+                ∙ ap (end_after (sending (breaks_in m j) (changes (kind_of m.who) m.posts j)).failed) (sym (telling_post j own.session));
             breaks = (c2.stays (place p.node j)).breaks ∙ ap (λ n. breaks_in n j) here2
-                ∙ stepped.breaks j (within n.posts long_n.posts j less) ∙ (sends j less).breaks
+                ∙ stepped.breaks j (within n.posts long_n.posts j own.session) ∙ (sends j own.session).breaks
                 ∙ ap (λ (r : Sending). r.breaks) (same_told j);
             kept = (c2.stays (place p.node j)).kept ∙ ap (λ n. kept_in n j) here2
-                ∙ swept.each j (subst (λ n. j < n) (sym (length-set n.kept p.session left)) (within n.kept long_n.kept j less))
+                ∙ swept.each j (subst (λ n. j < n) (sym (length-set n.kept p.session left)) (within n.kept long_n.kept j own.session))
                 ∙ by_end (is_idle (post n'.posts j).phase) refl
                 ∙ (λ x. cond (is_idle (sym (post_then j) x).phase) [] (kept_in m j));
             closed = λ e.
-                (c2.ends j less (all_low j) (all_high j count less)).closed
+                (c2.ends j own (all_low j) (all_high j count own.session)).closed
                 (live_then j ∙ ap not (ap (λ (p : Post). is_idle p.phase) (sym (post_then j)) ∙ e));
             live = λ e. live_after (ap (λ (p : Post). is_idle p.phase) (sym (post_then j)) ∙ e);
           }
@@ -560,19 +555,19 @@ module _ (wired : Wired) (seats : List Seat) (w : Network) (right : IsRight w) (
               by_end true e =
                   ap (λ b. cond b [] (kept_in (record n { kept = slice_set n.kept p.session left }) j)) e
                   ∙ sym (ap (λ b. cond b [] (kept_in m j)) e)
-              by_end false e = ap (cond (is_idle (post n'.posts j).phase) []) (kept_before j less e)
+              by_end false e = ap (cond (is_idle (post n'.posts j).phase) []) (kept_before j own.session e)
 
               live_after : is_idle (post n'.posts j).phase ≡ false
                   → (notice m' j ≡ notice (telling m j) j)
                   × (link m' j ≡ cond t.is_down [] (link (telling m j) j ++ (sending (breaks_in m j) (changes (kind_of m.who) m.posts j)).accepted))
               live_after e =
-                  let l = (c2.ends j less (all_low j) (all_high j count less)).live (live_then j ∙ ap not e) in (
-                    l.0 ∙ ap (λ n. notice n j) here2 ∙ ap (λ bs. slice_index_or bs j false) stepped.notices ∙ sym (before j less e).notice_is,
-                    l.1 ∙ (λ x. cond (agree j less e t found_it x) [] (link (here2 x) j))
+                  let l = (c2.ends j own (all_low j) (all_high j count own.session)).live (live_then j ∙ ap not e) in (
+                    l.0 ∙ ap (λ n. notice n j) here2 ∙ ap (λ bs. slice_index_or bs j false) stepped.notices ∙ sym (before j own.session e).notice_is,
+                    l.1 ∙ (λ x. cond (agree j own e t found_it x) [] (link (here2 x) j))
                         ∙ ap (cond t.is_down [])
-                        (stepped.links j (within n.posts long_n.posts j less)
-                        ∙ (sends j less).links (ap (λ (p : Post). is_idle p.phase) (sym (stepped.posts j (within n.posts long_n.posts j less))) ∙ e))
-                        ∙ flight_before j less e t found_it (tells_on j).accepted
+                        (stepped.links j (within n.posts long_n.posts j own.session)
+                        ∙ (sends j own.session).links (ap (λ (p : Post). is_idle p.phase) (sym (stepped.posts j (within n.posts long_n.posts j own.session))) ∙ e))
+                        ∙ flight_before j own.session e t found_it (tells_on j).accepted
                         ∙ (λ x. cond t.is_down [] (link m j ++ (same_told j x).accepted)),
                   )
 
@@ -581,34 +576,34 @@ module _ (wired : Wired) (seats : List Seat) (w : Network) (right : IsRight w) (
           abroad r ne = seat_elsewhere p.node r.node n' begun ne ∙ sym (elsewhere1 r ne)
 
           same_ends : (r : Place) → r.node ≢ p.node
-              → ((j : ℕ) (less : j < count) → r ≡ (far j less).far → is_idle (post n'.posts j).phase ≡ false)
+              → ((j : ℕ) (less : IsPlace seats (place p.node j)) → r ≡ (far j less).far → is_idle (post n'.posts j).phase ≡ false)
               → SameEnd (seat replied_seats r.node) (seat after r.node) r.session
           same_ends r ne live =
               end_trans (seat replied_seats r.node) (seat begun1 r.node) (seat after r.node) r.session
               (end_back (seat begun1 r.node) (seat replied_seats r.node) r.session
-              (c1.rest r (λ j _ _ _ e. ne (ap (λ (p : Place). p.node) e))
+              (c1.rest r (λ j _ _ e. ne (ap (λ (p : Place). p.node) e))
               (λ j less low high closed e. absurd (true≢false
-              (sym (live_before ∙ ap not (live_here j less (live j less e) (only_one p.session j low high)))
+              (sym (live_before ∙ ap not (live_here j less.session (live j less e) (only_one p.session j low high)))
               ∙ ap (λ j. live_at begun1 (place p.node j)) (sym (only_one p.session j low high)) ∙ closed)))))
               (subst (λ b. SameEnd b (seat after r.node) r.session) (abroad r ne)
-              (c2.rest r (λ j _ _ _ e. ne (ap (λ (p : Place). p.node) e))
+              (c2.rest r (λ j _ _ e. ne (ap (λ (p : Place). p.node) e))
               (λ j less _ _ closed e. absurd (true≢false (sym (live_then j ∙ ap not (live j less e)) ∙ closed)))))
 
           done : IsPassed w1 replied_seats after p.node
           done = record {
             alike = alike_again;
-            long = c2.going.long;
+            fit = c2.going.fit;
             own = λ j is_j t found_it.
-                own_after j (less_of j is_j) t
+                own_after j (own_of j is_j) t
                 ((λ x. session_of w1 (sym (same_name_at seats replied_seats c1.going.alike (place p.node j)) x)
                 (sym (same_other_at seats replied_seats c1.going.alike (place p.node j)) x)) ∙ found_it);
-            far = λ j is_j r is_r found_it. far_after j (less_of j is_j) r (sym (same_far_of seats replied_seats c1.going.alike (place p.node j)) ∙ found_it);
+            far = λ j is_j r is_r found_it. far_after j (own_of j is_j) r (sym (same_far_of seats replied_seats c1.going.alike (place p.node j)) ∙ found_it);
             rest = λ r is_r ne strange.
                 same_ends r ne (λ j less e. absurd (strange j
                 (same_far_of seats replied_seats c1.going.alike r ∙ ap (far_of seats) e ∙ (far j less).back)));
           }
             where
-              far_after : (j : ℕ) → j < count → (r : Place) → far_of seats (place p.node j) ≡ Some r
+              far_after : (j : ℕ) → IsPlace seats (place p.node j) → (r : Place) → far_of seats (place p.node j) ≡ Some r
                   → HearsEnd (seat replied_seats r.node) (seat after r.node) r.session (is_idle (post m'.posts j).phase)
               far_after j less r found_it = subst (λ (r : Place). HearsEnd (seat replied_seats r.node) (seat after r.node) r.session (is_idle (post m'.posts j).phase)) same_far hears
                 where
@@ -621,19 +616,19 @@ module _ (wired : Wired) (seats : List Seat) (w : Network) (right : IsRight w) (
                       (stays_back (seat begun1 (far j less).far.node) (seat replied_seats (far j less).far.node) (far j less).far.session (c1.stays (far j less).far))
                       (subst (λ b. Stays b (seat after (far j less).far.node) (far j less).far.session) (abroad (far j less).far (off j less)) (c2.stays (far j less).far))
 
-                  live_again : (l : ℕ) (more : l < count) → (far j less).far ≡ (far l more).far → is_idle (post n'.posts j).phase ≡ false
+                  live_again : (l : ℕ) (more : IsPlace seats (place p.node l)) → (far j less).far ≡ (far l more).far → is_idle (post n'.posts j).phase ≡ false
                       → is_idle (post n'.posts l).phase ≡ false
                   live_again l more e live = by_number (cases_eq j l)
                     where
                       by_number : (j ≡ l) ⊎ (j ≢ l) → is_idle (post n'.posts l).phase ≡ false
                       by_number (inl g) = ap (λ j. is_idle (post n'.posts j).phase) (sym g) ∙ live
-                      by_number (inr ne) = absurd (far_once seats p.node count own far off j l less more ne e)
+                      by_number (inr ne) = absurd (far_once seats p.node far off j l less more ne e)
 
                   hears : HearsEnd (seat replied_seats (far j less).far.node) (seat after (far j less).far.node) (far j less).far.session (is_idle (post m'.posts j).phase)
                   hears = record {
                     stays = stays;
                     told = λ e.
-                        let t = (c2.ends j less (all_low j) (all_high j count less)).told
+                        let t = (c2.ends j less (all_low j) (all_high j count less.session)).told
                         (live_then j ∙ ap not (ap (λ (p : Post). is_idle p.phase) (sym (post_then j)) ∙ e)) in (
                           t.0 ∙ ap (λ n. not (is_idle (post n.posts (far j less).far.session).phase)) (abroad (far j less).far (off j less))
                               ∙ sym (stays_live begun1 replied_seats (far j less).far (c1.stays (far j less).far)),
@@ -662,19 +657,17 @@ module _ (wired : Wired) (seats : List Seat) (w : Network) (right : IsRight w) (
         pub stepped_going : Going seats stepped_seats
         stepped_going = record {
           alike = with_alike p.node n' begun stepped.who ∙ alike;
-          long = with_long p.node n' begun lt long
-              (long_again n n' stepped.who stepped.posts_long (swept.long ∙ length-set n.kept p.session left) stepped.links_long
-              stepped.breaks_long (ap length stepped.notices) long_n);
+          fit = stepped_fit begun p n' given left is_b stepped swept fit;
         }
 
         module _ (all_down : Each IsDownWhere w1.sessions) where
           -- a session of which the own end is live is down as its ends say, before the pass and after it
-          agrees : (j : ℕ) (less : j < count) → is_idle (post n'.posts j).phase ≡ false → (t : Session)
+          agrees : (j : ℕ) (less : IsPlace seats (place p.node j)) → is_idle (post n'.posts j).phase ≡ false → (t : Session)
               → session_of w1 (name_at seats (place p.node j)) (other_at seats (place p.node j)) ≡ Some t
               → is_down_at stepped_seats (place p.node j) ≡ t.is_down
           agrees j less live t found_it =
               let r = place p.node j in
-              let is_r = same_place replied_seats seats (sym c1.going.alike) r (own j less) in
+              let is_r = same_place replied_seats seats (sym c1.going.alike) r less in
               let h = here wired replied_seats w1 right1 stands1 r is_r in
               let there = (far j less).far in
               let found_far = same_far_of seats replied_seats c1.going.alike r ∙ (far j less).found in
@@ -687,37 +680,37 @@ module _ (wired : Wired) (seats : List Seat) (w : Network) (right : IsRight w) (
               seat_elsewhere p.node there.node n' begun (off j less) ∙ sym (elsewhere1 there (off j less))
               in
               let same_far : SameEnd (seat begun1 there.node) (seat replied_seats there.node) there.session =
-              c1.rest there (λ l _ _ _ e. off j less (ap (λ (p : Place). p.node) e))
+              c1.rest there (λ l _ _ e. off j less (ap (λ (p : Place). p.node) e))
               (λ l more low high closed e. absurd (true≢false
-              (sym (live_before ∙ ap not (live_here j less live (alone j less l more low high e)))
+              (sym (live_before ∙ ap not (live_here j less.session live (alone j less l more low high e)))
               ∙ ap (λ l. live_at begun1 (place p.node l)) (sym (only_one p.session l low high)) ∙ closed)))
               in
               down_by_ends replied_seats stepped_seats (stepped_going.alike ∙ sym c1.going.alike) r there found_far
               ((λ x. not (is_idle (post (is_at x).posts j).phase) && not (notice (is_at x) j))
               ∙ (λ x. not (live x) && not (slice_index_or (stepped.notices x) j false))
-              ∙ sym (λ x. not ((ap (λ ps. is_idle (post ps j).phase) posts_m ∙ was_live j less live) x) && not ((before j less live).notice_is x)))
+              ∙ sym (λ x. not ((ap (λ ps. is_idle (post ps j).phase) posts_m ∙ was_live j less.session live) x) && not ((before j less.session live).notice_is x)))
               ((λ x. not (is_idle (post (gone_there x).posts there.session).phase) && not (notice (gone_there x) there.session))
               ∙ (λ x. not (is_idle (sym same_far.post x).phase) && not (sym same_far.notice x)))
               ∙ down_is wired replied_seats w1 right1 stands1 replied_seats refl (λ _ _. refl) r is_r h
               (found IsDownWhere down_turned w1.sessions (name_at replied_seats r) (other_at replied_seats r) all_down h.session h.found)
               ∙ ap (λ (s : Session). s.is_down) same_session
             where
-              alone : (j : ℕ) (less : j < count) (l : ℕ) (more : l < count) → p.session ≤ l → l < p.session + 1 → (far j less).far ≡ (far l more).far
+              alone : (j : ℕ) (less : IsPlace seats (place p.node j)) (l : ℕ) (more : IsPlace seats (place p.node l)) → p.session ≤ l → l < p.session + 1 → (far j less).far ≡ (far l more).far
                   → j ≡ p.session
               alone j less l more low high e = by_number (cases_eq j l)
                 where
                   by_number : (j ≡ l) ⊎ (j ≢ l) → j ≡ p.session
                   by_number (inl g) = g ∙ only_one p.session l low high
-                  by_number (inr ne) = absurd (far_once seats p.node count own far off j l less more ne e)
+                  by_number (inr ne) = absurd (far_once seats p.node far off j l less more ne e)
 
           pub cleared_stands : Seats (cleared stepped_seats p.node) (pass (name_at seats p) w1)
           cleared_stands =
               passed_stands (λ j. is_down_at stepped_seats (place p.node j)) (cleared stepped_seats p.node)
-              (all_cleared seats p.node count own far off stepped_seats stepped_going stepped_going_long) agrees
+              (all_cleared seats p.node far off stepped_seats stepped_going count stepped_going_long) agrees
 
 -- ---- where every session is as at a moment once the input has changed its own
 module _ (wired : Wired) (seats : List Seat) (w : Network) (right : IsRight w) (stands : Seats seats w) (p : Place)
-    (is : IsPlace seats p) (begun : List Seat) (alike : AreAlike seats begun) (long : (j : ℕ) → j < length begun → IsLong (seat begun j))
+    (is : IsPlace seats p) (begun : List Seat) (alike : AreAlike seats begun) (fit : AreFit begun)
     (same : (r : Place) → IsPlace seats r → r ≢ p → r ≢ (here wired seats w right stands p is).far.far
     → SameEnd (seat seats r.node) (seat begun r.node) r.session)
     (given : Begun) (left : List ℕ) (f : Session → Session) (keeps : KeepsNodes f) (t0 : Session) (ms : List Message)
@@ -737,7 +730,7 @@ module _ (wired : Wired) (seats : List Seat) (w : Network) (right : IsRight w) (
       (pass (name_at seats p) (change_session (name_at seats p) (other_at seats p) f w))
   stands_soundly =
       let w1 = change_session (name_at seats p) (other_at seats p) f w in
-      cleared_stands wired seats w right stands p is begun alike long same given left f keeps t0 ms tells replies near far_is
+      cleared_stands wired seats w right stands p is begun alike fit same given left f keeps t0 ms tells replies near far_is
       near_keeps far_keeps ready still
       (changed_right (name_at seats p) (other_at seats p) f keeps w right (all_quiet w1 sound))
       (λ b t found_it.
@@ -747,7 +740,7 @@ module _ (wired : Wired) (seats : List Seat) (w : Network) (right : IsRight w) (
 -- ---- the theorem, at a moment: the seats as the node takes the input are those of the state but at the two ends of its
 -- session
 module _ (facts : Facts) (seats : List Seat) (w : Network) (moment : IsMoment w) (stands : Seats seats w) (p : Place)
-    (is : IsPlace seats p) (begun : List Seat) (alike : AreAlike seats begun) (long : (j : ℕ) → j < length begun → IsLong (seat begun j))
+    (is : IsPlace seats p) (begun : List Seat) (alike : AreAlike seats begun) (fit : AreFit begun)
     (same : (r : Place) → IsPlace seats r → r ≢ p
     → r ≢ (here facts.wired seats w (moment_right facts.moments w moment) stands p is).far.far
     → SameEnd (seat seats r.node) (seat begun r.node) r.session)
@@ -768,6 +761,6 @@ module _ (facts : Facts) (seats : List Seat) (w : Network) (moment : IsMoment w)
       → Seats (cleared (with_seat p.node n' begun) p.node)
       (pass (name_at seats p) (change_session (name_at seats p) (other_at seats p) f w))
   stands_after tells replies near far_is near_keeps far_keeps ready still n' stepped swept =
-      stands_soundly facts.wired seats w (moment_right facts.moments w moment) stands p is begun alike long same given left f keeps t0 ms
+      stands_soundly facts.wired seats w (moment_right facts.moments w moment) stands p is begun alike fit same given left f keeps t0 ms
       tells (replies ∙ ap (λ x. map (octets_of x (is_peering t0)) ms) (sym (same_who seats begun alike p.node))) near far_is near_keeps far_keeps
       ready still sound n' stepped swept

@@ -2,26 +2,26 @@
 -- live and nothing in flight, and all other ends stay.
 use Rattle.std.specs.Prelude.{◌≡◌, ◌≢◌, ◌⊎◌, ◌<◌, ◌≤◌, ℕ, zero, suc, ◌+◌, List, [], length, false, not}
 use Rattle.std.specs.List.{slice_index_or}
+use Rattle.std.specs.declared.option.Option.TheVariants.{None}
 use Rattle.std.proofs.lemmas.Bool.{cases_eq}
 use Rattle.std.proofs.lemmas.Option.{same_Some}
 use Rattle.std.proofs.Common.{refl, sym, ◌∙◌, ap, subst, inl, inr, arith}
 use Rattle.node_model.specs.Step.{post}
 use Rattle.network_model.specs.Session.{is_idle}
-use Rattle.net_model.specs.Seats.{Seat, far_of, link_at, live_at, notice_at, others_of, seat}
+use Rattle.net_model.specs.Seats.{Seat, far_of, link_at, live_at, notice_at, other, seat}
 use Rattle.net_model.specs.Steps.{with_link, with_notice}
-use Rattle.net_model.specs.Stands.{IsLong}
 use Rattle.net_model.specs.declared.place.Place.{Place}
 use Rattle.seat_laws.specs.Wiring.{HasFar, IsPlace}
 use Rattle.net_model.specs.Steps.{told_of_loss}
 use Rattle.net_steps.specs.Losing.{all_told}
-use Rattle.net_steps.proofs.Building.{AllBut, SameEnd, Stays, end_refl, end_trans, stays_refl, stays_trans}
-use Rattle.net_steps.proofs.Lists.{AreAlike, same_far_of, same_long, same_or_other, same_who}
+use Rattle.net_steps.proofs.Building.{AllBut, SameEnd, Stays, end_refl, end_trans, fit_but, stays_refl, stays_trans}
+use Rattle.net_steps.proofs.Lists.{AreAlike, AreFit, far_nowhere, not_nobody, same_far_of, same_or_other, same_place, there_or_nobody}
 use Rattle.net_steps.proofs.Marks.{link_but, link_here, link_keeps, link_stays, notice_but, notice_here, notice_keeps, notice_stays}
 
--- seats of the same nodes, each with room for its sessions
+-- seats of the same nodes, each with room for its sessions and with nothing at those that are nobody's
 pub record Going (base s : List Seat) : Type 0 where
   pub alike : AreAlike base s
-  pub long : (j : ℕ) → j < length s → IsLong (seat s j)
+  pub fit : AreFit s
 
 -- an end that was told of a loss
 pub record IsTold (s : List Seat) (r : Place) : Type 0 where
@@ -36,8 +36,11 @@ same_live s s' r e = ap (λ ps. not (is_idle (post ps r.session).phase)) e
 
 -- ---- one end
 module _ (base s : List Seat) (going : Going base s) (q : Place) (is : IsPlace base q) where
+  is_s : IsPlace s q
+  is_s = same_place s base (sym going.alike) q is
+
   lt : q.node < length s
-  lt = subst (λ n. q.node < n) (sym (same_long base s going.alike)) is.node
+  lt = is_s.node
 
   abbrev s1 : List Seat
   s1 = with_notice q (live_at s q) s
@@ -45,14 +48,23 @@ module _ (base s : List Seat) (going : Going base s) (q : Place) (is : IsPlace b
   but1 : AllBut s s1 q
   but1 = notice_but s q lt (live_at s q)
 
+  fit1 : AreFit s1
+  fit1 = fit_but s s1 q is_s but1 going.fit
+
+  is_1 : IsPlace s1 q
+  is_1 = same_place s1 s (sym but1.alike) q is_s
+
   lt1 : q.node < length s1
-  lt1 = subst (λ n. q.node < n) (sym (same_long s s1 but1.alike)) lt
+  lt1 = is_1.node
 
   but2 : AllBut s1 (told_at q s) q
   but2 = link_but s1 q lt1 []
 
   pub one_going : Going base (told_at q s)
-  one_going = record { alike = but2.alike ∙ but1.alike ∙ going.alike; long = but2.long (but1.long going.long) }
+  one_going = record {
+    alike = but2.alike ∙ but1.alike ∙ going.alike;
+    fit = fit_but s1 (told_at q s) q is_1 but2 fit1;
+  }
 
   pub one_posts : (j : ℕ) → (seat (told_at q s) j).posts ≡ (seat s j).posts
   one_posts j = (link_keeps s1 q lt1 [] j).0 ∙ (notice_keeps s q lt (live_at s q) j).0
@@ -69,12 +81,10 @@ module _ (base s : List Seat) (going : Going base s) (q : Place) (is : IsPlace b
   one_told = record {
     notice = ap (λ bs. slice_index_or bs q.session false) (link_keeps s1 q lt1 [] q.node).1
         ∙ notice_here s q lt (live_at s q)
-        (subst (λ n. q.session < n) (sym (going.long q.node lt).notices)
-        (subst (λ x. q.session < length (others_of x)) (sym (same_who base s going.alike q.node)) is.session))
+        (subst (λ n. q.session < n) (sym (going.fit.long q.node lt).notices) is_s.session)
         ∙ sym (same_live s (told_at q s) q (one_posts q.node));
     link = link_here s1 q lt1 []
-        (subst (λ n. q.session < n) (sym (but1.long going.long q.node lt1).links)
-        (subst (λ x. q.session < length (others_of x)) (sym (same_who base s1 (but1.alike ∙ going.alike) q.node)) is.session));
+        (subst (λ n. q.session < n) (sym (fit1.long q.node lt1).links) is_1.session);
   }
 
   one_keeps : (r : Place) → IsTold s r → IsTold (told_at q s) r
@@ -88,90 +98,114 @@ module _ (base s : List Seat) (going : Going base s) (q : Place) (is : IsPlace b
       }
 
 -- ---- the ends of n sessions, from the one with this number on
-module _ (base : List Seat) (k count : ℕ) (far : (j : ℕ) → j < count → HasFar base (record { node = k; session = j })) where
-  first_within : (n i : ℕ) → i + suc n ≤ count → i < count
-  first_within n i h = omega (arith, h)
+module _ (base : List Seat) (k : ℕ)
+    (far : (j : ℕ) → IsPlace base (record { node = k; session = j }) → HasFar base (record { node = k; session = j })) where
+  -- what one session makes of all: nothing where it is nobody's
+  record OneTold (i : ℕ) (s t : List Seat) : Type 0 where
+    going : Going base t
+    posts : (j : ℕ) → (seat t j).posts ≡ (seat s j).posts
+    stays : (r : Place) → Stays (seat s r.node) (seat t r.node) r.session
+    others : (r : Place) → ((is : IsPlace base (record { node = k; session = i })) → r ≢ (far i is).far)
+        → SameEnd (seat s r.node) (seat t r.node) r.session
+    keeps : (r : Place) → IsTold s r → IsTold t r
+    told : (is : IsPlace base (record { node = k; session = i })) → IsTold t (far i is).far
 
-  rest_within : (n i : ℕ) → i + suc n ≤ count → i + 1 + n ≤ count
-  rest_within n i h = omega (arith, h)
+  abbrev after_one : ℕ → List Seat → List Seat
+  after_one i s = told_of_loss s (far_of s (record { node = k; session = i }))
 
-  told_here : (s : List Seat) → Going base s → (i : ℕ) (lt : i < count)
-      → told_of_loss s (far_of s (record { node = k; session = i })) ≡ told_at (far i lt).far s
-  told_here s going i lt =
-      ap (told_of_loss s) (same_far_of base s going.alike (record { node = k; session = i }) ∙ (far i lt).found)
+  told_here : (s : List Seat) → Going base s → (i : ℕ) (is : IsPlace base (record { node = k; session = i }))
+      → after_one i s ≡ told_at (far i is).far s
+  told_here s going i is =
+      ap (told_of_loss s) (same_far_of base s going.alike (record { node = k; session = i }) ∙ (far i is).found)
 
-  pub all_going : (n i : ℕ) (s : List Seat) → i + n ≤ count → Going base s → Going base (all_told n k i s)
-  all_going zero i s h going = going
-  all_going (suc n) i s h going =
-      let lt = first_within n i h in
-      subst (λ s. Going base (all_told n k (i + 1) s)) (sym (told_here s going i lt))
-      (all_going n (i + 1) (told_at (far i lt).far s) (rest_within n i h) (one_going base s going (far i lt).far (far i lt).is_place))
+  -- whichever proof it is that there is such a session
+  far_alike : (i j : ℕ) (is : IsPlace base (record { node = k; session = i })) (is' : IsPlace base (record { node = k; session = j }))
+      → i ≡ j → (far i is).far ≡ (far j is').far
+  far_alike i j is is' e =
+      same_Some (far i is).far (far j is').far
+      (sym (far i is).found ∙ ap (λ i. far_of base (record { node = k; session = i })) e ∙ (far j is').found)
 
-  pub all_posts : (n i : ℕ) (s : List Seat) → i + n ≤ count → Going base s → (j : ℕ)
-      → (seat (all_told n k i s) j).posts ≡ (seat s j).posts
-  all_posts zero i s h going j = refl
-  all_posts (suc n) i s h going j =
-      let lt = first_within n i h in
-      subst (λ s'. (seat (all_told n k (i + 1) s') j).posts ≡ (seat s j).posts) (sym (told_here s going i lt))
-      (all_posts n (i + 1) (told_at (far i lt).far s) (rest_within n i h) (one_going base s going (far i lt).far (far i lt).is_place) j
-      ∙ one_posts base s going (far i lt).far (far i lt).is_place j)
-
-  pub all_stay : (n i : ℕ) (s : List Seat) → i + n ≤ count → Going base s → (r : Place)
-      → Stays (seat s r.node) (seat (all_told n k i s) r.node) r.session
-  all_stay zero i s h going r = stays_refl (seat s r.node) r.session
-  all_stay (suc n) i s h going r =
-      let lt = first_within n i h in
-      let s' = told_at (far i lt).far s in
-      subst (λ s'. Stays (seat s r.node) (seat (all_told n k (i + 1) s') r.node) r.session) (sym (told_here s going i lt))
-      (stays_trans (seat s r.node) (seat s' r.node) (seat (all_told n k (i + 1) s') r.node) r.session
-      (one_stays base s going (far i lt).far (far i lt).is_place r)
-      (all_stay n (i + 1) s' (rest_within n i h) (one_going base s going (far i lt).far (far i lt).is_place) r))
-
-  pub all_others : (n i : ℕ) (s : List Seat) → i + n ≤ count → Going base s → (r : Place)
-      → ((j : ℕ) (lt : j < count) → r ≢ (far j lt).far) → SameEnd (seat s r.node) (seat (all_told n k i s) r.node) r.session
-  all_others zero i s h going r ne = end_refl (seat s r.node) r.session
-  all_others (suc n) i s h going r ne =
-      let lt = first_within n i h in
-      let s' = told_at (far i lt).far s in
-      subst (λ s'. SameEnd (seat s r.node) (seat (all_told n k (i + 1) s') r.node) r.session) (sym (told_here s going i lt))
-      (end_trans (seat s r.node) (seat s' r.node) (seat (all_told n k (i + 1) s') r.node) r.session
-      (one_other base s going (far i lt).far (far i lt).is_place r (ne i lt))
-      (all_others n (i + 1) s' (rest_within n i h) (one_going base s going (far i lt).far (far i lt).is_place) r ne))
-
-  all_keep : (n i : ℕ) (s : List Seat) → i + n ≤ count → Going base s → (r : Place) → IsTold s r → IsTold (all_told n k i s) r
-  all_keep zero i s h going r told = told
-  all_keep (suc n) i s h going r told =
-      let lt = first_within n i h in
-      subst (λ s. IsTold (all_told n k (i + 1) s) r) (sym (told_here s going i lt))
-      (all_keep n (i + 1) (told_at (far i lt).far s) (rest_within n i h) (one_going base s going (far i lt).far (far i lt).is_place) r
-      (one_keeps base s going (far i lt).far (far i lt).is_place r told))
-
-  pub all_are_told : (n i : ℕ) (s : List Seat) → i + n ≤ count → Going base s → (j : ℕ) (lt : j < count) → i ≤ j → j < i + n
-      → IsTold (all_told n k i s) (far j lt).far
-  all_are_told zero i s h going j lt low high = absurd (omega (arith, low, high))
-  all_are_told (suc n) i s h going j lt low high =
-      subst (λ s. IsTold (all_told n k (i + 1) s) (far j lt).far) (sym (told_here s going i (first_within n i h)))
-      (by_number (cases_eq i j) (λ ne.
-      all_are_told n (i + 1) (told_at (far i (first_within n i h)).far s) (rest_within n i h)
-      (one_going base s going (far i (first_within n i h)).far (far i (first_within n i h)).is_place) j lt (next_low ne) next_high))
+  one : (i : ℕ) (s : List Seat) → Going base s → OneTold i s (after_one i s)
+  one i s going = by_other (there_or_nobody base (record { node = k; session = i }))
     where
-      here : i < count
-      here = first_within n i h
+      by_other : IsPlace base (record { node = k; session = i }) ⊎ (other (seat base k) i ≡ None) → OneTold i s (after_one i s)
+      by_other (inl is) =
+          let q = (far i is).far in
+          let is_q = (far i is).is_place in
+          subst (OneTold i s) (sym (told_here s going i is)) (record {
+            going = one_going base s going q is_q;
+            posts = one_posts base s going q is_q;
+            stays = one_stays base s going q is_q;
+            others = λ r ne. one_other base s going q is_q r (ne is);
+            keeps = one_keeps base s going q is_q;
+            told = λ is'. subst (IsTold (told_at q s)) (far_alike i i is is' refl) (one_told base s going q is_q);
+          })
+      by_other (inr none) =
+          subst (OneTold i s)
+          (sym (ap (told_of_loss s)
+          (same_far_of base s going.alike (record { node = k; session = i })
+          ∙ far_nowhere base (record { node = k; session = i }) none))) (record {
+            going = going;
+            posts = λ j. refl;
+            stays = λ r. stays_refl (seat s r.node) r.session;
+            others = λ r _. end_refl (seat s r.node) r.session;
+            keeps = λ r told. told;
+            told = λ is. absurd (not_nobody base (record { node = k; session = i }) (record { node = k; session = i }) is none refl);
+          })
 
+  pub all_going : (n i : ℕ) (s : List Seat) → Going base s → Going base (all_told n k i s)
+  all_going zero i s going = going
+  all_going (suc n) i s going = all_going n (i + 1) (after_one i s) (one i s going).going
+
+  pub all_posts : (n i : ℕ) (s : List Seat) → Going base s → (j : ℕ) → (seat (all_told n k i s) j).posts ≡ (seat s j).posts
+  all_posts zero i s going j = refl
+  all_posts (suc n) i s going j =
+      let first = one i s going in
+      all_posts n (i + 1) (after_one i s) first.going j ∙ first.posts j
+
+  pub all_stay : (n i : ℕ) (s : List Seat) → Going base s → (r : Place)
+      → Stays (seat s r.node) (seat (all_told n k i s) r.node) r.session
+  all_stay zero i s going r = stays_refl (seat s r.node) r.session
+  all_stay (suc n) i s going r =
+      let first = one i s going in
+      let t = after_one i s in
+      stays_trans (seat s r.node) (seat t r.node) (seat (all_told n k (i + 1) t) r.node) r.session (first.stays r)
+      (all_stay n (i + 1) t first.going r)
+
+  pub all_others : (n i : ℕ) (s : List Seat) → Going base s → (r : Place)
+      → ((j : ℕ) (is : IsPlace base (record { node = k; session = j })) → r ≢ (far j is).far)
+      → SameEnd (seat s r.node) (seat (all_told n k i s) r.node) r.session
+  all_others zero i s going r ne = end_refl (seat s r.node) r.session
+  all_others (suc n) i s going r ne =
+      let first = one i s going in
+      let t = after_one i s in
+      end_trans (seat s r.node) (seat t r.node) (seat (all_told n k (i + 1) t) r.node) r.session (first.others r (ne i))
+      (all_others n (i + 1) t first.going r ne)
+
+  all_keep : (n i : ℕ) (s : List Seat) → Going base s → (r : Place) → IsTold s r → IsTold (all_told n k i s) r
+  all_keep zero i s going r told = told
+  all_keep (suc n) i s going r told =
+      let first = one i s going in
+      all_keep n (i + 1) (after_one i s) first.going r (first.keeps r told)
+
+  pub all_are_told : (n i : ℕ) (s : List Seat) → Going base s → (j : ℕ) (is : IsPlace base (record { node = k; session = j }))
+      → i ≤ j → j < i + n → IsTold (all_told n k i s) (far j is).far
+  all_are_told zero i s going j is low high = absurd (omega (arith, low, high))
+  all_are_told (suc n) i s going j is low high =
+      by_number (cases_eq i j) (λ ne.
+      all_are_told n (i + 1) (after_one i s) (one i s going).going j is (next_low ne) next_high)
+    where
       next_low : i ≢ j → i + 1 ≤ j
       next_low ne = omega (arith, low, ne)
 
       next_high : j < i + 1 + n
       next_high = omega (arith, high)
 
-      by_number : (i ≡ j) ⊎ (i ≢ j) → (i ≢ j → IsTold (all_told n k (i + 1) (told_at (far i (first_within n i h)).far s)) (far j lt).far)
-          → IsTold (all_told n k (i + 1) (told_at (far i (first_within n i h)).far s)) (far j lt).far
+      by_number : (i ≡ j) ⊎ (i ≢ j) → (i ≢ j → IsTold (all_told n k (i + 1) (after_one i s)) (far j is).far)
+          → IsTold (all_told n k (i + 1) (after_one i s)) (far j is).far
       by_number (inl e) rest =
-          let q = far i (first_within n i h) in
-          let same : q.far ≡ (far j lt).far =
-          same_Some q.far (far j lt).far (sym q.found ∙ ap (λ i. far_of base (record { node = k; session = i })) e ∙ (far j lt).found)
-          in
-          subst (IsTold (all_told n k (i + 1) (told_at q.far s))) same
-          (all_keep n (i + 1) (told_at q.far s) (rest_within n i h) (one_going base s going q.far q.is_place) q.far
-          (one_told base s going q.far q.is_place))
+          let is_i = subst (λ i. IsPlace base (record { node = k; session = i })) (sym e) is in
+          let first = one i s going in
+          all_keep n (i + 1) (after_one i s) first.going (far j is).far
+          (subst (IsTold (after_one i s)) (far_alike i j is_i is e) (first.told is_i))
       by_number (inr ne) rest = rest ne

@@ -1,6 +1,6 @@
 -- What the loss of a session and the restart of a node make of the state for which seats stand.
 use Rattle.std.specs.Prelude.{◌≡◌, ℕ, zero, suc, ◌+◌, List, [], length, true, false}
-use Rattle.std.specs.declared.option.Option.TheVariants.{Some, None}
+use Rattle.std.specs.declared.option.Option.TheVariants.{Some}
 use Rattle.schedule_script.specs.declared.answer.Answer.TheVariants.{Did, Idle}
 use Rattle.network_model.specs.Setup.{Name}
 use Rattle.network_model.specs.Network.{Network}

@@ -50,8 +50,8 @@ pub fn restarts_are_made()
     ensures nothing { NothingIsRestarted }
 {}
 
-/// An edit without a fault is one at the configuration node, which then tells every control node what the configuration
-/// wants. One with a fault changes nothing.
+/// An edit without a fault is made where first a compute node moves, if one comes, goes or lists other control nodes, and
+/// then the configuration node tells every control node what the configuration wants. One with a fault changes nothing.
 pub fn edits_are_made()
     ensures made { EditsAreMade }
     ensures refused { FaultyEditsAreRefused }

@@ -9,9 +9,8 @@ use Rattle.node_model.specs.Keys.{Key, key_cmp}
 use Rattle.node_model.proofs.Orders.{key_total, key_exact}
 use Rattle.node_model.specs.Values.{Value, same_value}
 use Rattle.node_model.specs.Maps.{Map, Change, difference}
-use Rattle.config_check.specs.Checked.{Checked}
-use Rattle.network_model.specs.Setup.{Name}
-use Rattle.network_model.specs.Session.{Role, Message, Open, Keepalive, Hello, Carries, Session, closed, is_peering, may_send, shut, with_breaks, told, passed, greeting, opened, with_phase, peer_took, item_took, took, without_first, took_first, arrived, took_octets, octets_arrived}
+use Rattle.network_model.specs.Setup.{Name, Setup}
+use Rattle.network_model.specs.Session.{Agent, Controller, Role, Message, Open, Keepalive, Hello, Carries, Session, closed, is_peering, may_send, shut, with_breaks, told, passed, greeting, opened, with_phase, peer_took, item_took, took, without_first, took_first, arrived, took_octets, octets_arrived}
 use Rattle.node_model.specs.Step.{Phase, Idle, Opened, Confirmed, Up}
 use Rattle.network_laws.specs.Settling.{FairMap, FairMessage, FairMessages, FairAt, Fair, WantsFair}
 use Rattle.network_model.proofs.SessionFact.{sends, told_cases}
@@ -118,10 +117,11 @@ module _ (fair : Name × Role → Name × Role → Key → Value → Type 0) whe
     at_nodes s t e f = subst (λ p. FairAt fair p t) (sym e) f
 
     -- where what a node wants is fair whenever what it holds is, all is fair at every moment
-    pub fair_keeps : (Valid : Checked → Type 0) → WantsFair fair Valid
+    pub fair_keeps : (Valid : Setup → Type 0) → WantsFair fair Valid
         → Keeps size Valid (Fair fair) (λ s m. FairMap fair (s.near.name, s.near.role) (s.far.name, s.far.role) m)
     fair_keeps Valid wants = record {
       both = λ s f. record { near_held = f.far_held; far_held = f.near_held; near_flight = f.far_flight; far_flight = f.near_flight };
+      begins = λ x v c m n k. record { near_held = empty_values key_cmp (fair (n.name, Agent) (c.name, Controller)); far_held = empty_values key_cmp (fair (c.name, Controller) (n.name, Agent)); near_flight = tt; far_flight = tt };
       arrives = λ s f. at_nodes s (arrived s) (arrived_nodes s) (fair_arrived (nodes s) s f);
       octets = λ n s f. at_nodes s (octets_arrived size n s) (octets_nodes size n s) (fair_octets_arrived (nodes s) n s f);
       passes = λ m s h f. at_nodes s (passed m s) (passed_nodes m s) (fair_passed (nodes s) m s h f);

@@ -14,7 +14,7 @@ use Rattle.network_model.specs.Session.{Message, Carries, End, Session, turned, 
 use Rattle.network_model.specs.Network.{Network, view, views_of, wanted}
 use Rattle.network_model.specs.Steps.{change_session, pass, session_in, in_flight, repeat, deliver, Due, due_at, dues, notice_stands, deliver_due, deliver_all, round, is_broken, around, connect, may_connect, connect_found, connect_if, connect_all, reconnected, resumed, without_breaks}
 use Rattle.network_model.proofs.SessionFact.{sends, Joined, Down, Fact, Fact-turned, passed_keeps, arrived_keeps}
-use Rattle.network_model.proofs.Deeds.{HasSetup, setup_connects}
+use Rattle.network_model.proofs.NodesFact.{HasSetup, setup_connects}
 use Rattle.network_model.proofs.Walk.{Takes, Connects, due_walk, dues_walk, all_walk, connect_walk, connections_walk, resumed_walk}
 use Rattle.network_model.proofs.NetworkFact.{Each, Nodes, nodes, passed_nodes, opened_nodes, with_session_keeps, nodes_keep, found, each_map, breaks_apart, round_sound, connect_all_sound}
 use Rattle.network_model.proofs.NodesFact.{arrived_nodes, turned_nodes, map_nodes, round_nodes, connect_if_nodes, connect_all_nodes}

@@ -13,8 +13,7 @@ use Rattle.node_model.specs.Keys.{Key, Subscribe}
 use Rattle.node_model.specs.Step.{Phase, Idle, Opened, Confirmed, Up}
 use Rattle.node_model.specs.Values.{Value}
 use Rattle.node_model.specs.Maps.{Map, Change}
-use Rattle.config_check.specs.Checked.{Checked}
-use Rattle.network_model.specs.Setup.{Name, longest}
+use Rattle.network_model.specs.Setup.{Name, Setup, longest}
 use Rattle.ov_types.specs.First.{same_name}
 use Rattle.network_model.specs.Session.{is_peering, Message, Open, Keepalive, Hello, Carries, Session, turned, is_up, is_up_phase, may_send, passed, arrived, octets_arrived, waiting}
 use Rattle.network_model.specs.Network.{Network, is_at, sessions_of, view, views_of, wanted}
@@ -49,7 +48,7 @@ taken f goes from to w = cond goes (in_flight w from to - in_flight (f w) from t
 passed_waiting : (m : Map) (s : Session) → s.is_down ≡ false → s.near.breaks ≡ [] → waiting (passed m s) ≡ waiting s
 passed_waiting m s e b = ap waiting (passed_easy m s e b) ∙ elim (may_send s) as (λ c. waiting (cond c (telling m s) s) ≡ waiting s) [ true ↦ refl | false ↦ refl ]
 
-module _ (size : Name → Message → ℕ) (positive : (n : Name) (m : Message) → 0 < size n m) (rank : Rank) (goal : Name → Name → Key → Option Value) (x : Checked) (places : List Nodes) (Valid : Checked → Type 0) (P : Session → Type 0) (MayTell : Session → Map → Type 0) where
+module _ (size : Name → Message → ℕ) (positive : (n : Name) (m : Message) → 0 < size n m) (rank : Rank) (goal : Name → Name → Key → Option Value) (x : Setup) (places : List Nodes) (Valid : Setup → Type 0) (P : Session → Type 0) (MayTell : Session → Map → Type 0) where
   -- by how much each direction is still due
   abbrev CoreP : Nodes → ℕ → (Name → Name → ℕ) → Session → Type 0
   CoreP p r left s = Core size positive rank goal p r (left p.1.0 p.0.0) (left p.0.0 p.1.0) s
@@ -66,7 +65,7 @@ module _ (size : Name → Message → ℕ) (positive : (n : Name) (m : Message) 
   abbrev SentAt : ℕ → Session → Type 0
   SentAt r s = SentRight size positive rank goal (nodes s) r s
 
-  abbrev WantAt : Checked → List Session → Name → ℕ → Session → Type 0
+  abbrev WantAt : Setup → List Session → Name → ℕ → Session → Type 0
   WantAt x ss n r s = bound.WantAt rank goal x ss n r s
 
   -- where all that is held is right up to a rank, and is as P says, all that is wanted is right up to the next

@@ -1,7 +1,6 @@
 -- What the wants of nodes must meet, so that rounds settle a network of them.
-use Rattle.std.specs.Prelude.{◌≡◌, ℕ, suc, ◌+◌, ◌≤◌, List, [], ◌∷◌, map, length, Bool, true, false}
+use Rattle.std.specs.Prelude.{◌≡◌, ℕ, suc, ◌+◌, ◌≤◌, List, [], map, length, Bool, true, false}
 use Rattle.std.specs.declared.option.Option.{Option}
-use Rattle.std.specs.declared.option.Option.TheVariants.{Some}
 use Rattle.std.specs.List.{AllByRecursion}
 use Rattle.std.specs.FinMap.{get}
 use Rattle.ov_sync.specs.Keyed.{PutOf, Values}
@@ -9,23 +8,14 @@ use Rattle.config_check.specs.Checked.{Checked}
 use Rattle.node_model.specs.Keys.{Key, key_cmp}
 use Rattle.node_model.specs.Values.{Value}
 use Rattle.node_model.specs.Maps.{Map}
-use Rattle.network_model.specs.Setup.{Name, edited, longest}
+use Rattle.network_model.specs.Setup.{Name, Setup, longest, opening}
 use Rattle.network_model.specs.Session.{Role, Message, Open, Keepalive, Hello, Carries, Session, turned, is_up_phase}
 use Rattle.network_model.specs.Session.{are_peers}
-use Rattle.network_model.specs.Network.{Network, AreNamed, start, wanted, view, views_of, sessions_of}
+use Rattle.network_model.specs.Network.{Network, start, wanted, view, views_of, sessions_of}
 use Rattle.network_model.specs.Steps.{is_settled, settle}
-use Rattle.network_model.specs.Events.{Event, Edits, next, after}
+use Rattle.network_model.specs.Events.{Event, after}
 use Rattle.network_model.specs.Rounds.{AreRounds, after_rounds, is_unbroken, is_whole}
-use Rattle.network_model.specs.Moments.{ArePositive, Each, Nodes, nodes}
-
--- ---- a property of configurations that edits keep: each edit of a schedule that is accepted leads to one that has it
-abbrev pub EditIsValid : (Checked → Type 0) → Network → Event → Type 0
-EditIsValid Valid w (Edits e) = (y : Checked) → edited w.setup e ≡ Some y → Valid y
-EditIsValid Valid w _ = Unit {0}
-
-abbrev pub EditsAreValid : (Name → Message → ℕ) → (Checked → Type 0) → Network → List Event → Type 0
-EditsAreValid size Valid w [] = Unit {0}
-EditsAreValid size Valid w (e ∷ es) = EditIsValid Valid w e × EditsAreValid size Valid (next size w e) es
+use Rattle.network_model.specs.Moments.{ArePositive, Each, EditsAreValid, IsLaidOut, LaidOut, Nodes, nodes}
 
 -- ---- what may be told
 abbrev pub Node : Type 0
@@ -56,9 +46,9 @@ module _ (fair : Node → Node → Key → Value → Type 0) where
   Fair s = FairAt (nodes s) s
 
   -- with a valid configuration, a node that holds what is fair wants what is fair
-  abbrev pub WantsFair : (Checked → Type 0) → Type 0
+  abbrev pub WantsFair : (Setup → Type 0) → Type 0
   WantsFair Valid =
-      (x : Checked) (ss : List Session) (n : Name) → Valid x → Each Fair ss
+      (x : Setup) (ss : List Session) (n : Name) → Valid x → Each Fair ss
       → Each (λ s. FairMap (s.near.name, s.near.role) (s.far.name, s.far.role) (wanted x (views_of n ss) (view s)))
       (sessions_of n ss)
 
@@ -87,20 +77,20 @@ module _ (rank : Rank) (goal : Goal) where
   RightAt r s = Right (nodes s) r s
 
   -- what the node wants at the other end is right up to a rank
-  abbrev pub WantAt : Checked → List Session → Name → ℕ → Session → Type 0
+  abbrev pub WantAt : Setup → List Session → Name → ℕ → Session → Type 0
   WantAt x ss n r s =
       (k : Key) → rank s.near.name s.far.name k ≤ r
       → get (wanted x (views_of n ss) (view s)) k ≡ goal s.near.name s.far.name k
 
   -- where all that is held is right up to a rank, and is as P says, all that is wanted is right up to the next
-  abbrev pub Steps : Checked → List Nodes → (Session → Type 0) → Type 0
+  abbrev pub Steps : Setup → List Nodes → (Session → Type 0) → Type 0
   Steps x places P =
       (ss : List Session) (r : ℕ) → map nodes ss ≡ places → Each P ss
       → Each (λ s. RightAt r s × RightAt r (turned s)) ss
       → (n : Name) → Each (WantAt x ss n (suc r)) (sessions_of n ss)
 
 -- ranks for the configuration of a moment, none above the greatest
-pub record Ranked (greatest : ℕ) (P : Session → Type 0) (places : List Nodes) (x : Checked) : Type 0 where
+pub record Ranked (greatest : ℕ) (P : Session → Type 0) (places : List Nodes) (x : Setup) : Type 0 where
   pub rank : Rank
   pub goal : Goal
   pub steps : Steps rank goal x places P
@@ -134,12 +124,12 @@ SettleSettlesIn greatest w =
 abbrev pub WhereRanked : (ℕ → (Name → Message → ℕ) → Network → Type 0) → Type 0
 WhereRanked Settles =
     (size : Name → Message → ℕ) → ArePositive size
-    → (x : Checked) → AreNamed x.topology
-    → (valid : Checked → Bool) → valid x ≡ true
+    → (x : Checked) → IsLaidOut x.topology
+    → (valid : Setup → Bool) → valid (opening x) ≡ true
     → (fair : Node → Node → Key → Value → Bool)
     → WantsFair (λ p q k v. fair p q k v ≡ true) (λ y. valid y ≡ true)
-    → (es : List Event) → EditsAreValid size (λ y. valid y ≡ true) (start x) es
+    → (es : List Event) → EditsAreValid size LaidOut (start x) es → EditsAreValid size (λ y. valid y ≡ true) (start x) es
     → (greatest : ℕ)
-    → Ranked greatest (Fair (λ p q k v. fair p q k v ≡ true)) (map nodes (start x).sessions)
+    → Ranked greatest (Fair (λ p q k v. fair p q k v ≡ true)) (map nodes (after size (start x) es).sessions)
     (after size (start x) es).setup
     → Settles greatest size (after size (start x) es)

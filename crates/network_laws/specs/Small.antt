@@ -3,7 +3,11 @@ use Rattle.std.specs.Prelude.{ℕ, [], ◌∷◌}
 use Rattle.ov_types.specs.declared.prefix.Addr.{Addr}
 use Rattle.config_model.specs.declared.config.Config.{Config}
 use Rattle.config_check.specs.Checked.{Checked}
+use Rattle.config_model.specs.declared.edit.Edit.TheVariants.{Put, Delete}
+use Rattle.config_model.specs.declared.edit.Object.TheVariants as objects
+use Rattle.config_model.specs.declared.edit.ObjectKind.TheVariants as kinds
 use Rattle.network_model.specs.Setup.{Name}
+use Rattle.network_model.specs.Events.{Event, Edits}
 
 -- c1 and n1
 abbrev pub control_node : Name
@@ -22,3 +26,9 @@ small asn control compute config = record {
   };
   config = config;
 }
+
+-- an event that puts and deletes no compute node
+abbrev pub LeavesNodes : Event → Type 0
+LeavesNodes (Edits (Put (objects.Node n))) = ⊥
+LeavesNodes (Edits (Delete kinds.Node name)) = ⊥
+LeavesNodes _ = Unit {0}

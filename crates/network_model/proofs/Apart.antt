@@ -1,70 +1,38 @@
 -- Where names tell nodes apart, no two sessions join the same nodes.
-use Rattle.std.specs.Prelude.{◌≡◌, ℕ, suc, ◌+◌, ◌<◌, List, [], ◌∷◌, ◌++◌, map, length, Bool, true, false, cond, ◌&&◌, slice_index_or}
+use Rattle.std.specs.Prelude.{◌≡◌, List, [], ◌∷◌, ◌++◌, map, Bool, true, false, cond, ◌&&◌}
 use Rattle.std.specs.List.{AllByRecursion, filter}
 use Rattle.std.specs.Cmp.Lexicographic.{bytes_decides}
 use Rattle.std.proofs.lemmas.Bool.{and_parts, false_from_ne_true}
-use Rattle.std.proofs.Common.{refl, sym, ◌∙◌, ap, subst, inl, inr, arith}
+use Rattle.std.proofs.Common.{refl, sym, ap, subst, inl, inr}
 use Rattle.ov_types.specs.First.{same_name}
 use Rattle.ov_types.specs.declared.rows.NodeId.{NodeId}
 use Rattle.config_model.specs.declared.topology.Node.{Node}
+use Rattle.config_model.specs.declared.topology.Topology.{Topology}
 use Rattle.config_check.specs.Checked.{Checked}
 use Rattle.config_check.specs.Rules.{controller_names, node_names}
-use Rattle.config_check.specs.Sentences.{AreDistinct}
 use Rattle.node_model.specs.Members.{Member}
 use Rattle.node_model.proofs.Members.{in_left, in_right, in_either, in_map, from_map, from_filter, from_flat_map}
-use Rattle.network_model.specs.Setup.{Name}
+use Rattle.network_model.specs.Setup.{Name, lists}
 use Rattle.network_model.specs.Session.{Role, Configuration, Controller, Agent, Session}
-use Rattle.network_model.specs.Network.{start, feeds, peerings, accesses, fresh, lists, config, AreNamed}
+use Rattle.network_model.specs.Network.{start, feeds, peerings, accesses, fresh, config, AreNamed}
 use Rattle.network_model.specs.Moments.{nodes}
+pub use Rattle.network_model.proofs.Distinct.{Apart, same_false, apart_of, apart_left, apart_right, apart_between}
 use Rattle.network_model.proofs.Twins.{IsOther, NoTwins}
 
-pub same_false : (a b : Name) → (a ≡ b → ⊥) → same_name a b ≡ false
-same_false a b h = false_from_ne_true (same_name a b) (λ e. h ((bytes_decides a b).0 e))
+pub record NamesApart (t : Topology) : Type 0 where
+  pub sites_apart : Apart (controller_names t)
+  pub computers_apart : Apart (node_names t)
+  pub kinds_apart : (c n : Name) → Member c (controller_names t) → Member n (node_names t) → c ≡ n → ⊥
+  pub no_site_config : (c : Name) → Member c (controller_names t) → c ≡ config → ⊥
+  pub no_computer_config : (n : Name) → Member n (node_names t) → n ≡ config → ⊥
 
--- ---- names
-abbrev pub Apart : List Name → Type 0
-Apart [] = Unit {0}
-Apart (n ∷ ns) = ((m : Name) → Member m ns → n ≡ m → ⊥) × Apart ns
-
-pub member_at : (m : Name) (ns : List Name) (d : Name) → Member m ns → (j : ℕ) × (j < length ns) × (slice_index_or ns j d ≡ m)
-member_at m [] d i = absurd i
-member_at m (n ∷ ns) d (inl e) = (0, omega arith, e)
-member_at m (n ∷ ns) d (inr i) = let q = member_at m ns d i in (suc q.0, omega (arith, q.1), q.2)
-
-pub apart_of : (ns : List Name) → AreDistinct ns → Apart ns
-apart_of [] h = tt
-apart_of (n ∷ ns) h = (
-  (λ m i e. let q = member_at m ns n i in h 0 (suc q.0) n (omega arith) (omega (arith, q.1)) (e ∙ sym q.2)),
-  apart_of ns (λ i j d less within. h (suc i) (suc j) d (omega (arith, less)) (omega (arith, within))),
-)
-
-pub apart_left : (ms ns : List Name) → Apart (ms ++ ns) → Apart ms
-apart_left [] ns a = tt
-apart_left (m ∷ ms) ns a = ((λ n i. a.0 n (in_left n ms ns i)), apart_left ms ns a.1)
-
-pub apart_right : (ms ns : List Name) → Apart (ms ++ ns) → Apart ns
-apart_right [] ns a = a
-apart_right (m ∷ ms) ns a = apart_right ms ns a.1
-
-pub apart_between : (ms ns : List Name) → Apart (ms ++ ns) → (m n : Name) → Member m ms → Member n ns → m ≡ n → ⊥
-apart_between [] ns a m n i j is = absurd i
-apart_between (k ∷ ms) ns a m n (inl e) j is = a.0 n (in_right n ms ns j) (e ∙ is)
-apart_between (k ∷ ms) ns a m n (inr i) j is = apart_between ms ns a.1 m n i j is
-
-pub record NamesApart (x : Checked) : Type 0 where
-  pub sites_apart : Apart (controller_names x.topology)
-  pub computers_apart : Apart (node_names x.topology)
-  pub kinds_apart : (c n : Name) → Member c (controller_names x.topology) → Member n (node_names x.topology) → c ≡ n → ⊥
-  pub no_site_config : (c : Name) → Member c (controller_names x.topology) → c ≡ config → ⊥
-  pub no_computer_config : (n : Name) → Member n (node_names x.topology) → n ≡ config → ⊥
-
-pub names_apart : (x : Checked) → Apart (config ∷ controller_names x.topology ++ node_names x.topology) → NamesApart x
-names_apart x a = record {
-  sites_apart = apart_left (controller_names x.topology) (node_names x.topology) a.1;
-  computers_apart = apart_right (controller_names x.topology) (node_names x.topology) a.1;
-  kinds_apart = λ c n i j is. apart_between (controller_names x.topology) (node_names x.topology) a.1 c n i j is;
-  no_site_config = λ c i is. a.0 c (in_left c (controller_names x.topology) (node_names x.topology) i) (sym is);
-  no_computer_config = λ n i is. a.0 n (in_right n (controller_names x.topology) (node_names x.topology) i) (sym is);
+pub names_apart : (t : Topology) → Apart (config ∷ controller_names t ++ node_names t) → NamesApart t
+names_apart t a = record {
+  sites_apart = apart_left (controller_names t) (node_names t) a.1;
+  computers_apart = apart_right (controller_names t) (node_names t) a.1;
+  kinds_apart = λ c n i j is. apart_between (controller_names t) (node_names t) a.1 c n i j is;
+  no_site_config = λ c i is. a.0 c (in_left c (controller_names t) (node_names t) i) (sym is);
+  no_computer_config = λ n i is. a.0 n (in_right n (controller_names t) (node_names t) i) (sym is);
 }
 
 -- ---- sessions by their nodes
@@ -81,7 +49,7 @@ abbrev pub IsPeering : List NodeId → Link → Type 0
 IsPeering cs p = (c : NodeId) × Member c cs × (d : NodeId) × Member d cs × (peer_link c d ≡ p)
 
 abbrev pub IsAccess : List NodeId → List Node → Link → Type 0
-IsAccess cs ns p = (c : NodeId) × Member c cs × (n : Node) × Member n ns × (access_link c n ≡ p)
+IsAccess cs ns p = (c : NodeId) × Member c cs × (n : Node) × Member n ns × (access_link c n ≡ p) × (lists n c ≡ true)
 
 abbrev pub feed_session : NodeId → Session
 feed_session c = record { is_down = true; near = fresh config Configuration; far = fresh c.name Controller }
@@ -104,7 +72,8 @@ pub from_accesses : (cs : List NodeId) (ns : List Node) (s : Session) → Member
 from_accesses cs ns s m =
     let q = from_flat_map (λ n. map (λ c. access_session c n) (filter (lists n) cs)) s ns m in
     let c = from_map (λ c. access_session c q.0) s (filter (lists q.0) cs) q.2 in
-    (c.0, (from_filter (lists q.0) c.0 cs c.1).0, q.0, q.1, ap nodes c.2)
+    let f = from_filter (lists q.0) c.0 cs c.1 in
+    (c.0, f.0, q.0, q.1, ap nodes c.2, f.1)
 
 is_other : (p q : Link) → (q.0.0 ≡ p.0.0 → q.1.0 ≡ p.1.0 → ⊥) → (q.0.0 ≡ p.1.0 → q.1.0 ≡ p.0.0 → ⊥) → IsOther p q
 is_other p q h k = (
@@ -197,7 +166,7 @@ accesses_apart cs (n ∷ ns) a b h =
 
 pub no_twins : (x : Checked) → AreNamed x.topology → NoTwins (map nodes (start x).sessions)
 no_twins x named =
-    let names = names_apart x (apart_of (config ∷ controller_names x.topology ++ node_names x.topology) named) in
+    let names = names_apart x.topology (apart_of (config ∷ controller_names x.topology ++ node_names x.topology) named) in
     let cs = x.topology.controllers in let ns = x.topology.nodes in
     let site : (c : NodeId) → Member c cs → Member c.name (controller_names x.topology) = λ c m. in_map (λ (c : NodeId). c.name) c cs m in
     let computer : (n : Node) → Member n ns → Member n.name (node_names x.topology) = λ n m. in_map (λ (n : Node). n.name) n ns m in

@@ -7,10 +7,10 @@ use Rattle.std.proofs.Common.{refl, sym, ◌∙◌, ap, subst, inl, inr}
 use Rattle.ov_sync.specs.Keyed.{after as changed_by}
 use Rattle.node_model.specs.Maps.{Change}
 use Rattle.config_check.specs.Checked.{Checked}
-use Rattle.network_model.specs.Setup.{Name}
+use Rattle.network_model.specs.Setup.{Name, Setup}
 use Rattle.node_model.specs.Step.{Phase, Idle, Opened, Confirmed, Up}
 use Rattle.network_model.specs.Session.{Message, Carries, End, Session, turned, is_idle, is_up, is_up_phase, is_peering, may_send_at, waiting}
-use Rattle.network_model.specs.Network.{Network, start, sessions_of, is_at, View, views_of, wanted}
+use Rattle.network_model.specs.Network.{AreNamed, Network, start, sessions_of, is_at, View, views_of, wanted}
 use Rattle.network_model.specs.Events.{Event, after}
 use Rattle.network_model.specs.Steps.{is_rested, is_settled}
 use Rattle.network_model.specs.Moments.{ArePositive, IsAtRest, IsAtRestWith}
@@ -18,7 +18,8 @@ use Rattle.network_model.proofs.SessionFact.{Flows, Fact, greetings}
 use Rattle.network_model.proofs.NetworkFact.{Each, after_sound}
 use Rattle.network_model.specs.Moments.{AreWhole, TellsWanted}
 use Rattle.network_model.proofs.ToldNext.{AllHaveTold, after_told}
-use Rattle.network_model.proofs.Start.{start_sound, start_told, start_fits}
+use Rattle.network_model.proofs.Start.{start_sound, start_told}
+use Rattle.network_model.proofs.Listed.{start_placed}
 
 -- what a settled session says
 pub record Rested (s : Session) : Type 0 where
@@ -100,7 +101,7 @@ module _ (size : Name → Message → ℕ) where
   quiet_whole [] q = tt
   quiet_whole (s ∷ own) q = (q.0.0, quiet_whole own q.1)
 
-  quiet_rest : (x : Checked) (vs : List View) (own : List Session) → Each Quiet own → TellsWanted x vs own → Each (IsAtRestWith x vs) own
+  quiet_rest : (x : Setup) (vs : List View) (own : List Session) → Each Quiet own → TellsWanted x vs own → Each (IsAtRestWith x vs) own
   quiet_rest x vs [] q t = tt
   quiet_rest x vs (s ∷ own) q t = (record { held = q.0.2; wanted = t.0 (may_up (is_peering s) s.near.phase q.0.3) }, quiet_rest x vs own q.1 t.1)
 
@@ -109,6 +110,6 @@ module _ (size : Name → Message → ℕ) where
       let q = own_quiet n w.sessions f e in
       quiet_rest w.setup (views_of n w.sessions) (sessions_of n w.sessions) q (t n (quiet_whole (sessions_of n w.sessions) q))
 
-pub settled_is_at_rest : (size : Name → Message → ℕ) → ArePositive size → (x : Checked) (es : List Event) → is_settled (after size (start x) es) ≡ true → IsAtRest (after size (start x) es)
-settled_is_at_rest size positive x es e =
-    at_rest size (after size (start x) es) (after_sound size positive (start x) es (start_sound size positive x)) (after_told size (start x) es (start_fits x) (start_told x)) e
+pub settled_is_at_rest : (size : Name → Message → ℕ) → ArePositive size → (x : Checked) → AreNamed x.topology → (es : List Event) → is_settled (after size (start x) es) ≡ true → IsAtRest (after size (start x) es)
+settled_is_at_rest size positive x named es e =
+    at_rest size (after size (start x) es) (after_sound size positive (start x) es (start_sound size positive x)) (after_told size (start x) es (start_placed x named) (start_told x)) e

@@ -8,21 +8,20 @@ use Rattle.std.proofs.lemmas.Bool.{true≢false, and_parts, false_from_ne_true, 
 use Rattle.std.proofs.Common.{refl, sym, ◌∙◌, ap, subst, inl, inr, arith}
 use Rattle.ov_types.specs.First.{same_name}
 use Rattle.config_model.specs.declared.edit.Edit.{Edit}
-use Rattle.config_check.specs.Checked.{Checked}
 use Rattle.config_check.specs.declared.edits.EditFault.{EditFault}
-use Rattle.config_check.specs.Edits.{edit_fault, edited as config_edited}
+use Rattle.config_check.specs.Edits.{edit_fault, edited as checked_edited}
 use Rattle.node_model.specs.Members.{Member}
 use Rattle.node_model.proofs.Members.{any_in, from_any}
-use Rattle.network_model.specs.Setup.{Name, edited_without}
-use Rattle.network_model.specs.Session.{Message, Session, turned, shut, lost, told, left, meets_break, counted, with_breaks, opened, arrived}
-use Rattle.network_model.specs.Network.{Network, is_at, sessions_of}
-use Rattle.network_model.specs.Steps.{at_node, joins, with_session, change_session, change_node, pass, session_in, session_of, in_flight, is_broken, around}
-use Rattle.network_model.specs.Events.{Event, Edits, Deliver, Lose, Restart, Break, edits, lose, add_break, is_node, next}
+use Rattle.network_model.specs.Setup.{Name, Move, Setup, checked, edited_without, moves, renumbered, remade}
+use Rattle.network_model.specs.Session.{Message, Session, turned, shut, lost, told, left, meets_break, counted, with_breaks, arrived}
+use Rattle.network_model.specs.Network.{Network, is_at, sessions_of, brought, replaced}
+use Rattle.network_model.specs.Steps.{at_node, joins, with_session, change_session, change_node, pass, session_in, session_of, in_flight}
+use Rattle.network_model.specs.Events.{Event, Edits, Deliver, Lose, Restart, Break, edits, moved, lose, add_break, is_node, next}
 use Rattle.network_model.specs.Moments.{nodes, IsLost, NodeHasTold}
 use Rattle.network_model.specs.Deeds.{AreOthers, IsClosed, MeetsOne}
-use Rattle.network_model.proofs.Walk.{Connects, Steps, next_walk}
+use Rattle.network_model.proofs.Walk.{next_walk}
 use Rattle.network_model.proofs.NetworkFact.{KeepsNodes, joins_kept, at_node_nodes}
-use Rattle.network_model.proofs.NodesFact.{turned_nodes}
+use Rattle.network_model.proofs.NodesFact.{turned_nodes, HasSetup, setup_steps, passes_setup}
 use Rattle.network_model.proofs.ToldFact.{own_after, pass_tells}
 use Rattle.network_model.proofs.Twins.{found_changed}
 
@@ -127,9 +126,17 @@ module _ (size : Name → Message → ℕ) (w : Network) where
   delivered_told from to e = subst (λ c. NodeHasTold (cond c w (pass to (change_session to from arrived w))) to) (sym e) (pass_tells to (change_session to from arrived w))
 
   -- ---- edits
-  pub edit_made : (d : Edit) → edit_fault w.setup d ≡ None → (next size w (Edits d)).setup ≡ record { topology = w.setup.topology; config = config_edited d w.setup.config }
+  moved_setup : (m : Option Move) (v : Network) → (moved m v).setup ≡ v.setup
+  moved_setup None v = refl
+  moved_setup (Some m) v = passes_setup m.left (record { setup = v.setup; sessions = replaced m.name (brought v.setup.topology.controllers m.now) v.sessions })
+
+  pub edit_made : (d : Edit) → edit_fault (checked w.setup) d ≡ None → checked (next size w (Edits d)).setup ≡ checked_edited d (checked w.setup)
   unfolding next
-  edit_made d e = ap (λ (o : Option EditFault). (edits (edited_without o w.setup d) w).setup) e
+  edit_made d e =
+      let m = moves d w.setup.topology in
+      let x : Setup = remade (checked_edited d (checked w.setup)) (renumbered m w.setup.numbers) in
+      ap (λ (o : Option EditFault). checked (edits m (edited_without o w.setup d) w).setup) e
+      ∙ ap checked (moved_setup m (record { setup = x; sessions = w.sessions }))
 
 pub shut_closed : (s : Session) → IsClosed (shut s).near × IsLost (shut s)
 shut_closed s = (
@@ -141,25 +148,6 @@ pub lost_lost : (s : Session) → IsLost (lost s)
 lost_lost s = record { near_flight = refl; far_flight = refl; near_notice = λ e. e; far_notice = λ e. e }
 
 -- ---- the configuration stays
-abbrev pub HasSetup : Checked → Network → Type 0
-HasSetup x w = w.setup ≡ x
-
-pub setup_connects : (x : Checked) → Connects (HasSetup x)
-setup_connects x a b w may some e =
-    let u = pass a (change_session a b opened w) in
-    elim (is_broken u a b) as (λ c. (cond c u (pass b (change_session a b (around opened) u))).setup ≡ x) [ true ↦ e | false ↦ e ]
-
-setup_steps : (size : Name → Message → ℕ) (x : Checked) → Steps size (HasSetup x)
-setup_steps size x = record {
-  takes = λ from to w e. e;
-  octets = λ from to n w e. e;
-  loses = λ a b w e. e;
-  connects = setup_connects x;
-  restarts = λ n w e. e;
-  clears = λ w e. e;
-  breaks = λ a b n w e. e;
-}
-
 pub setup_kept : (size : Name → Message → ℕ) (w : Network) (e : Event) → ((d : Edit) → e ≢ Edits d) → (next size w e).setup ≡ w.setup
 setup_kept size w e no_edit = next_walk size (HasSetup w.setup) (setup_steps size w.setup) w e (λ d is _. absurd (no_edit d is)) refl
 

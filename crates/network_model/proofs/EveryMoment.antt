@@ -9,13 +9,14 @@ use Rattle.node_model.specs.Maps.{Change}
 use Rattle.node_model.specs.Step.{Phase, Idle, Opened, Confirmed, Up}
 use Rattle.network_model.specs.Setup.{Name}
 use Rattle.network_model.specs.Session.{End, Session, Message, Open, Keepalive, Hello, Carries, turned, is_idle, is_live, is_peering, may_send_at, with_phase, shut, told, peer_took, item_took, took}
-use Rattle.network_model.specs.Network.{Network, start}
+use Rattle.network_model.specs.Network.{AreNamed, Network, start}
 use Rattle.network_model.specs.Events.{Event, after}
 use Rattle.network_model.specs.Moments.{Each, greeted, heard, cell, NoneGoesDown, IsPartly, IsProperEnd, IsFlowing, IsJoined, IsLost, NodeHasTold, ArePositive}
 use Rattle.network_model.proofs.SessionFact.{sends, told_cases, greetings, meets, Flows, Fact, Fact-turned, live_receiver, tidy_near}
 use Rattle.network_model.proofs.NetworkFact.{after_sound}
 use Rattle.network_model.proofs.ToldNext.{after_told}
-use Rattle.network_model.proofs.Start.{start_sound, start_told, start_fits}
+use Rattle.network_model.proofs.Start.{start_sound, start_told}
+use Rattle.network_model.proofs.Listed.{start_placed}
 
 -- ---- states and greetings
 not_idle : (p : Phase) → not (is_idle p) ≡ true → p ≢ Idle
@@ -158,8 +159,8 @@ module _ (size : Name → Message → ℕ) where
     pub down_are_lost : Each (λ s. s.is_down ≡ true → IsLost s) now.sessions
     down_are_lost = each_now (λ s. s.is_down ≡ true → IsLost s) lost_is
 
-    pub nodes_have_told : (n : Name) → NodeHasTold now n
-    nodes_have_told = after_told size (start x) es (start_fits x) (start_told x)
+    pub nodes_have_told : AreNamed x.topology → (n : Name) → NodeHasTold now n
+    nodes_have_told named = after_told size (start x) es (start_placed x named) (start_told x)
 
 -- ---- cells
 told_shut : (ms : List Message) (s : Session) → (told ms s).is_down ≡ false → (told ms s).near.phase ≡ s.near.phase

@@ -14,7 +14,7 @@ use Rattle.ov_types.specs.declared.objects.LowKey.{LowKey}
 use Rattle.ov_types.specs.declared.objects.LowValue.{LowValue}
 use Rattle.ov_sync.proofs.Ascending.{entries-empty, put-insert_entry}
 use Rattle.ov_sync.proofs.EmbedLaws.{entries-embedded}
-use Rattle.config_check.specs.Checked.{Checked}
+use Rattle.network_model.specs.Setup.{Setup}
 use Rattle.transform_model.specs.Objects.{Object, objects as made, with_objects, low_objects}
 use Rattle.transform_model.specs.Uses.{Use, uses}
 use Rattle.node_model.specs.Members.{Member}
@@ -24,7 +24,7 @@ use Rattle.node_model.specs.Maps.{low_entry, objects}
 use Rattle.node_model.specs.Wants.{slice_entry}
 use Rattle.node_model.proofs.Images.{low_keeps}
 use Rattle.node_model.proofs.Orders.{key_total, key_exact}
-use Rattle.network_model.specs.Setup.{low, longest, longest_of}
+use Rattle.network_model.specs.Setup.{low, low_in, longest, longest_in, longest_of}
 
 -- ---- the order of low-level keys
 same_cmp : (λ (a : LowKey) (b : LowKey). key_cmp (Low a) (Low b)) ≡ low_key_cmp
@@ -55,16 +55,16 @@ with_all : (m : Objects) (os : List Object) → with_objects (entries m) os ≡ 
 with_all m [] = refl
 with_all m (o ∷ os) = ap (λ (es : List Object). with_objects es os) (put_entry m o.0 o.1) ∙ with_all (insert m o.0 o.1) os
 
-low_map : Checked → Objects
+low_map : Setup → Objects
 low_map x = put_all empty (made x.topology x.config)
 
-entries-low_map : (x : Checked) → entries (low_map x) ≡ low_objects x.topology x.config
+entries-low_map : (x : Setup) → entries (low_map x) ≡ low_objects x.topology x.config
 unfolding low_map low_objects
 entries-low_map x = sym (with_all empty (made x.topology x.config)) ∙ ap (λ (es : List Object). with_objects es (made x.topology x.config)) (entries-empty {V = LowValue} low_key_cmp)
 
 -- ---- the map that is told
-pub entries-low : (x : Checked) → entries (low x) ≡ map slice_entry (low_objects x.topology x.config)
-unfolding low
+pub entries-low : (x : Setup) → entries (low x) ≡ map slice_entry (low_objects x.topology x.config)
+unfolding low_in
 entries-low x =
     ap (λ (es : List Object). entries (from_entries {R = key_cmp} (map slice_entry es))) (sym (entries-low_map x))
     ∙ entries-embedded {R = low_key_cmp} {S = key_cmp} Low ObjectOf low_total key_total low_keeps low_exact (low_map x)
@@ -74,7 +74,7 @@ objects_again : (es : List Object) → filter_map (λ (e : Key × Value). low_en
 objects_again [] = refl
 objects_again (e ∷ es) = λ i. e ∷ objects_again es i
 
-pub objects-low : (x : Checked) → objects (low x) ≡ low_objects x.topology x.config
+pub objects-low : (x : Setup) → objects (low x) ≡ low_objects x.topology x.config
 objects-low x = ap (filter_map (λ (e : Key × Value). low_entry e.0 e.1)) (entries-low x) ∙ objects_again (low_objects x.topology x.config)
 
 -- ---- the longest chain in effect
@@ -108,10 +108,10 @@ longest_is_one : (us : List Use) → IsOfOne us (longest_of us)
 longest_is_one [] = inl refl
 longest_is_one (w ∷ us) = of_either w us (length w.services) (longest_of us) refl (longest_is_one us)
 
-pub longest_bounds : (x : Checked) (u : Use) → Member u (uses x.config) → length u.services ≤ longest x
-unfolding longest
+pub longest_bounds : (x : Setup) (u : Use) → Member u (uses x.config) → length u.services ≤ longest x
+unfolding longest_in
 longest_bounds x u m = within_longest (uses x.config) u m
 
-pub longest_met : (x : Checked) → (longest x ≡ 0) ⊎ ((u : Use) × Member u (uses x.config) × (length u.services ≡ longest x))
-unfolding longest
+pub longest_met : (x : Setup) → (longest x ≡ 0) ⊎ ((u : Use) × Member u (uses x.config) × (length u.services ≡ longest x))
+unfolding longest_in
 longest_met x = longest_is_one (uses x.config)

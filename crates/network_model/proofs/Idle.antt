@@ -9,7 +9,7 @@ use Rattle.config_check.specs.Edits.{edit_fault}
 use Rattle.config_check.specs.declared.edits.EditFault.{EditFault}
 use Rattle.schedule_script.specs.declared.answer.Answer.{Answer}
 use Rattle.schedule_script.specs.declared.answer.Answer.TheVariants.{Idle, EditRefused}
-use Rattle.network_model.specs.Setup.{Name, edited_without}
+use Rattle.network_model.specs.Setup.{Name, checked, edited_without, moves}
 use Rattle.network_model.specs.Session.{Message, Session, turned, lost, shut, octets_arrived, arrived}
 use Rattle.network_model.specs.Network.{Network}
 use Rattle.network_model.specs.Steps.{joins, with_session, change_session, change_node, pass, session_in, session_of, in_flight, repeat, deliver, is_broken, connect, may_connect, connect_found, connect_if}
@@ -94,7 +94,7 @@ edit_not_idle (Some f) e = true≢false (sym e)
 module _ (size : Name → Message → ℕ) where
   same : (w : Network) (e : Event) → was_idle (answer_to w e) ≡ true → next size w e ≡ w
   unfolding next
-  same w (Edits d) e = absurd (edit_not_idle (edit_fault w.setup d) e)
+  same w (Edits d) e = absurd (edit_not_idle (edit_fault (checked w.setup) d) e)
   same w (Deliver from to n) e = deliver_same n from to w (idle_where (in_flight w from to == 0) e)
   same w (DeliverOctets from to n) e = ap (λ b. cond b w (pass to (change_session to from (octets_arrived size n) w))) (idle_where (in_flight w from to == 0) e)
   same w (Lose a b) e = lose_same (session_of w a b) a b w (idle_where (is_broken w a b) e)
@@ -125,7 +125,7 @@ module _ (size : Name → Message → ℕ) where
   left : (w : Network) (e : Event) → was_refused (answer_to w e) ≡ true → next size w e ≡ w
   unfolding next
   left w (Edits d) e =
-      elim (edit_fault w.setup d) as (λ o. was_refused (edit_answer o) ≡ true → edits (edited_without o w.setup d) w ≡ w) [ None ↦ λ e. absurd (true≢false (sym e)) | Some f ↦ λ _. refl ] e
+      elim (edit_fault (checked w.setup) d) as (λ o. was_refused (edit_answer o) ≡ true → edits (moves d w.setup.topology) (edited_without o w.setup d) w ≡ w) [ None ↦ λ e. absurd (true≢false (sym e)) | Some f ↦ λ _. refl ] e
   left w (Deliver from to n) e = absurd (not_edit (in_flight w from to == 0) e)
   left w (DeliverOctets from to n) e = absurd (not_edit (in_flight w from to == 0) e)
   left w (Lose a b) e = absurd (not_edit (is_broken w a b) e)

@@ -19,7 +19,7 @@ use Rattle.schedule_script.specs.declared.answer.Answer.{Answer}
 use Rattle.schedule_script.specs.declared.answer.Answer.TheVariants.{Did, Idle, EditRefused, Shown}
 use Rattle.node_model.specs.Members.{Member}
 use Rattle.node_model.proofs.Members.{none_some, any_in, from_any}
-use Rattle.network_model.specs.Setup.{Name}
+use Rattle.network_model.specs.Setup.{Name, checked}
 use Rattle.network_model.specs.Session.{Message, Session, waiting}
 use Rattle.network_model.specs.Network.{Network}
 use Rattle.network_model.specs.Steps.{session_of, in_flight, is_broken, may_connect}
@@ -127,7 +127,7 @@ edit_not_idle None e = not_idle Did refl e
 edit_not_idle (Some f) e = not_idle (EditRefused f) refl e
 
 pub idle_exactly : (w : Network) (e : Event) → (answer_to w e ≡ Idle) ↔ HasNothingToDo w e
-idle_exactly w (Edits d) = ((λ e. absurd (edit_not_idle (edit_fault w.setup d) e)), (λ h. absurd h))
+idle_exactly w (Edits d) = ((λ e. absurd (edit_not_idle (edit_fault (checked w.setup) d) e)), (λ h. absurd h))
 idle_exactly w (Deliver from to n) = idle_flight w from to
 idle_exactly w (DeliverOctets from to n) = idle_flight w from to
 idle_exactly w (Lose a b) = both (unless_is (is_broken w a b)) (found_is (λ s. s.is_down ≡ true) (λ s. s.is_down) (λ s. ((λ e. e), (λ e. e))) (session_of w a b))
@@ -148,5 +148,5 @@ refused_as : (o : Option EditFault) (f : EditFault) → (edit_answer o ≡ EditR
 refused_as None f = ((λ e. ap fault_in e), (λ e. absurd (none_some f e)))
 refused_as (Some g) f = ((λ e. ap fault_in e), (λ e. ap edit_answer e))
 
-pub refused_exactly : (w : Network) (d : Edit) (f : EditFault) → (answer_to w (Edits d) ≡ EditRefused f) ↔ (edit_fault w.setup d ≡ Some f)
-refused_exactly w d f = refused_as (edit_fault w.setup d) f
+pub refused_exactly : (w : Network) (d : Edit) (f : EditFault) → (answer_to w (Edits d) ≡ EditRefused f) ↔ (edit_fault (checked w.setup) d ≡ Some f)
+refused_exactly w d f = refused_as (edit_fault (checked w.setup) d) f

@@ -8,17 +8,17 @@ use Rattle.std.proofs.lemmas.Option.{same_Some}
 use Rattle.std.proofs.lemmas.Bool.{true≢false, and_parts, not-true}
 use Rattle.std.proofs.Common.{refl, sym, ◌∙◌, ap, subst, inl, inr}
 use Rattle.node_model.specs.Maps.{Map, difference}
-use Rattle.config_check.specs.Checked.{Checked}
-use Rattle.network_model.specs.Setup.{Name, edited}
+use Rattle.network_model.specs.Setup.{Name, Setup, Move, edited, moves}
 use Rattle.ov_types.specs.First.{same_name}
 use Rattle.ov_link.specs.Breaks.{with_break}
-use Rattle.network_model.specs.Session.{Message, Carries, Session, turned, may_send, shut, lost, told, passed, opened, arrived, octets_arrived}
-use Rattle.network_model.specs.Network.{Network, is_at, wanted, view, views_of, config}
-use Rattle.network_model.specs.Events.{Event, edits, add_break, after}
+use Rattle.network_model.specs.Session.{Role, Message, Carries, Session, turned, may_send, shut, lost, told, passed, opened, arrived, octets_arrived}
+use Rattle.network_model.specs.Network.{Network, is_at, wanted, view, views_of, config, fresh, brought, replaced}
+use Rattle.network_model.specs.Events.{Event, edits, passes, moved, add_break, after}
 use Rattle.network_model.specs.Steps.{at_node, joins, with_session, change_session, pass, session_in, round, is_broken, around, open_second, connect, may_connect, connect_all, without_breaks}
 pub use Rattle.network_model.specs.Moments.{Each, Nodes, nodes}
 use Rattle.network_model.proofs.SessionFact.{sends, told_cases, Down, Fact, Fact-turned, shut_down, lost_down, tidy_near, tidy_far, passed_keeps, arrived_keeps, octets_arrived_keeps}
 use Rattle.network_model.proofs.Walk.{Steps, round_walk, connections_walk, after_walk}
+use Rattle.network_model.proofs.Replaced.{each_replaced, each_brought}
 use Rattle.network_model.proofs.Opening.{Opening, opened_half, opening_passed, opening_passed_far, opened_far}
 
 -- ---- lists of sessions
@@ -63,9 +63,29 @@ module _ (size : Name → Message → ℕ) (positive : (n : Name) (m : Message) 
   take_sound : (to from : Name) (f : Session → Session) → ((s : Session) → Fact size s → Fact size (f s)) → (w : Network) → IsSound w → IsSound (pass to (change_session to from f w))
   take_sound to from f h w e = pass_sound to (change_session to from f w) (with_session_keeps (Fact size) (Fact-turned size) f h to from w.sessions e)
 
-  edits_sound : (o : Option Checked) (w : Network) → IsSound w → IsSound (edits o w)
-  edits_sound None w e = e
-  edits_sound (Some x) w e = pass_sound config (record { setup = x; sessions = w.sessions }) e
+  passes_sound : (ns : List Name) (w : Network) → IsSound w → IsSound (passes ns w)
+  passes_sound [] w e = e
+  passes_sound (n ∷ ns) w e = passes_sound ns (pass n w) (pass_sound n w e)
+
+  fresh_sound : (n m : Name) (r q : Role) → Fact size (record { is_down = true; near = fresh n r; far = fresh m q })
+  fresh_sound n m r q = inr (record {
+    down = refl;
+    near = record { notice = refl; flight = refl; taken = refl; tidy = λ _. (refl, refl) };
+    far = record { notice = refl; flight = refl; taken = refl; tidy = λ _. (refl, refl) };
+  })
+
+  pub moved_sound : (m : Option Move) (w : Network) → IsSound w → IsSound (moved m w)
+  moved_sound None w e = e
+  moved_sound (Some m) w e =
+      let new : List Session = brought w.setup.topology.controllers m.now in
+      passes_sound m.left (record { setup = w.setup; sessions = replaced m.name new w.sessions })
+      (each_replaced (Fact size) (Fact size) m.name (λ s off f. f) new w.sessions (each_brought (Fact size) fresh_sound w.setup.topology.controllers m.now) e)
+
+  edits_sound : (m : Option Move) (o : Option Setup) (w : Network) → IsSound w → IsSound (edits m o w)
+  edits_sound m None w e = e
+  edits_sound m (Some x) w e =
+      let v : Network = record { setup = x; sessions = w.sessions } in
+      pass_sound config (moved m v) (moved_sound m v e)
 
   -- breaks are not part of the fact
   pub breaks_apart : (near far : List ℕ) (s : Session) → Fact size s → Fact size (record { is_down = s.is_down; near = record s.near { breaks = near }; far = record s.far { breaks = far } })
@@ -275,4 +295,4 @@ module _ (size : Name → Message → ℕ) (positive : (n : Name) (m : Message) 
   connect_all_sound = connections_walk (IsSound size positive) sound_steps.connects
 
   pub after_sound : (w : Network) (es : List Event) → IsSound size positive w → IsSound size positive (after size w es)
-  after_sound = after_walk size (IsSound size positive) sound_steps (λ d w. edits_sound size positive (edited w.setup d) w)
+  after_sound = after_walk size (IsSound size positive) sound_steps (λ d w. edits_sound size positive (moves d w.setup.topology) (edited w.setup d) w)

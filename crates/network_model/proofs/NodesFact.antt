@@ -1,15 +1,14 @@
 -- The sessions and their nodes stay.
 use Rattle.std.specs.Prelude.{◌≡◌, ℕ, ◌+◌, ◌-◌, List, [], ◌∷◌, map, true, false, cond, nat_lt}
-use Rattle.std.specs.declared.option.Option.{Option}
-use Rattle.std.specs.declared.option.Option.TheVariants.{Some, None}
-use Rattle.std.proofs.Common.{refl, ◌∙◌, ap}
-use Rattle.network_model.specs.Setup.{Name, edited}
+use Rattle.std.proofs.Common.{refl, sym, ◌∙◌, ap, subst}
+use Rattle.config_model.specs.declared.edit.Edit.{Edit}
+use Rattle.network_model.specs.Setup.{Name, edited, moves}
 use Rattle.node_model.specs.Step.{Phase, Idle, Opened, Confirmed, Up}
 use Rattle.network_model.specs.Session.{Message, Open, Keepalive, Hello, Carries, Session, turned, closed, is_peering, shut, lost, passed, opened, with_phase, peer_took, item_took, took, without_first, took_first, arrived, took_octets, octets_arrived}
-use Rattle.network_model.specs.Network.{Network, wanted, view, views_of, config}
-use Rattle.network_model.specs.Events.{Event, edits, add_break, next, after}
-use Rattle.network_model.specs.Steps.{at_node, joins, with_session, change_session, pass, round, is_broken, around, open_second, connect_if, connect_all, without_breaks}
-use Rattle.config_check.specs.Checked.{Checked}
+use Rattle.network_model.specs.Network.{Network, wanted, view, views_of}
+use Rattle.network_model.specs.Events.{Event, edits, passes, add_break, next, after}
+use Rattle.network_model.specs.Steps.{at_node, joins, with_session, change_session, pass, round, is_broken, around, open_second, connect, connect_if, connect_all, without_breaks}
+use Rattle.network_model.specs.Setup.{Setup}
 use Rattle.network_model.proofs.Walk.{Takes, Connects, Steps, round_walk, connect_walk, connections_walk, next_walk, after_walk}
 use Rattle.network_model.proofs.NetworkFact.{Nodes, nodes, KeepsNodes, told_nodes, passed_nodes, opened_nodes, at_node_nodes}
 
@@ -106,23 +105,56 @@ module _ (size : Name → Message → ℕ) where
   unfolding octets_arrived
   octets_nodes n s = elim s.near.notice as (λ b. nodes (cond b (record s { near = closed s.near }) (took_octets size n s.far.flight s)) ≡ nodes s) [ true ↦ refl | false ↦ took_octets_nodes s.far.flight n s ]
 
-  nodes_steps : (ps : List Nodes) → Steps size (HaveNodes ps)
-  nodes_steps ps = record {
-    takes = takes_nodes ps;
-    octets = λ from to n w e. step_nodes to to from (octets_arrived size n) (octets_nodes n) w ∙ e;
-    loses = λ a b w e. session_nodes a b lost (λ s. refl) w.sessions ∙ e;
-    connects = connects_nodes ps;
-    restarts = λ n w e. map_nodes (at_node n shut) (at_node_nodes n shut (λ s. refl)) w.sessions ∙ e;
-    clears = λ w e. map_nodes without_breaks (λ s. refl) w.sessions ∙ e;
-    breaks = λ a b n w e. session_nodes a b (add_break n) (λ s. refl) w.sessions ∙ e;
+-- ---- the setup stays
+abbrev pub HasSetup : Setup → Network → Type 0
+HasSetup x w = w.setup ≡ x
+
+pub setup_connects : (x : Setup) → Connects (HasSetup x)
+setup_connects x a b w may some e =
+    let u = pass a (change_session a b opened w) in
+    elim (is_broken u a b) as (λ c. (cond c u (pass b (change_session a b (around opened) u))).setup ≡ x) [ true ↦ e | false ↦ e ]
+
+pub setup_steps : (size : Name → Message → ℕ) (x : Setup) → Steps size (HasSetup x)
+setup_steps size x = record {
+  takes = λ from to w e. e;
+  octets = λ from to n w e. e;
+  loses = λ a b w e. e;
+  connects = setup_connects x;
+  restarts = λ n w e. e;
+  clears = λ w e. e;
+  breaks = λ a b n w e. e;
+}
+
+-- ---- what is said of the setup and of the nodes of all sessions, every event but an edit keeps
+abbrev pub Holds : (Setup → List Nodes → Type 0) → Network → Type 0
+Holds Q w = Q w.setup (map nodes w.sessions)
+
+module _ (size : Name → Message → ℕ) (Q : Setup → List Nodes → Type 0) where
+  pub holds_steps : Steps size (Holds Q)
+  holds_steps = record {
+    takes = λ from to w q. subst (Q w.setup) (sym (step_nodes to to from arrived arrived_nodes w)) q;
+    octets = λ from to n w q. subst (Q w.setup) (sym (step_nodes to to from (octets_arrived size n) (octets_nodes size n) w)) q;
+    loses = λ a b w q. subst (Q w.setup) (sym (session_nodes a b lost (λ s. refl) w.sessions)) q;
+    connects = λ a b w may some q.
+        let kept : (connect a b w).setup ≡ w.setup = setup_connects w.setup a b w may some refl in
+        let same : map nodes (connect a b w).sessions ≡ map nodes w.sessions = connects_nodes (map nodes w.sessions) a b w may some refl in
+        subst (λ (x : Setup). Q x (map nodes (connect a b w).sessions)) (sym kept) (subst (Q w.setup) (sym same) q);
+    restarts = λ n w q. subst (Q w.setup) (sym (map_nodes (at_node n shut) (at_node_nodes n shut (λ s. refl)) w.sessions)) q;
+    clears = λ w q. subst (Q w.setup) (sym (map_nodes without_breaks (λ s. refl) w.sessions)) q;
+    breaks = λ a b n w q. subst (Q w.setup) (sym (session_nodes a b (add_break n) (λ s. refl) w.sessions)) q;
   }
 
-  edits_nodes : (ps : List Nodes) (o : Option Checked) (w : Network) → HaveNodes ps w → HaveNodes ps (edits o w)
-  edits_nodes ps None w e = e
-  edits_nodes ps (Some x) w e = pass_nodes config (record { setup = x; sessions = w.sessions }) ∙ e
+  module _ (edit : (d : Edit) (w : Network) → Holds Q w → Holds Q (edits (moves d w.setup.topology) (edited w.setup d) w)) where
+    pub next_holds : (w : Network) (e : Event) → Holds Q w → Holds Q (next size w e)
+    next_holds w e q = next_walk size (Holds Q) holds_steps w e (λ d _. edit d w) q
 
-  pub next_nodes : (w : Network) (e : Event) → SameNodes w (next size w e)
-  next_nodes w e = let ps = map nodes w.sessions in next_walk size (HaveNodes ps) (nodes_steps ps) w e (λ d _. edits_nodes ps (edited w.setup d) w) refl
+    pub after_holds : (w : Network) (es : List Event) → Holds Q w → Holds Q (after size w es)
+    after_holds w es q = after_walk size (Holds Q) holds_steps edit w es q
 
-  pub after_nodes : (w : Network) (es : List Event) → SameNodes w (after size w es)
-  after_nodes w es = let ps = map nodes w.sessions in after_walk size (HaveNodes ps) (nodes_steps ps) (λ d w. edits_nodes ps (edited w.setup d) w) w es refl
+pub passes_nodes : (ns : List Name) (w : Network) → SameNodes w (passes ns w)
+passes_nodes [] w = refl
+passes_nodes (n ∷ ns) w = passes_nodes ns (pass n w) ∙ pass_nodes n w
+
+pub passes_setup : (ns : List Name) (w : Network) → (passes ns w).setup ≡ w.setup
+passes_setup [] w = refl
+passes_setup (n ∷ ns) w = passes_setup ns (pass n w)

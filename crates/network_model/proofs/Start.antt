@@ -1,69 +1,58 @@
 -- The fact of the start.
-use Rattle.std.specs.Prelude.{◌≡◌, ℕ, ◌<◌, List, [], ◌∷◌, ◌++◌, map, true, false, cond}
+use Rattle.std.specs.Prelude.{◌≡◌, ℕ, ◌<◌, List, [], ◌∷◌, true, false, cond}
 use Rattle.std.specs.declared.option.Option.TheVariants.{Some, None}
 use Rattle.std.specs.List.{filter, cons_option}
 use Rattle.std.proofs.lemmas.Bool.{true≢false}
 use Rattle.std.proofs.Common.{refl, sym, ◌∙◌, inr}
 use Rattle.config_check.specs.Checked.{Checked}
-use Rattle.network_model.specs.Setup.{Name}
+use Rattle.network_model.specs.Setup.{Name, Setup, lists, opening}
 use Rattle.ov_types.specs.declared.rows.NodeId.{NodeId}
 use Rattle.config_model.specs.declared.topology.Node.{Node}
 use Rattle.network_model.specs.Session.{Role, Configuration, Controller, Agent, Message, Session, turned}
-use Rattle.network_model.specs.Network.{start, peerings, accesses, fresh, lists, config, sessions_of, is_at}
+use Rattle.network_model.specs.Network.{start, peerings, accesses, fresh, config, sessions_of, is_at}
 use Rattle.network_model.proofs.SessionFact.{DownEnd, Down, Fact}
 use Rattle.network_model.proofs.NetworkFact.{Each, IsSound, nodes}
 use Rattle.network_model.specs.Moments.{HasTold}
-use Rattle.network_model.proofs.ToldNext.{AllHaveTold, RolesFit, Fits}
+use Rattle.network_model.proofs.Replaced.{each_append, each_of}
+use Rattle.network_model.proofs.ToldNext.{AllHaveTold}
 
 -- a session that is down, with ends that have nothing
 abbrev Is_fresh : Session → Type 0
-Is_fresh s = Down s × Fits (s.near.name, s.near.role) × Fits (s.far.name, s.far.role)
+Is_fresh s = Down s
 
 fresh_end : (n : Name) (r : Role) → DownEnd (fresh n r)
 fresh_end n r = record { notice = refl; flight = refl; taken = refl; tidy = λ _. (refl, refl) }
 
-fresh_session : (n m : Name) (r q : Role) → Fits (n, r) → Fits (m, q) → Is_fresh (record { is_down = true; near = fresh n r; far = fresh m q })
-fresh_session n m r q f g = (record { down = refl; near = fresh_end n r; far = fresh_end m q }, f, g)
-
-each_append : (P : Session → Type 0) (ss ts : List Session) → Each P ss → Each P ts → Each P (ss ++ ts)
-each_append P [] ts a b = b
-each_append P (s ∷ ss) ts a b = (a.0, each_append P ss ts a.1 b)
-
-each_of : {A : Type 0} (P : Session → Type 0) (f : A → Session) → ((a : A) → P (f a)) → (xs : List A) → Each P (map f xs)
-each_of P f h [] = tt
-each_of P f h (x ∷ xs) = (h x, each_of P f h xs)
+fresh_session : (n m : Name) (r q : Role) → Is_fresh (record { is_down = true; near = fresh n r; far = fresh m q })
+fresh_session n m r q = record { down = refl; near = fresh_end n r; far = fresh_end m q }
 
 peerings_fresh : (cs : List NodeId) → Each Is_fresh (peerings cs)
 peerings_fresh [] = tt
-peerings_fresh (c ∷ cs) = each_append Is_fresh _ _ (each_of Is_fresh (λ d. record { is_down = true; near = fresh c.name Controller; far = fresh d.name Controller }) (λ d. fresh_session c.name d.name Controller Controller (λ e. cc) (λ e. cc)) cs) (peerings_fresh cs)
+peerings_fresh (c ∷ cs) = each_append Is_fresh _ _ (each_of Is_fresh (λ d. record { is_down = true; near = fresh c.name Controller; far = fresh d.name Controller }) (λ d. fresh_session c.name d.name Controller Controller) cs) (peerings_fresh cs)
 
 accesses_fresh : (cs : List NodeId) (ns : List Node) → Each Is_fresh (accesses cs ns)
 accesses_fresh cs [] = tt
-accesses_fresh cs (n ∷ ns) = each_append Is_fresh _ _ (each_of Is_fresh (λ (c : NodeId). record { is_down = true; near = fresh c.name Controller; far = fresh n.name Agent }) (λ c. fresh_session c.name n.name Controller Agent (λ e. cc) (λ e. cc)) (filter (lists n) cs)) (accesses_fresh cs ns)
+accesses_fresh cs (n ∷ ns) = each_append Is_fresh _ _ (each_of Is_fresh (λ (c : NodeId). record { is_down = true; near = fresh c.name Controller; far = fresh n.name Agent }) (λ c. fresh_session c.name n.name Controller Agent) (filter (lists n) cs)) (accesses_fresh cs ns)
 
 start_fresh : (x : Checked) → Each Is_fresh (start x).sessions
 start_fresh x =
     each_append Is_fresh _ _ (each_append Is_fresh _ _
-    (each_of Is_fresh (λ (c : NodeId). record { is_down = true; near = fresh config Configuration; far = fresh c.name Controller }) (λ c. fresh_session config c.name Configuration Controller (λ _. refl) (λ e. cc)) x.topology.controllers)
+    (each_of Is_fresh (λ (c : NodeId). record { is_down = true; near = fresh config Configuration; far = fresh c.name Controller }) (λ c. fresh_session config c.name Configuration Controller) x.topology.controllers)
     (peerings_fresh x.topology.controllers)) (accesses_fresh x.topology.controllers x.topology.nodes)
 
 sound_of : (size : Name → Message → ℕ) (ss : List Session) → Each Is_fresh ss → Each (Fact size) ss
 sound_of size [] e = tt
-sound_of size (s ∷ ss) e = (inr e.0.0, sound_of size ss e.1)
-
-fits_of : (ss : List Session) → Each Is_fresh ss → RolesFit (map nodes ss)
-fits_of [] e = tt
-fits_of (s ∷ ss) e = ((e.0.1, e.0.2), fits_of ss e.1)
+sound_of size (s ∷ ss) e = (inr e.0, sound_of size ss e.1)
 
 own_down : (n : Name) (ss : List Session) → Each Is_fresh ss → Each (λ s. s.is_down ≡ true) (sessions_of n ss)
 own_down n [] e = tt
 own_down n (s ∷ ss) e =
     elim (is_at n s.near) as (λ b. Each (λ s. s.is_down ≡ true) (cons_option (cond b (Some s) (cond (is_at n s.far) (Some (turned s)) None)) (sessions_of n ss))) [
-      | true ↦ (e.0.0.down, own_down n ss e.1)
-      | false ↦ elim (is_at n s.far) as (λ b. Each (λ s. s.is_down ≡ true) (cons_option (cond b (Some (turned s)) None) (sessions_of n ss))) [ true ↦ (e.0.0.down, own_down n ss e.1) | false ↦ own_down n ss e.1 ]
+      | true ↦ (e.0.down, own_down n ss e.1)
+      | false ↦ elim (is_at n s.far) as (λ b. Each (λ s. s.is_down ≡ true) (cons_option (cond b (Some (turned s)) None) (sessions_of n ss))) [ true ↦ (e.0.down, own_down n ss e.1) | false ↦ own_down n ss e.1 ]
     ]
 
-down_told : (x : Checked) (own : List Session) → Each (λ s. s.is_down ≡ true) own → HasTold x own
+down_told : (x : Setup) (own : List Session) → Each (λ s. s.is_down ≡ true) own → HasTold x own
 down_told x [] e w = tt
 down_told x (s ∷ own) e w = absurd (true≢false (sym e.0 ∙ w.0))
 
@@ -71,10 +60,7 @@ pub start_sound : (size : Name → Message → ℕ) (positive : (n : Name) (m : 
 start_sound size positive x = sound_of size (start x).sessions (start_fresh x)
 
 pub start_told : (x : Checked) → AllHaveTold (start x)
-start_told x m = down_told x (sessions_of m (start x).sessions) (own_down m (start x).sessions (start_fresh x))
-
-pub start_fits : (x : Checked) → RolesFit (map nodes (start x).sessions)
-start_fits x = fits_of (start x).sessions (start_fresh x)
+start_told x m = down_told (opening x) (sessions_of m (start x).sessions) (own_down m (start x).sessions (start_fresh x))
 
 -- what holds of each fresh session
 pub start_each : (P : Session → Type 0) → ((n m : Name) (r q : Role) → P (record { is_down = true; near = fresh n r; far = fresh m q })) → (x : Checked) → Each P (start x).sessions

@@ -8,8 +8,7 @@ use Rattle.std.specs.Cmp.Lexicographic.{bytes_decides}
 use Rattle.std.proofs.lemmas.Bool.{true≢false, and_parts}
 use Rattle.std.proofs.Common.{refl, sym, ◌∙◌, ap, subst, inl, inr}
 use Rattle.node_model.specs.Maps.{Map, difference}
-use Rattle.config_check.specs.Checked.{Checked}
-use Rattle.network_model.specs.Setup.{Name}
+use Rattle.network_model.specs.Setup.{Name, Setup}
 use Rattle.ov_types.specs.First.{same_name}
 use Rattle.node_model.specs.Step.{Phase, Idle, Opened, Confirmed, Up}
 use Rattle.network_model.specs.Session.{Message, Open, Keepalive, Hello, Carries, End, Session, turned, closed, are_peers, is_peering, may_send_at, may_send, shut, with_breaks, told, passed, with_phase, peer_took, item_took, took, without_first, took_first, arrived}
@@ -50,7 +49,7 @@ told_touches ms s =
 pub told_from : (ms : List Message) (s t : Session) → Touches s t → Touches s (told ms t)
 told_from ms s t a = alike_trans (turned s) (turned t) (turned (told ms t)) a (told_touches ms t)
 
-passed_touches : (m : Map) (s : Session) → Touches s (passed m s)
+pub passed_touches : (m : Map) (s : Session) → Touches s (passed m s)
 unfolding passed
 passed_touches m s =
     elim (may_send s) as (λ b. Touches s (cond b (told (map Carries (difference s.near.sent m)) (record s { near = record s.near { sent = m } })) s)) [
@@ -178,7 +177,7 @@ module _ (n m : Name) (apart : same_name n m ≡ false) where
 abbrev may_view : View → Bool
 may_view v = may_send_at (are_peers v.role v.other_role) v.phase
 
-alike_views : (ss ts : List Session) → AllAlike ss ts → map view ts ≡ map view ss
+pub alike_views : (ss ts : List Session) → AllAlike ss ts → map view ts ≡ map view ss
 alike_views [] [] a = refl
 alike_views (s ∷ ss) (t ∷ ts) a = λ i. a.0.view i ∷ alike_views ss ts a.1 i
 alike_views [] (t ∷ ts) a = absurd a
@@ -190,14 +189,14 @@ alike_whole (s ∷ ss) (t ∷ ts) a w = (a.0.down w.0, alike_whole ss ts a.1 w.1
 alike_whole [] (t ∷ ts) a w = absurd a
 alike_whole (s ∷ ss) [] a w = absurd a
 
-alike_tells : (x : Checked) (vs : List View) (ss ts : List Session) → AllAlike ss ts → TellsWanted x vs ss → TellsWanted x vs ts
+pub alike_tells : (x : Setup) (vs : List View) (ss ts : List Session) → AllAlike ss ts → TellsWanted x vs ss → TellsWanted x vs ts
 alike_tells x vs [] [] a h = tt
 alike_tells x vs (s ∷ ss) (t ∷ ts) a h =
     ((λ may. a.0.sent ∙ h.0 (ap may_view (sym a.0.view) ∙ may) ∙ ap (wanted x vs) (sym a.0.view)), alike_tells x vs ss ts a.1 h.1)
 alike_tells x vs [] (t ∷ ts) a h = absurd a
 alike_tells x vs (s ∷ ss) [] a h = tt
 
-pub told_alike : (x : Checked) (ss ts : List Session) → AllAlike ss ts → HasTold x ss → HasTold x ts
+pub told_alike : (x : Setup) (ss ts : List Session) → AllAlike ss ts → HasTold x ss → HasTold x ts
 told_alike x ss ts a h whole =
     subst (λ (vs : List View). TellsWanted x vs ts) (sym (alike_views ss ts a)) (alike_tells x (map view ss) ss ts a (h (alike_whole ss ts a whole)))
 
@@ -249,7 +248,7 @@ own_after n g kept (s ∷ ss) =
     ∙ ap (cons_option (option_map g (seen_by n s))) (own_after n g kept ss)
     ∙ own_cons g (seen_by n s) (sessions_of n ss)
 
-module _ (x : Checked) (vs : List View) where
+module _ (x : Setup) (vs : List View) where
   abbrev tell : Session → Session
   tell s = passed (wanted x vs (view s)) s
 

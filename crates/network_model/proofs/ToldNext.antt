@@ -1,33 +1,28 @@
 -- Every event keeps it that a node with no session down has told what it wants.
-use Rattle.std.specs.Prelude.{◌≡◌, ◌≢◌, ℕ, ◌+◌, ◌-◌, List, [], ◌∷◌, map, Bool, true, false, cond, ◌&&◌, nat_lt, is_some}
+use Rattle.std.specs.Prelude.{◌≡◌, ℕ, ◌+◌, ◌-◌, List, [], ◌∷◌, map, Bool, true, false, cond, ◌&&◌, nat_lt, is_some}
 use Rattle.std.specs.declared.option.Option.{Option}
 use Rattle.std.specs.declared.option.Option.TheVariants.{Some, None}
 use Rattle.std.specs.Option.{option_map, unwrap_or}
-use Rattle.std.specs.List.{AllByRecursion, cons_option}
+use Rattle.std.specs.List.{cons_option}
 use Rattle.std.specs.Cmp.Lexicographic.{bytes_decides}
 use Rattle.std.proofs.lemmas.Bool.{true≢false, and_parts}
 use Rattle.std.proofs.lemmas.Option.{same_Some}
 use Rattle.std.proofs.Common.{refl, sym, ◌∙◌, ap, subst}
-use Rattle.config_check.specs.Checked.{Checked}
-use Rattle.config_model.specs.declared.edit.Edit.{Edit}
-use Rattle.config_model.specs.declared.config.Config.{Config}
-use Rattle.config_check.specs.Edits.{edit_fault, edited as config_edited}
-use Rattle.network_model.specs.Setup.{Name, edited, edited_without}
+use Rattle.network_model.specs.Setup.{Name, Setup}
 use Rattle.ov_types.specs.First.{same_name}
-use Rattle.network_model.specs.Session.{Role, Configuration, Controller, Agent, Message, Session, turned, closed, shut, lost, greeting, opened, took, without_first, took_octets, octets_arrived, arrived}
+use Rattle.network_model.specs.Session.{Message, Session, turned, closed, shut, lost, greeting, opened, took, without_first, took_octets, octets_arrived, arrived}
 use Rattle.node_model.specs.Step.{Opened}
-use Rattle.network_model.specs.Network.{Network, View, view, views_of, sessions_of, seen_by, wanted, wanted_from, wanted_from_control, is_at, config}
-use Rattle.network_model.specs.Events.{Event, edits, add_break, next, after}
+use Rattle.network_model.specs.Network.{Network, View, view, sessions_of, seen_by, is_at}
+use Rattle.network_model.specs.Events.{Event, add_break, next, after}
 use Rattle.network_model.specs.Steps.{at_node, joins, with_session, change_session, change_node, pass, session_in, round, is_broken, around, connect, connect_all, without_breaks}
 use Rattle.network_model.proofs.Walk.{Takes, Connects, Steps, round_walk, connections_walk, next_walk}
-use Rattle.network_model.proofs.NetworkFact.{Each, Nodes, nodes, KeepsNodes, joins_kept, opened_nodes}
-use Rattle.network_model.proofs.NodesFact.{next_nodes, pass_nodes, session_nodes}
-use Rattle.network_model.specs.Moments.{AreWhole, TellsWanted, HasTold, NodeHasTold}
+use Rattle.network_model.proofs.NetworkFact.{Nodes, nodes, KeepsNodes, joins_kept, opened_nodes}
+use Rattle.network_model.proofs.NodesFact.{Holds, next_holds, pass_nodes, session_nodes}
+use Rattle.network_model.proofs.Listed.{Placed, edits_placed}
+pub use Rattle.network_model.proofs.ToldEdits.{AllHaveTold}
+use Rattle.network_model.proofs.ToldEdits.{edits_told}
+use Rattle.network_model.specs.Moments.{AreWhole, HasTold, NodeHasTold}
 use Rattle.network_model.proofs.ToldFact.{Alike, Touches, alike_refl, alike_trans, told_from, shut_touches, took_next_touches, arrived_touches, AllAlike, MaybeAlike, alike_cons, maybe_refl, all_refl, not_at, near_acts, far_acts, others_of_node, told_alike, own_after, pass_tells, pass_others, step_tells}
-
--- each node has told what it wants, unless a session of it is down
-abbrev pub AllHaveTold : Network → Type 0
-AllHaveTold w = (m : Name) → NodeHasTold w m
 
 -- ---- what no node goes by
 module _ (f : Session → Session) (near : (s : Session) → Alike s (f s)) (far : (s : Session) → Touches s (f s)) where
@@ -92,7 +87,7 @@ unbroken_told w e m =
     (map_alike without_breaks (λ s. record { view = refl; sent = refl; down = λ e. e }) (λ s. record { view = refl; sent = refl; down = λ e. e }) m w.sessions) (e m)
 
 -- ---- a restarted node has all its sessions down
-shut_told : (x : Checked) (own : List Session) → HasTold x (map shut own)
+shut_told : (x : Setup) (own : List Session) → HasTold x (map shut own)
 shut_told x [] whole = tt
 shut_told x (s ∷ own) whole = absurd (true≢false whole.0)
 
@@ -125,62 +120,6 @@ module _ (size : Name → Message → ℕ) where
         | true ↦ record { view = refl; sent = refl; down = λ e. e }
         | false ↦ took_octets_touches s.far.flight n s
       ]
-
--- ---- an edit
-abbrev pub Fits : Name × Role → Type 0
-Fits p = p.1 ≡ Configuration → same_name p.0 config ≡ true
-
--- only the configuration node has its role
-abbrev pub RolesFit : List Nodes → Type 0
-RolesFit ps = AllByRecursion (λ p. Fits p.0 × Fits p.1) ps
-
-abbrev NearFits : Name → Session → Type 0
-NearFits m s = (is_at m s.near ≡ true) × Fits (s.near.name, s.near.role)
-
-own_fits : (m : Name) (ss : List Session) → RolesFit (map nodes ss) → Each (NearFits m) (sessions_of m ss)
-own_fits m [] r = tt
-own_fits m (s ∷ ss) r =
-    elim (is_at m s.near) as (λ b. is_at m s.near ≡ b → Each (NearFits m) (cons_option (cond b (Some s) (cond (is_at m s.far) (Some (turned s)) None)) (sessions_of m ss))) [
-      | true ↦ λ at. ((at, r.0.0), own_fits m ss r.1)
-      | false ↦ λ _. elim (is_at m s.far) as (λ b. is_at m s.far ≡ b → Each (NearFits m) (cons_option (cond b (Some (turned s)) None) (sessions_of m ss))) [
-        | true ↦ λ at. ((at, r.0.1), own_fits m ss r.1)
-        | false ↦ λ _. own_fits m ss r.1
-      ] refl
-    ] refl
-
--- an edit changes the configuration alone
-abbrev with_config : Checked → Config → Checked
-with_config x c = record { topology = x.topology; config = c }
-
-same_wanted : (x : Checked) (c : Config) (vs : List View) (v : View) (r : Role) → r ≢ Configuration → wanted_from (with_config x c) vs v r ≡ wanted_from x vs v r
-same_wanted x c vs v Configuration h = absurd (h refl)
-same_wanted x c vs v Controller h = by_other v.other_role
-  where
-    by_other : (r : Role) → wanted_from_control (with_config x c) vs v r ≡ wanted_from_control x vs v r
-    by_other Configuration = refl
-    by_other Controller = refl
-    by_other Agent = refl
-same_wanted x c vs v Agent h = refl
-
-edit_tells : (x : Checked) (c : Config) (m : Name) (vs : List View) (own : List Session) → same_name config m ≡ false → Each (NearFits m) own → TellsWanted x vs own → TellsWanted (with_config x c) vs own
-unfolding wanted
-edit_tells x c m vs [] apart f h = tt
-edit_tells x c m vs (s ∷ own) apart f h =
-    let other : s.near.role ≢ Configuration = λ is. absurd (true≢false (sym ((bytes_decides config m).1 (sym ((bytes_decides s.near.name config).0 (f.0.1 is)) ∙ (bytes_decides s.near.name m).0 f.0.0)) ∙ apart)) in
-    ((λ may. h.0 may ∙ sym (same_wanted x c vs (view s) s.near.role other)), edit_tells x c m vs own apart f.1 h.1)
-
--- edited
-edits_told : (e : Edit) (w : Network) → RolesFit (map nodes w.sessions) → AllHaveTold w → AllHaveTold (edits (edited w.setup e) w)
-edits_told e w r h m =
-    elim (edit_fault w.setup e) as (λ o. NodeHasTold (edits (edited_without o w.setup e) w) m) [
-      | None ↦
-          let v : Network = record { setup = with_config w.setup (config_edited e w.setup.config); sessions = w.sessions } in
-          elim (same_name config m) as (λ c. same_name config m ≡ c → NodeHasTold (pass config v) m) [
-            | true ↦ λ is. subst (NodeHasTold (pass config v)) ((bytes_decides config m).0 is) (pass_tells config v)
-            | false ↦ λ apart. pass_others config m v apart (λ whole. edit_tells w.setup (config_edited e w.setup.config) m (views_of m w.sessions) (sessions_of m w.sessions) apart (own_fits m w.sessions r) (h m whole))
-          ] refl
-      | Some f ↦ h m
-    ]
 
 -- ---- a connection
 module _ (a b m : Name) where
@@ -310,7 +249,7 @@ module _ (size : Name → Message → ℕ) where
     breaks = break_told;
   }
 
-  pub after_told : (w : Network) (es : List Event) → RolesFit (map nodes w.sessions) → AllHaveTold w → AllHaveTold (after size w es)
-  after_told w [] r h = h
-  after_told w (e ∷ es) r h =
-      after_told (next size w e) es (subst RolesFit (sym (next_nodes size w e)) r) (next_walk size AllHaveTold told_steps w e (λ d _ h. edits_told d w r h) h)
+  pub after_told : (w : Network) (es : List Event) → Holds Placed w → AllHaveTold w → AllHaveTold (after size w es)
+  after_told w [] p h = h
+  after_told w (e ∷ es) p h =
+      after_told (next size w e) es (next_holds size Placed edits_placed w e p) (next_walk size AllHaveTold told_steps w e (λ d _ h. edits_told d w p h) h)

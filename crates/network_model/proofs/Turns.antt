@@ -11,20 +11,20 @@ use Rattle.std.proofs.Common.{refl, sym, ◌∙◌, ap, subst, inl, inr, arith}
 use Rattle.ov_types.specs.First.{same_name}
 use Rattle.node_model.specs.Maps.{Map, difference}
 use Rattle.node_model.specs.Step.{Phase, Idle, Opened, Confirmed, Up}
-use Rattle.network_model.specs.Setup.{Name}
+use Rattle.network_model.specs.Setup.{Name, checked}
 use Rattle.network_model.specs.Session.{Message, Open, Keepalive, Hello, Carries, Session, turned, closed, is_peering, may_send, told, passed, with_phase, peer_took, item_took, took, without_first, took_first, arrived, waiting}
-use Rattle.config_check.specs.Checked.{Checked}
-use Rattle.network_model.specs.Network.{Network, AreNamed, start, is_at, view, views_of, wanted}
+use Rattle.network_model.specs.Network.{Network, start, is_at, view, views_of, wanted}
 use Rattle.network_model.specs.Steps.{joins, with_session, change_session, pass, session_in, in_flight, repeat, deliver, Due, due_at, dues, notice_stands, deliver_due, deliver_all, round}
-use Rattle.network_model.specs.Events.{Deliver, Event, next, after}
+use Rattle.network_model.specs.Events.{Deliver, next, after}
 use Rattle.network_model.specs.Rounds.{is_unbroken, is_whole, taken_of, AreTurns, IsTakenInTurns, IsOfDeliveries}
-use Rattle.network_model.specs.Moments.{Nodes, nodes, AtEveryMoment, WhereNamed}
+use Rattle.network_model.specs.Moments.{Nodes, nodes, AtEveryMoment, WhereLaidOut}
 use Rattle.network_model.proofs.SessionFact.{sends, told_cases}
 use Rattle.network_model.proofs.NetworkFact.{passed_nodes, after_sound}
 use Rattle.network_model.proofs.Start.{start_sound}
 use Rattle.network_model.proofs.Apart.{no_twins}
 use Rattle.network_model.proofs.CalmOf.{calm_of}
-use Rattle.network_model.proofs.NodesFact.{arrived_nodes, after_nodes}
+use Rattle.network_model.proofs.NodesFact.{arrived_nodes}
+use Rattle.network_model.proofs.Asking.{sessions_are_asked}
 use Rattle.network_model.proofs.Twins.{IsOther, NoTwins, swap_and, found_each, found_changed, found_node}
 use Rattle.network_model.proofs.RoundFact.{AreCalm, as_event, as_deliveries, as_round, round_same, some_taken, calm_delivers}
 
@@ -257,16 +257,19 @@ of_deliveries size positive w h c =
     both i j k a e b = omega (arith, a, e, b)
 
 -- ---- at each moment
-pub named_apart : (size : Name → Message → ℕ) (x : Checked) → AreNamed x.topology → (es : List Event) → NoTwins (map nodes (after size (start x) es).sessions)
-named_apart size x named es = subst NoTwins (sym (after_nodes size (start x) es)) (no_twins x named)
-
-pub rounds_take_turns : WhereNamed (λ size w. IsTakenInTurns size w)
-rounds_take_turns size positive x named es = taken_in_turns size (after size (start x) es) (named_apart size x named es)
-
-pub rounds_are_of_deliveries : WhereNamed (λ size w. is_whole w ≡ true → is_unbroken w ≡ true → IsOfDeliveries size w)
-rounds_are_of_deliveries size positive x named es whole unbroken =
+pub laid_apart : WhereLaidOut (λ size w. NoTwins (map nodes w.sessions))
+laid_apart size positive x l es v =
     let now = after size (start x) es in
-    of_deliveries size positive now (named_apart size x named es) (calm_of size positive now.sessions (after_sound size positive (start x) es (start_sound size positive x)) whole unbroken)
+    let q = sessions_are_asked size positive x l es v in
+    subst NoTwins (sym q.1) (no_twins (checked now.setup) q.0.apart)
+
+pub rounds_take_turns : WhereLaidOut (λ size w. IsTakenInTurns size w)
+rounds_take_turns size positive x l es v = taken_in_turns size (after size (start x) es) (laid_apart size positive x l es v)
+
+pub rounds_are_of_deliveries : WhereLaidOut (λ size w. is_whole w ≡ true → is_unbroken w ≡ true → IsOfDeliveries size w)
+rounds_are_of_deliveries size positive x l es v whole unbroken =
+    let now = after size (start x) es in
+    of_deliveries size positive now (laid_apart size positive x l es v) (calm_of size positive now.sessions (after_sound size positive (start x) es (start_sound size positive x)) whole unbroken)
 
 pub deliveries_take : AtEveryMoment (λ size w. is_whole w ≡ true → is_unbroken w ≡ true → (from to : Name) (n : ℕ) → in_flight (next size w (Deliver from to n)) from to ≡ in_flight w from to - n)
 unfolding next

@@ -6,7 +6,7 @@ use mathlib.Core.Bool.{beq}
 use Rattle.std.proofs.lemmas.Option.{same_Some}
 use Rattle.std.proofs.Common.{refl, sym, ◌∙◌, ap, subst}
 use Rattle.config_model.specs.declared.edit.Edit.{Edit}
-use Rattle.network_model.specs.Setup.{Name, edited, longest}
+use Rattle.network_model.specs.Setup.{Name, edited, longest, moves}
 use Rattle.network_model.specs.Session.{Message, Session, shut, lost, arrived, octets_arrived}
 use Rattle.network_model.specs.Network.{Network}
 use Rattle.network_model.specs.Steps.{change_session, change_node, pass, session_in, session_of, in_flight, repeat, deliver, Due, dues, notice_stands, deliver_due, deliver_all, round, connect, may_connect, connect_found, connect_if, connect_all, is_quiet, without_breaks, rounds_from, resumed, settle}
@@ -95,7 +95,7 @@ module _ (size : Name → Message → ℕ) (Q : Network → Type 0) (k : Steps s
   lose_walk None a b w q = q
   lose_walk (Some s) a b w q = elim s.is_down as (λ c. Q (cond c w (change_session a b lost w))) [ true ↦ q | false ↦ k.loses a b w q ]
 
-  pub next_walk : (w : Network) (e : Event) → ((d : Edit) → e ≡ Edits d → Q w → Q (edits (edited w.setup d) w)) → Q w → Q (next size w e)
+  pub next_walk : (w : Network) (e : Event) → ((d : Edit) → e ≡ Edits d → Q w → Q (edits (moves d w.setup.topology) (edited w.setup d) w)) → Q w → Q (next size w e)
   unfolding next
   next_walk w (Edits d) edit q = edit d refl q
   next_walk w (Deliver from to n) edit q = delivers_walk Q k.takes n from to w q
@@ -110,6 +110,6 @@ module _ (size : Name → Message → ℕ) (Q : Network → Type 0) (k : Steps s
   next_walk w (Break a b n) edit q = k.breaks a b n w q
 
   -- where edits keep it too, a schedule keeps it
-  pub after_walk : ((d : Edit) (w : Network) → Q w → Q (edits (edited w.setup d) w)) → (w : Network) (es : List Event) → Q w → Q (after size w es)
+  pub after_walk : ((d : Edit) (w : Network) → Q w → Q (edits (moves d w.setup.topology) (edited w.setup d) w)) → (w : Network) (es : List Event) → Q w → Q (after size w es)
   after_walk edit w [] q = q
   after_walk edit w (e ∷ es) q = after_walk edit (next size w e) es (next_walk w e (λ d _. edit d w) q)

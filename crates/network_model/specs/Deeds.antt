@@ -1,18 +1,25 @@
 -- What events do, in words that their definitions do not use.
-use Rattle.std.specs.Prelude.{◌≡◌, ◌≢◌, ◌⊎◌, ◌≤◌, ℕ, List, [], true, false}
+use Rattle.std.specs.Prelude.{◌≡◌, ◌≢◌, ◌⊎◌, ◌≤◌, ◌<◌, ◌==◌, ◌+◌, ℕ, max, List, [], length, true, false, if◌then◌else◌}
 use Rattle.std.specs.declared.option.Option.{Option}
 use Rattle.std.specs.declared.option.Option.TheVariants.{Some, None}
 use Rattle.std.specs.FinMap.{empty}
+use Rattle.std.specs.List.{slice_index_or}
 use Rattle.ov_types.specs.declared.rows.NodeId.{NodeId}
+use Rattle.config_model.specs.declared.edit.Edit.{Edit}
+use Rattle.config_model.specs.declared.edit.Edit.TheVariants.{Put, Delete}
+use Rattle.config_model.specs.declared.edit.Object.TheVariants as objects
+use Rattle.config_model.specs.declared.edit.ObjectKind.TheVariants as kinds
 use Rattle.config_model.specs.declared.topology.Node.{Node}
 use Rattle.config_model.specs.declared.topology.Topology.{Topology}
+use Rattle.config_check.specs.Finding.{node_named}
 use Rattle.node_model.specs.Members.{Member}
 use Rattle.node_model.specs.Step.{Idle, Opened}
 use Rattle.network_model.specs.Setup.{Name}
 use Rattle.network_model.specs.Session.{End, Session}
-use Rattle.network_model.specs.Network.{Network}
+use Rattle.network_model.specs.Network.{Network, is_at, is_of, sessions_of, views_of}
 use Rattle.network_model.specs.Steps.{session_of}
 use Rattle.network_model.specs.Events.{Event, Deliver, DeliverOctets, Lose, Connect, Restart, Show, Break}
+use Rattle.network_model.specs.Moments.{TellsWanted}
 
 -- two nodes are not these two, either way round
 abbrev pub AreOthers : Name → Name → Name → Name → Type 0
@@ -33,6 +40,16 @@ pub record IsClosed (e : End) : Type 0 where
   pub sent : e.sent ≡ empty
   pub held : e.held ≡ empty
   pub flight : e.flight ≡ []
+
+-- a session that is down and of which nothing is there
+pub record IsNew (s : Session) : Type 0 where
+  pub down : s.is_down ≡ true
+  pub near : IsClosed s.near
+  pub far : IsClosed s.far
+
+-- where it is one of the agent of this name
+abbrev pub IsNewFor : Name → Session → Type 0
+IsNewFor name s = is_of name s ≡ true → IsNew s
 
 -- ---- events for which there is nothing to do
 -- there is no session of the two nodes, or one that is so
@@ -68,3 +85,44 @@ pub record MeetsOne (sends : ℕ) (breaks : List ℕ) : Type 0 where
   pub pending : Member number breaks
   pub comes : 1 ≤ number
   pub within : number ≤ sends
+
+-- ---- compute nodes that an edit moves
+-- a node of this name stands there, with the same address and the same list of control nodes
+pub record StandsThere (t : Topology) (n : Node) : Type 0 where
+  pub node : Node
+  pub found : node_named t n.name ≡ Some node
+  pub address : node.address ≡ n.address
+  pub controllers : node.controllers ≡ n.controllers
+
+-- it puts no compute node and deletes none
+abbrev pub IsOfNoNode : Edit → Type 0
+IsOfNoNode (Put (objects.Node n)) = ⊥
+IsOfNoNode (Delete kinds.Node name) = ⊥
+IsOfNoNode _ = Unit {0}
+
+-- no break is pending in the direction from this node
+abbrev pub SendsFreely : Name → Session → Type 0
+SendsFreely name s =
+    (is_at name s.near ≡ true → s.near.breaks ≡ []) × (is_at name s.far ≡ true → s.far.breaks ≡ [])
+
+-- on each session that may send, what was sent is what the node wants, also where one of its sessions is down
+abbrev pub NodeTells : Network → Name → Type 0
+NodeTells w name = TellsWanted w.setup (views_of name w.sessions) (sessions_of name w.sessions)
+
+-- ---- numbers
+-- the agent whose session has this number. A retired number is of none, and so is one behind all
+abbrev pub agent_at : List (Option NodeId) → ℕ → Option NodeId
+agent_at agents number = slice_index_or agents number None
+
+-- the least number that is no agent's
+pub record IsLeastFree (agents : List (Option NodeId)) (number : ℕ) : Type 0 where
+  pub within : number ≤ length agents
+  pub free : agent_at agents number ≡ None
+  pub below : (i : ℕ) → i < number → agent_at agents i ≢ None
+
+-- the agent has the least number that was free, and each other number is whose it was
+pub record HasTaken (a : NodeId) (before after : List (Option NodeId)) : Type 0 where
+  pub number : ℕ
+  pub least : IsLeastFree before number
+  pub agents : (i : ℕ) → agent_at after i ≡ (if i == number then Some a else agent_at before i)
+  pub count : length after ≡ max (length before) (number + 1)

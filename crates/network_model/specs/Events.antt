@@ -14,7 +14,6 @@ use Rattle.config_model.specs.declared.edit.Edit.{Edit}
 use Rattle.config_model.specs.declared.event.Event.{Event as Written}
 use Rattle.config_model.specs.declared.event.Event.TheVariants as written
 use Rattle.config_model.specs.declared.topology.Node.{Node}
-use Rattle.config_check.specs.Checked.{Checked}
 use Rattle.config_check.specs.Edits.{edit_fault}
 use Rattle.config_check.specs.Finding.{node_named}
 use Rattle.config_check.specs.declared.edits.EditFault.{EditFault}
@@ -22,9 +21,10 @@ use Rattle.schedule_script.specs.declared.answer.Answer.{Answer}
 use Rattle.schedule_script.specs.declared.answer.Answer.TheVariants.{Did, Idle, EditRefused, Rounds, Shown, Traced}
 use Rattle.node_model.specs.Tables.{rows}
 use Rattle.node_model.specs.Agent as agent
-use Rattle.network_model.specs.Setup.{Name, edited}
+use Rattle.network_model.specs.Setup.{Name, Setup, Move, checked, edited, moves}
 use Rattle.network_model.specs.Session.{Session, Message, lost, shut}
 use Rattle.network_model.specs.Network.{Network, config, views_of, control_holdings, agent_holdings}
+use Rattle.network_model.specs.Network.{replaced, brought}
 use Rattle.network_model.specs.Steps.{change_session, change_node, pass, joins, session_of, in_flight, repeat, deliver}
 use Rattle.network_model.specs.Steps.{deliver_octets, round, is_broken, may_connect, connect_if, is_settled, settle}
 
@@ -58,10 +58,23 @@ event_of (written.Trace p) = Trace p
 event_of (written.Break from to n) = Break from to n
 
 -- ---- what it makes of the network
--- an edit that is accepted is applied at the configuration node, which makes its pass
-abbrev pub edits : Option Checked → Network → Network
-edits None w = w
-edits (Some x) w = pass config (record { setup = x; sessions = w.sessions })
+-- each of these nodes makes its pass, in their order
+abbrev pub passes : List Name → Network → Network
+passes [] w = w
+passes (n ∷ ns) w = passes ns (pass n w)
+
+-- the sessions of a compute node that comes, goes or lists other control nodes are taken away: each control node that it
+-- listed closes its end and makes its pass. Those of its new list are new
+abbrev pub moved : Option Move → Network → Network
+moved None w = w
+moved (Some m) w =
+    passes m.left
+    (record { setup = w.setup; sessions = replaced m.name (brought w.setup.topology.controllers m.now) w.sessions })
+
+-- an edit that is accepted is applied at the configuration node, which makes its pass then
+abbrev pub edits : Option Move → Option Setup → Network → Network
+edits m None w = w
+edits m (Some x) w = pass config (moved m (record { setup = x; sessions = w.sessions }))
 
 abbrev pub lose : Option Session → Name → Name → Network → Network
 lose None a b w = w
@@ -85,7 +98,7 @@ is_node w name =
 -- a message from a node of that name has `size` octets
 module _ (size : Name → Message → ℕ) where
   unfoldable pub next : Network → Event → Network
-  next w (Edits e) = edits (edited w.setup e) w
+  next w (Edits e) = edits (moves e w.setup.topology) (edited w.setup e) w
   next w (Deliver from to n) = repeat n (deliver from to) w
   next w (DeliverOctets from to n) = deliver_octets size from to n w
   next w (Lose a b) = lose (session_of w a b) a b w
@@ -108,7 +121,7 @@ agent_rows w name = agent_holdings w.setup name (views_of name w.sessions)
 
 abbrev pub shown_of : Option Node → Network → Name → NodeRows
 shown_of (Some n) w name = Rows.Agent (agent.rows (agent_rows w name))
-shown_of None w name = Rows.Control (rows (control_holdings w.setup (views_of name w.sessions)))
+shown_of None w name = Rows.Control (rows (control_holdings w.setup name (views_of name w.sessions)))
 
 abbrev pub shown : Network → Name → NodeRows
 shown w name = shown_of (node_named w.setup.topology name) w name
@@ -127,7 +140,7 @@ edit_answer None = Did
 edit_answer (Some f) = EditRefused f
 
 abbrev pub answer_to : Network → Event → Answer
-answer_to w (Edits e) = edit_answer (edit_fault w.setup e)
+answer_to w (Edits e) = edit_answer (edit_fault (checked w.setup) e)
 answer_to w (Deliver from to n) = unless (in_flight w from to == 0)
 answer_to w (DeliverOctets from to n) = unless (in_flight w from to == 0)
 answer_to w (Lose a b) = unless (is_broken w a b)

@@ -5,14 +5,18 @@ use Rattle.std.specs.declared.option.Option.TheVariants.{Some, None}
 use Rattle.std.specs.List.{AllByRecursion}
 use Rattle.std.specs.FinMap.{empty}
 use Rattle.ov_sync.specs.Keyed.{IsInStep}
+use Rattle.ov_types.specs.declared.rows.NodeId.{NodeId}
+use Rattle.config_model.specs.declared.topology.Node.{Node}
+use Rattle.config_model.specs.declared.topology.Topology.{Topology}
+use Rattle.node_model.specs.Members.{Member}
 use Rattle.config_check.specs.Checked.{Checked}
 use Rattle.node_model.specs.Maps.{Change}
 use Rattle.node_model.specs.Step.{Phase, Idle, Opened, Confirmed, Up}
-use Rattle.network_model.specs.Setup.{Name}
+use Rattle.network_model.specs.Setup.{Name, Setup, agents_of, edited, id_of, lists}
 use Rattle.network_model.specs.Session.{Role, End, Session, Message, Open, Keepalive, Hello, Carries, is_live}
 use Rattle.network_model.specs.Session.{is_peering, may_send, may_send_at}
-use Rattle.network_model.specs.Network.{Network, View, AreNamed, start, view, views_of, sessions_of, wanted}
-use Rattle.network_model.specs.Events.{Event, after}
+use Rattle.network_model.specs.Network.{Network, View, AreNamed, asked, start, view, views_of, sessions_of, wanted}
+use Rattle.network_model.specs.Events.{Event, Edits, next, after}
 
 -- ---- lists of sessions
 abbrev pub Each : (Session → Type 0) → List Session → Type 0
@@ -106,11 +110,11 @@ abbrev pub AreWhole : List Session → Type 0
 AreWhole own = Each (λ s. s.is_down ≡ false) own
 
 -- on each session that may send, what was sent is what the node wants
-abbrev pub TellsWanted : Checked → List View → List Session → Type 0
+abbrev pub TellsWanted : Setup → List View → List Session → Type 0
 TellsWanted x vs own = Each (λ s. may_send s ≡ true → s.near.sent ≡ wanted x vs (view s)) own
 
 -- a node owes nothing, unless one of its sessions is down
-abbrev pub HasTold : Checked → List Session → Type 0
+abbrev pub HasTold : Setup → List Session → Type 0
 HasTold x own = AreWhole own → TellsWanted x (map view own) own
 
 abbrev pub NodeHasTold : Network → Name → Type 0
@@ -134,9 +138,56 @@ WhereNamed P =
 
 -- ---- at rest
 -- as the near node sees it: in each direction what is held is what was sent and what the sender's holdings want
-pub record IsAtRestWith (x : Checked) (vs : List View) (s : Session) : Type 0 where
+pub record IsAtRestWith (x : Setup) (vs : List View) (s : Session) : Type 0 where
   pub held : s.far.held ≡ s.near.sent
   pub wanted : s.near.sent ≡ wanted x vs (view s)
 
 abbrev pub IsAtRest : Network → Type 0
 IsAtRest w = (n : Name) → Each (IsAtRestWith w.setup (views_of n w.sessions)) (sessions_of n w.sessions)
+
+-- ---- where the topology of each moment is laid out
+-- names tell nodes apart, and each compute node lists a control node
+pub record IsLaidOut (t : Topology) : Type 0 where
+  pub apart : AreNamed t
+  pub listing : (n : Node) → Member n t.nodes → (c : NodeId) × Member c t.controllers × (lists n c ≡ true)
+
+-- a property of setups that edits keep: each edit of a schedule that is accepted leads to one that has it
+abbrev pub EditIsValid : (Setup → Type 0) → Network → Event → Type 0
+EditIsValid Valid w (Edits e) = (y : Setup) → edited w.setup e ≡ Some y → Valid y
+EditIsValid Valid w _ = Unit {0}
+
+abbrev pub EditsAreValid : (Name → Message → ℕ) → (Setup → Type 0) → Network → List Event → Type 0
+EditsAreValid size Valid w [] = Unit {0}
+EditsAreValid size Valid w (e ∷ es) = EditIsValid Valid w e × EditsAreValid size Valid (next size w e) es
+
+abbrev pub LaidOut : Setup → Type 0
+LaidOut x = IsLaidOut x.topology
+
+abbrev pub WhereLaidOut : ((Name → Message → ℕ) → Network → Type 0) → Type 0
+WhereLaidOut P =
+    (size : Name → Message → ℕ) → ArePositive size
+    → (x : Checked) → IsLaidOut x.topology → (es : List Event) → EditsAreValid size LaidOut (start x) es
+    → P size (after size (start x) es)
+
+-- the sessions are those that the topology asks for, in the order of a round
+abbrev pub HasSessions : Network → Type 0
+HasSessions w = map nodes w.sessions ≡ map nodes (asked w.setup.topology)
+
+-- ---- numbers
+-- no two have one name
+abbrev pub AreOnce : List (Option NodeId) → Type 0
+AreOnce [] = Unit {0}
+AreOnce (None ∷ agents) = AreOnce agents
+AreOnce (Some a ∷ agents) = ((b : NodeId) → Member (Some b) agents → a.name ≢ b.name) × AreOnce agents
+
+-- the numbers at a control node are of the agents that list it, each once and under its address, or retired
+pub record NumbersFit (t : Topology) (c : NodeId) (agents : List (Option NodeId)) : Type 0 where
+  pub all : (n : Node) → Member n t.nodes → lists n c ≡ true → Member (Some (id_of n)) agents
+  pub only : (a : NodeId) → Member (Some a) agents
+      → (n : Node) × Member n t.nodes × (id_of n ≡ a) × (lists n c ≡ true)
+  pub once : AreOnce agents
+
+-- they fit at each control node
+abbrev pub HasNumbers : Setup → Type 0
+HasNumbers x =
+    (c : NodeId) → Member c x.topology.controllers → NumbersFit x.topology c (agents_of x c.name)

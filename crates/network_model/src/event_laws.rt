@@ -1,25 +1,29 @@
 //! Laws of events and their answers: each is the contract of a function that does nothing.
 ghost use Rattle.std.specs.Prelude.{◌≡◌, ◌≢◌, ◌↔◌, ◌==◌, ℕ, List, Some, None, [], map, length, false, true};
 ghost use Rattle.std.specs.Option.{option_map};
+ghost use Rattle.ov_types.specs.declared.rows.NodeId.{NodeId};
 ghost use Rattle.config_model.specs.declared.edit.Edit.{Edit};
+ghost use Rattle.config_model.specs.declared.topology.Node.{Node};
 ghost use Rattle.config_check.specs.Edits as edits;
 ghost use Rattle.config_check.specs.declared.edits.EditFault.{EditFault};
 ghost use Rattle.schedule_script.specs.declared.answer.Answer.TheVariants.{Idle, EditRefused};
-ghost use Rattle.network_model.specs.Setup.{Name};
+ghost use Rattle.node_model.specs.Members.{Member};
+ghost use Rattle.network_model.specs.Setup.{Name, Move, agents_of, checked, id_of, lists, moves, with_agent, without_agent};
 ghost use Rattle.network_model.specs.Session.{Message, Session, lost, shut, told};
 ghost use Rattle.network_model.specs.Network.{Network, sessions_of};
 ghost use Rattle.network_model.specs.Steps.{in_flight, may_connect, session_of};
 ghost use Rattle.network_model.specs.Events.{Event, Break, Connect, Deliver, Edits, Lose, Restart};
 ghost use Rattle.network_model.specs.Events.{add_break, answer_to, is_node, next};
-ghost use Rattle.network_model.specs.Moments.{IsLost, NodeHasTold};
-ghost use Rattle.network_model.specs.Deeds.{AreOthers, HasNothingToDo, IsClosed, IsOpenedAt, MeetsOne};
+ghost use Rattle.network_model.specs.Moments.{AtEveryMoment, Each, IsLost, NodeHasTold};
+ghost use Rattle.network_model.specs.Deeds.{AreOthers, HasNothingToDo, IsClosed, IsNewFor, IsOpenedAt, MeetsOne};
+ghost use Rattle.network_model.specs.Deeds.{NodeTells, SendsFreely};
 
 /// An event is answered by Idle exactly where there is nothing to do, and an edit by a refusal exactly where it has
 /// that fault.
 pub fn idle_and_refused_are_where_they_are_said()
     ensures idle { (w : Network) (e : Event) → (answer_to w e ≡ Idle) ↔ HasNothingToDo w e }
     ensures refused { (w : Network) (d : Edit) (f : EditFault)
-        → (answer_to w (Edits d) ≡ EditRefused f) ↔ (edits.edit_fault w.setup d ≡ Some f) }
+        → (answer_to w (Edits d) ≡ EditRefused f) ↔ (edits.edit_fault (checked w.setup) d ≡ Some f) }
 {}
 
 /// An event that is answered by Idle changes nothing, and so does an edit that is refused.
@@ -29,13 +33,25 @@ pub fn what_is_not_done_changes_nothing()
         → answer_to w e ≡ EditRefused f → next size w e ≡ w }
 {}
 
-/// An edit without a fault makes of the configuration what it says; no other event changes topology or configuration.
+/// An edit without a fault makes of topology and configuration what it says; no other event changes either, or the
+/// numbers of sessions. Where an edit moves no compute node, all numbers stay. Where it moves one, the number that the
+/// node had at a control node is retired, and at one that it lists then it has the least that is no agent's after that.
 pub fn edits_change_the_configuration()
-    ensures made { (size : Name → Message → ℕ) (w : Network) (d : Edit) → edits.edit_fault w.setup d ≡ None
-        → (next size w (Edits d)).setup
-        ≡ record { topology = w.setup.topology; config = edits.edited d w.setup.config } }
+    ensures made { (size : Name → Message → ℕ) (w : Network) (d : Edit) → edits.edit_fault (checked w.setup) d ≡ None
+        → checked (next size w (Edits d)).setup ≡ edits.edited d (checked w.setup) }
     ensures kept { (size : Name → Message → ℕ) (w : Network) (e : Event) → ((d : Edit) → e ≢ Edits d)
         → (next size w e).setup ≡ w.setup }
+    ensures numbers_stay { (size : Name → Message → ℕ) (w : Network) (d : Edit) → moves d w.setup.topology ≡ None
+        → (next size w (Edits d)).setup.numbers ≡ w.setup.numbers }
+    ensures numbers_go { (size : Name → Message → ℕ) (w : Network) (d : Edit) (m : Move) (c : NodeId)
+        → edits.edit_fault (checked w.setup) d ≡ None → moves d w.setup.topology ≡ Some m
+        → ((n : Node) → m.now ≡ Some n → lists n c ≡ false)
+        → agents_of (next size w (Edits d)).setup c.name ≡ without_agent m.name (agents_of w.setup c.name) }
+    ensures numbers_come { AtEveryMoment (λ size w. (d : Edit) (m : Move) (n : Node) (c : NodeId)
+        → Member c w.setup.topology.controllers → edits.edit_fault (checked w.setup) d ≡ None
+        → moves d w.setup.topology ≡ Some m → m.now ≡ Some n → lists n c ≡ true
+        → agents_of (next size w (Edits d)).setup c.name
+        ≡ with_agent (id_of n) (without_agent m.name (agents_of w.setup c.name))) }
 {}
 
 /// After a delivery the node that took it has told what it wants by then, unless one of its sessions is down.
@@ -80,4 +96,21 @@ pub fn breaks_fail_sends()
         → AreOthers from to c d → session_of (next size w (Break from to n)) c d ≡ session_of w c d }
     ensures fails { (ms : List Message) (s : Session) → s.is_down ≡ false
         → ((told ms s).is_down ≡ true) ↔ MeetsOne (length ms) s.near.breaks }
+{}
+
+/// A compute node that an edit puts anew or with another list of control nodes has no session from before, and one that
+/// is deleted has none: each session of it is down then, and both of its ends are closed.
+pub fn nodes_that_move_begin_anew()
+    ensures { (size : Name → Message → ℕ) (w : Network) (d : Edit) (m : Move)
+        → edits.edit_fault (checked w.setup) d ≡ None → moves d w.setup.topology ≡ Some m
+        → Each (IsNewFor m.name) (next size w (Edits d)).sessions }
+{}
+
+/// After an edit that moves a compute node each control node that it listed until then has told, on each of its
+/// sessions, what it wants of what it holds then, whether its end of the session that goes was live or not: where no
+/// break is pending on what it sends.
+pub fn control_nodes_tell_where_a_session_goes()
+    ensures { (size : Name → Message → ℕ) (w : Network) (d : Edit) (m : Move) (control : Name)
+        → edits.edit_fault (checked w.setup) d ≡ None → moves d w.setup.topology ≡ Some m → Member control m.left
+        → Each (SendsFreely control) w.sessions → NodeTells (next size w (Edits d)) control }
 {}

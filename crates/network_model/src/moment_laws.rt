@@ -2,11 +2,13 @@
 //! function that does nothing.
 ghost use Rattle.std.specs.Prelude.{◌≡◌, Some, None, true, false};
 ghost use Rattle.node_model.specs.Step.{Phase};
-ghost use Rattle.network_model.specs.Setup.{Name};
+ghost use Rattle.ov_types.specs.declared.rows.NodeId.{NodeId};
+ghost use Rattle.node_model.specs.Members.{Member};
+ghost use Rattle.network_model.specs.Setup.{Name, agents_of};
 ghost use Rattle.network_model.specs.Session.{Message, Session, is_peering, shut, took};
 ghost use Rattle.network_model.specs.Steps.{is_settled};
 ghost use Rattle.network_model.specs.Moments.{AtEveryMoment, Each, IsAtRest, IsJoined, IsLost, IsProperEnd};
-ghost use Rattle.network_model.specs.Moments.{NodeHasTold, cell};
+ghost use Rattle.network_model.specs.Moments.{HasSessions, NodeHasTold, NumbersFit, WhereLaidOut, WhereNamed, cell};
 
 /// A message whose cell goes down closes the end; another leads to the state of its cell, unless a break closes the
 /// end.
@@ -37,10 +39,23 @@ pub fn sessions_that_are_down_are_lost()
 
 /// At a node none of whose sessions is down, what was sent on each session that may send is what its holdings want.
 pub fn nodes_have_told_what_they_want()
-    ensures { AtEveryMoment (λ size w. (n : Name) → NodeHasTold w n) }
+    ensures { WhereNamed (λ size w. (n : Name) → NodeHasTold w n) }
 {}
 
-/// At a settled moment, in each direction, what is held is what was sent, and what the sender's holdings want.
+/// Where names tell nodes apart at the start: at a settled moment, in each direction, what is held is what was sent, and
+/// what the sender's holdings want.
 pub fn settled_moments_are_at_rest()
-    ensures { AtEveryMoment (λ size w. is_settled w ≡ true → IsAtRest w) }
+    ensures { WhereNamed (λ size w. is_settled w ≡ true → IsAtRest w) }
+{}
+
+/// Where the topology of each moment is laid out, the sessions are those that it asks for, in the order of a round.
+pub fn sessions_are_those_of_the_topology()
+    ensures { WhereLaidOut (λ size w. HasSessions w) }
+{}
+
+/// There too, at each control node the numbers of sessions are of the agents that list it, each once and under its
+/// address, or retired.
+pub fn numbers_are_of_agents()
+    ensures { WhereLaidOut (λ size w. (c : NodeId) → Member c w.setup.topology.controllers
+        → NumbersFit w.setup.topology c (agents_of w.setup c.name)) }
 {}

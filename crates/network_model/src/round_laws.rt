@@ -6,7 +6,7 @@ ghost use Rattle.network_model.specs.Network.{Network};
 ghost use Rattle.network_model.specs.Steps.{in_flight, is_quiet, settle};
 ghost use Rattle.network_model.specs.Events.{Deliver, next};
 ghost use Rattle.network_model.specs.Rounds.{IsOfDeliveries, IsTakenInTurns, is_unbroken, is_whole};
-ghost use Rattle.network_model.specs.Moments.{AtEveryMoment, WhereNamed};
+ghost use Rattle.network_model.specs.Moments.{AtEveryMoment, WhereLaidOut};
 
 /// Where no session is down and no break is pending, a delivery takes as many messages of its direction as it says, or
 /// all.
@@ -15,16 +15,16 @@ pub fn deliveries_take_what_they_say()
         → in_flight (next size w (Deliver from to n)) from to ≡ in_flight w from to - n) }
 {}
 
-/// A round takes each direction in its turn, in the order of a round: as many messages or notices as were in flight
-/// there when the round began, where they are still there.
+/// Where the topology of each moment is laid out, a round takes each direction in its turn, in the order of a round: as
+/// many messages or notices as were in flight there when the round began, where they are still there.
 pub fn rounds_take_turns()
-    ensures { WhereNamed (λ size w. IsTakenInTurns size w) }
+    ensures { WhereLaidOut (λ size w. IsTakenInTurns size w) }
 {}
 
-/// Where no session is down and no break is pending, it is a round of deliveries, which take of each direction exactly
-/// what was in flight when it began.
+/// There too, where no session is down and no break is pending, it is a round of deliveries, which take of each direction
+/// exactly what was in flight when it began.
 pub fn rounds_are_of_deliveries()
-    ensures { WhereNamed (λ size w. is_whole w ≡ true → is_unbroken w ≡ true → IsOfDeliveries size w) }
+    ensures { WhereLaidOut (λ size w. is_whole w ≡ true → is_unbroken w ≡ true → IsOfDeliveries size w) }
 {}
 
 /// Settling does at most 6 more rounds than the longest chain in effect has services, and fewer only where nothing is

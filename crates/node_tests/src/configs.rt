@@ -1,8 +1,8 @@
-ghost use Rattle.std.specs.Prelude.{IfSome, IsTrue};
+ghost use Rattle.std.specs.Prelude.{◌≡◌, IfOk, IfSome, IsTrue};
 ghost use Rattle.config_model.specs.Edit.{has_edit_form};
 
 use crate::links::{add_queues, were_sent};
-use config_check::{EditFault, Refusal, Valid, check};
+use config_check::{EditFault, EditRefusal, Refusal, Valid, apply_edit, check};
 use config_model::{Edit, read_compile, read_edit};
 use config_node::ConfigNode;
 use item_wire::ItemCause;
@@ -31,6 +31,16 @@ const STRAY: &str =
 
 const DELETE: &str = r#"{"delete":{"port":"vm1"}}"#;
 
+/// Another compute node.
+const COME: &str = r#"{"put":{"node":{"name":"n2","address":"192.0.2.12","controllers":["c1"]}}}"#;
+
+/// The port moves to the other compute node.
+const LEAVE: &str =
+    r#"{"put":{"port":{"name":"vm1","id":7,"network":"red","address":"10.1.0.5","node":"n2"}}}"#;
+
+/// The first compute node goes.
+const GO: &str = r#"{"delete":{"node":"n1"}}"#;
+
 const HELLO: &[u8] = b"\0\0\0\x1e{\"name\":\"config\",\"op\":\"hello\"}";
 
 const INSTANCE: &[u8] = b"\0\0\0\x2c{\"imports\":[1],\"instance\":1,\"op\":\"instance\"}";
@@ -40,6 +50,9 @@ const PORT: &[u8] =
 
 const MOVED: &[u8] =
     b"\0\0\0\x4c{\"address\":\"10.1.0.6\",\"instance\":1,\"node\":\"192.0.2.11\",\"op\":\"port\",\"port\":7}";
+
+const ELSEWHERE: &[u8] =
+    b"\0\0\0\x4c{\"address\":\"10.1.0.5\",\"instance\":1,\"node\":\"192.0.2.12\",\"op\":\"port\",\"port\":7}";
 
 const GONE: &[u8] = b"\0\0\0\x1d{\"label\":23,\"op\":\"no-attach\"}";
 
@@ -57,6 +70,7 @@ const ALL_MOVED: Messages = &[HELLO, INSTANCE, MOVED, ACL];
 
 type Messages = &'static [&'static [u8]];
 
+#[tactic(auto, using(crate::proofs::Forms::nodes_form))]
 fn valid_of(alloc: Global, text: &str) -> Option<Valid> {
     let value = Value::from_str(alloc, text).ok()?;
     let input = read_compile(alloc, &value).ok()?;
@@ -79,6 +93,7 @@ fn edit_of(alloc: Global, text: &str) -> Option<Edit>
 #[derive(Clone, Copy)]
 enum Scene {
     BeToldChanges,
+    BeToldOfNodes,
     BeRefused,
     CloseAtARecord,
     KeepWhatIsValid,
@@ -94,6 +109,7 @@ fn happen(
 ) {
     match scene {
         Scene::BeToldChanges => be_told_changes(rt, alloc, node, links),
+        Scene::BeToldOfNodes => be_told_of_nodes(rt, alloc, node, links),
         Scene::BeRefused => be_refused(rt, alloc, node, links),
         Scene::CloseAtARecord => close_at_a_record(rt, alloc, node, links),
         Scene::KeepWhatIsValid => keep_what_is_valid(rt, alloc, node, links),
@@ -161,7 +177,16 @@ fn be_greeted<L: Link>(rt: &impl Abort, node: &mut ConfigNode, links: &mut Links
     assert!(rt; matches!(answer, Ok(Stepped::Done)));
 }
 
-/// What comes of an edit.
+/// What an edit makes of what is valid. It has the same control nodes.
+#[tactic(auto, using(crate::proofs::Edited::controllers_stay))]
+fn made_by(alloc: Global, valid: &Valid, edit: &Edit) -> Result<Valid, EditRefusal>
+    requires { IsTrue (has_edit_form edit.now) }
+    ensures { IfOk result (λ made. made.topology.controllers ≡ valid.now.topology.controllers) }
+{
+    apply_edit(alloc, valid, edit)
+}
+
+/// What comes of an edit: unless it has a fault, what it makes of what is valid is set.
 fn edited<L: Link>(
     rt: &impl Abort,
     alloc: Global,
@@ -170,8 +195,15 @@ fn edited<L: Link>(
     text: &str,
 ) -> Result<Option<EditFault>, NodeFault> {
     let edit = edit_of(alloc, text).expect(rt, "an edit");
-    assert!(rt; links.len() == node.sessions());
-    node.edit(&edit, links)
+    match made_by(alloc, node.valid(), &edit) {
+        Ok(valid) => {
+            assert!(rt; links.len() == node.sessions());
+            node.set_valid(valid, links)?;
+            Ok(None)
+        }
+        Err(EditRefusal::Edit(fault)) => Ok(Some(fault)),
+        Err(EditRefusal::NoMemory) => Err(NodeFault::NoMemory),
+    }
 }
 
 /// The edit is made, and these messages are sent.
@@ -239,6 +271,26 @@ fn be_told_changes(
 #[test]
 fn a_control_node_is_told_the_objects_and_what_an_edit_changes(rt: HostRuntime) {
     at_the_node(&rt, rt.alloc(), Scene::BeToldChanges);
+}
+
+fn be_told_of_nodes(
+    rt: &impl Abort,
+    alloc: Global,
+    node: &mut ConfigNode,
+    links: &mut Links<QueueLink>,
+) {
+    open(rt, node, links);
+    were_sent(rt, links, 0, ALL);
+    change(rt, alloc, node, links, COME, &[]);
+    change(rt, alloc, node, links, LEAVE, &[ELSEWHERE]);
+    change(rt, alloc, node, links, GO, &[]);
+    stands(rt, node, true, false);
+    assert!(rt; node.valid().topology().nodes.len() == 1);
+}
+
+#[test]
+fn a_compute_node_that_comes_or_goes_is_told_by_its_ports_alone(rt: HostRuntime) {
+    at_the_node(&rt, rt.alloc(), Scene::BeToldOfNodes);
 }
 
 fn be_refused(rt: &impl Abort, alloc: Global, node: &mut ConfigNode, links: &mut Links<QueueLink>) {

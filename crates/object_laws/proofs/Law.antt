@@ -14,12 +14,12 @@ use Rattle.node_model.specs.Wants.{slice_entry}
 use Rattle.node_model.proofs.Members.{from_entry, from_map, contains_of}
 use Rattle.node_model.proofs.Orders.{key_exact, key_total}
 use Rattle.node_items.specs.Told.{AllFit, Fits}
-use Rattle.network_model.specs.Setup.{low}
+use Rattle.network_model.specs.Setup.{low_in}
 use Rattle.object_laws.proofs.Each.{object_told}
 
 pub low_fits : (x : Checked) → IsTrue (has_topology_form x.topology) → IsTrue (has_config_form x.config)
-    → first_broken x.topology x.config ≡ None → AllFit (low x)
-unfolding low
+    → first_broken x.topology x.config ≡ None → AllFit (low_in x)
+unfolding low_in
 low_fits x nodes form valid k w e =
     let v = (valid_iff x.topology x.config).0 valid in
     let os = low_objects x.topology x.config in

@@ -1,12 +1,11 @@
 //! Runs over memory, and what is compared of them.
 ghost use Rattle.std.specs.Prelude.{◌≡◌, length, IfOk};
 
-use net_machine::Net;
 use ov_io::{MemSink, MemSource, Sink, Source};
 use std::alloc::{AllocError, Global};
 use std::process::Abort;
 use std::test::Fail;
-use top_call::{Status, overlay};
+use top_call::{Net, Status, overlay};
 
 /// A run: a command, its input, how it is to end, and what it is to write. The input is a document of a topology, a
 /// configuration and what follows them; where there is no topology, it is what follows.

@@ -3,12 +3,11 @@ use crate::documents::{ACROSS, TWO_NODES};
 use crate::driver::{document, no_network, words_of};
 use crate::run_cases::{CHAIN_SETTLES, SEVEN_ROUNDS, SIX_ROUNDS};
 use config_model::Event;
-use net_machine::Net;
 use ov_io::{MemSink, MemSource};
 use std::alloc::Global;
 use std::process::Abort;
 use std::test::Fail;
-use top_call::{Status, overlay};
+use top_call::{Net, Status, overlay};
 
 /// How a run of a document ended where these writes fail. The network is left in `net`.
 fn left(

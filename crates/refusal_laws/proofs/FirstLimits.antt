@@ -1,7 +1,8 @@
--- The first count that is above its limit, of all in the order in which they are tried.
-use Rattle.std.proofs.Common.{◌≡◌, ◌<◌, leb, ℕ, Bool, true, false, List, Option, Some, None, length, refl, sym, ap, ◌∙◌, arith}
+-- The first count that is outside its limits, of all in the order in which they are tried.
+use Rattle.std.proofs.Common.{◌≡◌, ◌<◌, ◌&&◌, inl, inr, leb, ℕ, Bool, true, false, List, Option, Some, None, length, refl, sym, ap, ◌∙◌, arith}
+use Rattle.std.specs.Prelude.{◌⊎◌}
 use Rattle.std.specs.List.{Any, list_all}
-use Rattle.std.proofs.lemmas.Bool.{leb-true, leb-false}
+use Rattle.std.proofs.lemmas.Bool.{and_parts, leb-true, leb-false}
 use Rattle.config_model.specs.declared.config.Chain.{Chain}
 use Rattle.config_model.specs.declared.config.Config.{Config}
 use Rattle.config_model.specs.declared.config.Network.{Network}
@@ -14,16 +15,16 @@ use Rattle.config_check.specs.declared.refusal.Refusal.{Refusal}
 use Rattle.config_check.specs.declared.refusal.Refusal.TheVariants.{Limit}
 use Rattle.config_check.specs.Rules.{limit_unless, broken_count, broken_limit}
 use Rattle.config_check.proofs.Iffs.{list_all_true}
-use Rattle.refusal_laws.specs.Breaks.{IsAboveLimit}
+use Rattle.refusal_laws.specs.Breaks.{IsOutsideLimits}
 use Rattle.refusal_laws.specs.Named.{IsFirst, limit_kinds}
-use Rattle.refusal_laws.proofs.Counts.{more_in}
+use Rattle.refusal_laws.proofs.Counts.{more_in, outside}
 use Rattle.refusal_laws.proofs.FirstOnes.{or_none, answers_first}
 use Rattle.refusal_laws.proofs.Invalid.{no_any}
 
--- a count is not above its limit
+-- a count is not outside its limits
 abbrev is_kept : Topology → Config → LimitKind → Bool
 is_kept t c Counted.Controllers = leb (length t.controllers) 8
-is_kept t c Counted.Nodes = leb (length t.nodes) 64
+is_kept t c Counted.Nodes = leb 1 (length t.nodes) && leb (length t.nodes) 64
 is_kept t c Counted.Networks = leb (length c.networks) 128
 is_kept t c Counted.Ports = leb (length c.ports) 1024
 is_kept t c Counted.Policies = leb (length c.policies) 128
@@ -40,13 +41,18 @@ answer t c what = limit_unless what (is_kept t c what)
 few : (n most : ℕ) → leb n most ≡ true → ¬ (most < n)
 few n most e more = let le = leb-true n most e in absurd (omega arith)
 
+few_but_some : (n most : ℕ) → (leb 1 n && leb n most) ≡ true → ¬ ((n < 1) ⊎ (most < n))
+few_but_some n most e h =
+    let p = and_parts (leb 1 n) (leb n most) e in
+    elim h as (λ _. ⊥) [ inl less ↦ (let some = leb-true 1 n p.0 in absurd (omega arith)) | inr more ↦ few n most p.1 more ]
+
 few_each : {A : Type 0} (size : A → ℕ) (most : ℕ) (xs : List A) → list_all (λ x. leb (size x) most) xs ≡ true → ¬ Any (λ x. most < size x) xs
 few_each {A} size most xs e =
     no_any (λ (x : A). leb (size x) most ≡ true) (λ x. most < size x) xs ((list_all_true (λ x. leb (size x) most) xs).0 e) (λ x kept. few (size x) most kept)
 
-not_above : (t : Topology) (c : Config) (what : LimitKind) → is_kept t c what ≡ true → ¬ IsAboveLimit t c what
+not_above : (t : Topology) (c : Config) (what : LimitKind) → is_kept t c what ≡ true → ¬ IsOutsideLimits t c what
 not_above t c Counted.Controllers e = few (length t.controllers) 8 e
-not_above t c Counted.Nodes e = few (length t.nodes) 64 e
+not_above t c Counted.Nodes e = few_but_some (length t.nodes) 64 e
 not_above t c Counted.Networks e = few (length c.networks) 128 e
 not_above t c Counted.Ports e = few (length c.ports) 1024 e
 not_above t c Counted.Policies e = few (length c.policies) 128 e
@@ -57,9 +63,9 @@ not_above t c Counted.Attachments e = few_each (λ (n : Network). length n.polic
 not_above t c Counted.Rules e = few_each (λ (p : Policy). length p.rules) 16 c.policies e
 not_above t c Counted.Hops e = few_each (λ (d : Chain). length d.hops) 64 c.chains e
 
-above : (t : Topology) (c : Config) (what : LimitKind) → is_kept t c what ≡ false → IsAboveLimit t c what
+above : (t : Topology) (c : Config) (what : LimitKind) → is_kept t c what ≡ false → IsOutsideLimits t c what
 above t c Counted.Controllers e = leb-false (length t.controllers) 8 e
-above t c Counted.Nodes e = leb-false (length t.nodes) 64 e
+above t c Counted.Nodes e = outside (length t.nodes) 64 e
 above t c Counted.Networks e = leb-false (length c.networks) 128 e
 above t c Counted.Ports e = leb-false (length c.ports) 1024 e
 above t c Counted.Policies e = leb-false (length c.policies) 128 e
@@ -78,7 +84,7 @@ broken_where_said : (what : LimitKind) (b : Bool) (r : Refusal) → limit_unless
 broken_where_said what true r e = cc
 broken_where_said what false r e = (refl, cc)
 
-silent : (t : Topology) (c : Config) (what : LimitKind) → answer t c what ≡ None → ¬ IsAboveLimit t c what
+silent : (t : Topology) (c : Config) (what : LimitKind) → answer t c what ≡ None → ¬ IsOutsideLimits t c what
 unfolding answer
 silent t c what none = not_above t c what (kept_where_silent what (is_kept t c what) none)
 
@@ -109,10 +115,10 @@ by_kind t c =
 pub record FirstAbove (t : Topology) (c : Config) (r : Refusal) : Type 0 where
   pub what : LimitKind
   pub is_said : Limit what ≡ r
-  pub first : IsFirst (IsAboveLimit t c) limit_kinds what
+  pub first : IsFirst (IsOutsideLimits t c) limit_kinds what
 
 pub first_above : (t : Topology) (c : Config) (r : Refusal) → broken_limit t c ≡ Some r → FirstAbove t c r
 first_above t c r e =
-    let a = answers_first (answer t c) (IsAboveLimit t c) (silent t c) limit_kinds r (sym (by_kind t c) ∙ e) in
+    let a = answers_first (answer t c) (IsOutsideLimits t c) (silent t c) limit_kinds r (sym (by_kind t c) ∙ e) in
     let w = said t c a.item r a.gives in
     record { what = a.item; is_said = w.1; first = a.first (above t c a.item w.0) }

@@ -27,7 +27,7 @@ use Rattle.config_check.specs.Rules.{circuit_addresses, controller_names, node_n
 use Rattle.network_rules.specs.Related.{all_rules}
 use Rattle.config_check.specs.Sentences.{AreDistinct, KeepsLimits, HasDistinctNames, HasDistinctNumbers, HasReferents, EndExists, ChainExists, Overlap, ReservesCircuits, HasFlatSubnets, HoldsAddresses, HasDistinctAddresses, NamesEnds, NamesTwo, IsAround, AreApart, IsValid}
 use Rattle.ov_types.proofs.FirstLemmas.{all_cons}
-use Rattle.refusal_laws.specs.Breaks.{StandsBefore, StandsTwice, IsAboveLimit, namespaces, numbers_of, LeadsThrough, IsChainRule, IsDangling, controller, policy, network_of_port, node_of_port, source, destination, chain_of_rule, node_of_service, hop, LiesOutside, HasAny, HasOneNetwork, OverlapAround, Breaks}
+use Rattle.refusal_laws.specs.Breaks.{StandsBefore, StandsTwice, IsOutsideLimits, namespaces, numbers_of, LeadsThrough, IsChainRule, IsDangling, controller, policy, network_of_port, node_of_port, source, destination, chain_of_rule, node_of_service, hop, LiesOutside, HasAny, HasOneNetwork, OverlapAround, Breaks}
 
 -- what holds of all holds of each
 
@@ -53,9 +53,9 @@ not_twice {A} xs x apart twice = pair_of (λ (a : A) (b : A). a ≢ b) xs x x ap
 
 -- counts
 
-pub against_limit : (t : Topology) (c : Config) (what : LimitKind) → KeepsLimits t c → ¬ IsAboveLimit t c what
+pub against_limit : (t : Topology) (c : Config) (what : LimitKind) → KeepsLimits t c → ¬ IsOutsideLimits t c what
 against_limit t c Counted.Controllers k h = let few = k.controllers in omega arith
-against_limit t c Counted.Nodes k h = let few = k.nodes in omega arith
+against_limit t c Counted.Nodes k h = elim h as (λ _. ⊥) [ inl less ↦ (let some = k.some_nodes in omega arith) | inr more ↦ (let few = k.nodes in omega arith) ]
 against_limit t c Counted.Networks k h = let few = k.networks in omega arith
 against_limit t c Counted.Ports k h = let few = k.ports in omega arith
 against_limit t c Counted.Policies k h = let few = k.policies in omega arith

@@ -1,5 +1,5 @@
 -- What breaks a rule is refused by that rule, or by an earlier one.
-use Rattle.std.proofs.Common.{◌≡◌, ◌==◌, ◌||◌, ◌≤◌, ◌++◌, ℕ, Bool, true, false, cond, leb, List, [], ◌∷◌, Option, Some, None, option_map, is_none, IfSome, find, filter, length, map, refl, arith}
+use Rattle.std.proofs.Common.{◌&&◌, ◌≡◌, ◌==◌, ◌||◌, ◌≤◌, ◌++◌, ℕ, Bool, true, false, cond, leb, List, [], ◌∷◌, Option, Some, None, option_map, is_none, IfSome, find, filter, length, map, refl, arith}
 use Rattle.std.specs.List.{list_any, list_all}
 use Rattle.ov_types.specs.Prefix.{Block}
 use Rattle.ov_types.specs.First.{same_name, ◌<|>◌, first_of, first_meeting}
@@ -81,7 +81,7 @@ limits_by : (n : ℕ) → 1 ≤ n → (t : Topology) (c : Config) → IfSome (br
 unfolding broken_limit
 limits_by n le t c =
     of_either (IsBy n) (broken_count t c) (broken_part c)
-    (seven_by n le (leb (length t.controllers) 8) (leb (length t.nodes) 64) (leb (length c.networks) 128) (leb (length c.ports) 1024)
+    (seven_by n le (leb (length t.controllers) 8) (leb 1 (length t.nodes) && leb (length t.nodes) 64) (leb (length c.networks) 128) (leb (length c.ports) 1024)
     (leb (length c.policies) 128) (leb (length c.services) 128) (leb (length c.chains) 128))
     (four_by n le (list_all (λ n. leb (length n.subnets) 4) c.networks) (list_all (λ n. leb (length n.policies) 4) c.networks)
     (list_all (λ p. leb (length p.rules) 16) c.policies) (list_all (λ d. leb (length d.hops) 64) c.chains))

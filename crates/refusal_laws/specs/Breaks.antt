@@ -41,19 +41,19 @@ pub record StandsBefore {A : Type 0} (xs : List A) (first second : A) : Type 0 w
 abbrev pub StandsTwice : {A : Type 0} → List A → A → Type 0
 StandsTwice xs x = StandsBefore xs x x
 
--- there are more of a kind than its limit, or more in one object
-abbrev pub IsAboveLimit : Topology → Config → LimitKind → Type 0
-IsAboveLimit t c Counted.Controllers = 8 < length t.controllers
-IsAboveLimit t c Counted.Nodes = 64 < length t.nodes
-IsAboveLimit t c Counted.Networks = 128 < length c.networks
-IsAboveLimit t c Counted.Ports = 1024 < length c.ports
-IsAboveLimit t c Counted.Policies = 128 < length c.policies
-IsAboveLimit t c Counted.Services = 128 < length c.services
-IsAboveLimit t c Counted.Chains = 128 < length c.chains
-IsAboveLimit t c Counted.Subnets = Any (λ n. 4 < length n.subnets) c.networks
-IsAboveLimit t c Counted.Attachments = Any (λ n. 4 < length n.policies) c.networks
-IsAboveLimit t c Counted.Rules = Any (λ p. 16 < length p.rules) c.policies
-IsAboveLimit t c Counted.Hops = Any (λ d. 64 < length d.hops) c.chains
+-- there are more of a kind than its limit, or more in one object, or no compute node
+abbrev pub IsOutsideLimits : Topology → Config → LimitKind → Type 0
+IsOutsideLimits t c Counted.Controllers = 8 < length t.controllers
+IsOutsideLimits t c Counted.Nodes = (length t.nodes < 1) ⊎ (64 < length t.nodes)
+IsOutsideLimits t c Counted.Networks = 128 < length c.networks
+IsOutsideLimits t c Counted.Ports = 1024 < length c.ports
+IsOutsideLimits t c Counted.Policies = 128 < length c.policies
+IsOutsideLimits t c Counted.Services = 128 < length c.services
+IsOutsideLimits t c Counted.Chains = 128 < length c.chains
+IsOutsideLimits t c Counted.Subnets = Any (λ n. 4 < length n.subnets) c.networks
+IsOutsideLimits t c Counted.Attachments = Any (λ n. 4 < length n.policies) c.networks
+IsOutsideLimits t c Counted.Rules = Any (λ p. 16 < length p.rules) c.policies
+IsOutsideLimits t c Counted.Hops = Any (λ d. 64 < length d.hops) c.chains
 
 -- the names of each namespace: nodes of both kinds share one, and so do services and chains
 abbrev pub namespaces : Topology → Config → List (List (List ℕ))
@@ -127,7 +127,7 @@ pub record OverlapAround (c : Config) (n first second : Network) : Type 0 where
 
 -- what a refusal names breaks its rule
 abbrev pub Breaks : Topology → Config → Refusal → Type 0
-Breaks t c (Limit what) = IsAboveLimit t c what
+Breaks t c (Limit what) = IsOutsideLimits t c what
 Breaks t c (DuplicateName name) =
     Any (λ names. StandsTwice names name) (namespaces t c) ⊎ Any (λ n. StandsTwice n.controllers name) t.nodes
 Breaks t c (DuplicateId what id) = StandsTwice (numbers_of t c what) id

@@ -30,7 +30,7 @@ use Rattle.config_check.specs.Rules.{circuit_addresses, controller_names, node_n
 use Rattle.config_check.specs.Rules.{policy_names, service_names, chain_names}
 use Rattle.config_check.specs.Sentences.{Overlap, IsAround}
 use Rattle.refusal_laws.specs.Breaks.{IsChainRule, HasAny, HasOneNetwork, LiesOutside, StandsBefore, namespaces}
-use Rattle.refusal_laws.specs.Breaks.{numbers_of, IsAboveLimit}
+use Rattle.refusal_laws.specs.Breaks.{numbers_of, IsOutsideLimits}
 
 -- an item of a list has a fault, and none before it has
 pub record IsFirst {A : Type 0} (HasFault : A → Type 0) (xs : List A) (x : A) : Type 0 where
@@ -177,4 +177,4 @@ NamesFirst t c (DuplicateName name) =
     × (n : Node) × IsFirst (λ m. HasPair IsSame m.controllers) t.nodes n
     × IsFirstPair IsSame n.controllers name name)
 NamesFirst t c (BadReference name) = (names : List (List ℕ)) × IsFirst Dangles (references t c) (names, name)
-NamesFirst t c (Limit what) = IsFirst (IsAboveLimit t c) limit_kinds what
+NamesFirst t c (Limit what) = IsFirst (IsOutsideLimits t c) limit_kinds what

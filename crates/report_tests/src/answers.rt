@@ -3,15 +3,18 @@ ghost use Rattle.config_model.specs.declared.event.Event.TheVariants.{Show};
 ghost use Rattle.report.specs.Answers.{IsAnswerTo};
 
 use config_check::{EditFault, Refusal};
+use config_model::{Edit, ObjectKind};
+use config_ties::Tie;
 use ov_io::TextOut;
 use ov_types::{
     Addr, InstanceId, Items, Label, Name, NoMemory, NodeRows, Outcome, PortNo, Prefix, Rd, RuleNo,
     ServiceNo, Services, TableRow, Why,
 };
-use report::answer_lines;
+use report::{answer_lines, tied_answer_lines};
 use schedule_script::{Answer, Event};
 use std::alloc::Global;
 use std::process::Abort;
+use tied_answers::TiedAnswer;
 
 fn vm9(rt: &impl Abort) -> Name {
     Name::new("vm9").expect(rt, "a name")
@@ -36,6 +39,28 @@ fn what_is_done_or_refused_is_told(rt: HostRuntime) {
     check(&rt, alloc, name, &Answer::Idle, "3 idle\n");
     check(&rt, alloc, name, &missing, "3 refused Missing vm9\n");
     check(&rt, alloc, name, &outside, "3 refused AddressOutside vm9\n");
+}
+
+/// The answer to the edit of event 3, which would break a tie, has this line.
+fn check_tied(rt: &impl Abort, alloc: Global, tie: Tie, line: &str) {
+    let event = Event::Edit(Edit::Delete(ObjectKind::Port, vm9(rt)));
+    let mut out = TextOut::new(alloc);
+    tied_answer_lines(alloc, 3, &event, &TiedAnswer::EditTied(tie), &mut out).expect(rt, "memory");
+    assert!(rt; out.octets() == line.as_bytes(), "{line}");
+}
+
+#[test]
+fn ties_are_told(rt: HostRuntime) {
+    for (tie, line) in [
+        (Tie::Port(PortNo(2)), "3 refused Tied port 2\n"),
+        (Tie::ChainUse(7), "3 refused Tied use 7\n"),
+        (
+            Tie::Node(Addr(0xc000_020d)),
+            "3 refused Tied node 192.0.2.13\n",
+        ),
+    ] {
+        check_tied(&rt, rt.alloc(), tie, line);
+    }
 }
 
 #[test]

@@ -16,6 +16,7 @@ use Rattle.schedule_script.specs.declared.answer.Answer.TheVariants.{Traced}
 use Rattle.isolation_laws.specs.Refusing.{TiedNetwork, tied_start}
 use Rattle.network_model.specs.Steps.{is_settled}
 use Rattle.network_model.specs.Events.{forwarders, next}
+use Rattle.network_model.specs.Setup.{opening as opening_setup}
 use Rattle.headline_laws.specs.Headline.{IsWritten}
 use Rattle.schedule_laws.proofs.AsCompiled.{forms_of_front}
 use Rattle.tied_laws.specs.Runs.{tied_moment}
@@ -32,7 +33,7 @@ use Rattle.scenario_run.specs.Tallies.{nothing, tally, tally_from}
 use Rattle.scenario_run.proofs.Counting.{tally_more, traces_agree}
 
 -- what is written of a scenario
-pub scenario_is_written : (n : ℕ) → first_broken (scenario n).topology (scenario n).config ≡ None → IsWritten (opening n)
+pub scenario_is_written : (n : ℕ) → first_broken (scenario n).topology (scenario n).config ≡ None → IsWritten (opening_setup (opening n))
 unfolding scenario
 scenario_is_written n valid = record { topology = topology_has_form; config = config_has_form n; valid = valid }
 
@@ -45,7 +46,7 @@ none_of_events n s t = refl
 same_outcome_of : (o p : Outcome) → Traced o ≡ Traced p → o ≡ p
 same_outcome_of o p e = cc
 
-module _ (x : Checked) (written : IsWritten x) (es : List Event) (forms : IsTrue (list_all has_event_form es)) where
+module _ (x : Checked) (written : IsWritten (opening_setup x)) (es : List Event) (forms : IsTrue (list_all has_event_form es)) where
   -- is settled then
   settled_then : is_settled (tied_moment x (es ++ Settle ∷ [])).network ≡ true
   settled_then =
@@ -56,7 +57,7 @@ module _ (x : Checked) (written : IsWritten x) (es : List Event) (forms : IsTrue
       → forwarding (forwarders (tied_moment x es).network) p ≡ reachability (tied_moment x es).network.setup.config p
   delivers_then settled p = same_outcome_of _ _ (compiled_here x written es forms (Trace p) settled).0
 
-module _ (n : ℕ) (written : IsWritten (opening n)) where
+module _ (n : ℕ) (written : IsWritten (opening_setup (opening n))) where
   -- the events of a scenario end with one
   ends : take 4 (events n) ++ Settle ∷ [] ≡ events n
   unfolding events

@@ -20,6 +20,7 @@ use Rattle.schedule_script.specs.declared.answer.Answer.TheVariants.{Did, Idle, 
 use Rattle.isolation_laws.specs.Refusing.{TiedNetwork, after_tied, next_tied, tied_start}
 use Rattle.network_model.specs.Session.{Session}
 use Rattle.network_model.specs.Network.{Network}
+use Rattle.network_model.specs.Setup.{checked}
 use Rattle.network_model.specs.Steps.{in_flight, is_broken, may_connect, session_of}
 use Rattle.network_model.specs.Events.{edit_answer, event_of, forwarders, is_node, next, shown, unless}
 use Rattle.net_model.specs.Stands.{message_size}
@@ -79,7 +80,7 @@ delivery_is (Dropped why) = refl
 counts_one : (y : Checked) (s : TiedNetwork) (e : Event) (t : Tally)
     → CountsOne t (answer_tied s (event_of e)) (counted y e (answer_tied s (event_of e)) t)
 counts_one y s (written.Edit e) t =
-    stays t _ (plain_edit (tie_broken s (event_of (written.Edit e))) (edit_fault s.network.setup e))
+    stays t _ (plain_edit (tie_broken s (event_of (written.Edit e))) (edit_fault (checked s.network.setup) e))
 counts_one y s (written.Deliver from to n) t = stays t _ (plain_unless (in_flight s.network from to == 0))
 counts_one y s (written.DeliverOctets from to n) t = stays t _ (plain_unless (in_flight s.network from to == 0))
 counts_one y s (written.Lose a b) t = stays t _ (plain_unless (is_broken s.network a b))
@@ -109,12 +110,12 @@ deliveries s [] t = nothing_more t.delivered
 deliveries s (e ∷ es) t =
     let s' = next_tied message_size s (event_of e) in
     let answer = answer_tied s (event_of e) in
-    let t' = counted s'.network.setup e answer t in
+    let t' = counted (checked s'.network.setup) e answer t in
     let rest = run_tied message_size s' (map event_of es) in
     deliveries s' es t'
     ∙ sums t'.delivered t.delivered (one_if (is_delivery answer)) (length (filter is_delivery rest))
     (length (filter is_delivery (answer ∷ rest)))
-    (counts_one s'.network.setup s e t).delivered (one_delivered (is_delivery answer) answer rest refl)
+    (counts_one (checked s'.network.setup) s e t).delivered (one_delivered (is_delivery answer) answer rest refl)
 
 -- ---- the rounds of the last two settles
 abbrev all_later : ℕ × ℕ → List ℕ → ℕ × ℕ
@@ -132,8 +133,8 @@ rounds_so_far s (e ∷ es) t =
     let s' = next_tied message_size s (event_of e) in
     let answer = answer_tied s (event_of e) in
     let rest = filter_map rounds_of (run_tied message_size s' (map event_of es)) in
-    rounds_so_far s' es (counted s'.network.setup e answer t)
-    ∙ ap (λ two. all_later two rest) (counts_one s'.network.setup s e t).rounds
+    rounds_so_far s' es (counted (checked s'.network.setup) e answer t)
+    ∙ ap (λ two. all_later two rest) (counts_one (checked s'.network.setup) s e t).rounds
     ∙ one_later t.rounds (rounds_of answer) rest
 
 the_last_two : (two : ℕ × ℕ) (before : List ℕ) (one other : ℕ) → all_later two (before ++ one ∷ other ∷ []) ≡ (one, other)
@@ -153,7 +154,7 @@ agrees_here s (written.Trace p) = same_outcome (forwarding (forwarders s.network
 agrees_here s e = false
 
 agreed_one : (s : TiedNetwork) (e : Event) (t : Tally)
-    → (counted (next_tied message_size s (event_of e)).network.setup e (answer_tied s (event_of e)) t).agreed ≡ t.agreed + one_if (agrees_here s e)
+    → (counted (checked (next_tied message_size s (event_of e)).network.setup) e (answer_tied s (event_of e)) t).agreed ≡ t.agreed + one_if (agrees_here s e)
 unfolding next
 agreed_one s (written.Edit e) t = nothing_more t.agreed
 agreed_one s (written.Deliver from to n) t = nothing_more t.agreed
@@ -196,7 +197,7 @@ agreed_at_most : (s : TiedNetwork) (es : List Event) (t : Tally) → (tally_from
 agreed_at_most s [] t = omega arith
 agreed_at_most s (e ∷ es) t =
     let s' = next_tied message_size s (event_of e) in
-    let t' = counted s'.network.setup e (answer_tied s (event_of e)) t in
+    let t' = counted (checked s'.network.setup) e (answer_tied s (event_of e)) t in
     let one = agreed_one s e t in
     let few = traces_at_most s e in
     let more = agreed_at_most s' es t' in
@@ -252,12 +253,12 @@ all_agree s [] t counts place p o is answered = absurd cc
 all_agree s (e ∷ es) t counts zero p o is answered =
     let s' = next_tied message_size s (event_of e) in
     let one = agreed_one s e t in
-    let more = agreed_at_most s' es (counted s'.network.setup e (answer_tied s (event_of e)) t) in
+    let more = agreed_at_most s' es (counted (checked s'.network.setup) e (answer_tied s (event_of e)) t) in
     let sum = traces_more e es in
     here s e (omega (arith, one, more, sum, counts)) p o is answered
 all_agree s (e ∷ es) t counts (suc place) p o is answered =
     let s' = next_tied message_size s (event_of e) in
-    let t' = counted s'.network.setup e (answer_tied s (event_of e)) t in
+    let t' = counted (checked s'.network.setup) e (answer_tied s (event_of e)) t in
     let one = agreed_one s e t in
     let few = traces_at_most s e in
     let more = agreed_at_most s' es t' in
@@ -269,7 +270,7 @@ unfolding traces
 all_count s [] t agrees = nothing_more t.agreed
 all_count s (e ∷ es) t agrees =
     let s' = next_tied message_size s (event_of e) in
-    let t' = counted s'.network.setup e (answer_tied s (event_of e)) t in
+    let t' = counted (checked s'.network.setup) e (answer_tied s (event_of e)) t in
     let one = agreed_one s e t in
     let same = counts_here s e (λ p o is answered. agrees zero p o is answered) in
     let more = all_count s' es t' (λ place p o is answered. agrees (suc place) p o is answered) in

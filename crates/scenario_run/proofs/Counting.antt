@@ -11,6 +11,7 @@ use Rattle.reach_plain.specs.Reachability.{reachability}
 use Rattle.route_targets.specs.Forwarding.{forwarding}
 use Rattle.isolation_laws.specs.Refusing.{TiedNetwork, after_tied, next_tied, tied_start}
 use Rattle.network_model.specs.Events.{event_of, forwarders, next}
+use Rattle.network_model.specs.Setup.{checked}
 use Rattle.net_model.specs.Stands.{message_size}
 use Rattle.tied_answers.specs.declared.answer.TiedAnswer.{TiedAnswer}
 use Rattle.tied_answers.specs.declared.answer.TiedAnswer.TheVariants.{Answered, EditTied}
@@ -25,7 +26,7 @@ pub tally_more : (s : TiedNetwork) (es fs : List Event) (t : Tally)
 tally_more s [] fs t = refl
 tally_more s (e ∷ es) fs t =
     let s' = next_tied message_size s (event_of e) in
-    tally_more s' es fs (counted s'.network.setup e (answer_tied s (event_of e)) t)
+    tally_more s' es fs (counted (checked s'.network.setup) e (answer_tied s (event_of e)) t)
 
 pub nothing_more : (k : ℕ) → k ≡ k + 0
 nothing_more k = omega arith
@@ -42,7 +43,7 @@ traces_agree s delivers [] t = nothing_more t.agreed
 traces_agree s delivers (p ∷ ps) t =
     let c = s.network.setup.config in
     traces_agree (next_tied message_size s (event_of (Trace p))) delivers ps
-    (counted s.network.setup (Trace p) (answer_tied s (event_of (Trace p))) t)
+    (counted (checked s.network.setup) (Trace p) (answer_tied s (event_of (Trace p))) t)
     ∙ ap (λ b. (t.agreed + one_if b) + length ps)
     (ap (λ o. same_outcome o (reachability c p)) (delivers p) ∙ outcome_self (reachability c p))
     ∙ one_more t.agreed (length ps)
@@ -50,11 +51,11 @@ traces_agree s delivers (p ∷ ps) t =
 -- ---- one event more
 pub tally_one_more : (x : Checked) (ys : List Event) (e : Event)
     → tally x (ys ++ e ∷ [])
-    ≡ counted (tied_moment x (ys ++ e ∷ [])).network.setup e (answer_tied (tied_moment x ys) (event_of e)) (tally x ys)
+    ≡ counted (checked (tied_moment x (ys ++ e ∷ [])).network.setup) e (answer_tied (tied_moment x ys) (event_of e)) (tally x ys)
 unfolding tally
 tally_one_more x ys e =
     tally_more (tied_start x) ys (e ∷ []) nothing
-    ∙ ap (λ (s : TiedNetwork). counted s.network.setup e (answer_tied (tied_moment x ys) (event_of e))
+    ∙ ap (λ (s : TiedNetwork). counted (checked s.network.setup) e (answer_tied (tied_moment x ys) (event_of e))
     (tally_from (tied_start x) ys nothing))
     (sym (tied_more x ys e))
 
@@ -109,10 +110,10 @@ few_more y (Break from to k) answer t n few = plain t n few
 -- the count so far goes on, where the network's opening and events are those of the schedule so far
 pub counted_on : (x o o' : Checked) (ys es es' : List Event) (e : Event) (t t' : Tally)
     → o ≡ x → o' ≡ x → es ≡ ys → es' ≡ ys ++ e ∷ [] → t ≡ tally x ys
-    → t' ≡ counted (tied_moment o' es').network.setup e (answer_tied (tied_moment o es) (event_of e)) t
+    → t' ≡ counted (checked (tied_moment o' es').network.setup) e (answer_tied (tied_moment o es) (event_of e)) t
     → t' ≡ tally x (ys ++ e ∷ [])
 counted_on x o o' ys es es' e t t' opened opens taken takes counts counts_on =
-    let after : TiedNetwork → Checked = λ s. s.network.setup in
+    let after : TiedNetwork → Checked = λ s. checked s.network.setup in
     counts_on
     ∙ ap (λ z. counted (after (tied_moment z es')) e (answer_tied (tied_moment o es) (event_of e)) t) opens
     ∙ ap (λ z. counted (after (tied_moment x z)) e (answer_tied (tied_moment o es) (event_of e)) t) takes

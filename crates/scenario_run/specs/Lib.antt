@@ -3,3 +3,4 @@ pub mod Scheduled
 pub mod Tallies
 pub mod Agreed
 pub mod Counts
+pub use Rattle.net_machine.specs.NetState

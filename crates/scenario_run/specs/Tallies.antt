@@ -15,6 +15,7 @@ use Rattle.reach_plain.specs.Reachability.{reachability}
 use Rattle.schedule_script.specs.declared.answer.Answer.TheVariants.{Rounds, Traced}
 use Rattle.isolation_laws.specs.Refusing.{TiedNetwork, next_tied, tied_start}
 use Rattle.network_model.specs.Events.{event_of}
+use Rattle.network_model.specs.Setup.{checked}
 use Rattle.net_model.specs.Stands.{message_size}
 use Rattle.tied_answers.specs.declared.answer.TiedAnswer.{TiedAnswer}
 use Rattle.tied_answers.specs.declared.answer.TiedAnswer.TheVariants.{Answered}
@@ -72,7 +73,7 @@ abbrev pub tally_from : TiedNetwork → List Event → Tally → Tally
 tally_from s [] t = t
 tally_from s (e ∷ es) t =
     let s' = next_tied message_size s (event_of e) in
-    tally_from s' es (counted s'.network.setup e (answer_tied s (event_of e)) t)
+    tally_from s' es (counted (checked s'.network.setup) e (answer_tied s (event_of e)) t)
 
 abbrev pub nothing : Tally
 nothing = record { rounds = (0, 0); delivered = 0; agreed = 0 }

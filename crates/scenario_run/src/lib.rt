@@ -6,6 +6,7 @@ mod running;
 mod schedule;
 mod tally;
 
+pub use net_machine::Net;
 pub use running::{Ran, run_counted};
 pub use schedule::with_traces;
 pub use tally::Tally;

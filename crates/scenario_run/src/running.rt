@@ -5,6 +5,7 @@ ghost use Rattle.config_model.specs.Event.{has_event_form};
 ghost use Rattle.config_ties.specs.Kept.{AreAlike, ties_in};
 ghost use Rattle.net_model.specs.Stands.{StandsFor};
 ghost use Rattle.network_model.specs.Events.{event_of};
+ghost use Rattle.network_model.specs.Setup.{checked};
 ghost use Rattle.tied_laws.specs.Runs.{answer_tied, tied_moment};
 ghost use Rattle.scenario_run.specs.Tallies.{counted, tally};
 
@@ -27,8 +28,8 @@ fn count_step(net: &mut Net, event: Event, tally: Tally) -> Result<Tally, NoMemo
     requires form { IsTrue (has_event_form event) }
     requires delivered { tally.delivered < 2 ^ 31 }
     requires agreed { tally.agreed < 2 ^ 31 }
-    ensures tally { IfOk result (λ t. t ≡ counted (tied_moment net.new.opening net.new.events).network.setup event
-        (answer_tied (tied_moment net.old.opening net.old.events) (event_of event)) tally) }
+    ensures tally { IfOk result (λ t. t ≡ counted (checked (tied_moment net.new.opening net.new.events).network.setup)
+        event (answer_tied (tied_moment net.old.opening net.old.events) (event_of event)) tally) }
     ensures opening { net.new.opening ≡ net.old.opening }
     ensures events { OnOk result (net.new.events ≡ net.old.events ++ event ∷ []) }
     ensures works { OnOk result (net.new.failed ≡ false) }

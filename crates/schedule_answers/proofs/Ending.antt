@@ -12,9 +12,10 @@ use Rattle.config_model.specs.Event.{has_event_form}
 use Rattle.config_model.specs.declared.event.Event.{Event}
 use Rattle.document_answers.specs.declared.unfit.Verdict.TheVariants.{Good}
 use Rattle.headline_laws.specs.Headline.{IsWritten}
-use Rattle.net_machine.specs.NetState.{NetState}
+use Rattle.scenario_run.specs.NetState.{NetState}
 use Rattle.config_ties.specs.Kept.{AreAlike, ties_in}
 use Rattle.net_model.specs.Stands.{StandsFor}
+use Rattle.network_model.specs.Setup.{opening as opening_setup}
 use Rattle.tied_laws.specs.Runs.{tied_moment}
 use Rattle.schedule_answers.specs.Generating.{summary_of, summary_text}
 use Rattle.schedule_answers.specs.Networks.{AreReadAs, HasTaken, IsLeftOf, LeftOn, PromisedOn, TookAnswers, TookSummary}
@@ -42,7 +43,7 @@ run_left octets x es took n left read same has is = record {
 
 -- the lines of its answers
 pub run_promised : (octets : List ℕ) (old new : Option (List ℕ)) (x : Checked) (es took : List Event)
-    → AreReadAs octets (input_of x es) → IsWritten x → IsTrue (list_all has_event_form es) → took ≡ es
+    → AreReadAs octets (input_of x es) → IsWritten (opening_setup x) → IsTrue (list_all has_event_form es) → took ≡ es
     → Appends old new (run_text x took) → PromisedOn (TookAnswers octets old new) (Ok Good)
 run_promised octets old new x es took read valid forms same taken = record {
   input = input_of x es;

@@ -12,7 +12,7 @@ use Rattle.config_model.specs.declared.event.Event.{Event}
 use Rattle.config_model.specs.declared.event.RunInput.{RunInput}
 use Rattle.config_model.specs.Event.{run_at}
 use Rattle.ov_io.specs.declared.pieces.WriteRefusal.{WriteRefusal}
-use Rattle.net_machine.specs.NetState.{NetState}
+use Rattle.scenario_run.specs.NetState.{NetState}
 use Rattle.net_model.specs.Stands.{StandsFor}
 use Rattle.document_answers.specs.declared.unfit.Verdict.{Verdict}
 use Rattle.document_answers.specs.declared.unfit.Verdict.TheVariants.{Good}

@@ -19,12 +19,11 @@ use crate::left::{leave, leave_none};
 use config_check::Valid;
 use config_model::{CompileInput, Event};
 use document_answers::{Unfit, Verdict, valid_of, write_unfit};
-use net_machine::Net;
 use ov_io::{Sink, TextOut, WriteRefusal, write_all};
 use ov_types::NoMemory;
 use report::summary_lines;
 use scenario_gen::{Scenario, scenario, tenants};
-use scenario_run::{Ran, Tally, run_counted, with_traces};
+use scenario_run::{Net, Ran, Tally, run_counted, with_traces};
 use std::alloc::Global;
 
 /// A scenario: what is checked of it, what is run, and how many networks and ports it has.

@@ -1,7 +1,7 @@
 //! The network that a command leaves.
 ghost use Rattle.std.specs.Prelude.{◌≡◌, None, Some};
 
-use net_machine::Net;
+use scenario_run::Net;
 
 /// A value is put in a place, and what was there is let go.
 fn put<T: Drop>(place: &mut T, value: T)

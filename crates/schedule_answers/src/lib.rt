@@ -8,3 +8,4 @@ mod running;
 pub use generating::answer_gen;
 pub use left::leave_none;
 pub use running::answer_run;
+pub use scenario_run::Net;

@@ -8,6 +8,7 @@ ghost use Rattle.config_ties.specs.Kept.{AreAlike, ties_in};
 ghost use Rattle.headline_laws.specs.Headline.{IsWritten};
 ghost use Rattle.net_model.specs.Stands.{StandsFor};
 ghost use Rattle.network_model.specs.Events.{event_of};
+ghost use Rattle.network_model.specs.Setup.{opening};
 ghost use Rattle.ov_io.specs.Inputs.{TookFront};
 ghost use Rattle.ov_io.specs.Pieces.{HasWriteCause, IsOnItsWay};
 ghost use Rattle.report.specs.Answers.{tied_answer_lines};
@@ -22,11 +23,11 @@ use crate::left::{leave, leave_none};
 use config_check::Valid;
 use config_model::{Event, ReadRefusal, RunInput, read_run};
 use document_answers::{Unfit, Verdict, valid_of, write_unfit};
-use net_machine::Net;
 use ov_io::{Sink, TextOut, WriteRefusal, write_gathered, write_piece};
 use ov_json::value_of;
 use ov_types::{Items, NoMemory};
 use report::tied_answer_lines;
+use scenario_run::Net;
 use serde_json::Value;
 use std::alloc::Global;
 
@@ -150,7 +151,7 @@ fn run_written<K: Sink>(
 
 /// What a valid configuration is.
 fn know_valid(valid: &Valid)
-    ensures { IsWritten valid.now }
+    ensures { IsWritten (opening valid.now) }
 {
     let _topology = valid.topology();
 }

@@ -16,6 +16,7 @@ use Rattle.ov_types.specs.declared.rows.NodeRows.TheVariants as Rows
 use Rattle.ov_types.proofs.FirstLemmas.{same_name_self}
 use Rattle.config_model.specs.Edit.{has_edit_form}
 use Rattle.config_model.specs.Event.{has_event_form}
+use Rattle.config_model.specs.Form.{has_config_form, has_topology_form}
 use Rattle.config_model.specs.declared.edit.Edit.{Edit}
 use Rattle.config_model.specs.declared.event.Event.{Event as Written}
 use Rattle.config_model.specs.declared.event.Event.TheVariants as written
@@ -24,23 +25,24 @@ use Rattle.config_check.specs.Checked.{Checked}
 use Rattle.config_check.specs.Edits as edits
 use Rattle.config_check.specs.Finding.{node_named}
 use Rattle.config_check.specs.declared.edits.EditFault.{EditFault}
-use Rattle.config_check.proofs.Edited.{form_is_kept}
+use Rattle.config_check.proofs.Edited.{form_is_kept, nodes_form_is_kept}
+use Rattle.config_check.proofs.Validity.{form_of}
 use Rattle.schedule_script.specs.declared.answer.Answer.{Answer}
 use Rattle.schedule_script.specs.declared.answer.Answer.TheVariants.{Idle, Rounds, Shown, Traced}
 use Rattle.transform_model.specs.Compiled.{agent_rows}
 use Rattle.transform_model.specs.Tables.{control_rows}
 use Rattle.node_model.specs.Members.{Member}
 use Rattle.node_model.proofs.Members.{any_in}
-use Rattle.network_model.specs.Setup.{edited_without}
+use Rattle.network_model.specs.Setup.{Setup, checked, edited_without, moves, opening, remade, renumbered}
 use Rattle.network_model.specs.Network.{Network, start}
 use Rattle.network_model.specs.Steps.{is_settled, settle}
 use Rattle.network_model.specs.Events.{Event, Edits, Show, after, answer_to, edits as edits_of, event_of, is_node, next, run, shown}
 use Rattle.network_model.proofs.Deeds.{edit_made, setup_kept}
-use Rattle.network_laws.specs.Settling.{EditIsValid, EditsAreValid}
+use Rattle.network_model.specs.Moments.{EditIsValid, EditsAreValid}
 use Rattle.headline_laws.specs.Headline.{IsOfForm, IsWritten}
 use Rattle.headline_laws.proofs.Configured.{agents_show_rows, control_nodes_show_tables}
 use Rattle.headline_laws.proofs.Delivers.{found, written_delivers}
-use Rattle.headline_laws.proofs.Written.{compiled_now, written_now, written_settle_settles}
+use Rattle.headline_laws.proofs.Written.{compiled_now, none_broken, written_now, written_settle_settles}
 use Rattle.net_model.specs.Stands.{message_size, moment}
 use Rattle.net_model.proofs.Sizes.{positive}
 use Rattle.reach_plain.specs.Reachability.{reachability}
@@ -49,11 +51,11 @@ use Rattle.schedule_laws.specs.Compiled.{AnswersCompiled, AreAsCompiled, PassesE
 use Rattle.schedule_laws.specs.Ends.{SettlesAtOnce}
 
 -- ---- no packet is led through a service twice
-each_once_as : (x : Checked) → IsWritten x → (p : Packet) (o : Outcome) → reachability x.config p ≡ o → PassesEachOnce o
+each_once_as : (x : Setup) → IsWritten x → (p : Packet) (o : Outcome) → reachability x.config p ≡ o → PassesEachOnce o
 each_once_as x valid p (Delivered number services) is = passed_once x.topology x.config p number services valid.valid is
 each_once_as x valid p (Dropped why) is = tt
 
-pub each_once : (x : Checked) → IsWritten x → (p : Packet) → PassesEachOnce (reachability x.config p)
+pub each_once : (x : Setup) → IsWritten x → (p : Packet) → PassesEachOnce (reachability x.config p)
 each_once x valid p = each_once_as x valid p (reachability x.config p) refl
 
 -- ---- the answer of a place is that to its event, at the moment before it
@@ -73,24 +75,35 @@ moment_there (d ∷ es) w zero e is = ap (λ x. next message_size w (event_of x)
 moment_there (d ∷ es) w (suc place) e is = moment_there es (next message_size w (event_of d)) place e is
 
 -- ---- edits of the written form lead to configurations of it
-form_of_edited : (x : Checked) (d : Edit) (y : Checked) (f : Option EditFault) → IsTrue (has_edit_form d) → IsOfForm x
-    → edited_without f x d ≡ Some y → IsOfForm y
-form_of_edited x d y None form old is =
-    subst IsOfForm (same_Some (record { topology = x.topology; config = edits.edited d x.config }) y is) (form_is_kept d x.config form old)
-form_of_edited x d y (Some f) form old is = absurd cc
+form_of_made : (x : Setup) (d : Edit) → IsTrue (has_edit_form d) → IsOfForm x → edits.edit_fault (checked x) d ≡ None
+    → IsOfForm (remade (edits.edited d (checked x)) (renumbered (moves d x.topology) x.numbers))
+form_of_made x d form old none = (
+  form_of (edits.edited_topology d x.topology) (edits.edited_config d x.config) (nodes_form_is_kept d x.topology form old.0)
+      (none_broken x d none),
+  form_is_kept d x.config form old.1,
+)
+
+form_of_edited : (x : Setup) (d : Edit) (y : Setup) (f : Option EditFault) → edits.edit_fault (checked x) d ≡ f
+    → IsTrue (has_edit_form d) → IsOfForm x → edited_without f x d ≡ Some y → IsOfForm y
+form_of_edited x d y None none form old is =
+    subst IsOfForm (same_Some (remade (edits.edited d (checked x)) (renumbered (moves d x.topology) x.numbers)) y is)
+    (form_of_made x d form old none)
+form_of_edited x d y (Some f) found form old is = absurd cc
 
 module _ (w : Network) (old : IsOfForm w.setup) where
   same_form : (e : Event) → ((d : Edit) → e ≢ Edits d) → IsOfForm (next message_size w e).setup
   same_form e no_edit = subst IsOfForm (sym (setup_kept message_size w e no_edit)) old
 
-  refused_form : (d : Edit) (f : EditFault) → edits.edit_fault w.setup d ≡ Some f → IsOfForm (next message_size w (Edits d)).setup
+  refused_form : (d : Edit) (f : EditFault) → edits.edit_fault (checked w.setup) d ≡ Some f → IsOfForm (next message_size w (Edits d)).setup
   unfolding next
-  refused_form d f is = subst (λ (o : Option EditFault). IsOfForm (edits_of (edited_without o w.setup d) w).setup) (sym is) old
+  refused_form d f is = subst (λ (o : Option EditFault). IsOfForm (edits_of (moves d w.setup.topology) (edited_without o w.setup d) w).setup) (sym is) old
 
   edit_form : (d : Edit) → IsTrue (has_edit_form d) → IsOfForm (next message_size w (Edits d)).setup
   edit_form d form =
-      elim (edits.edit_fault w.setup d) as (λ f. edits.edit_fault w.setup d ≡ f → IsOfForm (next message_size w (Edits d)).setup) [
-        | None ↦ λ is. subst IsOfForm (sym (edit_made message_size w d is)) (form_is_kept d w.setup.config form old)
+      elim (edits.edit_fault (checked w.setup) d) as (λ f. edits.edit_fault (checked w.setup) d ≡ f → IsOfForm (next message_size w (Edits d)).setup) [
+        | None ↦ λ is.
+            subst (λ (z : Checked). IsTrue (has_topology_form z.topology) × IsTrue (has_config_form z.config))
+            (sym (edit_made message_size w d is)) (form_of_made w.setup d form old is)
         | Some f ↦ λ is. refused_form d f is
       ] refl
 
@@ -110,7 +123,7 @@ module _ (w : Network) (old : IsOfForm w.setup) where
 
   edit_of_form : (e : Written) → IsTrue (has_event_form e) → EditIsValid IsOfForm w (event_of e)
   unfolding has_event_form
-  edit_of_form (written.Edit d) form = λ y is. form_of_edited w.setup d y (edits.edit_fault w.setup d) form old is
+  edit_of_form (written.Edit d) form = λ y is. form_of_edited w.setup d y (edits.edit_fault (checked w.setup) d) refl form old is
   edit_of_form (written.Deliver from to n) form = tt
   edit_of_form (written.DeliverOctets from to n) form = tt
   edit_of_form (written.Lose a b) form = tt
@@ -137,7 +150,7 @@ forms_of_front (suc place) (e ∷ es) forms =
     and_from (has_event_form e) (list_all has_event_form (take place es)) parts.0 (forms_of_front place es parts.1)
 
 -- ---- a moment of any schedule
-module _ (x : Checked) (valid : IsWritten x) (before : List Event) (asked : EditsAreValid message_size IsOfForm (start x) before) where
+module _ (x : Checked) (valid : IsWritten (opening x)) (before : List Event) (asked : EditsAreValid message_size IsOfForm (start x) before) where
   abbrev w : Network
   w = after message_size (start x) before
 
@@ -163,7 +176,7 @@ module _ (x : Checked) (valid : IsWritten x) (before : List Event) (asked : Edit
       (ap is_some (found w (written_now message_size positive x valid before asked) (compiled_now message_size positive x valid before asked) settled n among)))
       (agents_show_rows message_size positive x valid before asked settled n among))
 
-  pub compiled_at : is_settled w ≡ true → (e : Written) → AnswersCompiled w.setup e (answer_to w (event_of e))
+  pub compiled_at : is_settled w ≡ true → (e : Written) → AnswersCompiled (checked w.setup) e (answer_to w (event_of e))
   compiled_at settled (written.Show name) = (at_control settled name, at_agent settled name)
   compiled_at settled (written.Trace p) = (
     ap Traced (written_delivers message_size positive x valid before asked settled p),
@@ -180,7 +193,7 @@ module _ (x : Checked) (valid : IsWritten x) (before : List Event) (asked : Edit
   compiled_at settled (written.Break from to n) = tt
 
 -- ---- a moment of the schedule
-module _ (x : Checked) (valid : IsWritten x) (es : List Written) (forms : IsTrue (list_all has_event_form es)) (place : ℕ) where
+module _ (x : Checked) (valid : IsWritten (opening x)) (es : List Written) (forms : IsTrue (list_all has_event_form es)) (place : ℕ) where
   abbrev before_it : List Event
   before_it = map event_of (take place es)
 
@@ -188,7 +201,7 @@ module _ (x : Checked) (valid : IsWritten x) (es : List Written) (forms : IsTrue
   w_there = moment x (take place es)
 
   asked_there : EditsAreValid message_size IsOfForm (start x) before_it
-  asked_there = edits_of_form (take place es) (start x) (forms_of_front place es forms) valid.config
+  asked_there = edits_of_form (take place es) (start x) (forms_of_front place es forms) (valid.topology, valid.config)
 
   settles_at : (e : Written) (w' : Network) → w' ≡ next message_size w_there (event_of e) → SettlesAtOnce w_there e (answer_to w_there (event_of e)) w'
   unfolding next
@@ -215,10 +228,10 @@ module _ (x : Checked) (valid : IsWritten x) (es : List Written) (forms : IsTrue
   answer_there e a at = at_place es (start x) place e a at.event at.answer
 
 -- the answers of a schedule are as its configurations compile to
-pub as_compiled : (x : Checked) → IsWritten x → (es : List Written) → IsTrue (list_all has_event_form es) → AreAsCompiled x es (answers x es)
+pub as_compiled : (x : Checked) → IsWritten (opening x) → (es : List Written) → IsTrue (list_all has_event_form es) → AreAsCompiled x es (answers x es)
 as_compiled x valid es forms = record {
   settled = λ place e a at settled.
-      subst (AnswersCompiled (moment x (take place es)).setup e) (sym (answer_there x valid es forms place e a at)) (compiled_at x valid (map event_of (take place es)) (asked_there x valid es forms place) settled e);
+      subst (AnswersCompiled (checked (moment x (take place es)).setup) e) (sym (answer_there x valid es forms place e a at)) (compiled_at x valid (map event_of (take place es)) (asked_there x valid es forms place) settled e);
   settles = λ place e a at.
       subst (λ a. SettlesAtOnce (moment x (take place es)) e a (moment x (take (suc place) es))) (sym (answer_there x valid es forms place e a at))
       (settles_at x valid es forms place e (moment x (take (suc place) es)) (moment_there es (start x) place e at.event));

@@ -16,6 +16,7 @@ use Rattle.transform_model.specs.Tables.{control_rows}
 use Rattle.schedule_script.specs.declared.answer.Answer.{Answer}
 use Rattle.schedule_script.specs.declared.answer.Answer.TheVariants.{Shown, Traced}
 use Rattle.node_model.specs.Members.{Member}
+use Rattle.network_model.specs.Setup.{checked}
 use Rattle.network_model.specs.Network.{start}
 use Rattle.network_model.specs.Steps.{is_settled}
 use Rattle.network_model.specs.Events.{event_of, run}
@@ -52,6 +53,6 @@ pub record StandsAt (es : List Event) (answered : List Answer) (place : ℕ) (e 
 -- moment compiles to, and a packet goes exactly where its policies permit; and `settle` always leads there
 pub record AreAsCompiled (x : Checked) (es : List Event) (answered : List Answer) : Type 0 where
   pub settled : (place : ℕ) (e : Event) (a : Answer) → StandsAt es answered place e a
-      → is_settled (moment x (take place es)) ≡ true → AnswersCompiled (moment x (take place es)).setup e a
+      → is_settled (moment x (take place es)) ≡ true → AnswersCompiled (checked (moment x (take place es)).setup) e a
   pub settles : (place : ℕ) (e : Event) (a : Answer) → StandsAt es answered place e a
       → SettlesAtOnce (moment x (take place es)) e a (moment x (take (suc place) es))

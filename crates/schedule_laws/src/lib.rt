@@ -7,6 +7,7 @@ ghost use Rattle.config_check.specs.Checked.{Checked};
 ghost use Rattle.config_model.specs.Event.{has_event_form};
 ghost use Rattle.config_model.specs.declared.event.Event.{Event};
 ghost use Rattle.headline_laws.specs.Headline.{IsWritten};
+ghost use Rattle.network_model.specs.Setup.{opening};
 ghost use Rattle.schedule_laws.specs.Compiled.{AreAsCompiled, answers};
 
 mod numbers;
@@ -21,6 +22,6 @@ pub use numbers::{
 /// moment compiles to, a packet goes exactly where policies permit it, and `settle` always ends settled, in at most six
 /// rounds more than the longest chain in effect has services.
 pub fn answers_are_as_compiled()
-    ensures { (x : Checked) → IsWritten x → (es : List Event) → IsTrue (list_all has_event_form es)
+    ensures { (x : Checked) → IsWritten (opening x) → (es : List Event) → IsTrue (list_all has_event_form es)
         → AreAsCompiled x es (answers x es) }
 {}

@@ -16,7 +16,7 @@ ghost use Rattle.net_model.specs.Stands.{moment};
 ghost use Rattle.network_laws.specs.Settling.{SettlesIn};
 ghost use Rattle.network_model.specs.Network.{Network};
 ghost use Rattle.network_model.specs.Session.{Message};
-ghost use Rattle.network_model.specs.Setup.{Name, longest};
+ghost use Rattle.network_model.specs.Setup.{Name, checked, longest};
 ghost use Rattle.network_model.specs.Steps.{is_settled};
 ghost use Rattle.node_model.specs.Members.{Member};
 ghost use Rattle.reach_plain.specs.Reachability.{reachability};
@@ -31,7 +31,7 @@ ghost use Rattle.transform_model.specs.Tables.{control_rows};
 pub fn settled_answers_are_compiled()
     ensures { (x : Checked) (es : List Event) (answered : List Answer) → AreAsCompiled x es answered
         → (place : ℕ) (e : Event) (a : Answer) → StandsAt es answered place e a
-        → is_settled (moment x (take place es)) ≡ true → AnswersCompiled (moment x (take place es)).setup e a }
+        → is_settled (moment x (take place es)) ≡ true → AnswersCompiled (checked (moment x (take place es)).setup) e a }
 {}
 
 /// A control node shows the tables of all instances.

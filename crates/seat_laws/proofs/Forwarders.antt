@@ -11,12 +11,13 @@ use Rattle.node_model.specs.Agent.{rows as agent_rows}
 use Rattle.node_model.specs.Members.{Member}
 use Rattle.network_model.specs.Events as events
 use Rattle.network_model.specs.Events.{forwarders}
+use Rattle.network_model.specs.Moments.{HasNumbers, HasSessions}
 use Rattle.network_model.specs.Network.{Network}
+use Rattle.network_model.specs.Setup.{checked}
 use Rattle.compiled_laws.specs.Setups.{IsNamed}
 use Rattle.net_model.specs.Seats.{Configuring, Controlling, Forwarding, Seat, Who, agent_plan, control_plan, nobody}
 use Rattle.net_model.specs.Stands.{Seats}
 use Rattle.net_model.specs.Steps.{forwarder_of, forwarders_of}
-use Rattle.seat_laws.specs.Wiring.{HasSessions}
 use Rattle.seat_laws.proofs.Agents.{computer_holds}
 use Rattle.seat_laws.proofs.Ends.{Ends, seat_ends}
 use Rattle.seat_laws.proofs.Lists.{all_of, at_of_member, first_is, rest_is, some_nothing}
@@ -25,7 +26,7 @@ use Rattle.seat_laws.proofs.Seating.{ListsApart}
 forwards_as : (n : Seat) (v : Who) → n.who ≡ v → forwarder_of n ≡ forwarder_of (record n { who = v })
 forwards_as n v e = ap (λ (v : Who). forwarder_of (record n { who = v })) e
 
-module _ (w : Network) (named : IsNamed w.setup.topology) (listed : ListsApart w.setup) (seats : List Seat) (stands : Seats seats w) (has : HasSessions w) where
+module _ (w : Network) (named : IsNamed w.setup.topology) (numbers : HasNumbers w.setup) (listed : ListsApart w.setup) (seats : List Seat) (stands : Seats seats w) (has : HasSessions w) where
   abbrev machine_forwarder : Node → Forwarder
   machine_forwarder n = record { address = n.address; rows = agent_rows (events.agent_rows w n.name) }
 
@@ -33,7 +34,7 @@ module _ (w : Network) (named : IsNamed w.setup.topology) (listed : ListsApart w
   computer_who n = Forwarding (agent_plan w.setup.topology n)
 
   abbrev site_who : NodeId → Who
-  site_who c = Controlling (control_plan w.setup.topology c)
+  site_who c = Controlling (control_plan w.setup c)
 
   abbrev HasEnds : Seat → Type 0
   HasEnds n = Ends w n.who n.posts
@@ -47,7 +48,7 @@ module _ (w : Network) (named : IsNamed w.setup.topology) (listed : ListsApart w
   computers_forward (n ∷ ss) [] e h ends = absurd (some_nothing n.who (map who_of ss) e)
   computers_forward (n ∷ ss) (m ∷ ms) e h ends =
       let is : n.who ≡ computer_who m = first_is n.who (computer_who m) (map who_of ss) (map computer_who ms) e in
-      let held = computer_holds w named listed seats stands has m (h m (inl refl)) n.posts (subst (λ v. Ends w v n.posts) is ends.0) in
+      let held = computer_holds w named numbers listed seats stands has m (h m (inl refl)) n.posts (subst (λ v. Ends w v n.posts) is ends.0) in
       let first : forwarder_of n ≡ Some (machine_forwarder m) = forwards_as n (computer_who m) is ∙ (λ i. Some (record { address = m.address; rows = agent_rows (sym held i) })) in
       ap (λ (o : Option Forwarder). cons_option o (forwarders_of ss)) first
       ∙ ap (λ (fs : List Forwarder). machine_forwarder m ∷ fs) (computers_forward ss ms (rest_is n.who (computer_who m) (map who_of ss) (map computer_who ms) e) (λ k i. h k (inr i)) ends.1)
@@ -61,12 +62,12 @@ module _ (w : Network) (named : IsNamed w.setup.topology) (listed : ListsApart w
       ap (λ (o : Option Forwarder). cons_option o (forwarders_of ss)) (forwards_as n (site_who c) (first_is n.who (site_who c) (map who_of ss) later e))
       ∙ nodes_forward ss cs ms (rest_is n.who (site_who c) (map who_of ss) later e) h ends.1
 
-  all_forward : (ss : List Seat) → map who_of ss ≡ Configuring w.setup ∷ (map site_who w.setup.topology.controllers ++ map computer_who w.setup.topology.nodes) → AllByRecursion HasEnds ss → forwarders_of ss ≡ forwarders w
-  all_forward [] e ends = absurd (some_nothing (Configuring w.setup) (map site_who w.setup.topology.controllers ++ map computer_who w.setup.topology.nodes) (sym e))
+  all_forward : (ss : List Seat) → map who_of ss ≡ Configuring (checked w.setup) ∷ (map site_who w.setup.topology.controllers ++ map computer_who w.setup.topology.nodes) → AllByRecursion HasEnds ss → forwarders_of ss ≡ forwarders w
+  all_forward [] e ends = absurd (some_nothing (Configuring (checked w.setup)) (map site_who w.setup.topology.controllers ++ map computer_who w.setup.topology.nodes) (sym e))
   all_forward (n ∷ ss) e ends =
       let later = map site_who w.setup.topology.controllers ++ map computer_who w.setup.topology.nodes in
-      ap (λ (o : Option Forwarder). cons_option o (forwarders_of ss)) (forwards_as n (Configuring w.setup) (first_is n.who (Configuring w.setup) (map who_of ss) later e))
-      ∙ nodes_forward ss w.setup.topology.controllers w.setup.topology.nodes (rest_is n.who (Configuring w.setup) (map who_of ss) later e) (λ n m. m) ends.1
+      ap (λ (o : Option Forwarder). cons_option o (forwarders_of ss)) (forwards_as n (Configuring (checked w.setup)) (first_is n.who (Configuring (checked w.setup)) (map who_of ss) later e))
+      ∙ nodes_forward ss w.setup.topology.controllers w.setup.topology.nodes (rest_is n.who (Configuring (checked w.setup)) (map who_of ss) later e) (λ n m. m) ends.1
 
   pub forwarders_are : forwarders w ≡ forwarders_of seats
   forwarders_are = sym (all_forward seats stands.who (all_of HasEnds seats ends))

@@ -1,7 +1,6 @@
 -- What the machine takes of an agent's sessions is what the agent takes of its ends.
 use Rattle.std.specs.Cmp.Lexicographic.{bytes_decides}
 use Rattle.std.specs.List.{AllZip, cons_option}
-use Rattle.std.specs.Option.{option_map, unwrap_or}
 use Rattle.std.specs.Prelude.{Bool, List, cond, false, find, map, true, [], ◌&&◌, ◌∷◌, ◌≡◌}
 use Rattle.std.specs.declared.option.Option.TheVariants.{None, Some}
 use Rattle.std.specs.declared.option.Option.{Option}
@@ -9,17 +8,16 @@ use Rattle.std.proofs.Common.{ap, inl, inr, refl, subst, sym, ◌∙◌}
 use Rattle.std.proofs.lemmas.Option.{same_Some}
 use Rattle.ov_types.specs.First.{same_name}
 use Rattle.config_model.specs.declared.topology.Node.{Node}
-use Rattle.config_check.specs.Checked.{Checked}
 use Rattle.node_model.specs.Agent.{Heard}
 use Rattle.node_model.specs.Members.{Member}
 use Rattle.node_model.specs.Step.{Confirmed, Idle, Opened, Phase, Post, Up}
 use Rattle.node_model.proofs.Members.{in_map, none_some}
-use Rattle.network_model.specs.Network.{View, address_of, agent_holdings, heard_from, is_at, sessions_of, view, views_of}
+use Rattle.network_model.specs.Network.{View, agent_holdings, heard_from, is_at, sessions_of, view, views_of}
 use Rattle.network_model.specs.Session.{Session, is_up_phase, turned}
-use Rattle.network_model.specs.Setup.{Name}
+use Rattle.network_model.specs.Setup.{Name, Setup, listed_by}
 use Rattle.network_model.specs.Steps.{session_in}
 use Rattle.network_model.proofs.Twins.{itself}
-use Rattle.network_model.proofs.Apart.{Apart, same_false}
+use Rattle.network_model.proofs.Distinct.{Apart, same_false}
 use Rattle.agent_node.specs.Core.{heard_at, holdings, is_up}
 
 abbrev pub heard_as : Session → Heard
@@ -57,9 +55,6 @@ computer_found [] c a m = absurd m
 computer_found (d ∷ ns) c a (inl e) = ap (λ b. cond b (Some d) (find (λ (n : Node). same_name n.name c.name) ns)) (subst (λ (c : Node). same_name d.name c.name ≡ true) e (itself d.name)) ∙ ap Some e
 computer_found (d ∷ ns) c a (inr m) = ap (λ b. cond b (Some d) (find (λ (n : Node). same_name n.name c.name) ns)) (same_false d.name c.name (λ e. a.0 c.name (in_map (λ (n : Node). n.name) c ns m) e)) ∙ computer_found ns c a.1 m
 
-pub addressed : (x : Checked) (n : Node) → Apart (map (λ (n : Node). n.name) x.topology.nodes) → Member n x.topology.nodes → address_of x n.name ≡ n.address
-addressed x n a m = ap (λ (o : Option Node). unwrap_or (option_map (λ (n : Node). n.address) o) (record { 0 = 0 })) (computer_found x.topology.nodes n a m)
-
 pub up_same : (p : Phase) → is_up_phase p ≡ is_up p
 up_same Idle = refl
 up_same Opened = refl
@@ -75,7 +70,7 @@ all_heard vs [] (p ∷ posts) z = absurd z
 all_heard vs (name ∷ names) [] z = absurd z
 all_heard vs (name ∷ names) (p ∷ posts) z = λ i. z.0 i ∷ all_heard vs names posts z.1 i
 
-pub agent_holds : (x : Checked) (n : Node) (vs : List View) (posts : List Post) → Apart (map (λ (n : Node). n.name) x.topology.nodes) → Member n x.topology.nodes → AllZip (HearsAt vs) n.controllers posts → agent_holdings x n.name vs ≡ holdings posts
+pub agent_holds : (x : Setup) (n : Node) (vs : List View) (posts : List Post) → Apart (map (λ (n : Node). n.name) x.topology.nodes) → Member n x.topology.nodes → AllZip (HearsAt vs) n.controllers posts → agent_holdings x n.name vs ≡ holdings posts
 agent_holds x n vs posts a m z =
-    ap (λ (o : Option Node). map (heard_from vs) (unwrap_or (option_map (λ (n : Node). n.controllers) o) [])) (computer_found x.topology.nodes n a m)
+    ap (λ (o : Option Node). map (heard_from vs) (listed_by o)) (computer_found x.topology.nodes n a m)
     ∙ all_heard vs n.controllers posts z

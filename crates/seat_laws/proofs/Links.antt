@@ -6,12 +6,12 @@ use Rattle.std.proofs.Common.{inl, inr, refl, subst, sym, ◌∙◌}
 use Rattle.std.proofs.lemmas.Bool.{true≢false}
 use Rattle.ov_types.specs.declared.rows.NodeId.{NodeId}
 use Rattle.config_model.specs.declared.topology.Node.{Node}
-use Rattle.config_check.specs.Checked.{Checked}
 use Rattle.node_model.specs.Members.{Member}
 use Rattle.node_model.proofs.Members.{from_filter, from_flat_map, from_map, in_either, in_filter, in_flat_map, in_left, in_map, in_right}
 use Rattle.network_model.specs.Moments.{Nodes, nodes}
-use Rattle.network_model.specs.Network.{accesses, feeds, lists, peerings, start}
+use Rattle.network_model.specs.Network.{accesses, asked, feeds, lists, peerings}
 use Rattle.network_model.specs.Session.{Session}
+use Rattle.network_model.specs.Setup.{Setup, checked}
 use Rattle.network_model.proofs.Apart.{no_twins, access_session, feed_session, from_peerings, peer_session}
 use Rattle.network_model.proofs.Twins.{IsProper, NoTwins}
 use Rattle.compiled_laws.specs.Goal.{Party}
@@ -19,11 +19,11 @@ use Rattle.compiled_laws.specs.Setups.{IsNamed}
 use Rattle.compiled_laws.proofs.Placing.{in_peerings}
 use Rattle.seat_laws.proofs.Parties.{Feed, Fed, Peers, Serves, Served, Ties}
 
-abbrev pub links : Checked → List Nodes
-links x = map nodes (start x).sessions
+abbrev pub links : Setup → List Nodes
+links x = map nodes (asked x.topology)
 
 -- ---- where they stand
-module _ (x : Checked) (named : IsNamed x.topology) where
+module _ (x : Setup) (named : IsNamed x.topology) where
   abbrev cs : List NodeId
   cs = x.topology.controllers
 
@@ -31,14 +31,14 @@ module _ (x : Checked) (named : IsNamed x.topology) where
   ns = x.topology.nodes
 
   feed_in : (c : NodeId) → Member c cs → Member (nodes (feed_session c)) (links x)
-  feed_in c m = in_map nodes (feed_session c) (start x).sessions (in_left (feed_session c) (feeds cs ++ peerings cs) (accesses cs ns) (in_left (feed_session c) (feeds cs) (peerings cs) (in_map feed_session c cs m)))
+  feed_in c m = in_map nodes (feed_session c) (asked x.topology) (in_left (feed_session c) (feeds cs ++ peerings cs) (accesses cs ns) (in_left (feed_session c) (feeds cs) (peerings cs) (in_map feed_session c cs m)))
 
   peer_in : (s : Session) → Member s (peerings cs) → Member (nodes s) (links x)
-  peer_in s m = in_map nodes s (start x).sessions (in_left s (feeds cs ++ peerings cs) (accesses cs ns) (in_right s (feeds cs) (peerings cs) m))
+  peer_in s m = in_map nodes s (asked x.topology) (in_left s (feeds cs ++ peerings cs) (accesses cs ns) (in_right s (feeds cs) (peerings cs) m))
 
   access_in : (c : NodeId) (n : Node) → Member c cs → Member n ns → lists n c ≡ true → Member (nodes (access_session c n)) (links x)
   access_in c n m k l =
-      in_map nodes (access_session c n) (start x).sessions
+      in_map nodes (access_session c n) (asked x.topology)
       (in_right (access_session c n) (feeds cs ++ peerings cs) (accesses cs ns)
       (in_flat_map (λ n. map (λ c. access_session c n) (filter (lists n) cs)) n (access_session c n) ns k (in_map (λ c. access_session c n) c (filter (lists n) cs) (in_filter (lists n) c cs m l))))
 
@@ -59,7 +59,7 @@ module _ (x : Checked) (named : IsNamed x.topology) where
 
   -- ---- and back
   pub twinless : NoTwins (links x)
-  twinless = no_twins x named.apart
+  twinless = no_twins (checked x) named.apart
 
   proper_in : (ps : List Nodes) → NoTwins ps → (p : Nodes) → Member p ps → IsProper p
   proper_in [] h p m = absurd m
@@ -74,7 +74,7 @@ module _ (x : Checked) (named : IsNamed x.topology) where
 
   pub tied_of : (p : Nodes) → Member p (links x) → AreTied p
   tied_of p m =
-      let q = from_map nodes p (start x).sessions m in
+      let q = from_map nodes p (asked x.topology) m in
       let s = q.0 in
       subst AreTied q.2
       (elim (in_either s (feeds cs ++ peerings cs) (accesses cs ns) q.1) as (λ _. AreTied (nodes s)) [

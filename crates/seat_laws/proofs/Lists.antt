@@ -43,6 +43,13 @@ at_map f [] i d = refl
 at_map f (x ∷ xs) zero d = refl
 at_map f (x ∷ xs) (suc i) d = at_map f xs i d
 
+-- behind the end of a list
+pub shifted : {A : Type 0} (xs ys : List A) (n j : ℕ) (d : A) → length xs ≡ n → slice_index_or (xs ++ ys) (n + j) d ≡ slice_index_or ys j d
+shifted [] ys n j d l = let e : n + j ≡ j = omega (arith, l) in ap (λ k. slice_index_or ys k d) e
+shifted (x ∷ xs) ys n j d l =
+    let e : n + j ≡ suc (length xs + j) = omega (arith, l) in
+    ap (λ k. slice_index_or (x ∷ (xs ++ ys)) k d) e ∙ shifted xs ys (length xs) j d refl
+
 pub all_of : {A : Type 0} (P : A → Type 0) (xs : List A) → ((a : A) → Member a xs → P a) → AllByRecursion P xs
 all_of P [] h = tt
 all_of P (a ∷ xs) h = (h a (inl refl), all_of P xs (λ b m. h b (inr m)))

@@ -10,22 +10,21 @@ use Rattle.std.proofs.lemmas.List.{append-nil, map-append}
 use Rattle.ov_types.specs.First.{same_name}
 use Rattle.ov_types.specs.declared.rows.NodeId.{NodeId}
 use Rattle.config_model.specs.declared.topology.Node.{Node}
-use Rattle.config_check.specs.Checked.{Checked}
 use Rattle.node_model.specs.Members.{Member}
 use Rattle.node_model.proofs.Members.{from_filter, in_filter, in_map}
 use Rattle.network_model.specs.Moments.{Nodes, nodes}
 use Rattle.network_model.specs.Network.{accesses, config, feeds, lists, peerings}
 use Rattle.network_model.specs.Session.{Session}
-use Rattle.network_model.specs.Setup.{Name}
+use Rattle.network_model.specs.Setup.{Name, Setup}
 use Rattle.compiled_laws.specs.Goal.{Party, other_end, others}
 use Rattle.compiled_laws.specs.Setups.{IsNamed}
-use Rattle.network_model.proofs.Apart.{Apart, NamesApart, same_false, access_link, access_session, feed_session, peer_link, peer_session}
+use Rattle.network_model.proofs.Distinct.{Apart, same_false}
+use Rattle.network_model.proofs.Apart.{NamesApart, access_link, access_session, feed_session, peer_link, peer_session}
 use Rattle.compiled_laws.proofs.Names.{apart_names}
 use Rattle.compiled_laws.proofs.Placing.{feed_link}
-use Rattle.net_model.specs.Seats.{Controlling, control_plan, id_of}
 use Rattle.seat_laws.proofs.Links.{links}
 use Rattle.seat_laws.proofs.Lists.{apart_kept, map_twice}
-use Rattle.seat_laws.proofs.Parties.{client, computer, parties_of, root, site}
+use Rattle.seat_laws.proofs.Parties.{computer, root, site}
 
 cons_before : {A : Type 0} (o : Option A) (xs ys : List A) → cons_option o (xs ++ ys) ≡ cons_option o xs ++ ys
 cons_before None xs ys = refl
@@ -142,9 +141,10 @@ module _ (c : NodeId) where
         ∙ elim (lists n c) as (λ b. cond b (computer n ∷ []) [] ++ map computer (filter (λ n. lists n c) ns) ≡ map computer (cond b (n ∷ filter (λ n. lists n c) ns) (filter (λ n. lists n c) ns))) [ true ↦ refl | false ↦ refl ]
 
 -- ---- all that a control node sees
-pub site_sees : (x : Checked) → IsNamed x.topology → (c : NodeId) → Member c x.topology.controllers → others c.name (links x) ≡ parties_of (Controlling (control_plan x.topology c))
+pub site_sees : (x : Setup) → IsNamed x.topology → (c : NodeId) → Member c x.topology.controllers
+    → others c.name (links x) ≡ root ∷ (map site (filter (is_peer_of c) x.topology.controllers) ++ map computer (filter (λ n. lists n c) x.topology.nodes))
 site_sees x named c m =
-    let names : NamesApart x = apart_names x named.apart in
+    let names : NamesApart x.topology = apart_names x.topology named.apart in
     let cs = x.topology.controllers in
     let ns = x.topology.nodes in
     let site_name : Member c.name (names_in cs) = in_map (λ (c : NodeId). c.name) c cs m in
@@ -153,4 +153,3 @@ site_sees x named c m =
     others_joined c.name (feeds cs ++ peerings cs) (accesses cs ns)
     ∙ ap (λ (os : List Party). os ++ others c.name (map nodes (accesses cs ns))) (others_joined c.name (feeds cs) (peerings cs))
     ∙ (λ i. (feeds_seen c no_config cs names.sites_apart m i ++ peerings_seen c cs names.sites_apart m i) ++ accesses_seen c cs names.sites_apart m ns no_computer i)
-    ∙ ap (λ (os : List Party). root ∷ (map site (filter (is_peer_of c) cs) ++ os)) (sym (map_twice client id_of (filter (λ n. lists n c) ns)))

@@ -10,7 +10,7 @@ use Rattle.std.proofs.lemmas.Option.{same_Some}
 use Rattle.ov_types.specs.First.{same_name}
 use Rattle.node_model.specs.Members.{Member}
 use Rattle.node_model.proofs.Members.{from_map, in_map, none_some}
-use Rattle.network_model.specs.Moments.{Each, Nodes, nodes}
+use Rattle.network_model.specs.Moments.{Each, HasNumbers, HasSessions, Nodes, nodes}
 use Rattle.network_model.specs.Network.{Network, is_at}
 use Rattle.network_model.specs.Session.{Session, turned}
 use Rattle.network_model.specs.Setup.{Name}
@@ -20,7 +20,7 @@ use Rattle.compiled_laws.specs.Goal.{Party}
 use Rattle.compiled_laws.specs.Setups.{IsNamed}
 use Rattle.net_model.specs.Seats.{Seat, place_of, role_of, seat}
 use Rattle.net_model.specs.declared.place.Place.{Place}
-use Rattle.seat_laws.specs.Wiring.{AreSeats, HasSession, HasSessions, IsFound, IsPlace, name_at, other_at}
+use Rattle.seat_laws.specs.Wiring.{AreSeats, HasSession, IsFound, IsPlace, name_at, other_at}
 use Rattle.seat_laws.proofs.Lists.{all_of, from_all, some_none}
 use Rattle.seat_laws.proofs.Links.{link_of, links, proper, tied_of, twinless}
 use Rattle.seat_laws.proofs.Parties.{Ties, self, ties_turned}
@@ -50,7 +50,7 @@ stands_in (u ∷ ss) a b s e =
     later : StandsIn ss a b s → StandsIn (u ∷ ss) a b s
     later h = (h.0, h.1, elim h.2 as (λ _. Member s (u ∷ ss) ⊎ Member (turned s) (u ∷ ss)) [ inl m ↦ inl (inr m) | inr m ↦ inr (inr m) ])
 
-module _ (w : Network) (named : IsNamed w.setup.topology) (listed : ListsApart w.setup) (seats : List Seat) (are : AreSeats w.setup seats) (has : HasSessions w) where
+module _ (w : Network) (named : IsNamed w.setup.topology) (numbers : HasNumbers w.setup) (listed : ListsApart w.setup) (seats : List Seat) (are : AreSeats w.setup seats) (has : HasSessions w) where
   -- ---- sessions
   twins : NoTwins (map nodes w.sessions)
   twins = subst NoTwins (sym has) (twinless w.setup named)
@@ -101,22 +101,22 @@ module _ (w : Network) (named : IsNamed w.setup.topology) (listed : ListsApart w
             }
       ]
 
-  pub nodes_at : (p : Place) → IsPlace seats p → (s : Session) → session_of w (name_at seats p) (other_at seats p) ≡ Some s → nodes s ≡ (self (seat seats p.node).who, party_at w.setup named listed seats are p)
+  pub nodes_at : (p : Place) → IsPlace seats p → (s : Session) → session_of w (name_at seats p) (other_at seats p) ≡ Some s → nodes s ≡ (self (seat seats p.node).who, party_at w.setup named numbers listed seats are p)
   nodes_at p h s e =
       let a = self (seat seats p.node).who in
-      let o = party_at w.setup named listed seats are p in
-      let q = session_tied a o (ties_at w.setup named listed seats are p h) in
-      let found : session_of w (name_at seats p) (other_at seats p) ≡ Some q.session = subst (λ b. session_of w (name_at seats p) b ≡ Some q.session) (party_named w.setup named listed seats are p) q.found in
+      let o = party_at w.setup named numbers listed seats are p in
+      let q = session_tied a o (ties_at w.setup named numbers listed seats are p h) in
+      let found : session_of w (name_at seats p) (other_at seats p) ≡ Some q.session = subst (λ b. session_of w (name_at seats p) b ≡ Some q.session) (party_named w.setup named numbers listed seats are p h) q.found in
       subst (λ s. nodes s ≡ (a, o)) (same_Some q.session s (sym found ∙ e)) q.nodes_are
 
   -- ---- each place has its session
   pub place_session : (p : Place) → IsPlace seats p → HasSession seats w p
   place_session p h =
       let a = self (seat seats p.node).who in
-      let o = party_at w.setup named listed seats are p in
-      let other : o.0 ≡ other_at seats p = party_named w.setup named listed seats are p in
-      let s = session_tied a o (ties_at w.setup named listed seats are p h) in
-      let f = far_at w.setup named listed seats are p h in
+      let o = party_at w.setup named numbers listed seats are p in
+      let other : o.0 ≡ other_at seats p = party_named w.setup named numbers listed seats are p h in
+      let s = session_tied a o (ties_at w.setup named numbers listed seats are p h) in
+      let f = far_at w.setup named numbers listed seats are p h in
       record {
         session = s.session;
         found = subst (λ b. session_of w (name_at seats p) b ≡ Some s.session) other s.found;
@@ -132,10 +132,10 @@ module _ (w : Network) (named : IsNamed w.setup.topology) (listed : ListsApart w
   session_place : (s : Session) → Member s w.sessions → IsFound seats w s
   session_place s m =
       let n = nodes s in
-      let q = tied_at w.setup named listed seats are n.0 n.1 (tied_of w.setup named n (link_at s m)) in
+      let q = tied_at w.setup named numbers listed seats are n.0 n.1 (tied_of w.setup named n (link_at s m)) in
       record {
         place = q.place;
-        place_is = place_is_of w.setup named listed seats are s.near.name s.far.name q.place q.is_of;
+        place_is = place_is_of w.setup named numbers listed seats are s.near.name s.far.name q.place q.is_of;
         is_place = q.is_of.is_place;
         found = (found_at s m).0;
       }
@@ -155,13 +155,13 @@ module _ (w : Network) (named : IsNamed w.setup.topology) (listed : ListsApart w
         | inl m ↦ tied_of w.setup named (nodes s) (link_at s m)
         | inr m ↦ ties_turned w.setup.topology (s.far.name, s.far.role) (s.near.name, s.near.role) (tied_of w.setup named (nodes (turned s)) (link_at (turned s) m))
       ] in
-      let q = tied_at w.setup named listed seats are (s.near.name, s.near.role) (s.far.name, s.far.role) ties in
-      let at : place_of seats s.near.name s.far.name ≡ Some q.place = place_is_of w.setup named listed seats are s.near.name s.far.name q.place q.is_of in
+      let q = tied_at w.setup named numbers listed seats are (s.near.name, s.near.role) (s.far.name, s.far.role) ties in
+      let at : place_of seats s.near.name s.far.name ≡ Some q.place = place_is_of w.setup named numbers listed seats are s.near.name s.far.name q.place q.is_of in
       (q.place, subst (λ a. place_of seats a b ≡ Some q.place) h.0 (subst (λ b. place_of seats s.near.name b ≡ Some q.place) h.1 at))
 
   pub session_where : (a b : Name) (p : Place) → place_of seats a b ≡ Some p → (s : Session) × (session_of w a b ≡ Some s)
   session_where a b p e =
-      let h = place_is w.setup named listed seats are a b p e in
+      let h = place_is w.setup named numbers listed seats are a b p e in
       let s = place_session p h.is_place in
       (s.session, (λ i. session_of w (sym h.name i) (sym h.other i)) ∙ s.found)
 

@@ -15,18 +15,20 @@ use Rattle.node_model.specs.Members.{Member}
 use Rattle.node_model.specs.Tables.{rows as control_rows}
 use Rattle.node_model.proofs.Members.{any_in, from_any, in_map}
 use Rattle.network_model.specs.Events.{is_node, shown_of}
+use Rattle.network_model.specs.Moments.{HasNumbers, HasSessions}
 use Rattle.network_model.specs.Network.{Network}
 use Rattle.network_model.specs.Session.{Configuration, Controller, Agent}
 use Rattle.network_model.specs.Setup.{Name}
 use Rattle.compiled_laws.specs.Setups.{IsNamed}
-use Rattle.network_model.proofs.Apart.{NamesApart, same_false}
+use Rattle.network_model.proofs.Apart.{NamesApart}
+use Rattle.network_model.proofs.Distinct.{same_false}
 use Rattle.compiled_laws.proofs.Names.{apart_names}
-use Rattle.control_node.specs.Core as control
+use Rattle.net_model.specs.Controls as control
 use Rattle.agent_node.specs.Core as agent
 use Rattle.net_model.specs.Seats.{Controlling, Forwarding, Seat, Who, agent_plan, control_plan, name_of, role_of, seat, seat_named}
 use Rattle.net_model.specs.Stands.{Seats}
 use Rattle.net_model.specs.Steps.{shown_by}
-use Rattle.seat_laws.specs.Wiring.{HasSessions, ShowsAt}
+use Rattle.seat_laws.specs.Wiring.{ShowsAt}
 use Rattle.seat_laws.proofs.Agents.{computer_holds}
 use Rattle.seat_laws.proofs.Ends.{Ends, seat_ends}
 use Rattle.seat_laws.proofs.Going.{site_holds}
@@ -62,9 +64,9 @@ shown_control n plan e = ap (λ (v : Who). shown_by (record n { who = v })) e
 shown_agent : (n : Seat) (plan : _) → n.who ≡ Forwarding plan → shown_by n ≡ Rows.Agent (agent_rows (agent.holdings n.posts))
 shown_agent n plan e = ap (λ (v : Who). shown_by (record n { who = v })) e
 
-module _ (w : Network) (named : IsNamed w.setup.topology) (listed : ListsApart w.setup) (seats : List Seat) (stands : Seats seats w) (has : HasSessions w) where
-  names : NamesApart w.setup
-  names = apart_names w.setup named.apart
+module _ (w : Network) (named : IsNamed w.setup.topology) (numbers : HasNumbers w.setup) (listed : ListsApart w.setup) (seats : List Seat) (stands : Seats seats w) (has : HasSessions w) where
+  names : NamesApart w.setup.topology
+  names = apart_names w.setup.topology named.apart
 
   abbrev cs : List NodeId
   cs = w.setup.topology.controllers
@@ -79,7 +81,7 @@ module _ (w : Network) (named : IsNamed w.setup.topology) (listed : ListsApart w
   abbrev IsANode : Who → Type 0
   IsANode v = is_node w (name_of v) ≡ true
 
-  site_node : (c : NodeId) → Member c cs → IsANode (Controlling (control_plan w.setup.topology c))
+  site_node : (c : NodeId) → Member c cs → IsANode (Controlling (control_plan w.setup c))
   site_node c m =
       or_left (list_any (λ (d : NodeId). same_name d.name c.name) cs) (is_some (node_named w.setup.topology c.name))
       (any_in (λ (d : NodeId). same_name d.name c.name) c cs m ((bytes_decides c.name c.name).1 refl))
@@ -91,12 +93,12 @@ module _ (w : Network) (named : IsNamed w.setup.topology) (listed : ListsApart w
 
   -- every seat above the first is of a node
   pub seats_are_nodes : (k : ℕ) → 0 < k → k < length seats → is_node w (name_of (seat seats k).who) ≡ true
-  seats_are_nodes k above h = by_node w.setup named IsANode site_node computer_node (seat seats k).who (who_above w.setup named listed seats stands.who k above h)
+  seats_are_nodes k above h = by_node w.setup named numbers IsANode site_node computer_node (seat seats k).who (who_above w.setup named numbers listed seats stands.who k above h)
 
   -- what is no node has no seat above the first
   pub no_node_above : (name : Name) → is_node w name ≡ false → (k : ℕ) → seat_named seats name ≡ Some k → k ≡ 0
   no_node_above name off k e =
-      let q = seat_is w.setup named listed seats stands.who name k e in
+      let q = seat_is w.setup named numbers listed seats stands.who name k e in
       zero_below k (λ above. true≢false (sym (seats_are_nodes k above q.0) ∙ ap (is_node w) q.1 ∙ off))
 
   -- ---- what each shows
@@ -104,21 +106,21 @@ module _ (w : Network) (named : IsNamed w.setup.topology) (listed : ListsApart w
   ShowsSomewhere name = (k : ℕ) × ShowsAt seats w name k
 
   above_root : (k : ℕ) (v : Who) → (seat seats k).who ≡ v → (Configuration ≡ role_of v → ⊥) → 0 < k
-  above_root k v e h = above_zero k (λ zero. h (ap role_of (sym (root_at w.setup named listed seats stands.who)) ∙ ap (λ j. role_of (seat seats j).who) (sym zero) ∙ ap role_of e))
+  above_root k v e h = above_zero k (λ zero. h (ap role_of (sym (root_at w.setup named numbers listed seats stands.who)) ∙ ap (λ j. role_of (seat seats j).who) (sym zero) ∙ ap role_of e))
 
   site_shows : (c : NodeId) → Member c cs → ShowsSomewhere c.name
   site_shows c m =
-      let plan = control_plan w.setup.topology c in
-      let q = seat_of w.setup named listed seats stands.who (Controlling plan) (site_in w.setup named c m) in
+      let plan = control_plan w.setup c in
+      let q = seat_of w.setup named numbers listed seats stands.who (Controlling plan) (site_in w.setup named numbers c m) in
       let n = seat seats q.0 in
       let ends : Ends w (Controlling plan) n.posts = subst (λ v. Ends w v n.posts) q.2 (seat_ends w seats stands q.0 q.1) in (
         q.0,
         record {
-          seat_is = subst (λ name. seat_named seats name ≡ Some q.0) (ap name_of q.2) (seat_found w.setup named listed seats stands.who q.0 q.1);
+          seat_is = subst (λ name. seat_named seats name ≡ Some q.0) (ap name_of q.2) (seat_found w.setup named numbers listed seats stands.who q.0 q.1);
           above = above_root q.0 (Controlling plan) q.2 (λ e. apart e);
           within = q.1;
           shows = ap (λ o. shown_of o w c.name) (site_none c m)
-              ∙ ap (λ h. Rows.Control (control_rows h)) (site_holds w named has (all_found w named listed seats stands.who has) c m n.posts ends)
+              ∙ ap (λ h. Rows.Control (control_rows h)) (site_holds w named numbers has (all_found w named numbers listed seats stands.who has) c m n.posts ends)
               ∙ sym (shown_control n plan q.2);
         },
       )
@@ -129,16 +131,16 @@ module _ (w : Network) (named : IsNamed w.setup.topology) (listed : ListsApart w
   computer_shows : (n : Node) → Member n ns → ShowsSomewhere n.name
   computer_shows c m =
       let plan = agent_plan w.setup.topology c in
-      let q = seat_of w.setup named listed seats stands.who (Forwarding plan) (computer_in w.setup named c m) in
+      let q = seat_of w.setup named numbers listed seats stands.who (Forwarding plan) (computer_in w.setup named numbers c m) in
       let n = seat seats q.0 in
       let ends : Ends w (Forwarding plan) n.posts = subst (λ v. Ends w v n.posts) q.2 (seat_ends w seats stands q.0 q.1) in (
         q.0,
         record {
-          seat_is = subst (λ name. seat_named seats name ≡ Some q.0) (ap name_of q.2) (seat_found w.setup named listed seats stands.who q.0 q.1);
+          seat_is = subst (λ name. seat_named seats name ≡ Some q.0) (ap name_of q.2) (seat_found w.setup named numbers listed seats stands.who q.0 q.1);
           above = above_root q.0 (Forwarding plan) q.2 (λ e. apart e);
           within = q.1;
           shows = ap (λ o. shown_of o w c.name) (computer_found ns c names.computers_apart m)
-              ∙ ap (λ h. Rows.Agent (agent_rows h)) (computer_holds w named listed seats stands has c m n.posts ends)
+              ∙ ap (λ h. Rows.Agent (agent_rows h)) (computer_holds w named numbers listed seats stands has c m n.posts ends)
               ∙ sym (shown_agent n plan q.2);
         },
       )

@@ -6,8 +6,7 @@ use Rattle.ov_types.specs.First.{same_name}
 use Rattle.ov_types.specs.declared.rows.NodeId.{NodeId}
 use Rattle.config_model.specs.declared.topology.Node.{Node}
 use Rattle.config_model.specs.declared.topology.Topology.{Topology}
-use Rattle.config_check.specs.Checked.{Checked}
-use Rattle.network_model.specs.Setup.{Name}
+use Rattle.network_model.specs.Setup.{Name, Setup}
 use Rattle.network_model.specs.Session.{Session}
 use Rattle.network_model.specs.Network.{Network, config, lists}
 use Rattle.network_model.specs.Steps.{session_of}
@@ -17,12 +16,12 @@ use Rattle.net_model.specs.Seats.{Seat, far_of, name_of, place_of, seat, seat_na
 use Rattle.net_model.specs.Stands.{Seats}
 use Rattle.net_model.specs.Steps.{forwarders_of}
 use Rattle.net_model.specs.declared.place.Place.{Place}
-use Rattle.seat_laws.specs.Wiring.{AreSeats, GoesBy, HasFar, HasSession, HasSessions, IsFound, IsPlace, IsPlaceOf}
-use Rattle.seat_laws.specs.Wiring.{ShowsAt, name_at, other_at}
+use Rattle.seat_laws.specs.Wiring.{AreSeats, GoesBy, HasFar, HasNumbers, HasSession, HasSessions, IsFound, IsPlace}
+use Rattle.seat_laws.specs.Wiring.{IsPlaceOf, ShowsAt, name_at, other_at}
 
 -- ---- places, among the seats of a valid configuration
 abbrev pub WhereSeated : (List Seat → Type 0) → Type 0
-WhereSeated P = (x : Checked) → IsWritten x → (seats : List Seat) → AreSeats x seats → P seats
+WhereSeated P = (x : Setup) → IsWritten x → HasNumbers x → (seats : List Seat) → AreSeats x seats → P seats
 
 -- each place is the one of its two names, and has a far place
 abbrev pub PlacesAreNamed : List Seat → Type 0
@@ -39,7 +38,8 @@ NamesAreOfPlaces seats =
 -- ---- sessions, where they are those of the topology
 abbrev pub WhereJoined : (List Seat → Network → Type 0) → Type 0
 WhereJoined P =
-    (w : Network) → IsWritten w.setup → (seats : List Seat) → AreSeats w.setup seats → HasSessions w → P seats w
+    (w : Network) → IsWritten w.setup → HasNumbers w.setup → (seats : List Seat) → AreSeats w.setup seats
+    → HasSessions w → P seats w
 
 -- each place has its session, and each session its place
 abbrev pub PlacesHaveSessions : List Seat → Network → Type 0
@@ -59,7 +59,8 @@ JoinsTwo s = (same_name s.near.name s.far.name ≡ false) × (same_name s.far.na
 -- ---- what nodes go by, where each end is as its seat has it
 abbrev pub WhereSeatsAre : (List Seat → Network → Type 0) → Type 0
 WhereSeatsAre P =
-    (w : Network) → IsWritten w.setup → (seats : List Seat) → Seats seats w → HasSessions w → P seats w
+    (w : Network) → IsWritten w.setup → HasNumbers w.setup → (seats : List Seat) → Seats seats w → HasSessions w
+    → P seats w
 
 abbrev pub NodesGoBySeats : List Seat → Network → Type 0
 NodesGoBySeats seats w =
@@ -120,5 +121,5 @@ HasPlace seats q = (p : Place) × (place_of seats q.0 q.1 ≡ Some p)
 
 abbrev pub PairsArePlaces : Type 0
 PairsArePlaces =
-    (x : Checked) → IsWritten x → (seats : List Seat) → AreSeats x seats
+    (x : Setup) → IsWritten x → HasNumbers x → (seats : List Seat) → AreSeats x seats
     → AllByRecursion (HasPlace seats) (pairs x.topology)

@@ -1,39 +1,36 @@
 -- How the seats of a network and the sessions of its machine belong together.
-use Rattle.std.specs.Prelude.{◌≡◌, ◌<◌, ℕ, List, map, length}
+use Rattle.std.specs.Prelude.{◌≡◌, ◌<◌, ℕ, List, [], map, length}
 use Rattle.std.specs.declared.option.Option.TheVariants.{Some}
-use Rattle.config_check.specs.Checked.{Checked}
+use Rattle.std.specs.Option.{unwrap_or}
 use Rattle.node_model.specs.Maps.{Change}
 use Rattle.node_model.specs.Step.{post}
-use Rattle.network_model.specs.Setup.{Name}
+use Rattle.network_model.specs.Setup.{Name, Setup}
 use Rattle.network_model.specs.Session.{Carries, Session, is_peering, may_send}
-use Rattle.network_model.specs.Network.{Network, start, view, views_of, wanted}
+use Rattle.network_model.specs.Network.{Network, view, views_of, wanted}
 use Rattle.network_model.specs.Steps.{session_of}
 use Rattle.network_model.specs.Events.{shown}
-use Rattle.network_model.specs.Moments.{nodes}
+pub use Rattle.network_model.specs.Moments.{HasNumbers, HasSessions}
 use Rattle.net_model.specs.Seats.{Seat, far_of, kind_of, name_of, other, others_of, place_of, role_of, seat, seat_named}
 use Rattle.net_model.specs.Seats.{whos}
 use Rattle.net_model.specs.Steps.{shown_by}
 use Rattle.net_model.specs.Stands.{octets_of}
 use Rattle.net_model.specs.declared.place.Place.{Place}
 
--- the seats are those of a topology's nodes
-abbrev pub AreSeats : Checked → List Seat → Type 0
+-- the seats are those of a setup's nodes
+abbrev pub AreSeats : Setup → List Seat → Type 0
 AreSeats x seats = map (λ (n : Seat). n.who) seats ≡ whos x
-
--- the sessions are those that the topology has, in the same order
-abbrev pub HasSessions : Network → Type 0
-HasSessions w = map nodes w.sessions ≡ map nodes (start w.setup).sessions
-
--- a place that there is
-pub record IsPlace (seats : List Seat) (p : Place) : Type 0 where
-  pub node : p.node < length seats
-  pub session : p.session < length (others_of (seat seats p.node).who)
 
 abbrev pub name_at : List Seat → Place → Name
 name_at seats p = name_of (seat seats p.node).who
 
 abbrev pub other_at : List Seat → Place → Name
-other_at seats p = other (seat seats p.node) p.session
+other_at seats p = unwrap_or (other (seat seats p.node) p.session) []
+
+-- a place that there is, with somebody at the other end
+pub record IsPlace (seats : List Seat) (p : Place) : Type 0 where
+  pub node : p.node < length seats
+  pub session : p.session < length (others_of (seat seats p.node).who)
+  pub somebody : other (seat seats p.node) p.session ≡ Some (other_at seats p)
 
 -- each place has a far place, of which it is the far place
 pub record HasFar (seats : List Seat) (p : Place) : Type 0 where

@@ -8,10 +8,10 @@ use Rattle.std.proofs.lemmas.Bool.{and_from, and_parts}
 use Rattle.config_model.specs.Event.{has_event_form}
 use Rattle.config_model.specs.declared.event.Event.{Event as Written}
 use Rattle.config_check.specs.Checked.{Checked}
-use Rattle.network_laws.specs.Settling.{EditsAreValid}
 use Rattle.network_model.specs.Events.{Event, Edits, Deliver, DeliverOctets, Lose, Connect, Restart, Round, Settle, Show, Trace, Break, after, event_of, next}
+use Rattle.network_model.specs.Moments.{EditsAreValid}
 use Rattle.network_model.specs.Network.{start}
-use Rattle.network_model.specs.Setup.{edited}
+use Rattle.network_model.specs.Setup.{Setup, edited, opening}
 use Rattle.net_model.specs.Stands.{message_size, moment}
 use Rattle.headline_laws.specs.Headline.{IsOfForm, IsWritten}
 use Rattle.schedule_laws.proofs.AsCompiled.{edits_of_form}
@@ -22,7 +22,7 @@ use Rattle.config_ties.specs.Ties.{Ties}
 use Rattle.tied_laws.specs.Runs.{broken_by, tie_broken, tied_moment}
 
 -- ---- what is refused is answered with a tie
-broken_is : (t : Ties) (o : Option Checked) → breaks t o ≡ is_some (broken_by t o)
+broken_is : (t : Ties) (o : Option Setup) → breaks t o ≡ is_some (broken_by t o)
 broken_is t None = refl
 broken_is t (Some y) = refl
 
@@ -78,9 +78,9 @@ kept_forms s (e ∷ es) forms =
           (kept_forms (stepped s (event_of e)) es parts.1)
     ]
 
-module _ (x : Checked) (written : IsWritten x) (es : List Written) (forms : IsTrue (list_all has_event_form es)) where
+module _ (x : Checked) (written : IsWritten (opening x)) (es : List Written) (forms : IsTrue (list_all has_event_form es)) where
   pub asked_of_kept : EditsAreValid message_size IsOfForm (start x) (map event_of (kept x es))
-  asked_of_kept = edits_of_form (kept x es) (start x) (kept_forms (tied_start x) es forms) written.config
+  asked_of_kept = edits_of_form (kept x es) (start x) (kept_forms (tied_start x) es forms) (written.topology, written.config)
 
   pub asked_with_ties : EditsAreValid message_size IsOfForm (start x) (kept_events message_size (tied_start x) (map event_of es))
   asked_with_ties = subst (EditsAreValid message_size IsOfForm (start x)) (kept_is (tied_start x) es) asked_of_kept

@@ -21,6 +21,7 @@ use Rattle.headline_laws.specs.Headline.{IsWritten}
 use Rattle.headline_laws.proofs.Written.{written_rounds_settle, written_settle_settles}
 use Rattle.network_model.specs.Events.{Settle, answer_to, event_of, forwarders, next}
 use Rattle.network_model.specs.Network.{Network}
+use Rattle.network_model.specs.Setup.{checked, opening}
 use Rattle.network_model.specs.Steps.{is_settled, settle}
 use Rattle.net_model.specs.Stands.{message_size}
 use Rattle.net_model.proofs.Sizes.{positive}
@@ -122,7 +123,7 @@ ends_next s h written.Settle = ends_settled s.network h written.Settle (next mes
 ends_next s h (written.Break from to n) = tt
 
 -- ---- a moment
-module _ (x : Checked) (valid : IsWritten x) (es : List Written) (forms : IsTrue (list_all has_event_form es)) where
+module _ (x : Checked) (valid : IsWritten (opening x)) (es : List Written) (forms : IsTrue (list_all has_event_form es)) where
   abbrev s : TiedNetwork
   s = tied_moment x es
 
@@ -137,14 +138,14 @@ module _ (x : Checked) (valid : IsWritten x) (es : List Written) (forms : IsTrue
       (written_settle_settles message_size positive x valid (map event_of (kept x es)) (asked_of_kept x valid es forms))
 
   kept_compiled : is_settled s.network ≡ true → (e : Written)
-      → AnswersCompiled s.network.setup e (answer_to s.network (event_of e))
+      → AnswersCompiled (checked s.network.setup) e (answer_to s.network (event_of e))
   kept_compiled =
-      subst (λ (w : Network). is_settled w ≡ true → (e : Written) → AnswersCompiled w.setup e (answer_to w (event_of e)))
+      subst (λ (w : Network). is_settled w ≡ true → (e : Written) → AnswersCompiled (checked w.setup) e (answer_to w (event_of e)))
       (sym (same_moment x es))
       (compiled_at x valid (map event_of (kept x es)) (asked_of_kept x valid es forms))
 
   pub compiled_here : (e : Written) → IsAsCompiled s e (answer_tied s (event_of e))
-  compiled_here e = λ settled. of_answer (AnswersCompiled s.network.setup e) s e (kept_compiled settled e)
+  compiled_here e = λ settled. of_answer (AnswersCompiled (checked s.network.setup) e) s e (kept_compiled settled e)
 
   pub ends_here : (e : Written) → EndsAtOnce s e (answer_tied s (event_of e)) (next_tied message_size s (event_of e))
   ends_here e = ends_next s tied_settles e

@@ -9,6 +9,7 @@ use Rattle.config_model.specs.declared.event.Event.{Event as Written}
 use Rattle.config_check.specs.Checked.{Checked}
 use Rattle.headline_laws.specs.Headline.{IsWritten}
 use Rattle.network_model.specs.Events.{event_of}
+use Rattle.network_model.specs.Setup.{opening}
 use Rattle.net_model.specs.Stands.{message_size}
 use Rattle.schedule_laws.proofs.AsCompiled.{forms_of_front}
 use Rattle.tied_answers.specs.declared.answer.TiedAnswer.{TiedAnswer}
@@ -33,7 +34,7 @@ behind [] s place e is = absurd cc
 behind (d ∷ es) s zero e is = ap (λ y. next_tied message_size s (event_of y)) (same_Some d e is)
 behind (d ∷ es) s (suc place) e is = behind es (next_tied message_size s (event_of d)) place e is
 
-module _ (x : Checked) (valid : IsWritten x) (es : List Written) (forms : IsTrue (list_all has_event_form es)) where
+module _ (x : Checked) (valid : IsWritten (opening x)) (es : List Written) (forms : IsTrue (list_all has_event_form es)) where
   answer_at : (place : ℕ) (e : Written) (a : TiedAnswer) → StandsAt es (answers x es) place e a
       → a ≡ answer_tied (tied_moment x (take place es)) (event_of e)
   answer_at place e a at = at_place es (tied_start x) place e a at.event at.answer

@@ -2,6 +2,7 @@
 use Rattle.std.specs.Prelude.{◌≡◌, ℕ, suc, List, take, true}
 use Rattle.config_model.specs.declared.event.Event.{Event}
 use Rattle.config_check.specs.Checked.{Checked}
+use Rattle.network_model.specs.Setup.{checked}
 use Rattle.network_model.specs.Steps.{is_settled}
 use Rattle.schedule_laws.specs.Compiled.{AnswersCompiled}
 use Rattle.schedule_laws.specs.Ends.{SettlesAtOnce}
@@ -13,7 +14,7 @@ use Rattle.tied_laws.specs.Runs.{tied_moment}
 
 -- what is answered at a settled moment is what its configuration compiles to
 abbrev pub IsAsCompiled : TiedNetwork → Event → TiedAnswer → Type 0
-IsAsCompiled s e a = is_settled s.network ≡ true → OfAnswer (AnswersCompiled s.network.setup e) e a
+IsAsCompiled s e a = is_settled s.network ≡ true → OfAnswer (AnswersCompiled (checked s.network.setup) e) e a
 
 -- `settle` ends settled, whatever state it begins in
 abbrev pub EndsAtOnce : TiedNetwork → Event → TiedAnswer → TiedNetwork → Type 0

@@ -14,15 +14,15 @@ use Rattle.tied_answers.specs.declared.answer.TiedAnswer.TheVariants.{Answered, 
 use Rattle.network_model.specs.Events.{Event, Edits, answer_to, event_of}
 use Rattle.network_model.specs.Network.{start}
 use Rattle.network_model.specs.Session.{Message}
-use Rattle.network_model.specs.Setup.{Name, edited}
+use Rattle.network_model.specs.Setup.{Name, Setup, checked, edited}
 use Rattle.net_model.specs.Stands.{message_size}
 use Rattle.isolation_laws.specs.Refusing.{TiedNetwork, after_tied, kept_events, next_tied, tied_start}
 use Rattle.isolation_laws.specs.Running.{configs}
 
 -- the first tie that an edit would break which leads to this configuration, where it has no other fault
-abbrev pub broken_by : Ties → Option Checked → Option Tie
+abbrev pub broken_by : Ties → Option Setup → Option Tie
 broken_by t None = None
-broken_by t (Some y) = broken_tie t y.config
+broken_by t (Some y) = broken_tie t (checked y)
 
 -- only an edit breaks ties
 abbrev pub tie_broken : TiedNetwork → Event → Option Tie

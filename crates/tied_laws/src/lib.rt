@@ -10,6 +10,7 @@ ghost use Rattle.config_model.specs.declared.event.Event.{Event};
 ghost use Rattle.headline_laws.specs.Headline.{IsWritten};
 ghost use Rattle.isolation_laws.specs.Refusing.{TiedNetwork, refuses};
 ghost use Rattle.network_model.specs.Events.{Event as Happening};
+ghost use Rattle.network_model.specs.Setup.{opening};
 ghost use Rattle.tied_laws.specs.Compiled.{AreAsCompiled};
 ghost use Rattle.tied_laws.specs.Isolated.{IsIsolated};
 ghost use Rattle.tied_laws.specs.Runs.{answers, tie_broken};
@@ -18,14 +19,14 @@ ghost use Rattle.tied_laws.specs.Runs.{answers, tie_broken};
 /// moment compiles to, a packet goes exactly where policies permit it, and `settle` always ends settled, in at most six
 /// rounds more than the longest chain in effect has services.
 pub fn answers_are_as_compiled()
-    ensures { (x : Checked) → IsWritten x → (es : List Event) → IsTrue (list_all has_event_form es)
+    ensures { (x : Checked) → IsWritten (opening x) → (es : List Event) → IsTrue (list_all has_event_form es)
         → AreAsCompiled x es (answers x es) }
 {}
 
 /// At every moment of every schedule, settled or not: a packet is delivered only between ports that stood in
 /// configurations so far, in networks that are one or that a configuration so far related.
 pub fn deliveries_are_isolated()
-    ensures { (x : Checked) → IsWritten x → (es : List Event) → IsTrue (list_all has_event_form es)
+    ensures { (x : Checked) → IsWritten (opening x) → (es : List Event) → IsTrue (list_all has_event_form es)
         → IsIsolated x es (answers x es) }
 {}
 

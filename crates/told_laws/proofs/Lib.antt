@@ -1,5 +1,6 @@
 -- Lemmas, in the order in which they stand on each other.
 pub mod Moments
+pub mod Roles
 pub mod Joined
 pub mod Fitness
 pub mod SentFact

@@ -4,31 +4,34 @@ use Rattle.std.specs.declared.option.Option.TheVariants.{None, Some}
 use Rattle.std.specs.declared.option.Option.{Option}
 use Rattle.std.proofs.Common.{ap, refl, subst, sym, ◌∙◌}
 use Rattle.std.proofs.lemmas.Option.{same_Some}
-use Rattle.config_model.specs.Form.{has_topology_form}
 use Rattle.config_model.specs.declared.edit.Edit.{Edit}
-use Rattle.config_model.specs.declared.topology.Topology.{Topology}
 use Rattle.config_check.specs.Checked.{Checked}
-use Rattle.config_check.specs.Edits as edits
 use Rattle.config_check.specs.Edits.{edit_fault}
-use Rattle.config_check.specs.Rules.{first_broken}
 use Rattle.config_check.specs.declared.edits.EditFault.{EditFault}
 use Rattle.node_model.specs.Maps.{Map}
+use Rattle.node_model.specs.Members.{Member}
+use Rattle.ov_types.specs.declared.rows.NodeId.{NodeId}
 use Rattle.node_model.proofs.Members.{none_some}
 use Rattle.network_model.specs.Events.{Event, after, next}
-use Rattle.network_model.specs.Moments.{Each, nodes}
-use Rattle.network_model.specs.Network.{Network, accesses, feeds, peerings, sessions_of, start}
+use Rattle.network_model.specs.Moments.{Each, EditIsValid, EditsAreValid, HasSessions, IsLaidOut, LaidOut, NumbersFit, nodes}
+use Rattle.network_model.specs.Network.{Network, sessions_of, start}
 use Rattle.network_model.specs.Session.{Session}
-use Rattle.network_model.specs.Setup.{edited, edited_without}
+use Rattle.network_model.specs.Setup.{Setup, agents_of, checked, edited, edited_without, opening}
 use Rattle.network_model.specs.Steps.{without_breaks}
 use Rattle.network_model.proofs.NetworkFact.{after_sound, breaks_apart, each_map}
-use Rattle.network_model.proofs.NodesFact.{map_nodes, next_nodes}
+use Rattle.network_model.proofs.Asking.{after_laid}
+use Rattle.network_model.proofs.Changing.{renews}
+use Rattle.network_model.proofs.Listed.{Placed, after_placed, start_placed}
+use Rattle.network_model.proofs.NodesFact.{Holds, map_nodes}
+use Rattle.network_model.proofs.Numbered.{AllFit, fits_edited, start_fits}
 use Rattle.network_model.proofs.SessionFact.{Fact}
-use Rattle.network_model.proofs.Start.{start_fits, start_sound, start_told}
-use Rattle.network_model.proofs.ToldNext.{AllHaveTold, RolesFit, after_told, unbroken_told}
-use Rattle.network_laws.specs.Settling.{EditIsValid, EditsAreValid}
-use Rattle.network_laws.proofs.EachFact.{Keeps, after_keeps, edits_valid_on}
+use Rattle.network_model.proofs.Start.{start_sound, start_told}
+use Rattle.network_model.proofs.ToldEdits.{AllHaveTold}
+use Rattle.network_model.proofs.ToldNext.{after_told, unbroken_told}
+use Rattle.network_laws.proofs.EachFact.{Keeps, after_keeps, edit_valid, edits_valid_on}
+use Rattle.compiled_laws.proofs.Final.{laid_out}
 use Rattle.headline_laws.specs.Headline.{IsOfForm, IsWritten}
-use Rattle.headline_laws.proofs.Written.{none_broken}
+use Rattle.headline_laws.proofs.Written.{edits_keep, sound_setup}
 use Rattle.net_model.specs.Stands.{message_size}
 use Rattle.net_model.proofs.Sizes.{positive}
 use Rattle.told_laws.specs.Moments.{AreValidMoves, IsMoment, IsValidMove, after_moves, moved, unbroken}
@@ -48,26 +51,25 @@ module _ (Q : Network → Type 0) (removed : (w : Network) → Q w → Q (unbrok
   pub at_moment : (w : Network) (m : IsMoment w) → Q (start m.opening) → Q w
   at_moment w m q = subst Q (sym m.is) (moves_keep (start m.opening) m.moves m.edits q)
 
--- ---- a valid configuration of the written form, with the topology of the opening one
-pub record Follows (x y : Checked) : Type 0 where
-  pub topology : y.topology ≡ x.topology
+-- ---- a valid configuration of the written form, with the control nodes of the opening one, and the numbers of its agents
+pub record Follows (x y : Setup) : Type 0 where
+  pub controllers : y.topology.controllers ≡ x.topology.controllers
   pub written : IsWritten y
+  pub fits : AllFit y
 
-follows : (x y : Checked) (d : Edit) (z : Checked) → Follows x y → edited y d ≡ Some z → IsOfForm z → Follows x z
-follows x y d z f e form = by_fault (edit_fault y d) refl e
+pub laid : (y : Setup) → IsWritten y → IsLaidOut y.topology
+laid y w = laid_out y (sound_setup y w)
+
+follows : (x y : Setup) (d : Edit) (z : Setup) → Follows x y → edited y d ≡ Some z → IsOfForm z → Follows x z
+follows x y d z f e form = by_fault (edit_fault (checked y) d) refl e
   where
-    by_fault : (o : Option EditFault) → edit_fault y d ≡ o → edited_without o y d ≡ Some z → Follows x z
+    by_fault : (o : Option EditFault) → edit_fault (checked y) d ≡ o → edited_without o y d ≡ Some z → Follows x z
     by_fault (Some fault) is h = absurd (none_some z h)
-    by_fault None is h =
-        let s : ◌≡◌ {A = Checked} (record { topology = y.topology; config = edits.edited d y.config }) z = same_Some (record { topology = y.topology; config = edits.edited d y.config }) z h in
-        record {
-          topology = subst (λ (z : Checked). z.topology ≡ x.topology) s f.topology;
-          written = record {
-            topology = subst (λ (z : Checked). IsTrue (has_topology_form z.topology)) s f.written.topology;
-            config = form;
-            valid = subst (λ (z : Checked). first_broken z.topology z.config ≡ None) s (none_broken y d is);
-          };
-        }
+    by_fault None is h = record {
+      controllers = ap (λ (z : Setup). z.topology.controllers) (sym (same_Some _ z h)) ∙ (renews (checked y) d is).controllers ∙ f.controllers;
+      written = edits_keep y d z f.written e form;
+      fits = fits_edited y d z e (laid y f.written) f.fits;
+    }
 
 -- nothing is asked of sessions
 abbrev Anything : Session → Type 0
@@ -80,10 +82,11 @@ each_anything : (ss : List Session) → Each Anything ss
 each_anything [] = tt
 each_anything (s ∷ ss) = (tt, each_anything ss)
 
-module _ (x : Checked) where
+module _ (x : Setup) where
   setups_keep : Keeps message_size (Follows x) Anything MayTellAnything
   setups_keep = record {
     both = λ s p. tt;
+    begins = λ y f c m n k. tt;
     arrives = λ s p. tt;
     octets = λ n s p. tt;
     passes = λ m s may p. tt;
@@ -107,39 +110,53 @@ module _ (x : Checked) where
       (after_keeps message_size (Follows x) Anything MayTellAnything setups_keep w (e ∷ [])
       (follows_edit w e valid f, tt) (f, each_anything w.sessions)).0
 
-  pub at_first : IsWritten x → Follows x x
-  at_first written = record { topology = refl; written = written }
+pub at_first : (x : Checked) → IsWritten (opening x) → Follows (opening x) (opening x)
+at_first x written =
+    record { controllers = refl; written = written; fits = start_fits x (laid (opening x) written) }
 
 -- ---- its configuration
-pub follows_now : (w : Network) (m : IsMoment w) → Follows m.opening w.setup
+pub follows_now : (w : Network) (m : IsMoment w) → Follows (opening m.opening) w.setup
 follows_now w m =
-    at_moment (λ (v : Network). Follows m.opening v.setup) (λ v f. f) (follows_next m.opening) w m
+    at_moment (λ (v : Network). Follows (opening m.opening) v.setup) (λ v f. f) (follows_next (opening m.opening)) w m
     (at_first m.opening m.written)
 
 pub moment_written : (w : Network) → IsMoment w → IsWritten w.setup
 moment_written w m = (follows_now w m).written
 
+-- ---- the numbers of its agents
+pub moment_numbers : (w : Network) → IsMoment w → (c : NodeId) → Member c w.setup.topology.controllers
+    → NumbersFit w.setup.topology c (agents_of w.setup c.name)
+moment_numbers w m c i = (follows_now w m).fits.fit c i
+
 -- ---- its sessions
-abbrev HasNodesOf : Checked → Network → Type 0
-HasNodesOf x w = map nodes w.sessions ≡ map nodes (start x).sessions
+-- they are those of its topology, and nodes are listed by the control nodes of their sessions
+abbrev HasNodes : Setup → Network → Type 0
+HasNodes x w = Follows x w.setup × (HasSessions w × Holds Placed w)
 
-nodes_removed : (x : Checked) (w : Network) → HasNodesOf x w → HasNodesOf x (unbroken w)
-nodes_removed x w e = map_nodes without_breaks (λ s. refl) w.sessions ∙ e
+nodes_removed : (x : Setup) (w : Network) → HasNodes x w → HasNodes x (unbroken w)
+nodes_removed x w h =
+    let same = map_nodes without_breaks (λ s. refl) w.sessions in
+    (h.0, (same ∙ h.1.0, subst (Placed w.setup) (sym same) h.1.1))
 
-nodes_followed : (x : Checked) (w : Network) (e : Event) → HasNodesOf x w → HasNodesOf x (next message_size w e)
-nodes_followed x w e h = next_nodes message_size w e ∙ h
+laid_edit : (w : Network) (e : Event) (x : Setup) → EditIsValid IsOfForm w e → Follows x w.setup → EditIsValid LaidOut w e
+laid_edit w e x valid f = edit_valid (Follows x) LaidOut w e (λ d y is g. laid y g.written) (follows_edit x w e valid f)
 
-pub moment_nodes : (w : Network) (m : IsMoment w) → map nodes w.sessions ≡ map nodes (start m.opening).sessions
+nodes_followed : (x : Setup) (w : Network) (e : Event) → EditIsValid IsOfForm w e → HasNodes x w → HasNodes x (next message_size w e)
+nodes_followed x w e valid h = (
+  follows_next x w e valid h.0,
+  (
+    (after_laid message_size w (e ∷ []) (laid_edit w e x valid h.0, tt) (laid w.setup h.0.written, h.1.0)).1,
+    after_placed message_size w (e ∷ []) h.1.1,
+  ),
+)
+
+moment_nodes : (w : Network) (m : IsMoment w) → HasNodes (opening m.opening) w
 moment_nodes w m =
-    at_moment (HasNodesOf m.opening) (nodes_removed m.opening) (λ v e valid h. nodes_followed m.opening v e h) w m refl
+    at_moment (HasNodes (opening m.opening)) (nodes_removed (opening m.opening)) (nodes_followed (opening m.opening)) w m
+    (at_first m.opening m.written, (refl, start_placed m.opening (laid (opening m.opening) m.written).apart))
 
-pub same_start : (x y : Checked) → y.topology ≡ x.topology
-    → map nodes (start y).sessions ≡ map nodes (start x).sessions
-same_start x y e =
-    ap (λ (t : Topology). map nodes (feeds t.controllers ++ peerings t.controllers ++ accesses t.controllers t.nodes)) e
-
-pub moment_sessions : (w : Network) → IsMoment w → map nodes w.sessions ≡ map nodes (start w.setup).sessions
-moment_sessions w m = moment_nodes w m ∙ sym (same_start m.opening w.setup (follows_now w m).topology)
+pub moment_sessions : (w : Network) → IsMoment w → HasSessions w
+moment_sessions w m = (moment_nodes w m).1.0
 
 abbrev pub IsSound : Network → Type 0
 IsSound w = Each (Fact message_size) w.sessions
@@ -156,20 +173,24 @@ moment_sound w m =
     (start_sound message_size positive m.opening)
 
 -- ---- its nodes have told what they want
-abbrev HasToldOf : Checked → Network → Type 0
-HasToldOf x w = HasNodesOf x w × AllHaveTold w
+abbrev HasToldOf : Network → Type 0
+HasToldOf w = Holds Placed w × AllHaveTold w
 
-told_followed : (x : Checked) (w : Network) (e : Event) → HasToldOf x w → HasToldOf x (next message_size w e)
-told_followed x w e h =
-    (nodes_followed x w e h.0, after_told message_size w (e ∷ []) (subst RolesFit (sym h.0) (start_fits x)) h.1)
+told_removed : (w : Network) → HasToldOf w → HasToldOf (unbroken w)
+told_removed w h =
+    (subst (Placed w.setup) (sym (map_nodes without_breaks (λ s. refl) w.sessions)) h.0, unbroken_told w h.1)
+
+told_followed : (w : Network) (e : Event) → HasToldOf w → HasToldOf (next message_size w e)
+told_followed w e h =
+    (after_placed message_size w (e ∷ []) h.0, after_told message_size w (e ∷ []) h.0 h.1)
 
 pub moment_told : (w : Network) → IsMoment w → AllHaveTold w
 moment_told w m =
-    (at_moment (HasToldOf m.opening) (λ v h. (nodes_removed m.opening v h.0, unbroken_told v h.1))
-    (λ v e valid h. told_followed m.opening v e h) w m (refl, start_told m.opening)).1
+    (at_moment HasToldOf told_removed (λ v e valid h. told_followed v e h) w m
+    (start_placed m.opening (laid (opening m.opening) m.written).apart, start_told m.opening)).1
 
 -- ---- the first moment, and the next one
-pub moment_start : (x : Checked) → IsWritten x → IsMoment (start x)
+pub moment_start : (x : Checked) → IsWritten (opening x) → IsMoment (start x)
 moment_start x written = record { opening = x; written = written; moves = []; edits = tt; is = refl }
 
 after_one_more : (w : Network) (moves : List (Option Event)) (move : Option Event)
@@ -206,6 +227,6 @@ moment_after w [] m valid = m
 moment_after w (e ∷ es) m valid = moment_after (next message_size w e) es (moment_next w e m valid.0) valid.1
 
 -- after any schedule
-pub moment_of : (x : Checked) → IsWritten x → (es : List Event) → EditsAreValid message_size IsOfForm (start x) es
+pub moment_of : (x : Checked) → IsWritten (opening x) → (es : List Event) → EditsAreValid message_size IsOfForm (start x) es
     → IsMoment (after message_size (start x) es)
 moment_of x written es valid = moment_after (start x) es (moment_start x written) valid

@@ -8,7 +8,9 @@ use Rattle.std.proofs.Common.{inl, inr, refl, subst, sym}
 use Rattle.ov_sync.specs.Keyed.{PutOf, Values, change, change_at, changed, keys_of_either}
 use Rattle.ov_sync.specs.declared.Delta.TheVariants.{Drop, Put}
 use Rattle.ov_sync.proofs.KeyedLaws.{changed_values, empty_values}
-use Rattle.config_check.specs.Checked.{Checked}
+use Rattle.config_model.specs.declared.topology.Node.{Node}
+use Rattle.ov_types.specs.declared.rows.NodeId.{NodeId}
+use Rattle.node_model.specs.Members.{Member}
 use Rattle.node_model.specs.Keys.{Key, key_cmp}
 use Rattle.node_model.specs.Maps.{Change, Map, difference}
 use Rattle.node_model.specs.Step.{Confirmed, Idle, Opened, Phase, Up}
@@ -16,8 +18,8 @@ use Rattle.node_model.specs.Values.{Value, same_value}
 use Rattle.node_model.proofs.Orders.{key_exact, key_total}
 use Rattle.network_model.specs.Moments.{Each, Nodes, nodes}
 use Rattle.network_model.specs.Network.{sessions_of, view, views_of, wanted}
-use Rattle.network_model.specs.Session.{Carries, Hello, Keepalive, Message, Open, Role, Session, arrived, closed, greeting, is_peering, item_took, may_send, octets_arrived, opened, passed, peer_took, shut, told, took, took_first, took_octets, with_breaks, with_phase, without_first}
-use Rattle.network_model.specs.Setup.{Name}
+use Rattle.network_model.specs.Session.{Agent, Carries, Controller, Hello, Keepalive, Message, Open, Role, Session, arrived, closed, greeting, is_peering, item_took, may_send, octets_arrived, opened, passed, peer_took, shut, told, took, took_first, took_octets, with_breaks, with_phase, without_first}
+use Rattle.network_model.specs.Setup.{Name, Setup}
 use Rattle.network_model.proofs.NetworkFact.{opened_nodes, passed_nodes}
 use Rattle.network_model.proofs.NodesFact.{arrived_nodes, octets_nodes}
 use Rattle.network_model.proofs.SessionFact.{sends, told_cases}
@@ -180,12 +182,27 @@ module _ (fit : Role → Role → Key → Value → Type 0) (placed : Nodes → 
   at_nodes s t e h f = record { place = subst placed (sym e) h; sent = subst (λ (p : Nodes). SentAt fit p.0.1 p.1.1 t) (sym e) f }
 
   -- where what a node wants is fit whenever what it holds is, all is at every moment
-  abbrev pub WantsFit : (Checked → Type 0) → Type 0
-  WantsFit Valid = (x : Checked) (ss : List Session) (n : Name) → Valid x → Each IsSent ss → Each (λ s. EntriesOf (fit s.near.role s.far.role) (wanted x (views_of n ss) (view s))) (sessions_of n ss)
+  abbrev pub WantsFit : (Setup → Type 0) → Type 0
+  WantsFit Valid = (x : Setup) (ss : List Session) (n : Name) → Valid x → Each IsSent ss → Each (λ s. EntriesOf (fit s.near.role s.far.role) (wanted x (views_of n ss) (view s))) (sessions_of n ss)
 
-  pub sent_keeps : (size : Name → Message → ℕ) (Valid : Checked → Type 0) → WantsFit Valid → Keeps size Valid IsSent (λ s m. EntriesOf (fit s.near.role s.far.role) m)
-  sent_keeps size Valid wants = record {
+  -- the new session of a compute node is of two nodes that are placed
+  abbrev pub PlacesNew : (Setup → Type 0) → Type 0
+  PlacesNew Valid = (x : Setup) → Valid x → (c : NodeId) → Member c x.topology.controllers → (n : Node) → Member n x.topology.nodes → placed ((c.name, Controller), (n.name, Agent))
+
+  pub sent_keeps : (size : Name → Message → ℕ) (Valid : Setup → Type 0) → WantsFit Valid → PlacesNew Valid → Keeps size Valid IsSent (λ s m. EntriesOf (fit s.near.role s.far.role) m)
+  sent_keeps size Valid wants news = record {
     both = λ s f. record { place = back (nodes s) f.place; sent = record { near_sent = f.sent.far_sent; far_sent = f.sent.near_sent; near_held = f.sent.far_held; far_held = f.sent.near_held; near_flight = f.sent.far_flight; far_flight = f.sent.near_flight } };
+    begins = λ x v c m n k. record {
+      place = news x v c m n k;
+      sent = record {
+        near_sent = no_entries (fit Controller Agent);
+        far_sent = no_entries (fit Agent Controller);
+        near_held = no_entries (fit Agent Controller);
+        far_held = no_entries (fit Controller Agent);
+        near_flight = tt;
+        far_flight = tt;
+      };
+    };
     arrives = λ s f. at_nodes s (arrived s) (arrived_nodes s) f.place (arrived_sent fit s.near.role s.far.role s f.sent);
     octets = λ n s f. at_nodes s (octets_arrived size n s) (octets_nodes size n s) f.place (octets_arrived_sent fit s.near.role s.far.role size n s f.sent);
     passes = λ m s h f. at_nodes s (passed m s) (passed_nodes m s) f.place (passed_sent fit s.near.role s.far.role m s h f.sent);

@@ -6,7 +6,8 @@ use Rattle.config_check.specs.Checked.{Checked}
 use Rattle.network_model.specs.Network.{Network, start}
 use Rattle.network_model.specs.Steps.{without_breaks}
 use Rattle.network_model.specs.Events.{Event, next}
-use Rattle.network_laws.specs.Settling.{EditIsValid}
+use Rattle.network_model.specs.Moments.{EditIsValid}
+use Rattle.network_model.specs.Setup.{opening as opening_setup}
 use Rattle.headline_laws.specs.Headline.{IsOfForm, IsWritten}
 use Rattle.net_model.specs.Stands.{message_size}
 
@@ -33,7 +34,7 @@ AreValidMoves w (m ∷ moves) = IsValidMove w m × AreValidMoves (moved w m) mov
 
 pub record IsMoment (w : Network) : Type 0 where
   pub opening : Checked
-  pub written : IsWritten opening
+  pub written : IsWritten (opening_setup opening)
   pub moves : List (Option Event)
   pub edits : AreValidMoves (start opening) moves
   pub is : w ≡ after_moves (start opening) moves

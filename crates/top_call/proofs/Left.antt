@@ -6,7 +6,7 @@ use Rattle.std.specs.declared.result.Result.{Result}
 use Rattle.std.specs.declared.result.Result.TheVariants.{Ok, Err}
 use Rattle.std.proofs.Common.{refl, ◌∙◌}
 use Rattle.ov_io.specs.declared.pieces.WriteRefusal.{WriteRefusal}
-use Rattle.net_machine.specs.NetState.{NetState}
+use Rattle.schedule_answers.specs.NetState.{NetState}
 use Rattle.document_answers.specs.declared.unfit.Verdict.{Verdict}
 use Rattle.document_answers.specs.declared.unfit.Verdict.TheVariants.{Good, NotJson, BadDocument, Refused}
 use Rattle.schedule_answers.specs.Networks.{LeftOn, PromisedOn}

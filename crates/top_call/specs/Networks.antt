@@ -7,7 +7,7 @@ use Rattle.ov_io.specs.declared.pieces.WriteRefusal.{WriteRefusal}
 use Rattle.constrain_answers.specs.Networks.{IsLeftSettled, TookConstraint}
 use Rattle.flow_answers.specs.Answers.{TookReplies}
 use Rattle.restart_answers.specs.Answers.{TookLog}
-use Rattle.net_machine.specs.NetState.{NetState}
+use Rattle.schedule_answers.specs.NetState.{NetState}
 use Rattle.document_answers.specs.declared.unfit.Verdict.{Verdict}
 use Rattle.schedule_answers.specs.Networks.{IsLeftOf, IsLeftOfScenario, LeftOn, PromisedOn, TookAnswers, TookSummary}
 use Rattle.top_call.specs.declared.command.Command.{Command}

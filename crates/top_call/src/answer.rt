@@ -10,11 +10,10 @@ use constrain_answers::answer_constrain;
 use document_answers::{Verdict, answer_compile, answer_reach};
 use flow_answers::answer_flows;
 use message_answers::answer_decode;
-use net_machine::Net;
 use ov_io::{Sink, WriteRefusal};
 use restart_answers::answer_graceful;
 use scale_answers::answer_scale;
-use schedule_answers::{answer_gen, answer_run};
+use schedule_answers::{Net, answer_gen, answer_run};
 use std::alloc::Global;
 
 /// Writes what a command answers to an input, as it is made, and tells what the input is found to be. `constrain`, `run`

@@ -11,9 +11,8 @@ ghost use Rattle.top_call.specs.Runs.{ReadsInput, ReadsWhole, input_to, number_o
 use crate::answer::answer;
 use crate::command::{Command, command_from};
 use document_answers::Verdict;
-use net_machine::Net;
 use ov_io::{InputRefusal, Sink, Source, WriteRefusal, read_all};
-use schedule_answers::leave_none;
+use schedule_answers::{Net, leave_none};
 use std::alloc::Global;
 
 /// The most octets that an input may have.

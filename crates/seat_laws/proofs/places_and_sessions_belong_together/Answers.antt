@@ -9,7 +9,7 @@ pub returns-clause-sessions : goal.returns-clause-sessions
 returns-clause-sessions c = sessions_found
 
 pub returns-clause-none : goal.returns-clause-none
-returns-clause-none c = λ w written seats are has a b. (session_without_place w written seats are has a b, place_without_session w written seats are has a b)
+returns-clause-none c = λ w written numbers seats are has a b. (session_without_place w written numbers seats are has a b, place_without_session w written numbers seats are has a b)
 
 pub returns-clause-two : goal.returns-clause-two
 returns-clause-two c = names_differ

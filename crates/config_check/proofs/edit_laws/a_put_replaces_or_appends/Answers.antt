@@ -1,4 +1,4 @@
-use Rattle.config_check.proofs.EditLaws.{network_put, port_put, policy_put, service_put, chain_put}
+use Rattle.config_check.proofs.EditLaws.{network_put, port_put, policy_put, service_put, chain_put, node_put}
 use Rattle.config_check.proofs.edit_laws.a_put_replaces_or_appends.Goals as goal
 
 pub returns-clause-network : goal.returns-clause-network
@@ -15,3 +15,6 @@ returns-clause-service c = service_put
 
 pub returns-clause-chain : goal.returns-clause-chain
 returns-clause-chain c = chain_put
+
+pub returns-clause-node : goal.returns-clause-node
+returns-clause-node c = node_put

@@ -4,7 +4,8 @@ use Rattle.config_ties.proofs.joining.joined.Goals as goal
 
 pub returns : goal.returns
 returns c =
-    joined_is c.args.valid.now.topology c.args.valid.now.config c.config-config.result.now c.config-config.ensures.part
-    ((valid_iff c.args.valid.now.topology c.args.valid.now.config).0 c.config-config.ensures.valid)
+    let x = c.args.valid.now in
+    joined_is x c.topology-topology.result.now c.config-config.result.now c.topology-topology.ensures.part c.config-config.ensures.part
+    ((valid_iff x.topology x.config).0 c.config-config.ensures.valid)
     c.args.rules.now c.requires _ _ c.args.ties.now c.ties.view_is
-    c.in_ok-ports.ensures c.in_ok-uses.ensures c.in_ok-related.ensures
+    c.in_ok-ports.ensures c.in_ok-uses.ensures c.in_ok-related.ensures c.in_ok-addresses.ensures c.in_ok-names.ensures

@@ -1,5 +1,5 @@
 use Rattle.std.proofs.Common.{◌≡◌, ◌++◌, drop, map}
-use Rattle.tied_laws.specs.Runs.{tied_moment}
+use Rattle.net_machine.specs.Runs.{tied_moment}
 use Rattle.constrain_answers.specs.Constraint.{AreControlNodes, asking_of}
 use Rattle.constrain_answers.specs.Networks.{EachNeedsNoMore}
 use Rattle.constrain_answers.proofs.asking.askings_of.Given as goal

@@ -1,7 +1,7 @@
 use Rattle.std.proofs.Common.{ap, subst, sym, ◌∙◌}
 use Rattle.config_check.specs.Checked.{Checked}
 use Rattle.config_model.specs.declared.topology.Topology.{Topology}
-use Rattle.tied_laws.specs.Runs.{tied_moment}
+use Rattle.net_machine.specs.Runs.{tied_moment}
 use Rattle.constrain_answers.specs.Constraint.{AreControlNodes}
 use Rattle.constrain_answers.proofs.Written.{controllers_are_there}
 use Rattle.constrain_answers.proofs.sending.write_constraint.Goals as goal

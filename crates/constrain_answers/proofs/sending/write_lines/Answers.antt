@@ -1,6 +1,6 @@
 use Rattle.std.proofs.Common.{◌++◌, ℕ, List, [], refl, ap, subst}
 use Rattle.std.specs.List.{flat_map}
-use Rattle.tied_laws.specs.Runs.{tied_moment}
+use Rattle.net_machine.specs.Runs.{tied_moment}
 use Rattle.ov_io.specs.Inputs.{TookFront}
 use Rattle.ov_io.specs.Pieces.{IsOnItsWay}
 use Rattle.ov_io.proofs.PieceLemmas.{ends_cut, ends_whole, on_err}

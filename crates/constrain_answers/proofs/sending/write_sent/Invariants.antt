@@ -1,6 +1,6 @@
 use Rattle.std.proofs.Common.{◌≡◌, ◌++◌, drop}
 use Rattle.std.specs.List.{flat_map}
-use Rattle.tied_laws.specs.Runs.{tied_moment}
+use Rattle.net_machine.specs.Runs.{tied_moment}
 use Rattle.ov_io.specs.Pieces.{IsOnItsWay}
 use Rattle.constrain_answers.specs.Constraint.{AreControlNodes, sent_by}
 use Rattle.constrain_answers.proofs.sending.write_sent.Given as goal

@@ -1,12 +1,12 @@
 use Rattle.std.proofs.Common.{IsTrue, subst}
 use Rattle.config_model.specs.declared.event.Event.{Event}
 use Rattle.config_model.specs.Event.{has_event_form}
-use Rattle.net_machine.proofs.Forms.{break_form, edit_form, trace_source}
+use Rattle.net_machine.specs.Happenings.{IsNotEdit}
+use Rattle.net_machine.proofs.Forms.{break_form, trace_source}
 use Rattle.net_machine.proofs.happen.happen.Goals as goal
 
-pub edited-requires-clause-form : goal.edited-requires-clause-form
-edited-requires-clause-form c =
-    edit_form c.in-Edit.edit (subst (λ (e : Event). IsTrue (has_event_form e)) c.in-Edit.is c.requires.form)
+pub unreachable-requires : goal.unreachable-requires
+unreachable-requires c = subst IsNotEdit c.in-Edit.is c.requires.not_edit
 
 pub trace-requires-clause-source : goal.trace-requires-clause-source
 trace-requires-clause-source c =

@@ -1,4 +1,6 @@
+use Rattle.std.proofs.Common.{◌∙◌, ap}
 use Rattle.tied_laws.proofs.Moments.{tied_rounds}
+use Rattle.net_machine.specs.Seating.{order_of}
 use Rattle.net_machine.proofs.Ran.{start_long, start_runs}
 use Rattle.net_machine.proofs.net.with_nodes.Goals as goal
 
@@ -21,7 +23,7 @@ invariant_of-result c = λ _. (
         valid = c.config-config.ensures.valid;
       })
       c.requires.seats
-      _ _ c.in_ok-order.order.items c.new.ensures c.requires.ties c.in_ok-order.ensures.order,
+      _ _ c.in_ok-order.order.items c.new.ensures c.requires.ties (c.in_ok-order.ensures.order ∙ ap (order_of c.args.nodes.seats) c.topology.ensures.part),
   c.requires.works,
 )
 
@@ -34,7 +36,7 @@ returns-clause-state c =
       valid = c.config-config.ensures.valid;
     })
     c.requires.seats
-    _ _ c.in_ok-order.order.items c.new.ensures c.requires.ties c.in_ok-order.ensures.order).stands
+    _ _ c.in_ok-order.order.items c.new.ensures c.requires.ties (c.in_ok-order.ensures.order ∙ ap (order_of c.args.nodes.seats) c.topology.ensures.part)).stands
 
 pub returns-clause-ties : goal.returns-clause-ties
 returns-clause-ties c =
@@ -45,7 +47,7 @@ returns-clause-ties c =
       valid = c.config-config.ensures.valid;
     })
     c.requires.seats
-    _ _ c.in_ok-order.order.items c.new.ensures c.requires.ties c.in_ok-order.ensures.order).tied
+    _ _ c.in_ok-order.order.items c.new.ensures c.requires.ties (c.in_ok-order.ensures.order ∙ ap (order_of c.args.nodes.seats) c.topology.ensures.part)).tied
 
 pub returns-clause-rounds : goal.returns-clause-rounds
 returns-clause-rounds c =
@@ -56,5 +58,5 @@ returns-clause-rounds c =
       valid = c.config-config.ensures.valid;
     })
     c.requires.seats
-    _ _ c.in_ok-order.order.items c.new.ensures c.requires.ties c.in_ok-order.ensures.order in
+    _ _ c.in_ok-order.order.items c.new.ensures c.requires.ties (c.in_ok-order.ensures.order ∙ ap (order_of c.args.nodes.seats) c.topology.ensures.part) in
     tied_rounds _ r.written _ r.forms

@@ -8,7 +8,7 @@ use Rattle.net_seats.proofs.acting.take_config.Goals as goal
 
 pub returns-then-failed-clause-long : goal.returns-then-failed-clause-long
 returns-then-failed-clause-long c =
-    (config_long c.args.node.now.setup c.step-stepped.new.self.setup c.restart.new.self c.args.node.now.posts c.args.node.now.kept c.restart.ensures (ap (λ (x : Checked). x.topology) c.step-stepped.ensures.setup) c.requires.long c.requires.kept).0
+    (config_long c.args.node.now.setup c.step-stepped.new.self.setup c.restart.new.self c.args.node.now.posts c.args.node.now.kept c.restart.ensures (ap (λ (x : Checked). x.topology.controllers) c.step-stepped.ensures.setup) c.requires.long c.requires.kept).0
 
 pub returns-clause-takes : goal.returns-clause-takes
 returns-clause-takes c =

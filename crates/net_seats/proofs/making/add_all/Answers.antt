@@ -5,11 +5,11 @@ use Rattle.config_model.specs.declared.topology.Node.{Node}
 use Rattle.config_model.specs.declared.topology.Topology.{Topology}
 use Rattle.control_node.specs.Core as control
 use Rattle.agent_node.specs.Core as agent
-use Rattle.net_model.specs.Seats.{Configuring, agent_plan, control_plan}
-use Rattle.net_seats.specs.Cores.{HasAll, IsRight}
-use Rattle.net_seats.specs.Fresh.{IsSetUp, fresh_outer}
+use Rattle.net_model.specs.Seats.{Configuring, agent_plan}
+use Rattle.net_seats.specs.Cores.{IsRight, IsVacated}
+use Rattle.net_seats.specs.Fresh.{IsSetUp, fresh_outer, opening_plan}
 use Rattle.net_seats.specs.Halves.{Outer}
-use Rattle.net_seats.proofs.Made.{all_have, none_right, outers_are}
+use Rattle.net_seats.proofs.Made.{all_vacated, none_right, outers_are}
 use Rattle.net_seats.proofs.SetUp.{set_up}
 use Rattle.net_seats.proofs.making.add_all.Goals as goal
 
@@ -37,8 +37,8 @@ returns-clause-set_up c =
 pub returns-clause-controls : goal.returns-clause-controls
 returns-clause-controls c =
     c.in_ok-add_controls.ensures.controls
-    ∙ (ap (λ (xs : List control.Core). xs ++ map (λ (x : NodeId). control.fresh (control_plan c.topology-topology.result.now x)) c.topology-topology.result.now.controllers) c.requires.controls
-    ∙ ap (λ (t : Topology). map (λ (x : NodeId). control.fresh (control_plan t x)) t.controllers) c.topology-topology.ensures.part)
+    ∙ (ap (λ (xs : List control.Core). xs ++ map (λ (x : NodeId). control.fresh (opening_plan c.topology-topology.result.now x)) c.topology-topology.result.now.controllers) c.requires.controls
+    ∙ ap (λ (t : Topology). map (λ (x : NodeId). control.fresh (opening_plan t x)) t.controllers) c.topology-topology.ensures.part)
 
 pub returns-clause-agents : goal.returns-clause-agents
 returns-clause-agents c =
@@ -59,7 +59,7 @@ returns-clause-edges c =
 pub returns-clause-all : goal.returns-clause-all
 returns-clause-all c =
     let t = c.topology-topology.result.now in
-    subst (All HasAll)
+    subst (All IsVacated)
     (sym (c.in_ok-add_controls.ensures.controls
-    ∙ ap (λ (xs : List control.Core). xs ++ map (λ (x : NodeId). control.fresh (control_plan t x)) t.controllers) c.requires.controls))
-    (all_have t t.controllers)
+    ∙ ap (λ (xs : List control.Core). xs ++ map (λ (x : NodeId). control.fresh (opening_plan t x)) t.controllers) c.requires.controls))
+    (all_vacated t t.controllers)

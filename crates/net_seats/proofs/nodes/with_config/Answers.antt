@@ -1,6 +1,7 @@
 use Rattle.std.proofs.Common.{ap, subst, ◌∙◌, map}
 use Rattle.config_check.specs.Checked.{Checked}
 use Rattle.net_model.specs.Seats.{whos}
+use Rattle.network_model.specs.Setup.{opening}
 use Rattle.net_seats.specs.Cores.{inners}
 use Rattle.net_seats.specs.Fresh.{IsSetUp, fresh_outer}
 use Rattle.net_seats.proofs.Made.{inners_are, made_few, made_halves, made_seats}
@@ -11,7 +12,7 @@ invariant_of-result c =
     let setup = c.args.config.setup in
     let is = c.valid.ensures.setup in
     let set_up = subst (λ (x : Checked). IsSetUp x.topology) is c.in_ok-add_all.ensures.set_up in
-    let edges = c.in_ok-add_all.ensures.edges ∙ ap (λ (x : Checked). map fresh_outer (whos x)) is in (
+    let edges = c.in_ok-add_all.ensures.edges ∙ ap (λ (x : Checked). map fresh_outer (whos (opening x))) is in (
       made_halves setup (inners c.args.config c.add_all.new.controls.items c.add_all.new.agents.items) c.add_all.new.edges.items set_up
           (inners_are setup c.valid.result.now.topology (ap (λ (x : Checked). x.topology) is) c.args.config c.add_all.new.controls.items c.add_all.new.agents.items c.requires c.in_ok-add_all.ensures.controls c.in_ok-add_all.ensures.agents) edges,
       made_few setup c.add_all.new.edges.items set_up edges,
@@ -23,4 +24,4 @@ returns-clause-seats c =
     let is = c.valid.ensures.setup in
     made_seats setup (inners c.args.config c.add_all.new.controls.items c.add_all.new.agents.items) c.add_all.new.edges.items
     (inners_are setup c.valid.result.now.topology (ap (λ (x : Checked). x.topology) is) c.args.config c.add_all.new.controls.items c.add_all.new.agents.items c.requires c.in_ok-add_all.ensures.controls c.in_ok-add_all.ensures.agents)
-    (c.in_ok-add_all.ensures.edges ∙ ap (λ (x : Checked). map fresh_outer (whos x)) is)
+    (c.in_ok-add_all.ensures.edges ∙ ap (λ (x : Checked). map fresh_outer (whos (opening x))) is)

@@ -1,10 +1,10 @@
 use Rattle.std.proofs.Common.{ap, subst, sym, ◌<◌, ◌≤◌, ◌≡◌, ◌∙◌, [], List, get_or, length, map, arith}
 use Rattle.std.specs.List.{Contains}
 use Rattle.config_check.specs.Rules.{controller_names}
-use Rattle.network_model.specs.Setup.{Name}
+use Rattle.network_model.specs.Setup.{Name, id_of}
 use Rattle.ov_types.specs.declared.rows.NodeId.{NodeId}
 use Rattle.agent_node.specs.declared.plan.AgentPlan.{AgentPlan}
-use Rattle.net_model.specs.Seats.{controller_named, id_of}
+use Rattle.net_model.specs.Seats.{controller_named}
 use Rattle.net_seats.proofs.Pushed.{all_pushed, pushed}
 use Rattle.net_seats.proofs.plans.agent_plan.Goals as goal
 

@@ -1,5 +1,6 @@
 use Rattle.std.proofs.Common.{◌∙◌, ◌++◌, ◌∷◌, [], ap}
 use Rattle.network_model.specs.Events.{event_of}
+use Rattle.network_model.specs.Setup.{checked}
 use Rattle.tied_laws.specs.Runs.{answer_tied, tied_moment}
 use Rattle.scenario_run.proofs.Counting.{counted_on, few_on, one_by_one}
 use Rattle.scenario_run.proofs.running.count_all.Goals as goal
@@ -17,7 +18,7 @@ loop-event-preserved c =
       tally = counted_on c.args.net.now.opening old.opening new.opening c.loop-event.yielded old.events new.events event
           c.loop-event.tally c.in_ok-tally.tally i.opening (c.count_step.ensures.opening ∙ i.opening) i.events takes
           i.tally c.in_ok-tally.ensures.tally;
-      few = few_on (tied_moment new.opening new.events).network.setup event answer c.loop-event.tally c.in_ok-tally.tally
+      few = few_on (checked (tied_moment new.opening new.events).network.setup) event answer c.loop-event.tally c.in_ok-tally.tally
           c.loop-event.yielded c.in_ok-tally.ensures.tally i.few;
       opening = c.count_step.ensures.opening ∙ i.opening;
       events = takes;

@@ -2,6 +2,7 @@ use Rattle.std.proofs.Common.{IfOk, map, sym, ◌∙◌, ◌≡◌, ap, subst}
 use Rattle.config_check.specs.Checked.{Checked}
 use Rattle.config_ties.specs.Kept.{AreAlike, ties_in}
 use Rattle.config_ties.specs.Tying.{ties_of}
+use Rattle.network_model.specs.Setup.{opening as opening_setup}
 use Rattle.net_model.specs.Seats.{whos}
 use Rattle.net_model.specs.Steps.{fresh_seat}
 use Rattle.net_machine.specs.NetState.{NetState}
@@ -9,11 +10,11 @@ use Rattle.net_machine.proofs.net.Net.new.Goals as goal
 
 pub with_nodes-requires-clause-seats : goal.with_nodes-requires-clause-seats
 with_nodes-requires-clause-seats c =
-    c.in_ok-nodes.ensures.seats ∙ ap (λ (x : Checked). map fresh_seat (whos x)) (sym c.in_ok-opening.ensures)
+    c.in_ok-nodes.ensures.seats ∙ ap (λ (x : Checked). map fresh_seat (whos (opening_setup x))) (sym c.in_ok-opening.ensures)
 
 pub with_nodes-requires-clause-ties : goal.with_nodes-requires-clause-ties
 with_nodes-requires-clause-ties c =
-    subst (λ (x : Checked). AreAlike (ties_in c.in_ok-ties.ties) (ties_of x.config)) (sym c.in_ok-opening.ensures)
+    subst (λ (x : Checked). AreAlike (ties_in c.in_ok-ties.ties) (ties_of x)) (sym c.in_ok-opening.ensures)
     c.in_ok-ties.ensures
 
 pub returns-clause-opening : goal.returns-clause-opening

@@ -1,5 +1,6 @@
 use Rattle.std.proofs.Common.{sym, ◌∙◌, ap, subst}
 use Rattle.std.specs.List.{All}
+use Rattle.network_model.specs.Setup.{checked}
 use Rattle.network_model.specs.Steps as machine
 use Rattle.tied_laws.specs.Runs.{tied_moment}
 use Rattle.net_machine.specs.NetState.{NetState}
@@ -30,7 +31,7 @@ returns-clause-compiled c = λ h.
     let works = ap (λ (n : NetState). n.failed) c.self.view_is ∙ c.requires in
     let n = c.self.inside in
     let running = (c.self.invariant works).0 in
-    subst (λ (n : NetState). ShowsCompiled (tied_moment n.opening n.events).network.setup n.seats) c.self.view_is
+    subst (λ (n : NetState). ShowsCompiled (checked (tied_moment n.opening n.events).network.setup) n.seats) c.self.view_is
     (settled_shows (tied_moment n.opening n.events).network
     (run_after n.opening n.events n.ties n.nodes.seats n.order.items running) n.nodes.seats running.stands
     (sym (run_settled n.opening n.events n.ties n.nodes.seats n.order.items running)

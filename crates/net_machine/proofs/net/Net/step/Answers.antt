@@ -1,5 +1,4 @@
-use Rattle.std.proofs.Common.{List, sym, ◌∙◌, ap, subst}
-use Rattle.std.specs.List.{All}
+use Rattle.std.proofs.Common.{◌∙◌, ap, subst}
 use Rattle.std.specs.Prelude.{◌≡◌}
 use Rattle.config_ties.specs.Kept.{ties_in}
 use Rattle.network_model.specs.Events.{event_of}
@@ -7,11 +6,9 @@ use Rattle.tied_laws.specs.Compiled.{EndsAtOnce, IsAsCompiled}
 use Rattle.tied_laws.specs.Isolated.{DeliversSoFar, DeliversTied}
 use Rattle.tied_laws.specs.Runs.{answer_tied, tied_moment}
 use Rattle.tied_laws.proofs.Moments.{tied_rounds}
-use Rattle.net_machine.specs.declared.ends.SessionEnds.{SessionEnds}
 use Rattle.net_machine.specs.NetState.{NetState}
-use Rattle.net_machine.specs.Seating.{AreSeated}
-use Rattle.net_machine.specs.Tying.{HappensTied, OfTie}
-use Rattle.net_machine.proofs.Ran.{run_configured, run_seated, step_answers, step_compiled, step_ends, step_isolated}
+use Rattle.net_machine.specs.Tying.{OfTie}
+use Rattle.net_machine.proofs.Ran.{run_can, run_configured, run_seated, step_answers, step_compiled, step_ends, step_isolated}
 use Rattle.net_machine.proofs.Ran.{step_joined, step_runs, step_unchanged}
 use Rattle.net_machine.proofs.net.Net.step.Goals as goal
 
@@ -23,17 +20,20 @@ happen_tied-requires-clause-configured c =
 pub happen_tied-requires-clause-seated : goal.happen_tied-requires-clause-seated
 happen_tied-requires-clause-seated c =
     let n = c.self.inside in
-    subst (All (AreSeated n.nodes.seats)) (sym c.as_slice.ensures.value)
-    (run_seated n.opening n.events n.ties n.nodes.seats n.order.items (c.self.invariant c.if-self.false).0)
+    run_seated n.opening n.events n.ties n.nodes.seats n.order.items (c.self.invariant c.if-self.false).0
+
+pub happen_tied-requires-clause-can : goal.happen_tied-requires-clause-can
+happen_tied-requires-clause-can c =
+    let n = c.self.inside in
+    run_can n.opening n.events n.ties n.nodes.seats n.order.items (c.self.invariant c.if-self.false).0 c.args.event
+    c.requires.form
 
 pub invariant_of-self-2 : goal.invariant_of-self-2
 invariant_of-self-2 c = λ _.
     let n = c.self.inside in (
       step_runs n.opening n.events n.ties n.nodes.seats n.order.items (c.self.invariant c.if-self.false).0
-          c.args.event c.in_ok-answer.answer c.happen_tied.new.ties c.happen_tied.new.nodes.seats c.requires.form
-          (λ y is. subst (λ (es : List SessionEnds). HappensTied y es c.args.event n.ties n.nodes.seats c.in_ok-answer.answer
-          c.happen_tied.new.ties c.happen_tied.new.nodes.seats) c.as_slice.ensures.value (c.in_ok-answer.ensures.happens y is))
-          c.in_ok-answer.ensures.keeps
+          c.args.event c.in_ok-answer.answer c.happen_tied.new.ties c.happen_tied.new.nodes.seats c.happen_tied.new.order.items c.requires.form
+          c.in_ok-answer.ensures.happens c.in_ok-answer.ensures.orders
           c.push.new.self c.in_ok-push.ensures.ok,
       c.in_ok-answer.ensures.works,
     )
@@ -42,10 +42,8 @@ pub returns-clause-answer : goal.returns-clause-answer
 returns-clause-answer c =
     let n = c.self.inside in
     step_answers n.opening n.events n.ties n.nodes.seats n.order.items (c.self.invariant c.if-self.false).0
-    c.args.event c.in_ok-answer.answer c.happen_tied.new.ties c.happen_tied.new.nodes.seats c.requires.form
-    (λ y is. subst (λ (es : List SessionEnds). HappensTied y es c.args.event n.ties n.nodes.seats c.in_ok-answer.answer
-    c.happen_tied.new.ties c.happen_tied.new.nodes.seats) c.as_slice.ensures.value (c.in_ok-answer.ensures.happens y is))
-    c.in_ok-answer.ensures.keeps
+    c.args.event c.in_ok-answer.answer c.happen_tied.new.ties c.happen_tied.new.nodes.seats c.happen_tied.new.order.items c.requires.form
+    c.in_ok-answer.ensures.happens c.in_ok-answer.ensures.orders
     ∙ ap (λ (s : NetState). answer_tied (tied_moment s.opening s.events) (event_of c.args.event)) c.self.view_is
 
 pub returns-clause-unchanged : goal.returns-clause-unchanged
@@ -54,39 +52,31 @@ returns-clause-unchanged c =
     subst (λ (s : NetState). OfTie (λ _. (c.happen_tied.new.ties ≡ s.ties) × (c.happen_tied.new.nodes.seats ≡ s.seats))
     c.in_ok-answer.answer) c.self.view_is
     (step_unchanged n.opening n.events n.ties n.nodes.seats n.order.items (c.self.invariant c.if-self.false).0
-    c.args.event c.in_ok-answer.answer c.happen_tied.new.ties c.happen_tied.new.nodes.seats c.requires.form
-    (λ y is. subst (λ (es : List SessionEnds). HappensTied y es c.args.event n.ties n.nodes.seats c.in_ok-answer.answer
-    c.happen_tied.new.ties c.happen_tied.new.nodes.seats) c.as_slice.ensures.value (c.in_ok-answer.ensures.happens y is))
-    c.in_ok-answer.ensures.keeps)
+    c.args.event c.in_ok-answer.answer c.happen_tied.new.ties c.happen_tied.new.nodes.seats c.happen_tied.new.order.items c.requires.form
+    c.in_ok-answer.ensures.happens c.in_ok-answer.ensures.orders)
 
 pub returns-clause-state : goal.returns-clause-state
 returns-clause-state c =
     let n = c.self.inside in
     (step_runs n.opening n.events n.ties n.nodes.seats n.order.items (c.self.invariant c.if-self.false).0
-    c.args.event c.in_ok-answer.answer c.happen_tied.new.ties c.happen_tied.new.nodes.seats c.requires.form
-    (λ y is. subst (λ (es : List SessionEnds). HappensTied y es c.args.event n.ties n.nodes.seats c.in_ok-answer.answer
-    c.happen_tied.new.ties c.happen_tied.new.nodes.seats) c.as_slice.ensures.value (c.in_ok-answer.ensures.happens y is))
-    c.in_ok-answer.ensures.keeps
+    c.args.event c.in_ok-answer.answer c.happen_tied.new.ties c.happen_tied.new.nodes.seats c.happen_tied.new.order.items c.requires.form
+    c.in_ok-answer.ensures.happens c.in_ok-answer.ensures.orders
     c.push.new.self c.in_ok-push.ensures.ok).stands
 
 pub returns-clause-ties : goal.returns-clause-ties
 returns-clause-ties c =
     let n = c.self.inside in
     (step_runs n.opening n.events n.ties n.nodes.seats n.order.items (c.self.invariant c.if-self.false).0
-    c.args.event c.in_ok-answer.answer c.happen_tied.new.ties c.happen_tied.new.nodes.seats c.requires.form
-    (λ y is. subst (λ (es : List SessionEnds). HappensTied y es c.args.event n.ties n.nodes.seats c.in_ok-answer.answer
-    c.happen_tied.new.ties c.happen_tied.new.nodes.seats) c.as_slice.ensures.value (c.in_ok-answer.ensures.happens y is))
-    c.in_ok-answer.ensures.keeps
+    c.args.event c.in_ok-answer.answer c.happen_tied.new.ties c.happen_tied.new.nodes.seats c.happen_tied.new.order.items c.requires.form
+    c.in_ok-answer.ensures.happens c.in_ok-answer.ensures.orders
     c.push.new.self c.in_ok-push.ensures.ok).tied
 
 pub returns-clause-rounds : goal.returns-clause-rounds
 returns-clause-rounds c =
     let n = c.self.inside in
     let r = step_runs n.opening n.events n.ties n.nodes.seats n.order.items (c.self.invariant c.if-self.false).0
-    c.args.event c.in_ok-answer.answer c.happen_tied.new.ties c.happen_tied.new.nodes.seats c.requires.form
-    (λ y is. subst (λ (es : List SessionEnds). HappensTied y es c.args.event n.ties n.nodes.seats c.in_ok-answer.answer
-    c.happen_tied.new.ties c.happen_tied.new.nodes.seats) c.as_slice.ensures.value (c.in_ok-answer.ensures.happens y is))
-    c.in_ok-answer.ensures.keeps
+    c.args.event c.in_ok-answer.answer c.happen_tied.new.ties c.happen_tied.new.nodes.seats c.happen_tied.new.order.items c.requires.form
+    c.in_ok-answer.ensures.happens c.in_ok-answer.ensures.orders
     c.push.new.self c.in_ok-push.ensures.ok in
     tied_rounds n.opening r.written c.push.new.self r.forms
 
@@ -96,10 +86,8 @@ returns-clause-settles c =
     subst (λ (s : NetState). EndsAtOnce (tied_moment s.opening s.events) c.args.event c.in_ok-answer.answer
     (tied_moment n.opening c.push.new.self)) c.self.view_is
     (step_ends n.opening n.events n.ties n.nodes.seats n.order.items (c.self.invariant c.if-self.false).0
-    c.args.event c.in_ok-answer.answer c.happen_tied.new.ties c.happen_tied.new.nodes.seats c.requires.form
-    (λ y is. subst (λ (es : List SessionEnds). HappensTied y es c.args.event n.ties n.nodes.seats c.in_ok-answer.answer
-    c.happen_tied.new.ties c.happen_tied.new.nodes.seats) c.as_slice.ensures.value (c.in_ok-answer.ensures.happens y is))
-    c.in_ok-answer.ensures.keeps
+    c.args.event c.in_ok-answer.answer c.happen_tied.new.ties c.happen_tied.new.nodes.seats c.happen_tied.new.order.items c.requires.form
+    c.in_ok-answer.ensures.happens c.in_ok-answer.ensures.orders
     c.push.new.self c.in_ok-push.ensures.ok)
 
 pub returns-clause-compiled : goal.returns-clause-compiled
@@ -108,27 +96,21 @@ returns-clause-compiled c =
     subst (λ (s : NetState). IsAsCompiled (tied_moment s.opening s.events) c.args.event c.in_ok-answer.answer)
     c.self.view_is
     (step_compiled n.opening n.events n.ties n.nodes.seats n.order.items (c.self.invariant c.if-self.false).0
-    c.args.event c.in_ok-answer.answer c.happen_tied.new.ties c.happen_tied.new.nodes.seats c.requires.form
-    (λ y is. subst (λ (es : List SessionEnds). HappensTied y es c.args.event n.ties n.nodes.seats c.in_ok-answer.answer
-    c.happen_tied.new.ties c.happen_tied.new.nodes.seats) c.as_slice.ensures.value (c.in_ok-answer.ensures.happens y is))
-    c.in_ok-answer.ensures.keeps)
+    c.args.event c.in_ok-answer.answer c.happen_tied.new.ties c.happen_tied.new.nodes.seats c.happen_tied.new.order.items c.requires.form
+    c.in_ok-answer.ensures.happens c.in_ok-answer.ensures.orders)
 
 pub returns-clause-every_moment : goal.returns-clause-every_moment
 returns-clause-every_moment c =
     let n = c.self.inside in
     subst (λ (s : NetState). DeliversSoFar s.opening s.events c.args.event c.in_ok-answer.answer) c.self.view_is
     (step_isolated n.opening n.events n.ties n.nodes.seats n.order.items (c.self.invariant c.if-self.false).0
-    c.args.event c.in_ok-answer.answer c.happen_tied.new.ties c.happen_tied.new.nodes.seats c.requires.form
-    (λ y is. subst (λ (es : List SessionEnds). HappensTied y es c.args.event n.ties n.nodes.seats c.in_ok-answer.answer
-    c.happen_tied.new.ties c.happen_tied.new.nodes.seats) c.as_slice.ensures.value (c.in_ok-answer.ensures.happens y is))
-    c.in_ok-answer.ensures.keeps)
+    c.args.event c.in_ok-answer.answer c.happen_tied.new.ties c.happen_tied.new.nodes.seats c.happen_tied.new.order.items c.requires.form
+    c.in_ok-answer.ensures.happens c.in_ok-answer.ensures.orders)
 
 pub returns-clause-joined : goal.returns-clause-joined
 returns-clause-joined c =
     let n = c.self.inside in
     subst (λ (s : NetState). DeliversTied (ties_in s.ties) c.args.event c.in_ok-answer.answer) c.self.view_is
     (step_joined n.opening n.events n.ties n.nodes.seats n.order.items (c.self.invariant c.if-self.false).0
-    c.args.event c.in_ok-answer.answer c.happen_tied.new.ties c.happen_tied.new.nodes.seats c.requires.form
-    (λ y is. subst (λ (es : List SessionEnds). HappensTied y es c.args.event n.ties n.nodes.seats c.in_ok-answer.answer
-    c.happen_tied.new.ties c.happen_tied.new.nodes.seats) c.as_slice.ensures.value (c.in_ok-answer.ensures.happens y is))
-    c.in_ok-answer.ensures.keeps)
+    c.args.event c.in_ok-answer.answer c.happen_tied.new.ties c.happen_tied.new.nodes.seats c.happen_tied.new.order.items c.requires.form
+    c.in_ok-answer.ensures.happens c.in_ok-answer.ensures.orders)

@@ -1,8 +1,10 @@
 use Rattle.std.proofs.Common.{arith, [], ap, subst, sym, ◌∙◌, ◌<◌, length}
+use Rattle.net_model.specs.Controls.{controls_of}
 use Rattle.net_model.specs.Seats.{Configuring, Controlling, Forwarding, is_up, others_of}
 use Rattle.net_seats.specs.Halves.{Inner, seated}
 use Rattle.net_seats.proofs.Numbers.{agent_is, config_is, control_is}
-use Rattle.net_seats.proofs.Stepping.{sessions_of_agent, sessions_of_config, sessions_of_control}
+use Rattle.net_seats.proofs.Stepping.{sessions_of_agent, sessions_of_config}
+use Rattle.net_seats.proofs.Vacant.{sessions_there}
 use Rattle.net_seats.proofs.cores.Cores.is_up.Goals as goal
 
 pub is_up-requires : goal.is_up-requires
@@ -16,11 +18,11 @@ is_up-requires c =
 
 pub is_up-requires-in-Control : goal.is_up-requires-in-Control
 is_up-requires-in-Control c =
-    let here : c.args.session < length (others_of (Controlling c.index.result.now.plan)) =
+    let here : c.args.session < length (others_of (Controlling (controls_of c.index.result.now.plan))) =
     subst (λ (n : Inner). c.args.session < length (others_of n.who))
     (control_is c.args.self.now c.self.inside.config c.self.inside.controls.items c.self.inside.agents.items c.args.node c.len.result c.in-Control.place c.self.view_is (omega (arith, c.len.ensures, c.self.inside.controls.ok.0)) c.index.result.now c.in-Control.ensures.number c.in-Control.ensures.within c.index.ensures)
     c.requires.session in
-    let many = sessions_of_control c.index.result.now.plan in
+    let many = sessions_there c.index.result.now.plan in
     omega (arith, here, many)
 
 pub is_up-requires-in-Agent : goal.is_up-requires-in-Agent

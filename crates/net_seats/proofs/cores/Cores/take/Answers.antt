@@ -1,7 +1,9 @@
-use Rattle.std.proofs.Common.{arith, ap, subst, sym, ◌≡◌, ◌<◌, IfOk, true, false, length, set}
+use Rattle.std.proofs.Common.{arith, ap, subst, sym, ◌≡◌, ◌<◌, IfOk, None, Some, true, false, get_or, length, set}
 use Rattle.node_core.specs.Whole.{Comes, session_of}
 use Rattle.control_node.specs.declared.plan.ControlPlan.{ControlPlan}
 use Rattle.agent_node.specs.declared.plan.AgentPlan.{AgentPlan}
+use Rattle.network_model.specs.Setup.{Name}
+use Rattle.net_model.specs.Controls.{controls_of}
 use Rattle.net_model.specs.Seats.{Controlling, Forwarding, name_of, others_of}
 use Rattle.net_seats.specs.Changes.{TakesOver}
 use Rattle.net_seats.specs.Cores.{controlled, forwarded, inners}
@@ -14,6 +16,12 @@ take_control-requires-clause-known c =
     subst (λ (n : Inner). session_of c.args.input < length (others_of n.who))
     (control_is c.args.self.now c.self.inside.config c.self.inside.controls.items c.self.inside.agents.items c.args.node c.len.result c.in-Control.place c.self.view_is (omega (arith, c.len.ensures, c.self.inside.controls.ok.0)) c.index_mut.result.now c.in-Control.ensures.number c.in-Control.ensures.within c.index_mut.ensures.value)
     c.requires.known
+
+pub take_control-requires-clause-taken : goal.take_control-requires-clause-taken
+take_control-requires-clause-taken c =
+    subst (λ (n : Inner). (b : Name) × (get_or (others_of n.who) (session_of c.args.input) None ≡ Some b))
+    (control_is c.args.self.now c.self.inside.config c.self.inside.controls.items c.self.inside.agents.items c.args.node c.len.result c.in-Control.place c.self.view_is (omega (arith, c.len.ensures, c.self.inside.controls.ok.0)) c.index_mut.result.now c.in-Control.ensures.number c.in-Control.ensures.within c.index_mut.ensures.value)
+    c.requires.taken
 
 pub take_control-requires-clause-long : goal.take_control-requires-clause-long
 take_control-requires-clause-long c =
@@ -44,7 +52,7 @@ returns-in-Control-clause-one c =
     changes_one c.args.self.now (inners c.self.inside.config (set c.self.inside.controls.items c.in-Control.place c.take_control.new.node) c.self.inside.agents.items) c.args.node (controlled c.index_mut.result.now) (controlled c.take_control.new.node)
     (control_is c.args.self.now c.self.inside.config c.self.inside.controls.items c.self.inside.agents.items c.args.node c.len.result c.in-Control.place c.self.view_is (omega (arith, c.len.ensures, c.self.inside.controls.ok.0)) c.index_mut.result.now c.in-Control.ensures.number c.in-Control.ensures.within c.index_mut.ensures.value)
     (control_set c.args.self.now c.self.inside.config c.self.inside.controls.items c.self.inside.agents.items c.args.node c.len.result c.in-Control.place c.self.view_is (omega (arith, c.len.ensures, c.self.inside.controls.ok.0)) c.take_control.new.node c.in-Control.ensures.number c.in-Control.ensures.within)
-    c.requires.node (ap (λ (plan : ControlPlan). name_of (Controlling plan)) c.take_control.ensures.plan) (ap (λ (plan : ControlPlan). others_of (Controlling plan)) c.take_control.ensures.plan) c.take_control.ensures.long c.take_control.ensures.kept
+    c.requires.node (ap (λ (plan : ControlPlan). name_of (Controlling (controls_of plan))) c.take_control.ensures.plan) (ap (λ (plan : ControlPlan). others_of (Controlling (controls_of plan))) c.take_control.ensures.plan) c.take_control.ensures.long c.take_control.ensures.kept
 
 pub returns-in-Control-clause-takes : goal.returns-in-Control-clause-takes
 returns-in-Control-clause-takes c =

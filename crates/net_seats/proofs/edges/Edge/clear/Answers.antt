@@ -6,5 +6,5 @@ use Rattle.net_seats.proofs.edges.Edge.clear.Goals as goal
 pub returns : goal.returns
 returns c =
     links_changed c.self.inside.links c.args.session c.get_mut.result.now c.get_mut.ensures.value c.clear.new.self c.args.self.now
-    c.self.inside.name c.self.inside.others c.self.inside.notices.items c.self.view_is
+    c.self.inside.name c.self.inside.others.items c.self.inside.notices.items c.self.view_is
     (λ (ms : List (List ℕ)). []) (ap (λ (l : FailingState). l.accepted) c.clear.ensures) (ap (λ (l : FailingState). l.breaks) c.clear.ensures)

@@ -6,5 +6,5 @@ use Rattle.net_seats.proofs.edges.Edge.pop.Goals as goal
 pub returns-clause-rest : goal.returns-clause-rest
 returns-clause-rest c =
     links_changed c.self.inside.links c.args.session c.get_mut.result.now c.get_mut.ensures.value c.pop.new.self c.args.self.now
-    c.self.inside.name c.self.inside.others c.self.inside.notices.items c.self.view_is
+    c.self.inside.name c.self.inside.others.items c.self.inside.notices.items c.self.view_is
     (λ (ms : List (List ℕ)). drop 1 ms) (ap (λ (l : FailingState). l.accepted) c.pop.ensures.rest) (ap (λ (l : FailingState). l.breaks) c.pop.ensures.rest)

@@ -1,6 +1,6 @@
-use Rattle.std.proofs.Common.{List, ap, sym, ◌∙◌}
+use Rattle.std.proofs.Common.{List, ap, option_copied, subst, sym, ◌∙◌}
 use Rattle.net_model.specs.Seats.{Seat, seat}
-use Rattle.net_seats.specs.Cores.{held_by}
+use Rattle.net_seats.specs.Cores.{HoldsAs, held_by}
 use Rattle.net_seats.specs.Halves.{Standing}
 use Rattle.net_seats.proofs.Halves.{seat_at}
 use Rattle.net_seats.proofs.Standing.{below_all, below_inner}
@@ -11,6 +11,6 @@ control-requires c = below_inner c.self.inside.cores c.self.inside.edges.items c
 
 pub returns : goal.returns
 returns c =
-    c.control.ensures
-    ∙ ap (λ (n : Seat). held_by n.who n.posts)
+    subst (λ (n : Seat). HoldsAs (option_copied c.control.result) (held_by n.who n.posts))
     (sym (seat_at c.self.inside.cores c.self.inside.edges.items c.args.node c.self.invariant.0 (below_all c.self.inside.cores c.self.inside.edges.items c.args.self.now.seats c.args.node c.self.invariant.0 (ap (λ (s : Standing). s.seats) c.self.view_is) c.requires)) ∙ ap (λ (ss : List Seat). seat ss c.args.node) (ap (λ (s : Standing). s.seats) c.self.view_is))
+    c.control.ensures

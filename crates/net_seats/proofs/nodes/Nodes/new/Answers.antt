@@ -3,6 +3,7 @@ use Rattle.config_check.specs.Checked.{Checked}
 use Rattle.config_node.specs.Core.{Core, fresh}
 use Rattle.net_model.specs.Seats.{whos}
 use Rattle.net_model.specs.Steps.{fresh_seat}
+use Rattle.network_model.specs.Setup.{opening}
 use Rattle.net_seats.specs.Halves.{Standing}
 use Rattle.net_seats.proofs.nodes.Nodes.new.Goals as goal
 
@@ -12,5 +13,5 @@ with_config-requires c =
 
 pub returns-clause-seats : goal.returns-clause-seats
 returns-clause-seats c =
-    subst (λ (x : Checked). IfOk c.with_config.result (λ (n : Standing). n.seats ≡ map fresh_seat (whos x)))
+    subst (λ (x : Checked). IfOk c.with_config.result (λ (n : Standing). n.seats ≡ map fresh_seat (whos (opening x))))
     (ap (λ (k : Core). k.setup) c.in_ok-config.ensures) c.with_config.ensures.seats

@@ -1,0 +1,65 @@
+-- What stays where ends are cleared: who is there.
+use Rattle.std.specs.Prelude.{◌≡◌, ◌+◌, ◌<◌, ℕ, zero, suc, List, [], length, map, Bool, true, false, cond}
+use Rattle.std.specs.declared.option.Option.{Option}
+use Rattle.std.specs.declared.option.Option.TheVariants.{Some, None}
+use Rattle.std.proofs.Common.{refl, sym, ◌∙◌, ap, subst, arith, inl, inr}
+use Rattle.std.proofs.lemmas.Bool.{cases_eq}
+use Rattle.ov_types.specs.First.{same_name}
+use Rattle.network_model.specs.Setup.{Name}
+use Rattle.net_model.specs.Seats.{Seat, far_of, index_from, is_down_at, live_at, name_of, seat, seat_named}
+use Rattle.net_model.specs.Stands.{IsLong}
+use Rattle.net_model.specs.Steps.{cleared, cleared_at, cleared_from, told_of_loss, with_link, with_notice, with_seat}
+use Rattle.net_model.specs.declared.place.Place.{Place}
+use Rattle.net_steps.proofs.Lists.{AreAlike, index_map, same_who, with_alike}
+use Rattle.net_machine.specs.Seating.{AreLong}
+use Rattle.net_machine.proofs.Kept.{with_count, with_here, with_there}
+
+link_alike : (seats : List Seat) (p : Place) (messages : List (List ℕ)) → AreAlike seats (with_link p messages seats)
+link_alike seats p messages = with_alike p.node _ seats refl
+
+notice_alike : (seats : List Seat) (p : Place) (waits : Bool) → AreAlike seats (with_notice p waits seats)
+notice_alike seats p waits = with_alike p.node _ seats refl
+
+told_alike : (seats : List Seat) (o : Option Place) → AreAlike seats (told_of_loss seats o)
+told_alike seats None = refl
+told_alike seats (Some q) =
+    link_alike (with_notice q (live_at seats q) seats) q [] ∙ notice_alike seats q (live_at seats q)
+
+one_alike : (seats : List Seat) (p : Place) → AreAlike seats (cleared_at seats p)
+one_alike seats p =
+    elim (live_at seats p) as (λ live. AreAlike seats (cond live (cond (is_down_at seats p) (with_link p [] seats) seats)
+    (told_of_loss (with_notice p false (with_link p [] seats)) (far_of seats p)))) [
+      | true ↦ elim (is_down_at seats p) as (λ down. AreAlike seats (cond down (with_link p [] seats) seats)) [
+        | true ↦ link_alike seats p []
+        | false ↦ refl
+      ]
+      | false ↦ told_alike (with_notice p false (with_link p [] seats)) (far_of seats p)
+          ∙ notice_alike (with_link p [] seats) p false ∙ link_alike seats p []
+    ]
+
+from_alike : (n k i : ℕ) (seats : List Seat) → AreAlike seats (cleared_from n k i seats)
+from_alike zero k i seats = refl
+from_alike (suc n) k i seats =
+    from_alike n k (i + 1) (cleared_at seats (record { node = k; session = i }))
+    ∙ one_alike seats (record { node = k; session = i })
+
+pub cleared_alike : (seats : List Seat) (k : ℕ) → AreAlike seats (cleared seats k)
+cleared_alike seats k = from_alike (length (seat seats k).posts) k 0 seats
+
+-- ---- a seat is found by its name as before, where the names are the same
+pub named_by_names : (a b : List Seat) (name : Name)
+    → map (λ (n : Seat). name_of n.who) a ≡ map (λ (n : Seat). name_of n.who) b → seat_named a name ≡ seat_named b name
+named_by_names a b name e =
+    index_map (λ m. same_name m name) (λ (n : Seat). name_of n.who) 0 a
+    ∙ ap (index_from 0 (λ m. same_name m name)) e
+    ∙ sym (index_map (λ m. same_name m name) (λ (n : Seat). name_of n.who) 0 b)
+
+-- ---- one seat is another
+pub long_with : (seats : List Seat) (k : ℕ) (n : Seat) → k < length seats → AreLong seats → IsLong n
+    → AreLong (with_seat k n seats)
+long_with seats k n within long is j below =
+    elim (cases_eq j k) as (λ _. IsLong (seat (with_seat k n seats) j)) [
+      | inl at ↦ subst IsLong (sym (with_here seats k n within) ∙ (λ i. seat (with_seat k n seats) (sym at i))) is
+      | inr off ↦ subst IsLong (sym (with_there seats k j n off))
+          (long j (let c = with_count seats k n in omega (arith, below, c)))
+    ]

@@ -1,0 +1,223 @@
+-- An agent that goes from a control node: what stays of the others.
+use Rattle.std.specs.Prelude.{◌≡◌, ◌≢◌, ◌+◌, ◌<◌, ◌≤◌, ℕ, zero, suc, List, [], ◌∷◌, length, map, drop}
+use Rattle.std.specs.declared.option.Option.{Option}
+use Rattle.std.specs.declared.option.Option.TheVariants.{Some, None}
+use Rattle.std.specs.List.{AllByRecursion, slice_index_or, slice_set}
+use Rattle.std.specs.Option.{option_map}
+use Rattle.std.proofs.Common.{refl, sym, ◌∙◌, ap, subst, arith, get_or}
+use Rattle.std.proofs.lemmas.List.{at_drop_more, drop_all, length-append, length-map, length-set, map-set, set-get_or}
+use Rattle.std.proofs.lemmas.Option.{same_Some}
+use Rattle.network_model.specs.Setup.{Name, without_agent}
+use Rattle.net_model.specs.Controls.{Controls}
+use Rattle.net_model.specs.Moving.{Leaves, LeavesAll, LeavesAt, retired_of, vacated, vacated_at, vacated_from}
+use Rattle.net_model.specs.Seats.{Who, Configuring, Controlling, Forwarding, Seat, name_of, name_there, names_of, nobody}
+use Rattle.net_model.specs.Seats.{index_from, is_name, others_of, place_at, place_of, seat, seat_named, session_with}
+use Rattle.net_model.specs.Stands.{IsLong}
+use Rattle.net_model.specs.Steps.{cleared, with_seat}
+use Rattle.net_model.specs.declared.place.Place.{Place}
+use Rattle.net_steps.proofs.Lists.{same_who}
+use Rattle.net_machine.specs.Moving.{AreLeft, Differ, HasAgent, IsAgentPlace}
+use Rattle.net_machine.specs.Seating.{AreLong}
+use Rattle.net_machine.proofs.Alike.{cleared_alike, long_with, named_by_names}
+use Rattle.net_machine.proofs.Changes.{cleared_keeps}
+use Rattle.net_machine.proofs.Kept.{same_at, with_count, with_here, with_there}
+use Rattle.net_machine.proofs.Seating.{named_so, named_within, place_names}
+
+-- ---- its place
+pub agent_place : (seats : List Seat) (name control : Name) (h : HasAgent seats name control)
+    → place_of seats control name ≡ Some (record { node = h.node; session = h.session })
+agent_place seats name control h =
+    ap (place_at seats name) h.is
+    ∙ ap (option_map (λ (i : ℕ). record { node = h.node; session = i })) h.found
+
+pub no_place : (seats : List Seat) (name control : Name) → HasAgent seats name control → place_of seats control name ≡ None → ⊥
+no_place seats name control h none = let e = sym none ∙ agent_place seats name control h in cc
+
+pub place_is_agents : (seats : List Seat) (name control : Name) (p : Place) → HasAgent seats name control
+    → place_of seats control name ≡ Some p → IsAgentPlace seats name p
+place_is_agents seats name control p h found =
+    let same : record { node = h.node; session = h.session } ≡ p =
+    same_Some (record { node = h.node; session = h.session }) p (sym (agent_place seats name control h) ∙ found) in
+    subst (IsAgentPlace seats name) same (record {
+      node = named_within seats control h.node h.is;
+      controls = h.controls;
+      who = h.who;
+      behind = h.behind;
+      there = (place_names seats control name _ (agent_place seats name control h)).there;
+      alone = h.alone;
+    })
+
+-- the place is at the seat that is found by the name
+pub place_node : (seats : List Seat) (name control : Name) (p : Place) → HasAgent seats name control
+    → place_of seats control name ≡ Some p → seat_named seats control ≡ Some p.node
+place_node seats name control p h found =
+    h.is ∙ ap (λ (q : Place). Some q.node)
+    (same_Some (record { node = h.node; session = h.session }) p (sym (agent_place seats name control h) ∙ found))
+
+-- ---- the control node has as many ends as before
+retired_long : (name : Name) (who : Who) → length (others_of (retired_of name who)) ≡ length (others_of who)
+retired_long name (Configuring x) = refl
+retired_long name (Forwarding plan) = refl
+retired_long name (Controlling c) =
+    let peers = names_of c.peers in
+    let less = map name_there (without_agent name c.agents) in
+    let all = map name_there c.agents in
+    let same : length less ≡ length all =
+    length-map (without_agent name c.agents) name_there ∙ length-map c.agents _ ∙ sym (length-map c.agents name_there) in
+    ap suc (length-append peers less ∙ ap (λ n. length peers + n) same ∙ sym (length-append peers all))
+
+pub retired_name : (name : Name) (who : Who) → name_of (retired_of name who) ≡ name_of who
+retired_name name (Configuring x) = refl
+retired_name name (Forwarding plan) = refl
+retired_name name (Controlling c) = refl
+
+from_long : (o : Option ℕ) (n : Seat) (k : ℕ) → length n.posts ≡ k → length n.kept ≡ k → length n.links ≡ k
+    → length n.breaks ≡ k → length n.notices ≡ k
+    → (length (vacated_from o n).posts ≡ k) × (length (vacated_from o n).kept ≡ k) × (length (vacated_from o n).links ≡ k)
+    × (length (vacated_from o n).breaks ≡ k) × (length (vacated_from o n).notices ≡ k)
+from_long None n k p e l b w = (p, e, l, b, w)
+from_long (Some i) n k p e l b w = (
+  length-set n.posts i _ ∙ p,
+  length-set n.kept i _ ∙ e,
+  length-set n.links i _ ∙ l,
+  length-set n.breaks i _ ∙ b,
+  length-set n.notices i _ ∙ w,
+)
+
+vacated_long : (name : Name) (n : Seat) → IsLong n → IsLong (vacated name n)
+vacated_long name n is =
+    let k = length (others_of (retired_of name n.who)) in
+    let same = sym (retired_long name n.who) in
+    let v = from_long (session_with n name) n k (is.posts ∙ same) (is.kept ∙ same) (is.links ∙ same) (is.breaks ∙ same)
+    (is.notices ∙ same) in
+    record { posts = v.0; kept = v.1; links = v.2; breaks = v.3; notices = v.4 }
+
+posts_vacated : (o : Option ℕ) (n : Seat) → length (vacated_from o n).posts ≡ length n.posts
+posts_vacated None n = refl
+posts_vacated (Some i) n = length-set n.posts i _
+
+pub left_long : (name : Name) (n m : Seat) → IsLong n → Leaves name n m → IsLong m
+left_long name n m is h =
+    let v = vacated_long name n is in
+    let s = h.stepped in
+    let others : length (others_of (vacated name n).who) ≡ length (others_of m.who) =
+    ap (λ (w : Who). length (others_of w)) (sym s.who) in
+    record {
+      posts = s.posts_long ∙ v.posts ∙ others;
+      kept = h.swept.long ∙ v.kept ∙ others;
+      links = s.links_long ∙ v.links ∙ others;
+      breaks = s.breaks_long ∙ v.breaks ∙ others;
+      notices = ap (λ xs. length xs) s.notices ∙ v.notices ∙ others;
+    }
+
+-- ---- what a control node is that an agent left, and all others
+pub record LeftAt (name : Name) (k : ℕ) (seats after : List Seat) : Type 0 where
+  pub long : AreLong after
+  pub count : length after ≡ length seats
+  pub posts : (j : ℕ) → length (seat after j).posts ≡ length (seat seats j).posts
+  pub names : map (λ (n : Seat). name_of n.who) after ≡ map (λ (n : Seat). name_of n.who) seats
+  pub there : (j : ℕ) → j ≢ k → (seat after j).who ≡ (seat seats j).who
+  pub here : k < length seats → (seat after k).who ≡ retired_of name (seat seats k).who
+
+name_at_seat : (seats : List Seat) (k : ℕ)
+    → name_of (seat seats k).who ≡ slice_index_or (map (λ (n : Seat). name_of n.who) seats) k (name_of nobody.who)
+name_at_seat [] k = refl
+name_at_seat (n ∷ seats) zero = refl
+name_at_seat (n ∷ seats) (suc k) = name_at_seat seats k
+
+names_with : (seats : List Seat) (k : ℕ) (m : Seat) → name_of m.who ≡ name_of (seat seats k).who
+    → map (λ (n : Seat). name_of n.who) (with_seat k m seats) ≡ map (λ (n : Seat). name_of n.who) seats
+names_with seats k m e =
+    map-set (λ (n : Seat). name_of n.who) seats k m
+    ∙ ap (slice_set (map (λ (n : Seat). name_of n.who) seats) k) (e ∙ name_at_seat seats k)
+    ∙ set-get_or (map (λ (n : Seat). name_of n.who) seats) k (name_of nobody.who)
+
+alike_names : (a b : List Seat) → map (λ (n : Seat). n.who) b ≡ map (λ (n : Seat). n.who) a
+    → map (λ (n : Seat). name_of n.who) b ≡ map (λ (n : Seat). name_of n.who) a
+alike_names a b e = map_twice_seats b ∙ ap (map name_of) e ∙ sym (map_twice_seats a)
+  where
+    map_twice_seats : (ss : List Seat) → map (λ (n : Seat). name_of n.who) ss ≡ map name_of (map (λ (n : Seat). n.who) ss)
+    map_twice_seats [] = refl
+    map_twice_seats (n ∷ ss) = ap (λ ns. name_of n.who ∷ ns) (map_twice_seats ss)
+
+pub left_at : (name : Name) (k : ℕ) (seats after : List Seat) → AreLong seats → k < length seats
+    → LeavesAt name (Some k) seats after → LeftAt name k seats after
+left_at name k seats after long within (m, leaves, is) =
+    let one = with_seat k m seats in
+    let there : k < length one = let c = with_count seats k m in omega (arith, within, c) in
+    let long_one = long_with seats k m within long (left_long name (seat seats k) m (long k within) leaves) in
+    let keeps = cleared_keeps one k long_one there in
+    let alike = cleared_alike one k in
+    let called : name_of m.who ≡ name_of (seat seats k).who =
+    ap name_of leaves.stepped.who ∙ retired_name name (seat seats k).who in
+    subst (LeftAt name k seats) (sym is) (record {
+      long = keeps.long;
+      count = keeps.count ∙ with_count seats k m;
+      posts = λ j. keeps.posts j ∙ same_at (λ (n : Seat). length n.posts) seats k m within
+          (leaves.stepped.posts_long ∙ posts_vacated (session_with (seat seats k) name) (seat seats k)) j;
+      names = alike_names one (cleared one k) alike ∙ names_with seats k m called;
+      there = λ j off. same_who one (cleared one k) alike j ∙ ap (λ (n : Seat). n.who) (with_there seats k j m off);
+      here = λ below. same_who one (cleared one k) alike k ∙ ap (λ (n : Seat). n.who) (with_here seats k m below)
+          ∙ leaves.stepped.who;
+    })
+
+-- ---- the other control nodes have it still
+module _ (name : Name) (k : ℕ) (c : Name) (seats after : List Seat) (is : seat_named seats c ≡ Some k)
+    (l : LeftAt name k seats after) where
+  has_still : (d : Name) → c ≢ d → HasAgent seats name d → HasAgent after name d
+  has_still d differ h =
+      let off : h.node ≢ k =
+      λ same. differ (sym (named_so seats c k is) ∙ ap (λ j. name_of (seat seats j).who) (sym same)
+      ∙ named_so seats d h.node h.is) in
+      let who = l.there h.node off in
+      record {
+        node = h.node;
+        is = named_by_names after seats d l.names ∙ h.is;
+        controls = h.controls;
+        who = who ∙ h.who;
+        session = h.session;
+        found = ap (λ (w : Who). index_from 0 (is_name name) (others_of w)) who ∙ h.found;
+        behind = h.behind;
+        alone = λ i e. h.alone i (sym (ap (λ (w : Who). slice_index_or (others_of w) i None) who) ∙ e);
+      }
+
+  all_still : (ds : List Name) → AllByRecursion (λ d. c ≢ d) ds → AllByRecursion (HasAgent seats name) ds
+      → AllByRecursion (HasAgent after name) ds
+  all_still [] off all = tt
+  all_still (d ∷ ds) off all = (has_still d off.0 all.0, all_still ds off.1 all.1)
+
+-- ---- one after the other
+pub next_left : (name c : Name) (cs : List Name) (seats after : List Seat) → AreLong seats → AreLeft seats name (c ∷ cs)
+    → LeavesAt name (seat_named seats c) seats after → AreLong after × AreLeft after name cs
+next_left name c cs seats after long left h =
+    let one = left.each.0 in
+    let within = named_within seats c one.node one.is in
+    let l = left_at name one.node seats after long within (subst (λ o. LeavesAt name o seats after) one.is h) in (
+      l.long,
+      record {
+        each = all_still name one.node c seats after one.is l cs left.differ.0 left.each.1;
+        differ = left.differ.1;
+      },
+    )
+
+-- ---- along the list of them
+module _ (seats : List Seat) (name : Name) (cs : List Name) (i : ℕ) (d : Name) (below : i < length cs) where
+  here_left : AreLeft seats name (drop i cs) → AreLeft seats name (get_or cs i d ∷ drop (i + 1) cs)
+  here_left left = subst (AreLeft seats name) (at_drop_more (λ ds. ds) cs i d below) left
+
+  pub first_left : AreLeft seats name (drop i cs) → HasAgent seats name (get_or cs i d)
+  first_left left = (here_left left).each.0
+
+pub rest_left : (seats after : List Seat) (name : Name) (cs : List Name) (i : ℕ) (d : Name) → i < length cs → AreLong seats
+    → AreLeft seats name (drop i cs) → LeavesAt name (seat_named seats (get_or cs i d)) seats after
+    → AreLong after × AreLeft after name (drop (i + 1) cs)
+rest_left seats after name cs i d below long left h =
+    next_left name (get_or cs i d) (drop (i + 1) cs) seats after long (here_left seats name cs i d below left) h
+
+pub leaves_more : (name : Name) (cs : List Name) (i : ℕ) (d : Name) (a b c : List Seat) → i < length cs
+    → LeavesAt name (seat_named a (get_or cs i d)) a b → LeavesAll name (drop (i + 1) cs) b c → LeavesAll name (drop i cs) a c
+leaves_more name cs i d a b c below one rest =
+    subst (λ ds. LeavesAll name ds a c) (sym (at_drop_more (λ ds. ds) cs i d below)) (b, one, rest)
+
+pub leaves_none : (name : Name) (cs : List Name) (i : ℕ) (a : List Seat) → length cs ≤ i → LeavesAll name (drop i cs) a a
+leaves_none name cs i a h = subst (λ ds. LeavesAll name ds a a) (sym (drop_all i cs h)) refl

@@ -1,0 +1,112 @@
+-- What is asked of a network in which a compute node moves: that what goes is there, and what comes has its place.
+use Rattle.std.specs.Prelude.{◌≡◌, ◌≢◌, ◌≤◌, ◌<◌, ◌+◌, ℕ, zero, suc, List, [], ◌∷◌, length, slice_get}
+use Rattle.std.specs.Prelude.{if◌then◌else◌}
+use Rattle.std.specs.declared.option.Option.{Option}
+use Rattle.std.specs.declared.option.Option.TheVariants.{Some, None}
+use Rattle.std.specs.List.{AllByRecursion, All, Contains}
+use Rattle.std.specs.Option.{option_map}
+use Rattle.ov_types.specs.declared.rows.NodeId.{NodeId}
+use Rattle.config_check.specs.Checked.{Checked}
+use Rattle.config_check.specs.Edits.{edit_fault, edited}
+use Rattle.config_check.specs.Rules.{controller_names}
+use Rattle.config_model.specs.declared.edit.Edit.{Edit}
+use Rattle.config_model.specs.declared.event.Event.{Event}
+use Rattle.config_model.specs.declared.event.Event.TheVariants as event
+use Rattle.config_model.specs.declared.topology.Node.{Node}
+use Rattle.config_model.specs.declared.topology.Topology.{Topology}
+use Rattle.network_model.specs.Setup.{Move, Name, id_of, moves}
+use Rattle.network_model.specs.Session.{Agent}
+use Rattle.net_model.specs.Controls.{Controls, first_agent}
+use Rattle.net_model.specs.Moving.{is_listed_who, joined}
+use Rattle.net_model.specs.Seats.{Who, Configuring, Controlling, Forwarding, Seat, other, role_of, seat, seat_named}
+use Rattle.net_model.specs.Seats.{session_with}
+use Rattle.net_model.specs.declared.place.Place.{Place}
+use Rattle.net_machine.specs.declared.editing.Moved.{Moved}
+use Rattle.net_machine.specs.declared.editing.Moved.TheVariants.{Yes, No}
+
+-- ---- an agent that goes
+-- the control node of a name has a session with it, and no other
+pub record HasAgent (seats : List Seat) (agent control : Name) : Type 0 where
+  pub node : ℕ
+  pub is : seat_named seats control ≡ Some node
+  pub controls : Controls
+  pub who : (seat seats node).who ≡ Controlling controls
+  pub session : ℕ
+  pub found : session_with (seat seats node) agent ≡ Some session
+  pub behind : first_agent controls ≤ session
+  pub alone : (i : ℕ) → other (seat seats node) i ≡ Some agent → i ≡ session
+
+-- its end of that session
+pub record IsAgentPlace (seats : List Seat) (agent : Name) (p : Place) : Type 0 where
+  pub node : p.node < length seats
+  pub controls : Controls
+  pub who : (seat seats p.node).who ≡ Controlling controls
+  pub behind : first_agent controls ≤ p.session
+  pub there : other (seat seats p.node) p.session ≡ Some agent
+  pub alone : (i : ℕ) → other (seat seats p.node) i ≡ Some agent → i ≡ p.session
+
+abbrev pub Differ : List Name → Type 0
+Differ [] = Unit {0}
+Differ (c ∷ cs) = AllByRecursion (λ d. c ≢ d) cs × Differ cs
+
+-- it has one with each of these, which are not the same
+pub record AreLeft (seats : List Seat) (agent : Name) (controls : List Name) : Type 0 where
+  pub each : AllByRecursion (HasAgent seats agent) controls
+  pub differ : Differ controls
+
+-- ---- which seats are those of control nodes
+abbrev pub control_name : Who → Option Name
+control_name (Configuring x) = None
+control_name (Controlling c) = Some c.me.name
+control_name (Forwarding plan) = None
+
+abbrev pub control_at : Topology → ℕ → Option Name
+control_at t zero = None
+control_at t (suc i) = option_map (λ (c : NodeId). c.name) (slice_get t.controllers i)
+
+-- the configuration node comes first, and then the control nodes in the order of the topology
+abbrev pub HasControls : Topology → List Seat → Type 0
+HasControls t seats = (k : ℕ) → control_name (seat seats k).who ≡ control_at t k
+
+-- agents stand behind all control nodes
+abbrev pub HasAgentsBehind : List Seat → Type 0
+HasAgentsBehind seats =
+    (j k : ℕ) → role_of (seat seats j).who ≡ Agent → j ≤ k → control_name (seat seats k).who ≡ None
+
+-- a control node has room for a session more
+abbrev pub HasRoom : List Seat → Type 0
+HasRoom seats =
+    (k : ℕ) (name : Name) → control_name (seat seats k).who ≡ Some name → length (seat seats k).posts < 65535
+
+-- ---- a compute node that comes, in a topology
+-- the control nodes that it lists are there, and no more than two
+pub record CanCome (t : Topology) (n : Node) : Type 0 where
+  pub few : length n.controllers ≤ 2
+  pub listed : All (Contains (controller_names t)) n.controllers
+
+-- what it makes of one seat
+abbrev pub came_seat : Node → Seat → Seat
+came_seat n s = if is_listed_who n s.who then joined (id_of n) s else s
+
+-- ---- a move
+pub record CanMove (t : Topology) (m : Move) (seats : List Seat) : Type 0 where
+  pub left : AreLeft seats m.name m.left
+  pub controls : HasControls t seats
+  pub agents : HasAgentsBehind seats
+  pub few : length t.controllers ≤ 8
+  pub seats_few : length seats < 65535
+  pub room : HasRoom seats
+  pub comes : (n : Node) → m.now ≡ Some n → CanCome t n
+
+abbrev pub CanMoveIf : Topology → Option Move → List Seat → Type 0
+CanMoveIf t None seats = Unit {0}
+CanMoveIf t (Some m) seats = CanMove t m seats
+
+-- of each event: an edit without a fault moves what can move
+abbrev pub CanHappen : Checked → Event → List Seat → Type 0
+CanHappen x (event.Edit e) seats = edit_fault x e ≡ None → CanMoveIf (edited e x).topology (moves e x.topology) seats
+CanHappen x _ seats = Unit {0}
+
+abbrev pub did_move : Option Move → Moved
+did_move None = No
+did_move (Some m) = Yes

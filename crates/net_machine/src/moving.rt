@@ -1,0 +1,199 @@
+//! Compute nodes that come, go, or list other control nodes than before.
+ghost use Rattle.std.specs.Prelude.{◌≡◌, ◌<◌, ◌≤◌, ◌+◌, length, option_copied, IfOk, Some};
+ghost use Rattle.config_check.specs.Checked.{Checked};
+ghost use Rattle.config_check.specs.Finding.{node_named};
+ghost use Rattle.network_model.specs.Setup.{listed_by, stands};
+ghost use Rattle.net_model.specs.Moving.{LeavesAll, LeavesAt, Moves, came};
+ghost use Rattle.net_model.specs.Seats as seats_of;
+ghost use Rattle.net_model.specs.Seats.{Configuring, seat};
+ghost use Rattle.net_model.specs.Steps.{with_seat};
+ghost use Rattle.net_machine.specs.Moving.{AreLeft, CanMove, HasAgent, HasControls, HasRoom, IsAgentPlace};
+ghost use Rattle.net_machine.specs.Moving.{came_seat, control_name};
+ghost use Rattle.net_machine.specs.Seating.{AreLong};
+
+use crate::clear::clear_node;
+use config_model::{Node, Topology};
+use net_model::Place;
+use net_seats::{Nodes, lists};
+use ov_types::{Name, NoMemory, NodeId};
+use std::alloc::Global;
+
+/// The compute node of a name.
+fn node_named<'a>(topology: &'a Topology, name: &Name) -> Option<&'a Node>
+    ensures { option_copied result ≡ node_named topology.now name.now }
+{
+    topology
+        .nodes
+        .as_slice()
+        .iter()
+        .find(|node| node.name == *name)
+}
+
+/// Whether a compute node stands as it is put: at this address, with these control nodes in this order.
+pub(crate) fn stands(topology: &Topology, node: &Node) -> bool
+    ensures { result ≡ stands (node_named topology.now node.now.name) node.now }
+{
+    match node_named(topology, &node.name) {
+        None => false,
+        Some(other) => {
+            other.address == node.address
+                && other.controllers.as_slice() == node.controllers.as_slice()
+        }
+    }
+}
+
+/// The control nodes that the compute node of a name lists: none where there is no such node.
+fn listed_by<'a>(topology: &'a Topology, name: &Name) -> &'a [Name]
+    ensures { result.now ≡ listed_by (node_named topology.now name.now) }
+{
+    match node_named(topology, name) {
+        None => &[],
+        Some(node) => node.controllers.as_slice(),
+    }
+}
+
+/// These names, to be kept.
+fn copied(alloc: Global, names: &[Name]) -> Result<Vec<Name>, NoMemory>
+    ensures { IfOk result (λ copy. copy.items ≡ names.now) }
+{
+    let mut copy = Vec::new(alloc);
+    copy.extend_from_slice(names)?;
+    Ok(copy)
+}
+
+/// An agent goes from the control node of this end. The sessions of which that closed its end go down.
+fn leave_at(nodes: &mut Nodes, place: Place, name: &Name) -> Result<(), NoMemory>
+    requires long { AreLong nodes.old.seats }
+    requires agent { IsAgentPlace nodes.old.seats name.now place }
+    ensures leaves { IfOk result (λ _. LeavesAt name.now (Some place.node) nodes.old.seats nodes.new.seats) }
+    ensures failed { IfOk result (λ _. nodes.new.failed ≡ nodes.old.failed) }
+{
+    nodes.remove_agent(place, name)?;
+    clear_node(nodes, place.node);
+    Ok(())
+}
+
+/// An agent goes from the control node of this name.
+fn leave(nodes: &mut Nodes, name: &Name, control: &Name) -> Result<(), NoMemory>
+    requires long { AreLong nodes.old.seats }
+    requires agent { HasAgent nodes.old.seats name.now control.now }
+    ensures leaves { IfOk result (λ _. LeavesAt name.now (seats_of.seat_named nodes.old.seats control.now)
+        nodes.old.seats nodes.new.seats) }
+    ensures failed { IfOk result (λ _. nodes.new.failed ≡ nodes.old.failed) }
+{
+    match nodes.place_of(control, name) {
+        None => Ok(()),
+        Some(place) => leave_at(nodes, place, name),
+    }
+}
+
+/// An agent goes from these control nodes, in turn.
+fn leave_all(nodes: &mut Nodes, name: &Name, controls: &[Name]) -> Result<(), NoMemory>
+    requires long { AreLong nodes.old.seats }
+    requires left { AreLeft nodes.old.seats name.now controls.now }
+    ensures leaves { IfOk result (λ _. LeavesAll name.now controls.now nodes.old.seats nodes.new.seats) }
+    ensures failed { IfOk result (λ _. nodes.new.failed ≡ nodes.old.failed) }
+{
+    for control in controls {
+        leave(nodes, name, control)?;
+    }
+    Ok(())
+}
+
+/// An agent comes to the control node at a seat, where it lists it.
+fn come_at(nodes: &mut Nodes, index: u16, controller: &NodeId, node: &Node) -> Result<(), NoMemory>
+    requires control { control_name (seat nodes.old.seats index).who ≡ Some controller.now.name }
+    requires room { length (seat nodes.old.seats index).posts < 65535 }
+    ensures comes { IfOk result (λ _. nodes.new.seats
+        ≡ with_seat index (came_seat node.now (seat nodes.old.seats index)) nodes.old.seats) }
+    ensures failed { IfOk result (λ _. nodes.new.failed ≡ nodes.old.failed) }
+{
+    if lists(node, controller) {
+        let agent = NodeId {
+            name: node.name,
+            address: node.address,
+        };
+        return nodes.add_agent(index, agent);
+    }
+    Ok(())
+}
+
+/// The number of the seat of a control node, by its place in a topology.
+fn control_seat(index: usize) -> u16
+    requires { index < 8 }
+    ensures { result ≡ 1 + index }
+{
+    index as u16 + 1
+}
+
+/// An agent comes to the control nodes that it lists.
+fn come(nodes: &mut Nodes, topology: &Topology, node: &Node) -> Result<(), NoMemory>
+    requires ordered { HasControls topology.now nodes.old.seats }
+    requires few { length topology.now.controllers ≤ 8 }
+    requires room { HasRoom nodes.old.seats }
+    ensures comes { IfOk result (λ _. nodes.new.seats ≡ came (Some node.now) nodes.old.seats) }
+    ensures failed { IfOk result (λ _. nodes.new.failed ≡ nodes.old.failed) }
+{
+    let controllers = topology.controllers.as_slice();
+    for index in 0..controllers.len() {
+        come_at(nodes, control_seat(index), &controllers[index], node)?;
+    }
+    Ok(())
+}
+
+/// What is now of a compute node comes, where it is there.
+fn come_now(nodes: &mut Nodes, topology: &Topology, now: Option<&Node>) -> Result<(), NoMemory>
+    requires ordered { HasControls topology.now nodes.old.seats }
+    requires few { length topology.now.controllers ≤ 8 }
+    requires room { HasRoom nodes.old.seats }
+    ensures comes { IfOk result (λ _. nodes.new.seats ≡ came (option_copied now.entry) nodes.old.seats) }
+    ensures failed { IfOk result (λ _. nodes.new.failed ≡ nodes.old.failed) }
+{
+    match now {
+        None => Ok(()),
+        Some(node) => come(nodes, topology, node),
+    }
+}
+
+/// A compute node that listed these control nodes moves, in a topology: its seat is another, it goes from them, and it
+/// comes to those that it lists then.
+fn move_from(
+    alloc: Global,
+    nodes: &mut Nodes,
+    topology: &Topology,
+    name: &Name,
+    left: &[Name],
+    now: Option<&Node>,
+) -> Result<(), NoMemory>
+    requires long { AreLong nodes.old.seats }
+    requires can { CanMove topology.now
+        (record { name = name.now; left = left.now; now = option_copied now }) nodes.old.seats }
+    ensures moves { IfOk result (λ _. Moves topology.now
+        (record { name = name.now; left = left.now; now = option_copied now.entry }) nodes.old.seats nodes.new.seats) }
+    ensures failed { IfOk result (λ _. nodes.new.failed ≡ nodes.old.failed) }
+{
+    nodes.reseat(alloc, topology, *name, now)?;
+    leave_all(nodes, name, left)?;
+    come_now(nodes, topology, now)
+}
+
+/// A compute node moves, in a topology that it leads to.
+pub(crate) fn move_node(
+    alloc: Global,
+    nodes: &mut Nodes,
+    topology: &Topology,
+    name: &Name,
+    now: Option<&Node>,
+) -> Result<(), NoMemory>
+    requires long { AreLong nodes.old.seats }
+    requires can { (x : Checked) → (seat nodes.old.seats 0).who ≡ Configuring x → CanMove topology.now
+        (record { name = name.now; left = listed_by (node_named x.topology name.now); now = option_copied now })
+        nodes.old.seats }
+    ensures moves { IfOk result (λ _. (x : Checked) → (seat nodes.old.seats 0).who ≡ Configuring x → Moves topology.now
+        (record { name = name.now; left = listed_by (node_named x.topology name.now); now = option_copied now.entry })
+        nodes.old.seats nodes.new.seats) }
+    ensures failed { IfOk result (λ _. nodes.new.failed ≡ nodes.old.failed) }
+{
+    let left = copied(alloc, listed_by(nodes.valid().topology(), name))?;
+    move_from(alloc, nodes, topology, name, &left, now)
+}

@@ -1,0 +1,3 @@
+-- Lemmas.
+pub mod Edited
+pub mod Forms
