@@ -6,7 +6,7 @@ and system, the least of three runs), peak memory in millions of octets, and the
 a network from nothing: it is settled; or settled, edited and settled again; or settled, and then 10,000 deliveries are asked
 for of which none has anything in flight; or settled, and then edited and settled a hundred times, where no other network has
 rows of the port that is edited, so that an edit makes the same messages whatever the size. Of the last the rounds are those
-of the first settle. Last come 64 compute nodes: in a settled network one of them is put and deleted, or listens to another
+of the first settle. Last come 63 or 64 compute nodes: in a settled network one more is put and deleted, or one listens to another
 control node and back, ten times, each settled. A second table has the messages of one such edit, from the edit to the next
 settled moment, counted by deliveries of one message each.
 
@@ -144,9 +144,9 @@ def move_lines():
     """The lines of compute nodes that come, go and move."""
     for ports in (64, 256, 1024):
         for what, document, edit, back in moves(ports):
-            name = f"{ports:,} ports on 64 compute nodes, {ports // 8} unrelated networks"
-            if "put" in what:
-                yield f"{name}: settle", dict(document, events=["settle"])
+            count = len(document["topology"]["nodes"])
+            name = f"{ports:,} ports on {count} compute nodes, {ports // 8} unrelated networks"
+            yield f"{name}: settle", dict(document, events=["settle"])
             again = [edit, "settle", back, "settle"] * MOVES
             yield f"{name}: settle, and a compute node {what}, {MOVES} times", dict(document, events=["settle"] + again)
 
