@@ -1,7 +1,7 @@
 #!/usr/bin/env python3
 """What a change of a peer's route costs a control node's stored tables, and what a row costs.
 
-Lays a program that takes times into a copy of `stored_tables` and the crates below it, has `rt try` build and run it (which
+Lays a program that takes times into a copy of `vpn_stored_rows` and the crates below it, has `rt try` build and run it (which
 proves nothing), and prints its lines: of so many ports on so many networks that all import each other, half of them told by
 an agent and half by a peer, a withdrawal or a new route of the peer (`set_peer_route_counted`, which selects the touched
 rows anew), a row where the rows are stored, and a row where they are not. Times in microseconds.
@@ -31,7 +31,7 @@ use std::alloc::Global;
 use std::marker::Brand;
 use std::sync::ledger::{Blank, Ledger};
 use std::time::Instant;
-use stored_tables::Tables;
+use vpn_stored_rows::Tables;
 
 const ASN: u32 = 64512;
 
@@ -152,7 +152,7 @@ def below(lines, name, found):
 def main():
     lines = graph(TOP)
     crates = []
-    below(lines, "stored_tables", crates)
+    below(lines, "vpn_stored_rows", crates)
     top = tempfile.mkdtemp(prefix="tables-bench-")
     try:
         for name in crates:

@@ -15,11 +15,11 @@ use Rattle.config_model.specs.declared.config.Network.{Network}
 use Rattle.config_model.specs.declared.config.Protocol.{Protocol}
 use Rattle.config_model.specs.declared.config.Protocol.TheVariants.{Any, Number}
 use Rattle.chain_expand.specs.Expansion.{expansion}
-use Rattle.network_rules.specs.declared.matching.Match.{Match}
-use Rattle.network_rules.specs.declared.matching.Decision.{Decision}
-use Rattle.network_rules.specs.declared.numbered.NumberedRule.{NumberedRule}
-use Rattle.network_rules.specs.Related.{fits, rules_between}
-use Rattle.network_rules.specs.Matching.{has_protocol, speaks_both_ways, matches_forwards, matches_mirrored, match_by, deciding, decision_by, decision}
+use Rattle.policy_rules.specs.declared.matching.Match.{Match}
+use Rattle.policy_rules.specs.declared.matching.Decision.{Decision}
+use Rattle.policy_rules.specs.declared.numbered.NumberedRule.{NumberedRule}
+use Rattle.policy_rules.specs.Related.{fits, rules_between}
+use Rattle.policy_rules.specs.Matching.{has_protocol, speaks_both_ways, matches_forwards, matches_mirrored, match_by, deciding, decision_by, decision}
 use Rattle.acl_compile.specs.Laws.{deciding_entry, entry_by, IsActionOf}
 use Rattle.acl_compile.specs.Oriented.{protocol_of, does, forward_entry, mirrored_entry, forwards, backwards, entries_of, oriented, acl_rules}
 

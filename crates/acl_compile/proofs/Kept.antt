@@ -13,7 +13,7 @@ use Rattle.config_model.specs.declared.config.Policy.{Policy}
 use Rattle.config_model.specs.declared.config.Rule.{Rule}
 use Rattle.chain_expand.specs.Expansion.{expansion, same_number, numbers_or_fault}
 use Rattle.chain_expand.proofs.Each.{of_each_name, numbers_apart}
-use Rattle.network_rules.specs.Related.{put_by_sequence, by_sequence}
+use Rattle.policy_rules.specs.Related.{put_by_sequence, by_sequence}
 use Rattle.acl_compile.specs.Bounds.{KeepsBounds, IsBounded}
 
 -- chains

@@ -4,8 +4,8 @@ use Rattle.ov_types.specs.declared.objects.AclRule.{AclRule}
 use Rattle.config_model.specs.declared.config.Config.{Config}
 use Rattle.config_model.specs.declared.config.Network.{Network}
 use Rattle.config_model.specs.declared.config.Policy.{Policy}
-use Rattle.network_rules.specs.Related.{numbered_rules, attaches, by_sequence, fits}
-use Rattle.network_rules.specs.Matching.{speaks_both_ways}
+use Rattle.policy_rules.specs.Related.{numbered_rules, attaches, by_sequence, fits}
+use Rattle.policy_rules.specs.Matching.{speaks_both_ways}
 use Rattle.acl_compile.specs.Oriented.{forward_entry, mirrored_entry, entries_of, oriented}
 
 -- rules that speak of no packets between the two networks have no entries

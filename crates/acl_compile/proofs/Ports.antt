@@ -11,7 +11,7 @@ use Rattle.config_model.specs.declared.config.Config.{Config}
 use Rattle.config_model.specs.declared.config.Network.{Network}
 use Rattle.config_model.specs.declared.config.Port.{Port}
 use Rattle.config_model.specs.declared.topology.Topology.{Topology}
-use Rattle.network_rules.proofs.Lists.{mapped_is}
+use Rattle.policy_rules.proofs.Lists.{mapped_is}
 use Rattle.config_check.specs.Finding.{network_named}
 use Rattle.config_check.specs.Rules.{circuit_addresses}
 use Rattle.config_check.specs.Sentences.{Overlap, IsValid}

@@ -13,7 +13,7 @@ use Rattle.config_model.specs.declared.config.Action.TheVariants.{Pass, Deny, Th
 use Rattle.config_model.specs.declared.config.Config.{Config}
 use Rattle.config_model.specs.declared.config.Network.{Network}
 use Rattle.chain_expand.specs.Expansion.{expansion}
-use Rattle.network_rules.specs.declared.matching.Match.{Match}
+use Rattle.policy_rules.specs.declared.matching.Match.{Match}
 use Rattle.acl_compile.specs.Oriented.{forward_entry, mirrored_entry, acl_rules}
 
 -- the entry of the access list from one network to another that decides on a packet

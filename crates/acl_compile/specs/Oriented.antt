@@ -17,9 +17,9 @@ use Rattle.config_model.specs.declared.config.Network.{Network}
 use Rattle.config_model.specs.declared.config.Protocol.{Protocol}
 use Rattle.config_model.specs.declared.config.Protocol.TheVariants.{Any, Number}
 use Rattle.chain_expand.specs.Expansion.{expansion}
-use Rattle.network_rules.specs.declared.numbered.NumberedRule.{NumberedRule}
-use Rattle.network_rules.specs.Related.{fits, rules_between}
-use Rattle.network_rules.specs.Matching.{speaks_both_ways}
+use Rattle.policy_rules.specs.declared.numbered.NumberedRule.{NumberedRule}
+use Rattle.policy_rules.specs.Related.{fits, rules_between}
+use Rattle.policy_rules.specs.Matching.{speaks_both_ways}
 
 -- an entry's protocol: any is none
 abbrev pub protocol_of : Protocol → Option ℕ

@@ -12,7 +12,7 @@ use Rattle.ov_sync.proofs.KeyedLaws.{empty_values}
 use Rattle.ov_types.specs.Keys.{row_key_cmp}
 use Rattle.ov_types.specs.declared.objects.LowKey.{LowKey}
 use Rattle.ov_types.specs.declared.objects.LowValue.{LowValue}
-use Rattle.ov_types.specs.declared.rows.Entry.{Entry as Hop}
+use Rattle.ov_types.specs.declared.rows.Entry.{Entry as RouteEntry}
 use Rattle.item_wire.specs.declared.event.ItemState.{ItemState}
 use Rattle.item_wire.specs.declared.event.ItemState.TheVariants.{Idle, Opened, Up}
 use Rattle.item_wire.specs.declared.input.Came.TheVariants.{Closed}
@@ -236,7 +236,7 @@ nothing_shown n =
     let slice = sym (no_slice n) in
     let routes : [] ≡ routes_of (holdings (nothings n)) =
     ap (filter (λ (r : Routed). is_needed (holdings (nothings n)) r.0.0))
-    (sym (entries-empty {V = Hop} row_key_cmp)
+    (sym (entries-empty {V = RouteEntry} row_key_cmp)
     ∙ ap (λ (hs : List Heard). entries (from_entries {R = row_key_cmp} (rows_from hs))) (sym (none_up n))) in
     λ i. record {
       labels = filter_map (λ (e : LowKey × LowValue). attached e.0 e.1) (slice i);

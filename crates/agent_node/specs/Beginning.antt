@@ -10,7 +10,7 @@ use Rattle.item_wire.specs.declared.event.ItemFrom.TheVariants.{Control}
 use Rattle.node_items.specs.Beginning as item
 pub use Rattle.node_items.specs.Beginning.{state_at}
 pub use Rattle.node_model.specs.Naming.{no_node}
-use Rattle.node_model.specs.Step.{Begun, Phase, Post}
+use Rattle.node_model.specs.Step.{Beginning, Phase, Post}
 use Rattle.agent_node.specs.declared.plan.AgentPlan.{AgentPlan}
 
 -- the control node at the other end of a session
@@ -23,5 +23,5 @@ session_at plan i phase = record { peer = (controller_at plan i).name; from = Co
 
 -- what an input makes of the end of its session, where these octets were kept of it before, the cause for which that goes
 -- down, and what is kept of it then
-abbrev pub BeginsKeeping : AgentPlan → ℕ → Post → List ℕ → Input → Begun → Option ItemCause → List ℕ → Type 0
+abbrev pub BeginsKeeping : AgentPlan → ℕ → Post → List ℕ → Input → Beginning → Option ItemCause → List ℕ → Type 0
 BeginsKeeping plan i p = item.BeginsKeeping plan.me.name (session_at plan i p.phase) p

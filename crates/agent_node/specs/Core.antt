@@ -6,7 +6,7 @@ use Rattle.node_model.specs.Agent.{Heard, Holdings, wanted as wanted_of}
 use Rattle.node_model.specs.Maps.{Map}
 pub use Rattle.node_core.specs.Keeping.{AreFew, AreOfLive, AreSwept, kept_at, nothing_kept}
 pub use Rattle.node_core.specs.Resting.{is_idle, is_up, may_send, nothings}
-use Rattle.node_model.specs.Step.{Kind, Post}
+use Rattle.node_model.specs.Step.{NodeKind, Post}
 use Rattle.agent_node.specs.declared.plan.AgentPlan.{AgentPlan}
 
 -- its ends are those of the control nodes, in the order in which it lists them
@@ -32,7 +32,7 @@ holdings posts = map heard_at posts
 abbrev pub wanted : List Post → ℕ → Map
 wanted posts i = wanted_of (holdings posts)
 
-abbrev pub kind : Kind
+abbrev pub kind : NodeKind
 kind = record { wanted = wanted; may_send = may_send; spelled = λ i c. spelled c }
 
 -- ---- an agent whose ends are all closed

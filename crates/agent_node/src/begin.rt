@@ -11,7 +11,7 @@ ghost use Rattle.node_core.specs.Begun.{HasBegun};
 ghost use Rattle.node_core.specs.Keeping.{left_in, size_of};
 ghost use Rattle.node_core.specs.Whole.{Comes, session_of};
 ghost use Rattle.node_items.specs.Told.{AllFit, IsWritable, change_of, down_of};
-ghost use Rattle.node_model.specs.Step.{Begun, Idle, Opened, post};
+ghost use Rattle.node_model.specs.Step.{Beginning, Idle, Opened, post};
 ghost use Rattle.agent_node.specs.Beginning.{BeginsKeeping};
 ghost use Rattle.agent_node.specs.Core.{is_idle, sessions};
 ghost use Rattle.agent_node.specs.Ends.{HeldFits, whom};
@@ -211,7 +211,7 @@ impl AgentEnds {
         requires comes { Comes (λ i. is_idle (post self.old.posts i).phase ≡ false)
             (λ i. is_idle (post self.old.posts i).phase ≡ true) input }
         ensures plan { self.new.plan ≡ self.old.plan }
-        ensures begins { IfOk result (λ applied. (given : Begun)
+        ensures begins { IfOk result (λ applied. (given : Beginning)
             × BeginsKeeping self.old.plan (session_of input.entry) (post self.old.posts (session_of input.entry)) []
             input.entry given applied.started.cause (left_in input.entry applied.started.taken)
             × HasBegun self.old.posts (session_of input.entry) given applied.started.replies self.new.posts) }

@@ -11,7 +11,7 @@ ghost use Rattle.agent_node.specs.Core.{holdings, kind, nothings, sessions};
 
 use crate::plan::AgentPlan;
 use crate::planning::plan_all;
-use agent_tables::{Hearing, Tables, wanted};
+use agent_tables::{AgentTables, Hearing, wanted};
 use item_wire::{ItemFrom, ItemSession, ItemState};
 use node_core::{End, Plan};
 use ov_sync::{SyncIn, SyncOut};
@@ -137,16 +137,16 @@ impl AgentEnds {
     }
 
     /// What the sessions give the agent to forward by.
-    pub(crate) fn tables(&self) -> Result<Tables, NoMemory>
+    pub(crate) fn tables(&self) -> Result<AgentTables, NoMemory>
         ensures { IfOk result (λ tables. AreTables (holdings self.now.posts) tables) }
     {
-        Tables::of(self.alloc, &self.hearings)
+        AgentTables::of(self.alloc, &self.hearings)
     }
 
     /// Each of these routes is that of the first session that is up and has it from now on.
     pub(crate) fn set_routes(
         &self,
-        tables: &mut Tables,
+        tables: &mut AgentTables,
         keys: &[(InstanceId, Prefix)],
     ) -> Result<(), NoMemory>
         ensures set { OnOk result (tables.new ≡ with_routes (holdings self.now.posts) tables.old keys.now) }

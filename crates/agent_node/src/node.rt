@@ -12,7 +12,7 @@ ghost use Rattle.agent_node.specs.Core.{AreSwept, fresh, holdings, is_idle, is_u
 
 use crate::plan::AgentPlan;
 use crate::tabled::TabledEnds;
-use flow_acl::{Flow, FlowCache};
+use flow_acl::{FlowCache, FlowKey};
 use item_wire::ItemCause;
 use lru::Iter;
 use node_core::{Ends, Node};
@@ -123,7 +123,7 @@ impl AgentNode {
     }
 
     /// The flows of which verdicts are kept, the last used first, each with what the access lists say of it.
-    pub fn flows(&self) -> Iter<'_, Flow, Verdict>
+    pub fn flows(&self) -> Iter<'_, FlowKey, Verdict>
         ensures { AreOf self.now.rows.acls result }
     {
         self.flows.entries()

@@ -15,7 +15,7 @@ ghost use Rattle.agent_node.specs.Planning.{AreSilent};
 use crate::begin::Applied;
 use crate::ends::AgentEnds;
 use crate::plan::AgentPlan;
-use agent_tables::Tables;
+use agent_tables::AgentTables;
 use flow_acl::FlowCache;
 use item_wire::ItemCause;
 use node_core::{End, Ends, Plan, Started};
@@ -31,7 +31,7 @@ use std::marker::Model;
 #[derive(Drop)]
 pub(crate) struct TabledEnds {
     ends: AgentEnds,
-    tables: Tables,
+    tables: AgentTables,
     /// Whether the tables are those of what is held.
     current: bool,
     /// Whether what was sent is what is wanted, on each session that may send.
@@ -72,7 +72,7 @@ fn no_plans(alloc: Global, sessions: u16) -> Result<Vec<Plan>, NoMemory>
 /// held now, then.
 fn lead(
     ends: &AgentEnds,
-    tables: &mut Tables,
+    tables: &mut AgentTables,
     routes: &[(InstanceId, Prefix)],
     current: bool,
 ) -> Result<(), NoMemory>
@@ -170,7 +170,7 @@ impl TabledEnds {
         let ends = AgentEnds::new(alloc, plan)?;
         Ok(TabledEnds {
             ends,
-            tables: Tables::new(alloc),
+            tables: AgentTables::new(alloc),
             current: false,
             told: false,
         })
@@ -207,7 +207,7 @@ impl TabledEnds {
         ensures rows { self.new.rows ≡ record { labels = []; acls = []; routes = [] } }
     {
         self.current = false;
-        self.tables = Tables::new(self.ends.alloc());
+        self.tables = AgentTables::new(self.ends.alloc());
     }
 
     /// The rows, in the order of their keys.

@@ -18,7 +18,7 @@ use Rattle.ov_sync.proofs.Ascending.{Over, Ascends}
 use Rattle.ov_types.specs.Keys.{row_key_cmp}
 use Rattle.ov_types.specs.Prefix.{Block, block_cmp}
 use Rattle.ov_types.specs.declared.numbers.InstanceId.{InstanceId}
-use Rattle.ov_types.specs.declared.rows.Entry.{Entry as Hop}
+use Rattle.ov_types.specs.declared.rows.Entry.{Entry as RouteEntry}
 use Rattle.vrouter_fib.proofs.Keys.{same_number}
 use Rattle.packet_trace.specs.Tables.{rows_in}
 use Rattle.route_targets.specs.Forwarding.{route_in}
@@ -31,7 +31,7 @@ use Rattle.agent_tables.proofs.Lists.{or_none, or_assoc, or_there}
 use Rattle.agent_tables.proofs.Ordered.{find-lookup, same_lists, ascends_map, ascends_inserted, find-inserted, ascends_filter, find-filter}
 
 abbrev pub Routed : Type 0
-Routed = (InstanceId × Block) × Hop
+Routed = (InstanceId × Block) × RouteEntry
 
 abbrev pub key : InstanceId → Block → InstanceId × Block
 key i p = (i, p)
@@ -45,7 +45,7 @@ less_apart m n e = sym (same_number m n) ∙ ap is_eq e
 
 -- ---- one table
 -- a route that is kept counts where the table had none
-kept_finds : (routes : List (Block × Hop)) (p : Block) (e : Hop) → Ascends block_cmp routes → (q : Block) → find block_cmp q (kept routes p e) ≡ first_some (find block_cmp q routes) (find block_cmp q ((p, e) ∷ []))
+kept_finds : (routes : List (Block × RouteEntry)) (p : Block) (e : RouteEntry) → Ascends block_cmp routes → (q : Block) → find block_cmp q (kept routes p e) ≡ first_some (find block_cmp q routes) (find block_cmp q ((p, e) ∷ []))
 kept_finds routes p e h q = at (is_some (lookup (is_at (block_cmp p)) routes)) (block_cmp q p) refl refl
   where
     there : is_some (lookup (is_at (block_cmp p)) routes) ≡ true → q ≡ p → is_some (find block_cmp q routes) ≡ true
@@ -54,7 +54,7 @@ kept_finds routes p e h q = at (is_some (lookup (is_at (block_cmp p)) routes)) (
     absent : is_some (lookup (is_at (block_cmp p)) routes) ≡ false → q ≡ p → find block_cmp q routes ≡ None
     absent s same = none (find block_cmp q routes) (ap (λ (k : Block). is_some (find block_cmp k routes)) same ∙ ap is_some (find-lookup block_cmp prefix_total p routes) ∙ s)
       where
-        none : (o : Option Hop) → is_some o ≡ false → o ≡ None
+        none : (o : Option RouteEntry) → is_some o ≡ false → o ≡ None
         none None e = refl
         none (Some x) e = absurd (true≢false e)
 
@@ -67,9 +67,9 @@ kept_finds routes p e h q = at (is_some (lookup (is_at (block_cmp p)) routes)) (
     at false Greater s r = find-inserted block_cmp prefix_total q p e routes h ∙ ap (λ r. cond (is_eq r) (Some e) (find block_cmp q routes)) r ∙ sym (or_none (find block_cmp q routes))
     at false Equal s r =
         find-inserted block_cmp prefix_total q p e routes h ∙ ap (λ r. cond (is_eq r) (Some e) (find block_cmp q routes)) r
-        ∙ ap (λ (o : Option Hop). first_some o (Some e)) (sym (absent s (prefix_exact q p r)))
+        ∙ ap (λ (o : Option RouteEntry). first_some o (Some e)) (sym (absent s (prefix_exact q p r)))
 
-kept_ascends : (routes : List (Block × Hop)) (p : Block) (e : Hop) → Ascends block_cmp routes → Ascends block_cmp (kept routes p e)
+kept_ascends : (routes : List (Block × RouteEntry)) (p : Block) (e : RouteEntry) → Ascends block_cmp routes → Ascends block_cmp (kept routes p e)
 kept_ascends routes p e h =
     elim (is_some (lookup (is_at (block_cmp p)) routes)) as (λ b. Ascends block_cmp (cond b routes (insert_entry block_cmp routes p e))) [
       | true ↦ h
@@ -77,7 +77,7 @@ kept_ascends routes p e h =
     ]
 
 -- ---- the tables in which one is put
-module _ (i : InstanceId) (p : Block) (e : Hop) where
+module _ (i : InstanceId) (p : Block) (e : RouteEntry) where
   has_kept : (j : InstanceId) (ts : List Table) → has_table (kept_in ts i p e) j ≡ has_table ts j
   has_kept j [] = refl
   has_kept j (t ∷ ts) =
@@ -105,7 +105,7 @@ module _ (i : InstanceId) (p : Block) (e : Hop) where
       ]
 
   -- as a map puts it
-  pub set_kept : (ts : List Table) (v w : List (Block × Hop)) → lookup (is_at (instance_order i)) ts ≡ Some v → w ≡ kept v p e → set_value (is_at (instance_order i)) ts w ≡ kept_in ts i p e
+  pub set_kept : (ts : List Table) (v w : List (Block × RouteEntry)) → lookup (is_at (instance_order i)) ts ≡ Some v → w ≡ kept v p e → set_value (is_at (instance_order i)) ts w ≡ kept_in ts i p e
   set_kept [] v w found is = absurd (none_some v found)
   set_kept (t ∷ ts) v w found is =
       ap (λ b. cond b ((t.0, w) ∷ ts) (t ∷ set_value (is_at (instance_order i)) ts w)) (same_instance i t.0)
@@ -113,7 +113,7 @@ module _ (i : InstanceId) (p : Block) (e : Hop) where
     where
       at : (b : Bool) → cond b (Some t.1) (lookup (is_at (instance_order i)) ts) ≡ Some v → (lookup (is_at (instance_order i)) ts ≡ Some v → set_value (is_at (instance_order i)) ts w ≡ kept_in ts i p e)
           → cond b ((t.0, w) ∷ ts) (t ∷ set_value (is_at (instance_order i)) ts w) ≡ cond b ((t.0, kept t.1 p e) ∷ ts) (t ∷ kept_in ts i p e)
-      at true found rest = ap (λ (routes : List (Block × Hop)). (t.0, routes) ∷ ts) (is ∙ ap (λ (routes : List (Block × Hop)). kept routes p e) (sym (same_Some t.1 v found)))
+      at true found rest = ap (λ (routes : List (Block × RouteEntry)). (t.0, routes) ∷ ts) (is ∙ ap (λ (routes : List (Block × RouteEntry)). kept routes p e) (sym (same_Some t.1 v found)))
       at false found rest = ap (λ (l : List Table). t ∷ l) (rest found)
 
   pub none_kept : (ts : List Table) → lookup (is_at (instance_order i)) ts ≡ None → ts ≡ kept_in ts i p e
@@ -126,17 +126,17 @@ module _ (i : InstanceId) (p : Block) (e : Hop) where
       at false found rest = ap (λ (l : List Table). t ∷ l) (rest found)
 
 -- ---- where the tables lead
-abbrev in_table : InstanceId → Block → Table → Option Hop
+abbrev in_table : InstanceId → Block → Table → Option RouteEntry
 in_table i q t = cond (t.0.0 == i.0) (find block_cmp q t.1) None
 
-abbrev in_tables : InstanceId → Block → List Table → Option Hop
+abbrev in_tables : InstanceId → Block → List Table → Option RouteEntry
 in_tables i q [] = None
 in_tables i q (t ∷ ts) = first_some (in_table i q t) (in_tables i q ts)
 
-find_rows : (i n : InstanceId) (q : Block) (routes : List (Block × Hop)) → find row_key_cmp (key i q) (rows_in n routes) ≡ cond (n.0 == i.0) (find block_cmp q routes) None
-find_rows i n q [] = elim (n.0 == i.0) as (λ b. find row_key_cmp (key i q) (rows_in n []) ≡ cond b (find {X = Hop} block_cmp q []) None) [ true ↦ refl | false ↦ refl ]
+find_rows : (i n : InstanceId) (q : Block) (routes : List (Block × RouteEntry)) → find row_key_cmp (key i q) (rows_in n routes) ≡ cond (n.0 == i.0) (find block_cmp q routes) None
+find_rows i n q [] = elim (n.0 == i.0) as (λ b. find row_key_cmp (key i q) (rows_in n []) ≡ cond b (find {X = RouteEntry} block_cmp q []) None) [ true ↦ refl | false ↦ refl ]
 find_rows i n q (r ∷ routes) =
-    ap (λ (o : Option Hop). cond (is_eq (ordering_then (nat_cmp i.0 n.0) (block_cmp q r.0))) (Some r.1) o) (find_rows i n q routes)
+    ap (λ (o : Option RouteEntry). cond (is_eq (ordering_then (nat_cmp i.0 n.0) (block_cmp q r.0))) (Some r.1) o) (find_rows i n q routes)
     ∙ at (nat_cmp i.0 n.0) (n.0 == i.0) (sym (same_number i.0 n.0))
   where
     at : (c : Ordering) (b : Bool) → b ≡ is_eq c → cond (is_eq (ordering_then c (block_cmp q r.0))) (Some r.1) (cond b (find block_cmp q routes) None) ≡ cond b (cond (is_eq (block_cmp q r.0)) (Some r.1) (find block_cmp q routes)) None
@@ -160,16 +160,16 @@ past i n q (t ∷ ts) e h =
     let apart : (t.0.0 == i.0) ≡ false = ap (λ m. t.0.0 == m) (sym (eqb-true n.0 i.0 e)) ∙ less_apart n.0 t.0.0 h.0 in
     ap (λ b. first_some (cond b (find block_cmp q t.1) None) (in_tables i q ts)) apart ∙ past i n q ts e h.1
 
-module _ (i : InstanceId) (p : Block) (e : Hop) (j : InstanceId) (q : Block) where
+module _ (i : InstanceId) (p : Block) (e : RouteEntry) (j : InstanceId) (q : Block) where
   -- what the route itself leads to
-  abbrev one : Option Hop
+  abbrev one : Option RouteEntry
   one = find row_key_cmp (key j q) ((key i p, e) ∷ [])
 
   one_is : one ≡ cond (i.0 == j.0) (find block_cmp q ((p, e) ∷ [])) None
   one_is = find_rows j i q ((p, e) ∷ [])
 
-  swapped : (a b : Option Hop) → b ≡ None → first_some (first_some a one) b ≡ first_some (first_some a b) one
-  swapped a b none = ap (first_some (first_some a one)) none ∙ or_none (first_some a one) ∙ ap (λ (o : Option Hop). first_some o one) (sym (or_none a) ∙ ap (first_some a) (sym none))
+  swapped : (a b : Option RouteEntry) → b ≡ None → first_some (first_some a one) b ≡ first_some (first_some a b) one
+  swapped a b none = ap (first_some (first_some a one)) none ∙ or_none (first_some a one) ∙ ap (λ (o : Option RouteEntry). first_some o one) (sym (or_none a) ∙ ap (first_some a) (sym none))
 
   here : (t : Table) (ts : List Table) → Over instance_order t.0 ts → Ascends block_cmp t.1 → (t.0.0 == i.0) ≡ true
       → first_some (in_table j q (t.0, kept t.1 p e)) (in_tables j q ts) ≡ first_some (first_some (in_table j q t) (in_tables j q ts)) one
@@ -180,7 +180,7 @@ module _ (i : InstanceId) (p : Block) (e : Hop) (j : InstanceId) (q : Block) whe
 
       at : (b : Bool) → (t.0.0 == j.0) ≡ b → first_some (cond b (find block_cmp q (kept t.1 p e)) None) (in_tables j q ts) ≡ first_some (first_some (cond b (find block_cmp q t.1) None) (in_tables j q ts)) one
       at true s =
-          ap (λ (o : Option Hop). first_some o (in_tables j q ts)) (kept_finds t.1 p e asc q ∙ ap (first_some (find block_cmp q t.1)) (sym (moved true s)))
+          ap (λ (o : Option RouteEntry). first_some o (in_tables j q ts)) (kept_finds t.1 p e asc q ∙ ap (first_some (find block_cmp q t.1)) (sym (moved true s)))
           ∙ swapped (find block_cmp q t.1) (in_tables j q ts) (past j t.0 q ts s over)
       at false s = sym (ap (first_some (in_tables j q ts)) (moved false s) ∙ or_none (in_tables j q ts))
 
@@ -210,7 +210,7 @@ all_lead (r ∷ rs) ts h each j q =
     let next : List Table = kept_in ts i r.0.1 r.1 in
     all_lead rs next (ascends_kept i r.0.1 r.1 ts h) (each_kept i r.0.1 r.1 ts each) j q
     ∙ ap (λ (l : List Routed). first_some (in_tables j q next) (find row_key_cmp (key j q) l)) (same_tests next ts (λ n. has_kept i r.0.1 r.1 n ts) rs)
-    ∙ ap (λ (o : Option Hop). first_some o (find row_key_cmp (key j q) (in_some ts rs))) (kept_leads i r.0.1 r.1 j q ts h each)
+    ∙ ap (λ (o : Option RouteEntry). first_some o (find row_key_cmp (key j q) (in_some ts rs))) (kept_leads i r.0.1 r.1 j q ts h each)
     ∙ or_assoc (in_tables j q ts) (cond (has_table ts i) (one i r.0.1 r.1 j q) None) (find row_key_cmp (key j q) (in_some ts rs))
     ∙ ap (first_some (in_tables j q ts)) (first (has_table ts i))
   where
@@ -231,11 +231,11 @@ over_append : (k : InstanceId × Block) (xs ys : List Routed) → Over row_key_c
 over_append k [] ys a b = b
 over_append k (x ∷ xs) ys a b = (a.0, over_append k xs ys a.1 b)
 
-over_rows : (n : InstanceId) (p : Block) (routes : List (Block × Hop)) → Over block_cmp p routes → Over row_key_cmp (key n p) (rows_in n routes)
+over_rows : (n : InstanceId) (p : Block) (routes : List (Block × RouteEntry)) → Over block_cmp p routes → Over row_key_cmp (key n p) (rows_in n routes)
 over_rows n p [] h = tt
 over_rows n p (r ∷ routes) h = (ap (λ c. ordering_then c (block_cmp p r.0)) (tied_itself nat_cmp_total n.0) ∙ h.0, over_rows n p routes h.1)
 
-over_later : (n m : InstanceId) (p : Block) (routes : List (Block × Hop)) → instance_order n m ≡ Less → Over row_key_cmp (key n p) (rows_in m routes)
+over_later : (n m : InstanceId) (p : Block) (routes : List (Block × RouteEntry)) → instance_order n m ≡ Less → Over row_key_cmp (key n p) (rows_in m routes)
 over_later n m p [] h = tt
 over_later n m p (r ∷ routes) h = (ap (λ c. ordering_then c (block_cmp p r.0)) h, over_later n m p routes h)
 
@@ -243,7 +243,7 @@ pub over_routes : (n : InstanceId) (p : Block) (ts : List Table) → Over instan
 over_routes n p [] h = tt
 over_routes n p (t ∷ ts) h = over_append (key n p) (rows_in t.0 t.1) (routes_of ts) (over_later n t.0 p t.1 h.0) (over_routes n p ts h.1)
 
-rows_before : (n : InstanceId) (routes : List (Block × Hop)) (ts : List Table) → Ascends block_cmp routes → Over instance_order n ts → Ascends row_key_cmp (routes_of ts) → Ascends row_key_cmp (rows_in n routes ++ routes_of ts)
+rows_before : (n : InstanceId) (routes : List (Block × RouteEntry)) (ts : List Table) → Ascends block_cmp routes → Over instance_order n ts → Ascends row_key_cmp (routes_of ts) → Ascends row_key_cmp (rows_in n routes ++ routes_of ts)
 rows_before n [] ts a over h = h
 rows_before n (r ∷ routes) ts a over h =
     (over_append (key n r.0) (rows_in n routes) (routes_of ts) (over_rows n r.0 routes a.0) (over_routes n r.0 ts over), rows_before n routes ts a.1 over h)
@@ -262,7 +262,7 @@ lead_nowhere j q [] h = refl
 lead_nowhere j q (t ∷ ts) h =
     (λ k. first_some (cond (t.0.0 == j.0) (find block_cmp q (h.0 k)) None) (lead_nowhere j q ts h.1 k)) ∙ none (t.0.0 == j.0)
   where
-    none : (b : Bool) → first_some (cond b (find {X = Hop} block_cmp q []) None) None ≡ None
+    none : (b : Bool) → first_some (cond b (find {X = RouteEntry} block_cmp q []) None) None ≡ None
     none true = refl
     none false = refl
 
@@ -276,13 +276,13 @@ routes_put ts rs h empty =
     (ascends_filter row_key_cmp (λ k. has_table ts k.0) (entries whole) (ascends_map row_key_cmp row_total row_exact whole))
     (λ k.
     find_routes k.0 k.1 (kept_all ts rs) ∙ all_lead rs ts h each k.0 k.1
-    ∙ ap (λ (o : Option Hop). first_some o (find row_key_cmp k (in_some ts rs))) (lead_nowhere k.0 k.1 ts empty)
+    ∙ ap (λ (o : Option RouteEntry). first_some o (find row_key_cmp k (in_some ts rs))) (lead_nowhere k.0 k.1 ts empty)
     ∙ find-filter row_key_cmp (λ k. has_table ts k.0) row_exact k rs
-    ∙ ap (λ (o : Option Hop). cond (has_table ts k.0) o None) (sym (get-from_entries row_total rs k) ∙ get-entries whole k)
+    ∙ ap (λ (o : Option RouteEntry). cond (has_table ts k.0) o None) (sym (get-from_entries row_total rs k) ∙ get-entries whole k)
     ∙ sym (find-filter row_key_cmp (λ k. has_table ts k.0) row_exact k (entries whole)))
 
 -- ---- the keys of tables
-pub keys_kept : (i : InstanceId) (p : Block) (e : Hop) (ts : List Table) → map (λ t. t.0) (kept_in ts i p e) ≡ map (λ t. t.0) ts
+pub keys_kept : (i : InstanceId) (p : Block) (e : RouteEntry) (ts : List Table) → map (λ t. t.0) (kept_in ts i p e) ≡ map (λ t. t.0) ts
 keys_kept i p e [] = refl
 keys_kept i p e (t ∷ ts) =
     elim (t.0.0 == i.0) as (λ b. map (λ (t : Table). t.0) (cond b ((t.0, kept t.1 p e) ∷ ts) (t ∷ kept_in ts i p e)) ≡ t.0 ∷ map (λ t. t.0) ts) [
@@ -303,7 +303,7 @@ kept_first None rs ts = refl
 kept_first (Some r) rs ts = refl
 
 -- ---- a table more
-pub has_inserted : (n i : InstanceId) (routes : List (Block × Hop)) (ts : List Table) → has_table (insert_entry instance_order ts n routes) i ≡ (n.0 == i.0 || has_table ts i)
+pub has_inserted : (n i : InstanceId) (routes : List (Block × RouteEntry)) (ts : List Table) → has_table (insert_entry instance_order ts n routes) i ≡ (n.0 == i.0 || has_table ts i)
 has_inserted n i routes [] = refl
 has_inserted n i routes (t ∷ ts) =
     elim (instance_order n t.0) as (λ r. instance_order n t.0 ≡ r → has_table (match_ordering r ((n, routes) ∷ t ∷ ts) ((t.0, routes) ∷ ts) (t ∷ insert_entry instance_order ts n routes)) i ≡ (n.0 == i.0 || (t.0.0 == i.0 || has_table ts i))) [
@@ -340,14 +340,14 @@ empty_inserted n (t ∷ ts) h =
     ]
 
 -- ---- the routes of one instance
-abbrev pub found_or_none : Option (List (Block × Hop)) → List (Block × Hop)
+abbrev pub found_or_none : Option (List (Block × RouteEntry)) → List (Block × RouteEntry)
 found_or_none None = []
 found_or_none (Some routes) = routes
 
-only_rows : (i n : InstanceId) (b : Bool) → (n.0 == i.0) ≡ b → (routes : List (Block × Hop)) → filter_map (route_in i) (rows_in n routes) ≡ cond b routes []
+only_rows : (i n : InstanceId) (b : Bool) → (n.0 == i.0) ≡ b → (routes : List (Block × RouteEntry)) → filter_map (route_in i) (rows_in n routes) ≡ cond b routes []
 only_rows i n true e [] = refl
 only_rows i n false e [] = refl
-only_rows i n true e (r ∷ routes) = ap (λ b. cons_option (cond b (Some r) None) (filter_map (route_in i) (rows_in n routes))) e ∙ ap (λ (l : List (Block × Hop)). r ∷ l) (only_rows i n true e routes)
+only_rows i n true e (r ∷ routes) = ap (λ b. cons_option (cond b (Some r) None) (filter_map (route_in i) (rows_in n routes))) e ∙ ap (λ (l : List (Block × RouteEntry)). r ∷ l) (only_rows i n true e routes)
 only_rows i n false e (r ∷ routes) = ap (λ b. cons_option (cond b (Some r) None) (filter_map (route_in i) (rows_in n routes))) e ∙ only_rows i n false e routes
 
 only_past : (i n : InstanceId) (ts : List Table) → (n.0 == i.0) ≡ true → Over instance_order n ts → filter_map (route_in i) (routes_of ts) ≡ []

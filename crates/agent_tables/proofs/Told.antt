@@ -11,7 +11,7 @@ use Rattle.ov_types.specs.declared.keys.DownValue.{DownValue}
 use Rattle.ov_types.specs.declared.numbers.InstanceId.{InstanceId}
 use Rattle.ov_types.specs.declared.objects.LowKey.{LowKey}
 use Rattle.ov_types.specs.declared.objects.LowValue.{LowValue}
-use Rattle.ov_types.specs.declared.rows.Entry.{Entry as Hop}
+use Rattle.ov_types.specs.declared.rows.Entry.{Entry as RouteEntry}
 use Rattle.node_model.specs.Agent.{row_entry}
 use Rattle.node_model.specs.Keys.{Key, of_down}
 use Rattle.node_model.specs.Maps.{low_entry, objects}
@@ -27,7 +27,7 @@ use Rattle.agent_tables.proofs.Images.{down-entries}
 abbrev pub object_at : DownKey × DownValue → Option (LowKey × LowValue)
 object_at e = low_entry (of_down e.0) (down_value e.1)
 
-abbrev pub route_at : DownKey × DownValue → Option ((InstanceId × Block) × Hop)
+abbrev pub route_at : DownKey × DownValue → Option ((InstanceId × Block) × RouteEntry)
 route_at e = row_entry (of_down e.0) (down_value e.1)
 
 abbrev pub Fit : DownKey × DownValue → Type 0

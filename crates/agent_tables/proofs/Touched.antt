@@ -23,7 +23,7 @@ use Rattle.ov_types.specs.declared.numbers.InstanceId.{InstanceId}
 use Rattle.ov_types.specs.declared.objects.LowKey.{LowKey}
 use Rattle.ov_types.specs.declared.objects.LowValue.{LowValue}
 use Rattle.ov_types.specs.declared.rows.AgentRows.{AgentRows}
-use Rattle.ov_types.specs.declared.rows.Entry.{Entry as Hop}
+use Rattle.ov_types.specs.declared.rows.Entry.{Entry as RouteEntry}
 use Rattle.packet_trace.specs.Tables.{rows_in}
 use Rattle.item_wire.specs.declared.item.Item.{Item}
 use Rattle.node_items.specs.Told.{change_of}
@@ -61,7 +61,7 @@ ascends_removed p [] h = tt
 ascends_removed p (e ∷ es) h =
     elim (p e.0) as (λ b. Ascends row_key_cmp (cond b es (e ∷ remove_entry p es))) [ true ↦ h.1 | false ↦ (over_removed e.0 p es h.0, ascends_removed p es h.1) ]
 
-ascends_with : (k : RowKey) (o : Option Hop) (es : List Routed) → Ascends row_key_cmp es → Ascends row_key_cmp (with_row es k o)
+ascends_with : (k : RowKey) (o : Option RouteEntry) (es : List Routed) → Ascends row_key_cmp es → Ascends row_key_cmp (with_row es k o)
 ascends_with k None es h = ascends_removed (is_at (row_key_cmp k)) es h
 ascends_with k (Some hop) es h = ascends_inserted row_key_cmp row_total row_exact k hop es h
 
@@ -77,7 +77,7 @@ key_itself : (k : RowKey) → eq_by_cmp row_key_cmp k k ≡ true
 key_itself k = ap is_eq (tied_itself row_total k)
 
 find_removed : (q k : RowKey) (es : List Routed) → Ascends row_key_cmp es → find row_key_cmp q (remove_entry (is_at (row_key_cmp k)) es) ≡ cond (eq_by_cmp row_key_cmp q k) None (find row_key_cmp q es)
-find_removed q k [] h = elim (eq_by_cmp row_key_cmp q k) as (λ b. find {X = Hop} row_key_cmp q [] ≡ cond b None (find {X = Hop} row_key_cmp q [])) [ true ↦ refl | false ↦ refl ]
+find_removed q k [] h = elim (eq_by_cmp row_key_cmp q k) as (λ b. find {X = RouteEntry} row_key_cmp q [] ≡ cond b None (find {X = RouteEntry} row_key_cmp q [])) [ true ↦ refl | false ↦ refl ]
 find_removed q k (e ∷ es) h = at (is_eq (row_key_cmp k e.0)) (eq_by_cmp row_key_cmp q k) (eq_by_cmp row_key_cmp q e.0) refl refl refl (find_removed q k es h.1)
   where
     at : (a b c : Bool) → is_eq (row_key_cmp k e.0) ≡ a → eq_by_cmp row_key_cmp q k ≡ b → eq_by_cmp row_key_cmp q e.0 ≡ c
@@ -98,7 +98,7 @@ find_removed q k (e ∷ es) h = at (is_eq (row_key_cmp k e.0)) (eq_by_cmp row_ke
         ap (λ b. cond b (Some e.1) (find row_key_cmp q (remove_entry (is_at (row_key_cmp k)) es))) u
         ∙ later ∙ ap (λ b. cond b None (find row_key_cmp q es)) t
 
-find_with : (q k : RowKey) (o : Option Hop) (es : List Routed) → Ascends row_key_cmp es → find row_key_cmp q (with_row es k o) ≡ cond (eq_by_cmp row_key_cmp q k) o (find row_key_cmp q es)
+find_with : (q k : RowKey) (o : Option RouteEntry) (es : List Routed) → Ascends row_key_cmp es → find row_key_cmp q (with_row es k o) ≡ cond (eq_by_cmp row_key_cmp q k) o (find row_key_cmp q es)
 find_with q k None es h = find_removed q k es h
 find_with q k (Some hop) es h = find-inserted row_key_cmp row_total q k hop es h
 
@@ -106,11 +106,11 @@ find_with q k (Some hop) es h = find-inserted row_key_cmp row_total q k hop es h
 same_row : (n : InstanceId) (p q : Block) → row_key_cmp (key n p) (key n q) ≡ block_cmp p q
 same_row n p q = ap (λ c. ordering_then c (block_cmp p q)) (tied_itself nat_cmp_total n.0)
 
-in_front : (k : RowKey) (hop : Hop) (es : List Routed) → Over row_key_cmp k es → insert_entry row_key_cmp es k hop ≡ (k, hop) ∷ es
+in_front : (k : RowKey) (hop : RouteEntry) (es : List Routed) → Over row_key_cmp k es → insert_entry row_key_cmp es k hop ≡ (k, hop) ∷ es
 in_front k hop es h = put-insert_entry row_key_cmp k hop es ∙ put-over row_key_cmp k hop es h
 
 module _ (n : InstanceId) (p : Block) (more : List Routed) (over : Over row_key_cmp (key n p) more) where
-  led_here : (o : Option Hop) (table : List (Block × Hop)) → rows_in n (led table p o) ++ more ≡ with_row (rows_in n table ++ more) (key n p) o
+  led_here : (o : Option RouteEntry) (table : List (Block × RouteEntry)) → rows_in n (led table p o) ++ more ≡ with_row (rows_in n table ++ more) (key n p) o
   led_here None [] = sym (gone (key n p) more over)
   led_here None (r ∷ table) =
       let later = ap (λ (l : List Routed). (key n r.0, r.1) ∷ l) (led_here None table) in
@@ -136,7 +136,7 @@ module _ (i n : InstanceId) (p : Block) (more : List Routed) (before : instance_
   greater : (q : Block) → row_key_cmp (key i p) (key n q) ≡ Greater
   greater q = ap (λ c. ordering_then c (block_cmp p q)) before
 
-  led_past : (o : Option Hop) (table : List (Block × Hop)) → rows_in n table ++ with_row more (key i p) o ≡ with_row (rows_in n table ++ more) (key i p) o
+  led_past : (o : Option RouteEntry) (table : List (Block × RouteEntry)) → rows_in n table ++ with_row more (key i p) o ≡ with_row (rows_in n table ++ more) (key i p) o
   led_past None [] = refl
   led_past (Some hop) [] = refl
   led_past None (r ∷ table) =
@@ -154,7 +154,7 @@ later_table n i (t ∷ ts) h e =
       | false ↦ λ s e. later_table n i ts h.1 e
     ] refl e
 
-routes_led : (i : InstanceId) (p : Block) (o : Option Hop) (ts : List Table) → Ascends instance_order ts
+routes_led : (i : InstanceId) (p : Block) (o : Option RouteEntry) (ts : List Table) → Ascends instance_order ts
     → routes_of (led_in ts i p o) ≡ cond (has_table ts i) (with_row (routes_of ts) (key i p) o) (routes_of ts)
 routes_led i p o [] h = refl
 routes_led i p o (t ∷ ts) h = at (t.0.0 == i.0) refl (routes_led i p o ts h.1)
@@ -178,7 +178,7 @@ routes_led i p o (t ∷ ts) h = at (t.0.0 == i.0) refl (routes_led i p o ts h.1)
 abbrev pub instances_of : List Table → List InstanceId
 instances_of ts = map (λ t. t.0) ts
 
-instances_led : (i : InstanceId) (p : Block) (o : Option Hop) (ts : List Table) → instances_of (led_in ts i p o) ≡ instances_of ts
+instances_led : (i : InstanceId) (p : Block) (o : Option RouteEntry) (ts : List Table) → instances_of (led_in ts i p o) ≡ instances_of ts
 instances_led i p o [] = refl
 instances_led i p o (t ∷ ts) =
     elim (t.0.0 == i.0) as (λ b. instances_of (cond b ((t.0, led t.1 p o) ∷ ts) (t ∷ led_in ts i p o)) ≡ t.0 ∷ instances_of ts) [
@@ -195,7 +195,7 @@ pub rows_led : (h : Holdings) (ks : List RowKey) (ts : List Table) → IsStrictl
     → routes_of (led_all h ts ks) ≡ with_rows (instances_of ts) h (routes_of ts) ks
 rows_led h [] ts sorted = refl
 rows_led h (k ∷ ks) ts sorted =
-    let o : Option Hop = route_from h k.0 k.1 in
+    let o : Option RouteEntry = route_from h k.0 k.1 in
     let next : List Table = led_in ts k.0 k.1 o in
     let same : instances_of next ≡ instances_of ts = instances_led k.0 k.1 o ts in
     let first : routes_of next ≡ cond (is_listed (instances_of ts) k.0) (with_row (routes_of ts) k o) (routes_of ts) =
@@ -205,8 +205,8 @@ rows_led h (k ∷ ks) ts sorted =
     ∙ (λ x. with_rows (same x) h (first x) ks)
 
 -- as a map puts it
-module _ (i : InstanceId) (p : Block) (o : Option Hop) where
-  pub set_led : (ts : List Table) (v w : List (Block × Hop)) → lookup (is_at (instance_order i)) ts ≡ Some v → w ≡ led v p o → set_value (is_at (instance_order i)) ts w ≡ led_in ts i p o
+module _ (i : InstanceId) (p : Block) (o : Option RouteEntry) where
+  pub set_led : (ts : List Table) (v w : List (Block × RouteEntry)) → lookup (is_at (instance_order i)) ts ≡ Some v → w ≡ led v p o → set_value (is_at (instance_order i)) ts w ≡ led_in ts i p o
   set_led [] v w found is = absurd (none_some v found)
   set_led (t ∷ ts) v w found is =
       ap (λ b. cond b ((t.0, w) ∷ ts) (t ∷ set_value (is_at (instance_order i)) ts w)) (same_instance i t.0)
@@ -214,7 +214,7 @@ module _ (i : InstanceId) (p : Block) (o : Option Hop) where
     where
       at : (b : Bool) → cond b (Some t.1) (lookup (is_at (instance_order i)) ts) ≡ Some v → (lookup (is_at (instance_order i)) ts ≡ Some v → set_value (is_at (instance_order i)) ts w ≡ led_in ts i p o)
           → cond b ((t.0, w) ∷ ts) (t ∷ set_value (is_at (instance_order i)) ts w) ≡ cond b ((t.0, led t.1 p o) ∷ ts) (t ∷ led_in ts i p o)
-      at true found rest = ap (λ (l : List (Block × Hop)). (t.0, l) ∷ ts) (is ∙ ap (λ (l : List (Block × Hop)). led l p o) (sym (same_Some t.1 v found)))
+      at true found rest = ap (λ (l : List (Block × RouteEntry)). (t.0, l) ∷ ts) (is ∙ ap (λ (l : List (Block × RouteEntry)). led l p o) (sym (same_Some t.1 v found)))
       at false found rest = ap (λ (l : List Table). t ∷ l) (rest found)
 
   pub none_led : (ts : List Table) → lookup (is_at (instance_order i)) ts ≡ None → ts ≡ led_in ts i p o
@@ -443,6 +443,6 @@ pub route_first : (s : Heard) (h : Holdings) (i : InstanceId) (p : Block) → ro
 route_first s h i p =
     elim s.is_up as (λ b. cond b (first_some (as_hop (get s.map (Row i p))) (route_from h i p)) (route_from h i p)
     ≡ first_some (cond b (first_some (as_hop (get s.map (Row i p))) None) None) (route_from h i p)) [
-      | true ↦ ap (λ (o : Option Hop). first_some o (route_from h i p)) (sym (or_none (as_hop (get s.map (Row i p)))))
+      | true ↦ ap (λ (o : Option RouteEntry). first_some o (route_from h i p)) (sym (or_none (as_hop (get s.map (Row i p)))))
       | false ↦ refl
     ]

@@ -14,5 +14,5 @@ mod tables;
 mod wants;
 
 pub use hearing::Hearing;
-pub use tables::Tables;
+pub use tables::AgentTables;
 pub use wants::wanted;

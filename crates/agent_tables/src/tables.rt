@@ -29,13 +29,13 @@ use vrouter_fib::Labels;
 /// The labels, access lists and routes of an agent, which contracts see as its rows, with the instances that have a table
 /// of routes, perhaps of none. Its calls but for `of`, `set_routes` and `rows` take no memory.
 #[derive(Drop)]
-pub struct Tables {
+pub struct AgentTables {
     labels: Labels,
     acls: Acls,
     fibs: Fibs,
 }
 
-impl Model for Tables {
+impl Model for AgentTables {
     ghost use Rattle.std.specs.BTreeMap.{IsOrdered};
     ghost use Rattle.std.specs.List.{All};
     ghost use Rattle.std.specs.Prelude.{map};
@@ -55,12 +55,12 @@ impl Model for Tables {
     ghost invariant = { λ t. All (λ e. IsOfAUse e.1) t.labels × IsOrdered instance_order t.fibs };
 }
 
-impl Tables {
+impl AgentTables {
     /// Nothing to forward by. It takes no memory.
-    pub fn new(alloc: Global) -> Tables
+    pub fn new(alloc: Global) -> AgentTables
         ensures { result ≡ record { rows = record { labels = []; acls = []; routes = [] }; instances = [] } }
     {
-        Tables {
+        AgentTables {
             labels: Labels::new(alloc),
             acls: Acls::new(alloc),
             fibs: BTreeMap::new(alloc),
@@ -69,7 +69,7 @@ impl Tables {
 
     /// What the sessions of an agent give it to forward by: the attachments and access lists of the slice in use, and
     /// of each instance that it needs the routes of the first session that is up and has them.
-    pub fn of(alloc: Global, sessions: &[Hearing]) -> Result<Tables, NoMemory>
+    pub fn of(alloc: Global, sessions: &[Hearing]) -> Result<AgentTables, NoMemory>
         requires { AllByRecursion (λ (s : Heard). AllFit s.map) (map heard_of sessions.now) }
         ensures { IfOk result (λ tables. AreTables (map heard_of sessions.now) tables) }
     {
@@ -79,7 +79,7 @@ impl Tables {
         let acls = acls_of(alloc, slice.as_slice())?;
         let mut fibs = empty_fibs(alloc, needed.as_slice())?;
         keep_heard(&mut fibs, sessions)?;
-        Ok(Tables { labels, acls, fibs })
+        Ok(AgentTables { labels, acls, fibs })
     }
 
     /// Each of these routes is that of the first session that is up and has it from now on, and there is none where none
@@ -129,7 +129,7 @@ impl Tables {
     }
 
     /// Forwards by these tables from now on. What is kept of verdicts goes where the access lists change.
-    pub fn renew(&mut self, flows: &mut FlowCache, tables: Tables)
+    pub fn renew(&mut self, flows: &mut FlowCache, tables: AgentTables)
         requires { AreOf self.old.rows.acls flows.old }
         ensures tables { self.new ≡ tables }
         ensures kept { AreOf self.new.rows.acls flows.new }

@@ -6,8 +6,8 @@ use Rattle.std.proofs.lemmas.List.{nil_from_length, drop_at, take_at, length-app
 use Rattle.byteorder.specs.Endian.{big_bytes, big_number}
 use Rattle.byteorder.specs.Numbers.{big_number-reads_back}
 use Rattle.bgp_wire.specs.declared.fault.WireFault.{WireFault}
-use Rattle.bgp_wire.specs.declared.kind.Kind.{Kind}
-use Rattle.bgp_wire.specs.declared.kind.Kind.TheVariants.{Open, Update, Notification, Keepalive}
+use Rattle.bgp_wire.specs.declared.kind.MessageKind.{MessageKind}
+use Rattle.bgp_wire.specs.declared.kind.MessageKind.TheVariants.{Open, Update, Notification, Keepalive}
 use Rattle.bgp_wire.specs.Content.{OpenFields, UpdateFields, Content, Opens, Updates, Notifies, KeepsAlive}
 use Rattle.bgp_wire.specs.Parts.{Part}
 use Rattle.bgp_wire.specs.Capabilities.{parameters_in}
@@ -190,7 +190,7 @@ update_or_fault_of body None octets is =
     )
 
 -- a body says one thing
-pub one_content : (kind : Kind) (body : List ℕ) (c d : Content) → IsBody kind body c → IsBody kind body d → c ≡ d
+pub one_content : (kind : MessageKind) (body : List ℕ) (c d : Content) → IsBody kind body c → IsBody kind body d → c ≡ d
 one_content kind body (Opens p) (Opens q) a b = ap Opens (one_open body p q a.1 b.1)
 one_content kind body (Updates u) (Updates v) a b = ap Updates (one_update body u v a.1 b.1)
 one_content kind body (Notifies c s) (Notifies d t) a b = let x = a.1.1 in let y = b.1.1 in cc
@@ -209,7 +209,7 @@ one_content kind body KeepsAlive (Updates v) a b = let x = a.0 in let y = b.0 in
 one_content kind body KeepsAlive (Notifies d t) a b = let x = a.0 in let y = b.0 in cc
 
 -- a body that says something has no fault
-pub never_content_and_fault : (kind : Kind) (body : List ℕ) (c : Content) (f : WireFault) → IsBody kind body c → HasBodyFault kind body f → ⊥
+pub never_content_and_fault : (kind : MessageKind) (body : List ℕ) (c : Content) (f : WireFault) → IsBody kind body c → HasBodyFault kind body f → ⊥
 never_content_and_fault Open body (Opens p) f is fault = never_open_and_fault body p f is.1 fault
 never_content_and_fault Open body (Updates u) f is fault = let e = is.0 in cc
 never_content_and_fault Open body (Notifies c s) f is fault = let e = is.0 in cc
@@ -222,16 +222,16 @@ never_content_and_fault Notification body c f is fault = fault
 never_content_and_fault Keepalive body c f is fault = fault
 
 -- a body has one fault
-pub one_body_fault : (kind : Kind) (body : List ℕ) (f g : WireFault) → HasBodyFault kind body f → HasBodyFault kind body g → f ≡ g
+pub one_body_fault : (kind : MessageKind) (body : List ℕ) (f g : WireFault) → HasBodyFault kind body f → HasBodyFault kind body g → f ≡ g
 one_body_fault Open body f g a b = one_open_fault_of body f g (open_fault body) refl a b
 one_body_fault Update body f g a b = cc
 one_body_fault Notification body f g a b = absurd a
 one_body_fault Keepalive body f g a b = absurd a
 
-abbrev Says : Kind → List ℕ → Type 0
+abbrev Says : MessageKind → List ℕ → Type 0
 Says kind body = (c : Content) × IsBody kind body c
 
-abbrev Fails : Kind → List ℕ → Type 0
+abbrev Fails : MessageKind → List ℕ → Type 0
 Fails kind body = (f : WireFault) × HasBodyFault kind body f
 
 said_open : (body : List ℕ) → ((p : OpenFields) × IsOpen body p) ⊎ ((f : WireFault) × HasOpenFault body f) → Says Open body ⊎ Fails Open body
@@ -248,7 +248,7 @@ said_notification (c ∷ []) h = absurd (omega arith)
 said_notification (c ∷ s ∷ further) h = (Notifies c s, (refl, (further, refl)))
 
 -- a body of a length that suits says something or has a fault
-pub content_or_fault : (kind : Kind) (body : List ℕ) → AreOctets body → least kind ≤ 19 + length body → 19 + length body ≤ greatest kind
+pub content_or_fault : (kind : MessageKind) (body : List ℕ) → AreOctets body → least kind ≤ 19 + length body → 19 + length body ≤ greatest kind
     → Says kind body ⊎ Fails kind body
 content_or_fault Open body octets low high = said_open body (open_or_fault_of body (open_fault body) octets (omega arith) refl)
 content_or_fault Update body octets low high = said_update body (update_or_fault_of body (update_fault body) octets refl)

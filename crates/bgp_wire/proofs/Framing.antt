@@ -7,8 +7,8 @@ use Rattle.std.proofs.lemmas.List.{take-append-drop, length-take-le, length-drop
 use Rattle.std.proofs.lemmas.Bool.{not-false, ltb-false, or_parts, and_parts, eqb-true, le-leb}
 use Rattle.byteorder.specs.Endian.{big_bytes}
 use Rattle.bgp_wire.specs.declared.fault.WireFault.{WireFault}
-use Rattle.bgp_wire.specs.declared.kind.Kind.{Kind}
-use Rattle.bgp_wire.specs.declared.kind.Kind.TheVariants.{Open, Update, Notification, Keepalive}
+use Rattle.bgp_wire.specs.declared.kind.MessageKind.{MessageKind}
+use Rattle.bgp_wire.specs.declared.kind.MessageKind.TheVariants.{Open, Update, Notification, Keepalive}
 use Rattle.bgp_wire.specs.Content.{Content}
 use Rattle.bgp_wire.specs.Faults.{◌then_check◌}
 use Rattle.bgp_wire.specs.Frames.{octet_of, kind_of, least, greatest, head, IsFrame, marker_fault, length_fault, kind_fault, type_fault, frame_fault, IsHeadOf}
@@ -26,16 +26,16 @@ all_ones (x ∷ xs) h =
     ap (λ (y : ℕ). y ∷ xs) one ∙ ap (λ (ys : List ℕ). 255 ∷ ys) others
 
 -- which of two an answer was
-chosen : (test : Bool) (k kind : Kind) (others : Option Kind) → cond test (Some k) others ≡ Some kind
+chosen : (test : Bool) (k kind : MessageKind) (others : Option MessageKind) → cond test (Some k) others ≡ Some kind
     → ((test ≡ true) × (k ≡ kind)) ⊎ (others ≡ Some kind)
 chosen true k kind others h = inl (refl, cc)
 chosen false k kind others h = inr h
 
-no_kind : (kind : Kind) → None ≡ Some kind → ⊥
+no_kind : (kind : MessageKind) → None ≡ Some kind → ⊥
 no_kind kind h = cc
 
 -- the octet that a type was read from
-pub octet_is : (octet : ℕ) (kind : Kind) → kind_of octet ≡ Some kind → octet ≡ octet_of kind
+pub octet_is : (octet : ℕ) (kind : MessageKind) → kind_of octet ≡ Some kind → octet ≡ octet_of kind
 octet_is octet kind h = elim (chosen (octet == 1) Open kind _ h) [
   | inl first ↦ eqb-true octet 1 first.0 ∙ ap octet_of first.1
   | inr h₂ ↦ elim (chosen (octet == 2) Update kind _ h₂) [
@@ -51,17 +51,17 @@ octet_is octet kind h = elim (chosen (octet == 1) Open kind _ h) [
 ]
 
 -- what it means that no check of a frame whose head is there fails
-pub record HeadPasses (octets : List ℕ) (kind : Kind) (len : ℕ) : Type 0 where
+pub record HeadPasses (octets : List ℕ) (kind : MessageKind) (len : ℕ) : Type 0 where
   pub ones : list_all (λ x. x == 255) (take 16 octets) ≡ true
   pub at_least : least kind ≤ len
   pub at_most : len ≤ greatest kind
 
-pub kind_passes : (kind : Kind) (len : ℕ) → kind_fault (Some kind) len ≡ None → (least kind ≤ len) × (len ≤ greatest kind)
+pub kind_passes : (kind : MessageKind) (len : ℕ) → kind_fault (Some kind) len ≡ None → (least kind ≤ len) × (len ≤ greatest kind)
 kind_passes kind len h =
     let parts = or_parts _ _ (fault_if-None _ _ h) in
     (ltb-false len (least kind) parts.0, ltb-false (greatest kind) len parts.1)
 
-pub head_passes : (octets : List ℕ) (kind : Kind) (len : ℕ) → frame_fault octets ≡ None → IsHeadOf octets kind len → HeadPasses octets kind len
+pub head_passes : (octets : List ℕ) (kind : MessageKind) (len : ℕ) → frame_fault octets ≡ None → IsHeadOf octets kind len → HeadPasses octets kind len
 head_passes octets kind len h found =
     let first = pass_both (marker_fault octets) (length_fault octets then_check type_fault octets) h in
     let second = pass_both (length_fault octets) (type_fault octets) first.1 in
@@ -73,14 +73,14 @@ head_passes octets kind len h found =
       at_most = bounds.1;
     }
 
-pub least_is : (kind : Kind) → 19 ≤ least kind
+pub least_is : (kind : MessageKind) → 19 ≤ least kind
 least_is Open = omega arith
 least_is Update = omega arith
 least_is Notification = omega arith
 least_is Keepalive = omega arith
 
 -- the octets begin with the head of a frame
-head_is : (octets : List ℕ) (kind : Kind) (len : ℕ) → AreOctets octets → HeadPasses octets kind len → IsHeadOf octets kind len
+head_is : (octets : List ℕ) (kind : MessageKind) (len : ℕ) → AreOctets octets → HeadPasses octets kind len → IsHeadOf octets kind len
     → octets ≡ head len kind ++ drop 19 octets
 head_is octets kind len are passes found =
     let there = found.there in
@@ -96,7 +96,7 @@ head_is octets kind len are passes found =
     ∙ ap (λ (r : List ℕ). r ++ drop 16 octets) marker
     ∙ ap (λ (r : List ℕ). replicate 16 255 ++ r) (numbers ∙ ap (λ (r : List ℕ). big_bytes 2 len ++ r) last)
 
-pub frame_is : (octets : List ℕ) (kind : Kind) (len : ℕ) → AreOctets octets → frame_fault octets ≡ None → IsHeadOf octets kind len
+pub frame_is : (octets : List ℕ) (kind : MessageKind) (len : ℕ) → AreOctets octets → frame_fault octets ≡ None → IsHeadOf octets kind len
     → len ≤ length octets → IsFrame (take len octets) kind (take (len - 19) (drop 19 octets))
 frame_is octets kind len are none found enough =
     let passes = head_passes octets kind len none found in
@@ -117,7 +117,7 @@ frame_is octets kind len are none found enough =
     }
 
 -- a whole frame and its body are a message
-pub begins_with : (octets : List ℕ) (kind : Kind) (len : ℕ) (content : Content) → AreOctets octets → frame_fault octets ≡ None
+pub begins_with : (octets : List ℕ) (kind : MessageKind) (len : ℕ) (content : Content) → AreOctets octets → frame_fault octets ≡ None
     → IsHeadOf octets kind len → len ≤ length octets → IsBody kind (take (len - 19) (drop 19 octets)) content
     → BeginsWith octets content len
 begins_with octets kind len content are none found enough says = record {
@@ -136,7 +136,7 @@ has_fault octets f none faulty =
     let P : Option WireFault → Type 0 = λ o. MatchOption o (HasFaultyBody octets f) (λ g. g ≡ f) in
     subst P (sym none) faulty
 
-pub body_fault : (octets : List ℕ) (kind : Kind) (len : ℕ) (f : WireFault) → AreOctets octets → frame_fault octets ≡ None
+pub body_fault : (octets : List ℕ) (kind : MessageKind) (len : ℕ) (f : WireFault) → AreOctets octets → frame_fault octets ≡ None
     → IsHeadOf octets kind len → len ≤ length octets → HasBodyFault kind (take (len - 19) (drop 19 octets)) f
     → HasFault octets f
 body_fault octets kind len f are none found enough faulty = has_fault octets f none (record {

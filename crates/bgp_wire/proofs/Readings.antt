@@ -9,8 +9,8 @@ use Rattle.std.proofs.Math.Seq.{take-append-add}
 use Rattle.byteorder.specs.Endian.{big_number}
 use Rattle.byteorder.specs.Numbers.{big_number-reads_back, big_from-append}
 use Rattle.bgp_wire.specs.declared.fault.WireFault.{WireFault}
-use Rattle.bgp_wire.specs.declared.kind.Kind.{Kind}
-use Rattle.bgp_wire.specs.declared.kind.Kind.TheVariants.{Open, Update, Notification, Keepalive}
+use Rattle.bgp_wire.specs.declared.kind.MessageKind.{MessageKind}
+use Rattle.bgp_wire.specs.declared.kind.MessageKind.TheVariants.{Open, Update, Notification, Keepalive}
 use Rattle.bgp_wire.specs.Content.{Content}
 use Rattle.bgp_wire.specs.Faults.{fault_if, ◌then_check◌, not_synchronized, bad_message_length, bad_message_type}
 use Rattle.bgp_wire.specs.Frames.{octet_of, kind_of, least, greatest, head, IsFrame, length_at, kind_at, marker_fault, length_fault, kind_fault, type_fault, frame_fault, IsHeadOf, IsProperPrefix}
@@ -20,24 +20,24 @@ use Rattle.bgp_wire.proofs.Checking.{pass_both, both_pass, fault_if-None, fault_
 use Rattle.bgp_wire.proofs.Framing.{frame_is, least_is, begins_with, has_fault, body_fault}
 use Rattle.bgp_wire.proofs.Bodies.{one_content, never_content_and_fault, one_body_fault, content_or_fault}
 
-greatest_is : (kind : Kind) → greatest kind ≤ 4096
+greatest_is : (kind : MessageKind) → greatest kind ≤ 4096
 greatest_is Open = omega arith
 greatest_is Update = omega arith
 greatest_is Notification = omega arith
 greatest_is Keepalive = omega arith
 
-kind_back : (kind : Kind) → kind_of (octet_of kind) ≡ Some kind
+kind_back : (kind : MessageKind) → kind_of (octet_of kind) ≡ Some kind
 kind_back Open = refl
 kind_back Update = refl
 kind_back Notification = refl
 kind_back Keepalive = refl
 
 -- octets that begin with a frame's head pass the checks on a frame
-pub record HasHead (octets : List ℕ) (kind : Kind) (len : ℕ) : Type 0 where
+pub record HasHead (octets : List ℕ) (kind : MessageKind) (len : ℕ) : Type 0 where
   pub none : frame_fault octets ≡ None
   pub found : IsHeadOf octets kind len
 
-head_back : (len : ℕ) (kind : Kind) (rest : List ℕ) → least kind ≤ len → len ≤ greatest kind → HasHead (head len kind ++ rest) kind len
+head_back : (len : ℕ) (kind : MessageKind) (rest : List ℕ) → least kind ≤ len → len ≤ greatest kind → HasHead (head len kind ++ rest) kind len
 head_back len kind rest low high =
     let lower = least_is kind in
     let upper = greatest_is kind in
@@ -46,7 +46,7 @@ head_back len kind rest low high =
     let named : kind_at octets ≡ Some kind = kind_back kind in
     let suits : kind_fault (Some kind) len ≡ None = fault_if-false _ _ (or_from _ _ (le-ltb len (least kind) low) (le-ltb (greatest kind) len high)) in
     let typed : kind_fault (kind_at octets) (length_at octets) ≡ None =
-    ap (λ (k : Option Kind). kind_fault k (length_at octets)) named ∙ ap (λ (n : ℕ). kind_fault (Some kind) n) says ∙ suits in
+    ap (λ (k : Option MessageKind). kind_fault k (length_at octets)) named ∙ ap (λ (n : ℕ). kind_fault (Some kind) n) says ∙ suits in
     record {
       none =
           both_pass (marker_fault octets) (length_fault octets then_check type_fault octets) refl
@@ -57,7 +57,7 @@ head_back len kind rest low high =
     }
 
 -- a whole frame with this body begins the octets
-pub record HasFrame (octets : List ℕ) (kind : Kind) (body : List ℕ) : Type 0 where
+pub record HasFrame (octets : List ℕ) (kind : MessageKind) (body : List ℕ) : Type 0 where
   pub none : frame_fault octets ≡ None
   pub found : IsHeadOf octets kind (19 + length body)
   pub enough : 19 + length body ≤ length octets
@@ -65,7 +65,7 @@ pub record HasFrame (octets : List ℕ) (kind : Kind) (body : List ℕ) : Type 0
   pub low : least kind ≤ 19 + length body
   pub high : 19 + length body ≤ greatest kind
 
-spelled_frame : (kind : Kind) (body more : List ℕ) → least kind ≤ 19 + length body → 19 + length body ≤ greatest kind
+spelled_frame : (kind : MessageKind) (body more : List ℕ) → least kind ≤ 19 + length body → 19 + length body ≤ greatest kind
     → HasFrame (head (19 + length body) kind ++ (body ++ more)) kind body
 spelled_frame kind body more low high =
     let back = head_back (19 + length body) kind (body ++ more) low high in
@@ -78,22 +78,22 @@ spelled_frame kind body more low high =
       high = high;
     }
 
-pub has_frame : (octets frame more body : List ℕ) (kind : Kind) → octets ≡ frame ++ more → IsFrame frame kind body → HasFrame octets kind body
+pub has_frame : (octets frame more body : List ℕ) (kind : MessageKind) → octets ≡ frame ++ more → IsFrame frame kind body → HasFrame octets kind body
 has_frame octets frame more body kind split is =
     let e : octets ≡ head (19 + length body) kind ++ (body ++ more) =
     split ∙ ap (λ (f : List ℕ). f ++ more) is.spelled ∙ append_assoc (head (19 + length body) kind) body more in
     subst (λ (o : List ℕ). HasFrame o kind body) (sym e) (spelled_frame kind body more is.least_length is.greatest_length)
 
-some_kind : (j k : Kind) → Some j ≡ Some k → j ≡ k
+some_kind : (j k : MessageKind) → Some j ≡ Some k → j ≡ k
 some_kind j k h = cc
 
-pub one_kind : (octets b d : List ℕ) (j k : Kind) → HasFrame octets j b → HasFrame octets k d → j ≡ k
+pub one_kind : (octets b d : List ℕ) (j k : MessageKind) → HasFrame octets j b → HasFrame octets k d → j ≡ k
 one_kind octets b d j k x y = some_kind j k (sym x.found.kind_is ∙ y.found.kind_is)
 
-pub one_length : (octets b d : List ℕ) (j k : Kind) → HasFrame octets j b → HasFrame octets k d → length b ≡ length d
+pub one_length : (octets b d : List ℕ) (j k : MessageKind) → HasFrame octets j b → HasFrame octets k d → length b ≡ length d
 one_length octets b d j k x y = let e = sym x.found.len_is ∙ y.found.len_is in omega arith
 
-pub one_body : (octets b d : List ℕ) (j k : Kind) → HasFrame octets j b → HasFrame octets k d → b ≡ d
+pub one_body : (octets b d : List ℕ) (j k : MessageKind) → HasFrame octets j b → HasFrame octets k d → b ≡ d
 one_body octets b d j k x y =
     x.body_is ∙ ap (λ (n : ℕ). take n (drop 19 octets)) (one_length octets b d j k x y) ∙ sym y.body_is
 
@@ -120,14 +120,14 @@ one_message octets c d n m a b =
     let kinds = one_kind octets a.message.body b.message.body a.message.kind b.message.kind x y in
     let bodies = one_body octets a.message.body b.message.body a.message.kind b.message.kind x y in
     let lengths = ap length bodies in
-    let P : Kind → Type 0 = λ k. IsBody k a.message.body c in
+    let P : MessageKind → Type 0 = λ k. IsBody k a.message.body c in
     let Q : List ℕ → Type 0 = λ o. IsBody b.message.kind o c in
     let says : IsBody b.message.kind b.message.body c = subst Q bodies (subst P kinds a.message.says) in
     let first = begins_len octets c n a in
     let second = begins_len octets d m b in
     (one_content b.message.kind b.message.body c d says b.message.says, omega arith)
 
-framed_never_prefix : (octets body : List ℕ) (kind : Kind) → HasFrame octets kind body → IsProperPrefix octets → ⊥
+framed_never_prefix : (octets body : List ℕ) (kind : MessageKind) → HasFrame octets kind body → IsProperPrefix octets → ⊥
 framed_never_prefix octets body kind framed prefix = elim prefix.short [
   | inl few ↦ let there = framed.found.there in omega arith
   | inr few ↦ let len = framed.found.len_is in let enough = framed.enough in omega arith
@@ -155,7 +155,7 @@ never_message_and_fault octets c n f begins fault =
     let y = faulty_framed octets f faulty in
     let kinds = one_kind octets begins.message.body faulty.body begins.message.kind faulty.kind x y in
     let bodies = one_body octets begins.message.body faulty.body begins.message.kind faulty.kind x y in
-    let P : Kind → Type 0 = λ k. IsBody k begins.message.body c in
+    let P : MessageKind → Type 0 = λ k. IsBody k begins.message.body c in
     let Q : List ℕ → Type 0 = λ o. IsBody faulty.kind o c in
     never_content_and_fault faulty.kind faulty.body c f (subst Q bodies (subst P kinds begins.message.says)) faulty.faulty
 
@@ -173,7 +173,7 @@ one_fault_of octets f g None is a b =
     let y = faulty_framed octets g q in
     let kinds = one_kind octets p.body q.body p.kind q.kind x y in
     let bodies = one_body octets p.body q.body p.kind q.kind x y in
-    let P : Kind → Type 0 = λ k. HasBodyFault k p.body f in
+    let P : MessageKind → Type 0 = λ k. HasBodyFault k p.body f in
     let Q : List ℕ → Type 0 = λ o. HasBodyFault q.kind o f in
     one_body_fault q.kind q.body f g (subst Q bodies (subst P kinds p.faulty)) q.faulty
 
@@ -188,17 +188,17 @@ BeginsWithMessage octets = (c : Content) × (n : ℕ) × BeginsWith octets c n
 abbrev pub HasSomeFault : List ℕ → Type 0
 HasSomeFault octets = (f : WireFault) × HasFault octets f
 
-some_kind_of : (octets : List ℕ) (k : Option Kind) → 19 ≤ length octets → frame_fault octets ≡ None → kind_at octets ≡ k → (kind : Kind) × (kind_at octets ≡ Some kind)
+some_kind_of : (octets : List ℕ) (k : Option MessageKind) → 19 ≤ length octets → frame_fault octets ≡ None → kind_at octets ≡ k → (kind : MessageKind) × (kind_at octets ≡ Some kind)
 some_kind_of octets (Some kind) there none is = (kind, is)
 some_kind_of octets None there none is =
     let first = pass_both (marker_fault octets) (length_fault octets then_check type_fault octets) none in
     let second = pass_both (length_fault octets) (type_fault octets) first.1 in
     let typed : type_fault octets ≡ Some bad_message_type =
-    cond-true _ _ _ (le-leb 19 (length octets) there) ∙ ap (λ (k : Option Kind). kind_fault k (length_at octets)) is in
+    cond-true _ _ _ (le-leb 19 (length octets) there) ∙ ap (λ (k : Option MessageKind). kind_fault k (length_at octets)) is in
     let passed = second.1 in
     absurd cc
 
-whole_reading : (octets : List ℕ) (kind : Kind) (len : ℕ) → AreOctets octets → frame_fault octets ≡ None → IsHeadOf octets kind len
+whole_reading : (octets : List ℕ) (kind : MessageKind) (len : ℕ) → AreOctets octets → frame_fault octets ≡ None → IsHeadOf octets kind len
     → len ≤ length octets → BeginsWithMessage octets ⊎ HasSomeFault octets
 whole_reading octets kind len are none found enough =
     let frame = frame_is octets kind len are none found enough in

@@ -4,7 +4,7 @@ use Rattle.std.specs.List.{AllByRecursion}
 use Rattle.std.proofs.lemmas.Bool.{leb-true}
 use Rattle.std.proofs.lemmas.List.{length-append}
 use Rattle.std.proofs.Math.Seq.{take-append_seam}
-use Rattle.bgp_wire.specs.declared.kind.Kind.TheVariants.{Open, Update, Notification, Keepalive}
+use Rattle.bgp_wire.specs.declared.kind.MessageKind.TheVariants.{Open, Update, Notification, Keepalive}
 use Rattle.bgp_wire.specs.declared.write.OpenOut.{OpenOut}
 use Rattle.bgp_wire.specs.Content.{Content, Opens, Updates, Notifies, KeepsAlive}
 use Rattle.bgp_wire.specs.Frames.{least, greatest}

@@ -1,8 +1,8 @@
 -- Messages: which octets are one, and what is wrong with octets that begin with none.
 use Rattle.std.specs.Prelude.{◌≡◌, ◌≤◌, ◌<◌, ℕ, List, [], ◌∷◌, ◌++◌, length, take, slice_index, Some, MatchOption}
 use Rattle.bgp_wire.specs.declared.fault.WireFault.{WireFault}
-use Rattle.bgp_wire.specs.declared.kind.Kind.{Kind}
-use Rattle.bgp_wire.specs.declared.kind.Kind.TheVariants.{Open, Update, Notification, Keepalive}
+use Rattle.bgp_wire.specs.declared.kind.MessageKind.{MessageKind}
+use Rattle.bgp_wire.specs.declared.kind.MessageKind.TheVariants.{Open, Update, Notification, Keepalive}
 use Rattle.bgp_wire.specs.declared.message.Message.{Message}
 use Rattle.bgp_wire.specs.declared.message.Message.TheVariants as messages
 use Rattle.bgp_wire.specs.Content.{Content, Opens, Updates, Notifies, KeepsAlive}
@@ -23,7 +23,7 @@ abbrev pub IsNotification : List ℕ → ℕ → ℕ → Type 0
 IsNotification body code subcode = (further : List ℕ) × (body ≡ code ∷ subcode ∷ further)
 
 -- the body of a message that says this
-abbrev pub IsBody : Kind → List ℕ → Content → Type 0
+abbrev pub IsBody : MessageKind → List ℕ → Content → Type 0
 IsBody kind body (Opens fields) = (kind ≡ Open) × IsOpen body fields
 IsBody kind body (Updates parts) = (kind ≡ Update) × IsUpdate body parts
 IsBody kind body (Notifies code subcode) = (kind ≡ Notification) × IsNotification body code subcode
@@ -31,7 +31,7 @@ IsBody kind body KeepsAlive = (kind ≡ Keepalive) × (body ≡ [])
 
 -- the octets of a message that says this
 pub record IsMessage (octets : List ℕ) (content : Content) : Type 0 where
-  pub kind : Kind
+  pub kind : MessageKind
   pub body : List ℕ
   pub frame : IsFrame octets kind body
   pub says : IsBody kind body content
@@ -42,7 +42,7 @@ pub record BeginsWith (octets : List ℕ) (content : Content) (n : ℕ) : Type 0
   pub message : IsMessage (take n octets) content
 
 -- the first check on a body that fails
-abbrev pub HasBodyFault : Kind → List ℕ → WireFault → Type 0
+abbrev pub HasBodyFault : MessageKind → List ℕ → WireFault → Type 0
 HasBodyFault Open body f = HasOpenFault body f
 HasBodyFault Update body f = update_fault body ≡ Some f
 HasBodyFault Notification body f = ⊥
@@ -50,7 +50,7 @@ HasBodyFault Keepalive body f = ⊥
 
 -- a whole frame, and a body with this fault
 pub record HasFaultyBody (octets : List ℕ) (f : WireFault) : Type 0 where
-  pub kind : Kind
+  pub kind : MessageKind
   pub body : List ℕ
   pub frame : List ℕ
   pub more : List ℕ

@@ -1,8 +1,8 @@
 -- The one spelling of what a message says, and what is written.
 use Rattle.std.specs.Prelude.{ℕ, List, [], ◌∷◌, ◌++◌, ◌+◌, length, nat_le, if◌then◌else◌}
 use Rattle.byteorder.specs.Endian.{big_bytes}
-use Rattle.bgp_wire.specs.declared.kind.Kind.{Kind}
-use Rattle.bgp_wire.specs.declared.kind.Kind.TheVariants.{Open, Update, Notification, Keepalive}
+use Rattle.bgp_wire.specs.declared.kind.MessageKind.{MessageKind}
+use Rattle.bgp_wire.specs.declared.kind.MessageKind.TheVariants.{Open, Update, Notification, Keepalive}
 use Rattle.bgp_wire.specs.declared.write.OpenOut.{OpenOut}
 use Rattle.bgp_wire.specs.Content.{OpenFields, UpdateFields, Content, Opens, Updates, Notifies, KeepsAlive}
 use Rattle.bgp_wire.specs.Frames.{head}
@@ -12,7 +12,7 @@ use Rattle.bgp_wire.specs.Parts.{Part}
 use Rattle.bgp_wire.specs.Updates.{update_octets}
 
 -- a body in its frame
-abbrev pub framed : Kind → List ℕ → List ℕ
+abbrev pub framed : MessageKind → List ℕ → List ℕ
 framed kind body = head (19 + length body) kind ++ body
 
 -- a NOTIFICATION has nothing behind its subcode

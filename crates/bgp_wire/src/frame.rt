@@ -6,7 +6,7 @@ ghost use Rattle.bgp_wire.specs.Frames.{marker_fault, length_fault, kind_fault, 
 ghost use Rattle.bgp_wire.specs.Frames.{IsHeadOf};
 
 use crate::fault::{BAD_MESSAGE_LENGTH, BAD_MESSAGE_TYPE, NOT_SYNCHRONIZED, WireFault};
-use crate::kind::Kind;
+use crate::kind::MessageKind;
 use byteorder::{BigEndian, ByteOrder};
 
 /// How many octets a marker has, and how many all that stands before a body (RFC 4271, section 4.1).
@@ -23,7 +23,7 @@ pub(crate) const MAX_MESSAGE_SIZE: usize = 4096;
 /// What the octets before a body say.
 #[derive(Clone, Copy)]
 pub(crate) struct Head {
-    pub(crate) kind: Kind,
+    pub(crate) kind: MessageKind,
     pub(crate) len: usize,
 }
 
@@ -73,11 +73,11 @@ fn check_length(octets: &[u8]) -> Result<(), WireFault>
     Ok(())
 }
 
-fn read_kind(octet: u8, len: usize) -> Result<Kind, WireFault>
+fn read_kind(octet: u8, len: usize) -> Result<MessageKind, WireFault>
     ensures checks { Checks result (kind_fault (kind_of octet) len) }
     ensures kind { IfOk result (λ kind. kind_of octet ≡ Some kind) }
 {
-    let Some(kind) = Kind::from_octet(octet) else {
+    let Some(kind) = MessageKind::from_octet(octet) else {
         return Err(BAD_MESSAGE_TYPE);
     };
     if len < kind.least() || len > kind.greatest() {

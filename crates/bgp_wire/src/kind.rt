@@ -6,22 +6,22 @@ use crate::frame::{HEAD_SIZE, MAX_MESSAGE_SIZE};
 
 /// The types of messages (RFC 4271, section 4.1).
 #[derive(Clone, Copy, PartialEq, Eq)]
-pub(crate) enum Kind {
+pub(crate) enum MessageKind {
     Open,
     Update,
     Notification,
     Keepalive,
 }
 
-impl Kind {
-    pub(crate) fn from_octet(octet: u8) -> Option<Kind>
+impl MessageKind {
+    pub(crate) fn from_octet(octet: u8) -> Option<MessageKind>
         ensures { result ≡ kind_of octet }
     {
         match octet {
-            1 => Some(Kind::Open),
-            2 => Some(Kind::Update),
-            3 => Some(Kind::Notification),
-            4 => Some(Kind::Keepalive),
+            1 => Some(MessageKind::Open),
+            2 => Some(MessageKind::Update),
+            3 => Some(MessageKind::Notification),
+            4 => Some(MessageKind::Keepalive),
             _ => None,
         }
     }
@@ -30,10 +30,10 @@ impl Kind {
         ensures { result ≡ octet_of self }
     {
         match self {
-            Kind::Open => 1,
-            Kind::Update => 2,
-            Kind::Notification => 3,
-            Kind::Keepalive => 4,
+            MessageKind::Open => 1,
+            MessageKind::Update => 2,
+            MessageKind::Notification => 3,
+            MessageKind::Keepalive => 4,
         }
     }
 
@@ -41,10 +41,10 @@ impl Kind {
         ensures { result ≡ least self }
     {
         match self {
-            Kind::Open => 29,
-            Kind::Update => 23,
-            Kind::Notification => 21,
-            Kind::Keepalive => HEAD_SIZE,
+            MessageKind::Open => 29,
+            MessageKind::Update => 23,
+            MessageKind::Notification => 21,
+            MessageKind::Keepalive => HEAD_SIZE,
         }
     }
 
@@ -52,8 +52,8 @@ impl Kind {
         ensures { result ≡ greatest self }
     {
         match self {
-            Kind::Open | Kind::Update | Kind::Notification => MAX_MESSAGE_SIZE,
-            Kind::Keepalive => HEAD_SIZE,
+            MessageKind::Open | MessageKind::Update | MessageKind::Notification => MAX_MESSAGE_SIZE,
+            MessageKind::Keepalive => HEAD_SIZE,
         }
     }
 }

@@ -7,7 +7,7 @@ ghost use Rattle.bgp_wire.specs.Messages.{content_of, IsBody, HasBodyFault, Begi
 
 use crate::fault::WireFault;
 use crate::frame::read_head;
-use crate::kind::Kind;
+use crate::kind::MessageKind;
 use crate::open::OpenPart;
 use crate::update::{UpdatePart, read_update};
 
@@ -21,20 +21,20 @@ pub enum Message<'a> {
     Keepalive,
 }
 
-fn read_body(kind: Kind, body: &[u8]) -> Result<Message<'_>, WireFault>
+fn read_body(kind: MessageKind, body: &[u8]) -> Result<Message<'_>, WireFault>
     requires least_length { least kind ≤ 19 + length body.now }
     requires greatest_length { 19 + length body.now ≤ greatest kind }
     ensures message { IfOk result (λ m. IsBody kind body.now (content_of m)) }
     ensures fault { IfErr result (λ f. HasBodyFault kind body.now f) }
 {
     match kind {
-        Kind::Open => Ok(Message::Hello(OpenPart::read(body)?)),
-        Kind::Update => Ok(Message::Update(read_update(body)?)),
-        Kind::Notification => Ok(Message::Notification {
+        MessageKind::Open => Ok(Message::Hello(OpenPart::read(body)?)),
+        MessageKind::Update => Ok(Message::Update(read_update(body)?)),
+        MessageKind::Notification => Ok(Message::Notification {
             code: body[0],
             subcode: body[1],
         }),
-        Kind::Keepalive => Ok(Message::Keepalive),
+        MessageKind::Keepalive => Ok(Message::Keepalive),
     }
 }
 

@@ -8,7 +8,7 @@ ghost use Rattle.bgp_wire.specs.Spelling.{framed, spelling, IsReadAgain, vpn_cap
 ghost use Rattle.bgp_wire.specs.Spelling.{open_fields, attributes_alone};
 
 use crate::frame::{HEAD_SIZE, KIND_AT, MARKER_SIZE};
-use crate::kind::Kind;
+use crate::kind::MessageKind;
 use byteorder::{BigEndian, ByteOrder};
 use ov_types::{Addr, NoMemory};
 use std::alloc::Global;
@@ -27,7 +27,7 @@ const AS_TRANS: u16 = 23456;
 const PARAMETERS_SIZE: usize = 14;
 
 /// The octets before a body.
-fn head(kind: Kind, len: u16) -> [u8; HEAD_SIZE]
+fn head(kind: MessageKind, len: u16) -> [u8; HEAD_SIZE]
     ensures { result ≡ head len kind }
 {
     let mut octets = [0xFF; HEAD_SIZE];
@@ -37,7 +37,7 @@ fn head(kind: Kind, len: u16) -> [u8; HEAD_SIZE]
 }
 
 /// A message whose body has these two parts.
-fn framed(alloc: Global, kind: Kind, start: &[u8], rest: &[u8]) -> Result<Vec<u8>, NoMemory>
+fn framed(alloc: Global, kind: MessageKind, start: &[u8], rest: &[u8]) -> Result<Vec<u8>, NoMemory>
     requires { 19 + length (start.now ++ rest.now) ≤ 4096 }
     ensures { IfOk result (λ message. message.items ≡ framed kind (start.now ++ rest.now)) }
 {
@@ -52,7 +52,7 @@ fn framed(alloc: Global, kind: Kind, start: &[u8], rest: &[u8]) -> Result<Vec<u8
 /// Appends a message whole, or nothing.
 fn write_frame(
     alloc: Global,
-    kind: Kind,
+    kind: MessageKind,
     start: &[u8],
     rest: &[u8],
     out: &mut Vec<u8>,
@@ -108,7 +108,7 @@ pub fn write_open(alloc: Global, part: &OpenOut, out: &mut Vec<u8>) -> Result<()
 {
     let start = open_start(my_as_of(part.asn), part.id.0);
     let parameters = open_parameters(part.asn);
-    write_frame(alloc, Kind::Open, &start, &parameters, out)
+    write_frame(alloc, MessageKind::Open, &start, &parameters, out)
 }
 
 /// Appends an UPDATE of these path attributes, without plain routes, whole or not at all.
@@ -122,7 +122,7 @@ pub fn write_attributes(alloc: Global, attributes: &[u8], out: &mut Vec<u8>) -> 
 {
     let mut lengths = [0; 4];
     BigEndian::write_u16(&mut lengths[2..], attributes.len() as u16);
-    write_frame(alloc, Kind::Update, &lengths, attributes, out)
+    write_frame(alloc, MessageKind::Update, &lengths, attributes, out)
 }
 
 /// Appends a NOTIFICATION without further octets, whole or not at all.
@@ -137,7 +137,7 @@ pub fn write_notification(
     ensures read_again { IsReadAgain (Notifies code subcode) }
     ensures length { length (spelling (Notifies code subcode)) ≤ 4096 }
 {
-    write_frame(alloc, Kind::Notification, &[code, subcode], &[], out)
+    write_frame(alloc, MessageKind::Notification, &[code, subcode], &[], out)
 }
 
 /// Appends a KEEPALIVE whole, or nothing.
@@ -148,5 +148,5 @@ pub fn write_keepalive(alloc: Global, out: &mut Vec<u8>) -> Result<(), NoMemory>
     ensures read_again { IsReadAgain KeepsAlive }
     ensures length { length (spelling KeepsAlive) ≤ 4096 }
 {
-    write_frame(alloc, Kind::Keepalive, &[], &[], out)
+    write_frame(alloc, MessageKind::Keepalive, &[], &[], out)
 }

@@ -4,7 +4,7 @@ use Rattle.ov_types.specs.declared.vpn.VpnKey.{VpnKey}
 use Rattle.ov_types.specs.declared.vpn.VpnRoute.{VpnRoute}
 use Rattle.node_model.specs.Members.{Member}
 use Rattle.node_model.specs.Paths.{Holdings, Path}
-use Rattle.node_model.specs.Reaching.{reoriginated}
+use Rattle.node_model.specs.Reaching.{reoriginated_paths}
 use Rattle.node_model.specs.Uses.{Use}
 use Rattle.vpn_tables.specs.Leading.{leads}
 use Rattle.chain_reorigin.specs.Told.{told_key, told_path}
@@ -22,6 +22,6 @@ pub record IsFirst (paths : List Path) (key : VpnKey) (route : VpnRoute) : Type 
 pub record RightFirst (h : Holdings) (u : Use) : Type 0 where
   pub before : List Path
   pub after : List Path
-  pub stands : reoriginated h
+  pub stands : reoriginated_paths h
       ≡ before ++ (leads h (record { chain = u; is_right = true })
       ++ (leads h (record { chain = u; is_right = false }) ++ after))

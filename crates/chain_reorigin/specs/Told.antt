@@ -4,7 +4,7 @@ use Rattle.std.specs.FinMap.{entries, from_entries}
 use Rattle.ov_types.specs.declared.vpn.VpnKey.{VpnKey}
 use Rattle.ov_types.specs.declared.vpn.VpnRoute.{VpnRoute}
 use Rattle.node_model.specs.Paths.{Holdings, Path}
-use Rattle.node_model.specs.Reaching.{reoriginated}
+use Rattle.node_model.specs.Reaching.{reoriginated_paths}
 use Rattle.vpn_tables.specs.Views.{vpn_order}
 
 -- a path as it is told
@@ -15,5 +15,5 @@ abbrev pub told_path : Path → VpnKey × VpnRoute
 told_path p = (told_key p, record { next_hop = p.next_hop; label = p.label; targets = p.targets })
 
 -- those of a control node, in the order of their keys. Where some have one key, the first counts
-abbrev pub told_routes : Holdings → List (VpnKey × VpnRoute)
-told_routes h = entries (from_entries {R = vpn_order} (map told_path (reoriginated h)))
+abbrev pub reoriginated : Holdings → List (VpnKey × VpnRoute)
+reoriginated h = entries (from_entries {R = vpn_order} (map told_path (reoriginated_paths h)))

@@ -5,18 +5,18 @@ ghost use Rattle.ov_types.specs.declared.vpn.VpnKey.{VpnKey};
 ghost use Rattle.ov_types.specs.declared.vpn.VpnRoute.{VpnRoute};
 ghost use Rattle.node_model.specs.Members.{Member};
 ghost use Rattle.node_model.specs.Paths.{Holdings};
-ghost use Rattle.node_model.specs.Reaching.{reoriginated};
+ghost use Rattle.node_model.specs.Reaching.{reoriginated_paths};
 ghost use Rattle.node_model.specs.Uses.{Use, uses};
 ghost use Rattle.vpn_tables.specs.Views.{vpn_order};
 ghost use Rattle.chain_reorigin.specs.Laws.{IsFirst, RightFirst};
-ghost use Rattle.chain_reorigin.specs.Told.{told_routes};
+ghost use Rattle.chain_reorigin.specs.Told.{reoriginated};
 
 /// A route is told exactly where it is the first of its key among the re-originated ones. Each key is told once, in
 /// ascending order.
 pub fn the_first_of_each_key_is_told()
     ensures exactly { (h : Holdings) (key : VpnKey) (route : VpnRoute)
-        → Member (key, route) (told_routes h) ↔ IsFirst (reoriginated h) key route }
-    ensures ascending { (h : Holdings) → IsStrictlySortedBy vpn_order (map (λ e. e.0) (told_routes h)) }
+        → Member (key, route) (reoriginated h) ↔ IsFirst (reoriginated_paths h) key route }
+    ensures ascending { (h : Holdings) → IsStrictlySortedBy vpn_order (map (λ e. e.0) (reoriginated h)) }
 {}
 
 /// Of each held use the right subnets' routes stand before the left ones', and so count before them.

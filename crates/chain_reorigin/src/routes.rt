@@ -5,12 +5,12 @@ ghost use Rattle.std.specs.List.Sorted.{IsStrictlySortedBy};
 ghost use Rattle.ov_sync.specs.Embed.{moved_entry};
 ghost use Rattle.ov_sync.specs.Keyed.{map_of};
 ghost use Rattle.node_model.specs.Keys.{Vpn, key_cmp};
-ghost use Rattle.node_model.specs.Reaching.{reoriginated as led_on};
+ghost use Rattle.node_model.specs.Reaching.{reoriginated_paths};
 ghost use Rattle.node_model.specs.Values.{Route as RouteValue};
 ghost use Rattle.node_model.specs.Wants.{route_entry};
 ghost use Rattle.vpn_tables.specs.Views.{vpn_order};
 ghost use Rattle.chain_reorigin.specs.Counting.{keyed, told_entry, told_of};
-ghost use Rattle.chain_reorigin.specs.Told.{told_routes};
+ghost use Rattle.chain_reorigin.specs.Told.{reoriginated};
 
 use ov_types::{NoMemory, Targets, VpnKey, VpnRoute};
 use std::alloc::Global;
@@ -18,13 +18,13 @@ use std::collections::BTreeMap;
 use vpn_tables::{Route, VpnTables};
 
 /// The re-originated routes in the order of their keys, each with the target of the instance that it leads into. Of
-/// those of one key the first of `led_on` counts: a right subnet's before a left's.
+/// those of one key the first of `reoriginated_paths` counts: a right subnet's before a left's.
 pub fn reoriginated(alloc: Global, tables: &VpnTables) -> Result<Vec<(VpnKey, VpnRoute)>, NoMemory>
-    ensures routes { IfOk result (λ routes. routes.items ≡ told_routes tables.now) }
+    ensures routes { IfOk result (λ routes. routes.items ≡ reoriginated tables.now) }
     ensures of_the_model { IfOk result (λ routes. map (moved_entry Vpn RouteValue) routes.items
-        ≡ entries (from_entries {R = key_cmp} (map route_entry (led_on tables.now)))) }
+        ≡ entries (from_entries {R = key_cmp} (map route_entry (reoriginated_paths tables.now)))) }
 {
-    let led = tables.led_on()?;
+    let led = tables.reoriginated_paths()?;
     let counting = first_of_each(alloc, led)?;
     let routes = told(alloc, &counting)?;
     Ok(routes)

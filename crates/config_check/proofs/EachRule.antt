@@ -17,8 +17,8 @@ use Rattle.chain_expand.specs.Expansion.{loops, expansion, same_number}
 use Rattle.config_check.specs.declared.refusal.IdKind.TheVariants as Id
 use Rattle.config_check.specs.declared.refusal.Refusal.{Refusal}
 use Rattle.config_check.specs.declared.refusal.Refusal.TheVariants.{SubnetReserved, SubnetNested, AddressOutside, AddressTaken, ChainNeedsNetworks, ChainSameNetwork, ChainLoop, ChainTooLong, ServiceTwice}
-use Rattle.network_rules.specs.Related.{all_rules}
-use Rattle.network_rules.specs.declared.numbered.NumberedRule.{NumberedRule}
+use Rattle.policy_rules.specs.Related.{all_rules}
+use Rattle.policy_rules.specs.declared.numbered.NumberedRule.{NumberedRule}
 use Rattle.config_check.specs.Rules.{broken_count, broken_part, broken_limit, repeated_name, repeated_controller, broken_name, repeated_id, use_numbers, broken_id, controller_names, node_names, network_names, port_names, policy_names, service_names, chain_names, missing, missing_end, missing_chain, missing_in_node, missing_in_network, missing_in_port, missing_in_rule, missing_in_service, missing_in_chain, broken_reference, overlap, circuit_addresses, reserved_in, broken_reserved, nested_in, broken_nested, network_named, is_outside, broken_outside, share_address, broken_taken, lacks_network, broken_needs, turns_back, broken_same, broken_loop, is_too_long, broken_long, twice_in, broken_twice, overlapping_around, broken_overlap}
 use Rattle.config_check.specs.Sentences.{AreDistinct, KeepsLimits, HasDistinctNames, HasDistinctNumbers, HasReferents, EndExists, ChainExists, Overlap, ReservesCircuits, HasFlatSubnets, HoldsAddresses, HasDistinctAddresses, NamesEnds, NamesTwo, IsAround, AreApart}
 use Rattle.config_check.proofs.Few.{all_kept, each_kept, counts_kept, parts_kept}

@@ -20,7 +20,7 @@ use Rattle.ov_types.specs.First.{same_name, first_meeting}
 use Rattle.config_check.specs.declared.refusal.IdKind.{IdKind}
 use Rattle.config_check.specs.declared.refusal.Refusal.{Refusal}
 use Rattle.config_check.specs.declared.refusal.Refusal.TheVariants.{DuplicateName, DuplicateId, BadReference, SubnetOverlap}
-use Rattle.network_rules.specs.Related.{are_related}
+use Rattle.policy_rules.specs.Related.{are_related}
 use Rattle.config_check.specs.Rules.{repeated_name, repeated_id, missing, missing_end, missing_chain, overlap, network_named, holds_address, is_outside, share_address, is_chain_rule, is_any, same_end, share_addresses, overlapping, overlapping_around}
 use Rattle.config_check.specs.Sentences.{AreDistinct, EndExists, ChainExists, Overlap, IsAround, AreApart}
 use Rattle.config_check.proofs.Iffs.{iff_then, all_iff, pairs_iff, list_any_false, pairs_kept}

@@ -4,13 +4,13 @@ use Rattle.std.specs.List.{list_any}
 use Rattle.config_model.specs.declared.config.Network.{Network}
 use Rattle.config_model.specs.declared.config.Config.{Config}
 use Rattle.config_model.specs.declared.config.Policy.{Policy}
-use Rattle.network_rules.specs.Related.{attaches, lets_through, rules_between, are_related}
+use Rattle.policy_rules.specs.Related.{attaches, lets_through, rules_between, are_related}
 use Rattle.std.specs.Cmp.Lexicographic.{nat_list_eq_equiv}
 use Rattle.ov_types.specs.First.{same_name}
 use Rattle.config_check.specs.Between.{also_leads, is_in_group}
-use Rattle.network_rules.specs.Wanted.{leads_between}
+use Rattle.policy_rules.specs.Wanted.{leads_between}
 use Rattle.config_check.specs.Rules.{group_of}
-use Rattle.network_rules.proofs.AnyRule.{any_filter, any_same, any_between}
+use Rattle.policy_rules.proofs.AnyRule.{any_filter, any_same, any_between}
 
 and_apart : (a b c : Bool) → (a && (b && c)) ≡ ((a && b) && c)
 and_apart true b c = refl

@@ -7,7 +7,7 @@ use Rattle.config_model.specs.declared.topology.Topology.{Topology}
 use Rattle.ov_types.specs.First.{◌<|>◌}
 use Rattle.config_check.specs.declared.refusal.Refusal.{Refusal}
 use Rattle.config_check.specs.Rules.{broken_limit, broken_name, broken_id, broken_reference, broken_reserved, broken_nested, broken_outside, broken_taken, broken_place, broken_needs, broken_same, broken_use, broken_loop, broken_long, broken_twice, broken_chain, broken_overlap, first_broken}
-use Rattle.network_rules.specs.Related.{all_rules}
+use Rattle.policy_rules.specs.Related.{all_rules}
 use Rattle.config_check.specs.Sentences.{IsValid}
 use Rattle.ov_types.proofs.FirstLemmas.{both_none}
 use Rattle.config_check.proofs.EachRule.{limits_iff, names_iff, numbers_iff, references_iff, reserved_iff, flat_iff, holds_iff, addresses_iff, ends_named_iff, two_named_iff, straight_iff, short_iff, once_iff, apart_around_iff}

@@ -4,8 +4,8 @@ use Rattle.std.specs.List.{list_any}
 use Rattle.config_model.specs.declared.config.Network.{Network}
 use Rattle.config_model.specs.declared.config.Policy.{Policy}
 use Rattle.ov_types.specs.First.{same_name}
-use Rattle.network_rules.specs.Related.{attaches}
-use Rattle.network_rules.specs.Wanted.{leads_between}
+use Rattle.policy_rules.specs.Related.{attaches}
+use Rattle.policy_rules.specs.Wanted.{leads_between}
 
 -- of the policies that one network attaches, another attaches this, and it has such a rule
 abbrev pub also_leads : Network → Network → Policy → Bool

@@ -11,7 +11,7 @@ use Rattle.config_model.specs.declared.config.Network.{Network}
 use Rattle.config_model.specs.declared.config.Rule.{Rule}
 use Rattle.config_model.specs.declared.topology.Topology.{Topology}
 use Rattle.chain_expand.specs.Expansion.{loops, expansion}
-use Rattle.network_rules.specs.Related.{are_related, all_rules}
+use Rattle.policy_rules.specs.Related.{are_related, all_rules}
 use Rattle.config_check.specs.Rules.{circuit_addresses, controller_names, node_names, network_names, port_names}
 use Rattle.config_check.specs.Rules.{policy_names, service_names, chain_names, network_named, use_numbers}
 

@@ -2,13 +2,13 @@
 ghost use Rattle.std.specs.Prelude.{◌≡◌, ◌++◌, map, IfOk};
 ghost use Rattle.std.specs.List.{filter_map};
 ghost use Rattle.config_check.specs.Rules.{repeated_id, use_of, use_numbers, broken_id};
-ghost use Rattle.network_rules.specs.Related.{all_rules};
+ghost use Rattle.policy_rules.specs.Related.{all_rules};
 
 use crate::meeting::first_meeting;
 use crate::refusal::{IdKind, Refusal};
 use config_model::{Action, Config, Topology};
-use network_rules::NumberedRule;
 use ov_types::NoMemory;
+use policy_rules::NumberedRule;
 use std::alloc::Global;
 
 fn controller_addresses(alloc: Global, topology: &Topology) -> Result<Vec<u32>, NoMemory>

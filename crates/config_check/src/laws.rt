@@ -9,7 +9,7 @@ ghost use Rattle.config_model.specs.declared.topology.Topology.{Topology};
 ghost use Rattle.chain_expand.specs.Expansion.{loops, expansion};
 ghost use Rattle.config_check.specs.Finding.{Finds, network_named, network_numbered, port_numbered, port_at};
 ghost use Rattle.config_check.specs.Finding.{node_named};
-ghost use Rattle.network_rules.specs.declared.numbered.NumberedRule.{NumberedRule};
+ghost use Rattle.policy_rules.specs.declared.numbered.NumberedRule.{NumberedRule};
 ghost use Rattle.config_check.specs.Rules.{circuit_addresses, holds_address, broken_limit, broken_name, broken_id};
 ghost use Rattle.config_check.specs.Rules.{broken_reference, broken_reserved, broken_nested, broken_outside};
 ghost use Rattle.config_check.specs.Rules.{broken_taken, broken_needs, broken_same, broken_loop, broken_long};

@@ -1,7 +1,7 @@
 //! The rule of addresses: among a network and all that are related to it no two have overlapping subnets.
 ghost use Rattle.std.specs.Prelude.{◌≡◌, filter, find, map, option_copied, IfOk};
 ghost use Rattle.std.specs.List.{list_any};
-ghost use Rattle.network_rules.specs.Related.{attaches};
+ghost use Rattle.policy_rules.specs.Related.{attaches};
 ghost use Rattle.config_check.specs.Between.{also_leads, is_in_group};
 ghost use Rattle.config_check.specs.Rules.{overlap, group_of, share_addresses, overlapping, overlapping_around};
 ghost use Rattle.config_check.specs.Rules.{broken_overlap};
@@ -9,8 +9,8 @@ ghost use Rattle.config_check.specs.Rules.{broken_overlap};
 use crate::refusal::Refusal;
 use crate::subnets::overlap;
 use config_model::{Config, Network, Policy};
-use network_rules::{attaches, some_rule_leads};
 use ov_types::{NoMemory, Prefix};
+use policy_rules::{attaches, some_rule_leads};
 use std::alloc::Global;
 
 fn overlaps_some(prefix: &Prefix, subnets: &[Prefix]) -> bool

@@ -5,7 +5,7 @@ ghost use Rattle.ov_types.specs.First.{same_name, first_of};
 ghost use Rattle.config_check.specs.Rules.{missing, missing_end, missing_chain, missing_in_node, missing_in_network};
 ghost use Rattle.config_check.specs.Rules.{missing_in_port, missing_in_rule, missing_in_service, missing_in_chain};
 ghost use Rattle.config_check.specs.Rules.{broken_reference};
-ghost use Rattle.network_rules.specs.Related.{all_rules};
+ghost use Rattle.policy_rules.specs.Related.{all_rules};
 
 use crate::asking::first_of;
 use crate::names::{
@@ -13,8 +13,8 @@ use crate::names::{
 };
 use crate::refusal::Refusal;
 use config_model::{Action, Chain, Config, End, Network, Node, Port, Service, Topology};
-use network_rules::NumberedRule;
 use ov_types::{Name, NoMemory};
+use policy_rules::NumberedRule;
 use std::alloc::Global;
 
 fn is_among(names: &[Name], name: &Name) -> bool

@@ -5,7 +5,7 @@ ghost use Rattle.config_check.specs.Rules.{broken_same};
 
 use crate::refusal::Refusal;
 use config_model::{Action, End, Rule};
-use network_rules::NumberedRule;
+use policy_rules::NumberedRule;
 
 fn is_chain_rule(action: &Action) -> bool
     ensures { result ≡ is_chain_rule action.now }

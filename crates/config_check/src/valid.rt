@@ -16,8 +16,8 @@ use crate::subnets::{broken_nested, broken_reserved};
 use crate::uses::{broken_needs, broken_same};
 use chain_expand::MOST_CHAINS;
 use config_model::{Config, Topology};
-use network_rules::{NumberedRule, all_rules};
 use ov_types::NoMemory;
+use policy_rules::{NumberedRule, all_rules};
 use std::alloc::{AllocError, Global};
 use std::marker::Model;
 

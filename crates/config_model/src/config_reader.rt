@@ -8,7 +8,7 @@ ghost use Rattle.config_model.specs.Config.{network_at, port_at, policy_at, serv
 
 use crate::bounds::{LAST_NETWORK, LAST_PORT, LAST_SEQUENCE, LAST_SERVICE};
 use crate::config::{Chain, Config, Network, Policy, Port, Rule, Service};
-use crate::fault::{Place, ReadRefusal};
+use crate::fault::{DocumentPlace, ReadRefusal};
 use crate::fields::{
     Count, FromDocument, check_others, list_member, object_of, optional_list_member, read_member,
     whole_member,
@@ -24,7 +24,7 @@ impl FromDocument for Network {
     ghost has_form = { has_network_form };
 
     #[tactic(auto, unfolding(crate::specs::Config::network_at, crate::specs::Form::has_network_form))]
-    fn read(alloc: Global, place: &Place<'_>, value: &Value) -> Result<Self, ReadRefusal> {
+    fn read(alloc: Global, place: &DocumentPlace<'_>, value: &Value) -> Result<Self, ReadRefusal> {
         let members = object_of(alloc, place, value)?;
         let name = name_but_member(alloc, place, "name", "any", value)?;
         let id = whole_member(alloc, place, "id", 1, LAST_NETWORK, value)?;
@@ -51,7 +51,7 @@ impl FromDocument for Port {
     ghost has_form = { has_port_form };
 
     #[tactic(auto, unfolding(crate::specs::Config::port_at, crate::specs::Form::has_port_form))]
-    fn read(alloc: Global, place: &Place<'_>, value: &Value) -> Result<Self, ReadRefusal> {
+    fn read(alloc: Global, place: &DocumentPlace<'_>, value: &Value) -> Result<Self, ReadRefusal> {
         let members = object_of(alloc, place, value)?;
         let name = read_member::<Name>(alloc, place, "name", value)?;
         let id = whole_member(alloc, place, "id", 0, LAST_PORT, value)?;
@@ -80,7 +80,7 @@ impl FromDocument for Policy {
     ghost has_form = { has_policy_form };
 
     #[tactic(auto, unfolding(crate::specs::Config::policy_at, crate::specs::Form::has_policy_form))]
-    fn read(alloc: Global, place: &Place<'_>, value: &Value) -> Result<Self, ReadRefusal> {
+    fn read(alloc: Global, place: &DocumentPlace<'_>, value: &Value) -> Result<Self, ReadRefusal> {
         let members = object_of(alloc, place, value)?;
         let name = read_member::<Name>(alloc, place, "name", value)?;
         let sequence = whole_member(alloc, place, "sequence", 0, LAST_SEQUENCE, value)?;
@@ -100,7 +100,7 @@ impl FromDocument for Service {
     ghost has_form = { has_service_form };
 
     #[tactic(auto, unfolding(crate::specs::Config::service_at, crate::specs::Form::has_service_form))]
-    fn read(alloc: Global, place: &Place<'_>, value: &Value) -> Result<Self, ReadRefusal> {
+    fn read(alloc: Global, place: &DocumentPlace<'_>, value: &Value) -> Result<Self, ReadRefusal> {
         let members = object_of(alloc, place, value)?;
         let name = read_member::<Name>(alloc, place, "name", value)?;
         let id = whole_member(alloc, place, "id", 0, LAST_SERVICE, value)?;
@@ -120,7 +120,7 @@ impl FromDocument for Chain {
     ghost has_form = { has_chain_form };
 
     #[tactic(auto, unfolding(crate::specs::Config::chain_at, crate::specs::Form::has_chain_form))]
-    fn read(alloc: Global, place: &Place<'_>, value: &Value) -> Result<Self, ReadRefusal> {
+    fn read(alloc: Global, place: &DocumentPlace<'_>, value: &Value) -> Result<Self, ReadRefusal> {
         let members = object_of(alloc, place, value)?;
         let name = read_member::<Name>(alloc, place, "name", value)?;
         let hops = list_member::<Name>(alloc, place, "hops", Count::AtLeastOne, value)?;
@@ -135,7 +135,7 @@ impl FromDocument for Config {
     ghost has_form = { has_config_form };
 
     #[tactic(auto, unfolding(crate::specs::Config::config_at, crate::specs::Form::has_config_form))]
-    fn read(alloc: Global, place: &Place<'_>, value: &Value) -> Result<Self, ReadRefusal> {
+    fn read(alloc: Global, place: &DocumentPlace<'_>, value: &Value) -> Result<Self, ReadRefusal> {
         let members = object_of(alloc, place, value)?;
         let networks = optional_list_member::<Network>(alloc, place, "networks", value)?;
         let ports = optional_list_member::<Port>(alloc, place, "ports", value)?;
@@ -164,5 +164,5 @@ pub fn read_config(alloc: Global, value: &Value) -> Result<Config, ReadRefusal>
     ensures reads { Gives (λ c. c) result (config_at [] (view value.now)) }
     ensures form { IfOk result (λ c. IsTrue (has_config_form c)) }
 {
-    Config::read(alloc, &Place::Whole, value)
+    Config::read(alloc, &DocumentPlace::Whole, value)
 }

@@ -8,7 +8,7 @@ ghost use Rattle.config_model.specs.Edit.{has_object_form, has_edit_form};
 
 use crate::config::{Chain, Network, Policy, Port, Service};
 use crate::edit::{Edit, Object, ObjectKind};
-use crate::fault::{DocKind, Place, ReadRefusal};
+use crate::fault::{DocKind, DocumentPlace, ReadRefusal};
 use crate::fields::FromDocument;
 use crate::one_member::one_member_of;
 use crate::topology::Node;
@@ -31,7 +31,7 @@ fn kind_named(word: &str) -> Option<ObjectKind>
 }
 
 /// The kind that a member's name is.
-fn kind_of(alloc: Global, place: &Place<'_>, word: &str) -> Result<ObjectKind, ReadRefusal>
+fn kind_of(alloc: Global, place: &DocumentPlace<'_>, word: &str) -> Result<ObjectKind, ReadRefusal>
     ensures { Gives (λ x. x) result (kind_at (place_text place.now) word.now) }
 {
     match kind_named(word) {
@@ -43,7 +43,7 @@ fn kind_of(alloc: Global, place: &Place<'_>, word: &str) -> Result<ObjectKind, R
 #[tactic(auto, unfolding(crate::specs::Edit::object_of_kind_at))]
 fn object_of_kind(
     alloc: Global,
-    place: &Place<'_>,
+    place: &DocumentPlace<'_>,
     kind: ObjectKind,
     value: &Value,
 ) -> Result<Object, ReadRefusal>
@@ -61,24 +61,24 @@ fn object_of_kind(
 }
 
 #[tactic(auto, unfolding(crate::specs::Edit::put_at, crate::specs::Edit::has_edit_form))]
-fn put_of(alloc: Global, place: &Place<'_>, value: &Value) -> Result<Edit, ReadRefusal>
+fn put_of(alloc: Global, place: &DocumentPlace<'_>, value: &Value) -> Result<Edit, ReadRefusal>
     ensures reads { Gives (λ x. x) result (put_at (place_text place.now) (view value.now)) }
     ensures form { IfOk result (λ x. IsTrue (has_edit_form x)) }
 {
     let (word, described) = one_member_of(alloc, place, value)?;
-    let member = Place::Member(place, word);
+    let member = DocumentPlace::Member(place, word);
     let kind = kind_of(alloc, &member, word)?;
     let object = object_of_kind(alloc, &member, kind, described)?;
     Ok(Edit::Put(object))
 }
 
 #[tactic(auto, unfolding(crate::specs::Edit::delete_at, crate::specs::Edit::has_edit_form))]
-fn delete_of(alloc: Global, place: &Place<'_>, value: &Value) -> Result<Edit, ReadRefusal>
+fn delete_of(alloc: Global, place: &DocumentPlace<'_>, value: &Value) -> Result<Edit, ReadRefusal>
     ensures reads { Gives (λ x. x) result (delete_at (place_text place.now) (view value.now)) }
     ensures form { IfOk result (λ x. IsTrue (has_edit_form x)) }
 {
     let (word, named) = one_member_of(alloc, place, value)?;
-    let member = Place::Member(place, word);
+    let member = DocumentPlace::Member(place, word);
     let kind = kind_of(alloc, &member, word)?;
     let name = Name::read(alloc, &member, named)?;
     Ok(Edit::Delete(kind, name))
@@ -90,9 +90,9 @@ impl FromDocument for Edit {
     ghost has_form = { has_edit_form };
 
     #[tactic(auto, unfolding(crate::specs::Edit::edit_at))]
-    fn read(alloc: Global, place: &Place<'_>, value: &Value) -> Result<Self, ReadRefusal> {
+    fn read(alloc: Global, place: &DocumentPlace<'_>, value: &Value) -> Result<Self, ReadRefusal> {
         let (word, changed) = one_member_of(alloc, place, value)?;
-        let member = Place::Member(place, word);
+        let member = DocumentPlace::Member(place, word);
         match word {
             "put" => put_of(alloc, &member, changed),
             "delete" => delete_of(alloc, &member, changed),
@@ -106,5 +106,5 @@ pub fn read_edit(alloc: Global, value: &Value) -> Result<Edit, ReadRefusal>
     ensures reads { Gives (λ x. x) result (edit_at [] (view value.now)) }
     ensures form { IfOk result (λ x. IsTrue (has_edit_form x)) }
 {
-    Edit::read(alloc, &Place::Whole, value)
+    Edit::read(alloc, &DocumentPlace::Whole, value)
 }

@@ -12,7 +12,7 @@ ghost use Rattle.config_model.specs.Event.{event_from, event_named, event_of_tex
 use crate::config::Config;
 use crate::edit::Edit;
 use crate::event::{Event, RunInput};
-use crate::fault::{DocKind, Place, ReadRefusal};
+use crate::fault::{DocKind, DocumentPlace, ReadRefusal};
 use crate::fields::{
     Count, FromDocument, check_others, list_member, object_of, read_list, read_member, whole_of,
 };
@@ -30,7 +30,7 @@ const MOST_AT_ONCE: u64 = 1_000_000;
 #[tactic(auto, unfolding(crate::specs::Event::two_names_at))]
 fn two_names_of(
     alloc: Global,
-    place: &Place<'_>,
+    place: &DocumentPlace<'_>,
     value: &Value,
 ) -> Result<(Name, Name), ReadRefusal>
     ensures reads { Gives (λ p. (p.0, p.1)) result (two_names_at (place_text place.now) (view value.now)) }
@@ -60,7 +60,7 @@ fn three_of(items: &[Value]) -> Option<(&Value, &Value, &Value)>
 #[tactic(auto, unfolding(crate::specs::Event::three_at))]
 fn three_items_of<'v>(
     alloc: Global,
-    place: &Place<'_>,
+    place: &DocumentPlace<'_>,
     value: &'v Value,
 ) -> Result<(&'v Value, &'v Value, &'v Value), ReadRefusal>
     ensures { Gives (λ p. (view p.0.now, view p.1.now, view p.2.now)) result
@@ -79,16 +79,16 @@ fn three_items_of<'v>(
 #[tactic(auto, unfolding(crate::specs::Event::names_and_number_at))]
 fn names_and_number_of(
     alloc: Global,
-    place: &Place<'_>,
+    place: &DocumentPlace<'_>,
     value: &Value,
 ) -> Result<(Name, Name, u32), ReadRefusal>
     ensures reads { Gives (λ p. (p.0, p.1, p.2)) result (names_and_number_at (place_text place.now) (view value.now)) }
     ensures form { IfOk result (λ p. IsTrue (is_name p.0 && is_name p.1 && is_from_to 1 1000000 p.2)) }
 {
     let (from, to, n) = three_items_of(alloc, place, value)?;
-    let from = Name::read(alloc, &Place::Item(place, 0), from)?;
-    let to = Name::read(alloc, &Place::Item(place, 1), to)?;
-    let n = whole_of(alloc, &Place::Item(place, 2), 1, MOST_AT_ONCE, n)?;
+    let from = Name::read(alloc, &DocumentPlace::Item(place, 0), from)?;
+    let to = Name::read(alloc, &DocumentPlace::Item(place, 1), to)?;
+    let n = whole_of(alloc, &DocumentPlace::Item(place, 2), 1, MOST_AT_ONCE, n)?;
     Ok((from, to, n as u32))
 }
 
@@ -96,7 +96,7 @@ fn names_and_number_of(
 #[tactic(auto, unfolding(crate::specs::Event::event_from, crate::specs::Event::has_event_form))]
 fn event_from(
     alloc: Global,
-    place: &Place<'_>,
+    place: &DocumentPlace<'_>,
     word: &str,
     value: &Value,
 ) -> Result<Event, ReadRefusal>
@@ -150,7 +150,7 @@ fn event_named(text: &str) -> Option<Event>
 
 /// The event that a text is.
 #[tactic(auto, unfolding(crate::specs::Event::has_event_form))]
-fn event_of_text(alloc: Global, place: &Place<'_>, text: &str) -> Result<Event, ReadRefusal>
+fn event_of_text(alloc: Global, place: &DocumentPlace<'_>, text: &str) -> Result<Event, ReadRefusal>
     ensures reads { Gives (λ x. x) result (event_of_text (place_text place.now) text.now) }
     ensures form { IfOk result (λ x. IsTrue (has_event_form x)) }
 {
@@ -166,12 +166,12 @@ impl FromDocument for Event {
     ghost has_form = { has_event_form };
 
     #[tactic(auto, unfolding(crate::specs::Event::event_at))]
-    fn read(alloc: Global, place: &Place<'_>, value: &Value) -> Result<Self, ReadRefusal> {
+    fn read(alloc: Global, place: &DocumentPlace<'_>, value: &Value) -> Result<Self, ReadRefusal> {
         if let Some(text) = value.as_str() {
             return event_of_text(alloc, place, text);
         }
         let (word, described) = one_member_of(alloc, place, value)?;
-        event_from(alloc, &Place::Member(place, word), word, described)
+        event_from(alloc, &DocumentPlace::Member(place, word), word, described)
     }
 }
 
@@ -180,12 +180,16 @@ pub fn read_events(alloc: Global, value: &Value) -> Result<Items<Event>, ReadRef
     ensures reads { Gives (λ xs. xs) result (events_at [] (view value.now)) }
     ensures form { IfOk result (λ xs. IsTrue (list_all has_event_form xs)) }
 {
-    read_list(alloc, &Place::Whole, Count::AnyNumber, value)
+    read_list(alloc, &DocumentPlace::Whole, Count::AnyNumber, value)
 }
 
 /// What `run` takes: an object with `topology`, `configuration` and `events`, a list.
 #[tactic(auto, unfolding(crate::specs::Event::run_at))]
-fn run_input_of(alloc: Global, place: &Place<'_>, value: &Value) -> Result<RunInput, ReadRefusal>
+fn run_input_of(
+    alloc: Global,
+    place: &DocumentPlace<'_>,
+    value: &Value,
+) -> Result<RunInput, ReadRefusal>
     ensures reads { Gives (λ r. r) result (run_at (place_text place.now) (view value.now)) }
     ensures topology_form { IfOk result (λ r. IsTrue (has_topology_form r.input.topology)) }
     ensures config_form { IfOk result (λ r. IsTrue (has_config_form r.input.config)) }
@@ -214,5 +218,5 @@ pub fn read_run(alloc: Global, value: &Value) -> Result<RunInput, ReadRefusal>
     ensures config_form { IfOk result (λ r. IsTrue (has_config_form r.input.config)) }
     ensures events_form { IfOk result (λ r. IsTrue (list_all has_event_form r.events)) }
 {
-    run_input_of(alloc, &Place::Whole, value)
+    run_input_of(alloc, &DocumentPlace::Whole, value)
 }

@@ -68,24 +68,24 @@ impl<T: Drop> From<AllocFailed<T>> for ReadRefusal {
 
 /// Where a value stands: the whole value, a member of the object at a place, or an item of the list at a place.
 #[derive(Clone, Copy)]
-pub enum Place<'a> {
+pub enum DocumentPlace<'a> {
     Whole,
-    Member(&'a Place<'a>, &'a str),
-    Item(&'a Place<'a>, usize),
+    Member(&'a DocumentPlace<'a>, &'a str),
+    Item(&'a DocumentPlace<'a>, usize),
 }
 
-impl Place<'_> {
+impl DocumentPlace<'_> {
     /// The path.
     fn text(&self, alloc: Global) -> Result<String, AllocError>
         ensures { IfOk result (λ s. string_bytes s ≡ place_text self.now) }
     {
         match self {
-            Place::Whole => Ok(String::new(alloc)),
-            Place::Member(outer, name) => {
+            DocumentPlace::Whole => Ok(String::new(alloc)),
+            DocumentPlace::Member(outer, name) => {
                 let path = outer.text(alloc)?;
                 member_text(alloc, path.as_str(), name)
             }
-            Place::Item(outer, index) => {
+            DocumentPlace::Item(outer, index) => {
                 let path = outer.text(alloc)?;
                 item_text(alloc, path.as_str(), *index)
             }

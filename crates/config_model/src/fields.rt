@@ -11,7 +11,7 @@ ghost use Rattle.config_model.specs.Form.{is_from_to};
 ghost use Rattle.config_model.specs.Fields.{member_at, in_member, object_at, text_at, list_at, whole_at, only_at};
 ghost use Rattle.config_model.specs.Fields.{first_other, items_at, all_at, optional_all, allows};
 
-use crate::fault::{DocKind, Place, ReadRefusal};
+use crate::fault::{DocKind, DocumentPlace, ReadRefusal};
 use ov_types::Items;
 use serde_json::{Map, Value};
 use std::alloc::Global;
@@ -24,7 +24,7 @@ pub trait FromDocument: Drop {
     /// The written form of what is read.
     ghost has_form: { Self → Bool };
 
-    fn read(alloc: Global, place: &Place<'_>, value: &Value) -> Result<Self, ReadRefusal>
+    fn read(alloc: Global, place: &DocumentPlace<'_>, value: &Value) -> Result<Self, ReadRefusal>
         ensures reads { Gives (λ x. x) result (reads (place_text place.now) (view value.now)) }
         ensures form { IfOk result (λ x. IsTrue (has_form x)) };
 }
@@ -55,7 +55,7 @@ impl Count {
 #[tactic(auto, unfolding(crate::specs::Fields::member_at))]
 pub fn member_of<'v>(
     alloc: Global,
-    place: &Place<'_>,
+    place: &DocumentPlace<'_>,
     name: &str,
     value: &'v Value,
 ) -> Result<&'v Value, ReadRefusal>
@@ -63,7 +63,7 @@ pub fn member_of<'v>(
 {
     match value.get(name) {
         Some(found) => Ok(found),
-        None => Err(Place::Member(place, name).fault(alloc, DocKind::Missing)),
+        None => Err(DocumentPlace::Member(place, name).fault(alloc, DocKind::Missing)),
     }
 }
 
@@ -71,7 +71,7 @@ pub fn member_of<'v>(
 #[tactic(auto, unfolding(crate::specs::Fields::in_member))]
 pub fn read_member<T: FromDocument>(
     alloc: Global,
-    place: &Place<'_>,
+    place: &DocumentPlace<'_>,
     name: &str,
     value: &Value,
 ) -> Result<T, ReadRefusal>
@@ -79,14 +79,14 @@ pub fn read_member<T: FromDocument>(
     ensures form { IfOk result (λ x. IsTrue (T.has_form x)) }
 {
     let found = member_of(alloc, place, name, value)?;
-    T::read(alloc, &Place::Member(place, name), found)
+    T::read(alloc, &DocumentPlace::Member(place, name), found)
 }
 
 /// The members of an object.
 #[tactic(auto, unfolding(crate::specs::Fields::object_at))]
 pub fn object_of<'v>(
     alloc: Global,
-    place: &Place<'_>,
+    place: &DocumentPlace<'_>,
     value: &'v Value,
 ) -> Result<&'v Map<String, Value>, ReadRefusal>
     ensures { Gives (λ m. members_view m.now.entries) result (object_at (place_text place.now) (view value.now)) }
@@ -101,7 +101,7 @@ pub fn object_of<'v>(
 #[tactic(auto, unfolding(crate::specs::Fields::text_at))]
 pub fn text_of<'v>(
     alloc: Global,
-    place: &Place<'_>,
+    place: &DocumentPlace<'_>,
     value: &'v Value,
 ) -> Result<&'v str, ReadRefusal>
     ensures { Gives (λ s. s.now) result (text_at (place_text place.now) (view value.now)) }
@@ -116,7 +116,7 @@ pub fn text_of<'v>(
 #[tactic(auto, unfolding(crate::specs::Fields::whole_at))]
 pub fn whole_of(
     alloc: Global,
-    place: &Place<'_>,
+    place: &DocumentPlace<'_>,
     low: u64,
     high: u64,
     value: &Value,
@@ -150,7 +150,7 @@ pub fn whole_of(
 #[tactic(auto, unfolding(crate::specs::Fields::in_member))]
 pub fn whole_member(
     alloc: Global,
-    place: &Place<'_>,
+    place: &DocumentPlace<'_>,
     name: &str,
     low: u64,
     high: u64,
@@ -162,14 +162,14 @@ pub fn whole_member(
     ensures bound { IfOk result (λ n. n ≤ high) }
 {
     let found = member_of(alloc, place, name, value)?;
-    whole_of(alloc, &Place::Member(place, name), low, high, found)
+    whole_of(alloc, &DocumentPlace::Member(place, name), low, high, found)
 }
 
 /// The first member that is none of these is a fault.
 #[tactic(auto, unfolding(crate::specs::Fields::only_at))]
 pub fn check_others(
     alloc: Global,
-    place: &Place<'_>,
+    place: &DocumentPlace<'_>,
     known: &[&str],
     members: &Map<String, Value>,
 ) -> Result<(), ReadRefusal>
@@ -177,7 +177,7 @@ pub fn check_others(
         (only_at (place_text place.now) (map (λ k. k.now) known.now) (members_view members.now.entries)) }
 {
     match other_of(known, members) {
-        Some(name) => Err(Place::Member(place, name).fault(alloc, DocKind::Unknown)),
+        Some(name) => Err(DocumentPlace::Member(place, name).fault(alloc, DocKind::Unknown)),
         None => Ok(()),
     }
 }
@@ -204,7 +204,7 @@ fn is_among(known: &[&str], name: &str) -> bool
 #[tactic(auto, unfolding(crate::specs::Fields::list_at))]
 pub fn list_of<'v>(
     alloc: Global,
-    place: &Place<'_>,
+    place: &DocumentPlace<'_>,
     count: Count,
     value: &'v Value,
 ) -> Result<&'v [Value], ReadRefusal>
@@ -228,7 +228,7 @@ pub fn list_of<'v>(
 #[tactic(auto, unfolding(crate::specs::Fields::all_at))]
 pub fn read_list<T: FromDocument>(
     alloc: Global,
-    place: &Place<'_>,
+    place: &DocumentPlace<'_>,
     count: Count,
     value: &Value,
 ) -> Result<Items<T>, ReadRefusal>
@@ -244,7 +244,7 @@ pub fn read_list<T: FromDocument>(
 #[tactic(auto, unfolding(crate::specs::Fields::in_member))]
 pub fn list_member<T: FromDocument>(
     alloc: Global,
-    place: &Place<'_>,
+    place: &DocumentPlace<'_>,
     name: &str,
     count: Count,
     value: &Value,
@@ -255,14 +255,14 @@ pub fn list_member<T: FromDocument>(
     ensures count { IfOk result (λ xs. IsTrue (allows count (length xs))) }
 {
     let found = member_of(alloc, place, name, value)?;
-    read_list(alloc, &Place::Member(place, name), count, found)
+    read_list(alloc, &DocumentPlace::Member(place, name), count, found)
 }
 
 /// A list that may be absent, which is read as empty.
 #[tactic(auto, unfolding(crate::specs::Fields::optional_all))]
 pub fn optional_list_member<T: FromDocument>(
     alloc: Global,
-    place: &Place<'_>,
+    place: &DocumentPlace<'_>,
     name: &str,
     value: &Value,
 ) -> Result<Items<T>, ReadRefusal>
@@ -270,7 +270,12 @@ pub fn optional_list_member<T: FromDocument>(
     ensures form { IfOk result (λ xs. IsTrue (list_all T.has_form xs)) }
 {
     match value.get(name) {
-        Some(found) => read_list(alloc, &Place::Member(place, name), Count::AnyNumber, found),
+        Some(found) => read_list(
+            alloc,
+            &DocumentPlace::Member(place, name),
+            Count::AnyNumber,
+            found,
+        ),
         None => Ok(Items::new(alloc)),
     }
 }
@@ -278,7 +283,7 @@ pub fn optional_list_member<T: FromDocument>(
 /// Each of these items, in order.
 pub fn items_of<T: FromDocument>(
     alloc: Global,
-    place: &Place<'_>,
+    place: &DocumentPlace<'_>,
     values: &[Value],
 ) -> Result<Items<T>, ReadRefusal>
     ensures reads { Gives (λ xs. xs) result (items_at T.reads (place_text place.now) 0 (items_view values.now)) }
@@ -287,7 +292,7 @@ pub fn items_of<T: FromDocument>(
 {
     let mut items = Items::new(alloc);
     for (index, value) in values.iter().enumerate() {
-        items.push(T::read(alloc, &Place::Item(place, index), value)?)?;
+        items.push(T::read(alloc, &DocumentPlace::Item(place, index), value)?)?;
     }
     Ok(items)
 }

@@ -9,7 +9,7 @@ ghost use Rattle.config_model.specs.Input.{packet_at, compile_at, reach_at};
 
 use crate::bounds::{LAST_PORT, LAST_PORT_NUMBER, LAST_PROTOCOL};
 use crate::config::Config;
-use crate::fault::{Place, ReadRefusal};
+use crate::fault::{DocumentPlace, ReadRefusal};
 use crate::fields::{
     Count, FromDocument, check_others, list_member, object_of, read_member, whole_member,
 };
@@ -39,7 +39,7 @@ impl FromDocument for Packet {
     ghost has_form = { has_packet_form };
 
     #[tactic(auto, unfolding(crate::specs::Input::packet_at, crate::specs::Form::has_packet_form))]
-    fn read(alloc: Global, place: &Place<'_>, value: &Value) -> Result<Self, ReadRefusal> {
+    fn read(alloc: Global, place: &DocumentPlace<'_>, value: &Value) -> Result<Self, ReadRefusal> {
         let members = object_of(alloc, place, value)?;
         let port = whole_member(alloc, place, "port", 0, LAST_PORT, value)?;
         let destination = address_member(alloc, place, "to", 0, u32::MAX, value)?;
@@ -69,14 +69,14 @@ pub fn read_packet(alloc: Global, value: &Value) -> Result<Packet, ReadRefusal>
     ensures reads { Gives (λ p. p) result (packet_at [] (view value.now)) }
     ensures form { IfOk result (λ p. IsTrue (has_packet_form p)) }
 {
-    Packet::read(alloc, &Place::Whole, value)
+    Packet::read(alloc, &DocumentPlace::Whole, value)
 }
 
 /// What `compile` takes: an object with `topology` and `configuration`.
 #[tactic(auto, unfolding(crate::specs::Input::compile_at))]
 fn compile_input_of(
     alloc: Global,
-    place: &Place<'_>,
+    place: &DocumentPlace<'_>,
     value: &Value,
 ) -> Result<CompileInput, ReadRefusal>
     ensures reads { Gives (λ p. p) result (compile_at (place_text place.now) (view value.now)) }
@@ -94,7 +94,7 @@ fn compile_input_of(
 #[tactic(auto, unfolding(crate::specs::Input::reach_at))]
 fn reach_input_of(
     alloc: Global,
-    place: &Place<'_>,
+    place: &DocumentPlace<'_>,
     value: &Value,
 ) -> Result<ReachInput, ReadRefusal>
     ensures reads { Gives (λ r. r) result (reach_at (place_text place.now) (view value.now)) }
@@ -124,7 +124,7 @@ pub fn read_compile(alloc: Global, value: &Value) -> Result<CompileInput, ReadRe
     ensures topology_form { IfOk result (λ p. IsTrue (has_topology_form p.topology)) }
     ensures config_form { IfOk result (λ p. IsTrue (has_config_form p.config)) }
 {
-    compile_input_of(alloc, &Place::Whole, value)
+    compile_input_of(alloc, &DocumentPlace::Whole, value)
 }
 
 /// The whole input of `reach`: an object with `topology`, `configuration` and `packets`, a list.
@@ -134,5 +134,5 @@ pub fn read_reach(alloc: Global, value: &Value) -> Result<ReachInput, ReadRefusa
     ensures config_form { IfOk result (λ r. IsTrue (has_config_form r.input.config)) }
     ensures packets_form { IfOk result (λ r. IsTrue (list_all has_packet_form r.packets)) }
 {
-    reach_input_of(alloc, &Place::Whole, value)
+    reach_input_of(alloc, &DocumentPlace::Whole, value)
 }

@@ -5,7 +5,7 @@ ghost use Rattle.config_model.specs.Paths.{place_text};
 ghost use Rattle.config_model.specs.Faults.{Gives};
 ghost use Rattle.config_model.specs.OneMember.{only_member, one_member_at};
 
-use crate::fault::{DocKind, Place, ReadRefusal};
+use crate::fault::{DocKind, DocumentPlace, ReadRefusal};
 use crate::fields::object_of;
 use serde_json::{Map, Value};
 use std::alloc::Global;
@@ -26,7 +26,7 @@ fn only_member<'v>(members: &'v Map<String, Value>) -> Option<(&'v str, &'v Valu
 #[tactic(auto, unfolding(crate::specs::OneMember::one_member_at))]
 pub fn one_member_of<'v>(
     alloc: Global,
-    place: &Place<'_>,
+    place: &DocumentPlace<'_>,
     value: &'v Value,
 ) -> Result<(&'v str, &'v Value), ReadRefusal>
     ensures { Gives (λ m. (m.0.now, view m.1.now)) result (one_member_at (place_text place.now) (view value.now)) }

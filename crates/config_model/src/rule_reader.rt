@@ -10,7 +10,7 @@ ghost use Rattle.config_model.specs.Rule.{through_at, action_at, members_with, r
 
 use crate::bounds::{LAST_PORT_NUMBER, LAST_PROTOCOL, LAST_USE};
 use crate::config::{Action, Direction, End, Protocol, Rule};
-use crate::fault::{DocKind, Place, ReadRefusal};
+use crate::fault::{DocKind, DocumentPlace, ReadRefusal};
 use crate::fields::{
     Count, FromDocument, check_others, member_of, object_of, read_list, read_member, text_of,
     whole_member, whole_of,
@@ -35,7 +35,7 @@ impl FromDocument for Direction {
     ghost has_form = { λ direction. true };
 
     #[tactic(auto, unfolding(crate::specs::Rule::direction_at))]
-    fn read(alloc: Global, place: &Place<'_>, value: &Value) -> Result<Self, ReadRefusal> {
+    fn read(alloc: Global, place: &DocumentPlace<'_>, value: &Value) -> Result<Self, ReadRefusal> {
         let text = text_of(alloc, place, value)?;
         match direction_from(text) {
             Some(direction) => Ok(direction),
@@ -50,7 +50,7 @@ impl FromDocument for End {
     ghost has_form = { has_end_form };
 
     #[tactic(auto, unfolding(crate::specs::Rule::end_at))]
-    fn read(alloc: Global, place: &Place<'_>, value: &Value) -> Result<Self, ReadRefusal> {
+    fn read(alloc: Global, place: &DocumentPlace<'_>, value: &Value) -> Result<Self, ReadRefusal> {
         let name = Name::read(alloc, place, value)?;
         if name.text() == "any" {
             return Ok(End::Any);
@@ -65,7 +65,7 @@ impl FromDocument for Protocol {
     ghost has_form = { has_protocol_form };
 
     #[tactic(auto, unfolding(crate::specs::Rule::protocol_at))]
-    fn read(alloc: Global, place: &Place<'_>, value: &Value) -> Result<Self, ReadRefusal> {
+    fn read(alloc: Global, place: &DocumentPlace<'_>, value: &Value) -> Result<Self, ReadRefusal> {
         match value.as_str() {
             Some("any") => Ok(Protocol::Any),
             Some(_) => Err(place.fault(alloc, DocKind::Range)),
@@ -83,7 +83,7 @@ impl FromDocument for u16 {
 
     ghost has_form = { λ n. nat_le n 65535 };
 
-    fn read(alloc: Global, place: &Place<'_>, value: &Value) -> Result<Self, ReadRefusal> {
+    fn read(alloc: Global, place: &DocumentPlace<'_>, value: &Value) -> Result<Self, ReadRefusal> {
         let number = whole_of(alloc, place, 0, LAST_PORT_NUMBER, value)?;
         Ok(number as u16)
     }
@@ -95,7 +95,7 @@ impl FromDocument for Range16 {
     ghost has_form = { is_range };
 
     #[tactic(auto, unfolding(crate::specs::Rule::range_at))]
-    fn read(alloc: Global, place: &Place<'_>, value: &Value) -> Result<Self, ReadRefusal> {
+    fn read(alloc: Global, place: &DocumentPlace<'_>, value: &Value) -> Result<Self, ReadRefusal> {
         let ports = read_list::<u16>(alloc, place, Count::Two, value)?;
         match ports.as_slice() {
             [lo, hi] if lo <= hi => Ok(Range16 { lo: *lo, hi: *hi }),
@@ -106,7 +106,11 @@ impl FromDocument for Range16 {
 
 /// The members `chain` and `use`.
 #[tactic(auto, unfolding(crate::specs::Rule::through_at))]
-fn through_of(alloc: Global, place: &Place<'_>, value: &Value) -> Result<Action, ReadRefusal>
+fn through_of(
+    alloc: Global,
+    place: &DocumentPlace<'_>,
+    value: &Value,
+) -> Result<Action, ReadRefusal>
     ensures reads { Gives (λ x. x) result (through_at (place_text place.now) (view value.now)) }
     ensures form { IfOk result (λ action. IsTrue (has_action_form action)) }
 {
@@ -121,19 +125,19 @@ fn through_of(alloc: Global, place: &Place<'_>, value: &Value) -> Result<Action,
 #[tactic(auto, unfolding(crate::specs::Fields::in_member))]
 fn text_member<'v>(
     alloc: Global,
-    place: &Place<'_>,
+    place: &DocumentPlace<'_>,
     name: &str,
     value: &'v Value,
 ) -> Result<&'v str, ReadRefusal>
     ensures { Gives (λ s. s.now) result (in_member text_at (place_text place.now) name.now (view value.now)) }
 {
     let found = member_of(alloc, place, name, value)?;
-    text_of(alloc, &Place::Member(place, name), found)
+    text_of(alloc, &DocumentPlace::Member(place, name), found)
 }
 
 /// The member `action`, and with `chain` two more.
 #[tactic(auto, unfolding(crate::specs::Rule::action_at))]
-fn action_of(alloc: Global, place: &Place<'_>, value: &Value) -> Result<Action, ReadRefusal>
+fn action_of(alloc: Global, place: &DocumentPlace<'_>, value: &Value) -> Result<Action, ReadRefusal>
     ensures reads { Gives (λ x. x) result (action_at (place_text place.now) (view value.now)) }
     ensures form { IfOk result (λ action. IsTrue (has_action_form action)) }
 {
@@ -142,14 +146,14 @@ fn action_of(alloc: Global, place: &Place<'_>, value: &Value) -> Result<Action, 
         "pass" => Ok(Action::Pass),
         "deny" => Ok(Action::Deny),
         "chain" => through_of(alloc, place, value),
-        _ => Err(Place::Member(place, "action").fault(alloc, DocKind::Range)),
+        _ => Err(DocumentPlace::Member(place, "action").fault(alloc, DocKind::Range)),
     }
 }
 
 /// No member but those of a rule with this action.
 fn check_other_members(
     alloc: Global,
-    place: &Place<'_>,
+    place: &DocumentPlace<'_>,
     action: &Action,
     members: &Map<String, Value>,
 ) -> Result<(), ReadRefusal>
@@ -192,7 +196,7 @@ fn check_other_members(
 
 /// The rule at a path.
 #[tactic(auto, unfolding(crate::specs::Rule::rule_at, crate::specs::Form::has_rule_form))]
-fn rule_of(alloc: Global, place: &Place<'_>, value: &Value) -> Result<Rule, ReadRefusal>
+fn rule_of(alloc: Global, place: &DocumentPlace<'_>, value: &Value) -> Result<Rule, ReadRefusal>
     ensures reads { Gives (λ x. x) result (rule_at (place_text place.now) (view value.now)) }
     ensures form { IfOk result (λ rule. IsTrue (has_rule_form rule)) }
 {
@@ -221,7 +225,7 @@ impl FromDocument for Rule {
 
     ghost has_form = { has_rule_form };
 
-    fn read(alloc: Global, place: &Place<'_>, value: &Value) -> Result<Self, ReadRefusal> {
+    fn read(alloc: Global, place: &DocumentPlace<'_>, value: &Value) -> Result<Self, ReadRefusal> {
         rule_of(alloc, place, value)
     }
 }

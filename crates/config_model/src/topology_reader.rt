@@ -8,7 +8,7 @@ ghost use Rattle.config_model.specs.Fields.{in_member};
 ghost use Rattle.config_model.specs.Topology.{as_at, controller_at, node_at, topology_at};
 
 use crate::bounds::{FIRST_NODE_ADDRESS, LAST_AS, LAST_NODE_ADDRESS, LAST_SHORT_AS, STAND_IN_AS};
-use crate::fault::{DocKind, Place, ReadRefusal};
+use crate::fault::{DocKind, DocumentPlace, ReadRefusal};
 use crate::fields::{
     Count, FromDocument, check_others, list_member, member_of, object_of, whole_of,
 };
@@ -27,7 +27,7 @@ fn is_reserved_as(n: u64) -> bool
 
 /// The number of an autonomous system.
 #[tactic(auto, unfolding(crate::specs::Topology::as_at))]
-fn as_of(alloc: Global, place: &Place<'_>, value: &Value) -> Result<u32, ReadRefusal>
+fn as_of(alloc: Global, place: &DocumentPlace<'_>, value: &Value) -> Result<u32, ReadRefusal>
     ensures reads { Gives (λ n. n) result (as_at (place_text place.now) (view value.now)) }
     ensures form { IfOk result (λ n. IsTrue (is_as_number n)) }
 {
@@ -41,7 +41,7 @@ fn as_of(alloc: Global, place: &Place<'_>, value: &Value) -> Result<u32, ReadRef
 #[tactic(auto, unfolding(crate::specs::Fields::in_member))]
 fn as_member(
     alloc: Global,
-    place: &Place<'_>,
+    place: &DocumentPlace<'_>,
     name: &str,
     value: &Value,
 ) -> Result<u32, ReadRefusal>
@@ -49,7 +49,7 @@ fn as_member(
     ensures form { IfOk result (λ n. IsTrue (is_as_number n)) }
 {
     let found = member_of(alloc, place, name, value)?;
-    as_of(alloc, &Place::Member(place, name), found)
+    as_of(alloc, &DocumentPlace::Member(place, name), found)
 }
 
 impl FromDocument for NodeId {
@@ -58,7 +58,7 @@ impl FromDocument for NodeId {
     ghost has_form = { has_controller_form };
 
     #[tactic(auto, unfolding(crate::specs::Topology::controller_at, crate::specs::Form::has_controller_form))]
-    fn read(alloc: Global, place: &Place<'_>, value: &Value) -> Result<Self, ReadRefusal> {
+    fn read(alloc: Global, place: &DocumentPlace<'_>, value: &Value) -> Result<Self, ReadRefusal> {
         let members = object_of(alloc, place, value)?;
         let name = name_but_member(alloc, place, "name", "config", value)?;
         let address = address_member(
@@ -80,7 +80,7 @@ impl FromDocument for Node {
     ghost has_form = { has_node_form };
 
     #[tactic(auto, unfolding(crate::specs::Topology::node_at, crate::specs::Form::has_node_form))]
-    fn read(alloc: Global, place: &Place<'_>, value: &Value) -> Result<Self, ReadRefusal> {
+    fn read(alloc: Global, place: &DocumentPlace<'_>, value: &Value) -> Result<Self, ReadRefusal> {
         let members = object_of(alloc, place, value)?;
         let name = name_but_member(alloc, place, "name", "config", value)?;
         let address = address_member(
@@ -107,7 +107,7 @@ impl FromDocument for Topology {
     ghost has_form = { has_topology_form };
 
     #[tactic(auto, unfolding(crate::specs::Topology::topology_at, crate::specs::Form::has_topology_form))]
-    fn read(alloc: Global, place: &Place<'_>, value: &Value) -> Result<Self, ReadRefusal> {
+    fn read(alloc: Global, place: &DocumentPlace<'_>, value: &Value) -> Result<Self, ReadRefusal> {
         let members = object_of(alloc, place, value)?;
         let asn = as_member(alloc, place, "as", value)?;
         let controllers = list_member::<NodeId>(
@@ -132,5 +132,5 @@ pub fn read_topology(alloc: Global, value: &Value) -> Result<Topology, ReadRefus
     ensures reads { Gives (λ t. t) result (topology_at [] (view value.now)) }
     ensures form { IfOk result (λ t. IsTrue (has_topology_form t)) }
 {
-    Topology::read(alloc, &Place::Whole, value)
+    Topology::read(alloc, &DocumentPlace::Whole, value)
 }

@@ -8,7 +8,7 @@ ghost use Rattle.config_model.specs.Faults.{Gives};
 ghost use Rattle.config_model.specs.Form.{is_from_to, is_block};
 ghost use Rattle.config_model.specs.Fields.{in_member, name_at, name_but_at, address_at, prefix_at};
 
-use crate::fault::{DocKind, Place, ReadRefusal};
+use crate::fault::{DocKind, DocumentPlace, ReadRefusal};
 use crate::fields::{FromDocument, member_of, text_of};
 use ov_types::written::{address_from, prefix_from};
 use ov_types::{Addr, Name, Prefix};
@@ -21,7 +21,7 @@ impl FromDocument for Name {
     ghost has_form = { is_name };
 
     #[tactic(auto, unfolding(crate::specs::Fields::name_at))]
-    fn read(alloc: Global, place: &Place<'_>, value: &Value) -> Result<Self, ReadRefusal> {
+    fn read(alloc: Global, place: &DocumentPlace<'_>, value: &Value) -> Result<Self, ReadRefusal> {
         let text = text_of(alloc, place, value)?;
         match Name::new(text) {
             Some(name) => Ok(name),
@@ -34,7 +34,7 @@ impl FromDocument for Name {
 #[tactic(auto, unfolding(crate::specs::Fields::name_but_at))]
 fn name_but_of(
     alloc: Global,
-    place: &Place<'_>,
+    place: &DocumentPlace<'_>,
     reserved: &str,
     value: &Value,
 ) -> Result<Name, ReadRefusal>
@@ -52,7 +52,7 @@ fn name_but_of(
 #[tactic(auto, unfolding(crate::specs::Fields::in_member))]
 pub fn name_but_member(
     alloc: Global,
-    place: &Place<'_>,
+    place: &DocumentPlace<'_>,
     name: &str,
     reserved: &str,
     value: &Value,
@@ -62,14 +62,14 @@ pub fn name_but_member(
     ensures form { IfOk result (λ name. IsTrue (is_name name && not (pointwise nat_eq name reserved.now))) }
 {
     let found = member_of(alloc, place, name, value)?;
-    name_but_of(alloc, &Place::Member(place, name), reserved, found)
+    name_but_of(alloc, &DocumentPlace::Member(place, name), reserved, found)
 }
 
 /// An address from low to high.
 #[tactic(auto, unfolding(crate::specs::Fields::address_at))]
 fn address_of(
     alloc: Global,
-    place: &Place<'_>,
+    place: &DocumentPlace<'_>,
     low: u32,
     high: u32,
     value: &Value,
@@ -88,7 +88,7 @@ fn address_of(
 #[tactic(auto, unfolding(crate::specs::Fields::in_member))]
 pub fn address_member(
     alloc: Global,
-    place: &Place<'_>,
+    place: &DocumentPlace<'_>,
     name: &str,
     low: u32,
     high: u32,
@@ -99,7 +99,7 @@ pub fn address_member(
     ensures form { IfOk result (λ a. IsTrue (is_from_to low high a.0)) }
 {
     let found = member_of(alloc, place, name, value)?;
-    address_of(alloc, &Place::Member(place, name), low, high, found)
+    address_of(alloc, &DocumentPlace::Member(place, name), low, high, found)
 }
 
 impl FromDocument for Prefix {
@@ -108,7 +108,7 @@ impl FromDocument for Prefix {
     ghost has_form = { is_block };
 
     #[tactic(auto, unfolding(crate::specs::Fields::prefix_at))]
-    fn read(alloc: Global, place: &Place<'_>, value: &Value) -> Result<Self, ReadRefusal> {
+    fn read(alloc: Global, place: &DocumentPlace<'_>, value: &Value) -> Result<Self, ReadRefusal> {
         let text = text_of(alloc, place, value)?;
         match prefix_from(text) {
             Some(prefix) => Ok(prefix),

@@ -24,7 +24,7 @@ use Rattle.node_core.proofs.Lists.{all-at, all-set}
 use Rattle.node_model.specs.Step.{Post, changes, nothing, post, told_all}
 use Rattle.node_model.specs.Values.{same_value}
 use Rattle.node_model.proofs.Alike.{same_value_decides}
-use Rattle.network_model.specs.Setup.{low_in}
+use Rattle.machine_model.specs.Setup.{low_in}
 use Rattle.config_node.specs.Beginning.{no_node}
 use Rattle.config_node.specs.Core.{is_idle, kind, nothings}
 use Rattle.config_node.specs.Ends.{AreEnds, HasSent, Objects, controller, doubted, end_at, low_of, new_end, posts_of}

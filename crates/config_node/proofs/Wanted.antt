@@ -16,7 +16,7 @@ use Rattle.transform_model.specs.Objects.{low_objects}
 use Rattle.node_model.specs.Keys.{Low, key_cmp}
 use Rattle.node_model.specs.Values.{Object}
 use Rattle.node_model.specs.Wants.{slice_entry}
-use Rattle.network_model.specs.Setup.{low_in}
+use Rattle.machine_model.specs.Setup.{low_in}
 use Rattle.config_node.specs.Ends.{Objects, low_of, low_order}
 use Rattle.config_node.proofs.Images.{low-entries}
 

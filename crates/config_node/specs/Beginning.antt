@@ -11,8 +11,8 @@ use Rattle.config_check.specs.Checked.{Checked}
 use Rattle.node_items.specs.Beginning as item
 pub use Rattle.node_items.specs.Beginning.{state_at}
 pub use Rattle.node_model.specs.Naming.{no_node}
-use Rattle.node_model.specs.Step.{Begun, Phase, Post}
-use Rattle.network_model.specs.Network.{config}
+use Rattle.node_model.specs.Step.{Beginning, Phase, Post}
+use Rattle.machine_model.specs.Network.{config}
 
 -- the control node at the other end of a session
 abbrev pub controller_at : Checked → ℕ → NodeId
@@ -24,5 +24,5 @@ session_at x i phase = record { peer = (controller_at x i).name; from = From.Not
 
 -- what an input makes of the end of its session, where these octets were kept of it before, the cause for which that goes
 -- down, and what is kept of it then
-abbrev pub BeginsKeeping : Checked → ℕ → Post → List ℕ → Input → Begun → Option ItemCause → List ℕ → Type 0
+abbrev pub BeginsKeeping : Checked → ℕ → Post → List ℕ → Input → Beginning → Option ItemCause → List ℕ → Type 0
 BeginsKeeping x i p = item.BeginsKeeping config (session_at x i p.phase) p

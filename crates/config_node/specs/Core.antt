@@ -8,8 +8,8 @@ use Rattle.node_model.specs.Codes.{coded_post}
 use Rattle.node_model.specs.Maps.{Map}
 pub use Rattle.node_core.specs.Keeping.{AreFew, AreOfLive, AreSwept, kept_at, nothing_kept}
 pub use Rattle.node_core.specs.Resting.{is_idle, is_up, may_send, nothings}
-use Rattle.node_model.specs.Step.{Kind, Post}
-use Rattle.network_model.specs.Setup.{low_in}
+use Rattle.node_model.specs.Step.{NodeKind, Post}
+use Rattle.machine_model.specs.Setup.{low_in}
 
 -- its ends are those of the control nodes, in the order of the topology
 pub record Core : Type 0 where
@@ -26,7 +26,7 @@ sessions x = length x.topology.controllers
 abbrev pub wanted : Checked → List Post → ℕ → Map
 wanted x posts i = low_in x
 
-abbrev pub kind : Checked → Kind
+abbrev pub kind : Checked → NodeKind
 kind x = record { wanted = wanted x; may_send = may_send; spelled = λ i c. spelled c }
 
 -- ---- a configuration node whose ends are all closed

@@ -21,7 +21,7 @@ use Rattle.node_model.specs.Keys.{Low, key_cmp}
 use Rattle.node_model.specs.Maps.{Map}
 use Rattle.node_model.specs.Step.{Post}
 use Rattle.node_model.specs.Values.{Object}
-use Rattle.network_model.specs.Setup.{low_in}
+use Rattle.machine_model.specs.Setup.{low_in}
 use Rattle.config_node.specs.declared.ends.FeedEnd.{FeedEnd}
 
 pub record Ends : Type 0 where

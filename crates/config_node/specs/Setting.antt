@@ -8,7 +8,7 @@ use Rattle.ov_link.specs.declared.step.NodeFault.{NodeFault}
 use Rattle.ov_link.specs.declared.step.NodeFault.TheVariants.{LinkFailed, NoMemory}
 use Rattle.config_check.specs.Checked.{Checked}
 use Rattle.node_core.specs.Naming.{Names}
-use Rattle.node_model.specs.Step.{Begun, Post, Steps, post}
+use Rattle.node_model.specs.Step.{Beginning, Post, Steps, post}
 use Rattle.config_node.specs.Core.{kind}
 
 -- the session whose link failed once it was set
@@ -18,7 +18,7 @@ failed_link (Err NoMemory) = None
 failed_link (Ok _) = None
 
 -- what is there is told anew, without an input
-abbrev pub as_it_is : List Post → Begun
+abbrev pub as_it_is : List Post → Beginning
 as_it_is posts = record { replies = []; after = Some (post posts 0) }
 
 module _ {L : Type 0} (accepted : L → Option (List (List ℕ))) (breaks : L → Option (List ℕ)) (faults : L → ℕ) where

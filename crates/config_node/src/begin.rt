@@ -6,8 +6,8 @@ ghost use Rattle.item_wire.specs.declared.item.Item.TheVariants.{Hello};
 ghost use Rattle.node_core.specs.Begun.{HasBegun};
 ghost use Rattle.node_core.specs.Keeping.{left_in, size_of};
 ghost use Rattle.node_core.specs.Whole.{Comes, session_of};
-ghost use Rattle.node_model.specs.Step.{Begun, Idle, Opened, post};
-ghost use Rattle.network_model.specs.Network.{config};
+ghost use Rattle.node_model.specs.Step.{Beginning, Idle, Opened, post};
+ghost use Rattle.machine_model.specs.Network.{config};
 ghost use Rattle.config_node.specs.Beginning.{BeginsKeeping};
 ghost use Rattle.config_node.specs.Core.{is_idle, sessions};
 ghost use Rattle.config_node.specs.Ends.{whom};
@@ -89,7 +89,7 @@ impl ConfigEnds {
         requires comes { Comes (λ i. is_idle (post self.old.posts i).phase ≡ false)
             (λ i. is_idle (post self.old.posts i).phase ≡ true) input }
         ensures setup { self.new.setup ≡ self.old.setup }
-        ensures begins { IfOk result (λ started. (given : Begun)
+        ensures begins { IfOk result (λ started. (given : Beginning)
             × BeginsKeeping self.old.setup (session_of input.entry) (post self.old.posts (session_of input.entry)) []
             input.entry given started.cause (left_in input.entry started.taken)
             × HasBegun self.old.posts (session_of input.entry) given started.replies self.new.posts) }

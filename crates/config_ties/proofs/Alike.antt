@@ -12,9 +12,9 @@ use Rattle.ov_types.proofs.FirstLemmas.{contains_at, first_of_none}
 use Rattle.config_model.specs.declared.config.Config.{Config}
 use Rattle.config_model.specs.declared.config.Port.{Port}
 use Rattle.config_model.specs.declared.topology.Topology.{Topology}
-use Rattle.network_rules.proofs.Taking.{first_answer}
-use Rattle.network_rules.specs.Related.{all_rules}
-use Rattle.network_rules.specs.declared.numbered.NumberedRule.{NumberedRule}
+use Rattle.policy_rules.proofs.Taking.{first_answer}
+use Rattle.policy_rules.specs.Related.{all_rules}
+use Rattle.policy_rules.specs.declared.numbered.NumberedRule.{NumberedRule}
 use Rattle.config_check.specs.Checked.{Checked}
 use Rattle.config_check.specs.Rules.{first_broken}
 use Rattle.config_check.specs.Sentences.{IsValid}

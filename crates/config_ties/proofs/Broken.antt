@@ -5,7 +5,7 @@ use Rattle.std.proofs.lemmas.Bool.{and_from, and_parts, eq-eqb, eqb-true}
 use Rattle.std.proofs.lemmas.List.Elements.{All-contains, Contains-get_or}
 use Rattle.std.proofs.lemmas.Bool.{true≢false}
 use Rattle.std.proofs.lemmas.Option.{same_Some}
-use Rattle.network_rules.proofs.Taking.{first_answer}
+use Rattle.policy_rules.proofs.Taking.{first_answer}
 use Rattle.ov_types.proofs.FirstLemmas.{contains_at}
 use Rattle.ov_types.specs.First.{first_of, same_name, ◌<|>◌}
 use Rattle.ov_types.specs.declared.numbers.InstanceId.{InstanceId}
@@ -18,8 +18,8 @@ use Rattle.config_model.specs.declared.config.Config.{Config}
 use Rattle.config_model.specs.declared.config.Port.{Port}
 use Rattle.config_model.specs.declared.topology.Node.{Node}
 use Rattle.config_model.specs.declared.topology.Topology.{Topology}
-use Rattle.network_rules.specs.Related.{all_rules}
-use Rattle.network_rules.specs.declared.numbered.NumberedRule.{NumberedRule}
+use Rattle.policy_rules.specs.Related.{all_rules}
+use Rattle.policy_rules.specs.declared.numbered.NumberedRule.{NumberedRule}
 use Rattle.config_check.specs.Checked.{Checked}
 use Rattle.config_check.specs.Sentences.{IsValid}
 use Rattle.config_ties.specs.declared.breaking.Tie.{Tie}

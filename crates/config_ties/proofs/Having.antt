@@ -17,11 +17,11 @@ use Rattle.config_model.specs.declared.config.Network.{Network}
 use Rattle.config_model.specs.declared.config.Port.{Port}
 use Rattle.config_model.specs.declared.config.Rule.{Rule}
 use Rattle.config_model.specs.declared.topology.Topology.{Topology}
-use Rattle.network_rules.specs.Related.{all_rules, are_related}
-use Rattle.network_rules.specs.Standing.{Fits, IsBetween}
-use Rattle.network_rules.specs.declared.numbered.NumberedRule.{NumberedRule}
-use Rattle.network_rules.proofs.Relations.{related_iff}
-use Rattle.network_rules.proofs.Taking.{first_answer}
+use Rattle.policy_rules.specs.Related.{all_rules, are_related}
+use Rattle.policy_rules.specs.Standing.{Fits, IsBetween}
+use Rattle.policy_rules.specs.declared.numbered.NumberedRule.{NumberedRule}
+use Rattle.policy_rules.proofs.Relations.{related_iff}
+use Rattle.policy_rules.proofs.Taking.{first_answer}
 use Rattle.config_check.specs.Finding.{network_named, port_numbered}
 use Rattle.config_check.specs.Rules.{use_of}
 use Rattle.config_check.specs.Sentences.{IsValid}

@@ -6,9 +6,9 @@ use Rattle.ov_types.specs.declared.numbers.InstanceId.{InstanceId}
 use Rattle.config_model.specs.declared.config.Config.{Config}
 use Rattle.config_model.specs.declared.config.Network.{Network}
 use Rattle.config_model.specs.declared.config.Policy.{Policy}
-use Rattle.network_rules.specs.Related.{are_related, attaches, lets_through, rules_between}
-use Rattle.network_rules.specs.Wanted.{leads_between}
-use Rattle.network_rules.proofs.AnyRule.{any_between, any_filter, any_same}
+use Rattle.policy_rules.specs.Related.{are_related, attaches, lets_through, rules_between}
+use Rattle.policy_rules.specs.Wanted.{leads_between}
+use Rattle.policy_rules.proofs.AnyRule.{any_between, any_filter, any_same}
 use Rattle.config_check.specs.Between.{also_leads}
 use Rattle.config_ties.specs.Relating.{is_related_by, relates_by, relates_one}
 use Rattle.config_ties.proofs.Adding.{and_apart}

@@ -12,7 +12,7 @@ use Rattle.config_model.specs.declared.config.Rule.{Rule}
 use Rattle.config_model.specs.declared.topology.Node.{Node}
 use Rattle.config_model.specs.declared.topology.Topology.{Topology}
 use Rattle.config_check.specs.Checked.{Checked}
-use Rattle.network_rules.specs.Related.{all_rules}
+use Rattle.policy_rules.specs.Related.{all_rules}
 use Rattle.config_ties.specs.declared.breaking.Tie.{Tie}
 use Rattle.config_ties.specs.declared.breaking.Tie.TheVariants as Tied
 use Rattle.config_ties.specs.Ties.{HasNode, HasPort, HasUse, Ties}

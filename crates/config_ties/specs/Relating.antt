@@ -6,7 +6,7 @@ use Rattle.ov_types.specs.declared.numbers.InstanceId.{InstanceId}
 use Rattle.config_model.specs.declared.config.Config.{Config}
 use Rattle.config_model.specs.declared.config.Network.{Network}
 use Rattle.config_model.specs.declared.config.Policy.{Policy}
-use Rattle.network_rules.specs.Related.{are_related}
+use Rattle.policy_rules.specs.Related.{are_related}
 use Rattle.config_check.specs.Between.{also_leads}
 
 -- one of these policies, which a network attaches, relates it to another

@@ -13,9 +13,9 @@ use Rattle.config_model.specs.declared.config.Network.{Network}
 use Rattle.config_model.specs.declared.config.Port.{Port}
 use Rattle.config_model.specs.declared.topology.Node.{Node}
 use Rattle.config_model.specs.declared.topology.Topology.{Topology}
-use Rattle.network_rules.specs.Related.{all_rules}
-use Rattle.network_rules.specs.Standing.{AreRelated}
-use Rattle.network_rules.specs.declared.numbered.NumberedRule.{NumberedRule}
+use Rattle.policy_rules.specs.Related.{all_rules}
+use Rattle.policy_rules.specs.Standing.{AreRelated}
+use Rattle.policy_rules.specs.declared.numbered.NumberedRule.{NumberedRule}
 
 -- what ties answer: the network of a port number, the left and the right network of a use number, whether two networks
 -- were related, the address of a compute node's name, and the name at a compute node's address

@@ -15,7 +15,7 @@ use Rattle.config_model.specs.declared.config.Port.{Port}
 use Rattle.config_model.specs.declared.config.Rule.{Rule}
 use Rattle.config_model.specs.declared.topology.Node.{Node}
 use Rattle.config_model.specs.declared.topology.Topology.{Topology}
-use Rattle.network_rules.specs.Related.{all_rules, are_related}
+use Rattle.policy_rules.specs.Related.{all_rules, are_related}
 use Rattle.config_check.specs.Checked.{Checked}
 use Rattle.config_check.specs.Finding.{network_named, node_named, port_numbered}
 use Rattle.config_ties.specs.Ties.{Ties}

@@ -1,7 +1,7 @@
 //! The first tie that a configuration breaks.
 ghost use Rattle.std.specs.Prelude.{◌≡◌};
 ghost use Rattle.ov_types.specs.First.{first_of};
-ghost use Rattle.network_rules.specs.Related.{all_rules};
+ghost use Rattle.policy_rules.specs.Related.{all_rules};
 ghost use Rattle.config_ties.specs.Broken.{broken_node, broken_port, broken_tie, broken_use};
 ghost use Rattle.config_ties.specs.Broken.{moved, moved_address, moved_pair, renamed};
 ghost use Rattle.config_ties.specs.Kept.{ties_in};
@@ -10,8 +10,8 @@ use crate::kept::Ties;
 use crate::naming::{ends_of, home_id};
 use config_check::Valid;
 use config_model::{Action, Config, Node, Port, Rule, Topology};
-use network_rules::NumberedRule;
 use ov_types::{Addr, InstanceId, Name, PortNo};
+use policy_rules::NumberedRule;
 
 /// What has a tie: a port number, the number of a chain's use, or the compute node at an address.
 #[derive(Clone, Copy, PartialEq, Eq)]

@@ -1,7 +1,7 @@
 //! The ties with those of one configuration more.
 ghost use Rattle.std.specs.Prelude.{◌≡◌, IfOk, OnOk};
 ghost use Rattle.ov_types.specs.First.{first_of};
-ghost use Rattle.network_rules.specs.Related.{all_rules};
+ghost use Rattle.policy_rules.specs.Related.{all_rules};
 ghost use Rattle.config_ties.specs.Kept.{Adds, AreAlike, home_by, port_in, ties_in, use_in};
 ghost use Rattle.config_ties.specs.Tying.{ends_by, joined};
 
@@ -11,8 +11,8 @@ use crate::naming::{ends_of, home_id};
 use crate::relating::joined_related;
 use config_check::Valid;
 use config_model::{Action, Config, Port, Rule};
-use network_rules::{NumberedRule, all_rules};
 use ov_types::NoMemory;
+use policy_rules::{NumberedRule, all_rules};
 use std::alloc::{AllocError, Global};
 
 /// The rules of a valid configuration.

@@ -1,7 +1,7 @@
 //! The networks that were related, with those that one configuration more relates.
 ghost use Rattle.std.specs.Prelude.{◌≡◌, filter, map, IfOk, OnOk};
 ghost use Rattle.std.specs.List.{list_any};
-ghost use Rattle.network_rules.specs.Related.{attaches};
+ghost use Rattle.policy_rules.specs.Related.{attaches};
 ghost use Rattle.config_check.specs.Between.{also_leads};
 ghost use Rattle.config_ties.specs.Kept.{Relates, are_in};
 ghost use Rattle.config_ties.specs.Relating.{is_related_by, relates_by, relates_one};
@@ -9,8 +9,8 @@ ghost use Rattle.config_ties.specs.Tying.{relates};
 
 use crate::kept::Related;
 use config_model::{Config, Network, Policy};
-use network_rules::{attaches, some_rule_leads};
 use ov_types::NoMemory;
+use policy_rules::{attaches, some_rule_leads};
 use std::alloc::{AllocError, Global};
 
 /// The policies that a network attaches, in the document's order.

@@ -6,20 +6,20 @@ use Rattle.std.specs.declared.result.Result.{Result}
 use Rattle.std.specs.declared.result.Result.TheVariants.{Ok, Err}
 use Rattle.std.specs.Io.KnownBytes.{Appends}
 use Rattle.config_check.specs.Checked.{Checked}
-use Rattle.document_answers.specs.declared.unfit.Verdict.{Verdict}
-use Rattle.document_answers.specs.declared.unfit.Verdict.TheVariants.{Good}
+use Rattle.compile_answers.specs.declared.unfit.Reception.{Reception}
+use Rattle.compile_answers.specs.declared.unfit.Reception.TheVariants.{Good}
 use Rattle.ov_io.specs.declared.pieces.WriteRefusal.{WriteRefusal}
 use Rattle.headline_laws.specs.Headline.{IsWritten}
 use Rattle.headline_laws.proofs.Written.{written_settle_settles}
-use Rattle.network_model.specs.Events.{Settle, next}
-use Rattle.network_model.specs.Setup.{opening}
-use Rattle.network_model.specs.Steps.{is_settled}
+use Rattle.machine_model.specs.Events.{Settle, next}
+use Rattle.machine_model.specs.Setup.{opening}
+use Rattle.machine_model.specs.Steps.{is_settled}
 use Rattle.net_machine.specs.NetState.{NetState}
-use Rattle.net_model.specs.Stands.{message_size, moment}
-use Rattle.net_model.proofs.Sizes.{positive}
-use Rattle.peering_laws.proofs.Heard.{all_hear}
-use Rattle.told_laws.specs.Moments.{IsMoment}
-use Rattle.told_laws.proofs.Moments.{moment_of}
+use Rattle.running_model.specs.Stands.{message_size, moment}
+use Rattle.running_model.proofs.Sizes.{positive}
+use Rattle.running_peering_laws.proofs.Heard.{all_hear}
+use Rattle.running_telling_laws.specs.Moments.{IsMoment}
+use Rattle.running_telling_laws.proofs.Moments.{moment_of}
 use Rattle.constrain_answers.specs.Constraint.{constrain_text, settling}
 use Rattle.constrain_answers.specs.Networks.{HasSettled, IsLeftSettled, IsReadAs, NoneNeedsMore, TookConstraint, input_of}
 
@@ -50,7 +50,7 @@ constraint_promised octets old new x read written taken enough = record {
 }
 
 -- what is not fit is not good
-pub not_good : (r : Result Verdict WriteRefusal) → IfOk r (λ v. v ≢ Good) → r ≡ Ok Good → ⊥
+pub not_good : (r : Result Reception WriteRefusal) → IfOk r (λ v. v ≢ Good) → r ≡ Ok Good → ⊥
 not_good (Ok v) unfit is = unfit cc
 not_good (Err e) unfit is = cc
 

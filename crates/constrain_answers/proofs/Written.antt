@@ -8,7 +8,7 @@ use Rattle.ov_types.specs.declared.rows.NodeId.{NodeId}
 use Rattle.config_model.specs.declared.topology.Topology.{Topology}
 use Rattle.node_model.specs.Members.{Member}
 use Rattle.node_model.proofs.Members.{any_in}
-use Rattle.network_model.specs.Network.{Network}
+use Rattle.machine_model.specs.Network.{Network}
 use Rattle.net_machine.specs.Looking.{held_at}
 use Rattle.rt_constrain.proofs.Asks.{asked_form}
 use Rattle.constrain_answers.specs.Constraint.{AreControlNodes, AreInForm, asking_of, askings}

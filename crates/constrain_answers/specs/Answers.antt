@@ -5,7 +5,7 @@ use Rattle.config_model.specs.declared.input.CompileInput.{CompileInput}
 use Rattle.config_model.specs.Faults.{Fault}
 use Rattle.config_model.specs.Input.{compile_at}
 use Rattle.config_check.specs.Rules.{first_broken}
-use Rattle.document_answers.specs.Answers.{Answer, answer_bad, answer_checked, of_json}
+use Rattle.compile_answers.specs.Answers.{Answer, answer_bad, answer_checked, of_json}
 use Rattle.ov_json.specs.Json.{json_of}
 use Rattle.constrain_answers.specs.Constraint.{constrain_text}
 

@@ -9,9 +9,9 @@ use Rattle.config_model.specs.declared.topology.Topology.{Topology}
 use Rattle.config_check.specs.Checked.{Checked}
 use Rattle.node_model.specs.Maps.{Map}
 use Rattle.node_model.specs.Wants.{wanted_by_peers}
-use Rattle.network_model.specs.Setup.{Name}
-use Rattle.network_model.specs.Network.{Network}
-use Rattle.net_model.specs.Stands.{moment}
+use Rattle.machine_model.specs.Setup.{Name}
+use Rattle.machine_model.specs.Network.{Network}
+use Rattle.running_model.specs.Stands.{moment}
 use Rattle.net_machine.specs.Looking.{held_at, is_control_node}
 use Rattle.report.specs.Memberships.{asked_line, sent_line}
 use Rattle.rt_constrain.specs.Asking.{asked}

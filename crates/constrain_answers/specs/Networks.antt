@@ -15,13 +15,13 @@ use Rattle.node_model.specs.Members.{Member}
 use Rattle.node_model.specs.Paths.{Holdings, Told}
 use Rattle.node_model.specs.Tables.{table}
 use Rattle.node_model.specs.Wants.{wanted_by_agent, wanted_by_peers}
-use Rattle.network_model.specs.Network.{Network}
-use Rattle.network_model.specs.Steps.{is_settled}
-use Rattle.net_model.specs.Stands.{StandsFor, moment}
+use Rattle.machine_model.specs.Network.{Network}
+use Rattle.machine_model.specs.Steps.{is_settled}
+use Rattle.running_model.specs.Stands.{StandsFor, moment}
 use Rattle.net_machine.specs.Looking.{held_at}
 use Rattle.net_machine.specs.NetState.{NetState}
 use Rattle.ov_json.specs.Json.{json_of}
-use Rattle.peering_laws.specs.Hearing.{AllHearTheirPeers}
+use Rattle.running_peering_laws.specs.Hearing.{AllHearTheirPeers}
 use Rattle.rt_constrain.specs.Asking.{cut}
 use Rattle.rt_constrain.specs.Needed.{needed}
 use Rattle.constrain_answers.specs.Constraint.{constrain_text, settling}

@@ -3,10 +3,10 @@ ghost use Rattle.std.specs.Prelude.{◌≡◌, ◌≢◌, [], Ok, Some, IfOk, If
 ghost use Rattle.std.specs.Io.KnownBytes.{Appends};
 ghost use Rattle.serde_json.specs.View.{view};
 ghost use Rattle.config_model.specs.Input.{compile_at};
-ghost use Rattle.document_answers.specs.Answers.{IsAnswered, WasGiven, answer_good};
+ghost use Rattle.compile_answers.specs.Answers.{IsAnswered, WasGiven, answer_good};
 ghost use Rattle.headline_laws.specs.Headline.{IsWritten};
-ghost use Rattle.net_model.specs.Stands.{moment};
-ghost use Rattle.network_model.specs.Setup.{opening};
+ghost use Rattle.running_model.specs.Stands.{moment};
+ghost use Rattle.machine_model.specs.Setup.{opening};
 ghost use Rattle.ov_io.specs.Inputs.{TookFront};
 ghost use Rattle.ov_io.specs.Pieces.{HasWriteCause};
 ghost use Rattle.constrain_answers.specs.Answers.{constrain_answer, constrain_value};
@@ -15,9 +15,9 @@ ghost use Rattle.constrain_answers.specs.Networks.{HasSettled, IsLeftSettled, Is
 ghost use Rattle.constrain_answers.specs.Networks.{input_of};
 
 use crate::sending::write_constraint;
+use compile_answers::{Reception, Unfit, valid_of, write_unfit};
 use config_check::Valid;
 use config_model::{Event, ReadRefusal, read_compile};
-use document_answers::{Unfit, Verdict, valid_of, write_unfit};
 use net_machine::Net;
 use ov_io::{Sink, WriteRefusal};
 use ov_json::value_of;
@@ -103,21 +103,21 @@ pub fn answer_constrain<K: Sink>(
     octets: &[u8],
     sink: &mut K,
     net: &mut Option<Net>,
-) -> Result<Verdict, WriteRefusal>
+) -> Result<Reception, WriteRefusal>
     ensures given { IfOk result (λ verdict. WasGiven (constrain_answer octets.now) verdict
         (K.taken sink.old) (K.taken sink.new)) }
     ensures front { OnErr result (TookFront (K.taken sink.old) (K.taken sink.new) (constrain_answer octets.now).text) }
     ensures cause { HasWriteCause (K.faults sink.old) (K.faults sink.new) result }
-    ensures network { result ≡ Ok Verdict.Good → IsLeftSettled octets.now net.new }
-    ensures no_network { result ≢ Ok Verdict.Good → net.new ≡ net.old }
-    ensures promise { result ≡ Ok Verdict.Good → TookConstraint octets.now (K.taken sink.old) (K.taken sink.new) }
+    ensures network { result ≡ Ok Reception.Good → IsLeftSettled octets.now net.new }
+    ensures no_network { result ≢ Ok Reception.Good → net.new ≡ net.old }
+    ensures promise { result ≡ Ok Reception.Good → TookConstraint octets.now (K.taken sink.old) (K.taken sink.new) }
 {
     match constrain_asked(alloc, octets) {
         Ok(valid) => {
             know_valid(&valid);
             let settled = settled_and_written(alloc, valid, sink)?;
             leave(net, settled);
-            Ok(Verdict::Good)
+            Ok(Reception::Good)
         }
         Err(unfit) => write_unfit(alloc, unfit, sink),
     }

@@ -16,7 +16,7 @@ use Rattle.bgp_session.specs.declared.event.Cause.TheVariants.{Ended as PeerEnde
 use Rattle.item_wire.specs.declared.event.ItemCause.TheVariants.{Ended as ItemEnded}
 use Rattle.node_model.specs.Maps.{Map}
 use Rattle.node_model.specs.Paths.{Holdings}
-use Rattle.node_model.specs.Step.{Begun, Post}
+use Rattle.node_model.specs.Step.{Beginning, Post}
 use Rattle.node_model.specs.Wants.{wanted_by_agent, wanted_by_peers}
 use Rattle.control_wants.specs.Held.{told_in}
 use Rattle.node_core.specs.Whole.{IsWholeStep}
@@ -74,7 +74,7 @@ wants_by_holdings plan = record {
 module _ {L : Type 0} (accepted : L → Option (List (List ℕ))) (breaks : L → Option (List ℕ)) (faults : L → ℕ)
     (plan : ControlPlan) (posts after : List Post) (session i : ℕ) (p : Post) (kept : List ℕ) (came : Input) (links links' : List L)
     (Keeps : List ℕ → Type 0) where
-  abbrev Begins : List ℕ → Begun → Option NodeCause → Type 0
+  abbrev Begins : List ℕ → Beginning → Option NodeCause → Type 0
   Begins left given cause = BeginsKeeping plan i p kept came given cause left
 
   -- these octets are left, and they are what is kept

@@ -17,7 +17,7 @@ use Rattle.node_items.proofs.NotEnded as item_causes
 use Rattle.node_peers.specs.Beginning as route
 use Rattle.node_peers.proofs.Cutting as route_cutting
 use Rattle.node_peers.proofs.NotEnded as route_causes
-use Rattle.node_model.specs.Step.{Begun, Post}
+use Rattle.node_model.specs.Step.{Beginning, Post}
 use Rattle.control_node.specs.Beginning.{BeginsKeeping, ItemKeeps, KeepsBy, PeerKeeps, item_session, peer_session}
 use Rattle.control_node.specs.Core.{is_peer}
 use Rattle.control_node.specs.declared.cause.NodeCause.{NodeCause}
@@ -30,7 +30,7 @@ all_of kept (input.Bytes session bytes) = input.Bytes session (record bytes { no
 all_of kept came = came
 
 -- ---- a session of routes
-module _ (id : Addr) (s : peers.SessionFields) (p : Post) (given : Begun) (c : Option PeerCause) (left : List ℕ) where
+module _ (id : Addr) (s : peers.SessionFields) (p : Post) (given : Beginning) (c : Option PeerCause) (left : List ℕ) where
   route_few : (kept : List ℕ) (came : Input) → route.BeginsKeeping id s p kept came given c left → length left ≤ 65539
   route_few kept (input.Bytes i bytes) b = (let few = route_cutting.leaves_few s (kept ++ bytes.now) b.0 left b.1 in omega (arith, few))
   route_few kept (input.Opened i) b = (let none = ap length b.1 in omega (arith, none))
@@ -43,7 +43,7 @@ module _ (id : Addr) (s : peers.SessionFields) (p : Post) (given : Begun) (c : O
   route_begins kept (input.Closed i) b = b.0
 
 -- ---- any session of a control node
-module _ (plan : ControlPlan) (i : ℕ) (p : Post) (given : Begun) (cause : Option NodeCause) (left : List ℕ) where
+module _ (plan : ControlPlan) (i : ℕ) (p : Post) (given : Beginning) (cause : Option NodeCause) (left : List ℕ) where
   few_by : (b : Bool) (kept : List ℕ) (came : Input) → KeepsBy b plan i p kept came given cause left → length left ≤ 65539
   few_by true kept came b = route_few plan.me.address (peer_session plan i p) p given b.0 left kept came b.2
   few_by false kept came b = items.left_few plan.me.name (item_session plan i p.phase) p kept came given b.0 left b.2
@@ -68,7 +68,7 @@ item_no_peer : (c : Option ItemCause) → option_map Because.Item c ≢ Some (Be
 item_no_peer None e = cc
 item_no_peer (Some cause) e = cc
 
-module _ (plan : ControlPlan) (i : ℕ) (p : Post) (kept : List ℕ) (came : Input) (given : Begun) (cause : Option NodeCause) (left : List ℕ) where
+module _ (plan : ControlPlan) (i : ℕ) (p : Post) (kept : List ℕ) (came : Input) (given : Beginning) (cause : Option NodeCause) (left : List ℕ) where
   peer_never : PeerKeeps plan i p kept came given cause left → (cause ≢ Some (Because.Item ItemEnded)) × (cause ≢ Some (Because.Peer PeerEnded))
   peer_never b =
       let begins = route_begins plan.me.address (peer_session plan i p) p given b.0 left kept came b.2 in (

@@ -19,7 +19,7 @@ use Rattle.node_items.specs.Beginning as item
 use Rattle.node_items.specs.Told as items
 use Rattle.node_model.specs.Maps.{Map, Change, difference}
 use Rattle.node_model.specs.Paths.{Holdings, Told}
-use Rattle.node_model.specs.Step.{Kind, Post, changes, post, told_all}
+use Rattle.node_model.specs.Step.{NodeKind, Post, changes, post, told_all}
 use Rattle.node_model.specs.Values.{same_value}
 use Rattle.node_model.specs.Wants.{wanted_by_agent, wanted_by_peers}
 use Rattle.node_model.proofs.Alike.{same_value_decides}
@@ -177,7 +177,7 @@ module _ (me : NodeId) (asn : ℕ) (feed : SessionFields) (peers peers' : List P
   abbrev posts' : List Post
   posts' = posts_of feed.state peers' agents' h
 
-  abbrev k : Kind
+  abbrev k : NodeKind
   k = kind the_plan
 
   as_held : holdings the_plan posts ≡ h

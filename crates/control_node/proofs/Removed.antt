@@ -6,7 +6,7 @@ use Rattle.std.specs.declared.result.Result.TheVariants.{Ok, Err}
 use Rattle.std.proofs.Common.{subst, sym}
 use Rattle.ov_link.specs.declared.step.NodeFault.{NodeFault}
 use Rattle.ov_link.specs.declared.step.Input.{Input}
-use Rattle.node_model.specs.Step.{Begun, Post, Steps}
+use Rattle.node_model.specs.Step.{Beginning, Post, Steps}
 use Rattle.node_laws.specs.Stepped.{AreTold}
 use Rattle.node_laws.proofs.AtTheEnd.{told_where_none_failed}
 use Rattle.control_node.specs.Agents.{closing, failed_in, with_retired}
@@ -28,7 +28,7 @@ module _ {L : Type 0} (accepted : L → Option (List (List ℕ))) (breaks : L �
   removed_told (Err fault) lowest is steps = tt
 
 -- ---- which numbers are retired decides nothing of what an input makes of an end
-module _ (plan : ControlPlan) (retired : List ℕ) (i : ℕ) (p : Post) (kept : List ℕ) (came : Input) (given : Begun)
+module _ (plan : ControlPlan) (retired : List ℕ) (i : ℕ) (p : Post) (kept : List ℕ) (came : Input) (given : Beginning)
     (cause : Option NodeCause) (left : List ℕ) where
   alike_by : (b : Bool) → KeepsBy b plan i p kept came given cause left
       → KeepsBy b (with_retired plan retired) i p kept came given cause left

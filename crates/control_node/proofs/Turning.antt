@@ -21,7 +21,7 @@ use Rattle.ov_types.specs.declared.vpn.VpnRoute.{VpnRoute}
 use Rattle.node_items.specs.Beginning as item
 use Rattle.node_model.specs.Maps.{Map}
 use Rattle.node_model.specs.Paths.{Holdings, Told}
-use Rattle.node_model.specs.Step.{Begun, Post, post}
+use Rattle.node_model.specs.Step.{Beginning, Post, post}
 use Rattle.node_peers.specs.Beginning as route
 use Rattle.control_node.specs.Beginning.{BeginsKeeping, KeepsBy, agent_at, config, item_session, item_state, no_node, peer_session, peer_state}
 use Rattle.control_node.specs.Core.{is_peer}
@@ -146,7 +146,7 @@ module _ (me : NodeId) (asn : ℕ) (feed : items.SessionFields) (es : List PeerE
   peer-wide session i d at lt =
       ap (λ (p : Post). p.wide) (sym (post-peer feed.state es ts h i d lt)) ∙ ap (λ n. (post posts n).wide) (sym at)
 
-  pub peer-begins : (session i : ℕ) (d : PeerEnd) (input : Input) (given : Begun) (c : Option PeerCause) (cause : Option NodeCause) (left : List ℕ)
+  pub peer-begins : (session i : ℕ) (d : PeerEnd) (input : Input) (given : Beginning) (c : Option PeerCause) (cause : Option NodeCause) (left : List ℕ)
       → session ≡ suc i → i < length es → cause ≡ option_map Cause.Peer c
       → route.BeginsKeeping me.address (get_or es i d).session (post posts session) [] input given c left
       → BeginsKeeping plan session (post posts session) [] input given cause left
@@ -174,7 +174,7 @@ module _ (me : NodeId) (asn : ℕ) (feed : items.SessionFields) (es : List PeerE
       ap (λ b. cond b other agent) unlike
       ∙ (λ k. record { peer = (ap (λ (n : NodeId). n.name) id ∙ sym is.peer) k; from = sym is.from k; state = state k }))
 
-  pub agent-begins : (session i : ℕ) (d : AgentEnd) (input : Input) (given : Begun) (c : Option ItemCause) (cause : Option NodeCause) (left : List ℕ)
+  pub agent-begins : (session i : ℕ) (d : AgentEnd) (input : Input) (given : Beginning) (c : Option ItemCause) (cause : Option NodeCause) (left : List ℕ)
       → session ≡ suc (length es + i) → i < length ts → cause ≡ option_map Cause.Item c
       → item.BeginsKeeping me.name (get_or ts i d).session (post posts session) [] input given c left
       → BeginsKeeping plan session (post posts session) [] input given cause left
@@ -183,7 +183,7 @@ module _ (me : NodeId) (asn : ℕ) (feed : items.SessionFields) (es : List PeerE
       subst (λ b. KeepsBy b plan session (post posts session) [] input given cause left) (sym (is_peer-past plan session i (at ∙ ap (λ n. suc (n + i)) (sym many))))
       (c, is, subst (λ (s : items.SessionFields). item.BeginsKeeping me.name s (post posts session) [] input given c left) (sym (agent-session session i d at lt)) begins)
 
-  pub feed-begins : (input : Input) (given : Begun) (c : Option ItemCause) (cause : Option NodeCause) (left : List ℕ) → cause ≡ option_map Cause.Item c
+  pub feed-begins : (input : Input) (given : Beginning) (c : Option ItemCause) (cause : Option NodeCause) (left : List ℕ) → cause ≡ option_map Cause.Item c
       → item.BeginsKeeping me.name feed (post posts 0) [] input given c left → BeginsKeeping plan 0 (post posts 0) [] input given cause left
   feed-begins input given c cause left is begins =
       let session : item_session plan 0 (post posts 0).phase ≡ feed = (λ k. record { peer = sym are.feed_peer k; from = sym are.feed_from k; state = item_state-of feed.state k }) in

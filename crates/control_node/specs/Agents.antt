@@ -9,7 +9,7 @@ use Rattle.ov_link.specs.declared.step.NodeFault.{NodeFault}
 use Rattle.ov_link.specs.declared.step.NodeFault.TheVariants.{LinkFailed, NoMemory}
 use Rattle.ov_types.specs.declared.rows.NodeId.{NodeId}
 use Rattle.node_core.specs.Naming.{Names}
-use Rattle.node_model.specs.Step.{Begun, Kind, Post, Steps, nothing}
+use Rattle.node_model.specs.Step.{Beginning, NodeKind, Post, Steps, nothing}
 use Rattle.control_node.specs.Core.{Core, sessions}
 use Rattle.control_node.specs.declared.plan.ControlPlan.{ControlPlan}
 
@@ -71,7 +71,7 @@ abbrev pub retiring : ControlPlan → ℕ → ControlPlan
 retiring plan session = with_retired plan (inserted plan.retired session)
 
 -- its end is closed, and nothing is replied
-abbrev pub closing : Begun
+abbrev pub closing : Beginning
 closing = record { replies = []; after = None }
 
 -- the session whose link failed
@@ -82,7 +82,7 @@ failed_in (Ok _) = None
 
 module _ {L : Type 0} (accepted : L → Option (List (List ℕ))) (breaks : L → Option (List ℕ)) (faults : L → ℕ) where
   -- the end of a session is closed, and then all sessions are told. The answer names the lowest whose link failed
-  pub record IsRemoval {V : Type 0} (k : Kind) (posts posts' : List Post) (session : ℕ) (links links' : List L)
+  pub record IsRemoval {V : Type 0} (k : NodeKind) (posts posts' : List Post) (session : ℕ) (links links' : List L)
       (result : Result V NodeFault) : Type 0 where
     pub steps : Steps k accepted breaks faults posts posts' session closing links links' (failed_in result)
     pub names : Names faults links links' (failed_in result)

@@ -15,7 +15,7 @@ use Rattle.item_wire.specs.declared.event.ItemState.{ItemState}
 use Rattle.node_items.specs.Beginning as item
 use Rattle.node_peers.specs.Beginning as route
 pub use Rattle.node_model.specs.Naming.{config, no_node}
-use Rattle.node_model.specs.Step.{Begun, Phase, Idle, Opened, Confirmed, Up, Post}
+use Rattle.node_model.specs.Step.{Beginning, Phase, Idle, Opened, Confirmed, Up, Post}
 use Rattle.control_node.specs.Core.{is_peer}
 use Rattle.control_node.specs.declared.cause.NodeCause.{NodeCause}
 use Rattle.control_node.specs.declared.cause.NodeCause.TheVariants as Cause
@@ -50,38 +50,38 @@ item_session plan i phase =
     else record { peer = (agent_at plan i).name; from = From.Agent; state = item_state phase }
 
 -- ---- an input
-abbrev pub PeerBegins : ControlPlan → ℕ → Post → Input → Begun → Option NodeCause → Type 0
+abbrev pub PeerBegins : ControlPlan → ℕ → Post → Input → Beginning → Option NodeCause → Type 0
 PeerBegins plan i p input given cause =
     (c : Option PeerCause) × (cause ≡ option_map Cause.Peer c)
     × route.Begins plan.me.address (peer_session plan i p) p input given c
 
-abbrev pub ItemBegins : ControlPlan → ℕ → Post → Input → Begun → Option NodeCause → Type 0
+abbrev pub ItemBegins : ControlPlan → ℕ → Post → Input → Beginning → Option NodeCause → Type 0
 ItemBegins plan i p input given cause =
     (c : Option ItemCause) × (cause ≡ option_map Cause.Item c)
     × item.Begins plan.me.name (item_session plan i p.phase) p input given c
 
-abbrev pub BeginsBy : Bool → ControlPlan → ℕ → Post → Input → Begun → Option NodeCause → Type 0
+abbrev pub BeginsBy : Bool → ControlPlan → ℕ → Post → Input → Beginning → Option NodeCause → Type 0
 BeginsBy true = PeerBegins
 BeginsBy false = ItemBegins
 
 -- what an input makes of the end of its session, and the cause for which that goes down
-abbrev pub Begins : ControlPlan → ℕ → Post → Input → Begun → Option NodeCause → Type 0
+abbrev pub Begins : ControlPlan → ℕ → Post → Input → Beginning → Option NodeCause → Type 0
 Begins plan i = BeginsBy (is_peer plan i) plan i
 
 -- ---- the same, where these octets were kept of the session before, and what is kept of it then
-abbrev pub PeerKeeps : ControlPlan → ℕ → Post → List ℕ → Input → Begun → Option NodeCause → List ℕ → Type 0
+abbrev pub PeerKeeps : ControlPlan → ℕ → Post → List ℕ → Input → Beginning → Option NodeCause → List ℕ → Type 0
 PeerKeeps plan i p kept input given cause left =
     (c : Option PeerCause) × (cause ≡ option_map Cause.Peer c)
     × route.BeginsKeeping plan.me.address (peer_session plan i p) p kept input given c left
 
-abbrev pub ItemKeeps : ControlPlan → ℕ → Post → List ℕ → Input → Begun → Option NodeCause → List ℕ → Type 0
+abbrev pub ItemKeeps : ControlPlan → ℕ → Post → List ℕ → Input → Beginning → Option NodeCause → List ℕ → Type 0
 ItemKeeps plan i p kept input given cause left =
     (c : Option ItemCause) × (cause ≡ option_map Cause.Item c)
     × item.BeginsKeeping plan.me.name (item_session plan i p.phase) p kept input given c left
 
-abbrev pub KeepsBy : Bool → ControlPlan → ℕ → Post → List ℕ → Input → Begun → Option NodeCause → List ℕ → Type 0
+abbrev pub KeepsBy : Bool → ControlPlan → ℕ → Post → List ℕ → Input → Beginning → Option NodeCause → List ℕ → Type 0
 KeepsBy true = PeerKeeps
 KeepsBy false = ItemKeeps
 
-abbrev pub BeginsKeeping : ControlPlan → ℕ → Post → List ℕ → Input → Begun → Option NodeCause → List ℕ → Type 0
+abbrev pub BeginsKeeping : ControlPlan → ℕ → Post → List ℕ → Input → Beginning → Option NodeCause → List ℕ → Type 0
 BeginsKeeping plan i = KeepsBy (is_peer plan i) plan i

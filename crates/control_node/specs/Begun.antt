@@ -5,7 +5,7 @@ use Rattle.std.specs.declared.option.Option.TheVariants.{Some, None}
 use Rattle.std.specs.List.{slice_set}
 use Rattle.ov_link.specs.declared.step.Input.{Input}
 use Rattle.node_core.specs.Begun.{HasBegun}
-use Rattle.node_model.specs.Step.{Begun, Post, post}
+use Rattle.node_model.specs.Step.{Beginning, Post, post}
 use Rattle.control_node.specs.Beginning.{BeginsKeeping}
 use Rattle.control_node.specs.declared.cause.NodeCause.{NodeCause}
 use Rattle.control_node.specs.declared.plan.ControlPlan.{ControlPlan}
@@ -13,14 +13,14 @@ use Rattle.control_node.specs.declared.plan.ControlPlan.{ControlPlan}
 -- an input was applied to the end of its session, of which nothing was kept, and these octets of it are left
 pub record IsBegun (plan : ControlPlan) (posts : List Post) (session : ℕ) (input : Input) (replies : List (List ℕ))
     (cause : Option NodeCause) (left : List ℕ) (posts' : List Post) : Type 0 where
-  pub given : Begun
+  pub given : Beginning
   pub begins : BeginsKeeping plan session (post posts session) [] input given cause left
   pub begun : HasBegun posts session given replies posts'
 
 -- the same, but that the end is still to be closed where there is a cause
 pub record IsHeard (plan : ControlPlan) (posts : List Post) (session : ℕ) (input : Input) (replies : List (List ℕ))
     (cause : Option NodeCause) (left : List ℕ) (posts' : List Post) : Type 0 where
-  pub given : Begun
+  pub given : Beginning
   pub begins : BeginsKeeping plan session (post posts session) [] input given cause left
   pub replied : replies ≡ given.replies
   pub end : Post

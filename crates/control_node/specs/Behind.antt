@@ -9,7 +9,7 @@ use Rattle.bgp_session.specs.Happenings as peers
 use Rattle.bgp_session.specs.declared.event.Cause.{Cause as PeerCause}
 use Rattle.node_core.specs.Keeping.{IsBehind}
 use Rattle.node_items.proofs.Begun as items
-use Rattle.node_model.specs.Step.{Begun, Post}
+use Rattle.node_model.specs.Step.{Beginning, Post}
 use Rattle.node_peers.specs.Beginning as route
 use Rattle.node_peers.specs.Keeping.{Leaves}
 use Rattle.control_node.specs.Beginning.{BeginsKeeping, KeepsBy, item_session, peer_session}
@@ -18,7 +18,7 @@ use Rattle.control_node.specs.declared.cause.NodeCause.{NodeCause}
 use Rattle.control_node.specs.declared.plan.ControlPlan.{ControlPlan}
 
 -- ---- on a session of routes
-module _ (id : Addr) (s : peers.SessionFields) (p : Post) (given : Begun) (c : Option PeerCause) (left : List ℕ) where
+module _ (id : Addr) (s : peers.SessionFields) (p : Post) (given : Beginning) (c : Option PeerCause) (left : List ℕ) where
   abbrev RouteBegins : List ℕ → Input → Type 0
   RouteBegins kept came = route.BeginsKeeping id s p kept came given c left
 
@@ -32,7 +32,7 @@ module _ (id : Addr) (s : peers.SessionFields) (p : Post) (given : Begun) (c : O
   route_behind kept (input.Closed i) whole same begins = subst (RouteBegins []) same begins
 
 -- ---- on any session of a control node
-module _ (plan : ControlPlan) (i : ℕ) (p : Post) (given : Begun) (cause : Option NodeCause) (left : List ℕ) where
+module _ (plan : ControlPlan) (i : ℕ) (p : Post) (given : Beginning) (cause : Option NodeCause) (left : List ℕ) where
   behind_by : (is_peer : Bool) (kept : List ℕ) (came whole : Input) → IsBehind kept came whole
       → KeepsBy is_peer plan i p [] whole given cause left → KeepsBy is_peer plan i p kept came given cause left
   behind_by true kept came whole same b =

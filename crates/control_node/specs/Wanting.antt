@@ -5,7 +5,7 @@ use Rattle.control_wants.specs.Held.{told_in}
 use Rattle.node_items.specs.Told as items
 use Rattle.node_model.specs.Maps.{Map, Change}
 pub use Rattle.node_core.specs.Resting.{is_idle, is_up}
-use Rattle.node_model.specs.Step.{Kind, Phase, Post, Idle}
+use Rattle.node_model.specs.Step.{NodeKind, Phase, Post, Idle}
 use Rattle.node_model.specs.Wants.{wanted_by_agent, wanted_by_peers}
 use Rattle.node_peers.specs.Told as routes
 use Rattle.control_node.specs.Core.{holdings, is_peer}
@@ -25,7 +25,7 @@ may_send plan i phase = if is_peer plan i then is_up phase else not (is_idle pha
 abbrev pub spelled : ControlPlan → ℕ → Change → List ℕ
 spelled plan i c = if is_peer plan i then routes.spelled c else items.spelled c
 
-abbrev pub kind : ControlPlan → Kind
+abbrev pub kind : ControlPlan → NodeKind
 kind plan = record { wanted = wanted plan; may_send = may_send plan; spelled = spelled plan }
 
 -- an idle end may not send

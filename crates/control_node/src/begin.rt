@@ -10,7 +10,7 @@ ghost use Rattle.control_node.specs.Wanting.{is_idle};
 ghost use Rattle.control_node.specs.declared.cause.NodeCause.TheVariants as Because;
 
 use crate::cause::NodeCause;
-use crate::closing::{Place, place_of};
+use crate::closing::{EndPlace, place_of};
 use crate::ends::ControlEnds;
 use crate::inputs::{greet_agent, greet_peer, hear_from_agent, hear_from_feed, hear_from_peer};
 use bgp_session::Cause;
@@ -19,7 +19,7 @@ use node_core::Started;
 use ov_link::Input;
 use ov_types::{Items, NoMemory};
 
-type Begun = Started<NodeCause>;
+type ControlStarted = Started<NodeCause>;
 
 fn item_cause(cause: Option<ItemCause>) -> Option<NodeCause>
     ensures { result ≡ option_map Because.Item cause }
@@ -87,13 +87,13 @@ impl ControlEnds {
             replies None [] self.new.posts) }
     {
         match place_of(session, self.peers.len()) {
-            Place::Feed => self.open_feed(session),
-            Place::Peer(place) => self.open_peer(session, place),
-            Place::Agent(place) => self.open_agent(session, place),
+            EndPlace::Feed => self.open_feed(session),
+            EndPlace::Peer(place) => self.open_peer(session, place),
+            EndPlace::Agent(place) => self.open_agent(session, place),
         }
     }
 
-    fn hear_feed(&mut self, session: u16, bytes: &[u8]) -> Result<Begun, NoMemory>
+    fn hear_feed(&mut self, session: u16, bytes: &[u8]) -> Result<ControlStarted, NoMemory>
         requires { session ≡ 0 }
         ensures plan { self.new.plan ≡ self.old.plan }
         ensures heard { IfOk result (λ begun. IsHeard self.old.plan self.old.posts session
@@ -114,7 +114,12 @@ impl ControlEnds {
         })
     }
 
-    fn hear_peer(&mut self, session: u16, place: usize, bytes: &[u8]) -> Result<Begun, NoMemory>
+    fn hear_peer(
+        &mut self,
+        session: u16,
+        place: usize,
+        bytes: &[u8],
+    ) -> Result<ControlStarted, NoMemory>
         requires among { place < length self.old.plan.peers }
         requires session { session ≡ suc place }
         ensures plan { self.new.plan ≡ self.old.plan }
@@ -141,7 +146,12 @@ impl ControlEnds {
         })
     }
 
-    fn hear_agent(&mut self, session: u16, place: usize, bytes: &[u8]) -> Result<Begun, NoMemory>
+    fn hear_agent(
+        &mut self,
+        session: u16,
+        place: usize,
+        bytes: &[u8],
+    ) -> Result<ControlStarted, NoMemory>
         requires among { place < length self.old.plan.agents }
         requires session { session ≡ suc (length self.old.plan.peers + place) }
         ensures plan { self.new.plan ≡ self.old.plan }
@@ -166,7 +176,7 @@ impl ControlEnds {
     }
 
     /// Hears octets. Where there is a cause, the end is still to be closed.
-    fn hear_open(&mut self, session: u16, bytes: &[u8]) -> Result<Begun, NoMemory>
+    fn hear_open(&mut self, session: u16, bytes: &[u8]) -> Result<ControlStarted, NoMemory>
         requires { session < length self.old.posts }
         ensures plan { self.new.plan ≡ self.old.plan }
         ensures heard { IfOk result (λ begun. IsHeard self.old.plan self.old.posts session
@@ -174,13 +184,13 @@ impl ControlEnds {
         ensures taken { IfOk result (λ begun. begun.taken ≤ length bytes.now) }
     {
         match place_of(session, self.peers.len()) {
-            Place::Feed => self.hear_feed(session, bytes),
-            Place::Peer(place) => self.hear_peer(session, place, bytes),
-            Place::Agent(place) => self.hear_agent(session, place, bytes),
+            EndPlace::Feed => self.hear_feed(session, bytes),
+            EndPlace::Peer(place) => self.hear_peer(session, place, bytes),
+            EndPlace::Agent(place) => self.hear_agent(session, place, bytes),
         }
     }
 
-    fn hear(&mut self, session: u16, bytes: &[u8]) -> Result<Begun, NoMemory>
+    fn hear(&mut self, session: u16, bytes: &[u8]) -> Result<ControlStarted, NoMemory>
         requires { session < length self.old.posts }
         ensures plan { self.new.plan ≡ self.old.plan }
         ensures begun { IfOk result (λ begun. IsBegun self.old.plan self.old.posts session
@@ -199,7 +209,7 @@ impl ControlEnds {
 
     /// Applies an input to the end of its session, and says what is to be replied. Where octets bring a cause for which
     /// the session goes down, its end is closed. Where memory is wanting, the ends stay those of the plan.
-    pub(crate) fn apply(&mut self, input: Input<'_>) -> Result<Begun, NoMemory>
+    pub(crate) fn apply(&mut self, input: Input<'_>) -> Result<ControlStarted, NoMemory>
         requires known { session_of input < length self.old.posts }
         requires comes { Comes (λ i. is_idle (post self.old.posts i).phase ≡ false)
             (λ i. is_idle (post self.old.posts i).phase ≡ true) input }

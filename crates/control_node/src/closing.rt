@@ -7,13 +7,13 @@ ghost use Rattle.control_node.specs.Places.{IsPlace};
 ghost use Rattle.control_node.specs.Ends.{closed_peer, closed_agent};
 
 use crate::ends::{AgentEnd, ControlEnds, PeerEnd};
-use dirty_keys::Dirty;
-use indexed_tables::IndexedTables;
+use control_dirty_keys::Dirty;
 use item_wire::ItemSession;
+use vpn_tables_by_prefix::IndexedTables;
 
 /// Where the end of a session stands.
 #[derive(Clone, Copy)]
-pub(crate) enum Place {
+pub(crate) enum EndPlace {
     Feed,
     /// Among the ends of peers.
     Peer(usize),
@@ -22,17 +22,17 @@ pub(crate) enum Place {
 }
 
 /// The place of a session's end, where there are so many peers.
-pub(crate) fn place_of(session: u16, peers: usize) -> Place
+pub(crate) fn place_of(session: u16, peers: usize) -> EndPlace
     ensures { IsPlace peers session result }
 {
     if session == 0 {
-        return Place::Feed;
+        return EndPlace::Feed;
     }
     let among = usize::from(session - 1);
     if among < peers {
-        Place::Peer(among)
+        EndPlace::Peer(among)
     } else {
-        Place::Agent(among - peers)
+        EndPlace::Agent(among - peers)
     }
 }
 
@@ -101,9 +101,9 @@ impl ControlEnds {
         ensures closed { self.new.posts ≡ slice_set self.old.posts session nothing }
     {
         match place_of(session, self.peers.len()) {
-            Place::Feed => self.close_feed(),
-            Place::Peer(place) => self.close_peer(session, place),
-            Place::Agent(place) => self.close_agent(session, place),
+            EndPlace::Feed => self.close_feed(),
+            EndPlace::Peer(place) => self.close_peer(session, place),
+            EndPlace::Agent(place) => self.close_agent(session, place),
         }
     }
 }

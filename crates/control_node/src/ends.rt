@@ -9,12 +9,11 @@ ghost use Rattle.control_node.specs.Core.{sessions};
 ghost use Rattle.control_node.specs.Wanting.{idle_is_silent, is_idle, is_up, kind};
 
 use crate::cause::NodeCause;
-use crate::closing::{Place, place_of};
+use crate::closing::{EndPlace, place_of};
 use crate::looking::{item_end, peer_end};
 use crate::planning::plan_marked;
 use bgp_session::{Session, State};
-use dirty_keys::Dirty;
-use indexed_tables::IndexedTables;
+use control_dirty_keys::Dirty;
 use item_wire::{ItemSession, ItemState};
 use node_core::{End, Ends, Plan, Started};
 use ov_link::Input;
@@ -22,6 +21,7 @@ use ov_sync::SyncOut;
 use ov_types::{DownKey, DownValue, NoMemory, NodeId, VpnKey, VpnRoute};
 use std::alloc::Global;
 use std::marker::Model;
+use vpn_tables_by_prefix::IndexedTables;
 
 /// The end of a session with a peer, and what was sent on it.
 #[derive(Drop)]
@@ -115,9 +115,9 @@ impl Ends for ControlEnds {
 
     fn state(&self, session: u16) -> End {
         match place_of(session, self.peers.len()) {
-            Place::Feed => item_end(self.feed.state()),
-            Place::Peer(place) => peer_end(self.peers[place].session.state()),
-            Place::Agent(place) => item_end(self.agents[place].session.state()),
+            EndPlace::Feed => item_end(self.feed.state()),
+            EndPlace::Peer(place) => peer_end(self.peers[place].session.state()),
+            EndPlace::Agent(place) => item_end(self.agents[place].session.state()),
         }
     }
 

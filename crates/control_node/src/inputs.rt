@@ -15,7 +15,7 @@ ghost use Rattle.node_model.specs.Values.{Route};
 ghost use Rattle.node_peers.specs.Hearing.{open_octets};
 ghost use Rattle.control_node.specs.Ends.{opened_agent, opened_peer};
 ghost use Rattle.control_node.specs.Stays.{StaysHeld};
-ghost use Rattle.dirty_keys.specs.Marks.{IsWithin};
+ghost use Rattle.control_dirty_keys.specs.Marks.{IsWithin};
 ghost use Rattle.control_node.specs.Planning.{agent_sends, peer_sends};
 ghost use Rattle.control_node.specs.Taking.{ItemsHeard, RoutesHeard, agent_by, feed_by, peer_by, taken};
 ghost use Rattle.control_node.specs.Tracking.{AreMarked};
@@ -23,11 +23,11 @@ ghost use Rattle.control_node.specs.Tracking.{AreMarked};
 use crate::ends::{AgentEnd, PeerEnd};
 use crate::taking::{take_objects, take_publications, take_routes};
 use bgp_session::Cause;
-use dirty_keys::Dirty;
-use indexed_tables::IndexedTables;
+use control_dirty_keys::Dirty;
 use item_wire::{ItemCause, ItemSession};
 use ov_types::{Addr, Items, Name, NoMemory};
 use std::alloc::Global;
+use vpn_tables_by_prefix::IndexedTables;
 
 /// Opens the end of a session with a peer: its OPEN is to be sent.
 pub(crate) fn greet_peer(

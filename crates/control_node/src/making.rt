@@ -7,13 +7,13 @@ ghost use Rattle.control_node.specs.Made.{new_agent, new_ends, new_peer, none_to
 use crate::ends::{AgentEnd, ControlEnds, PeerEnd};
 use crate::plan::ControlPlan;
 use bgp_session::Session;
-use dirty_keys::Dirty;
-use indexed_tables::IndexedTables;
+use control_dirty_keys::Dirty;
 use item_wire::{ItemFrom, ItemSession};
 use node_items::config_name;
 use ov_sync::{Delta, SyncOut};
 use ov_types::{Addr, NoMemory, NodeId, Prefix, Rd, VpnKey};
 use std::alloc::Global;
+use vpn_tables_by_prefix::IndexedTables;
 
 fn new_peers(alloc: Global, asn: u32, ids: &[NodeId]) -> Result<Vec<PeerEnd>, NoMemory>
     ensures { IfOk result (λ ends. ends.items ≡ map (new_peer asn) ids.now) }

@@ -21,18 +21,20 @@ ghost use Rattle.control_node.specs.Planning.{
   peer_plan,
 };
 ghost use Rattle.control_node.specs.Tracking.{AreAgentsTracked, IsAgentTracked, IsPeerTracked, Tracks};
-ghost use Rattle.marked_sends.specs.Marked.{AreMarkedItems};
-ghost use Rattle.marked_sends.specs.Wanted.{AreRoutesWanted};
+ghost use Rattle.control_marked_sends.specs.Marked.{AreMarkedItems};
+ghost use Rattle.control_marked_sends.specs.Wanted.{AreRoutesWanted};
 
 use crate::ends::{AgentEnd, PeerEnd};
-use dirty_keys::Dirty;
-use indexed_tables::IndexedTables;
-use marked_sends::{MarkedItem, RoutesWanted, items_marked, routes_wanted, tell_agent, tell_peer};
+use control_dirty_keys::Dirty;
+use control_marked_sends::{
+    MarkedItem, RoutesWanted, items_marked, routes_wanted, tell_agent, tell_peer,
+};
 use node_core::Plan;
 use ov_sync::Delta;
 use ov_types::{DownKey, DownValue, Items, NoMemory, VpnKey, VpnRoute};
 use std::alloc::Global;
 use vpn_tables::VpnTables;
+use vpn_tables_by_prefix::IndexedTables;
 
 /// The octets of changes of routes, each a message.
 fn spell_routes(

@@ -12,12 +12,12 @@ ghost use Rattle.control_node.specs.Stays.{StaysHeld};
 ghost use Rattle.control_node.specs.Taking.{agent_by, changed_by, feed_by, peer_by};
 ghost use Rattle.control_node.specs.Tracking.{AreMarked};
 
-use dirty_keys::Dirty;
-use indexed_tables::IndexedTables;
+use control_dirty_keys::Dirty;
 use item_wire::Item;
 use node_items::{low_change, up_change};
 use ov_sync::Delta;
 use ov_types::{NoMemory, VpnKey, VpnRoute};
+use vpn_tables_by_prefix::IndexedTables;
 
 /// Applies a record of the feed.
 fn take_object(dirty: &mut Dirty, tables: &mut IndexedTables, item: Item) -> Result<(), NoMemory>

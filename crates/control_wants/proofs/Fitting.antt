@@ -33,7 +33,7 @@ use Rattle.node_model.specs.Values.{Value, Object, Route, Entry, Label}
 use Rattle.node_model.specs.Maps.{Map, objects}
 use Rattle.node_model.specs.Uses.{Use, as_use, imports, uses}
 use Rattle.node_model.specs.Paths.{Holdings, Told, Path, IsPublishedHere, has_target, own_paths, peer_path, peer_paths, received}
-use Rattle.node_model.specs.Reaching.{Side, circuit_at, hop_at, reoriginated}
+use Rattle.node_model.specs.Reaching.{Side, circuit_at, hop_at, reoriginated_paths}
 use Rattle.node_model.specs.Tables.{paths_of, table}
 use Rattle.node_model.specs.Wants.{route_entry, rows_of, slice, slice_entry, subscriptions, wanted_by_agent, wanted_by_peers}
 use Rattle.node_model.proofs.Members.{none_some, in_either, from_map, from_filter, from_filter_map, from_flat_map, get_member, from_entry}
@@ -132,7 +132,7 @@ module _ (h : Holdings) (fit : HoldingsFit h) where
       let q = publication h.agents o.agent o.instance p.prefix p.label fit.agents o.told o.publishes in
       record { instance = o.instance; small = q.0; targets = o.targets; label = q.1 }
 
-  led_tellable : (p : Path) → Member p (reoriginated h) → IsTellable h.asn p
+  led_tellable : (p : Path) → Member p (reoriginated_paths h) → IsTellable h.asn p
   led_tellable p m =
       let o = reoriginated_from h p m in
       let u = use_fits h.feed o.side.chain fit.feed (side_use h.feed o.side o.held) in
@@ -147,8 +147,8 @@ module _ (h : Holdings) (fit : HoldingsFit h) where
       next : (d n : ℕ) → d < n → suc d ≤ n
       next d n h = omega arith
 
-  tellable : (p : Path) → Member p (own_paths h ++ reoriginated h) → IsTellable h.asn p
-  tellable p m = elim (in_either p (own_paths h) (reoriginated h) m) as (λ _. IsTellable h.asn p) [ inl l ↦ own_tellable p l | inr r ↦ led_tellable p r ]
+  tellable : (p : Path) → Member p (own_paths h ++ reoriginated_paths h) → IsTellable h.asn p
+  tellable p m = elim (in_either p (own_paths h) (reoriginated_paths h) m) as (λ _. IsTellable h.asn p) [ inl l ↦ own_tellable p l | inr r ↦ led_tellable p r ]
 
 as_route : Value → Option VpnRoute
 as_route (Route r) = Some r
@@ -170,8 +170,8 @@ writable asn p small t = record {
 pub peers_fit : (h : Holdings) → h.asn < 2 ^ 32 → HoldingsFit h → (k : VpnKey) (r : VpnRoute) → get (wanted_by_peers h) (Vpn k) ≡ Some (Route r) → IsWritable r
 unfolding told_route as_route
 peers_fit h small fit k r e =
-    let m = from_entry key_total key_exact (Vpn k) (Route r) (map route_entry (own_paths h ++ reoriginated h)) e in
-    let q = from_map route_entry (Vpn k, Route r) (own_paths h ++ reoriginated h) m in
+    let m = from_entry key_total key_exact (Vpn k) (Route r) (map route_entry (own_paths h ++ reoriginated_paths h)) e in
+    let q = from_map route_entry (Vpn k, Route r) (own_paths h ++ reoriginated_paths h) m in
     subst IsWritable (same_Some (told_route q.0) r (ap (λ (e : Key × Value). as_route e.1) q.2)) (writable h.asn q.0 small (tellable h fit q.0 q.1))
 
 -- ---- towards an agent
@@ -194,14 +194,14 @@ peer_label h p fit m =
 
 path_label : (h : Holdings) (i : InstanceId) (p : Path) → HoldingsFit h → Member p (paths_of h i) → p.label.0 < 2 ^ 20
 path_label h i p fit m =
-    elim (in_either p (received h i) (filter (has_target (target_of h.asn i ∷ [])) (reoriginated h)) m) as (λ _. p.label.0 < 2 ^ 20) [
+    elim (in_either p (received h i) (filter (has_target (target_of h.asn i ∷ [])) (reoriginated_paths h)) m) as (λ _. p.label.0 < 2 ^ 20) [
       | inl l ↦
           let q = from_filter (has_target (map (target_of h.asn) (imports h.feed i))) p (own_paths h ++ peer_paths h) l in
           elim (in_either p (own_paths h) (peer_paths h) q.0) as (λ _. p.label.0 < 2 ^ 20) [
             | inl own ↦ (own_tellable h fit p own).label
             | inr told ↦ peer_label h p fit.peers told
           ]
-      | inr r ↦ (led_tellable h fit p (from_filter (has_target (target_of h.asn i ∷ [])) p (reoriginated h) r).0).label
+      | inr r ↦ (led_tellable h fit p (from_filter (has_target (target_of h.asn i ∷ [])) p (reoriginated_paths h) r).0).label
     ]
 
 subscribed_fits : (i : InstanceId) (o : Option Value) → is_some o ≡ true → ((v : Value) → o ≡ Some v → Fits (Subscribe i) v) → IsTrue (is_instance i.0)

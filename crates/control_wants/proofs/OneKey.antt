@@ -19,7 +19,7 @@ use Rattle.node_model.specs.Keys.{Key, Low, Publish, Row, Subscribe, Vpn, key_cm
 use Rattle.node_model.specs.Maps.{Map, as_object, object, objects}
 use Rattle.node_model.specs.Members.{Member}
 use Rattle.node_model.specs.Paths.{Holdings, Path, Told, own_paths}
-use Rattle.node_model.specs.Reaching.{reoriginated}
+use Rattle.node_model.specs.Reaching.{reoriginated_paths}
 use Rattle.node_model.specs.Tables.{same_prefix, table, table_row}
 use Rattle.node_model.specs.Values.{Entry, Label, Object, Route, Value}
 use Rattle.node_model.specs.Wants.{is_in_slice, route_entry, rows_of, slice, slice_entry, subscriptions, wanted_by_agent, wanted_by_peers}
@@ -63,8 +63,8 @@ found_route k (p ∷ ps) =
     (λ j. cond (tied k p j) (Some (told_value p)) (found_route k ps j))
     ∙ elim (same_key k p) as (λ b. cond b (Some (told_value p)) (option_map told_value (first_keyed k ps)) ≡ option_map told_value (cond b (Some p) (first_keyed k ps))) [ true ↦ refl | false ↦ refl ]
 
-pub route_wanted : (h : Holdings) (k : VpnKey) (o : Option Path) → o ≡ first_keyed k (own_paths h ++ reoriginated h) → option_map told_value o ≡ get (wanted_by_peers h) (Vpn k)
-route_wanted h k o e = ap (option_map told_value) e ∙ sym (get-from_entries key_total (map route_entry (own_paths h ++ reoriginated h)) (Vpn k) ∙ found_route k (own_paths h ++ reoriginated h))
+pub route_wanted : (h : Holdings) (k : VpnKey) (o : Option Path) → o ≡ first_keyed k (own_paths h ++ reoriginated_paths h) → option_map told_value o ≡ get (wanted_by_peers h) (Vpn k)
+route_wanted h k o e = ap (option_map told_value) e ∙ sym (get-from_entries key_total (map route_entry (own_paths h ++ reoriginated_paths h)) (Vpn k) ∙ found_route k (own_paths h ++ reoriginated_paths h))
 
 -- ---- towards an agent
 module _ (h : Holdings) (a : Told) where

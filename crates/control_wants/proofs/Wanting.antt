@@ -20,7 +20,7 @@ use Rattle.node_items.specs.Told.{down_of, down_order, down_value}
 use Rattle.node_model.specs.Keys.{Key, Row, Vpn, key_cmp, of_down}
 use Rattle.node_model.specs.Values.{Value, Entry, Route}
 use Rattle.node_model.specs.Paths.{Holdings, Path, Told, own_paths}
-use Rattle.node_model.specs.Reaching.{reoriginated}
+use Rattle.node_model.specs.Reaching.{reoriginated_paths}
 use Rattle.node_model.specs.Tables.{table, table_row}
 use Rattle.node_model.specs.Wants.{route_entry, rows_of, slice, slice_entry, subscriptions, wanted_by_agent, wanted_by_peers}
 use Rattle.node_model.proofs.Directions.{down_keeps, down_total, vpn_total, vpn_keeps}
@@ -33,15 +33,15 @@ use Rattle.control_wants.proofs.Counting.{embedded_first, put_again}
 
 -- ---- towards peers
 pub peers_wanted : (h : Holdings) (es own led : List (VpnKey × VpnRoute)) → map_of vpn_order es ≡ from_entries (own ++ led) → own ≡ map told_path (own_paths h)
-    → map (moved_entry Vpn Route) led ≡ entries (from_entries {R = key_cmp} (map route_entry (reoriginated h)))
+    → map (moved_entry Vpn Route) led ≡ entries (from_entries {R = key_cmp} (map route_entry (reoriginated_paths h)))
     → peer_of es ≡ wanted_by_peers h
 peers_wanted h es own led first own_is led_is =
     ap (λ (m : FinMap vpn_order VpnRoute). embedded {S = key_cmp} Vpn Route m) first
     ∙ embedded_first Vpn Route vpn_total key_total vpn_keeps (own ++ led)
     ∙ ap (λ (l : List (Key × Value)). from_entries {R = key_cmp} l) (map-append (moved_entry Vpn Route) own led)
     ∙ (λ i. from_entries {R = key_cmp} ((ap (map (moved_entry Vpn Route)) own_is ∙ entries_all (own_paths h)) i ++ led_is i))
-    ∙ put_again key_cmp key_total (map route_entry (own_paths h)) (map route_entry (reoriginated h))
-    ∙ ap (λ (l : List (Key × Value)). from_entries {R = key_cmp} l) (sym (map-append route_entry (own_paths h) (reoriginated h)))
+    ∙ put_again key_cmp key_total (map route_entry (own_paths h)) (map route_entry (reoriginated_paths h))
+    ∙ ap (λ (l : List (Key × Value)). from_entries {R = key_cmp} l) (sym (map-append route_entry (own_paths h) (reoriginated_paths h)))
 
 -- ---- towards an agent
 objects_moved : (es : List (LowKey × LowValue)) → map (moved_entry of_down down_value) (map told_object es) ≡ map slice_entry es

@@ -8,7 +8,7 @@ use Rattle.ov_types.specs.declared.keys.DownValue.TheVariants.{Object, Row}
 use Rattle.ov_types.specs.declared.numbers.InstanceId.{InstanceId}
 use Rattle.ov_types.specs.declared.objects.LowKey.{LowKey}
 use Rattle.ov_types.specs.declared.objects.LowValue.{LowValue}
-use Rattle.ov_types.specs.declared.rows.Entry.{Entry as Hop}
+use Rattle.ov_types.specs.declared.rows.Entry.{Entry as RouteEntry}
 use Rattle.ov_types.specs.declared.rows.TableRow.{TableRow}
 use Rattle.node_model.specs.Paths.{Holdings}
 use Rattle.vpn_tables.specs.Answers.{rows_at}
@@ -18,7 +18,7 @@ abbrev pub told_object : LowKey × LowValue → DownKey × DownValue
 told_object e = (Slice e.0, Object e.1)
 
 -- what an agent is told of a row
-abbrev pub hop_of : TableRow → Hop
+abbrev pub hop_of : TableRow → RouteEntry
 hop_of r = record { next_hop = r.next_hop; label = r.label }
 
 -- a row of an instance's table, as an agent is told it

@@ -5,7 +5,7 @@ ghost use Rattle.std.specs.FinMap.{get};
 ghost use Rattle.node_items.specs.Told.{down_value};
 ghost use Rattle.node_model.specs.Keys.{Low, Row, Vpn, of_down};
 ghost use Rattle.node_model.specs.Paths.{own_paths};
-ghost use Rattle.node_model.specs.Reaching.{reoriginated};
+ghost use Rattle.node_model.specs.Reaching.{reoriginated_paths};
 ghost use Rattle.node_model.specs.Values.{Entry as EntryOf, Object, Route as RouteOf};
 ghost use Rattle.node_model.specs.Wants.{wanted_by_agent as wanted_by, wanted_by_peers as wanted_among};
 ghost use Rattle.vpn_tables.specs.Routes.{path_of};
@@ -41,7 +41,7 @@ pub fn wanted_route(
 
 /// The route of a key that counts: an own one before a re-originated one.
 fn counting(tables: &VpnTables, key: &VpnKey) -> Option<Route>
-    ensures { option_map path_of result ≡ first_keyed key.now (own_paths tables.now ++ reoriginated tables.now) }
+    ensures { option_map path_of result ≡ first_keyed key.now (own_paths tables.now ++ reoriginated_paths tables.now) }
 {
     match tables.own_keyed(key) {
         Some(route) => Some(route),

@@ -1,7 +1,7 @@
 //! What commands answer to documents.
 
 use crate::fault::CaseFault;
-use document_answers::{answer_compile, answer_reach};
+use compile_answers::{answer_compile, answer_reach};
 use ov_io::{MemSink, TextOut};
 use ov_types::NoMemory;
 use std::alloc::Global;

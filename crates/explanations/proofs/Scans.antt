@@ -8,9 +8,9 @@ use Rattle.explanations.specs.Places.{place_after, place_behind, start}
 use Rattle.explanations.specs.declared.digits.DigitFault.{DigitFault}
 use Rattle.explanations.specs.declared.digits.DigitFault.TheVariants.{Stray, Unpaired}
 use Rattle.explanations.specs.declared.digits.DigitScan.{DigitScan}
-use Rattle.explanations.specs.declared.place.Place.{Place}
+use Rattle.explanations.specs.declared.place.TextPlace.{TextPlace}
 
-abbrev at : Place → Option DigitFault → DigitScan
+abbrev at : TextPlace → Option DigitFault → DigitScan
 at next fault = record { next = next; fault = fault }
 
 both : (s : DigitScan) (xs ys : List ℕ) → scanned s (xs ++ ys) ≡ scanned (scanned s xs) ys
@@ -43,38 +43,38 @@ IsOpen (Some (Unpaired q)) = Unit {0}
 IsOpen (Some (Stray q)) = ⊥
 
 -- what an octet makes of a fault
-first_digit : (p : Place) (c : ℕ) → is_hex_digit c ≡ true → fault_after None p c ≡ Some (Unpaired p)
+first_digit : (p : TextPlace) (c : ℕ) → is_hex_digit c ≡ true → fault_after None p c ≡ Some (Unpaired p)
 first_digit p c e = rw e refl
 
-second_digit : (p q : Place) (c : ℕ) → is_hex_digit c ≡ true → fault_after (Some (Unpaired q)) p c ≡ None
+second_digit : (p q : TextPlace) (c : ℕ) → is_hex_digit c ≡ true → fault_after (Some (Unpaired q)) p c ≡ None
 second_digit p q c e = rw e refl
 
-blank_keeps : (p : Place) (fault : Option DigitFault) (c : ℕ) → IsOpen fault → is_hex_digit c ≡ false → is_blank c ≡ true → fault_after fault p c ≡ fault
+blank_keeps : (p : TextPlace) (fault : Option DigitFault) (c : ℕ) → IsOpen fault → is_hex_digit c ≡ false → is_blank c ≡ true → fault_after fault p c ≡ fault
 blank_keeps p None c o e b = rw (e, b) refl
 blank_keeps p (Some (Unpaired q)) c o e b = rw (e, b) refl
 blank_keeps p (Some (Stray q)) c o e b = absurd o
 
-stray_comes : (p : Place) (fault : Option DigitFault) (c : ℕ) → IsOpen fault → is_hex_digit c ≡ false → is_blank c ≡ false → fault_after fault p c ≡ Some (Stray p)
+stray_comes : (p : TextPlace) (fault : Option DigitFault) (c : ℕ) → IsOpen fault → is_hex_digit c ≡ false → is_blank c ≡ false → fault_after fault p c ≡ Some (Stray p)
 stray_comes p None c o e b = rw (e, b) refl
 stray_comes p (Some (Unpaired q)) c o e b = rw (e, b) refl
 stray_comes p (Some (Stray q)) c o e b = absurd o
 
 -- a scan goes on behind an octet with the fault that this makes
-goes_on : (p : Place) (f g : Option DigitFault) (c : ℕ) (text : List ℕ) → fault_after f p c ≡ g
+goes_on : (p : TextPlace) (f g : Option DigitFault) (c : ℕ) (text : List ℕ) → fault_after f p c ≡ g
     → (scanned (at p f) (c ∷ text)).fault ≡ (scanned (at (place_after p c) g) text).fault
 unfolding scanned
 goes_on p f g c text e = ap (λ (k : Option DigitFault). (scanned (at (place_after p c) k) text).fault) e
 
 -- the fault behind sound text, where there was none before it, and where a digit had no other
-record Ends (text : List ℕ) (p q : Place) : Type 0 where
+record Ends (text : List ℕ) (p q : TextPlace) : Type 0 where
   whole : is_even text ≡ true → (scanned (at p None) text).fault ≡ None
   half : is_even text ≡ false → (scanned (at p (Some (Unpaired q))) text).fault ≡ None
 
-ends_none : (p q : Place) → Ends [] p q
+ends_none : (p q : TextPlace) → Ends [] p q
 unfolding scanned
 ends_none p q = record { whole = λ h. refl; half = λ h. cc }
 
-ends : (text : List ℕ) → list_all is_sound text ≡ true → (p q : Place) → Ends text p q
+ends : (text : List ℕ) → list_all is_sound text ≡ true → (p q : TextPlace) → Ends text p q
 ends [] sound p q = ends_none p q
 ends (c ∷ text) sound p q =
     let s = and_parts (is_sound c) (list_all is_sound text) sound in
@@ -99,17 +99,17 @@ ends (c ∷ text) sound p q =
     ]
 
 -- behind a stray octet nothing is looked at
-stays : (p q : Place) (text : List ℕ) → (scanned (at p (Some (Stray q))) text).fault ≡ Some (Stray q)
+stays : (p q : TextPlace) (text : List ℕ) → (scanned (at p (Some (Stray q))) text).fault ≡ Some (Stray q)
 unfolding scanned
 stays p q [] = refl
 stays p q (c ∷ text) = stays (place_after p c) q text
 
 -- a fault that is open stays so over sound text
-ends_open : (p : Place) (fault : Option DigitFault) → IsOpen fault → IsOpen (scanned (at p fault) []).fault
+ends_open : (p : TextPlace) (fault : Option DigitFault) → IsOpen fault → IsOpen (scanned (at p fault) []).fault
 unfolding scanned
 ends_open p fault h = h
 
-open_after : (text : List ℕ) → list_all is_sound text ≡ true → (p : Place) (fault : Option DigitFault) → IsOpen fault
+open_after : (text : List ℕ) → list_all is_sound text ≡ true → (p : TextPlace) (fault : Option DigitFault) → IsOpen fault
     → IsOpen (scanned (at p fault) text).fault
 open_after [] sound p fault h = ends_open p fault h
 open_after (c ∷ text) sound p fault h =
@@ -121,7 +121,7 @@ open_after (c ∷ text) sound p fault h =
           (open_after text s.1 (place_after p c) fault h)
     ]
   where
-    digit_opens : (p : Place) (fault : Option DigitFault) → IsOpen fault → (c : ℕ) (text : List ℕ) → is_hex_digit c ≡ true
+    digit_opens : (p : TextPlace) (fault : Option DigitFault) → IsOpen fault → (c : ℕ) (text : List ℕ) → is_hex_digit c ≡ true
         → ((f : Option DigitFault) → IsOpen f → IsOpen (scanned (at (place_after p c) f) text).fault)
         → IsOpen (scanned (at p fault) (c ∷ text)).fault
     digit_opens p None h c text e more =
@@ -142,7 +142,7 @@ stray_at s octet back h e =
     ∙ stays (place_after s.next octet) s.next back
 
 -- blanks change nothing
-blanks_pass : (p q : Place) (blanks : List ℕ) → list_all is_sound blanks ≡ true
+blanks_pass : (p q : TextPlace) (blanks : List ℕ) → list_all is_sound blanks ≡ true
     → list_all (λ octet. not (is_hex_digit octet)) blanks ≡ true → (scanned (at p (Some (Unpaired q))) blanks).fault ≡ Some (Unpaired q)
 unfolding scanned
 blanks_pass p q [] sound h = refl
@@ -153,7 +153,7 @@ blanks_pass p q (c ∷ blanks) sound h =
     goes_on p (Some (Unpaired q)) (Some (Unpaired q)) c blanks (blank_keeps p (Some (Unpaired q)) c tt e (blank_is c s.0 e))
     ∙ blanks_pass (place_after p c) q blanks s.1 k.1
 
-unpaired_at : (p : Place) (fault : Option DigitFault) (digit : ℕ) (blanks : List ℕ) → fault ≡ None → is_hex_digit digit ≡ true
+unpaired_at : (p : TextPlace) (fault : Option DigitFault) (digit : ℕ) (blanks : List ℕ) → fault ≡ None → is_hex_digit digit ≡ true
     → list_all is_sound blanks ≡ true → list_all (λ octet. not (is_hex_digit octet)) blanks ≡ true
     → (scanned (at p fault) (digit ∷ blanks)).fault ≡ Some (Unpaired p)
 unpaired_at p fault digit blanks n e sound h =
@@ -166,9 +166,9 @@ digits_are_scanned = record {
   stray = λ front back octet sound e.
       ap (λ (s : DigitScan). s.fault) (both nothing_scanned front (octet ∷ back))
       ∙ (stray_at (scanned nothing_scanned front) octet back (open_after front sound start None tt) e
-      ∙ ap (λ (p : Place). Some (Stray p)) (next_is nothing_scanned front));
+      ∙ ap (λ (p : TextPlace). Some (Stray p)) (next_is nothing_scanned front));
   unpaired = λ front blanks digit sound h e rest none.
       ap (λ (s : DigitScan). s.fault) (both nothing_scanned front (digit ∷ blanks))
       ∙ (unpaired_at (scanned nothing_scanned front).next (scanned nothing_scanned front).fault digit blanks ((ends front sound start start).whole h) e rest none
-      ∙ ap (λ (p : Place). Some (Unpaired p)) (next_is nothing_scanned front));
+      ∙ ap (λ (p : TextPlace). Some (Unpaired p)) (next_is nothing_scanned front));
 }

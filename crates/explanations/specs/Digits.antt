@@ -4,7 +4,7 @@ use Rattle.std.specs.Prelude.{if◌then◌else◌}
 use Rattle.explanations.specs.declared.digits.DigitFault.{DigitFault}
 use Rattle.explanations.specs.declared.digits.DigitFault.TheVariants.{Stray, Unpaired}
 use Rattle.explanations.specs.declared.digits.DigitScan.{DigitScan}
-use Rattle.explanations.specs.declared.place.Place.{Place}
+use Rattle.explanations.specs.declared.place.TextPlace.{TextPlace}
 use Rattle.explanations.specs.Places.{place_after, place_text, start}
 
 -- a space, a tab, a line feed or a carriage return
@@ -21,12 +21,12 @@ abbrev pub nothing_scanned : DigitScan
 nothing_scanned = record { next = start; fault = None }
 
 -- a digit is the first of a pair, and has no other yet, or the second
-abbrev pub first_or_second : Option DigitFault → Place → Option DigitFault
+abbrev pub first_or_second : Option DigitFault → TextPlace → Option DigitFault
 first_or_second None place = Some (Unpaired place)
 first_or_second (Some fault) place = None
 
 -- what one octet more brings: nothing is looked at behind the first stray octet
-abbrev pub fault_after : Option DigitFault → Place → ℕ → Option DigitFault
+abbrev pub fault_after : Option DigitFault → TextPlace → ℕ → Option DigitFault
 fault_after (Some (Stray stray)) place octet = Some (Stray stray)
 fault_after fault place octet =
     if is_hex_digit octet then first_or_second fault place

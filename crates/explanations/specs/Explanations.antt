@@ -14,7 +14,7 @@ use Rattle.explanations.specs.declared.explanation.Explanation.{Explanation}
 use Rattle.explanations.specs.declared.explanation.Explanation.TheVariants as Says
 use Rattle.explanations.specs.declared.help.Advice.{Advice}
 use Rattle.explanations.specs.declared.help.Advice.TheVariants as On
-use Rattle.explanations.specs.declared.place.Place.{Place}
+use Rattle.explanations.specs.declared.place.TextPlace.{TextPlace}
 
 -- a sentence as a line of the program's
 abbrev said : List ℕ → List ℕ
@@ -24,7 +24,7 @@ said sentence = codes "overlay: " ++ (sentence ++ (10 ∷ []))
 abbrev pub advised : Advice → List ℕ
 advised advice = said (advice_text advice)
 
-abbrev json_sentence : Place → List ℕ
+abbrev json_sentence : TextPlace → List ℕ
 json_sentence place = codes "the input is no JSON, and reading it stopped at " ++ place_text place
 
 abbrev pub explanation_text : Explanation → List ℕ
@@ -63,4 +63,4 @@ abbrev pub IsStop : Heard → List ℕ → Type 0
 IsStop Kept.Nothing text = text ≡ stop_advice
 IsStop (Kept.Digits kept) text = text ≡ digits_said (scanned nothing_scanned kept.items).fault
 IsStop (Kept.Document kept) text =
-    (text ≡ stop_advice) ⊎ ((place : Place) × IsJsonStop kept.items place × (text ≡ said (json_sentence place)))
+    (text ≡ stop_advice) ⊎ ((place : TextPlace) × IsJsonStop kept.items place × (text ≡ said (json_sentence place)))

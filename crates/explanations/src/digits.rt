@@ -3,16 +3,16 @@ ghost use Rattle.std.specs.Prelude.{◌≡◌};
 ghost use Rattle.explanations.specs.Digits.{fault_after, first_or_second, is_blank, is_hex_digit};
 ghost use Rattle.explanations.specs.Digits.{nothing_scanned, scan_after, scanned};
 
-use crate::place::Place;
+use crate::place::TextPlace;
 use std::fmt;
 
 /// Why a text is not pairs of hexadecimal digits with blanks between them, and where.
 #[derive(Clone, Copy, Debug, PartialEq, Eq)]
 pub enum DigitFault {
     /// The first octet that is neither a digit nor a blank.
-    Stray(Place),
+    Stray(TextPlace),
     /// The last digit, which has no other to make a pair with.
-    Unpaired(Place),
+    Unpaired(TextPlace),
 }
 
 impl fmt::Display for DigitFault {
@@ -39,7 +39,7 @@ impl fmt::Display for DigitFault {
 /// takes no memory, however long the text is.
 #[derive(Clone, Copy, Debug, PartialEq, Eq)]
 pub struct DigitScan {
-    next: Place,
+    next: TextPlace,
     fault: Option<DigitFault>,
 }
 
@@ -56,7 +56,7 @@ fn is_hex_digit(octet: u8) -> bool
 }
 
 /// The fault behind an octet at a place, where there was this one before it.
-fn fault_after(fault: Option<DigitFault>, place: Place, octet: u8) -> Option<DigitFault>
+fn fault_after(fault: Option<DigitFault>, place: TextPlace, octet: u8) -> Option<DigitFault>
     ensures { result ≡ fault_after fault place octet }
 {
     if let Some(DigitFault::Stray(stray)) = fault {
@@ -72,7 +72,7 @@ fn fault_after(fault: Option<DigitFault>, place: Place, octet: u8) -> Option<Dig
 }
 
 /// A digit at a place is the first of a pair, and has no other yet, or the second.
-fn first_or_second(fault: Option<DigitFault>, place: Place) -> Option<DigitFault>
+fn first_or_second(fault: Option<DigitFault>, place: TextPlace) -> Option<DigitFault>
     ensures { result ≡ first_or_second fault place }
 {
     match fault {
@@ -87,7 +87,7 @@ impl DigitScan {
         ensures { result ≡ nothing_scanned }
     {
         DigitScan {
-            next: Place::start(),
+            next: TextPlace::start(),
             fault: None,
         }
     }

@@ -7,7 +7,7 @@ use crate::ends::Heard;
 use crate::form::{FormFault, form_fault_in};
 use crate::help::Advice;
 use crate::json::json_stop;
-use crate::place::Place;
+use crate::place::TextPlace;
 use crate::refused::{Refused, refused_in};
 use std::alloc::Global;
 use std::fmt;
@@ -17,7 +17,7 @@ use std::fmt;
 pub enum Explanation<'a> {
     Advice(Advice),
     /// Where reading JSON stopped.
-    JsonStop(Place),
+    JsonStop(TextPlace),
     DigitFault(DigitFault),
     FormFault(FormFault<'a>),
     Refused(Refused<'a>),

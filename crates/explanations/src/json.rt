@@ -3,7 +3,7 @@ ghost use Rattle.std.specs.Prelude.{IfSome, IsSome};
 ghost use Rattle.std.specs.Str.{IsUtf8};
 ghost use Rattle.explanations.specs.Stops.{IsJsonStop};
 
-use crate::place::Place;
+use crate::place::TextPlace;
 use serde_json::Value;
 use std::alloc::Global;
 use std::str;
@@ -12,7 +12,7 @@ use std::str;
 /// the reader of `serde_json` says, which for a word or a text that is cut is where it begins. None where they are JSON,
 /// and where memory is wanting.
 #[tactic(auto, using(ov_json::proofs::JsonLaws::json_of_text, ov_json::proofs::JsonLaws::json_of_other))]
-pub fn json_stop(alloc: Global, octets: &[u8]) -> Option<Place>
+pub fn json_stop(alloc: Global, octets: &[u8]) -> Option<TextPlace>
     ensures stopped { IfSome result (IsJsonStop octets.now) }
     ensures octet { ¬ IsUtf8 octets.now → IsSome result }
 {
@@ -20,7 +20,7 @@ pub fn json_stop(alloc: Global, octets: &[u8]) -> Option<Place>
         Ok(text) => text,
         Err(error) => {
             let front = &octets[..error.valid_up_to()];
-            return Some(Place::start().behind(front));
+            return Some(TextPlace::start().behind(front));
         }
     };
     match Value::from_str(alloc, text) {
@@ -29,7 +29,7 @@ pub fn json_stop(alloc: Global, octets: &[u8]) -> Option<Place>
             if error.is_memory() {
                 return None;
             }
-            Some(Place {
+            Some(TextPlace {
                 line: error.line(),
                 column: error.column().max(1),
             })

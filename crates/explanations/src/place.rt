@@ -7,29 +7,29 @@ use std::fmt;
 /// A place in octets: its line, and its column in this line, both counted from 1. A line ends with a line feed, and a
 /// column is an octet.
 #[derive(Clone, Copy, Debug, PartialEq, Eq)]
-pub struct Place {
+pub struct TextPlace {
     pub line: usize,
     pub column: usize,
 }
 
-impl Place {
+impl TextPlace {
     /// The place of the first octet.
-    pub fn start() -> Place
+    pub fn start() -> TextPlace
         ensures { result ≡ start }
     {
-        Place { line: 1, column: 1 }
+        TextPlace { line: 1, column: 1 }
     }
 
     /// The place that follows that of an octet.
-    pub(crate) fn after(self, octet: u8) -> Place
+    pub(crate) fn after(self, octet: u8) -> TextPlace
         ensures { result ≡ place_after self octet }
     {
         match octet {
-            b'\n' => Place {
+            b'\n' => TextPlace {
                 line: self.line.saturating_add(1),
                 column: 1,
             },
-            _ => Place {
+            _ => TextPlace {
                 column: self.column.saturating_add(1),
                 ..self
             },
@@ -38,7 +38,7 @@ impl Place {
 
     /// The place behind octets that begin here.
     #[tactic(auto, unfolding(crate::specs::Places::place_behind))]
-    pub fn behind(self, octets: &[u8]) -> Place
+    pub fn behind(self, octets: &[u8]) -> TextPlace
         ensures { result ≡ place_behind self octets.now }
     {
         let mut place = self;
@@ -49,7 +49,7 @@ impl Place {
     }
 }
 
-impl fmt::Display for Place {
+impl fmt::Display for TextPlace {
     ghost use Rattle.std.specs.Prelude.{Some};
     ghost use Rattle.explanations.specs.Places.{place_text};
 

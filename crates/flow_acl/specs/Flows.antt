@@ -10,33 +10,33 @@ use Rattle.ov_types.specs.declared.objects.LowKey.{LowKey}
 use Rattle.ov_types.specs.declared.objects.LowValue.{LowValue}
 use Rattle.ov_types.specs.declared.packet.Packet.{Packet}
 use Rattle.ov_types.specs.declared.verdict.Verdict.{Verdict}
-use Rattle.flow_acl.specs.declared.flow.Flow.{Flow}
-use Rattle.flow_acl.specs.contracts.flow.FlowPartialEq.TheImpl as flows
+use Rattle.flow_acl.specs.declared.flow.FlowKey.{FlowKey}
+use Rattle.flow_acl.specs.contracts.flow.FlowKeyPartialEq.TheImpl as flows
 
 -- the flow of a packet that leaves a network
-abbrev pub flow_of : InstanceId → Packet → Flow
+abbrev pub flow_of : InstanceId → Packet → FlowKey
 flow_of network p = record { network = network; destination = p.destination; tuple = p.tuple }
 
 -- a packet of a flow, from a port
-abbrev pub packet_of : Flow → PortNo → Packet
+abbrev pub packet_of : FlowKey → PortNo → Packet
 packet_of f source = record { source = source; destination = f.destination; tuple = f.tuple }
 
 -- two flows are one
-abbrev pub is_flow : Flow → Flow → Bool
+abbrev pub is_flow : FlowKey → FlowKey → Bool
 is_flow = flows.ghosts.eq
 
 -- a kept verdict is what the lists say of the packets of its flow, whatever port they come from
-abbrev pub IsOf : List (LowKey × LowValue) → Flow × Verdict → Type 0
+abbrev pub IsOf : List (LowKey × LowValue) → FlowKey × Verdict → Type 0
 IsOf lists e = (source : PortNo) → e.1 ≡ verdict lists e.0.network.0 (packet_of e.0 source)
 
 -- each of them is
-abbrev pub AreOf : List (LowKey × LowValue) → List (Flow × Verdict) → Type 0
+abbrev pub AreOf : List (LowKey × LowValue) → List (FlowKey × Verdict) → Type 0
 AreOf lists kept = All (IsOf lists) kept
 
 -- the entry of a flow first, and the others behind it as they were; where there is none nothing changes
-abbrev pub used : Flow → List (Flow × Verdict) → List (Flow × Verdict)
+abbrev pub used : FlowKey → List (FlowKey × Verdict) → List (FlowKey × Verdict)
 used f kept = option_map_or (λ e. e ∷ remove_entry (is_flow f) kept) (lookup_entry (is_flow f) kept) kept
 
 -- a new entry first, and behind it those that were there, where there were 1024 without the last
-abbrev pub with_new : Flow → Verdict → List (Flow × Verdict) → List (Flow × Verdict)
+abbrev pub with_new : FlowKey → Verdict → List (FlowKey × Verdict) → List (FlowKey × Verdict)
 with_new f v kept = (f, v) ∷ take 1023 kept

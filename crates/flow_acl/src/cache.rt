@@ -6,7 +6,7 @@ ghost use Rattle.ov_types.specs.Access.{verdict};
 ghost use Rattle.flow_acl.specs.Flows.{AreOf, flow_of, is_flow, used, with_new};
 
 use crate::acls::Acls;
-use crate::flow::{Flow, flow_of};
+use crate::flow::{FlowKey, flow_of};
 use crate::verdicts::evaluate;
 use lru::{Iter, LruCache};
 use ov_types::{InstanceId, NoMemory, Packet, Verdict};
@@ -17,13 +17,13 @@ use std::num::NonZeroUsize;
 /// The last verdicts, at most 1024, which contracts see as their list, the last used first.
 #[derive(Drop)]
 pub struct FlowCache {
-    kept: LruCache<Flow, Verdict>,
+    kept: LruCache<FlowKey, Verdict>,
 }
 
 impl Model for FlowCache {
     ghost use Rattle.std.specs.Prelude.{◌≡◌, List};
     ghost use Rattle.ov_types.specs.declared.verdict.Verdict.{Verdict as Said};
-    ghost use Rattle.flow_acl.specs.declared.flow.Flow.{Flow as Of};
+    ghost use Rattle.flow_acl.specs.declared.flow.FlowKey.{FlowKey as Of};
 
     ghost Value = { List (Of × Said) };
 
@@ -76,7 +76,7 @@ impl FlowCache {
     }
 
     /// The verdict of a flow, where one is kept, which then stands first.
-    fn recall(&mut self, flow: Flow) -> Option<Verdict>
+    fn recall(&mut self, flow: FlowKey) -> Option<Verdict>
         ensures verdict { result ≡ lookup (is_flow flow) self.old }
         ensures used { self.new ≡ used flow self.old }
     {
@@ -84,7 +84,7 @@ impl FlowCache {
     }
 
     /// Keeps the verdict of a flow of which none is kept, where there is memory for it.
-    fn remember(&mut self, flow: Flow, verdict: Verdict)
+    fn remember(&mut self, flow: FlowKey, verdict: Verdict)
         requires { lookup (is_flow flow) self.old ≡ None }
         ensures { (self.new ≡ with_new flow verdict self.old) ⊎ (self.new ≡ self.old) }
     {
@@ -92,7 +92,7 @@ impl FlowCache {
     }
 
     /// The verdicts, the last used first. It takes no memory.
-    pub fn entries(&self) -> Iter<'_, Flow, Verdict>
+    pub fn entries(&self) -> Iter<'_, FlowKey, Verdict>
         ensures { result ≡ self.now }
     {
         self.kept.iter()

@@ -11,13 +11,13 @@ use std::hash::{Hash, Hasher};
 /// All that a verdict depends on, beside the access lists: the network that a packet leaves, where it goes, and its
 /// tuple.
 #[derive(Clone, Copy, Debug, PartialEq, Eq)]
-pub struct Flow {
+pub struct FlowKey {
     pub network: InstanceId,
     pub destination: Addr,
     pub tuple: Tuple,
 }
 
-impl Hash for Flow {
+impl Hash for FlowKey {
     ghost hash_input = { λ f. fed.u16 f.network.0 ++ (fed.u32 f.destination.0 ++ (fed.u8 f.tuple.proto ++ (fed.u16 f.tuple.sport ++ fed.u16 f.tuple.dport))) };
 
     ghost respects_eq = { Prim.search (hashing, rules) };
@@ -32,12 +32,12 @@ impl Hash for Flow {
 }
 
 /// The flow of a packet that leaves a network.
-pub(crate) fn flow_of(network: InstanceId, packet: &Packet) -> Flow
+pub(crate) fn flow_of(network: InstanceId, packet: &Packet) -> FlowKey
     ensures { result ≡ flow_of network packet.now }
 {
     let destination = packet.destination;
     let tuple = packet.tuple;
-    Flow {
+    FlowKey {
         network,
         destination,
         tuple,

@@ -11,7 +11,7 @@ ghost use Rattle.ov_types.specs.declared.verdict.Verdict.{Verdict};
 ghost use Rattle.ov_types.specs.declared.verdict.Verdict.TheVariants.{Pass, Denied, NoDestination};
 ghost use Rattle.flow_acl.specs.Deciding.{Decides, Holds, IsMap, Leads};
 ghost use Rattle.flow_acl.specs.Flows.{with_new};
-ghost use Rattle.flow_acl.specs.declared.flow.Flow.{Flow};
+ghost use Rattle.flow_acl.specs.declared.flow.FlowKey.{FlowKey};
 
 /// There is no destination exactly where no list of the network holds it.
 pub fn a_destination_is_one_that_a_list_holds()
@@ -45,8 +45,8 @@ pub fn an_entry_holds_its_tuples()
 /// Of verdicts 1,024 are kept and no more: a new one stands before those that were there, all of them where there were
 /// fewer, and all but the last where there were so many.
 pub fn so_many_verdicts_are_kept()
-    ensures fewer { (f : Flow) (v : Verdict) (kept : List (Flow × Verdict)) → length kept < 1024
+    ensures fewer { (f : FlowKey) (v : Verdict) (kept : List (FlowKey × Verdict)) → length kept < 1024
         → with_new f v kept ≡ (f, v) ∷ kept }
-    ensures full { (f : Flow) (v : Verdict) (front : List (Flow × Verdict)) (last : Flow × Verdict)
+    ensures full { (f : FlowKey) (v : Verdict) (front : List (FlowKey × Verdict)) (last : FlowKey × Verdict)
         → length (front ++ last ∷ []) ≡ 1024 → with_new f v (front ++ last ∷ []) ≡ (f, v) ∷ front }
 {}

@@ -9,5 +9,5 @@ mod verdicts;
 
 pub use acls::Acls;
 pub use cache::FlowCache;
-pub use flow::Flow;
+pub use flow::FlowKey;
 pub use verdicts::evaluate;

@@ -5,7 +5,7 @@ use Rattle.serde_json.specs.Data.{Data}
 use Rattle.config_model.specs.Faults.{Fault}
 use Rattle.config_check.specs.Checked.{Checked}
 use Rattle.config_check.specs.Rules.{first_broken}
-use Rattle.document_answers.specs.Answers.{Answer, answer_bad, answer_checked, of_json}
+use Rattle.compile_answers.specs.Answers.{Answer, answer_bad, answer_checked, of_json}
 use Rattle.ov_json.specs.Json.{json_of}
 use Rattle.flow_script.specs.declared.step.FlowsInput.{FlowsInput}
 use Rattle.flow_script.specs.declared.step.Step.{Step}

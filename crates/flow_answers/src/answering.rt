@@ -5,7 +5,7 @@ ghost use Rattle.serde_json.specs.View.{view};
 ghost use Rattle.config_model.specs.Form.{has_config_form};
 ghost use Rattle.ov_io.specs.Inputs.{TookFront};
 ghost use Rattle.ov_io.specs.Pieces.{HasWriteCause};
-ghost use Rattle.document_answers.specs.Answers.{IsAnswered, WasGiven, answer_good};
+ghost use Rattle.compile_answers.specs.Answers.{IsAnswered, WasGiven, answer_good};
 ghost use Rattle.flow_script.specs.Steps.{flows_at, has_step_form};
 ghost use Rattle.flow_state.specs.Laws.{AreAnswered};
 ghost use Rattle.flow_state.specs.Replay.{answers, at_start};
@@ -13,9 +13,9 @@ ghost use Rattle.flow_answers.specs.Answers.{AreReadAs, TookReplies, flows_answe
 ghost use Rattle.flow_answers.specs.Lines.{flows_text};
 
 use crate::replaying::write_replay;
+use compile_answers::{Reception, Unfit, valid_of, write_unfit};
 use config_check::Valid;
 use config_model::ReadRefusal;
-use document_answers::{Unfit, Verdict, valid_of, write_unfit};
 use flow_script::{FlowsInput, Step, read_flows};
 use flow_state::laws::replays_are_answered;
 use ov_io::{Sink, WriteRefusal};
@@ -94,12 +94,12 @@ pub fn answer_flows<K: Sink>(
     alloc: Global,
     octets: &[u8],
     sink: &mut K,
-) -> Result<Verdict, WriteRefusal>
+) -> Result<Reception, WriteRefusal>
     ensures given { IfOk result (λ verdict. WasGiven (flows_answer octets.now) verdict
         (K.taken sink.old) (K.taken sink.new)) }
     ensures front { OnErr result (TookFront (K.taken sink.old) (K.taken sink.new) (flows_answer octets.now).text) }
     ensures cause { HasWriteCause (K.faults sink.old) (K.faults sink.new) result }
-    ensures promise { IfOk result (λ verdict. verdict ≡ Verdict.Good
+    ensures promise { IfOk result (λ verdict. verdict ≡ Reception.Good
         → TookReplies octets.now (K.taken sink.old) (K.taken sink.new)) }
 {
     match flows_asked(alloc, octets) {
@@ -112,7 +112,7 @@ pub fn answer_flows<K: Sink>(
         ) => {
             know_answers(&valid, capacity, steps.as_slice());
             write_replay(alloc, valid, capacity, steps.as_slice(), sink)?;
-            Ok(Verdict::Good)
+            Ok(Reception::Good)
         }
         Err(unfit) => write_unfit(alloc, unfit, sink),
     }

@@ -9,8 +9,8 @@ ghost use Rattle.flow_script.specs.Steps.{capacity_at, flows_at, has_step_form, 
 
 use crate::step::{FlowsInput, Step};
 use config_model::reading::{
-    Count, FromDocument, Place, check_others, list_member, object_of, one_member_of, read_member,
-    whole_member,
+    Count, DocumentPlace, FromDocument, check_others, list_member, object_of, one_member_of,
+    read_member, whole_member,
 };
 use config_model::{CompileInput, Config, DocKind, Edit, ReadRefusal, Topology};
 use ov_types::Packet;
@@ -26,7 +26,7 @@ const MOST_CAPACITY: u64 = 65_535;
 #[tactic(auto, unfolding(crate::specs::Steps::step_from, crate::specs::Steps::has_step_form))]
 fn step_from(
     alloc: Global,
-    place: &Place<'_>,
+    place: &DocumentPlace<'_>,
     word: &str,
     value: &Value,
 ) -> Result<Step, ReadRefusal>
@@ -46,15 +46,15 @@ impl FromDocument for Step {
     ghost has_form = { has_step_form };
 
     #[tactic(auto, unfolding(crate::specs::Steps::step_at))]
-    fn read(alloc: Global, place: &Place<'_>, value: &Value) -> Result<Self, ReadRefusal> {
+    fn read(alloc: Global, place: &DocumentPlace<'_>, value: &Value) -> Result<Self, ReadRefusal> {
         let (word, described) = one_member_of(alloc, place, value)?;
-        step_from(alloc, &Place::Member(place, word), word, described)
+        step_from(alloc, &DocumentPlace::Member(place, word), word, described)
     }
 }
 
 /// How many flows a table has room for.
 #[tactic(auto, unfolding(crate::specs::Steps::capacity_at))]
-fn capacity_of(alloc: Global, place: &Place<'_>, value: &Value) -> Result<u16, ReadRefusal>
+fn capacity_of(alloc: Global, place: &DocumentPlace<'_>, value: &Value) -> Result<u16, ReadRefusal>
     ensures reads { Gives (λ n. n) result (capacity_at (place_text place.now) (view value.now)) }
     ensures least { IfOk result (λ n. 1 ≤ n) }
 {
@@ -73,7 +73,7 @@ fn capacity_of(alloc: Global, place: &Place<'_>, value: &Value) -> Result<u16, R
 #[tactic(auto, unfolding(crate::specs::Steps::flows_at))]
 fn flows_input_of(
     alloc: Global,
-    place: &Place<'_>,
+    place: &DocumentPlace<'_>,
     value: &Value,
 ) -> Result<FlowsInput, ReadRefusal>
     ensures reads { Gives (λ r. r) result (flows_at (place_text place.now) (view value.now)) }
@@ -109,5 +109,5 @@ pub fn read_flows(alloc: Global, value: &Value) -> Result<FlowsInput, ReadRefusa
     ensures least { IfOk result (λ r. 1 ≤ r.capacity) }
     ensures steps_form { IfOk result (λ r. IsTrue (list_all has_step_form r.steps)) }
 {
-    flows_input_of(alloc, &Place::Whole, value)
+    flows_input_of(alloc, &DocumentPlace::Whole, value)
 }

@@ -19,8 +19,8 @@ use Rattle.config_model.specs.declared.config.Direction.TheVariants.{OneWay, Bot
 use Rattle.config_model.specs.declared.config.Network.{Network}
 use Rattle.config_model.specs.declared.config.Port.{Port}
 use Rattle.config_model.specs.declared.topology.Topology.{Topology}
-use Rattle.network_rules.specs.declared.matching.Match.{Match}
-use Rattle.network_rules.specs.Matching.{deciding, speaks_both_ways}
+use Rattle.policy_rules.specs.declared.matching.Match.{Match}
+use Rattle.policy_rules.specs.Matching.{deciding, speaks_both_ways}
 use Rattle.config_check.specs.Finding.{port_numbered}
 use Rattle.config_check.specs.Rules.{first_broken}
 use Rattle.config_check.proofs.Finders.{finds_port_numbered}

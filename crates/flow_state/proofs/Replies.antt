@@ -16,8 +16,8 @@ use Rattle.config_model.specs.declared.config.Config.{Config}
 use Rattle.config_model.specs.declared.config.Network.{Network}
 use Rattle.config_model.specs.declared.config.Port.{Port}
 use Rattle.config_model.specs.declared.topology.Topology.{Topology}
-use Rattle.network_rules.specs.Answering.{answering}
-use Rattle.network_rules.specs.Standing.{IsBetween, AreRelated}
+use Rattle.policy_rules.specs.Answering.{answering}
+use Rattle.policy_rules.specs.Standing.{IsBetween, AreRelated}
 use Rattle.config_check.specs.Finding.{network_named, port_at, port_numbered}
 use Rattle.config_check.specs.Rules.{first_broken}
 use Rattle.config_check.proofs.Finders.{finds_port_numbered, finds_network_named, finds_port_at}

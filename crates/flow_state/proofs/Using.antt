@@ -14,7 +14,7 @@ use Rattle.config_model.specs.declared.config.Direction.{Direction}
 use Rattle.config_model.specs.declared.config.Network.{Network}
 use Rattle.config_model.specs.declared.config.Port.{Port}
 use Rattle.config_model.specs.declared.topology.Topology.{Topology}
-use Rattle.network_rules.specs.Matching.{deciding, speaks_both_ways}
+use Rattle.policy_rules.specs.Matching.{deciding, speaks_both_ways}
 use Rattle.config_check.specs.Finding.{port_numbered}
 use Rattle.config_check.specs.Rules.{first_broken}
 use Rattle.reach_plain.specs.Reachability.{reachability}

@@ -15,9 +15,9 @@ use Rattle.config_model.specs.declared.config.Config.{Config}
 use Rattle.config_model.specs.declared.config.Direction.TheVariants.{OneWay}
 use Rattle.config_model.specs.declared.config.Network.{Network}
 use Rattle.config_model.specs.declared.config.Port.{Port}
-use Rattle.network_rules.specs.declared.matching.Match.{Match}
-use Rattle.network_rules.specs.Answering.{answering}
-use Rattle.network_rules.specs.Matching.{deciding, speaks_both_ways}
+use Rattle.policy_rules.specs.declared.matching.Match.{Match}
+use Rattle.policy_rules.specs.Answering.{answering}
+use Rattle.policy_rules.specs.Matching.{deciding, speaks_both_ways}
 use Rattle.config_check.specs.Finding.{network_named, port_at, port_numbered}
 use Rattle.reach_plain.specs.Reachability.{network_towards, reachability}
 use Rattle.flow_state.specs.declared.flow.Flow.{Flow}

@@ -1,7 +1,7 @@
 //! What becomes of packets beside a table of flows.
 ghost use Rattle.std.specs.Prelude.{◌≡◌, ◌≤◌, length, reverse, Some, None, IfOk, OnOk, OnErr};
 ghost use Rattle.std.specs.List.{All};
-ghost use Rattle.network_rules.specs.Answering.{answering};
+ghost use Rattle.policy_rules.specs.Answering.{answering};
 ghost use Rattle.reach_plain.specs.Reachability.{reachability};
 ghost use Rattle.flow_state.specs.Flows.{IsShort, PermitsOneWay, answered, back_through, candidate, flow_outcome};
 ghost use Rattle.flow_state.specs.Flows.{flow_use, forward_packet, let_back, outcome_beside, returned, standing};

@@ -1,14 +1,14 @@
 //! The network that a packet is for.
 ghost use Rattle.std.specs.Prelude.{◌≡◌, ◌&&◌, ◌||◌, option_copied};
 ghost use Rattle.ov_types.specs.First.{same_name};
-ghost use Rattle.network_rules.specs.Related.{are_related};
+ghost use Rattle.policy_rules.specs.Related.{are_related};
 ghost use Rattle.config_check.specs.Rules.{holds_address};
 ghost use Rattle.reach_plain.specs.Reachability.{network_towards};
 
 use config_check::holds_address;
 use config_model::{Config, Network};
-use network_rules::are_related;
 use ov_types::Addr;
+use policy_rules::are_related;
 
 fn is_towards(config: &Config, from: &Network, other: &Network, address: Addr) -> bool
     ensures { result ≡ ((same_name other.now.name from.now.name || are_related config.now from.now other.now)

@@ -7,8 +7,8 @@ ghost use Rattle.flow_state.specs.Flows.{speaks_one_way};
 use crate::flow::Flow;
 use config_check::{Valid, network_named, port_numbered};
 use config_model::{Config, Direction, Network};
-use network_rules::{Match, deciding};
 use ov_types::{Packet, PortNo, Tuple};
+use policy_rules::{Match, deciding};
 
 pub(crate) fn network_of(config: &Config, number: PortNo) -> Option<&Network>
     ensures { option_copied result ≡ network_of config.now number }

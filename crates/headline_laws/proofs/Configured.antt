@@ -18,13 +18,13 @@ use Rattle.transform_model.specs.Tables.{control_rows}
 use Rattle.transform_model.proofs.Rows.{node_is}
 use Rattle.node_model.specs.Members.{Member}
 use Rattle.node_model.proofs.Members.{any_in, in_map, member_of}
-use Rattle.network_model.specs.Events.{after, is_node, shown}
-use Rattle.network_model.specs.Network.{Network, start}
-use Rattle.network_model.specs.Setup.{Name, low as low_map}
-use Rattle.network_model.specs.Steps.{is_settled}
-use Rattle.compiled_laws.specs.Compiled.{rows_for}
-use Rattle.compiled_laws.specs.Moments.{ShowsCompiled}
-use Rattle.compiled_laws.proofs.Names.{apart_names}
+use Rattle.machine_model.specs.Events.{after, is_node, shown}
+use Rattle.machine_model.specs.Network.{Network, start}
+use Rattle.machine_model.specs.Setup.{Name, low as low_map}
+use Rattle.machine_model.specs.Steps.{is_settled}
+use Rattle.machine_compiled_laws.specs.Compiled.{rows_for}
+use Rattle.machine_compiled_laws.specs.Moments.{ShowsCompiled}
+use Rattle.machine_compiled_laws.proofs.Names.{apart_names}
 use Rattle.headline_laws.specs.Headline.{AfterAnySchedule, AgentsShowRows, ControlNodesShowTables, IsWritten}
 use Rattle.headline_laws.proofs.Control.{control_is}
 use Rattle.headline_laws.proofs.Delivers.{found}

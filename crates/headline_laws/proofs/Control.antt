@@ -15,7 +15,7 @@ use Rattle.ov_types.specs.declared.objects.LowKey.TheVariants as key
 use Rattle.ov_types.specs.declared.objects.LowValue.TheVariants as low
 use Rattle.ov_types.specs.declared.prefix.Addr.{Addr}
 use Rattle.config_model.specs.Form.{has_config_form}
-use Rattle.network_model.specs.Setup.{Setup}
+use Rattle.machine_model.specs.Setup.{Setup}
 use Rattle.config_check.specs.Sentences.{IsValid}
 use Rattle.transform_model.specs.IsRow.{IsRow, at_left_end, at_right_end, to_left_circuit, to_left_subnet, to_port, to_right_circuit, to_right_subnet}
 use Rattle.transform_model.specs.IsUse.{IsInstance, of_hop, of_network}
@@ -24,7 +24,7 @@ use Rattle.transform_model.specs.Tables.{Row as TableEntry}
 use Rattle.transform_model.specs.Tables.{instance_table, instances}
 use Rattle.transform_model.proofs.Instances.{instance_is, is_instance}
 use Rattle.transform_model.proofs.Kept.{all_in_order, all_kept, instance_of_row}
-use Rattle.network_rules.proofs.Lists.{is_joined, joined_is}
+use Rattle.policy_rules.proofs.Lists.{is_joined, joined_is}
 use Rattle.transform_model.proofs.Lists.{place_within}
 use Rattle.transform_model.proofs.Rows.{rows_iff}
 use Rattle.node_model.specs.Maps.{Map}
@@ -38,12 +38,12 @@ use Rattle.node_laws.specs.Received as received
 use Rattle.node_laws.specs.Received.{AreNetworks}
 use Rattle.node_laws.proofs.Receiving.{known_in}
 use Rattle.node_laws.proofs.Shown.{shown_in_order}
-use Rattle.network_model.specs.Setup.{low as low_map}
-use Rattle.compiled_laws.specs.Compiled as compiled
-use Rattle.compiled_laws.specs.Compiled.{Agents, Attachment, attachments, compiled_holdings, compiled_table, rows_in}
-use Rattle.compiled_laws.specs.Sound.{IsServed}
-use Rattle.compiled_laws.proofs.Shown.{rows_compiled, entry_row}
-use Rattle.compiled_laws.proofs.Sorted.{Rises, same_sorted, sorted_from}
+use Rattle.machine_model.specs.Setup.{low as low_map}
+use Rattle.machine_compiled_laws.specs.Compiled as compiled
+use Rattle.machine_compiled_laws.specs.Compiled.{Agents, Attachment, attachments, compiled_holdings, compiled_table, rows_in}
+use Rattle.machine_compiled_laws.specs.Sound.{IsServed}
+use Rattle.machine_compiled_laws.proofs.Shown.{rows_compiled, entry_row}
+use Rattle.machine_compiled_laws.proofs.Sorted.{Rises, same_sorted, sorted_from}
 use Rattle.headline_laws.proofs.Hosts.{entry}
 use Rattle.headline_laws.proofs.Imports.{found_object, instance_by, object_of_network, small}
 use Rattle.headline_laws.proofs.Objects.{held_of, is_held, object_at, object_is, uses_ordered}

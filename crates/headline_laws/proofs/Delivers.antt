@@ -5,7 +5,7 @@ use Rattle.std.specs.Prelude.{List, is_some, map, true, [], ◌∷◌, ◌≡◌
 use Rattle.std.specs.declared.option.Option.TheVariants.{Some}
 use Rattle.std.specs.declared.option.Option.{Option}
 use Rattle.chain_expand.proofs.Settled.{settled}
-use Rattle.forward_laws.proofs.Law.{forwarding_is_reachability}
+use Rattle.transform_forwarding_laws.proofs.Law.{forwarding_is_reachability}
 use Rattle.std.proofs.Common.{ap, inl, inr, refl, sym, ◌∙◌}
 use Rattle.std.proofs.lemmas.Bool.{or_right}
 use Rattle.ov_types.specs.First.{same_name}
@@ -24,13 +24,13 @@ use Rattle.transform_model.proofs.Needed.{asked}
 use Rattle.transform_model.proofs.Rows.{is_node}
 use Rattle.node_model.specs.Agent as agent
 use Rattle.node_model.specs.Members.{Member}
-use Rattle.network_model.specs.Events as events
-use Rattle.network_model.specs.Events.{after}
-use Rattle.network_model.specs.Network.{Network, start}
-use Rattle.network_model.specs.Setup.{checked, low as low_map}
-use Rattle.network_model.specs.Steps.{is_settled}
-use Rattle.compiled_laws.specs.Compiled as compiled
-use Rattle.compiled_laws.specs.Moments.{ShowsCompiled}
+use Rattle.machine_model.specs.Events as events
+use Rattle.machine_model.specs.Events.{after}
+use Rattle.machine_model.specs.Network.{Network, start}
+use Rattle.machine_model.specs.Setup.{checked, low as low_map}
+use Rattle.machine_model.specs.Steps.{is_settled}
+use Rattle.machine_compiled_laws.specs.Compiled as compiled
+use Rattle.machine_compiled_laws.specs.Moments.{ShowsCompiled}
 use Rattle.headline_laws.specs.Headline.{AfterAnySchedule, IsWritten, SettledIsReachable}
 use Rattle.node_model.proofs.Members.{contains_of}
 use Rattle.headline_laws.proofs.Shown.{agent_is}

@@ -1,5 +1,5 @@
 -- The host rows of what instances import are those of the configuration's tables.
-use Rattle.network_rules.specs.Standing.{PassesBetween}
+use Rattle.policy_rules.specs.Standing.{PassesBetween}
 use Rattle.std.specs.List.{Contains}
 use Rattle.std.specs.Prelude.{IsTrue, ℕ, ◌+◌, ◌<◌, ◌≡◌, ◌≢◌, ◌≤◌, ◌⊎◌}
 use Rattle.std.proofs.Common.{ap, arith, inl, inr, refl, subst, sym, ◌*◌, ◌∙◌}
@@ -12,7 +12,7 @@ use Rattle.config_model.specs.Form.{has_config_form}
 use Rattle.config_model.specs.declared.config.Network.{Network}
 use Rattle.config_model.specs.declared.config.Port.{Port}
 use Rattle.config_model.specs.declared.topology.Node.{Node}
-use Rattle.network_model.specs.Setup.{Setup}
+use Rattle.machine_model.specs.Setup.{Setup}
 use Rattle.config_check.specs.Sentences.{IsValid}
 use Rattle.config_check.proofs.OneHome.{two_among}
 use Rattle.transform_model.specs.IsRow.{IsPort, IsRow, at_left_end, at_right_end, to_left_circuit, to_port, to_right_circuit}
@@ -23,10 +23,10 @@ use Rattle.transform_model.proofs.Circuits.{left_instance, right_instance}
 use Rattle.transform_model.proofs.Objects.{one_numbered}
 use Rattle.transform_model.proofs.Prefixes.{network_number, table_prefixes}
 use Rattle.transform_model.proofs.Rows.{rows_iff}
-use Rattle.compiled_laws.specs.Compiled.{Attachment, circuit_prefix, row_of}
-use Rattle.compiled_laws.proofs.Views.{far}
+use Rattle.machine_compiled_laws.specs.Compiled.{Attachment, circuit_prefix, row_of}
+use Rattle.machine_compiled_laws.proofs.Views.{far}
 use Rattle.headline_laws.proofs.Imports.{Imported, hop_import, network_import}
-use Rattle.headline_laws.proofs.Objects.{Kind, circuit_attachment, left_kind, port_attachment, port_kind, right_kind}
+use Rattle.headline_laws.proofs.Objects.{AttachmentKind, circuit_attachment, left_kind, port_attachment, port_kind, right_kind}
 
 abbrev pub entry : InstanceId → Block → TableRow → TableEntry
 entry i prefix r = ((i, prefix), r)
@@ -77,7 +77,7 @@ module _ (x : Setup) (form : IsTrue (has_config_form x.config)) (v : IsValid x.t
   pub circuit_entry : (i : InstanceId) (k : Circuit) (d : Node) → i ≡ circuit_instance_of k.number → entry i (circuit_prefix k.number) (row_of (circuit_attachment k d)) ≡ circuit_route i (host_prefix (circuit_address_of k.number).0) k d
   circuit_entry i k d e = λ z. entry i (circuit_prefix k.number) (record { rd = distinguisher_of d.address (sym e z); next_hop = d.address; label = circuit_label_of k.number })
 
-  pub host_is : (i : InstanceId) (a : Attachment) → Kind x a → Imported x i a.instance → RowOf i a
+  pub host_is : (i : InstanceId) (a : Attachment) → AttachmentKind x a → Imported x i a.instance → RowOf i a
   host_is i a (port_kind n p d at e) im = subst (RowOf i) e (of_port_row i n p d at (subst (λ (a : Attachment). Imported x i a.instance) (sym e) im))
   host_is i a (left_kind u j k d used is at e) im =
       let own = own_instance i (circuit_instance_of k.number) u.number j (left_instance u j k is) (subst (λ (a : Attachment). Imported x i a.instance) (sym e) im) in

@@ -1,5 +1,5 @@
 -- What the instances of a valid configuration import.
-use Rattle.network_rules.specs.Standing.{PassesBetween}
+use Rattle.policy_rules.specs.Standing.{PassesBetween}
 use Rattle.std.specs.FinMap.{get}
 use Rattle.std.specs.List.{Contains, filter_map, flat_map}
 use Rattle.std.specs.Prelude.{IsTrue, List, cond, false, is_some, length, map, nat_le, true, ℕ, [], ◌%◌, ◌++◌, ◌+◌, ◌-◌, ◌/◌, ◌<◌, ◌∷◌, ◌≡◌, ◌≤◌, ◌⊎◌}
@@ -19,7 +19,7 @@ use Rattle.ov_types.specs.declared.objects.LowValue.{LowValue}
 use Rattle.route_targets.specs.Numbers.{hop_instance_of}
 use Rattle.config_model.specs.Form.{has_config_form}
 use Rattle.config_model.specs.declared.config.Network.{Network}
-use Rattle.network_model.specs.Setup.{Setup}
+use Rattle.machine_model.specs.Setup.{Setup}
 use Rattle.config_check.specs.Sentences.{IsValid}
 use Rattle.transform_model.specs.IsObject.{AreImports, IsObject, of_left_circuit, of_network, of_networks, of_port, of_right_circuit, of_use}
 use Rattle.transform_model.specs.IsUse.{IsUse}
@@ -28,7 +28,7 @@ use Rattle.transform_model.specs.Objects.{acl_objects, circuit_objects, imports_
 use Rattle.transform_model.specs.Objects.{objects as made_objects}
 use Rattle.transform_model.specs.Uses.{Use as InEffect}
 use Rattle.transform_model.specs.Uses.{uses as in_effect}
-use Rattle.network_rules.proofs.Lists.{is_mapped}
+use Rattle.policy_rules.proofs.Lists.{is_mapped}
 use Rattle.transform_model.proofs.LowKeys.{low_iff, low_kept}
 use Rattle.transform_model.proofs.Objects.{one_numbered}
 use Rattle.transform_model.proofs.Prefixes.{network_number}
@@ -42,7 +42,7 @@ use Rattle.node_model.proofs.Objects.{ends, imports_hop, in_objects, object_of}
 use Rattle.node_model.proofs.Places.{is_hop-network, use_found}
 use Rattle.node_model.proofs.Spelled.{import_is}
 use Rattle.node_model.proofs.Unknown.{le_trans}
-use Rattle.network_model.specs.Setup.{low as low_map}
+use Rattle.machine_model.specs.Setup.{low as low_map}
 use Rattle.headline_laws.proofs.Objects.{held_is, held_of, is_held, is_object, object_at, object_is, used_few}
 
 -- an instance is that of a network with what it imports, or a place of a use in effect

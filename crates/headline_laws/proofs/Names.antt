@@ -17,9 +17,9 @@ use Rattle.config_check.specs.Rules.{controller_names, node_names}
 use Rattle.config_check.specs.Sentences.{IsValid}
 use Rattle.node_model.specs.Members.{Member}
 use Rattle.node_model.proofs.Members.{from_map, in_either, contains_of, member_of}
-use Rattle.network_model.specs.Network.{AreNamed, config}
-use Rattle.network_model.specs.Setup.{Name}
-use Rattle.compiled_laws.specs.Setups.{IsNamed}
+use Rattle.machine_model.specs.Network.{AreNamed, config}
+use Rattle.machine_model.specs.Setup.{Name}
+use Rattle.machine_compiled_laws.specs.Setups.{IsNamed}
 
 all_true : {A : Type 0} (p : A → Bool) (xs : List A) (y : A) → list_all p xs ≡ true → Member y xs → p y ≡ true
 all_true p [] y h m = absurd m

@@ -5,7 +5,7 @@ use Rattle.std.specs.Prelude.{IsTrue, List, length, nat_le, true, ℕ, [], ◌+�
 use Rattle.std.specs.declared.option.Option.TheVariants.{Some}
 use Rattle.std.specs.declared.option.Option.{Option}
 use Rattle.acl_compile.proofs.Orders.{ascending_permutes}
-use Rattle.forward_laws.proofs.Valid.{node_of_service}
+use Rattle.transform_forwarding_laws.proofs.Valid.{node_of_service}
 use Rattle.std.proofs.Common.{ap, arith, inl, refl, subst, sym, ◌∙◌}
 use Rattle.std.proofs.lemmas.Bool.{and_parts, false_from_ne_true, leb-true}
 use Rattle.std.proofs.lemmas.List.Elements.{All-contains}
@@ -27,7 +27,7 @@ use Rattle.config_model.specs.declared.config.Network.{Network}
 use Rattle.config_model.specs.declared.config.Port.{Port}
 use Rattle.config_model.specs.declared.config.Service.{Service}
 use Rattle.config_model.specs.declared.topology.Node.{Node}
-use Rattle.network_model.specs.Setup.{Setup}
+use Rattle.machine_model.specs.Setup.{Setup}
 use Rattle.config_check.specs.Rules.{circuit_addresses}
 use Rattle.config_check.specs.Sentences.{AreApart, IsAround, IsValid, Overlap}
 use Rattle.config_check.proofs.Circuits.{circuits_iff}
@@ -49,9 +49,9 @@ use Rattle.node_model.specs.Ranks.{AreOrdered}
 use Rattle.node_model.specs.Uses.{Use, as_use, uses}
 use Rattle.node_model.proofs.Members.{from_filter_map, in_filter_map, none_some, contains_of, member_of}
 use Rattle.node_model.proofs.Places.{inside_itself}
-use Rattle.network_model.specs.Setup.{low as low_map}
-use Rattle.network_model.proofs.Feed.{objects-low}
-use Rattle.compiled_laws.specs.Compiled.{Attachment, as_attachment, attachments, circuit_prefix}
+use Rattle.machine_model.specs.Setup.{low as low_map}
+use Rattle.machine_model.proofs.Feed.{objects-low}
+use Rattle.machine_compiled_laws.specs.Compiled.{Attachment, as_attachment, attachments, circuit_prefix}
 use Rattle.headline_laws.proofs.Lists.{zip_length}
 
 abbrev pub port_attachment : Port → Network → Node → Attachment
@@ -60,10 +60,10 @@ port_attachment p n d = record { label = port_label_of p.id; instance = n.id; pr
 abbrev pub circuit_attachment : Circuit → Node → Attachment
 circuit_attachment k d = record { label = circuit_label_of k.number; instance = circuit_instance_of k.number; prefix = circuit_prefix k.number; node = d.address }
 
-pub data Kind (x : Setup) (a : Attachment) : Type 0 where
-  port_kind : (n : Network) (p : Port) (d : Node) → IsPort x.topology x.config n p d → port_attachment p n d ≡ a → Kind x a
-  left_kind : (u : InEffect) (j : ℕ) (k : Circuit) (d : Node) → IsUse x.config u → IsLeftCircuit u j k → IsCircuitAtNode x.topology k d → circuit_attachment k d ≡ a → Kind x a
-  right_kind : (u : InEffect) (j : ℕ) (k : Circuit) (d : Node) → IsUse x.config u → IsRightCircuit u j k → IsCircuitAtNode x.topology k d → circuit_attachment k d ≡ a → Kind x a
+pub data AttachmentKind (x : Setup) (a : Attachment) : Type 0 where
+  port_kind : (n : Network) (p : Port) (d : Node) → IsPort x.topology x.config n p d → port_attachment p n d ≡ a → AttachmentKind x a
+  left_kind : (u : InEffect) (j : ℕ) (k : Circuit) (d : Node) → IsUse x.config u → IsLeftCircuit u j k → IsCircuitAtNode x.topology k d → circuit_attachment k d ≡ a → AttachmentKind x a
+  right_kind : (u : InEffect) (j : ℕ) (k : Circuit) (d : Node) → IsUse x.config u → IsRightCircuit u j k → IsCircuitAtNode x.topology k d → circuit_attachment k d ≡ a → AttachmentKind x a
 
 abbrev pub with_services : ℕ → InEffect → Use
 with_services n u = record { number = u.number; left = u.left.id; right = u.right.id; left_subnets = ascending u.left.subnets; right_subnets = ascending u.right.subnets; services = n }
@@ -94,7 +94,7 @@ module _ (x : Setup) (form : IsTrue (has_config_form x.config)) (v : IsValid x.t
   is_object o h = subst (λ (es : List Object). Member o es) (sym (objects-low x)) (member_of (low_objects x.topology x.config) o ((low_iff x.topology x.config o v form).1 h))
 
   -- ---- attachments
-  attachment_by : (a : Attachment) (o : Object) → IsObject x.topology x.config o → attachment_in o ≡ Some a → Kind x a
+  attachment_by : (a : Attachment) (o : Object) → IsObject x.topology x.config o → attachment_in o ≡ Some a → AttachmentKind x a
   attachment_by a o (of_network n is in_n are e) h = absurd (none_some a (ap attachment_in (sym e) ∙ h))
   attachment_by a o (of_port n p d at e) h = port_kind n p d at (same_Some (port_attachment p n d) a (ap attachment_in (sym e) ∙ h))
   attachment_by a o (of_left_circuit u j k d used is at e) h = left_kind u j k d used is at (same_Some (circuit_attachment k d) a (ap attachment_in (sym e) ∙ h))
@@ -102,7 +102,7 @@ module _ (x : Setup) (form : IsTrue (has_config_form x.config)) (v : IsValid x.t
   attachment_by a o (of_networks n m in_n in_m around e) h = absurd (none_some a (ap attachment_in (sym e) ∙ h))
   attachment_by a o (of_use u hops used zip e) h = absurd (none_some a (ap attachment_in (sym e) ∙ h))
 
-  pub attachment_is : (a : Attachment) → Member a (attachments (low_map x)) → Kind x a
+  pub attachment_is : (a : Attachment) → Member a (attachments (low_map x)) → AttachmentKind x a
   attachment_is a m =
       let q = from_filter_map (λ (e : LowKey × LowValue). as_attachment e.0 e.1) a (objects (low_map x)) m in
       attachment_by a q.0 (object_is q.0 q.1) q.2

@@ -9,7 +9,7 @@ use Rattle.ov_types.specs.declared.rows.TableRow.{TableRow}
 use Rattle.route_targets.specs.Numbers.{circuit_instance_of, circuit_label_of, distinguisher_of, hop_instance_of, left_circuit_of, right_circuit_of}
 use Rattle.config_model.specs.Form.{has_config_form}
 use Rattle.config_model.specs.declared.config.Network.{Network}
-use Rattle.network_model.specs.Setup.{Setup}
+use Rattle.machine_model.specs.Setup.{Setup}
 use Rattle.config_check.specs.Sentences.{IsValid}
 use Rattle.transform_model.specs.IsRow.{HoldsPort, IsRow, to_left_subnet, to_right_subnet}
 use Rattle.transform_model.specs.IsUse.{IsLeftCircuit, IsRightCircuit, IsUse}
@@ -23,14 +23,14 @@ use Rattle.node_model.specs.Members.{Member}
 use Rattle.node_model.specs.Reaching.{Side, hop_at, network, subnets}
 use Rattle.node_model.specs.Uses.{Use}
 use Rattle.node_model.proofs.Objects.{side_use}
-use Rattle.network_model.specs.Setup.{low as low_map}
-use Rattle.compiled_laws.specs.Compiled.{Attachment, circuit_prefix, holds, row_at, row_of, table_rows}
-use Rattle.compiled_laws.specs.Sound.{IsCircuitAt}
-use Rattle.compiled_laws.proofs.TableRows.{row_kind}
-use Rattle.compiled_laws.proofs.Up.{held_from}
+use Rattle.machine_model.specs.Setup.{low as low_map}
+use Rattle.machine_compiled_laws.specs.Compiled.{Attachment, circuit_prefix, holds, row_at, row_of, table_rows}
+use Rattle.machine_compiled_laws.specs.Sound.{IsCircuitAt}
+use Rattle.machine_compiled_laws.proofs.TableRows.{row_kind}
+use Rattle.machine_compiled_laws.proofs.Up.{held_from}
 use Rattle.headline_laws.proofs.Hosts.{apart_number, entry, host_is, one_network}
 use Rattle.headline_laws.proofs.Imports.{imported_is}
-use Rattle.headline_laws.proofs.Objects.{Kind, ascending_to, attachment_is, held_is, held_of, inside_holds, left_kind, port_kind, right_kind, used_few}
+use Rattle.headline_laws.proofs.Objects.{AttachmentKind, ascending_to, attachment_is, held_is, held_of, inside_holds, left_kind, port_kind, right_kind, used_few}
 
 module _ (x : Setup) (form : IsTrue (has_config_form x.config)) (v : IsValid x.topology x.config) where
   abbrev feed : Map
@@ -40,7 +40,7 @@ module _ (x : Setup) (form : IsTrue (has_config_form x.config)) (v : IsValid x.t
   IsIn i p r = IsRow x.topology x.config i (entry i p r)
 
   -- ---- a subnet that holds a port
-  holds_by : (n : Network) (p : Block) (a : Attachment) → Contains x.config.networks n → Contains n.subnets p → Kind x a → a.instance ≡ n.id → is_inside a.prefix p ≡ true → HoldsPort x.config n p
+  holds_by : (n : Network) (p : Block) (a : Attachment) → Contains x.config.networks n → Contains n.subnets p → AttachmentKind x a → a.instance ≡ n.id → is_inside a.prefix p ≡ true → HoldsPort x.config n p
   holds_by n p a in_n within (port_kind m q d at e) here w =
       let same : m ≡ n = one_network x form v m n at.has_home in_n (ap (λ (a : Attachment). a.instance) e ∙ here) in
       record { port = q; has_subnet = within; has_port = at.has_port; home_of = at.home_of ∙ ap (λ (m : Network). m.name) same; holds = inside_holds (host_prefix q.address.0) p (ap (λ (a : Attachment). is_inside a.prefix p) e ∙ w) }
@@ -57,7 +57,7 @@ module _ (x : Setup) (form : IsTrue (has_config_form x.config)) (v : IsValid x.t
       same : (k l : ℕ) → 250 * 2 ^ 24 + k ≡ 250 * 2 ^ 24 + l → k ≡ l
       same k l e = omega (arith, e)
 
-  right_subnet : (u : InEffect) (d : ℕ) (p : Block) (a : Attachment) → IsUse x.config u → d < length u.services → HoldsPort x.config u.right p → Kind x a → a.instance ≡ hop_instance_of u.number (length u.services - suc d)
+  right_subnet : (u : InEffect) (d : ℕ) (p : Block) (a : Attachment) → IsUse x.config u → d < length u.services → HoldsPort x.config u.right p → AttachmentKind x a → a.instance ≡ hop_instance_of u.number (length u.services - suc d)
       → a.prefix ≡ circuit_prefix (left_circuit_of u.number (length u.services - suc d + 1)) → IsIn (hop_instance_of u.number (length u.services - suc d)) p (row_of a)
   right_subnet u d p a used h holds' (port_kind m q e at is) here there = absurd (apart_number m.id u.number (length u.services - suc d) (network_number x.config m form at.has_home) (ap (λ (a : Attachment). a.instance) is ∙ here))
   right_subnet u d p a used h holds' (left_kind w j k e used' is at same) here there =
@@ -80,7 +80,7 @@ module _ (x : Setup) (form : IsTrue (has_config_form x.config)) (v : IsValid x.t
       odd : (a b k : ℕ) → k ≡ 2 * a → k ≡ 2 * b + 1 → ⊥
       odd a b k e f = omega (arith, e, f)
 
-  left_subnet : (u : InEffect) (d : ℕ) (p : Block) (a : Attachment) → IsUse x.config u → d < length u.services → HoldsPort x.config u.left p → Kind x a → a.instance ≡ hop_instance_of u.number (suc d)
+  left_subnet : (u : InEffect) (d : ℕ) (p : Block) (a : Attachment) → IsUse x.config u → d < length u.services → HoldsPort x.config u.left p → AttachmentKind x a → a.instance ≡ hop_instance_of u.number (suc d)
       → a.prefix ≡ circuit_prefix (right_circuit_of u.number (suc d)) → IsIn (hop_instance_of u.number (suc d)) p (row_of a)
   left_subnet u d p a used h holds' (port_kind m q e at is) here there = absurd (apart_number m.id u.number (suc d) (network_number x.config m form at.has_home) (ap (λ (a : Attachment). a.instance) is ∙ here))
   left_subnet u d p a used h holds' (right_kind w j k e used' is at same) here there =
@@ -105,7 +105,7 @@ module _ (x : Setup) (form : IsTrue (has_config_form x.config)) (v : IsValid x.t
 
   -- ---- each row of a table
   subnet_by : (u : InEffect) (b : Bool) (d : ℕ) (p : Block) (a : Attachment) → IsUse x.config u → d < length u.services → Member p (cond b (ascending u.right.subnets) (ascending u.left.subnets)) → holds feed (cond b u.right.id u.left.id) p ≡ true
-      → Kind x a → IsCircuitAt (record { chain = held_of u; is_right = b }) (suc d) a → IsIn (hop_at (record { chain = held_of u; is_right = b }) (suc d)) p (row_of a)
+      → AttachmentKind x a → IsCircuitAt (record { chain = held_of u; is_right = b }) (suc d) a → IsIn (hop_at (record { chain = held_of u; is_right = b }) (suc d)) p (row_of a)
   subnet_by u true d p a used h m held k at = right_subnet u d p a used h (holds_is u.right p used.has_right (ascending_to u.right.subnets p m) held) k at.0 at.1
   subnet_by u false d p a used h m held k at = left_subnet u d p a used h (holds_is u.left p used.has_left (ascending_to u.left.subnets p m) held) k at.0 at.1
 

@@ -1,7 +1,7 @@
 -- Each row of the configuration's tables is one of the low-level objects' tables.
 use Rattle.std.specs.List.{Contains}
 use Rattle.std.specs.Prelude.{IsTrue, false, length, nat_le, nat_lt, suc, true, ℕ, [], ◌+◌, ◌-◌, ◌<◌, ◌∷◌, ◌≡◌, ◌≤◌}
-use Rattle.forward_laws.proofs.Valid.{node_of_port}
+use Rattle.transform_forwarding_laws.proofs.Valid.{node_of_port}
 use Rattle.std.proofs.Common.{ap, arith, inl, inr, refl, subst, sym, ◌∙◌}
 use Rattle.std.proofs.lemmas.Bool.{and_from, and_parts, le-leb, ltb-true}
 use Rattle.ov_types.specs.Prefix.{Block, contains, host_prefix, is_inside, size_of}
@@ -10,7 +10,7 @@ use Rattle.ov_types.specs.declared.rows.TableRow.{TableRow}
 use Rattle.route_targets.specs.Numbers.{circuit_instance_of, circuit_label_of, distinguisher_of, hop_instance_of, left_circuit_of, right_circuit_of, target_of}
 use Rattle.config_model.specs.Form.{has_config_form}
 use Rattle.config_model.specs.declared.config.Network.{Network}
-use Rattle.network_model.specs.Setup.{Setup}
+use Rattle.machine_model.specs.Setup.{Setup}
 use Rattle.config_check.specs.Sentences.{IsValid}
 use Rattle.transform_model.specs.IsRow.{HoldsPort, IsPort, IsRow, at_left_end, at_right_end, to_left_circuit, to_left_subnet, to_port, to_right_circuit, to_right_subnet}
 use Rattle.transform_model.specs.Tables.{Row as TableEntry}
@@ -22,11 +22,11 @@ use Rattle.node_model.specs.Paths.{Path}
 use Rattle.node_model.specs.Reaching.{Side, hop_at, network, sides, subnets}
 use Rattle.node_model.specs.Uses.{imports}
 use Rattle.node_model.proofs.Objects.{in_sides}
-use Rattle.network_model.specs.Setup.{low as low_map}
-use Rattle.compiled_laws.specs.Compiled.{Attachment, attachments, circuit_prefix, holds, row_at, row_of, table_rows}
-use Rattle.compiled_laws.specs.Sound.{IsCircuitAt}
-use Rattle.compiled_laws.proofs.TableRows.{aggregate_row, host_row}
-use Rattle.compiled_laws.proofs.Up.{held_in}
+use Rattle.machine_model.specs.Setup.{low as low_map}
+use Rattle.machine_compiled_laws.specs.Compiled.{Attachment, attachments, circuit_prefix, holds, row_at, row_of, table_rows}
+use Rattle.machine_compiled_laws.specs.Sound.{IsCircuitAt}
+use Rattle.machine_compiled_laws.proofs.TableRows.{aggregate_row, host_row}
+use Rattle.machine_compiled_laws.proofs.Up.{held_in}
 use Rattle.headline_laws.proofs.Hosts.{circuit_entry}
 use Rattle.headline_laws.proofs.Imports.{hop_in, network_in}
 use Rattle.headline_laws.proofs.Objects.{ascending_in, circuit_attachment, held_of, is_held, left_attached, port_attached, port_attachment, right_attached}

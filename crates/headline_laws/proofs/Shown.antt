@@ -16,11 +16,11 @@ use Rattle.ov_types.specs.declared.objects.LowKey.TheVariants as key
 use Rattle.ov_types.specs.declared.objects.LowKey.{LowKey}
 use Rattle.ov_types.specs.declared.objects.LowValue.{LowValue}
 use Rattle.ov_types.specs.declared.prefix.Addr.{Addr}
-use Rattle.ov_types.specs.declared.rows.Entry.{Entry as Hop}
+use Rattle.ov_types.specs.declared.rows.Entry.{Entry as RouteEntry}
 use Rattle.ov_types.specs.declared.rows.TableRow.{TableRow}
 use Rattle.ov_types.proofs.FirstLemmas.{pairs_head, pairs_tail}
 use Rattle.config_model.specs.Form.{has_config_form}
-use Rattle.network_model.specs.Setup.{Setup}
+use Rattle.machine_model.specs.Setup.{Setup}
 use Rattle.config_check.specs.Sentences.{IsValid}
 use Rattle.transform_model.specs.Compiled as compiled_rows
 use Rattle.transform_model.specs.Compiled.{concerns, route_of, slice_of}
@@ -38,13 +38,13 @@ use Rattle.node_model.specs.Wants.{is_in_slice, slice}
 use Rattle.node_model.proofs.Heard.{row_exact, row_total}
 use Rattle.node_model.proofs.Members.{entry_in, from_entry, from_flat_map, from_map, get_member, in_flat_map, in_map, member_get, contains_of, member_of}
 use Rattle.node_model.proofs.Orders.{prefix_exact, prefix_total}
-use Rattle.network_model.specs.Setup.{low as low_map}
-use Rattle.network_model.proofs.Feed.{objects-low}
-use Rattle.compiled_laws.specs.Compiled as compiled
-use Rattle.compiled_laws.specs.Compiled.{compiled_table, row_at, rows_in, table_rows}
-use Rattle.compiled_laws.proofs.OneRow.{has_one_row}
-use Rattle.compiled_laws.proofs.Sorted.{Rises, same_sorted, sorted_from}
-use Rattle.compiled_laws.proofs.Shown.{entry_row}
+use Rattle.machine_model.specs.Setup.{low as low_map}
+use Rattle.machine_model.proofs.Feed.{objects-low}
+use Rattle.machine_compiled_laws.specs.Compiled as compiled
+use Rattle.machine_compiled_laws.specs.Compiled.{compiled_table, row_at, rows_in, table_rows}
+use Rattle.machine_compiled_laws.proofs.OneRow.{has_one_row}
+use Rattle.machine_compiled_laws.proofs.Sorted.{Rises, same_sorted, sorted_from}
+use Rattle.machine_compiled_laws.proofs.Shown.{entry_row}
 use Rattle.headline_laws.proofs.Hosts.{entry}
 use Rattle.headline_laws.proofs.Rows.{row_is}
 use Rattle.headline_laws.proofs.RowsIn.{row_in}
@@ -77,7 +77,7 @@ pairs_rise {V = V} (e ∷ es) h = (
     less_to : (o : Ordering) → o ≡ Less → T (is_lt o)
     less_to o e = subst (λ (o : Ordering). T (is_lt o)) (sym e) tt
 
-abbrev compiled_map : Map → Addr → FinMap row_key_cmp Hop
+abbrev compiled_map : Map → Addr → FinMap row_key_cmp RouteEntry
 compiled_map feed a = from_entries {R = row_key_cmp} (map route_of (flat_map (rows_in feed) (needed_by (slice feed a))))
 
 module _ (x : Setup) (form : IsTrue (has_config_form x.config)) (v : IsValid x.topology x.config) where
@@ -96,7 +96,7 @@ module _ (x : Setup) (form : IsTrue (has_config_form x.config)) (v : IsValid x.t
 
   -- ---- an agent
   abbrev Route' : Type 0
-  Route' = (InstanceId × Block) × Hop
+  Route' = (InstanceId × Block) × RouteEntry
 
   abbrev needs : Addr → List InstanceId
   needs a = needed_by (slice feed a)

@@ -2,7 +2,7 @@
 use Rattle.acl_compile.specs.Oriented.{ascending}
 use Rattle.std.specs.List.{Any, Contains}
 use Rattle.std.specs.Prelude.{Bool, IsTrue, cond, false, length, not, suc, true, ℕ, ◌+◌, ◌-◌, ◌<◌, ◌≡◌, ◌≤◌}
-use Rattle.forward_laws.proofs.Valid.{holds_port_address, node_of_service}
+use Rattle.transform_forwarding_laws.proofs.Valid.{holds_port_address, node_of_service}
 use Rattle.std.proofs.Common.{ap, arith, refl, subst, sym, ◌*◌, ◌∙◌}
 use Rattle.std.proofs.lemmas.Bool.{false_from_ne_true, true≢false}
 use Rattle.ov_types.specs.Prefix.{Block, contains, host_prefix, is_inside}
@@ -13,7 +13,7 @@ use Rattle.config_model.specs.Form.{has_config_form}
 use Rattle.config_model.specs.declared.config.Network.{Network}
 use Rattle.config_model.specs.declared.config.Port.{Port}
 use Rattle.config_model.specs.declared.topology.Node.{Node}
-use Rattle.network_model.specs.Setup.{Setup}
+use Rattle.machine_model.specs.Setup.{Setup}
 use Rattle.config_check.specs.Sentences.{IsValid}
 use Rattle.transform_model.specs.IsUse.{IsLeftCircuit, IsRightCircuit, IsUse}
 use Rattle.transform_model.specs.Uses.{Circuit}
@@ -30,17 +30,17 @@ use Rattle.node_model.specs.Reaching.{Side, hop_at, network, sides, subnets}
 use Rattle.node_model.specs.Uses.{Use, is_hop, is_known}
 use Rattle.node_model.proofs.Objects.{is_hop-hop, known_hop, side_use}
 use Rattle.node_model.proofs.Unknown.{le_trans, place_at}
-use Rattle.network_model.specs.Setup.{longest}
-use Rattle.network_model.specs.Setup.{low as low_map}
-use Rattle.network_model.proofs.Feed.{longest_bounds}
-use Rattle.compiled_laws.specs.Compiled.{Attachment, attachments, circuit_prefix}
-use Rattle.compiled_laws.specs.Sound.{IsCircuitAt, IsSound, other}
+use Rattle.machine_model.specs.Setup.{longest}
+use Rattle.machine_model.specs.Setup.{low as low_map}
+use Rattle.machine_model.proofs.Feed.{longest_bounds}
+use Rattle.machine_compiled_laws.specs.Compiled.{Attachment, attachments, circuit_prefix}
+use Rattle.machine_compiled_laws.specs.Sound.{IsCircuitAt, IsSound, other}
 use Rattle.node_model.proofs.Local.{known_small}
 use Rattle.headline_laws.proofs.Hosts.{apart_number, host_is, one_network, same_host}
 use Rattle.headline_laws.proofs.Imports.{Imported, hop_import, imported_is, network_import, network_known}
 use Rattle.node_model.proofs.Members.{member_of}
 use Rattle.headline_laws.proofs.Lists.{some_at}
-use Rattle.headline_laws.proofs.Objects.{Kind, ascending_to, attachment_is, circuit_attachment, ends_apart, held_is, held_of, inside_holds, is_held, left_attached, left_kind, no_circuit_in, port_kind, right_attached, right_kind, used_few, uses_ordered}
+use Rattle.headline_laws.proofs.Objects.{AttachmentKind, ascending_to, attachment_is, circuit_attachment, ends_apart, held_is, held_of, inside_holds, is_held, left_attached, left_kind, no_circuit_in, port_kind, right_attached, right_kind, used_few, uses_ordered}
 
 module _ (x : Setup) (form : IsTrue (has_config_form x.config)) (v : IsValid x.topology x.config) where
   abbrev feed : Map
@@ -53,7 +53,7 @@ module _ (x : Setup) (form : IsTrue (has_config_form x.config)) (v : IsValid x.t
   hop_known : (u : InEffect) (j : ℕ) → IsUse x.config u → j ≤ length u.services → is_known feed (hop_instance_of u.number j) ≡ true
   hop_known u j used h = known_hop feed (held_of u) j (is_held x form v u used) (le_trans j (length u.services) 15 h (used_few x form v u used)) h
 
-  known_by : (a : Attachment) → Kind x a → is_known feed a.instance ≡ true
+  known_by : (a : Attachment) → AttachmentKind x a → is_known feed a.instance ≡ true
   known_by a (port_kind n p d at e) = ap (λ (a : Attachment). is_known feed a.instance) (sym e) ∙ network_known x form v n at.has_home
   known_by a (left_kind u j k d used is at e) =
       ap (λ (a : Attachment). is_known feed a.instance) (sym e) ∙ ap (is_known feed) (left_instance u j k is) ∙ hop_known u j used (before j (length u.services) (place_within u.services j k.service is.service))
@@ -138,7 +138,7 @@ module _ (x : Setup) (form : IsTrue (has_config_form x.config)) (v : IsValid x.t
       bound u j n k a b c e = omega (arith, a, b, c, e)
 
   -- the circuit of an attachment that stands at a place lies in no subnet
-  circuit_not_in : (s : Side) (p : Block) (a : Attachment) (d : ℕ) → OfSide s p → Kind x a → a.instance ≡ hop_at s d → is_inside a.prefix p ≡ true → ⊥
+  circuit_not_in : (s : Side) (p : Block) (a : Attachment) (d : ℕ) → OfSide s p → AttachmentKind x a → a.instance ≡ hop_at s d → is_inside a.prefix p ≡ true → ⊥
   circuit_not_in s p a d o (port_kind n q e at is) here w =
       apart_number n.id s.chain.number (place_at s d) (network_number x.config n form at.has_home) (ap (λ (a : Attachment). a.instance) is ∙ here)
   circuit_not_in s p a d o (left_kind u j k e used is at same) here w =
@@ -157,7 +157,7 @@ module _ (x : Setup) (form : IsTrue (has_config_form x.config)) (v : IsValid x.t
   other_network u true = refl
   other_network u false = refl
 
-  port_not_in : (s : Side) (p : Block) (a : Attachment) → OfSide s p → Kind x a → a.instance ≡ network (other s) → is_inside a.prefix p ≡ true → ⊥
+  port_not_in : (s : Side) (p : Block) (a : Attachment) → OfSide s p → AttachmentKind x a → a.instance ≡ network (other s) → is_inside a.prefix p ≡ true → ⊥
   port_not_in s p a o (port_kind n q e at is) here w =
       let id : n.id ≡ cond (not s.is_right) o.effect.right.id o.effect.left.id = ap (λ (a : Attachment). a.instance) is ∙ here ∙ ap (λ (w : Use). cond (not s.is_right) w.right w.left) (sym o.is) in
       let same : n ≡ cond (not s.is_right) o.effect.right o.effect.left = one_network x form v n (cond (not s.is_right) o.effect.right o.effect.left) at.has_home (end_has o.effect (not s.is_right) o.used) (id ∙ sym (other_network o.effect (not s.is_right))) in
@@ -192,7 +192,7 @@ module _ (x : Setup) (form : IsTrue (has_config_form x.config)) (v : IsValid x.t
       let u = held_is x form v s.chain (side_use feed s m) in
       subst (λ (w : Use). w.services ≤ longest x) u.is (longest_bounds x u.effect (member_of (in_effect x.config) u.effect ((uses_iff x.topology x.config u.effect v).1 u.used)))
 
-  home_by : (a : Attachment) → Kind x a → (n : Node) × Member n x.topology.nodes × (n.address ≡ a.node)
+  home_by : (a : Attachment) → AttachmentKind x a → (n : Node) × Member n x.topology.nodes × (n.address ≡ a.node)
   home_by a (port_kind n p d at e) = (d, member_of x.topology.nodes d at.has_node, ap (λ (a : Attachment). a.node) e)
   home_by a (left_kind u j k d used is at e) = (d, member_of x.topology.nodes d at.has_node, ap (λ (a : Attachment). a.node) e)
   home_by a (right_kind u j k d used is at e) = (d, member_of x.topology.nodes d at.has_node, ap (λ (a : Attachment). a.node) e)

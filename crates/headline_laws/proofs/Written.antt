@@ -18,18 +18,18 @@ use Rattle.transform_model.proofs.Needed.{asked}
 use Rattle.node_model.specs.Keys.{Key}
 use Rattle.node_model.specs.Values.{Value}
 use Rattle.node_model.proofs.Members.{none_some}
-use Rattle.network_model.specs.Events.{Event, after}
-use Rattle.network_model.specs.Moments.{ArePositive, Each, EditsAreValid}
-use Rattle.network_model.specs.Network.{View, sessions_of, start, view, views_of, wanted}
-use Rattle.network_model.specs.Session.{Message, Session}
-use Rattle.network_model.specs.Setup.{Name, Setup, checked, edited, edited_without, opening}
-use Rattle.network_laws.specs.Settling.{FairMap, WantsFair}
-use Rattle.network_laws.proofs.EachFact.{edits_valid}
-use Rattle.network_laws.proofs.RanksSettle.{kept, stay_valid}
-use Rattle.compiled_laws.specs.Goal.{Party}
-use Rattle.compiled_laws.specs.Moments.{SettleSettles, SettlesInTime, ShowsCompiled}
-use Rattle.compiled_laws.specs.Setups.{IsSoundSetup}
-use Rattle.compiled_laws.proofs.Final.{all_rounds_settle, settle_settles, tables_are_compiled}
+use Rattle.machine_model.specs.Events.{Event, after}
+use Rattle.machine_model.specs.Moments.{ArePositive, Each, EditsAreValid}
+use Rattle.machine_model.specs.Network.{View, sessions_of, start, view, views_of, wanted}
+use Rattle.machine_model.specs.Session.{Message, Session}
+use Rattle.machine_model.specs.Setup.{Name, Setup, checked, edited, edited_without, opening}
+use Rattle.machine_settling_laws.specs.Settling.{FairMap, WantsFair}
+use Rattle.machine_settling_laws.proofs.EachFact.{edits_valid}
+use Rattle.machine_settling_laws.proofs.RanksSettle.{kept, stay_valid}
+use Rattle.machine_compiled_laws.specs.Goal.{Party}
+use Rattle.machine_compiled_laws.specs.Moments.{SettleSettles, SettlesInTime, ShowsCompiled}
+use Rattle.machine_compiled_laws.specs.Setups.{IsSoundSetup}
+use Rattle.machine_compiled_laws.proofs.Final.{all_rounds_settle, settle_settles, tables_are_compiled}
 use Rattle.headline_laws.specs.Headline.{AfterAnySchedule, IsOfForm, IsWritten}
 use Rattle.headline_laws.proofs.Names.{is_named}
 use Rattle.headline_laws.proofs.Sound.{homed, is_sound, within_longest}

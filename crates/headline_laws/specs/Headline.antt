@@ -13,12 +13,12 @@ use Rattle.reach_plain.specs.Reachability.{reachability}
 use Rattle.transform_model.specs.Compiled.{agent_rows}
 use Rattle.transform_model.specs.Tables.{control_rows}
 use Rattle.node_model.specs.Members.{Member}
-use Rattle.network_model.specs.Setup.{Name, Setup, opening}
-use Rattle.network_model.specs.Session.{Message}
-use Rattle.network_model.specs.Network.{Network, start}
-use Rattle.network_model.specs.Steps.{is_settled}
-use Rattle.network_model.specs.Events.{Event, after, forwarders, shown}
-use Rattle.network_model.specs.Moments.{ArePositive, EditsAreValid}
+use Rattle.machine_model.specs.Setup.{Name, Setup, opening}
+use Rattle.machine_model.specs.Session.{Message}
+use Rattle.machine_model.specs.Network.{Network, start}
+use Rattle.machine_model.specs.Steps.{is_settled}
+use Rattle.machine_model.specs.Events.{Event, after, forwarders, shown}
+use Rattle.machine_model.specs.Moments.{ArePositive, EditsAreValid}
 
 -- a topology with a configuration, of the written form and with no broken rule
 pub record IsWritten (x : Setup) : Type 0 where

@@ -1,7 +1,7 @@
 //! A network with a valid configuration: what it shows once it is settled, and that it settles. Laws alone.
 #![tactic(auto)]
 
-ghost use Rattle.compiled_laws.specs.Moments.{SettleSettles, SettlesInTime, ShowsCompiled};
+ghost use Rattle.machine_compiled_laws.specs.Moments.{SettleSettles, SettlesInTime, ShowsCompiled};
 ghost use Rattle.headline_laws.specs.Headline.{AfterAnySchedule, AgentsShowRows, ControlNodesShowTables};
 ghost use Rattle.headline_laws.specs.Headline.{SettledIsReachable};
 

@@ -16,8 +16,8 @@ use Rattle.item_wire.specs.declared.fault.ItemFault.TheVariants.{Member, Range}
 use Rattle.item_wire.specs.declared.item.Item.{Item}
 use Rattle.item_wire.specs.declared.list.Count.{Count}
 use Rattle.item_wire.specs.declared.list.Count.TheVariants.{AnyNumber, AtLeastOne, OneToFifteen}
-use Rattle.item_wire.specs.declared.member.Kind.{Kind}
-use Rattle.item_wire.specs.declared.member.Kind.TheVariants.{Whole, Text, Listed}
+use Rattle.item_wire.specs.declared.member.MemberKind.{MemberKind}
+use Rattle.item_wire.specs.declared.member.MemberKind.TheVariants.{Whole, Text, Listed}
 use Rattle.item_wire.specs.declared.op.Op.{Op}
 use Rattle.item_wire.specs.declared.op.Op.TheVariants as O
 use Rattle.item_wire.specs.Entries.{number_from, name_from, any_address_from, node_address_from, prefix_from}
@@ -141,13 +141,13 @@ kind_is : (b : Bool) (e d : Data) → cond b (Some e) None ≡ Some d → e ≡ 
 kind_is true e d h = cc
 kind_is false e d h = absurd (cc)
 
-of_kind_is : (kind : Kind) (o : Option Data) (d : Data) → of_kind kind o ≡ Some d → o ≡ Some d
+of_kind_is : (kind : MemberKind) (o : Option Data) (d : Data) → of_kind kind o ≡ Some d → o ≡ Some d
 of_kind_is kind None d h = absurd (cc)
 of_kind_is kind (Some e) d h = ap (λ (x : Data). Some x) (kind_is (is_of_kind kind e) e d h)
 
 module _ {A : Type 0} (reads : Data → Option A) (value_of : A → Data)
     (fits : (d : Data) (x : A) → reads d ≡ Some x → weight (value_of x) ≤ weight d) where
-  in_member_weight : (kind : Kind) (field : Field) (ms : Members) (x : A)
+  in_member_weight : (kind : MemberKind) (field : Field) (ms : Members) (x : A)
       → in_member kind reads field (object ms) ≡ Ok x
       → member_weight (name_of field) (value_of x) ≤ found_weight (name_of field) ms
   unfolding in_member
@@ -158,7 +158,7 @@ module _ {A : Type 0} (reads : Data → Option A) (value_of : A → Data)
       let gives : reads d.value ≡ Some x = wanted_is (Range field) (reads d.value) x d.then in
       omega (arith, found_is (name_of field) ms d.value there, fits d.value x gives)
 
-  read : {B : Type 0} (kind : Kind) (field : Field) (ms : Members) (f : A → Result B ItemFault) (y : B)
+  read : {B : Type 0} (kind : MemberKind) (field : Field) (ms : Members) (f : A → Result B ItemFault) (y : B)
       → (in_member kind reads field (object ms) >>= f) ≡ Ok y → Read value_of field ms f y
   read kind field ms f y h =
       let s = step (in_member kind reads field (object ms)) f y h in

@@ -7,8 +7,8 @@ use Rattle.item_wire.specs.declared.fault.Field.TheVariants as F
 use Rattle.item_wire.specs.declared.fault.ItemFault.{ItemFault}
 use Rattle.item_wire.specs.declared.fault.ItemFault.TheVariants.{Member, Range}
 use Rattle.item_wire.specs.declared.list.Count.TheVariants.{AnyNumber, AtLeastOne, OneToFifteen}
-use Rattle.item_wire.specs.declared.member.Kind.{Kind}
-use Rattle.item_wire.specs.declared.member.Kind.TheVariants.{Whole, Text, Listed}
+use Rattle.item_wire.specs.declared.member.MemberKind.{MemberKind}
+use Rattle.item_wire.specs.declared.member.MemberKind.TheVariants.{Whole, Text, Listed}
 use Rattle.item_wire.specs.declared.op.Op.{Op}
 use Rattle.item_wire.specs.declared.op.Op.TheVariants as O
 use Rattle.item_wire.specs.Entries.{number_from, name_from, any_address_from, node_address_from, prefix_from, network_from, hop_from, rule_from, list_from}
@@ -20,7 +20,7 @@ use Rattle.item_wire.specs.Reading.{hello_of, instance_of, port_of, circuit_of, 
 abbrev AreAlike : Data → Data → Type 0
 AreAlike d e = (field : Field) → get (name_of field) d ≡ get (name_of field) e
 
-member : {A : Type 0} (kind : Kind) (reads : Data → Option A) (d e : Data) → AreAlike d e → (field : Field) → in_member kind reads field d ≡ in_member kind reads field e
+member : {A : Type 0} (kind : MemberKind) (reads : Data → Option A) (d e : Data) → AreAlike d e → (field : Field) → in_member kind reads field d ≡ in_member kind reads field e
 unfolding in_member
 member kind reads d e alike field =
     ap (λ (o : Option Data). wanted (Member field) (of_kind kind o) >>= λ found. wanted (Range field) (reads found)) (alike field)

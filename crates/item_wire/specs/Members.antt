@@ -6,8 +6,8 @@ use Rattle.item_wire.specs.declared.fault.Field.{Field}
 use Rattle.item_wire.specs.declared.fault.Field.TheVariants as F
 use Rattle.item_wire.specs.declared.fault.ItemFault.{ItemFault}
 use Rattle.item_wire.specs.declared.fault.ItemFault.TheVariants.{Member, Range}
-use Rattle.item_wire.specs.declared.member.Kind.{Kind}
-use Rattle.item_wire.specs.declared.member.Kind.TheVariants.{Whole, Text, Listed}
+use Rattle.item_wire.specs.declared.member.MemberKind.{MemberKind}
+use Rattle.item_wire.specs.declared.member.MemberKind.TheVariants.{Whole, Text, Listed}
 use Rattle.item_wire.specs.Faults.{◌>>=◌, wanted}
 
 -- the name of a member in JSON
@@ -43,18 +43,18 @@ is_whole_number (Some (negative z)) = true
 is_whole_number (Some (float x)) = false
 
 -- whether a value is of a kind
-abbrev pub is_of_kind : Kind → Data → Bool
+abbrev pub is_of_kind : MemberKind → Data → Bool
 is_of_kind Whole d = is_whole_number (as_number d)
 is_of_kind Text d = is_some (as_str d)
 is_of_kind Listed d = is_some (as_array d)
 
 -- a value of a kind, where it is there
-abbrev pub of_kind : Kind → Option Data → Option Data
+abbrev pub of_kind : MemberKind → Option Data → Option Data
 of_kind kind None = None
 of_kind kind (Some d) = if is_of_kind kind d then Some d else None
 
 -- a member that is missing or of another kind is Member; one of its kind from which nothing is read is Range
-unfoldable pub in_member : {A : Type 0} → Kind → (Data → Option A) → Field → Data → Result A ItemFault
+unfoldable pub in_member : {A : Type 0} → MemberKind → (Data → Option A) → Field → Data → Result A ItemFault
 in_member kind reads field d = do
   found ← wanted (Member field) (of_kind kind (get (name_of field) d))
   wanted (Range field) (reads found)

@@ -12,7 +12,7 @@ use Rattle.item_wire.specs.declared.fault.ItemFault.{ItemFault}
 use Rattle.item_wire.specs.declared.fault.ItemFault.TheVariants.{NotJson}
 use Rattle.item_wire.specs.declared.item.Item.{Item}
 use Rattle.item_wire.specs.declared.item.Item.TheVariants as I
-use Rattle.item_wire.specs.declared.member.Kind.TheVariants.{Whole, Text, Listed}
+use Rattle.item_wire.specs.declared.member.MemberKind.TheVariants.{Whole, Text, Listed}
 use Rattle.item_wire.specs.declared.list.Count.{Count}
 use Rattle.item_wire.specs.declared.list.Count.TheVariants.{AnyNumber, AtLeastOne, OneToFifteen}
 use Rattle.item_wire.specs.declared.op.Op.{Op}

@@ -14,7 +14,7 @@ use crate::bounds::{LAST_INSTANCE, LAST_NETWORK};
 use crate::entry::{any_address_from, name_from, node_address_from, number_from, prefix_from};
 use crate::fault::{Field, ItemFault, ItemRefusal};
 use crate::list::{Count, Entry, list_from};
-use crate::member::{Kind, member_of};
+use crate::member::{MemberKind, member_of};
 use ov_types::{Addr, Items, Name, Prefix};
 use serde_json::Value;
 use std::alloc::Global;
@@ -26,7 +26,7 @@ pub(crate) fn number_in(field: Field, low: u64, high: u64, value: &Value) -> Res
     ensures form { IfOk result (λ n. IsTrue (is_from_to low high n)) }
     ensures bound { IfOk result (λ n. n ≤ high) }
 {
-    let found = member_of(Kind::Whole, field, value)?;
+    let found = member_of(MemberKind::Whole, field, value)?;
     match number_from(low, high, found) {
         Some(number) => Ok(number),
         None => Err(ItemFault::Range { name: field }),
@@ -53,10 +53,10 @@ pub(crate) fn instance_in(field: Field, value: &Value) -> Result<u16, ItemFault>
 
 #[tactic(auto, unfolding(crate::specs::Members::in_member))]
 pub(crate) fn name_in(field: Field, value: &Value) -> Result<Name, ItemFault>
-    ensures reads { IsRead (λ x. x) result (in_member Kind.Text name_from field (view value.now)) }
+    ensures reads { IsRead (λ x. x) result (in_member MemberKind.Text name_from field (view value.now)) }
     ensures form { IfOk result (λ name. IsTrue (is_name name)) }
 {
-    let found = member_of(Kind::Text, field, value)?;
+    let found = member_of(MemberKind::Text, field, value)?;
     match name_from(found) {
         Some(name) => Ok(name),
         None => Err(ItemFault::Range { name: field }),
@@ -68,7 +68,7 @@ pub(crate) fn any_address_in(field: Field, value: &Value) -> Result<Addr, ItemFa
     ensures reads { IsRead (λ x. x) result (any_address_in field (view value.now)) }
     ensures form { IfOk result (λ a. IsTrue (is_address a)) }
 {
-    let found = member_of(Kind::Text, field, value)?;
+    let found = member_of(MemberKind::Text, field, value)?;
     match any_address_from(found) {
         Some(address) => Ok(address),
         None => Err(ItemFault::Range { name: field }),
@@ -81,7 +81,7 @@ pub(crate) fn node_address_in(field: Field, value: &Value) -> Result<Addr, ItemF
     ensures reads { IsRead (λ x. x) result (node_address_in field (view value.now)) }
     ensures form { IfOk result (λ a. IsTrue (is_node_address a)) }
 {
-    let found = member_of(Kind::Text, field, value)?;
+    let found = member_of(MemberKind::Text, field, value)?;
     match node_address_from(found) {
         Some(address) => Ok(address),
         None => Err(ItemFault::Range { name: field }),
@@ -93,7 +93,7 @@ pub(crate) fn prefix_in(field: Field, value: &Value) -> Result<Prefix, ItemFault
     ensures reads { IsRead (λ x. x) result (prefix_in field (view value.now)) }
     ensures form { IfOk result (λ p. IsTrue (is_block p)) }
 {
-    let found = member_of(Kind::Text, field, value)?;
+    let found = member_of(MemberKind::Text, field, value)?;
     match prefix_from(found) {
         Some(prefix) => Ok(prefix),
         None => Err(ItemFault::Range { name: field }),
@@ -112,7 +112,7 @@ pub(crate) fn list_in<T: Entry>(
     ensures form { IfOk result (λ xs. IsTrue (list_all T.is_fit xs)) }
     ensures count { IfOk result (λ xs. IsTrue (allows count (length xs))) }
 {
-    let found = member_of(Kind::Listed, field, value)?;
+    let found = member_of(MemberKind::Listed, field, value)?;
     match list_from(alloc, count, found)? {
         Some(items) => Ok(items),
         None => Err(ItemRefusal::Fault(ItemFault::Range { name: field })),

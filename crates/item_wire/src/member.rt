@@ -11,27 +11,27 @@ use serde_json::Value;
 
 /// The kinds of members.
 #[derive(Clone, Copy)]
-pub(crate) enum Kind {
+pub(crate) enum MemberKind {
     /// A whole number of 64 bits.
     Whole,
     Text,
     Listed,
 }
 
-impl Kind {
+impl MemberKind {
     fn has(self, value: &Value) -> bool
         ensures { result ≡ is_of_kind self (view value.now) }
     {
         match self {
-            Kind::Whole => is_whole(value),
-            Kind::Text => value.is_string(),
-            Kind::Listed => value.is_array(),
+            MemberKind::Whole => is_whole(value),
+            MemberKind::Text => value.is_string(),
+            MemberKind::Listed => value.is_array(),
         }
     }
 }
 
 fn is_whole(value: &Value) -> bool
-    ensures { result ≡ is_of_kind Kind.Whole (view value.now) }
+    ensures { result ≡ is_of_kind MemberKind.Whole (view value.now) }
 {
     match value.as_number() {
         Some(number) => !number.is_f64(),
@@ -72,7 +72,7 @@ impl Field {
 }
 
 /// The value of a member, where it is there and of its kind.
-pub(crate) fn member_of(kind: Kind, field: Field, value: &Value) -> Result<&Value, ItemFault>
+pub(crate) fn member_of(kind: MemberKind, field: Field, value: &Value) -> Result<&Value, ItemFault>
     ensures { IsRead (λ v. view v.now) result
         (wanted (Member field) (of_kind kind (get (name_of field) (view value.now)))) }
 {

@@ -6,7 +6,7 @@ ghost use Rattle.item_wire.specs.Members.{in_member};
 ghost use Rattle.item_wire.specs.Reading.{op_of, op_from};
 
 use crate::fault::{Field, ItemFault};
-use crate::member::{Kind, member_of};
+use crate::member::{MemberKind, member_of};
 use serde_json::Value;
 
 /// The kinds of records.
@@ -65,9 +65,9 @@ fn op_from(value: &Value) -> Option<Op>
 /// What the record says that it does.
 #[tactic(auto, unfolding(crate::specs::Members::in_member))]
 pub(crate) fn op_in(value: &Value) -> Result<Op, ItemFault>
-    ensures { IsRead (λ op. op) result (in_member Kind.Text op_from Field.Op (view value.now)) }
+    ensures { IsRead (λ op. op) result (in_member MemberKind.Text op_from Field.Op (view value.now)) }
 {
-    let found = member_of(Kind::Text, Field::Op, value)?;
+    let found = member_of(MemberKind::Text, Field::Op, value)?;
     match op_from(found) {
         Some(op) => Ok(op),
         None => Err(ItemFault::Range { name: Field::Op }),

@@ -5,27 +5,27 @@ use Rattle.std.specs.declared.option.Option.TheVariants.{Some, None}
 use Rattle.std.proofs.Common.{refl, sym, ◌∙◌, ap, subst, arith, inl, inr}
 use Rattle.std.proofs.lemmas.Bool.{cases_eq}
 use Rattle.ov_types.specs.First.{same_name}
-use Rattle.network_model.specs.Setup.{Name}
-use Rattle.net_model.specs.Seats.{Seat, far_of, index_from, is_down_at, live_at, name_of, seat, seat_named}
-use Rattle.net_model.specs.Stands.{IsLong}
-use Rattle.net_model.specs.Steps.{cleared, cleared_at, cleared_from, told_of_loss, with_link, with_notice, with_seat}
-use Rattle.net_model.specs.declared.place.Place.{Place}
-use Rattle.net_steps.proofs.Lists.{AreAlike, index_map, same_who, with_alike}
+use Rattle.machine_model.specs.Setup.{Name}
+use Rattle.running_model.specs.Seats.{Seat, far_of, index_from, is_down_at, live_at, name_of, seat, seat_named}
+use Rattle.running_model.specs.Stands.{IsLong}
+use Rattle.running_model.specs.Steps.{cleared, cleared_at, cleared_from, told_of_loss, with_link, with_notice, with_seat}
+use Rattle.running_model.specs.declared.place.SessionPlace.{SessionPlace}
+use Rattle.running_step_laws.proofs.Lists.{AreAlike, index_map, same_who, with_alike}
 use Rattle.net_machine.specs.Seating.{AreLong}
 use Rattle.net_machine.proofs.Kept.{with_count, with_here, with_there}
 
-link_alike : (seats : List Seat) (p : Place) (messages : List (List ℕ)) → AreAlike seats (with_link p messages seats)
+link_alike : (seats : List Seat) (p : SessionPlace) (messages : List (List ℕ)) → AreAlike seats (with_link p messages seats)
 link_alike seats p messages = with_alike p.node _ seats refl
 
-notice_alike : (seats : List Seat) (p : Place) (waits : Bool) → AreAlike seats (with_notice p waits seats)
+notice_alike : (seats : List Seat) (p : SessionPlace) (waits : Bool) → AreAlike seats (with_notice p waits seats)
 notice_alike seats p waits = with_alike p.node _ seats refl
 
-told_alike : (seats : List Seat) (o : Option Place) → AreAlike seats (told_of_loss seats o)
+told_alike : (seats : List Seat) (o : Option SessionPlace) → AreAlike seats (told_of_loss seats o)
 told_alike seats None = refl
 told_alike seats (Some q) =
     link_alike (with_notice q (live_at seats q) seats) q [] ∙ notice_alike seats q (live_at seats q)
 
-one_alike : (seats : List Seat) (p : Place) → AreAlike seats (cleared_at seats p)
+one_alike : (seats : List Seat) (p : SessionPlace) → AreAlike seats (cleared_at seats p)
 one_alike seats p =
     elim (live_at seats p) as (λ live. AreAlike seats (cond live (cond (is_down_at seats p) (with_link p [] seats) seats)
     (told_of_loss (with_notice p false (with_link p [] seats)) (far_of seats p)))) [

@@ -10,9 +10,9 @@ use Rattle.config_check.specs.Finding.{node_named}
 use Rattle.config_model.specs.declared.edit.Object.TheVariants as objects
 use Rattle.config_model.specs.declared.topology.Node.{Node}
 use Rattle.config_model.specs.declared.topology.Topology.{Topology}
-use Rattle.network_model.specs.Setup.{Move, Name, listed_by, put_moves, stands}
-use Rattle.net_model.specs.Moving.{Moves, MovesIf}
-use Rattle.net_model.specs.Seats.{Configuring, Seat, seat}
+use Rattle.machine_model.specs.Setup.{Move, Name, listed_by, put_moves, stands}
+use Rattle.running_model.specs.Moving.{Moves, MovesIf}
+use Rattle.running_model.specs.Seats.{Configuring, Seat, seat}
 use Rattle.net_machine.specs.declared.editing.Moved.{Moved}
 use Rattle.net_machine.specs.declared.editing.Moved.TheVariants.{Yes, No}
 use Rattle.net_machine.specs.declared.ends.SessionEnds.{SessionEnds}

@@ -24,31 +24,31 @@ use Rattle.config_model.specs.declared.event.Event.{Event}
 use Rattle.config_model.specs.declared.event.Event.TheVariants as event
 use Rattle.config_model.specs.declared.topology.Node.{Node}
 use Rattle.config_model.specs.declared.topology.Topology.{Topology}
-use Rattle.compiled_laws.specs.Setups.{IsNamed}
+use Rattle.machine_compiled_laws.specs.Setups.{IsNamed}
 use Rattle.headline_laws.specs.Headline.{IsWritten}
 use Rattle.headline_laws.proofs.Written.{none_broken}
-use Rattle.network_model.specs.Network.{Network}
-use Rattle.network_model.specs.Session.{Agent, Configuration, Controller}
-use Rattle.network_model.specs.Setup.{Move, Name, Setup, checked, id_of, listed_by, lists, moves}
-use Rattle.network_model.proofs.Changing.{MoverIs, Moves, renews}
-use Rattle.network_model.proofs.Distinct.{Apart, apart_of}
+use Rattle.machine_model.specs.Network.{Network}
+use Rattle.machine_model.specs.Session.{Agent, Configuration, Controller}
+use Rattle.machine_model.specs.Setup.{Move, Name, Setup, checked, id_of, listed_by, lists, moves}
+use Rattle.machine_model.proofs.Changing.{MoverIs, Moves, renews}
+use Rattle.machine_model.proofs.Distinct.{Apart, apart_of}
 use Rattle.node_model.specs.Members.{Member}
 use Rattle.node_model.proofs.Members.{any_in, contains_of, from_map, none_some}
-use Rattle.net_model.specs.Controls.{Controls, first_agent}
-use Rattle.net_model.specs.Seats.{Who, Controlling, Forwarding, Seat, agent_plan, control_plan}
-use Rattle.net_model.specs.Seats.{name_of, name_there, names_of, nobody, other, others_of, place_at, place_of, role_of, seat}
-use Rattle.net_model.specs.Seats.{seat_named, session_with, whos}
-use Rattle.net_model.specs.declared.place.Place.{Place}
-use Rattle.net_model.specs.Stands.{StandsFor}
-use Rattle.net_seats.specs.Fresh.{IsSetUp}
-use Rattle.net_seats.proofs.SetUp.{set_up}
-use Rattle.net_steps.proofs.Lists.{who_at}
-use Rattle.seat_laws.specs.Wiring.{HasNumbers, IsPlace, name_at, other_at}
-use Rattle.seat_laws.proofs.Parties.{site_in}
-use Rattle.seat_laws.proofs.Seating.{ListsApart, seat_found, seat_of}
-use Rattle.seat_laws.proofs.Written.{place_found, written_apart, written_named}
-use Rattle.told_laws.specs.Moments.{IsMoment}
-use Rattle.told_laws.proofs.Moments.{moment_numbers, moment_written}
+use Rattle.running_model.specs.Controls.{Controls, first_agent}
+use Rattle.running_model.specs.Seats.{Who, Controlling, Forwarding, Seat, agent_plan, control_plan}
+use Rattle.running_model.specs.Seats.{name_of, name_there, names_of, nobody, other, others_of, place_at, place_of, role_of, seat}
+use Rattle.running_model.specs.Seats.{seat_named, session_with, whos}
+use Rattle.running_model.specs.declared.place.SessionPlace.{SessionPlace}
+use Rattle.running_model.specs.Stands.{StandsFor}
+use Rattle.running_nodes.specs.Fresh.{IsSetUp}
+use Rattle.running_nodes.proofs.SetUp.{set_up}
+use Rattle.running_step_laws.proofs.Lists.{who_at}
+use Rattle.running_seat_laws.specs.Wiring.{HasNumbers, IsPlace, name_at, other_at}
+use Rattle.running_seat_laws.proofs.Parties.{site_in}
+use Rattle.running_seat_laws.proofs.Seating.{ListsApart, seat_found, seat_of}
+use Rattle.running_seat_laws.proofs.Written.{place_found, written_apart, written_named}
+use Rattle.running_telling_laws.specs.Moments.{IsMoment}
+use Rattle.running_telling_laws.proofs.Moments.{moment_numbers, moment_written}
 use Rattle.net_machine.specs.Moving.{AreLeft, CanCome, CanHappen, CanMoveIf, Differ, HasAgent, HasAgentsBehind, HasControls, HasRoom}
 use Rattle.net_machine.specs.Moving.{control_at, control_name}
 use Rattle.net_machine.proofs.Coming.{get_past}
@@ -152,12 +152,12 @@ index_within [] i name e = absurd (none_some name e)
 index_within (o ∷ os) zero name e = omega arith
 index_within (o ∷ os) (suc i) name e = let h = index_within os i name e in omega (arith, h)
 
-abbrev at_session : ℕ → ℕ → Place
+abbrev at_session : ℕ → ℕ → SessionPlace
 at_session k i = record { node = k; session = i }
 
 session_there : (k : ℕ) (o : Option ℕ) (i : ℕ) → option_map (at_session k) o ≡ Some (at_session k i) → o ≡ Some i
 session_there k None i e = cc
-session_there k (Some j) i e = ap (λ (p : Place). Some p.session) (same_Some (at_session k j) (at_session k i) e)
+session_there k (Some j) i e = ap (λ (p : SessionPlace). Some p.session) (same_Some (at_session k j) (at_session k i) e)
 
 differs : (c : Name) (cs : List Name) → ((m : Name) → Member m cs → c ≡ m → ⊥) → AllByRecursion (λ d. c ≢ d) cs
 differs c [] h = tt
@@ -188,7 +188,7 @@ module _ (w : Network) (m : IsMoment w) (seats : List Seat) (stands : StandsFor 
   found_here : (k : ℕ) → k < length seats → (i : ℕ) (name : Name) → other (seat seats k) i ≡ Some name
       → session_with (seat seats k) name ≡ Some i
   found_here k less i name e =
-      let p : Place = record { node = k; session = i } in
+      let p : SessionPlace = record { node = k; session = i } in
       let named_there : other_at seats p ≡ name = ap (λ o. unwrap_or o []) e in
       let there : IsPlace seats p = record {
         node = less;

@@ -5,10 +5,10 @@ use Rattle.std.specs.declared.option.Option.{Option}
 use Rattle.std.specs.declared.option.Option.TheVariants.{Some, None}
 use Rattle.std.proofs.Common.{refl, sym, subst, arith}
 use Rattle.ov_link.specs.declared.step.Input.{Input}
-use Rattle.network_model.specs.Setup.{Name}
-use Rattle.net_model.specs.Seats.{Seat, far_of, kept_at, link_at, live_at, notice_at, place_of}
-use Rattle.net_model.specs.Steps.{cleared, untaken, with_link, with_notice, with_seat}
-use Rattle.net_model.specs.declared.place.Place.{Place}
+use Rattle.machine_model.specs.Setup.{Name}
+use Rattle.running_model.specs.Seats.{Seat, far_of, kept_at, link_at, live_at, notice_at, place_of}
+use Rattle.running_model.specs.Steps.{cleared, untaken, with_link, with_notice, with_seat}
+use Rattle.running_model.specs.declared.place.SessionPlace.{SessionPlace}
 use Rattle.net_machine.specs.declared.ends.SessionEnds.{SessionEnds}
 use Rattle.net_machine.specs.declared.round.Due.{Due}
 use Rattle.net_machine.specs.Connections.{Connects, ConnectsIf, OpensFar, OpensSecond, goes_on, may_connect}
@@ -20,7 +20,7 @@ use Rattle.net_machine.proofs.Changes.{cleared_keeps, link_keeps, notice_keeps, 
 use Rattle.net_machine.proofs.Kept.{ends_kept, keeps_all, keeps_both, seated_kept}
 use Rattle.net_machine.proofs.Seating.{ends_are_seated}
 
-at_seated : (seats : List Seat) (a b : Name) (p : Place) (o : Option Place) (e : SessionEnds) → AreLong seats
+at_seated : (seats : List Seat) (a b : Name) (p : SessionPlace) (o : Option SessionPlace) (e : SessionEnds) → AreLong seats
     → place_of seats a b ≡ Some p → far_of seats p ≡ o → ends_from p o ≡ Some e → AreSeated seats e
 at_seated seats a b p None e long is far found = cc
 at_seated seats a b p (Some q) e long is far found =

@@ -9,17 +9,17 @@ use Rattle.ov_link.specs.Breaks.{with_break}
 use Rattle.ov_link.specs.declared.step.Input.{Input}
 use Rattle.node_core.specs.Whole.{session_of}
 use Rattle.node_model.specs.Step.{nothing}
-use Rattle.net_model.specs.Seats.{Seat, breaks_at, far_of, is_down_at, live_at, name_of, others_of, seat}
-use Rattle.net_model.specs.Stands.{IsLong}
-use Rattle.net_model.specs.Steps.{Takes, cleared, cleared_at, cleared_from, emptied, told_of_loss, unbroken, with_break_at}
-use Rattle.net_model.specs.Steps.{with_link, with_notice, with_seat}
-use Rattle.net_model.specs.declared.place.Place.{Place}
+use Rattle.running_model.specs.Seats.{Seat, breaks_at, far_of, is_down_at, live_at, name_of, others_of, seat}
+use Rattle.running_model.specs.Stands.{IsLong}
+use Rattle.running_model.specs.Steps.{Takes, cleared, cleared_at, cleared_from, emptied, told_of_loss, unbroken, with_break_at}
+use Rattle.running_model.specs.Steps.{with_link, with_notice, with_seat}
+use Rattle.running_model.specs.declared.place.SessionPlace.{SessionPlace}
 use Rattle.net_machine.specs.Connections.{Opens}
 use Rattle.net_machine.specs.Seating.{AreLong, Keeps}
 use Rattle.net_machine.proofs.Kept.{far_kept, keeps_all, keeps_both, with_keeps}
 use Rattle.net_machine.proofs.Seating.{far_is_seated}
 
-pub link_keeps : (seats : List Seat) (p : Place) (messages : List (List ℕ)) → AreLong seats → p.node < length seats
+pub link_keeps : (seats : List Seat) (p : SessionPlace) (messages : List (List ℕ)) → AreLong seats → p.node < length seats
     → Keeps seats (with_link p messages seats)
 link_keeps seats p messages long within =
     let n = seat seats p.node in
@@ -33,7 +33,7 @@ link_keeps seats p messages long within =
       notices = is.notices;
     })
 
-pub notice_keeps : (seats : List Seat) (p : Place) (waits : Bool) → AreLong seats → p.node < length seats
+pub notice_keeps : (seats : List Seat) (p : SessionPlace) (waits : Bool) → AreLong seats → p.node < length seats
     → Keeps seats (with_notice p waits seats)
 notice_keeps seats p waits long within =
     let n = seat seats p.node in
@@ -47,7 +47,7 @@ notice_keeps seats p waits long within =
       notices = length-set n.notices p.session waits ∙ is.notices;
     })
 
-pub break_keeps : (seats : List Seat) (p : Place) (m : ℕ) → AreLong seats → p.node < length seats
+pub break_keeps : (seats : List Seat) (p : SessionPlace) (m : ℕ) → AreLong seats → p.node < length seats
     → Keeps seats (with_break_at p m seats)
 break_keeps seats p m long within =
     let n = seat seats p.node in
@@ -119,7 +119,7 @@ takes_keeps seats k n input long within h =
       notices = ap (λ xs. length xs) s.notices ∙ is.notices ∙ sym (ap (λ xs. length xs) others);
     })
 
-told_keeps : (seats : List Seat) (o : Option Place) → AreLong seats → IfSome o (λ q. q.node < length seats)
+told_keeps : (seats : List Seat) (o : Option SessionPlace) → AreLong seats → IfSome o (λ q. q.node < length seats)
     → Keeps seats (told_of_loss seats o)
 told_keeps seats None long within = keeps_all seats long
 told_keeps seats (Some q) long within =
@@ -128,13 +128,13 @@ told_keeps seats (Some q) long within =
     keeps_both seats (with_notice q (live_at seats q) seats) (told_of_loss seats (Some q)) one
     (link_keeps (with_notice q (live_at seats q) seats) q [] one.long there)
 
-far_within : (seats : List Seat) (p : Place) (o : Option Place) → AreLong seats → far_of seats p ≡ o
+far_within : (seats : List Seat) (p : SessionPlace) (o : Option SessionPlace) → AreLong seats → far_of seats p ≡ o
     → IfSome o (λ q. q.node < length seats)
 far_within seats p None long is = tt
 far_within seats p (Some q) long is = (far_is_seated seats p q long is).node
 
 -- one end, of a place that there is
-closed_keeps : (seats : List Seat) (p : Place) → AreLong seats → p.node < length seats
+closed_keeps : (seats : List Seat) (p : SessionPlace) → AreLong seats → p.node < length seats
     → Keeps seats (told_of_loss (with_notice p false (with_link p [] seats)) (far_of seats p))
 closed_keeps seats p long within =
     let one = link_keeps seats p [] long within in
@@ -148,7 +148,7 @@ closed_keeps seats p long within =
     (far_within s2 p (far_of s2 p) both.long refl) in
     keeps_both seats s2 (told_of_loss s2 (far_of seats p)) both (told_keeps s2 (far_of seats p) both.long far)
 
-pub one_cleared : (seats : List Seat) (p : Place) → AreLong seats → p.node < length seats → Keeps seats (cleared_at seats p)
+pub one_cleared : (seats : List Seat) (p : SessionPlace) → AreLong seats → p.node < length seats → Keeps seats (cleared_at seats p)
 one_cleared seats p long within =
     elim (live_at seats p) as (λ live. Keeps seats (cond live (cond (is_down_at seats p) (with_link p [] seats) seats)
     (told_of_loss (with_notice p false (with_link p [] seats)) (far_of seats p)))) [
@@ -163,7 +163,7 @@ cleared_from_keeps : (n k i : ℕ) (seats : List Seat) → AreLong seats → k <
     → Keeps seats (cleared_from n k i seats)
 cleared_from_keeps zero k i seats long within = keeps_all seats long
 cleared_from_keeps (suc n) k i seats long within =
-    let p : Place = record { node = k; session = i } in
+    let p : SessionPlace = record { node = k; session = i } in
     let one = one_cleared seats p long within in
     let there : k < length (cleared_at seats p) = let c = one.count in omega (arith, within, c) in
     keeps_both seats (cleared_at seats p) (cleared_from n k (i + 1) (cleared_at seats p)) one
@@ -172,7 +172,7 @@ cleared_from_keeps (suc n) k i seats long within =
 pub cleared_keeps : (seats : List Seat) (k : ℕ) → AreLong seats → k < length seats → Keeps seats (cleared seats k)
 cleared_keeps seats k long within = cleared_from_keeps (length (seat seats k).posts) k 0 seats long within
 
-pub opens_keeps : (seats : List Seat) (p : Place) (after : List Seat) → AreLong seats → p.node < length seats
+pub opens_keeps : (seats : List Seat) (p : SessionPlace) (after : List Seat) → AreLong seats → p.node < length seats
     → Opens seats p after → Keeps seats after
 opens_keeps seats p after long within h =
     subst (Keeps seats) (sym h.is) (takes_keeps seats p.node h.node _ long within h.takes)

@@ -19,7 +19,7 @@ use Rattle.config_check.specs.Edits.{edit_fault}
 use Rattle.config_check.specs.declared.edits.EditFault.{EditFault}
 use Rattle.config_check.proofs.Edited.{form_is_kept, nodes_form_is_kept}
 use Rattle.config_check.proofs.Validity.{form_of}
-use Rattle.network_model.specs.Setup.{Setup, checked, edited, edited_without, moves, remade, renumbered}
+use Rattle.machine_model.specs.Setup.{Setup, checked, edited, edited_without, moves, remade, renumbered}
 use Rattle.headline_laws.specs.Headline.{IsOfForm, IsWritten}
 use Rattle.headline_laws.proofs.Written.{none_broken}
 

@@ -18,14 +18,14 @@ use Rattle.config_ties.specs.Tying.{joined}
 use Rattle.config_ties.specs.declared.breaking.Tie.{Tie}
 use Rattle.config_ties.specs.declared.edits.TiedFault.{TiedFault}
 use Rattle.config_ties.specs.declared.edits.TiedFault.TheVariants as faults
-use Rattle.isolation_laws.specs.Running.{ties_with}
-use Rattle.network_model.specs.Events.{edit_answer}
-use Rattle.network_model.specs.Setup.{edited_without, moves, opening}
-use Rattle.net_model.specs.Seats.{Configuring, Seat, Who, seat}
-use Rattle.net_steps.specs.Editing.{MakesEdit}
+use Rattle.machine_isolation_laws.specs.Running.{ties_with}
+use Rattle.machine_model.specs.Events.{edit_answer}
+use Rattle.machine_model.specs.Setup.{edited_without, moves, opening}
+use Rattle.running_model.specs.Seats.{Configuring, Seat, Who, seat}
+use Rattle.running_step_laws.specs.Editing.{MakesEdit}
 use Rattle.schedule_script.specs.declared.answer.Answer.TheVariants.{Did, EditRefused}
-use Rattle.tied_answers.specs.declared.answer.TiedAnswer.TheVariants.{Answered, EditTied}
-use Rattle.tied_laws.specs.Runs.{broken_by}
+use Rattle.schedule_ties.specs.declared.answer.TiedAnswer.TheVariants.{Answered, EditTied}
+use Rattle.schedule_tied_laws.specs.Runs.{broken_by}
 use Rattle.net_machine.specs.declared.ends.SessionEnds.{SessionEnds}
 use Rattle.net_machine.specs.declared.tying.Found.{Found}
 use Rattle.net_machine.specs.declared.tying.Found.TheVariants.{Made, Faulty, Tied}

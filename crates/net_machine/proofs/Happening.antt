@@ -11,20 +11,20 @@ use Rattle.config_check.specs.Edits.{edit_fault}
 use Rattle.route_targets.specs.Forwarding.{forwarding}
 use Rattle.schedule_script.specs.declared.answer.Answer.{Answer}
 use Rattle.schedule_script.specs.declared.answer.Answer.TheVariants.{Idle, Rounds, Shown, Traced}
-use Rattle.network_model.specs.Setup.{Name, checked, longest_in}
-use Rattle.network_model.specs.Session as session
-use Rattle.network_model.specs.Session.{Session, shut}
-use Rattle.network_model.specs.Network.{Network}
-use Rattle.network_model.specs.Steps as steps
-use Rattle.network_model.specs.Steps.{connect_found, connect_if, deliver, in_flight, is_broken, repeat, session_of, settle}
-use Rattle.network_model.specs.Steps.{change_node, change_session, deliver_octets, joins, pass, session_in, with_session}
-use Rattle.network_model.specs.Session.{arrived, octets_arrived}
-use Rattle.network_model.specs.Events as events
-use Rattle.network_model.specs.Events.{Break, Connect, Deliver, DeliverOctets, Edits as Changes, Lose, Restart}
-use Rattle.network_model.specs.Events.{add_break, answer_to, edit_answer}
-use Rattle.network_model.specs.Events.{event_of, is_node, lose, next, shown, unless}
-use Rattle.net_model.specs.Seats.{Seat, seat_named}
-use Rattle.net_model.specs.Stands.{message_size}
+use Rattle.machine_model.specs.Setup.{Name, checked, longest_in}
+use Rattle.machine_model.specs.Session as session
+use Rattle.machine_model.specs.Session.{Session, shut}
+use Rattle.machine_model.specs.Network.{Network}
+use Rattle.machine_model.specs.Steps as steps
+use Rattle.machine_model.specs.Steps.{connect_found, connect_if, deliver, in_flight, is_broken, repeat, session_of, settle}
+use Rattle.machine_model.specs.Steps.{change_node, change_session, deliver_octets, joins, pass, session_in, with_session}
+use Rattle.machine_model.specs.Session.{arrived, octets_arrived}
+use Rattle.machine_model.specs.Events as events
+use Rattle.machine_model.specs.Events.{Break, Connect, Deliver, DeliverOctets, Edits as Changes, Lose, Restart}
+use Rattle.machine_model.specs.Events.{add_break, answer_to, edit_answer}
+use Rattle.machine_model.specs.Events.{event_of, is_node, lose, next, shown, unless}
+use Rattle.running_model.specs.Seats.{Seat, seat_named}
+use Rattle.running_model.specs.Stands.{message_size}
 use Rattle.net_machine.specs.declared.ends.SessionEnds.{SessionEnds}
 use Rattle.net_machine.specs.Connections.{Connects}
 use Rattle.net_machine.specs.Happenings.{BreaksOn, ConnectsOn, DeliversOctetsOn, DeliversOn, EditsUnless, Happens, LosesOn}

@@ -9,14 +9,14 @@ use Rattle.std.proofs.lemmas.Bool.{cases_eq}
 use Rattle.std.proofs.lemmas.List.{length-set, get_or-set_same, get_or-set_other, set-set}
 use Rattle.ov_types.specs.First.{same_name}
 use Rattle.config_model.specs.declared.topology.Topology.{Topology}
-use Rattle.network_model.specs.Setup.{Name}
-use Rattle.network_model.specs.Session.{Session}
-use Rattle.network_model.specs.Network.{asked}
-use Rattle.net_model.specs.Seats.{Seat, far_of, index_from, is_name, name_of, nobody, other, others_of, place_at, place_of, seat}
-use Rattle.net_model.specs.Seats.{seat_named}
-use Rattle.net_model.specs.Stands.{IsLong}
-use Rattle.net_model.specs.Steps.{with_seat}
-use Rattle.net_model.specs.declared.place.Place.{Place}
+use Rattle.machine_model.specs.Setup.{Name}
+use Rattle.machine_model.specs.Session.{Session}
+use Rattle.machine_model.specs.Network.{asked}
+use Rattle.running_model.specs.Seats.{Seat, far_of, index_from, is_name, name_of, nobody, other, others_of, place_at, place_of, seat}
+use Rattle.running_model.specs.Seats.{seat_named}
+use Rattle.running_model.specs.Stands.{IsLong}
+use Rattle.running_model.specs.Steps.{with_seat}
+use Rattle.running_model.specs.declared.place.SessionPlace.{SessionPlace}
 use Rattle.net_machine.specs.declared.ends.SessionEnds.{SessionEnds}
 use Rattle.net_machine.specs.Seating.{AreLong, AreSeated, HasOther, IsSeated, Keeps, ends_at, ends_from, ends_of, order_among, order_of}
 
@@ -73,17 +73,17 @@ keeps_both a b c h k = record {
 }
 
 -- ---- places stay
-pub seated_kept : (seats after : List Seat) (p : Place) → Keeps seats after → IsSeated seats p → IsSeated after p
+pub seated_kept : (seats after : List Seat) (p : SessionPlace) → Keeps seats after → IsSeated seats p → IsSeated after p
 seated_kept seats after p h is = record {
   node = (let c = h.count in omega (arith, c, is.node));
   session = (let c = h.posts p.node in omega (arith, c, is.session));
 }
 
-pub other_is_kept : (seats after : List Seat) (p : Place) → Keeps seats after
+pub other_is_kept : (seats after : List Seat) (p : SessionPlace) → Keeps seats after
     → other (seat after p.node) p.session ≡ other (seat seats p.node) p.session
 other_is_kept seats after p h = ap (λ (os : List (Option Name)). get_or os p.session None) (h.others p.node)
 
-pub other_kept : (seats after : List Seat) (p : Place) → Keeps seats after → HasOther seats p → HasOther after p
+pub other_kept : (seats after : List Seat) (p : SessionPlace) → Keeps seats after → HasOther seats p → HasOther after p
 other_kept seats after p h is = (is.0, other_is_kept seats after p h ∙ is.1)
 
 pub ends_kept : (seats after : List Seat) (e : SessionEnds) → Keeps seats after → AreSeated seats e → AreSeated after e
@@ -127,12 +127,12 @@ far_from_kept : (seats after : List Seat) (name : Name) (o : Option Name) → Ke
 far_from_kept seats after name None h = refl
 far_from_kept seats after name (Some b) h = place_kept seats after b name h
 
-pub far_kept : (seats after : List Seat) (p : Place) → Keeps seats after → far_of after p ≡ far_of seats p
+pub far_kept : (seats after : List Seat) (p : SessionPlace) → Keeps seats after → far_of after p ≡ far_of seats p
 far_kept seats after p h =
     (λ i. option_and_then (λ b. place_of after b (h.name p.node i)) (other_is_kept seats after p h i))
     ∙ far_from_kept seats after (name_of (seat seats p.node).who) (other (seat seats p.node) p.session) h
 
-ends_at_kept : (seats after : List Seat) (o : Option Place) → Keeps seats after → ends_at after o ≡ ends_at seats o
+ends_at_kept : (seats after : List Seat) (o : Option SessionPlace) → Keeps seats after → ends_at after o ≡ ends_at seats o
 ends_at_kept seats after None h = refl
 ends_at_kept seats after (Some p) h = ap (ends_from p) (far_kept seats after p h)
 

@@ -14,31 +14,31 @@ use Rattle.ov_link.specs.declared.step.Input.TheVariants.{Bytes, Closed, Opened}
 use Rattle.config_model.specs.declared.edit.Edit.{Edit}
 use Rattle.config_check.specs.Edits.{edit_fault}
 use Rattle.config_check.specs.declared.edits.EditFault.{EditFault}
-use Rattle.network_model.specs.Setup.{Name, checked}
-use Rattle.network_model.specs.Session as session
-use Rattle.network_model.specs.Session.{arrived, octets_arrived}
-use Rattle.network_model.specs.Network.{Network}
-use Rattle.network_model.specs.Steps as machine
-use Rattle.network_model.specs.Steps.{change_session, connect_if, deliver, deliver_octets, pass}
-use Rattle.network_model.specs.Events.{Connect, Deliver, DeliverOctets, Break, Event, Edits as Changes, Lose, Restart}
-use Rattle.network_model.specs.Events.{Round, Settle, Show, Trace, is_node, next, shown}
-use Rattle.network_model.proofs.NetworkFact.{found}
-use Rattle.network_model.proofs.Twins.{itself}
-use Rattle.network_model.specs.Moments.{EditIsValid}
+use Rattle.machine_model.specs.Setup.{Name, checked}
+use Rattle.machine_model.specs.Session as session
+use Rattle.machine_model.specs.Session.{arrived, octets_arrived}
+use Rattle.machine_model.specs.Network.{Network}
+use Rattle.machine_model.specs.Steps as machine
+use Rattle.machine_model.specs.Steps.{change_session, connect_if, deliver, deliver_octets, pass}
+use Rattle.machine_model.specs.Events.{Connect, Deliver, DeliverOctets, Break, Event, Edits as Changes, Lose, Restart}
+use Rattle.machine_model.specs.Events.{Round, Settle, Show, Trace, is_node, next, shown}
+use Rattle.machine_model.proofs.NetworkFact.{found}
+use Rattle.machine_model.proofs.Twins.{itself}
+use Rattle.machine_model.specs.Moments.{EditIsValid}
 use Rattle.headline_laws.specs.Headline.{IsOfForm}
-use Rattle.net_model.specs.Seats.{Seat, is_down_at, is_live, kept_at, link_at, live_at, name_of, notice_at, seat}
-use Rattle.net_model.specs.Seats.{seat_named}
-use Rattle.net_model.specs.Seats.{whole_at, whole_there}
-use Rattle.net_model.specs.Steps.{Takes, cleared, shown_by, untaken, with_link, with_notice, with_seat}
-use Rattle.net_model.specs.Stands.{StandsFor, message_size}
-use Rattle.net_model.specs.declared.place.Place.{Place}
-use Rattle.told_laws.specs.Moments.{IsMoment}
-use Rattle.told_laws.proofs.Moments.{moment_next, moment_numbers, moment_sessions, moment_written}
-use Rattle.seat_laws.specs.Wiring.{name_at, other_at}
-use Rattle.seat_laws.proofs.Written.{forwarders_are, has_far, has_session, names_differ, no_node_above, place_is, shows_at}
-use Rattle.net_steps.specs.Connecting.{OpensBehind, OpensBoth}
-use Rattle.net_steps.specs.Delivering as deliveries
-use Rattle.net_steps.specs.Losing.{cut, restarted}
+use Rattle.running_model.specs.Seats.{Seat, is_down_at, is_live, kept_at, link_at, live_at, name_of, notice_at, seat}
+use Rattle.running_model.specs.Seats.{seat_named}
+use Rattle.running_model.specs.Seats.{whole_at, whole_there}
+use Rattle.running_model.specs.Steps.{Takes, cleared, shown_by, untaken, with_link, with_notice, with_seat}
+use Rattle.running_model.specs.Stands.{StandsFor, message_size}
+use Rattle.running_model.specs.declared.place.SessionPlace.{SessionPlace}
+use Rattle.running_telling_laws.specs.Moments.{IsMoment}
+use Rattle.running_telling_laws.proofs.Moments.{moment_next, moment_numbers, moment_sessions, moment_written}
+use Rattle.running_seat_laws.specs.Wiring.{name_at, other_at}
+use Rattle.running_seat_laws.proofs.Written.{forwarders_are, has_far, has_session, names_differ, no_node_above, place_is, shows_at}
+use Rattle.running_step_laws.specs.Connecting.{OpensBehind, OpensBoth}
+use Rattle.running_step_laws.specs.Delivering as deliveries
+use Rattle.running_step_laws.specs.Losing.{cut, restarted}
 use Rattle.net_machine.specs.declared.ends.SessionEnds.{SessionEnds}
 use Rattle.net_machine.specs.Connections.{ConnectsAt, ConnectsIf, OpensSecond, goes_on, may_connect}
 use Rattle.net_machine.specs.Deliveries.{DeliversIf, DeliversOctetsIf, DeliversOctetsTo, DeliversTo, TakesAt}
@@ -51,12 +51,12 @@ use Rattle.net_machine.proofs.Proved.{Proved}
 use Rattle.net_machine.proofs.Forms.{edited_form}
 
 -- ---- the same, as it is said there
-takes_there : (seats : List Seat) (q : Place) (input : Input) (after : List Seat) → TakesAt seats q.node input after
+takes_there : (seats : List Seat) (q : SessionPlace) (input : Input) (after : List Seat) → TakesAt seats q.node input after
     → deliveries.TakesAt seats q input after
 takes_there seats q input after h = record { taken = h.node; takes = h.takes; is = h.is }
 
 -- where the near end is live still, the far one opens behind it
-opens_behind : (seats : List Seat) (p q : Place) (n : Seat) (one : List Seat) (b : Bool) (after : List Seat)
+opens_behind : (seats : List Seat) (p q : SessionPlace) (n : Seat) (one : List Seat) (b : Bool) (after : List Seat)
     → one ≡ with_seat p.node n seats → live_at (with_seat p.node n seats) p ≡ b
     → OpensSecond b one (record { near = p; far = q }) after
     → OpensBehind b (with_seat p.node n seats) p q after

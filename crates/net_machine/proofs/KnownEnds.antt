@@ -6,33 +6,33 @@ use Rattle.std.specs.List.{AllByRecursion}
 use Rattle.std.proofs.Common.{refl, sym, ◌∙◌, ap, subst, inl, inr}
 use Rattle.headline_laws.specs.Headline.{IsWritten}
 use Rattle.headline_laws.proofs.Written.{sound_setup}
-use Rattle.network_model.specs.Setup.{Name, checked}
-use Rattle.network_model.specs.Session as session
-use Rattle.network_model.specs.Session.{Session, is_idle, is_peering}
-use Rattle.network_model.specs.Network.{Network}
-use Rattle.network_model.specs.Steps as steps
-use Rattle.network_model.specs.Steps.{session_of}
-use Rattle.network_model.specs.Events as events
-use Rattle.network_model.specs.Moments.{Each, nodes}
-use Rattle.network_model.proofs.Apart.{no_twins}
-use Rattle.network_model.proofs.NetworkFact.{found}
-use Rattle.network_model.proofs.SessionFact.{Fact, Fact-turned, live_receiver}
-use Rattle.network_model.proofs.Twins.{Found, NoTwins, found_each}
-use Rattle.net_model.specs.Seats.{Seat, far_of, place_of, whole_at, whole_there}
-use Rattle.net_model.specs.Stands.{StandsFor, message_size}
-use Rattle.net_model.specs.declared.place.Place.{Place}
-use Rattle.told_laws.specs.Moments.{IsMoment}
-use Rattle.told_laws.proofs.Moments.{moment_numbers, moment_sessions, moment_sound, moment_written}
-use Rattle.seat_laws.specs.Wiring.{AreSeats, HasNumbers, HasSessions, IsFound}
-use Rattle.seat_laws.proofs.Written.{far_is, has_far, place_is, session_without_place, sessions_found}
-use Rattle.net_steps.specs.Asking.{AreAt}
+use Rattle.machine_model.specs.Setup.{Name, checked}
+use Rattle.machine_model.specs.Session as session
+use Rattle.machine_model.specs.Session.{Session, is_idle, is_peering}
+use Rattle.machine_model.specs.Network.{Network}
+use Rattle.machine_model.specs.Steps as steps
+use Rattle.machine_model.specs.Steps.{session_of}
+use Rattle.machine_model.specs.Events as events
+use Rattle.machine_model.specs.Moments.{Each, nodes}
+use Rattle.machine_model.proofs.Apart.{no_twins}
+use Rattle.machine_model.proofs.NetworkFact.{found}
+use Rattle.machine_model.proofs.SessionFact.{Fact, Fact-turned, live_receiver}
+use Rattle.machine_model.proofs.Twins.{Found, NoTwins, found_each}
+use Rattle.running_model.specs.Seats.{Seat, far_of, place_of, whole_at, whole_there}
+use Rattle.running_model.specs.Stands.{StandsFor, message_size}
+use Rattle.running_model.specs.declared.place.SessionPlace.{SessionPlace}
+use Rattle.running_telling_laws.specs.Moments.{IsMoment}
+use Rattle.running_telling_laws.proofs.Moments.{moment_numbers, moment_sessions, moment_sound, moment_written}
+use Rattle.running_seat_laws.specs.Wiring.{AreSeats, HasNumbers, HasSessions, IsFound}
+use Rattle.running_seat_laws.proofs.Written.{far_is, has_far, place_is, session_without_place, sessions_found}
+use Rattle.running_step_laws.specs.Asking.{AreAt}
 use Rattle.net_machine.specs.declared.ends.SessionEnds.{SessionEnds}
 use Rattle.net_machine.specs.Seating.{ends_at, ends_from, ends_of, turned}
 use Rattle.net_machine.proofs.Facts.{IsStood, SaysOf}
 use Rattle.net_machine.proofs.Proved.{Proved}
 
 -- ---- ends by their places
-from_at : (seats : List Seat) (a b : Name) (p : Place) (o : Option Place) (e : SessionEnds) → place_of seats a b ≡ Some p
+from_at : (seats : List Seat) (a b : Name) (p : SessionPlace) (o : Option SessionPlace) (e : SessionEnds) → place_of seats a b ≡ Some p
     → far_of seats p ≡ o → ends_from p o ≡ Some e → AreAt seats a b e.near e.far
 from_at seats a b p None e is far found = cc
 from_at seats a b p (Some q) e is far found =
@@ -47,7 +47,7 @@ ends_are_at seats a b e found =
       | Some p ↦ λ is h. from_at seats a b p (far_of seats p) e is refl h
     ] refl found
 
-pub at_are_ends : (seats : List Seat) (a b : Name) (p q : Place) → AreAt seats a b p q
+pub at_are_ends : (seats : List Seat) (a b : Name) (p q : SessionPlace) → AreAt seats a b p q
     → ends_of seats a b ≡ Some (record { near = p; far = q })
 at_are_ends seats a b p q at = ap (ends_at seats) at.0 ∙ ap (ends_from p) at.1
 
@@ -113,7 +113,7 @@ module _ (p : Proved) (seats : List Seat) (w : Network) (m : IsMoment w) (st : S
       at_are_ends seats b a e.far e.near (back, far_is w.setup written numbers seats are b a e.far back ∙ at.0)
 
   -- ---- where there is no place there is no session
-  no_far : (a b : Name) (q : Place) → place_of seats a b ≡ Some q → ends_of seats a b ≡ None → ⊥
+  no_far : (a b : Name) (q : SessionPlace) → place_of seats a b ≡ Some q → ends_of seats a b ≡ None → ⊥
   no_far a b q is none =
       let far = has_far w.setup written numbers seats are q (place_is w.setup written numbers seats are a b q is).is_place in
       let some = sym none ∙ at_are_ends seats a b q far.far (is, far.found) in

@@ -7,15 +7,15 @@ use Rattle.std.specs.Option.{option_map}
 use Rattle.std.proofs.Common.{refl, sym, ◌∙◌, ap, subst, arith, get_or}
 use Rattle.std.proofs.lemmas.List.{at_drop_more, drop_all, length-append, length-map, length-set, map-set, set-get_or}
 use Rattle.std.proofs.lemmas.Option.{same_Some}
-use Rattle.network_model.specs.Setup.{Name, without_agent}
-use Rattle.net_model.specs.Controls.{Controls}
-use Rattle.net_model.specs.Moving.{Leaves, LeavesAll, LeavesAt, retired_of, vacated, vacated_at, vacated_from}
-use Rattle.net_model.specs.Seats.{Who, Configuring, Controlling, Forwarding, Seat, name_of, name_there, names_of, nobody}
-use Rattle.net_model.specs.Seats.{index_from, is_name, others_of, place_at, place_of, seat, seat_named, session_with}
-use Rattle.net_model.specs.Stands.{IsLong}
-use Rattle.net_model.specs.Steps.{cleared, with_seat}
-use Rattle.net_model.specs.declared.place.Place.{Place}
-use Rattle.net_steps.proofs.Lists.{same_who}
+use Rattle.machine_model.specs.Setup.{Name, without_agent}
+use Rattle.running_model.specs.Controls.{Controls}
+use Rattle.running_model.specs.Moving.{Leaves, LeavesAll, LeavesAt, retired_of, vacated, vacated_at, vacated_from}
+use Rattle.running_model.specs.Seats.{Who, Configuring, Controlling, Forwarding, Seat, name_of, name_there, names_of, nobody}
+use Rattle.running_model.specs.Seats.{index_from, is_name, others_of, place_at, place_of, seat, seat_named, session_with}
+use Rattle.running_model.specs.Stands.{IsLong}
+use Rattle.running_model.specs.Steps.{cleared, with_seat}
+use Rattle.running_model.specs.declared.place.SessionPlace.{SessionPlace}
+use Rattle.running_step_laws.proofs.Lists.{same_who}
 use Rattle.net_machine.specs.Moving.{AreLeft, Differ, HasAgent, IsAgentPlace}
 use Rattle.net_machine.specs.Seating.{AreLong}
 use Rattle.net_machine.proofs.Alike.{cleared_alike, long_with, named_by_names}
@@ -33,7 +33,7 @@ agent_place seats name control h =
 pub no_place : (seats : List Seat) (name control : Name) → HasAgent seats name control → place_of seats control name ≡ None → ⊥
 no_place seats name control h none = let e = sym none ∙ agent_place seats name control h in cc
 
-pub place_is_agents : (seats : List Seat) (name control : Name) (p : Place) → HasAgent seats name control
+pub place_is_agents : (seats : List Seat) (name control : Name) (p : SessionPlace) → HasAgent seats name control
     → place_of seats control name ≡ Some p → IsAgentPlace seats name p
 place_is_agents seats name control p h found =
     let same : record { node = h.node; session = h.session } ≡ p =
@@ -48,10 +48,10 @@ place_is_agents seats name control p h found =
     })
 
 -- the place is at the seat that is found by the name
-pub place_node : (seats : List Seat) (name control : Name) (p : Place) → HasAgent seats name control
+pub place_node : (seats : List Seat) (name control : Name) (p : SessionPlace) → HasAgent seats name control
     → place_of seats control name ≡ Some p → seat_named seats control ≡ Some p.node
 place_node seats name control p h found =
-    h.is ∙ ap (λ (q : Place). Some q.node)
+    h.is ∙ ap (λ (q : SessionPlace). Some q.node)
     (same_Some (record { node = h.node; session = h.session }) p (sym (agent_place seats name control h) ∙ found))
 
 -- ---- the control node has as many ends as before

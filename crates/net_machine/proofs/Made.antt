@@ -10,12 +10,12 @@ use Rattle.config_model.specs.declared.edit.Edit.TheVariants.{Put, Delete}
 use Rattle.config_model.specs.declared.edit.Object.TheVariants as objects
 use Rattle.config_model.specs.declared.edit.ObjectKind.TheVariants as kinds
 use Rattle.config_model.specs.declared.topology.Topology.{Topology}
-use Rattle.network_model.specs.Setup.{Move, moves}
-use Rattle.net_model.specs.Moving.{MovesIf}
-use Rattle.net_model.specs.Seats.{Who, Configuring, Seat, name_of, names_of, others_of, seat}
-use Rattle.net_model.specs.Steps.{Configures, cleared, with_seat}
-use Rattle.net_steps.specs.Editing.{MakesEdit}
-use Rattle.net_steps.proofs.Lists.{same_who}
+use Rattle.machine_model.specs.Setup.{Move, moves}
+use Rattle.running_model.specs.Moving.{MovesIf}
+use Rattle.running_model.specs.Seats.{Who, Configuring, Seat, name_of, names_of, others_of, seat}
+use Rattle.running_model.specs.Steps.{Configures, cleared, with_seat}
+use Rattle.running_step_laws.specs.Editing.{MakesEdit}
+use Rattle.running_step_laws.proofs.Lists.{same_who}
 use Rattle.net_machine.specs.Moving.{CanMoveIf}
 use Rattle.net_machine.specs.Seating.{AreLong, Keeps}
 use Rattle.net_machine.proofs.Alike.{cleared_alike}

@@ -13,17 +13,17 @@ use Rattle.config_check.specs.Checked.{Checked}
 use Rattle.config_check.specs.Rules.{controller_names}
 use Rattle.config_model.specs.declared.topology.Node.{Node}
 use Rattle.config_model.specs.declared.topology.Topology.{Topology}
-use Rattle.network_model.specs.Network.{same_role}
-use Rattle.network_model.specs.Session.{Role, Agent, Configuration, Controller}
-use Rattle.network_model.specs.Setup.{Move, Name, id_of}
-use Rattle.net_model.specs.Controls.{Controls}
-use Rattle.net_model.specs.Moving.{LeavesAll, LeavesAt, Moves, came, is_agent_named, is_listed_who, joined, reseated, retired_of}
-use Rattle.net_model.specs.Moving.{seats_of}
-use Rattle.net_model.specs.Seats.{Who, Configuring, Controlling, Forwarding, Seat, index_from, name_of, nobody, other}
-use Rattle.net_model.specs.Seats.{others_of}
-use Rattle.net_model.specs.Seats.{role_of, seat, session_with}
-use Rattle.net_model.specs.Stands.{IsLong}
-use Rattle.net_model.specs.Steps.{fresh_seat}
+use Rattle.machine_model.specs.Network.{same_role}
+use Rattle.machine_model.specs.Session.{Role, Agent, Configuration, Controller}
+use Rattle.machine_model.specs.Setup.{Move, Name, id_of}
+use Rattle.running_model.specs.Controls.{Controls}
+use Rattle.running_model.specs.Moving.{LeavesAll, LeavesAt, Moves, came, is_agent_named, is_listed_who, joined, reseated, retired_of}
+use Rattle.running_model.specs.Moving.{seats_of}
+use Rattle.running_model.specs.Seats.{Who, Configuring, Controlling, Forwarding, Seat, index_from, name_of, nobody, other}
+use Rattle.running_model.specs.Seats.{others_of}
+use Rattle.running_model.specs.Seats.{role_of, seat, session_with}
+use Rattle.running_model.specs.Stands.{IsLong}
+use Rattle.running_model.specs.Steps.{fresh_seat}
 use Rattle.net_machine.specs.Moving.{AreLeft, CanMove, HasAgent, HasAgentsBehind, HasControls, HasRoom}
 use Rattle.net_machine.specs.Moving.{CanCome, came_seat, control_name}
 use Rattle.net_machine.specs.Seating.{AreLong}

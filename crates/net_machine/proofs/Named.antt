@@ -9,20 +9,20 @@ use Rattle.std.proofs.lemmas.Bool.{and_parts}
 use Rattle.std.proofs.lemmas.Bool.Decides.{nat_tests}
 use Rattle.std.proofs.lemmas.Option.{same_Some}
 use Rattle.ov_types.specs.First.{same_name}
-use Rattle.network_model.specs.Setup.{Name}
-use Rattle.network_model.specs.Session.{Session}
-use Rattle.network_model.specs.Network.{Network}
-use Rattle.network_model.specs.Steps.{joins}
-use Rattle.network_model.specs.Events as events
-use Rattle.network_model.proofs.Twins.{itself}
-use Rattle.net_model.specs.Seats.{Seat, far_of, place_of}
-use Rattle.net_model.specs.declared.place.Place.{Place}
+use Rattle.machine_model.specs.Setup.{Name}
+use Rattle.machine_model.specs.Session.{Session}
+use Rattle.machine_model.specs.Network.{Network}
+use Rattle.machine_model.specs.Steps.{joins}
+use Rattle.machine_model.specs.Events as events
+use Rattle.machine_model.proofs.Twins.{itself}
+use Rattle.running_model.specs.Seats.{Seat, far_of, place_of}
+use Rattle.running_model.specs.declared.place.SessionPlace.{SessionPlace}
 use Rattle.net_machine.specs.declared.ends.SessionEnds.{SessionEnds}
 use Rattle.net_machine.specs.Seating.{ends_at, ends_from, ends_of, is_earlier, order_among, same_ends, same_place, turned}
 use Rattle.net_machine.proofs.Facts.{At, Facts, IsStood}
 use Rattle.net_machine.proofs.Seating.{AreNamed, place_names}
 
-from_names : (seats : List Seat) (a b : Name) (p : Place) (o : Option Place) (e : SessionEnds) → AreNamed seats a b p
+from_names : (seats : List Seat) (a b : Name) (p : SessionPlace) (o : Option SessionPlace) (e : SessionEnds) → AreNamed seats a b p
     → ends_from p o ≡ Some e → AreNamed seats a b e.near
 from_names seats a b p None e n found = cc
 from_names seats a b p (Some q) e n found =
@@ -44,7 +44,7 @@ same_nat m n h = grind (arith, nat_tests, h)
 nat_itself : (n : ℕ) → (n == n) ≡ true
 nat_itself n = grind (arith, nat_tests)
 
-place_is : (p q : Place) → same_place p q ≡ true → p ≡ q
+place_is : (p q : SessionPlace) → same_place p q ≡ true → p ≡ q
 place_is p q h =
     let both = and_parts (p.node == q.node) (p.session == q.session) h in
     (λ i. record { node = same_nat p.node q.node both.0 i; session = same_nat p.session q.session both.1 i })
@@ -54,7 +54,7 @@ ends_are d e h =
     let both = and_parts (same_place d.near e.near) (same_place d.far e.far) h in
     (λ i. record { near = place_is d.near e.near both.0 i; far = place_is d.far e.far both.1 i })
 
-place_itself : (p : Place) → same_place p p ≡ true
+place_itself : (p : SessionPlace) → same_place p p ≡ true
 place_itself p = (λ i. nat_itself p.node i && (p.session == p.session)) ∙ nat_itself p.session
 
 pub ends_itself : (e : SessionEnds) → same_ends e e ≡ true

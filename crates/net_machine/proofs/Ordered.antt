@@ -9,20 +9,20 @@ use Rattle.config_model.specs.declared.edit.Edit.{Edit}
 use Rattle.config_model.specs.declared.event.Event.{Event as Written}
 use Rattle.config_model.specs.declared.event.Event.TheVariants as written
 use Rattle.config_ties.specs.declared.breaking.Tie.{Tie}
-use Rattle.isolation_laws.specs.Refusing.{TiedNetwork, next_tied}
-use Rattle.network_model.specs.Events.{Edits, Event, answer_to, edit_answer, edits, event_of, next}
-use Rattle.network_model.specs.Moments.{HasSessions, Nodes, nodes}
-use Rattle.network_model.specs.Network.{Network, asked, config}
-use Rattle.network_model.specs.Setup.{Move, Setup, checked, edited_without, moves, remade, renumbered}
-use Rattle.network_model.proofs.NodesFact.{Holds, holds_steps, pass_nodes}
-use Rattle.network_model.proofs.Walk.{next_walk}
+use Rattle.machine_isolation_laws.specs.Refusing.{TiedNetwork, next_tied}
+use Rattle.machine_model.specs.Events.{Edits, Event, answer_to, edit_answer, edits, event_of, next}
+use Rattle.machine_model.specs.Moments.{HasSessions, Nodes, nodes}
+use Rattle.machine_model.specs.Network.{Network, asked, config}
+use Rattle.machine_model.specs.Setup.{Move, Setup, checked, edited_without, moves, remade, renumbered}
+use Rattle.machine_model.proofs.NodesFact.{Holds, holds_steps, pass_nodes}
+use Rattle.machine_model.proofs.Walk.{next_walk}
 use Rattle.config_check.specs.Edits as config_edits
-use Rattle.net_model.specs.Seats.{Configuring, Seat, seat}
-use Rattle.net_model.specs.Stands.{message_size}
+use Rattle.running_model.specs.Seats.{Configuring, Seat, seat}
+use Rattle.running_model.specs.Stands.{message_size}
 use Rattle.schedule_script.specs.declared.answer.Answer.{Answer}
-use Rattle.tied_answers.specs.declared.answer.TiedAnswer.{TiedAnswer}
-use Rattle.tied_answers.specs.declared.answer.TiedAnswer.TheVariants.{Answered, EditTied}
-use Rattle.tied_laws.specs.Runs.{answer_tied, tie_broken, unless_tied}
+use Rattle.schedule_ties.specs.declared.answer.TiedAnswer.{TiedAnswer}
+use Rattle.schedule_ties.specs.declared.answer.TiedAnswer.TheVariants.{Answered, EditTied}
+use Rattle.schedule_tied_laws.specs.Runs.{answer_tied, tie_broken, unless_tied}
 use Rattle.net_machine.specs.declared.ends.SessionEnds.{SessionEnds}
 use Rattle.net_machine.specs.Seating.{Keeps, order_among, order_of}
 use Rattle.net_machine.specs.Tying.{Orders, OrdersAs, moved_by}

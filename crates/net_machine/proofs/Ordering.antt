@@ -9,9 +9,9 @@ use Rattle.std.proofs.lemmas.List.Elements.{All-append, All-cons, filter_map-app
 use Rattle.ov_types.specs.declared.rows.NodeId.{NodeId}
 use Rattle.config_model.specs.declared.topology.Node.{Node}
 use Rattle.config_model.specs.declared.topology.Topology.{Topology}
-use Rattle.network_model.specs.Session.{Session, Agent, Controller}
-use Rattle.network_model.specs.Network.{accesses, accesses_of, between, feeds, lists, peerings}
-use Rattle.net_model.specs.Seats.{Seat}
+use Rattle.machine_model.specs.Session.{Session, Agent, Controller}
+use Rattle.machine_model.specs.Network.{accesses, accesses_of, between, feeds, lists, peerings}
+use Rattle.running_model.specs.Seats.{Seat}
 use Rattle.net_machine.specs.declared.ends.SessionEnds.{SessionEnds}
 use Rattle.net_machine.specs.declared.round.Due.{Due}
 use Rattle.net_machine.specs.Rounds.{IsDueSeated, due_at, dues}

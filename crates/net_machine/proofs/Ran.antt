@@ -15,26 +15,26 @@ use Rattle.config_ties.specs.Ties.{Ties}
 use Rattle.config_ties.specs.Tying.{ties_of}
 use Rattle.config_ties.proofs.Alike.{alike_is_one}
 use Rattle.headline_laws.specs.Headline.{IsWritten}
-use Rattle.isolation_laws.specs.Refusing.{TiedNetwork, kept_events, next_tied, tied_start}
-use Rattle.isolation_laws.proofs.Refused.{keeps_what_is_not_refused}
-use Rattle.network_model.specs.Session.{Session}
-use Rattle.network_model.specs.Network.{asked, start}
-use Rattle.network_model.specs.Events.{event_of}
-use Rattle.network_model.specs.Setup.{checked, opening}
-use Rattle.network_model.specs.Steps as machine
-use Rattle.net_model.specs.Seats.{Configuring, Seat, Who, seat, whos}
-use Rattle.net_model.specs.Stands.{StandsFor, message_size}
-use Rattle.told_laws.specs.Moments.{IsMoment}
-use Rattle.told_laws.proofs.Moments.{moment_sessions}
-use Rattle.net_model.specs.Steps.{fresh_seat}
-use Rattle.net_steps.proofs.Given.{given}
-use Rattle.net_steps.proofs.Started.{fresh_seats_stand}
-use Rattle.tied_answers.specs.declared.answer.TiedAnswer.{TiedAnswer}
-use Rattle.tied_laws.specs.Compiled.{EndsAtOnce, IsAsCompiled}
-use Rattle.tied_laws.specs.Isolated.{DeliversSoFar, DeliversTied}
-use Rattle.tied_laws.specs.Runs.{answer_tied, tied_moment}
-use Rattle.tied_laws.proofs.Kept.{asked_with_ties, tied_more}
-use Rattle.tied_laws.proofs.Moments.{compiled_here, ends_here, isolated_here, joined_here}
+use Rattle.machine_isolation_laws.specs.Refusing.{TiedNetwork, kept_events, next_tied, tied_start}
+use Rattle.machine_isolation_laws.proofs.Refused.{keeps_what_is_not_refused}
+use Rattle.machine_model.specs.Session.{Session}
+use Rattle.machine_model.specs.Network.{asked, start}
+use Rattle.machine_model.specs.Events.{event_of}
+use Rattle.machine_model.specs.Setup.{checked, opening}
+use Rattle.machine_model.specs.Steps as machine
+use Rattle.running_model.specs.Seats.{Configuring, Seat, Who, seat, whos}
+use Rattle.running_model.specs.Stands.{StandsFor, message_size}
+use Rattle.running_telling_laws.specs.Moments.{IsMoment}
+use Rattle.running_telling_laws.proofs.Moments.{moment_sessions}
+use Rattle.running_model.specs.Steps.{fresh_seat}
+use Rattle.running_step_laws.proofs.Given.{given}
+use Rattle.running_step_laws.proofs.Started.{fresh_seats_stand}
+use Rattle.schedule_ties.specs.declared.answer.TiedAnswer.{TiedAnswer}
+use Rattle.schedule_tied_laws.specs.Compiled.{EndsAtOnce, IsAsCompiled}
+use Rattle.schedule_tied_laws.specs.Isolated.{DeliversSoFar, DeliversTied}
+use Rattle.schedule_tied_laws.specs.Runs.{answer_tied, tied_moment}
+use Rattle.schedule_tied_laws.proofs.Kept.{asked_with_ties, tied_more}
+use Rattle.schedule_tied_laws.proofs.Moments.{compiled_here, ends_here, isolated_here, joined_here}
 use Rattle.net_machine.specs.declared.ends.SessionEnds.{SessionEnds}
 use Rattle.net_machine.specs.Running.{IsRunning}
 use Rattle.net_machine.specs.Seating.{AreLong, AreSeated, IsConfigured, ends_of, order_among, order_of}

@@ -9,10 +9,10 @@ use Rattle.std.proofs.Common.{refl, sym, ap, subst, arith, get_or}
 use Rattle.std.proofs.lemmas.Bool.{true≢false}
 use Rattle.std.proofs.lemmas.Option.{same_Some}
 use Rattle.ov_types.specs.First.{same_name}
-use Rattle.network_model.specs.Setup.{Name}
-use Rattle.net_model.specs.Seats.{Seat, far_of, index_from, is_name, name_of, nobody, other, others_of, place_at, place_of}
-use Rattle.net_model.specs.Seats.{seat, seat_named, session_with}
-use Rattle.net_model.specs.declared.place.Place.{Place}
+use Rattle.machine_model.specs.Setup.{Name}
+use Rattle.running_model.specs.Seats.{Seat, far_of, index_from, is_name, name_of, nobody, other, others_of, place_at, place_of}
+use Rattle.running_model.specs.Seats.{seat, seat_named, session_with}
+use Rattle.running_model.specs.declared.place.SessionPlace.{SessionPlace}
 use Rattle.net_machine.specs.Seating.{AreLong, AreSeated, HasOther, IsSeated}
 
 -- what is found stands in the list
@@ -60,11 +60,11 @@ is_there b None h = absurd (true≢false (sym h))
 is_there b (Some m) h = ap (λ (n : Name). Some n) ((bytes_decides m b).0 h)
 
 -- the names at the near end
-pub record AreNamed (seats : List Seat) (a b : Name) (p : Place) : Type 0 where
+pub record AreNamed (seats : List Seat) (a b : Name) (p : SessionPlace) : Type 0 where
   pub here : name_of (seat seats p.node).who ≡ a
   pub there : other (seat seats p.node) p.session ≡ Some b
 
-with_so : (seats : List Seat) (a b : Name) (k : ℕ) (o : Option ℕ) (p : Place) → seat_named seats a ≡ Some k
+with_so : (seats : List Seat) (a b : Name) (k : ℕ) (o : Option ℕ) (p : SessionPlace) → seat_named seats a ≡ Some k
     → session_with (seat seats k) b ≡ o → option_map (λ i. record { node = k; session = i }) o ≡ Some p
     → AreNamed seats a b p
 with_so seats a b k None p named at e = cc
@@ -76,14 +76,14 @@ with_so seats a b k (Some i) p named at e =
           (found_passes (is_name b) (others_of (seat seats k).who) 0 i i None at (omega arith));
     })
 
-pub place_names : (seats : List Seat) (a b : Name) (p : Place) → place_of seats a b ≡ Some p → AreNamed seats a b p
+pub place_names : (seats : List Seat) (a b : Name) (p : SessionPlace) → place_of seats a b ≡ Some p → AreNamed seats a b p
 place_names seats a b p e =
     elim (seat_named seats a) as (λ o. seat_named seats a ≡ o → place_at seats b o ≡ Some p → AreNamed seats a b p) [
       | None ↦ λ at found. cc
       | Some k ↦ λ at found. with_so seats a b k (session_with (seat seats k) b) p at refl found
     ] refl e
 
-session_within : (seats : List Seat) (b : Name) (k : ℕ) (o : Option ℕ) (p : Place) → AreLong seats → k < length seats
+session_within : (seats : List Seat) (b : Name) (k : ℕ) (o : Option ℕ) (p : SessionPlace) → AreLong seats → k < length seats
     → session_with (seat seats k) b ≡ o → place_at seats b (Some k) ≡ Some p → IsSeated seats p
 session_within seats b k None p long within at e = cc
 session_within seats b k (Some i) p long within at e =
@@ -92,7 +92,7 @@ session_within seats b k (Some i) p long within at e =
     let fits : i < length (seat seats k).posts = omega (arith, h.1, (long k within).posts) in
     subst (IsSeated seats) is (record { node = within; session = fits })
 
-pub place_is_seated : (seats : List Seat) (a b : Name) (p : Place) → AreLong seats → place_of seats a b ≡ Some p
+pub place_is_seated : (seats : List Seat) (a b : Name) (p : SessionPlace) → AreLong seats → place_of seats a b ≡ Some p
     → IsSeated seats p
 place_is_seated seats a b p long e =
     elim (seat_named seats a) as (λ o. seat_named seats a ≡ o → place_at seats b o ≡ Some p → IsSeated seats p) [
@@ -102,21 +102,21 @@ place_is_seated seats a b p long e =
     ] refl e
 
 -- ---- the other end
-far_within : (seats : List Seat) (name : Name) (o : Option Name) (q : Place) → AreLong seats
+far_within : (seats : List Seat) (name : Name) (o : Option Name) (q : SessionPlace) → AreLong seats
     → option_and_then (λ b. place_of seats b name) o ≡ Some q → IsSeated seats q
 far_within seats name None q long e = cc
 far_within seats name (Some b) q long e = place_is_seated seats b name q long e
 
-far_named : (seats : List Seat) (name : Name) (o : Option Name) (q : Place)
+far_named : (seats : List Seat) (name : Name) (o : Option Name) (q : SessionPlace)
     → option_and_then (λ b. place_of seats b name) o ≡ Some q → HasOther seats q
 far_named seats name None q e = cc
 far_named seats name (Some b) q e = (name, (place_names seats b name q e).there)
 
-pub far_is_seated : (seats : List Seat) (p q : Place) → AreLong seats → far_of seats p ≡ Some q → IsSeated seats q
+pub far_is_seated : (seats : List Seat) (p q : SessionPlace) → AreLong seats → far_of seats p ≡ Some q → IsSeated seats q
 far_is_seated seats p q long e =
     far_within seats (name_of (seat seats p.node).who) (other (seat seats p.node) p.session) q long e
 
-pub ends_are_seated : (seats : List Seat) (a b : Name) (p q : Place) → AreLong seats → place_of seats a b ≡ Some p
+pub ends_are_seated : (seats : List Seat) (a b : Name) (p q : SessionPlace) → AreLong seats → place_of seats a b ≡ Some p
     → far_of seats p ≡ Some q → AreSeated seats (record { near = p; far = q })
 ends_are_seated seats a b p q long e f = record {
   near = place_is_seated seats a b p long e;

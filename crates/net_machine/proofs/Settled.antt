@@ -1,16 +1,16 @@
 -- What settling makes of the state for which seats stand.
 use Rattle.std.specs.Prelude.{◌≡◌, ◌+◌, ℕ, zero, suc, List, [], ◌∷◌, map, true, false, cond, MatchBool}
 use Rattle.std.proofs.Common.{refl, sym, ◌∙◌, ap, subst}
-use Rattle.network_model.specs.Setup.{longest}
-use Rattle.network_model.specs.Session.{Session}
-use Rattle.network_model.specs.Network.{Network}
-use Rattle.network_model.specs.Steps as steps
-use Rattle.network_model.specs.Steps.{connect_all, round, rounds_from, settle, without_breaks}
-use Rattle.network_model.specs.Moments.{nodes}
-use Rattle.network_model.proofs.NodesFact.{connect_all_nodes, round_nodes}
-use Rattle.net_model.specs.Seats.{Seat}
-use Rattle.net_model.specs.Steps.{unbroken as unbroken_seat}
-use Rattle.told_laws.specs.Moments.{unbroken}
+use Rattle.machine_model.specs.Setup.{longest}
+use Rattle.machine_model.specs.Session.{Session}
+use Rattle.machine_model.specs.Network.{Network}
+use Rattle.machine_model.specs.Steps as steps
+use Rattle.machine_model.specs.Steps.{connect_all, round, rounds_from, settle, without_breaks}
+use Rattle.machine_model.specs.Moments.{nodes}
+use Rattle.machine_model.proofs.NodesFact.{connect_all_nodes, round_nodes}
+use Rattle.running_model.specs.Seats.{Seat}
+use Rattle.running_model.specs.Steps.{unbroken as unbroken_seat}
+use Rattle.running_telling_laws.specs.Moments.{unbroken}
 use Rattle.net_machine.specs.declared.ends.SessionEnds.{SessionEnds}
 use Rattle.net_machine.specs.Rounds.{IsRound}
 use Rattle.net_machine.specs.Seating.{Keeps, order_among}

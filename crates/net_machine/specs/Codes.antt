@@ -7,8 +7,8 @@ use Rattle.config_model.specs.declared.event.Event.{Event}
 use Rattle.config_model.specs.contracts.event.Event as events
 use Rattle.config_ties.specs.Kept.{Kept}
 use Rattle.config_ties.specs.contracts.kept.Ties as ties
-use Rattle.net_model.specs.Seats.{Seat}
-use Rattle.net_seats.specs.Codes.{coded_seat}
+use Rattle.running_model.specs.Seats.{Seat}
+use Rattle.running_nodes.specs.Codes.{coded_seat}
 use Rattle.net_machine.specs.NetState.{NetState}
 
 abbrev pub coded_net : Coded NetState

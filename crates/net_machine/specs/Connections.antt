@@ -1,9 +1,9 @@
 -- What connecting makes of a network.
 use Rattle.std.specs.Prelude.{◌≡◌, List, [], ◌∷◌, Bool, true, false, not, ◌&&◌}
 use Rattle.ov_link.specs.declared.step.Input.TheVariants.{Opened}
-use Rattle.net_model.specs.Seats.{Seat, live_at, seat}
-use Rattle.net_model.specs.Steps.{Takes, cleared, with_seat}
-use Rattle.net_model.specs.declared.place.Place.{Place}
+use Rattle.running_model.specs.Seats.{Seat, live_at, seat}
+use Rattle.running_model.specs.Steps.{Takes, cleared, with_seat}
+use Rattle.running_model.specs.declared.place.SessionPlace.{SessionPlace}
 use Rattle.net_machine.specs.declared.ends.SessionEnds.{SessionEnds}
 
 -- where both ends are closed
@@ -11,7 +11,7 @@ abbrev pub may_connect : List Seat → SessionEnds → Bool
 may_connect seats e = not (live_at seats e.near) && not (live_at seats e.far)
 
 -- a node opens its end
-pub record Opens (seats : List Seat) (p : Place) (after : List Seat) : Type 0 where
+pub record Opens (seats : List Seat) (p : SessionPlace) (after : List Seat) : Type 0 where
   pub node : Seat
   pub takes : Takes (seat seats p.node) node (Opened p.session)
   pub is : after ≡ with_seat p.node node seats

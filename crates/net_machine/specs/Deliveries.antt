@@ -4,9 +4,9 @@ use denote.Bor.{Bor}
 use Rattle.std.specs.List.{concat}
 use Rattle.ov_link.specs.declared.step.Input.{Input}
 use Rattle.ov_link.specs.declared.step.Input.TheVariants.{Bytes, Closed}
-use Rattle.net_model.specs.Seats.{Seat, kept_at, link_at, live_at, notice_at, seat}
-use Rattle.net_model.specs.Steps.{Takes, cleared, untaken, with_link, with_notice, with_seat}
-use Rattle.net_model.specs.declared.place.Place.{Place}
+use Rattle.running_model.specs.Seats.{Seat, kept_at, link_at, live_at, notice_at, seat}
+use Rattle.running_model.specs.Steps.{Takes, cleared, untaken, with_link, with_notice, with_seat}
+use Rattle.running_model.specs.declared.place.SessionPlace.{SessionPlace}
 use Rattle.net_machine.specs.declared.ends.SessionEnds.{SessionEnds}
 
 -- a node takes an input, and the sessions of which it closed its end go down
@@ -16,7 +16,7 @@ pub record TakesAt (seats : List Seat) (k : ℕ) (input : Input) (after : List S
   pub is : after ≡ cleared (with_seat k node seats) k
 
 -- it takes these octets on a session
-pub record TakesOctets (seats : List Seat) (p : Place) (octets : List ℕ) (after : List Seat) : Type 0 where
+pub record TakesOctets (seats : List Seat) (p : SessionPlace) (octets : List ℕ) (after : List Seat) : Type 0 where
   pub bytes : Bor (List ℕ)
   pub are : bytes.now ≡ octets
   pub takes : TakesAt seats p.node (Bytes p.session bytes) after

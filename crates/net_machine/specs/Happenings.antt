@@ -11,15 +11,15 @@ use Rattle.config_check.specs.Edits.{edit_fault}
 use Rattle.config_check.specs.declared.edits.EditFault.{EditFault}
 use Rattle.schedule_script.specs.declared.answer.Answer.{Answer}
 use Rattle.schedule_script.specs.declared.answer.Answer.TheVariants.{Did, Idle, Rounds, Shown, Traced}
-use Rattle.network_model.specs.Setup.{longest_in}
-use Rattle.network_model.specs.Events.{edit_answer, unless}
-use Rattle.net_model.specs.Seats.{Seat, seat, seat_named}
-use Rattle.net_model.specs.Steps.{forwarders_of, shown_by, with_break_at}
-use Rattle.net_steps.specs.Editing.{MakesEdit}
+use Rattle.machine_model.specs.Setup.{longest_in}
+use Rattle.machine_model.specs.Events.{edit_answer, unless}
+use Rattle.running_model.specs.Seats.{Seat, seat, seat_named}
+use Rattle.running_model.specs.Steps.{forwarders_of, shown_by, with_break_at}
+use Rattle.running_step_laws.specs.Editing.{MakesEdit}
 use Rattle.net_machine.specs.declared.ends.SessionEnds.{SessionEnds}
 use Rattle.net_machine.specs.Connections.{Connects, may_connect}
 use Rattle.net_machine.specs.Deliveries.{DeliversMany, DeliversOctets}
-use Rattle.net_steps.specs.Losing.{restarted}
+use Rattle.running_step_laws.specs.Losing.{restarted}
 use Rattle.net_machine.specs.Losses.{lost}
 use Rattle.net_machine.specs.Rounds.{IsRound}
 use Rattle.net_machine.specs.Seating.{ends_of, is_down, is_earlier, turned, waiting}

@@ -14,4 +14,4 @@ pub mod Shown
 pub mod Running
 pub mod Codes
 pub mod Looking
-pub use Rattle.tied_laws.specs.Runs
+pub use Rattle.schedule_tied_laws.specs.Runs

@@ -5,8 +5,8 @@ use Rattle.ov_types.specs.First.{same_name}
 use Rattle.ov_types.specs.declared.rows.NodeId.{NodeId}
 use Rattle.config_model.specs.declared.topology.Topology.{Topology}
 use Rattle.node_model.specs.Paths.{Holdings}
-use Rattle.network_model.specs.Setup.{Name}
-use Rattle.network_model.specs.Network.{Network, control_holdings, views_of}
+use Rattle.machine_model.specs.Setup.{Name}
+use Rattle.machine_model.specs.Network.{Network, control_holdings, views_of}
 
 -- a control node of a topology has the name
 abbrev pub is_control_node : Topology → Name → Bool

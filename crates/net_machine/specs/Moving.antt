@@ -14,13 +14,13 @@ use Rattle.config_model.specs.declared.event.Event.{Event}
 use Rattle.config_model.specs.declared.event.Event.TheVariants as event
 use Rattle.config_model.specs.declared.topology.Node.{Node}
 use Rattle.config_model.specs.declared.topology.Topology.{Topology}
-use Rattle.network_model.specs.Setup.{Move, Name, id_of, moves}
-use Rattle.network_model.specs.Session.{Agent}
-use Rattle.net_model.specs.Controls.{Controls, first_agent}
-use Rattle.net_model.specs.Moving.{is_listed_who, joined}
-use Rattle.net_model.specs.Seats.{Who, Configuring, Controlling, Forwarding, Seat, other, role_of, seat, seat_named}
-use Rattle.net_model.specs.Seats.{session_with}
-use Rattle.net_model.specs.declared.place.Place.{Place}
+use Rattle.machine_model.specs.Setup.{Move, Name, id_of, moves}
+use Rattle.machine_model.specs.Session.{Agent}
+use Rattle.running_model.specs.Controls.{Controls, first_agent}
+use Rattle.running_model.specs.Moving.{is_listed_who, joined}
+use Rattle.running_model.specs.Seats.{Who, Configuring, Controlling, Forwarding, Seat, other, role_of, seat, seat_named}
+use Rattle.running_model.specs.Seats.{session_with}
+use Rattle.running_model.specs.declared.place.SessionPlace.{SessionPlace}
 use Rattle.net_machine.specs.declared.editing.Moved.{Moved}
 use Rattle.net_machine.specs.declared.editing.Moved.TheVariants.{Yes, No}
 
@@ -37,7 +37,7 @@ pub record HasAgent (seats : List Seat) (agent control : Name) : Type 0 where
   pub alone : (i : ℕ) → other (seat seats node) i ≡ Some agent → i ≡ session
 
 -- its end of that session
-pub record IsAgentPlace (seats : List Seat) (agent : Name) (p : Place) : Type 0 where
+pub record IsAgentPlace (seats : List Seat) (agent : Name) (p : SessionPlace) : Type 0 where
   pub node : p.node < length seats
   pub controls : Controls
   pub who : (seat seats p.node).who ≡ Controlling controls

@@ -6,11 +6,11 @@ use Rattle.config_model.specs.Event.{has_event_form}
 use Rattle.config_model.specs.declared.event.Event.{Event}
 use Rattle.config_ties.specs.Kept.{AreAlike, Kept, ties_in}
 use Rattle.headline_laws.specs.Headline.{IsWritten}
-use Rattle.network_model.specs.Setup.{checked}
-use Rattle.network_model.specs.Setup.{opening as opening_setup}
-use Rattle.net_model.specs.Seats.{Seat}
-use Rattle.net_model.specs.Stands.{StandsFor}
-use Rattle.tied_laws.specs.Runs.{tied_moment}
+use Rattle.machine_model.specs.Setup.{checked}
+use Rattle.machine_model.specs.Setup.{opening as opening_setup}
+use Rattle.running_model.specs.Seats.{Seat}
+use Rattle.running_model.specs.Stands.{StandsFor}
+use Rattle.schedule_tied_laws.specs.Runs.{tied_moment}
 use Rattle.net_machine.specs.declared.ends.SessionEnds.{SessionEnds}
 use Rattle.net_machine.specs.Seating.{order_of}
 

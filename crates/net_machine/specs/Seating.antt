@@ -8,23 +8,23 @@ use Rattle.std.specs.List.{filter_map}
 use Rattle.ov_types.specs.declared.rows.NodeId.{NodeId}
 use Rattle.config_model.specs.declared.topology.Topology.{Topology}
 use Rattle.config_check.specs.Checked.{Checked}
-use Rattle.network_model.specs.Setup.{Name}
-use Rattle.network_model.specs.Session.{Session, Controller}
-use Rattle.network_model.specs.Network.{asked, between}
-use Rattle.net_model.specs.Seats.{Configuring, Seat, far_of, link_at, name_of, notice_at, other, others_of}
-use Rattle.net_model.specs.Seats.{place_of, seat, whole_at}
-use Rattle.net_model.specs.Stands.{IsLong}
-use Rattle.net_model.specs.declared.place.Place.{Place}
+use Rattle.machine_model.specs.Setup.{Name}
+use Rattle.machine_model.specs.Session.{Session, Controller}
+use Rattle.machine_model.specs.Network.{asked, between}
+use Rattle.running_model.specs.Seats.{Configuring, Seat, far_of, link_at, name_of, notice_at, other, others_of}
+use Rattle.running_model.specs.Seats.{place_of, seat, whole_at}
+use Rattle.running_model.specs.Stands.{IsLong}
+use Rattle.running_model.specs.declared.place.SessionPlace.{SessionPlace}
 use Rattle.net_machine.specs.declared.ends.SessionEnds.{SessionEnds}
 
 -- ---- places
 -- a place that there is
-pub record IsSeated (seats : List Seat) (p : Place) : Type 0 where
+pub record IsSeated (seats : List Seat) (p : SessionPlace) : Type 0 where
   pub node : p.node < length seats
   pub session : p.session < length (seat seats p.node).posts
 
 -- somebody is at the other end of its session
-abbrev pub HasOther : List Seat → Place → Type 0
+abbrev pub HasOther : List Seat → SessionPlace → Type 0
 HasOther seats p = (name : Name) × (other (seat seats p.node) p.session ≡ Some name)
 
 pub record AreSeated (seats : List Seat) (e : SessionEnds) : Type 0 where
@@ -52,10 +52,10 @@ pub record Keeps (seats after : List Seat) : Type 0 where
   pub long : AreLong after
 
 -- ---- sessions, by their two ends
-abbrev pub ends_from : Place → Option Place → Option SessionEnds
-ends_from p far = option_map (λ (q : Place). record { near = p; far = q }) far
+abbrev pub ends_from : SessionPlace → Option SessionPlace → Option SessionEnds
+ends_from p far = option_map (λ (q : SessionPlace). record { near = p; far = q }) far
 
-abbrev pub ends_at : List Seat → Option Place → Option SessionEnds
+abbrev pub ends_at : List Seat → Option SessionPlace → Option SessionEnds
 ends_at seats None = None
 ends_at seats (Some p) = ends_from p (far_of seats p)
 
@@ -78,7 +78,7 @@ order_of seats t = order_among seats (asked t)
 abbrev pub turned : SessionEnds → SessionEnds
 turned e = record { near = e.far; far = e.near }
 
-abbrev pub same_place : Place → Place → Bool
+abbrev pub same_place : SessionPlace → SessionPlace → Bool
 same_place p q = (p.node == q.node) && (p.session == q.session)
 
 abbrev pub same_ends : SessionEnds → SessionEnds → Bool

@@ -1,17 +1,17 @@
 //! What follows a node's step: sessions of which it closed its end go down, and what was sent on sessions that are down
 //! is discarded.
 ghost use Rattle.std.specs.Prelude.{◌≡◌, ◌<◌, [], false, length};
-ghost use Rattle.net_model.specs.Seats as seats_of;
-ghost use Rattle.net_model.specs.Steps.{cleared, cleared_at, told_of_loss, with_link, with_notice};
+ghost use Rattle.running_model.specs.Seats as seats_of;
+ghost use Rattle.running_model.specs.Steps.{cleared, cleared_at, told_of_loss, with_link, with_notice};
 ghost use Rattle.net_machine.specs.Seating.{AreLong, IsSeated, Keeps};
 
 use crate::ends::is_whole;
 use crate::lose::{clear, set_notice, tell_of_loss};
-use net_model::Place;
-use net_seats::Nodes;
+use running_model::SessionPlace;
+use running_nodes::Nodes;
 
 /// Whether the other end of a session is live, with no notice.
-fn is_whole_there(nodes: &Nodes, place: Place) -> bool
+fn is_whole_there(nodes: &Nodes, place: SessionPlace) -> bool
     requires long { AreLong nodes.now.seats }
     requires seated { IsSeated nodes.now.seats place }
     ensures { result ≡ seats_of.whole_there nodes.now.seats (seats_of.far_of nodes.now.seats place) }
@@ -23,7 +23,7 @@ fn is_whole_there(nodes: &Nodes, place: Place) -> bool
 }
 
 /// Whether the session of a place is down.
-fn is_down_at(nodes: &Nodes, place: Place) -> bool
+fn is_down_at(nodes: &Nodes, place: SessionPlace) -> bool
     requires long { AreLong nodes.now.seats }
     requires seated { IsSeated nodes.now.seats place }
     ensures { result ≡ seats_of.is_down_at nodes.now.seats place }
@@ -32,7 +32,7 @@ fn is_down_at(nodes: &Nodes, place: Place) -> bool
 }
 
 /// At an end that is not live no notice waits and nothing is in flight, and the other end is told of the loss.
-fn close(nodes: &mut Nodes, place: Place)
+fn close(nodes: &mut Nodes, place: SessionPlace)
     requires long { AreLong nodes.old.seats }
     requires seated { IsSeated nodes.old.seats place }
     ensures closed { nodes.new.seats ≡ told_of_loss (with_notice place false (with_link place [] nodes.old.seats))
@@ -46,7 +46,7 @@ fn close(nodes: &mut Nodes, place: Place)
 }
 
 /// What left a live end is taken out, where its session is down. One that is not live is closed.
-fn clear_at(nodes: &mut Nodes, place: Place)
+fn clear_at(nodes: &mut Nodes, place: SessionPlace)
     requires long { AreLong nodes.old.seats }
     requires seated { IsSeated nodes.old.seats place }
     ensures cleared { nodes.new.seats ≡ cleared_at nodes.old.seats place }
@@ -70,6 +70,6 @@ pub(crate) fn clear_node(nodes: &mut Nodes, node: u16)
 {
     let sessions = nodes.sessions(node);
     for session in 0..sessions {
-        clear_at(nodes, Place { node, session });
+        clear_at(nodes, SessionPlace { node, session });
     }
 }

@@ -1,16 +1,16 @@
 //! Connections.
 ghost use Rattle.std.specs.Prelude.{◌≡◌, false, IfOk};
 ghost use Rattle.std.specs.List.{All};
-ghost use Rattle.net_model.specs.Seats.{live_at};
+ghost use Rattle.running_model.specs.Seats.{live_at};
 ghost use Rattle.net_machine.specs.Connections.{Connects, ConnectsAll, ConnectsAt, Opens, OpensFar, may_connect};
 ghost use Rattle.net_machine.specs.Seating.{AreLong, AreSeated, HasOther, IsSeated, Keeps};
 
 use crate::clear::clear_node;
 use crate::ends::SessionEnds;
-use net_model::Place;
-use net_seats::Nodes;
 use ov_link::Input;
 use ov_types::NoMemory;
+use running_model::SessionPlace;
+use running_nodes::Nodes;
 
 /// Whether both ends are closed.
 pub(crate) fn may_connect(nodes: &Nodes, ends: SessionEnds) -> bool
@@ -21,7 +21,7 @@ pub(crate) fn may_connect(nodes: &Nodes, ends: SessionEnds) -> bool
 }
 
 /// A node opens its end of a session that is somebody's.
-fn open(nodes: &mut Nodes, place: Place) -> Result<(), NoMemory>
+fn open(nodes: &mut Nodes, place: SessionPlace) -> Result<(), NoMemory>
     requires long { AreLong nodes.old.seats }
     requires seated { IsSeated nodes.old.seats place }
     requires somebody { HasOther nodes.old.seats place }

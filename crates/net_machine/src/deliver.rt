@@ -1,16 +1,16 @@
 //! Deliveries.
 ghost use Rattle.std.specs.Prelude.{◌≡◌, ◌<◌, drop, length, true, false, IfOk, Some};
 ghost use Rattle.node_core.specs.Whole.{Comes, session_of};
-ghost use Rattle.network_model.specs.Setup.{Name as NameOf};
-ghost use Rattle.net_model.specs.Seats.{is_live, other, seat};
+ghost use Rattle.machine_model.specs.Setup.{Name as NameOf};
+ghost use Rattle.running_model.specs.Seats.{is_live, other, seat};
 ghost use Rattle.net_machine.specs.Deliveries.{Delivers, DeliversMany, DeliversOctets, TakesAt};
 ghost use Rattle.net_machine.specs.Seating.{AreLong, AreSeated, Keeps};
 
 use crate::clear::clear_node;
 use crate::ends::{SessionEnds, waiting};
-use net_seats::Nodes;
 use ov_link::Input;
 use ov_types::NoMemory;
+use running_nodes::Nodes;
 use std::alloc::Global;
 
 /// A node takes an input on a session that is somebody's, and the sessions of which it closed its end go down.

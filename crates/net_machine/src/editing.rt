@@ -3,10 +3,10 @@ ghost use Rattle.std.specs.Prelude.{◌≡◌, IfOk, None};
 ghost use Rattle.config_check.specs.Checked.{Checked};
 ghost use Rattle.config_check.specs.Edits.{edited};
 ghost use Rattle.config_model.specs.declared.edit.Object.TheVariants as objects;
-ghost use Rattle.network_model.specs.Setup.{delete_moves, moves, put_moves};
-ghost use Rattle.net_model.specs.Moving.{MovesIf};
-ghost use Rattle.net_model.specs.Seats.{Configuring, seat};
-ghost use Rattle.net_steps.specs.Editing.{MakesEdit};
+ghost use Rattle.machine_model.specs.Setup.{delete_moves, moves, put_moves};
+ghost use Rattle.running_model.specs.Moving.{MovesIf};
+ghost use Rattle.running_model.specs.Seats.{Configuring, seat};
+ghost use Rattle.running_step_laws.specs.Editing.{MakesEdit};
 ghost use Rattle.net_machine.specs.Moving.{CanMoveIf, did_move};
 ghost use Rattle.net_machine.specs.Seating.{AreLong, IsConfigured, Keeps};
 
@@ -14,8 +14,8 @@ use crate::clear::clear_node;
 use crate::moving::{move_node, stands};
 use config_check::Valid;
 use config_model::{Edit, Node, Object, ObjectKind, Topology};
-use net_seats::Nodes;
 use ov_types::{Name, NoMemory};
+use running_nodes::Nodes;
 use std::alloc::Global;
 
 /// Whether an edit moved a compute node: then the sessions of the network are others.

@@ -1,18 +1,18 @@
 //! The sessions of a network, by their two ends.
 ghost use Rattle.std.specs.Prelude.{◌≡◌, IfSome};
-ghost use Rattle.net_model.specs.Seats.{whole_at};
+ghost use Rattle.running_model.specs.Seats.{whole_at};
 ghost use Rattle.net_machine.specs.Seating.{AreLong, AreSeated, IsSeated, ends_of, is_down, is_earlier, same_ends};
 ghost use Rattle.net_machine.specs.Seating.{same_place, turned, waiting};
 
-use net_model::Place;
-use net_seats::Nodes;
 use ov_types::Name;
+use running_model::SessionPlace;
+use running_nodes::Nodes;
 
 /// A session, by its two ends.
 #[derive(Clone, Copy, PartialEq, Eq)]
 pub struct SessionEnds {
-    pub near: Place,
-    pub far: Place,
+    pub near: SessionPlace,
+    pub far: SessionPlace,
 }
 
 /// As the other end sees it.
@@ -40,7 +40,7 @@ pub(crate) fn ends_of(nodes: &Nodes, a: &Name, b: &Name) -> Option<SessionEnds>
     Some(SessionEnds { near, far })
 }
 
-fn same_place(a: Place, b: Place) -> bool
+fn same_place(a: SessionPlace, b: SessionPlace) -> bool
     ensures { result ≡ same_place a b }
 {
     a.node == b.node && a.session == b.session
@@ -68,7 +68,7 @@ pub(crate) fn is_earlier(order: &[SessionEnds], ends: SessionEnds) -> bool
 }
 
 /// Whether an end is live, with no notice.
-pub(crate) fn is_whole(nodes: &Nodes, place: Place) -> bool
+pub(crate) fn is_whole(nodes: &Nodes, place: SessionPlace) -> bool
     requires { IsSeated nodes.now.seats place }
     ensures { result ≡ whole_at nodes.now.seats place }
 {

@@ -3,14 +3,14 @@ ghost use Rattle.std.specs.Prelude.{◌≡◌, ◌≤◌, max, length, option_co
 ghost use Rattle.acl_compile.specs.Bounds.{KeepsBounds};
 ghost use Rattle.chain_expand.specs.Expansion.{expansion};
 ghost use Rattle.transform_model.specs.Uses.{network_at, use_between, use_by, uses_of};
-ghost use Rattle.network_model.specs.Setup.{longest_in, longest_of};
+ghost use Rattle.machine_model.specs.Setup.{longest_in, longest_of};
 ghost use Rattle.net_machine.specs.Longest.{services_in};
 
 use chain_expand::expand_straight;
 use config_check::{Valid, network_named};
 use config_model::{Action, Config, End, Network, Policy, Rule};
-use network_rules::attaches;
 use ov_types::Name;
+use policy_rules::attaches;
 
 /// How many services a chain gives.
 fn services_of(config: &Config, chain: &Name) -> u32

@@ -1,9 +1,9 @@
 //! The control nodes of a network that runs.
 ghost use Rattle.std.specs.Prelude.{◌≡◌, false, is_some, option_copied, IfSome};
 ghost use Rattle.control_node.specs.Core.{holdings};
-ghost use Rattle.net_seats.specs.Cores.{present};
-ghost use Rattle.quiet_laws.specs.Quiet.{SameButQuiet};
-ghost use Rattle.tied_laws.specs.Runs.{tied_moment};
+ghost use Rattle.running_nodes.specs.Cores.{present};
+ghost use Rattle.control_quiet_laws.specs.Quiet.{SameButQuiet};
+ghost use Rattle.schedule_tied_laws.specs.Runs.{tied_moment};
 ghost use Rattle.net_machine.specs.Looking.{held_at, is_control_node};
 
 use crate::net::Net;

@@ -1,17 +1,17 @@
 //! Lost sessions, and nodes that restart.
 ghost use Rattle.std.specs.Prelude.{◌≡◌, ◌<◌, [], length, false};
-ghost use Rattle.net_model.specs.Seats as seats_of;
-ghost use Rattle.net_model.specs.Steps.{told_of_loss, with_link, with_notice};
-ghost use Rattle.net_steps.specs.Losing.{cut, restarted};
+ghost use Rattle.running_model.specs.Seats as seats_of;
+ghost use Rattle.running_model.specs.Steps.{told_of_loss, with_link, with_notice};
+ghost use Rattle.running_step_laws.specs.Losing.{cut, restarted};
 ghost use Rattle.net_machine.specs.Losses.{lost};
 ghost use Rattle.net_machine.specs.Seating.{AreLong, AreSeated, IsSeated, Keeps};
 
 use crate::ends::{SessionEnds, is_down};
-use net_model::Place;
-use net_seats::Nodes;
+use running_model::SessionPlace;
+use running_nodes::Nodes;
 
 /// Whether a notice waits at an end from now on.
-pub(crate) fn set_notice(nodes: &mut Nodes, place: Place, waits: bool)
+pub(crate) fn set_notice(nodes: &mut Nodes, place: SessionPlace, waits: bool)
     requires long { AreLong nodes.old.seats }
     requires seated { IsSeated nodes.old.seats place }
     ensures set { nodes.new.seats ≡ with_notice place waits nodes.old.seats }
@@ -22,7 +22,7 @@ pub(crate) fn set_notice(nodes: &mut Nodes, place: Place, waits: bool)
 }
 
 /// Takes out all messages that left an end.
-pub(crate) fn clear(nodes: &mut Nodes, place: Place)
+pub(crate) fn clear(nodes: &mut Nodes, place: SessionPlace)
     requires long { AreLong nodes.old.seats }
     requires seated { IsSeated nodes.old.seats place }
     ensures cleared { nodes.new.seats ≡ with_link place [] nodes.old.seats }
@@ -60,7 +60,7 @@ pub(crate) fn lose(nodes: &mut Nodes, ends: SessionEnds)
 }
 
 /// The other end of a session is told of its loss, where it is live, and what left it is gone.
-pub(crate) fn tell_of_loss(nodes: &mut Nodes, place: Place)
+pub(crate) fn tell_of_loss(nodes: &mut Nodes, place: SessionPlace)
     requires long { AreLong nodes.old.seats }
     requires seated { IsSeated nodes.old.seats place }
     ensures told { nodes.new.seats
@@ -87,6 +87,6 @@ pub(crate) fn restart(nodes: &mut Nodes, node: u16)
     let sessions = nodes.sessions(node);
     nodes.restart(node);
     for session in 0..sessions {
-        tell_of_loss(nodes, Place { node, session });
+        tell_of_loss(nodes, SessionPlace { node, session });
     }
 }

@@ -2,20 +2,20 @@
 ghost use Rattle.std.specs.Prelude.{◌≡◌, ◌<◌, ◌≤◌, ◌+◌, length, option_copied, IfOk, Some};
 ghost use Rattle.config_check.specs.Checked.{Checked};
 ghost use Rattle.config_check.specs.Finding.{node_named};
-ghost use Rattle.network_model.specs.Setup.{listed_by, stands};
-ghost use Rattle.net_model.specs.Moving.{LeavesAll, LeavesAt, Moves, came};
-ghost use Rattle.net_model.specs.Seats as seats_of;
-ghost use Rattle.net_model.specs.Seats.{Configuring, seat};
-ghost use Rattle.net_model.specs.Steps.{with_seat};
+ghost use Rattle.machine_model.specs.Setup.{listed_by, stands};
+ghost use Rattle.running_model.specs.Moving.{LeavesAll, LeavesAt, Moves, came};
+ghost use Rattle.running_model.specs.Seats as seats_of;
+ghost use Rattle.running_model.specs.Seats.{Configuring, seat};
+ghost use Rattle.running_model.specs.Steps.{with_seat};
 ghost use Rattle.net_machine.specs.Moving.{AreLeft, CanMove, HasAgent, HasControls, HasRoom, IsAgentPlace};
 ghost use Rattle.net_machine.specs.Moving.{came_seat, control_name};
 ghost use Rattle.net_machine.specs.Seating.{AreLong};
 
 use crate::clear::clear_node;
 use config_model::{Node, Topology};
-use net_model::Place;
-use net_seats::{Nodes, lists};
 use ov_types::{Name, NoMemory, NodeId};
+use running_model::SessionPlace;
+use running_nodes::{Nodes, lists};
 use std::alloc::Global;
 
 /// The compute node of a name.
@@ -62,7 +62,7 @@ fn copied(alloc: Global, names: &[Name]) -> Result<Vec<Name>, NoMemory>
 }
 
 /// An agent goes from the control node of this end. The sessions of which that closed its end go down.
-fn leave_at(nodes: &mut Nodes, place: Place, name: &Name) -> Result<(), NoMemory>
+fn leave_at(nodes: &mut Nodes, place: SessionPlace, name: &Name) -> Result<(), NoMemory>
     requires long { AreLong nodes.old.seats }
     requires agent { IsAgentPlace nodes.old.seats name.now place }
     ensures leaves { IfOk result (λ _. LeavesAt name.now (Some place.node) nodes.old.seats nodes.new.seats) }

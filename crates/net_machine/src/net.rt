@@ -4,18 +4,18 @@ ghost use Rattle.report.specs.Answers.{IsAnswerTo};
 ghost use Rattle.config_model.specs.Event.{has_event_form};
 ghost use Rattle.config_ties.specs.Kept.{AreAlike, ties_in};
 ghost use Rattle.config_ties.specs.Tying.{ties_of};
-ghost use Rattle.network_model.specs.Events.{event_of};
-ghost use Rattle.network_model.specs.Setup.{checked};
-ghost use Rattle.network_model.specs.Setup.{opening as opening_setup};
-ghost use Rattle.network_model.specs.Steps.{is_settled};
-ghost use Rattle.compiled_laws.specs.Moments.{SettlesInTime};
-ghost use Rattle.net_model.specs.Seats.{whos};
-ghost use Rattle.net_model.specs.Stands.{StandsFor, message_size};
-ghost use Rattle.net_model.specs.Steps.{fresh_seat};
-ghost use Rattle.tied_answers.specs.Answers.{OfAnswer};
-ghost use Rattle.tied_laws.specs.Compiled.{EndsAtOnce, IsAsCompiled};
-ghost use Rattle.tied_laws.specs.Isolated.{DeliversSoFar, DeliversTied};
-ghost use Rattle.tied_laws.specs.Runs.{answer_tied, tied_moment};
+ghost use Rattle.machine_model.specs.Events.{event_of};
+ghost use Rattle.machine_model.specs.Setup.{checked};
+ghost use Rattle.machine_model.specs.Setup.{opening as opening_setup};
+ghost use Rattle.machine_model.specs.Steps.{is_settled};
+ghost use Rattle.machine_compiled_laws.specs.Moments.{SettlesInTime};
+ghost use Rattle.running_model.specs.Seats.{whos};
+ghost use Rattle.running_model.specs.Stands.{StandsFor, message_size};
+ghost use Rattle.running_model.specs.Steps.{fresh_seat};
+ghost use Rattle.schedule_ties.specs.Answers.{OfAnswer};
+ghost use Rattle.schedule_tied_laws.specs.Compiled.{EndsAtOnce, IsAsCompiled};
+ghost use Rattle.schedule_tied_laws.specs.Isolated.{DeliversSoFar, DeliversTied};
+ghost use Rattle.schedule_tied_laws.specs.Runs.{answer_tied, tied_moment};
 ghost use Rattle.net_machine.specs.Shown.{ShowsCompiled};
 ghost use Rattle.net_machine.specs.Tying.{OfTie};
 
@@ -26,11 +26,11 @@ use crate::tying::happen_tied;
 use config_check::Valid;
 use config_model::Event;
 use config_ties::Ties;
-use net_seats::Nodes;
 use ov_types::{Items, NoMemory};
+use running_nodes::Nodes;
+use schedule_ties::TiedAnswer;
 use std::alloc::Global;
 use std::marker::Model;
-use tied_answers::TiedAnswer;
 
 /// The nodes of a topology over queue links, with the events that they took. Contracts see the opening configuration,
 /// the ties of the configurations so far, the events, the nodes' seats, and whether memory was wanting in an event: after

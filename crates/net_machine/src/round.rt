@@ -6,8 +6,8 @@ ghost use Rattle.net_machine.specs.Seating.{AreLong, AreSeated, Keeps, turned as
 
 use crate::deliver::deliver;
 use crate::ends::{SessionEnds, turned, waiting};
-use net_seats::Nodes;
 use ov_types::NoMemory;
+use running_nodes::Nodes;
 use std::alloc::Global;
 
 /// What waits towards the near end of a session as a round begins: whether it is a notice, and how many there are.

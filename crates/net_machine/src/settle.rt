@@ -1,15 +1,15 @@
 //! Settling.
 ghost use Rattle.std.specs.Prelude.{◌≡◌, ◌≤◌, ◌<◌, ◌+◌, ◌^◌, map, IfOk};
 ghost use Rattle.std.specs.List.{All};
-ghost use Rattle.net_model.specs.Steps.{unbroken};
+ghost use Rattle.running_model.specs.Steps.{unbroken};
 ghost use Rattle.net_machine.specs.Seating.{AreLong, AreSeated, Keeps};
 ghost use Rattle.net_machine.specs.Settling.{RoundsFrom, Settles, is_quiet, is_rested, is_settled, is_still};
 
 use crate::connect::connect_all;
 use crate::ends::{SessionEnds, turned, waiting};
 use crate::round::round;
-use net_seats::Nodes;
 use ov_types::NoMemory;
+use running_nodes::Nodes;
 use std::alloc::Global;
 
 /// Whether nothing is in flight on a session.

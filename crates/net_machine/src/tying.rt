@@ -7,10 +7,10 @@ ghost use Rattle.config_check.specs.Edits.{edited};
 ghost use Rattle.config_model.specs.Edit.{has_edit_form};
 ghost use Rattle.config_model.specs.Event.{has_event_form};
 ghost use Rattle.config_model.specs.declared.event.Event.TheVariants as written;
-ghost use Rattle.net_model.specs.Seats.{Configuring, seat};
-ghost use Rattle.net_steps.specs.Editing.{MakesEdit};
-ghost use Rattle.tied_answers.specs.Answers.{OfAnswer};
-ghost use Rattle.network_model.specs.Setup.{moves};
+ghost use Rattle.running_model.specs.Seats.{Configuring, seat};
+ghost use Rattle.running_step_laws.specs.Editing.{MakesEdit};
+ghost use Rattle.schedule_ties.specs.Answers.{OfAnswer};
+ghost use Rattle.machine_model.specs.Setup.{moves};
 ghost use Rattle.net_machine.specs.Moving.{CanHappen, CanMoveIf};
 ghost use Rattle.net_machine.specs.Seating.{AreLong, AreSeated, IsConfigured};
 ghost use Rattle.net_machine.specs.Tying.{HappensTied, IsFound, Orders, OrdersAs, OrdersThen};
@@ -22,11 +22,11 @@ use crate::order::order_of;
 use config_check::{EditFault, Valid};
 use config_model::{Edit, Event};
 use config_ties::{Tie, TiedFault, TiedRefusal, Ties, apply_tied_edit};
-use net_seats::Nodes;
 use ov_types::NoMemory;
+use running_nodes::Nodes;
 use schedule_script::Answer;
+use schedule_ties::TiedAnswer;
 use std::alloc::Global;
-use tied_answers::TiedAnswer;
 
 /// What is found of an edit.
 #[derive(Drop)]

@@ -9,7 +9,7 @@ use Rattle.ov_link.specs.declared.step.Stepped.{Stepped}
 use Rattle.ov_link.specs.declared.step.Stepped.TheVariants.{Done, Closed}
 use Rattle.ov_link.specs.declared.step.NodeFault.{NodeFault}
 use Rattle.ov_link.specs.declared.step.NodeFault.TheVariants.{NoMemory}
-use Rattle.node_model.specs.Step.{Begun, Kind, Post}
+use Rattle.node_model.specs.Step.{Beginning, NodeKind, Post}
 use Rattle.node_core.specs.Answers.{answer}
 use Rattle.node_core.specs.Whole.{IsWholeStep}
 
@@ -24,9 +24,9 @@ module _ {C : Type 0} where
   answered session (Some c) = refl
 
 module _ {L C : Type 0} (accepted : L → Option (List (List ℕ))) (breaks : L → Option (List ℕ)) (faults : L → ℕ)
-    (k : Kind) (Begins : Begun → Option C → Type 0) (posts after : List Post) (session : ℕ) (links left : List L) where
+    (k : NodeKind) (Begins : Beginning → Option C → Type 0) (posts after : List Post) (session : ℕ) (links left : List L) where
   -- a cause that no input brings closes no session
-  pub never_closed : (c : C) → ((given : Begun) (cause : Option C) → Begins given cause → cause ≢ Some c)
+  pub never_closed : (c : C) → ((given : Beginning) (cause : Option C) → Begins given cause → cause ≢ Some c)
       → (result : Result (Stepped C) NodeFault)
       → (result ≢ Err NoMemory → IsWholeStep accepted breaks faults k Begins posts after session links left result)
       → (s : ℕ) → result ≢ Ok (Closed s c)

@@ -9,7 +9,7 @@ use Rattle.ov_link.specs.declared.step.Input.{Input}
 use Rattle.ov_link.specs.declared.step.Input.TheVariants as input
 use Rattle.ov_link.specs.declared.step.Stepped.{Stepped}
 use Rattle.ov_link.specs.declared.step.NodeFault.{NodeFault}
-use Rattle.node_model.specs.Step.{Begun, Kind, Post, is_idle, post}
+use Rattle.node_model.specs.Step.{Beginning, NodeKind, Post, is_idle, post}
 use Rattle.node_core.specs.Keeping.{AreFew, AreOfLive, AreSwept, IsBehind, IsSilent, kept_at, left_in, nothing_kept}
 use Rattle.node_core.specs.Resting.{nothings}
 use Rattle.node_core.specs.Whole.{IsWholeStep}
@@ -137,9 +137,9 @@ behind_itself kept (input.Closed session) h = refl
 
 -- ---- a step that begins so begins so too
 module _ {L C : Type 0} (accepted : L → Option (List (List ℕ))) (breaks : L → Option (List ℕ)) (faults : L → ℕ)
-    (k : Kind) (Begins Also : Begun → Option C → Type 0) (posts after : List Post) (session : ℕ) (links left : List L)
+    (k : NodeKind) (Begins Also : Beginning → Option C → Type 0) (posts after : List Post) (session : ℕ) (links left : List L)
     (result : Result (Stepped C) NodeFault) where
-  pub begins_also : ((given : Begun) (cause : Option C) → Begins given cause → Also given cause)
+  pub begins_also : ((given : Beginning) (cause : Option C) → Begins given cause → Also given cause)
       → IsWholeStep accepted breaks faults k Begins posts after session links left result
       → IsWholeStep accepted breaks faults k Also posts after session links left result
   begins_also also w = record {

@@ -11,7 +11,7 @@ use Rattle.std.specs.FinMap.{empty}
 use Rattle.ov_types.specs.Counts.{Rose}
 use Rattle.ov_link.specs.Delivery.{Delivers}
 use Rattle.node_model.specs.Maps.{difference}
-use Rattle.node_model.specs.Step.{At, Begun, Idle, Kind, Post, StepAt, Steps, begun, changes, end_of, nothing, post, told_all}
+use Rattle.node_model.specs.Step.{At, Beginning, Idle, NodeKind, Post, StepAt, Steps, begun, changes, end_of, nothing, post, told_all}
 use Rattle.node_core.specs.declared.ends.Plan.{Plan}
 use Rattle.node_core.specs.Plans.{ArePlans}
 use Rattle.node_core.specs.Passing.{Passes, ServedAt, Serves, closed_if, earlier}
@@ -107,7 +107,7 @@ ends : (fails failed : Bool) (x y : Post) → (fails ≡ true → x ≡ nothing)
 ends true failed x y h e = h refl
 ends false failed x y h e = e
 
-module _ (k : Kind) where
+module _ (k : NodeKind) where
   -- where an idle end may not send, an end that is closed is told nothing
   none_told : (posts : List Post) (i : ℕ) → k.may_send i Idle ≡ false → post posts i ≡ nothing → changes k posts i ≡ []
   none_told posts i silent e =
@@ -121,7 +121,7 @@ module _ (k : Kind) where
       ∙ ap (λ b. if b then record nothing { sent = k.wanted posts i } else nothing) silent
 
   -- how the ends stand as the pass begins
-  begun_is : (fails : Bool) (before posts : List Post) (session : ℕ) (given : Begun)
+  begun_is : (fails : Bool) (before posts : List Post) (session : ℕ) (given : Beginning)
       → posts ≡ set before session (end_of given.after)
       → closed_if fails posts session ≡ begun before session given fails
   begun_is true before posts session given e =
@@ -273,7 +273,7 @@ module _ (k : Kind) where
       )
 
   module _ {L : Type 0} (accepted : L → Option (List (List ℕ))) (breaks : L → Option (List ℕ)) (faults : L → ℕ)
-      (before posts' : List Post) (session : ℕ) (given : Begun) (fails : Bool) (links links' : List L)
+      (before posts' : List Post) (session : ℕ) (given : Beginning) (fails : Bool) (links links' : List L)
       (lowest : Option ℕ) where
     step_at : (i : ℕ)
         → ToldAt accepted breaks faults given.replies
@@ -303,7 +303,7 @@ module _ (k : Kind) where
       pub kept : length posts' ≡ length posts
 
     -- sessions that were told so make a step of the node
-    pub told_steps : (before : List Post) (given : Begun) → HasBegun before session given replies posts → Told
+    pub told_steps : (before : List Post) (given : Beginning) → HasBegun before session given replies posts → Told
         → Steps k accepted breaks faults before posts' session given links links' lowest
     told_steps before given h t =
         let long : length posts ≡ length before = ap length h.applied ∙ length-set before session _ in
@@ -329,7 +329,7 @@ module _ (k : Kind) where
         (λ i lt. t.each i (omega (arith, lt, long)))
 
     -- the replies on one session, plans of this kind of node, and their pass
-    pub told_from : (other : Kind) (fails : Bool) (start planned : List Post) (links1 : List L) (plans passed : List Plan)
+    pub told_from : (other : NodeKind) (fails : Bool) (start planned : List Post) (links1 : List L) (plans passed : List Plan)
         (first : Option ℕ)
         → k.may_send session Idle ≡ false → session < length posts → length links ≡ length posts
         → Serves accepted breaks faults replies fails links links1 session

@@ -6,7 +6,7 @@ use Rattle.ov_link.specs.declared.step.Input.{Input}
 use Rattle.ov_link.specs.declared.step.Input.TheVariants as input
 use Rattle.ov_link.specs.declared.step.Stepped.{Stepped}
 use Rattle.ov_link.specs.declared.step.NodeFault.{NodeFault}
-use Rattle.node_model.specs.Step.{Begun, Kind, Post, Steps}
+use Rattle.node_model.specs.Step.{Beginning, NodeKind, Post, Steps}
 use Rattle.node_core.specs.Answers.{answer, failed_link}
 use Rattle.node_core.specs.Naming.{Names}
 
@@ -24,9 +24,9 @@ Comes IsLive IsIdle (input.Closed session) = IsLive session
 module _ {L : Type 0} (accepted : L → Option (List (List ℕ))) (breaks : L → Option (List ℕ)) (faults : L → ℕ) where
   -- an input makes this of its session, perhaps with a cause for which it goes down; then the step is taken, and
   -- answered by the lowest link that failed, else by the cause
-  pub record IsWholeStep {C : Type 0} (k : Kind) (Begins : Begun → Option C → Type 0) (posts posts' : List Post)
+  pub record IsWholeStep {C : Type 0} (k : NodeKind) (Begins : Beginning → Option C → Type 0) (posts posts' : List Post)
       (session : ℕ) (links links' : List L) (result : Result (Stepped C) NodeFault) : Type 0 where
-    pub given : Begun
+    pub given : Beginning
     pub cause : Option C
     pub begins : Begins given cause
     pub steps : Steps k accepted breaks faults posts posts' session given links links' (failed_link result)

@@ -2,7 +2,7 @@
 ghost use Rattle.std.specs.Prelude.{◌≡◌, ◌<◌, ◌≤◌, ℕ, List, [], true, false, length, slice_set, IfOk};
 ghost use Rattle.std.specs.declared.option.Option.{Option};
 ghost use Rattle.ov_link.specs.declared.step.Input.{Input as Came};
-ghost use Rattle.node_model.specs.Step.{Begun, Kind, Post, nothing, post, Idle};
+ghost use Rattle.node_model.specs.Step.{Beginning, NodeKind, Post, nothing, post, Idle};
 ghost use Rattle.node_core.specs.Begun.{HasBegun};
 ghost use Rattle.node_core.specs.Keeping.{IsBehind, left_in, size_of};
 ghost use Rattle.node_core.specs.Plans.{ArePlans};
@@ -44,7 +44,7 @@ pub trait Ends {
     type Cause: Drop;
 
     /// What kind of node this is: what it wants, where it may send, and how it spells a change.
-    ghost kind: { Self → Kind };
+    ghost kind: { Self → NodeKind };
 
     /// What is kept of each session.
     ghost posts: { Self → List Post };
@@ -54,7 +54,7 @@ pub trait Ends {
 
     /// What an input makes of the end of its session, where these octets were kept of it before: the cause for which it
     /// goes down, and the octets that are left then.
-    ghost begins: { Self → ℕ → Post → List ℕ → Came → Begun → Option Self.Cause → List ℕ → Type 0 };
+    ghost begins: { Self → ℕ → Post → List ℕ → Came → Beginning → Option Self.Cause → List ℕ → Type 0 };
 
     /// How many sessions there are.
     fn sessions(&self) -> u16
@@ -74,7 +74,7 @@ pub trait Ends {
         ensures kept { kind self.new ≡ kind self.old }
         ensures stays { stays self.old self.new }
         ensures long { length (posts self.new) ≡ length (posts self.old) }
-        ensures begins { IfOk result (λ started. (given : Begun)
+        ensures begins { IfOk result (λ started. (given : Beginning)
             × begins self.old (session_of input.entry) (post (posts self.old) (session_of input.entry)) [] input.entry
             given started.cause (left_in input.entry started.taken)
             × HasBegun (posts self.old) (session_of input.entry) given started.replies (posts self.new)) }
@@ -101,7 +101,7 @@ pub trait Ends {
     ghost stays_on: { (first then last : Self) → stays first then → stays then last → stays first last };
 
     /// Octets that are heard behind those that were kept are heard as all of them at once.
-    ghost begins_behind: { (ends : Self) (session : ℕ) (p : Post) (kept : List ℕ) (came whole : Came) (given : Begun)
+    ghost begins_behind: { (ends : Self) (session : ℕ) (p : Post) (kept : List ℕ) (came whole : Came) (given : Beginning)
         (cause : Option Self.Cause) (left : List ℕ) → IsBehind kept came whole
         → begins ends session p [] whole given cause left → begins ends session p kept came given cause left };
 

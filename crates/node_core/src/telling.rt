@@ -1,6 +1,6 @@
 //! The replies of a step, and then one pass over all sessions.
 ghost use Rattle.std.specs.Prelude.{◌≡◌, ◌<◌, List, length, IfOk};
-ghost use Rattle.node_model.specs.Step.{Begun, Post, Steps};
+ghost use Rattle.node_model.specs.Step.{Beginning, Post, Steps};
 ghost use Rattle.node_core.specs.Passing.{Passes, Serves, closed_if, earlier, noted};
 ghost use Rattle.node_core.specs.Begun.{HasBegun};
 ghost use Rattle.node_core.specs.Naming.{Names};
@@ -103,7 +103,7 @@ pub fn tell<E: Ends, L: Link>(
     ensures stays { E.stays ends.old ends.new }
     ensures sessions { length (E.posts ends.new) ≡ length (E.posts ends.old) }
     ensures links { length links.new ≡ length links.old }
-    ensures steps { IfOk result (λ lowest. (before : List Post) (given : Begun)
+    ensures steps { IfOk result (λ lowest. (before : List Post) (given : Beginning)
         → HasBegun before session given replies.now (E.posts ends.old)
         → Steps (E.kind ends.old) L.accepted L.breaks L.faults before (E.posts ends.new) session given links.old
         links.new lowest) }

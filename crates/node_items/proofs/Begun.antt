@@ -10,7 +10,7 @@ use Rattle.item_wire.specs.Happenings.{SessionFields}
 use Rattle.item_wire.specs.Records.{spelling}
 use Rattle.item_wire.specs.declared.event.ItemCause.{ItemCause}
 use Rattle.item_wire.specs.declared.item.Item.TheVariants.{Hello}
-use Rattle.node_model.specs.Step.{Begun, Opened, Phase, Post, end_of, nothing, post}
+use Rattle.node_model.specs.Step.{Beginning, Opened, Phase, Post, end_of, nothing, post}
 use Rattle.node_core.specs.Begun.{HasBegun}
 use Rattle.node_core.specs.Keeping.{IsBehind, left_in}
 use Rattle.node_core.specs.Whole.{session_of}
@@ -21,7 +21,7 @@ use Rattle.node_items.specs.Taking.{HasTaken}
 use Rattle.node_items.proofs.Cutting.{leaves_few}
 
 -- octets that come behind those that were kept are heard as all of them at once
-pub behind : (me : List ℕ) (s : SessionFields) (p : Post) (kept : List ℕ) (came whole : Input) (given : Begun)
+pub behind : (me : List ℕ) (s : SessionFields) (p : Post) (kept : List ℕ) (came whole : Input) (given : Beginning)
     (cause : Option ItemCause) (left : List ℕ) → IsBehind kept came whole
     → BeginsKeeping me s p [] whole given cause left → BeginsKeeping me s p kept came given cause left
 behind me s p kept (In.Bytes i bytes) (In.Bytes j whole) given cause left is b =
@@ -34,7 +34,7 @@ behind me s p kept (In.Closed i) whole given cause left is b =
     subst (λ (w : Input). BeginsKeeping me s p [] w given cause left) is b
 
 -- what is left is no more than a record lacks its last octet
-pub left_few : (me : List ℕ) (s : SessionFields) (p : Post) (kept : List ℕ) (came : Input) (given : Begun)
+pub left_few : (me : List ℕ) (s : SessionFields) (p : Post) (kept : List ℕ) (came : Input) (given : Beginning)
     (cause : Option ItemCause) (left : List ℕ) → BeginsKeeping me s p kept came given cause left → length left ≤ 65539
 left_few me s p kept (In.Opened i) given cause left b = rw b.1 (omega arith)
 left_few me s p kept (In.Bytes i bytes) given cause left b = leaves_few s (kept ++ bytes.now) b.0 left b.1
@@ -44,7 +44,7 @@ left_few me s p kept (In.Closed i) given cause left b = rw b.1 (omega arith)
 module _ (me : List ℕ) (fields : ℕ → Phase → SessionFields) (posts posts' : List Post) (input : Input) where
   abbrev pub BeginsBy : ℕ → Option ItemCause → List (List ℕ) → Type 0
   BeginsBy taken cause replies =
-      (given : Begun)
+      (given : Beginning)
       × BeginsKeeping me (fields (session_of input) (post posts (session_of input)).phase) (post posts (session_of input))
       [] input given cause (left_in input taken)
       × HasBegun posts (session_of input) given replies posts'
@@ -55,7 +55,7 @@ module _ (me : List ℕ) (fields : ℕ → Phase → SessionFields) (posts posts
       → posts' ≡ slice_set posts session (record (post posts session) { phase = Opened })
       → BeginsBy me fields posts posts' input 0 None replies
   begun_opened is hello e =
-      let given : Begun = record {
+      let given : Beginning = record {
         replies = spelling (Hello me) ∷ [];
         after = Some (record (post posts session) { phase = Opened });
       } in
@@ -67,7 +67,7 @@ module _ (me : List ℕ) (fields : ℕ → Phase → SessionFields) (posts posts
       → BeginsBy me fields posts posts' input taken cause replies
   begun_bytes bytes taken cause is none t =
       let s = fields session (post posts session).phase in
-      let given : Begun = record {
+      let given : Beginning = record {
         replies = [];
         after = left_by (post posts session) (heard s t.inputs) (heard s t.inputs).cause;
       } in
@@ -85,6 +85,6 @@ module _ (me : List ℕ) (fields : ℕ → Phase → SessionFields) (posts posts
   pub begun_closed : input ≡ In.Closed session → replies ≡ [] → posts' ≡ slice_set posts session nothing
       → BeginsBy me fields posts posts' input 0 None replies
   begun_closed is none e =
-      let given : Begun = record { replies = []; after = None } in
+      let given : Beginning = record { replies = []; after = None } in
       subst (λ (x : Input). BeginsBy me fields posts posts' x 0 None replies) (sym is)
       (given, ((refl, refl), refl), record { replied = none; applied = e })

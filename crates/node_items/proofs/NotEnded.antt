@@ -22,7 +22,7 @@ use Rattle.item_wire.specs.declared.input.Came.{Came}
 use Rattle.item_wire.specs.declared.input.Came.TheVariants as Comes
 use Rattle.item_wire.specs.declared.item.Item.{Item}
 use Rattle.item_wire.specs.declared.item.Item.TheVariants as I
-use Rattle.node_model.specs.Step.{Begun, Post}
+use Rattle.node_model.specs.Step.{Beginning, Post}
 use Rattle.node_model.proofs.Members.{none_some}
 use Rattle.node_items.specs.Beginning.{Begins, BeginsKeeping}
 use Rattle.node_items.specs.Hearing.{came_with, next_of, GoesOn, Hears, Heard, and_record, heard, cause_in}
@@ -109,14 +109,14 @@ is_other : (cause : ItemCause) → IsOther cause → cause ≢ Cause.Ended
 is_other cause h e = subst IsOther e h
 
 -- an input never closes its session with that cause
-pub never_ended : (me : List ℕ) (s : SessionFields) (p : Post) (came : Input) (given : Begun) (cause : Option ItemCause)
+pub never_ended : (me : List ℕ) (s : SessionFields) (p : Post) (came : Input) (given : Beginning) (cause : Option ItemCause)
     → Begins me s p came given cause → cause ≢ Some Cause.Ended
 never_ended me s p (input.Opened session) given cause h e = absurd (none_some Cause.Ended (sym h.1 ∙ e))
 never_ended me s p (input.Bytes session bytes) given cause h e =
     subst IsOtherIn (sym h.3 ∙ e) (heard_other s bytes.now h.0 h.1)
 never_ended me s p (input.Closed session) given cause h e = absurd (none_some Cause.Ended (sym h.1 ∙ e))
 
-pub never_ended_keeping : (me : List ℕ) (s : SessionFields) (p : Post) (kept : List ℕ) (came : Input) (given : Begun)
+pub never_ended_keeping : (me : List ℕ) (s : SessionFields) (p : Post) (kept : List ℕ) (came : Input) (given : Beginning)
     (cause : Option ItemCause) (left : List ℕ) → BeginsKeeping me s p kept came given cause left
     → cause ≢ Some Cause.Ended
 never_ended_keeping me s p kept (input.Opened session) given cause left h e =

@@ -11,7 +11,7 @@ use Rattle.item_wire.specs.declared.event.ItemState.{ItemState}
 use Rattle.item_wire.specs.declared.event.ItemState.TheVariants as State
 use Rattle.item_wire.specs.declared.input.Came.{Came}
 use Rattle.item_wire.specs.declared.item.Item.TheVariants.{Hello}
-use Rattle.node_model.specs.Step.{Begun, Phase, Idle, Opened, Up, Post}
+use Rattle.node_model.specs.Step.{Beginning, Phase, Idle, Opened, Up, Post}
 use Rattle.node_items.specs.Told.{change_of}
 use Rattle.node_items.specs.Hearing.{Hears, Heard, heard}
 use Rattle.node_items.specs.Keeping.{Leaves}
@@ -33,7 +33,7 @@ left_by p h None = Some (record p { phase = phase_of h.state; held = after p.hel
 left_by p h (Some cause) = None
 
 -- the node of this name opens the end and greets, hears octets on it, or closes it. Nothing is replied to octets
-abbrev pub Begins : List ℕ → SessionFields → Post → Input → Begun → Option ItemCause → Type 0
+abbrev pub Begins : List ℕ → SessionFields → Post → Input → Beginning → Option ItemCause → Type 0
 Begins me s p (input.Opened session) given cause =
     (given ≡ record { replies = spelling (Hello me) ∷ []; after = Some (record p { phase = Opened }) }) × (cause ≡ None)
 Begins me s p (input.Bytes session bytes) given cause =
@@ -44,7 +44,7 @@ Begins me s p (input.Closed session) given cause = (given ≡ record { replies =
 
 -- the same, where these octets were kept of the session before: they are heard again before those that came. And what
 -- is kept of it then
-abbrev pub BeginsKeeping : List ℕ → SessionFields → Post → List ℕ → Input → Begun → Option ItemCause → List ℕ → Type 0
+abbrev pub BeginsKeeping : List ℕ → SessionFields → Post → List ℕ → Input → Beginning → Option ItemCause → List ℕ → Type 0
 BeginsKeeping me s p kept (input.Bytes session bytes) given cause left =
     (inputs : List Came) × Leaves s (kept ++ bytes.now) inputs left
     × (given ≡ record { replies = []; after = left_by p (heard s inputs) (heard s inputs).cause })

@@ -5,7 +5,7 @@ use Rattle.std.specs.declared.option.Option.TheVariants.{None}
 use Rattle.std.proofs.lemmas.Bool.{true≢false, ltb-true}
 use Rattle.std.proofs.lemmas.List.{get_or_past}
 use Rattle.std.proofs.Common.{refl, sym, ◌∙◌, ap, subst, arith}
-use Rattle.node_model.specs.Step.{Begun, Kind, Post, Steps, nothing, post}
+use Rattle.node_model.specs.Step.{Beginning, NodeKind, Post, Steps, nothing, post}
 use Rattle.node_laws.specs.Stepped.{AreTold, HoldTheSame, NoneFailsInPass, Stepped, WantsByHoldings}
 use Rattle.node_laws.proofs.StepFact.{step_is}
 
@@ -13,7 +13,7 @@ abbrev Same : List Post → List Post → ℕ → Type 0
 Same start after i = ((post after i).phase ≡ (post start i).phase) × ((post after i).held ≡ (post start i).held)
 
 module _ {L : Type 0} (accepted : L → Option (List (List ℕ))) (breaks : L → Option (List ℕ)) (faults : L → ℕ)
-    (k : Kind) (posts after : List Post) (session : ℕ) (given : Begun) (links left : List L) (lowest : Option ℕ)
+    (k : NodeKind) (posts after : List Post) (session : ℕ) (given : Beginning) (links left : List L) (lowest : Option ℕ)
     (s : Stepped accepted breaks faults k posts after session given links left lowest)
     (none : NoneFailsInPass (length posts) session s.reply_failed s.failed) where
   -- an end that was closed stood closed as the pass began
@@ -61,7 +61,7 @@ module _ {L : Type 0} (accepted : L → Option (List (List ℕ))) (breaks : L �
 
 -- ---- a whole step in which no link failed
 module _ {L : Type 0} (accepted : L → Option (List (List ℕ))) (breaks : L → Option (List ℕ)) (faults : L → ℕ)
-    (k : Kind) (posts after : List Post) (session : ℕ) (given : Begun) (links left : List L) where
+    (k : NodeKind) (posts after : List Post) (session : ℕ) (given : Beginning) (links left : List L) where
   pub told_where_none_failed : WantsByHoldings k
       → Steps k accepted breaks faults posts after session given links left None → AreTold k after
   told_where_none_failed wants steps =

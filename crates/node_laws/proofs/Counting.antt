@@ -21,7 +21,7 @@ use Rattle.node_model.specs.Keys.{Key, Vpn, Publish, key_cmp}
 use Rattle.node_model.specs.Values.{Value, Object, Route, Entry, Label}
 use Rattle.node_model.specs.Uses.{Use, uses}
 use Rattle.node_model.specs.Paths.{Holdings, Told, Path, own_path, own_paths, IsOwnRoute}
-use Rattle.node_model.specs.Reaching.{Side, sides, sides_of, subnets, hop_at, circuit_at, publisher, is_up, towards, below, into, reoriginated, IsReoriginated}
+use Rattle.node_model.specs.Reaching.{Side, sides, sides_of, subnets, hop_at, circuit_at, publisher, is_up, towards, below, into, reoriginated_paths, IsReoriginated}
 use Rattle.node_model.specs.Ranks.{instance_in}
 use Rattle.node_model.specs.Wants.{route_entry, wanted_by_peers}
 use Rattle.node_model.specs.Agent.{first_some}
@@ -317,7 +317,7 @@ module _ (h : Holdings) where
     counts_from : AreListed h.agents → (k : VpnKey) (r : VpnRoute) → get (wanted_by_peers h) (Vpn k) ≡ Some (Route r) → IsCounted h k r
     counts_from listed k r e =
         by_own (first_of k (own_paths h)) refl
-        (sym (first_either k (own_paths h) (reoriginated h)) ∙ sym (get-from_entries key_total (map route_entry (own_paths h ++ reoriginated h)) (Vpn k)) ∙ e)
+        (sym (first_either k (own_paths h) (reoriginated_paths h)) ∙ sym (get-from_entries key_total (map route_entry (own_paths h ++ reoriginated_paths h)) (Vpn k)) ∙ e)
       where
         route_is : (p : Path) → Route (vpn_route p) ≡ Route r → HasRoute r p
         route_is p e = same_Some (vpn_route p) r (ap as_route e)
@@ -335,7 +335,7 @@ module _ (h : Holdings) where
             none_found k (of_side (right_of u)) q n (subst (λ (s : Side). Member q (of_side s)) side (in_side q l.0)) key in
             (f.path, f.key_is, route_is f.path f.value_is, as_left none no_right (o.0, ap (λ (s : Side). s.is_right) o.1))
 
-        by_own : (o : Option Value) → first_of k (own_paths h) ≡ o → first_some o (first_of k (reoriginated h)) ≡ Some (Route r) → IsCounted h k r
+        by_own : (o : Option Value) → first_of k (own_paths h) ≡ o → first_some o (first_of k (reoriginated_paths h)) ≡ Some (Route r) → IsCounted h k r
         by_own (Some v) is e =
             let l = lowest_of h k h.agents (Route r) listed (is ∙ e) in
             let p : Path = l.first.path in
@@ -356,19 +356,19 @@ module _ (h : Holdings) where
     counts_alike listed k p q kp kq (as_left none no_right l) (as_right none' l') = absurd (no_right q l' kq)
     counts_alike listed k p q kp kq (as_left none no_right l) (as_left none' no_right' l') = led_alike p q l.0 l'.0 false (kp ∙ sym kq) l.1 l'.1
 
-    led_member : (p : Path) → IsReoriginated h p → Member p (own_paths h ++ reoriginated h)
-    led_member p o = in_right p (own_paths h) (reoriginated h) (in_flat_map of_side o.side p (sides h.feed) o.held (in_side p o))
+    led_member : (p : Path) → IsReoriginated h p → Member p (own_paths h ++ reoriginated_paths h)
+    led_member p o = in_right p (own_paths h) (reoriginated_paths h) (in_flat_map of_side o.side p (sides h.feed) o.held (in_side p o))
 
-    counts_member : (k : VpnKey) (p : Path) → Counts h k p → Member p (own_paths h ++ reoriginated h)
-    counts_member k p (as_own o low) = in_left p (own_paths h) (reoriginated h) (own_route_in h p o)
+    counts_member : (k : VpnKey) (p : Path) → Counts h k p → Member p (own_paths h ++ reoriginated_paths h)
+    counts_member k p (as_own o low) = in_left p (own_paths h) (reoriginated_paths h) (own_route_in h p o)
     counts_member k p (as_right none l) = led_member p l.0
     counts_member k p (as_left none no_right l) = led_member p l.0
 
     counts_to : AreListed h.agents → (k : VpnKey) (r : VpnRoute) → IsCounted h k r → get (wanted_by_peers h) (Vpn k) ≡ Some (Route r)
     counts_to listed k r c =
-        let f = first_found k (own_paths h ++ reoriginated h) c.0 (counts_member k c.0 c.3) c.1 in
-        let first = first_from k (own_paths h ++ reoriginated h) f.0 f.1 in
-        let here : get (wanted_by_peers h) (Vpn k) ≡ Some (Route (vpn_route first.path)) = get-from_entries key_total (map route_entry (own_paths h ++ reoriginated h)) (Vpn k) ∙ f.1 ∙ ap Some (sym first.value_is) in
+        let f = first_found k (own_paths h ++ reoriginated_paths h) c.0 (counts_member k c.0 c.3) c.1 in
+        let first = first_from k (own_paths h ++ reoriginated_paths h) f.0 f.1 in
+        let here : get (wanted_by_peers h) (Vpn k) ≡ Some (Route (vpn_route first.path)) = get-from_entries key_total (map route_entry (own_paths h ++ reoriginated_paths h)) (Vpn k) ∙ f.1 ∙ ap Some (sym first.value_is) in
         let q = counts_from listed k (vpn_route first.path) here in
         let there : vpn_route q.0 ≡ vpn_route first.path = q.2 in
         let one : vpn_route c.0 ≡ vpn_route q.0 = counts_alike listed k c.0 q.0 c.1 q.1 c.3 q.3 in
@@ -380,5 +380,5 @@ counted_is h listed numbered k r = (counts_from h numbered listed k r, counts_to
 
 pub nothing_but_routes : (h : Holdings) (k : Key) (v : Value) → get (wanted_by_peers h) k ≡ Some v → ((at : VpnKey) × (k ≡ Vpn at)) × ((r : VpnRoute) × (v ≡ Route r))
 nothing_but_routes h k v e =
-    let q = from_map route_entry (told k v) (own_paths h ++ reoriginated h) (from_entry key_total key_exact k v (map route_entry (own_paths h ++ reoriginated h)) e) in
+    let q = from_map route_entry (told k v) (own_paths h ++ reoriginated_paths h) (from_entry key_total key_exact k v (map route_entry (own_paths h ++ reoriginated_paths h)) e) in
     ((vpn_key q.0, sym (ap (λ (e : Key × Value). e.0) q.2)), (vpn_route q.0, sym (ap (λ (e : Key × Value). e.1) q.2)))

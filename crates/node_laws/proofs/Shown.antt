@@ -21,7 +21,7 @@ use Rattle.ov_types.specs.declared.objects.LowValue.{LowValue}
 use Rattle.ov_types.specs.declared.objects.LowValue.TheVariants as low
 use Rattle.ov_types.specs.declared.rows.Attached.{Attached}
 use Rattle.ov_types.specs.declared.rows.Attached.TheVariants.{Port, Circuit}
-use Rattle.ov_types.specs.declared.rows.Entry.{Entry as Hop}
+use Rattle.ov_types.specs.declared.rows.Entry.{Entry as RouteEntry}
 use Rattle.ov_types.specs.declared.rows.TableRow.{TableRow}
 use Rattle.node_model.specs.Members.{Member}
 use Rattle.node_model.specs.Keys.{Low, key_cmp}
@@ -318,6 +318,6 @@ module _ (slice : List (LowKey × LowValue)) where
 pub slice_rises : (h : agent.Holdings) → Rises object_before (slice_in_use h)
 slice_rises h = objects_rise (slice_in_use h) (rise_slice h)
 
-pub routes_rise : (h : agent.Holdings) → IsStrictlySortedBy row_key_cmp (map (λ (e : (InstanceId × Block) × Hop). e.0) (agent.routes h))
-routes_rise h = in_order (λ (e : (InstanceId × Block) × Hop). e.0) row_key_cmp (agent.routes h)
-    (rises_filter (by_key (λ (e : (InstanceId × Block) × Hop). e.0) row_key_cmp) (λ (r : (InstanceId × Block) × Hop). is_needed h r.0.0) (entries (first_rows h)) (entries_rise row_total (entries (first_rows h)) (entries_sorted (first_rows h))))
+pub routes_rise : (h : agent.Holdings) → IsStrictlySortedBy row_key_cmp (map (λ (e : (InstanceId × Block) × RouteEntry). e.0) (agent.routes h))
+routes_rise h = in_order (λ (e : (InstanceId × Block) × RouteEntry). e.0) row_key_cmp (agent.routes h)
+    (rises_filter (by_key (λ (e : (InstanceId × Block) × RouteEntry). e.0) row_key_cmp) (λ (r : (InstanceId × Block) × RouteEntry). is_needed h r.0.0) (entries (first_rows h)) (entries_rise row_total (entries (first_rows h)) (entries_sorted (first_rows h))))

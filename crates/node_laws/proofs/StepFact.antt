@@ -12,11 +12,11 @@ use Rattle.std.proofs.Math.Seq.{take-append_seam}
 use Rattle.std.proofs.Common.{refl, sym, ◌∙◌, ap, subst, arith}
 use Rattle.ov_link.specs.Delivery.{Took, Delivers}
 use Rattle.node_model.specs.Maps.{difference}
-use Rattle.node_model.specs.Step.{Begun, Kind, Post, StepAt, Steps, begun, changes, end_of, nothing, planned, post, replies, told_all}
+use Rattle.node_model.specs.Step.{Beginning, NodeKind, Post, StepAt, Steps, begun, changes, end_of, nothing, planned, post, replies, told_all}
 use Rattle.node_model.proofs.Members.{none_some, iff_same}
 use Rattle.node_laws.specs.Stepped.{IsPassStart, IsPlan, IsLeft, IsLowest, TakesFront, SteppedAt, Stepped}
 
-module _ (k : Kind) (posts : List Post) (session : ℕ) (given : Begun) where
+module _ (k : NodeKind) (posts : List Post) (session : ℕ) (given : Beginning) where
   starts_of : (fails : Bool) → IsPassStart posts (begun posts session given fails) session given fails
   starts_of fails = record {
     long = length-set posts session (cond fails nothing (end_of given.after));
@@ -113,7 +113,7 @@ module _ {L : Type 0} (accepted : L → Option (List (List ℕ))) (breaks : L �
       all_taken : (f n r : ℕ) → n ≡ f + r → r ≡ 0 → n ≤ f
       all_taken f n r e z = omega arith
 
-  module _ (k : Kind) (posts posts' : List Post) (session : ℕ) (given : Begun) (links links' : List L) (lowest : Option ℕ) where
+  module _ (k : NodeKind) (posts posts' : List Post) (session : ℕ) (given : Beginning) (links links' : List L) (lowest : Option ℕ) where
     abbrev Each : Bool → Type 0
     Each fails = (i : ℕ) → i < length posts → StepAt k accepted breaks faults posts posts' session given fails links links' lowest i
 

@@ -4,11 +4,11 @@ use Rattle.std.specs.declared.option.Option.{Option}
 use Rattle.std.specs.declared.option.Option.TheVariants.{Some, None}
 use Rattle.ov_link.specs.Delivery.{Took}
 use Rattle.node_model.specs.Maps.{difference}
-use Rattle.node_model.specs.Step.{At, Begun, Idle, Kind, Post, end_of, nothing, post}
+use Rattle.node_model.specs.Step.{At, Beginning, Idle, NodeKind, Post, end_of, nothing, post}
 
 -- the ends as the pass begins: each is as it was before the step, but for the input's own. That is what the input made
 -- of it, and closed where a reply failed
-pub record IsPassStart (posts start : List Post) (session : ℕ) (given : Begun) (reply_failed : Bool) : Type 0
+pub record IsPassStart (posts start : List Post) (session : ℕ) (given : Beginning) (reply_failed : Bool) : Type 0
   where
     pub long : length start ≡ length posts
     pub others : (i : ℕ) → i ≢ session → post start i ≡ post posts i
@@ -18,7 +18,7 @@ pub record IsPassStart (posts start : List Post) (session : ℕ) (given : Begun)
 
 -- what a session is to be told: the replies on the input's session alone, and, where it may send as the pass begins,
 -- the changes from what was sent there to what the ends want as the pass begins
-pub record IsPlan (k : Kind) (posts start : List Post) (session : ℕ) (given : Begun) (i : ℕ)
+pub record IsPlan (k : NodeKind) (posts start : List Post) (session : ℕ) (given : Beginning) (i : ℕ)
     (replies changes : List (List ℕ)) : Type 0 where
   pub here : i ≡ session → replies ≡ given.replies
   pub elsewhere : i ≢ session → replies ≡ []
@@ -28,7 +28,7 @@ pub record IsPlan (k : Kind) (posts start : List Post) (session : ℕ) (given : 
 
 -- the end of a session after the step. Where its link failed it is closed and empty. Else it is as when the pass began,
 -- but has as sent what was wanted then, where it may send
-pub record IsLeft (k : Kind) (start : List Post) (i : ℕ) (failed : Bool) (p : Post) : Type 0 where
+pub record IsLeft (k : NodeKind) (start : List Post) (i : ℕ) (failed : Bool) (p : Post) : Type 0 where
   pub closed : failed ≡ true → p ≡ nothing
   pub phase : failed ≡ false → p.phase ≡ (post start i).phase
   pub held : failed ≡ false → p.held ≡ (post start i).held
@@ -50,9 +50,9 @@ module _ {L : Type 0} (accepted : L → Option (List (List ℕ))) (breaks : L �
     pub whole : (failed ≡ false) ↔ (rest ≡ [])
     pub took : Took accepted breaks faults front failed link link'
 
-  module _ (k : Kind) where
+  module _ (k : NodeKind) where
     -- one session in a step. The input's reply failed exactly where fewer messages were taken there than were replied
-    pub record SteppedAt (posts start posts' : List Post) (session : ℕ) (given : Begun) (reply_failed failed : Bool)
+    pub record SteppedAt (posts start posts' : List Post) (session : ℕ) (given : Beginning) (reply_failed failed : Bool)
         (links links' : List L) (i : ℕ) : Type 0 where
       pub link : L
       pub link' : L
@@ -68,7 +68,7 @@ module _ {L : Type 0} (accepted : L → Option (List (List ℕ))) (breaks : L �
 
     -- one step: a single list of ends, those as the pass begins, decides what every session is told, whichever links
     -- fail
-    pub record Stepped (posts posts' : List Post) (session : ℕ) (given : Begun) (links links' : List L)
+    pub record Stepped (posts posts' : List Post) (session : ℕ) (given : Beginning) (links links' : List L)
         (lowest : Option ℕ) : Type 0 where
       pub start : List Post
       pub reply_failed : Bool
@@ -86,13 +86,13 @@ HoldTheSame posts posts' =
     (i : ℕ) → ((post posts' i).phase ≡ (post posts i).phase) × ((post posts' i).held ≡ (post posts i).held)
 
 -- a kind that wants by the states of ends and by what they hold, and may not send where an end is idle
-pub record WantsByHoldings (k : Kind) : Type 0 where
+pub record WantsByHoldings (k : NodeKind) : Type 0 where
   pub wants : (posts posts' : List Post) → length posts' ≡ length posts → HoldTheSame posts posts'
       → (i : ℕ) → k.wanted posts' i ≡ k.wanted posts i
   pub silent : (i : ℕ) → k.may_send i Idle ≡ false
 
 -- on each session that may send, what was sent is what these ends want there
-abbrev pub AreTold : Kind → List Post → Type 0
+abbrev pub AreTold : NodeKind → List Post → Type 0
 AreTold k posts =
     (i : ℕ) → i < length posts → k.may_send i (post posts i).phase ≡ true → (post posts i).sent ≡ k.wanted posts i
 

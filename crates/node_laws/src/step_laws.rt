@@ -5,7 +5,7 @@ ghost use Rattle.std.specs.FinMap.{get};
 ghost use Rattle.ov_sync.specs.Keyed.{after, is_changed};
 ghost use Rattle.node_model.specs.Keys.{Key, key_cmp};
 ghost use Rattle.node_model.specs.Maps.{Map, difference};
-ghost use Rattle.node_model.specs.Step.{Begun, Kind, Post, Steps};
+ghost use Rattle.node_model.specs.Step.{Beginning, NodeKind, Post, Steps};
 ghost use Rattle.node_laws.specs.Stepped.{AreTold, HoldTheSame, NoneFailsInPass, Stepped, WantsByHoldings};
 
 /// The changes that a session is told lead from what was sent to what is wanted, and are of the keys at which these
@@ -22,7 +22,7 @@ pub fn changes_lead_to_what_is_wanted()
 /// that may not is told nothing but replies. But for the input's, it keeps its phase and what it holds.
 pub fn steps_tell_what_was_wanted<L>()
     ensures { (accepted : L → Option (List (List ℕ))) (breaks : L → Option (List ℕ)) (faults : L → ℕ)
-        → (k : Kind) (posts after : List Post) (session : ℕ) (given : Begun) (links left : List L) (lowest : Option ℕ)
+        → (k : NodeKind) (posts after : List Post) (session : ℕ) (given : Beginning) (links left : List L) (lowest : Option ℕ)
         → Steps k accepted breaks faults posts after session given links left lowest
         ↔ Stepped accepted breaks faults k posts after session given links left lowest }
 {}
@@ -31,7 +31,7 @@ pub fn steps_tell_what_was_wanted<L>()
 /// may send, what was sent is what the ends want there once the step is over.
 pub fn what_is_held_at_the_end_is_told<L>()
     ensures { (accepted : L → Option (List (List ℕ))) (breaks : L → Option (List ℕ)) (faults : L → ℕ)
-        → (k : Kind) (posts after : List Post) (session : ℕ) (given : Begun) (links left : List L) (lowest : Option ℕ)
+        → (k : NodeKind) (posts after : List Post) (session : ℕ) (given : Beginning) (links left : List L) (lowest : Option ℕ)
         → WantsByHoldings k
         → (s : Stepped accepted breaks faults k posts after session given links left lowest)
         → NoneFailsInPass (length posts) session s.reply_failed s.failed

@@ -7,7 +7,7 @@ use Rattle.std.specs.declared.option.Option.{Option}
 use Rattle.std.specs.declared.option.Option.TheVariants.{Some, None}
 use Rattle.ov_types.proofs.Values as values
 use Rattle.ov_types.specs.declared.numbers.Label.{Label as LabelNo}
-use Rattle.ov_types.specs.declared.rows.Entry.{Entry as Hop}
+use Rattle.ov_types.specs.declared.rows.Entry.{Entry as RouteEntry}
 use Rattle.node_model.specs.Values.{Value, Object, Route, Entry, Label, same_value}
 use Rattle.node_model.proofs.Wanted.{as_route, as_entry, as_low_value}
 
@@ -17,7 +17,7 @@ as_label_no (Object v) = None
 as_label_no (Route r) = None
 as_label_no (Entry r) = None
 
-entry_decides : (a b : Hop) → Decides (same_value (Entry a) (Entry b)) (a ≡ b)
+entry_decides : (a b : RouteEntry) → Decides (same_value (Entry a) (Entry b)) (a ≡ b)
 entry_decides a b =
     let d = Decides-and _ _ (Decides-eqb a.next_hop.0 b.next_hop.0) (Decides-eqb a.label.0 b.label.0) in
     (λ e. let h = d.0 e in λ i. record { next_hop = record { 0 = h.0 i }; label = record { 0 = h.1 i } }, λ e. d.1 ((λ i. (e i).next_hop.0), (λ i. (e i).label.0)))

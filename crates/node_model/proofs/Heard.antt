@@ -15,7 +15,7 @@ use Rattle.ov_types.specs.Prefix.{Block}
 use Rattle.ov_types.specs.declared.numbers.InstanceId.{InstanceId}
 use Rattle.ov_types.specs.declared.objects.LowKey.{LowKey}
 use Rattle.ov_types.specs.declared.objects.LowValue.{LowValue}
-use Rattle.ov_types.specs.declared.rows.Entry.{Entry as Hop}
+use Rattle.ov_types.specs.declared.rows.Entry.{Entry as RouteEntry}
 use Rattle.node_model.specs.Members.{Member}
 use Rattle.node_model.specs.Keys.{Key, Low, Vpn, Row, Publish, Subscribe}
 use Rattle.node_model.specs.Values.{Value, Object, Route, Entry, Label}
@@ -77,12 +77,12 @@ pub find_either : {K V : Type 0} (R : K → K → Ordering) (q : K) (es fs : Lis
 find_either R q [] fs = refl
 find_either {V = V} R q (e ∷ es) fs = elim (eq_by_cmp R q e.0) as (λ b. cond b (Some e.1) (find R q (es ++ fs)) ≡ first_some (cond b (Some e.1) (find R q es)) (find R q fs)) [ true ↦ refl | false ↦ find_either R q es fs ]
 
-abbrev pub row_at : InstanceId → Block → Hop → (InstanceId × Block) × Hop
+abbrev pub row_at : InstanceId → Block → RouteEntry → (InstanceId × Block) × RouteEntry
 row_at i prefix hop = (instance_at i prefix, hop)
 
-row_entry_is : (k : Key) (v : Value) (i : InstanceId) (prefix : Block) (hop : Hop) → row_entry k v ≡ Some (row_at i prefix hop) → (k ≡ Row i prefix) × (v ≡ Entry hop)
+row_entry_is : (k : Key) (v : Value) (i : InstanceId) (prefix : Block) (hop : RouteEntry) → row_entry k v ≡ Some (row_at i prefix hop) → (k ≡ Row i prefix) × (v ≡ Entry hop)
 row_entry_is (Row j p) (Entry r) i prefix hop e =
-    let s : ◌≡◌ {A = (InstanceId × Block) × Hop} (row_at j p r) (row_at i prefix hop) = same_Some (row_at j p r) (row_at i prefix hop) e in
+    let s : ◌≡◌ {A = (InstanceId × Block) × RouteEntry} (row_at j p r) (row_at i prefix hop) = same_Some (row_at j p r) (row_at i prefix hop) e in
     ((λ x. Row (s x).0.0 (s x).0.1), (λ x. Entry (s x).1))
 row_entry_is (Row j p) (Object v) i prefix hop e = absurd (none_some (row_at i prefix hop) e)
 row_entry_is (Row j p) (Route v) i prefix hop e = absurd (none_some (row_at i prefix hop) e)
@@ -92,17 +92,17 @@ row_entry_is (Vpn k) v i prefix hop e = absurd (none_some (row_at i prefix hop) 
 row_entry_is (Publish j p) v i prefix hop e = absurd (none_some (row_at i prefix hop) e)
 row_entry_is (Subscribe j) v i prefix hop e = absurd (none_some (row_at i prefix hop) e)
 
-abbrev rows_in : Map → List ((InstanceId × Block) × Hop)
+abbrev rows_in : Map → List ((InstanceId × Block) × RouteEntry)
 rows_in m = filter_map (λ e. row_entry e.0 e.1) (entries m)
 
-hop_is : (o : Option Value) (hop : Hop) → as_hop o ≡ Some hop → o ≡ Some (Entry hop)
-hop_is (Some (Entry r)) hop e = ap (λ (x : Hop). Some (Entry x)) (same_Some r hop e)
+hop_is : (o : Option Value) (hop : RouteEntry) → as_hop o ≡ Some hop → o ≡ Some (Entry hop)
+hop_is (Some (Entry r)) hop e = ap (λ (x : RouteEntry). Some (Entry x)) (same_Some r hop e)
 hop_is (Some (Object v)) hop e = absurd (none_some hop e)
 hop_is (Some (Route v)) hop e = absurd (none_some hop e)
 hop_is (Some (Label v)) hop e = absurd (none_some hop e)
 hop_is None hop e = absurd (none_some hop e)
 
-row_held : (m : Map) (i : InstanceId) (prefix : Block) (hop : Hop) → Member (row_at i prefix hop) (rows_in m) → get m (Row i prefix) ≡ Some (Entry hop)
+row_held : (m : Map) (i : InstanceId) (prefix : Block) (hop : RouteEntry) → Member (row_at i prefix hop) (rows_in m) → get m (Row i prefix) ≡ Some (Entry hop)
 row_held m i prefix hop h =
     let q = from_filter_map (λ (e : Key × Value). row_entry e.0 e.1) (row_at i prefix hop) (entries m) h in
     let parts = row_entry_is q.0.0 q.0.1 i prefix hop q.2 in
@@ -128,15 +128,15 @@ row_heard (s ∷ h) i prefix =
       | false ↦ row_heard h i prefix
     ]
 
-abbrev pub first_rows : Holdings → FinMap row_key_cmp Hop
+abbrev pub first_rows : Holdings → FinMap row_key_cmp RouteEntry
 first_rows h = from_entries {R = row_key_cmp} (rows_heard h)
 
 -- an agent uses the route of the first session that is up and has it, of the instances that it needs
-pub route_is : (h : Holdings) (i : InstanceId) (prefix : Block) (hop : Hop) → Member (row_at i prefix hop) (routes h) ↔ ((is_needed h i ≡ true) × (route_from h i prefix ≡ Some hop))
+pub route_is : (h : Holdings) (i : InstanceId) (prefix : Block) (hop : RouteEntry) → Member (row_at i prefix hop) (routes h) ↔ ((is_needed h i ≡ true) × (route_from h i prefix ≡ Some hop))
 route_is h i prefix hop = (
   (λ m.
-      let f = from_filter (λ (r : (InstanceId × Block) × Hop). is_needed h r.0.0) (row_at i prefix hop) (entries (first_rows h)) m in
+      let f = from_filter (λ (r : (InstanceId × Block) × RouteEntry). is_needed h r.0.0) (row_at i prefix hop) (entries (first_rows h)) m in
       (f.1, sym (row_heard h i prefix) ∙ sym (get-from_entries row_total (rows_heard h) (instance_at i prefix)) ∙ get_member row_total (first_rows h) (instance_at i prefix) hop f.0)),
-  (λ b. in_filter (λ (r : (InstanceId × Block) × Hop). is_needed h r.0.0) (row_at i prefix hop) (entries (first_rows h))
+  (λ b. in_filter (λ (r : (InstanceId × Block) × RouteEntry). is_needed h r.0.0) (row_at i prefix hop) (entries (first_rows h))
       (member_get row_total row_exact (first_rows h) (instance_at i prefix) hop (get-from_entries row_total (rows_heard h) (instance_at i prefix) ∙ row_heard h i prefix ∙ b.1)) b.0),
 )

@@ -30,7 +30,7 @@ use Rattle.node_model.specs.Values.{Value, Object, Route}
 use Rattle.node_model.specs.Maps.{Map, as_object, object, objects}
 use Rattle.node_model.specs.Uses.{Use, uses, is_hop, use_of, place_of, held_use, is_place, is_known}
 use Rattle.node_model.specs.Paths.{Holdings, Told, Path, own_paths}
-use Rattle.node_model.specs.Reaching.{reoriginated}
+use Rattle.node_model.specs.Reaching.{reoriginated_paths}
 use Rattle.node_model.specs.Tables.{same_prefix}
 use Rattle.node_model.specs.Wants.{route_entry, wanted_by_peers, slice, wanted_by_agent}
 use Rattle.node_model.specs.Agent as agent
@@ -69,9 +69,9 @@ next d k h = omega arith
 targeted_by : (asn : ℕ) (rd : Rd) (ts : List Target) (i : InstanceId) → instance_in rd ≡ i → ts ≡ target_of asn i ∷ [] → ts ≡ target_of asn (instance_in rd) ∷ []
 targeted_by asn rd ts i e t = t ∙ ap (λ (x : InstanceId). target_of asn x ∷ []) (sym e)
 
-path_targeted : (h : Holdings) → AreOrdered h.feed → (p : Path) → Member p (own_paths h ++ reoriginated h) → p.targets ≡ target_of h.asn (instance_in p.rd) ∷ []
+path_targeted : (h : Holdings) → AreOrdered h.feed → (p : Path) → Member p (own_paths h ++ reoriginated_paths h) → p.targets ≡ target_of h.asn (instance_in p.rd) ∷ []
 path_targeted h ordered p m =
-    elim (in_either p (own_paths h) (reoriginated h) m) as (λ _. p.targets ≡ target_of h.asn (instance_in p.rd) ∷ []) [
+    elim (in_either p (own_paths h) (reoriginated_paths h) m) as (λ _. p.targets ≡ target_of h.asn (instance_in p.rd) ∷ []) [
       | inl l ↦
           let o = own_route_from h p l in
           targeted_by h.asn p.rd p.targets o.instance (ap instance_in o.rd ∙ instance_in-distinguisher o.agent.address o.instance (known_small h.feed o.instance ordered o.known)) o.targets
@@ -90,8 +90,8 @@ as_vpn (Subscribe i) = None
 pub wants_targeted : (h : Holdings) → AreOrdered h.feed → IsTargeted h.asn (wanted_by_peers h)
 unfolding as_vpn
 wants_targeted h ordered k r e =
-    let m = from_entry key_total key_exact (Vpn k) (Route r) (map route_entry (own_paths h ++ reoriginated h)) e in
-    let q = from_map route_entry (told (Vpn k) (Route r)) (own_paths h ++ reoriginated h) m in
+    let m = from_entry key_total key_exact (Vpn k) (Route r) (map route_entry (own_paths h ++ reoriginated_paths h)) e in
+    let q = from_map route_entry (told (Vpn k) (Route r)) (own_paths h ++ reoriginated_paths h) m in
     let p : Path = q.0 in
     let at : ◌≡◌ {A = VpnKey} (record { rd = p.rd; prefix = p.prefix }) k = same_Some (record { rd = p.rd; prefix = p.prefix }) k (ap (λ (e : Key × Value). as_vpn e.0) q.2) in
     let is : ◌≡◌ {A = VpnRoute} (record { next_hop = p.next_hop; label = p.label; targets = p.targets }) r = same_Some (record { next_hop = p.next_hop; label = p.label; targets = p.targets }) r (ap (λ (e : Key × Value). as_route e.1) q.2) in

@@ -21,7 +21,7 @@ use Rattle.node_model.specs.Values.{Value, Object, Route, Entry, Label}
 use Rattle.node_model.specs.Maps.{Map}
 use Rattle.node_model.specs.Uses.{imports}
 use Rattle.node_model.specs.Paths.{Holdings, Told, Path, own_paths, peer_path, peer_paths, has_target, received}
-use Rattle.node_model.specs.Reaching.{Side, sides, network, subnets, hop_at, circuit_at, below, publisher, has_path_within, towards, is_up, into, reoriginated}
+use Rattle.node_model.specs.Reaching.{Side, sides, network, subnets, hop_at, circuit_at, below, publisher, has_path_within, towards, is_up, into, reoriginated_paths}
 use Rattle.node_model.specs.Wants.{route_entry, wanted_by_peers}
 use Rattle.node_model.specs.Ranks.{instance_in, depth, peer_rank, AreOrdered, IsTargeted}
 use Rattle.node_model.proofs.Members.{none_some, iff_same, in_left, in_right, in_either, in_filter, from_filter, in_flat_map, from_flat_map, in_filter_map, from_filter_map, any_in, from_any, get_member, member_get}
@@ -196,18 +196,18 @@ module _ (asn : ℕ) (feed : Map) (agents : List Told) (ordered : AreOrdered fee
     pub local_by_peers : (k : Key) → peer_rank feed k ≤ suc r → get (wanted_by_peers (with_peers ps)) k ≡ get (wanted_by_peers (with_peers qs)) k
     local_by_peers k rk =
         let own = own_paths (with_peers ps) in
-        let same : SameAt k (own ++ reoriginated (with_peers ps)) (own ++ reoriginated (with_peers qs)) =
-        same_append k own (reoriginated (with_peers ps)) own (reoriginated (with_peers qs)) (same_itself k own)
+        let same : SameAt k (own ++ reoriginated_paths (with_peers ps)) (own ++ reoriginated_paths (with_peers qs)) =
+        same_append k own (reoriginated_paths (with_peers ps)) own (reoriginated_paths (with_peers qs)) (same_itself k own)
         (same_flat_map k (λ s. flat_map (into (is_up (with_peers ps)) (with_peers ps) s) (below s.chain.services)) (λ s. flat_map (into (is_up (with_peers qs)) (with_peers qs) s) (below s.chain.services)) (sides feed) (λ s m.
         same_flat_map k (into (is_up (with_peers ps)) (with_peers ps) s) (into (is_up (with_peers qs)) (with_peers qs) s) (below s.chain.services) (λ d b.
         same_flat_map k (λ subnet. cond (is_up (with_peers ps) s subnet d) (towards (with_peers ps) (hop_at s (suc d)) subnet (publisher (with_peers ps) (circuit_at s (suc d)))) [])
         (λ subnet. cond (is_up (with_peers qs) s subnet d) (towards (with_peers qs) (hop_at s (suc d)) subnet (publisher (with_peers qs) (circuit_at s (suc d)))) []) (subnets s) (λ subnet n.
         one_same k s d subnet rk m n (from_below s.chain.services d b) (publisher (with_peers ps) (circuit_at s (suc d))))))) in
-        get-from_entries key_total (map route_entry (own ++ reoriginated (with_peers ps))) k
-        ∙ ap (find key_cmp k) (sym (append_none (map route_entry (own ++ reoriginated (with_peers ps)))))
+        get-from_entries key_total (map route_entry (own ++ reoriginated_paths (with_peers ps))) k
+        ∙ ap (find key_cmp k) (sym (append_none (map route_entry (own ++ reoriginated_paths (with_peers ps)))))
         ∙ same [] [] refl
-        ∙ ap (find key_cmp k) (append_none (map route_entry (own ++ reoriginated (with_peers qs))))
-        ∙ sym (get-from_entries key_total (map route_entry (own ++ reoriginated (with_peers qs))) k)
+        ∙ ap (find key_cmp k) (append_none (map route_entry (own ++ reoriginated_paths (with_peers qs))))
+        ∙ sym (get-from_entries key_total (map route_entry (own ++ reoriginated_paths (with_peers qs))) k)
       where
         append_none : (es : List (Key × Value)) → es ++ [] ≡ es
         append_none [] = refl

@@ -17,7 +17,7 @@ use Rattle.node_model.specs.Values.{Value, Object, Route, Entry, Label}
 use Rattle.node_model.specs.Maps.{as_label}
 use Rattle.node_model.specs.Uses.{is_known}
 use Rattle.node_model.specs.Paths.{Holdings, Told, Path, own_path, own_paths, IsOwnRoute, IsPublishedHere}
-use Rattle.node_model.specs.Reaching.{Side, sides, subnets, hop_at, circuit_at, published_by, published_in, publisher, is_up, towards, below, into, reoriginated, IsReoriginated}
+use Rattle.node_model.specs.Reaching.{Side, sides, subnets, hop_at, circuit_at, published_by, published_in, publisher, is_up, towards, below, into, reoriginated_paths, IsReoriginated}
 use Rattle.node_model.proofs.Members.{none_some, in_left, in_right, in_either, from_flat_map, in_flat_map, from_filter_map, in_filter_map, get_member, member_get, member_when}
 use Rattle.node_model.proofs.Orders.{key_total, key_exact}
 
@@ -178,7 +178,7 @@ reoriginated_parts h p s d subnet by held within m up published is = record {
   session = λ j. (sym is j).session;
 }
 
-pub reoriginated_from : (h : Holdings) (p : Path) → Member p (reoriginated h) → IsReoriginated h p
+pub reoriginated_from : (h : Holdings) (p : Path) → Member p (reoriginated_paths h) → IsReoriginated h p
 reoriginated_from h p m =
     let q = from_flat_map (λ (s : Side). flat_map (into (is_up h) h s) (below s.chain.services)) p (sides h.feed) m in
     let s : Side = q.0 in
@@ -197,7 +197,7 @@ in_when false x xs e m = absurd (omega_false e)
     omega_false : false ≡ true → ⊥
     omega_false e = cc
 
-pub reoriginated_in : (h : Holdings) (p : Path) → IsReoriginated h p → Member p (reoriginated h)
+pub reoriginated_in : (h : Holdings) (p : Path) → IsReoriginated h p → Member p (reoriginated_paths h)
 reoriginated_in h p o =
     let s : Side = o.side in
     let d : ℕ = o.depth in

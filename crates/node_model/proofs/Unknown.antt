@@ -14,7 +14,7 @@ use Rattle.node_model.specs.Members.{Member}
 use Rattle.node_model.specs.Maps.{Map}
 use Rattle.node_model.specs.Uses.{is_known}
 use Rattle.node_model.specs.Paths.{Holdings, Path, own_paths, peer_paths, has_target}
-use Rattle.node_model.specs.Reaching.{Side, sides, hop_at, reoriginated, AreShort}
+use Rattle.node_model.specs.Reaching.{Side, sides, hop_at, reoriginated_paths, AreShort}
 use Rattle.node_model.specs.Tables.{paths_of, selected, table}
 use Rattle.node_model.proofs.Members.{in_map, any_in}
 use Rattle.node_model.proofs.Objects.{side_use, known_hop, imports_nothing}
@@ -80,7 +80,7 @@ untargeted p = each p.targets
     each [] = refl
     each (t ∷ ts) = each ts
 
-not_reoriginated : (h : Holdings) (i : InstanceId) → AreShort h.feed → is_known h.feed i ≡ false → (p : Path) → Member p (reoriginated h) → has_target (target_of h.asn i ∷ []) p ≡ false
+not_reoriginated : (h : Holdings) (i : InstanceId) → AreShort h.feed → is_known h.feed i ≡ false → (p : Path) → Member p (reoriginated_paths h) → has_target (target_of h.asn i ∷ []) p ≡ false
 not_reoriginated h i short unknown p m =
     let r = reoriginated_from h p m in
     let place = hop_at r.side (suc r.depth) in
@@ -95,7 +95,7 @@ not_reoriginated h i short unknown p m =
 
 pub no_paths : (h : Holdings) (i : InstanceId) → AreShort h.feed → is_known h.feed i ≡ false → paths_of h i ≡ []
 no_paths h i short unknown =
-    (λ k. filter (has_target (map (target_of h.asn) (imports_nothing h.feed i unknown k))) (own_paths h ++ peer_paths h) ++ filter_nothing (has_target (target_of h.asn i ∷ [])) (reoriginated h) (not_reoriginated h i short unknown) k)
+    (λ k. filter (has_target (map (target_of h.asn) (imports_nothing h.feed i unknown k))) (own_paths h ++ peer_paths h) ++ filter_nothing (has_target (target_of h.asn i ∷ [])) (reoriginated_paths h) (not_reoriginated h i short unknown) k)
     ∙ ap (λ (ps : List Path). ps ++ []) (filter_nothing (has_target []) (own_paths h ++ peer_paths h) (λ p m. untargeted p))
 
 pub no_rows : (h : Holdings) (i : InstanceId) → AreShort h.feed → is_known h.feed i ≡ false → entries (table h i) ≡ []

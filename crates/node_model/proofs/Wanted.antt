@@ -14,14 +14,14 @@ use Rattle.ov_types.specs.declared.objects.LowKey.TheVariants as key
 use Rattle.ov_types.specs.declared.objects.LowValue.{LowValue}
 use Rattle.ov_types.specs.declared.objects.LowValue.TheVariants as low
 use Rattle.ov_types.specs.declared.prefix.Addr.{Addr}
-use Rattle.ov_types.specs.declared.rows.Entry.{Entry as Hop}
+use Rattle.ov_types.specs.declared.rows.Entry.{Entry as RouteEntry}
 use Rattle.ov_types.specs.declared.vpn.VpnRoute.{VpnRoute}
 use Rattle.node_model.specs.Members.{Member}
 use Rattle.node_model.specs.Keys.{Key, Low, Vpn, Row, Publish, Subscribe}
 use Rattle.node_model.specs.Values.{Value, Object, Route, Entry, Label}
 use Rattle.node_model.specs.Maps.{Map, objects}
 use Rattle.node_model.specs.Paths.{Holdings, Told, Path, own_paths, IsPublishedHere}
-use Rattle.node_model.specs.Reaching.{reoriginated, circuit_at}
+use Rattle.node_model.specs.Reaching.{reoriginated_paths, circuit_at}
 use Rattle.node_model.specs.Tables.{table}
 use Rattle.node_model.specs.Wants.{route_entry, wanted_by_peers, is_at, port_at, networks_at, is_in_slice, slice, slice_entry, subscribed, subscriptions, rows_of, wanted_by_agent, IsAttachedAt, HasPortAt, BelongsTo, IsSubscribedRow}
 use Rattle.node_model.proofs.Members.{none_some, in_left, in_right, in_either, in_map, from_map, in_filter, from_filter, in_filter_map, from_filter_map, in_flat_map, from_flat_map, any_in, from_any, get_member, member_get, entry_in, from_entry}
@@ -36,9 +36,9 @@ as_route (Object v) = None
 as_route (Entry r) = None
 as_route (Label l) = None
 
-published_path : (h : Holdings) (p : Path) → Member p (own_paths h ++ reoriginated h) → IsPublishedHere h p.next_hop p.label
+published_path : (h : Holdings) (p : Path) → Member p (own_paths h ++ reoriginated_paths h) → IsPublishedHere h p.next_hop p.label
 published_path h p m =
-    elim (in_either p (own_paths h) (reoriginated h) m) as (λ _. IsPublishedHere h p.next_hop p.label) [
+    elim (in_either p (own_paths h) (reoriginated_paths h) m) as (λ _. IsPublishedHere h p.next_hop p.label) [
       | inl l ↦
           let o = own_route_from h p l in
           record { agent = o.agent; instance = o.instance; prefix = p.prefix; told = o.told; at = sym o.next_hop; publishes = o.publishes }
@@ -55,8 +55,8 @@ told k v = (k, v)
 
 pub next_hop_here : (h : Holdings) (k : Key) (r : VpnRoute) → get (wanted_by_peers h) k ≡ Some (Route r) → IsPublishedHere h r.next_hop r.label
 next_hop_here h k r e =
-    let m = from_entry key_total key_exact k (Route r) (map route_entry (own_paths h ++ reoriginated h)) e in
-    let q = from_map route_entry (told k (Route r)) (own_paths h ++ reoriginated h) m in
+    let m = from_entry key_total key_exact k (Route r) (map route_entry (own_paths h ++ reoriginated_paths h)) e in
+    let q = from_map route_entry (told k (Route r)) (own_paths h ++ reoriginated_paths h) m in
     let is : ◌≡◌ {A = VpnRoute} (record { next_hop = q.0.next_hop; label = q.0.label; targets = q.0.targets }) r = route_is (told k (Route r)) k r q.0 q.2 refl in
     subst (λ (x : VpnRoute). IsPublishedHere h x.next_hop x.label) is (published_path h q.0 q.1)
 
@@ -136,7 +136,7 @@ as_row (Vpn k) = None
 as_row (Publish i p) = None
 as_row (Subscribe i) = None
 
-abbrev pub as_entry : Value → Option Hop
+abbrev pub as_entry : Value → Option RouteEntry
 as_entry (Entry r) = Some r
 as_entry (Object v) = None
 as_entry (Route r) = None
@@ -179,7 +179,7 @@ at_path prefix p = (prefix, p)
 abbrev pub instance_at : InstanceId → Block → InstanceId × Block
 instance_at i prefix = (i, prefix)
 
-same_hop : (v : Value) (p q : Path) (hop : Hop) → v ≡ Entry (record { next_hop = p.next_hop; label = p.label }) → p ≡ q → hop ≡ record { next_hop = q.next_hop; label = q.label } → v ≡ Entry hop
+same_hop : (v : Value) (p q : Path) (hop : RouteEntry) → v ≡ Entry (record { next_hop = p.next_hop; label = p.label }) → p ≡ q → hop ≡ record { next_hop = q.next_hop; label = q.label } → v ≡ Entry hop
 same_hop v p q hop e is h = e ∙ (λ i. Entry (record { next_hop = (is i).next_hop; label = (is i).label })) ∙ ap Entry (sym h)
 
 module _ (h : Holdings) (a : Told) where
@@ -209,7 +209,7 @@ module _ (h : Holdings) (a : Told) where
             )
       ]
 
-  pub row_from : (i : InstanceId) (prefix : Block) (hop : Hop) → get (wanted_by_agent h a) (Row i prefix) ≡ Some (Entry hop) → IsSubscribedRow h a i prefix hop
+  pub row_from : (i : InstanceId) (prefix : Block) (hop : RouteEntry) → get (wanted_by_agent h a) (Row i prefix) ≡ Some (Entry hop) → IsSubscribedRow h a i prefix hop
   row_from i prefix hop e =
       let q = row_parts i prefix (Entry hop) (from_entry key_total key_exact (Row i prefix) (Entry hop) (slice_told ++ rows_told) e) in
       record {
@@ -219,7 +219,7 @@ module _ (h : Holdings) (a : Told) where
         hop_is = same_Some hop (record { next_hop = q.0.next_hop; label = q.0.label }) (ap as_entry q.3);
       }
 
-  pub row_to : (i : InstanceId) (prefix : Block) (hop : Hop) → IsSubscribedRow h a i prefix hop → get (wanted_by_agent h a) (Row i prefix) ≡ Some (Entry hop)
+  pub row_to : (i : InstanceId) (prefix : Block) (hop : RouteEntry) → IsSubscribedRow h a i prefix hop → get (wanted_by_agent h a) (Row i prefix) ≡ Some (Entry hop)
   row_to i prefix hop r =
       let there : Member (row_of_path i (at_path prefix r.path)) rows_told =
       in_flat_map (rows_of h) i (row_of_path i (at_path prefix r.path)) (subscriptions a.map) (subscription_in a.map i r.subscribed)

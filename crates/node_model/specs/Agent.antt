@@ -18,7 +18,7 @@ use Rattle.ov_types.specs.declared.objects.LowValue.TheVariants as low
 use Rattle.ov_types.specs.declared.rows.AgentRows.{AgentRows}
 use Rattle.ov_types.specs.declared.rows.Attached.{Attached}
 use Rattle.ov_types.specs.declared.rows.Attached.TheVariants.{Port, Circuit}
-use Rattle.ov_types.specs.declared.rows.Entry.{Entry as Hop}
+use Rattle.ov_types.specs.declared.rows.Entry.{Entry as RouteEntry}
 use Rattle.route_targets.specs.Numbers.{circuit_instance_of, circuit_address_of}
 use Rattle.node_model.specs.Members.{Member}
 use Rattle.node_model.specs.Keys.{Key, Row, Publish, Subscribe}
@@ -82,16 +82,16 @@ abbrev pub wanted : Holdings → Map
 wanted h = told_of (slice_in_use h)
 
 -- ---- what it forwards by
-abbrev pub row_entry : Key → Value → Option ((InstanceId × Block) × Hop)
+abbrev pub row_entry : Key → Value → Option ((InstanceId × Block) × RouteEntry)
 row_entry (Row i prefix) (Entry hop) = Some ((i, prefix), hop)
 row_entry _ _ = None
 
 -- the rows of the sessions that are up, in the order of the sessions
-abbrev pub rows_heard : Holdings → List ((InstanceId × Block) × Hop)
+abbrev pub rows_heard : Holdings → List ((InstanceId × Block) × RouteEntry)
 rows_heard h = flat_map (λ s. filter_map (λ e. row_entry e.0 e.1) (entries s.map)) (filter (λ s. s.is_up) h)
 
 -- the route of the first session that is up and has it, of each instance that it needs
-abbrev pub routes : Holdings → List ((InstanceId × Block) × Hop)
+abbrev pub routes : Holdings → List ((InstanceId × Block) × RouteEntry)
 routes h = filter (λ r. is_needed h r.0.0) (entries (from_entries {R = row_key_cmp} (rows_heard h)))
 
 abbrev pub attached : LowKey → LowValue → Option (LabelNo × Attached)
@@ -119,7 +119,7 @@ abbrev pub besides_rows : Holdings → List (Bool × List (LowKey × LowValue))
 besides_rows h = map (λ s. (s.is_up, objects s.map)) h
 
 -- the route of the first session that is up and has it
-abbrev pub as_hop : Option Value → Option Hop
+abbrev pub as_hop : Option Value → Option RouteEntry
 as_hop (Some (Entry hop)) = Some hop
 as_hop _ = None
 
@@ -127,7 +127,7 @@ abbrev pub first_some : {A : Type 0} → Option A → Option A → Option A
 first_some (Some a) b = Some a
 first_some None b = b
 
-abbrev pub route_from : Holdings → InstanceId → Block → Option Hop
+abbrev pub route_from : Holdings → InstanceId → Block → Option RouteEntry
 route_from [] i prefix = None
 route_from (s ∷ h) i prefix =
     if s.is_up then first_some (as_hop (get s.map (Row i prefix))) (route_from h i prefix) else route_from h i prefix

@@ -5,7 +5,7 @@ use Rattle.std.specs.FinMap as finite
 use Rattle.std.proofs.Common.{inl, inr}
 use Rattle.ov_types.specs.declared.numbers.Label.{Label as LabelNo}
 use Rattle.ov_types.specs.declared.objects.LowValue.{LowValue}
-use Rattle.ov_types.specs.declared.rows.Entry.{Entry as Hop}
+use Rattle.ov_types.specs.declared.rows.Entry.{Entry as RouteEntry}
 use Rattle.ov_types.specs.declared.vpn.VpnRoute.{VpnRoute}
 use Rattle.ov_types.specs.contracts.objects.LowValue as objects
 use Rattle.ov_types.specs.contracts.rows.Entry as entries
@@ -17,7 +17,7 @@ use Rattle.node_model.specs.Maps.{Map}
 use Rattle.node_model.specs.Step.{Phase, Idle, Opened, Confirmed, Up, Post}
 
 abbrev pub Parts : Type 0
-Parts = LowValue ⊎ (VpnRoute ⊎ (Hop ⊎ LabelNo))
+Parts = LowValue ⊎ (VpnRoute ⊎ (RouteEntry ⊎ LabelNo))
 
 abbrev pub part : Value → Parts
 part (Object v) = inl v

@@ -103,8 +103,8 @@ abbrev pub reoriginated_by : (Side → Block → ℕ → Bool) → Holdings → 
 reoriginated_by test h = flat_map (λ s. flat_map (into test h s) (below s.chain.services)) (sides h.feed)
 
 -- each subnet that is up leads on, one place farther
-abbrev pub reoriginated : Holdings → List Path
-reoriginated h = reoriginated_by (is_up h) h
+abbrev pub reoriginated_paths : Holdings → List Path
+reoriginated_paths h = reoriginated_by (is_up h) h
 
 -- ---- the same, as relations
 -- a path within the subnet was received at some place between the end and place d, and every circuit on the way from

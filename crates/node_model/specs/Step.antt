@@ -41,7 +41,7 @@ post posts i = slice_index_or posts i nothing
 
 -- what an input makes of its end: what is replied, and the end after it. Where it goes down, what it replied before is
 -- sent, and then its notification where it has one, and there is no end after it
-pub record Begun : Type 0 where
+pub record Beginning : Type 0 where
   pub replies : List (List ℕ)
   pub after : Option Post
 
@@ -51,7 +51,7 @@ end_of (Some p) = p
 
 -- a kind of node: what it wants a session to have been told, on which sessions it may send changes, and how a change is
 -- spelled there
-pub record Kind : Type 0 where
+pub record NodeKind : Type 0 where
   pub wanted : List Post → ℕ → Map
   pub may_send : ℕ → Phase → Bool
   pub spelled : ℕ → Change → List ℕ
@@ -61,14 +61,14 @@ abbrev pub At : {X : Type 0} → List X → ℕ → X → Type 0
 At {X} xs i x = (d : X) → slice_index_or xs i d ≡ x
 
 -- the replies of an input are sent on its session alone
-abbrev pub replies : ℕ → Begun → ℕ → List (List ℕ)
+abbrev pub replies : ℕ → Beginning → ℕ → List (List ℕ)
 replies session given i = if i == session then given.replies else []
 
 -- the ends as the pass begins. A reply that fails closes the end before the pass
-abbrev pub begun : List Post → ℕ → Begun → Bool → List Post
+abbrev pub begun : List Post → ℕ → Beginning → Bool → List Post
 begun posts session given fails = slice_set posts session (if fails then nothing else end_of given.after)
 
-module _ (k : Kind) where
+module _ (k : NodeKind) where
   -- the changes that a session is still to be told
   abbrev pub changes : List Post → ℕ → List (List ℕ)
   changes posts i =
@@ -81,12 +81,12 @@ module _ (k : Kind) where
       if k.may_send i (post posts i).phase then record (post posts i) { sent = k.wanted posts i } else post posts i
 
   -- what a session is to be told in this step: the replies, and then what the holdings want as the pass begins
-  abbrev pub planned : List Post → ℕ → Begun → Bool → ℕ → List (List ℕ)
+  abbrev pub planned : List Post → ℕ → Beginning → Bool → ℕ → List (List ℕ)
   planned posts session given fails i = replies session given i ++ changes (begun posts session given fails) i
 
   module _ {L : Type 0} (accepted : L → Option (List (List ℕ))) (breaks : L → Option (List ℕ)) (faults : L → ℕ) where
     -- one session in a step: its link took as many of its messages as it chose. Where it failed, the end is closed
-    pub record StepAt (posts posts' : List Post) (session : ℕ) (given : Begun) (fails : Bool) (links links' : List L)
+    pub record StepAt (posts posts' : List Post) (session : ℕ) (given : Beginning) (fails : Bool) (links links' : List L)
         (lowest : Option ℕ) (i : ℕ) : Type 0 where
       pub link : L
       pub link' : L
@@ -101,7 +101,7 @@ module _ (k : Kind) where
 
     -- one step, once it is given what the input makes of its session, session by session. The lowest session whose link
     -- failed is named
-    pub record Steps (posts posts' : List Post) (session : ℕ) (given : Begun) (links links' : List L)
+    pub record Steps (posts posts' : List Post) (session : ℕ) (given : Beginning) (links links' : List L)
         (lowest : Option ℕ) : Type 0 where
       pub fails : Bool
       pub each : (i : ℕ) → i < length posts → StepAt posts posts' session given fails links links' lowest i

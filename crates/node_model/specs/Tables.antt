@@ -16,7 +16,7 @@ use Rattle.node_model.specs.Members.{Member}
 use Rattle.node_model.specs.Maps.{Map, objects}
 use Rattle.node_model.specs.Uses.{uses, hop}
 use Rattle.node_model.specs.Paths.{Holdings, Path, received, has_target}
-use Rattle.node_model.specs.Reaching.{reoriginated, below}
+use Rattle.node_model.specs.Reaching.{reoriginated_paths, below}
 
 -- the lesser by next hop, then label, then distinguisher, then session
 abbrev pub path_numbers : Path → List ℕ
@@ -42,7 +42,7 @@ selected paths = from_entries (map (λ p. (p.prefix, least p (of_prefix p.prefix
 
 -- all paths of an instance
 abbrev pub paths_of : Holdings → InstanceId → List Path
-paths_of h i = received h i ++ filter (has_target (target_of h.asn i ∷ [])) (reoriginated h)
+paths_of h i = received h i ++ filter (has_target (target_of h.asn i ∷ [])) (reoriginated_paths h)
 
 abbrev pub table : Holdings → InstanceId → FinMap block_cmp Path
 table h i = selected (paths_of h i)

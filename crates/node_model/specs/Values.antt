@@ -2,7 +2,7 @@
 use Rattle.std.specs.Prelude.{Bool, false}
 use Rattle.ov_types.specs.declared.numbers.Label.{Label as LabelNo}
 use Rattle.ov_types.specs.declared.objects.LowValue.{LowValue}
-use Rattle.ov_types.specs.declared.rows.Entry.{Entry as Hop}
+use Rattle.ov_types.specs.declared.rows.Entry.{Entry as RouteEntry}
 use Rattle.ov_types.specs.declared.vpn.VpnRoute.{VpnRoute}
 use Rattle.ov_types.specs.contracts.objects.LowValuePartialEq.TheImpl as objects
 use Rattle.ov_types.specs.contracts.rows.EntryPartialEq.TheImpl as entries
@@ -15,7 +15,7 @@ pub data Value : Type 0 where
   -- of a route between control nodes
   Route : VpnRoute → Value
   -- of a row
-  Entry : Hop → Value
+  Entry : RouteEntry → Value
   -- of a publication. A subscription has label 0, which nothing reads
   Label : LabelNo → Value
 

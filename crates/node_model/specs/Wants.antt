@@ -11,13 +11,13 @@ use Rattle.ov_types.specs.declared.objects.LowValue.{LowValue}
 use Rattle.ov_types.specs.declared.objects.LowValue.TheVariants as low
 use Rattle.ov_types.specs.declared.prefix.Addr.{Addr}
 use Rattle.ov_types.specs.Prefix.{Block}
-use Rattle.ov_types.specs.declared.rows.Entry.{Entry as Hop}
+use Rattle.ov_types.specs.declared.rows.Entry.{Entry as RouteEntry}
 use Rattle.node_model.specs.Members.{Member}
 use Rattle.node_model.specs.Keys.{Key, Low, Vpn, Row, Subscribe}
 use Rattle.node_model.specs.Values.{Value, Object, Route, Entry}
 use Rattle.node_model.specs.Maps.{Map, objects}
 use Rattle.node_model.specs.Paths.{Holdings, Told, Path, own_paths}
-use Rattle.node_model.specs.Reaching.{reoriginated}
+use Rattle.node_model.specs.Reaching.{reoriginated_paths}
 use Rattle.node_model.specs.Tables.{table}
 
 -- ---- towards peers
@@ -30,7 +30,7 @@ route_entry p = (
 -- its own and its re-originated routes. Where two have one key, the first counts: an own route before a re-originated
 -- one, the lower session before the higher, a right subnet's before a left's
 abbrev pub wanted_by_peers : Holdings → Map
-wanted_by_peers h = from_entries (map route_entry (own_paths h ++ reoriginated h))
+wanted_by_peers h = from_entries (map route_entry (own_paths h ++ reoriginated_paths h))
 
 -- ---- towards an agent
 abbrev pub is_at : Addr → LowValue → Bool
@@ -95,7 +95,7 @@ BelongsTo feed address (key.Acl from to) v = HasPortAt feed address from
 BelongsTo feed address _ v = ⊥
 
 -- a row of the table of an instance that the agent subscribed
-pub record IsSubscribedRow (h : Holdings) (a : Told) (i : InstanceId) (prefix : Block) (hop : Hop) : Type 0 where
+pub record IsSubscribedRow (h : Holdings) (a : Told) (i : InstanceId) (prefix : Block) (hop : RouteEntry) : Type 0 where
   pub subscribed : is_some (get a.map (Subscribe i)) ≡ true
   pub path : Path
   pub row : get (table h i) prefix ≡ Some path

@@ -4,7 +4,7 @@ ghost use Rattle.std.specs.List.{AllByRecursion};
 ghost use Rattle.std.specs.FinMap.{get};
 ghost use Rattle.ov_types.specs.Prefix.{Block};
 ghost use Rattle.ov_types.specs.declared.numbers.InstanceId.{InstanceId};
-ghost use Rattle.ov_types.specs.declared.rows.Entry.{Entry as Hop};
+ghost use Rattle.ov_types.specs.declared.rows.Entry.{Entry as RouteEntry};
 ghost use Rattle.node_model.specs.Members.{Member};
 ghost use Rattle.node_model.specs.Keys.{Publish};
 ghost use Rattle.node_model.specs.Values.{Label};
@@ -41,6 +41,6 @@ pub fn instances_that_are_needed()
 /// The routes that an agent uses are of the instances that it needs alone, and each is that of the first session that
 /// is up and has it.
 pub fn routes_are_of_needed_instances()
-    ensures { (h : Holdings) (i : InstanceId) (prefix : Block) (hop : Hop)
+    ensures { (h : Holdings) (i : InstanceId) (prefix : Block) (hop : RouteEntry)
         → Member ((i, prefix), hop) (routes h) ↔ (IsTrue (is_needed h i) × (route_from h i prefix ≡ Some hop)) }
 {}

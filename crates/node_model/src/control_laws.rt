@@ -7,7 +7,7 @@ ghost use Rattle.ov_types.specs.declared.objects.LowKey.{LowKey};
 ghost use Rattle.ov_types.specs.declared.objects.LowKey.TheVariants as key;
 ghost use Rattle.ov_types.specs.declared.objects.LowValue.{LowValue};
 ghost use Rattle.ov_types.specs.declared.prefix.Addr.{Addr};
-ghost use Rattle.ov_types.specs.declared.rows.Entry.{Entry as Hop};
+ghost use Rattle.ov_types.specs.declared.rows.Entry.{Entry as RouteEntry};
 ghost use Rattle.ov_types.specs.declared.vpn.VpnRoute.{VpnRoute};
 ghost use Rattle.node_model.specs.Members.{Member};
 ghost use Rattle.node_model.specs.Keys.{Key, Low, Row};
@@ -15,7 +15,7 @@ ghost use Rattle.node_model.specs.Values.{Object, Route, Entry};
 ghost use Rattle.node_model.specs.Maps.{Map, objects};
 ghost use Rattle.node_model.specs.Uses.{Use, IsImportedAt, hop, imports, is_known, uses};
 ghost use Rattle.node_model.specs.Paths.{Holdings, IsOwnRoute, IsPublishedHere, Path, Told, own_paths};
-ghost use Rattle.node_model.specs.Reaching.{AreShort, IsReached, IsReoriginated, Side, is_up, reoriginated};
+ghost use Rattle.node_model.specs.Reaching.{AreShort, IsReached, IsReoriginated, Side, is_up, reoriginated_paths};
 ghost use Rattle.node_model.specs.Tables.{IsBetter, IsLeast, is_better, paths_of, table};
 ghost use Rattle.node_model.specs.Wants.{BelongsTo, IsSubscribedRow, slice, wanted_by_agent, wanted_by_peers};
 
@@ -48,7 +48,7 @@ pub fn up_is_reached()
 /// The re-originated routes are exactly those that lead a subnet on which is up one place nearer to its end, towards a
 /// circuit that is published here.
 pub fn reoriginated_routes_lead_on()
-    ensures { (h : Holdings) (p : Path) → Member p (reoriginated h) ↔ IsReoriginated h p }
+    ensures { (h : Holdings) (p : Path) → Member p (reoriginated_paths h) ↔ IsReoriginated h p }
 {}
 
 /// The lesser next hop is better; of one next hop the lesser label; of one label the lesser distinguisher; of one
@@ -85,6 +85,6 @@ pub fn slices_are_of_their_addresses()
 pub fn agents_are_told_what_they_subscribed()
     ensures slice { (h : Holdings) (a : Told) (k : LowKey) (v : LowValue)
         → (get (wanted_by_agent h a) (Low k) ≡ Some (Object v)) ↔ Member (k, v) (slice h.feed a.address) }
-    ensures rows { (h : Holdings) (a : Told) (i : InstanceId) (prefix : Block) (hop : Hop)
+    ensures rows { (h : Holdings) (a : Told) (i : InstanceId) (prefix : Block) (hop : RouteEntry)
         → (get (wanted_by_agent h a) (Row i prefix) ≡ Some (Entry hop)) ↔ IsSubscribedRow h a i prefix hop }
 {}

@@ -10,7 +10,7 @@ ghost use Rattle.ov_types.specs.declared.keys.UpKey.{UpKey as Up};
 ghost use Rattle.ov_types.specs.declared.numbers.Label.{Label as LabelValue};
 ghost use Rattle.ov_types.specs.declared.objects.LowKey.{LowKey as LowKeyValue};
 ghost use Rattle.ov_types.specs.declared.objects.LowValue.{LowValue as LowObject};
-ghost use Rattle.ov_types.specs.declared.rows.Entry.{Entry as Hop};
+ghost use Rattle.ov_types.specs.declared.rows.Entry.{Entry as RouteEntry};
 ghost use Rattle.ov_types.specs.declared.vpn.VpnKey.{VpnKey as VpnKeyValue};
 ghost use Rattle.ov_types.specs.declared.vpn.VpnRoute.{VpnRoute as VpnRouteValue};
 ghost use Rattle.node_model.specs.Keys.{Key, Low, Vpn, key_cmp, of_down, of_up};
@@ -31,7 +31,7 @@ pub fn keys_keep_their_orders()
 pub fn values_keep_their_equality()
     ensures objects { (a b : LowObject) → same_value (Object a) (Object b) ≡ ⟦<LowValue as PartialEq>⟧.eq a b }
     ensures routes { (a b : VpnRouteValue) → same_value (Route a) (Route b) ≡ ⟦<VpnRoute as PartialEq>⟧.eq a b }
-    ensures entries { (a b : Hop) → same_value (EntryOf a) (EntryOf b) ≡ ⟦<Entry as PartialEq>⟧.eq a b }
+    ensures entries { (a b : RouteEntry) → same_value (EntryOf a) (EntryOf b) ≡ ⟦<Entry as PartialEq>⟧.eq a b }
     ensures labels { (a b : LabelValue) → same_value (LabelOf a) (LabelOf b) ≡ ⟦<Label as PartialEq>⟧.eq a b }
 {}
 

@@ -15,7 +15,7 @@ use Rattle.bgp_session.specs.Happenings.{SessionFields, Happening, Passes, Sends
 use Rattle.bgp_session.specs.Words.{Step, step_of}
 use Rattle.bgp_session.proofs.TableLemmas.{words_of}
 use Rattle.bgp_session.specs.Inputs.{Came, Opened, Closed, BringsUpdate, right, wrong, Brings, open_refusal, came_by_open}
-use Rattle.node_model.specs.Step.{Begun, Post}
+use Rattle.node_model.specs.Step.{Beginning, Post}
 use Rattle.node_model.proofs.Members.{none_some}
 use Rattle.node_peers.specs.Beginning.{Begins}
 use Rattle.node_peers.specs.Hearing.{IsNext, message, fault, GoesOn, Hears, heard}
@@ -95,7 +95,7 @@ heard_other id s octets (came ∷ more) h =
     (other_cause s came (next_message s octets came h.0 h.1)) h.2 (λ then. heard_other id (after s came) h.0 more then)
 
 -- an input never closes its session with that cause
-pub never_ended : (id : Addr) (s : SessionFields) (p : Post) (came : Input) (given : Begun) (cause : Option Cause)
+pub never_ended : (id : Addr) (s : SessionFields) (p : Post) (came : Input) (given : Beginning) (cause : Option Cause)
     → Begins id s p came given cause → cause ≢ Some Ended
 never_ended id s p (input.Opened session) given cause h e = absurd (none_some Ended (sym h.1 ∙ e))
 never_ended id s p (input.Bytes session bytes) given cause h e =

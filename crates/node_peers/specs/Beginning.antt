@@ -11,7 +11,7 @@ use Rattle.bgp_session.specs.Happenings.{SessionFields}
 use Rattle.bgp_session.specs.Inputs.{Came}
 use Rattle.node_model.specs.Keys.{Vpn}
 use Rattle.node_model.specs.Values.{Route}
-use Rattle.node_model.specs.Step.{Begun, Phase, Idle, Opened, Confirmed, Up, Post}
+use Rattle.node_model.specs.Step.{Beginning, Phase, Idle, Opened, Confirmed, Up, Post}
 use Rattle.node_peers.specs.Hearing.{Hears, Heard, heard, open_octets}
 use Rattle.node_peers.specs.Keeping.{Leaves}
 
@@ -33,7 +33,7 @@ left_by p h None =
 left_by p h (Some cause) = None
 
 -- the speaker at this address opens the end and sends its OPEN, hears octets on it, or closes it
-abbrev pub Begins : Addr → SessionFields → Post → Input → Begun → Option Cause → Type 0
+abbrev pub Begins : Addr → SessionFields → Post → Input → Beginning → Option Cause → Type 0
 Begins id s p (input.Opened session) given cause =
     (given ≡ record { replies = open_octets s.asn id ∷ []; after = Some (record p { phase = Opened }) })
     × (cause ≡ None)
@@ -48,7 +48,7 @@ Begins id s p (input.Closed session) given cause = (given ≡ record { replies =
 
 -- the same, where these octets were kept of the session before: they are heard again before those that came. And what
 -- is kept of it then
-abbrev pub BeginsKeeping : Addr → SessionFields → Post → List ℕ → Input → Begun → Option Cause → List ℕ → Type 0
+abbrev pub BeginsKeeping : Addr → SessionFields → Post → List ℕ → Input → Beginning → Option Cause → List ℕ → Type 0
 BeginsKeeping id s p kept (input.Bytes session bytes) given cause left =
     (inputs : List Came) × Leaves s (kept ++ bytes.now) inputs left
     × (given ≡ record {

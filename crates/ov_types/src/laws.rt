@@ -9,7 +9,7 @@ ghost use Rattle.ov_types.specs.declared.objects.AclRule.{AclRule as AclEntry};
 ghost use Rattle.ov_types.specs.declared.objects.LowKey.{LowKey as Key};
 ghost use Rattle.ov_types.specs.declared.objects.LowValue.{LowValue as Object};
 ghost use Rattle.ov_types.specs.declared.rows.AgentRows.{AgentRows as Rows};
-ghost use Rattle.ov_types.specs.declared.rows.Entry.{Entry as Hop};
+ghost use Rattle.ov_types.specs.declared.rows.Entry.{Entry as RouteEntry};
 ghost use Rattle.ov_types.specs.declared.targets.Target.{Target as Number};
 ghost use Rattle.ov_types.specs.declared.vpn.VpnRoute.{VpnRoute as Route};
 
@@ -35,7 +35,7 @@ pub fn alike_is_equal()
     ensures acl_rules { (a b : AclEntry) → IsTrue (⟦<AclRule as PartialEq>⟧.eq a b) ↔ (a ≡ b) }
     ensures targets { (a b : List Number) → IsTrue (⟦<Targets as PartialEq>⟧.eq a b) ↔ (a ≡ b) }
     ensures routes { (a b : Route) → IsTrue (⟦<VpnRoute as PartialEq>⟧.eq a b) ↔ (a ≡ b) }
-    ensures entries { (a b : Hop) → IsTrue (⟦<Entry as PartialEq>⟧.eq a b) ↔ (a ≡ b) }
+    ensures entries { (a b : RouteEntry) → IsTrue (⟦<Entry as PartialEq>⟧.eq a b) ↔ (a ≡ b) }
     ensures agents { (a b : Rows) → IsTrue (⟦<AgentRows as PartialEq>⟧.eq a b) ↔ (a ≡ b) }
 {}
 

@@ -75,8 +75,8 @@ impl Targets {
         ensures err { OnErr result (self.new ≡ self.old) }
     {
         match place_of(self.list.as_slice(), target) {
-            Place::Held => Ok(()),
-            Place::Before(index) => {
+            TargetPlace::Held => Ok(()),
+            TargetPlace::Before(index) => {
                 self.list.insert(index, target)?;
                 Ok(())
             }
@@ -115,21 +115,21 @@ impl Clone for Targets {
 }
 
 /// Where a target goes.
-enum Place {
+enum TargetPlace {
     Held,
     Before(usize),
 }
 
-fn place_of(list: &[Target], target: Target) -> Place
+fn place_of(list: &[Target], target: Target) -> TargetPlace
     ensures { IsPlace target list.now result }
 {
     for (index, x) in list.iter().enumerate() {
         if target.0 < x.0 {
-            return Place::Before(index);
+            return TargetPlace::Before(index);
         }
         if target.0 == x.0 {
-            return Place::Held;
+            return TargetPlace::Held;
         }
     }
-    Place::Before(list.len())
+    TargetPlace::Before(list.len())
 }

@@ -15,7 +15,7 @@ use Rattle.route_targets.specs.Forwarding.{Forwarder, admitted, departed, forwar
 use Rattle.packet_trace.specs.Lookups.{Lookup, hop_of, hops_of, lookups, lookups_at, lookups_by, lookups_from}
 use Rattle.packet_trace.specs.Steps.{lookup_at, source_in}
 use Rattle.packet_trace.specs.declared.hops.Hop.{Hop}
-use Rattle.packet_trace.specs.declared.step.Place.{Place}
+use Rattle.packet_trace.specs.declared.step.LookupPlace.{LookupPlace}
 use Rattle.packet_trace.proofs.Walks.{mapped_twice}
 
 -- what the verdict makes of a packet that has a source
@@ -46,7 +46,7 @@ one_constant : {R : Type 0} (o : Option Forwarder) (z y : R) → Some y ≡ opti
 one_constant None z y h = cc
 one_constant (Some f) z y h = cc
 
-module _ (agents : List Forwarder) (p : Packet) (k : Place) (vd : Verdict) (src : source_in agents (Some k) ≡ first_of (source_at p) agents)
+module _ (agents : List Forwarder) (p : Packet) (k : LookupPlace) (vd : Verdict) (src : source_in agents (Some k) ≡ first_of (source_at p) agents)
     (said : Some vd ≡ option_map (λ f. verdict f.rows.acls k.instance.0 p) (slice_get agents k.agent)) where
   forwarded : Some (forwarding agents p) ≡ option_map (λ f. admitted agents p.destination.0 f k.instance vd) (slice_get agents k.agent)
   unfolding forwarding

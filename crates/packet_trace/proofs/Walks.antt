@@ -22,7 +22,7 @@ use Rattle.packet_trace.specs.Circuits.{IsOfAUse}
 use Rattle.packet_trace.specs.Steps.{as_leading, lookup_at}
 use Rattle.packet_trace.specs.declared.step.Step.TheVariants as Does
 use Rattle.packet_trace.specs.declared.hops.Hop.{Hop}
-use Rattle.packet_trace.specs.declared.step.Place.{Place}
+use Rattle.packet_trace.specs.declared.step.LookupPlace.{LookupPlace}
 use Rattle.packet_trace.specs.declared.step.Step.{Step}
 
 -- what becomes of a packet by what a lookup leads to
@@ -54,7 +54,7 @@ mapped_alike f g same None = refl
 mapped_alike {A} {B} f g same (Some x) = let some : B → Option B = λ y. Some y in ap some (same x)
 
 module _ (agents : List Forwarder) (address : ℕ) where
-  pub stepped : (m : ℕ) (services : List ServiceNo) (p : Place) (r : Step) → as_leading agents r ≡ option_map (leading agents address) (lookup_at agents p)
+  pub stepped : (m : ℕ) (services : List ServiceNo) (p : LookupPlace) (r : Step) → as_leading agents r ≡ option_map (leading agents address) (lookup_at agents p)
       → option_map (λ x. walk agents address (suc m) x.agent services x.instance) (lookup_at agents p)
       ≡ option_map (outcome_by (walk agents address m) services) (as_leading agents r)
   stepped m services p r is =
@@ -78,7 +78,7 @@ module _ (agents : List Forwarder) (address : ℕ) where
       let some : List Hop → Option (List Hop) = λ l. Some l in
       ap some (ap (λ (k : Hop). hops ++ k ∷ rest) (sym same) ∙ sym (append_assoc hops (h ∷ []) rest))
 
-  pub hopped : (m : ℕ) (hops : List Hop) (h : Hop) (p : Place) (r : Step) → Some h ≡ option_map hop_of (lookup_at agents p)
+  pub hopped : (m : ℕ) (hops : List Hop) (h : Hop) (p : LookupPlace) (r : Step) → Some h ≡ option_map hop_of (lookup_at agents p)
       → as_leading agents r ≡ option_map (leading agents address) (lookup_at agents p)
       → option_map (λ x. hops ++ map hop_of (lookups_from agents address (suc m) x)) (lookup_at agents p)
       ≡ option_map (hops_by m (hops ++ h ∷ [])) (as_leading agents r)
@@ -86,7 +86,7 @@ module _ (agents : List Forwarder) (address : ℕ) where
 
   -- the same with so many left
 
-  pub walk_step : (left : ℕ) (services : List ServiceNo) (p : Place) (r : Step) (all : Option Outcome) → 0 < left
+  pub walk_step : (left : ℕ) (services : List ServiceNo) (p : LookupPlace) (r : Step) (all : Option Outcome) → 0 < left
       → as_leading agents r ≡ option_map (leading agents address) (lookup_at agents p)
       → option_map (λ x. walk agents address left x.agent services x.instance) (lookup_at agents p) ≡ all
       → option_map (outcome_by (walk agents address (left - 1)) services) (as_leading agents r) ≡ all
@@ -95,7 +95,7 @@ module _ (agents : List Forwarder) (address : ℕ) where
       sym (stepped (left - 1) services p r is)
       ∙ subst (λ (n : ℕ). option_map (λ x. walk agents address n x.agent services x.instance) (lookup_at agents p) ≡ all) e so_far
 
-  pub hops_step : (left : ℕ) (hops : List Hop) (h : Hop) (p : Place) (r : Step) (all : Option (List Hop)) → 0 < left
+  pub hops_step : (left : ℕ) (hops : List Hop) (h : Hop) (p : LookupPlace) (r : Step) (all : Option (List Hop)) → 0 < left
       → Some h ≡ option_map hop_of (lookup_at agents p)
       → as_leading agents r ≡ option_map (leading agents address) (lookup_at agents p)
       → option_map (λ x. hops ++ map hop_of (lookups_from agents address left x)) (lookup_at agents p) ≡ all
@@ -105,7 +105,7 @@ module _ (agents : List Forwarder) (address : ℕ) where
       sym (hopped (left - 1) hops h p r here is)
       ∙ subst (λ (n : ℕ). option_map (λ x. hops ++ map hop_of (lookups_from agents address n x)) (lookup_at agents p) ≡ all) e so_far
 
-  pub walk_on : (m : ℕ) (services later : List ServiceNo) (s : ServiceNo) (behind : Place) (all : Option Outcome) → later ≡ services ++ s ∷ []
+  pub walk_on : (m : ℕ) (services later : List ServiceNo) (s : ServiceNo) (behind : LookupPlace) (all : Option Outcome) → later ≡ services ++ s ∷ []
       → option_map (outcome_by (walk agents address m) services) (as_leading agents (Does.Passes s behind)) ≡ all
       → option_map (λ x. walk agents address m x.agent later x.instance) (lookup_at agents behind) ≡ all
   walk_on m services later s behind all e so_far =
@@ -113,7 +113,7 @@ module _ (agents : List Forwarder) (address : ℕ) where
       ∙ sym (mapped_twice (outcome_by (walk agents address m) services) (λ (l : Lookup). Passes s l) (lookup_at agents behind))
       ∙ so_far
 
-  pub hops_on : (m : ℕ) (hops later : List Hop) (s : ServiceNo) (behind : Place) (all : Option (List Hop)) → later ≡ hops
+  pub hops_on : (m : ℕ) (hops later : List Hop) (s : ServiceNo) (behind : LookupPlace) (all : Option (List Hop)) → later ≡ hops
       → option_map (hops_by m hops) (as_leading agents (Does.Passes s behind)) ≡ all
       → option_map (λ x. later ++ map hop_of (lookups_from agents address m x)) (lookup_at agents behind) ≡ all
   hops_on m hops later s behind all e so_far =
@@ -121,7 +121,7 @@ module _ (agents : List Forwarder) (address : ℕ) where
       ∙ sym (mapped_twice (hops_by m hops) (λ (l : Lookup). Passes s l) (lookup_at agents behind))
       ∙ so_far
 
-  pub walk_spent : (left : ℕ) (services : List ServiceNo) (p : Place) (g : Forwarder) (all : Option Outcome) → left ≡ 0 → slice_get agents p.agent ≡ Some g
+  pub walk_spent : (left : ℕ) (services : List ServiceNo) (p : LookupPlace) (g : Forwarder) (all : Option Outcome) → left ≡ 0 → slice_get agents p.agent ≡ Some g
       → option_map (λ x. walk agents address left x.agent services x.instance) (lookup_at agents p) ≡ all
       → Some (Dropped Why.TtlExpired) ≡ all
   walk_spent left services p g all e at so_far =
@@ -129,7 +129,7 @@ module _ (agents : List Forwarder) (address : ℕ) where
       subst (λ (n : ℕ). option_map (λ (x : Lookup). walk agents address n x.agent services x.instance) (lookup_at agents p) ≡ all) e so_far in
       subst (λ (o : Option Forwarder). option_map (λ (x : Lookup). walk agents address 0 x.agent services x.instance) (option_map (λ (f : Forwarder). record { agent = f; instance = p.instance }) o) ≡ all) at none_left
 
-  pub hops_spent : (left : ℕ) (hops : List Hop) (p : Place) (g : Forwarder) (all : Option (List Hop)) → left ≡ 0 → slice_get agents p.agent ≡ Some g
+  pub hops_spent : (left : ℕ) (hops : List Hop) (p : LookupPlace) (g : Forwarder) (all : Option (List Hop)) → left ≡ 0 → slice_get agents p.agent ≡ Some g
       → option_map (λ x. hops ++ map hop_of (lookups_from agents address left x)) (lookup_at agents p) ≡ all
       → Some hops ≡ all
   hops_spent left hops p g all e at so_far =
@@ -141,7 +141,7 @@ module _ (agents : List Forwarder) (address : ℕ) where
 
   -- what a lookup leads to, part by part
 
-  pub leads : (p : Place) (f g : Forwarder) (e : Entry) (o : Option Attached) → slice_get agents p.agent ≡ Some f → looked_up f.rows p.instance address ≡ Some e
+  pub leads : (p : LookupPlace) (f g : Forwarder) (e : Entry) (o : Option Attached) → slice_get agents p.agent ≡ Some f → looked_up f.rows p.instance address ≡ Some e
       → agent_at agents e.next_hop ≡ Some g → attached g.rows e.label ≡ o
       → option_map (leading agents address) (lookup_at agents p) ≡ Some (leading_at g o)
   leads p f g e o at route agent label =
@@ -151,10 +151,10 @@ module _ (agents : List Forwarder) (address : ℕ) where
       ∙ ap (λ (x : Option Forwarder). some (leading_to e.label x)) agent
       ∙ ap (λ (x : Option Attached). some (leading_at g x)) label
 
-  pub leads_on : (g : Forwarder) (k circuit : ℕ) (s : ServiceNo) (q : Place) → q ≡ record { agent = k; instance = circuit_instance_of (other_side_of circuit) } → slice_get agents k ≡ Some g
+  pub leads_on : (g : Forwarder) (k circuit : ℕ) (s : ServiceNo) (q : LookupPlace) → q ≡ record { agent = k; instance = circuit_instance_of (other_side_of circuit) } → slice_get agents k ≡ Some g
       → as_leading agents (Does.Passes s q) ≡ Some (leading_at g (Some (Circuit circuit s)))
   leads_on g k circuit s q e at =
-      ap (λ (x : Place). as_leading agents (Does.Passes s x)) e
+      ap (λ (x : LookupPlace). as_leading agents (Does.Passes s x)) e
       ∙ ap (λ (x : Option Forwarder). option_map (λ (l : Lookup). Passes s l) (option_map (λ (h : Forwarder). record { agent = h; instance = circuit_instance_of (other_side_of circuit) }) x)) at
 
 -- no lookup comes behind these

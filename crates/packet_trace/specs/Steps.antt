@@ -4,7 +4,7 @@ use Rattle.ov_types.specs.declared.numbers.InstanceId.{InstanceId}
 use Rattle.route_targets.specs.Forwarding.{Forwarder}
 use Rattle.packet_trace.specs.Lookups as of
 use Rattle.packet_trace.specs.Lookups.{Leading, Lookup}
-use Rattle.packet_trace.specs.declared.step.Place.{Place}
+use Rattle.packet_trace.specs.declared.step.LookupPlace.{LookupPlace}
 use Rattle.packet_trace.specs.declared.step.Step.{Step}
 use Rattle.packet_trace.specs.declared.step.Step.TheVariants.{Arrives, Stops, Passes}
 
@@ -13,7 +13,7 @@ abbrev pub forwarder_at : List Forwarder → Option ℕ → Option Forwarder
 forwarder_at agents None = None
 forwarder_at agents (Some k) = slice_get agents k
 
-abbrev pub lookup_at : List Forwarder → Place → Option Lookup
+abbrev pub lookup_at : List Forwarder → LookupPlace → Option Lookup
 lookup_at agents p = option_map (λ g. record { agent = g; instance = p.instance }) (slice_get agents p.agent)
 
 abbrev pub as_leading : List Forwarder → Step → Option Leading
@@ -28,6 +28,6 @@ IsWithin n (Stops why) = Unit {0}
 IsWithin n (Passes service behind) = behind.agent < n
 
 -- where a source starts, and its network
-abbrev pub source_in : List Forwarder → Option Place → Option (Forwarder × InstanceId)
+abbrev pub source_in : List Forwarder → Option LookupPlace → Option (Forwarder × InstanceId)
 source_in agents None = None
 source_in agents (Some p) = option_map (λ g. (g, p.instance)) (slice_get agents p.agent)

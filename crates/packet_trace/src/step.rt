@@ -14,7 +14,7 @@ use route_targets::{circuit_instance, other_side, port_label};
 
 /// A lookup: at the agent in a place of the list, in an instance.
 #[derive(Clone, Copy)]
-pub(crate) struct Place {
+pub(crate) struct LookupPlace {
     pub(crate) agent: usize,
     pub(crate) instance: InstanceId,
 }
@@ -24,10 +24,10 @@ pub(crate) struct Place {
 pub(crate) enum Step {
     Arrives(PortNo),
     Stops(Why),
-    Passes(ServiceNo, Place),
+    Passes(ServiceNo, LookupPlace),
 }
 
-pub(crate) fn look_up<V: Vrouter>(agents: &[V], address: Addr, place: Place) -> Step
+pub(crate) fn look_up<V: Vrouter>(agents: &[V], address: Addr, place: LookupPlace) -> Step
     requires { place.agent < length agents.now }
     ensures place { IsWithin (length agents.now) result }
     ensures leading { as_leading (map V.forwarder agents.now) result
@@ -50,7 +50,7 @@ pub(crate) fn look_up<V: Vrouter>(agents: &[V], address: Addr, place: Place) -> 
 }
 
 /// The address and the instance of a lookup.
-pub(crate) fn hop_at<V: Vrouter>(agents: &[V], place: Place) -> Hop
+pub(crate) fn hop_at<V: Vrouter>(agents: &[V], place: LookupPlace) -> Hop
     requires { place.agent < length agents.now }
     ensures { Some result ≡ option_map hop_of (lookup_at (map V.forwarder agents.now) place) }
 {
@@ -61,7 +61,11 @@ pub(crate) fn hop_at<V: Vrouter>(agents: &[V], place: Place) -> Hop
 }
 
 /// What the agent says of a packet that leaves the network of its source.
-pub(crate) fn verdict_at<V: Vrouter>(agents: &mut [V], source: Place, packet: &Packet) -> Verdict
+pub(crate) fn verdict_at<V: Vrouter>(
+    agents: &mut [V],
+    source: LookupPlace,
+    packet: &Packet,
+) -> Verdict
     requires { source.agent < length agents.old }
     ensures said { Some result ≡ option_map (λ f. verdict f.rows.acls source.instance.0 packet.now)
         (slice_get (map V.forwarder agents.old) source.agent) }
@@ -72,12 +76,12 @@ pub(crate) fn verdict_at<V: Vrouter>(agents: &mut [V], source: Place, packet: &P
 }
 
 /// The lookup behind a service, at the agent that has the circuit in front of it.
-fn behind(agent: usize, circuit: u32) -> Place
+fn behind(agent: usize, circuit: u32) -> LookupPlace
     requires first { 32769 ≤ circuit }
     requires last { circuit ≤ 131070 }
     ensures { result ≡ record { agent = agent; instance = circuit_instance_of (other_side_of circuit) } }
 {
-    Place {
+    LookupPlace {
         agent,
         instance: circuit_instance(other_side(circuit)),
     }
@@ -97,7 +101,7 @@ fn agent_at<V: Vrouter>(agents: &[V], address: Addr) -> Option<usize>
 }
 
 /// The place of the first agent that has the packet's source port, and the instance of the port's network.
-pub(crate) fn source_of<V: Vrouter>(agents: &[V], packet: Packet) -> Option<Place>
+pub(crate) fn source_of<V: Vrouter>(agents: &[V], packet: Packet) -> Option<LookupPlace>
     requires { packet.source.0 ≤ 524271 }
     ensures place { IfSome result (λ p. p.agent < length agents.now) }
     ensures agent { source_in (map V.forwarder agents.now) result
@@ -106,7 +110,7 @@ pub(crate) fn source_of<V: Vrouter>(agents: &[V], packet: Packet) -> Option<Plac
     let label = port_label(packet.source);
     for (place, agent) in agents.iter().enumerate() {
         if let Some(instance) = network_of(agent, label) {
-            return Some(Place {
+            return Some(LookupPlace {
                 agent: place,
                 instance,
             });

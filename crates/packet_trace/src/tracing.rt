@@ -5,7 +5,7 @@ ghost use Rattle.packet_trace.specs.Lookups.{hop_of, hops_of, lookups_from};
 ghost use Rattle.packet_trace.specs.Steps.{lookup_at};
 
 use crate::hops::{Hops, Trace};
-use crate::step::{Place, Step, hop_at, look_up, source_of, verdict_at};
+use crate::step::{LookupPlace, Step, hop_at, look_up, source_of, verdict_at};
 use crate::vrouter::Vrouter;
 use ov_types::{Addr, Outcome, Packet, Services, Verdict, Why};
 
@@ -23,7 +23,7 @@ pub fn trace<V: Vrouter>(agents: &mut [V], packet: Packet) -> Trace
     match verdict_at(agents, source, &packet) {
         Verdict::Pass => walk(agents, packet.destination, source, 64),
         Verdict::Enter(instance) => {
-            let start = Place {
+            let start = LookupPlace {
                 agent: source.agent,
                 instance,
             };
@@ -44,7 +44,7 @@ fn dropped(why: Why) -> Trace
 }
 
 /// The walk from a lookup on, with so many lookups left.
-fn walk<V: Vrouter>(agents: &[V], address: Addr, start: Place, lookups: u8) -> Trace
+fn walk<V: Vrouter>(agents: &[V], address: Addr, start: LookupPlace, lookups: u8) -> Trace
     requires start { start.agent < length agents.now }
     requires limit { lookups ≤ 64 }
     ensures outcome { Some result.outcome ≡ option_map

@@ -18,10 +18,10 @@ use Rattle.config_model.specs.declared.config.Config.{Config}
 use Rattle.config_model.specs.declared.config.Network.{Network}
 use Rattle.config_model.specs.declared.config.Port.{Port}
 use Rattle.config_model.specs.declared.topology.Topology.{Topology}
-use Rattle.network_rules.specs.declared.matching.Match.{Match}
-use Rattle.network_rules.specs.Matching.{deciding}
-use Rattle.network_rules.specs.Taking.{IsDeciding}
-use Rattle.network_rules.proofs.Taking.{deciding_iff, undecided_iff}
+use Rattle.policy_rules.specs.declared.matching.Match.{Match}
+use Rattle.policy_rules.specs.Matching.{deciding}
+use Rattle.policy_rules.specs.Taking.{IsDeciding}
+use Rattle.policy_rules.proofs.Taking.{deciding_iff, undecided_iff}
 use Rattle.config_check.specs.Finding.{port_numbered, port_at}
 use Rattle.config_check.specs.Rules.{first_broken}
 use Rattle.config_check.specs.Sentences.{IsValid}

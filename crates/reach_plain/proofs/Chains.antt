@@ -7,11 +7,11 @@ use Rattle.config_model.specs.declared.config.End.{End}
 use Rattle.config_model.specs.declared.config.End.TheVariants.{Any, Named}
 use Rattle.config_model.specs.declared.config.Network.{Network}
 use Rattle.config_model.specs.declared.topology.Topology.{Topology}
-use Rattle.network_rules.specs.Matching.{deciding}
-use Rattle.network_rules.specs.declared.matching.Match.{Match}
-use Rattle.network_rules.specs.Answering.{answering, SpeakBothWays}
-use Rattle.network_rules.proofs.Answers.{opposite}
-use Rattle.network_rules.proofs.Deciders.{of_decider}
+use Rattle.policy_rules.specs.Matching.{deciding}
+use Rattle.policy_rules.specs.declared.matching.Match.{Match}
+use Rattle.policy_rules.specs.Answering.{answering, SpeakBothWays}
+use Rattle.policy_rules.proofs.Answers.{opposite}
+use Rattle.policy_rules.proofs.Deciders.{of_decider}
 use Rattle.config_check.specs.Rules.{first_broken}
 use Rattle.config_check.specs.Sentences.{NamesEnds, NamesTwo}
 use Rattle.reach_plain.proofs.Kept.{valid}

@@ -12,10 +12,10 @@ use Rattle.config_model.specs.declared.config.Config.{Config}
 use Rattle.config_model.specs.declared.config.Network.{Network}
 use Rattle.config_model.specs.declared.config.Port.{Port}
 use Rattle.config_model.specs.declared.topology.Topology.{Topology}
-use Rattle.network_rules.specs.Related.{are_related}
-use Rattle.network_rules.specs.Standing.{AreRelated}
-use Rattle.network_rules.proofs.Lists.{mapped_is}
-use Rattle.network_rules.proofs.Relations.{related_iff}
+use Rattle.policy_rules.specs.Related.{are_related}
+use Rattle.policy_rules.specs.Standing.{AreRelated}
+use Rattle.policy_rules.proofs.Lists.{mapped_is}
+use Rattle.policy_rules.proofs.Relations.{related_iff}
 use Rattle.config_check.specs.Rules.{network_names, node_names, holds_address}
 use Rattle.config_check.specs.Sentences.{IsAround, IsValid}
 use Rattle.config_check.proofs.Meanings.{holds_iff}

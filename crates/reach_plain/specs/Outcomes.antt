@@ -18,10 +18,10 @@ use Rattle.config_model.specs.declared.config.Config.{Config}
 use Rattle.config_model.specs.declared.config.Network.{Network}
 use Rattle.config_model.specs.declared.config.Port.{Port}
 use Rattle.chain_expand.specs.Expansion.{expansion}
-use Rattle.network_rules.specs.Related.{rules_between}
-use Rattle.network_rules.specs.declared.matching.Match.{Match}
-use Rattle.network_rules.specs.Standing.{AreRelated}
-use Rattle.network_rules.specs.Taking.{MatchesNot, IsDeciding}
+use Rattle.policy_rules.specs.Related.{rules_between}
+use Rattle.policy_rules.specs.declared.matching.Match.{Match}
+use Rattle.policy_rules.specs.Standing.{AreRelated}
+use Rattle.policy_rules.specs.Taking.{MatchesNot, IsDeciding}
 
 -- a packet leaves a network: a port of it has the packet's source number
 pub record Leaves (c : Config) (p : Packet) (own : Network) : Type 0 where

@@ -14,11 +14,11 @@ use Rattle.config_model.specs.declared.config.Network.{Network}
 use Rattle.config_model.specs.declared.config.Port.{Port}
 use Rattle.chain_expand.specs.Expansion.{expansion}
 use Rattle.ov_types.specs.First.{same_name}
-use Rattle.network_rules.specs.Related.{are_related}
+use Rattle.policy_rules.specs.Related.{are_related}
 use Rattle.config_check.specs.Finding.{network_named, port_numbered, port_at}
 use Rattle.config_check.specs.Rules.{holds_address}
-use Rattle.network_rules.specs.Matching.{deciding}
-use Rattle.network_rules.specs.declared.matching.Match.{Match}
+use Rattle.policy_rules.specs.Matching.{deciding}
+use Rattle.policy_rules.specs.declared.matching.Match.{Match}
 
 -- the network that a packet is for: the source's own, or one related to it, whose subnet holds the address
 abbrev pub network_towards : Config → Network → ℕ → Option Network

@@ -1,11 +1,11 @@
 //! Decisions between networks that are given by their numbers.
 ghost use Rattle.std.specs.Prelude.{◌≡◌, ◌↔◌, IsTrue, IsSome, IfSome};
-ghost use Rattle.network_rules.specs.Matching.{decision};
+ghost use Rattle.policy_rules.specs.Matching.{decision};
 ghost use Rattle.config_check.specs.Finding.{network_numbered};
 
 use config_check::{Valid, known_network, network_numbered};
-use network_rules::{Decision, decision};
 use ov_types::{InstanceId, Tuple};
+use policy_rules::{Decision, decision};
 
 /// Whether a number is a network's. It takes no memory.
 pub fn is_network(valid: &Valid, number: InstanceId) -> bool

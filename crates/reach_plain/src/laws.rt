@@ -12,16 +12,16 @@ ghost use Rattle.config_model.specs.declared.config.Action.TheVariants.{Through}
 ghost use Rattle.config_model.specs.declared.config.Config.{Config};
 ghost use Rattle.config_model.specs.declared.config.Network.{Network};
 ghost use Rattle.config_model.specs.declared.topology.Topology.{Topology};
-ghost use Rattle.network_rules.specs.declared.matching.Match.{Match};
-ghost use Rattle.network_rules.specs.Matching.{deciding};
-ghost use Rattle.network_rules.specs.Answering.{answering, SpeakBothWays};
+ghost use Rattle.policy_rules.specs.declared.matching.Match.{Match};
+ghost use Rattle.policy_rules.specs.Matching.{deciding};
+ghost use Rattle.policy_rules.specs.Answering.{answering, SpeakBothWays};
 ghost use Rattle.config_check.specs.Rules.{first_broken};
 ghost use Rattle.reach_plain.specs.Reachability.{network_towards, reachability};
 ghost use Rattle.reach_plain.specs.Outcomes.{IsTowards, Becomes};
 
 /// In a valid configuration, where all rules between two networks are of both directions, a packet that is decided by
 /// a chain rule and its answer are decided in opposite directions. (That one rule decides both, so that they pass the
-/// same services in opposite order, is `answers_are_decided_alike` of `network_rules`.)
+/// same services in opposite order, is `answers_are_decided_alike` of `policy_rules`.)
 pub fn chains_are_passed_back()
     ensures { (topology : Topology) (c : Config) (a b : Network) (t : Tuple) (m n : Match) (chain : List ℕ) (use_no : ℕ)
         → first_broken topology c ≡ None → SpeakBothWays c a b

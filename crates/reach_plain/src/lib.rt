@@ -8,5 +8,5 @@ mod outcomes;
 mod services;
 
 pub use decisions::{decide, is_network};
-pub use network_rules::Decision;
 pub use outcomes::reach;
+pub use policy_rules::Decision;

@@ -1,15 +1,15 @@
 //! What becomes of a packet.
 ghost use Rattle.std.specs.Prelude.{◌≡◌, ◌&&◌, ◌||◌, option_copied};
 ghost use Rattle.ov_types.specs.First.{same_name};
-ghost use Rattle.network_rules.specs.Related.{are_related};
+ghost use Rattle.policy_rules.specs.Related.{are_related};
 ghost use Rattle.config_check.specs.Rules.{holds_address};
 ghost use Rattle.reach_plain.specs.Reachability.{network_towards, arrival_at, outcome_by, reachability};
 
 use crate::services::services_through;
 use config_check::{Valid, holds_address, network_named, port_at, port_numbered};
 use config_model::{Action, Config, Network, Port};
-use network_rules::{Match, are_related, deciding};
 use ov_types::{Addr, Outcome, Packet, Services, Why};
+use policy_rules::{Match, are_related, deciding};
 
 /// Whether a packet from a network may be for another: for itself, or for a related one.
 fn is_near(config: &Config, from: &Network, other: &Network) -> bool

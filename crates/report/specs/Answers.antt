@@ -9,8 +9,8 @@ use Rattle.report.specs.Refusals.{edit_fault_text}
 use Rattle.report.specs.Rows.{node_lines}
 use Rattle.schedule_script.specs.declared.answer.Answer.{Answer}
 use Rattle.schedule_script.specs.declared.answer.Answer.TheVariants.{Did, Idle, EditRefused, Rounds, Shown, Traced}
-use Rattle.tied_answers.specs.declared.answer.TiedAnswer.{TiedAnswer}
-use Rattle.tied_answers.specs.declared.answer.TiedAnswer.TheVariants.{Answered, EditTied}
+use Rattle.schedule_ties.specs.declared.answer.TiedAnswer.{TiedAnswer}
+use Rattle.schedule_ties.specs.declared.answer.TiedAnswer.TheVariants.{Answered, EditTied}
 
 abbrev pub settled_text : Bool → List ℕ
 settled_text settled = if settled then codes "settled" else codes "unsettled"

@@ -1,7 +1,7 @@
 //! The lines of answers.
 ghost use Rattle.std.specs.Prelude.{◌≡◌, ◌++◌, OnOk, OnErr};
 ghost use Rattle.report.specs.Answers.{IsAnswerTo, answer_lines, settled_text, shown_lines, tied_answer_lines};
-ghost use Rattle.tied_answers.specs.Answers.{OfAnswer};
+ghost use Rattle.schedule_ties.specs.Answers.{OfAnswer};
 
 use crate::lined::LinesOf;
 use crate::outcomes::OutcomeLines;
@@ -10,8 +10,8 @@ use crate::rows::node_lines;
 use ov_io::TextOut;
 use ov_types::{Name, NoMemory, NodeRows};
 use schedule_script::{Answer, Event};
+use schedule_ties::TiedAnswer;
 use std::alloc::Global;
-use tied_answers::TiedAnswer;
 
 fn settled_text(settled: bool) -> &'static str
     ensures { result.now ≡ settled_text settled }

@@ -12,9 +12,9 @@ use ov_types::{
 };
 use report::{answer_lines, tied_answer_lines};
 use schedule_script::{Answer, Event};
+use schedule_ties::TiedAnswer;
 use std::alloc::Global;
 use std::process::Abort;
-use tied_answers::TiedAnswer;
 
 fn vm9(rt: &impl Abort) -> Name {
     Name::new("vm9").expect(rt, "a name")

@@ -6,7 +6,7 @@ use Rattle.ov_types.specs.declared.numbers.PortNo.{PortNo}
 use Rattle.ov_types.specs.declared.numbers.Label.{Label}
 use Rattle.ov_types.specs.declared.numbers.Rd.{Rd}
 use Rattle.ov_types.specs.declared.targets.Target.{Target}
-use Rattle.route_targets.specs.declared.numbers.Hop.{Hop}
+use Rattle.route_targets.specs.declared.numbers.UseHop.{UseHop}
 
 -- the instance of a hop of a chain's use, where a use has 16 numbers: hop 0 is before the first service, hop j behind
 -- service j
@@ -14,7 +14,7 @@ abbrev pub hop_instance_of : ℕ → ℕ → InstanceId
 hop_instance_of use_no hop = record { 0 = 16384 + 16 * use_no + hop }
 
 -- the hop that an instance is of: none where it is a network's
-abbrev pub hop_of : InstanceId → Option Hop
+abbrev pub hop_of : InstanceId → Option UseHop
 hop_of instance = if nat_le instance.0 16383 then None
     else Some (record { use_no = (instance.0 - 16384) / 16; place = (instance.0 - 16384) % 16 })
 

@@ -8,7 +8,7 @@ ghost use Rattle.ov_types.specs.declared.prefix.Addr.{Addr};
 ghost use Rattle.route_targets.specs.Numbers.{hop_instance_of, target_of, distinguisher_of, port_label_of};
 ghost use Rattle.route_targets.specs.Numbers.{circuit_label_of, circuit_address_of, other_side_of};
 ghost use Rattle.route_targets.specs.Numbers.{left_circuit_of, right_circuit_of, circuit_instance_of, hop_of};
-ghost use Rattle.route_targets.specs.declared.numbers.Hop.{Hop};
+ghost use Rattle.route_targets.specs.declared.numbers.UseHop.{UseHop};
 
 /// The instances of different hops, of one use or of two, differ. None is a network's, and each is a number of an
 /// instance.
@@ -21,7 +21,7 @@ pub fn hop_instances_are_distinct()
 /// The instance of a hop is of that hop, an instance that is of a hop is that hop's, and a network's is of none.
 pub fn hops_are_told_by_instances()
     ensures told { (u j : ℕ) → j ≤ 15 → hop_of (hop_instance_of u j) ≡ Some (record { use_no = u; place = j }) }
-    ensures back { (i : InstanceId) (hop : Hop) → hop_of i ≡ Some hop → hop_instance_of hop.use_no hop.place ≡ i }
+    ensures back { (i : InstanceId) (hop : UseHop) → hop_of i ≡ Some hop → hop_instance_of hop.use_no hop.place ≡ i }
     ensures networks { (i : InstanceId) → i.0 ≤ 16383 → hop_of i ≡ None }
 {}
 

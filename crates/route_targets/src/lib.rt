@@ -6,6 +6,6 @@ pub mod laws;
 mod numbers;
 
 pub use numbers::{
-    Hop, circuit_address, circuit_instance, circuit_label, hop_instance, hop_of, left_circuit,
+    UseHop, circuit_address, circuit_instance, circuit_label, hop_instance, hop_of, left_circuit,
     other_side, port_label, rd, right_circuit, target,
 };

@@ -8,12 +8,12 @@ use ov_types::{Addr, InstanceId, Label, PortNo, Rd, Target};
 
 /// A hop of a chain's use: the number of the use, and the hop's place, which is 0 before the first service.
 #[derive(Clone, Copy, PartialEq, Eq)]
-pub struct Hop {
+pub struct UseHop {
     pub use_no: u16,
     pub place: u8,
 }
 
-/// The instance of a hop of a chain's use. Hop 0 is before the first service, hop j behind service j.
+/// The instance of a hop of a chain's use. UseHop 0 is before the first service, hop j behind service j.
 pub fn hop_instance(use_no: u16, hop: u8) -> InstanceId
     requires last_use { use_no ≤ 3071 }
     requires last_hop { hop ≤ 15 }
@@ -23,14 +23,14 @@ pub fn hop_instance(use_no: u16, hop: u8) -> InstanceId
 }
 
 /// The hop that an instance is of. The instance of a network is of none.
-pub fn hop_of(i: InstanceId) -> Option<Hop>
+pub fn hop_of(i: InstanceId) -> Option<UseHop>
     ensures { result ≡ hop_of i }
 {
     if i.0 <= 16383 {
         return None;
     }
     let from_first = i.0 - 16384;
-    Some(Hop {
+    Some(UseHop {
         use_no: from_first / 16,
         place: (from_first % 16) as u8,
     })

@@ -3,7 +3,7 @@ use Rattle.std.specs.Prelude.{ℕ, List, [], Result, Ok, Err}
 use Rattle.serde_json.specs.Data.{Data}
 use Rattle.config_model.specs.Faults.{Fault}
 use Rattle.config_check.specs.Rules.{first_broken}
-use Rattle.document_answers.specs.Answers.{Answer, answer_bad, answer_checked, of_json}
+use Rattle.compile_answers.specs.Answers.{Answer, answer_bad, answer_checked, of_json}
 use Rattle.ov_json.specs.Json.{json_of}
 use Rattle.scale_out.specs.declared.document.ScaleInput.{ScaleInput}
 use Rattle.scale_out.specs.Reading.{scale_at}

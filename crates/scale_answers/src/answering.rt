@@ -3,14 +3,14 @@ ghost use Rattle.std.specs.Prelude.{◌≡◌, IfOk, IfErr, OnErr};
 ghost use Rattle.serde_json.specs.View.{view};
 ghost use Rattle.ov_io.specs.Inputs.{TookFront};
 ghost use Rattle.ov_io.specs.Pieces.{HasWriteCause};
-ghost use Rattle.document_answers.specs.Answers.{IsAnswered, WasGiven, answer_good};
+ghost use Rattle.compile_answers.specs.Answers.{IsAnswered, WasGiven, answer_good};
 ghost use Rattle.scale_answers.specs.Answers.{scale_answer, scale_value};
 ghost use Rattle.scale_answers.specs.Spreads.{scale_text};
 
 use crate::spreads::write_spreads;
+use compile_answers::{Reception, Unfit, valid_of, write_unfit};
 use config_check::Valid;
 use config_model::ReadRefusal;
-use document_answers::{Unfit, Verdict, valid_of, write_unfit};
 use ov_io::{Sink, WriteRefusal};
 use ov_json::value_of;
 use ov_types::{Items, NoMemory, Packet};
@@ -72,7 +72,7 @@ pub fn answer_scale<K: Sink>(
     alloc: Global,
     octets: &[u8],
     sink: &mut K,
-) -> Result<Verdict, WriteRefusal>
+) -> Result<Reception, WriteRefusal>
     ensures given { IfOk result (λ verdict. WasGiven (scale_answer octets.now) verdict
         (K.taken sink.old) (K.taken sink.new)) }
     ensures front { OnErr result (TookFront (K.taken sink.old) (K.taken sink.new) (scale_answer octets.now).text) }
@@ -87,7 +87,7 @@ pub fn answer_scale<K: Sink>(
                 asked.packets.as_slice(),
                 sink,
             )?;
-            Ok(Verdict::Good)
+            Ok(Reception::Good)
         }
         Err(unfit) => write_unfit(alloc, unfit, sink),
     }

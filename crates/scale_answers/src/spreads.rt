@@ -5,8 +5,8 @@ ghost use Rattle.ov_io.specs.Inputs.{TookFront};
 ghost use Rattle.ov_io.specs.Pieces.{HasWriteCause};
 ghost use Rattle.scale_answers.specs.Spreads.{scale_text};
 
+use compile_answers::write_one;
 use config_check::Valid;
-use document_answers::write_one;
 use ov_io::{Sink, TextOut, WriteRefusal, write_gathered};
 use ov_types::Packet;
 use report::SpreadLines;

@@ -7,7 +7,7 @@ use Rattle.ov_types.specs.declared.packet.Outcome.{Outcome}
 use Rattle.ov_types.specs.declared.packet.Outcome.TheVariants as Outcomes
 use Rattle.ov_types.specs.declared.packet.Packet.{Packet}
 use Rattle.config_model.specs.declared.config.Config.{Config}
-use Rattle.network_rules.specs.Answering.{answering}
+use Rattle.policy_rules.specs.Answering.{answering}
 use Rattle.config_check.specs.Finding.{port_numbered}
 use Rattle.reach_plain.specs.Reachability.{reachability}
 use Rattle.scale_out.specs.declared.groups.Group.{Group}

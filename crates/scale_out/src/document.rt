@@ -10,7 +10,7 @@ ghost use Rattle.scale_out.specs.Reading.{groups_at, scale_at};
 
 use crate::groups::Groups;
 use config_model::reading::{
-    Count, Place, check_others, list_member, member_of, object_of, read_member,
+    Count, DocumentPlace, check_others, list_member, member_of, object_of, read_member,
 };
 use config_model::{CompileInput, Config, ReadRefusal, Topology};
 use ov_types::{Items, Packet};
@@ -28,7 +28,7 @@ pub struct ScaleInput {
 #[tactic(auto, unfolding(config_model::specs::Fields::in_member))]
 fn groups_member(
     alloc: Global,
-    place: &Place<'_>,
+    place: &DocumentPlace<'_>,
     config: &Config,
     value: &Value,
 ) -> Result<Groups, ReadRefusal>
@@ -36,14 +36,19 @@ fn groups_member(
         (in_member (groups_at config.now) (place_text place.now) (codes "groups") (view value.now)) }
 {
     let found = member_of(alloc, place, "groups", value)?;
-    Groups::read_at(alloc, &Place::Member(place, "groups"), found, config)
+    Groups::read_at(
+        alloc,
+        &DocumentPlace::Member(place, "groups"),
+        found,
+        config,
+    )
 }
 
 /// What `scale` takes: an object with `topology`, `configuration`, `groups` and `packets`.
 #[tactic(auto, unfolding(crate::specs::Reading::scale_at))]
 fn scale_input_of(
     alloc: Global,
-    place: &Place<'_>,
+    place: &DocumentPlace<'_>,
     value: &Value,
 ) -> Result<ScaleInput, ReadRefusal>
     ensures reads { Gives (λ r. r) result (scale_at (place_text place.now) (view value.now)) }
@@ -76,5 +81,5 @@ pub fn read_scale(alloc: Global, value: &Value) -> Result<ScaleInput, ReadRefusa
     ensures config_form { IfOk result (λ r. IsTrue (has_config_form r.input.config)) }
     ensures packets_form { IfOk result (λ r. IsTrue (list_all has_packet_form r.packets)) }
 {
-    scale_input_of(alloc, &Place::Whole, value)
+    scale_input_of(alloc, &DocumentPlace::Whole, value)
 }

@@ -13,7 +13,7 @@ ghost use Rattle.scale_out.specs.Reading.{groups_from};
 
 use crate::groups::Group;
 use config_model::reading::{
-    Count, FromDocument, Place, check_others, list_of, member_of, object_of, whole_of,
+    Count, DocumentPlace, FromDocument, check_others, list_of, member_of, object_of, whole_of,
 };
 use config_model::{Config, DocKind, ReadRefusal};
 use ov_types::{Items, Name};
@@ -46,7 +46,7 @@ fn is_grouped(groups: &[Group], name: &Name) -> bool
 #[tactic(auto, unfolding(crate::specs::Reading::service_at))]
 fn service_of(
     alloc: Global,
-    place: &Place<'_>,
+    place: &DocumentPlace<'_>,
     config: &Config,
     earlier: &[Group],
     value: &Value,
@@ -66,7 +66,7 @@ fn service_of(
 #[tactic(auto, unfolding(config_model::specs::Fields::in_member))]
 fn service_member(
     alloc: Global,
-    place: &Place<'_>,
+    place: &DocumentPlace<'_>,
     config: &Config,
     earlier: &[Group],
     value: &Value,
@@ -78,7 +78,7 @@ fn service_member(
     let found = member_of(alloc, place, "service", value)?;
     service_of(
         alloc,
-        &Place::Member(place, "service"),
+        &DocumentPlace::Member(place, "service"),
         config,
         earlier,
         found,
@@ -95,7 +95,7 @@ fn is_few(count: usize) -> bool
 #[tactic(auto, unfolding(crate::specs::Reading::few_at))]
 fn few_of<'v>(
     alloc: Global,
-    place: &Place<'_>,
+    place: &DocumentPlace<'_>,
     value: &'v Value,
 ) -> Result<&'v [Value], ReadRefusal>
     ensures reads { Gives (λ v. items_view v.now) result (few_at (place_text place.now) (view value.now)) }
@@ -110,7 +110,7 @@ fn few_of<'v>(
 }
 
 /// The number of a member.
-fn number_of(alloc: Global, place: &Place<'_>, value: &Value) -> Result<u16, ReadRefusal>
+fn number_of(alloc: Global, place: &DocumentPlace<'_>, value: &Value) -> Result<u16, ReadRefusal>
     ensures reads { Gives (λ n. n) result (whole_at 0 65535 (place_text place.now) (view value.now)) }
     ensures form { IfOk result (λ n. IsTrue (nat_le n 65535)) }
 {
@@ -119,7 +119,11 @@ fn number_of(alloc: Global, place: &Place<'_>, value: &Value) -> Result<u16, Rea
 }
 
 /// The number of each member, in order.
-fn numbers_of(alloc: Global, place: &Place<'_>, values: &[Value]) -> Result<Items<u16>, ReadRefusal>
+fn numbers_of(
+    alloc: Global,
+    place: &DocumentPlace<'_>,
+    values: &[Value],
+) -> Result<Items<u16>, ReadRefusal>
     ensures reads { Gives (λ xs. xs) result
         (items_at (whole_at 0 65535) (place_text place.now) 0 (items_view values.now)) }
     ensures form { IfOk result (λ xs. IsTrue (list_all (λ n. nat_le n 65535) xs)) }
@@ -127,7 +131,7 @@ fn numbers_of(alloc: Global, place: &Place<'_>, values: &[Value]) -> Result<Item
 {
     let mut numbers = Items::new(alloc);
     for (index, value) in values.iter().enumerate() {
-        numbers.push(number_of(alloc, &Place::Item(place, index), value)?)?;
+        numbers.push(number_of(alloc, &DocumentPlace::Item(place, index), value)?)?;
     }
     Ok(numbers)
 }
@@ -147,7 +151,11 @@ fn is_ascending(numbers: &[u16]) -> bool
 
 /// The members of a group: 1 to 16 numbers, each below the next.
 #[tactic(auto, unfolding(crate::specs::Reading::members_at, crate::specs::Form::are_members))]
-fn members_of(alloc: Global, place: &Place<'_>, value: &Value) -> Result<Items<u16>, ReadRefusal>
+fn members_of(
+    alloc: Global,
+    place: &DocumentPlace<'_>,
+    value: &Value,
+) -> Result<Items<u16>, ReadRefusal>
     ensures reads { Gives (λ xs. xs) result (members_at (place_text place.now) (view value.now)) }
     ensures form { IfOk result (λ xs. IsTrue (are_members xs)) }
 {
@@ -162,7 +170,7 @@ fn members_of(alloc: Global, place: &Place<'_>, value: &Value) -> Result<Items<u
 #[tactic(auto, unfolding(config_model::specs::Fields::in_member))]
 fn members_member(
     alloc: Global,
-    place: &Place<'_>,
+    place: &DocumentPlace<'_>,
     value: &Value,
 ) -> Result<Items<u16>, ReadRefusal>
     ensures reads { Gives (λ xs. xs) result
@@ -170,14 +178,14 @@ fn members_member(
     ensures form { IfOk result (λ xs. IsTrue (are_members xs)) }
 {
     let found = member_of(alloc, place, "members", value)?;
-    members_of(alloc, &Place::Member(place, "members"), found)
+    members_of(alloc, &DocumentPlace::Member(place, "members"), found)
 }
 
 /// A group behind earlier ones.
 #[tactic(auto, unfolding(crate::specs::Reading::group_at))]
 fn group_of(
     alloc: Global,
-    place: &Place<'_>,
+    place: &DocumentPlace<'_>,
     config: &Config,
     earlier: &[Group],
     value: &Value,
@@ -199,7 +207,7 @@ fn group_of(
 /// Groups, each behind those before it.
 fn groups_from(
     alloc: Global,
-    place: &Place<'_>,
+    place: &DocumentPlace<'_>,
     config: &Config,
     values: &[Value],
 ) -> Result<Items<Group>, ReadRefusal>
@@ -211,7 +219,7 @@ fn groups_from(
     for (index, value) in values.iter().enumerate() {
         let next = group_of(
             alloc,
-            &Place::Item(&*place, index),
+            &DocumentPlace::Item(&*place, index),
             config,
             groups.as_slice(),
             value,
@@ -225,7 +233,7 @@ fn groups_from(
 #[tactic(auto, unfolding(crate::specs::Reading::groups_at))]
 pub(crate) fn groups_of(
     alloc: Global,
-    place: &Place<'_>,
+    place: &DocumentPlace<'_>,
     config: &Config,
     value: &Value,
 ) -> Result<Items<Group>, ReadRefusal>

@@ -8,7 +8,7 @@ ghost use Rattle.scale_out.specs.Form.{has_group_form};
 ghost use Rattle.scale_out.specs.Reading.{groups_at};
 
 use crate::group_reader::groups_of;
-use config_model::reading::Place;
+use config_model::reading::DocumentPlace;
 use config_model::{Config, ReadRefusal};
 use ov_types::{Items, Name};
 use serde_json::Value;
@@ -56,13 +56,13 @@ impl Groups {
     pub fn read(alloc: Global, value: &Value, config: &Config) -> Result<Groups, ReadRefusal>
         ensures { Gives (λ groups. groups) result (groups_at config.now [] (view value.now)) }
     {
-        Groups::read_at(alloc, &Place::Whole, value, config)
+        Groups::read_at(alloc, &DocumentPlace::Whole, value, config)
     }
 
     /// The same, of a value at a place.
     pub(crate) fn read_at(
         alloc: Global,
-        place: &Place<'_>,
+        place: &DocumentPlace<'_>,
         value: &Value,
         config: &Config,
     ) -> Result<Groups, ReadRefusal>

@@ -13,15 +13,15 @@ use Rattle.config_check.specs.Rules.{first_broken}
 use Rattle.reach_plain.specs.Reachability.{reachability}
 use Rattle.route_targets.specs.Forwarding.{forwarding}
 use Rattle.schedule_script.specs.declared.answer.Answer.TheVariants.{Traced}
-use Rattle.isolation_laws.specs.Refusing.{TiedNetwork, tied_start}
-use Rattle.network_model.specs.Steps.{is_settled}
-use Rattle.network_model.specs.Events.{forwarders, next}
-use Rattle.network_model.specs.Setup.{opening as opening_setup}
+use Rattle.machine_isolation_laws.specs.Refusing.{TiedNetwork, tied_start}
+use Rattle.machine_model.specs.Steps.{is_settled}
+use Rattle.machine_model.specs.Events.{forwarders, next}
+use Rattle.machine_model.specs.Setup.{opening as opening_setup}
 use Rattle.headline_laws.specs.Headline.{IsWritten}
-use Rattle.schedule_laws.proofs.AsCompiled.{forms_of_front}
-use Rattle.tied_laws.specs.Runs.{tied_moment}
-use Rattle.tied_laws.proofs.Kept.{tied_more}
-use Rattle.tied_laws.proofs.Moments.{compiled_here, ends_here}
+use Rattle.schedule_compiled_laws.proofs.AsCompiled.{forms_of_front}
+use Rattle.schedule_tied_laws.specs.Runs.{tied_moment}
+use Rattle.schedule_tied_laws.proofs.Kept.{tied_more}
+use Rattle.schedule_tied_laws.proofs.Moments.{compiled_here, ends_here}
 use Rattle.scenario_gen.specs.Scenario.{scenario}
 use Rattle.scenario_gen.specs.Schedule.{events, packets}
 use Rattle.scenario_gen.proofs.NodeForms.{topology_has_form}

@@ -9,14 +9,14 @@ use Rattle.config_check.specs.Checked.{Checked}
 use Rattle.schedule_script.specs.declared.answer.Answer.TheVariants.{Did, Idle, EditRefused, Rounds, Shown, Traced}
 use Rattle.reach_plain.specs.Reachability.{reachability}
 use Rattle.route_targets.specs.Forwarding.{forwarding}
-use Rattle.isolation_laws.specs.Refusing.{TiedNetwork, after_tied, next_tied, tied_start}
-use Rattle.network_model.specs.Events.{event_of, forwarders, next}
-use Rattle.network_model.specs.Setup.{checked}
-use Rattle.net_model.specs.Stands.{message_size}
-use Rattle.tied_answers.specs.declared.answer.TiedAnswer.{TiedAnswer}
-use Rattle.tied_answers.specs.declared.answer.TiedAnswer.TheVariants.{Answered, EditTied}
-use Rattle.tied_laws.specs.Runs.{answer_tied, tied_moment}
-use Rattle.tied_laws.proofs.Kept.{tied_more}
+use Rattle.machine_isolation_laws.specs.Refusing.{TiedNetwork, after_tied, next_tied, tied_start}
+use Rattle.machine_model.specs.Events.{event_of, forwarders, next}
+use Rattle.machine_model.specs.Setup.{checked}
+use Rattle.running_model.specs.Stands.{message_size}
+use Rattle.schedule_ties.specs.declared.answer.TiedAnswer.{TiedAnswer}
+use Rattle.schedule_ties.specs.declared.answer.TiedAnswer.TheVariants.{Answered, EditTied}
+use Rattle.schedule_tied_laws.specs.Runs.{answer_tied, tied_moment}
+use Rattle.schedule_tied_laws.proofs.Kept.{tied_more}
 use Rattle.scenario_run.specs.declared.tally.Tally.{Tally}
 use Rattle.scenario_run.specs.Tallies.{counted, is_delivered, nothing, one_if, same_outcome, settled, tally, tally_from, traced}
 use Rattle.scenario_run.proofs.Sameness.{outcome_self}

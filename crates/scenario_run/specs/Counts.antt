@@ -11,10 +11,10 @@ use Rattle.config_model.specs.declared.event.Event.{Event}
 use Rattle.config_model.specs.declared.event.Event.TheVariants.{Trace}
 use Rattle.reach_plain.specs.Reachability.{reachability}
 use Rattle.schedule_script.specs.declared.answer.Answer.TheVariants.{Rounds, Traced}
-use Rattle.tied_answers.specs.declared.answer.TiedAnswer.{TiedAnswer}
-use Rattle.tied_answers.specs.declared.answer.TiedAnswer.TheVariants.{Answered}
-use Rattle.tied_laws.specs.Isolated.{StandsAt}
-use Rattle.tied_laws.specs.Runs.{answers, tied_moment}
+use Rattle.schedule_ties.specs.declared.answer.TiedAnswer.{TiedAnswer}
+use Rattle.schedule_ties.specs.declared.answer.TiedAnswer.TheVariants.{Answered}
+use Rattle.schedule_tied_laws.specs.Isolated.{StandsAt}
+use Rattle.schedule_tied_laws.specs.Runs.{answers, tied_moment}
 use Rattle.scenario_run.specs.declared.tally.Tally.{Tally}
 
 abbrev pub is_trace : Event → Bool

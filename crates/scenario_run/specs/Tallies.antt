@@ -13,13 +13,13 @@ use Rattle.config_model.specs.declared.event.Event.{Event}
 use Rattle.config_model.specs.declared.event.Event.TheVariants.{Settle, Trace}
 use Rattle.reach_plain.specs.Reachability.{reachability}
 use Rattle.schedule_script.specs.declared.answer.Answer.TheVariants.{Rounds, Traced}
-use Rattle.isolation_laws.specs.Refusing.{TiedNetwork, next_tied, tied_start}
-use Rattle.network_model.specs.Events.{event_of}
-use Rattle.network_model.specs.Setup.{checked}
-use Rattle.net_model.specs.Stands.{message_size}
-use Rattle.tied_answers.specs.declared.answer.TiedAnswer.{TiedAnswer}
-use Rattle.tied_answers.specs.declared.answer.TiedAnswer.TheVariants.{Answered}
-use Rattle.tied_laws.specs.Runs.{answer_tied}
+use Rattle.machine_isolation_laws.specs.Refusing.{TiedNetwork, next_tied, tied_start}
+use Rattle.machine_model.specs.Events.{event_of}
+use Rattle.machine_model.specs.Setup.{checked}
+use Rattle.running_model.specs.Stands.{message_size}
+use Rattle.schedule_ties.specs.declared.answer.TiedAnswer.{TiedAnswer}
+use Rattle.schedule_ties.specs.declared.answer.TiedAnswer.TheVariants.{Answered}
+use Rattle.schedule_tied_laws.specs.Runs.{answer_tied}
 use Rattle.scenario_run.specs.declared.tally.Tally.{Tally}
 
 -- ---- outcomes that are one

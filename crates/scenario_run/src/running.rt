@@ -3,10 +3,10 @@ ghost use Rattle.std.specs.Prelude.{◌≡◌, ◌≤◌, ◌<◌, ◌^◌, ◌+
 ghost use Rattle.std.specs.List.{list_all};
 ghost use Rattle.config_model.specs.Event.{has_event_form};
 ghost use Rattle.config_ties.specs.Kept.{AreAlike, ties_in};
-ghost use Rattle.net_model.specs.Stands.{StandsFor};
-ghost use Rattle.network_model.specs.Events.{event_of};
-ghost use Rattle.network_model.specs.Setup.{checked};
-ghost use Rattle.tied_laws.specs.Runs.{answer_tied, tied_moment};
+ghost use Rattle.running_model.specs.Stands.{StandsFor};
+ghost use Rattle.machine_model.specs.Events.{event_of};
+ghost use Rattle.machine_model.specs.Setup.{checked};
+ghost use Rattle.schedule_tied_laws.specs.Runs.{answer_tied, tied_moment};
 ghost use Rattle.scenario_run.specs.Tallies.{counted, tally};
 
 use crate::tally::Tally;

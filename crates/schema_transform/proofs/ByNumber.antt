@@ -9,7 +9,7 @@ use Rattle.std.proofs.lemmas.List.Elements.{All-contains}
 use Rattle.ov_types.specs.declared.numbers.InstanceId.{InstanceId}
 use Rattle.ov_types.proofs.FirstLemmas.{contains_here, contains_later, pairs_head, pairs_tail}
 use Rattle.route_targets.specs.Numbers.{hop_instance_of, hop_of}
-use Rattle.route_targets.specs.declared.numbers.Hop.{Hop}
+use Rattle.route_targets.specs.declared.numbers.UseHop.{UseHop}
 use Rattle.config_model.specs.declared.config.Config.{Config}
 use Rattle.config_model.specs.declared.config.Network.{Network}
 use Rattle.config_model.specs.declared.topology.Topology.{Topology}
@@ -116,7 +116,7 @@ network_is_apart i number low = λ j few same. let e = ap (λ (k : InstanceId). 
 
 no_hop : (i : InstanceId) → hop_of i ≡ None → i.0 ≤ 16383
 no_hop i none =
-    let told : Hop = record { use_no = (i.0 - 16384) / 16; place = (i.0 - 16384) % 16 } in
+    let told : UseHop = record { use_no = (i.0 - 16384) / 16; place = (i.0 - 16384) % 16 } in
     elim (leb i.0 16383) as (λ b. leb i.0 16383 ≡ b → cond b None (Some told) ≡ None → i.0 ≤ 16383) [
       | true ↦ λ low e. leb-true i.0 16383 low
       | false ↦ λ high e. cc
@@ -126,17 +126,17 @@ record IsNumbered (i : InstanceId) (number : ℕ) : Type 0 where
   high : 16383 < i.0
   number_is : number ≡ (i.0 - 16384) / 16
 
-one_inside : (a b : Hop) → Some a ≡ Some b → a ≡ b
+one_inside : (a b : UseHop) → Some a ≡ Some b → a ≡ b
 one_inside a b e = cc
 
-hop_is : (i : InstanceId) (hop : Hop) → hop_of i ≡ Some hop → IsNumbered i hop.use_no
+hop_is : (i : InstanceId) (hop : UseHop) → hop_of i ≡ Some hop → IsNumbered i hop.use_no
 hop_is i hop some =
-    let told : Hop = record { use_no = (i.0 - 16384) / 16; place = (i.0 - 16384) % 16 } in
+    let told : UseHop = record { use_no = (i.0 - 16384) / 16; place = (i.0 - 16384) % 16 } in
     elim (leb i.0 16383) as (λ b. leb i.0 16383 ≡ b → cond b None (Some told) ≡ Some hop → IsNumbered i hop.use_no) [
       | true ↦ λ low e. cc
       | false ↦ λ high e. record {
         high = leb-false i.0 16383 high;
-        number_is = sym (ap (λ (h : Hop). h.use_no) (one_inside told hop e));
+        number_is = sym (ap (λ (h : UseHop). h.use_no) (one_inside told hop e));
       }
     ] refl some
 
@@ -152,7 +152,7 @@ pub use_rows_are : (t : Topology) (c : Config) (i : InstanceId) (among : ℕ →
     → ((n : ℕ) → among n ≡ use_numbered (uses c) n)
     → use_rows t c i (use_at among i) ≡ flat_map (hop_rows t c i) (uses c)
 use_rows_are t c i among h is =
-    elim (hop_of i) as (λ o. hop_of i ≡ o → use_rows t c i (option_and_then (λ (hop : Hop). among hop.use_no) o)
+    elim (hop_of i) as (λ o. hop_of i ≡ o → use_rows t c i (option_and_then (λ (hop : UseHop). among hop.use_no) o)
     ≡ flat_map (hop_rows t c i) (uses c)) [
       | None ↦ λ e. sym (all_give_nothing t c i (uses c) (few_in_use c h)
           (λ u inside. network_is_apart i u.number (no_hop i e)))

@@ -8,7 +8,7 @@ use Rattle.config_model.specs.Form.{has_config_form}
 use Rattle.config_check.specs.Checked.{Checked}
 use Rattle.config_check.specs.Rules.{first_broken}
 use Rattle.reach_plain.specs.Reachability.{reachability}
-use Rattle.forward_laws.proofs.Law.{forwarding_is_reachability, labels_lead_on, none_expires}
+use Rattle.transform_forwarding_laws.proofs.Law.{forwarding_is_reachability, labels_lead_on, none_expires}
 use Rattle.transform_model.specs.Compiled.{compiled_tables, forwarders}
 use Rattle.transform_model.specs.declared.tables.Compiled.{Compiled}
 

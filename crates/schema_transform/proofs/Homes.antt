@@ -10,7 +10,7 @@ use Rattle.config_model.specs.declared.config.Config.{Config}
 use Rattle.config_model.specs.declared.config.Network.{Network}
 use Rattle.config_model.specs.declared.config.Port.{Port}
 use Rattle.config_model.specs.declared.topology.Topology.{Topology}
-use Rattle.network_rules.specs.Related.{imports}
+use Rattle.policy_rules.specs.Related.{imports}
 use Rattle.config_check.specs.Finding.{network_named, node_named}
 use Rattle.transform_model.specs.Tables.{port_row, row_if}
 

@@ -6,7 +6,7 @@ use Rattle.route_targets.specs.Numbers.{circuit_instance_of}
 use Rattle.config_model.specs.declared.config.Config.{Config}
 use Rattle.config_model.specs.declared.config.Network.{Network}
 use Rattle.config_model.specs.declared.topology.Topology.{Topology}
-use Rattle.network_rules.specs.Related.{are_related}
+use Rattle.policy_rules.specs.Related.{are_related}
 use Rattle.transform_model.specs.Objects.{Object, acl_object}
 use Rattle.transform_model.specs.Tables.{Row, subnet_rows}
 use Rattle.transform_model.specs.Uses.{Circuit}

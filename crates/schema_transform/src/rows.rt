@@ -1,7 +1,7 @@
 //! The rows of instances' tables.
 ghost use Rattle.std.specs.Prelude.{◌≡◌, ◌==◌, ◌&&◌, ◌<◌, [], flat_map, length, map, IfOk, IfSome, OnOk, IsTrue};
 ghost use Rattle.std.specs.List.{filter_map, list_all, position};
-ghost use Rattle.network_rules.specs.Related.{imports};
+ghost use Rattle.policy_rules.specs.Related.{imports};
 ghost use Rattle.ov_types.specs.First.{same_name};
 ghost use Rattle.ov_types.specs.Prefix.{contains};
 ghost use Rattle.config_model.specs.Form.{has_port_form};
@@ -22,8 +22,8 @@ use crate::hops::{first_hop, last_hop};
 use crate::numbered::{UsesByNumber, use_at};
 use config_check::{network_named, network_numbered, node_named};
 use config_model::{Config, Network, Node, Port, Topology};
-use network_rules::imports;
 use ov_types::{ControlRows, InstanceId, Items, Name, NoMemory, Prefix, TableRow};
+use policy_rules::imports;
 use route_targets::{circuit_address, circuit_instance, circuit_label, port_label, rd};
 use std::alloc::Global;
 use std::collections::BTreeMap;

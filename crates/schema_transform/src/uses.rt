@@ -14,8 +14,8 @@ use crate::circuits::{left_circuits, right_circuits};
 use chain_expand::expand_straight;
 use config_check::network_named;
 use config_model::{Action, Config, End, Network, Policy, Rule, Service};
-use network_rules::attaches;
 use ov_types::{Items, Name, NoMemory, ServiceNo};
+use policy_rules::attaches;
 use std::alloc::Global;
 
 /// The first service of a number.

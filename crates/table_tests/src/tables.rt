@@ -32,7 +32,7 @@ fn row_written(
 }
 
 fn led_written(rt: &impl Abort, text: &mut String, tables: &VpnTables) {
-    let led = tables.led_on().expect(rt, "memory");
+    let led = tables.reoriginated_paths().expect(rt, "memory");
     routes_written(rt, text, &led);
 }
 

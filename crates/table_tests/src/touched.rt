@@ -13,7 +13,7 @@ use std::fmt::Write;
 use std::marker::Brand;
 use std::process::Abort;
 use std::sync::ledger::{Blank, Ledger};
-use stored_tables::Tables;
+use vpn_stored_rows::StoredTables;
 use vpn_tables::VpnTables;
 
 /// The peer's route to the port 10.2.0.2 of network 2.
@@ -114,7 +114,7 @@ fn a_withdrawal_touches_the_rows_of_a_chain(rt: HostRuntime) {
 }
 
 /// Networks 1 and 2 import each other, and have a port each; all rows are stored.
-fn relate(rt: &impl Abort, alloc: Global, tables: &mut Tables) {
+fn relate(rt: &impl Abort, alloc: Global, tables: &mut StoredTables) {
     for number in [1, 2] {
         let object = network(rt, alloc, &[1, 2]);
         let fed = tables.set_low(Delta::Put(LowKey::Instance(number), object));
@@ -135,7 +135,7 @@ fn port(instance: u16, host: u32) -> Delta<UpKey, Label> {
 }
 
 /// The agent tells a new port, and the peer withdraws its route, by counted calls.
-fn change_counted<L: Ledger>(tables: &mut Tables, blank: Blank) -> Result<(), NoMemory>
+fn change_counted<L: Ledger>(tables: &mut StoredTables, blank: Blank) -> Result<(), NoMemory>
     requires name { blank.name ≡ L.name }
     requires parts { blank.parts ≡ L.parts }
     requires some { 0 < blank.parts }
@@ -147,14 +147,14 @@ fn change_counted<L: Ledger>(tables: &mut Tables, blank: Blank) -> Result<(), No
 }
 
 /// The same by the plain calls.
-fn change(tables: &mut Tables) -> Result<(), NoMemory> {
+fn change(tables: &mut StoredTables) -> Result<(), NoMemory> {
     tables.set_publication(2, port(1, 0x0a01_0002))?;
     tables.set_peer_route(1, Delta::Drop(right_port()))?;
     Ok(())
 }
 
 /// A line for each row of a network.
-fn table_written(rt: &impl Abort, text: &mut String, tables: &Tables, number: u16) {
+fn table_written(rt: &impl Abort, text: &mut String, tables: &StoredTables, number: u16) {
     let rows = tables.table(InstanceId(number)).expect(rt, "memory");
     for (prefix, row) in &rows {
         writeln!(text, "{number} {prefix} {row}").expect(rt, "memory");
@@ -162,7 +162,7 @@ fn table_written(rt: &impl Abort, text: &mut String, tables: &Tables, number: u1
 }
 
 /// The tables of both networks.
-fn are_left(rt: &impl Abort, alloc: Global, tables: &Tables) {
+fn are_left(rt: &impl Abort, alloc: Global, tables: &StoredTables) {
     let mut text = String::new(alloc);
     table_written(rt, &mut text, tables, 1);
     table_written(rt, &mut text, tables, 2);
@@ -173,19 +173,19 @@ fn are_left(rt: &impl Abort, alloc: Global, tables: &Tables) {
     assert!(rt; text.as_str() == want, "{text}");
 }
 
-fn is_empty(rt: &impl Abort, tables: &Tables) {
+fn is_empty(rt: &impl Abort, tables: &StoredTables) {
     let rows = tables.table(InstanceId(1)).expect(rt, "memory");
     assert!(rt; rows.is_empty());
 }
 
-fn change_by_counted_calls(rt: &impl Abort, alloc: Global, tables: &mut Tables) {
+fn change_by_counted_calls(rt: &impl Abort, alloc: Global, tables: &mut StoredTables) {
     relate(rt, alloc, tables);
     let changed = change_counted::<Brand>(tables, Blank::new(1));
     changed.expect(rt, "memory");
     are_left(rt, alloc, tables);
 }
 
-fn change_by_plain_calls(rt: &impl Abort, alloc: Global, tables: &mut Tables) {
+fn change_by_plain_calls(rt: &impl Abort, alloc: Global, tables: &mut StoredTables) {
     relate(rt, alloc, tables);
     change(tables).expect(rt, "memory");
     are_left(rt, alloc, tables);
@@ -195,12 +195,12 @@ fn change_by_plain_calls(rt: &impl Abort, alloc: Global, tables: &mut Tables) {
 
 #[test]
 fn counted_calls_leave_the_tables_of_plain_calls(rt: HostRuntime) {
-    let mut tables = Tables::new(rt.alloc(), 64512);
+    let mut tables = StoredTables::new(rt.alloc(), 64512);
     change_by_counted_calls(&rt, rt.alloc(), &mut tables);
 }
 
 #[test]
 fn plain_calls_leave_the_same(rt: HostRuntime) {
-    let mut tables = Tables::new(rt.alloc(), 64512);
+    let mut tables = StoredTables::new(rt.alloc(), 64512);
     change_by_plain_calls(&rt, rt.alloc(), &mut tables);
 }

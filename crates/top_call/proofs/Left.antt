@@ -6,13 +6,13 @@ use Rattle.std.specs.declared.result.Result.{Result}
 use Rattle.std.specs.declared.result.Result.TheVariants.{Ok, Err}
 use Rattle.std.proofs.Common.{refl, ◌∙◌}
 use Rattle.ov_io.specs.declared.pieces.WriteRefusal.{WriteRefusal}
-use Rattle.schedule_answers.specs.NetState.{NetState}
-use Rattle.document_answers.specs.declared.unfit.Verdict.{Verdict}
-use Rattle.document_answers.specs.declared.unfit.Verdict.TheVariants.{Good, NotJson, BadDocument, Refused}
-use Rattle.schedule_answers.specs.Networks.{LeftOn, PromisedOn}
+use Rattle.run_answers.specs.NetState.{NetState}
+use Rattle.compile_answers.specs.declared.unfit.Reception.{Reception}
+use Rattle.compile_answers.specs.declared.unfit.Reception.TheVariants.{Good, NotJson, BadDocument, Refused}
+use Rattle.run_answers.specs.Networks.{LeftOn, PromisedOn}
 
 -- a network is left where the answer is good, and else none
-pub left_on : (Is : Option NetState → Type 0) (r : Result Verdict WriteRefusal) (old left : Option NetState) → old ≡ None
+pub left_on : (Is : Option NetState → Type 0) (r : Result Reception WriteRefusal) (old left : Option NetState) → old ≡ None
     → (r ≡ Ok Good → Is left) → (r ≢ Ok Good → left ≡ old) → LeftOn Is r left
 left_on Is (Ok Good) old left none good other = good refl
 left_on Is (Ok NotJson) old left none good other = other (λ e. cc) ∙ none
@@ -20,7 +20,7 @@ left_on Is (Ok BadDocument) old left none good other = other (λ e. cc) ∙ none
 left_on Is (Ok Refused) old left none good other = other (λ e. cc) ∙ none
 left_on Is (Err f) old left none good other = other (λ e. cc) ∙ none
 
-pub promised_on : (Promise : Type 0) (r : Result Verdict WriteRefusal) → (r ≡ Ok Good → Promise) → PromisedOn Promise r
+pub promised_on : (Promise : Type 0) (r : Result Reception WriteRefusal) → (r ≡ Ok Good → Promise) → PromisedOn Promise r
 promised_on Promise (Ok Good) good = good refl
 promised_on Promise (Ok NotJson) good = tt
 promised_on Promise (Ok BadDocument) good = tt

@@ -3,13 +3,13 @@ use Rattle.std.proofs.Common.{◌≡◌, ℕ, List, Option, Some, None, refl}
 use Rattle.ov_io.specs.Pieces.{TookFrontOf}
 use Rattle.ov_io.proofs.PieceLemmas.{took_nothing}
 use Rattle.constrain_answers.specs.Answers.{constrain_answer}
-use Rattle.document_answers.specs.Answers.{compile_answer, reach_answer}
+use Rattle.compile_answers.specs.Answers.{compile_answer, reach_answer}
 use Rattle.flow_answers.specs.Answers.{flows_answer}
-use Rattle.message_answers.specs.Decoding.{spelled}
-use Rattle.message_answers.proofs.Spelled.{text_spelled}
-use Rattle.restart_answers.proofs.Written.{some_written}
+use Rattle.decode_answers.specs.Decoding.{spelled}
+use Rattle.decode_answers.proofs.Spelled.{text_spelled}
+use Rattle.graceful_answers.proofs.Written.{some_written}
 use Rattle.scale_answers.specs.Answers.{scale_answer}
-use Rattle.schedule_answers.specs.Answers.{gen_answer, run_answer}
+use Rattle.run_answers.specs.Answers.{gen_answer, run_answer}
 use Rattle.top_call.specs.declared.command.Command.{Command}
 use Rattle.top_call.specs.declared.command.Command.TheVariants.{Compile, Reach, Scale, Constrain, Graceful, Flows, Run, Decode, Gen}
 use Rattle.top_call.specs.Answers.{Writes}

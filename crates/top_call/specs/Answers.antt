@@ -1,18 +1,18 @@
 -- What is answered to a command and its input.
 use Rattle.std.specs.Prelude.{◌≡◌, ℕ, List}
-use Rattle.document_answers.specs.declared.unfit.Verdict.{Verdict}
-use Rattle.document_answers.specs.Answers.{compile_answer, reach_answer}
+use Rattle.compile_answers.specs.declared.unfit.Reception.{Reception}
+use Rattle.compile_answers.specs.Answers.{compile_answer, reach_answer}
 use Rattle.constrain_answers.specs.Answers.{constrain_answer}
 use Rattle.flow_answers.specs.Answers.{flows_answer}
-use Rattle.message_answers.specs.Decoding.{WritesSpelled, decode_verdict, spelled}
-use Rattle.restart_answers.specs.Answers.{WritesLog, graceful_verdict, log_in}
+use Rattle.decode_answers.specs.Decoding.{WritesSpelled, decode_verdict, spelled}
+use Rattle.graceful_answers.specs.Answers.{WritesLog, graceful_verdict, log_in}
 use Rattle.scale_answers.specs.Answers.{scale_answer}
-use Rattle.schedule_answers.specs.Answers.{gen_answer, run_answer}
+use Rattle.run_answers.specs.Answers.{gen_answer, run_answer}
 use Rattle.top_call.specs.declared.command.Command.{Command}
 use Rattle.top_call.specs.declared.command.Command.TheVariants.{Compile, Reach, Scale, Constrain, Graceful, Flows, Run, Decode, Gen}
 
 -- what an input is found to be
-unfoldable pub verdict_of : Command → List ℕ → Verdict
+unfoldable pub verdict_of : Command → List ℕ → Reception
 verdict_of Compile octets = (compile_answer octets).verdict
 verdict_of Reach octets = (reach_answer octets).verdict
 verdict_of Scale octets = (scale_answer octets).verdict

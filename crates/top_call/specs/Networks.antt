@@ -6,10 +6,10 @@ use Rattle.std.specs.declared.result.Result.{Result}
 use Rattle.ov_io.specs.declared.pieces.WriteRefusal.{WriteRefusal}
 use Rattle.constrain_answers.specs.Networks.{IsLeftSettled, TookConstraint}
 use Rattle.flow_answers.specs.Answers.{TookReplies}
-use Rattle.restart_answers.specs.Answers.{TookLog}
-use Rattle.schedule_answers.specs.NetState.{NetState}
-use Rattle.document_answers.specs.declared.unfit.Verdict.{Verdict}
-use Rattle.schedule_answers.specs.Networks.{IsLeftOf, IsLeftOfScenario, LeftOn, PromisedOn, TookAnswers, TookSummary}
+use Rattle.graceful_answers.specs.Answers.{TookLog}
+use Rattle.run_answers.specs.NetState.{NetState}
+use Rattle.compile_answers.specs.declared.unfit.Reception.{Reception}
+use Rattle.run_answers.specs.Networks.{IsLeftOf, IsLeftOfScenario, LeftOn, PromisedOn, TookAnswers, TookSummary}
 use Rattle.top_call.specs.declared.command.Command.{Command}
 use Rattle.top_call.specs.declared.command.Command.TheVariants.{Constrain, Graceful, Flows, Run, Gen}
 
@@ -28,7 +28,7 @@ MayLeave (Some (Gen n)) = ⊤
 MayLeave _ = ⊥
 
 -- and only where all was written
-abbrev pub LeavesOn : Command → List ℕ → Result Verdict WriteRefusal → Option NetState → Type 0
+abbrev pub LeavesOn : Command → List ℕ → Result Reception WriteRefusal → Option NetState → Type 0
 LeavesOn command octets result left = LeftOn (Leaves command octets) result left
 
 abbrev pub Promises : Command → List ℕ → Option (List ℕ) → Option (List ℕ) → Type 0
@@ -39,5 +39,5 @@ Promises Run octets old new = TookAnswers octets old new
 Promises (Gen n) octets old new = TookSummary n old new
 Promises command octets old new = ⊤
 
-abbrev pub PromisesOn : Command → List ℕ → Result Verdict WriteRefusal → Option (List ℕ) → Option (List ℕ) → Type 0
+abbrev pub PromisesOn : Command → List ℕ → Result Reception WriteRefusal → Option (List ℕ) → Option (List ℕ) → Type 0
 PromisesOn command octets result old new = PromisedOn (Promises command octets old new) result

@@ -1,8 +1,8 @@
 -- What a run is told by: its words, and the octets that its source held.
 use Rattle.std.specs.Prelude.{◌≡◌, ℕ, ◌≤◌, List, [], length, Option, Some, None, ⊤}
 use Rattle.ov_io.specs.Inputs.{WasReadWhole}
-use Rattle.document_answers.specs.declared.unfit.Verdict.{Verdict}
-use Rattle.document_answers.specs.declared.unfit.Verdict.TheVariants as Found
+use Rattle.compile_answers.specs.declared.unfit.Reception.{Reception}
+use Rattle.compile_answers.specs.declared.unfit.Reception.TheVariants as Found
 use Rattle.top_call.specs.declared.command.Command.{Command}
 use Rattle.top_call.specs.declared.command.Command.TheVariants.{Gen}
 use Rattle.top_call.specs.declared.top.Status.{Status}
@@ -45,11 +45,11 @@ ReadsWhole old new (Gen n) octets = ⊤
 ReadsWhole old new command octets = WasReadWhole old new octets
 
 -- the input is no longer than the limit, and is found to be this
-abbrev pub IsFound : ℕ → Verdict → Command → List ℕ → Type 0
+abbrev pub IsFound : ℕ → Reception → Command → List ℕ → Type 0
 IsFound limit verdict command octets = (length octets ≤ limit) × (verdict_of command octets ≡ verdict)
 
 -- the status that tells a verdict
-abbrev pub status_of : Verdict → Status
+abbrev pub status_of : Reception → Status
 status_of Found.Good = Ended.Done
 status_of Found.NotJson = Ended.NotJson
 status_of Found.BadDocument = Ended.BadDocument

@@ -6,14 +6,14 @@ ghost use Rattle.top_call.specs.Commands.{IsCommand};
 ghost use Rattle.top_call.specs.Networks.{LeavesOn, PromisesOn};
 
 use crate::command::Command;
+use compile_answers::{Reception, answer_compile, answer_reach};
 use constrain_answers::answer_constrain;
-use document_answers::{Verdict, answer_compile, answer_reach};
+use decode_answers::answer_decode;
 use flow_answers::answer_flows;
-use message_answers::answer_decode;
+use graceful_answers::answer_graceful;
 use ov_io::{Sink, WriteRefusal};
-use restart_answers::answer_graceful;
+use run_answers::{Net, answer_gen, answer_run};
 use scale_answers::answer_scale;
-use schedule_answers::{Net, answer_gen, answer_run};
 use std::alloc::Global;
 
 /// Writes what a command answers to an input, as it is made, and tells what the input is found to be. `constrain`, `run`
@@ -25,13 +25,13 @@ pub(crate) fn answer<K: Sink>(
     octets: &[u8],
     sink: &mut K,
     net: &mut Option<Net>,
-) -> Result<Verdict, WriteRefusal>
+) -> Result<Reception, WriteRefusal>
     requires command { IsCommand command }
     requires none { net.old ≡ None }
     ensures verdict { IfOk result (λ verdict. verdict ≡ verdict_of command octets.now) }
     ensures digits { command ≡ Command.Decode
-        → IfOk result (λ verdict. (verdict ≢ Verdict.BadDocument) × (verdict ≢ Verdict.Refused)) }
-    ensures log { command ≡ Command.Graceful → IfOk result (λ verdict. verdict ≢ Verdict.Refused) }
+        → IfOk result (λ verdict. (verdict ≢ Reception.BadDocument) × (verdict ≢ Reception.Refused)) }
+    ensures log { command ≡ Command.Graceful → IfOk result (λ verdict. verdict ≢ Reception.Refused) }
     ensures written { OnOk result (TookText (Writes command octets.now) (K.taken sink.old) (K.taken sink.new)) }
     ensures front { OnErr result (TookFrontOf (Writes command octets.now) (K.taken sink.old) (K.taken sink.new)) }
     ensures cause { HasWriteCause (K.faults sink.old) (K.faults sink.new) result }

@@ -7,5 +7,5 @@ mod laws;
 mod top;
 
 pub use laws::{each_input_has_a_text, numbers_are_decimal};
-pub use schedule_answers::Net;
+pub use run_answers::Net;
 pub use top::{Status, overlay};

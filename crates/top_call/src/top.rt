@@ -10,9 +10,9 @@ ghost use Rattle.top_call.specs.Runs.{ReadsInput, ReadsWhole, input_to, number_o
 
 use crate::answer::answer;
 use crate::command::{Command, command_from};
-use document_answers::Verdict;
+use compile_answers::Reception;
 use ov_io::{InputRefusal, Sink, Source, WriteRefusal, read_all};
-use schedule_answers::{Net, leave_none};
+use run_answers::{Net, leave_none};
 use std::alloc::Global;
 
 /// The most octets that an input may have.
@@ -68,16 +68,16 @@ pub fn overlay<S: Source, K: Sink>(
     ensures too_long { result ≡ Status.TooLong
         → OfInput (command_of words.now) (S.left source.old) (λ command octets. MAX_INPUT_OCTETS < length octets) }
     ensures not_json { result ≡ Status.NotJson
-        → OfInput (command_of words.now) (S.left source.old) (IsFound MAX_INPUT_OCTETS Verdict.NotJson) }
+        → OfInput (command_of words.now) (S.left source.old) (IsFound MAX_INPUT_OCTETS Reception.NotJson) }
     ensures bad_document { result ≡ Status.BadDocument
-        → OfInput (command_of words.now) (S.left source.old) (IsFound MAX_INPUT_OCTETS Verdict.BadDocument) }
+        → OfInput (command_of words.now) (S.left source.old) (IsFound MAX_INPUT_OCTETS Reception.BadDocument) }
     ensures refused { result ≡ Status.Refused
-        → OfInput (command_of words.now) (S.left source.old) (IsFound MAX_INPUT_OCTETS Verdict.Refused) }
+        → OfInput (command_of words.now) (S.left source.old) (IsFound MAX_INPUT_OCTETS Reception.Refused) }
     ensures write_fault { result ≡ Status.WriteFault → Rose (K.faults sink.old) (K.faults sink.new) }
     ensures write_fault_within { result ≡ Status.WriteFault
         → OfInput (command_of words.now) (S.left source.old) (λ command octets. length octets ≤ MAX_INPUT_OCTETS) }
     ensures done { result ≡ Status.Done
-        → OfInput (command_of words.now) (S.left source.old) (IsFound MAX_INPUT_OCTETS Verdict.Good) }
+        → OfInput (command_of words.now) (S.left source.old) (IsFound MAX_INPUT_OCTETS Reception.Good) }
     ensures digits { command_of words.now ≡ Some Command.Decode
         → (result ≢ Status.BadDocument) × (result ≢ Status.Refused) }
     ensures log { command_of words.now ≡ Some Command.Graceful → result ≢ Status.Refused }
@@ -151,13 +151,13 @@ fn read_input<S: Source>(
 }
 
 /// The status that tells a verdict.
-fn status_from(verdict: Verdict) -> Status
+fn status_from(verdict: Reception) -> Status
     ensures { result ≡ status_of verdict }
 {
     match verdict {
-        Verdict::Good => Status::Done,
-        Verdict::NotJson => Status::NotJson,
-        Verdict::BadDocument => Status::BadDocument,
-        Verdict::Refused => Status::Refused,
+        Reception::Good => Status::Done,
+        Reception::NotJson => Status::NotJson,
+        Reception::BadDocument => Status::BadDocument,
+        Reception::Refused => Status::Refused,
     }
 }

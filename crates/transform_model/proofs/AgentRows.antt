@@ -38,7 +38,7 @@ use Rattle.transform_model.specs.Uses.{Circuit}
 use Rattle.transform_model.proofs.Ascending.{Rises, ascending_is, is_ascending, ascending_rises}
 use Rattle.transform_model.proofs.Kept.{instance_of_row, tables_in_order, tables_kept}
 use Rattle.transform_model.proofs.Keys.{less_is}
-use Rattle.network_rules.proofs.Lists.{is_joined, joined_is, is_kept, kept_is, is_mapped, mapped_is}
+use Rattle.policy_rules.proofs.Lists.{is_joined, joined_is, is_kept, kept_is, is_mapped, mapped_is}
 use Rattle.transform_model.proofs.Lists.{given, gives, pairs_given_by, pairs_mapped, pairs_weaker}
 use Rattle.transform_model.proofs.LowKeys.{low_in_order, low_is, is_low}
 use Rattle.transform_model.proofs.Needed.{has_port, port_there, needed_for_is, is_needed_for}

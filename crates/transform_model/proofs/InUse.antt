@@ -18,19 +18,19 @@ use Rattle.config_model.specs.declared.config.Rule.{Rule}
 use Rattle.config_model.specs.declared.config.Service.{Service}
 use Rattle.config_model.specs.declared.topology.Topology.{Topology}
 use Rattle.chain_expand.specs.Expansion.{expansion, services_within, service_named, hops_of}
-use Rattle.network_rules.specs.declared.numbered.NumberedRule.{NumberedRule}
-use Rattle.network_rules.specs.Related.{all_rules, attaches, numbered_from, numbered_rules}
-use Rattle.network_rules.specs.Standing.{IsEnd, AreRelated, LetsThrough}
-use Rattle.network_rules.proofs.Relations.{related_iff}
+use Rattle.policy_rules.specs.declared.numbered.NumberedRule.{NumberedRule}
+use Rattle.policy_rules.specs.Related.{all_rules, attaches, numbered_from, numbered_rules}
+use Rattle.policy_rules.specs.Standing.{IsEnd, AreRelated, LetsThrough}
+use Rattle.policy_rules.proofs.Relations.{related_iff}
 use Rattle.config_check.specs.Finding.{network_named}
 use Rattle.config_check.specs.Rules.{use_of, chain_names, network_names}
 use Rattle.config_check.specs.Sentences.{IsValid, IsAround, NamesTwo, EndExists, ChainExists}
 use Rattle.config_check.proofs.Finders.{finds_network_named}
 use Rattle.config_check.proofs.OneHome.{two_among}
-use Rattle.network_rules.proofs.Standing.{attaches_iff}
+use Rattle.policy_rules.proofs.Standing.{attaches_iff}
 use Rattle.transform_model.specs.IsUse.{IsUse}
 use Rattle.transform_model.specs.Uses.{Use, network_at, use_between, use_by, uses_of, uses}
-use Rattle.network_rules.proofs.Lists.{is_joined, joined_is, mapped_is}
+use Rattle.policy_rules.proofs.Lists.{is_joined, joined_is, mapped_is}
 use Rattle.transform_model.proofs.Lists.{given, gives, some_if, is_some, at_place, pairs_joined_by, pairs_given_by, pairs_in_part, pairs_of_parts, pairs_mapped, pairs_ungiven, Across}
 
 -- the network of a name

@@ -17,7 +17,7 @@ use Rattle.transform_model.specs.Tables.{instances}
 use Rattle.transform_model.specs.Uses.{Use, uses, hops_from, hops}
 use Rattle.transform_model.proofs.InUse.{use_is, is_use, uses_differ, few_services}
 use Rattle.transform_model.proofs.InUse as in_use
-use Rattle.network_rules.proofs.Lists.{mapped_is, is_mapped, joined_is, is_joined}
+use Rattle.policy_rules.proofs.Lists.{mapped_is, is_mapped, joined_is, is_joined}
 use Rattle.transform_model.proofs.Lists.{no_pairs, pairs_append_by, pairs_joined_by, pairs_mapped, pairs_of_map}
 use Rattle.transform_model.proofs.Prefixes.{same_hop, network_number}
 

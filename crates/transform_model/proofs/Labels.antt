@@ -27,7 +27,7 @@ use Rattle.transform_model.specs.Objects.{Object, attached_port, attached_circui
 use Rattle.transform_model.specs.Tables.{Row, host_route, circuit_route, instance_table}
 use Rattle.transform_model.specs.Uses.{Use, Circuit}
 use Rattle.transform_model.proofs.Circuits.{left_instance, right_instance}
-use Rattle.network_rules.proofs.Lists.{kept_is, is_kept}
+use Rattle.policy_rules.proofs.Lists.{kept_is, is_kept}
 use Rattle.transform_model.proofs.Lists.{given, gives}
 use Rattle.transform_model.proofs.LowKeys.{low_is, is_low}
 use Rattle.transform_model.proofs.Rows.{row_is, is_row}

@@ -14,7 +14,7 @@ use Rattle.config_model.specs.declared.config.Config.{Config}
 use Rattle.config_model.specs.declared.config.Network.{Network}
 use Rattle.config_model.specs.declared.config.Port.{Port}
 use Rattle.config_model.specs.declared.topology.Topology.{Topology}
-use Rattle.network_rules.specs.Related.{are_related}
+use Rattle.policy_rules.specs.Related.{are_related}
 use Rattle.config_check.specs.Rules.{group_of}
 use Rattle.config_check.specs.Sentences.{IsValid}
 use Rattle.transform_model.specs.IsObject.{IsObject}
@@ -25,7 +25,7 @@ use Rattle.transform_model.proofs.Circuits as circuit
 use Rattle.transform_model.proofs.InUse.{use_is, uses_differ, few_services}
 use Rattle.transform_model.proofs.InUse as in_use
 use Rattle.transform_model.proofs.Keys.{objects_in_order, objects_added}
-use Rattle.network_rules.proofs.Lists.{mapped_is, joined_is}
+use Rattle.policy_rules.proofs.Lists.{mapped_is, joined_is}
 use Rattle.transform_model.proofs.Lists.{given, pairs_append_by, pairs_given_by, pairs_joined_by, pairs_mapped, pairs_of_map, pairs_weaker, place_within}
 use Rattle.transform_model.proofs.Objects.{from_port, from_circuit, instance_part, port_part, circuit_part, acl_part, use_part, object_is, is_object}
 use Rattle.transform_model.proofs.Prefixes.{port_number}

@@ -27,11 +27,11 @@ use Rattle.config_model.specs.declared.config.Service.{Service}
 use Rattle.config_model.specs.declared.topology.Node.{Node}
 use Rattle.config_model.specs.declared.topology.Topology.{Topology}
 use Rattle.chain_expand.specs.Expansion.{expansion}
-use Rattle.network_rules.specs.declared.numbered.NumberedRule.{NumberedRule}
-use Rattle.network_rules.specs.Matching.{speaks_both_ways}
-use Rattle.network_rules.specs.Related.{all_rules, fits, rules_between}
-use Rattle.network_rules.specs.Standing.{AreRelated, IsBetween, IsEnd, Fits}
-use Rattle.network_rules.proofs.Standing.{between_iff, fits_iff}
+use Rattle.policy_rules.specs.declared.numbered.NumberedRule.{NumberedRule}
+use Rattle.policy_rules.specs.Matching.{speaks_both_ways}
+use Rattle.policy_rules.specs.Related.{all_rules, fits, rules_between}
+use Rattle.policy_rules.specs.Standing.{AreRelated, IsBetween, IsEnd, Fits}
+use Rattle.policy_rules.proofs.Standing.{between_iff, fits_iff}
 use Rattle.config_check.specs.Sentences.{IsValid, NamesEnds}
 use Rattle.acl_compile.specs.Oriented.{does, forward_entry, mirrored_entry, forwards, backwards, entries_of, oriented, acl_rules}
 use Rattle.node_model.specs.Agent.{entered_by, needed_for, needed_by}
@@ -46,7 +46,7 @@ use Rattle.transform_model.specs.Objects.{Object, acl_object, attached_circuit, 
 use Rattle.transform_model.specs.Uses.{Use}
 use Rattle.transform_model.proofs.Circuits.{left_instance, right_instance}
 use Rattle.transform_model.proofs.InUse.{numbered, among_all, ends_related}
-use Rattle.network_rules.proofs.Lists.{is_joined, joined_is, is_kept, kept_is}
+use Rattle.policy_rules.proofs.Lists.{is_joined, joined_is, is_kept, kept_is}
 use Rattle.transform_model.proofs.Lists.{given, gives, is_some, is_there, some_if, at_place, place_within}
 use Rattle.transform_model.proofs.LowKeys.{low_is, is_low}
 use Rattle.transform_model.proofs.Objects.{one_numbered}

@@ -16,9 +16,9 @@ use Rattle.config_model.specs.declared.config.Port.{Port}
 use Rattle.config_model.specs.declared.config.Service.{Service}
 use Rattle.config_model.specs.declared.topology.Node.{Node}
 use Rattle.config_model.specs.declared.topology.Topology.{Topology}
-use Rattle.network_rules.specs.Related.{imports, are_related}
-use Rattle.network_rules.specs.Standing.{AreRelated}
-use Rattle.network_rules.proofs.Relations.{imports_iff, related_iff}
+use Rattle.policy_rules.specs.Related.{imports, are_related}
+use Rattle.policy_rules.specs.Standing.{AreRelated}
+use Rattle.policy_rules.proofs.Relations.{imports_iff, related_iff}
 use Rattle.config_check.specs.Finding.{network_named, network_numbered, node_named}
 use Rattle.config_check.specs.Rules.{group_of, node_names}
 use Rattle.config_check.specs.Sentences.{IsValid, IsAround}
@@ -33,7 +33,7 @@ use Rattle.transform_model.specs.Uses.{Use, Circuit, uses, left_circuits, right_
 use Rattle.transform_model.proofs.Ascending.{ascending_is, is_ascending, ascending_rises, one_list}
 use Rattle.transform_model.proofs.Circuits.{left_is, is_left, right_is, is_right}
 use Rattle.transform_model.proofs.InUse.{named, use_is, is_use, services_are}
-use Rattle.network_rules.proofs.Lists.{kept_is, is_kept, mapped_is, is_mapped, joined_is, is_joined}
+use Rattle.policy_rules.proofs.Lists.{kept_is, is_kept, mapped_is, is_mapped, joined_is, is_joined}
 use Rattle.transform_model.proofs.Lists.{given, gives, mapped_some}
 use Rattle.transform_model.proofs.Rows.{node_is, is_node}
 

@@ -37,7 +37,7 @@ use Rattle.transform_model.proofs.Circuits as circuit
 use Rattle.transform_model.proofs.Circuits.{left_number, right_number, lefts_differ, rights_differ, circuits_differ}
 use Rattle.transform_model.proofs.InUse.{named, few_services, ends_differ, around_right, use_is, uses_differ}
 use Rattle.transform_model.proofs.InUse as in_use
-use Rattle.network_rules.proofs.Lists.{joined_is}
+use Rattle.policy_rules.proofs.Lists.{joined_is}
 use Rattle.transform_model.proofs.Lists.{given, no_pairs, pairs_append_by, pairs_given_by, pairs_joined_by, place_within}
 use Rattle.transform_model.proofs.Related.{is_around}
 use Rattle.transform_model.proofs.Rows.{from_port, from_network, towards, LeftIn, RightIn, left_in, right_in, either_in, AtEnd, at_end, TowardsSubnet, towards_subnet, circuit_part, right_part, left_part, first_part, last_part, is_in}

@@ -7,8 +7,8 @@ use Rattle.config_model.specs.declared.config.Config.{Config}
 use Rattle.config_model.specs.declared.config.Network.{Network}
 use Rattle.ov_types.specs.First.{same_name}
 use Rattle.ov_types.proofs.FirstLemmas.{same_name_iff}
-use Rattle.network_rules.specs.declared.numbered.NumberedRule.{NumberedRule}
-use Rattle.network_rules.specs.Related.{passes, lets_through, rules_between, imports}
+use Rattle.policy_rules.specs.declared.numbered.NumberedRule.{NumberedRule}
+use Rattle.policy_rules.specs.Related.{passes, lets_through, rules_between, imports}
 use Rattle.config_check.specs.Sentences.{IsAround}
 use Rattle.transform_model.proofs.Lists.{any_weaker}
 

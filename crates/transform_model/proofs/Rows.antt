@@ -15,9 +15,9 @@ use Rattle.config_model.specs.declared.config.Network.{Network}
 use Rattle.config_model.specs.declared.config.Port.{Port}
 use Rattle.config_model.specs.declared.topology.Node.{Node}
 use Rattle.config_model.specs.declared.topology.Topology.{Topology}
-use Rattle.network_rules.specs.Related.{imports}
-use Rattle.network_rules.specs.Standing.{PassesBetween}
-use Rattle.network_rules.proofs.Relations.{imports_iff}
+use Rattle.policy_rules.specs.Related.{imports}
+use Rattle.policy_rules.specs.Standing.{PassesBetween}
+use Rattle.policy_rules.proofs.Relations.{imports_iff}
 use Rattle.config_check.specs.Finding.{network_named, network_numbered, node_named}
 use Rattle.config_check.specs.Sentences.{IsValid}
 use Rattle.config_check.proofs.Finders.{finds_network_named, finds_network_numbered, finds_node_named}
@@ -27,7 +27,7 @@ use Rattle.transform_model.specs.Tables.{Row, host_route, row_if, port_row, netw
 use Rattle.transform_model.specs.Uses.{Use, Circuit, uses, first_hop, last_hop, left_circuits, right_circuits}
 use Rattle.transform_model.proofs.Circuits.{left_is, is_left, right_is, is_right, left_instance, right_instance}
 use Rattle.transform_model.proofs.InUse.{named, use_is, is_use}
-use Rattle.network_rules.proofs.Lists.{joined_is, is_joined, kept_is, is_kept}
+use Rattle.policy_rules.proofs.Lists.{joined_is, is_joined, kept_is, is_kept}
 use Rattle.transform_model.proofs.Lists.{given, gives, there_if, is_there, mapped_some}
 
 -- ---- nodes

@@ -13,7 +13,7 @@ use Rattle.config_model.specs.declared.config.Network.{Network}
 use Rattle.config_model.specs.declared.config.Port.{Port}
 use Rattle.config_model.specs.declared.topology.Node.{Node}
 use Rattle.config_model.specs.declared.topology.Topology.{Topology}
-use Rattle.network_rules.specs.Standing.{AreRelated}
+use Rattle.policy_rules.specs.Standing.{AreRelated}
 use Rattle.acl_compile.specs.Oriented.{acl_value}
 use Rattle.transform_model.specs.IsRow.{IsCircuitAt, IsPort, IsRow}
 use Rattle.transform_model.specs.IsUse.{IsUse, IsLeftCircuit, IsRightCircuit}

@@ -12,7 +12,7 @@ use Rattle.config_model.specs.declared.config.Port.{Port}
 use Rattle.config_model.specs.declared.config.Service.{Service}
 use Rattle.config_model.specs.declared.topology.Node.{Node}
 use Rattle.config_model.specs.declared.topology.Topology.{Topology}
-use Rattle.network_rules.specs.Standing.{AreRelated, PassesBetween}
+use Rattle.policy_rules.specs.Standing.{AreRelated, PassesBetween}
 use Rattle.acl_compile.specs.Oriented.{acl_value, ascending}
 use Rattle.transform_model.specs.IsRow.{IsCircuitAt, IsPort}
 use Rattle.transform_model.specs.IsUse.{IsUse, IsLeftCircuit, IsRightCircuit}

@@ -9,7 +9,7 @@ use Rattle.config_model.specs.declared.config.Network.{Network}
 use Rattle.config_model.specs.declared.config.Port.{Port}
 use Rattle.config_model.specs.declared.topology.Node.{Node}
 use Rattle.config_model.specs.declared.topology.Topology.{Topology}
-use Rattle.network_rules.specs.Standing.{PassesBetween}
+use Rattle.policy_rules.specs.Standing.{PassesBetween}
 use Rattle.std.specs.Prelude.{length, ◌+◌}
 use Rattle.transform_model.specs.IsUse.{IsUse, IsLeftCircuit, IsRightCircuit}
 use Rattle.transform_model.specs.Tables.{Row, host_route, circuit_route}

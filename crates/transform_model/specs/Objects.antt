@@ -21,7 +21,7 @@ use Rattle.config_model.specs.declared.config.Port.{Port}
 use Rattle.config_model.specs.declared.config.Service.{Service}
 use Rattle.config_model.specs.declared.topology.Node.{Node}
 use Rattle.config_model.specs.declared.topology.Topology.{Topology}
-use Rattle.network_rules.specs.Related.{imports}
+use Rattle.policy_rules.specs.Related.{imports}
 use Rattle.config_check.specs.Finding.{network_named, node_named}
 use Rattle.config_check.specs.Rules.{group_of}
 use Rattle.acl_compile.specs.Oriented.{acl_value, ascending}

@@ -15,7 +15,7 @@ use Rattle.config_model.specs.declared.config.Network.{Network}
 use Rattle.config_model.specs.declared.config.Port.{Port}
 use Rattle.config_model.specs.declared.topology.Node.{Node}
 use Rattle.config_model.specs.declared.topology.Topology.{Topology}
-use Rattle.network_rules.specs.Related.{imports}
+use Rattle.policy_rules.specs.Related.{imports}
 use Rattle.config_check.specs.Finding.{network_named, network_numbered, node_named}
 use Rattle.transform_model.specs.Uses.{Use, Circuit, uses, hops, first_hop, last_hop, left_circuits, right_circuits}
 

@@ -14,7 +14,7 @@ use Rattle.config_model.specs.declared.config.Policy.{Policy}
 use Rattle.config_model.specs.declared.config.Rule.{Rule}
 use Rattle.config_model.specs.declared.config.Service.{Service}
 use Rattle.chain_expand.specs.Expansion.{expansion}
-use Rattle.network_rules.specs.Related.{attaches}
+use Rattle.policy_rules.specs.Related.{attaches}
 use Rattle.config_check.specs.Finding.{network_named}
 
 -- the use of a chain by a rule: its number, the networks that the rule names, and the services of the chain

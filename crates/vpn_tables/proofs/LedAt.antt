@@ -18,7 +18,7 @@ use Rattle.node_model.specs.Maps.{object}
 use Rattle.node_model.specs.Members.{Member}
 use Rattle.node_model.specs.Paths.{Holdings, Path, has_target}
 use Rattle.node_model.specs.Ranks.{instance_in}
-use Rattle.node_model.specs.Reaching.{AreShort, Side, below, circuit_at, hop_at, into, is_up, publisher, reoriginated, sides, sides_of, subnets, towards}
+use Rattle.node_model.specs.Reaching.{AreShort, Side, below, circuit_at, hop_at, into, is_up, publisher, reoriginated_paths, sides, sides_of, subnets, towards}
 use Rattle.node_model.specs.Tables.{same_prefix}
 use Rattle.node_model.specs.Uses.{Use, is_hop, place_of, use_from, use_of, uses}
 use Rattle.node_model.proofs.Members.{any_in, from_any, from_filter, from_flat_map, in_either, in_filter, in_flat_map, in_left, in_right, member_when, none_some}
@@ -207,22 +207,22 @@ module _ (h : Holdings) (i : InstanceId) (q : Block) where
       → Member p (led_on_side h (place_of i) q (Some (seen_from b u))) → Member p (led_at h i q b)
   to_led b u p e f m = subst (λ t. Member p (cond t (of_held b (use_from (use_of i) (object h.feed (key.ChainUse (use_of i))))) [])) (sym e) (subst (λ (o : Option Use). Member p (of_held b o)) (sym f) m)
 
-  led_back : (b : Bool) (p : Path) → Member p (led_at h i q b) → Member p (filter (is_led_at (target_of h.asn i) q) (reoriginated h))
+  led_back : (b : Bool) (p : Path) → Member p (led_at h i q b) → Member p (filter (is_led_at (target_of h.asn i) q) (reoriginated_paths h))
   led_back b p m =
       let f = from_led b p m in
       let u = f.1.0 in
       let found = use_found h.feed (use_of i) u f.1.1 in
       let t = side_target h (seen_from b u) i q p f.0 found.1 f.1.2 in
-      in_filter (is_led_at (target_of h.asn i) q) p (reoriginated h)
+      in_filter (is_led_at (target_of h.asn i) q) p (reoriginated_paths h)
       (in_flat_map (leads h) (seen_from b u) p (sides h.feed) (in_sides h.feed u b found.0) (side_leads h (seen_from b u) i q p f.1.2))
       (both (has_target (target_of h.asn i ∷ []) p) (same_prefix p.prefix q) (target_in h.asn i (i ∷ []) p t.0 (inl refl)) (same_prefix-from p.prefix q t.1))
     where
       both : (a b : Bool) → a ≡ true → b ≡ true → (a && b) ≡ true
       both a b x y = (λ k. x k && y k)
 
-  led_there : AreShort h.feed → (p : Path) → Member p (filter (is_led_at (target_of h.asn i) q) (reoriginated h)) → Member p (led_at h i q true ++ led_at h i q false)
+  led_there : AreShort h.feed → (p : Path) → Member p (filter (is_led_at (target_of h.asn i) q) (reoriginated_paths h)) → Member p (led_at h i q true ++ led_at h i q false)
   led_there short p m =
-      let g = from_filter (is_led_at (target_of h.asn i) q) p (reoriginated h) m in
+      let g = from_filter (is_led_at (target_of h.asn i) q) p (reoriginated_paths h) m in
       let t = and_parts (has_target (target_of h.asn i ∷ []) p) (same_prefix p.prefix q) g.1 in
       let f = from_flat_map (leads h) p (sides h.feed) g.0 in
       let s : Side = f.0 in
@@ -242,9 +242,9 @@ module _ (h : Holdings) (i : InstanceId) (q : Block) where
       by_side true m = in_left p (led_at h i q true) (led_at h i q false) m
       by_side false m = in_right p (led_at h i q true) (led_at h i q false) m
 
-  pub led_members : AreShort h.feed → (p : Path) → Member p (led_at h i q true ++ led_at h i q false) ↔ Member p (filter (is_led_at (target_of h.asn i) q) (reoriginated h))
+  pub led_members : AreShort h.feed → (p : Path) → Member p (led_at h i q true ++ led_at h i q false) ↔ Member p (filter (is_led_at (target_of h.asn i) q) (reoriginated_paths h))
   led_members short p = (
-    (λ m. elim (in_either p (led_at h i q true) (led_at h i q false) m) as (λ _. Member p (filter (is_led_at (target_of h.asn i) q) (reoriginated h))) [ inl l ↦ led_back true p l | inr r ↦ led_back false p r ]),
+    (λ m. elim (in_either p (led_at h i q true) (led_at h i q false) m) as (λ _. Member p (filter (is_led_at (target_of h.asn i) q) (reoriginated_paths h))) [ inl l ↦ led_back true p l | inr r ↦ led_back false p r ]),
     led_there short p,
   )
 
@@ -341,18 +341,18 @@ module _ (h : Holdings) (k : VpnKey) (short : AreShort h.feed) (numbered : AreNu
           ]
 
   -- the first of all is the first that leads into the instance of the key, along its own use
-  pub led_first : first_keyed k (reoriginated h) ≡ both
-  led_first = elim (all_first (uses h.feed) (λ u m. m)) as (λ _. first_keyed k (reoriginated h) ≡ both) [
+  pub led_first : first_keyed k (reoriginated_paths h) ≡ both
+  led_first = elim (all_first (uses h.feed) (λ u m. m)) as (λ _. first_keyed k (reoriginated_paths h) ≡ both) [
     | inl none ↦ by_both none (first_keyed k (led_at h place k.prefix true)) (first_keyed k (led_at h place k.prefix false)) refl refl
     | inr is ↦ is
   ]
     where
-      nothing : (b : Bool) (p : Path) → first_keyed k (reoriginated h) ≡ None → first_keyed k (led_at h place k.prefix b) ≡ Some p → ⊥
+      nothing : (b : Bool) (p : Path) → first_keyed k (reoriginated_paths h) ≡ None → first_keyed k (led_at h place k.prefix b) ≡ Some p → ⊥
       nothing b p none e =
           let r = first_is k (led_at h place k.prefix b) p e in
-          none_keyed_before k (reoriginated h) p none (from_filter (is_led_at (target_of h.asn place) k.prefix) p (reoriginated h) (led_back h place k.prefix b p r.0)).0 r.1
+          none_keyed_before k (reoriginated_paths h) p none (from_filter (is_led_at (target_of h.asn place) k.prefix) p (reoriginated_paths h) (led_back h place k.prefix b p r.0)).0 r.1
 
-      by_both : first_keyed k (reoriginated h) ≡ None → (x y : Option Path) → first_keyed k (led_at h place k.prefix true) ≡ x → first_keyed k (led_at h place k.prefix false) ≡ y → first_keyed k (reoriginated h) ≡ both
+      by_both : first_keyed k (reoriginated_paths h) ≡ None → (x y : Option Path) → first_keyed k (led_at h place k.prefix true) ≡ x → first_keyed k (led_at h place k.prefix false) ≡ y → first_keyed k (reoriginated_paths h) ≡ both
       by_both none (Some p) y ex ey = absurd (nothing true p none ex)
       by_both none None (Some p) ex ey = absurd (nothing false p none ey)
       by_both none None None ex ey = none ∙ sym (λ j. first_some (ex j) (ey j))

@@ -4,14 +4,14 @@ use Rattle.std.specs.List.{filter}
 use Rattle.std.specs.Option.{is_some}
 use Rattle.std.proofs.Common.{refl, sym, ◌∙◌, ap, inl, inr, arith}
 use Rattle.std.proofs.lemmas.Option.{same_Some}
-use Rattle.route_targets.specs.declared.numbers.Hop.{Hop}
+use Rattle.route_targets.specs.declared.numbers.UseHop.{UseHop}
 use Rattle.node_model.specs.Uses.{use_of}
 use Rattle.node_model.proofs.Members.{none_some}
 use Rattle.ov_types.specs.declared.numbers.InstanceId.{InstanceId}
 use Rattle.route_targets.specs.Numbers.{target_of, hop_of}
 use Rattle.node_model.specs.Members.{Member}
 use Rattle.node_model.specs.Paths.{Holdings, Path, has_target}
-use Rattle.node_model.specs.Reaching.{hop_at, reoriginated}
+use Rattle.node_model.specs.Reaching.{hop_at, reoriginated_paths}
 use Rattle.node_model.proofs.Routes.{reoriginated_from}
 use Rattle.node_model.proofs.Unknown.{place_at, target_from}
 
@@ -22,8 +22,8 @@ none_pass p (x ∷ xs) h = ap (λ b. cond b (x ∷ filter p xs) (filter p xs)) (
 within : (i : InstanceId) → is_some (hop_of i) ≡ false → i.0 ≤ 16383
 within i none = grind arith
 
-pub no_led : (h : Holdings) (i : InstanceId) → is_some (hop_of i) ≡ false → filter (has_target (target_of h.asn i ∷ [])) (reoriginated h) ≡ []
-no_led h i none = none_pass (has_target (target_of h.asn i ∷ [])) (reoriginated h) (λ p m.
+pub no_led : (h : Holdings) (i : InstanceId) → is_some (hop_of i) ≡ false → filter (has_target (target_of h.asn i ∷ [])) (reoriginated_paths h) ≡ []
+no_led h i none = none_pass (has_target (target_of h.asn i ∷ [])) (reoriginated_paths h) (λ p m.
     let r = reoriginated_from h p m in
     let place = hop_at r.side (suc r.depth) in
     elim (has_target (target_of h.asn i ∷ []) p) as (λ b. has_target (target_of h.asn i ∷ []) p ≡ b → b ≡ false) [
@@ -38,9 +38,9 @@ no_led h i none = none_pass (has_target (target_of h.asn i ∷ [])) (reoriginate
     apart i u j a b = omega arith
 
 -- the use of a hop is that of its instance
-pub use_number : (i : InstanceId) (hop : Hop) → hop_of i ≡ Some hop → hop.use_no ≡ use_of i
+pub use_number : (i : InstanceId) (hop : UseHop) → hop_of i ≡ Some hop → hop.use_no ≡ use_of i
 use_number i hop e = by_test (nat_le i.0 16383) e
   where
     by_test : (b : Bool) → cond b None (Some (record { use_no = (i.0 - 16384) / 16; place = (i.0 - 16384) % 16 })) ≡ Some hop → hop.use_no ≡ use_of i
     by_test true e = absurd (none_some hop e)
-    by_test false e = ap (λ (h : Hop). h.use_no) (sym (same_Some _ hop e))
+    by_test false e = ap (λ (h : UseHop). h.use_no) (sym (same_Some _ hop e))

@@ -17,7 +17,7 @@ use Rattle.node_model.specs.Keys.{Key, Low, Vpn, Row, Publish, Subscribe, key_cm
 use Rattle.node_model.specs.Maps.{Map, as_object, low_entry, object}
 use Rattle.node_model.specs.Members.{Member}
 use Rattle.node_model.specs.Paths.{Holdings, Path, has_target}
-use Rattle.node_model.specs.Reaching.{AreShort, reoriginated, sides_of}
+use Rattle.node_model.specs.Reaching.{AreShort, reoriginated_paths, sides_of}
 use Rattle.node_model.specs.Uses.{Use, as_use, use_from, use_of, uses}
 use Rattle.node_model.specs.Values.{Entry, Label, Object, Route, Value}
 use Rattle.node_model.proofs.Orders.{key_exact, key_total}
@@ -127,7 +127,7 @@ module _ (h : Holdings) where
   use_by_use (u ∷ us) = leads-append h (sides_of u) (flat_map sides_of us) ∙ ap (λ (l : List Path). along_use u ++ l) (use_by_use us)
 
   pub led_once : (i : InstanceId) → AreShort h.feed
-      → filter (has_target (target_of h.asn i ∷ [])) (flat_map (leads h) (sides_of_held (use_at h.feed (key.ChainUse (use_of i))))) ≡ filter (has_target (target_of h.asn i ∷ [])) (reoriginated h)
+      → filter (has_target (target_of h.asn i ∷ [])) (flat_map (leads h) (sides_of_held (use_at h.feed (key.ChainUse (use_of i))))) ≡ filter (has_target (target_of h.asn i ∷ [])) (reoriginated_paths h)
   led_once i short =
       let test = has_target (target_of h.asn i ∷ []) in
       let f : Use → List Path = (λ u. filter test (along_use u)) in

@@ -9,7 +9,7 @@ use Rattle.route_targets.specs.Numbers.{target_of}
 use Rattle.node_model.specs.Members.{Member}
 use Rattle.node_model.specs.Paths as model
 use Rattle.node_model.specs.Paths.{Holdings, has_target, own_paths, peer_paths, received}
-use Rattle.node_model.specs.Reaching.{AreShort, reoriginated}
+use Rattle.node_model.specs.Reaching.{AreShort, reoriginated_paths}
 use Rattle.node_model.specs.Tables.{same_prefix}
 use Rattle.node_model.proofs.Members.{from_map, in_either, in_left, in_map, in_right}
 use Rattle.path_select.specs.declared.selection.Path.{Path}
@@ -45,7 +45,7 @@ module _ (h : Holdings) (i : InstanceId) (q : Block) where
   got = map plain (filter here (received h i))
 
   abbrev led : List model.Path
-  led = filter (is_led_at (target_of h.asn i) q) (reoriginated h)
+  led = filter (is_led_at (target_of h.asn i) q) (reoriginated_paths h)
 
   got_is : map plain (filter wanted (own_paths h)) ++ map plain (filter wanted (peer_paths h)) ≡ got
   got_is =
@@ -54,9 +54,9 @@ module _ (h : Holdings) (i : InstanceId) (q : Block) where
 
   all_is : paths_at h i q ≡ got ++ map plain led
   all_is =
-      ap (map plain) (filter-append here (received h i) (filter (has_target (target_of h.asn i ∷ [])) (reoriginated h)))
-      ∙ map_append (filter here (received h i)) (filter here (filter (has_target (target_of h.asn i ∷ [])) (reoriginated h)))
-      ∙ ap (λ (l : List model.Path). got ++ map plain l) (filter_twice here (has_target (target_of h.asn i ∷ [])) (reoriginated h))
+      ap (map plain) (filter-append here (received h i) (filter (has_target (target_of h.asn i ∷ [])) (reoriginated_paths h)))
+      ∙ map_append (filter here (received h i)) (filter here (filter (has_target (target_of h.asn i ∷ [])) (reoriginated_paths h)))
+      ∙ ap (λ (l : List model.Path). got ++ map plain l) (filter_twice here (has_target (target_of h.asn i ∷ [])) (reoriginated_paths h))
 
   pub gathered : AreShort h.feed → (none a b d e : List Path) → none ≡ [] → a ≡ none ++ map plain (filter wanted (own_paths h)) → b ≡ a ++ map plain (filter wanted (peer_paths h))
       → d ≡ b ++ map plain (led_at h i q true) → e ≡ d ++ map plain (led_at h i q false) → (x : Path) → Member x e ↔ Member x (paths_at h i q)

@@ -18,7 +18,7 @@ use Rattle.node_model.specs.Maps.{Map, object, low_entry}
 use Rattle.node_model.specs.Members.{Member}
 use Rattle.node_model.specs.Uses.{Use, as_use, use_from}
 use Rattle.node_model.specs.Paths.{Holdings, Path}
-use Rattle.node_model.specs.Reaching.{Side, sides_of, sides, reoriginated}
+use Rattle.node_model.specs.Reaching.{Side, sides_of, sides, reoriginated_paths}
 use Rattle.node_model.proofs.Members.{get_member}
 use Rattle.vpn_tables.specs.Leading.{leads, use_at, sides_of_held}
 use Rattle.vpn_tables.specs.Views.{low_order, feed_of}
@@ -63,7 +63,7 @@ pub objects_typed : (es : List Entry) → filter_map (λ e. low_entry e.0 e.1) (
 objects_typed [] = refl
 objects_typed (e ∷ es) = ap (λ (l : List Entry). e ∷ l) (objects_typed es)
 
-pub total_is : (h : Holdings) (es : List Entry) → IsStrictlySortedBy low_order (map (λ e. e.0) es) → feed_of es ≡ h.feed → total h es ≡ reoriginated h
+pub total_is : (h : Holdings) (es : List Entry) → IsStrictlySortedBy low_order (map (λ e. e.0) es) → feed_of es ≡ h.feed → total h es ≡ reoriginated_paths h
 total_is h es sorted e =
     ap (total h) (sym (ap (filter_map (λ (x : Key × Value). low_entry x.0 x.1)) (feed-entries es sorted) ∙ objects_typed es))
     ∙ ap (λ (feed : Map). flat_map (leads h) (sides feed)) e

@@ -8,7 +8,7 @@ use Rattle.ov_types.specs.Prefix.{Block}
 use Rattle.ov_types.specs.declared.numbers.InstanceId.{InstanceId}
 use Rattle.route_targets.specs.Numbers.{target_of}
 use Rattle.node_model.specs.Paths.{Holdings, has_target, own_paths, peer_paths}
-use Rattle.node_model.specs.Reaching.{reoriginated}
+use Rattle.node_model.specs.Reaching.{reoriginated_paths}
 use Rattle.node_model.specs.Tables.{paths_of}
 use Rattle.path_select.specs.declared.selection.Path.{Path}
 use Rattle.vpn_tables.specs.Answers.{is_wanted, rows_at}
@@ -18,10 +18,10 @@ use Rattle.vpn_tables.proofs.Selected.{rows_selected}
 
 pub rows_whole : (h : Holdings) (i : InstanceId) (m n : FinMap prefix_order Path) (es : List (Block × Path)) → IsStrictlySortedBy prefix_order (map (λ e. e.0) es)
     → m ≡ offer_all empty (filter (is_wanted h i) (own_paths h)) → n ≡ offer_all m (filter (is_wanted h i) (peer_paths h))
-    → least_of es ≡ offer_all n (filter (has_target (target_of h.asn i ∷ [])) (reoriginated h))
+    → least_of es ≡ offer_all n (filter (has_target (target_of h.asn i ∷ [])) (reoriginated_paths h))
     → map row_of es ≡ rows_at h i
 rows_whole h i m n es sorted e f g =
-    let led = filter (has_target (target_of h.asn i ∷ [])) (reoriginated h) in
+    let led = filter (has_target (target_of h.asn i ∷ [])) (reoriginated_paths h) in
     let own = filter (is_wanted h i) (own_paths h) in
     let peers = filter (is_wanted h i) (peer_paths h) in
     let received : n ≡ offer_all empty (filter (is_wanted h i) (own_paths h ++ peer_paths h)) =

@@ -22,7 +22,7 @@ use crate::tables::{Agent, VpnTables};
 use ov_sync::SyncIn;
 use ov_types::{InstanceId, Label, NoMemory, Prefix, TableRow, UpKey, VpnKey, VpnRoute};
 use path_select::{Path, select};
-use route_targets::{Hop, hop_of, rd, target};
+use route_targets::{UseHop, hop_of, rd, target};
 
 /// The session that a re-originated path counts as of.
 const OWN_SESSION: u16 = 65535;
@@ -227,7 +227,7 @@ impl VpnTables {
     pub(crate) fn led_at(&self, i: InstanceId, prefix: &Prefix, right: bool) -> Option<Route>
         ensures { cons_option (option_map path_of result) [] ≡ led_at self.now i prefix.now right }
     {
-        let Some(Hop { use_no, place }) = hop_of(i) else {
+        let Some(UseHop { use_no, place }) = hop_of(i) else {
             return None;
         };
         let side = self.side(use_no, right)?;

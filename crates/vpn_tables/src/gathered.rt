@@ -10,7 +10,7 @@ use crate::chains::Side;
 use crate::tables::{Agent, VpnTables};
 use ov_sync::first_of_each;
 use ov_types::{InstanceId, LowKey, LowValue, NoMemory, UpKey};
-use route_targets::{Hop, hop_instance, hop_of};
+use route_targets::{UseHop, hop_instance, hop_of};
 use std::alloc::Global;
 use std::collections::BTreeMap;
 
@@ -80,7 +80,7 @@ impl VpnTables {
         }
     }
 
-    fn imports_of_hop(&self, i: InstanceId, hop: Hop) -> Result<Vec<InstanceId>, NoMemory>
+    fn imports_of_hop(&self, i: InstanceId, hop: UseHop) -> Result<Vec<InstanceId>, NoMemory>
         requires { hop_of i ≡ Some hop }
         ensures { IfOk result (λ instances. instances.items ≡ imports self.now.feed i) }
     {

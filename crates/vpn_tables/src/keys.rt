@@ -6,7 +6,7 @@ ghost use Rattle.std.specs.FinMap.{entries, get};
 ghost use Rattle.node_model.specs.Keys.{Subscribe, of_up};
 ghost use Rattle.node_model.specs.Paths.{own_path, own_paths};
 ghost use Rattle.node_model.specs.Ranks.{instance_in};
-ghost use Rattle.node_model.specs.Reaching.{circuit_at, into, publisher, reoriginated};
+ghost use Rattle.node_model.specs.Reaching.{circuit_at, into, publisher, reoriginated_paths};
 ghost use Rattle.node_model.specs.Uses.{uses};
 ghost use Rattle.node_model.specs.Values.{Label as LabelOf};
 ghost use Rattle.vpn_tables.specs.At.{led_at};
@@ -201,7 +201,7 @@ impl VpnTables {
 
     /// The first re-originated route of a key, where there is one. It takes no memory.
     pub fn led_keyed(&self, key: &VpnKey) -> Option<Route>
-        ensures { option_map path_of result ≡ first_keyed key.now (reoriginated self.now) }
+        ensures { option_map path_of result ≡ first_keyed key.now (reoriginated_paths self.now) }
     {
         let _ = &self.asn;
         let hop = instance_of(key.rd);

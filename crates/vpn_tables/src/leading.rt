@@ -1,7 +1,7 @@
 //! The routes that lead the reachable subnets of held chains on.
 ghost use Rattle.std.specs.Prelude.{◌≡◌, ◌<◌, ◌++◌, ◌+◌, Some, OnOk, IfOk, map};
 ghost use Rattle.std.specs.List.{flat_map};
-ghost use Rattle.node_model.specs.Reaching.{below, circuit_at, into, is_up, publisher, reoriginated, subnets};
+ghost use Rattle.node_model.specs.Reaching.{below, circuit_at, into, is_up, publisher, reoriginated_paths, subnets};
 ghost use Rattle.vpn_tables.specs.Leading.{leads, sides_of_held, use_at};
 ghost use Rattle.vpn_tables.specs.Routes.{path_of};
 
@@ -18,8 +18,8 @@ const OWN_SESSION: u16 = 65535;
 impl VpnTables {
     /// The re-originated routes: of each held use by number, the right side's before the left's, by the distance that
     /// they lead from, and then by subnet. Two may have one key; the first of these counts.
-    pub fn led_on(&self) -> Result<Vec<Route>, NoMemory>
-        ensures { IfOk result (λ routes. map path_of routes.items ≡ reoriginated self.now) }
+    pub fn reoriginated_paths(&self) -> Result<Vec<Route>, NoMemory>
+        ensures { IfOk result (λ routes. map path_of routes.items ≡ reoriginated_paths self.now) }
     {
         let mut routes = Vec::new(self.alloc);
         for (key, _value) in self.low.iter() {

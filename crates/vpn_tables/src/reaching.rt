@@ -15,7 +15,7 @@ use crate::routes::is_within;
 use crate::tables::{Agent, VpnTables};
 use ov_sync::SyncIn;
 use ov_types::{InstanceId, Label, NoMemory, Prefix, UpKey, VpnKey, VpnRoute};
-use route_targets::{Hop, hop_of};
+use route_targets::{UseHop, hop_of};
 
 /// Whether a subnet is among some.
 pub(crate) fn is_among(subnet: &Prefix, subnets: &[Prefix]) -> bool
@@ -45,7 +45,7 @@ impl VpnTables {
     pub fn up(&self, hop: InstanceId, subnet: &Prefix, right: bool) -> bool
         ensures { result ≡ is_up_at self.now hop subnet.now right }
     {
-        let Some(Hop { use_no, place }) = hop_of(hop) else {
+        let Some(UseHop { use_no, place }) = hop_of(hop) else {
             return false;
         };
         let Some(side) = self.side(use_no, right) else {

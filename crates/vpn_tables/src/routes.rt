@@ -16,7 +16,7 @@ ghost use Rattle.vpn_tables.specs.Views.{agent_of};
 use crate::tables::{Agent, VpnTables};
 use ov_types::{Addr, InstanceId, Label, LowKey, LowValue, Prefix, Target, UpKey};
 use path_select::Path;
-use route_targets::{Hop, circuit_address, circuit_instance, hop_of, rd, target};
+use route_targets::{UseHop, circuit_address, circuit_instance, hop_of, rd, target};
 
 /// A route of this control node's own: its prefix, where it leads, and its one target.
 #[derive(Clone, Copy, PartialEq, Eq)]
@@ -106,7 +106,7 @@ impl VpnTables {
         }
     }
 
-    fn hop_imports_target(&self, i: InstanceId, hop: Hop, wanted: Target) -> bool
+    fn hop_imports_target(&self, i: InstanceId, hop: UseHop, wanted: Target) -> bool
         requires { hop_of i ≡ Some hop }
         ensures { result ≡ list_any (λ u. wanted.0 == u.0) (map (target_of self.now.asn) (imports self.now.feed i)) }
     {

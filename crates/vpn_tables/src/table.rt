@@ -4,7 +4,7 @@ ghost use Rattle.std.specs.List.{filter, filter_map};
 ghost use Rattle.std.specs.FinMap.{entries};
 ghost use Rattle.route_targets.specs.Numbers.{target_of};
 ghost use Rattle.node_model.specs.Paths.{has_target, own_path, own_paths, peer_path, peer_paths};
-ghost use Rattle.node_model.specs.Reaching.{reoriginated};
+ghost use Rattle.node_model.specs.Reaching.{reoriginated_paths};
 ghost use Rattle.node_model.specs.Uses.{use_of};
 ghost use Rattle.vpn_tables.specs.Answers.{is_wanted, rows_at};
 ghost use Rattle.vpn_tables.specs.Least.{least_of, offer_all};
@@ -104,7 +104,7 @@ impl VpnTables {
     /// Routes lead on into hops alone.
     fn offer_led(&self, least: &mut Least, i: InstanceId) -> Result<(), NoMemory>
         ensures { OnOk result (least_of least.new ≡ offer_all (least_of least.old)
-            (filter (has_target (target_of self.now.asn i ∷ [])) (reoriginated self.now))) }
+            (filter (has_target (target_of self.now.asn i ∷ [])) (reoriginated_paths self.now))) }
     {
         match hop_of(i) {
             Some(hop) => self.offer_along(least, i, hop.use_no),
@@ -116,7 +116,7 @@ impl VpnTables {
     fn offer_along(&self, least: &mut Least, i: InstanceId, number: u16) -> Result<(), NoMemory>
         requires { number ≡ use_of i }
         ensures { OnOk result (least_of least.new ≡ offer_all (least_of least.old)
-            (filter (has_target (target_of self.now.asn i ∷ [])) (reoriginated self.now))) }
+            (filter (has_target (target_of self.now.asn i ∷ [])) (reoriginated_paths self.now))) }
     {
         let mut routes = Vec::new(self.alloc);
         self.lead_use(&mut routes, &LowKey::ChainUse(number))?;

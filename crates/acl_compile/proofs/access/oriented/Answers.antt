@@ -1,6 +1,6 @@
 use Rattle.std.proofs.Common.{◌&&◌, List, map, ap, ◌∙◌, Bor}
 use Rattle.config_model.specs.declared.config.Policy.{Policy}
-use Rattle.network_rules.specs.Related.{attaches}
+use Rattle.policy_rules.specs.Related.{attaches}
 use Rattle.acl_compile.proofs.Kept.{all_bounded}
 use Rattle.acl_compile.proofs.Listed.{oriented_by}
 use Rattle.acl_compile.proofs.access.oriented.Goals as goal

@@ -1,5 +1,5 @@
 use Rattle.std.proofs.Common.{◌≡◌, ◌+◌, ◌++◌, drop, flat_map}
-use Rattle.network_rules.specs.Related.{numbered_from, numbered_rules}
+use Rattle.policy_rules.specs.Related.{numbered_from, numbered_rules}
 use Rattle.acl_compile.specs.Oriented.{entries_of}
 use Rattle.acl_compile.proofs.entries.push_policy.Given as goal
 

@@ -1,7 +1,7 @@
 use Rattle.std.proofs.Common.{◌≡◌, ℕ, List, [], ◌∷◌, ◌++◌, ap, subst, ◌∙◌}
 use Rattle.std.specs.Result.{OnOk}
 use Rattle.byteorder.specs.Endian.{big_bytes}
-use Rattle.bgp_wire.specs.declared.kind.Kind.TheVariants.{Open}
+use Rattle.bgp_wire.specs.declared.kind.MessageKind.TheVariants.{Open}
 use Rattle.bgp_wire.specs.Content.{Opens}
 use Rattle.bgp_wire.specs.Opens.{open_octets}
 use Rattle.bgp_wire.specs.Spelling.{framed, open_fields, my_as_of}

@@ -4,7 +4,7 @@ use Rattle.ov_types.specs.declared.vpn.VpnKey.{VpnKey}
 use Rattle.ov_types.specs.declared.vpn.VpnRoute.{VpnRoute}
 use Rattle.node_model.specs.Keys.{Vpn}
 use Rattle.node_model.specs.Values.{Route}
-use Rattle.node_model.specs.Reaching.{reoriginated}
+use Rattle.node_model.specs.Reaching.{reoriginated_paths}
 use Rattle.chain_reorigin.proofs.Telling.{told_is, of_all_sessions}
 use Rattle.chain_reorigin.proofs.routes.reoriginated.Goals as goal
 

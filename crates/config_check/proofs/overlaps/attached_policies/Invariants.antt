@@ -1,5 +1,5 @@
 use Rattle.std.proofs.Common.{◌≡◌, ◌++◌, drop, filter, map}
-use Rattle.network_rules.specs.Related.{attaches}
+use Rattle.policy_rules.specs.Related.{attaches}
 use Rattle.config_check.proofs.overlaps.attached_policies.Given as goal
 
 abbrev pub invariant-loop-policy : goal.invariant-loop-policy

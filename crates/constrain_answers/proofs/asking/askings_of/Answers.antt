@@ -1,6 +1,6 @@
 use Rattle.std.proofs.Common.{◌++◌, ap, map, subst, sym}
 use Rattle.net_machine.specs.Runs.{tied_moment}
-use Rattle.document_answers.proofs.LineLemmas.{drop_at}
+use Rattle.compile_answers.proofs.LineLemmas.{drop_at}
 use Rattle.constrain_answers.specs.Constraint.{AreControlNodes, asking_of}
 use Rattle.constrain_answers.specs.Networks.{EachNeedsNoMore}
 use Rattle.constrain_answers.proofs.Written.{made_more}

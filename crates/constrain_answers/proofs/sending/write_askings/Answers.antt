@@ -1,7 +1,7 @@
 use Rattle.std.proofs.Common.{ap, ◌∙◌}
 use Rattle.std.specs.List.{flat_map}
 use Rattle.ov_io.proofs.PieceLemmas.{on_err, way_breaks, way_goes_on}
-use Rattle.document_answers.proofs.LineLemmas.{drop_at}
+use Rattle.compile_answers.proofs.LineLemmas.{drop_at}
 use Rattle.constrain_answers.specs.Constraint.{line_of}
 use Rattle.constrain_answers.proofs.sending.write_askings.Goals as goal
 

@@ -4,7 +4,7 @@ use Rattle.net_machine.specs.Runs.{tied_moment}
 use Rattle.ov_io.specs.Inputs.{TookFront}
 use Rattle.ov_io.specs.Pieces.{IsOnItsWay}
 use Rattle.ov_io.proofs.PieceLemmas.{ends_cut, ends_whole, on_err}
-use Rattle.document_answers.proofs.Ways.{front_first, front_then, way_then}
+use Rattle.compile_answers.proofs.Ways.{front_first, front_then, way_then}
 use Rattle.constrain_answers.specs.Constraint.{sent_by, text_of}
 use Rattle.constrain_answers.proofs.sending.write_lines.Goals as goal
 

@@ -2,7 +2,7 @@ use Rattle.std.proofs.Common.{ap, subst, ◌∙◌}
 use Rattle.std.specs.List.{flat_map}
 use Rattle.net_machine.specs.Runs.{tied_moment}
 use Rattle.ov_io.proofs.PieceLemmas.{on_err, way_breaks, way_goes_on}
-use Rattle.document_answers.proofs.LineLemmas.{drop_at}
+use Rattle.compile_answers.proofs.LineLemmas.{drop_at}
 use Rattle.constrain_answers.specs.Constraint.{AreControlNodes, sent_by}
 use Rattle.constrain_answers.proofs.sending.write_sent.Goals as goal
 

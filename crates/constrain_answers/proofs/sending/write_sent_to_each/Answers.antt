@@ -2,7 +2,7 @@ use Rattle.std.proofs.Common.{ap, subst, ◌∙◌}
 use Rattle.std.specs.List.{flat_map}
 use Rattle.ov_io.proofs.PieceLemmas.{on_err, way_breaks, way_goes_on}
 use Rattle.vpn_tables.specs.Views.{peer_of}
-use Rattle.document_answers.proofs.LineLemmas.{drop_at}
+use Rattle.compile_answers.proofs.LineLemmas.{drop_at}
 use Rattle.constrain_answers.specs.Constraint.{AreInForm, sent_to}
 use Rattle.constrain_answers.proofs.sending.write_sent_to_each.Goals as goal
 

@@ -1,6 +1,6 @@
 use Rattle.std.proofs.Common.{subst}
 use Rattle.config_model.specs.declared.edit.Object.{Object}
-use Rattle.network_model.specs.Setup.{put_moves}
+use Rattle.machine_model.specs.Setup.{put_moves}
 use Rattle.net_machine.specs.Moving.{CanMoveIf}
 use Rattle.net_machine.proofs.editing.move_object.Goals as goal
 

@@ -2,7 +2,7 @@ use Rattle.std.proofs.Common.{◌≡◌, ◌+◌, List, ◌∷◌, max, drop, sy
 use Rattle.std.proofs.lemmas.List.{at_drop_more, drop_all}
 use Rattle.std.specs.List.{filter_map}
 use Rattle.config_model.specs.declared.config.Rule.{Rule}
-use Rattle.network_model.specs.Setup.{longest_of}
+use Rattle.machine_model.specs.Setup.{longest_of}
 use Rattle.transform_model.specs.Uses.{use_by}
 use Rattle.net_machine.proofs.Along.{longest_more}
 use Rattle.net_machine.proofs.longest.longest_by.Goals as goal

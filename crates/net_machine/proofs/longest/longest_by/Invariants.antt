@@ -1,5 +1,5 @@
 use Rattle.std.proofs.Common.{◌≡◌, ◌≤◌, max, drop}
-use Rattle.network_model.specs.Setup.{longest_of}
+use Rattle.machine_model.specs.Setup.{longest_of}
 use Rattle.transform_model.specs.Uses.{use_by}
 use Rattle.std.specs.List.{filter_map}
 use Rattle.config_model.specs.declared.config.Rule.{Rule}

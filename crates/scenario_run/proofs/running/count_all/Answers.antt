@@ -1,7 +1,7 @@
 use Rattle.std.proofs.Common.{◌∙◌, ◌++◌, ◌∷◌, [], ap}
-use Rattle.network_model.specs.Events.{event_of}
-use Rattle.network_model.specs.Setup.{checked}
-use Rattle.tied_laws.specs.Runs.{answer_tied, tied_moment}
+use Rattle.machine_model.specs.Events.{event_of}
+use Rattle.machine_model.specs.Setup.{checked}
+use Rattle.schedule_tied_laws.specs.Runs.{answer_tied, tied_moment}
 use Rattle.scenario_run.proofs.Counting.{counted_on, few_on, one_by_one}
 use Rattle.scenario_run.proofs.running.count_all.Goals as goal
 

@@ -1,7 +1,7 @@
 use Rattle.std.proofs.Common.{◌≡◌, ◌++◌, length, false}
 use Rattle.config_ties.specs.Kept.{AreAlike, ties_in}
-use Rattle.net_model.specs.Stands.{StandsFor}
-use Rattle.tied_laws.specs.Runs.{tied_moment}
+use Rattle.running_model.specs.Stands.{StandsFor}
+use Rattle.schedule_tied_laws.specs.Runs.{tied_moment}
 use Rattle.scenario_run.specs.Tallies.{tally}
 use Rattle.scenario_run.proofs.Counting.{IsFew}
 use Rattle.scenario_run.proofs.running.count_all.Given as goal

@@ -1,6 +1,6 @@
 use Rattle.std.proofs.Common.{◌≡◌, drop}
 use Rattle.std.specs.Prelude.{[], filter, map}
-use Rattle.network_rules.specs.Related.{imports}
+use Rattle.policy_rules.specs.Related.{imports}
 use Rattle.transform_model.specs.Objects.{with_instances}
 use Rattle.schema_transform.proofs.objects.imports_of.Given as goal
 

@@ -1,10 +1,10 @@
 use Rattle.std.specs.Prelude.{◌≡◌, option_copied, IfSome}
 use Rattle.std.proofs.Common.{ap, subst, sym, ◌∙◌}
-use Rattle.quiet_laws.specs.Quiet.{SameButQuiet}
-use Rattle.tied_laws.specs.Runs.{tied_moment}
+use Rattle.control_quiet_laws.specs.Quiet.{SameButQuiet}
+use Rattle.schedule_tied_laws.specs.Runs.{tied_moment}
 use Rattle.net_machine.specs.Looking.{held_at, is_control_node}
 use Rattle.net_machine.specs.NetState.{NetState}
-use Rattle.net_seats.specs.Cores.{present}
+use Rattle.running_nodes.specs.Cores.{present}
 use Rattle.net_machine.proofs.ControlNodes.{copied_some, core_exact, core_is, finds, finds_none, held_of}
 use Rattle.net_machine.proofs.Ran.{run_moment}
 use Rattle.net_machine.proofs.Seating.{named_within}

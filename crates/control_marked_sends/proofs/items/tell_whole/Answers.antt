@@ -1,0 +1,13 @@
+use Rattle.std.proofs.Common.{ap, map, ◌∙◌}
+use Rattle.ov_sync.specs.Embed.{moved_delta}
+use Rattle.node_items.specs.Told.{down_of, down_value}
+use Rattle.node_model.specs.Keys.{of_down}
+use Rattle.node_model.specs.Maps.{Map, difference}
+use Rattle.control_marked_sends.proofs.Marking.{items_differ}
+use Rattle.control_marked_sends.proofs.items.tell_whole.Goals as goal
+
+pub returns-clause-changes : goal.returns-clause-changes
+returns-clause-changes c =
+    ap (map (moved_delta of_down down_value)) c.in_ok-changes.ensures.changes
+    ∙ items_differ c.args.sent.now c.in_ok-wanted.wanted.entries
+    ∙ ap (λ (w : Map). difference (down_of c.args.sent.now) w) c.in_ok-wanted.ensures

@@ -1,0 +1,15 @@
+use Rattle.std.proofs.Common.{◌∙◌, ap, sym}
+use Rattle.std.specs.FinMap.{get}
+use Rattle.node_model.specs.Keys.{of_down}
+use Rattle.control_slice_laws.specs.Here.{wanted_on}
+use Rattle.control_marked_sends.specs.Marked.{marked_key}
+use Rattle.control_marked_sends.specs.declared.marked.MarkedItem.{MarkedItem}
+use Rattle.control_marked_sends.proofs.Rows.{row_told}
+use Rattle.control_marked_sends.proofs.marked.value_of.Goals as goal
+
+pub returns-in-Row : goal.returns-in-Row
+returns-in-Row c =
+    let h = c.args.tables.now in
+    c.subscribed.ensures
+    ∙ row_told h c.args.session c.in-Row.instance c.in-Row.prefix c.in-Row.row (rw c.in-Row.is at c.requires)
+    ∙ ap (λ (m : MarkedItem). get (wanted_on h c.args.session) (of_down (marked_key m))) (sym c.in-Row.is)

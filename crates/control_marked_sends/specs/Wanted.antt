@@ -1,0 +1,49 @@
+-- What is wanted at marked keys.
+use Rattle.std.specs.Prelude.{◌≡◌, ℕ, List, map, false}
+use Rattle.std.specs.declared.option.Option.{Option}
+use Rattle.std.specs.FinMap.{get}
+use Rattle.std.specs.List.{AllByRecursion}
+use Rattle.std.specs.List.Sorted.{IsStrictlySortedBy}
+use Rattle.std.specs.Option.{option_map}
+use Rattle.ov_types.specs.declared.keys.DownKey.{DownKey}
+use Rattle.ov_types.specs.declared.keys.DownValue.{DownValue}
+use Rattle.ov_types.specs.declared.vpn.VpnKey.{VpnKey}
+use Rattle.ov_types.specs.declared.vpn.VpnRoute.{VpnRoute}
+use Rattle.node_items.specs.Told.{down_value}
+use Rattle.node_model.specs.Directions.{down_order, vpn_order}
+use Rattle.node_model.specs.Keys.{Key, Vpn, of_down}
+use Rattle.node_model.specs.Maps.{Map}
+use Rattle.node_model.specs.Paths.{Holdings}
+use Rattle.node_model.specs.Values.{Route}
+use Rattle.node_model.specs.Wants.{wanted_by_peers}
+use Rattle.vpn_tables.specs.Listing.{told_in}
+use Rattle.vpn_tables.specs.Views.{peer_of}
+use Rattle.control_slice_laws.specs.Here.{wanted_on}
+use Rattle.control_dirty_keys.specs.Marks.{IsCleanItem, IsCleanRoute, Marks}
+use Rattle.control_marked_sends.specs.declared.routes.RoutesWanted.{RoutesWanted}
+use Rattle.control_marked_sends.specs.declared.routes.RoutesWanted.TheVariants.{Marked, Whole}
+
+-- each marked key of peers, in order, with what is wanted of it
+pub record AreRoutes (d : Marks) (h : Holdings) (es : List (VpnKey × Option VpnRoute)) : Type 0 where
+  pub keys : map (λ e. e.0) es ≡ d.routes
+  pub ascending : IsStrictlySortedBy vpn_order d.routes
+  pub each : AllByRecursion (λ e. option_map Route e.1 ≡ get (wanted_by_peers h) (Vpn e.0)) es
+
+-- all that peers are to have been told, or what is wanted at marked keys
+abbrev pub AreRoutesWanted : Marks → Holdings → RoutesWanted → Type 0
+AreRoutesWanted d h (Whole m) = peer_of m.entries ≡ wanted_by_peers h
+AreRoutesWanted d h (Marked es) = (d.all ≡ false) × AreRoutes d h es.items
+
+-- each marked key of agents, in order, with what is wanted of it on a session
+pub record AreItems (d : Marks) (h : Holdings) (session : ℕ) (es : List (DownKey × Option DownValue)) : Type 0 where
+  pub keys : map (λ e. e.0) es ≡ d.items
+  pub ascending : IsStrictlySortedBy down_order d.items
+  pub each : AllByRecursion (λ e. option_map down_value e.1 ≡ get (wanted_on h session) (of_down e.0)) es
+
+-- what was sent is what is wanted where it is not marked
+abbrev pub IsSentToPeer : Marks → Holdings → Map → Type 0
+IsSentToPeer d h sent = d.all ≡ false → (k : Key) → IsCleanRoute d k → get sent k ≡ get (wanted_by_peers h) k
+
+abbrev pub IsSentToAgent : Marks → Holdings → ℕ → Map → Type 0
+IsSentToAgent d h session sent =
+    d.all ≡ false → (k : Key) → IsCleanItem d (told_in h.agents session).address k → get sent k ≡ get (wanted_on h session) k

@@ -1,0 +1,106 @@
+//! What agents are told.
+ghost use Rattle.std.specs.Prelude.{◌≡◌, [], false, map, IfOk, OnErr, OnOk};
+ghost use Rattle.std.specs.List.{AllByRecursion};
+ghost use Rattle.ov_sync.specs.Embed.{moved_delta};
+ghost use Rattle.node_items.specs.Told.{down_of, down_value};
+ghost use Rattle.node_model.specs.Keys.{of_down};
+ghost use Rattle.node_model.specs.Maps.{difference};
+ghost use Rattle.node_model.specs.Members.{Member};
+ghost use Rattle.vpn_tables.specs.Listing.{told_in};
+ghost use Rattle.control_slice_laws.specs.Here.{wanted_on};
+ghost use Rattle.control_dirty_keys.specs.Marks.{Marks};
+ghost use Rattle.control_marked_sends.specs.Marked.{AreMarkedItems, HasItsRow};
+ghost use Rattle.control_marked_sends.specs.Wanted.{AreItems, IsSentToAgent};
+
+use crate::marked::{MarkedItem, key_of, value_of};
+use control_dirty_keys::Dirty;
+use control_key_sends::tell_items;
+use control_wants::wanted_by_agent;
+use ov_sync::{Delta, SyncOut};
+use ov_types::{DownKey, DownValue, NoMemory};
+use std::alloc::Global;
+use vpn_tables::VpnTables;
+
+/// What the agent of a session is to have been told of what is marked.
+fn marked_items(
+    alloc: Global,
+    tables: &VpnTables,
+    session: u16,
+    marked: &[MarkedItem],
+) -> Result<Vec<(DownKey, Option<DownValue>)>, NoMemory>
+    requires { AllByRecursion (HasItsRow tables.now) marked.now }
+    ensures { IfOk result (λ wanted. (d : Marks) → AreMarkedItems d tables.now marked.now
+        → AreItems d tables.now session wanted.items) }
+{
+    let mut wanted = Vec::new(alloc);
+    for item in marked {
+        let value = value_of(tables, session, item)?;
+        wanted.push((key_of(item), value))?;
+    }
+    Ok(wanted)
+}
+
+fn tell_whole(
+    alloc: Global,
+    sent: &mut SyncOut<DownKey, DownValue>,
+    tables: &VpnTables,
+    session: u16,
+) -> Result<Vec<Delta<DownKey, DownValue>>, NoMemory>
+    ensures changes { IfOk result (λ changes. map (moved_delta of_down down_value) changes.items
+        ≡ difference (down_of sent.old) (wanted_on tables.now session)) }
+    ensures sent { OnOk result (down_of sent.new ≡ wanted_on tables.now session) }
+{
+    let wanted = wanted_by_agent(alloc, tables, session)?;
+    let changes = sent.replace(&wanted)?;
+    Ok(changes)
+}
+
+fn tell_marked(
+    alloc: Global,
+    sent: &mut SyncOut<DownKey, DownValue>,
+    tables: &VpnTables,
+    session: u16,
+    dirty: &Dirty,
+    marked: &[MarkedItem],
+) -> Result<Vec<Delta<DownKey, DownValue>>, NoMemory>
+    requires marked { AreMarkedItems dirty.now tables.now marked.now }
+    requires tracked { IsSentToAgent dirty.now tables.now session (down_of sent.old) }
+    requires not_all { dirty.now.all ≡ false }
+    requires elsewhere { Member (told_in tables.now.agents session).address dirty.now.addresses → ⊥ }
+    ensures changes { IfOk result (λ changes. map (moved_delta of_down down_value) changes.items
+        ≡ difference (down_of sent.old) (wanted_on tables.now session)) }
+    ensures sent { OnOk result (down_of sent.new ≡ wanted_on tables.now session) }
+{
+    let wanted = marked_items(alloc, tables, session, marked)?;
+    tell_items(alloc, sent, wanted.as_slice())
+}
+
+/// The changes that an agent is to be told, which count as sent then. Where memory is wanting, nothing counts as sent.
+pub fn tell_agent(
+    alloc: Global,
+    sent: &mut SyncOut<DownKey, DownValue>,
+    tables: &VpnTables,
+    session: u16,
+    dirty: &Dirty,
+    marked: &[MarkedItem],
+) -> Result<Vec<Delta<DownKey, DownValue>>, NoMemory>
+    requires marked { AreMarkedItems dirty.now tables.now marked.now }
+    requires tracked { IsSentToAgent dirty.now tables.now session (down_of sent.old) }
+    ensures changes { IfOk result (λ changes. map (moved_delta of_down down_value) changes.items
+        ≡ difference (down_of sent.old) (wanted_on tables.now session)) }
+    ensures sent { OnOk result (down_of sent.new ≡ wanted_on tables.now session) }
+    ensures err { OnErr result (sent.new ≡ []) }
+{
+    let told = if dirty.is_whole(tables.address_of(session)) {
+        tell_whole(alloc, sent, tables, session)
+    } else {
+        tell_marked(alloc, sent, tables, session, dirty, marked)
+    };
+    match told {
+        Ok(changes) => Ok(changes),
+        Err(e) => {
+            sent.reset();
+            Err(e)
+        }
+    }
+}

@@ -1,5 +1,0 @@
-use Rattle.heard_laws.proofs.Sizes.{has_size}
-use Rattle.heard_laws.proofs.laws.messages_have_sizes.Goals as goal
-
-pub returns : goal.returns
-returns c = has_size

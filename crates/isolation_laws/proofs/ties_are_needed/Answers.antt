@@ -1,5 +1,0 @@
-use Rattle.isolation_laws.proofs.Untied.{not_without}
-use Rattle.isolation_laws.proofs.ties_are_needed.Goals as goal
-
-pub returns : goal.returns
-returns c = not_without

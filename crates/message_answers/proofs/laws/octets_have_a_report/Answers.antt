@@ -1,5 +1,0 @@
-use Rattle.message_answers.proofs.SomeReport.{some_report}
-use Rattle.message_answers.proofs.laws.octets_have_a_report.Goals as goal
-
-pub returns : goal.returns
-returns c = some_report

@@ -1,5 +1,0 @@
-use Rattle.message_answers.proofs.OneReport.{one_report}
-use Rattle.message_answers.proofs.laws.octets_have_one_report.Goals as goal
-
-pub returns : goal.returns
-returns c = one_report

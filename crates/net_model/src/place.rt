@@ -1,8 +1,0 @@
-//! Places in a network.
-
-/// One end of a session, by the number of its node and the number of the session there.
-#[derive(Clone, Copy, PartialEq, Eq)]
-pub struct Place {
-    pub node: u16,
-    pub session: u16,
-}

@@ -1,6 +1,0 @@
-use Rattle.std.proofs.Common.{arith, ap, length, drop}
-use Rattle.std.proofs.lemmas.List.{length-drop}
-use Rattle.net_seats.proofs.nodes.agent_named.Goals as goal
-
-pub edge_named-requires : goal.edge_named-requires
-edge_named-requires c = (let long = length-drop c.args.first c.args.edges.now in omega (arith, long, c.requires.few))

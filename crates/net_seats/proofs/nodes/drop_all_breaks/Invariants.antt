@@ -1,7 +1,0 @@
-use Rattle.std.proofs.Common.{◌≡◌}
-use Rattle.net_seats.specs.Changes.{unbroken_outer}
-use Rattle.net_seats.proofs.Cleared.{mapped_to}
-use Rattle.net_seats.proofs.nodes.drop_all_breaks.Given as goal
-
-abbrev pub invariant-loop-index : goal.invariant-loop-index
-invariant-loop-index l = l.edges ≡ mapped_to unbroken_outer l.index l.initial.edges

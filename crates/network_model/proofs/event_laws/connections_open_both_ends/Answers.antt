@@ -1,5 +1,0 @@
-use Rattle.network_model.proofs.Connecting.{connected_opens}
-use Rattle.network_model.proofs.event_laws.connections_open_both_ends.Goals as goal
-
-pub returns : goal.returns
-returns c = connected_opens

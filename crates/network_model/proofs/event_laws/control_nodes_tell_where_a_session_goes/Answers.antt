@@ -1,5 +1,0 @@
-use Rattle.network_model.proofs.Telling.{edit_tells}
-use Rattle.network_model.proofs.event_laws.control_nodes_tell_where_a_session_goes.Goals as goal
-
-pub returns : goal.returns
-returns c = edit_tells

@@ -1,5 +1,0 @@
-use Rattle.network_model.proofs.Deeds.{delivered_told}
-use Rattle.network_model.proofs.event_laws.deliveries_end_with_a_pass.Goals as goal
-
-pub returns : goal.returns
-returns c = delivered_told

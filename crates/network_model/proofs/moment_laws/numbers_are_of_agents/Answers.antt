@@ -1,5 +1,0 @@
-use Rattle.network_model.proofs.Numbered.{numbers_fit}
-use Rattle.network_model.proofs.moment_laws.numbers_are_of_agents.Goals as goal
-
-pub returns : goal.returns
-returns c = numbers_fit

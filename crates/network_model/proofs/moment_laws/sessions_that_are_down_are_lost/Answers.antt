@@ -1,5 +1,0 @@
-use Rattle.network_model.proofs.EveryMoment.{down_are_lost}
-use Rattle.network_model.proofs.moment_laws.sessions_that_are_down_are_lost.Goals as goal
-
-pub returns : goal.returns
-returns c = down_are_lost

@@ -1,5 +1,0 @@
-use Rattle.network_model.proofs.EveryMoment.{whole_are_joined}
-use Rattle.network_model.proofs.moment_laws.sessions_that_are_not_down_are_joined.Goals as goal
-
-pub returns : goal.returns
-returns c = whole_are_joined

@@ -1,5 +1,0 @@
-use Rattle.network_model.proofs.Turns.{rounds_take_turns}
-use Rattle.network_model.proofs.round_laws.rounds_take_turns.Goals as goal
-
-pub returns : goal.returns
-returns c = rounds_take_turns

@@ -1,5 +1,0 @@
-use Rattle.network_rules.proofs.Relations.{imports_iff}
-use Rattle.network_rules.proofs.laws.networks_import_by_pass_rules.Goals as goal
-
-pub returns : goal.returns
-returns c = imports_iff

@@ -1,5 +1,0 @@
-use Rattle.network_rules.proofs.Sequences.{follow, stable}
-use Rattle.network_rules.proofs.laws.policies_stand_by_sequence.Goals as goal
-
-pub returns : goal.returns
-returns c = record { order = follow; document = stable }

@@ -1,5 +1,0 @@
-use Rattle.network_rules.proofs.Standing.{in_order}
-use Rattle.network_rules.proofs.laws.rules_between_are_in_order.Goals as goal
-
-pub returns : goal.returns
-returns c = in_order

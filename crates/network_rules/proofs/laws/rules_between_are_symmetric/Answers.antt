@@ -1,5 +1,0 @@
-use Rattle.network_rules.proofs.Answers.{symmetric}
-use Rattle.network_rules.proofs.laws.rules_between_are_symmetric.Goals as goal
-
-pub returns : goal.returns
-returns c = symmetric

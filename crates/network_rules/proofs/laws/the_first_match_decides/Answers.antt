@@ -1,5 +1,0 @@
-use Rattle.network_rules.proofs.Taking.{deciding_iff}
-use Rattle.network_rules.proofs.laws.the_first_match_decides.Goals as goal
-
-pub returns : goal.returns
-returns c = deciding_iff

@@ -1,0 +1,20 @@
+-- Every message has an octet.
+use Rattle.std.proofs.Common.{◌<◌, ℕ, suc, List, [], ◌∷◌, length, arith}
+use Rattle.machine_model.specs.Moments.{ArePositive}
+use Rattle.machine_model.specs.Session.{Open, Keepalive, Hello, Carries}
+use Rattle.item_wire.specs.Records.{spelling}
+use Rattle.item_wire.specs.declared.item.Item.TheVariants.{Hello as HelloItem}
+use Rattle.running_model.specs.Stands.{at_least_one, carried_octets, message_size}
+
+one_at_least : (octets : List ℕ) → 0 < at_least_one octets
+one_at_least [] = omega arith
+one_at_least (o ∷ octets) = some (length octets)
+  where
+    some : (n : ℕ) → 0 < suc n
+    some n = omega arith
+
+pub positive : ArePositive message_size
+positive n Open = omega arith
+positive n Keepalive = omega arith
+positive n Hello = one_at_least (spelling (HelloItem n))
+positive n (Carries c) = one_at_least (carried_octets c)

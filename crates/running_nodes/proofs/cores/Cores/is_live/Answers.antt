@@ -1,0 +1,45 @@
+use Rattle.std.proofs.Common.{arith, ap, subst, sym, ◌∙◌, ◌<◌, length}
+use Rattle.running_model.specs.Controls.{controls_of}
+use Rattle.running_model.specs.Seats.{Configuring, Controlling, Forwarding, others_of}
+use Rattle.running_nodes.specs.Halves.{Inner, live}
+use Rattle.running_nodes.proofs.Numbers.{agent_is, config_is, control_is}
+use Rattle.running_nodes.proofs.Stepping.{sessions_of_agent, sessions_of_config}
+use Rattle.running_nodes.proofs.Vacant.{sessions_there}
+use Rattle.running_nodes.proofs.cores.Cores.is_live.Goals as goal
+
+pub is_live-requires : goal.is_live-requires
+is_live-requires c =
+    let here : c.args.session < length (others_of (Configuring c.self.inside.config.setup)) =
+    subst (λ (n : Inner). c.args.session < length (others_of n.who))
+    (config_is c.args.self.now c.self.inside.config c.self.inside.controls.items c.self.inside.agents.items c.args.node c.self.view_is c.in-Configuration.ensures.number)
+    c.requires.session in
+    let many = sessions_of_config c.self.inside.config.setup in
+    omega (arith, here, many)
+
+pub is_live-requires-in-Control : goal.is_live-requires-in-Control
+is_live-requires-in-Control c =
+    let here : c.args.session < length (others_of (Controlling (controls_of c.index.result.now.plan))) =
+    subst (λ (n : Inner). c.args.session < length (others_of n.who))
+    (control_is c.args.self.now c.self.inside.config c.self.inside.controls.items c.self.inside.agents.items c.args.node c.len.result c.in-Control.place c.self.view_is (omega (arith, c.len.ensures, c.self.inside.controls.ok.0)) c.index.result.now c.in-Control.ensures.number c.in-Control.ensures.within c.index.ensures)
+    c.requires.session in
+    let many = sessions_there c.index.result.now.plan in
+    omega (arith, here, many)
+
+pub is_live-requires-in-Agent : goal.is_live-requires-in-Agent
+is_live-requires-in-Agent c =
+    let here : c.args.session < length (others_of (Forwarding c.index-in-Agent.result.now.plan)) =
+    subst (λ (n : Inner). c.args.session < length (others_of n.who))
+    (agent_is c.args.self.now c.self.inside.config c.self.inside.controls.items c.self.inside.agents.items c.args.node c.len.result c.in-Agent.place c.self.view_is (omega (arith, c.len.ensures, c.self.inside.controls.ok.0)) c.index-in-Agent.result.now c.in-Agent.ensures.number c.requires.node c.index-in-Agent.ensures)
+    c.requires.session in
+    let many = sessions_of_agent c.index-in-Agent.result.now.plan in
+    omega (arith, here, many)
+
+pub returns-in-Control : goal.returns-in-Control
+returns-in-Control c =
+    c.is_live-in-Control.ensures
+    ∙ ap (λ (n : Inner). live n c.args.session) (sym (control_is c.args.self.now c.self.inside.config c.self.inside.controls.items c.self.inside.agents.items c.args.node c.len.result c.in-Control.place c.self.view_is (omega (arith, c.len.ensures, c.self.inside.controls.ok.0)) c.index.result.now c.in-Control.ensures.number c.in-Control.ensures.within c.index.ensures))
+
+pub returns-in-Agent : goal.returns-in-Agent
+returns-in-Agent c =
+    c.is_live-in-Agent.ensures
+    ∙ ap (λ (n : Inner). live n c.args.session) (sym (agent_is c.args.self.now c.self.inside.config c.self.inside.controls.items c.self.inside.agents.items c.args.node c.len.result c.in-Agent.place c.self.view_is (omega (arith, c.len.ensures, c.self.inside.controls.ok.0)) c.index-in-Agent.result.now c.in-Agent.ensures.number c.requires.node c.index-in-Agent.ensures))

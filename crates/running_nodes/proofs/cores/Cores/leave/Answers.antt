@@ -1,0 +1,83 @@
+use Rattle.std.proofs.Common.{arith, ap, subst, sym, ◌≡◌, ◌∙◌, IfOk, OnErr, OnOk, length}
+use Rattle.std.proofs.lemmas.Result.{on_err_weaker}
+use Rattle.control_node.specs.declared.plan.ControlPlan.{ControlPlan}
+use Rattle.running_model.specs.Controls.{controls_of}
+use Rattle.running_model.specs.Moving.{retired_of}
+use Rattle.running_model.specs.Seats.{Configuring, Controlling, Forwarding, others_of}
+use Rattle.running_nodes.specs.Changes.{IsAlone, LeavesOver}
+use Rattle.running_nodes.specs.Halves.{Inner}
+use Rattle.running_nodes.proofs.Numbers.{agent_is, agent_within, config_is, control_is, standing_at}
+use Rattle.running_nodes.proofs.Shifts.{of_both, one_set}
+use Rattle.running_nodes.proofs.cores.Cores.leave.Goals as goal
+
+pub leave_control-requires-clause-alone : goal.leave_control-requires-clause-alone
+leave_control-requires-clause-alone c =
+    subst (λ (n : Inner). IsAlone c.args.name.now c.args.session n)
+    (control_is c.args.self.now c.self.inside.config c.self.inside.controls.items c.self.inside.agents.items c.args.node c.len.result c.in-Control.place c.self.view_is (omega (arith, c.len.ensures, c.self.inside.controls.ok.0)) c.index_mut.result.now c.in-Control.ensures.number c.in-Control.ensures.within c.index_mut.ensures.value)
+    c.requires.alone
+
+pub leave_control-requires-clause-long : goal.leave_control-requires-clause-long
+leave_control-requires-clause-long c =
+    subst (λ (n : Inner). length n.posts ≡ length (others_of n.who))
+    (control_is c.args.self.now c.self.inside.config c.self.inside.controls.items c.self.inside.agents.items c.args.node c.len.result c.in-Control.place c.self.view_is (omega (arith, c.len.ensures, c.self.inside.controls.ok.0)) c.index_mut.result.now c.in-Control.ensures.number c.in-Control.ensures.within c.index_mut.ensures.value)
+    c.requires.long
+
+pub leave_control-requires-clause-kept : goal.leave_control-requires-clause-kept
+leave_control-requires-clause-kept c =
+    subst (λ (n : Inner). length n.kept ≡ length (others_of n.who))
+    (control_is c.args.self.now c.self.inside.config c.self.inside.controls.items c.self.inside.agents.items c.args.node c.len.result c.in-Control.place c.self.view_is (omega (arith, c.len.ensures, c.self.inside.controls.ok.0)) c.index_mut.result.now c.in-Control.ensures.number c.in-Control.ensures.within c.index_mut.ensures.value)
+    c.requires.kept
+
+pub leave_control-requires-clause-linked : goal.leave_control-requires-clause-linked
+leave_control-requires-clause-linked c =
+    subst (λ (n : Inner). length c.args.links.now ≡ length (others_of n.who))
+    (control_is c.args.self.now c.self.inside.config c.self.inside.controls.items c.self.inside.agents.items c.args.node c.len.result c.in-Control.place c.self.view_is (omega (arith, c.len.ensures, c.self.inside.controls.ok.0)) c.index_mut.result.now c.in-Control.ensures.number c.in-Control.ensures.within c.index_mut.ensures.value)
+    c.requires.linked
+
+pub returns-clause-one : goal.returns-clause-one
+returns-clause-one c =
+    one_set c.args.self.now c.self.inside.config c.self.inside.controls.items c.self.inside.agents.items c.args.node c.len.result c.in-Control.place c.self.view_is (omega (arith, c.len.ensures, c.self.inside.controls.ok.0)) c.in-Control.ensures.number c.in-Control.ensures.within c.requires.node c.index_mut.result.now c.leave_control.new.node c.index_mut.ensures.value
+
+pub returns-clause-who : goal.returns-clause-who
+returns-clause-who c =
+    of_both c.args.self.now c.self.inside.config c.self.inside.controls.items c.self.inside.agents.items c.args.node c.len.result c.in-Control.place c.self.view_is (omega (arith, c.len.ensures, c.self.inside.controls.ok.0)) c.in-Control.ensures.number c.in-Control.ensures.within c.requires.node c.index_mut.result.now c.leave_control.new.node c.index_mut.ensures.value
+    (λ n n'. OnOk c.leave_control.result (n'.who ≡ retired_of c.args.name.now n.who))
+    c.leave_control.ensures.who
+
+pub returns-clause-stays : goal.returns-clause-stays
+returns-clause-stays c =
+    of_both c.args.self.now c.self.inside.config c.self.inside.controls.items c.self.inside.agents.items c.args.node c.len.result c.in-Control.place c.self.view_is (omega (arith, c.len.ensures, c.self.inside.controls.ok.0)) c.in-Control.ensures.number c.in-Control.ensures.within c.requires.node c.index_mut.result.now c.leave_control.new.node c.index_mut.ensures.value
+    (λ n n'. OnErr c.leave_control.result (n'.who ≡ n.who))
+    (on_err_weaker c.leave_control.result (λ same. ap (λ (plan : ControlPlan). Controlling (controls_of plan)) same) c.leave_control.ensures.stays)
+
+pub returns-clause-long : goal.returns-clause-long
+returns-clause-long c =
+    of_both c.args.self.now c.self.inside.config c.self.inside.controls.items c.self.inside.agents.items c.args.node c.len.result c.in-Control.place c.self.view_is (omega (arith, c.len.ensures, c.self.inside.controls.ok.0)) c.in-Control.ensures.number c.in-Control.ensures.within c.requires.node c.index_mut.result.now c.leave_control.new.node c.index_mut.ensures.value
+    (λ n n'. length n'.posts ≡ length n.posts)
+    c.leave_control.ensures.long
+
+pub returns-clause-kept : goal.returns-clause-kept
+returns-clause-kept c =
+    of_both c.args.self.now c.self.inside.config c.self.inside.controls.items c.self.inside.agents.items c.args.node c.len.result c.in-Control.place c.self.view_is (omega (arith, c.len.ensures, c.self.inside.controls.ok.0)) c.in-Control.ensures.number c.in-Control.ensures.within c.requires.node c.index_mut.result.now c.leave_control.new.node c.index_mut.ensures.value
+    (λ n n'. length n'.kept ≡ length n.kept)
+    c.leave_control.ensures.kept
+
+pub returns-clause-leaves : goal.returns-clause-leaves
+returns-clause-leaves c =
+    of_both c.args.self.now c.self.inside.config c.self.inside.controls.items c.self.inside.agents.items c.args.node c.len.result c.in-Control.place c.self.view_is (omega (arith, c.len.ensures, c.self.inside.controls.ok.0)) c.in-Control.ensures.number c.in-Control.ensures.within c.requires.node c.index_mut.result.now c.leave_control.new.node c.index_mut.ensures.value
+    (λ n n'. IfOk c.leave_control.result (λ _. LeavesOver c.args.name.now c.args.session c.args.links.now c.leave_control.new.links n n'))
+    c.leave_control.ensures.leaves
+
+pub unreachable-requires : goal.unreachable-requires
+unreachable-requires c =
+    let is = config_is c.args.self.now c.self.inside.config c.self.inside.controls.items c.self.inside.agents.items c.args.node c.self.view_is c.in-Configuration.ensures.number in
+    let both : Configuring c.self.inside.config.setup ≡ Controlling c.requires.alone.controls = sym (ap (λ (n : Inner). n.who) is) ∙ c.requires.alone.control in cc
+
+pub unreachable-requires-in-Agent : goal.unreachable-requires-in-Agent
+unreachable-requires-in-Agent c =
+    let n = c.self.inside in
+    let many : c.len.result ≡ length n.controls.items = omega (arith, c.len.ensures, n.controls.ok.0) in
+    let within = agent_within c.args.self.now n.config n.controls.items n.agents.items c.args.node c.len.result c.in-Agent.field-0 c.self.view_is many c.in-Agent.ensures.number c.requires.node in
+    let there = standing_at n.agents.items c.in-Agent.field-0 within in
+    let is = agent_is c.args.self.now n.config n.controls.items n.agents.items c.args.node c.len.result c.in-Agent.field-0 c.self.view_is many there.0 c.in-Agent.ensures.number c.requires.node there.1 in
+    let both : Forwarding there.0.plan ≡ Controlling c.requires.alone.controls = sym (ap (λ (n : Inner). n.who) is) ∙ c.requires.alone.control in cc

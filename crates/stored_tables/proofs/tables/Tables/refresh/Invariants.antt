@@ -1,4 +1,0 @@
-use Rattle.stored_tables.proofs.tables.Tables.refresh.Given as goal
-
-abbrev pub ghosts-store_all : goal.ghosts-store_all
-ghosts-store_all a = record { name = a.blank.name; parts = a.blank.parts }

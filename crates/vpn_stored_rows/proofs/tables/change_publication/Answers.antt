@@ -1,0 +1,32 @@
+use Rattle.std.proofs.Common.{refl, ap, sym, ◌∙◌}
+use Rattle.std.specs.List.{list_any}
+use Rattle.std.specs.Ordering.{eq_by_cmp}
+use Rattle.vpn_tables.specs.Moved.{targets_by_publication}
+use Rattle.vpn_tables.specs.Touched.{touched}
+use Rattle.ov_sync.specs.Keyed.{key_of}
+use Rattle.vpn_tables.specs.Changes.{with_publication}
+use Rattle.vpn_tables.specs.Touched.{rows_by_key}
+use Rattle.vpn_stored_rows.specs.Stored.{row_of, row_order}
+use Rattle.vpn_stored_rows.proofs.Publications.{few_rows, publication_row}
+use Rattle.vpn_stored_rows.proofs.Stays.{few_steps_of, not_listed}
+use Rattle.vpn_stored_rows.proofs.tables.change_publication.Goals as goal
+
+pub returns-clause-rows : goal.returns-clause-rows
+returns-clause-rows g c =
+    let h = c.args.held.now in
+    let d = c.args.delta in
+    let after = with_publication h c.args.session d in
+    let rows = rows_by_key h (targets_by_publication h c.args.session d) (key_of d) in
+    let keys = c.as_slice.ensures.value ∙ c.in_ok-touched.ensures in
+    λ on. c.restore-stored.ensures.rows h c.requires (λ k none.
+    not_listed h after rows k (publication_row h c.args.session d c.uses_are_short.ensures (key_of d) refl k.instance k.prefix)
+    (sym (ap (λ ks. list_any (eq_by_cmp row_order k) ks) keys) ∙ none)
+    ∙ ap (λ g. row_of g k) (sym c.in_ok-set_publication.ensures.ok)) on
+
+pub returns-clause-steps : goal.returns-clause-steps
+returns-clause-steps g c =
+    let h = c.args.held.now in
+    let d = c.args.delta in
+    let targets = targets_by_publication h c.args.session d in
+    few_steps_of c.restore-stored.new.steps c.args.steps.now c.as_slice.result.now (rows_by_key h targets (key_of d)) (touched h targets)
+    c.restore-stored.ensures.steps (c.as_slice.ensures.value ∙ c.in_ok-touched.ensures) (few_rows h targets (key_of d))

@@ -1,0 +1,34 @@
+use Rattle.std.proofs.Common.{◌++◌, ap, sym, ◌∙◌, List, map, subst}
+use Rattle.std.specs.List.{AllByRecursion}
+use Rattle.std.specs.Map.Iter.{deref_pair}
+use Rattle.std.proofs.lemmas.Map.Iter.{rest_more}
+use Rattle.ov_types.specs.declared.objects.LowKey.{LowKey}
+use Rattle.ov_types.specs.declared.objects.LowValue.{LowValue}
+use Rattle.node_model.specs.Paths.{Holdings}
+use Rattle.vpn_tables.specs.Routes.{path_of}
+use Rattle.vpn_tables.proofs.Uses.{total, total_is, all_held, led_turn, IsHeld}
+use Rattle.vpn_tables.proofs.tables.VpnTables.reoriginated_paths.Goals as goal
+
+pub loop-key-init : goal.loop-key-init
+loop-key-init c =
+    let h = c.args.self.now in
+    let es = c.self.inside.low in
+    let feed = ap (λ (h : Holdings). h.feed) c.self.view_is in
+    let it = c.into_iter-key-iterator.ensures.into_iter_gives ∙ c.iter-key-items.ensures.entries in
+    record {
+      so_far = (λ i. map path_of (c.new-routes.ensures.items i) ++ total h (it i)) ∙ total_is h es c.iter-key-items.ensures.ascending feed;
+      held = subst (λ (l : List (LowKey × LowValue)). AllByRecursion (IsHeld h.feed) l) (sym it) (all_held h.feed es c.iter-key-items.ensures.ascending feed);
+    }
+
+pub loop-key-preserved : goal.loop-key-preserved
+loop-key-preserved c =
+    let h = c.args.self.now in
+    let k = c.in-Some.key.now in
+    let v = c.in-Some._value.now in
+    let before = rest_more deref_pair c.loop-key.key-iterator c.next.new.self c.next.result (c.in-Some.key, c.in-Some._value) c.in-Some.is c.next.ensures.steps in
+    let held = subst (λ (l : List (LowKey × LowValue)). AllByRecursion (IsHeld h.feed) l) before c.loop-key.invariant.held in
+    record {
+      so_far = led_turn h k v c.next.new.self (map path_of c.loop-key.routes.items) (map path_of c.lead_use.new.routes.items) held.0 c.in_ok-lead_use.ensures
+          ∙ ap (λ (l : List (LowKey × LowValue)). map path_of c.loop-key.routes.items ++ total h l) (sym before) ∙ c.loop-key.invariant.so_far;
+      held = held.1;
+    }

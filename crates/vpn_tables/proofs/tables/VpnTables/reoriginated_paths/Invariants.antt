@@ -1,0 +1,12 @@
+use Rattle.std.proofs.Common.{◌≡◌, ◌++◌, map}
+use Rattle.std.specs.List.{AllByRecursion}
+use Rattle.node_model.specs.Reaching.{reoriginated_paths}
+use Rattle.vpn_tables.specs.Routes.{path_of}
+use Rattle.vpn_tables.proofs.Uses.{total, IsHeld}
+use Rattle.vpn_tables.proofs.tables.VpnTables.reoriginated_paths.Given as goal
+
+abbrev pub invariant-loop-key : goal.invariant-loop-key
+invariant-loop-key l = record {
+  so_far : map path_of l.routes.items ++ total l.self l.key-iterator ≡ reoriginated_paths l.self;
+  held : AllByRecursion (IsHeld l.self.feed) l.key-iterator;
+}

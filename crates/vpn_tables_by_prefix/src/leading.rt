@@ -1,0 +1,150 @@
+//! The routes that lead the subnets of a chain on, found by what was told within a subnet.
+ghost use Rattle.std.specs.Prelude.{◌≡◌, ◌≤◌, ◌||◌, ◌&&◌, ◌++◌, [], IsTrue, is_some, map, IfOk, OnOk};
+ghost use Rattle.std.specs.List.{cons_option, list_any};
+ghost use Rattle.node_model.specs.Reaching.{circuit_at, has_path_within, hop_at, is_up, publisher, subnets};
+ghost use Rattle.node_model.specs.Tables.{same_prefix};
+ghost use Rattle.path_select.specs.Selection.{plain};
+ghost use Rattle.vpn_tables.specs.At.{led_at, led_from};
+
+use crate::received::{keep, wanted};
+use crate::sides::{Side, held_side};
+use crate::tables::IndexedTables;
+use crate::within::{have_labels, have_routes};
+use ov_types::{InstanceId, NoMemory, Prefix};
+use path_select::Path;
+use route_targets::{UseHop, hop_of, rd};
+
+/// The session that a re-originated path counts as of.
+const OWN_SESSION: u16 = 65535;
+
+fn is_among(subnet: &Prefix, subnets: &[Prefix]) -> bool
+    ensures { result ≡ list_any (same_prefix subnet.now) subnets.now }
+{
+    for other in subnets {
+        if subnet.addr().0 == other.addr().0 && subnet.len() == other.len() {
+            return true;
+        }
+    }
+    false
+}
+
+fn either(one: bool, other: bool) -> bool
+    ensures { result ≡ (one || other) }
+{
+    if one {
+        return true;
+    }
+    other
+}
+
+impl IndexedTables {
+    /// Whether an instance received a path within a subnet. It looks at what begins in the subnet alone.
+    fn has_path_within(&self, i: InstanceId, subnet: &Prefix) -> Result<bool, NoMemory>
+        ensures { IfOk result (λ has. has ≡ has_path_within self.now i subnet.now) }
+    {
+        let targets = wanted(self.alloc, &self.held, i)?;
+        let wanted = targets.as_slice();
+        let routes = have_routes(&self.routes, subnet, wanted);
+        let labels = have_labels(&self.held, &self.labels, subnet, wanted);
+        Ok(either(routes, labels))
+    }
+
+    /// Whether a subnet is up at a distance from the end of its side.
+    fn is_up(&self, side: &Side<'_>, subnet: &Prefix, distance: u8) -> Result<bool, NoMemory>
+        requires { distance ≤ side.now.chain.services }
+        ensures { IfOk result (λ up. up ≡ is_up self.now side.now subnet.now distance) }
+    {
+        let mut up = self.has_path_within(side.hop_at(0), subnet)?;
+        for nearer in 0..distance {
+            up = self.is_up_next(side, subnet, nearer + 1, up)?;
+        }
+        Ok(up)
+    }
+
+    /// Whether it is up at a distance, from whether it is one place nearer.
+    fn is_up_next(
+        &self,
+        side: &Side<'_>,
+        subnet: &Prefix,
+        distance: u8,
+        nearer: bool,
+    ) -> Result<bool, NoMemory>
+        requires { distance ≤ side.now.chain.services }
+        ensures { IfOk result (λ up. up ≡ (has_path_within self.now (hop_at side.now distance) subnet.now
+            || (is_some (publisher self.now (circuit_at side.now distance)) && nearer))) }
+    {
+        if nearer && self.is_published(side, distance) {
+            return Ok(true);
+        }
+        self.has_path_within(side.hop_at(distance), subnet)
+    }
+
+    /// Whether the circuit at a distance that leads towards the end is published here.
+    fn is_published(&self, side: &Side<'_>, distance: u8) -> bool
+        requires { distance ≤ side.now.chain.services }
+        ensures { result ≡ is_some (publisher self.now (circuit_at side.now distance)) }
+    {
+        self.held().publisher(side.circuit_at(distance)).is_some()
+    }
+
+    /// Appends the path of the route that leads a subnet of a side of the instance's use on into the instance, where
+    /// there is one.
+    pub(crate) fn push_led(
+        &self,
+        paths: &mut Vec<Path>,
+        i: InstanceId,
+        prefix: &Prefix,
+        right: bool,
+    ) -> Result<(), NoMemory>
+        ensures { OnOk result (paths.new.items ≡ paths.old.items ++ map plain (led_at self.now i prefix.now right)) }
+    {
+        let path = self.led_at(i, prefix, right)?;
+        keep(paths, path)
+    }
+
+    fn led_at(&self, i: InstanceId, prefix: &Prefix, right: bool) -> Result<Option<Path>, NoMemory>
+        ensures { IfOk result (λ path. cons_option path [] ≡ map plain (led_at self.now i prefix.now right)) }
+    {
+        let Some(UseHop { use_no, place }) = hop_of(i) else {
+            return Ok(None);
+        };
+        let Some(side) = held_side(self.held(), use_no, right) else {
+            return Ok(None);
+        };
+        if place > side.services() {
+            return Ok(None);
+        }
+        if !is_among(prefix, side.subnets()) {
+            return Ok(None);
+        }
+        self.led_from(&side, prefix, side.distance_of(place))
+    }
+
+    fn led_from(
+        &self,
+        side: &Side<'_>,
+        prefix: &Prefix,
+        distance: u8,
+    ) -> Result<Option<Path>, NoMemory>
+        requires { distance ≤ side.now.chain.services }
+        ensures { IfOk result (λ path. cons_option path []
+            ≡ map plain (led_from self.now side.now distance prefix.now)) }
+    {
+        if distance == 0 {
+            return Ok(None);
+        }
+        let Some((address, label)) = self.held().publisher(side.circuit_at(distance)) else {
+            return Ok(None);
+        };
+        if !self.is_up(side, prefix, distance - 1)? {
+            return Ok(None);
+        }
+        let hop = side.hop_at(distance);
+        Ok(Some(Path {
+            session: OWN_SESSION,
+            rd: rd(address, hop),
+            next_hop: address,
+            label,
+        }))
+    }
+}

@@ -1,0 +1,152 @@
+//! Whether something within a subnet was told that an instance imports. It looks at what begins in the subnet alone.
+ghost use Rattle.std.specs.Prelude.{◌≡◌, ◌+◌, Bool, true, IfSome};
+ghost use Rattle.std.specs.BTreeMap.{IsOrdered};
+ghost use Rattle.std.specs.List.{list_any};
+ghost use Rattle.ov_types.specs.Prefix.{is_inside, size_of};
+ghost use Rattle.ov_types.specs.declared.numbers.Label.{Label as LabelOf};
+ghost use Rattle.ov_types.specs.declared.vpn.VpnRoute.{VpnRoute as RouteOf};
+ghost use Rattle.vpn_tables_by_prefix.specs.Indexed.{is_label_within, is_route_within, label_order, leads_label};
+ghost use Rattle.vpn_tables_by_prefix.specs.Indexed.{leads_route, route_order};
+ghost use Rattle.vpn_tables_by_prefix.specs.declared.keys.LabelAt.{LabelAt as LabelAtOf};
+ghost use Rattle.vpn_tables_by_prefix.specs.declared.keys.RouteAt.{RouteAt as RouteAtOf};
+
+use crate::keys::{LabelAt, Labels, RouteAt, Routes};
+use crate::received::{label_path, route_path};
+use ov_types::{Addr, InstanceId, Label, Prefix, Rd, Target, VpnRoute};
+use std::collections::btree_map::Range;
+use std::ops::Bound;
+use vpn_tables::VpnTables;
+
+/// The number past the last address of a block.
+fn end_of(addr: Addr, len: u8) -> u64
+    ensures { result ≡ addr.0 + size_of len }
+{
+    let bits = 32u8.saturating_sub(len);
+    u64::from(addr.0) + (1u64 << bits)
+}
+
+fn is_within(addr: Addr, len: u8, subnet: &Prefix) -> bool
+    ensures { result ≡ is_inside (record { addr = addr.0; len = len }) subnet.now }
+{
+    let start = subnet.addr();
+    let end = end_of(start, subnet.len());
+    start.0 <= addr.0 && end_of(addr, len) <= end
+}
+
+/// The address past a subnet's last, where there is one.
+fn past(subnet: &Prefix) -> Option<Addr>
+    ensures { IfSome result (λ addr. addr.0 ≡ subnet.now.addr + size_of subnet.now.len) }
+{
+    let end = end_of(subnet.addr(), subnet.len());
+    if end > 4_294_967_295 {
+        return None;
+    }
+    Some(Addr(end as u32))
+}
+
+/// What peers told that begins in a subnet.
+fn routes_in<'a>(routes: &'a Routes, subnet: &Prefix) -> Range<'a, RouteAt, VpnRoute>
+    ensures routes { (p : RouteAtOf × RouteOf → Bool)
+        → ((e : RouteAtOf × RouteOf) → p e ≡ true → is_route_within subnet.now e.0 ≡ true)
+        → list_any p result ≡ list_any p routes.now.entries }
+    ensures ordered { IsOrdered route_order routes.now }
+{
+    let first = RouteAt {
+        addr: subnet.addr(),
+        len: 0,
+        session: 0,
+        rd: Rd(0),
+    };
+    let Some(addr) = past(subnet) else {
+        return routes.range((Bound::Included(first), Bound::Unbounded));
+    };
+    let past = RouteAt {
+        addr,
+        len: 0,
+        session: 0,
+        rd: Rd(0),
+    };
+    routes.range((Bound::Included(first), Bound::Excluded(past)))
+}
+
+/// What agents publish that begins in a subnet.
+fn labels_in<'a>(labels: &'a Labels, subnet: &Prefix) -> Range<'a, LabelAt, Label>
+    ensures labels { (p : LabelAtOf × LabelOf → Bool)
+        → ((e : LabelAtOf × LabelOf) → p e ≡ true → is_label_within subnet.now e.0 ≡ true)
+        → list_any p result ≡ list_any p labels.now.entries }
+    ensures ordered { IsOrdered label_order labels.now }
+{
+    let first = LabelAt {
+        addr: subnet.addr(),
+        len: 0,
+        session: 0,
+        instance: InstanceId(0),
+    };
+    let Some(addr) = past(subnet) else {
+        return labels.range((Bound::Included(first), Bound::Unbounded));
+    };
+    let past = LabelAt {
+        addr,
+        len: 0,
+        session: 0,
+        instance: InstanceId(0),
+    };
+    labels.range((Bound::Included(first), Bound::Excluded(past)))
+}
+
+/// Whether a route is within a subnet and has a wanted target.
+fn leads_route(wanted: &[Target], subnet: &Prefix, at: &RouteAt, route: &VpnRoute) -> bool
+    ensures { result ≡ leads_route wanted.now subnet.now (at.now, route.now) }
+{
+    if !is_within(at.addr, at.len, subnet) {
+        return false;
+    }
+    route_path(wanted, at, route).is_some()
+}
+
+/// Whether a publication is within a subnet, of a known instance, and has a wanted target.
+fn leads_label(
+    held: &VpnTables,
+    wanted: &[Target],
+    subnet: &Prefix,
+    at: &LabelAt,
+    label: Label,
+) -> bool
+    ensures { result ≡ leads_label held.now wanted.now subnet.now (at.now, label) }
+{
+    if !is_within(at.addr, at.len, subnet) {
+        return false;
+    }
+    label_path(held, wanted, at, label).is_some()
+}
+
+/// Whether a peer told something within a subnet that has a wanted target.
+pub(crate) fn have_routes(routes: &Routes, subnet: &Prefix, wanted: &[Target]) -> bool
+    ensures ordered { IsOrdered route_order routes.now }
+    ensures leads { result ≡ list_any (leads_route wanted.now subnet.now) routes.now.entries }
+{
+    for (at, route) in routes_in(routes, subnet) {
+        if leads_route(wanted, subnet, at, route) {
+            return true;
+        }
+    }
+    false
+}
+
+/// Whether an agent publishes something within a subnet that has a wanted target.
+pub(crate) fn have_labels(
+    held: &VpnTables,
+    labels: &Labels,
+    subnet: &Prefix,
+    wanted: &[Target],
+) -> bool
+    ensures ordered { IsOrdered label_order labels.now }
+    ensures leads { result ≡ list_any (leads_label held.now wanted.now subnet.now) labels.now.entries }
+{
+    for (at, label) in labels_in(labels, subnet) {
+        if leads_label(held, wanted, subnet, at, *label) {
+            return true;
+        }
+    }
+    false
+}
