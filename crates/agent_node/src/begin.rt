@@ -22,7 +22,7 @@ use crate::ends::AgentEnds;
 use agent_tables::Hearing;
 use item_wire::{Item, ItemCause, ItemState};
 use node_core::Started;
-use node_items::{Heard, down_change, greet, hear};
+use node_items::{HeardRecords, down_change, greet, hear};
 use ov_link::Input;
 use ov_sync::SyncIn;
 use ov_types::{DownKey, DownValue, InstanceId, Items, NoMemory, Prefix};
@@ -129,7 +129,7 @@ fn hear_at(alloc: Global, hearing: &mut Hearing, bytes: &[u8]) -> Result<Taken, 
     ensures fits { HeldFits hearing.new }
 {
     let before = hearing.session.state();
-    let Heard {
+    let HeardRecords {
         records,
         taken,
         cause,

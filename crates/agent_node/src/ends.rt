@@ -13,7 +13,7 @@ use crate::plan::AgentPlan;
 use crate::planning::plan_all;
 use agent_tables::{AgentTables, Hearing, wanted};
 use item_wire::{ItemFrom, ItemSession, ItemState};
-use node_core::{End, Plan};
+use node_core::{EndState, Plan};
 use ov_sync::{SyncIn, SyncOut};
 use ov_types::{Addr, InstanceId, Label, NoMemory, Prefix, UpKey};
 use std::alloc::Global;
@@ -53,13 +53,13 @@ fn shut(hearing: &mut Hearing, sent: &mut SyncOut<UpKey, Label>)
 }
 
 /// The end whose session is in this state.
-fn end_in(state: ItemState) -> End
+fn end_in(state: ItemState) -> EndState
     ensures { result ≡ end_at (phase_of state) }
 {
     match state {
-        ItemState::Idle => End::Idle,
-        ItemState::Opened => End::Opened,
-        ItemState::Up => End::Up,
+        ItemState::Idle => EndState::Idle,
+        ItemState::Opened => EndState::Opened,
+        ItemState::Up => EndState::Up,
     }
 }
 
@@ -96,7 +96,7 @@ impl AgentEnds {
     }
 
     /// How the end of a session is.
-    pub(crate) fn state(&self, session: u16) -> End
+    pub(crate) fn state(&self, session: u16) -> EndState
         requires { session < length self.now.posts }
         ensures { result ≡ end_at (post self.now.posts session).phase }
     {

@@ -15,7 +15,7 @@ use crate::tabled::TabledEnds;
 use flow_acl::{FlowCache, FlowKey};
 use item_wire::ItemCause;
 use lru::Iter;
-use node_core::{Ends, Node};
+use node_core::{Ends, NodeCore};
 use ov_link::{Input, Link, Links, NodeFault, Stepped};
 use ov_types::{Addr, AgentRows, Attached, Entry, InstanceId, Label, NoMemory, Packet, Verdict};
 use packet_trace::Vrouter;
@@ -25,7 +25,7 @@ use std::marker::Model;
 /// An agent: the ends of its sessions with control nodes, and what it forwards packets by.
 #[derive(Drop)]
 pub struct AgentNode {
-    node: Node<TabledEnds>,
+    node: NodeCore<TabledEnds>,
     /// Verdicts of the access lists in use.
     flows: FlowCache,
 }
@@ -64,7 +64,7 @@ impl AgentNode {
         let ends = TabledEnds::new(alloc, plan)?;
         let flows = FlowCache::new(alloc)?;
         let _sessions = ends.sessions();
-        let node = Node::new(alloc, ends)?;
+        let node = NodeCore::new(alloc, ends)?;
         Ok(AgentNode { node, flows })
     }
 

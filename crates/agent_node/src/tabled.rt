@@ -18,7 +18,7 @@ use crate::plan::AgentPlan;
 use agent_tables::AgentTables;
 use flow_acl::FlowCache;
 use item_wire::ItemCause;
-use node_core::{End, Ends, Plan, Started};
+use node_core::{EndState, Ends, Plan, Started};
 use ov_link::Input;
 use ov_types::{
     Addr, AgentRows, Attached, Entry, InstanceId, Items, Label, NoMemory, Packet, Prefix, Verdict,
@@ -112,7 +112,7 @@ impl Ends for TabledEnds {
         self.ends.sessions()
     }
 
-    fn state(&self, session: u16) -> End {
+    fn state(&self, session: u16) -> EndState {
         self.ends.state(session)
     }
 

@@ -10,7 +10,7 @@ use Rattle.ov_types.specs.declared.vpn.VpnKey.{VpnKey}
 use Rattle.ov_types.specs.declared.vpn.VpnRoute.{VpnRoute}
 use Rattle.ov_sync.specs.declared.Delta.{Delta}
 use Rattle.ov_sync.specs.Keyed.{after, is_changed}
-use Rattle.bgp_restart.specs.Events.{Opening, Event, Opened, Closed, Expired, Updated, is_up, opening, since_opened, until_closed, is_mark, changes_in, key_order, value_of, last_change, own, has_change}
+use Rattle.bgp_restart.specs.Events.{Opening, RestartEvent, Opened, Closed, Expired, Updated, is_up, opening, since_opened, until_closed, is_mark, changes_in, key_order, value_of, last_change, own, has_change}
 use Rattle.bgp_restart.specs.Keeping.{marked, says_named, says_kept, left_over, held_up, Kept, fresh_or, held, StandsFor, Follows}
 use Rattle.bgp_restart.proofs.Owning.{get-after, own_none, changed_last, changed-append, last-append}
 
@@ -53,7 +53,7 @@ fresh_down (Some v) s (Some w) e = absurd (other_mark v w e)
 fresh_down (Some v) s None e = cc
 fresh_down None s l e = refl
 
-pub named_so : (events : List Event) (named wide : Bool) → is_up events ≡ true → IfSome (opening events) (λ o. (named ≡ o.named) × (wide ≡ o.wide)) → says_named (opening events) ≡ named
+pub named_so : (events : List RestartEvent) (named wide : Bool) → is_up events ≡ true → IfSome (opening events) (λ o. (named ≡ o.named) × (wide ≡ o.wide)) → says_named (opening events) ≡ named
 named_so [] n w u h = cc
 named_so (Opened o ∷ before) n w u h = sym h.0
 named_so (Closed ∷ before) n w u h = cc
@@ -65,13 +65,13 @@ still_opened old new a b None h = h
 still_opened old new a b (Some o) h = (a ∙ h.0, b ∙ h.1)
 
 -- what is held while the session is up, and while it is down
-up_held : (events : List Event) (r : Kept) (k : VpnKey) → StandsFor events r → r.up ≡ true → held r k ≡ held_up events k
+up_held : (events : List RestartEvent) (r : Kept) (k : VpnKey) → StandsFor events r → r.up ≡ true → held r k ≡ held_up events k
 up_held events r k s u = s.held k ∙ ap (λ b. cond b (held_up events k) (marked true (left_over events k))) (sym s.up ∙ u)
 
-down_held : (events : List Event) (r : Kept) (k : VpnKey) → StandsFor events r → r.up ≡ false → held r k ≡ marked true (left_over events k)
+down_held : (events : List RestartEvent) (r : Kept) (k : VpnKey) → StandsFor events r → r.up ≡ false → held r k ≡ marked true (left_over events k)
 down_held events r k s u = s.held k ∙ ap (λ b. cond b (held_up events k) (marked true (left_over events k))) (sym s.up ∙ u)
 
-up_fresh : (events : List Event) (r : Kept) (k : VpnKey) → StandsFor events r → r.up ≡ true → get r.fresh k ≡ own (since_opened events) k
+up_fresh : (events : List RestartEvent) (r : Kept) (k : VpnKey) → StandsFor events r → r.up ≡ true → get r.fresh k ≡ own (since_opened events) k
 up_fresh events r k s u =
     fresh_is (has_change (since_opened events) k) (says_kept (opening events) && not (list_any is_mark (since_opened events)))
     (get r.fresh k) (get r.stale k) (own (since_opened events) k) (left_over events k)

@@ -23,22 +23,22 @@ pub record Opening : Type 0 where
   pub kept : Bool
   pub wide : Bool
 
-pub data Event : Type 0 where
-  Opened : Opening → Event
-  Closed : Event
+pub data RestartEvent : Type 0 where
+  Opened : Opening → RestartEvent
+  Closed : RestartEvent
   -- the time for which routes are kept has run out
-  Expired : Event
+  Expired : RestartEvent
   -- an UPDATE made these changes, and it marks the end of the first routes, or does not
-  Updated : (changes : List (Delta VpnKey VpnRoute)) → (marks : Bool) → Event
+  Updated : (changes : List (Delta VpnKey VpnRoute)) → (marks : Bool) → RestartEvent
 
-abbrev pub is_up : List Event → Bool
+abbrev pub is_up : List RestartEvent → Bool
 is_up [] = false
 is_up (Opened o ∷ before) = true
 is_up (Closed ∷ before) = false
 is_up (Expired ∷ before) = is_up before
 is_up (Updated changes marks ∷ before) = is_up before
 
-abbrev pub opening : List Event → Option Opening
+abbrev pub opening : List RestartEvent → Option Opening
 opening [] = None
 opening (Opened o ∷ before) = Some o
 opening (Closed ∷ before) = opening before
@@ -46,14 +46,14 @@ opening (Expired ∷ before) = opening before
 opening (Updated changes marks ∷ before) = opening before
 
 -- while the session is up its period, as far as it came; up to where it was closed its last period
-abbrev pub since_opened : List Event → List Event
+abbrev pub since_opened : List RestartEvent → List RestartEvent
 since_opened [] = []
 since_opened (Opened o ∷ before) = []
 since_opened (Closed ∷ before) = Closed ∷ since_opened before
 since_opened (Expired ∷ before) = Expired ∷ since_opened before
 since_opened (Updated changes marks ∷ before) = Updated changes marks ∷ since_opened before
 
-abbrev pub since_closed : List Event → List Event
+abbrev pub since_closed : List RestartEvent → List RestartEvent
 since_closed [] = []
 since_closed (Opened o ∷ before) = Opened o ∷ since_closed before
 since_closed (Closed ∷ before) = []
@@ -61,26 +61,26 @@ since_closed (Expired ∷ before) = Expired ∷ since_closed before
 since_closed (Updated changes marks ∷ before) = Updated changes marks ∷ since_closed before
 
 -- nothing where it never was closed
-abbrev pub until_closed : List Event → List Event
+abbrev pub until_closed : List RestartEvent → List RestartEvent
 until_closed [] = []
 until_closed (Opened o ∷ before) = until_closed before
 until_closed (Closed ∷ before) = before
 until_closed (Expired ∷ before) = until_closed before
 until_closed (Updated changes marks ∷ before) = until_closed before
 
-abbrev pub is_expiry : Event → Bool
+abbrev pub is_expiry : RestartEvent → Bool
 is_expiry (Opened o) = false
 is_expiry Closed = false
 is_expiry Expired = true
 is_expiry (Updated changes marks) = false
 
-abbrev pub is_mark : Event → Bool
+abbrev pub is_mark : RestartEvent → Bool
 is_mark (Opened o) = false
 is_mark Closed = false
 is_mark Expired = false
 is_mark (Updated changes marks) = marks
 
-abbrev pub changes_in : List Event → List (Delta VpnKey VpnRoute)
+abbrev pub changes_in : List RestartEvent → List (Delta VpnKey VpnRoute)
 changes_in [] = []
 changes_in (Opened o ∷ before) = changes_in before
 changes_in (Closed ∷ before) = changes_in before
@@ -104,8 +104,8 @@ last_change (d ∷ later) k =
 abbrev pub told : List (Delta VpnKey VpnRoute) → VpnKey → Option VpnRoute
 told changes k = option_and_then value_of (last_change changes k)
 
-abbrev pub own : List Event → VpnKey → Option VpnRoute
+abbrev pub own : List RestartEvent → VpnKey → Option VpnRoute
 own period k = told (changes_in period) k
 
-abbrev pub has_change : List Event → VpnKey → Bool
+abbrev pub has_change : List RestartEvent → VpnKey → Bool
 has_change period k = is_changed key_order (changes_in period) k

@@ -18,7 +18,7 @@ use Rattle.ov_sync.specs.declared.Delta.{Delta}
 use Rattle.bgp_wire.specs.Content.{UpdateFields}
 use Rattle.bgp_vpn.specs.Updates.{Changes}
 use Rattle.bgp_restart.specs.Marks.{IsEnd}
-use Rattle.bgp_restart.specs.Events.{Opening, Event, Updated, is_up, opening, since_opened, since_closed, until_closed}
+use Rattle.bgp_restart.specs.Events.{Opening, RestartEvent, Updated, is_up, opening, since_opened, since_closed, until_closed}
 use Rattle.bgp_restart.specs.Events.{is_expiry, is_mark, key_order, own, has_change}
 
 -- a route, which is stale or fresh
@@ -34,21 +34,21 @@ says_kept None = false
 says_kept (Some o) = o.kept
 
 -- the last closed period keeps what it had where its OPEN named the family, until the time for it runs out
-abbrev pub left_over : List Event → VpnKey → Option VpnRoute
+abbrev pub left_over : List RestartEvent → VpnKey → Option VpnRoute
 left_over events k =
     if says_named (opening (until_closed events)) && not (list_any is_expiry (since_closed events))
     then own (since_opened (until_closed events)) k else None
 
 -- while the session is up: where the period has a change of the key its own value, and else what is left over from the
 -- period before, where the peer kept it, until the end of the first routes is marked
-abbrev pub held_up : List Event → VpnKey → Option (VpnRoute × Bool)
+abbrev pub held_up : List RestartEvent → VpnKey → Option (VpnRoute × Bool)
 held_up events k =
     if has_change (since_opened events) k then marked false (own (since_opened events) k)
     else (if says_kept (opening events) && not (list_any is_mark (since_opened events))
     then marked true (left_over events k) else None)
 
 -- while it is down what is left over from its last period
-abbrev pub held_at : List Event → VpnKey → Option (VpnRoute × Bool)
+abbrev pub held_at : List RestartEvent → VpnKey → Option (VpnRoute × Bool)
 held_at events k = if is_up events then held_up events k else marked true (left_over events k)
 
 -- the session, and the fresh and the stale routes
@@ -87,16 +87,16 @@ pub record AreRows (r : Kept) (rows : List (VpnKey × VpnRoute × Bool)) : Type 
   pub is_held : (k : VpnKey) → get all k ≡ held r k
   pub in_order : rows ≡ map row_of (entries all)
 
-pub record StandsFor (events : List Event) (r : Kept) : Type 0 where
+pub record StandsFor (events : List RestartEvent) (r : Kept) : Type 0 where
   pub up : r.up ≡ is_up events
   pub opening : IfSome (opening events) (λ o. (r.named ≡ o.named) × (r.wide ≡ o.wide))
   pub held : (k : VpnKey) → held r k ≡ held_at events k
 
-abbrev pub Follows : Kept → Event → Kept → Type 0
-Follows old event new = (events : List Event) → StandsFor events old → StandsFor (event ∷ events) new
+abbrev pub Follows : Kept → RestartEvent → Kept → Type 0
+Follows old event new = (events : List RestartEvent) → StandsFor events old → StandsFor (event ∷ events) new
 
 -- an UPDATE as an event, read wide or not: its changes, and whether it marks the end of the first routes
-pub record IsUpdate (wide : Bool) (parts : UpdateFields) (event : Event) : Type 0 where
+pub record IsUpdate (wide : Bool) (parts : UpdateFields) (event : RestartEvent) : Type 0 where
   pub changes : List (Delta VpnKey VpnRoute)
   pub marks : Bool
   pub is : event ≡ Updated changes marks

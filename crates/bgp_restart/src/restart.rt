@@ -88,7 +88,7 @@ impl Restart {
     ghost use Rattle.std.specs.Prelude.{[], false, IfErr};
     ghost use Rattle.bgp_wire.specs.declared.fault.WireFault.{WireFault};
     ghost use Rattle.bgp_vpn.specs.Updates.{parts_of, HasUpdateFault, IfWire};
-    ghost use Rattle.bgp_restart.specs.Events.{Event, Opened, Closed, Expired};
+    ghost use Rattle.bgp_restart.specs.Events.{RestartEvent, Opened, Closed, Expired};
     ghost use Rattle.bgp_restart.specs.Keeping.{StandsFor, Follows, IsUpdate, held, AreRows};
 
     /// The session is down, and nothing is held. It takes no memory.
@@ -143,7 +143,7 @@ impl Restart {
     /// first routes, the stale ones go.
     pub fn update(&mut self, part: &UpdatePart<'_>) -> Result<(), UpdateFault>
         requires up { self.old.up ≡ true }
-        ensures ok { OnOk result ((event : Event) × IsUpdate self.old.wide (parts_of part.now) event × Follows self.old event self.new) }
+        ensures ok { OnOk result ((event : RestartEvent) × IsUpdate self.old.wide (parts_of part.now) event × Follows self.old event self.new) }
         ensures err { OnErr result (self.new ≡ self.old) }
         ensures fault { IfErr result (λ e. IfWire e (λ f. HasUpdateFault self.old.wide (parts_of part.now) f)) }
 

@@ -14,8 +14,8 @@ use Rattle.bgp_session.specs.declared.event.Reply.{Reply}
 use Rattle.bgp_session.specs.declared.event.Reply.TheVariants.{Hello, Keepalive}
 use Rattle.bgp_session.specs.declared.event.Cause.{Cause}
 use Rattle.bgp_session.specs.declared.event.Cause.TheVariants.{Wire}
-use Rattle.bgp_session.specs.declared.event.Event.{Event}
-use Rattle.bgp_session.specs.declared.event.Event.TheVariants as events
+use Rattle.bgp_session.specs.declared.event.SessionEvent.{SessionEvent}
+use Rattle.bgp_session.specs.declared.event.SessionEvent.TheVariants as events
 use Rattle.bgp_session.specs.declared.table.Act.{Act}
 use Rattle.bgp_session.specs.declared.table.Act.TheVariants.{Nothing, SendOpen, SendKeepalive, ComeUp, HandOut}
 use Rattle.bgp_session.specs.declared.table.Act.TheVariants.{AnswerFault, AnswerOrder, GoDown}
@@ -30,7 +30,7 @@ pub data Happening : Type 0 where
   HandsOut : List (Delta VpnKey VpnRoute) → Happening
   GoesDown : Cause → Option (ℕ × ℕ) → Happening
 
-abbrev pub happening_of : Event → Happening
+abbrev pub happening_of : SessionEvent → Happening
 happening_of events.Quiet = Passes
 happening_of (events.Send reply) = Sends reply
 happening_of events.Up = ComesUp
@@ -104,7 +104,7 @@ abbrev pub answer : SessionFields → Came → Happening
 answer s came = next_happening s.state came
 
 -- a session takes a message: it is an input, and the cell of its state and that input says the rest
-pub record Takes (old : SessionFields) (message : Content) (new : SessionFields) (event : Event) : Type 0 where
+pub record Takes (old : SessionFields) (message : Content) (new : SessionFields) (event : SessionEvent) : Type 0 where
   pub came : Came
   pub brings : Brings old.asn old.peer.address old.wide message came
   pub state : new ≡ after old came

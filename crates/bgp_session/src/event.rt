@@ -35,7 +35,7 @@ pub enum Cause {
 
 /// What an input makes of a session.
 #[derive(Debug, Drop)]
-pub enum Event {
+pub enum SessionEvent {
     /// Nothing that anybody has to know.
     Quiet,
     Send(Reply),

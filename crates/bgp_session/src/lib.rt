@@ -7,5 +7,5 @@ pub mod laws;
 mod session;
 mod table;
 
-pub use event::{Cause, Event, Reply, State};
+pub use event::{Cause, Reply, SessionEvent, State};
 pub use session::Session;

@@ -3,7 +3,7 @@ ghost use Rattle.std.specs.Prelude.{◌≡◌};
 ghost use Rattle.bgp_session.specs.Inputs.{came_of, fault_of, cause_of};
 ghost use Rattle.bgp_session.specs.Happenings.{happening_of, happening, refusal, wide_by, wide_in};
 
-use crate::event::{Cause, Event, Reply, State};
+use crate::event::{Cause, Reply, SessionEvent, State};
 use crate::input::{Input, input_of};
 use crate::table::{Act, act_in, cell_at, state_in};
 use bgp_wire::{Message, WireFault};
@@ -56,50 +56,50 @@ impl Input {
 }
 
 /// A session that goes down for a fault sends its code and subcode.
-fn refused(fault: WireFault) -> Event
+fn refused(fault: WireFault) -> SessionEvent
     ensures { happening_of result ≡ refusal fault }
 {
-    Event::Down {
+    SessionEvent::Down {
         cause: Cause::Wire(fault),
         reply: Some((fault.code, fault.subcode)),
     }
 }
 
-fn handed_out(input: Input) -> Event
+fn handed_out(input: Input) -> SessionEvent
     ensures { happening_of result ≡ happening Act.HandOut (came_of input) }
 {
     match input {
-        Input::RightUpdate(deltas) => Event::Deltas(deltas),
-        _ => Event::Quiet,
+        Input::RightUpdate(deltas) => SessionEvent::Deltas(deltas),
+        _ => SessionEvent::Quiet,
     }
 }
 
-fn answered(input: &Input) -> Event
+fn answered(input: &Input) -> SessionEvent
     ensures { happening_of result ≡ happening Act.AnswerFault (came_of input.now) }
 {
     match input.fault() {
         Some(fault) => refused(fault),
-        None => Event::Quiet,
+        None => SessionEvent::Quiet,
     }
 }
 
-fn ended(input: &Input) -> Event
+fn ended(input: &Input) -> SessionEvent
     ensures { happening_of result ≡ happening Act.GoDown (came_of input.now) }
 {
     match input.cause() {
-        Some(cause) => Event::Down { cause, reply: None },
-        None => Event::Quiet,
+        Some(cause) => SessionEvent::Down { cause, reply: None },
+        None => SessionEvent::Quiet,
     }
 }
 
-fn event_of(act: Act, input: Input) -> Event
+fn event_of(act: Act, input: Input) -> SessionEvent
     ensures { happening_of result ≡ happening act (came_of input) }
 {
     match act {
-        Act::Nothing => Event::Quiet,
-        Act::SendOpen => Event::Send(Reply::Hello),
-        Act::SendKeepalive => Event::Send(Reply::Keepalive),
-        Act::ComeUp => Event::Up,
+        Act::Nothing => SessionEvent::Quiet,
+        Act::SendOpen => SessionEvent::Send(Reply::Hello),
+        Act::SendKeepalive => SessionEvent::Send(Reply::Keepalive),
+        Act::ComeUp => SessionEvent::Up,
         Act::HandOut => handed_out(input),
         Act::AnswerFault => answered(&input),
         Act::AnswerOrder => refused(OUT_OF_ORDER),
@@ -162,7 +162,7 @@ impl Session {
     }
 
     /// The connection was opened.
-    pub fn opened(&mut self) -> Event
+    pub fn opened(&mut self) -> SessionEvent
         ensures state { self.new ≡ after self.old Opened }
         ensures event { happening_of result ≡ answer self.old Opened }
     {
@@ -170,7 +170,11 @@ impl Session {
     }
 
     /// A message came.
-    pub fn message(&mut self, alloc: Global, message: &Message<'_>) -> Result<Event, NoMemory>
+    pub fn message(
+        &mut self,
+        alloc: Global,
+        message: &Message<'_>,
+    ) -> Result<SessionEvent, NoMemory>
         ensures ok { IfOk result (λ event. Takes self.old (content_of message.now) self.new event) }
         ensures no_memory { OnErr result (self.new ≡ self.old) }
     {
@@ -179,7 +183,7 @@ impl Session {
     }
 
     /// Octets came that are no message.
-    pub fn fault(&mut self, fault: WireFault) -> Event
+    pub fn fault(&mut self, fault: WireFault) -> SessionEvent
         ensures state { self.new ≡ after self.old (BadFrame fault) }
         ensures event { happening_of result ≡ answer self.old (BadFrame fault) }
     {
@@ -187,14 +191,14 @@ impl Session {
     }
 
     /// The connection was closed.
-    pub fn closed(&mut self) -> Event
+    pub fn closed(&mut self) -> SessionEvent
         ensures state { self.new ≡ after self.old Closed }
         ensures event { happening_of result ≡ answer self.old Closed }
     {
         self.take(Input::Closed)
     }
 
-    fn take(&mut self, input: Input) -> Event
+    fn take(&mut self, input: Input) -> SessionEvent
         ensures state { self.new ≡ after self.old (came_of input) }
         ensures event { happening_of result ≡ answer self.old (came_of input) }
     {

@@ -4,7 +4,7 @@ ghost use Rattle.config_model.specs.Form.{has_topology_form, has_config_form};
 ghost use Rattle.config_check.specs.Rules.{first_broken};
 ghost use Rattle.ov_io.specs.Inputs.{TookFront};
 ghost use Rattle.ov_io.specs.Pieces.{HasWriteCause};
-ghost use Rattle.compile_answers.specs.Answers.{Answer, IsAnswered, WasGiven, answer_checked};
+ghost use Rattle.compile_answers.specs.Answers.{DocumentAnswer, IsAnswered, WasGiven, answer_checked};
 
 use config_check::{CheckRefusal, Refusal, Valid, check};
 use config_model::{CompileInput, DocFault};
@@ -37,9 +37,9 @@ pub fn write_unfit<K: Sink>(
     unfit: Unfit,
     sink: &mut K,
 ) -> Result<Reception, WriteRefusal>
-    ensures given { (answer : Answer) → IsAnswered unfit answer
+    ensures given { (answer : DocumentAnswer) → IsAnswered unfit answer
         → IfOk result (λ verdict. WasGiven answer verdict (K.taken sink.old) (K.taken sink.new)) }
-    ensures front { (answer : Answer) → IsAnswered unfit answer
+    ensures front { (answer : DocumentAnswer) → IsAnswered unfit answer
         → OnErr result (TookFront (K.taken sink.old) (K.taken sink.new) answer.text) }
     ensures cause { HasWriteCause (K.faults sink.old) (K.faults sink.new) result }
     ensures unfit { IfOk result (λ verdict. verdict ≢ Reception.Good) }

@@ -16,7 +16,7 @@ ghost use Rattle.config_node.specs.Taking.{HasHeard, HasTaken};
 use crate::ends::ConfigEnds;
 use item_wire::{ItemCause, ItemSession};
 use node_core::{Ends, Started};
-use node_items::{Heard, config_name, greet, hear};
+use node_items::{HeardRecords, config_name, greet, hear};
 use ov_link::Input;
 use ov_types::{Items, NoMemory};
 use std::alloc::Global;
@@ -38,7 +38,7 @@ fn hear_at(alloc: Global, session: &mut ItemSession, bytes: &[u8]) -> Result<Tak
     ensures taken { IfOk result (λ came. came.taken ≤ length bytes.now) }
     ensures whom { whom session.new ≡ whom session.old }
 {
-    let Heard {
+    let HeardRecords {
         records,
         taken,
         cause,

@@ -12,7 +12,7 @@ use crate::planning::plan_all;
 use crate::wants::{Objects, wanted};
 use config_check::Valid;
 use item_wire::{ItemCause, ItemFrom, ItemSession, ItemState};
-use node_core::{End, Ends, Plan, Started};
+use node_core::{EndState, Ends, Plan, Started};
 use ov_link::Input;
 use ov_sync::SyncOut;
 use ov_types::{LowKey, LowValue, NoMemory, NodeId};
@@ -94,11 +94,11 @@ impl Ends for ConfigEnds {
         self.ends.len() as u16
     }
 
-    fn state(&self, session: u16) -> End {
+    fn state(&self, session: u16) -> EndState {
         match self.ends[usize::from(session)].session.state() {
-            ItemState::Idle => End::Idle,
-            ItemState::Opened => End::Opened,
-            ItemState::Up => End::Up,
+            ItemState::Idle => EndState::Idle,
+            ItemState::Opened => EndState::Opened,
+            ItemState::Up => EndState::Up,
         }
     }
 

@@ -15,7 +15,7 @@ ghost use Rattle.config_node.specs.Setting.{IsToldOf, failed_link};
 use crate::ends::ConfigEnds;
 use config_check::Valid;
 use item_wire::ItemCause;
-use node_core::{Ends, Node, tell};
+use node_core::{Ends, NodeCore, tell};
 use ov_link::{Input, Link, Links, NodeFault, Stepped};
 use ov_types::NoMemory;
 use std::alloc::Global;
@@ -45,7 +45,7 @@ fn set_and_tell<L: Link>(
 /// The configuration node: a valid configuration, and the ends of its sessions with the control nodes.
 #[derive(Drop)]
 pub struct ConfigNode {
-    node: Node<ConfigEnds>,
+    node: NodeCore<ConfigEnds>,
 }
 
 impl Model for ConfigNode {
@@ -74,7 +74,7 @@ impl ConfigNode {
     {
         let ends = ConfigEnds::new(alloc, valid)?;
         let _sessions = ends.sessions();
-        let node = Node::new(alloc, ends)?;
+        let node = NodeCore::new(alloc, ends)?;
         Ok(ConfigNode { node })
     }
 

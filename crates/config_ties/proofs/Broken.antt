@@ -28,7 +28,7 @@ use Rattle.config_ties.specs.Ties.{BreaksNone, HasNode, HasPort, HasUse, NodesBr
 use Rattle.config_ties.specs.Tying.{ends_of, home_id}
 use Rattle.config_ties.specs.Broken.{BreaksNode, BreaksPort, BreaksUse, IsBroken, broken_node, broken_port, broken_tie, broken_use, moved, moved_address, moved_pair, renamed}
 use Rattle.config_ties.proofs.OfNodes.{same_address}
-use Rattle.config_ties.proofs.Having.{Pair, ends_are, home_is, of_port, of_rule, same_id}
+use Rattle.config_ties.proofs.Having.{NetworkPair, ends_are, home_is, of_port, of_rule, same_id}
 
 never : {A : Type 0} (x : A) → None ≡ Some x → ⊥
 never x e = cc
@@ -55,16 +55,16 @@ unmoved (Some m) (Some n) h = ap not (eq-eqb m.0 n.0 (ap (λ (n : InstanceId). n
 unmoved (Some m) None h = refl
 unmoved None r h = refl
 
-pair_stays : (o r : Option Pair) (m n : Pair) → moved_pair o r ≡ false → o ≡ Some m → r ≡ Some n → m ≡ n
+pair_stays : (o r : Option NetworkPair) (m n : NetworkPair) → moved_pair o r ≡ false → o ≡ Some m → r ≡ Some n → m ≡ n
 pair_stays o r m n h e f =
     let is : moved_pair (Some m) (Some n) ≡ false = (λ k. moved_pair (sym e k) (sym f k)) ∙ h in
     let both = and_parts (m.0.0 == n.0.0) (m.1.0 == n.1.0) (not_moved ((m.0.0 == n.0.0) && (m.1.0 == n.1.0)) is) in
     λ k. (same_id m.0 n.0 (eqb-true m.0.0 n.0.0 both.0) k, same_id m.1 n.1 (eqb-true m.1.0 n.1.0 both.1) k)
 
-pair_unmoved : (o r : Option Pair) → ((m n : Pair) → o ≡ Some m → r ≡ Some n → m ≡ n) → moved_pair o r ≡ false
+pair_unmoved : (o r : Option NetworkPair) → ((m n : NetworkPair) → o ≡ Some m → r ≡ Some n → m ≡ n) → moved_pair o r ≡ false
 pair_unmoved (Some m) (Some n) h =
     let same : m ≡ n = h m n refl refl in
-    ap not (and_from (m.0.0 == n.0.0) (m.1.0 == n.1.0) (eq-eqb m.0.0 n.0.0 (ap (λ (p : Pair). p.0.0) same)) (eq-eqb m.1.0 n.1.0 (ap (λ (p : Pair). p.1.0) same)))
+    ap not (and_from (m.0.0 == n.0.0) (m.1.0 == n.1.0) (eq-eqb m.0.0 n.0.0 (ap (λ (p : NetworkPair). p.0.0) same)) (eq-eqb m.1.0 n.1.0 (ap (λ (p : NetworkPair). p.1.0) same)))
 pair_unmoved (Some m) None h = refl
 pair_unmoved None r h = refl
 
@@ -77,7 +77,7 @@ was_moved (Some m) (Some n) h = (m, n, refl, refl, λ e. true≢false (sym h ∙
 was_moved (Some m) None h = absurd (true≢false (sym h))
 was_moved None r h = absurd (true≢false (sym h))
 
-pair_was_moved : (o r : Option Pair) → moved_pair o r ≡ true → (m : Pair) × (n : Pair) × (o ≡ Some m) × (r ≡ Some n) × (m ≢ n)
+pair_was_moved : (o r : Option NetworkPair) → moved_pair o r ≡ true → (m : NetworkPair) × (n : NetworkPair) × (o ≡ Some m) × (r ≡ Some n) × (m ≢ n)
 pair_was_moved (Some m) (Some n) h = (m, n, refl, refl, λ e. true≢false (sym h ∙ pair_unmoved (Some m) (Some n) (λ a b f g. sym (same_Some m a f) ∙ e ∙ same_Some n b g)))
 pair_was_moved (Some m) None h = absurd (true≢false (sym h))
 pair_was_moved None r h = absurd (true≢false (sym h))
@@ -182,7 +182,7 @@ module _ (t : Ties) (x : Checked) (v : IsValid x.topology x.config) where
       let whole = All-contains (λ (q : Port). broken_port t c q ≡ None) c.ports h.port ((first_of_none (broken_port t c) c.ports).0 none) h.has_port in
       stays (t.port h.port.id) (home_id c h.port) m n (if_none (moved (t.port h.port.id) (home_id c h.port)) (Tied.Port h.port.id) whole) (ap t.port h.number_is ∙ e) (home_is s c v p n h)
 
-  use_kept : of_uses ≡ None → (number : ℕ) (m n : Pair) → t.chain_use number ≡ Some m → HasUse c number n → m ≡ n
+  use_kept : of_uses ≡ None → (number : ℕ) (m n : NetworkPair) → t.chain_use number ≡ Some m → HasUse c number n → m ≡ n
   use_kept none number m n e h =
       let whole : by_rule h.rule ≡ None = All-contains (λ (r : NumberedRule). by_rule r ≡ None) (all_rules c) h.rule ((first_of_none by_rule (all_rules c)).0 none) h.has_rule in
       let here : broken_use t c h.rule.rule (Through h.chain number) ≡ None = ap (broken_use t c h.rule.rule) (sym h.leads) ∙ whole in

@@ -30,8 +30,8 @@ use Rattle.config_ties.specs.Ties.{HasPort, HasRelated, HasUse}
 use Rattle.config_ties.specs.Tying.{end_id, ends_by, ends_of, home_id, network_id, pair_of, port_network, relates, use_networks}
 use Rattle.config_ties.proofs.Lists.{one_of_key, test_finds, test_passes}
 
-abbrev pub Pair : Type 0
-Pair = InstanceId × InstanceId
+abbrev pub NetworkPair : Type 0
+NetworkPair = InstanceId × InstanceId
 
 never : {A : Type 0} (x : A) → None ≡ Some x → ⊥
 never x e = cc
@@ -91,18 +91,18 @@ module _ (s : Topology) (c : Config) (v : IsValid s c) where
   of_end Any n h = absurd (never n h)
   of_end (Named name) n h = let m = of_name name n h in (m.0, m.1, ap Named (sym m.2), m.3)
 
-  of_pair : (a b : Option InstanceId) (pair : Pair) → pair_of a b ≡ Some pair → (a ≡ Some pair.0) × (b ≡ Some pair.1)
-  of_pair (Some a) (Some b) pair e = (ap (λ (p : Pair). Some p.0) (is_same (two a b) pair e), ap (λ (p : Pair). Some p.1) (is_same (two a b) pair e))
+  of_pair : (a b : Option InstanceId) (pair : NetworkPair) → pair_of a b ≡ Some pair → (a ≡ Some pair.0) × (b ≡ Some pair.1)
+  of_pair (Some a) (Some b) pair e = (ap (λ (p : NetworkPair). Some p.0) (is_same (two a b) pair e), ap (λ (p : NetworkPair). Some p.1) (is_same (two a b) pair e))
     where
-      two : InstanceId → InstanceId → Pair
+      two : InstanceId → InstanceId → NetworkPair
       two a b = (a, b)
   of_pair (Some a) None pair e = absurd (never pair e)
   of_pair None b pair e = absurd (never pair e)
 
-  abbrev LeadsBy : Rule → ℕ → Action → Pair → Type 0
+  abbrev LeadsBy : Rule → ℕ → Action → NetworkPair → Type 0
   LeadsBy r number a pair = (chain : List ℕ) × (a ≡ Through chain number) × (ends_of c r ≡ Some pair)
 
-  of_action : (r : Rule) (number : ℕ) (a : Action) (pair : Pair) → ends_by c r number a ≡ Some pair → LeadsBy r number a pair
+  of_action : (r : Rule) (number : ℕ) (a : Action) (pair : NetworkPair) → ends_by c r number a ≡ Some pair → LeadsBy r number a pair
   of_action r number Pass pair e = absurd (never pair e)
   of_action r number Deny pair e = absurd (never pair e)
   of_action r number (Through chain n) pair e =
@@ -111,7 +111,7 @@ module _ (s : Topology) (c : Config) (v : IsValid s c) where
         | false ↦ λ is e. absurd (never pair e)
       ] refl e
 
-  pub of_rule : (r : NumberedRule) (chain : List ℕ) (number : ℕ) (pair : Pair) → Contains (all_rules c) r → r.rule.action ≡ Through chain number → ends_of c r.rule ≡ Some pair → HasUse c number pair
+  pub of_rule : (r : NumberedRule) (chain : List ℕ) (number : ℕ) (pair : NetworkPair) → Contains (all_rules c) r → r.rule.action ≡ Through chain number → ends_of c r.rule ≡ Some pair → HasUse c number pair
   of_rule r chain number pair there leads e =
       let ends = of_pair (end_id c r.rule.source) (end_id c r.rule.destination) pair e in
       let left = of_end r.rule.source pair.0 ends.0 in
@@ -131,41 +131,41 @@ module _ (s : Topology) (c : Config) (v : IsValid s c) where
         right_is = right.3;
       }
 
-  has_use : (number : ℕ) (pair : Pair) → use_networks c number ≡ Some pair → HasUse c number pair
+  has_use : (number : ℕ) (pair : NetworkPair) → use_networks c number ≡ Some pair → HasUse c number pair
   has_use number pair e =
       let a = first_answer (λ (r : NumberedRule). ends_by c r.rule number r.rule.action) (all_rules c) pair e in
       let by = of_action a.item.rule number a.item.rule.action pair a.gives in
       of_rule a.item by.0 number pair (contains_at (all_rules c) a.place a.item a.there) by.1 by.2
 
   -- the rule of a use names its networks
-  pub ends_are : (number : ℕ) (pair : Pair) (h : HasUse c number pair) → ends_of c h.rule.rule ≡ Some pair
+  pub ends_are : (number : ℕ) (pair : NetworkPair) (h : HasUse c number pair) → ends_of c h.rule.rule ≡ Some pair
   ends_are number pair h =
       let r = h.rule.rule in
       let from : end_id c r.source ≡ Some pair.0 = ap (end_id c) h.from ∙ name_is h.left.name h.left h.has_left refl ∙ ap Some h.left_is in
       let to : end_id c r.destination ≡ Some pair.1 = ap (end_id c) h.to ∙ name_is h.right.name h.right h.has_right refl ∙ ap Some h.right_is in
       λ k. pair_of (from k) (to k)
 
-  gives_ends : (number : ℕ) (pair : Pair) (h : HasUse c number pair) → ends_by c h.rule.rule number h.rule.rule.action ≡ Some pair
+  gives_ends : (number : ℕ) (pair : NetworkPair) (h : HasUse c number pair) → ends_by c h.rule.rule number h.rule.rule.action ≡ Some pair
   gives_ends number pair h =
       ap (ends_by c h.rule.rule number) h.leads ∙ ap (λ b. cond b (ends_of c h.rule.rule) None) (eq-eqb number number refl) ∙ ends_are number pair h
 
-  use_is : (number : ℕ) (pair : Pair) → HasUse c number pair → use_networks c number ≡ Some pair
+  use_is : (number : ℕ) (pair : NetworkPair) → HasUse c number pair → use_networks c number ≡ Some pair
   use_is number pair h = by_answer (use_networks c number) refl
     where
-      f : NumberedRule → Option Pair
+      f : NumberedRule → Option NetworkPair
       f r = ends_by c r.rule number r.rule.action
 
-      number_is : (r : NumberedRule) (p : Pair) → f r ≡ Some p → use_of r.rule.action ≡ Some number
+      number_is : (r : NumberedRule) (p : NetworkPair) → f r ≡ Some p → use_of r.rule.action ≡ Some number
       number_is r p e = ap use_of (of_action r.rule number r.rule.action p e).1
 
-      by_answer : (o : Option Pair) → use_networks c number ≡ o → use_networks c number ≡ Some pair
+      by_answer : (o : Option NetworkPair) → use_networks c number ≡ o → use_networks c number ≡ Some pair
       by_answer None e = absurd (never pair (sym (All-contains (λ (r : NumberedRule). f r ≡ None) (all_rules c) h.rule ((first_of_none f (all_rules c)).0 e) h.has_rule) ∙ gives_ends number pair h))
       by_answer (Some q) e =
           let a = first_answer f (all_rules c) q e in
           let same = one_of_key (λ (r : NumberedRule). use_of r.rule.action) number (all_rules c) v.numbers.uses a.item h.rule (contains_at (all_rules c) a.place a.item a.there) h.has_rule (number_is a.item q a.gives) (ap use_of h.leads) in
           e ∙ sym a.gives ∙ ap f same ∙ gives_ends number pair h
 
-  pub use_iff : (number : ℕ) (pair : Pair) → (use_networks c number ≡ Some pair) ↔ HasUse c number pair
+  pub use_iff : (number : ℕ) (pair : NetworkPair) → (use_networks c number ≡ Some pair) ↔ HasUse c number pair
   use_iff number pair = (has_use number pair, use_is number pair)
 
 -- ---- relations

@@ -16,15 +16,15 @@ use Rattle.config_model.specs.declared.topology.Node.{Node}
 use Rattle.config_ties.specs.Ties.{Ties}
 use Rattle.config_ties.specs.Tying.{home_id}
 
-abbrev pub Pair : Type 0
-Pair = InstanceId × InstanceId
+abbrev pub NetworkPair : Type 0
+NetworkPair = InstanceId × InstanceId
 
 -- the network of each port number, the two networks of each use number, the pairs of related networks, the address of
 -- each name of a compute node, and the name of each address
 pub record Kept : Type 0 where
   pub ports : List (PortNo × InstanceId)
-  pub uses : List (ℕ × Pair)
-  pub related : List Pair
+  pub uses : List (ℕ × NetworkPair)
+  pub related : List NetworkPair
   pub addresses : List (List ℕ × Addr)
   pub names : List (Addr × List ℕ)
 
@@ -33,7 +33,7 @@ pub record Kept : Type 0 where
 abbrev pub port_cmp : PortNo → PortNo → Ordering
 port_cmp p q = nat_cmp p.0 q.0
 
-abbrev pub pair_cmp : Pair → Pair → Ordering
+abbrev pub pair_cmp : NetworkPair → NetworkPair → Ordering
 pair_cmp a b = ordering_then (nat_cmp a.0.0 b.0.0) (nat_cmp a.1.0 b.1.0)
 
 abbrev pub name_cmp : List ℕ → List ℕ → Ordering
@@ -45,10 +45,10 @@ address_cmp a b = nat_cmp a.0 b.0
 abbrev pub port_in : List (PortNo × InstanceId) → PortNo → Option InstanceId
 port_in entries p = lookup (is_at (port_cmp p)) entries
 
-abbrev pub use_in : List (ℕ × Pair) → ℕ → Option Pair
+abbrev pub use_in : List (ℕ × NetworkPair) → ℕ → Option NetworkPair
 use_in entries number = lookup (is_at (nat_cmp number)) entries
 
-abbrev pub are_in : List Pair → InstanceId → InstanceId → Bool
+abbrev pub are_in : List NetworkPair → InstanceId → InstanceId → Bool
 are_in pairs a b = list_any (is_at (pair_cmp (a, b))) pairs
 
 abbrev pub address_in : List (List ℕ × Addr) → List ℕ → Option Addr

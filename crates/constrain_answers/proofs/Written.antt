@@ -8,7 +8,7 @@ use Rattle.ov_types.specs.declared.rows.NodeId.{NodeId}
 use Rattle.config_model.specs.declared.topology.Topology.{Topology}
 use Rattle.node_model.specs.Members.{Member}
 use Rattle.node_model.proofs.Members.{any_in}
-use Rattle.machine_model.specs.Network.{Network}
+use Rattle.machine_model.specs.Network.{MachineState}
 use Rattle.net_machine.specs.Looking.{held_at}
 use Rattle.rt_constrain.proofs.Asks.{asked_form}
 use Rattle.constrain_answers.specs.Constraint.{AreControlNodes, AreInForm, asking_of, askings}
@@ -25,15 +25,15 @@ all_there t (c ∷ cs) among = (
 pub controllers_are_there : (t : Topology) → AreControlNodes t t.controllers
 controllers_are_there t = all_there t t.controllers (λ c m. m)
 
-in_form : (w : Network) (cs : List NodeId) → AreInForm (map (asking_of w) cs)
+in_form : (w : MachineState) (cs : List NodeId) → AreInForm (map (asking_of w) cs)
 in_form w [] = tt
 in_form w (c ∷ cs) = (asked_form (held_at w c.name), in_form w cs)
 
-pub askings_are_in_form : (w : Network) (all : List Asking) → all ≡ askings w → AreInForm all
+pub askings_are_in_form : (w : MachineState) (all : List Asking) → all ≡ askings w → AreInForm all
 askings_are_in_form w all is = subst AreInForm (sym is) (in_form w w.setup.topology.controllers)
 
 -- one more is asked
-pub made_more : (w : Network) (all more : List Asking) (a : Asking) (c : NodeId) (left later whole : List NodeId)
+pub made_more : (w : MachineState) (all more : List Asking) (a : Asking) (c : NodeId) (left later whole : List NodeId)
     → all ++ map (asking_of w) left ≡ map (asking_of w) whole → left ≡ c ∷ later → a ≡ asking_of w c → more ≡ all ++ a ∷ []
     → more ++ map (asking_of w) later ≡ map (asking_of w) whole
 made_more w all more a c left later whole made splits is pushed =

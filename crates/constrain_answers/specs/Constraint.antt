@@ -10,7 +10,7 @@ use Rattle.config_check.specs.Checked.{Checked}
 use Rattle.node_model.specs.Maps.{Map}
 use Rattle.node_model.specs.Wants.{wanted_by_peers}
 use Rattle.machine_model.specs.Setup.{Name}
-use Rattle.machine_model.specs.Network.{Network}
+use Rattle.machine_model.specs.Network.{MachineState}
 use Rattle.running_model.specs.Stands.{moment}
 use Rattle.net_machine.specs.Looking.{held_at, is_control_node}
 use Rattle.report.specs.Memberships.{asked_line, sent_line}
@@ -25,10 +25,10 @@ abbrev pub AreControlNodes : Topology → List NodeId → Type 0
 AreControlNodes t cs = AllByRecursion (λ (c : NodeId). is_control_node t c.name ≡ true) cs
 
 -- ---- what control nodes ask of their peers, in the order of the topology
-abbrev pub asking_of : Network → NodeId → Asking
+abbrev pub asking_of : MachineState → NodeId → Asking
 asking_of w c = record { node = c.name; asked = asked (held_at w c.name) }
 
-abbrev pub askings : Network → List Asking
+abbrev pub askings : MachineState → List Asking
 askings w = map (asking_of w) w.setup.topology.controllers
 
 -- each asks in the form of a membership
@@ -48,14 +48,14 @@ sent_to from routes a =
     if same_name from a.node then [] else line_of_share from a.node (share a.asked routes)
 
 -- to each of them, in their order
-abbrev pub sent_by : Network → List Asking → NodeId → List ℕ
+abbrev pub sent_by : MachineState → List Asking → NodeId → List ℕ
 sent_by w asking c = flat_map (sent_to c.name (wanted_by_peers (held_at w c.name))) asking
 
 -- ---- what is written of a state of the network: what each asks, and then what each sends to each other one
-abbrev pub text_of : Network → List NodeId → List Asking → List ℕ
+abbrev pub text_of : MachineState → List NodeId → List Asking → List ℕ
 text_of w cs asking = flat_map line_of asking ++ flat_map (sent_by w asking) cs
 
-abbrev pub constraint_text : Network → List ℕ
+abbrev pub constraint_text : MachineState → List ℕ
 constraint_text w = text_of w w.setup.topology.controllers (askings w)
 
 -- the one event of the network: it settles

@@ -15,7 +15,7 @@ use Rattle.node_model.specs.Members.{Member}
 use Rattle.node_model.specs.Paths.{Holdings, Told}
 use Rattle.node_model.specs.Tables.{table}
 use Rattle.node_model.specs.Wants.{wanted_by_agent, wanted_by_peers}
-use Rattle.machine_model.specs.Network.{Network}
+use Rattle.machine_model.specs.Network.{MachineState}
 use Rattle.machine_model.specs.Steps.{is_settled}
 use Rattle.running_model.specs.Stands.{StandsFor, moment}
 use Rattle.net_machine.specs.Looking.{held_at}
@@ -64,10 +64,10 @@ pub record NeedsNoMore (h : Holdings) : Type 0 where
   pub tables : (i : InstanceId) → Member i (needed h) → table (cut h) i ≡ table h i
 
 -- each of these control nodes of a network
-abbrev pub EachNeedsNoMore : Network → List NodeId → Type 0
+abbrev pub EachNeedsNoMore : MachineState → List NodeId → Type 0
 EachNeedsNoMore w cs = AllByRecursion (λ (c : NodeId). NeedsNoMore (held_at w c.name)) cs
 
-abbrev pub NoneNeedsMore : Network → Type 0
+abbrev pub NoneNeedsMore : MachineState → Type 0
 NoneNeedsMore w = EachNeedsNoMore w w.setup.topology.controllers
 
 -- what was taken is what the control nodes ask and send in a settled network. There each holds of its peers what these

@@ -52,16 +52,16 @@ caused f (Some c) h = cc
 uncaused : {C D : Type 0} (f : C → D) (c : Option C) → option_map f c ≢ None → c ≢ None
 uncaused f c h e = h (ap (option_map f) e)
 
-routes_fell : (p : Post) (H : route_hearing.Heard) (c : Option PeerCause) → c ≢ None → route.left_by p H c ≡ None
+routes_fell : (p : Post) (H : route_hearing.RouteHearing) (c : Option PeerCause) → c ≢ None → route.left_by p H c ≡ None
 routes_fell p H None h = absurd (h refl)
 routes_fell p H (Some c) h = refl
 
-items_fell : (p : Post) (H : item_hearing.Heard) (c : Option ItemCause) → c ≢ None → item.left_by p H c ≡ None
+items_fell : (p : Post) (H : item_hearing.ItemHearing) (c : Option ItemCause) → c ≢ None → item.left_by p H c ≡ None
 items_fell p H None h = absurd (h refl)
 items_fell p H (Some c) h = refl
 
 -- ---- where a session stays up
-peer_left : (p : Post) (state : State) (wide : Bool) (H : route_hearing.Heard) (changes : List (Delta VpnKey VpnRoute)) (c : Option PeerCause)
+peer_left : (p : Post) (state : State) (wide : Bool) (H : route_hearing.RouteHearing) (changes : List (Delta VpnKey VpnRoute)) (c : Option PeerCause)
     → state ≡ H.state → wide ≡ H.wide → changes ≡ H.changes → c ≡ H.cause → c ≡ None
     → route.left_by p H H.cause
     ≡ Some (record p { phase = route.phase_of state; held = taken c (map (moved_delta Vpn Route) changes) p.held; wide = wide })
@@ -73,7 +73,7 @@ peer_left p state wide H changes c s w cs e none =
       wide = sym w k;
     }))
 
-item_left : (p : Post) (state : ItemState) (H : item_hearing.Heard) (changes : List Change) (c : Option ItemCause) → state ≡ H.state
+item_left : (p : Post) (state : ItemState) (H : item_hearing.ItemHearing) (changes : List Change) (c : Option ItemCause) → state ≡ H.state
     → changes ≡ filter_map change_of H.records → c ≡ H.cause → c ≡ None
     → item.left_by p H H.cause ≡ Some (record p { phase = item.phase_of state; held = taken c changes p.held })
 item_left p state H changes c s cs e none =

@@ -6,12 +6,12 @@ ghost use Rattle.control_node.specs.Seating.{seated};
 
 use crate::ends::ControlEnds;
 use crate::node::ControlNode;
-use node_core::{Ends, Node};
+use node_core::{Ends, NodeCore};
 use ov_link::Inbox;
 use ov_types::{NoMemory, NodeId};
 
 /// An agent gets a session, that of another agent or one behind all others. Its end is closed, and nothing is kept of it.
-fn seat(node: &mut Node<ControlEnds>, session: u16, agent: &NodeId) -> Result<(), NoMemory>
+fn seat(node: &mut NodeCore<ControlEnds>, session: u16, agent: &NodeId) -> Result<(), NoMemory>
     requires agents { length node.old.ends.plan.peers < session }
     requires few { session < 65535 }
     requires next { session ≤ sessions node.old.ends.plan }

@@ -15,7 +15,7 @@ use crate::planning::plan_marked;
 use bgp_session::{Session, State};
 use control_dirty_keys::Dirty;
 use item_wire::{ItemSession, ItemState};
-use node_core::{End, Ends, Plan, Started};
+use node_core::{EndState, Ends, Plan, Started};
 use ov_link::Input;
 use ov_sync::SyncOut;
 use ov_types::{DownKey, DownValue, NoMemory, NodeId, VpnKey, VpnRoute};
@@ -113,7 +113,7 @@ impl Ends for ControlEnds {
         1 + self.peers.len() as u16 + self.agents.len() as u16
     }
 
-    fn state(&self, session: u16) -> End {
+    fn state(&self, session: u16) -> EndState {
         match place_of(session, self.peers.len()) {
             EndPlace::Feed => item_end(self.feed.state()),
             EndPlace::Peer(place) => peer_end(self.peers[place].session.state()),

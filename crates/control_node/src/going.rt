@@ -11,7 +11,7 @@ ghost use Rattle.control_node.specs.Wanting.{kind};
 
 use crate::ends::ControlEnds;
 use crate::node::ControlNode;
-use node_core::{Ends, Node, tell};
+use node_core::{Ends, NodeCore, tell};
 use ov_link::{Link, Links, NodeFault};
 use ov_types::NoMemory;
 use std::alloc::{AllocError, Global};
@@ -72,7 +72,7 @@ fn tell_closed<L: Link>(
 /// The end of a session is closed, nothing is kept of it, and then all sessions are told. Gives the lowest session whose
 /// link failed.
 fn close_and_tell<L: Link>(
-    node: &mut Node<ControlEnds>,
+    node: &mut NodeCore<ControlEnds>,
     session: u16,
     links: &mut Links<L>,
 ) -> Result<Option<u16>, NoMemory>

@@ -11,28 +11,28 @@ ghost use Rattle.control_node.specs.Core.{holdings};
 use crate::ends::ControlEnds;
 use bgp_session::State;
 use item_wire::ItemState;
-use node_core::End;
+use node_core::EndState;
 use ov_types::{ControlRows, NoMemory};
 
 /// The end whose session of items is in this state.
-pub(crate) fn item_end(state: ItemState) -> End
+pub(crate) fn item_end(state: ItemState) -> EndState
     ensures { result ≡ end_at (item.phase_of state) }
 {
     match state {
-        ItemState::Idle => End::Idle,
-        ItemState::Opened => End::Opened,
-        ItemState::Up => End::Up,
+        ItemState::Idle => EndState::Idle,
+        ItemState::Opened => EndState::Opened,
+        ItemState::Up => EndState::Up,
     }
 }
 
 /// The end whose session of routes is in this state.
-pub(crate) fn peer_end(state: State) -> End
+pub(crate) fn peer_end(state: State) -> EndState
     ensures { result ≡ end_at (route.phase_of state) }
 {
     match state {
-        State::Idle => End::Idle,
-        State::OpenSent | State::OpenConfirm => End::Opened,
-        State::Established => End::Up,
+        State::Idle => EndState::Idle,
+        State::OpenSent | State::OpenConfirm => EndState::Opened,
+        State::Established => EndState::Up,
     }
 }
 

@@ -19,7 +19,7 @@ ghost use Rattle.control_node.specs.declared.cause.NodeCause.TheVariants as Beca
 use crate::cause::NodeCause;
 use crate::ends::ControlEnds;
 use crate::plan::ControlPlan;
-use node_core::{Ends, Node};
+use node_core::{Ends, NodeCore};
 use ov_link::{Input, Link, Links, NodeFault, Stepped};
 use ov_types::{ControlRows, NoMemory};
 use std::alloc::Global;
@@ -29,7 +29,7 @@ use vpn_tables::VpnTables;
 /// A control node, which contracts see as its plan, its ends, the octets that it keeps, and whether it failed.
 #[derive(Drop)]
 pub struct ControlNode {
-    pub(crate) node: Node<ControlEnds>,
+    pub(crate) node: NodeCore<ControlEnds>,
     /// The numbers of sessions that no agent has now, ascending.
     pub(crate) retired: Vec<u16>,
 }
@@ -65,7 +65,7 @@ impl ControlNode {
         ensures { IfOk result (λ node. node ≡ fresh plan) }
     {
         let ends = ControlEnds::new(alloc, plan)?;
-        let node = Node::new(alloc, ends)?;
+        let node = NodeCore::new(alloc, ends)?;
         Ok(ControlNode {
             node,
             retired: Vec::new(alloc),

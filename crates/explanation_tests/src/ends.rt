@@ -1,5 +1,5 @@
 //! Ends that keep what people are told by.
-use explanations::{FrontSink, Heard, HeardSource, explain_stop};
+use explanations::{FrontSink, HeardSource, KeptInput, explain_stop};
 use ov_io::{MemSink, MemSource, Sink, Source, read_all, write_all};
 use std::alloc::Global;
 use std::process::Abort;
@@ -58,7 +58,9 @@ fn hears_digits(rt: &impl Abort, alloc: Global, source: &mut HeardSource<MemSour
 fn hears_a_document(rt: &impl Abort, alloc: Global, source: &mut HeardSource<MemSource>) {
     read_whole(rt, alloc, source);
     match source.heard() {
-        Heard::Document(octets) => assert!(rt; octets.len() == 5_000 && octets.ends_with(b" 0")),
+        KeptInput::Document(octets) => assert!(rt;
+            octets.len() == 5_000 && octets.ends_with(b" 0")
+        ),
         _ => assert!(rt; false, "nothing is kept"),
     }
 }
@@ -66,10 +68,10 @@ fn hears_a_document(rt: &impl Abort, alloc: Global, source: &mut HeardSource<Mem
 #[test]
 fn a_source_hears_what_is_asked_of_it(rt: HostRuntime) {
     let alloc = rt.alloc();
-    let heard = Heard::Digits(Vec::new(alloc));
+    let heard = KeptInput::Digits(Vec::new(alloc));
     let mut source = HeardSource::new(blanks_and_a_digit(&rt, alloc), heard);
     hears_digits(&rt, alloc, &mut source);
-    let heard = Heard::Document(Vec::new(alloc));
+    let heard = KeptInput::Document(Vec::new(alloc));
     let mut source = HeardSource::new(blanks_and_a_digit(&rt, alloc), heard);
     hears_a_document(&rt, alloc, &mut source);
 }

@@ -1,18 +1,18 @@
 //! Where reading an input stops.
-use explanations::{Heard, explain_stop};
+use explanations::{KeptInput, explain_stop};
 use std::alloc::Global;
 use std::process::Abort;
 
 /// This is said of what was heard.
-fn says(rt: &impl Abort, alloc: Global, heard: &Heard, sentence: &str) {
+fn says(rt: &impl Abort, alloc: Global, heard: &KeptInput, sentence: &str) {
     let explanation = explain_stop(alloc, heard);
     let text = format!(in alloc; "{explanation}").expect(rt, "memory");
     assert!(rt; text.as_str() == sentence, "{text}");
 }
 
 /// The document of these octets.
-fn document(rt: &impl Abort, alloc: Global, octets: &[u8]) -> Heard {
-    Heard::Document(octets.to_vec(alloc).expect(rt, "memory"))
+fn document(rt: &impl Abort, alloc: Global, octets: &[u8]) -> KeptInput {
+    KeptInput::Document(octets.to_vec(alloc).expect(rt, "memory"))
 }
 
 #[test]
@@ -48,12 +48,12 @@ fn a_document_that_is_no_text_stops_at_the_octet(rt: HostRuntime) {
 }
 
 /// A text of digits.
-fn digits(rt: &impl Abort, alloc: Global, text: &str) -> Heard {
+fn digits(rt: &impl Abort, alloc: Global, text: &str) -> KeptInput {
     let mut octets = Vec::new(alloc);
     octets
         .extend_from_slice(text.as_bytes())
         .expect(rt, "memory");
-    Heard::Digits(octets)
+    KeptInput::Digits(octets)
 }
 
 #[test]

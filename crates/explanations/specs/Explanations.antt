@@ -8,8 +8,8 @@ use Rattle.explanations.specs.Refusals.{RefusedWords, refused_in}
 use Rattle.explanations.specs.Sentences.{refused_sentence}
 use Rattle.explanations.specs.Stops.{IsJsonStop}
 use Rattle.explanations.specs.declared.digits.DigitFault.{DigitFault}
-use Rattle.explanations.specs.declared.ends.Heard.{Heard}
-use Rattle.explanations.specs.declared.ends.Heard.TheVariants as Kept
+use Rattle.explanations.specs.declared.ends.KeptInput.{KeptInput}
+use Rattle.explanations.specs.declared.ends.KeptInput.TheVariants as Kept
 use Rattle.explanations.specs.declared.explanation.Explanation.{Explanation}
 use Rattle.explanations.specs.declared.explanation.Explanation.TheVariants as Says
 use Rattle.explanations.specs.declared.help.Advice.{Advice}
@@ -59,7 +59,7 @@ digits_said (Some fault) = said (digit_sentence fault)
 digits_said None = stop_advice
 
 -- what is said of an input that is no JSON, or no digits, by what was kept of it; without a place, what to give
-abbrev pub IsStop : Heard → List ℕ → Type 0
+abbrev pub IsStop : KeptInput → List ℕ → Type 0
 IsStop Kept.Nothing text = text ≡ stop_advice
 IsStop (Kept.Digits kept) text = text ≡ digits_said (scanned nothing_scanned kept.items).fault
 IsStop (Kept.Document kept) text =

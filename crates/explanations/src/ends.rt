@@ -74,7 +74,7 @@ impl<K: Sink> Sink for FrontSink<K> {
 
 /// What is kept of what was read.
 #[derive(Drop)]
-pub enum Heard {
+pub enum KeptInput {
     /// Nothing is kept.
     Nothing,
     /// All octets of a text of digits.
@@ -83,21 +83,21 @@ pub enum Heard {
     Document(Vec<u8>),
 }
 
-impl Heard {
+impl KeptInput {
     /// What is kept where octets follow. Nothing is, where they find no memory.
     fn hear(&mut self, octets: &[u8])
         ensures { HeardMore self.old octets.now self.new }
     {
         match self {
-            Heard::Nothing => {}
-            Heard::Digits(kept) => {
+            KeptInput::Nothing => {}
+            KeptInput::Digits(kept) => {
                 if kept.extend_from_slice(octets).is_err() {
-                    *self = Heard::Nothing;
+                    *self = KeptInput::Nothing;
                 }
             }
-            Heard::Document(kept) => {
+            KeptInput::Document(kept) => {
                 if kept.extend_from_slice(octets).is_err() {
-                    *self = Heard::Nothing;
+                    *self = KeptInput::Nothing;
                 }
             }
         }
@@ -108,12 +108,12 @@ impl Heard {
 #[derive(Drop)]
 pub struct HeardSource<S> {
     source: S,
-    heard: Heard,
+    heard: KeptInput,
 }
 
 impl<S: Source> HeardSource<S> {
     /// The source from another, with what is kept of it so far.
-    pub fn new(source: S, heard: Heard) -> HeardSource<S>
+    pub fn new(source: S, heard: KeptInput) -> HeardSource<S>
         ensures left { ⟦<HeardSource<S> as Source>⟧.left result ≡ S.left source }
         ensures faults { ⟦<HeardSource<S> as Source>⟧.faults result ≡ S.faults source }
         ensures heard { heard_of result ≡ heard }
@@ -122,7 +122,7 @@ impl<S: Source> HeardSource<S> {
     }
 
     /// What is kept of what was read.
-    pub fn heard(&self) -> &Heard
+    pub fn heard(&self) -> &KeptInput
         ensures { result.now ≡ heard_of self.now }
     {
         &self.heard

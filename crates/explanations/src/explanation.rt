@@ -3,7 +3,7 @@ ghost use Rattle.std.specs.Prelude.{◌≡◌};
 ghost use Rattle.explanations.specs.Explanations.{IsStop, explanation_text, form_explanation, refusal_explanation};
 
 use crate::digits::{DigitFault, digit_fault};
-use crate::ends::Heard;
+use crate::ends::KeptInput;
 use crate::form::{FormFault, form_fault_in};
 use crate::help::Advice;
 use crate::json::json_stop;
@@ -44,16 +44,16 @@ impl fmt::Display for Explanation<'_> {
 }
 
 /// Says where reading an input stopped that is no JSON, or no digits.
-pub fn explain_stop(alloc: Global, heard: &Heard) -> Explanation<'static>
+pub fn explain_stop(alloc: Global, heard: &KeptInput) -> Explanation<'static>
     ensures { IsStop heard.now (explanation_text result) }
 {
     match heard {
-        Heard::Nothing => Explanation::Advice(Advice::NotJson),
-        Heard::Digits(octets) => match digit_fault(octets.as_slice()) {
+        KeptInput::Nothing => Explanation::Advice(Advice::NotJson),
+        KeptInput::Digits(octets) => match digit_fault(octets.as_slice()) {
             Some(fault) => Explanation::DigitFault(fault),
             None => Explanation::Advice(Advice::NotJson),
         },
-        Heard::Document(octets) => match json_stop(alloc, octets.as_slice()) {
+        KeptInput::Document(octets) => match json_stop(alloc, octets.as_slice()) {
             Some(place) => Explanation::JsonStop(place),
             None => Explanation::Advice(Advice::NotJson),
         },

@@ -15,7 +15,7 @@ mod rule;
 mod text;
 
 pub use digits::DigitFault;
-pub use ends::{FrontSink, Heard, HeardSource};
+pub use ends::{FrontSink, HeardSource, KeptInput};
 pub use explanation::{Explanation, explain_form, explain_refusal, explain_stop};
 pub use form::{FormFault, FormKind, form_fault_in};
 pub use help::{Advice, COMMANDS, HelpText, STATUSES, USAGE, UsageText};

@@ -4,7 +4,7 @@ use Rattle.config_check.specs.Checked.{Checked}
 use Rattle.config_ties.specs.Texts.{tie_text}
 use Rattle.config_ties.specs.declared.edits.TiedFault.{TiedFault}
 use Rattle.config_ties.specs.declared.edits.TiedFault.TheVariants.{Edit, Tied}
-use Rattle.flow_script.specs.declared.step.Step.{Step}
+use Rattle.flow_script.specs.declared.step.FlowStep.{FlowStep}
 use Rattle.flow_state.specs.declared.answer.FlowAnswer.{FlowAnswer}
 use Rattle.flow_state.specs.declared.answer.FlowAnswer.TheVariants.{Edited, Refused, Traced}
 use Rattle.flow_state.specs.Replay.{answers, at_start}
@@ -29,5 +29,5 @@ lines_from n [] = []
 lines_from n (a ∷ given) = flow_line n a ++ lines_from (n + 1) given
 
 -- what `flows` writes of a valid configuration, of a table's capacity and of steps, which count from 1
-unfoldable pub flows_text : Checked → ℕ → List Step → List ℕ
+unfoldable pub flows_text : Checked → ℕ → List FlowStep → List ℕ
 flows_text x capacity steps = lines_from 1 (answers capacity steps (at_start x))

@@ -16,7 +16,7 @@ use crate::replaying::write_replay;
 use compile_answers::{Reception, Unfit, valid_of, write_unfit};
 use config_check::Valid;
 use config_model::ReadRefusal;
-use flow_script::{FlowsInput, Step, read_flows};
+use flow_script::{FlowStep, FlowsInput, read_flows};
 use flow_state::laws::replays_are_answered;
 use ov_io::{Sink, WriteRefusal};
 use ov_json::value_of;
@@ -29,7 +29,7 @@ use std::alloc::Global;
 struct Question {
     valid: Valid,
     capacity: u16,
-    steps: Items<Step>,
+    steps: Items<FlowStep>,
 }
 
 /// What `flows` takes from a value.
@@ -81,7 +81,7 @@ fn flows_asked(alloc: Global, octets: &[u8]) -> Result<Question, Unfit>
 }
 
 /// What the steps of a replay are answered.
-fn know_answers(valid: &Valid, capacity: u16, steps: &[Step])
+fn know_answers(valid: &Valid, capacity: u16, steps: &[FlowStep])
     requires { IsTrue (list_all has_step_form steps.now) }
     ensures { AreAnswered capacity (at_start valid.now) steps.now (answers capacity steps.now (at_start valid.now)) }
 {

@@ -10,7 +10,7 @@ ghost use Rattle.flow_answers.specs.Lines.{flows_text, lines_from};
 
 use crate::lines::push_answer;
 use config_check::Valid;
-use flow_script::Step;
+use flow_script::FlowStep;
 use flow_state::Player;
 use ov_io::{Sink, TextOut, WriteRefusal, write_gathered, write_piece};
 use std::alloc::Global;
@@ -19,7 +19,7 @@ use std::alloc::Global;
 fn write_steps<K: Sink>(
     alloc: Global,
     player: &mut Player,
-    steps: &[Step],
+    steps: &[FlowStep],
     sink: &mut K,
 ) -> Result<(), WriteRefusal>
     requires { IsTrue (list_all has_step_form steps.now) }
@@ -43,7 +43,7 @@ pub(crate) fn write_replay<K: Sink>(
     alloc: Global,
     valid: Valid,
     capacity: u16,
-    steps: &[Step],
+    steps: &[FlowStep],
     sink: &mut K,
 ) -> Result<(), WriteRefusal>
     requires capacity { 0 < capacity }

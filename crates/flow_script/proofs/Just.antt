@@ -15,8 +15,8 @@ use Rattle.config_model.specs.Laws.{HasJust, FirstIsMissed}
 use Rattle.config_model.specs.Topology.{topology_at}
 use Rattle.config_model.proofs.HasJust.{bind_ok, is_there, is_object, has_no_other}
 use Rattle.config_model.proofs.Missed.{object_there, absent}
-use Rattle.flow_script.specs.declared.step.Step.{Step}
-use Rattle.flow_script.specs.declared.step.Step.TheVariants.{Edit, Trace}
+use Rattle.flow_script.specs.declared.step.FlowStep.{FlowStep}
+use Rattle.flow_script.specs.declared.step.FlowStep.TheVariants.{Edit, Trace}
 use Rattle.flow_script.specs.Documents.{FlowsHasJust, StepHasJust, step_word}
 use Rattle.flow_script.specs.Steps.{capacity_at, flows_at, step_at, step_from}
 
@@ -49,7 +49,7 @@ just_one word v there known = record {
 same : (word x : List ℕ) → pointwise nat_eq word x ≡ true → word ≡ x
 same word x h = same_text word x (sym h)
 
-step_from_word : (word path : List ℕ) (d : Data) (x : Step) → step_from word path d ≡ Ok x → word ≡ step_word x
+step_from_word : (word path : List ℕ) (d : Data) (x : FlowStep) → step_from word path d ≡ Ok x → word ≡ step_word x
 unfolding step_from
 step_from_word word path d x h =
     elim (cases_Bool (pointwise nat_eq word (codes "edit"))) [
@@ -60,7 +60,7 @@ step_from_word word path d x h =
       ]
     ]
 
-just_step : (x : Step) (v : Data) → HasJust (step_word x ∷ []) [] (one_document (step_word x) v)
+just_step : (x : FlowStep) (v : Data) → HasJust (step_word x ∷ []) [] (one_document (step_word x) v)
 just_step (Edit x) v = just_one (codes "edit") v refl refl
 just_step (Trace p) v = just_one (codes "trace") v refl refl
 

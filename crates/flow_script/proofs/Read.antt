@@ -10,7 +10,7 @@ use Rattle.config_model.specs.OneMember.{one_member_at}
 use Rattle.config_model.specs.Laws.{IsRead, compile_form}
 use Rattle.config_model.proofs.EventsRead.{edit_is_read}
 use Rattle.config_model.proofs.Read.{whole_is_read, list_is_read, topology_is_read, config_is_read, packet_is_read}
-use Rattle.flow_script.specs.declared.step.Step.TheVariants.{Edit, Trace}
+use Rattle.flow_script.specs.declared.step.FlowStep.TheVariants.{Edit, Trace}
 use Rattle.flow_script.specs.Documents.{flows_document, flows_form, step_document, step_form}
 use Rattle.flow_script.specs.Steps.{capacity_at, flows_at, step_at, step_from}
 

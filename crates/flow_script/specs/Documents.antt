@@ -12,16 +12,16 @@ use Rattle.config_model.specs.Fields.{Reads}
 use Rattle.config_model.specs.Form.{has_packet_form}
 use Rattle.config_model.specs.Laws.{HasJust, ReadHasJust, compile_form, fault_at}
 use Rattle.flow_script.specs.declared.step.FlowsInput.{FlowsInput}
-use Rattle.flow_script.specs.declared.step.Step.{Step}
-use Rattle.flow_script.specs.declared.step.Step.TheVariants.{Edit, Trace}
+use Rattle.flow_script.specs.declared.step.FlowStep.{FlowStep}
+use Rattle.flow_script.specs.declared.step.FlowStep.TheVariants.{Edit, Trace}
 use Rattle.flow_script.specs.Steps.{flows_at, step_at}
 
-abbrev pub step_word : Step → List ℕ
+abbrev pub step_word : FlowStep → List ℕ
 step_word (Edit x) = codes "edit"
 step_word (Trace p) = codes "trace"
 
 -- an object with the one member that the step's word names
-abbrev pub step_document : Step → Data
+abbrev pub step_document : FlowStep → Data
 step_document (Edit x) = one_document (codes "edit") (edit_document x)
 step_document (Trace p) = one_document (codes "trace") (packet_document p)
 
@@ -32,7 +32,7 @@ flows_document r = object (member (codes "capacity") (number_document r.capacity
     (member (codes "topology") (topology_document r.input.topology) no_members))))
 
 -- which steps, and inputs of `flows`, have documents: those of the written form
-abbrev pub step_form : Step → Bool
+abbrev pub step_form : FlowStep → Bool
 step_form (Edit x) = edit_form x
 step_form (Trace p) = has_packet_form p
 
@@ -41,7 +41,7 @@ flows_form r = compile_form r.input && (is_from_to 1 65535 r.capacity && list_al
 
 -- what reads as a step is an object with just the member of its word
 abbrev pub StepHasJust : Type 0
-StepHasJust = (path : List ℕ) (d : Data) (x : Step) → step_at path d ≡ Ok x → HasJust (step_word x ∷ []) [] d
+StepHasJust = (path : List ℕ) (d : Data) (x : FlowStep) → step_at path d ≡ Ok x → HasJust (step_word x ∷ []) [] d
 
 abbrev pub FlowsHasJust : Type 0
 FlowsHasJust = ReadHasJust flows_at

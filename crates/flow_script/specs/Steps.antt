@@ -13,22 +13,22 @@ use Rattle.config_model.specs.Input.{packet_at}
 use Rattle.config_model.specs.OneMember.{one_member_at}
 use Rattle.config_model.specs.Edit.{edit_at, has_edit_form}
 use Rattle.flow_script.specs.declared.step.FlowsInput.{FlowsInput}
-use Rattle.flow_script.specs.declared.step.Step.{Step}
-use Rattle.flow_script.specs.declared.step.Step.TheVariants.{Edit, Trace}
+use Rattle.flow_script.specs.declared.step.FlowStep.{FlowStep}
+use Rattle.flow_script.specs.declared.step.FlowStep.TheVariants.{Edit, Trace}
 
 -- the step that a member names, by what the member has
-unfoldable pub step_from : List ℕ → Reads Step
+unfoldable pub step_from : List ℕ → Reads FlowStep
 step_from word path d =
     if same_name word (codes "edit") then (edit_at path d >>= λ x. Ok (Edit x))
     else (if same_name word (codes "trace") then (packet_at path d >>= λ x. Ok (Trace x))
     else refused path Unknown)
 
 -- an object with one member
-unfoldable pub step_at : Reads Step
+unfoldable pub step_at : Reads FlowStep
 step_at path d = one_member_at path d >>= λ m. step_from m.0 (member_path path m.0) m.1
 
 -- a list of steps
-abbrev pub steps_at : Reads (List Step)
+abbrev pub steps_at : Reads (List FlowStep)
 steps_at = all_at step_at AnyNumber
 
 -- how many flows a table has room for
@@ -47,6 +47,6 @@ flows_at path d = do
   Ok (record { input = record { topology = topology; config = config }; capacity = capacity; steps = steps })
 
 -- which steps a document can write
-unfoldable pub has_step_form : Step → Bool
+unfoldable pub has_step_form : FlowStep → Bool
 has_step_form (Edit x) = has_edit_form x
 has_step_form (Trace p) = has_packet_form p

@@ -9,4 +9,4 @@ pub use laws::{
     steps_are_read, steps_have_just_their_members, steps_have_one_member, texts_are_no_steps,
 };
 pub use script_reader::read_flows;
-pub use step::{FlowsInput, Step};
+pub use step::{FlowStep, FlowsInput};

@@ -7,7 +7,7 @@ ghost use Rattle.config_model.specs.Faults.{Gives};
 ghost use Rattle.config_model.specs.Form.{has_topology_form, has_config_form};
 ghost use Rattle.flow_script.specs.Steps.{capacity_at, flows_at, has_step_form, step_at, step_from};
 
-use crate::step::{FlowsInput, Step};
+use crate::step::{FlowStep, FlowsInput};
 use config_model::reading::{
     Count, DocumentPlace, FromDocument, check_others, list_member, object_of, one_member_of,
     read_member, whole_member,
@@ -29,18 +29,18 @@ fn step_from(
     place: &DocumentPlace<'_>,
     word: &str,
     value: &Value,
-) -> Result<Step, ReadRefusal>
+) -> Result<FlowStep, ReadRefusal>
     ensures reads { Gives (λ x. x) result (step_from word.now (place_text place.now) (view value.now)) }
     ensures form { IfOk result (λ x. IsTrue (has_step_form x)) }
 {
     match word {
-        "edit" => Ok(Step::Edit(Edit::read(alloc, place, value)?)),
-        "trace" => Ok(Step::Trace(Packet::read(alloc, place, value)?)),
+        "edit" => Ok(FlowStep::Edit(Edit::read(alloc, place, value)?)),
+        "trace" => Ok(FlowStep::Trace(Packet::read(alloc, place, value)?)),
         _ => Err(place.fault(alloc, DocKind::Unknown)),
     }
 }
 
-impl FromDocument for Step {
+impl FromDocument for FlowStep {
     ghost reads = { step_at };
 
     ghost has_form = { has_step_form };
@@ -86,7 +86,7 @@ fn flows_input_of(
     let topology = read_member::<Topology>(alloc, place, "topology", value)?;
     let config = read_member::<Config>(alloc, place, "configuration", value)?;
     let capacity = capacity_of(alloc, place, value)?;
-    let steps = list_member::<Step>(alloc, place, "steps", Count::AnyNumber, value)?;
+    let steps = list_member::<FlowStep>(alloc, place, "steps", Count::AnyNumber, value)?;
     check_others(
         alloc,
         place,

@@ -4,7 +4,7 @@ use ov_types::{Items, Packet};
 
 /// One step of a replay of flows.
 #[derive(Drop)]
-pub enum Step {
+pub enum FlowStep {
     /// A change of the configuration.
     Edit(Edit),
     /// What becomes of a packet now is asked for.
@@ -16,5 +16,5 @@ pub enum Step {
 pub struct FlowsInput {
     pub input: CompileInput,
     pub capacity: u16,
-    pub steps: Items<Step>,
+    pub steps: Items<FlowStep>,
 }

@@ -8,8 +8,8 @@ use Rattle.config_ties.specs.Tied.{tied_fault}
 use Rattle.config_ties.specs.Tying.{joined}
 use Rattle.config_ties.specs.declared.edits.TiedFault.{TiedFault}
 use Rattle.flow_state.specs.declared.flow.Flow.{Flow}
-use Rattle.flow_script.specs.declared.step.Step.{Step}
-use Rattle.flow_script.specs.declared.step.Step.TheVariants as Steps
+use Rattle.flow_script.specs.declared.step.FlowStep.{FlowStep}
+use Rattle.flow_script.specs.declared.step.FlowStep.TheVariants as Steps
 use Rattle.flow_state.specs.declared.answer.FlowAnswer.TheVariants.{Traced}
 use Rattle.flow_state.specs.Recent.{same_flow, without, each_once, recent, after_use}
 use Rattle.flow_state.specs.Flows.{flow_outcome, flow_use}
@@ -105,7 +105,7 @@ use_follows n flows uses (Some f) h = ap (λ (l : List Flow). recent n (f ∷ l)
 same_fault : (e : Edit) (s : Playing) (r : Replay) → Follows s r → tied_fault s.checked s.ties e ≡ tied_fault r.checked r.ties e
 same_fault e s r h = λ k. tied_fault (h.checked k) (h.ties k) e
 
-step_follows : (x : Step) (s : Playing) (r : Replay) → Follows s r → Follows (played x s) (after_step s.capacity x r)
+step_follows : (x : FlowStep) (s : Playing) (r : Replay) → Follows s r → Follows (played x s) (after_step s.capacity x r)
 step_follows (Steps.Edit e) s r h =
     subst (λ (o : Option TiedFault). Follows (played_edit e (tied_fault s.checked s.ties e) s) (after_edit e o r))
     (same_fault e s r h)
@@ -119,17 +119,17 @@ step_follows (Steps.Trace p) s r h = record {
       ∙ ap (λ (l : List Flow). recent s.capacity (used (flow_use r.checked.config l p) r.uses)) h.flows;
 }
 
-answer_follows : (x : Step) (s : Playing) (r : Replay) → Follows s r → answer_in x s ≡ answer_to s.capacity x r
+answer_follows : (x : FlowStep) (s : Playing) (r : Replay) → Follows s r → answer_in x s ≡ answer_to s.capacity x r
 answer_follows (Steps.Edit e) s r h = ap (λ (o : Option TiedFault). edit_answer o) (same_fault e s r h)
 answer_follows (Steps.Trace p) s r h =
     ap (λ (v : Checked). Traced (flow_outcome v.config s.flows p)) h.checked
     ∙ ap (λ (l : List Flow). Traced (flow_outcome r.checked.config l p)) h.flows
 
-same_room : (x : Step) (s : Playing) → (played x s).capacity ≡ s.capacity
+same_room : (x : FlowStep) (s : Playing) → (played x s).capacity ≡ s.capacity
 same_room (Steps.Trace p) s = refl
 same_room (Steps.Edit e) s = (elim (tied_fault s.checked s.ties e) as (λ o. (played_edit e o s).capacity ≡ s.capacity) [ None ↦ refl | Some fault ↦ refl ])
 
-pub answers_follow : (xs : List Step) (s : Playing) (r : Replay) → Follows s r → answers_in xs s ≡ answers s.capacity xs r
+pub answers_follow : (xs : List FlowStep) (s : Playing) (r : Replay) → Follows s r → answers_in xs s ≡ answers s.capacity xs r
 unfolding answers
 answers_follow [] s r h = refl
 answers_follow (x ∷ xs) s r h =
@@ -138,5 +138,5 @@ answers_follow (x ∷ xs) s r h =
     ∙ ap (λ n. answer_to s.capacity x r ∷ answers n xs (after_step s.capacity x r)) (same_room x s)
 
 -- an empty table beside the opening configuration answers as the start does
-pub opens : (capacity : ℕ) (v : Checked) (xs : List Step) → answers_in xs (opening capacity v) ≡ answers capacity xs (at_start v)
+pub opens : (capacity : ℕ) (v : Checked) (xs : List FlowStep) → answers_in xs (opening capacity v) ≡ answers capacity xs (at_start v)
 opens capacity v xs = answers_follow xs (opening capacity v) (at_start v) (record { checked = refl; ties = refl; flows = sym (recent_none capacity) })

@@ -20,8 +20,8 @@ use Rattle.config_ties.specs.declared.edits.TiedFault.{TiedFault}
 use Rattle.config_ties.specs.declared.edits.TiedFault.TheVariants.{Edit as Faulty}
 use Rattle.reach_plain.specs.Reachability.{reachability}
 use Rattle.flow_script.specs.Steps.{has_step_form}
-use Rattle.flow_script.specs.declared.step.Step.{Step}
-use Rattle.flow_script.specs.declared.step.Step.TheVariants as Steps
+use Rattle.flow_script.specs.declared.step.FlowStep.{FlowStep}
+use Rattle.flow_script.specs.declared.step.FlowStep.TheVariants as Steps
 use Rattle.flow_state.specs.declared.flow.Flow.{Flow}
 use Rattle.flow_state.specs.Recent.{each_once}
 use Rattle.flow_state.specs.Flows.{PermitsOneWay, flow_outcome, flow_use}
@@ -72,7 +72,7 @@ use_moment capacity s p (Some f) is m =
     (use_permitted s.checked.topology s.checked.config m.valid p (table_of capacity s) (reachability s.checked.config p) f (table_permitted capacity s m) refl is)
     m.permitted
 
-step_moment : (capacity : ℕ) (x : Step) (s : Replay) → IsTrue (has_step_form x) → IsMoment s → IsMoment (after_step capacity x s)
+step_moment : (capacity : ℕ) (x : FlowStep) (s : Replay) → IsTrue (has_step_form x) → IsMoment s → IsMoment (after_step capacity x s)
 unfolding has_step_form
 step_moment capacity (Steps.Edit e) s form m = edit_moment s e (fault_in e s) form refl m
 step_moment capacity (Steps.Trace p) s form m =
@@ -97,7 +97,7 @@ traced capacity s p m =
       is = refl;
     }
 
-steps_answered : (capacity : ℕ) (xs : List Step) (s : Replay) → IsTrue (list_all has_step_form xs) → IsMoment s → AreAnswered capacity s xs (answers capacity xs s)
+steps_answered : (capacity : ℕ) (xs : List FlowStep) (s : Replay) → IsTrue (list_all has_step_form xs) → IsMoment s → AreAnswered capacity s xs (answers capacity xs s)
 unfolding answers
 steps_answered capacity [] s form m = tt
 steps_answered capacity (Steps.Edit e ∷ xs) s form m =
@@ -107,6 +107,6 @@ steps_answered capacity (Steps.Trace p ∷ xs) s form m =
     let parts = and_parts (has_step_form (Steps.Trace p)) (list_all has_step_form xs) form in
     (traced capacity s p m, steps_answered capacity xs (after_step capacity (Steps.Trace p) s) parts.1 (step_moment capacity (Steps.Trace p) s parts.0 m))
 
-pub all_answered : (capacity : ℕ) (v : Checked) (xs : List Step) → IsTrue (has_config_form v.config) → first_broken v.topology v.config ≡ None → IsTrue (list_all has_step_form xs) → AreAnswered capacity (at_start v) xs (answers capacity xs (at_start v))
+pub all_answered : (capacity : ℕ) (v : Checked) (xs : List FlowStep) → IsTrue (has_config_form v.config) → first_broken v.topology v.config ≡ None → IsTrue (list_all has_step_form xs) → AreAnswered capacity (at_start v) xs (answers capacity xs (at_start v))
 all_answered capacity v xs form valid steps =
     steps_answered capacity xs (at_start v) steps (record { form = form; valid = valid; permitted = All-nil (PermitsOneWay v.config) })

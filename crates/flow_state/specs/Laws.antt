@@ -13,8 +13,8 @@ use Rattle.config_model.specs.Form.{has_config_form}
 use Rattle.config_model.specs.declared.config.Config.{Config}
 use Rattle.config_check.specs.Rules.{first_broken}
 use Rattle.reach_plain.specs.Reachability.{reachability}
-use Rattle.flow_script.specs.declared.step.Step.{Step}
-use Rattle.flow_script.specs.declared.step.Step.TheVariants as Steps
+use Rattle.flow_script.specs.declared.step.FlowStep.{FlowStep}
+use Rattle.flow_script.specs.declared.step.FlowStep.TheVariants as Steps
 use Rattle.flow_state.specs.declared.flow.Flow.{Flow}
 use Rattle.flow_state.specs.Flows.{PermitsOneWay, forward_packet, reply_packet}
 use Rattle.flow_state.specs.Recent.{each_once}
@@ -89,7 +89,7 @@ pub record IsTraced (capacity : ℕ) (s : Replay) (p : Packet) (answer : FlowAns
   pub is : answer ≡ Traced outcome
 
 -- each step is answered, with what those before it left: an edit is made, or refused with its fault, and a packet is traced
-abbrev pub AreAnswered : ℕ → Replay → List Step → List FlowAnswer → Type 0
+abbrev pub AreAnswered : ℕ → Replay → List FlowStep → List FlowAnswer → Type 0
 AreAnswered capacity s [] [] = ⊤
 AreAnswered capacity s [] (a ∷ given) = ⊥
 AreAnswered capacity s (x ∷ xs) [] = ⊥

@@ -8,8 +8,8 @@ use Rattle.config_ties.specs.Ties.{Ties}
 use Rattle.config_ties.specs.Tied.{tied_fault}
 use Rattle.config_ties.specs.Tying.{joined, ties_of}
 use Rattle.config_ties.specs.declared.edits.TiedFault.{TiedFault}
-use Rattle.flow_script.specs.declared.step.Step.{Step}
-use Rattle.flow_script.specs.declared.step.Step.TheVariants as Steps
+use Rattle.flow_script.specs.declared.step.FlowStep.{FlowStep}
+use Rattle.flow_script.specs.declared.step.FlowStep.TheVariants as Steps
 use Rattle.flow_state.specs.declared.flow.Flow.{Flow}
 use Rattle.flow_state.specs.Recent.{after_use, recent}
 use Rattle.flow_state.specs.Flows.{flow_outcome, flow_use}
@@ -35,7 +35,7 @@ played_edit e None s = record {
 }
 played_edit e (Some fault) s = s
 
-abbrev pub played : Step → Playing → Playing
+abbrev pub played : FlowStep → Playing → Playing
 played (Steps.Edit e) s = played_edit e (fault_in e s) s
 played (Steps.Trace p) s = record {
   checked = s.checked;
@@ -44,11 +44,11 @@ played (Steps.Trace p) s = record {
   flows = after_use s.capacity (flow_use s.checked.config s.flows p) s.flows;
 }
 
-abbrev pub answer_in : Step → Playing → FlowAnswer
+abbrev pub answer_in : FlowStep → Playing → FlowAnswer
 answer_in (Steps.Edit e) s = edit_answer (fault_in e s)
 answer_in (Steps.Trace p) s = Traced (flow_outcome s.checked.config s.flows p)
 
-abbrev pub answers_in : List Step → Playing → List FlowAnswer
+abbrev pub answers_in : List FlowStep → Playing → List FlowAnswer
 answers_in [] s = []
 answers_in (x ∷ xs) s = answer_in x s ∷ answers_in xs (played x s)
 

@@ -7,8 +7,8 @@ use Rattle.config_ties.specs.Ties.{Ties}
 use Rattle.config_ties.specs.Tied.{tied_fault}
 use Rattle.config_ties.specs.Tying.{joined, ties_of}
 use Rattle.config_ties.specs.declared.edits.TiedFault.{TiedFault}
-use Rattle.flow_script.specs.declared.step.Step.{Step}
-use Rattle.flow_script.specs.declared.step.Step.TheVariants as Steps
+use Rattle.flow_script.specs.declared.step.FlowStep.{FlowStep}
+use Rattle.flow_script.specs.declared.step.FlowStep.TheVariants as Steps
 use Rattle.flow_state.specs.declared.flow.Flow.{Flow}
 use Rattle.flow_state.specs.Recent.{recent}
 use Rattle.flow_state.specs.Flows.{flow_outcome, flow_use}
@@ -39,7 +39,7 @@ abbrev pub fault_in : Edit → Replay → Option TiedFault
 fault_in e s = tied_fault s.checked s.ties e
 
 -- a packet adds its use, if it uses a flow
-abbrev pub after_step : ℕ → Step → Replay → Replay
+abbrev pub after_step : ℕ → FlowStep → Replay → Replay
 after_step capacity (Steps.Edit e) s = after_edit e (fault_in e s) s
 after_step capacity (Steps.Trace p) s =
     record s { uses = used (flow_use s.checked.config (table_of capacity s) p) s.uses }
@@ -48,12 +48,12 @@ abbrev pub edit_answer : Option TiedFault → FlowAnswer
 edit_answer None = Edited
 edit_answer (Some fault) = Refused fault
 
-abbrev pub answer_to : ℕ → Step → Replay → FlowAnswer
+abbrev pub answer_to : ℕ → FlowStep → Replay → FlowAnswer
 answer_to capacity (Steps.Edit e) s = edit_answer (fault_in e s)
 answer_to capacity (Steps.Trace p) s = Traced (flow_outcome s.checked.config (table_of capacity s) p)
 
 -- the answers to a list of steps, in order
-unfoldable pub answers : ℕ → List Step → Replay → List FlowAnswer
+unfoldable pub answers : ℕ → List FlowStep → Replay → List FlowAnswer
 answers capacity [] s = []
 answers capacity (x ∷ xs) s = answer_to capacity x s ∷ answers capacity xs (after_step capacity x s)
 

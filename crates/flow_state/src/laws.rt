@@ -15,7 +15,7 @@ ghost use Rattle.config_check.specs.Checked.{Checked};
 ghost use Rattle.config_check.specs.Rules.{first_broken};
 ghost use Rattle.reach_plain.specs.Reachability.{reachability};
 ghost use Rattle.flow_script.specs.Steps.{has_step_form};
-ghost use Rattle.flow_script.specs.declared.step.Step.{Step};
+ghost use Rattle.flow_script.specs.declared.step.FlowStep.{FlowStep};
 ghost use Rattle.flow_state.specs.declared.flow.Flow.{Flow};
 ghost use Rattle.flow_state.specs.Flows.{PermitsOneWay, flow_outcome, flow_use, reply_packet};
 ghost use Rattle.flow_state.specs.Laws.{AreAnswered, IsForwardUse, IsLetBack, IsNoDenial, IsReplyUse, WasUsedLast};
@@ -68,7 +68,7 @@ pub fn flows_stand_by_their_last_use()
 /// whatever steps came before: what is delivered stays delivered, and a denied packet passes exactly where it answers a
 /// flow that stands by its last use.
 pub fn replays_are_answered()
-    ensures { (capacity : ℕ) (v : Checked) (steps : List Step) → IsTrue (has_config_form v.config)
+    ensures { (capacity : ℕ) (v : Checked) (steps : List FlowStep) → IsTrue (has_config_form v.config)
         → first_broken v.topology v.config ≡ None → IsTrue (list_all has_step_form steps)
         → AreAnswered capacity (at_start v) steps (answers capacity steps (at_start v)) }
 {}

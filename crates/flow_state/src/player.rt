@@ -2,7 +2,7 @@
 ghost use Rattle.std.specs.Prelude.{◌≡◌, ◌<◌, List, IsTrue, IfOk, OnOk, OnErr};
 ghost use Rattle.config_model.specs.Edit.{has_edit_form};
 ghost use Rattle.flow_script.specs.Steps.{has_step_form};
-ghost use Rattle.flow_script.specs.declared.step.Step.{Step as Asked};
+ghost use Rattle.flow_script.specs.declared.step.FlowStep.{FlowStep as Asked};
 ghost use Rattle.flow_state.specs.Playing.{answer_in, answers_in, fault_in, opening, played, played_edit, playing};
 ghost use Rattle.flow_state.specs.Replay.{answers, at_start, edit_answer};
 
@@ -11,7 +11,7 @@ use crate::table::FlowTable;
 use config_check::Valid;
 use config_model::Edit;
 use config_ties::{TiedRefusal, Ties, apply_tied_edit};
-use flow_script::Step;
+use flow_script::FlowStep;
 use ov_types::NoMemory;
 use std::alloc::Global;
 use std::marker::Model;
@@ -72,15 +72,15 @@ impl Player {
 
     /// The next step is done, and answered. On want of memory all stays as it is.
     #[tactic(auto, unfolding(flow_script::specs::Steps::has_step_form))]
-    pub fn step(&mut self, alloc: Global, step: &Step) -> Result<FlowAnswer, NoMemory>
+    pub fn step(&mut self, alloc: Global, step: &FlowStep) -> Result<FlowAnswer, NoMemory>
         requires { IsTrue (has_step_form step.now) }
         ensures answer { IfOk result (λ a. a ≡ answer_in step.now (playing self.old)) }
         ensures next { OnOk result (playing self.new ≡ played step.now (playing self.old)) }
         ensures err { OnErr result (self.new ≡ self.old) }
     {
         match step {
-            Step::Edit(edit) => self.edit(alloc, edit),
-            Step::Trace(packet) => {
+            FlowStep::Edit(edit) => self.edit(alloc, edit),
+            FlowStep::Trace(packet) => {
                 let outcome = self.table.pass(&self.valid, *packet)?;
                 Ok(FlowAnswer::Traced(outcome))
             }

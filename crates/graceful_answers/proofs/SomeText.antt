@@ -25,7 +25,7 @@ use Rattle.bgp_wire.proofs.Octets.{AreOctets-drop, AreOctets-take}
 use Rattle.bgp_vpn.specs.Updates.{Changes, HasUpdateFault}
 use Rattle.bgp_vpn.proofs.UpdateLemmas as updates
 use Rattle.bgp_restart.specs.Marks.{IsEnd}
-use Rattle.bgp_restart.specs.Events.{Event, Opened, Closed, Expired, Updated, is_up, opening, since_opened, until_closed, is_mark, changes_in, key_order, own, has_change}
+use Rattle.bgp_restart.specs.Events.{RestartEvent, Opened, Closed, Expired, Updated, is_up, opening, since_opened, until_closed, is_mark, changes_in, key_order, own, has_change}
 use Rattle.bgp_restart.specs.Keeping.{held_at, left_over, says_kept, marked, row_of, IsUpdate}
 use Rattle.bgp_restart.proofs.Owning.{key_total, key_exact, own_none, changed-append}
 use Rattle.report.specs.Restarts.{did_line, idle_line, faulty_line, show_line}
@@ -114,7 +114,7 @@ get-held_under held (d ∷ ds) q =
       at false e = refl
 
 -- of a key of which nothing was said nothing was said in its periods either
-unchanged_since : (events : List Event) (k : VpnKey) → is_changed key_order (changes_in events) k ≡ false
+unchanged_since : (events : List RestartEvent) (k : VpnKey) → is_changed key_order (changes_in events) k ≡ false
     → is_changed key_order (changes_in (since_opened events)) k ≡ false
 unchanged_since [] k e = e
 unchanged_since (Opened o ∷ before) k e = refl
@@ -124,7 +124,7 @@ unchanged_since (Updated ds marks ∷ before) k e =
     let parts = or_parts _ _ (sym (changed-append (changes_in before) ds k) ∙ e) in
     changed-append (changes_in (since_opened before)) ds k ∙ or_from _ _ parts.0 (unchanged_since before k parts.1)
 
-unchanged_until : (events : List Event) (k : VpnKey) → is_changed key_order (changes_in events) k ≡ false
+unchanged_until : (events : List RestartEvent) (k : VpnKey) → is_changed key_order (changes_in events) k ≡ false
     → is_changed key_order (changes_in (until_closed events)) k ≡ false
 unchanged_until [] k e = e
 unchanged_until (Opened o ∷ before) k e = unchanged_until before k e
@@ -137,7 +137,7 @@ cond_none : {A : Type 0} (b : Bool) (x : Option A) → x ≡ None → cond b x N
 cond_none true x e = e
 cond_none false x e = refl
 
-nothing_left : (events : List Event) (k : VpnKey) → is_changed key_order (changes_in events) k ≡ false → left_over events k ≡ None
+nothing_left : (events : List RestartEvent) (k : VpnKey) → is_changed key_order (changes_in events) k ≡ false → left_over events k ≡ None
 nothing_left events k e =
     let last = until_closed events in
     cond_none _ (own (since_opened last) k) (own_none (changes_in (since_opened last)) k (unchanged_since last k (unchanged_until events k e)))
@@ -148,13 +148,13 @@ none_held true true keeps o l c e = cc
 none_held true false keeps o l c e = cond_none keeps l e
 none_held false changed keeps o l c e = e
 
-nothing_held : (events : List Event) (k : VpnKey) → is_changed key_order (changes_in events) k ≡ false → held_at events k ≡ None
+nothing_held : (events : List RestartEvent) (k : VpnKey) → is_changed key_order (changes_in events) k ≡ false → held_at events k ≡ None
 nothing_held events k e =
     none_held (is_up events) (has_change (since_opened events) k) (says_kept (opening events) && not (list_any is_mark (since_opened events)))
     (marked false (own (since_opened events) k)) (marked true (left_over events k)) (unchanged_since events k e)
     (ap (marked true) (nothing_left events k e))
 
-some_held : (events : List Event) → (text : List ℕ) × IsHeldText events text
+some_held : (events : List RestartEvent) → (text : List ℕ) × IsHeldText events text
 some_held events =
     let all = held_under (held_at events) (changes_in events) in (
       row_lines (map row_of (entries all)),
@@ -169,15 +169,15 @@ some_held events =
       at k false e = sym (nothing_held events k e)
 
 -- ---- each entry is answered
-some_opened : (up : Bool) (events : List Event) (n : ℕ) (octets : List ℕ) (fields : OpenFields) → IsOneOpen octets fields
-    → (said : List ℕ) × (after : List Event) × AnswersOpen up events n octets said after
+some_opened : (up : Bool) (events : List RestartEvent) (n : ℕ) (octets : List ℕ) (fields : OpenFields) → IsOneOpen octets fields
+    → (said : List ℕ) × (after : List RestartEvent) × AnswersOpen up events n octets said after
 some_opened true events n octets fields one = (idle_line n, events, record { line = refl; no_event = refl })
 some_opened false events n octets fields one =
     (did_line n, Opened (opening_of fields) ∷ events, (fields, one, record { line = refl; happened = refl }))
 
-some_heard : (events : List Event) (n : ℕ) (parts : UpdateFields)
+some_heard : (events : List RestartEvent) (n : ℕ) (parts : UpdateFields)
     → ((ds : List (Delta VpnKey VpnRoute)) × Changes (reads_wide events) parts ds) ⊎ ((f : WireFault) × HasUpdateFault (reads_wide events) parts f)
-    → (said : List ℕ) × (after : List Event) × AnswersParts events n parts said after
+    → (said : List ℕ) × (after : List RestartEvent) × AnswersParts events n parts said after
 some_heard events n parts (inl made) =
     let marks = some_mark parts made.1.attributes made.1.are in
     let event = Updated made.0 marks.0 in
@@ -188,18 +188,18 @@ some_heard events n parts (inr faulty) =
     let f = faulty.0 in
     (faulty_line n f.code f.subcode, events, inr (record { fault = f; faulty = faulty.1; line = refl; no_event = refl }))
 
-some_updated : (up : Bool) (events : List Event) (n : ℕ) (octets : List ℕ) (parts : UpdateFields) → AreOctets octets → IsOneUpdate octets parts
-    → (said : List ℕ) × (after : List Event) × AnswersUpdate up events n octets said after
+some_updated : (up : Bool) (events : List RestartEvent) (n : ℕ) (octets : List ℕ) (parts : UpdateFields) → AreOctets octets → IsOneUpdate octets parts
+    → (said : List ℕ) × (after : List RestartEvent) × AnswersUpdate up events n octets said after
 some_updated true events n octets parts h one =
     let said = some_heard events n parts (updates.one_of_two (reads_wide events) parts (attributes_are octets parts h one)) in
     (said.0, said.1, (parts, one, said.2))
 some_updated false events n octets parts h one = (idle_line n, events, record { line = refl; no_event = refl })
 
-some_closed : (up : Bool) (events : List Event) (n : ℕ) → (said : List ℕ) × (after : List Event) × AnswersClose up events n said after
+some_closed : (up : Bool) (events : List RestartEvent) (n : ℕ) → (said : List ℕ) × (after : List RestartEvent) × AnswersClose up events n said after
 some_closed true events n = (did_line n, Closed ∷ events, record { line = refl; happened = refl })
 some_closed false events n = (idle_line n, events, record { line = refl; no_event = refl })
 
-some_answer : (events : List Event) (n : ℕ) (e : LogEntry) → HasEntryForm e → (said : List ℕ) × (after : List Event) × Answers events n e said after
+some_answer : (events : List RestartEvent) (n : ℕ) (e : LogEntry) → HasEntryForm e → (said : List ℕ) × (after : List RestartEvent) × Answers events n e said after
 some_answer events n (entry.Opened octets) h = some_opened (is_up events) events n octets h.1.0 h.1.1
 some_answer events n (entry.Updated octets) h = some_updated (is_up events) events n octets h.1.0 h.0 h.1.1
 some_answer events n entry.Closed h = some_closed (is_up events) events n
@@ -209,7 +209,7 @@ some_answer events n entry.Show h =
     (show_line n ++ held.0, events, record { rows = held.0; held = held.1; lines = refl; no_event = refl })
 
 -- a log of the form has a text
-pub some_text : (events : List Event) (n : ℕ) (log : List LogEntry) → AllByRecursion HasEntryForm log → (text : List ℕ) × IsLogText events n log text
+pub some_text : (events : List RestartEvent) (n : ℕ) (log : List LogEntry) → AllByRecursion HasEntryForm log → (text : List ℕ) × IsLogText events n log text
 some_text events n [] h = ([], refl)
 some_text events n (e ∷ log) h =
     let first = some_answer events n e h.0 in

@@ -12,7 +12,7 @@ use Rattle.ov_types.specs.declared.vpn.VpnRoute.{VpnRoute}
 use Rattle.bgp_wire.specs.declared.fault.WireFault.{WireFault}
 use Rattle.bgp_wire.specs.Content.{UpdateFields}
 use Rattle.bgp_vpn.specs.Updates.{HasUpdateFault}
-use Rattle.bgp_restart.specs.Events.{Event, Opened, Closed, Expired, Updated, is_up, opening}
+use Rattle.bgp_restart.specs.Events.{RestartEvent, Opened, Closed, Expired, Updated, is_up, opening}
 use Rattle.bgp_restart.specs.Keeping.{Kept, StandsFor, Follows, IsUpdate, AreRows}
 use Rattle.report.specs.Restarts.{did_line, faulty_line, show_line}
 use Rattle.graceful_script.specs.declared.entry.LogEntry.{LogEntry}
@@ -24,7 +24,7 @@ use Rattle.graceful_answers.specs.Progress.{Steps}
 use Rattle.graceful_answers.proofs.SomeText.{some_text}
 
 -- ---- what an entry answers
-wide_so : (events : List Event) (named wide : Bool) → is_up events ≡ true
+wide_so : (events : List RestartEvent) (named wide : Bool) → is_up events ≡ true
     → IfSome (opening events) (λ o. (named ≡ o.named) × (wide ≡ o.wide)) → wide ≡ reads_wide events
 wide_so [] n w u h = cc
 wide_so (Opened o ∷ before) n w u h = h.1
@@ -32,12 +32,12 @@ wide_so (Closed ∷ before) n w u h = cc
 wide_so (Expired ∷ before) n w u h = wide_so before n w u h
 wide_so (Updated changes marks ∷ before) n w u h = wide_so before n w u h
 
-answers_up : (events : List Event) (n : ℕ) (octets said : List ℕ) (after : List Event) (parts : UpdateFields) → is_up events ≡ true
+answers_up : (events : List RestartEvent) (n : ℕ) (octets said : List ℕ) (after : List RestartEvent) (parts : UpdateFields) → is_up events ≡ true
     → IsOneUpdate octets parts → AnswersParts events n parts said after → AnswersUpdate (is_up events) events n octets said after
 answers_up events n octets said after parts up one answers =
     subst (λ (u : Bool). AnswersUpdate u events n octets said after) (sym up) (parts, one, answers)
 
-pub heard : {E : Type 0} (r : Result Unit E) (old new : Kept) (n : ℕ) (octets : List ℕ) (parts : UpdateFields) (event : Event) (before text : List ℕ)
+pub heard : {E : Type 0} (r : Result Unit E) (old new : Kept) (n : ℕ) (octets : List ℕ) (parts : UpdateFields) (event : RestartEvent) (before text : List ℕ)
     → old.up ≡ true → IsOneUpdate octets parts → IsUpdate old.wide parts event → Follows old event new → OnOk r (text ≡ before ++ did_line n)
     → OnOk r (Steps old n (entry.Updated octets) new before text)
 heard (Err e) old new n octets parts event before text up one is follows line = tt
@@ -92,7 +92,7 @@ shown (Ok x) old n rows before mid text are first rest = λ events stands.
 -- ---- the way of the text
 -- what the entries before the rest answered is on its way
 pub record IsTold (log : List LogEntry) (n : ℕ) (rest : List LogEntry) (r : Kept) (old now : Option (List ℕ)) (gathered : List ℕ) : Type 0 where
-  pub events : List Event
+  pub events : List RestartEvent
   pub stands : StandsFor events r
   pub told : List ℕ
   pub leads : (more : List ℕ) → IsLogText events n rest more → IsLogText [] 1 log (told ++ more)

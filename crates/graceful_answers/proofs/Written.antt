@@ -10,7 +10,7 @@ use Rattle.ov_json.specs.Json.{json_of}
 use Rattle.compile_answers.specs.declared.unfit.Unfit.{Unfit}
 use Rattle.compile_answers.specs.declared.unfit.Reception.{Reception}
 use Rattle.compile_answers.specs.declared.unfit.Reception.TheVariants.{Refused}
-use Rattle.compile_answers.specs.Answers.{Answer, IsAnswered, WasGiven}
+use Rattle.compile_answers.specs.Answers.{DocumentAnswer, IsAnswered, WasGiven}
 use Rattle.graceful_script.specs.declared.entry.LogEntry.{LogEntry}
 use Rattle.graceful_script.specs.Reading.{log_at}
 use Rattle.graceful_script.proofs.Forms.{log_form}
@@ -31,7 +31,7 @@ unfolding log_in
 never_refused octets = value_unrefused (json_of octets)
 
 -- ---- a log that is found is that of a document
-same_log : (a b : List LogEntry) → ◌≡◌ {A = Result (List LogEntry) Answer} (Ok a) (Ok b) → a ≡ b
+same_log : (a b : List LogEntry) → ◌≡◌ {A = Result (List LogEntry) DocumentAnswer} (Ok a) (Ok b) → a ≡ b
 same_log a b e = cc
 
 log_in_reading : (r : Result (List LogEntry) Fault) (log : List LogEntry) → of_reading r ≡ Ok log → r ≡ Ok log
@@ -60,16 +60,16 @@ unfolding log_in
 some_written octets = text_of_value (json_of octets)
 
 -- ---- what is not fit is answered by what is written
-abbrev answer_to : Result (List LogEntry) Answer → List ℕ → Answer
+abbrev answer_to : Result (List LogEntry) DocumentAnswer → List ℕ → DocumentAnswer
 answer_to r text = record { verdict = graceful_verdict r; text = text }
 
-pub answers : (u : Unfit) (r : Result (List LogEntry) Answer) (text : List ℕ) → IsUnfit u r → WritesLog r text
+pub answers : (u : Unfit) (r : Result (List LogEntry) DocumentAnswer) (text : List ℕ) → IsUnfit u r → WritesLog r text
     → IsAnswered u (record { verdict = graceful_verdict r; text = text })
 answers u (Ok log) text is writes = subst (λ (v : Unfit). IsAnswered v (answer_to (Ok log) text)) (sym is) tt
 answers u (Err a) text is writes = subst (λ (t : List ℕ). IsAnswered u (record { verdict = a.verdict; text = t })) (sym writes) is
 
 -- ---- how the line ends
-pub verdict_given : {E : Type 0} (result : Result Reception E) (r : Result (List LogEntry) Answer) (text : List ℕ) (old new : Option (List ℕ))
+pub verdict_given : {E : Type 0} (result : Result Reception E) (r : Result (List LogEntry) DocumentAnswer) (text : List ℕ) (old new : Option (List ℕ))
     → IfOk result (λ verdict. WasGiven (record { verdict = graceful_verdict r; text = text }) verdict old new)
     → IfOk result (λ verdict. verdict ≡ graceful_verdict r)
 verdict_given (Ok v) r text old new given = given.is
@@ -80,13 +80,13 @@ pub unrefused_given : {E : Type 0} (result : Result Reception E) (octets : List 
 unrefused_given (Ok v) octets is = λ e. never_refused octets (subst (λ (w : Reception). w ≡ Refused) is e)
 unrefused_given (Err e) octets is = tt
 
-pub text_given : {E : Type 0} (result : Result Reception E) (r : Result (List LogEntry) Answer) (text : List ℕ) (old new : Option (List ℕ)) → WritesLog r text
+pub text_given : {E : Type 0} (result : Result Reception E) (r : Result (List LogEntry) DocumentAnswer) (text : List ℕ) (old new : Option (List ℕ)) → WritesLog r text
     → IfOk result (λ verdict. WasGiven (record { verdict = graceful_verdict r; text = text }) verdict old new)
     → OnOk result (TookText (WritesLog r) old new)
 text_given (Ok v) r text old new writes given = record { text = text; is = writes; taken = given.taken }
 text_given (Err e) r text old new writes given = tt
 
-pub front_given : {E : Type 0} (result : Result Reception E) (r : Result (List LogEntry) Answer) (text : List ℕ) (old new : Option (List ℕ)) → WritesLog r text
+pub front_given : {E : Type 0} (result : Result Reception E) (r : Result (List LogEntry) DocumentAnswer) (text : List ℕ) (old new : Option (List ℕ)) → WritesLog r text
     → OnErr result (TookFront old new text) → OnErr result (TookFrontOf (WritesLog r) old new)
 front_given (Ok v) r text old new writes front = tt
 front_given (Err e) r text old new writes front = record { text = text; is = writes; taken = front }

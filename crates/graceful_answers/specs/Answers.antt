@@ -6,37 +6,37 @@ use Rattle.compile_answers.specs.declared.unfit.Reception.{Reception}
 use Rattle.compile_answers.specs.declared.unfit.Reception.TheVariants.{Good}
 use Rattle.compile_answers.specs.declared.unfit.Unfit.{Unfit}
 use Rattle.compile_answers.specs.declared.unfit.Unfit.TheVariants.{NoMemory}
-use Rattle.compile_answers.specs.Answers.{Answer, IsAnswered, answer_bad, answer_not_json}
+use Rattle.compile_answers.specs.Answers.{DocumentAnswer, IsAnswered, answer_bad, answer_not_json}
 use Rattle.ov_io.specs.Pieces.{TookText}
 use Rattle.ov_json.specs.Json.{json_of}
 use Rattle.graceful_script.specs.declared.entry.LogEntry.{LogEntry}
 use Rattle.graceful_script.specs.Reading.{log_at}
 use Rattle.graceful_answers.specs.Logs.{IsLogText}
 
-abbrev pub of_reading : Result (List LogEntry) Fault → Result (List LogEntry) Answer
+abbrev pub of_reading : Result (List LogEntry) Fault → Result (List LogEntry) DocumentAnswer
 of_reading (Ok log) = Ok log
 of_reading (Err f) = Err (answer_bad f)
 
-abbrev pub of_value : Option Data → Result (List LogEntry) Answer
+abbrev pub of_value : Option Data → Result (List LogEntry) DocumentAnswer
 of_value None = Err answer_not_json
 of_value (Some d) = of_reading (log_at [] d)
 
 -- the log that an input is, or the answer where it is none
-unfoldable pub log_in : List ℕ → Result (List LogEntry) Answer
+unfoldable pub log_in : List ℕ → Result (List LogEntry) DocumentAnswer
 log_in octets = of_value (json_of octets)
 
 -- what an input is found to be
-abbrev pub graceful_verdict : Result (List LogEntry) Answer → Reception
+abbrev pub graceful_verdict : Result (List LogEntry) DocumentAnswer → Reception
 graceful_verdict (Ok log) = Good
 graceful_verdict (Err answer) = answer.verdict
 
 -- of a log `graceful` writes what its entries answer, of which the first has the number 1, and nothing came before it
-abbrev pub WritesLog : Result (List LogEntry) Answer → List ℕ → Type 0
+abbrev pub WritesLog : Result (List LogEntry) DocumentAnswer → List ℕ → Type 0
 WritesLog (Ok log) text = IsLogText [] 1 log text
 WritesLog (Err answer) text = text ≡ answer.text
 
 -- what is no log is answered with its one line; of a log only memory can be wanting
-abbrev pub IsUnfit : Unfit → Result (List LogEntry) Answer → Type 0
+abbrev pub IsUnfit : Unfit → Result (List LogEntry) DocumentAnswer → Type 0
 IsUnfit unfit (Ok log) = unfit ≡ NoMemory
 IsUnfit unfit (Err answer) = IsAnswered unfit answer
 

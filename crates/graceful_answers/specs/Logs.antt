@@ -12,7 +12,7 @@ use Rattle.bgp_wire.specs.Content.{OpenFields, UpdateFields}
 use Rattle.bgp_wire.specs.Opens.{is_wide}
 use Rattle.bgp_vpn.specs.Updates.{HasUpdateFault}
 use Rattle.bgp_restart.specs.Marks.{named, kept}
-use Rattle.bgp_restart.specs.Events.{Opening, Event, Opened, Closed, Expired, is_up, opening, key_order}
+use Rattle.bgp_restart.specs.Events.{Opening, RestartEvent, Opened, Closed, Expired, is_up, opening, key_order}
 use Rattle.bgp_restart.specs.Keeping.{held_at, row_of, IsUpdate}
 use Rattle.report.specs.Restarts.{did_line, idle_line, faulty_line, show_line, held_line}
 use Rattle.graceful_script.specs.declared.entry.LogEntry.{LogEntry}
@@ -24,7 +24,7 @@ abbrev pub opening_of : OpenFields → Opening
 opening_of o = record { named = named o; kept = kept o; wide = is_wide o }
 
 -- whether UPDATEs are read wide: as the session was opened last
-abbrev pub reads_wide : List Event → Bool
+abbrev pub reads_wide : List RestartEvent → Bool
 reads_wide events = unwrap_or (option_map (λ o. o.wide) (opening events)) false
 
 -- the line of each route that is held
@@ -32,57 +32,57 @@ abbrev pub row_lines : List (VpnKey × VpnRoute × Bool) → List ℕ
 row_lines rows = flat_map (λ row. held_line row.0 row.1 row.2) rows
 
 -- the lines of all that is held after events, in the order of the keys
-pub record IsHeldText (events : List Event) (text : List ℕ) : Type 0 where
+pub record IsHeldText (events : List RestartEvent) (text : List ℕ) : Type 0 where
   pub all : FinMap key_order (VpnRoute × Bool)
   pub is_held : (k : VpnKey) → get all k ≡ held_at events k
   pub lines : text ≡ row_lines (map row_of (entries all))
 
 -- an entry is an event
-pub record IsDone (events : List Event) (n : ℕ) (event : Event) (said : List ℕ) (after : List Event) : Type 0 where
+pub record IsDone (events : List RestartEvent) (n : ℕ) (event : RestartEvent) (said : List ℕ) (after : List RestartEvent) : Type 0 where
   pub line : said ≡ did_line n
   pub happened : after ≡ event ∷ events
 
 -- an entry is passed over: it is no event
-pub record IsIdle (events : List Event) (n : ℕ) (said : List ℕ) (after : List Event) : Type 0 where
+pub record IsIdle (events : List RestartEvent) (n : ℕ) (said : List ℕ) (after : List RestartEvent) : Type 0 where
   pub line : said ≡ idle_line n
   pub no_event : after ≡ events
 
 -- an UPDATE has a fault: it is no event
-pub record IsFaulty (events : List Event) (n : ℕ) (parts : UpdateFields) (said : List ℕ) (after : List Event) : Type 0 where
+pub record IsFaulty (events : List RestartEvent) (n : ℕ) (parts : UpdateFields) (said : List ℕ) (after : List RestartEvent) : Type 0 where
   pub fault : WireFault
   pub faulty : HasUpdateFault (reads_wide events) parts fault
   pub line : said ≡ faulty_line n fault.code fault.subcode
   pub no_event : after ≡ events
 
 -- what is held is shown: that is no event
-pub record IsShown (events : List Event) (n : ℕ) (said : List ℕ) (after : List Event) : Type 0 where
+pub record IsShown (events : List RestartEvent) (n : ℕ) (said : List ℕ) (after : List RestartEvent) : Type 0 where
   pub rows : List ℕ
   pub held : IsHeldText events rows
   pub lines : said ≡ show_line n ++ rows
   pub no_event : after ≡ events
 
 -- an OPEN, where the session is up, or down
-abbrev pub AnswersOpen : Bool → List Event → ℕ → List ℕ → List ℕ → List Event → Type 0
+abbrev pub AnswersOpen : Bool → List RestartEvent → ℕ → List ℕ → List ℕ → List RestartEvent → Type 0
 AnswersOpen true events n octets said after = IsIdle events n said after
 AnswersOpen false events n octets said after =
     (fields : OpenFields) × IsOneOpen octets fields × IsDone events n (Opened (opening_of fields)) said after
 
 -- an UPDATE of these parts, read as the session was opened
-abbrev pub AnswersParts : List Event → ℕ → UpdateFields → List ℕ → List Event → Type 0
+abbrev pub AnswersParts : List RestartEvent → ℕ → UpdateFields → List ℕ → List RestartEvent → Type 0
 AnswersParts events n parts said after =
-    ((event : Event) × IsUpdate (reads_wide events) parts event × IsDone events n event said after)
+    ((event : RestartEvent) × IsUpdate (reads_wide events) parts event × IsDone events n event said after)
     ⊎ IsFaulty events n parts said after
 
-abbrev pub AnswersUpdate : Bool → List Event → ℕ → List ℕ → List ℕ → List Event → Type 0
+abbrev pub AnswersUpdate : Bool → List RestartEvent → ℕ → List ℕ → List ℕ → List RestartEvent → Type 0
 AnswersUpdate true events n octets said after =
     (parts : UpdateFields) × IsOneUpdate octets parts × AnswersParts events n parts said after
 AnswersUpdate false events n octets said after = IsIdle events n said after
 
-abbrev pub AnswersClose : Bool → List Event → ℕ → List ℕ → List Event → Type 0
+abbrev pub AnswersClose : Bool → List RestartEvent → ℕ → List ℕ → List RestartEvent → Type 0
 AnswersClose true events n said after = IsDone events n Closed said after
 AnswersClose false events n said after = IsIdle events n said after
 
-abbrev pub Answers : List Event → ℕ → LogEntry → List ℕ → List Event → Type 0
+abbrev pub Answers : List RestartEvent → ℕ → LogEntry → List ℕ → List RestartEvent → Type 0
 Answers events n (entry.Opened octets) said after = AnswersOpen (is_up events) events n octets said after
 Answers events n (entry.Updated octets) said after = AnswersUpdate (is_up events) events n octets said after
 Answers events n entry.Closed said after = AnswersClose (is_up events) events n said after
@@ -90,8 +90,8 @@ Answers events n entry.Expired said after = IsDone events n Expired said after
 Answers events n entry.Show said after = IsShown events n said after
 
 -- the first entry has the number n
-abbrev pub IsLogText : List Event → ℕ → List LogEntry → List ℕ → Type 0
+abbrev pub IsLogText : List RestartEvent → ℕ → List LogEntry → List ℕ → Type 0
 IsLogText events n [] text = text ≡ []
 IsLogText events n (entry ∷ log) text =
-    (said : List ℕ) × (after : List Event) × (more : List ℕ)
+    (said : List ℕ) × (after : List RestartEvent) × (more : List ℕ)
     × Answers events n entry said after × IsLogText after (n + 1) log more × (text ≡ said ++ more)

@@ -19,7 +19,7 @@ use Rattle.transform_model.proofs.Rows.{node_is}
 use Rattle.node_model.specs.Members.{Member}
 use Rattle.node_model.proofs.Members.{any_in, in_map, member_of}
 use Rattle.machine_model.specs.Events.{after, is_node, shown}
-use Rattle.machine_model.specs.Network.{Network, start}
+use Rattle.machine_model.specs.Network.{MachineState, start}
 use Rattle.machine_model.specs.Setup.{Name, low as low_map}
 use Rattle.machine_model.specs.Steps.{is_settled}
 use Rattle.machine_compiled_laws.specs.Compiled.{rows_for}
@@ -38,7 +38,7 @@ name_of_site n = n.name
 abbrev name_of_computer : Node → Name
 name_of_computer n = n.name
 
-module _ (w : Network) (written : IsWritten w.setup) (shows : ShowsCompiled w) (settled : is_settled w ≡ true) where
+module _ (w : MachineState) (written : IsWritten w.setup) (shows : ShowsCompiled w) (settled : is_settled w ≡ true) where
   valid : IsValid w.setup.topology w.setup.config
   valid = (valid_iff w.setup.topology w.setup.config).0 written.valid
 

@@ -26,7 +26,7 @@ use Rattle.node_model.specs.Agent as agent
 use Rattle.node_model.specs.Members.{Member}
 use Rattle.machine_model.specs.Events as events
 use Rattle.machine_model.specs.Events.{after}
-use Rattle.machine_model.specs.Network.{Network, start}
+use Rattle.machine_model.specs.Network.{MachineState, start}
 use Rattle.machine_model.specs.Setup.{checked, low as low_map}
 use Rattle.machine_model.specs.Steps.{is_settled}
 use Rattle.machine_compiled_laws.specs.Compiled as compiled
@@ -40,7 +40,7 @@ abbrev rows_shown : AgentRows → NodeRows → AgentRows
 rows_shown other' (Rows.Agent r) = r
 rows_shown other' (Rows.Control r) = other'
 
-module _ (w : Network) (written : IsWritten w.setup) (shows : ShowsCompiled w) (settled : is_settled w ≡ true) where
+module _ (w : MachineState) (written : IsWritten w.setup) (shows : ShowsCompiled w) (settled : is_settled w ≡ true) where
   valid : IsValid w.setup.topology w.setup.config
   valid = (valid_iff w.setup.topology w.setup.config).0 written.valid
 

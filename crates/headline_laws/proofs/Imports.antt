@@ -23,10 +23,10 @@ use Rattle.machine_model.specs.Setup.{Setup}
 use Rattle.config_check.specs.Sentences.{IsValid}
 use Rattle.transform_model.specs.IsObject.{AreImports, IsObject, of_left_circuit, of_network, of_networks, of_port, of_right_circuit, of_use}
 use Rattle.transform_model.specs.IsUse.{IsUse}
-use Rattle.transform_model.specs.Objects.{Object as LowObject}
+use Rattle.transform_model.specs.Objects.{LowObject}
 use Rattle.transform_model.specs.Objects.{acl_objects, circuit_objects, imports_of, instance_object, low_objects, port_object, use_object}
 use Rattle.transform_model.specs.Objects.{objects as made_objects}
-use Rattle.transform_model.specs.Uses.{Use as InEffect}
+use Rattle.transform_model.specs.Uses.{ConfiguredUse as InEffect}
 use Rattle.transform_model.specs.Uses.{uses as in_effect}
 use Rattle.policy_rules.proofs.Lists.{is_mapped}
 use Rattle.transform_model.proofs.LowKeys.{low_iff, low_kept}

@@ -37,9 +37,9 @@ use Rattle.transform_model.specs.IsObject.{IsHop, IsObject, of_left_circuit, of_
 use Rattle.transform_model.specs.IsRow.{IsCircuitAt as IsCircuitAtNode}
 use Rattle.transform_model.specs.IsRow.{IsPort}
 use Rattle.transform_model.specs.IsUse.{IsLeftCircuit, IsRightCircuit, IsUse}
-use Rattle.transform_model.specs.Objects.{Object, attached_circuit, attached_port, low_objects}
+use Rattle.transform_model.specs.Objects.{LowObject, attached_circuit, attached_port, low_objects}
 use Rattle.transform_model.specs.Uses.{Circuit}
-use Rattle.transform_model.specs.Uses.{Use as InEffect}
+use Rattle.transform_model.specs.Uses.{ConfiguredUse as InEffect}
 use Rattle.transform_model.proofs.InUse.{around_right, ends_differ, few_services, services_are}
 use Rattle.transform_model.proofs.LowKeys.{low_iff}
 use Rattle.transform_model.proofs.Prefixes.{network_number, use_number}
@@ -77,24 +77,24 @@ pub record HeldUse (x : Setup) (w : Use) : Type 0 where
   pub used : IsUse x.config effect
   pub is : held_of effect ≡ w
 
-abbrev attachment_in : Object → Option Attachment
+abbrev attachment_in : LowObject → Option Attachment
 attachment_in o = as_attachment o.0 o.1
 
-abbrev use_in : Object → Option Use
+abbrev use_in : LowObject → Option Use
 use_in o = as_use o.0 o.1
 
-abbrev pub object_at : LowKey → LowValue → Object
+abbrev pub object_at : LowKey → LowValue → LowObject
 object_at k v = (k, v)
 
 module _ (x : Setup) (form : IsTrue (has_config_form x.config)) (v : IsValid x.topology x.config) where
-  pub object_is : (o : Object) → Member o (objects (low_map x)) → IsObject x.topology x.config o
-  object_is o m = (low_iff x.topology x.config o v form).0 (contains_of (low_objects x.topology x.config) o (subst (λ (es : List Object). Member o es) (objects-low x) m))
+  pub object_is : (o : LowObject) → Member o (objects (low_map x)) → IsObject x.topology x.config o
+  object_is o m = (low_iff x.topology x.config o v form).0 (contains_of (low_objects x.topology x.config) o (subst (λ (es : List LowObject). Member o es) (objects-low x) m))
 
-  pub is_object : (o : Object) → IsObject x.topology x.config o → Member o (objects (low_map x))
-  is_object o h = subst (λ (es : List Object). Member o es) (sym (objects-low x)) (member_of (low_objects x.topology x.config) o ((low_iff x.topology x.config o v form).1 h))
+  pub is_object : (o : LowObject) → IsObject x.topology x.config o → Member o (objects (low_map x))
+  is_object o h = subst (λ (es : List LowObject). Member o es) (sym (objects-low x)) (member_of (low_objects x.topology x.config) o ((low_iff x.topology x.config o v form).1 h))
 
   -- ---- attachments
-  attachment_by : (a : Attachment) (o : Object) → IsObject x.topology x.config o → attachment_in o ≡ Some a → AttachmentKind x a
+  attachment_by : (a : Attachment) (o : LowObject) → IsObject x.topology x.config o → attachment_in o ≡ Some a → AttachmentKind x a
   attachment_by a o (of_network n is in_n are e) h = absurd (none_some a (ap attachment_in (sym e) ∙ h))
   attachment_by a o (of_port n p d at e) h = port_kind n p d at (same_Some (port_attachment p n d) a (ap attachment_in (sym e) ∙ h))
   attachment_by a o (of_left_circuit u j k d used is at e) h = left_kind u j k d used is at (same_Some (circuit_attachment k d) a (ap attachment_in (sym e) ∙ h))
@@ -107,7 +107,7 @@ module _ (x : Setup) (form : IsTrue (has_config_form x.config)) (v : IsValid x.t
       let q = from_filter_map (λ (e : LowKey × LowValue). as_attachment e.0 e.1) a (objects (low_map x)) m in
       attachment_by a q.0 (object_is q.0 q.1) q.2
 
-  pub is_attachment : (a : Attachment) (o : Object) → IsObject x.topology x.config o → attachment_in o ≡ Some a → Member a (attachments (low_map x))
+  pub is_attachment : (a : Attachment) (o : LowObject) → IsObject x.topology x.config o → attachment_in o ≡ Some a → Member a (attachments (low_map x))
   is_attachment a o h e = in_filter_map (λ (e : LowKey × LowValue). as_attachment e.0 e.1) o a (objects (low_map x)) (is_object o h) e
 
   pub port_attached : (n : Network) (p : Port) (d : Node) → IsPort x.topology x.config n p d → Member (port_attachment p n d) (attachments (low_map x))
@@ -120,7 +120,7 @@ module _ (x : Setup) (form : IsTrue (has_config_form x.config)) (v : IsValid x.t
   right_attached u j k d used is at = is_attachment (circuit_attachment k d) (attached_circuit k d) (of_right_circuit u j k d used is at refl) refl
 
   -- ---- uses
-  use_by : (w : Use) (o : Object) → IsObject x.topology x.config o → use_in o ≡ Some w → HeldUse x w
+  use_by : (w : Use) (o : LowObject) → IsObject x.topology x.config o → use_in o ≡ Some w → HeldUse x w
   use_by w o (of_use u hops used zip e) h = record {
     effect = u;
     used = used;
@@ -153,7 +153,7 @@ module _ (x : Setup) (form : IsTrue (has_config_form x.config)) (v : IsValid x.t
       in_filter_map (λ (e : LowKey × LowValue). as_use e.0 e.1) (use_object_of u q.0) (held_of u) (objects (low_map x)) (is_object (use_object_of u q.0) (of_use u q.0 used q.1 refl))
       (ap (λ (n : ℕ). Some (with_services n u)) (zip_length (IsHop x.topology) u.services q.0 q.1))
     where
-      use_object_of : InEffect → Hops → Object
+      use_object_of : InEffect → Hops → LowObject
       use_object_of u hops = (key.ChainUse u.number, low.ChainUse u.left.id u.right.id (ascending u.left.subnets) (ascending u.right.subnets) hops)
 
   -- ---- what valid uses are

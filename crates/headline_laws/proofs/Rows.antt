@@ -13,7 +13,7 @@ use Rattle.machine_model.specs.Setup.{Setup}
 use Rattle.config_check.specs.Sentences.{IsValid}
 use Rattle.transform_model.specs.IsRow.{HoldsPort, IsRow, to_left_subnet, to_right_subnet}
 use Rattle.transform_model.specs.IsUse.{IsLeftCircuit, IsRightCircuit, IsUse}
-use Rattle.transform_model.specs.Uses.{Use as InEffect}
+use Rattle.transform_model.specs.Uses.{ConfiguredUse as InEffect}
 use Rattle.transform_model.proofs.Circuits.{left_instance, left_number, right_instance, right_number}
 use Rattle.transform_model.proofs.InUse.{one_use}
 use Rattle.transform_model.proofs.Lists.{place_within}

@@ -27,7 +27,7 @@ use Rattle.transform_model.specs.Compiled.{concerns, route_of, slice_of}
 use Rattle.transform_model.specs.IsNeeded.{IsNeeded as IsNeededThere}
 use Rattle.transform_model.specs.IsNeeded.{IsRoute}
 use Rattle.transform_model.specs.IsRow.{IsRow}
-use Rattle.transform_model.specs.Objects.{Object as LowObject}
+use Rattle.transform_model.specs.Objects.{LowObject}
 use Rattle.transform_model.specs.Objects.{low_objects}
 use Rattle.transform_model.proofs.AgentRows.{routes_iff, routes_in_order}
 use Rattle.transform_model.proofs.Needed.{needed_iff}

@@ -17,7 +17,7 @@ use Rattle.machine_model.specs.Setup.{Setup}
 use Rattle.config_check.specs.Sentences.{IsValid}
 use Rattle.transform_model.specs.IsUse.{IsLeftCircuit, IsRightCircuit, IsUse}
 use Rattle.transform_model.specs.Uses.{Circuit}
-use Rattle.transform_model.specs.Uses.{Use as InEffect}
+use Rattle.transform_model.specs.Uses.{ConfiguredUse as InEffect}
 use Rattle.transform_model.specs.Uses.{uses as in_effect}
 use Rattle.transform_model.proofs.Circuits.{left_instance, left_number, right_instance, right_number}
 use Rattle.transform_model.proofs.InUse.{services_are, uses_iff}

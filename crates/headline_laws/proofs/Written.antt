@@ -18,7 +18,7 @@ use Rattle.transform_model.proofs.Needed.{asked}
 use Rattle.node_model.specs.Keys.{Key}
 use Rattle.node_model.specs.Values.{Value}
 use Rattle.node_model.proofs.Members.{none_some}
-use Rattle.machine_model.specs.Events.{Event, after}
+use Rattle.machine_model.specs.Events.{MachineEvent, after}
 use Rattle.machine_model.specs.Moments.{ArePositive, Each, EditsAreValid}
 use Rattle.machine_model.specs.Network.{View, sessions_of, start, view, views_of, wanted}
 use Rattle.machine_model.specs.Session.{Message, Session}
@@ -68,7 +68,7 @@ each_anything x vs (s ∷ own) = ((λ k v e. tt), each_anything x vs own)
 anything_wants : WantsFair anything IsWritten
 anything_wants x ss n w f = each_anything x (views_of n ss) (sessions_of n ss)
 
-module _ (size : Name → Message → ℕ) (positive : ArePositive size) (x : Checked) (written : IsWritten (opening x)) (es : List Event) (asked : EditsAreValid size IsOfForm (start x) es) where
+module _ (size : Name → Message → ℕ) (positive : ArePositive size) (x : Checked) (written : IsWritten (opening x)) (es : List MachineEvent) (asked : EditsAreValid size IsOfForm (start x) es) where
   all_written : EditsAreValid size IsWritten (start x) es
   all_written = stay_valid size positive x IsWritten anything anything_wants IsOfForm edits_keep written es asked
 

@@ -15,9 +15,9 @@ use Rattle.transform_model.specs.Tables.{control_rows}
 use Rattle.node_model.specs.Members.{Member}
 use Rattle.machine_model.specs.Setup.{Name, Setup, opening}
 use Rattle.machine_model.specs.Session.{Message}
-use Rattle.machine_model.specs.Network.{Network, start}
+use Rattle.machine_model.specs.Network.{MachineState, start}
 use Rattle.machine_model.specs.Steps.{is_settled}
-use Rattle.machine_model.specs.Events.{Event, after, forwarders, shown}
+use Rattle.machine_model.specs.Events.{MachineEvent, after, forwarders, shown}
 use Rattle.machine_model.specs.Moments.{ArePositive, EditsAreValid}
 
 -- a topology with a configuration, of the written form and with no broken rule
@@ -32,26 +32,26 @@ IsOfForm x = IsTrue (has_topology_form x.topology) × IsTrue (has_config_form x.
 
 -- after any schedule from a valid configuration, whose edits are of the written form. A refused edit changes nothing,
 -- and an accepted one breaks no rule
-abbrev pub AfterAnySchedule : ((Name → Message → ℕ) → Network → Type 0) → Type 0
+abbrev pub AfterAnySchedule : ((Name → Message → ℕ) → MachineState → Type 0) → Type 0
 AfterAnySchedule P =
     (size : Name → Message → ℕ) → ArePositive size
     → (x : Checked) → IsWritten (opening x)
-    → (es : List Event) → EditsAreValid size IsOfForm (start x) es
+    → (es : List MachineEvent) → EditsAreValid size IsOfForm (start x) es
     → P size (after size (start x) es)
 
 -- once every session is up and nothing is in flight, each control node shows the tables of all instances
-abbrev pub ControlNodesShowTables : Network → Type 0
+abbrev pub ControlNodesShowTables : MachineState → Type 0
 ControlNodesShowTables w =
     is_settled w ≡ true → (n : NodeId) → Member n w.setup.topology.controllers
     → shown w n.name ≡ Rows.Control (control_rows w.setup.topology w.setup.config)
 
 -- and the agent of each compute node the rows of its address
-abbrev pub AgentsShowRows : Network → Type 0
+abbrev pub AgentsShowRows : MachineState → Type 0
 AgentsShowRows w =
     is_settled w ≡ true → (n : Node) → Member n w.setup.topology.nodes
     → shown w n.name ≡ Rows.Agent (agent_rows w.setup.topology w.setup.config n.address)
 
 -- once every session is up and nothing is in flight, each packet goes where policies say
-abbrev pub SettledIsReachable : Network → Type 0
+abbrev pub SettledIsReachable : MachineState → Type 0
 SettledIsReachable w =
     is_settled w ≡ true → (p : Packet) → forwarding (forwarders w) p ≡ reachability w.setup.config p

@@ -20,10 +20,10 @@ use Rattle.node_model.specs.Members.{Member}
 use Rattle.node_model.proofs.Members.{from_map, in_either, in_filter, in_flat_map, in_map, in_right}
 use Rattle.machine_model.specs.Setup.{Name, Move, Setup, checked, edited_without, listed_by, lists, moves, remade, renumbered}
 use Rattle.machine_model.specs.Session.{Agent, Controller, Message, Session, passed, turned}
-use Rattle.machine_model.specs.Network.{Network, accesses, accesses_of, asked, between, brought, config, feeds, is_at, is_of, peerings, replaced, same_role, start, view, views_of, wanted}
+use Rattle.machine_model.specs.Network.{MachineState, accesses, accesses_of, asked, between, brought, config, feeds, is_at, is_of, peerings, replaced, same_role, start, view, views_of, wanted}
 use Rattle.machine_model.specs.Steps.{at_node, joins, pass, session_in, session_of}
-use Rattle.machine_model.specs.Events.{Event, Edits, after, edits, moved, next, passes}
-use Rattle.machine_model.specs.Moments.{Each, EditIsValid, EditsAreValid, HasSessions, IsLaidOut, LaidOut, Nodes, WhereLaidOut, nodes}
+use Rattle.machine_model.specs.Events.{MachineEvent, Edits, after, edits, moved, next, passes}
+use Rattle.machine_model.specs.Moments.{Each, EditIsValid, EditsAreValid, HasSessions, IsLaidOut, LaidOut, NodePair, WhereLaidOut, nodes}
 use Rattle.machine_model.specs.Deeds.{IsNew}
 use Rattle.machine_model.proofs.Apart.{NamesApart, access_link, access_session, feed_session, from_accesses, from_peerings, names_apart}
 use Rattle.machine_model.proofs.Asking.{sessions_are_asked}
@@ -38,13 +38,13 @@ use Rattle.machine_model.proofs.Twins.{Found, NoTwins, found_each}
 use Rattle.machine_closing_laws.specs.Closing.{MovesNode, anew}
 
 -- ---- of a session nothing is there
-abbrev blank : Nodes → Session
+abbrev blank : NodePair → Session
 blank p = between p.0.0 p.0.1 p.1.0 p.1.1
 
 abbrev IsBlankFor : Name → Session → Type 0
 IsBlankFor name s = is_of name s ≡ true → s ≡ blank (nodes s)
 
-blank_new : (p : Nodes) → IsNew (blank p)
+blank_new : (p : NodePair) → IsNew (blank p)
 blank_new p = record {
   down = refl;
   near = record { phase = refl; notice = refl; sent = refl; held = refl; flight = refl };
@@ -52,16 +52,16 @@ blank_new p = record {
 }
 
 module _ (name : Name) where
-  nodes_leave : (n : Name) (w : Network) (ss : List Session) → Each (IsBlankFor name) ss → Each (IsBlankFor name) (map (at_node n (λ s. passed (wanted w.setup (views_of n w.sessions) (view s)) s)) ss)
+  nodes_leave : (n : Name) (w : MachineState) (ss : List Session) → Each (IsBlankFor name) ss → Each (IsBlankFor name) (map (at_node n (λ s. passed (wanted w.setup (views_of n w.sessions) (view s)) s)) ss)
   nodes_leave n w [] e = tt
   nodes_leave n w (s ∷ ss) e =
       let W = λ (s : Session). wanted w.setup (views_of n w.sessions) (view s) in
       let t : Session = at_node n (λ s. passed (W s) s) s in
       let kept : nodes t ≡ nodes s = at_node_nodes n (λ s. passed (W s) s) (λ s. passed_nodes (W s) s) s in
-      let same : is_of name t ≡ is_of name s = ap (λ (p : Nodes). same_name p.1.0 name && same_role Agent p.1.1) kept in
+      let same : is_of name t ≡ is_of name s = ap (λ (p : NodePair). same_name p.1.0 name && same_role Agent p.1.1) kept in
       ((λ is. let here = e.0 (sym same ∙ is) in node_leaves n W s (subst IsNew (sym here) (blank_new (nodes s))) ∙ here ∙ ap blank (sym kept)), nodes_leave n w ss e.1)
 
-  passes_leave : (ns : List Name) (w : Network) → Each (IsBlankFor name) w.sessions → Each (IsBlankFor name) (passes ns w).sessions
+  passes_leave : (ns : List Name) (w : MachineState) → Each (IsBlankFor name) w.sessions → Each (IsBlankFor name) (passes ns w).sessions
   passes_leave [] w e = e
   passes_leave (n ∷ ns) w e = passes_leave ns (pass n w) (nodes_leave n w w.sessions e)
 
@@ -73,15 +73,15 @@ brought_blank : (name : Name) (cs : List NodeId) (o : Option Node) → Each (IsB
 brought_blank name cs None = tt
 brought_blank name cs (Some n) = each_of (IsBlankFor name) (λ (c : NodeId). between c.name Controller n.name Agent) (λ c is. refl) (filter (lists n) cs)
 
-moved_blank : (m : Move) (v : Network) → Each (IsBlankFor m.name) (pass config (moved (Some m) v)).sessions
+moved_blank : (m : Move) (v : MachineState) → Each (IsBlankFor m.name) (pass config (moved (Some m) v)).sessions
 moved_blank m v =
-    let u : Network = record { setup = v.setup; sessions = replaced m.name (brought v.setup.topology.controllers m.now) v.sessions } in
+    let u : MachineState = record { setup = v.setup; sessions = replaced m.name (brought v.setup.topology.controllers m.now) v.sessions } in
     nodes_leave m.name config (passes m.left u) (passes m.left u).sessions
     (passes_leave m.name m.left u
     (each_replaced (λ _. Unit {0}) (IsBlankFor m.name) m.name (λ s off _ is. absurd (true≢false (sym is ∙ off))) (brought v.setup.topology.controllers m.now) v.sessions
     (brought_blank m.name v.setup.topology.controllers m.now) (units v.sessions)))
 
-edit_blank : (size : Name → Message → ℕ) (w : Network) (d : Edit) (m : Move) → edit_fault (checked w.setup) d ≡ None → moves d w.setup.topology ≡ Some m → Each (IsBlankFor m.name) (next size w (Edits d)).sessions
+edit_blank : (size : Name → Message → ℕ) (w : MachineState) (d : Edit) (m : Move) → edit_fault (checked w.setup) d ≡ None → moves d w.setup.topology ≡ Some m → Each (IsBlankFor m.name) (next size w (Edits d)).sessions
 unfolding next
 edit_blank size w d m none is =
     let y : Setup = remade (checked_edited d (checked w.setup)) (renumbered (moves d w.setup.topology) w.setup.numbers) in
@@ -117,16 +117,16 @@ module _ (t : Topology) (laid : IsLaidOut t) (ss : List Session) (stand : map no
       let q = in_sessions n m l in
       let s = q.0 in
       let found : Found ss s = each_there (Found ss) ss s (found_each ss apart) q.1 in
-      let of_it : is_of name s ≡ true = ap (λ (p : Nodes). same_name p.1.0 name && same_role Agent p.1.1) q.2 ∙ ap (λ b. b && true) ((bytes_decides n.name name).1 is) in
+      let of_it : is_of name s ≡ true = ap (λ (p : NodePair). same_name p.1.0 name && same_role Agent p.1.1) q.2 ∙ ap (λ b. b && true) ((bytes_decides n.name name).1 is) in
       let new : s ≡ blank (nodes s) = each_there (IsBlankFor name) ss s empty q.1 of_it in
       let whole : s ≡ between c.name Controller name Agent = new ∙ ap blank q.2 ∙ ap (λ (k : Name). between c.name Controller k Agent) is in
-      ap (λ (k : Name). session_in ss k name) (ap (λ (p : Nodes). p.0.0) (sym q.2))
-      ∙ ap (λ (k : Name). session_in ss s.near.name k) (sym is ∙ ap (λ (p : Nodes). p.1.0) (sym q.2))
+      ap (λ (k : Name). session_in ss k name) (ap (λ (p : NodePair). p.0.0) (sym q.2))
+      ∙ ap (λ (k : Name). session_in ss s.near.name k) (sym is ∙ ap (λ (p : NodePair). p.1.0) (sym q.2))
       ∙ found.0
       ∙ ap Some whole
 
   -- it does not
-  abbrev IsNotIt : Nodes → Type 0
+  abbrev IsNotIt : NodePair → Type 0
   IsNotIt p = (p.0.0 ≡ c.name → p.1.0 ≡ name → ⊥) × (p.0.0 ≡ name → p.1.0 ≡ c.name → ⊥)
 
   none_joins : (us : List Session) → ((s : Session) → Member s us → IsNotIt (nodes s)) → session_in us c.name name ≡ None
@@ -179,15 +179,15 @@ module _ (t : Topology) (laid : IsLaidOut t) (ss : List Session) (stand : map no
 
 -- ---- a schedule with an event more
 module _ (size : Name → Message → ℕ) where
-  after_more : (w : Network) (es : List Event) (e : Event) → after size w (es ++ e ∷ []) ≡ next size (after size w es) e
+  after_more : (w : MachineState) (es : List MachineEvent) (e : MachineEvent) → after size w (es ++ e ∷ []) ≡ next size (after size w es) e
   after_more w [] e = refl
   after_more w (d ∷ es) e = after_more (next size w d) es e
 
-  valid_more : (w : Network) (es : List Event) (e : Event) → EditsAreValid size LaidOut w es → EditIsValid LaidOut (after size w es) e → EditsAreValid size LaidOut w (es ++ e ∷ [])
+  valid_more : (w : MachineState) (es : List MachineEvent) (e : MachineEvent) → EditsAreValid size LaidOut w es → EditIsValid LaidOut (after size w es) e → EditsAreValid size LaidOut w (es ++ e ∷ [])
   valid_more w [] e v h = (h, tt)
   valid_more w (d ∷ es) e v h = (v.0, valid_more (next size w d) es e v.1 h)
 
-edit_renews : (size : Name → Message → ℕ) (w : Network) (d : Edit) (m : Move) → edit_fault (checked w.setup) d ≡ None → moves d w.setup.topology ≡ Some m → Renews w.setup.topology (next size w (Edits d)).setup.topology (Some m)
+edit_renews : (size : Name → Message → ℕ) (w : MachineState) (d : Edit) (m : Move) → edit_fault (checked w.setup) d ≡ None → moves d w.setup.topology ≡ Some m → Renews w.setup.topology (next size w (Edits d)).setup.topology (Some m)
 edit_renews size w d m none is =
     subst (λ (u : Topology). Renews w.setup.topology u (Some m)) (ap (λ (x : Checked). x.topology) (sym (edit_made size w d none)))
     (subst (Renews w.setup.topology (edited_topology d w.setup.topology)) is (renews (checked w.setup) d none))
@@ -220,8 +220,8 @@ moved_anew size positive x l es v d name ok k c m =
     let all = es ++ Edits d ∷ [] in
     let valid = valid_more size (start x) es (Edits d) v ok in
     let same : after size (start x) all ≡ u = after_more size (start x) es (Edits d) in
-    let q = subst (λ (w : Network). IsLaidOut w.setup.topology × HasSessions w) same (sessions_are_asked size positive x l all valid) in
-    let apart = subst (λ (w : Network). NoTwins (map nodes w.sessions)) same (laid_apart size positive x l all valid) in
+    let q = subst (λ (w : MachineState). IsLaidOut w.setup.topology × HasSessions w) same (sessions_are_asked size positive x l all valid) in
+    let apart = subst (λ (w : MachineState). NoTwins (map nodes w.sessions)) same (laid_apart size positive x l all valid) in
     let r = edit_renews size w d k.move k.accepted k.moved in
     let free = subst (λ (n : Name). (n ≡ config → ⊥) × (Member n (controller_names u.setup.topology) → ⊥)) k.named (mover_free w.setup.topology u.setup.topology (sessions_are_asked size positive x l es v).0 q.0 k.move r) in
     stands_anew u.setup.topology q.0 u.sessions q.1 name free.0 free.1

@@ -19,7 +19,7 @@ use Rattle.node_model.specs.Maps.{Map, Change, difference}
 use Rattle.node_model.proofs.Members.{none_some}
 use Rattle.machine_model.specs.Setup.{Name, Move, Setup, checked, edited_without, lists, moves, remade, renumbered}
 use Rattle.machine_model.specs.Session.{Agent, Carries, Controller, Message, Session, may_send, passed, told, turned}
-use Rattle.machine_model.specs.Network.{Network, between, brought, config, is_at, is_of, replaced, same_role, view, views_of, wanted}
+use Rattle.machine_model.specs.Network.{MachineState, between, brought, config, is_at, is_of, replaced, same_role, view, views_of, wanted}
 use Rattle.machine_model.specs.Steps.{at_node, joins, pass, session_in, session_of}
 use Rattle.machine_model.specs.Rounds.{is_empty}
 use Rattle.machine_model.specs.Events.{Edits, edits, moved, next, passes}
@@ -179,14 +179,14 @@ module _ (a b : Name) where
   units [] = tt
   units (s ∷ ss) = (tt, units ss)
 
-  pass_follows : (n : Name) (w : Network) → Follows (session_of w a b) (session_of (pass n w) a b)
+  pass_follows : (n : Name) (w : MachineState) → Follows (session_of w a b) (session_of (pass n w) a b)
   pass_follows n w =
       let W = λ (s : Session). wanted w.setup (views_of n w.sessions) (view s) in
       of_both (session_of w a b) (session_of (pass n w) a b)
       (pairs_found StaysFree free_turned a b w.sessions (map (at_node n (λ s. passed (W s) s)) w.sessions)
       (pairs_node StaysFree free_turned (λ s _. stays_itself s) (λ _. Unit {0}) (λ s u. u) (λ s. passed (W s) s) (λ s. passed_nodes (W s) s) n (λ s u. passed_stays (W s) s) w.sessions (units w.sessions)))
 
-  passes_follow : (ns : List Name) (w : Network) → Follows (session_of w a b) (session_of (passes ns w) a b)
+  passes_follow : (ns : List Name) (w : MachineState) → Follows (session_of w a b) (session_of (passes ns w) a b)
   passes_follow [] w = follows_itself (session_of w a b)
   passes_follow (n ∷ ns) w = follows_on (session_of w a b) (session_of (pass n w) a b) (session_of (passes ns (pass n w)) a b) (pass_follows n w) (passes_follow ns (pass n w))
 
@@ -201,11 +201,11 @@ where_free (Some s) None m = absurd m
 where_free None (Some t) m = absurd m
 
 -- ---- an edit
-module _ (w : Network) (d : Edit) (a b : Name) (off : MovesNode w d a → ⊥) (off_back : MovesNode w d b → ⊥) where
+module _ (w : MachineState) (d : Edit) (a b : Name) (off : MovesNode w d a → ⊥) (off_back : MovesNode w d b → ⊥) where
   abbrev made : Setup
   made = remade (checked_edited d (checked w.setup)) (renumbered (moves d w.setup.topology) w.setup.numbers)
 
-  abbrev begun : Network
+  abbrev begun : MachineState
   begun = record { setup = made; sessions = w.sessions }
 
   -- what stands at the two before the passes
@@ -218,7 +218,7 @@ module _ (w : Network) (d : Edit) (a b : Name) (off : MovesNode w d a → ⊥) (
   by_move : edit_fault (checked w.setup) d ≡ None → (m : Option Move) → moves d w.setup.topology ≡ m → MaybeBoth StaysFree (session_of w a b) (session_of (pass config (moved m begun)) a b)
   by_move none None is = pass_follows a b config begun
   by_move none (Some m) is =
-      let u : Network = record { setup = made; sessions = replaced m.name (brought made.topology.controllers m.now) w.sessions } in
+      let u : MachineState = record { setup = made; sessions = replaced m.name (brought made.topology.controllers m.now) w.sessions } in
       subst (λ (o : Option Session). MaybeBoth StaysFree o (session_of (pass config (moved (Some m) begun)) a b)) (moved_found none m is)
       (follows_on a b (session_of u a b) (session_of (passes m.left u) a b) (session_of (pass config (passes m.left u)) a b) (passes_follow a b m.left u) (pass_follows a b config (passes m.left u)))
 
@@ -226,14 +226,14 @@ module _ (w : Network) (d : Edit) (a b : Name) (off : MovesNode w d a → ⊥) (
   by_fault None none = by_move none (moves d w.setup.topology) refl
   by_fault (Some f) is = follows_itself a b (session_of w a b)
 
-pub others_stay : (size : Name → Message → ℕ) (w : Network) (d : Edit) (a b : Name) → (TakesDown w a b (Edits d) → ⊥) → StaysOrNone (session_of w a b) (session_of (next size w (Edits d)) a b)
+pub others_stay : (size : Name → Message → ℕ) (w : MachineState) (d : Edit) (a b : Name) → (TakesDown w a b (Edits d) → ⊥) → StaysOrNone (session_of w a b) (session_of (next size w (Edits d)) a b)
 unfolding next
 others_stay size w d a b not =
     where_free (session_of w a b) (session_of (edits (moves d w.setup.topology) (edited_without (edit_fault (checked w.setup) d) w.setup d) w) a b)
     (by_fault w d a b (λ m. not (inl m)) (λ m. not (inr m)) (edit_fault (checked w.setup) d) refl)
 
 -- where a compute node is put as it stands, none moves
-pub put_stays : (size : Name → Message → ℕ) (w : Network) (n : Node) → StandsThere w.setup.topology n → (a b : Name)
+pub put_stays : (size : Name → Message → ℕ) (w : MachineState) (n : Node) → StandsThere w.setup.topology n → (a b : Name)
     → StaysOrNone (session_of w a b) (session_of (next size w (Edits (Put (Objects.Node n)))) a b)
 put_stays size w n there a b =
     let stay : moves (Put (Objects.Node n)) w.setup.topology ≡ None = (put_moves_none n w.setup.topology).1 there in

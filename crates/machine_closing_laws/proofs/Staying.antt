@@ -14,10 +14,10 @@ use Rattle.ov_types.specs.First.{same_name}
 use Rattle.node_model.specs.Maps.{Map}
 use Rattle.machine_model.specs.Setup.{Name, Move, checked, edited, edited_without, moves, remade, renumbered}
 use Rattle.machine_model.specs.Session.{Message, Session, turned, closed, may_send, took, without_first, took_first, opened, arrived, took_octets, octets_arrived, passed}
-use Rattle.machine_model.specs.Network.{Network, brought, config, replaced, start, view, views_of, wanted}
+use Rattle.machine_model.specs.Network.{MachineState, brought, config, replaced, start, view, views_of, wanted}
 use Rattle.machine_model.specs.Steps.{joins, with_session, change_session, around, at_node, pass, session_in, session_of, in_flight, is_broken, may_connect, connect, connect_if, without_breaks}
 use Rattle.machine_model.specs.Rounds.{is_empty}
-use Rattle.machine_model.specs.Events.{Event, Edits, Deliver, DeliverOctets, Lose, Connect, Restart, Round, Settle, Show, Trace, Break, add_break, edits, is_earlier, moved, next, passes, after}
+use Rattle.machine_model.specs.Events.{MachineEvent, Edits, Deliver, DeliverOctets, Lose, Connect, Restart, Round, Settle, Show, Trace, Break, add_break, edits, is_earlier, moved, next, passes, after}
 use Rattle.machine_model.specs.Deeds.{AreOthers}
 use Rattle.machine_model.specs.Moments.{Each, AtEveryMoment}
 use Rattle.machine_model.proofs.SessionFact.{Fact, Joined, Fact-turned, passed_keeps, arrived_keeps, octets_arrived_keeps}
@@ -143,22 +143,22 @@ module _ (size : Name → Message → ℕ) (positive : (n : Name) (m : Message) 
     changed_in : (c d : Name) (f : Session → Session) → KeepsNodes f → ((s : Session) → Keeps s (f s)) → (ss : List Session) → CalmIn ss → CalmIn (with_session c d f ss)
     changed_in c d f kept h ss q = across ss (with_session c d f ss) (pairs_session Keeps keeps_turned (λ s k. k) Anything (λ s u. u) f kept c d (λ s j u. h s) ss (each_anything ss)) q
 
-    pass_in : (n : Name) (w : Network) → CalmIn w.sessions → CalmIn (pass n w).sessions
+    pass_in : (n : Name) (w : MachineState) → CalmIn w.sessions → CalmIn (pass n w).sessions
     pass_in n w q =
         let W = λ (s : Session). wanted w.setup (views_of n w.sessions) (view s) in
         across w.sessions (map (at_node n (λ s. passed (W s) s)) w.sessions)
         (pairs_node Keeps keeps_turned (λ s k. k) Anything (λ s u. u) (λ s. passed (W s) s) (λ s. passed_nodes (W s) s) n (λ s u. passed_calm (W s) s) w.sessions (each_anything w.sessions)) q
 
-    abbrev Stays : Network → Type 0
+    abbrev Stays : MachineState → Type 0
     Stays w = CalmIn w.sessions
 
-    takes : (from to : Name) (w : Network) → Stays w → Stays (pass to (change_session to from arrived w))
+    takes : (from to : Name) (w : MachineState) → Stays w → Stays (pass to (change_session to from arrived w))
     takes from to w q = pass_in to (change_session to from arrived w) (changed_in to from arrived arrived_nodes arrived_calm w.sessions q)
 
-    takes_octets : (from to : Name) (n : ℕ) (w : Network) → Stays w → Stays (pass to (change_session to from (octets_arrived size n) w))
+    takes_octets : (from to : Name) (n : ℕ) (w : MachineState) → Stays w → Stays (pass to (change_session to from (octets_arrived size n) w))
     takes_octets from to n w q = pass_in to (change_session to from (octets_arrived size n) w) (changed_in to from (octets_arrived size n) (octets_nodes size n) (octets_calm n) w.sessions q)
 
-    clears : (w : Network) → Stays w → Stays (record { setup = w.setup; sessions = map without_breaks w.sessions })
+    clears : (w : MachineState) → Stays w → Stays (record { setup = w.setup; sessions = map without_breaks w.sessions })
     clears w q = across w.sessions (map without_breaks w.sessions) (cleared w.sessions) q
       where
         cleared : (ss : List Session) → Pairs Keeps ss (map without_breaks ss)
@@ -169,7 +169,7 @@ module _ (size : Name → Message → ℕ) (positive : (n : Name) (m : Message) 
     others_in : (c d : Name) (f : Session → Session) → KeepsNodes f → AreOthers c d a b → (ss : List Session) → CalmIn ss → CalmIn (with_session c d f ss)
     others_in c d f kept o ss q = (q.0, others_stay c d a b o f kept ss ∙ q.1, q.2)
 
-    others_connect : (c d : Name) → AreOthers c d a b → (w : Network) → Stays w → Stays (connect c d w)
+    others_connect : (c d : Name) → AreOthers c d a b → (w : MachineState) → Stays w → Stays (connect c d w)
     others_connect c d o w q =
         let v = pass c (change_session c d opened w) in
         let p = pass_in c (change_session c d opened w) (others_in c d opened opened_nodes o w.sessions q) in
@@ -183,7 +183,7 @@ module _ (size : Name → Message → ℕ) (positive : (n : Name) (m : Message) 
     none_connects (Some s) may is = true≢false (sym (and_parts s.is_down _ (may s refl)).0 ∙ same_Some s.is_down false is)
     none_connects None may is = cc
 
-    connects : (c d : Name) (w : Network) → ((s : Session) → session_in w.sessions c d ≡ Some s → may_connect s ≡ true) → is_some (session_in w.sessions c d) ≡ true → Stays w → Stays (connect c d w)
+    connects : (c d : Name) (w : MachineState) → ((s : Session) → session_in w.sessions c d ≡ Some s → may_connect s ≡ true) → is_some (session_in w.sessions c d) ≡ true → Stays w → Stays (connect c d w)
     connects c d w may some q =
         let down : seen_down (session_in w.sessions a b) ≡ Some false = ap seen_down q.1 ∙ ap Some q.2.0.whole in
         elim (same_name c a && same_name d b) as (λ k. (same_name c a && same_name d b) ≡ k → Stays (connect c d w)) [
@@ -196,14 +196,14 @@ module _ (size : Name → Message → ℕ) (positive : (n : Name) (m : Message) 
           ] refl
         ] refl
 
-    passes_in : (ns : List Name) (w : Network) → Stays w → Stays (passes ns w)
+    passes_in : (ns : List Name) (w : MachineState) → Stays w → Stays (passes ns w)
     passes_in [] w q = q
     passes_in (n ∷ ns) w q = passes_in ns (pass n w) (pass_in n w q)
 
-    abbrev made : Network → Edit → Network
+    abbrev made : MachineState → Edit → MachineState
     made w d = record { setup = remade (checked_edited d (checked w.setup)) (renumbered (moves d w.setup.topology) w.setup.numbers); sessions = w.sessions }
 
-    edited_stays : (w : Network) (d : Edit) → (MovesNode w d a → ⊥) → (MovesNode w d b → ⊥) → Stays w → Stays (edits (moves d w.setup.topology) (edited w.setup d) w)
+    edited_stays : (w : MachineState) (d : Edit) → (MovesNode w d a → ⊥) → (MovesNode w d b → ⊥) → Stays w → Stays (edits (moves d w.setup.topology) (edited w.setup d) w)
     edited_stays w d off off_back q = by_fault (edit_fault (checked w.setup) d) refl
       where
         by_move : edit_fault (checked w.setup) d ≡ None → (m : Option Move) → moves d w.setup.topology ≡ m → Stays (pass config (moved m (made w d)))
@@ -218,10 +218,10 @@ module _ (size : Name → Message → ℕ) (positive : (n : Name) (m : Message) 
         by_fault (Some f) is = q
 
     -- ---- every event but those
-    whole_of : (w : Network) → Stays w → IsWhole w a b
+    whole_of : (w : MachineState) → Stays w → IsWhole w a b
     whole_of w q = record { session = q.0; found = q.1; whole = q.2.0.whole }
 
-    found_again : (w v : Network) → session_of v a b ≡ session_of w a b → Stays w → IsWhole v a b
+    found_again : (w v : MachineState) → session_of v a b ≡ session_of w a b → Stays w → IsWhole v a b
     found_again w v e q = record { session = q.0; found = e ∙ q.1; whole = q.2.0.whole }
 
     -- a break is added to a direction of this session, or to one of another
@@ -237,14 +237,14 @@ module _ (size : Name → Message → ℕ) (positive : (n : Name) (m : Message) 
         both (Some s) None m = absurd m
         both None (Some t) m = absurd m
 
-    whole_seen : (v : Network) → seen_down (session_of v a b) ≡ Some false → IsWhole v a b
+    whole_seen : (v : MachineState) → seen_down (session_of v a b) ≡ Some false → IsWhole v a b
     whole_seen v is = by_found (session_of v a b) refl is
       where
         by_found : (o : Option Session) → session_of v a b ≡ o → seen_down o ≡ Some false → IsWhole v a b
         by_found (Some s) e is = record { session = s; found = e; whole = same_Some s.is_down false is }
         by_found None e is = cc
 
-    stays : (w : Network) (e : Event) → Stays w → (TakesDown w a b e → ⊥) → IsWhole (next size w e) a b
+    stays : (w : MachineState) (e : MachineEvent) → Stays w → (TakesDown w a b e → ⊥) → IsWhole (next size w e) a b
     unfolding next
     stays w (Edits d) q not = whole_of _ (edited_stays w d (λ m. not (inl m)) (λ m. not (inr m)) q)
     stays w (Deliver from to n) q not = whole_of _ (delivers_walk Stays takes n from to w q)
@@ -265,7 +265,7 @@ none_of [] e = refl
 none_of (n ∷ ns) e = cc
 
 -- at every moment
-pub nodes_stay_joined : AtEveryMoment (λ size w. (a b : Name) (e : Event) → IsUnbroken w a b → (TakesDown w a b e → ⊥) → IsWhole (next size w e) a b)
+pub nodes_stay_joined : AtEveryMoment (λ size w. (a b : Name) (e : MachineEvent) → IsUnbroken w a b → (TakesDown w a b e → ⊥) → IsWhole (next size w e) a b)
 nodes_stay_joined size positive x es a b e u not =
     let w = after size (start x) es in
     let sound = after_sound size positive (start x) es (start_sound size positive x) in

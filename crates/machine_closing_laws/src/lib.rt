@@ -11,9 +11,9 @@ ghost use Rattle.config_model.specs.declared.topology.Node.{Node};
 ghost use Rattle.node_model.specs.Members.{Member};
 ghost use Rattle.machine_model.specs.Setup.{Name};
 ghost use Rattle.machine_model.specs.Session.{Message, Session, arrived, counted, octets_arrived, told, with_breaks};
-ghost use Rattle.machine_model.specs.Network.{Network};
+ghost use Rattle.machine_model.specs.Network.{MachineState};
 ghost use Rattle.machine_model.specs.Steps.{session_of};
-ghost use Rattle.machine_model.specs.Events.{Event, Edits, add_break, next};
+ghost use Rattle.machine_model.specs.Events.{MachineEvent, Edits, add_break, next};
 ghost use Rattle.machine_model.specs.Moments.{AtEveryMoment, EditIsValid, LaidOut, WhereLaidOut};
 ghost use Rattle.machine_model.specs.Deeds.{StandsThere};
 ghost use Rattle.machine_closing_laws.specs.Closing.{IsUnbroken, IsWhole, MovesNode, StaysOrNone, TakesDown, anew};
@@ -23,7 +23,7 @@ ghost use Rattle.machine_closing_laws.specs.Closing.{IsUnbroken, IsWhole, MovesN
 /// message that nodes send each other, no other edit and no connection makes a node close a session: only a send that
 /// fails does.
 pub fn nodes_close_no_session_but_by_a_failed_send()
-    ensures { AtEveryMoment (λ size w. (a b : Name) (e : Event) → IsUnbroken w a b → (TakesDown w a b e → ⊥)
+    ensures { AtEveryMoment (λ size w. (a b : Name) (e : MachineEvent) → IsUnbroken w a b → (TakesDown w a b e → ⊥)
         → IsWhole (next size w e) a b) }
 {}
 
@@ -36,10 +36,10 @@ pub fn edits_take_away_the_sessions_of_a_node_that_moves()
     ensures anew { WhereLaidOut (λ size w. (d : Edit) (name : Name) → EditIsValid LaidOut w (Edits d) → MovesNode w d name
         → (c : NodeId) → Member c w.setup.topology.controllers
         → session_of (next size w (Edits d)) c.name name ≡ anew (next size w (Edits d)) c.name name) }
-    ensures others { (size : Name → Message → ℕ) (w : Network) (d : Edit) (a b : Name)
+    ensures others { (size : Name → Message → ℕ) (w : MachineState) (d : Edit) (a b : Name)
         → (TakesDown w a b (Edits d) → ⊥)
         → StaysOrNone (session_of w a b) (session_of (next size w (Edits d)) a b) }
-    ensures stays { (size : Name → Message → ℕ) (w : Network) (n : Node) → StandsThere w.setup.topology n
+    ensures stays { (size : Name → Message → ℕ) (w : MachineState) (n : Node) → StandsThere w.setup.topology n
         → (a b : Name)
         → StaysOrNone (session_of w a b) (session_of (next size w (Edits (Put (Objects.Node n)))) a b) }
 {}

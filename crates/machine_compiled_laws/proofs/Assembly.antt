@@ -30,7 +30,7 @@ use Rattle.node_model.proofs.Members.{from_entry, from_map, in_map}
 use Rattle.node_model.proofs.Objects.{object_of}
 use Rattle.node_model.proofs.Orders.{key_exact, key_total}
 use Rattle.node_model.proofs.Wanted.{named, object_to, wanted_object}
-use Rattle.machine_model.specs.Moments.{Each, Nodes, nodes}
+use Rattle.machine_model.specs.Moments.{Each, NodePair, nodes}
 use Rattle.machine_model.specs.Network.{address_in, agent_holdings, config, control_holdings, heard_from, sessions_of, told_on, view, wanted, wanted_from, wanted_from_control}
 use Rattle.machine_model.specs.Session.{Agent, Configuration, Controller, Role, Session, are_peers, is_up_phase, turned}
 use Rattle.machine_model.specs.Setup.{Name, Setup, agents_of, longest, low}
@@ -103,7 +103,7 @@ told_slices h a feed e k v w =
 slice_wanted : (h : Holdings) (a : Told) (feed : Map) → h.feed ≡ feed → (k : LowKey) → get (wanted_by_agent h a) (Low k) ≡ get (told_to_agent feed a.address) (Low k)
 slice_wanted h a feed e k = same_options (get (wanted_by_agent h a) (Low k)) (get (told_to_agent feed a.address) (Low k)) (same_slices h a feed e k) (told_slices h a feed e k)
 
-module _ (x : Setup) (places : List Nodes) (laid : IsLaid x places) where
+module _ (x : Setup) (places : List NodePair) (laid : IsLaid x places) where
   abbrev RightAt : ℕ → Session → Type 0
   RightAt r s = settling.RightAt (rank x) (goal x places) r s
 

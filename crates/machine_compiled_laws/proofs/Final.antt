@@ -16,9 +16,9 @@ use Rattle.config_check.specs.declared.edits.EditFault.{EditFault}
 use Rattle.node_model.specs.Members.{Member}
 use Rattle.node_model.specs.Ranks.{IsTargeted}
 use Rattle.node_model.proofs.Members.{any_in, from_map, none_some}
-use Rattle.machine_model.specs.Events.{Event, after, edits, is_node}
+use Rattle.machine_model.specs.Events.{MachineEvent, after, edits, is_node}
 use Rattle.machine_model.specs.Moments.{ArePositive, Each, EditsAreValid, IsLaidOut, LaidOut, NumbersFit, nodes}
-use Rattle.machine_model.specs.Network.{Network, asked, config, sessions_of, start}
+use Rattle.machine_model.specs.Network.{MachineState, asked, config, sessions_of, start}
 use Rattle.machine_model.specs.Session.{Configuration, Controller, Message, Session}
 use Rattle.machine_model.specs.Setup.{Name, Setup, agents_of, checked, edited, edited_without, longest, opening}
 use Rattle.machine_model.specs.Steps.{settle}
@@ -73,8 +73,8 @@ module _ (x : Checked) where
   wants : WantsFair (fair asn) (Follows asn)
   wants y ss n f = fair_wants asn y ss n f.asn_is f.sound.sound.ordered
 
-  module _ (size : Name → Message → ℕ) (positive : ArePositive size) (sound : IsSoundSetup (opening x)) (es : List Event) (edits : EditsAreValid size IsSoundSetup (start x) es) where
-    abbrev now : Network
+  module _ (size : Name → Message → ℕ) (positive : ArePositive size) (sound : IsSoundSetup (opening x)) (es : List MachineEvent) (edits : EditsAreValid size IsSoundSetup (start x) es) where
+    abbrev now : MachineState
     now = after size (start x) es
 
     at_first : Follows asn (opening x)

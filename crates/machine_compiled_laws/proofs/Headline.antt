@@ -25,8 +25,8 @@ use Rattle.node_model.specs.Ranks.{IsTargeted}
 use Rattle.node_model.specs.Tables.{rows as control_rows_of}
 use Rattle.node_model.specs.Wants.{slice}
 use Rattle.machine_model.specs.Events.{shown, shown_of}
-use Rattle.machine_model.specs.Moments.{Each, IsAtRest, IsAtRestWith, Nodes, nodes}
-use Rattle.machine_model.specs.Network.{Network, agent_holdings, config, control_holdings, heard_from, sessions_of, view, views_of, wanted}
+use Rattle.machine_model.specs.Moments.{Each, IsAtRest, IsAtRestWith, NodePair, nodes}
+use Rattle.machine_model.specs.Network.{MachineState, agent_holdings, config, control_holdings, heard_from, sessions_of, view, views_of, wanted}
 use Rattle.machine_model.specs.Session.{Agent, Configuration, Controller, Role, Session, are_peers, is_up, is_up_phase, turned, waiting}
 use Rattle.machine_model.specs.Setup.{Name, longest, low}
 use Rattle.machine_model.specs.Steps.{is_rested, is_settled}
@@ -99,12 +99,12 @@ heard_either F (s ∷ own) m h = go (heard_either F own m h.1) (same_name s.far.
     go rest true e = inl (s, h.0, (bytes_decides s.far.name m).0 e, refl)
     go rest false e = rest
 
-module _ (w : Network) (laid : IsLaid w.setup (map nodes w.sessions)) (apart : NoTwins (map nodes w.sessions))
+module _ (w : MachineState) (laid : IsLaid w.setup (map nodes w.sessions)) (apart : NoTwins (map nodes w.sessions))
     (P : Session → Type 0) (fairs : (s : Session) → P s → IsTargeted w.setup.topology.asn s.near.held × IsTargeted w.setup.topology.asn s.far.held) (fair : Each P w.sessions) (rest : IsAtRest w) (settled : is_settled w ≡ true) where
   abbrev x : Setup
   x = w.setup
 
-  abbrev places : List Nodes
+  abbrev places : List NodePair
   places = map nodes w.sessions
 
   abbrev RightAt : ℕ → Session → Type 0

@@ -16,7 +16,7 @@ use Rattle.config_check.specs.Rules.{controller_names, node_names}
 use Rattle.node_model.specs.Keys.{at}
 use Rattle.node_model.specs.Members.{Member}
 use Rattle.node_model.proofs.Members.{any_in, from_any, from_filter_map, from_map, in_either, in_filter, in_filter_map, in_flat_map, in_left, in_map, in_right, none_some}
-use Rattle.machine_model.specs.Moments.{AreOnce, Nodes, NumbersFit, nodes}
+use Rattle.machine_model.specs.Moments.{AreOnce, NodePair, NumbersFit, nodes}
 use Rattle.machine_model.specs.Network.{accesses, address_in, asked, config, feeds, peerings}
 use Rattle.machine_model.specs.Session.{Agent, Configuration, Controller, Role, Session}
 use Rattle.machine_model.specs.Setup.{Name, Setup, agents_of, id_of, lists, low}
@@ -45,10 +45,10 @@ computer_found (d ∷ ns) c a (inl e) = ap (λ b. cond b (Some d) (find (λ n. s
 computer_found (d ∷ ns) c a (inr m) = ap (λ b. cond b (Some d) (find (λ n. same_name n.name c.name) ns)) (same_false d.name c.name (λ e. a.0 c.name (in_map (λ (n : Node). n.name) c ns m) e)) ∙ computer_found ns c a.1 m
 
 -- ---- places
-abbrev pub feed_link : NodeId → Nodes
+abbrev pub feed_link : NodeId → NodePair
 feed_link c = ((config, Configuration), (c.name, Controller))
 
-abbrev IsFeed : List NodeId → Nodes → Type 0
+abbrev IsFeed : List NodeId → NodePair → Type 0
 IsFeed cs p = (c : NodeId) × Member c cs × (feed_link c ≡ p)
 
 in_accesses : (cs : List NodeId) (ns : List Node) (c : NodeId) (n : Node) → Member c cs → Member n ns → lists n c ≡ true → Member (access_session c n) (accesses cs ns)
@@ -65,7 +65,7 @@ in_peerings (e ∷ cs) c d (inr m) (inr n) h =
       | inr l ↦ inr (in_right (peer_session d c) (map (peer_session e) cs) (peerings cs) l)
     ]
 
-all_of : (P : Nodes → Type 0) (ps : List Nodes) → ((p : Nodes) → Member p ps → P p) → AllByRecursion P ps
+all_of : (P : NodePair → Type 0) (ps : List NodePair) → ((p : NodePair) → Member p ps → P p) → AllByRecursion P ps
 all_of P [] h = tt
 all_of P (p ∷ ps) h = (h p (inl refl), all_of P ps (λ q m. h q (inr m)))
 
@@ -73,7 +73,7 @@ module _ (x : Setup) (valid : IsSoundSetup x) (fits : (c : NodeId) → Member c 
   names : NamesApart x.topology
   names = apart_names x.topology valid.named.apart
 
-  abbrev pub places : List Nodes
+  abbrev pub places : List NodePair
   places = map nodes (asked x.topology)
 
   site_name : (c : NodeId) → Member c x.topology.controllers → Member c.name (controller_names x.topology)
@@ -97,7 +97,7 @@ module _ (x : Setup) (valid : IsSoundSetup x) (fits : (c : NodeId) → Member c 
       ∙ ap role_in (computer_found x.topology.nodes n names.computers_apart m)
 
   -- ---- kinds
-  kind : (p : Nodes) → Member p places → IsFeed x.topology.controllers p ⊎ (IsPeering x.topology.controllers p ⊎ IsAccess x.topology.controllers x.topology.nodes p)
+  kind : (p : NodePair) → Member p places → IsFeed x.topology.controllers p ⊎ (IsPeering x.topology.controllers p ⊎ IsAccess x.topology.controllers x.topology.nodes p)
   kind p m =
       let q = from_map nodes p (asked x.topology) m in
       elim (in_either q.0 (feeds x.topology.controllers ++ peerings x.topology.controllers) (accesses x.topology.controllers x.topology.nodes) q.1) as (λ _. IsFeed x.topology.controllers p ⊎ (IsPeering x.topology.controllers p ⊎ IsAccess x.topology.controllers x.topology.nodes p)) [
@@ -119,7 +119,7 @@ module _ (x : Setup) (valid : IsSoundSetup x) (fits : (c : NodeId) → Member c 
   access_in : (s : Session) → Member s (accesses x.topology.controllers x.topology.nodes) → Member (nodes s) places
   access_in s m = in_map nodes s (asked x.topology) (in_right s (feeds x.topology.controllers ++ peerings x.topology.controllers) (accesses x.topology.controllers x.topology.nodes) m)
 
-  roles_at : (p : Nodes) → Member p places → HasRoles x p
+  roles_at : (p : NodePair) → Member p places → HasRoles x p
   roles_at p m =
       elim (kind p m) as (λ _. HasRoles x p) [
         | inl f ↦ subst (HasRoles x) f.2 (sym role_config, sym (role_site f.0.name (site_name f.0 f.1)))
@@ -145,7 +145,7 @@ module _ (x : Setup) (valid : IsSoundSetup x) (fits : (c : NodeId) → Member c 
   abbrev SiteOf : Name → Type 0
   SiteOf n = (c : NodeId) × Member c x.topology.controllers × (c.name ≡ n)
 
-  end_of : (n : Name) (p : Nodes) (o : Party) → other_end n p ≡ Some o → (p.0.0 ≡ n) ⊎ (p.1.0 ≡ n)
+  end_of : (n : Name) (p : NodePair) (o : Party) → other_end n p ≡ Some o → (p.0.0 ≡ n) ⊎ (p.1.0 ≡ n)
   end_of n p o e =
       elim (same_name p.0.0 n) as (λ b. same_name p.0.0 n ≡ b → cond b (Some p.1) (cond (same_name p.1.0 n) (Some p.0) None) ≡ Some o → (p.0.0 ≡ n) ⊎ (p.1.0 ≡ n)) [
         | true ↦ λ t _. inl (name_is p.0.0 n t)
@@ -161,18 +161,18 @@ module _ (x : Setup) (valid : IsSoundSetup x) (fits : (c : NodeId) → Member c 
       let p = q.0 in
       let e = end_of n p o q.2 in
       elim (kind p q.1) as (λ _. SiteOf n) [
-        | inl f ↦ elim e as (λ _. SiteOf n) [ inl a ↦ absurd (never_config n (sym a ∙ ap (λ (p : Nodes). p.0.0) (sym f.2)) h) | inr a ↦ (f.0, f.1, ap (λ (p : Nodes). p.1.0) f.2 ∙ a) ]
+        | inl f ↦ elim e as (λ _. SiteOf n) [ inl a ↦ absurd (never_config n (sym a ∙ ap (λ (p : NodePair). p.0.0) (sym f.2)) h) | inr a ↦ (f.0, f.1, ap (λ (p : NodePair). p.1.0) f.2 ∙ a) ]
         | inr r ↦ elim r as (λ _. SiteOf n) [
-          | inl f ↦ elim e as (λ _. SiteOf n) [ inl a ↦ (f.0, f.1, ap (λ (p : Nodes). p.0.0) f.4 ∙ a) | inr a ↦ (f.2, f.3, ap (λ (p : Nodes). p.1.0) f.4 ∙ a) ]
-          | inr f ↦ elim e as (λ _. SiteOf n) [ inl a ↦ (f.0, f.1, ap (λ (p : Nodes). p.0.0) f.4 ∙ a) | inr a ↦ absurd (never_computer n f.2 f.3 (ap (λ (p : Nodes). p.1.0) f.4 ∙ a) h) ]
+          | inl f ↦ elim e as (λ _. SiteOf n) [ inl a ↦ (f.0, f.1, ap (λ (p : NodePair). p.0.0) f.4 ∙ a) | inr a ↦ (f.2, f.3, ap (λ (p : NodePair). p.1.0) f.4 ∙ a) ]
+          | inr f ↦ elim e as (λ _. SiteOf n) [ inl a ↦ (f.0, f.1, ap (λ (p : NodePair). p.0.0) f.4 ∙ a) | inr a ↦ absurd (never_computer n f.2 f.3 (ap (λ (p : NodePair). p.1.0) f.4 ∙ a) h) ]
         ]
       ]
 
   -- ---- who is among the others
-  near_others : (n : Name) (p : Nodes) → Member p places → p.0.0 ≡ n → Member p.1 (others n places)
+  near_others : (n : Name) (p : NodePair) → Member p places → p.0.0 ≡ n → Member p.1 (others n places)
   near_others n p m e = in_filter_map (other_end n) p p.1 places m (ap (λ b. cond b (Some p.1) (cond (same_name p.1.0 n) (Some p.0) None)) (subst (λ n. same_name p.0.0 n ≡ true) e (itself p.0.0)))
 
-  far_others : (n : Name) (p : Nodes) → Member p places → (p.0.0 ≡ n → ⊥) → p.1.0 ≡ n → Member p.0 (others n places)
+  far_others : (n : Name) (p : NodePair) → Member p places → (p.0.0 ≡ n → ⊥) → p.1.0 ≡ n → Member p.0 (others n places)
   far_others n p m h e =
       in_filter_map (other_end n) p p.0 places m
       (ap (λ b. cond b (Some p.1) (cond (same_name p.1.0 n) (Some p.0) None)) (same_false p.0.0 n h) ∙ ap (λ b. cond b (Some p.0) None) (subst (λ n. same_name p.1.0 n ≡ true) e (itself p.1.0)))
@@ -237,7 +237,7 @@ module _ (x : Setup) (valid : IsSoundSetup x) (fits : (c : NodeId) → Member c 
       let lists_c : Member c.name n.0.controllers = listed_member c n.0 n.3 in
       subst (λ (a : NodeId). Member (a.name, Agent) (others c.name places) × (address_of x a.name ≡ a.address)) n.2 (agent_among c n.0 i n.1 lists_c, node_address n.0 n.1)
 
-  end_is : (n : Name) (p : Nodes) (o : Party) → other_end n p ≡ Some o → ((p.0.0 ≡ n) × (p.1 ≡ o)) ⊎ ((p.1.0 ≡ n) × (p.0 ≡ o))
+  end_is : (n : Name) (p : NodePair) (o : Party) → other_end n p ≡ Some o → ((p.0.0 ≡ n) × (p.1 ≡ o)) ⊎ ((p.1.0 ≡ n) × (p.0 ≡ o))
   end_is n p o e =
       elim (same_name p.0.0 n) as (λ b. same_name p.0.0 n ≡ b → cond b (Some p.1) (cond (same_name p.1.0 n) (Some p.0) None) ≡ Some o → ((p.0.0 ≡ n) × (p.1 ≡ o)) ⊎ ((p.1.0 ≡ n) × (p.0 ≡ o))) [
         | true ↦ λ t e. inl (name_is p.0.0 n t, same_Some p.1 o e)
@@ -267,17 +267,17 @@ module _ (x : Setup) (valid : IsSoundSetup x) (fits : (c : NodeId) → Member c 
       let e = end_is n p o q.2 in
       elim (kind p q.1) as (λ _. AgentOf n o.0) [
         | inl f ↦ elim e as (λ _. AgentOf n o.0) [
-          | inl a ↦ absurd (no_agent Controller o control_no (ap (λ (p : Nodes). p.1.1) f.2 ∙ ap (λ (o : Party). o.1) a.1) h)
-          | inr a ↦ absurd (no_agent Configuration o config_no (ap (λ (p : Nodes). p.0.1) f.2 ∙ ap (λ (o : Party). o.1) a.1) h)
+          | inl a ↦ absurd (no_agent Controller o control_no (ap (λ (p : NodePair). p.1.1) f.2 ∙ ap (λ (o : Party). o.1) a.1) h)
+          | inr a ↦ absurd (no_agent Configuration o config_no (ap (λ (p : NodePair). p.0.1) f.2 ∙ ap (λ (o : Party). o.1) a.1) h)
         ]
         | inr r ↦ elim r as (λ _. AgentOf n o.0) [
           | inl f ↦ elim e as (λ _. AgentOf n o.0) [
-            | inl a ↦ absurd (no_agent Controller o control_no (ap (λ (p : Nodes). p.1.1) f.4 ∙ ap (λ (o : Party). o.1) a.1) h)
-            | inr a ↦ absurd (no_agent Controller o control_no (ap (λ (p : Nodes). p.0.1) f.4 ∙ ap (λ (o : Party). o.1) a.1) h)
+            | inl a ↦ absurd (no_agent Controller o control_no (ap (λ (p : NodePair). p.1.1) f.4 ∙ ap (λ (o : Party). o.1) a.1) h)
+            | inr a ↦ absurd (no_agent Controller o control_no (ap (λ (p : NodePair). p.0.1) f.4 ∙ ap (λ (o : Party). o.1) a.1) h)
           ]
           | inr f ↦ elim e as (λ _. AgentOf n o.0) [
-            | inl a ↦ (f.0, f.1, ap (λ (p : Nodes). p.0.0) f.4 ∙ a.0, f.2, f.3, ap (λ (p : Nodes). p.1.0) f.4 ∙ ap (λ (o : Party). o.0) a.1, f.5)
-            | inr a ↦ absurd (no_agent Controller o control_no (ap (λ (p : Nodes). p.0.1) f.4 ∙ ap (λ (o : Party). o.1) a.1) h)
+            | inl a ↦ (f.0, f.1, ap (λ (p : NodePair). p.0.0) f.4 ∙ a.0, f.2, f.3, ap (λ (p : NodePair). p.1.0) f.4 ∙ ap (λ (o : Party). o.0) a.1, f.5)
+            | inr a ↦ absurd (no_agent Controller o control_no (ap (λ (p : NodePair). p.0.1) f.4 ∙ ap (λ (o : Party). o.1) a.1) h)
           ]
         ]
       ]

@@ -15,7 +15,7 @@ use Rattle.node_model.specs.Tables.{same_prefix}
 use Rattle.node_model.specs.Uses.{Use, held_use, is_hop, place_of, use_of}
 use Rattle.node_model.proofs.Objects.{in_sides}
 use Rattle.node_model.proofs.Places.{use_found}
-use Rattle.machine_model.specs.Moments.{Nodes}
+use Rattle.machine_model.specs.Moments.{NodePair}
 use Rattle.machine_model.specs.Session.{Agent, Configuration, Controller, Role, are_peers}
 use Rattle.machine_model.specs.Setup.{Name, longest, low}
 use Rattle.machine_settling_laws.specs.Settling.{RanksFit, back}
@@ -62,7 +62,7 @@ depth_in-le u j p =
     inner false true h = h
     inner false false h = omega arith
 
-depth-le : (x : Setup) (places : List Nodes) → IsLaid x places → (i : InstanceId) (p : Block) → depth (low x) i p ≤ longest x
+depth-le : (x : Setup) (places : List NodePair) → IsLaid x places → (i : InstanceId) (p : Block) → depth (low x) i p ≤ longest x
 depth-le x places laid i p =
     elim (is_hop i) as (λ b. cond b (depth_in p (place_of i) (held_use (low x) i)) 0 ≤ longest x) [
       | true ↦ go (held_use (low x) i) refl
@@ -79,7 +79,7 @@ depth-le x places laid i p =
     go None e = zero_le (longest x)
     go (Some u) e = more (depth_in p (place_of i) (Some u)) u.services (longest x) (depth_in-le u (place_of i) p) (laid.longest (record { chain = u; is_right = true }) (in_sides (low x) u true (use_found (low x) (use_of i) u e).0))
 
-pub peer_rank-le : (x : Setup) (places : List Nodes) → IsLaid x places → (k : Key) → peer_rank (low x) k ≤ 4 + longest x
+pub peer_rank-le : (x : Setup) (places : List NodePair) → IsLaid x places → (k : Key) → peer_rank (low x) k ≤ 4 + longest x
 peer_rank-le x places laid (Vpn k) = add (depth (low x) (instance_in k.rd) k.prefix) (longest x) (depth-le x places laid (instance_in k.rd) k.prefix)
   where
     add : (a b : ℕ) → a ≤ b → 4 + a ≤ 4 + b
@@ -102,7 +102,7 @@ one_le n = omega arith
 three_le : (n : ℕ) → 3 ≤ n + 5
 three_le n = omega arith
 
-rank_by-le : (y : Setup) (places : List Nodes) → IsLaid y places → (p q : Role) (k : Key) → rank_by y p q k ≤ longest y + 5
+rank_by-le : (y : Setup) (places : List NodePair) → IsLaid y places → (p q : Role) (k : Key) → rank_by y p q k ≤ longest y + 5
 rank_by-le y places laid Configuration q k = one_le (longest y)
 rank_by-le y places laid Agent q k = three_le (longest y)
 rank_by-le y places laid Controller Configuration k = one_le (longest y)
@@ -112,7 +112,7 @@ rank_by-le y places laid Controller Controller k = more (peer_rank (low y) k) (l
     more a n h = omega arith
 rank_by-le y places laid Controller Agent k = agent_rank-le (longest y) k
 
-pub rank-le : (y : Setup) (places : List Nodes) → IsLaid y places → (from to : Name) (k : Key) → rank y from to k ≤ longest y + 5
+pub rank-le : (y : Setup) (places : List NodePair) → IsLaid y places → (from to : Name) (k : Key) → rank y from to k ≤ longest y + 5
 rank-le y places laid from to k = rank_by-le y places laid (role_of y from) (role_of y to) k
 
 -- ---- on a session
@@ -123,8 +123,8 @@ peers_are Controller Agent e = absurd (true≢false (sym e))
 peers_are Configuration q e = absurd (true≢false (sym e))
 peers_are Agent q e = absurd (true≢false (sym e))
 
-module _ (y : Setup) (places : List Nodes) (laid : IsLaid y places) where
-  fit : (p : Nodes) → HasRoles y p → RanksFit (rank y) p
+module _ (y : Setup) (places : List NodePair) (laid : IsLaid y places) where
+  fit : (p : NodePair) → HasRoles y p → RanksFit (rank y) p
   fit p r = (
     (λ k. rank-ge y (role_of y p.1.0) (role_of y p.0.0) k),
     (λ e k.
@@ -135,6 +135,6 @@ module _ (y : Setup) (places : List Nodes) (laid : IsLaid y places) where
       three : (n : ℕ) → 4 ≤ n → 3 ≤ n
       three n h = omega arith
 
-  pub fits : (ps : List Nodes) → AllByRecursion (HasRoles y) ps → AllByRecursion (λ p. RanksFit (rank y) p × RanksFit (rank y) (back p)) ps
+  pub fits : (ps : List NodePair) → AllByRecursion (HasRoles y) ps → AllByRecursion (λ p. RanksFit (rank y) p × RanksFit (rank y) (back p)) ps
   fits [] a = tt
   fits (p ∷ ps) a = ((fit p a.0, fit (p.1, p.0) (a.0.1, a.0.0)), fits ps a.1)

@@ -22,7 +22,7 @@ use Rattle.node_model.specs.Ranks.{peer_rank}
 use Rattle.machine_model.specs.Setup.{Name, agents_of, longest, low}
 use Rattle.machine_model.specs.Session.{Role, Configuration, Controller, Agent}
 use Rattle.machine_model.specs.Network.{address_in, config, same_role}
-use Rattle.machine_model.specs.Moments.{Nodes}
+use Rattle.machine_model.specs.Moments.{NodePair}
 use Rattle.machine_compiled_laws.specs.Compiled.{Agents, told_to_agent, told_to_peers}
 use Rattle.machine_compiled_laws.specs.Sound.{IsServed, IsSound}
 
@@ -39,11 +39,11 @@ abbrev pub role_of : Setup → Name → Role
 role_of x name = if same_name name config then Configuration else role_in (node_named x.topology name)
 
 -- those with which a node has sessions, in their order
-abbrev pub other_end : Name → Nodes → Option Party
+abbrev pub other_end : Name → NodePair → Option Party
 other_end name p =
     if same_name p.0.0 name then Some p.1 else if same_name p.1.0 name then Some p.0 else None
 
-abbrev pub others : Name → List Nodes → List Party
+abbrev pub others : Name → List NodePair → List Party
 others name places = filter_map (other_end name) places
 
 abbrev pub is_in_role : Role → Party → Bool
@@ -62,15 +62,15 @@ agents_among x name os =
     filter_map (λ e. numbered_at e.0 e.1)
     (enumerate_from (1 + length (filter (is_in_role Controller) os)) (agents_of x name))
 
-abbrev pub agents_at : Setup → List Nodes → Name → Agents
+abbrev pub agents_at : Setup → List NodePair → Name → Agents
 agents_at x places name = agents_among x name (others name places)
 
-abbrev pub peers_at : Setup → List Nodes → Name → List Agents
+abbrev pub peers_at : Setup → List NodePair → Name → List Agents
 peers_at x places name =
     map (λ o. agents_at x places o.0) (filter (is_in_role Controller) (others name places))
 
 -- what the first node is to tell the second
-abbrev pub goal_map : Setup → List Nodes → Name → Role → Name → Role → Map
+abbrev pub goal_map : Setup → List NodePair → Name → Role → Name → Role → Map
 goal_map x places from Configuration to r = low x
 goal_map x places from Agent to r = told_of (slice (low x) (address_of x from))
 goal_map x places from Controller to Configuration = empty
@@ -78,7 +78,7 @@ goal_map x places from Controller to Controller =
     told_to_peers x.topology.asn (low x) (agents_at x places from)
 goal_map x places from Controller to Agent = told_to_agent (low x) (address_of x to)
 
-abbrev pub goal : Setup → List Nodes → Name → Name → Key → Option Value
+abbrev pub goal : Setup → List NodePair → Name → Name → Key → Option Value
 goal x places from to k = get (goal_map x places from (role_of x from) to (role_of x to)) k
 
 -- the feed 1, a slice 2, publications and subscriptions 3, between control nodes 4 and more, an agent's rows last
@@ -96,11 +96,11 @@ rank_by x Controller Agent k = agent_rank (longest x) k
 abbrev pub rank : Setup → Name → Name → Key → ℕ
 rank x from to k = rank_by x (role_of x from) (role_of x to) k
 
-abbrev pub HasRoles : Setup → Nodes → Type 0
+abbrev pub HasRoles : Setup → NodePair → Type 0
 HasRoles x p = (p.0.1 ≡ role_of x p.0.0) × (p.1.1 ≡ role_of x p.1.0)
 
 -- how the sessions of a network stand to its configuration
-pub record IsLaid (x : Setup) (places : List Nodes) : Type 0 where
+pub record IsLaid (x : Setup) (places : List NodePair) : Type 0 where
   pub sound : IsSound (low x)
   pub longest : (s : Side) → Member s (sides (low x)) → s.chain.services ≤ longest x
   pub roles : AllByRecursion (HasRoles x) places

@@ -21,9 +21,9 @@ use Rattle.config_check.specs.Sentences.{IsValid}
 use Rattle.config_check.specs.declared.edits.EditFault.{EditFault}
 use Rattle.config_check.proofs.Validity.{valid_iff}
 use Rattle.node_model.specs.Members.{Member}
-use Rattle.machine_model.specs.Events.{Edits, Event, Settle, after, forwarders, next}
+use Rattle.machine_model.specs.Events.{Edits, MachineEvent, Settle, after, forwarders, next}
 use Rattle.machine_model.specs.Moments.{ArePositive, EditsAreValid}
-use Rattle.machine_model.specs.Network.{Network, start}
+use Rattle.machine_model.specs.Network.{MachineState, start}
 use Rattle.machine_model.specs.Session.{Message}
 use Rattle.machine_model.specs.Setup.{Move, Name, Setup, checked, edited, edited_without, moves, opening, remade, renumbered}
 use Rattle.machine_model.specs.Steps.{is_settled}
@@ -42,13 +42,13 @@ pub positive : ArePositive size
 positive n m = omega arith
 
 module _ (x : Checked) (written : IsWritten (opening x)) (d : Edit) (c : Config) (fault : edit_fault x d ≡ None) (made : edits.edited d x ≡ record { topology = x.topology; config = c }) (still : moves d x.topology ≡ None) (form : IsTrue (has_config_form c)) where
-  abbrev settled : Network
+  abbrev settled : MachineState
   settled = next size (start x) Settle
 
-  abbrev pub schedule : List Event
+  abbrev pub schedule : List MachineEvent
   schedule = Settle ∷ Edits d ∷ []
 
-  abbrev pub now : Network
+  abbrev pub now : MachineState
   now = after size (start x) schedule
 
   abbrev changed : Checked

@@ -17,9 +17,9 @@ use Rattle.std.proofs.lemmas.Option.{same_Some}
 use Rattle.ov_types.specs.declared.numbers.InstanceId.{InstanceId}
 use Rattle.node_model.specs.Members.{Member}
 use Rattle.node_model.proofs.Members.{none_some}
-use Rattle.machine_model.specs.Events.{Break, Connect, Deliver, DeliverOctets, Edits, Event, Lose, Restart, Round, Settle, Show, Trace, next}
+use Rattle.machine_model.specs.Events.{Break, Connect, Deliver, DeliverOctets, Edits, MachineEvent, Lose, Restart, Round, Settle, Show, Trace, next}
 use Rattle.machine_model.specs.Events.{edits as applied}
-use Rattle.machine_model.specs.Network.{Network, start}
+use Rattle.machine_model.specs.Network.{MachineState, start}
 use Rattle.machine_model.specs.Session.{Message}
 use Rattle.machine_model.specs.Setup.{Name, Setup, checked, edited, moves}
 use Rattle.machine_model.proofs.Listed.{moved_setup}
@@ -58,18 +58,18 @@ joined_come t x cs v h = record {
 none_come : (cs : List Config) → ComeFrom no_ties cs
 none_come cs = record { port = λ p n e. absurd (none_some n e); chain_use = λ u n e. absurd (none_some n e); related = λ a b e. absurd (true≢false (sym e)) }
 
-first_config : (size : Name → Message → ℕ) (w : Network) (es : List Event) → Member w.setup.config (configs size w es)
+first_config : (size : Name → Message → ℕ) (w : MachineState) (es : List MachineEvent) → Member w.setup.config (configs size w es)
 first_config size w [] = inl refl
 first_config size w (e ∷ es) = inl refl
 
-edited_next : (size : Name → Message → ℕ) (w : Network) (d : Edit) (y : Setup) → edited w.setup d ≡ Some y → (next size w (Edits d)).setup ≡ y
+edited_next : (size : Name → Message → ℕ) (w : MachineState) (d : Edit) (y : Setup) → edited w.setup d ≡ Some y → (next size w (Edits d)).setup ≡ y
 unfolding next
 edited_next size w d y is =
     ap (λ (o : Option Setup). (applied (moves d w.setup.topology) o w).setup) is
     ∙ moved_setup (moves d w.setup.topology) (record { setup = y; sessions = w.sessions })
 
 module _ (size : Name → Message → ℕ) (all : List Config) where
-  next_come : (t : Ties) (w : Network) (e : Event) → ComeFrom t all → Member (next size w e).setup.config all → ComeFrom (ties_next t w e) all
+  next_come : (t : Ties) (w : MachineState) (e : MachineEvent) → ComeFrom t all → Member (next size w e).setup.config all → ComeFrom (ties_next t w e) all
   next_come t w (Edits d) h m = by_edit (edited w.setup d) refl
     where
       into : (c : Config) → Member c all → (d : Config) → Member d (c ∷ all) → Member d all
@@ -90,7 +90,7 @@ module _ (size : Name → Message → ℕ) (all : List Config) where
   next_come t w (Trace p) h m = h
   next_come t w (Break a b n) h m = h
 
-  after_come : (t : Ties) (w : Network) (es : List Event) → ComeFrom t all → ((c : Config) → Member c (configs size w es) → Member c all) → ComeFrom (ties_after size t w es) all
+  after_come : (t : Ties) (w : MachineState) (es : List MachineEvent) → ComeFrom t all → ((c : Config) → Member c (configs size w es) → Member c all) → ComeFrom (ties_after size t w es) all
   after_come t w [] h m = h
   after_come t w (e ∷ es) h m =
       after_come (ties_next t w e) (next size w e) es (next_come t w e h (m (next size w e).setup.config (inr (first_config size (next size w e) es)))) (λ c k. m c (inr k))

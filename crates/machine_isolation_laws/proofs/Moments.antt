@@ -11,10 +11,10 @@ use Rattle.node_model.specs.Agent as agent
 use Rattle.node_model.specs.Maps.{Map}
 use Rattle.node_model.specs.Members.{Member}
 use Rattle.node_model.proofs.Members.{from_map}
-use Rattle.machine_model.specs.Events.{Event, after, forwarders}
+use Rattle.machine_model.specs.Events.{MachineEvent, after, forwarders}
 use Rattle.machine_model.specs.Events.{agent_rows as held_by_agent}
 use Rattle.machine_model.specs.Moments.{ArePositive, Each, EditsAreValid}
-use Rattle.machine_model.specs.Network.{Network, sessions_of, start}
+use Rattle.machine_model.specs.Network.{MachineState, sessions_of, start}
 use Rattle.machine_model.specs.Session.{Message}
 use Rattle.machine_model.specs.Setup.{Name, Setup, edited, opening}
 use Rattle.machine_settling_laws.specs.Settling.{WantsFair}
@@ -39,11 +39,11 @@ edits_keep : (t : Ties) (asn : ℕ) (y : Setup) (d : Edit) (z : Setup) → IsKep
 edits_keep t asn y d z k e asked = record { written = written_edit y d z e asked.0; as_tied = asked.1; asn_is = same_asn y d z e ∙ k.asn_is }
 
 -- ---- every moment
-module _ (size : Name → Message → ℕ) (positive : ArePositive size) (t : Ties) (x : Checked) (written : IsWritten (opening x)) (as_tied : IsTiedBy t x.config) (es : List Event) (asked : EditsAreValid size (KeepsTies t) (start x) es) where
+module _ (size : Name → Message → ℕ) (positive : ArePositive size) (t : Ties) (x : Checked) (written : IsWritten (opening x)) (as_tied : IsTiedBy t x.config) (es : List MachineEvent) (asked : EditsAreValid size (KeepsTies t) (start x) es) where
   abbrev pub asn : ℕ
   asn = x.topology.asn
 
-  abbrev pub now : Network
+  abbrev pub now : MachineState
   now = after size (start x) es
 
   wants : WantsFair (tied t asn) (IsKept t asn)

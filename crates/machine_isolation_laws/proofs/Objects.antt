@@ -11,7 +11,7 @@ use Rattle.config_model.specs.declared.config.Network.{Network}
 use Rattle.config_check.specs.Sentences.{IsValid}
 use Rattle.policy_rules.specs.Standing.{AreRelated, LetsThrough}
 use Rattle.transform_model.specs.IsObject.{IsObject, of_left_circuit, of_network, of_networks, of_port, of_right_circuit, of_use}
-use Rattle.transform_model.specs.Objects.{Object, low_objects}
+use Rattle.transform_model.specs.Objects.{LowObject, low_objects}
 use Rattle.transform_model.proofs.Circuits.{left_instance, left_number, right_instance, right_number}
 use Rattle.transform_model.proofs.InUse.{among_all, few_services, numbered}
 use Rattle.transform_model.proofs.Lists.{place_within}
@@ -32,7 +32,7 @@ use Rattle.machine_compiled_laws.proofs.Told.{pair}
 use Rattle.node_model.proofs.Members.{contains_of}
 use Rattle.config_model.specs.declared.config.Rule.{Rule}
 use Rattle.transform_model.specs.IsUse.{IsUse}
-use Rattle.transform_model.specs.Uses.{Use}
+use Rattle.transform_model.specs.Uses.{ConfiguredUse}
 use Rattle.config_ties.specs.Ties.{AreNear, HasUse, IsTiedBy, Ties}
 use Rattle.machine_isolation_laws.specs.Tied.{AreTied, IsTied, IsTiedObject}
 use Rattle.machine_isolation_laws.proofs.Circuits.{next_hop, other_of_left, other_of_right, sides_in}
@@ -56,7 +56,7 @@ module _ (t : Ties) (x : Setup) (form : IsTrue (has_config_form x.config)) (v : 
       below n h = omega (arith, h)
 
   -- a use in effect is of a chain rule
-  use_here : (u : Use) → IsUse x.config u → HasUse x.config u.number (u.left.id, u.right.id)
+  use_here : (u : ConfiguredUse) → IsUse x.config u → HasUse x.config u.number (u.left.id, u.right.id)
   use_here u used =
       let n = numbered used.policy used.rule used.has_rule in
       record {
@@ -75,9 +75,9 @@ module _ (t : Ties) (x : Setup) (form : IsTrue (has_config_form x.config)) (v : 
       }
 
   -- ---- each object
-  tied_object : (o : Object) → IsObject x.topology x.config o → IsTiedObject t o.0 o.1
+  tied_object : (o : LowObject) → IsObject x.topology x.config o → IsTiedObject t o.0 o.1
   tied_object o (of_network n imports in_n are e) =
-      subst (λ (o : Object). IsTiedObject t o.0 o.1) (sym e) (λ m mem.
+      subst (λ (o : LowObject). IsTiedObject t o.0 o.1) (sym e) (λ m mem.
       let inside = contains_of imports m mem in
       let q = are.of_networks m inside in
       subst (λ (m : InstanceId). (is_hop m ≡ false) × AreNear t n.id m) q.2 (
@@ -88,10 +88,10 @@ module _ (t : Ties) (x : Setup) (form : IsTrue (has_config_form x.config)) (v : 
         ]),
       ))
   tied_object o (of_port n p node at e) =
-      subst (λ (o : Object). IsTiedObject t o.0 o.1) (sym e) (refl, port_number x.config p form at.has_port, is_network n at.has_home, is.ports p.id n.id (record { port = p; home = n; has_port = at.has_port; has_home = at.has_home; home_of = at.home_of; number_is = refl; network_is = refl }))
+      subst (λ (o : LowObject). IsTiedObject t o.0 o.1) (sym e) (refl, port_number x.config p form at.has_port, is_network n at.has_home, is.ports p.id n.id (record { port = p; home = n; has_port = at.has_port; has_home = at.has_home; home_of = at.home_of; number_is = refl; network_is = refl }))
   tied_object o (of_left_circuit u j k node used side at e) =
       let few : j + 1 ≤ 15 = before j (length u.services) (place_within u.services j k.service side.service) (few_services x.topology x.config u v used) in
-      subst (λ (o : Object). IsTiedObject t o.0 o.1) (sym e)
+      subst (λ (o : LowObject). IsTiedObject t o.0 o.1) (sym e)
       (let s = sides_in u.number j (j + 1) k.number (lower j few) few (left_instance u j k side) (other_of_left (16384 + 16 * u.number + j) k.number (left_number u j k side) ∙ next_hop u.number j) in (refl, s.0, s.1))
     where
       before : (j n : ℕ) → j < n → n ≤ 15 → j + 1 ≤ 15
@@ -101,7 +101,7 @@ module _ (t : Ties) (x : Setup) (form : IsTrue (has_config_form x.config)) (v : 
       lower j h = omega (arith, h)
   tied_object o (of_right_circuit u j k node used side at e) =
       let few : j + 1 ≤ 15 = before j (length u.services) (place_within u.services j k.service side.service) (few_services x.topology x.config u v used) in
-      subst (λ (o : Object). IsTiedObject t o.0 o.1) (sym e)
+      subst (λ (o : LowObject). IsTiedObject t o.0 o.1) (sym e)
       (let s = sides_in u.number (j + 1) j k.number few (lower j few) (right_instance u j k side) (other_of_right (16384 + 16 * u.number + j) k.number (right_number u j k side ∙ apart u.number j)) in (refl, s.0, s.1))
     where
       before : (j n : ℕ) → j < n → n ≤ 15 → j + 1 ≤ 15
@@ -113,10 +113,10 @@ module _ (t : Ties) (x : Setup) (form : IsTrue (has_config_form x.config)) (v : 
       apart : (u j : ℕ) → 2 * (16384 + 16 * u + (j + 1)) ≡ 2 * (16384 + 16 * u + j + 1)
       apart u j = omega arith
   tied_object o (of_networks a b in_a in_b related e) =
-      subst (λ (o : Object). IsTiedObject t o.0 o.1) (sym e)
+      subst (λ (o : LowObject). IsTiedObject t o.0 o.1) (sym e)
       (elim related as (λ _. AreNear t a.id b.id) [ inl same ↦ inl (ap (λ (n : Network). n.id) same) | inr r ↦ inr (related_here a b in_a in_b r) ], λ r i m act. of_rules t x form v is a b r i in_a in_b m act)
   tied_object o (of_use u hops used zip e) =
-      subst (λ (o : Object). IsTiedObject t o.0 o.1) (sym e) (
+      subst (λ (o : LowObject). IsTiedObject t o.0 o.1) (sym e) (
         is_network u.left used.has_left,
         is_network u.right used.has_right,
         is.uses u.number (u.left.id, u.right.id) (use_here u used),

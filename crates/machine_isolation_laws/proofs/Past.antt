@@ -16,7 +16,7 @@ use Rattle.config_ties.specs.Tying.{port_network, relates}
 use Rattle.headline_laws.specs.Headline.{IsWritten}
 use Rattle.config_check.specs.Sentences.{IsValid}
 use Rattle.config_ties.proofs.Having.{port_iff, relates_iff}
-use Rattle.machine_model.specs.Events.{Edits, Event, Settle, after}
+use Rattle.machine_model.specs.Events.{Edits, MachineEvent, Settle, after}
 use Rattle.machine_model.specs.Network.{start}
 use Rattle.machine_model.specs.Setup.{opening as setup_of}
 use Rattle.machine_isolation_laws.specs.Untied.{packet}
@@ -59,7 +59,7 @@ valid = valid_after related related_written leave parted no_fault left refl of_f
 breaks_none : BreaksNone (ties_of related) parted
 breaks_none = ((broken_iff (ties_of related) (record { topology = related.topology; config = parted }) valid).0 refl).0
 
-abbrev schedule : List Event
+abbrev schedule : List MachineEvent
 schedule = Settle ∷ Edits leave ∷ []
 
 keeps : EditsKeep size (ties_of related) (start related) schedule

@@ -11,9 +11,9 @@ use Rattle.config_ties.specs.Ties.{BreaksNone, Grows, IsTiedBy, Ties}
 use Rattle.config_ties.specs.Tying.{joined, no_ties, ties_of}
 use Rattle.config_ties.proofs.Growing.{breaks_nothing, grows_itself, grows_on, joined_grows, joined_tied, tied_grows}
 use Rattle.node_model.specs.Members.{Member}
-use Rattle.machine_model.specs.Events.{Break, Connect, Deliver, DeliverOctets, Edits, Event, Lose, Restart, Round, Settle, Show, Trace, next}
+use Rattle.machine_model.specs.Events.{Break, Connect, Deliver, DeliverOctets, Edits, MachineEvent, Lose, Restart, Round, Settle, Show, Trace, next}
 use Rattle.machine_model.specs.Moments.{Each, EditIsValid, EditsAreValid}
-use Rattle.machine_model.specs.Network.{Network, sessions_of, start, views_of}
+use Rattle.machine_model.specs.Network.{MachineState, sessions_of, start, views_of}
 use Rattle.machine_model.specs.Session.{Message, Session}
 use Rattle.machine_model.specs.Setup.{Name, Setup, checked, edited, opening}
 use Rattle.machine_model.proofs.Start.{start_each}
@@ -29,7 +29,7 @@ use Rattle.machine_isolation_laws.proofs.Edited.{written_edit}
 use Rattle.machine_isolation_laws.proofs.Walk.{isolates}
 
 -- ---- a schedule
-next_grows : (t : Ties) (w : Network) (e : Event) → Grows t (ties_next t w e)
+next_grows : (t : Ties) (w : MachineState) (e : MachineEvent) → Grows t (ties_next t w e)
 next_grows t w (Edits d) = by_edit (edited w.setup d)
   where
     by_edit : (o : Option Setup) → Grows t (ties_with o t)
@@ -46,7 +46,7 @@ next_grows t w (Show n) = grows_itself t
 next_grows t w (Trace p) = grows_itself t
 next_grows t w (Break a b n) = grows_itself t
 
-after_grows : (size : Name → Message → ℕ) (t : Ties) (w : Network) (es : List Event) → Grows t (ties_after size t w es)
+after_grows : (size : Name → Message → ℕ) (t : Ties) (w : MachineState) (es : List MachineEvent) → Grows t (ties_after size t w es)
 after_grows size t w [] = grows_itself t
 after_grows size t w (e ∷ es) = grows_on t (ties_next t w e) (ties_after size (ties_next t w e) (next size w e) es) (next_grows t w e) (after_grows size (ties_next t w e) (next size w e) es)
 
@@ -60,7 +60,7 @@ module _ (size : Name → Message → ℕ) where
   keeps : (Valid : Setup → Type 0) → Keeps size Valid (Fair anything) MayTell
   keeps Valid = fair_keeps anything size Valid (anything_wants Valid)
 
-  edit_by : (Valid : Setup → Type 0) (t : Ties) (w : Network) (e : Event) → EditKeeps t w e → ((d : Edit) (y : Setup) → e ≡ Edits d → edited w.setup d ≡ Some y → IsOfForm y → BreaksNone t y.config → Valid y) → EditIsValid Valid w e
+  edit_by : (Valid : Setup → Type 0) (t : Ties) (w : MachineState) (e : MachineEvent) → EditKeeps t w e → ((d : Edit) (y : Setup) → e ≡ Edits d → edited w.setup d ≡ Some y → IsOfForm y → BreaksNone t y.config → Valid y) → EditIsValid Valid w e
   edit_by Valid t w (Edits d) k h = λ y is. h d y refl is (k y is).0 (k y is).1
   edit_by Valid t w (Deliver a b n) k h = tt
   edit_by Valid t w (DeliverOctets a b n) k h = tt
@@ -74,7 +74,7 @@ module _ (size : Name → Message → ℕ) where
   edit_by Valid t w (Break a b n) k h = tt
 
   -- each configuration of a schedule is as ties have it that the last ones grow to
-  all_keep : (last : Ties) (t : Ties) (w : Network) (es : List Event) → IsWritten w.setup × Each (Fair anything) w.sessions → EditsKeep size t w es → Grows (ties_after size t w es) last → EditsAreValid size (KeepsTies last) w es
+  all_keep : (last : Ties) (t : Ties) (w : MachineState) (es : List MachineEvent) → IsWritten w.setup × Each (Fair anything) w.sessions → EditsKeep size t w es → Grows (ties_after size t w es) last → EditsAreValid size (KeepsTies last) w es
   all_keep last t w [] h k g = tt
   all_keep last t w (e ∷ es) h k g =
       let after_it = ties_next t w e in
@@ -90,7 +90,7 @@ module _ (size : Name → Message → ℕ) where
   abbrev HeldBy : Ties → Setup → Type 0
   HeldBy last y = IsTiedBy last y.config
 
-  all_as_tied : (last : Ties) (w : Network) (es : List Event) → HeldBy last w.setup × Each (Fair anything) w.sessions → EditsAreValid size (KeepsTies last) w es → (c : Config) → Member c (configs size w es) → IsTiedBy last c
+  all_as_tied : (last : Ties) (w : MachineState) (es : List MachineEvent) → HeldBy last w.setup × Each (Fair anything) w.sessions → EditsAreValid size (KeepsTies last) w es → (c : Config) → Member c (configs size w es) → IsTiedBy last c
   all_as_tied last w [] h v c m = elim m as (λ _. IsTiedBy last c) [ inl e ↦ subst (IsTiedBy last) e h.0 | inr n ↦ absurd n ]
   all_as_tied last w (e ∷ es) h v c m =
       elim m as (λ _. IsTiedBy last c) [
@@ -101,7 +101,7 @@ module _ (size : Name → Message → ℕ) where
   start_fair : (x : Checked) → Each (Fair anything) (start x).sessions
   start_fair x = start_each (Fair anything) (λ n m r q. record { near_held = λ k v e. tt; far_held = λ k v e. tt; near_flight = tt; far_flight = tt }) x
 
-module _ (size : Name → Message → ℕ) (x : Checked) (written : IsWritten (opening x)) (es : List Event) where
+module _ (size : Name → Message → ℕ) (x : Checked) (written : IsWritten (opening x)) (es : List MachineEvent) where
   abbrev first : Ties
   first = ties_of x
 

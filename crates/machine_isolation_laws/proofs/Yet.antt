@@ -35,7 +35,7 @@ use Rattle.machine_model.specs.Events.{Edits, after, forwarders, moved, next, pa
 use Rattle.machine_model.specs.Events.{edits as applied}
 use Rattle.machine_model.specs.Events.{agent_rows as held_by_agent}
 use Rattle.machine_model.specs.Moments.{Each, EditIsValid, nodes}
-use Rattle.machine_model.specs.Network.{Network, View, agent_holdings, between, brought, config, heard_from, is_at, is_of, replaced, seen_by, sessions_of, start, view, views_of, wanted}
+use Rattle.machine_model.specs.Network.{MachineState, View, agent_holdings, between, brought, config, heard_from, is_at, is_of, replaced, seen_by, sessions_of, start, view, views_of, wanted}
 use Rattle.machine_model.specs.Session.{Agent, Carries, Controller, Message, Session, is_up_phase, may_send, passed, told, turned}
 use Rattle.machine_model.specs.Setup.{Move, Name, Setup, checked, edited, edited_without, listed_by, lists, moves, opening, remade, renumbered}
 use Rattle.machine_model.specs.Steps.{at_node, pass}
@@ -71,13 +71,13 @@ touches m s =
     ]
 
 -- what another node goes by stays
-views_stay : (by n : Name) (w : Network) → same_name by n ≡ false → views_of n (pass by w).sessions ≡ views_of n w.sessions
+views_stay : (by n : Name) (w : MachineState) → same_name by n ≡ false → views_of n (pass by w).sessions ≡ views_of n w.sessions
 views_stay by n w apart =
     let acts = λ (s : Session). passed (wanted w.setup (views_of by w.sessions) (view s)) s in
     same_views (sessions_of n w.sessions) (sessions_of n (map (at_node by acts) w.sessions))
     (others_of_node by n apart acts (λ s. touches (wanted w.setup (views_of by w.sessions) (view s)) s) w.sessions)
 
-all_views_stay : (by : List Name) (n : Name) (w : Network) → ((a : Name) → Member a by → same_name a n ≡ false) → views_of n (passes by w).sessions ≡ views_of n w.sessions
+all_views_stay : (by : List Name) (n : Name) (w : MachineState) → ((a : Name) → Member a by → same_name a n ≡ false) → views_of n (passes by w).sessions ≡ views_of n w.sessions
 all_views_stay [] n w h = refl
 all_views_stay (a ∷ by) n w h = all_views_stay by n (pass a w) (λ b m. h b (inr m)) ∙ views_stay a n w (h a (inl refl))
 
@@ -87,12 +87,12 @@ named_of x written = is_named x.topology x.config written.topology ((valid_iff x
 names_of : (x : Setup) → IsWritten x → NamesApart x.topology
 names_of x written = apart_names x.topology (named_of x written).apart
 
-abbrev in_state : Network → Node → Forwarder
+abbrev in_state : MachineState → Node → Forwarder
 in_state v n = record { address = n.address; rows = agent.rows (held_by_agent v n.name) }
 
 -- ---- an edit by which no compute node moves
-module _ (w : Network) (written : IsWritten w.setup) (y : Setup) (same : y.topology ≡ w.setup.topology) where
-  abbrev made : Network
+module _ (w : MachineState) (written : IsWritten w.setup) (y : Setup) (same : y.topology ≡ w.setup.topology) where
+  abbrev made : MachineState
   made = record { setup = y; sessions = w.sessions }
 
   not_config : (n : Node) → Member n w.setup.topology.nodes → same_name config n.name ≡ false
@@ -151,17 +151,17 @@ no_rows hs q = λ i. record {
 }
 
 -- ---- an edit by which a compute node moves
-module _ (w : Network) (written : IsWritten w.setup) (placed : Holds Placed w) (d : Edit) (none : edit_fault (checked w.setup) d ≡ None) (m : Move) (is : moves d w.setup.topology ≡ Some m) where
+module _ (w : MachineState) (written : IsWritten w.setup) (placed : Holds Placed w) (d : Edit) (none : edit_fault (checked w.setup) d ≡ None) (m : Move) (is : moves d w.setup.topology ≡ Some m) where
   abbrev y : Setup
   y = remade (checked_edited d (checked w.setup)) (renumbered (Some m) w.setup.numbers)
 
   abbrev new : List Session
   new = brought y.topology.controllers m.now
 
-  abbrev begun : Network
+  abbrev begun : MachineState
   begun = record { setup = y; sessions = replaced m.name new w.sessions }
 
-  abbrev reached : Network
+  abbrev reached : MachineState
   reached = pass config (passes m.left begun)
 
   module _ (r : Renews w.setup.topology y.topology (Some m)) (named : NamesApart y.topology) (stands : Each (λ s. Stands reached.setup.topology (nodes s)) reached.sessions) (anew : Each (IsNewFor m.name) reached.sessions) (setup : reached.setup ≡ y) where
@@ -275,7 +275,7 @@ module _ (w : Network) (written : IsWritten w.setup) (placed : Holds Placed w) (
     moved_forward = all_forward reached.setup.topology.nodes (λ n i. subst (λ (x : Setup). Member n x.topology.nodes) setup i)
 
 -- ---- edits
-module _ (size : Name → Message → ℕ) (w : Network) (written : IsWritten w.setup) (placed : Holds Placed w) (d : Edit) where
+module _ (size : Name → Message → ℕ) (w : MachineState) (written : IsWritten w.setup) (placed : Holds Placed w) (d : Edit) where
   abbrev leads_to : Option EditFault → Option Setup
   leads_to f = edited_without f w.setup d
 
@@ -286,7 +286,7 @@ module _ (size : Name → Message → ℕ) (w : Network) (written : IsWritten w.
       forwarders_stay w written (remade (checked_edited d (checked w.setup)) (renumbered (moves d w.setup.topology) w.setup.numbers))
       (topology_stays (checked w.setup) d (names_of w.setup written).computers_apart is)
 
-  abbrev ThenForward : Name → Network → Type 0
+  abbrev ThenForward : Name → MachineState → Type 0
   ThenForward name v = forwarders v ≡ map (forwards_then w name) v.setup.topology.nodes
 
   one_moved : (m : Move) → edit_fault (checked w.setup) d ≡ None → moves d w.setup.topology ≡ Some m → EditIsValid IsOfForm w (Edits d) → ThenForward m.name (next size w (Edits d))
@@ -297,8 +297,8 @@ module _ (size : Name → Message → ℕ) (w : Network) (written : IsWritten w.
       let z : Setup = remade (checked_edited d (checked w.setup)) (renumbered (Some m) w.setup.numbers) in
       let leads : edited w.setup d ≡ Some x = ap (λ (f : Option EditFault). edited_without f w.setup d) none in
       let same : x ≡ z = ap (λ (o : Option Move). remade (checked_edited d (checked w.setup)) (renumbered o w.setup.numbers)) is in
-      let v : Network = applied (moves d t) (edited w.setup d) w in
-      let u : Network = pass config (moved (Some m) (record { setup = z; sessions = w.sessions })) in
+      let v : MachineState = applied (moves d t) (edited w.setup d) w in
+      let u : MachineState = pass config (moved (Some m) (record { setup = z; sessions = w.sessions })) in
       let whole : v ≡ u = λ i. applied (is i) ((leads ∙ ap Some same) i) w in
       let z_written : IsWritten z = subst IsWritten same (written_edit w.setup d x leads (valid x leads)) in
       subst (ThenForward m.name) (sym whole)
@@ -306,7 +306,7 @@ module _ (size : Name → Message → ℕ) (w : Network) (written : IsWritten w.
       (subst (λ (o : Option Move). Renews t z.topology o) is (renews (checked w.setup) d none))
       (names_of z z_written)
       (of_nodes (Stands u.setup.topology) u.sessions (subst (Holds Placed) whole (edits_placed d w placed)).stand)
-      (subst (λ (v : Network). Each (IsNewFor m.name) v.sessions) whole (begins_anew size w d m none is))
+      (subst (λ (v : MachineState). Each (IsNewFor m.name) v.sessions) whole (begins_anew size w d m none is))
       (moved_setup (Some m) (record { setup = z; sessions = w.sessions })))
 
   accepted : (f : Option EditFault) → edit_fault (checked w.setup) d ≡ f → (m : Move) → cond (is_some (leads_to f)) (moves d w.setup.topology) None ≡ Some m → (edit_fault (checked w.setup) d ≡ None) × (moves d w.setup.topology ≡ Some m)

@@ -19,11 +19,11 @@ use Rattle.config_model.specs.declared.edit.Object.TheVariants as Objects
 use Rattle.config_check.specs.Checked.{Checked}
 use Rattle.config_ties.specs.Ties.{HasPort, HasRelated, Ties}
 use Rattle.machine_model.specs.Events.{forwarders}
-use Rattle.machine_model.specs.Network.{Network}
+use Rattle.machine_model.specs.Network.{MachineState}
 use Rattle.machine_isolation_laws.specs.Untied.{opening, port}
 
 -- the two ports of a delivered packet are now in networks that are one, or that the present configuration relates
-abbrev pub StaysAmongPresent : Ties → List Config → Network → Type 0
+abbrev pub StaysAmongPresent : Ties → List Config → MachineState → Type 0
 StaysAmongPresent t cs w =
     (p : Packet) (q : PortNo) (services : List ServiceNo) → forwarding (forwarders w) p ≡ Delivered q services
     → (m n : InstanceId) → HasPort w.setup.config p.source m → HasPort w.setup.config q n

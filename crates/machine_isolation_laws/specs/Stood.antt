@@ -10,7 +10,7 @@ use Rattle.config_model.specs.declared.config.Config.{Config}
 use Rattle.config_ties.specs.Ties.{HasPort, HasRelated, HasUse, Ties}
 use Rattle.node_model.specs.Members.{Member}
 use Rattle.machine_model.specs.Events.{forwarders}
-use Rattle.machine_model.specs.Network.{Network}
+use Rattle.machine_model.specs.Network.{MachineState}
 
 -- in one of these configurations
 abbrev pub InSome : List Config → (Config → Type 0) → Type 0
@@ -23,7 +23,7 @@ pub record ComeFrom (t : Ties) (cs : List Config) : Type 0 where
       → InSome cs (λ c. HasUse c number pair)
   pub related : (a b : InstanceId) → IsTrue (t.was_related a b) → InSome cs (λ c. HasRelated c a b)
 
-abbrev pub HasItsTies : Ties → List Config → Network → Type 0
+abbrev pub HasItsTies : Ties → List Config → MachineState → Type 0
 HasItsTies t cs w = ComeFrom t cs
 
 -- two ports stood in configurations so far, in networks that are one or that a configuration so far related
@@ -35,18 +35,18 @@ pub record WereJoined (cs : List Config) (p q : PortNo) : Type 0 where
   pub near : (from ≡ to) ⊎ InSome cs (λ c. HasRelated c from to)
 
 -- a packet that is delivered goes between such ports
-abbrev pub DeliversToThoseJoined : Ties → List Config → Network → Type 0
+abbrev pub DeliversToThoseJoined : Ties → List Config → MachineState → Type 0
 DeliversToThoseJoined t cs w =
     (p : Packet) (q : PortNo) (services : List ServiceNo) → forwarding (forwarders w) p ≡ Delivered q services
     → WereJoined cs p.source q
 
 -- whichever networks configurations so far had the two ports of a delivered packet in: they are one, or a configuration
 -- so far related them
-abbrev pub StaysAmong : List Config → Network → Type 0
+abbrev pub StaysAmong : List Config → MachineState → Type 0
 StaysAmong cs w =
     (p : Packet) (q : PortNo) (services : List ServiceNo) → forwarding (forwarders w) p ≡ Delivered q services
     → (m n : InstanceId) → InSome cs (λ c. HasPort c p.source m) → InSome cs (λ c. HasPort c q n)
     → (m ≡ n) ⊎ InSome cs (λ c. HasRelated c m n)
 
-abbrev pub IsStayingAmong : Ties → List Config → Network → Type 0
+abbrev pub IsStayingAmong : Ties → List Config → MachineState → Type 0
 IsStayingAmong t cs w = StaysAmong cs w

@@ -16,24 +16,24 @@ use Rattle.config_model.specs.declared.edit.Object.TheVariants as Objects
 use Rattle.config_model.specs.declared.topology.Node.{Node}
 use Rattle.config_check.specs.Checked.{Checked}
 use Rattle.node_model.specs.Agent as agent
-use Rattle.machine_model.specs.Events.{Event, Edits, after, agent_rows, forwarders, next}
+use Rattle.machine_model.specs.Events.{MachineEvent, Edits, after, agent_rows, forwarders, next}
 use Rattle.machine_model.specs.Moments.{ArePositive, EditIsValid, EditsAreValid}
-use Rattle.machine_model.specs.Network.{Network, start}
+use Rattle.machine_model.specs.Network.{MachineState, start}
 use Rattle.machine_model.specs.Session.{Message}
 use Rattle.machine_model.specs.Setup.{Move, Name, edited, moves, opening as setup_of}
 use Rattle.headline_laws.specs.Headline.{IsOfForm, IsWritten}
 use Rattle.machine_isolation_laws.specs.Running.{configs}
 
 -- after any schedule, whatever ties its edits break: of the configurations so far, and of the network
-abbrev pub AtMomentsWithout : (List Config → Network → Type 0) → Type 0
+abbrev pub AtMomentsWithout : (List Config → MachineState → Type 0) → Type 0
 AtMomentsWithout P =
     (size : Name → Message → ℕ) → ArePositive size
     → (x : Checked) → IsWritten (setup_of x)
-    → (es : List Event) → EditsAreValid size IsOfForm (start x) es
+    → (es : List MachineEvent) → EditsAreValid size IsOfForm (start x) es
     → P (configs size (start x) es) (after size (start x) es)
 
 -- the compute node that an edit moves, if it is accepted
-abbrev pub moved_by : Network → Edit → Option Move
+abbrev pub moved_by : MachineState → Edit → Option Move
 moved_by w d = if is_some (edited w.setup d) then moves d w.setup.topology else None
 
 -- what agents forward by once a compute node is moved: that of this node by nothing, and each other by what it forwarded
@@ -41,7 +41,7 @@ moved_by w d = if is_some (edited w.setup d) then moves d w.setup.topology else 
 abbrev pub without_rows : AgentRows
 without_rows = record { labels = []; acls = []; routes = [] }
 
-abbrev pub forwards_then : Network → Name → Node → Forwarder
+abbrev pub forwards_then : MachineState → Name → Node → Forwarder
 forwards_then w name n = record {
   address = n.address;
   rows = if same_name name n.name then without_rows else agent.rows (agent_rows w n.name);
@@ -49,7 +49,7 @@ forwards_then w name n = record {
 
 -- an edit that moves no compute node changes nothing by itself that agents forward by, and one that moves a compute node
 -- only what the agent of that node forwards by
-abbrev pub MovesNothingYet : (Name → Message → ℕ) → Network → Type 0
+abbrev pub MovesNothingYet : (Name → Message → ℕ) → MachineState → Type 0
 MovesNothingYet size w =
     (d : Edit)
     → (moved_by w d ≡ None → forwarders (next size w (Edits d)) ≡ forwarders w)

@@ -26,9 +26,9 @@ use Rattle.node_model.specs.Members.{Member}
 use Rattle.node_model.proofs.Members.{in_filter, in_left, in_map, in_right}
 use Rattle.machine_model.specs.Setup.{Name, Move, Setup, checked, edited, edited_without, listed_by, lists, moves, remade, renumbered, stands}
 use Rattle.machine_model.specs.Session.{Controller, Agent, Message, Session}
-use Rattle.machine_model.specs.Network.{AreNamed, Network, accesses, accesses_of, asked, between, brought, config, feeds, is_of, peerings, replaced, same_role, start}
-use Rattle.machine_model.specs.Events.{Event, after, edits, moved, next}
-use Rattle.machine_model.specs.Moments.{EditIsValid, EditsAreValid, HasSessions, IsLaidOut, LaidOut, Nodes, WhereLaidOut, nodes}
+use Rattle.machine_model.specs.Network.{AreNamed, MachineState, accesses, accesses_of, asked, between, brought, config, feeds, is_of, peerings, replaced, same_role, start}
+use Rattle.machine_model.specs.Events.{MachineEvent, after, edits, moved, next}
+use Rattle.machine_model.specs.Moments.{EditIsValid, EditsAreValid, HasSessions, IsLaidOut, LaidOut, NodePair, WhereLaidOut, nodes}
 use Rattle.machine_model.proofs.Distinct.{Apart, apart_of, apart_right, same_false}
 use Rattle.machine_model.proofs.Walk.{next_walk}
 use Rattle.machine_model.proofs.NodesFact.{Holds, holds_steps, pass_nodes}
@@ -38,34 +38,34 @@ use Rattle.machine_model.proofs.Listed.{moved_nodes, moved_setup, resessioned}
 -- ---- lists
 map_joined : (ss ts : List Session) → map nodes (ss ++ ts) ≡ map nodes ss ++ map nodes ts
 map_joined [] ts = refl
-map_joined (s ∷ ss) ts = ap (λ (ps : List Nodes). nodes s ∷ ps) (map_joined ss ts)
+map_joined (s ∷ ss) ts = ap (λ (ps : List NodePair). nodes s ∷ ps) (map_joined ss ts)
 
-joined : (ps qs rs : List Nodes) → (ps ++ qs) ++ rs ≡ ps ++ (qs ++ rs)
+joined : (ps qs rs : List NodePair) → (ps ++ qs) ++ rs ≡ ps ++ (qs ++ rs)
 joined [] qs rs = refl
-joined (p ∷ ps) qs rs = ap (λ (xs : List Nodes). p ∷ xs) (joined ps qs rs)
+joined (p ∷ ps) qs rs = ap (λ (xs : List NodePair). p ∷ xs) (joined ps qs rs)
 
-joined_none : (ps : List Nodes) → ps ++ [] ≡ ps
+joined_none : (ps : List NodePair) → ps ++ [] ≡ ps
 joined_none [] = refl
-joined_none (p ∷ ps) = ap (λ (xs : List Nodes). p ∷ xs) (joined_none ps)
+joined_none (p ∷ ps) = ap (λ (xs : List NodePair). p ∷ xs) (joined_none ps)
 
-abbrev asked_of : List NodeId → List Node → List Nodes
+abbrev asked_of : List NodeId → List Node → List NodePair
 asked_of cs ns = map nodes ((feeds cs ++ peerings cs) ++ accesses cs ns)
 
 -- ---- the same of the nodes of sessions alone
 module _ (name : Name) where
-  abbrev is_link : Nodes → Bool
+  abbrev is_link : NodePair → Bool
   is_link p = same_name p.1.0 name && same_role Agent p.1.1
 
-  abbrev others_of : List Nodes → List Nodes
+  abbrev others_of : List NodePair → List NodePair
   others_of ps = filter (λ p. not (is_link p)) ps
 
-  abbrev IsNone : List Nodes → Type 0
+  abbrev IsNone : List NodePair → Type 0
   IsNone ps = AllByRecursion (λ p. is_link p ≡ false) ps
 
-  abbrev AreAll : List Nodes → Type 0
+  abbrev AreAll : List NodePair → Type 0
   AreAll ps = AllByRecursion (λ p. is_link p ≡ true) ps
 
-  abbrev pub relinked : List Nodes → List Nodes → List Nodes
+  abbrev pub relinked : List NodePair → List NodePair → List NodePair
   relinked new [] = new
   relinked new (p ∷ ps) = cond (is_link p) (new ++ others_of ps) (p ∷ relinked new ps)
 
@@ -74,49 +74,49 @@ module _ (name : Name) where
   others_nodes (s ∷ ss) =
       elim (is_of name s) as (λ b. map nodes (cond (not b) (s ∷ filter (λ s. not (is_of name s)) ss) (filter (λ s. not (is_of name s)) ss)) ≡ cond (not b) (nodes s ∷ others_of (map nodes ss)) (others_of (map nodes ss))) [
         | true ↦ others_nodes ss
-        | false ↦ ap (λ (ps : List Nodes). nodes s ∷ ps) (others_nodes ss)
+        | false ↦ ap (λ (ps : List NodePair). nodes s ∷ ps) (others_nodes ss)
       ]
 
   pub replaced_nodes : (new ss : List Session) → map nodes (replaced name new ss) ≡ relinked (map nodes new) (map nodes ss)
   replaced_nodes new [] = refl
   replaced_nodes new (s ∷ ss) =
       elim (is_of name s) as (λ b. map nodes (cond b (new ++ filter (λ s. not (is_of name s)) ss) (s ∷ replaced name new ss)) ≡ cond b (map nodes new ++ others_of (map nodes ss)) (nodes s ∷ relinked (map nodes new) (map nodes ss))) [
-        | true ↦ map_joined new (filter (λ s. not (is_of name s)) ss) ∙ ap (λ (ps : List Nodes). map nodes new ++ ps) (others_nodes ss)
-        | false ↦ ap (λ (ps : List Nodes). nodes s ∷ ps) (replaced_nodes new ss)
+        | true ↦ map_joined new (filter (λ s. not (is_of name s)) ss) ∙ ap (λ (ps : List NodePair). map nodes new ++ ps) (others_nodes ss)
+        | false ↦ ap (λ (ps : List NodePair). nodes s ∷ ps) (replaced_nodes new ss)
       ]
 
-  others_kept : (ps : List Nodes) → IsNone ps → others_of ps ≡ ps
+  others_kept : (ps : List NodePair) → IsNone ps → others_of ps ≡ ps
   others_kept [] h = refl
-  others_kept (p ∷ ps) h = ap (λ b. cond (not b) (p ∷ others_of ps) (others_of ps)) h.0 ∙ ap (λ (qs : List Nodes). p ∷ qs) (others_kept ps h.1)
+  others_kept (p ∷ ps) h = ap (λ b. cond (not b) (p ∷ others_of ps) (others_of ps)) h.0 ∙ ap (λ (qs : List NodePair). p ∷ qs) (others_kept ps h.1)
 
-  others_gone : (ps qs : List Nodes) → AreAll ps → others_of (ps ++ qs) ≡ others_of qs
+  others_gone : (ps qs : List NodePair) → AreAll ps → others_of (ps ++ qs) ≡ others_of qs
   others_gone [] qs h = refl
   others_gone (p ∷ ps) qs h = ap (λ b. cond (not b) (p ∷ others_of (ps ++ qs)) (others_of (ps ++ qs))) h.0 ∙ others_gone ps qs h.1
 
   -- those before stay
-  passed_by : (new ps qs : List Nodes) → IsNone ps → relinked new (ps ++ qs) ≡ ps ++ relinked new qs
+  passed_by : (new ps qs : List NodePair) → IsNone ps → relinked new (ps ++ qs) ≡ ps ++ relinked new qs
   passed_by new [] qs h = refl
-  passed_by new (p ∷ ps) qs h = ap (λ b. cond b (new ++ others_of (ps ++ qs)) (p ∷ relinked new (ps ++ qs))) h.0 ∙ ap (λ (xs : List Nodes). p ∷ xs) (passed_by new ps qs h.1)
+  passed_by new (p ∷ ps) qs h = ap (λ b. cond b (new ++ others_of (ps ++ qs)) (p ∷ relinked new (ps ++ qs))) h.0 ∙ ap (λ (xs : List NodePair). p ∷ xs) (passed_by new ps qs h.1)
 
   -- new ones come in the place of the old ones, where there are some, and else after all
-  in_place : (new : List Nodes) (p : Nodes) (ps qs : List Nodes) → is_link p ≡ true → AreAll ps → IsNone qs → relinked new (p ∷ ps ++ qs) ≡ new ++ qs
+  in_place : (new : List NodePair) (p : NodePair) (ps qs : List NodePair) → is_link p ≡ true → AreAll ps → IsNone qs → relinked new (p ∷ ps ++ qs) ≡ new ++ qs
   in_place new p ps qs e h g =
       ap (λ b. cond b (new ++ others_of (ps ++ qs)) (p ∷ relinked new (ps ++ qs))) e
-      ∙ ap (λ (xs : List Nodes). new ++ xs) (others_gone ps qs h ∙ others_kept qs g)
+      ∙ ap (λ (xs : List NodePair). new ++ xs) (others_gone ps qs h ∙ others_kept qs g)
 
-  all_left : (qs : List Nodes) → IsNone qs → relinked [] qs ≡ qs
+  all_left : (qs : List NodePair) → IsNone qs → relinked [] qs ≡ qs
   all_left [] g = refl
-  all_left (q ∷ qs) g = ap (λ b. cond b (others_of qs) (q ∷ relinked [] qs)) g.0 ∙ ap (λ (xs : List Nodes). q ∷ xs) (all_left qs g.1)
+  all_left (q ∷ qs) g = ap (λ b. cond b (others_of qs) (q ∷ relinked [] qs)) g.0 ∙ ap (λ (xs : List NodePair). q ∷ xs) (all_left qs g.1)
 
-  none_left : (ps qs : List Nodes) → AreAll ps → IsNone qs → relinked [] (ps ++ qs) ≡ qs
+  none_left : (ps qs : List NodePair) → AreAll ps → IsNone qs → relinked [] (ps ++ qs) ≡ qs
   none_left [] qs h g = all_left qs g
   none_left (p ∷ ps) qs h g = ap (λ b. cond b (others_of (ps ++ qs)) (p ∷ relinked [] (ps ++ qs))) h.0 ∙ others_gone ps qs h.1 ∙ others_kept qs g
 
-  at_end : (new ps : List Nodes) → IsNone ps → relinked new ps ≡ ps ++ new
+  at_end : (new ps : List NodePair) → IsNone ps → relinked new ps ≡ ps ++ new
   at_end new [] h = refl
-  at_end new (p ∷ ps) h = ap (λ b. cond b (new ++ others_of ps) (p ∷ relinked new ps)) h.0 ∙ ap (λ (xs : List Nodes). p ∷ xs) (at_end new ps h.1)
+  at_end new (p ∷ ps) h = ap (λ b. cond b (new ++ others_of ps) (p ∷ relinked new ps)) h.0 ∙ ap (λ (xs : List NodePair). p ∷ xs) (at_end new ps h.1)
 
-  none_joined : (ps qs : List Nodes) → IsNone ps → IsNone qs → IsNone (ps ++ qs)
+  none_joined : (ps qs : List NodePair) → IsNone ps → IsNone qs → IsNone (ps ++ qs)
   none_joined [] qs h g = g
   none_joined (p ∷ ps) qs h g = (h.0, none_joined ps qs h.1 g)
 
@@ -142,10 +142,10 @@ module _ (name : Name) where
   is_agent false = refl
 
   module _ (cs : List NodeId) where
-    abbrev links : Node → List Nodes
+    abbrev links : Node → List NodePair
     links n = map nodes (accesses_of cs n)
 
-    abbrev all_links : List Node → List Nodes
+    abbrev all_links : List Node → List NodePair
     all_links ns = map nodes (accesses cs ns)
 
     links_other : (n : Node) → (n.name ≡ name → ⊥) → IsNone (links n)
@@ -170,15 +170,15 @@ module _ (name : Name) where
     links_joined [] after = refl
     links_joined (n ∷ before) after =
         map_joined (accesses_of cs n) (accesses cs (before ++ after))
-        ∙ ap (λ (ps : List Nodes). links n ++ ps) (links_joined before after)
+        ∙ ap (λ (ps : List NodePair). links n ++ ps) (links_joined before after)
         ∙ sym (joined (links n) (all_links before) (all_links after))
-        ∙ ap (λ (ps : List Nodes). ps ++ all_links after) (sym (map_joined (accesses_of cs n) (accesses cs before)))
+        ∙ ap (λ (ps : List NodePair). ps ++ all_links after) (sym (map_joined (accesses_of cs n) (accesses cs before)))
 
     -- a node among others
     links_around : (n : Node) (before after : List Node) → all_links (before ++ n ∷ after) ≡ all_links before ++ (links n ++ all_links after)
-    links_around n before after = links_joined before (n ∷ after) ∙ ap (λ (ps : List Nodes). all_links before ++ ps) (map_joined (accesses_of cs n) (accesses cs after))
+    links_around n before after = links_joined before (n ∷ after) ∙ ap (λ (ps : List NodePair). all_links before ++ ps) (map_joined (accesses_of cs n) (accesses cs after))
 
-    abbrev front : List Nodes
+    abbrev front : List NodePair
     front = map nodes (feeds cs ++ peerings cs)
 
     front_other : IsNone front
@@ -195,34 +195,34 @@ module _ (name : Name) where
       after_other = all_other after (λ n m. others n (in_right n before after m))
 
       -- what is left of a list of sessions, from those of the node on
-      from_there : (new : List Nodes) → relinked new (asked_of cs (before ++ old ∷ after)) ≡ front ++ (all_links before ++ relinked new (links old ++ all_links after))
+      from_there : (new : List NodePair) → relinked new (asked_of cs (before ++ old ∷ after)) ≡ front ++ (all_links before ++ relinked new (links old ++ all_links after))
       from_there new =
-          ap (relinked new) (asked_parts (before ++ old ∷ after) ∙ ap (λ (ps : List Nodes). front ++ ps) (links_around old before after))
+          ap (relinked new) (asked_parts (before ++ old ∷ after) ∙ ap (λ (ps : List NodePair). front ++ ps) (links_around old before after))
           ∙ passed_by new front (all_links before ++ (links old ++ all_links after)) front_other
-          ∙ ap (λ (ps : List Nodes). front ++ ps) (passed_by new (all_links before) (links old ++ all_links after) before_other)
+          ∙ ap (λ (ps : List NodePair). front ++ ps) (passed_by new (all_links before) (links old ++ all_links after) before_other)
 
       pub asked_replaced : (now : Node) → (links old ≡ [] → ⊥) → relinked (links now) (asked_of cs (before ++ old ∷ after)) ≡ asked_of cs (before ++ now ∷ after)
       asked_replaced now some =
           from_there (links now)
-          ∙ ap (λ (ps : List Nodes). front ++ (all_links before ++ ps)) (in_their_place (links old) some (links_own old named))
-          ∙ sym (asked_parts (before ++ now ∷ after) ∙ ap (λ (ps : List Nodes). front ++ ps) (links_around now before after))
+          ∙ ap (λ (ps : List NodePair). front ++ (all_links before ++ ps)) (in_their_place (links old) some (links_own old named))
+          ∙ sym (asked_parts (before ++ now ∷ after) ∙ ap (λ (ps : List NodePair). front ++ ps) (links_around now before after))
         where
-          in_their_place : (ps : List Nodes) → (ps ≡ [] → ⊥) → AreAll ps → relinked (links now) (ps ++ all_links after) ≡ links now ++ all_links after
+          in_their_place : (ps : List NodePair) → (ps ≡ [] → ⊥) → AreAll ps → relinked (links now) (ps ++ all_links after) ≡ links now ++ all_links after
           in_their_place [] some h = absurd (some refl)
           in_their_place (p ∷ ps) some h = in_place (links now) p ps (all_links after) h.0 h.1 after_other
 
       pub asked_removed : relinked [] (asked_of cs (before ++ old ∷ after)) ≡ asked_of cs (before ++ after)
       asked_removed =
           from_there []
-          ∙ ap (λ (ps : List Nodes). front ++ (all_links before ++ ps)) (none_left (links old) (all_links after) (links_own old named) after_other)
-          ∙ sym (asked_parts (before ++ after) ∙ ap (λ (ps : List Nodes). front ++ ps) (links_joined before after))
+          ∙ ap (λ (ps : List NodePair). front ++ (all_links before ++ ps)) (none_left (links old) (all_links after) (links_own old named) after_other)
+          ∙ sym (asked_parts (before ++ after) ∙ ap (λ (ps : List NodePair). front ++ ps) (links_joined before after))
 
     pub asked_appended : (now : Node) (ns : List Node) → ((n : Node) → Member n ns → n.name ≡ name → ⊥) → relinked (links now) (asked_of cs ns) ≡ asked_of cs (ns ++ now ∷ [])
     asked_appended now ns others =
         at_end (links now) (asked_of cs ns) (subst IsNone (sym (asked_parts ns)) (none_joined front (all_links ns) front_other (all_other ns others)))
-        ∙ ap (λ (ps : List Nodes). ps ++ links now) (asked_parts ns)
+        ∙ ap (λ (ps : List NodePair). ps ++ links now) (asked_parts ns)
         ∙ joined front (all_links ns) (links now)
-        ∙ sym (asked_parts (ns ++ now ∷ []) ∙ ap (λ (ps : List Nodes). front ++ ps) (links_around now ns [] ∙ ap (λ (ps : List Nodes). all_links ns ++ ps) (joined_none (links now))))
+        ∙ sym (asked_parts (ns ++ now ∷ []) ∙ ap (λ (ps : List NodePair). front ++ ps) (links_around now ns [] ∙ ap (λ (ps : List NodePair). all_links ns ++ ps) (joined_none (links now))))
 
 -- ---- what an edit makes of what is asked for
 pub contains_of : {A : Type 0} (xs : List A) (x : A) → Member x xs → Contains xs x
@@ -243,7 +243,7 @@ not_none cs n c m e h = by (filter (lists n) cs) (in_filter (lists n) c cs m e) 
     by [] m h = m
     by (d ∷ ds) m h = cc
 
-abbrev pub relinked_by : Option Move → List NodeId → List Nodes → List Nodes
+abbrev pub relinked_by : Option Move → List NodeId → List NodePair → List NodePair
 relinked_by None cs ps = ps
 relinked_by (Some m) cs ps = relinked m.name (map nodes (brought cs m.now)) ps
 
@@ -281,9 +281,9 @@ asked_by_put n x l =
                 let same : r.replaced.controllers ≡ n.controllers = ap listed_by (sym found) ∙ stood (node_named t n.name) n e in
                 ap (asked_of cs) r.was
                 ∙ asked_parts n.name cs (r.before ++ r.replaced ∷ r.after)
-                ∙ ap (λ (ps : List Nodes). map nodes (feeds cs ++ peerings cs) ++ ps)
+                ∙ ap (λ (ps : List NodePair). map nodes (feeds cs ++ peerings cs) ++ ps)
                 (links_around n.name cs r.replaced r.before r.after
-                ∙ ap (λ (ps : List Nodes). map nodes (accesses cs r.before) ++ (ps ++ map nodes (accesses cs r.after))) (same_links cs r.replaced n r.named same)
+                ∙ ap (λ (ps : List NodePair). map nodes (accesses cs r.before) ++ (ps ++ map nodes (accesses cs r.after))) (same_links cs r.replaced n r.named same)
                 ∙ sym (links_around n.name cs n r.before r.after))
                 ∙ sym (asked_parts n.name cs (r.before ++ n ∷ r.after))
                 ∙ ap (asked_of cs) (sym r.is)
@@ -335,17 +335,17 @@ asked_by x (Delete Kinds.Service name) h l = refl
 asked_by x (Delete Kinds.Chain name) h l = refl
 
 -- ---- at every moment
-abbrev IsAsked : Setup → List Nodes → Type 0
+abbrev IsAsked : Setup → List NodePair → Type 0
 IsAsked x ps = ps ≡ map nodes (asked x.topology)
 
-asked_edits : (d : Edit) (w : Network) → IsLaidOut w.setup.topology → HasSessions w → HasSessions (edits (moves d w.setup.topology) (edited w.setup d) w)
+asked_edits : (d : Edit) (w : MachineState) → IsLaidOut w.setup.topology → HasSessions w → HasSessions (edits (moves d w.setup.topology) (edited w.setup d) w)
 asked_edits d w l a =
     let x = w.setup in
     let m = moves d x.topology in
     elim (edit_fault (checked x) d) as (λ o. edit_fault (checked x) d ≡ o → HasSessions (edits m (edited_without o x d) w)) [
       | None ↦ λ none.
           let y : Setup = remade (checked_edited d (checked x)) (renumbered m x.numbers) in
-          let v : Network = record { setup = y; sessions = w.sessions } in
+          let v : MachineState = record { setup = y; sessions = w.sessions } in
           let r : Renews x.topology y.topology m = renews (checked x) d none in
           pass_nodes config (moved m v)
           ∙ moved_nodes m v
@@ -358,10 +358,10 @@ asked_edits d w l a =
     ] refl
 
 module _ (size : Name → Message → ℕ) where
-  abbrev pub both : Setup → List Nodes → Type 0
+  abbrev pub both : Setup → List NodePair → Type 0
   both x ps = IsLaidOut x.topology × IsAsked x ps
 
-  module _ (w : Network) (l : IsLaidOut w.setup.topology) (a : HasSessions w) where
+  module _ (w : MachineState) (l : IsLaidOut w.setup.topology) (a : HasSessions w) where
     laid_edit : (d : Edit) → ((y : Setup) → edited w.setup d ≡ Some y → LaidOut y) → IsLaidOut (edits (moves d w.setup.topology) (edited w.setup d) w).setup.topology
     laid_edit d ok =
         elim (edited w.setup d) as (λ o. edited w.setup d ≡ o → IsLaidOut (edits (moves d w.setup.topology) o w).setup.topology) [
@@ -369,10 +369,10 @@ module _ (size : Name → Message → ℕ) where
           | Some y ↦ λ is. subst (λ (z : Setup). IsLaidOut z.topology) (sym (moved_setup (moves d w.setup.topology) (record { setup = y; sessions = w.sessions }))) (ok y is)
         ] refl
 
-    next_laid : (e : Event) → EditIsValid LaidOut w e → Holds both (next size w e)
+    next_laid : (e : MachineEvent) → EditIsValid LaidOut w e → Holds both (next size w e)
     next_laid e ok = next_walk size (Holds both) (holds_steps size both) w e (λ d is q. (laid_edit d (subst (EditIsValid LaidOut w) is ok), asked_edits d w l a)) (l, a)
 
-  pub after_laid : (w : Network) (es : List Event) → EditsAreValid size LaidOut w es → Holds both w → Holds both (after size w es)
+  pub after_laid : (w : MachineState) (es : List MachineEvent) → EditsAreValid size LaidOut w es → Holds both w → Holds both (after size w es)
   after_laid w [] v q = q
   after_laid w (e ∷ es) v q = after_laid (next size w e) es v.1 (next_laid w q.0 q.1 e v.0)
 

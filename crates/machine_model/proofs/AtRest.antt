@@ -9,9 +9,9 @@ use Rattle.node_model.specs.Maps.{Change}
 use Rattle.config_check.specs.Checked.{Checked}
 use Rattle.machine_model.specs.Setup.{Name, Setup}
 use Rattle.node_model.specs.Step.{Phase, Idle, Opened, Confirmed, Up}
-use Rattle.machine_model.specs.Session.{Message, Carries, End, Session, turned, is_idle, is_up, is_up_phase, is_peering, may_send_at, waiting}
-use Rattle.machine_model.specs.Network.{AreNamed, Network, start, sessions_of, is_at, View, views_of, wanted}
-use Rattle.machine_model.specs.Events.{Event, after}
+use Rattle.machine_model.specs.Session.{Message, Carries, SessionEnd, Session, turned, is_idle, is_up, is_up_phase, is_peering, may_send_at, waiting}
+use Rattle.machine_model.specs.Network.{AreNamed, MachineState, start, sessions_of, is_at, View, views_of, wanted}
+use Rattle.machine_model.specs.Events.{MachineEvent, after}
 use Rattle.machine_model.specs.Steps.{is_rested, is_settled}
 use Rattle.machine_model.specs.Moments.{ArePositive, IsAtRest, IsAtRestWith}
 use Rattle.machine_model.proofs.SessionFact.{Flows, Fact, greetings}
@@ -62,7 +62,7 @@ may_up false p e = ap (λ (p : Phase). not (is_idle p)) (up_is p e)
 
 module _ (size : Name → Message → ℕ) where
   -- nothing is in flight towards the near end, so it holds what was sent
-  settled_flow : (b : Bool) (near far : End) → Flows size b near far → is_up_phase near.phase ≡ true → is_up_phase far.phase ≡ true → length far.flight ≡ 0 → near.held ≡ far.sent
+  settled_flow : (b : Bool) (near far : SessionEnd) → Flows size b near far → is_up_phase near.phase ≡ true → is_up_phase far.phase ≡ true → length far.flight ≡ 0 → near.held ≡ far.sent
   settled_flow b near far f p q n =
       let none : f.changes ≡ [] = no_changes f.changes (sym (no_messages far.flight n) ∙ f.flight
       ∙ ap (λ (p : Phase). greetings b p far.phase ++ map Carries f.changes) (up_is near.phase p)
@@ -105,11 +105,11 @@ module _ (size : Name → Message → ℕ) where
   quiet_rest x vs [] q t = tt
   quiet_rest x vs (s ∷ own) q t = (record { held = q.0.2; wanted = t.0 (may_up (is_peering s) s.near.phase q.0.3) }, quiet_rest x vs own q.1 t.1)
 
-  pub at_rest : (w : Network) → Each (Fact size) w.sessions → AllHaveTold w → is_settled w ≡ true → IsAtRest w
+  pub at_rest : (w : MachineState) → Each (Fact size) w.sessions → AllHaveTold w → is_settled w ≡ true → IsAtRest w
   at_rest w f t e n =
       let q = own_quiet n w.sessions f e in
       quiet_rest w.setup (views_of n w.sessions) (sessions_of n w.sessions) q (t n (quiet_whole (sessions_of n w.sessions) q))
 
-pub settled_is_at_rest : (size : Name → Message → ℕ) → ArePositive size → (x : Checked) → AreNamed x.topology → (es : List Event) → is_settled (after size (start x) es) ≡ true → IsAtRest (after size (start x) es)
+pub settled_is_at_rest : (size : Name → Message → ℕ) → ArePositive size → (x : Checked) → AreNamed x.topology → (es : List MachineEvent) → is_settled (after size (start x) es) ≡ true → IsAtRest (after size (start x) es)
 settled_is_at_rest size positive x named es e =
     at_rest size (after size (start x) es) (after_sound size positive (start x) es (start_sound size positive x)) (after_told size (start x) es (start_placed x named) (start_told x)) e

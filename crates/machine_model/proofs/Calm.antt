@@ -5,23 +5,23 @@ use Rattle.std.proofs.Common.{refl, sym, ◌∙◌, ap, subst, inl, inr}
 use Rattle.ov_sync.specs.Keyed.{changed}
 use Rattle.node_model.specs.Maps.{Map, Change, difference}
 use Rattle.node_model.specs.Step.{Phase, Opened, Confirmed, Up}
-use Rattle.machine_model.specs.Session.{Message, Open, Keepalive, Carries, End, Session, closed, is_up_phase, are_peers, is_peering, may_send_at, may_send, shut, meets_break, counted, with_breaks, left, told, passed, with_phase, without_first, took_first, arrived}
+use Rattle.machine_model.specs.Session.{Message, Open, Keepalive, Carries, SessionEnd, Session, closed, is_up_phase, are_peers, is_peering, may_send_at, may_send, shut, meets_break, counted, with_breaks, left, told, passed, with_phase, without_first, took_first, arrived}
 use Rattle.machine_model.proofs.SessionFact.{sends, append_nil, sends_left, Joined, greetings, meets, first_as, took_first_is}
 
 -- where no break is pending, all is sent
-sends_none : (d : Bool) (near far : End) → ◌≡◌ {A = Session} (record { is_down = d; near = near; far = far }) (sends [] (record { is_down = d; near = near; far = far }))
+sends_none : (d : Bool) (near far : SessionEnd) → ◌≡◌ {A = Session} (record { is_down = d; near = near; far = far }) (sends [] (record { is_down = d; near = near; far = far }))
 sends_none true near far = refl
 sends_none false near far = ap (λ (f : List Message). record { is_down = false; near = record near { flight = f }; far = far }) (append_nil near.flight)
 
-left_breaks : (d : Bool) (near far : End) (m : Message) → (left m (with_breaks [] (record { is_down = d; near = near; far = far }))).near.breaks ≡ []
+left_breaks : (d : Bool) (near far : SessionEnd) (m : Message) → (left m (with_breaks [] (record { is_down = d; near = near; far = far }))).near.breaks ≡ []
 left_breaks true near far m = refl
 left_breaks false near far m = refl
 
-sends_breaks : (d : Bool) (near far : End) (ms : List Message) → near.breaks ≡ [] → with_breaks [] (sends ms (record { is_down = d; near = near; far = far })) ≡ sends ms (record { is_down = d; near = near; far = far })
+sends_breaks : (d : Bool) (near far : SessionEnd) (ms : List Message) → near.breaks ≡ [] → with_breaks [] (sends ms (record { is_down = d; near = near; far = far })) ≡ sends ms (record { is_down = d; near = near; far = far })
 sends_breaks true near far ms e = λ i. record { is_down = true; near = record near { breaks = sym e i }; far = far }
 sends_breaks false near far ms e = λ i. record { is_down = false; near = record near { flight = near.flight ++ ms; breaks = sym e i }; far = far }
 
-sends_next : (d : Bool) (near far : End) (m : Message) (ms : List Message) → sends ms (left m (with_breaks [] (record { is_down = d; near = near; far = far }))) ≡ with_breaks [] (sends (m ∷ ms) (record { is_down = d; near = near; far = far }))
+sends_next : (d : Bool) (near far : SessionEnd) (m : Message) (ms : List Message) → sends ms (left m (with_breaks [] (record { is_down = d; near = near; far = far }))) ≡ with_breaks [] (sends (m ∷ ms) (record { is_down = d; near = near; far = far }))
 sends_next true near far m ms = refl
 sends_next false near far m ms = sends_left false near far m ms [] []
 
@@ -64,7 +64,7 @@ ArrivalOf [] s t = t ≡ s
 ArrivalOf (m ∷ ms) s t = Arrival m ms s t
 
 -- the cases
-abbrev met : Bool → Phase → Phase → End → End → List Change → Session
+abbrev met : Bool → Phase → Phase → SessionEnd → SessionEnd → List Change → Session
 met b p q near far ds = record { is_down = false; near = record near { phase = p; notice = false }; far = record far { phase = q; notice = false; flight = greetings b p q ++ map Carries ds } }
 
 kept : (m : Message) (ms : List Message) (s t : Session) → t.is_down ≡ false → t.near.breaks ≡ s.near.breaks → t.far.breaks ≡ s.far.breaks → t.far.flight ≡ ms → t.near.flight ≡ s.near.flight
@@ -72,7 +72,7 @@ kept : (m : Message) (ms : List Message) (s t : Session) → t.is_down ≡ false
     → (may_send t ≡ true → (may_send s ≡ true) ⊎ ((m ≡ Keepalive) × (is_peering s ≡ true))) → (t.far.sent ≡ s.far.sent) × (t.far.held ≡ s.far.held) × (t.far.phase ≡ s.far.phase) → Arrival m ms s t
 kept m ms s t whole nb fb taken flight held up sent may far = record { whole = whole; near_breaks = nb; far_breaks = fb; taken = taken; reply = inl flight; held = held; up = up; sent = sent; may = may; far_same = far }
 
-first_arrives : (b : Bool) (p q : Phase) (near far : End) (ds : List Change) → are_peers near.role far.role ≡ b → meets b p q ≡ true → (may_send_at b q ≡ false → ds ≡ []) → near.breaks ≡ []
+first_arrives : (b : Bool) (p q : Phase) (near far : SessionEnd) (ds : List Change) → are_peers near.role far.role ≡ b → meets b p q ≡ true → (may_send_at b q ≡ false → ds ≡ []) → near.breaks ≡ []
     → ArrivalOf (greetings b p q ++ map Carries ds) (met b p q near far ds) (first_as b p (greetings b p q ++ map Carries ds) (met b p q near far ds))
 first_arrives true Opened Opened near far ds kind phases early unbroken =
     let s : Session = met true Opened Opened near far ds in

@@ -10,7 +10,7 @@ use Rattle.node_model.specs.Maps.{Map}
 use Rattle.node_model.specs.Step.{Opened}
 use Rattle.machine_model.specs.Setup.{Name}
 use Rattle.machine_model.specs.Session.{Message, Session, turned, may_send, greeting, opened, passed}
-use Rattle.machine_model.specs.Network.{Network, is_at, view, views_of, wanted}
+use Rattle.machine_model.specs.Network.{MachineState, is_at, view, views_of, wanted}
 use Rattle.machine_model.specs.Steps.{at_node, joins, change_session, pass, session_in, session_of, is_broken, around, connect, may_connect, connect_found, connect_if}
 use Rattle.machine_model.specs.Events.{Connect, is_earlier, next}
 use Rattle.machine_model.specs.Deeds.{IsOpenedAt}
@@ -87,7 +87,7 @@ full_passed m s f =
 abbrev pub HasOpened : Option Session → Type 0
 HasOpened o = (t : Session) × (o ≡ Some t) × Full t
 
-connect_opens : (a b : Name) → a ≢ b → (w : Network) (s : Session) → session_in w.sessions a b ≡ Some s → s.near.breaks ≡ [] → s.far.breaks ≡ [] → HasOpened (session_of (connect a b w) a b)
+connect_opens : (a b : Name) → a ≢ b → (w : MachineState) (s : Session) → session_in w.sessions a b ≡ Some s → s.near.breaks ≡ [] → s.far.breaks ≡ [] → HasOpened (session_of (connect a b w) a b)
 connect_opens a b apart w s is e f =
     let v = change_session a b opened w in
     let g = λ (s : Session). passed (wanted v.setup (views_of a v.sessions) (view s)) s in
@@ -102,7 +102,7 @@ connect_opens a b apart w s is e f =
     subst (λ c. HasOpened (session_of (cond c u (pass b x)) a b)) (sym whole)
     (around h (around opened t), found_second a b apart h (λ s. passed_nodes (wanted x.setup (views_of b x.sessions) (view s)) s) x.sessions (around opened t) second, full_passed (wanted x.setup (views_of b x.sessions) (view (turned (around opened t)))) (around opened t) (full_opened t half))
 
-if_opens : (a b : Name) → a ≢ b → (w : Network) (s : Session) → session_in w.sessions a b ≡ Some s → may_connect s ≡ true → s.near.breaks ≡ [] → s.far.breaks ≡ [] → HasOpened (session_of (connect_if a b w) a b)
+if_opens : (a b : Name) → a ≢ b → (w : MachineState) (s : Session) → session_in w.sessions a b ≡ Some s → may_connect s ≡ true → s.near.breaks ≡ [] → s.far.breaks ≡ [] → HasOpened (session_of (connect_if a b w) a b)
 if_opens a b apart w s is m e f =
     subst (λ (o : Option Session). HasOpened (session_of (connect_found o a b w) a b)) (sym is)
     (subst (λ c. HasOpened (session_of (cond c (connect a b w) w) a b)) (sym m) (connect_opens a b apart w s is e f))
@@ -110,7 +110,7 @@ if_opens a b apart w s is m e f =
 opened_at : (o : Option Session) → HasOpened o → IsOpenedAt o
 opened_at o h = record { session = h.0; found = h.1; whole = h.2.half.whole; near = h.2.half.near; far = h.2.far }
 
-pub connected_opens : (size : Name → Message → ℕ) (w : Network) (a b : Name) (s : Session) → a ≢ b → session_of w a b ≡ Some s → may_connect s ≡ true → s.near.breaks ≡ [] → s.far.breaks ≡ [] → IsOpenedAt (session_of (next size w (Connect a b)) a b)
+pub connected_opens : (size : Name → Message → ℕ) (w : MachineState) (a b : Name) (s : Session) → a ≢ b → session_of w a b ≡ Some s → may_connect s ≡ true → s.near.breaks ≡ [] → s.far.breaks ≡ [] → IsOpenedAt (session_of (next size w (Connect a b)) a b)
 unfolding next
 connected_opens size w a b s apart is m e f =
     elim (is_earlier w.sessions a b) as (λ c. IsOpenedAt (session_of (cond c (connect_if a b w) (connect_if b a w)) a b)) [

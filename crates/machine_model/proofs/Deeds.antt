@@ -14,9 +14,9 @@ use Rattle.node_model.specs.Members.{Member}
 use Rattle.node_model.proofs.Members.{any_in, from_any}
 use Rattle.machine_model.specs.Setup.{Name, Move, Setup, checked, edited_without, moves, renumbered, remade}
 use Rattle.machine_model.specs.Session.{Message, Session, turned, shut, lost, told, left, meets_break, counted, with_breaks, arrived}
-use Rattle.machine_model.specs.Network.{Network, is_at, sessions_of, brought, replaced}
+use Rattle.machine_model.specs.Network.{MachineState, is_at, sessions_of, brought, replaced}
 use Rattle.machine_model.specs.Steps.{at_node, joins, with_session, change_session, change_node, pass, session_in, session_of, in_flight}
-use Rattle.machine_model.specs.Events.{Event, Edits, Deliver, Lose, Restart, Break, edits, moved, lose, add_break, is_node, next}
+use Rattle.machine_model.specs.Events.{MachineEvent, Edits, Deliver, Lose, Restart, Break, edits, moved, lose, add_break, is_node, next}
 use Rattle.machine_model.specs.Moments.{nodes, IsLost, NodeHasTold}
 use Rattle.machine_model.specs.Deeds.{AreOthers, IsClosed, MeetsOne}
 use Rattle.machine_model.proofs.Walk.{next_walk}
@@ -84,7 +84,7 @@ module _ (n a b : Name) (not_a : n ≢ a) (not_b : n ≢ b) (f : Session → Ses
       ] refl
 
 -- ---- losses
-module _ (size : Name → Message → ℕ) (w : Network) where
+module _ (size : Name → Message → ℕ) (w : MachineState) where
   pub lost_session : (a b : Name) (s : Session) → session_of w a b ≡ Some s → s.is_down ≡ false → session_of (next size w (Lose a b)) a b ≡ Some (lost s)
   unfolding next
   lost_session a b s is whole =
@@ -126,7 +126,7 @@ module _ (size : Name → Message → ℕ) (w : Network) where
   delivered_told from to e = subst (λ c. NodeHasTold (cond c w (pass to (change_session to from arrived w))) to) (sym e) (pass_tells to (change_session to from arrived w))
 
   -- ---- edits
-  moved_setup : (m : Option Move) (v : Network) → (moved m v).setup ≡ v.setup
+  moved_setup : (m : Option Move) (v : MachineState) → (moved m v).setup ≡ v.setup
   moved_setup None v = refl
   moved_setup (Some m) v = passes_setup m.left (record { setup = v.setup; sessions = replaced m.name (brought v.setup.topology.controllers m.now) v.sessions })
 
@@ -148,7 +148,7 @@ pub lost_lost : (s : Session) → IsLost (lost s)
 lost_lost s = record { near_flight = refl; far_flight = refl; near_notice = λ e. e; far_notice = λ e. e }
 
 -- ---- the configuration stays
-pub setup_kept : (size : Name → Message → ℕ) (w : Network) (e : Event) → ((d : Edit) → e ≢ Edits d) → (next size w e).setup ≡ w.setup
+pub setup_kept : (size : Name → Message → ℕ) (w : MachineState) (e : MachineEvent) → ((d : Edit) → e ≢ Edits d) → (next size w e).setup ≡ w.setup
 setup_kept size w e no_edit = next_walk size (HasSetup w.setup) (setup_steps size w.setup) w e (λ d is _. absurd (no_edit d is)) refl
 
 -- ---- sends that meet breaks

@@ -8,9 +8,9 @@ use Rattle.config_check.specs.Checked.{Checked}
 use Rattle.node_model.specs.Maps.{Change}
 use Rattle.node_model.specs.Step.{Phase, Idle, Opened, Confirmed, Up}
 use Rattle.machine_model.specs.Setup.{Name}
-use Rattle.machine_model.specs.Session.{End, Session, Message, Open, Keepalive, Hello, Carries, turned, is_idle, is_live, is_peering, may_send_at, with_phase, shut, told, peer_took, item_took, took}
-use Rattle.machine_model.specs.Network.{AreNamed, Network, start}
-use Rattle.machine_model.specs.Events.{Event, after}
+use Rattle.machine_model.specs.Session.{SessionEnd, Session, Message, Open, Keepalive, Hello, Carries, turned, is_idle, is_live, is_peering, may_send_at, with_phase, shut, told, peer_took, item_took, took}
+use Rattle.machine_model.specs.Network.{AreNamed, MachineState, start}
+use Rattle.machine_model.specs.Events.{MachineEvent, after}
 use Rattle.machine_model.specs.Moments.{Each, greeted, heard, cell, NoneGoesDown, IsPartly, IsProperEnd, IsFlowing, IsJoined, IsLost, NodeHasTold, ArePositive}
 use Rattle.machine_model.proofs.SessionFact.{sends, told_cases, greetings, meets, Flows, Fact, Fact-turned, live_receiver, tidy_near}
 use Rattle.machine_model.proofs.NetworkFact.{after_sound}
@@ -88,7 +88,7 @@ passes false Idle q cs e early = absurd (true≢false (sym e))
 
 -- ---- each session
 module _ (size : Name → Message → ℕ) where
-  flowing : (b : Bool) (near far : End) → Flows size b near far → IsFlowing b near far
+  flowing : (b : Bool) (near far : SessionEnd) → Flows size b near far → IsFlowing b near far
   flowing b near far f = record {
     greetings = greetings b near.phase far.phase;
     changes = f.changes;
@@ -143,8 +143,8 @@ module _ (size : Name → Message → ℕ) where
   each_of_sound P h [] e = tt
   each_of_sound P h (s ∷ ss) e = (h s e.0, each_of_sound P h ss e.1)
 
-  module _ (positive : ArePositive size) (x : Checked) (es : List Event) where
-    abbrev now : Network
+  module _ (positive : ArePositive size) (x : Checked) (es : List MachineEvent) where
+    abbrev now : MachineState
     now = after size (start x) es
 
     each_now : (P : Session → Type 0) → ((s : Session) → Fact size s → P s) → Each P now.sessions

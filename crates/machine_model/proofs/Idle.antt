@@ -11,9 +11,9 @@ use Rattle.schedule_script.specs.declared.answer.Answer.{Answer}
 use Rattle.schedule_script.specs.declared.answer.Answer.TheVariants.{Idle, EditRefused}
 use Rattle.machine_model.specs.Setup.{Name, checked, edited_without, moves}
 use Rattle.machine_model.specs.Session.{Message, Session, turned, lost, shut, octets_arrived, arrived}
-use Rattle.machine_model.specs.Network.{Network}
+use Rattle.machine_model.specs.Network.{MachineState}
 use Rattle.machine_model.specs.Steps.{joins, with_session, change_session, change_node, pass, session_in, session_of, in_flight, repeat, deliver, is_broken, connect, may_connect, connect_found, connect_if}
-use Rattle.machine_model.specs.Events.{Event, Edits, Deliver, DeliverOctets, Lose, Connect, Restart, Round, Settle, Show, Trace, Break, edits, lose, is_earlier, add_break, is_node, next, unless, edit_answer, answer_to}
+use Rattle.machine_model.specs.Events.{MachineEvent, Edits, Deliver, DeliverOctets, Lose, Connect, Restart, Round, Settle, Show, Trace, Break, edits, lose, is_earlier, add_break, is_node, next, unless, edit_answer, answer_to}
 
 -- ---- answers
 abbrev pub was_idle : Answer → Bool
@@ -34,12 +34,12 @@ never_refused true = refl
 never_refused false = refl
 
 -- ---- deliveries
-deliver_same : (n : ℕ) (from to : Name) (w : Network) → (in_flight w from to == 0) ≡ true → repeat n (deliver from to) w ≡ w
+deliver_same : (n : ℕ) (from to : Name) (w : MachineState) → (in_flight w from to == 0) ≡ true → repeat n (deliver from to) w ≡ w
 deliver_same zero from to w e = refl
 deliver_same (suc n) from to w e = ap (repeat n (deliver from to)) (ap (λ b. cond b w (pass to (change_session to from arrived w))) e) ∙ deliver_same n from to w e
 
 -- ---- losses
-lose_same : (o : Option Session) (a b : Name) (w : Network) → unwrap_or (option_map (λ (s : Session). s.is_down) o) true ≡ true → lose o a b w ≡ w
+lose_same : (o : Option Session) (a b : Name) (w : MachineState) → unwrap_or (option_map (λ (s : Session). s.is_down) o) true ≡ true → lose o a b w ≡ w
 lose_same None a b w e = refl
 lose_same (Some s) a b w e = ap (λ c. cond c w (change_session a b lost w)) e
 
@@ -67,7 +67,7 @@ may_either a b (s ∷ ss) = by_tests (may_either a b ss) (joins a b s) (joins b 
     by_tests rest false true = sym (may_turned s)
     by_tests rest false false = rest
 
-connect_same : (o : Option Session) (a b : Name) (w : Network) → may o ≡ false → connect_found o a b w ≡ w
+connect_same : (o : Option Session) (a b : Name) (w : MachineState) → may o ≡ false → connect_found o a b w ≡ w
 connect_same None a b w e = refl
 connect_same (Some s) a b w e = ap (λ c. cond c (connect a b w) w) e
 
@@ -92,7 +92,7 @@ edit_not_idle None e = true≢false (sym e)
 edit_not_idle (Some f) e = true≢false (sym e)
 
 module _ (size : Name → Message → ℕ) where
-  same : (w : Network) (e : Event) → was_idle (answer_to w e) ≡ true → next size w e ≡ w
+  same : (w : MachineState) (e : MachineEvent) → was_idle (answer_to w e) ≡ true → next size w e ≡ w
   unfolding next
   same w (Edits d) e = absurd (edit_not_idle (edit_fault (checked w.setup) d) e)
   same w (Deliver from to n) e = deliver_same n from to w (idle_where (in_flight w from to == 0) e)
@@ -111,7 +111,7 @@ module _ (size : Name → Message → ℕ) where
   same w (Trace p) e = refl
   same w (Break from to n) e = λ i. record { setup = w.setup; sessions = no_session from to (add_break n) w.sessions (not-true (is_some (session_of w from to)) (idle_where (not (is_some (session_of w from to))) e)) i }
 
-  pub idle_same : (w : Network) (e : Event) → answer_to w e ≡ Idle → next size w e ≡ w
+  pub idle_same : (w : MachineState) (e : MachineEvent) → answer_to w e ≡ Idle → next size w e ≡ w
   idle_same w e is = same w e (ap was_idle is)
 
   -- ---- edits that are refused
@@ -122,7 +122,7 @@ module _ (size : Name → Message → ℕ) where
   connect_not_edit None e = true≢false (sym e)
   connect_not_edit (Some s) e = not_edit (not (may_connect s)) e
 
-  left : (w : Network) (e : Event) → was_refused (answer_to w e) ≡ true → next size w e ≡ w
+  left : (w : MachineState) (e : MachineEvent) → was_refused (answer_to w e) ≡ true → next size w e ≡ w
   unfolding next
   left w (Edits d) e =
       elim (edit_fault (checked w.setup) d) as (λ o. was_refused (edit_answer o) ≡ true → edits (moves d w.setup.topology) (edited_without o w.setup d) w ≡ w) [ None ↦ λ e. absurd (true≢false (sym e)) | Some f ↦ λ _. refl ] e
@@ -137,5 +137,5 @@ module _ (size : Name → Message → ℕ) where
   left w (Trace p) e = refl
   left w (Break from to n) e = absurd (not_edit (not (is_some (session_of w from to))) e)
 
-  pub refused_same : (w : Network) (e : Event) (f : EditFault) → answer_to w e ≡ EditRefused f → next size w e ≡ w
+  pub refused_same : (w : MachineState) (e : MachineEvent) (f : EditFault) → answer_to w e ≡ EditRefused f → next size w e ≡ w
   refused_same w e f is = left w e (ap was_refused is)

@@ -21,9 +21,9 @@ use Rattle.node_model.specs.Members.{Member}
 use Rattle.node_model.proofs.Members.{none_some, any_in, from_any}
 use Rattle.machine_model.specs.Setup.{Name, checked}
 use Rattle.machine_model.specs.Session.{Message, Session, waiting}
-use Rattle.machine_model.specs.Network.{Network}
+use Rattle.machine_model.specs.Network.{MachineState}
 use Rattle.machine_model.specs.Steps.{session_of, in_flight, is_broken, may_connect}
-use Rattle.machine_model.specs.Events.{Event, Edits, Deliver, DeliverOctets, Lose, Connect, Restart, Round, Settle, Show, Trace, Break, is_node, shown, unless, edit_answer, answer_to}
+use Rattle.machine_model.specs.Events.{MachineEvent, Edits, Deliver, DeliverOctets, Lose, Connect, Restart, Round, Settle, Show, Trace, Break, is_node, shown, unless, edit_answer, answer_to}
 use Rattle.machine_model.specs.Deeds.{NoneOr, WaitsForNothing, MayNotConnect, IsNoNode, HasNothingToDo}
 use Rattle.machine_model.proofs.Idle.{was_idle, idle_where}
 use Rattle.machine_model.proofs.AtRest.{no_messages}
@@ -62,7 +62,7 @@ flight_is (Some s) = ((λ e. e), (λ e. e))
 both : {A B C : Type 0} → A ↔ B → B ↔ C → A ↔ C
 both f g = ((λ a. g.0 (f.0 a)), (λ c. f.1 (g.1 c)))
 
-idle_flight : (w : Network) (from to : Name) → (unless (in_flight w from to == 0) ≡ Idle) ↔ NoneOr WaitsForNothing (session_of w to from)
+idle_flight : (w : MachineState) (from to : Name) → (unless (in_flight w from to == 0) ≡ Idle) ↔ NoneOr WaitsForNothing (session_of w to from)
 idle_flight w from to = both (unless_is (in_flight w from to == 0)) (both (flight_is (session_of w to from)) (found_is WaitsForNothing (λ s. waiting s == 0) nothing_waits (session_of w to from)))
 
 -- ---- connections
@@ -102,7 +102,7 @@ neither true b = ((λ e. absurd (true≢false (sym e))), (λ h. absurd (true≢f
 neither false true = ((λ e. absurd (true≢false (sym e))), (λ h. absurd (true≢false h.1)))
 neither false false = ((λ e. (refl, refl)), (λ h. refl))
 
-no_node : (w : Network) (name : Name) → (not (is_node w name) ≡ true) ↔ IsNoNode w.setup.topology name
+no_node : (w : MachineState) (name : Name) → (not (is_node w name) ≡ true) ↔ IsNoNode w.setup.topology name
 no_node w name =
     let t = w.setup.topology in
     let c = not_any (λ (c : NodeId). c.name) name t.controllers in
@@ -110,7 +110,7 @@ no_node w name =
     both (neither (list_any (λ (c : NodeId). same_name c.name name) t.controllers) (is_some (node_named t name)))
     ((λ h. (c.0 h.0, n.0 (sym (found_any name t.nodes) ∙ h.1))), (λ h. (c.1 h.0, found_any name t.nodes ∙ n.1 h.1)))
 
-show_answer : (w : Network) (name : Name) → (cond (is_node w name) (Shown (shown w name)) Idle ≡ Idle) ↔ (not (is_node w name) ≡ true)
+show_answer : (w : MachineState) (name : Name) → (cond (is_node w name) (Shown (shown w name)) Idle ≡ Idle) ↔ (not (is_node w name) ≡ true)
 show_answer w name =
     elim (is_node w name) as (λ b. (cond b (Shown (shown w name)) Idle ≡ Idle) ↔ (not b ≡ true)) [
       | true ↦ ((λ e. absurd (not_idle (Shown (shown w name)) refl e)), (λ e. absurd (true≢false (sym e))))
@@ -126,7 +126,7 @@ edit_not_idle : (o : Option EditFault) → edit_answer o ≡ Idle → ⊥
 edit_not_idle None e = not_idle Did refl e
 edit_not_idle (Some f) e = not_idle (EditRefused f) refl e
 
-pub idle_exactly : (w : Network) (e : Event) → (answer_to w e ≡ Idle) ↔ HasNothingToDo w e
+pub idle_exactly : (w : MachineState) (e : MachineEvent) → (answer_to w e ≡ Idle) ↔ HasNothingToDo w e
 idle_exactly w (Edits d) = ((λ e. absurd (edit_not_idle (edit_fault (checked w.setup) d) e)), (λ h. absurd h))
 idle_exactly w (Deliver from to n) = idle_flight w from to
 idle_exactly w (DeliverOctets from to n) = idle_flight w from to
@@ -148,5 +148,5 @@ refused_as : (o : Option EditFault) (f : EditFault) → (edit_answer o ≡ EditR
 refused_as None f = ((λ e. ap fault_in e), (λ e. absurd (none_some f e)))
 refused_as (Some g) f = ((λ e. ap fault_in e), (λ e. ap edit_answer e))
 
-pub refused_exactly : (w : Network) (d : Edit) (f : EditFault) → (answer_to w (Edits d) ≡ EditRefused f) ↔ (edit_fault (checked w.setup) d ≡ Some f)
+pub refused_exactly : (w : MachineState) (d : Edit) (f : EditFault) → (answer_to w (Edits d) ≡ EditRefused f) ↔ (edit_fault (checked w.setup) d ≡ Some f)
 refused_exactly w d f = refused_as (edit_fault (checked w.setup) d) f

@@ -20,17 +20,17 @@ use Rattle.node_model.specs.Members.{Member}
 use Rattle.node_model.proofs.Members.{from_any, from_filter, in_map}
 use Rattle.machine_model.specs.Setup.{Name, Move, Numbers, Setup, agents_in, agents_of, came_at, checked, edited, edited_without, first_numbers, id_of, is_listed, listed_by, lists, moves, remade, renumbered, renumbered_at, with_agent, without_agent}
 use Rattle.machine_model.specs.Session.{Role, Configuration, Controller, Agent, Message, Session}
-use Rattle.machine_model.specs.Network.{Network, AreNamed, accesses, asked, between, brought, config, feeds, is_of, peerings, replaced, same_role, start}
-use Rattle.machine_model.specs.Events.{Event, after, edits, moved}
+use Rattle.machine_model.specs.Network.{MachineState, AreNamed, accesses, asked, between, brought, config, feeds, is_of, peerings, replaced, same_role, start}
+use Rattle.machine_model.specs.Events.{MachineEvent, after, edits, moved}
 use Rattle.machine_model.specs.Steps.{pass}
-use Rattle.machine_model.specs.Moments.{Each, Nodes, nodes}
+use Rattle.machine_model.specs.Moments.{Each, NodePair, nodes}
 use Rattle.machine_model.proofs.Distinct.{Apart, apart_of, apart_right}
 use Rattle.machine_model.proofs.Replaced.{each_append, each_replaced}
 use Rattle.machine_model.proofs.NodesFact.{Holds, after_holds, pass_nodes, passes_nodes, passes_setup}
 use Rattle.machine_model.proofs.Changing.{KindsApart, MoverIs, Renews, StaysPut, edit_apart, found_alone, kinds_apart, renews}
 
 -- ---- what is said of the two nodes of each session, and of each number
-pub record Stands (t : Topology) (p : Nodes) : Type 0 where
+pub record Stands (t : Topology) (p : NodePair) : Type 0 where
   pub near : (p.0.1 ≡ Configuration) ⊎ ((p.0.1 ≡ Controller) × Member p.0.0 (controller_names t))
   pub fits : p.0.1 ≡ Configuration → same_name p.0.0 config ≡ true
   pub far : ((p.1.1 ≡ Controller) × Member p.1.0 (controller_names t)) ⊎ ((p.1.1 ≡ Agent) × Member p.0.0 (listed_by (node_named t p.1.0)))
@@ -39,7 +39,7 @@ abbrev pub ListedAt : Topology → Name → Option NodeId → Type 0
 ListedAt t c None = Unit {0}
 ListedAt t c (Some a) = Member c (listed_by (node_named t a.name))
 
-pub record Placed (x : Setup) (ps : List Nodes) : Type 0 where
+pub record Placed (x : Setup) (ps : List NodePair) : Type 0 where
   pub stand : AllByRecursion (Stands x.topology) ps
   pub numbered : (c : Name) → AllByRecursion (ListedAt x.topology c) (agents_of x c)
   pub kinds : KindsApart x.topology
@@ -48,11 +48,11 @@ pub record Placed (x : Setup) (ps : List Nodes) : Type 0 where
 abbrev StandsAt : Topology → Session → Type 0
 StandsAt t s = Stands t (nodes s)
 
-pub of_nodes : (P : Nodes → Type 0) (ss : List Session) → AllByRecursion P (map nodes ss) → Each (λ s. P (nodes s)) ss
+pub of_nodes : (P : NodePair → Type 0) (ss : List Session) → AllByRecursion P (map nodes ss) → Each (λ s. P (nodes s)) ss
 of_nodes P [] a = tt
 of_nodes P (s ∷ ss) a = (a.0, of_nodes P ss a.1)
 
-pub to_nodes : (P : Nodes → Type 0) (ss : List Session) → Each (λ s. P (nodes s)) ss → AllByRecursion P (map nodes ss)
+pub to_nodes : (P : NodePair → Type 0) (ss : List Session) → Each (λ s. P (nodes s)) ss → AllByRecursion P (map nodes ss)
 to_nodes P [] a = tt
 to_nodes P (s ∷ ss) a = (a.0, to_nodes P ss a.1)
 
@@ -165,22 +165,22 @@ module _ (t u : Topology) where
           ] refl h
 
 -- ---- every event keeps it
-pub moved_nodes : (m : Option Move) (w : Network) → map nodes (moved m w).sessions ≡ map nodes (resessioned m w.setup.topology.controllers w.sessions)
+pub moved_nodes : (m : Option Move) (w : MachineState) → map nodes (moved m w).sessions ≡ map nodes (resessioned m w.setup.topology.controllers w.sessions)
 moved_nodes None w = refl
 moved_nodes (Some m) w = passes_nodes m.left (record { setup = w.setup; sessions = replaced m.name (brought w.setup.topology.controllers m.now) w.sessions })
 
-pub moved_setup : (m : Option Move) (w : Network) → (moved m w).setup ≡ w.setup
+pub moved_setup : (m : Option Move) (w : MachineState) → (moved m w).setup ≡ w.setup
 moved_setup None w = refl
 moved_setup (Some m) w = passes_setup m.left (record { setup = w.setup; sessions = replaced m.name (brought w.setup.topology.controllers m.now) w.sessions })
 
-pub edits_placed : (d : Edit) (w : Network) → Holds Placed w → Holds Placed (edits (moves d w.setup.topology) (edited w.setup d) w)
+pub edits_placed : (d : Edit) (w : MachineState) → Holds Placed w → Holds Placed (edits (moves d w.setup.topology) (edited w.setup d) w)
 edits_placed d w p =
     let x = w.setup in
     let m = moves d x.topology in
     elim (edit_fault (checked x) d) as (λ o. edit_fault (checked x) d ≡ o → Holds Placed (edits m (edited_without o x d) w)) [
       | None ↦ λ none.
           let y : Setup = remade (checked_edited d (checked x)) (renumbered m x.numbers) in
-          let v : Network = record { setup = y; sessions = w.sessions } in
+          let v : MachineState = record { setup = y; sessions = w.sessions } in
           let r : Renews x.topology y.topology m = renews (checked x) d none in
           let there : Placed y (map nodes (resessioned m y.topology.controllers w.sessions)) = record {
             stand = to_nodes (Stands y.topology) (resessioned m y.topology.controllers w.sessions) (stand_still x.topology y.topology m r w.sessions (of_nodes (Stands x.topology) w.sessions p.stand));
@@ -192,7 +192,7 @@ edits_placed d w p =
       | Some f ↦ λ _. p
     ] refl
 
-pub after_placed : (size : Name → Message → ℕ) (w : Network) (es : List Event) → Holds Placed w → Holds Placed (after size w es)
+pub after_placed : (size : Name → Message → ℕ) (w : MachineState) (es : List MachineEvent) → Holds Placed w → Holds Placed (after size w es)
 after_placed size w es p = after_holds size Placed edits_placed w es p
 
 -- ---- the start

@@ -12,10 +12,10 @@ use Rattle.node_model.specs.Maps.{Map, difference}
 use Rattle.node_model.specs.Step.{Idle}
 use Rattle.machine_model.specs.Setup.{Name, Move, Setup, checked, edited_without, moves, remade, renumbered}
 use Rattle.machine_model.specs.Session.{Agent, Carries, Message, Session, is_peering, may_send_at, passed, told, turned}
-use Rattle.machine_model.specs.Network.{Network, brought, config, is_at, is_of, replaced, same_role, view, views_of, wanted}
+use Rattle.machine_model.specs.Network.{MachineState, brought, config, is_at, is_of, replaced, same_role, view, views_of, wanted}
 use Rattle.machine_model.specs.Steps.{at_node, pass}
 use Rattle.machine_model.specs.Events.{Edits, edits, moved, next, passes}
-use Rattle.machine_model.specs.Moments.{Each, Nodes}
+use Rattle.machine_model.specs.Moments.{Each, NodePair}
 use Rattle.machine_model.specs.Deeds.{IsNew, IsNewFor}
 use Rattle.machine_model.proofs.NetworkFact.{at_node_nodes, passed_nodes}
 use Rattle.machine_model.proofs.Replaced.{each_brought, each_replaced}
@@ -42,20 +42,20 @@ module _ (name : Name) where
   all_leave n W [] e = tt
   all_leave n W (s ∷ ss) e =
       let f : Session → Session = at_node n (λ s. passed (W s) s) in
-      let kept : is_of name (f s) ≡ is_of name s = ap (λ (p : Nodes). same_name p.1.0 name && same_role Agent p.1.1) (at_node_nodes n (λ s. passed (W s) s) (λ s. passed_nodes (W s) s) s) in
+      let kept : is_of name (f s) ≡ is_of name s = ap (λ (p : NodePair). same_name p.1.0 name && same_role Agent p.1.1) (at_node_nodes n (λ s. passed (W s) s) (λ s. passed_nodes (W s) s) s) in
       ((λ is. let new = e.0 (sym kept ∙ is) in subst IsNew (sym (node_leaves n W s new)) new), all_leave n W ss e.1)
 
-  pass_leaves : (n : Name) (w : Network) → Each (IsNewFor name) w.sessions → Each (IsNewFor name) (pass n w).sessions
+  pass_leaves : (n : Name) (w : MachineState) → Each (IsNewFor name) w.sessions → Each (IsNewFor name) (pass n w).sessions
   pass_leaves n w e = all_leave n (λ s. wanted w.setup (views_of n w.sessions) (view s)) w.sessions e
 
-  passes_leave : (ns : List Name) (w : Network) → Each (IsNewFor name) w.sessions → Each (IsNewFor name) (passes ns w).sessions
+  passes_leave : (ns : List Name) (w : MachineState) → Each (IsNewFor name) w.sessions → Each (IsNewFor name) (passes ns w).sessions
   passes_leave [] w e = e
   passes_leave (n ∷ ns) w e = passes_leave ns (pass n w) (pass_leaves n w e)
 
-moved_anew : (m : Move) (v : Network) → Each (IsNewFor m.name) (pass config (moved (Some m) v)).sessions
+moved_anew : (m : Move) (v : MachineState) → Each (IsNewFor m.name) (pass config (moved (Some m) v)).sessions
 moved_anew m v =
     let new : List Session = brought v.setup.topology.controllers m.now in
-    let u : Network = record { setup = v.setup; sessions = replaced m.name new v.sessions } in
+    let u : MachineState = record { setup = v.setup; sessions = replaced m.name new v.sessions } in
     pass_leaves m.name config (passes m.left u)
     (passes_leave m.name m.left u
     (each_replaced (λ _. Unit {0}) (IsNewFor m.name) m.name (λ s off _ is. absurd (true≢false (sym is ∙ off))) new v.sessions
@@ -70,7 +70,7 @@ moved_anew m v =
     units [] = tt
     units (s ∷ ss) = (tt, units ss)
 
-pub begins_anew : (size : Name → Message → ℕ) (w : Network) (d : Edit) (m : Move) → edit_fault (checked w.setup) d ≡ None → moves d w.setup.topology ≡ Some m → Each (IsNewFor m.name) (next size w (Edits d)).sessions
+pub begins_anew : (size : Name → Message → ℕ) (w : MachineState) (d : Edit) (m : Move) → edit_fault (checked w.setup) d ≡ None → moves d w.setup.topology ≡ Some m → Each (IsNewFor m.name) (next size w (Edits d)).sessions
 unfolding next
 begins_anew size w d m none is =
     let y : Setup = remade (checked_edited d (checked w.setup)) (renumbered (moves d w.setup.topology) w.setup.numbers) in

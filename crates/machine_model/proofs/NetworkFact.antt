@@ -12,10 +12,10 @@ use Rattle.machine_model.specs.Setup.{Name, Setup, Move, edited, moves}
 use Rattle.ov_types.specs.First.{same_name}
 use Rattle.ov_link.specs.Breaks.{with_break}
 use Rattle.machine_model.specs.Session.{Role, Message, Carries, Session, turned, may_send, shut, lost, told, passed, opened, arrived, octets_arrived}
-use Rattle.machine_model.specs.Network.{Network, is_at, wanted, view, views_of, config, fresh, brought, replaced}
-use Rattle.machine_model.specs.Events.{Event, edits, passes, moved, add_break, after}
+use Rattle.machine_model.specs.Network.{MachineState, is_at, wanted, view, views_of, config, fresh, brought, replaced}
+use Rattle.machine_model.specs.Events.{MachineEvent, edits, passes, moved, add_break, after}
 use Rattle.machine_model.specs.Steps.{at_node, joins, with_session, change_session, pass, session_in, round, is_broken, around, open_second, connect, may_connect, connect_all, without_breaks}
-pub use Rattle.machine_model.specs.Moments.{Each, Nodes, nodes}
+pub use Rattle.machine_model.specs.Moments.{Each, NodePair, nodes}
 use Rattle.machine_model.proofs.SessionFact.{sends, told_cases, Down, Fact, Fact-turned, shut_down, lost_down, tidy_near, tidy_far, passed_keeps, arrived_keeps, octets_arrived_keeps}
 use Rattle.machine_model.proofs.Walk.{Steps, round_walk, connections_walk, after_walk}
 use Rattle.machine_model.proofs.Replaced.{each_replaced, each_brought}
@@ -54,16 +54,16 @@ module _ (P : Session → Type 0) (both : (s : Session) → P s → P (turned s)
 
 -- ---- steps that keep the fact of each session
 module _ (size : Name → Message → ℕ) (positive : (n : Name) (m : Message) → 0 < size n m) where
-  abbrev pub IsSound : Network → Type 0
+  abbrev pub IsSound : MachineState → Type 0
   IsSound w = Each (Fact size) w.sessions
 
-  pass_sound : (n : Name) (w : Network) → IsSound w → IsSound (pass n w)
+  pass_sound : (n : Name) (w : MachineState) → IsSound w → IsSound (pass n w)
   pass_sound n w e = nodes_keep (Fact size) (Fact-turned size) (λ s. passed (wanted w.setup (views_of n w.sessions) (view s)) s) (λ s f. passed_keeps size positive (wanted w.setup (views_of n w.sessions) (view s)) s f) n w.sessions e
 
-  take_sound : (to from : Name) (f : Session → Session) → ((s : Session) → Fact size s → Fact size (f s)) → (w : Network) → IsSound w → IsSound (pass to (change_session to from f w))
+  take_sound : (to from : Name) (f : Session → Session) → ((s : Session) → Fact size s → Fact size (f s)) → (w : MachineState) → IsSound w → IsSound (pass to (change_session to from f w))
   take_sound to from f h w e = pass_sound to (change_session to from f w) (with_session_keeps (Fact size) (Fact-turned size) f h to from w.sessions e)
 
-  passes_sound : (ns : List Name) (w : Network) → IsSound w → IsSound (passes ns w)
+  passes_sound : (ns : List Name) (w : MachineState) → IsSound w → IsSound (passes ns w)
   passes_sound [] w e = e
   passes_sound (n ∷ ns) w e = passes_sound ns (pass n w) (pass_sound n w e)
 
@@ -74,17 +74,17 @@ module _ (size : Name → Message → ℕ) (positive : (n : Name) (m : Message) 
     far = record { notice = refl; flight = refl; taken = refl; tidy = λ _. (refl, refl) };
   })
 
-  pub moved_sound : (m : Option Move) (w : Network) → IsSound w → IsSound (moved m w)
+  pub moved_sound : (m : Option Move) (w : MachineState) → IsSound w → IsSound (moved m w)
   moved_sound None w e = e
   moved_sound (Some m) w e =
       let new : List Session = brought w.setup.topology.controllers m.now in
       passes_sound m.left (record { setup = w.setup; sessions = replaced m.name new w.sessions })
       (each_replaced (Fact size) (Fact size) m.name (λ s off f. f) new w.sessions (each_brought (Fact size) fresh_sound w.setup.topology.controllers m.now) e)
 
-  edits_sound : (m : Option Move) (o : Option Setup) (w : Network) → IsSound w → IsSound (edits m o w)
+  edits_sound : (m : Option Move) (o : Option Setup) (w : MachineState) → IsSound w → IsSound (edits m o w)
   edits_sound m None w e = e
   edits_sound m (Some x) w e =
-      let v : Network = record { setup = x; sessions = w.sessions } in
+      let v : MachineState = record { setup = x; sessions = w.sessions } in
       pass_sound config (moved m v) (moved_sound m v e)
 
   -- breaks are not part of the fact
@@ -123,14 +123,14 @@ unfolding opened
 opened_nodes s = told_nodes _ _
 
 pub joins_kept : (a b : Name) (s t : Session) → nodes t ≡ nodes s → joins a b t ≡ joins a b s
-joins_kept a b s t e = ap (λ (p : Nodes). same_name p.0.0 a && same_name p.1.0 b) e
+joins_kept a b s t e = ap (λ (p : NodePair). same_name p.0.0 a && same_name p.1.0 b) e
 
 pub at_node_nodes : (n : Name) (f : Session → Session) → KeepsNodes f → KeepsNodes (at_node n f)
 at_node_nodes n f h s =
     elim (is_at n s.near) as (λ b. nodes (cond b (f s) (cond (is_at n s.far) (turned (f (turned s))) s)) ≡ nodes s) [
       | true ↦ h s
       | false ↦ elim (is_at n s.far) as (λ b. nodes (cond b (turned (f (turned s))) s) ≡ nodes s) [
-        | true ↦ ap (λ (p : Nodes). (p.1, p.0)) (h (turned s))
+        | true ↦ ap (λ (p : NodePair). (p.1, p.0)) (h (turned s))
         | false ↦ refl
       ]
     ]
@@ -191,7 +191,7 @@ module _ (P Q P' Q' : Session → Type 0) (a b : Name) where
         | true ↦ λ is e. at_cons P' Q a b (f s) ss true (joins b a (f s)) (joins_kept a b s (f s) (kept s) ∙ is) refl (h s e.0, e.1)
         | false ↦ λ is. elim (joins b a s) as (λ c. joins b a s ≡ c → MatchBool c (P (turned s) × Each Q ss) (Q s × AtSession P Q a b ss) → AtSession P' Q a b (cond c (turned (f (turned s)) ∷ ss) (s ∷ with_session a b f ss))) [
           | true ↦ λ is' e.
-              let same : nodes (turned (f (turned s))) ≡ nodes s = ap (λ (p : Nodes). (p.1, p.0)) (kept (turned s)) in
+              let same : nodes (turned (f (turned s))) ≡ nodes s = ap (λ (p : NodePair). (p.1, p.0)) (kept (turned s)) in
               at_cons P' Q a b (turned (f (turned s))) ss false true (joins_kept a b s (turned (f (turned s))) same ∙ is) (joins_kept b a s (turned (f (turned s))) same ∙ is') (h (turned s) e.0, e.1)
           | false ↦ λ is' e. at_cons P' Q a b s (with_session a b f ss) false false is is' (e.0, at_changed f kept h ss e.1)
         ] refl
@@ -252,7 +252,7 @@ module _ (size : Name → Message → ℕ) (positive : (n : Name) (m : Message) 
       ]
 
   -- after the second end opened
-  second_sound : (a b : Name) (w : Network) → AtSession (Opening size) (Fact size) a b w.sessions → IsSound size positive (open_second a b w)
+  second_sound : (a b : Name) (w : MachineState) → AtSession (Opening size) (Fact size) a b w.sessions → IsSound size positive (open_second a b w)
   second_sound a b w e =
       elim (is_broken w a b) as (λ c. is_broken w a b ≡ c → IsSound size positive (cond c w (pass b (change_session a b (around opened) w)))) [
         | true ↦ λ is. each_again (Opening size) (Fact size) a b around_turned w.sessions e (λ s found o.
@@ -267,7 +267,7 @@ module _ (size : Name → Message → ℕ) (positive : (n : Name) (m : Message) 
             ]))
       ] refl
 
-  connect_sound : (a b : Name) (w : Network) → IsSound size positive w → ((s : Session) → session_in w.sessions a b ≡ Some s → may_connect s ≡ true) → IsSound size positive (connect a b w)
+  connect_sound : (a b : Name) (w : MachineState) → IsSound size positive w → ((s : Session) → session_in w.sessions a b ≡ Some s → may_connect s ≡ true) → IsSound size positive (connect a b w)
   connect_sound a b w e m =
       let first = at_session Free (Fact size) a b w.sessions e (λ s is. free s (found (Fact size) (Fact-turned size) w.sessions a b e s is) (m s is)) in
       let second = at_changed Free (Fact size) (Opening size) (Fact size) a b opened opened_nodes (λ s f. opened_half size positive s f.0 f.1 f.2) w.sessions first in
@@ -288,11 +288,11 @@ module _ (size : Name → Message → ℕ) (positive : (n : Name) (m : Message) 
     breaks = λ a b n w e. with_session_keeps (Fact size) (Fact-turned size) (add_break n) (λ s f. breaks_apart size positive (with_break n s.near.breaks) s.far.breaks s f) a b w.sessions e;
   }
 
-  pub round_sound : (w : Network) → IsSound size positive w → IsSound size positive (round w)
+  pub round_sound : (w : MachineState) → IsSound size positive w → IsSound size positive (round w)
   round_sound = round_walk (IsSound size positive) sound_steps.takes
 
-  pub connect_all_sound : (ss : List Session) (w : Network) → IsSound size positive w → IsSound size positive (connect_all ss w)
+  pub connect_all_sound : (ss : List Session) (w : MachineState) → IsSound size positive w → IsSound size positive (connect_all ss w)
   connect_all_sound = connections_walk (IsSound size positive) sound_steps.connects
 
-  pub after_sound : (w : Network) (es : List Event) → IsSound size positive w → IsSound size positive (after size w es)
+  pub after_sound : (w : MachineState) (es : List MachineEvent) → IsSound size positive w → IsSound size positive (after size w es)
   after_sound = after_walk size (IsSound size positive) sound_steps (λ d w. edits_sound size positive (moves d w.setup.topology) (edited w.setup d) w)

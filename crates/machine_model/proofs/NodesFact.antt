@@ -5,12 +5,12 @@ use Rattle.config_model.specs.declared.edit.Edit.{Edit}
 use Rattle.machine_model.specs.Setup.{Name, edited, moves}
 use Rattle.node_model.specs.Step.{Phase, Idle, Opened, Confirmed, Up}
 use Rattle.machine_model.specs.Session.{Message, Open, Keepalive, Hello, Carries, Session, turned, closed, is_peering, shut, lost, passed, opened, with_phase, peer_took, item_took, took, without_first, took_first, arrived, took_octets, octets_arrived}
-use Rattle.machine_model.specs.Network.{Network, wanted, view, views_of}
-use Rattle.machine_model.specs.Events.{Event, edits, passes, add_break, next, after}
+use Rattle.machine_model.specs.Network.{MachineState, wanted, view, views_of}
+use Rattle.machine_model.specs.Events.{MachineEvent, edits, passes, add_break, next, after}
 use Rattle.machine_model.specs.Steps.{at_node, joins, with_session, change_session, pass, round, is_broken, around, open_second, connect, connect_if, connect_all, without_breaks}
 use Rattle.machine_model.specs.Setup.{Setup}
 use Rattle.machine_model.proofs.Walk.{Takes, Connects, Steps, round_walk, connect_walk, connections_walk, next_walk, after_walk}
-use Rattle.machine_model.proofs.NetworkFact.{Nodes, nodes, KeepsNodes, told_nodes, passed_nodes, opened_nodes, at_node_nodes}
+use Rattle.machine_model.proofs.NetworkFact.{NodePair, nodes, KeepsNodes, told_nodes, passed_nodes, opened_nodes, at_node_nodes}
 
 -- ---- the steps of one end
 peer_took_nodes : (p : Phase) (m : Message) → KeepsNodes (peer_took p m)
@@ -45,7 +45,7 @@ map_nodes f k [] = refl
 map_nodes f k (s ∷ ss) = λ i. k s i ∷ map_nodes f k ss i
 
 pub turned_nodes : (f : Session → Session) → KeepsNodes f → (s : Session) → nodes (turned (f (turned s))) ≡ nodes s
-turned_nodes f k s = ap (λ (p : Nodes). (p.1, p.0)) (k (turned s))
+turned_nodes f k s = ap (λ (p : NodePair). (p.1, p.0)) (k (turned s))
 
 pub session_nodes : (a b : Name) (f : Session → Session) → KeepsNodes f → (ss : List Session) → map nodes (with_session a b f ss) ≡ map nodes ss
 session_nodes a b f k [] = refl
@@ -58,35 +58,35 @@ session_nodes a b f k (s ∷ ss) =
       ]
     ]
 
-abbrev pub SameNodes : Network → Network → Type 0
+abbrev pub SameNodes : MachineState → MachineState → Type 0
 SameNodes w v = map nodes v.sessions ≡ map nodes w.sessions
 
-pub pass_nodes : (n : Name) (w : Network) → SameNodes w (pass n w)
+pub pass_nodes : (n : Name) (w : MachineState) → SameNodes w (pass n w)
 pass_nodes n w = map_nodes (at_node n (λ s. passed (wanted w.setup (views_of n w.sessions) (view s)) s)) (at_node_nodes n (λ s. passed (wanted w.setup (views_of n w.sessions) (view s)) s) (λ s. passed_nodes (wanted w.setup (views_of n w.sessions) (view s)) s)) w.sessions
 
-pub step_nodes : (n a b : Name) (f : Session → Session) → KeepsNodes f → (w : Network) → SameNodes w (pass n (change_session a b f w))
+pub step_nodes : (n a b : Name) (f : Session → Session) → KeepsNodes f → (w : MachineState) → SameNodes w (pass n (change_session a b f w))
 step_nodes n a b f k w = pass_nodes n (change_session a b f w) ∙ session_nodes a b f k w.sessions
 
 -- ---- the nodes of all sessions
-abbrev HaveNodes : List Nodes → Network → Type 0
+abbrev HaveNodes : List NodePair → MachineState → Type 0
 HaveNodes ps w = map nodes w.sessions ≡ ps
 
-takes_nodes : (ps : List Nodes) → Takes (HaveNodes ps)
+takes_nodes : (ps : List NodePair) → Takes (HaveNodes ps)
 takes_nodes ps from to w e = step_nodes to to from arrived arrived_nodes w ∙ e
 
-second_nodes : (a b : Name) (w : Network) → SameNodes w (open_second a b w)
+second_nodes : (a b : Name) (w : MachineState) → SameNodes w (open_second a b w)
 second_nodes a b w = elim (is_broken w a b) as (λ c. SameNodes w (cond c w (pass b (change_session a b (around opened) w)))) [ true ↦ refl | false ↦ step_nodes b a b (around opened) (turned_nodes opened opened_nodes) w ]
 
-connects_nodes : (ps : List Nodes) → Connects (HaveNodes ps)
+connects_nodes : (ps : List NodePair) → Connects (HaveNodes ps)
 connects_nodes ps a b w may some e = second_nodes a b (pass a (change_session a b opened w)) ∙ step_nodes a a b opened opened_nodes w ∙ e
 
-pub round_nodes : (w : Network) → SameNodes w (round w)
+pub round_nodes : (w : MachineState) → SameNodes w (round w)
 round_nodes w = round_walk (HaveNodes (map nodes w.sessions)) (takes_nodes (map nodes w.sessions)) w refl
 
-pub connect_if_nodes : (a b : Name) (w : Network) → SameNodes w (connect_if a b w)
+pub connect_if_nodes : (a b : Name) (w : MachineState) → SameNodes w (connect_if a b w)
 connect_if_nodes a b w = connect_walk (HaveNodes (map nodes w.sessions)) (connects_nodes (map nodes w.sessions)) a b w refl
 
-pub connect_all_nodes : (ss : List Session) (w : Network) → SameNodes w (connect_all ss w)
+pub connect_all_nodes : (ss : List Session) (w : MachineState) → SameNodes w (connect_all ss w)
 connect_all_nodes ss w = connections_walk (HaveNodes (map nodes w.sessions)) (connects_nodes (map nodes w.sessions)) ss w refl
 
 module _ (size : Name → Message → ℕ) where
@@ -106,7 +106,7 @@ module _ (size : Name → Message → ℕ) where
   octets_nodes n s = elim s.near.notice as (λ b. nodes (cond b (record s { near = closed s.near }) (took_octets size n s.far.flight s)) ≡ nodes s) [ true ↦ refl | false ↦ took_octets_nodes s.far.flight n s ]
 
 -- ---- the setup stays
-abbrev pub HasSetup : Setup → Network → Type 0
+abbrev pub HasSetup : Setup → MachineState → Type 0
 HasSetup x w = w.setup ≡ x
 
 pub setup_connects : (x : Setup) → Connects (HasSetup x)
@@ -126,10 +126,10 @@ setup_steps size x = record {
 }
 
 -- ---- what is said of the setup and of the nodes of all sessions, every event but an edit keeps
-abbrev pub Holds : (Setup → List Nodes → Type 0) → Network → Type 0
+abbrev pub Holds : (Setup → List NodePair → Type 0) → MachineState → Type 0
 Holds Q w = Q w.setup (map nodes w.sessions)
 
-module _ (size : Name → Message → ℕ) (Q : Setup → List Nodes → Type 0) where
+module _ (size : Name → Message → ℕ) (Q : Setup → List NodePair → Type 0) where
   pub holds_steps : Steps size (Holds Q)
   holds_steps = record {
     takes = λ from to w q. subst (Q w.setup) (sym (step_nodes to to from arrived arrived_nodes w)) q;
@@ -144,17 +144,17 @@ module _ (size : Name → Message → ℕ) (Q : Setup → List Nodes → Type 0)
     breaks = λ a b n w q. subst (Q w.setup) (sym (session_nodes a b (add_break n) (λ s. refl) w.sessions)) q;
   }
 
-  module _ (edit : (d : Edit) (w : Network) → Holds Q w → Holds Q (edits (moves d w.setup.topology) (edited w.setup d) w)) where
-    pub next_holds : (w : Network) (e : Event) → Holds Q w → Holds Q (next size w e)
+  module _ (edit : (d : Edit) (w : MachineState) → Holds Q w → Holds Q (edits (moves d w.setup.topology) (edited w.setup d) w)) where
+    pub next_holds : (w : MachineState) (e : MachineEvent) → Holds Q w → Holds Q (next size w e)
     next_holds w e q = next_walk size (Holds Q) holds_steps w e (λ d _. edit d w) q
 
-    pub after_holds : (w : Network) (es : List Event) → Holds Q w → Holds Q (after size w es)
+    pub after_holds : (w : MachineState) (es : List MachineEvent) → Holds Q w → Holds Q (after size w es)
     after_holds w es q = after_walk size (Holds Q) holds_steps edit w es q
 
-pub passes_nodes : (ns : List Name) (w : Network) → SameNodes w (passes ns w)
+pub passes_nodes : (ns : List Name) (w : MachineState) → SameNodes w (passes ns w)
 passes_nodes [] w = refl
 passes_nodes (n ∷ ns) w = passes_nodes ns (pass n w) ∙ pass_nodes n w
 
-pub passes_setup : (ns : List Name) (w : Network) → (passes ns w).setup ≡ w.setup
+pub passes_setup : (ns : List Name) (w : MachineState) → (passes ns w).setup ≡ w.setup
 passes_setup [] w = refl
 passes_setup (n ∷ ns) w = passes_setup ns (pass n w)

@@ -27,9 +27,9 @@ use Rattle.node_model.specs.Members.{Member}
 use Rattle.node_model.proofs.Members.{from_filter, from_map, in_either, in_filter, in_left, in_map, in_right, none_some}
 use Rattle.machine_model.specs.Setup.{Name, Move, Numbers, Setup, agents_in, agents_of, came_at, checked, edited, edited_without, first_numbers, has_name, id_of, is_listed, listed_by, lists, moves, opening, remade, renumbered, renumbered_at, stands, with_agent, without_agent}
 use Rattle.machine_model.specs.Session.{Message}
-use Rattle.machine_model.specs.Network.{Network, start}
-use Rattle.machine_model.specs.Events.{Event, Edits, after, edits, next}
-use Rattle.machine_model.specs.Moments.{AreOnce, EditIsValid, EditsAreValid, IsLaidOut, LaidOut, Nodes, NumbersFit, WhereLaidOut}
+use Rattle.machine_model.specs.Network.{MachineState, start}
+use Rattle.machine_model.specs.Events.{MachineEvent, Edits, after, edits, next}
+use Rattle.machine_model.specs.Moments.{AreOnce, EditIsValid, EditsAreValid, IsLaidOut, LaidOut, NodePair, NumbersFit, WhereLaidOut}
 use Rattle.machine_model.proofs.Distinct.{Apart}
 use Rattle.machine_model.proofs.Walk.{next_walk}
 use Rattle.machine_model.proofs.NodesFact.{Holds, holds_steps}
@@ -329,10 +329,10 @@ module _ (x y : Setup) (o : Option Move) (numbers : y.numbers ≡ renumbered o x
       by None l c h f = fit_still x.topology y.topology c (agents_of x c.name) l f
       by (Some m) l c h f = subst (NumbersFit y.topology c) (sym (agents_renumbered m c.name x.numbers h)) (renumbered_fit x.topology y.topology m l c (agents_of x c.name) f)
 
-abbrev LaidAndFit : Setup → List Nodes → Type 0
+abbrev LaidAndFit : Setup → List NodePair → Type 0
 LaidAndFit x ps = IsLaidOut x.topology × AllFit x
 
-fits_edits : (d : Edit) (w : Network) → EditIsValid LaidOut w (Edits d) → Holds LaidAndFit w → Holds LaidAndFit (edits (moves d w.setup.topology) (edited w.setup d) w)
+fits_edits : (d : Edit) (w : MachineState) → EditIsValid LaidOut w (Edits d) → Holds LaidAndFit w → Holds LaidAndFit (edits (moves d w.setup.topology) (edited w.setup d) w)
 fits_edits d w ok q =
     elim (edit_fault (checked w.setup) d) as (λ o. edit_fault (checked w.setup) d ≡ o → ((y : Setup) → edited_without o w.setup d ≡ Some y → LaidOut y) → Holds LaidAndFit (edits (moves d w.setup.topology) (edited_without o w.setup d) w)) [
       | None ↦ λ none ok.
@@ -357,7 +357,7 @@ fits_edited x d y e laid f = by_fault (edit_fault (checked x) d) refl e
         (fit_edited x z m refl (renews (checked x) d is).controllers (leaves (checked x) d is laid) f)
 
 module _ (size : Name → Message → ℕ) where
-  after_fits : (w : Network) (es : List Event) → EditsAreValid size LaidOut w es → Holds LaidAndFit w → Holds LaidAndFit (after size w es)
+  after_fits : (w : MachineState) (es : List MachineEvent) → EditsAreValid size LaidOut w es → Holds LaidAndFit w → Holds LaidAndFit (after size w es)
   after_fits w [] v q = q
   after_fits w (e ∷ es) v q =
       after_fits (next size w e) es v.1 (next_walk size (Holds LaidAndFit) (holds_steps size LaidAndFit) w e (λ d is q. fits_edits d w (subst (EditIsValid LaidOut w) is v.0) q) q)

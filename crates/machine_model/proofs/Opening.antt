@@ -7,7 +7,7 @@ use Rattle.ov_sync.specs.Keyed.{after}
 use Rattle.node_model.specs.Maps.{Map, Change, difference}
 use Rattle.node_model.specs.Step.{Phase, Idle, Opened, Confirmed, Up}
 use Rattle.machine_model.specs.Moments.{IsPartly}
-use Rattle.machine_model.specs.Session.{Message, Open, Hello, Carries, End, Session, turned, is_idle, are_peers, is_peering, may_send_at, may_send, with_breaks, told, passed, greeting, opened}
+use Rattle.machine_model.specs.Session.{Message, Open, Hello, Carries, SessionEnd, Session, turned, is_idle, are_peers, is_peering, may_send_at, may_send, with_breaks, told, passed, greeting, opened}
 use Rattle.machine_model.proofs.SessionFact.{sends, told_cases, meets, greetings, IsTidy, Down, Fact, shut_down, map_append, next_difference, partly_append, told_keeps, passed_keeps, are_peers-turned, build}
 
 -- the near end is open and the far one is not
@@ -75,7 +75,7 @@ module _ (size : List ℕ → Message → ℕ) (positive : (n : List ℕ) (m : M
   half_tidy_far : (s : Session) → HalfOpen size s → IsTidy s.far
   half_tidy_far s h e = (h.far_sent, h.far_held)
 
-  half_passed_whole : (wanted : Map) (near far : End) → HalfOpen size (record { is_down = false; near = near; far = far }) → may_send (record { is_down = false; near = near; far = far }) ≡ true
+  half_passed_whole : (wanted : Map) (near far : SessionEnd) → HalfOpen size (record { is_down = false; near = near; far = far }) → may_send (record { is_down = false; near = near; far = far }) ≡ true
       → Opening size (told (map Carries (difference near.sent wanted)) (record { is_down = false; near = record near { sent = wanted }; far = far }))
   half_passed_whole wanted near far h may =
       half_told _ _ (half_tidy_far _ h) (λ b. inr (record {
@@ -146,7 +146,7 @@ module _ (size : List ℕ → Message → ℕ) (positive : (n : List ℕ) (m : M
   greets true = (refl, refl)
   greets false = (refl, refl)
 
-  opened_far_at : (b : Bool) (near far : End) → are_peers far.role near.role ≡ b → HalfOpen size (record { is_down = false; near = record far { phase = Opened }; far = near })
+  opened_far_at : (b : Bool) (near far : SessionEnd) → are_peers far.role near.role ≡ b → HalfOpen size (record { is_down = false; near = record far { phase = Opened }; far = near })
       → Fact size (told (cond b Open Hello ∷ []) (record { is_down = false; near = record near { phase = Opened }; far = record far { phase = Opened } }))
   opened_far_at b near far k h =
       told_keeps size positive _ _ (λ e. absurd (true≢false e))

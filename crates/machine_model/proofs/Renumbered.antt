@@ -23,9 +23,9 @@ use Rattle.node_model.specs.Members.{Member}
 use Rattle.node_model.proofs.Members.{none_some}
 use Rattle.machine_model.specs.Setup.{Name, Move, Numbers, Setup, agents_in, agents_of, came_at, checked, edited, edited_without, id_of, is_listed, listed_by, lists, moves, remade, renumbered, renumbered_at, stands, with_agent, without_agent}
 use Rattle.machine_model.specs.Session.{Message}
-use Rattle.machine_model.specs.Network.{Network, start}
+use Rattle.machine_model.specs.Network.{MachineState, start}
 use Rattle.machine_model.specs.Events.{Edits, after, edits, next}
-use Rattle.machine_model.specs.Moments.{AtEveryMoment, Nodes}
+use Rattle.machine_model.specs.Moments.{AtEveryMoment, NodePair}
 use Rattle.machine_model.specs.Deeds.{HasTaken, IsOfNoNode, StandsThere, agent_at}
 use Rattle.machine_model.proofs.NodesFact.{Holds, after_holds}
 use Rattle.machine_model.proofs.Changing.{Renews, renews, stood}
@@ -176,7 +176,7 @@ agents_left m c (n ∷ ns) off =
       | false ↦ λ _. agents_left m c ns off
     ] refl
 
-module _ (size : Name → Message → ℕ) (w : Network) (d : Edit) where
+module _ (size : Name → Message → ℕ) (w : MachineState) (d : Edit) where
   abbrev made : Option Move → Setup
   made o = remade (checked_edited d (checked w.setup)) (renumbered o w.setup.numbers)
 
@@ -215,10 +215,10 @@ module _ (size : Name → Message → ℕ) (w : Network) (d : Edit) where
       ∙ ap (λ b. cond b (with_agent (id_of n) kept) kept) listed
 
 -- ---- each control node has its numbers
-abbrev AllHaveEntries : Setup → List Nodes → Type 0
+abbrev AllHaveEntries : Setup → List NodePair → Type 0
 AllHaveEntries x ps = (c : NodeId) → Member c x.topology.controllers → HasEntry x.numbers c.name
 
-entries_edited : (d : Edit) (w : Network) → Holds AllHaveEntries w → Holds AllHaveEntries (edits (moves d w.setup.topology) (edited w.setup d) w)
+entries_edited : (d : Edit) (w : MachineState) → Holds AllHaveEntries w → Holds AllHaveEntries (edits (moves d w.setup.topology) (edited w.setup d) w)
 entries_edited d w q =
     elim (edit_fault (checked w.setup) d) as (λ f. edit_fault (checked w.setup) d ≡ f → Holds AllHaveEntries (edits (moves d w.setup.topology) (edited_without f w.setup d) w)) [
       | None ↦ λ none.

@@ -13,8 +13,8 @@ use Rattle.node_model.specs.Maps.{Map, difference}
 use Rattle.machine_model.specs.Setup.{Name}
 use Rattle.ov_types.specs.First.{same_name}
 use Rattle.machine_model.specs.Session.{Message, Carries, Session, turned, may_send, passed, arrived, waiting}
-use Rattle.machine_model.specs.Network.{Network, is_at, view, views_of, wanted}
-use Rattle.machine_model.specs.Events.{Event, Deliver, next, after}
+use Rattle.machine_model.specs.Network.{MachineState, is_at, view, views_of, wanted}
+use Rattle.machine_model.specs.Events.{MachineEvent, Deliver, next, after}
 use Rattle.machine_model.specs.Steps.{joins, with_session, change_session, pass, session_in, in_flight, repeat, deliver, Due, due_at, dues, notice_stands, deliver_due, deliver_all, round}
 use Rattle.machine_model.specs.Rounds.{is_delivery, taken_of, IsRound}
 use Rattle.machine_model.proofs.SessionFact.{Joined, Fact, Fact-turned, passed_keeps, arrived_keeps}
@@ -58,29 +58,29 @@ module _ (size : Name → Message → ℕ) (positive : (n : Name) (m : Message) 
     passed_telling (λ t. t.far.breaks ≡ []) m s c c.2 c.2,
   )
 
-  abbrev pub AreCalm : Network → Type 0
+  abbrev pub AreCalm : MachineState → Type 0
   AreCalm w = Each IsCalm w.sessions
 
-  calm_change : (to from : Name) (w : Network) → AreCalm w → AreCalm (change_session to from arrived w)
+  calm_change : (to from : Name) (w : MachineState) → AreCalm w → AreCalm (change_session to from arrived w)
   calm_change to from w c = with_session_keeps IsCalm calm_turned arrived calm_arrived to from w.sessions c
 
-  calm_pass : (n : Name) (w : Network) → AreCalm w → AreCalm (pass n w)
+  calm_pass : (n : Name) (w : MachineState) → AreCalm w → AreCalm (pass n w)
   calm_pass n w c = nodes_keep IsCalm calm_turned (λ s. passed (wanted w.setup (views_of n w.sessions) (view s)) s) (λ s d. calm_passed (wanted w.setup (views_of n w.sessions) (view s)) s d) n w.sessions c
 
   calm_takes : Takes AreCalm
   calm_takes from to w c = calm_pass to (change_session to from arrived w) (calm_change to from w c)
 
-  calm_deliver : (from to : Name) (w : Network) → AreCalm w → AreCalm (deliver from to w)
+  calm_deliver : (from to : Name) (w : MachineState) → AreCalm w → AreCalm (deliver from to w)
   calm_deliver = deliver_walk AreCalm calm_takes
 
-  pub calm_delivers : (n : ℕ) (from to : Name) (w : Network) → AreCalm w → AreCalm (repeat n (deliver from to) w)
+  pub calm_delivers : (n : ℕ) (from to : Name) (w : MachineState) → AreCalm w → AreCalm (repeat n (deliver from to) w)
   calm_delivers = delivers_walk AreCalm calm_takes
 
   -- ---- what one delivery takes
   calm_waiting : (s : Session) → IsCalm s → waiting s ≡ length s.far.flight
   calm_waiting s c = ap (λ b. cond b 1 (length s.far.flight)) c.0.near_notice
 
-  calm_found : (w : Network) (a b : Name) → AreCalm w → (s : Session) → session_in w.sessions a b ≡ Some s → IsCalm s
+  calm_found : (w : MachineState) (a b : Name) → AreCalm w → (s : Session) → session_in w.sessions a b ≡ Some s → IsCalm s
   calm_found w a b c s is = found IsCalm calm_turned w.sessions a b c s is
 
   abbrev flight_of : Option Session → ℕ
@@ -99,7 +99,7 @@ module _ (size : Name → Message → ℕ) (positive : (n : Name) (m : Message) 
           one : (n : ℕ) → n ≡ suc n - 1
           one n = omega arith
 
-  after_one : (from to : Name) (w : Network) → AreCalm w → in_flight (pass to (change_session to from arrived w)) from to ≡ in_flight w from to - 1
+  after_one : (from to : Name) (w : MachineState) → AreCalm w → in_flight (pass to (change_session to from arrived w)) from to ≡ in_flight w from to - 1
   after_one from to w c =
       elim (session_in w.sessions to from) as (λ o. session_in w.sessions to from ≡ o → in_flight (pass to (change_session to from arrived w)) from to ≡ flight_of o - 1) [
         | None ↦ λ is. ap flight_of (there ∙ ap (option_map (λ s. passed (W s) s)) (ap (option_map arrived) is)) ∙ none
@@ -121,14 +121,14 @@ module _ (size : Name → Message → ℕ) (positive : (n : Name) (m : Message) 
       none : 0 ≡ 0 - 1
       none = omega arith
 
-  one_taken : (from to : Name) (w : Network) → AreCalm w → in_flight (deliver from to w) from to ≡ in_flight w from to - 1
+  one_taken : (from to : Name) (w : MachineState) → AreCalm w → in_flight (deliver from to w) from to ≡ in_flight w from to - 1
   one_taken from to w c =
       elim (in_flight w from to == 0) as (λ b. (in_flight w from to == 0) ≡ b → in_flight (cond b w (pass to (change_session to from arrived w))) from to ≡ in_flight w from to - 1) [
         | true ↦ λ e. fewer (in_flight w from to) e
         | false ↦ λ _. after_one from to w c
       ] refl
 
-  pub some_taken : (n : ℕ) (from to : Name) (w : Network) → AreCalm w → in_flight (repeat n (deliver from to) w) from to ≡ in_flight w from to - n
+  pub some_taken : (n : ℕ) (from to : Name) (w : MachineState) → AreCalm w → in_flight (repeat n (deliver from to) w) from to ≡ in_flight w from to - n
   some_taken zero from to w c = none (in_flight w from to)
     where
       none : (m : ℕ) → m ≡ m - 0
@@ -172,7 +172,7 @@ module _ (size : Name → Message → ℕ) (positive : (n : Name) (m : Message) 
   grows_passed : (from to : Name) (m : Map) (s : Session) → IsCalm s → Grows from to s (passed m s)
   grows_passed from to m s c = passed_telling (λ t. Grows from to s t) m s c (grows_same from to s) ((λ _. same_length (length s.far.flight)), (λ _. append_longer s.near.flight (map Carries (difference s.near.sent m))))
 
-  flights_grow : (from to g t : Name) (v w : Network) → (same_name from g && same_name to t) ≡ false → AreCalm v → AreCalm w → Pairs (Grows from to) v.sessions w.sessions → in_flight v g t ≤ in_flight w g t
+  flights_grow : (from to g t : Name) (v w : MachineState) → (same_name from g && same_name to t) ≡ false → AreCalm v → AreCalm w → Pairs (Grows from to) v.sessions w.sessions → in_flight v g t ≤ in_flight w g t
   flights_grow from to g t v w off c d p =
       grow (session_in v.sessions t g) (session_in w.sessions t g) (pairs_found (Grows from to) (grows_both from to) t g v.sessions w.sessions p) (calm_found v t g c) (calm_found w t g d)
     where
@@ -187,7 +187,7 @@ module _ (size : Name → Message → ℕ) (positive : (n : Name) (m : Message) 
       grow None (Some u) b c d = absurd b
       grow (Some s) None b c d = absurd b
 
-  none_fewer : (from to g t : Name) (w : Network) → (same_name from g && same_name to t) ≡ false → AreCalm w → in_flight w g t ≤ in_flight (deliver from to w) g t
+  none_fewer : (from to g t : Name) (w : MachineState) → (same_name from g && same_name to t) ≡ false → AreCalm w → in_flight w g t ≤ in_flight (deliver from to w) g t
   none_fewer from to g t w off c =
       elim (in_flight w from to == 0) as (λ b. in_flight w g t ≤ in_flight (cond b w (pass to (change_session to from arrived w))) g t) [
         | true ↦ same_length (in_flight w g t)
@@ -203,7 +203,7 @@ module _ (size : Name → Message → ℕ) (positive : (n : Name) (m : Message) 
       both : (a b c : ℕ) → a ≤ b → b ≤ c → a ≤ c
       both a b c h k = omega (arith, h, k)
 
-  some_fewer : (n : ℕ) (from to g t : Name) (w : Network) → (same_name from g && same_name to t) ≡ false → AreCalm w → in_flight w g t ≤ in_flight (repeat n (deliver from to) w) g t
+  some_fewer : (n : ℕ) (from to g t : Name) (w : MachineState) → (same_name from g && same_name to t) ≡ false → AreCalm w → in_flight w g t ≤ in_flight (repeat n (deliver from to) w) g t
   some_fewer zero from to g t w off c = same_length (in_flight w g t)
   some_fewer (suc n) from to g t w off c = both (in_flight w g t) (in_flight (deliver from to w) g t) (in_flight (repeat n (deliver from to) (deliver from to w)) g t) (none_fewer from to g t w off c) (some_fewer n from to g t (deliver from to w) off (calm_deliver from to w c))
     where
@@ -211,11 +211,11 @@ module _ (size : Name → Message → ℕ) (positive : (n : Name) (m : Message) 
       both a b c h k = omega (arith, h, k)
 
   -- ---- the round
-  abbrev pub as_event : Due → Event
+  abbrev pub as_event : Due → MachineEvent
   as_event d = Deliver d.from d.to d.count
 
   -- what waits as a round begins, as events
-  abbrev pub as_deliveries : Network → List Event
+  abbrev pub as_deliveries : MachineState → List MachineEvent
   as_deliveries w = map as_event (dues w)
 
   abbrev Has : Name → Name → ℕ → List Due → Type 0
@@ -230,7 +230,7 @@ module _ (size : Name → Message → ℕ) (positive : (n : Name) (m : Message) 
       less k = omega (arith, h, k)
   has_less g t m n (d ∷ ds) h (inr e) = inr (has_less g t m n ds h e)
 
-  takes_due : (g t : Name) (m : ℕ) (ds : List Due) (v : Network) → AreCalm v → m ≤ in_flight v g t → Has g t m ds → m ≤ taken_of size g t v (map as_event ds)
+  takes_due : (g t : Name) (m : ℕ) (ds : List Due) (v : MachineState) → AreCalm v → m ≤ in_flight v g t → Has g t m ds → m ≤ taken_of size g t v (map as_event ds)
   unfolding next
   takes_due g t m [] v c h e = absurd e
   takes_due g t m (d ∷ ds) v c h e =
@@ -294,7 +294,7 @@ module _ (size : Name → Message → ℕ) (positive : (n : Name) (m : Message) 
   all_deliveries (d ∷ ds) = all_deliveries ds
 
   -- what waits as a round begins is a round of deliveries
-  pub as_round : (w : Network) → AreCalm w → IsRound size w (as_deliveries w)
+  pub as_round : (w : MachineState) → AreCalm w → IsRound size w (as_deliveries w)
   as_round w c = record { deliveries = all_deliveries (dues w); takes_all = takes_all }
     where
       takes_all : (from to : Name) → in_flight w from to ≤ taken_of size from to w (as_deliveries w)
@@ -315,26 +315,26 @@ module _ (size : Name → Message → ℕ) (positive : (n : Name) (m : Message) 
   no_notices [] c = tt
   no_notices (s ∷ ss) c = (c.0.0.far_notice, (c.0.0.near_notice, no_notices ss c.1))
 
-  no_notice : (d : Due) (w : Network) → AreCalm w → notice_stands w d ≡ false
+  no_notice : (d : Due) (w : MachineState) → AreCalm w → notice_stands w d ≡ false
   no_notice d w c =
       elim (session_in w.sessions d.to d.from) as (λ o. session_in w.sessions d.to d.from ≡ o → unwrap_or (option_map (λ (s : Session). s.near.notice) o) false ≡ false) [
         | None ↦ λ _. refl
         | Some s ↦ λ is. (calm_found w d.to d.from c s is).0.near_notice
       ] refl
 
-  same_delivery : (d : Due) (w : Network) → d.is_notice ≡ false → AreCalm w → deliver_due d w ≡ deliver d.from d.to w
+  same_delivery : (d : Due) (w : MachineState) → d.is_notice ≡ false → AreCalm w → deliver_due d w ≡ deliver d.from d.to w
   same_delivery d w e c = (λ i. cond (beq (no_notice d w c i) (e i)) (deliver d.from d.to w) w)
 
-  same_deliveries : (n : ℕ) (d : Due) (w : Network) → d.is_notice ≡ false → AreCalm w → repeat n (deliver_due d) w ≡ repeat n (deliver d.from d.to) w
+  same_deliveries : (n : ℕ) (d : Due) (w : MachineState) → d.is_notice ≡ false → AreCalm w → repeat n (deliver_due d) w ≡ repeat n (deliver d.from d.to) w
   same_deliveries zero d w e c = refl
   same_deliveries (suc n) d w e c = ap (repeat n (deliver_due d)) (same_delivery d w e c) ∙ same_deliveries n d (deliver d.from d.to w) e (calm_deliver d.from d.to w c)
 
-  all_same : (ds : List Due) (w : Network) → AllByRecursion (λ d. d.is_notice ≡ false) ds → AreCalm w → deliver_all ds w ≡ after size w (map as_event ds)
+  all_same : (ds : List Due) (w : MachineState) → AllByRecursion (λ d. d.is_notice ≡ false) ds → AreCalm w → deliver_all ds w ≡ after size w (map as_event ds)
   unfolding next
   all_same [] w e c = refl
   all_same (d ∷ ds) w e c =
       ap (deliver_all ds) (same_deliveries d.count d w e.0 c) ∙ all_same ds (repeat d.count (deliver d.from d.to) w) e.1 (calm_delivers d.count d.from d.to w c)
 
-  pub round_same : (w : Network) → AreCalm w → round w ≡ after size w (as_deliveries w)
+  pub round_same : (w : MachineState) → AreCalm w → round w ≡ after size w (as_deliveries w)
   unfolding round
   round_same w c = all_same (dues w) w (no_notices w.sessions c) c

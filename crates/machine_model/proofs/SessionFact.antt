@@ -13,7 +13,7 @@ use Rattle.node_model.specs.Values.{same_value}
 use Rattle.node_model.proofs.Alike.{same_value_decides}
 use Rattle.node_model.specs.Maps.{Map, Change, difference}
 use Rattle.machine_model.specs.Moments.{IsPartly}
-use Rattle.machine_model.specs.Session.{Role, Configuration, Controller, Agent, Message, Open, Keepalive, Hello, Carries, End, Session, turned, is_idle, is_live, are_peers, is_peering, may_send_at, may_send, closed, noticed, shut, lost, meets_break, counted, with_breaks, left, told, passed, peer_took, item_took, took, without_first, took_first, arrived, took_octets, octets_arrived}
+use Rattle.machine_model.specs.Session.{Role, Configuration, Controller, Agent, Message, Open, Keepalive, Hello, Carries, SessionEnd, Session, turned, is_idle, is_live, are_peers, is_peering, may_send_at, may_send, closed, noticed, shut, lost, meets_break, counted, with_breaks, left, told, passed, peer_took, item_took, took, without_first, took_first, arrived, took_octets, octets_arrived}
 use Rattle.node_model.specs.Step.{Phase, Idle, Opened, Confirmed, Up}
 
 -- ---- what a list of sends makes of a session
@@ -24,15 +24,15 @@ pub append_nil : {A : Type 0} (xs : List A) → xs ≡ xs ++ []
 append_nil [] = refl
 append_nil (x ∷ xs) = ap (λ ys. x ∷ ys) (append_nil xs)
 
-sends_nothing : (d : Bool) (near far : End) → ◌≡◌ {A = Session} (record { is_down = d; near = near; far = far }) (with_breaks near.breaks (sends [] (record { is_down = d; near = near; far = far })))
+sends_nothing : (d : Bool) (near far : SessionEnd) → ◌≡◌ {A = Session} (record { is_down = d; near = near; far = far }) (with_breaks near.breaks (sends [] (record { is_down = d; near = near; far = far })))
 sends_nothing true near far = refl
 sends_nothing false near far = ap (λ (f : List Message). record { is_down = false; near = record near { flight = f }; far = far }) (append_nil near.flight)
 
-shut_left : (d : Bool) (near far : End) (m : Message) (b c : List ℕ) → shut (with_breaks b (left m (with_breaks c (record { is_down = d; near = near; far = far })))) ≡ shut (with_breaks b (record { is_down = d; near = near; far = far }))
+shut_left : (d : Bool) (near far : SessionEnd) (m : Message) (b c : List ℕ) → shut (with_breaks b (left m (with_breaks c (record { is_down = d; near = near; far = far })))) ≡ shut (with_breaks b (record { is_down = d; near = near; far = far }))
 shut_left true near far m b c = refl
 shut_left false near far m b c = refl
 
-pub sends_left : (d : Bool) (near far : End) (m : Message) (ms : List Message) (b c : List ℕ) → with_breaks b (sends ms (left m (with_breaks c (record { is_down = d; near = near; far = far })))) ≡ with_breaks b (sends (m ∷ ms) (record { is_down = d; near = near; far = far }))
+pub sends_left : (d : Bool) (near far : SessionEnd) (m : Message) (ms : List Message) (b c : List ℕ) → with_breaks b (sends ms (left m (with_breaks c (record { is_down = d; near = near; far = far })))) ≡ with_breaks b (sends (m ∷ ms) (record { is_down = d; near = near; far = far }))
 sends_left true near far m ms b c = refl
 sends_left false near far m ms b c = ap (λ (f : List Message). record { is_down = false; near = record near { flight = f; breaks = b }; far = far }) (append_assoc near.flight (m ∷ []) ms)
 
@@ -76,7 +76,7 @@ abbrev pub greetings : Bool → Phase → Phase → List Message
 greetings b p q = unwrap_or (expected b p q) []
 
 -- from the far end to the near one, on a session that is not down
-pub record Flows (size : List ℕ → Message → ℕ) (peering : Bool) (near far : End) : Type 0 where
+pub record Flows (size : List ℕ → Message → ℕ) (peering : Bool) (near far : SessionEnd) : Type 0 where
   pub changes : List Change
   pub phases : meets peering near.phase far.phase ≡ true
   -- greetings are ahead of all changes
@@ -87,10 +87,10 @@ pub record Flows (size : List ℕ → Message → ℕ) (peering : Bool) (near fa
   pub partly : IsPartly (size far.name) far.flight far.taken
 
 -- an end that is not live has nothing
-abbrev pub IsTidy : End → Type 0
+abbrev pub IsTidy : SessionEnd → Type 0
 IsTidy e = is_live e ≡ false → (e.sent ≡ empty) × (e.held ≡ empty)
 
-pub record DownEnd (e : End) : Type 0 where
+pub record DownEnd (e : SessionEnd) : Type 0 where
   pub notice : e.notice ≡ is_live e
   pub flight : e.flight ≡ []
   pub taken : e.taken ≡ 0
@@ -131,10 +131,10 @@ Fact-turned size s (inl j) = inl (record {
 Fact-turned size s (inr d) = inr (record { down = d.down; near = d.far; far = d.near })
 
 -- ---- closing
-closed_down : (e : End) → DownEnd (closed e)
+closed_down : (e : SessionEnd) → DownEnd (closed e)
 closed_down e = record { notice = refl; flight = refl; taken = refl; tidy = λ _. (refl, refl) }
 
-noticed_down : (e : End) → IsTidy e → DownEnd (noticed e)
+noticed_down : (e : SessionEnd) → IsTidy e → DownEnd (noticed e)
 noticed_down e t = record { notice = refl; flight = refl; taken = refl; tidy = t }
 
 pub shut_down : (s : Session) → IsTidy s.far → Down (shut s)
@@ -201,7 +201,7 @@ module _ (size : List ℕ → Message → ℕ) (positive : (n : List ℕ) (m : M
       ]
 
   -- ---- a pass
-  passed_whole : (wanted : Map) (near far : End) → Joined size (record { is_down = false; near = near; far = far }) → may_send (record { is_down = false; near = near; far = far }) ≡ true
+  passed_whole : (wanted : Map) (near far : SessionEnd) → Joined size (record { is_down = false; near = near; far = far }) → may_send (record { is_down = false; near = near; far = far }) ≡ true
       → Fact size (told (map Carries (difference near.sent wanted)) (record { is_down = false; near = record near { sent = wanted }; far = far }))
   passed_whole wanted near far j may =
       told_keeps _ _ (tidy_far size _ (inl j)) (λ b. inl (record {
@@ -222,7 +222,7 @@ module _ (size : List ℕ → Message → ℕ) (positive : (n : List ℕ) (m : M
         };
       }))
 
-  passed_down : (wanted : Map) (near far : End) → Down (record { is_down = true; near = near; far = far }) → may_send (record { is_down = true; near = near; far = far }) ≡ true
+  passed_down : (wanted : Map) (near far : SessionEnd) → Down (record { is_down = true; near = near; far = far }) → may_send (record { is_down = true; near = near; far = far }) ≡ true
       → Fact size (told (map Carries (difference near.sent wanted)) (record { is_down = true; near = record near { sent = wanted }; far = far }))
   passed_down wanted near far d may =
       told_keeps _ _ d.far.tidy (λ b. inr (record {
@@ -243,7 +243,7 @@ module _ (size : List ℕ → Message → ℕ) (positive : (n : List ℕ) (m : M
       ] refl
 
   -- ---- a delivery
-  pub build : (b : Bool) (near far : End) → are_peers near.role far.role ≡ b → near.notice ≡ false → far.notice ≡ false → Flows size b near far → Flows size b far near
+  pub build : (b : Bool) (near far : SessionEnd) → are_peers near.role far.role ≡ b → near.notice ≡ false → far.notice ≡ false → Flows size b near far → Flows size b far near
       → Fact size (record { is_down = false; near = near; far = far })
   build b near far k n m i o = inl (record {
     whole = refl;
@@ -254,7 +254,7 @@ module _ (size : List ℕ → Message → ℕ) (positive : (n : List ℕ) (m : M
   })
 
   -- the other direction, where only what is in flight towards the near end changes
-  other_way : (b : Bool) (p q : Phase) (near far : End) (f : List Message) (t : ℕ) → Flows size b (record far { phase = q }) (record near { phase = p })
+  other_way : (b : Bool) (p q : Phase) (near far : SessionEnd) (f : List Message) (t : ℕ) → Flows size b (record far { phase = q }) (record near { phase = p })
       → Flows size b (record far { phase = q; notice = false; flight = f; taken = t }) (record near { phase = p; notice = false })
   other_way b p q near far f t o = record { changes = o.changes; phases = o.phases; flight = o.flight; early = o.early; tells = o.tells; partly = o.partly }
 
@@ -275,10 +275,10 @@ keepalive_alone cs e = subst (λ (cs : List Change). map Carries cs ++ Keepalive
 
 module _ (size : List ℕ → Message → ℕ) (positive : (n : List ℕ) (m : Message) → 0 < size n m) where
   -- the session that a delivery meets
-  abbrev met : Bool → Phase → Phase → End → End → List Change → Session
+  abbrev met : Bool → Phase → Phase → SessionEnd → SessionEnd → List Change → Session
   met b p q near far ds = record { is_down = false; near = record near { phase = p; notice = false }; far = record far { phase = q; notice = false; flight = greetings b p q ++ map Carries ds } }
 
-  first_keeps : (b : Bool) (p q : Phase) (near far : End) (ds : List Change) → are_peers near.role far.role ≡ b → meets b p q ≡ true → (may_send_at b q ≡ false → ds ≡ []) → after near.held ds ≡ far.sent
+  first_keeps : (b : Bool) (p q : Phase) (near far : SessionEnd) (ds : List Change) → are_peers near.role far.role ≡ b → meets b p q ≡ true → (may_send_at b q ≡ false → ds ≡ []) → after near.held ds ≡ far.sent
       → IsPartly (size far.name) (greetings b p q ++ map Carries ds) far.taken → Flows size b (record far { phase = q }) (record near { phase = p })
       → Fact size (first_as b p (greetings b p q ++ map Carries ds) (met b p q near far ds))
   first_keeps true Opened Opened near far ds kind phases early tells partly o =

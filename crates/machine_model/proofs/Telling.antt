@@ -15,10 +15,10 @@ use Rattle.node_model.specs.Maps.{Map, difference}
 use Rattle.node_model.specs.Members.{Member}
 use Rattle.machine_model.specs.Setup.{Name, Move, Setup, checked, edited_without, moves, remade, renumbered}
 use Rattle.machine_model.specs.Session.{Carries, Message, Session, may_send, passed, told, turned}
-use Rattle.machine_model.specs.Network.{Network, View, brought, config, is_at, replaced, sessions_of, view, views_of, wanted}
+use Rattle.machine_model.specs.Network.{MachineState, View, brought, config, is_at, replaced, sessions_of, view, views_of, wanted}
 use Rattle.machine_model.specs.Steps.{at_node, pass}
 use Rattle.machine_model.specs.Events.{Edits, edits, moved, next, passes}
-use Rattle.machine_model.specs.Moments.{Each, Nodes, TellsWanted}
+use Rattle.machine_model.specs.Moments.{Each, NodePair, TellsWanted}
 use Rattle.machine_model.specs.Deeds.{NodeTells, SendsFreely}
 use Rattle.machine_model.proofs.SessionFact.{told_cases}
 use Rattle.machine_model.proofs.NetworkFact.{passed_nodes}
@@ -65,8 +65,8 @@ module _ (n : Name) where
   passed_sends : (m : Map) (s : Session) → SendsFreely n s → SendsFreely n (passed m s)
   passed_sends m s f =
       let kept = passed_nodes m s in (
-        (λ at. (passed_free m s (f.0 (ap (λ (p : Nodes). same_name p.0.0 n) (sym kept) ∙ at))).breaks),
-        (λ at. passed_far m s ∙ f.1 (ap (λ (p : Nodes). same_name p.1.0 n) (sym kept) ∙ at)),
+        (λ at. (passed_free m s (f.0 (ap (λ (p : NodePair). same_name p.0.0 n) (sym kept) ∙ at))).breaks),
+        (λ at. passed_far m s ∙ f.1 (ap (λ (p : NodePair). same_name p.1.0 n) (sym kept) ∙ at)),
       )
 
   turned_sends : (s : Session) → SendsFreely n s → SendsFreely n (turned s)
@@ -85,7 +85,7 @@ module _ (n : Name) where
     node_sends k W ss e.1,
   )
 
-  pass_sends : (k : Name) (w : Network) → Each (SendsFreely n) w.sessions → Each (SendsFreely n) (pass k w).sessions
+  pass_sends : (k : Name) (w : MachineState) → Each (SendsFreely n) w.sessions → Each (SendsFreely n) (pass k w).sessions
   pass_sends k w e = node_sends k (λ s. wanted w.setup (views_of k w.sessions) (view s)) w.sessions e
 
   -- the sessions of the node itself
@@ -117,7 +117,7 @@ module _ (n : Name) where
         let p = passed_free (wanted x vs (view s)) s e.0 in
         ((λ may. p.sent may ∙ ap (wanted x vs) (sym p.view)), tell_tells own e.1)
 
-  own_pass : (w : Network) → Each (SendsFreely n) w.sessions → NodeTells (pass n w) n
+  own_pass : (w : MachineState) → Each (SendsFreely n) w.sessions → NodeTells (pass n w) n
   own_pass w e =
       let own = sessions_of n w.sessions in
       let g = tell w.setup (map view own) in
@@ -125,7 +125,7 @@ module _ (n : Name) where
       subst (λ (ts : List Session). TellsWanted w.setup (map view ts) ts) (sym (own_after n g (λ s. passed_nodes (wanted w.setup (map view own) (view s)) s) w.sessions))
       (subst (λ (us : List View). TellsWanted w.setup us (map g own)) (sym (tell_views w.setup (map view own) own free)) (tell_tells w.setup (map view own) own free))
 
-  other_pass : (k : Name) (w : Network) → same_name k n ≡ false → NodeTells w n → NodeTells (pass k w) n
+  other_pass : (k : Name) (w : MachineState) → same_name k n ≡ false → NodeTells w n → NodeTells (pass k w) n
   other_pass k w apart h =
       let g = tell w.setup (views_of k w.sessions) in
       let own = sessions_of n w.sessions in
@@ -133,18 +133,18 @@ module _ (n : Name) where
       let alike : AllAlike own then = others_of_node k n apart g (λ s. passed_touches (wanted w.setup (views_of k w.sessions) (view s)) s) w.sessions in
       subst (λ (us : List View). TellsWanted w.setup us then) (sym (alike_views own then alike)) (alike_tells w.setup (map view own) own then alike h)
 
-  a_pass : (k : Name) (w : Network) → Each (SendsFreely n) w.sessions → (same_name k n ≡ false → NodeTells w n) → NodeTells (pass k w) n
+  a_pass : (k : Name) (w : MachineState) → Each (SendsFreely n) w.sessions → (same_name k n ≡ false → NodeTells w n) → NodeTells (pass k w) n
   a_pass k w e h =
       elim (same_name k n) as (λ b. same_name k n ≡ b → NodeTells (pass k w) n) [
         | true ↦ λ is. subst (λ (m : Name). NodeTells (pass m w) n) (sym ((bytes_decides k n).0 is)) (own_pass w e)
         | false ↦ λ apart. other_pass k w apart (h apart)
       ] refl
 
-  passes_sends : (ks : List Name) (w : Network) → Each (SendsFreely n) w.sessions → Each (SendsFreely n) (passes ks w).sessions
+  passes_sends : (ks : List Name) (w : MachineState) → Each (SendsFreely n) w.sessions → Each (SendsFreely n) (passes ks w).sessions
   passes_sends [] w e = e
   passes_sends (k ∷ ks) w e = passes_sends ks (pass k w) (pass_sends k w e)
 
-  passes_tell : (ks : List Name) (w : Network) → Each (SendsFreely n) w.sessions → Member n ks ⊎ NodeTells w n → NodeTells (passes ks w) n
+  passes_tell : (ks : List Name) (w : MachineState) → Each (SendsFreely n) w.sessions → Member n ks ⊎ NodeTells w n → NodeTells (passes ks w) n
   passes_tell [] w e (inl i) = absurd i
   passes_tell [] w e (inr h) = h
   passes_tell (k ∷ ks) w e (inr h) = passes_tell ks (pass k w) (pass_sends k w e) (inr (a_pass k w e (λ _. h)))
@@ -153,15 +153,15 @@ module _ (n : Name) where
   passes_tell (k ∷ ks) w e (inl (inr i)) = passes_tell ks (pass k w) (pass_sends k w e) (inl i)
 
   -- ---- an edit
-  moved_tells : (m : Move) (v : Network) → Member n m.left → Each (SendsFreely n) v.sessions → NodeTells (pass config (moved (Some m) v)) n
+  moved_tells : (m : Move) (v : MachineState) → Member n m.left → Each (SendsFreely n) v.sessions → NodeTells (pass config (moved (Some m) v)) n
   moved_tells m v i e =
-      let u : Network = record { setup = v.setup; sessions = replaced m.name (brought v.setup.topology.controllers m.now) v.sessions } in
+      let u : MachineState = record { setup = v.setup; sessions = replaced m.name (brought v.setup.topology.controllers m.now) v.sessions } in
       let free : Each (SendsFreely n) u.sessions =
       each_replaced (SendsFreely n) (SendsFreely n) m.name (λ s _ f. f) (brought v.setup.topology.controllers m.now) v.sessions
       (each_brought (SendsFreely n) (λ _ _ _ _. ((λ _. refl), (λ _. refl))) v.setup.topology.controllers m.now) e in
       a_pass config (passes m.left u) (passes_sends m.left u free) (λ _. passes_tell m.left u free (inl i))
 
-pub edit_tells : (size : Name → Message → ℕ) (w : Network) (d : Edit) (m : Move) (control : Name) → edit_fault (checked w.setup) d ≡ None → moves d w.setup.topology ≡ Some m
+pub edit_tells : (size : Name → Message → ℕ) (w : MachineState) (d : Edit) (m : Move) (control : Name) → edit_fault (checked w.setup) d ≡ None → moves d w.setup.topology ≡ Some m
     → Member control m.left → Each (SendsFreely control) w.sessions → NodeTells (next size w (Edits d)) control
 unfolding next
 edit_tells size w d m control none is i e =

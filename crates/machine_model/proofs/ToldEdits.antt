@@ -19,7 +19,7 @@ use Rattle.node_model.specs.Members.{Member}
 use Rattle.node_model.proofs.Members.{from_map, in_filter}
 use Rattle.machine_model.specs.Setup.{Name, Move, Setup, agents_in, agents_of, checked, edited, edited_without, has_name, is_listed, listed_by, lists, moves, remade, renumbered}
 use Rattle.machine_model.specs.Session.{Role, Configuration, Controller, Agent, Session, turned}
-use Rattle.machine_model.specs.Network.{Network, View, between, brought, config, heard_from, is_at, is_of, replaced, same_role, seen_by, sessions_of, view, views_of, wanted, wanted_from, wanted_from_control}
+use Rattle.machine_model.specs.Network.{MachineState, View, between, brought, config, heard_from, is_at, is_of, replaced, same_role, seen_by, sessions_of, view, views_of, wanted, wanted_from, wanted_from_control}
 use Rattle.machine_model.specs.Steps.{pass}
 use Rattle.machine_model.specs.Events.{edits, moved, passes}
 use Rattle.machine_model.specs.Moments.{AreWhole, Each, HasTold, NodeHasTold, TellsWanted, nodes}
@@ -31,14 +31,14 @@ use Rattle.machine_model.proofs.Changing.{KindsApart, MoverIs, Renews, edit_apar
 use Rattle.machine_model.proofs.Listed.{ListedAt, Placed, Stands, is_agents, of_nodes}
 
 -- each node has told what it wants, unless a session of it is down
-abbrev pub AllHaveTold : Network → Type 0
+abbrev pub AllHaveTold : MachineState → Type 0
 AllHaveTold w = (m : Name) → NodeHasTold w m
 
 -- ---- passes
 same_or : (P : Name → Type 0) (a m : Name) → P a → (same_name a m ≡ false → P m) → P m
 same_or P a m p q = elim (same_name a m) as (λ c. same_name a m ≡ c → P m) [ true ↦ λ is. subst P ((bytes_decides a m).0 is) p | false ↦ q ] refl
 
-passes_tell : (ns : List Name) (m : Name) (w : Network) → ((Member m ns → ⊥) → NodeHasTold w m) → NodeHasTold (passes ns w) m
+passes_tell : (ns : List Name) (m : Name) (w : MachineState) → ((Member m ns → ⊥) → NodeHasTold w m) → NodeHasTold (passes ns w) m
 passes_tell [] m w h = h (λ i. i)
 passes_tell (n ∷ ns) m w h =
     passes_tell ns m (pass n w) (λ off. same_or (NodeHasTold (pass n w)) n m (pass_tells n w) (λ apart.
@@ -317,11 +317,11 @@ module _ (x y : Setup) (o : Move) (r : Renews x.topology y.topology (Some o)) (m
       ]
 
 -- ---- edits
-module _ (d : Edit) (w : Network) (p : Holds Placed w) (h : AllHaveTold w) (m : Name) (none : edit_fault (checked w.setup) d ≡ None) where
+module _ (d : Edit) (w : MachineState) (p : Holds Placed w) (h : AllHaveTold w) (m : Name) (none : edit_fault (checked w.setup) d ≡ None) where
   abbrev y : Setup
   y = remade (checked_edited d (checked w.setup)) (renumbered (moves d w.setup.topology) w.setup.numbers)
 
-  abbrev v : Network
+  abbrev v : MachineState
   v = record { setup = y; sessions = w.sessions }
 
   moves_told : (o : Option Move) → y.numbers ≡ renumbered o w.setup.numbers → Renews w.setup.topology y.topology o → same_name config m ≡ false → NodeHasTold (moved o v) m
@@ -334,11 +334,11 @@ module _ (d : Edit) (w : Network) (p : Holds Placed w) (h : AllHaveTold w) (m : 
 
   edit_told : NodeHasTold (pass config (moved (moves d w.setup.topology) v)) m
   edit_told =
-      let u : Network = moved (moves d w.setup.topology) v in
+      let u : MachineState = moved (moves d w.setup.topology) v in
       same_or (NodeHasTold (pass config u)) config m (pass_tells config u)
       (λ apart. pass_others config m u apart (moves_told (moves d w.setup.topology) refl (renews (checked w.setup) d none) apart))
 
-pub edits_told : (d : Edit) (w : Network) → Holds Placed w → AllHaveTold w → AllHaveTold (edits (moves d w.setup.topology) (edited w.setup d) w)
+pub edits_told : (d : Edit) (w : MachineState) → Holds Placed w → AllHaveTold w → AllHaveTold (edits (moves d w.setup.topology) (edited w.setup d) w)
 edits_told d w p h m =
     elim (edit_fault (checked w.setup) d) as (λ o. edit_fault (checked w.setup) d ≡ o → NodeHasTold (edits (moves d w.setup.topology) (edited_without o w.setup d) w) m) [
       | None ↦ λ none. edit_told d w p h m none

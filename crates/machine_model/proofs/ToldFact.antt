@@ -11,12 +11,12 @@ use Rattle.node_model.specs.Maps.{Map, difference}
 use Rattle.machine_model.specs.Setup.{Name, Setup}
 use Rattle.ov_types.specs.First.{same_name}
 use Rattle.node_model.specs.Step.{Phase, Idle, Opened, Confirmed, Up}
-use Rattle.machine_model.specs.Session.{Message, Open, Keepalive, Hello, Carries, End, Session, turned, closed, are_peers, is_peering, may_send_at, may_send, shut, with_breaks, told, passed, with_phase, peer_took, item_took, took, without_first, took_first, arrived}
-use Rattle.machine_model.specs.Network.{Network, View, view, views_of, sessions_of, seen_by, wanted, is_at}
+use Rattle.machine_model.specs.Session.{Message, Open, Keepalive, Hello, Carries, SessionEnd, Session, turned, closed, are_peers, is_peering, may_send_at, may_send, shut, with_breaks, told, passed, with_phase, peer_took, item_took, took, without_first, took_first, arrived}
+use Rattle.machine_model.specs.Network.{MachineState, View, view, views_of, sessions_of, seen_by, wanted, is_at}
 use Rattle.machine_model.specs.Steps.{at_node, joins, with_session, change_session, pass}
 use Rattle.machine_model.proofs.SessionFact.{sends, told_cases}
 use Rattle.machine_model.specs.Moments.{AreWhole, TellsWanted, HasTold, NodeHasTold}
-use Rattle.machine_model.proofs.NetworkFact.{Nodes, nodes, passed_nodes}
+use Rattle.machine_model.proofs.NetworkFact.{NodePair, nodes, passed_nodes}
 
 -- t may stand for s, as the near node goes by it
 pub record Alike (s t : Session) : Type 0 where
@@ -120,7 +120,7 @@ all_refl [] = tt
 all_refl (s ∷ ss) = (alike_refl s, all_refl ss)
 
 -- ---- a node is not another
-pub not_at : (n m : Name) (e : End) → same_name n m ≡ false → is_at n e ≡ true → is_at m e ≡ false
+pub not_at : (n m : Name) (e : SessionEnd) → same_name n m ≡ false → is_at n e ≡ true → is_at m e ≡ false
 not_at n m e apart at = ap (λ (k : Name). same_name k m) ((bytes_decides e.name n).0 at) ∙ apart
 
 module _ (n m : Name) (apart : same_name n m ≡ false) where
@@ -211,7 +211,7 @@ passed_tells m s =
       | false ↦ λ e _. (refl, λ may. absurd (true≢false (sym may ∙ e)))
     ] refl
   where
-    sends_view : (d : Bool) (near far : End) (ms : List Message) (b : List ℕ) → let t : Session = with_breaks b (sends ms (record { is_down = d; near = near; far = far })) in (view t ≡ view (record { is_down = d; near = near; far = far })) × (t.near.sent ≡ near.sent)
+    sends_view : (d : Bool) (near far : SessionEnd) (ms : List Message) (b : List ℕ) → let t : Session = with_breaks b (sends ms (record { is_down = d; near = near; far = far })) in (view t ≡ view (record { is_down = d; near = near; far = far })) × (t.near.sent ≡ near.sent)
     sends_view true near far ms b = (refl, refl)
     sends_view false near far ms b = (refl, refl)
 
@@ -226,11 +226,11 @@ passed_tells m s =
 own_acts : (n : Name) (g : Session → Session) → ((s : Session) → nodes (g s) ≡ nodes s) → (s : Session) → seen_by n (at_node n g s) ≡ option_map g (seen_by n s)
 own_acts n g kept s =
     elim (is_at n s.near) as (λ b. is_at n s.near ≡ b → seen_by n (cond b (g s) (cond (is_at n s.far) (turned (g (turned s))) s)) ≡ option_map g (cond b (Some s) (cond (is_at n s.far) (Some (turned s)) None))) [
-      | true ↦ λ at. ap (λ b. cond b (Some (g s)) (cond (is_at n (g s).far) (Some (turned (g s))) None)) (ap (λ (p : Nodes). same_name p.0.0 n) (kept s) ∙ at)
+      | true ↦ λ at. ap (λ b. cond b (Some (g s)) (cond (is_at n (g s).far) (Some (turned (g s))) None)) (ap (λ (p : NodePair). same_name p.0.0 n) (kept s) ∙ at)
       | false ↦ λ not_near. elim (is_at n s.far) as (λ b. is_at n s.far ≡ b → seen_by n (cond b (turned (g (turned s))) s) ≡ option_map g (cond b (Some (turned s)) None)) [
         | true ↦ λ at.
-            ap (λ b. cond b (Some (turned (g (turned s)))) (cond (is_at n (g (turned s)).near) (Some (g (turned s))) None)) (ap (λ (p : Nodes). same_name p.1.0 n) (kept (turned s)) ∙ not_near)
-            ∙ ap (λ b. cond b (Some (g (turned s))) None) (ap (λ (p : Nodes). same_name p.0.0 n) (kept (turned s)) ∙ at)
+            ap (λ b. cond b (Some (turned (g (turned s)))) (cond (is_at n (g (turned s)).near) (Some (g (turned s))) None)) (ap (λ (p : NodePair). same_name p.1.0 n) (kept (turned s)) ∙ not_near)
+            ∙ ap (λ b. cond b (Some (g (turned s))) None) (ap (λ (p : NodePair). same_name p.0.0 n) (kept (turned s)) ∙ at)
         | false ↦ λ not_far.
             ap (λ b. cond b (Some s) (cond (is_at n s.far) (Some (turned s)) None)) not_near
             ∙ ap (λ b. cond b (Some (turned s)) None) not_far
@@ -262,7 +262,7 @@ module _ (x : Setup) (vs : List View) where
       let p = passed_tells (wanted x vs (view s)) s w.0 in
       ((λ may. p.1 may ∙ ap (wanted x vs) (sym p.0)), tell_tells own w.1)
 
-pub pass_tells : (n : Name) (w : Network) → NodeHasTold (pass n w) n
+pub pass_tells : (n : Name) (w : MachineState) → NodeHasTold (pass n w) n
 pass_tells n w =
     let own = sessions_of n w.sessions in
     let g = tell w.setup (map view own) in
@@ -270,13 +270,13 @@ pass_tells n w =
     (λ whole. subst (λ (us : List View). TellsWanted w.setup us (map g own)) (sym (tell_views w.setup (map view own) own whole)) (tell_tells w.setup (map view own) own whole))
 
 -- and another node's debts stay
-pub pass_others : (n m : Name) (w : Network) → same_name n m ≡ false → NodeHasTold w m → NodeHasTold (pass n w) m
+pub pass_others : (n m : Name) (w : MachineState) → same_name n m ≡ false → NodeHasTold w m → NodeHasTold (pass n w) m
 pass_others n m w apart h =
     let g = tell w.setup (views_of n w.sessions) in
     told_alike w.setup (sessions_of m w.sessions) (sessions_of m (map (at_node n g) w.sessions)) (others_of_node n m apart g (λ s. passed_touches (wanted w.setup (views_of n w.sessions) (view s)) s) w.sessions) h
 
 -- a step of a node on one session, and its pass
-pub step_tells : (n b m : Name) (f : Session → Session) → ((s : Session) → Touches s (f s)) → (w : Network) → NodeHasTold w m → NodeHasTold (pass n (change_session n b f w)) m
+pub step_tells : (n b m : Name) (f : Session → Session) → ((s : Session) → Touches s (f s)) → (w : MachineState) → NodeHasTold w m → NodeHasTold (pass n (change_session n b f w)) m
 step_tells n b m f touches w h =
     elim (same_name n m) as (λ c. same_name n m ≡ c → NodeHasTold (pass n (change_session n b f w)) m) [
       | true ↦ λ is. subst (NodeHasTold (pass n (change_session n b f w))) ((bytes_decides n m).0 is) (pass_tells n (change_session n b f w))

@@ -12,11 +12,11 @@ use Rattle.machine_model.specs.Setup.{Name, Setup}
 use Rattle.ov_types.specs.First.{same_name}
 use Rattle.machine_model.specs.Session.{Message, Session, turned, closed, shut, lost, greeting, opened, took, without_first, took_octets, octets_arrived, arrived}
 use Rattle.node_model.specs.Step.{Opened}
-use Rattle.machine_model.specs.Network.{Network, View, view, sessions_of, seen_by, is_at}
-use Rattle.machine_model.specs.Events.{Event, add_break, next, after}
+use Rattle.machine_model.specs.Network.{MachineState, View, view, sessions_of, seen_by, is_at}
+use Rattle.machine_model.specs.Events.{MachineEvent, add_break, next, after}
 use Rattle.machine_model.specs.Steps.{at_node, joins, with_session, change_session, change_node, pass, session_in, round, is_broken, around, connect, connect_all, without_breaks}
 use Rattle.machine_model.proofs.Walk.{Takes, Connects, Steps, round_walk, connections_walk, next_walk}
-use Rattle.machine_model.proofs.NetworkFact.{Nodes, nodes, KeepsNodes, joins_kept, opened_nodes}
+use Rattle.machine_model.proofs.NetworkFact.{NodePair, nodes, KeepsNodes, joins_kept, opened_nodes}
 use Rattle.machine_model.proofs.NodesFact.{Holds, next_holds, pass_nodes, session_nodes}
 use Rattle.machine_model.proofs.Listed.{Placed, edits_placed}
 pub use Rattle.machine_model.proofs.ToldEdits.{AllHaveTold}
@@ -68,20 +68,20 @@ module _ (f : Session → Session) (near : (s : Session) → Alike s (f s)) (far
 takes_told : Takes AllHaveTold
 takes_told from to w h m = step_tells to from m arrived arrived_touches w (h m)
 
-pub round_told : (w : Network) → AllHaveTold w → AllHaveTold (round w)
+pub round_told : (w : MachineState) → AllHaveTold w → AllHaveTold (round w)
 round_told = round_walk AllHaveTold takes_told
 
-loses_told : (a b : Name) (w : Network) → AllHaveTold w → AllHaveTold (change_session a b lost w)
+loses_told : (a b : Name) (w : MachineState) → AllHaveTold w → AllHaveTold (change_session a b lost w)
 loses_told a b w e m =
     told_alike w.setup (sessions_of m w.sessions) (sessions_of m (with_session a b lost w.sessions))
     (session_alike lost (λ s. record { view = refl; sent = refl; down = λ e. absurd (true≢false e) }) (λ s. record { view = refl; sent = refl; down = λ e. absurd (true≢false e) }) m a b w.sessions) (e m)
 
-break_told : (a b : Name) (n : ℕ) (w : Network) → AllHaveTold w → AllHaveTold (change_session a b (add_break n) w)
+break_told : (a b : Name) (n : ℕ) (w : MachineState) → AllHaveTold w → AllHaveTold (change_session a b (add_break n) w)
 break_told a b n w e m =
     told_alike w.setup (sessions_of m w.sessions) (sessions_of m (with_session a b (add_break n) w.sessions))
     (session_alike (add_break n) (λ s. record { view = refl; sent = refl; down = λ e. e }) (λ s. record { view = refl; sent = refl; down = λ e. e }) m a b w.sessions) (e m)
 
-pub unbroken_told : (w : Network) → AllHaveTold w → AllHaveTold (record { setup = w.setup; sessions = map without_breaks w.sessions })
+pub unbroken_told : (w : MachineState) → AllHaveTold w → AllHaveTold (record { setup = w.setup; sessions = map without_breaks w.sessions })
 unbroken_told w e m =
     told_alike w.setup (sessions_of m w.sessions) (sessions_of m (map without_breaks w.sessions))
     (map_alike without_breaks (λ s. record { view = refl; sent = refl; down = λ e. e }) (λ s. record { view = refl; sent = refl; down = λ e. e }) m w.sessions) (e m)
@@ -91,7 +91,7 @@ shut_told : (x : Setup) (own : List Session) → HasTold x (map shut own)
 shut_told x [] whole = tt
 shut_told x (s ∷ own) whole = absurd (true≢false whole.0)
 
-restart_told : (n : Name) (w : Network) → AllHaveTold w → AllHaveTold (change_node n shut w)
+restart_told : (n : Name) (w : MachineState) → AllHaveTold w → AllHaveTold (change_node n shut w)
 restart_told n w e m =
     elim (same_name n m) as (λ c. same_name n m ≡ c → NodeHasTold (change_node n shut w) m) [
       | true ↦ λ is. subst (NodeHasTold (change_node n shut w)) ((bytes_decides n m).0 is)
@@ -144,7 +144,7 @@ module _ (a b m : Name) where
           | true ↦ λ is. ap (λ (o : Option Session). cons_option o (sessions_of m ss)) (unseen (f s) (joins_kept a b s (f s) (kept s) ∙ is) ∙ sym (unseen s is))
           | false ↦ λ _. elim (joins b a s) as (λ c. joins b a s ≡ c → sessions_of m (cond c (turned (f (turned s)) ∷ ss) (s ∷ with_session a b f ss)) ≡ sessions_of m (s ∷ ss)) [
             | true ↦ λ is.
-                let same : nodes (turned (f (turned s))) ≡ nodes s = ap (λ (p : Nodes). (p.1, p.0)) (kept (turned s)) in
+                let same : nodes (turned (f (turned s))) ≡ nodes s = ap (λ (p : NodePair). (p.1, p.0)) (kept (turned s)) in
                 ap (λ (o : Option Session). cons_option o (sessions_of m ss)) (unseen_turned (turned (f (turned s))) (joins_kept b a s (turned (f (turned s))) same ∙ is) ∙ sym (unseen_turned s is))
             | false ↦ λ _. ap (cons_option (seen_by m s)) (strangers ss)
           ] refl
@@ -167,7 +167,7 @@ unfolding opened
 opened_touches s e = told_from (greeting s ∷ []) s (record { is_down = false; near = record s.near { phase = Opened }; far = s.far }) (record { view = refl; sent = refl; down = λ _. e })
 
 -- connected
-abbrev pub is_among : List Nodes → Name → Name → Bool
+abbrev pub is_among : List NodePair → Name → Name → Bool
 is_among [] a b = false
 is_among (p ∷ ps) a b = cond (same_name p.0.0 a && same_name p.1.0 b) true (cond (same_name p.0.0 b && same_name p.1.0 a) true (is_among ps a b))
 
@@ -212,12 +212,12 @@ broken_down (Some t) i e = (t, refl, e)
 pub by_name : (P : Name → Type 0) (a m : Name) → P a → (same_name a m ≡ false → P m) → P m
 by_name P a m p q = elim (same_name a m) as (λ c. same_name a m ≡ c → P m) [ true ↦ λ is. subst P ((bytes_decides a m).0 is) p | false ↦ q ] refl
 
-connect_told : (a b : Name) (w : Network) → AllHaveTold w → is_some (session_in w.sessions a b) ≡ true → AllHaveTold (connect a b w)
+connect_told : (a b : Name) (w : MachineState) → AllHaveTold w → is_some (session_in w.sessions a b) ≡ true → AllHaveTold (connect a b w)
 connect_told a b w h found m =
-    let v : Network = change_session a b opened w in
-    let u : Network = pass a v in
+    let v : MachineState = change_session a b opened w in
+    let u : MachineState = pass a v in
     let among : is_some (session_in u.sessions a b) ≡ true =
-    found_among u.sessions a b ∙ ap (λ (ps : List Nodes). is_among ps a b) (pass_nodes a v ∙ session_nodes a b opened opened_nodes w.sessions) ∙ sym (found_among w.sessions a b) ∙ found in
+    found_among u.sessions a b ∙ ap (λ (ps : List NodePair). is_among ps a b) (pass_nodes a v ∙ session_nodes a b opened opened_nodes w.sessions) ∙ sym (found_among w.sessions a b) ∙ found in
     let third : same_name a m ≡ false → same_name b m ≡ false → NodeHasTold u m = λ apart_a apart_b.
     pass_others a m v apart_a (subst (HasTold w.setup) (sym (strangers a b m apart_a apart_b opened opened_nodes w.sessions)) (h m)) in
     elim (is_broken u a b) as (λ c. is_broken u a b ≡ c → NodeHasTold (cond c u (pass b (change_session a b (around opened) u))) m) [
@@ -234,7 +234,7 @@ connect_told a b w h found m =
 connects_told : Connects AllHaveTold
 connects_told a b w may found h = connect_told a b w h found
 
-pub connect_all_told : (ss : List Session) (w : Network) → AllHaveTold w → AllHaveTold (connect_all ss w)
+pub connect_all_told : (ss : List Session) (w : MachineState) → AllHaveTold w → AllHaveTold (connect_all ss w)
 connect_all_told = connections_walk AllHaveTold connects_told
 
 module _ (size : Name → Message → ℕ) where
@@ -249,7 +249,7 @@ module _ (size : Name → Message → ℕ) where
     breaks = break_told;
   }
 
-  pub after_told : (w : Network) (es : List Event) → Holds Placed w → AllHaveTold w → AllHaveTold (after size w es)
+  pub after_told : (w : MachineState) (es : List MachineEvent) → Holds Placed w → AllHaveTold w → AllHaveTold (after size w es)
   after_told w [] p h = h
   after_told w (e ∷ es) p h =
       after_told (next size w e) es (next_holds size Placed edits_placed w e p) (next_walk size AllHaveTold told_steps w e (λ d _ h. edits_told d w p h) h)

@@ -13,11 +13,11 @@ use Rattle.node_model.specs.Maps.{Map, difference}
 use Rattle.node_model.specs.Step.{Phase, Idle, Opened, Confirmed, Up}
 use Rattle.machine_model.specs.Setup.{Name, checked}
 use Rattle.machine_model.specs.Session.{Message, Open, Keepalive, Hello, Carries, Session, turned, closed, is_peering, may_send, told, passed, with_phase, peer_took, item_took, took, without_first, took_first, arrived, waiting}
-use Rattle.machine_model.specs.Network.{Network, start, is_at, view, views_of, wanted}
+use Rattle.machine_model.specs.Network.{MachineState, start, is_at, view, views_of, wanted}
 use Rattle.machine_model.specs.Steps.{joins, with_session, change_session, pass, session_in, in_flight, repeat, deliver, Due, due_at, dues, notice_stands, deliver_due, deliver_all, round}
 use Rattle.machine_model.specs.Events.{Deliver, next, after}
 use Rattle.machine_model.specs.Rounds.{is_unbroken, is_whole, taken_of, AreTurns, IsTakenInTurns, IsOfDeliveries}
-use Rattle.machine_model.specs.Moments.{Nodes, nodes, AtEveryMoment, WhereLaidOut}
+use Rattle.machine_model.specs.Moments.{NodePair, nodes, AtEveryMoment, WhereLaidOut}
 use Rattle.machine_model.proofs.SessionFact.{sends, told_cases}
 use Rattle.machine_model.proofs.NetworkFact.{passed_nodes, after_sound}
 use Rattle.machine_model.proofs.Start.{start_sound}
@@ -79,7 +79,7 @@ stays_silent f h None e = refl
 stays_silent f h (Some s) e = h s e
 
 -- a delivery leaves no notice where none stood
-delivered_silent : (d : Due) (w : Network) → notice_stands w d ≡ false → notice_stands (deliver d.from d.to w) d ≡ false
+delivered_silent : (d : Due) (w : MachineState) → notice_stands w d ≡ false → notice_stands (deliver d.from d.to w) d ≡ false
 delivered_silent d w e =
     elim (in_flight w d.from d.to == 0) as (λ b. notice_stands (cond b w (pass d.to (change_session d.to d.from arrived w))) d ≡ false) [
       | true ↦ e
@@ -102,29 +102,29 @@ beq_other true false n = refl
 beq_other false true n = refl
 beq_other false false n = absurd (n refl)
 
-due_same : (d : Due) (w : Network) → notice_stands w d ≡ d.is_notice → deliver_due d w ≡ deliver d.from d.to w
+due_same : (d : Due) (w : MachineState) → notice_stands w d ≡ d.is_notice → deliver_due d w ≡ deliver d.from d.to w
 due_same d w e = ap (λ b. cond b (deliver d.from d.to w) w) (beq_same (notice_stands w d) d.is_notice e)
 
-due_other : (d : Due) (w : Network) → notice_stands w d ≢ d.is_notice → deliver_due d w ≡ w
+due_other : (d : Due) (w : MachineState) → notice_stands w d ≢ d.is_notice → deliver_due d w ≡ w
 due_other d w n = ap (λ b. cond b (deliver d.from d.to w) w) (beq_other (notice_stands w d) d.is_notice n)
 
 -- a notice counts as one
 abbrev CountsOne : Due → Type 0
 CountsOne d = d.is_notice ≡ true → d.count ≡ 1
 
-messages_same : (n : ℕ) (d : Due) (w : Network) → d.is_notice ≡ false → notice_stands w d ≡ false → repeat n (deliver_due d) w ≡ repeat n (deliver d.from d.to) w
+messages_same : (n : ℕ) (d : Due) (w : MachineState) → d.is_notice ≡ false → notice_stands w d ≡ false → repeat n (deliver_due d) w ≡ repeat n (deliver d.from d.to) w
 messages_same zero d w e s = refl
 messages_same (suc n) d w e s =
     ap (repeat n (deliver_due d)) (due_same d w (s ∙ sym e)) ∙ messages_same n d (deliver d.from d.to w) e (delivered_silent d w s)
 
-turn_same : (d : Due) (w : Network) → CountsOne d → notice_stands w d ≡ d.is_notice → repeat d.count (deliver_due d) w ≡ repeat d.count (deliver d.from d.to) w
+turn_same : (d : Due) (w : MachineState) → CountsOne d → notice_stands w d ≡ d.is_notice → repeat d.count (deliver_due d) w ≡ repeat d.count (deliver d.from d.to) w
 turn_same d w one e =
     elim d.is_notice as (λ b. d.is_notice ≡ b → repeat d.count (deliver_due d) w ≡ repeat d.count (deliver d.from d.to) w) [
       | true ↦ λ is. subst (λ n. repeat n (deliver_due d) w ≡ repeat n (deliver d.from d.to) w) (sym (one is)) (due_same d w e)
       | false ↦ λ is. messages_same d.count d w is (e ∙ is)
     ] refl
 
-turn_other : (n : ℕ) (d : Due) (w : Network) → notice_stands w d ≢ d.is_notice → repeat n (deliver_due d) w ≡ w
+turn_other : (n : ℕ) (d : Due) (w : MachineState) → notice_stands w d ≢ d.is_notice → repeat n (deliver_due d) w ≡ w
 turn_other zero d w h = refl
 turn_other (suc n) d w h = ap (repeat n (deliver_due d)) (due_other d w h) ∙ turn_other n d w h
 
@@ -136,7 +136,7 @@ all_count [] = tt
 all_count (s ∷ ss) = (due_counts (turned s), (due_counts s, all_count ss))
 
 module _ (size : Name → Message → ℕ) where
-  in_turns : (ds : List Due) (w : Network) → AllByRecursion CountsOne ds → AreTurns size ds w (deliver_all ds w)
+  in_turns : (ds : List Due) (w : MachineState) → AllByRecursion CountsOne ds → AreTurns size ds w (deliver_all ds w)
   unfolding next
   in_turns [] w c = refl
   in_turns (d ∷ ds) w c = (repeat d.count (deliver_due d) w, (turn_same d w c.0, turn_other d.count d w), in_turns ds (repeat d.count (deliver_due d) w) c.1)
@@ -144,12 +144,12 @@ module _ (size : Name → Message → ℕ) where
   abbrev flight_of : Option Session → ℕ
   flight_of o = unwrap_or (option_map waiting o) 0
 
-  counts_of : (w : Network) (ss : List Session) → AllByRecursion (λ s. (session_in w.sessions s.near.name s.far.name ≡ Some s) × (session_in w.sessions s.far.name s.near.name ≡ Some (turned s))) ss
+  counts_of : (w : MachineState) (ss : List Session) → AllByRecursion (λ s. (session_in w.sessions s.near.name s.far.name ≡ Some s) × (session_in w.sessions s.far.name s.near.name ≡ Some (turned s))) ss
       → AllByRecursion (λ d. d.count ≡ in_flight w d.from d.to) (flat_map (λ s. due_at (turned s) ∷ due_at s ∷ []) ss)
   counts_of w [] f = tt
   counts_of w (s ∷ ss) f = (sym (ap flight_of f.0.1), (sym (ap flight_of f.0.0), counts_of w ss f.1))
 
-  pub taken_in_turns : (w : Network) → NoTwins (map nodes w.sessions) → IsTakenInTurns size w
+  pub taken_in_turns : (w : MachineState) → NoTwins (map nodes w.sessions) → IsTakenInTurns size w
   unfolding next round
   taken_in_turns w t = record { turns = in_turns (dues w) w (all_count w.sessions); counts = counts_of w w.sessions (found_each w.sessions t) }
 
@@ -177,15 +177,15 @@ module _ (g t : Name) where
   nothing false true m n k e f = absurd (true≢false f)
   nothing false false m n k e f = omega arith
 
-  none_more : (ss : List Session) → AllByRecursion (λ (p : Nodes). ((same_name p.0.0 t && same_name p.1.0 g) ≡ false) × ((same_name p.0.0 g && same_name p.1.0 t) ≡ false)) (map nodes ss) → due_count (dues_of ss) ≡ 0
+  none_more : (ss : List Session) → AllByRecursion (λ (p : NodePair). ((same_name p.0.0 t && same_name p.1.0 g) ≡ false) × ((same_name p.0.0 g && same_name p.1.0 t) ≡ false)) (map nodes ss) → due_count (dues_of ss) ≡ 0
   none_more [] o = refl
   none_more (s ∷ ss) o = nothing (matches (due_at (turned s))) (matches (due_at s)) (waiting (turned s)) (waiting s) (due_count (dues_of ss)) (off_back s o.0.1) (off_in s o.0.0) ∙ none_more ss o.1
 
-  others : (p : Nodes) (ps : List Nodes) → p.0.0 ≡ t → p.1.0 ≡ g → AllByRecursion (IsOther p) ps → AllByRecursion (λ (q : Nodes). ((same_name q.0.0 t && same_name q.1.0 g) ≡ false) × ((same_name q.0.0 g && same_name q.1.0 t) ≡ false)) ps
+  others : (p : NodePair) (ps : List NodePair) → p.0.0 ≡ t → p.1.0 ≡ g → AllByRecursion (IsOther p) ps → AllByRecursion (λ (q : NodePair). ((same_name q.0.0 t && same_name q.1.0 g) ≡ false) × ((same_name q.0.0 g && same_name q.1.0 t) ≡ false)) ps
   others p [] e f o = tt
   others p (q ∷ ps) e f o = (((λ i. same_name q.0.0 (sym e i) && same_name q.1.0 (sym f i)) ∙ o.0.0, (λ i. same_name q.0.0 (sym f i) && same_name q.1.0 (sym e i)) ∙ o.0.1), others p ps e f o.1)
 
-  others_back : (p : Nodes) (ps : List Nodes) → p.0.0 ≡ g → p.1.0 ≡ t → AllByRecursion (IsOther p) ps → AllByRecursion (λ (q : Nodes). ((same_name q.0.0 t && same_name q.1.0 g) ≡ false) × ((same_name q.0.0 g && same_name q.1.0 t) ≡ false)) ps
+  others_back : (p : NodePair) (ps : List NodePair) → p.0.0 ≡ g → p.1.0 ≡ t → AllByRecursion (IsOther p) ps → AllByRecursion (λ (q : NodePair). ((same_name q.0.0 t && same_name q.1.0 g) ≡ false) × ((same_name q.0.0 g && same_name q.1.0 t) ≡ false)) ps
   others_back p [] e f o = tt
   others_back p (q ∷ ps) e f o = (((λ i. same_name q.0.0 (sym f i) && same_name q.1.0 (sym e i)) ∙ o.0.1, (λ i. same_name q.0.0 (sym e i) && same_name q.1.0 (sym f i)) ∙ o.0.0), others_back p ps e f o.1)
 
@@ -221,7 +221,7 @@ module _ (g t : Name) where
       ] refl
 
   module _ (size : Name → Message → ℕ) (positive : (n : Name) (m : Message) → 0 < size n m) where
-    no_more : (ds : List Due) (v : Network) → AreCalm size positive v → taken_of size g t v (map (as_event size positive) ds) ≤ due_count ds
+    no_more : (ds : List Due) (v : MachineState) → AreCalm size positive v → taken_of size g t v (map (as_event size positive) ds) ≤ due_count ds
     unfolding next
     no_more [] v c = omega arith
     no_more (d ∷ ds) v c =
@@ -242,7 +242,7 @@ module _ (g t : Name) where
         most : (i j k m n : ℕ) → j ≡ i - k → m ≤ n → (i - j) + m ≤ k + n
         most i j k m n e h = omega (arith, e, h)
 
-pub of_deliveries : (size : Name → Message → ℕ) (positive : (n : Name) (m : Message) → 0 < size n m) (w : Network) → NoTwins (map nodes w.sessions) → AreCalm size positive w → IsOfDeliveries size w
+pub of_deliveries : (size : Name → Message → ℕ) (positive : (n : Name) (m : Message) → 0 < size n m) (w : MachineState) → NoTwins (map nodes w.sessions) → AreCalm size positive w → IsOfDeliveries size w
 unfolding next
 of_deliveries size positive w h c =
     let a = as_round size positive w c in

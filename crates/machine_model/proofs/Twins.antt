@@ -12,17 +12,17 @@ use Rattle.ov_types.specs.First.{same_name}
 use Rattle.machine_model.specs.Session.{Session, turned}
 use Rattle.machine_model.specs.Network.{is_at, seen_by, sessions_of}
 use Rattle.machine_model.specs.Steps.{at_node, joins, with_session, session_in}
-use Rattle.machine_model.proofs.NetworkFact.{Each, Nodes, nodes, KeepsNodes, joins_kept, at_node_nodes}
+use Rattle.machine_model.proofs.NetworkFact.{Each, NodePair, nodes, KeepsNodes, joins_kept, at_node_nodes}
 use Rattle.machine_model.proofs.NodesFact.{turned_nodes}
 
 -- ---- no session joins a node to itself, and no two join the same nodes
-abbrev pub IsProper : Nodes → Type 0
+abbrev pub IsProper : NodePair → Type 0
 IsProper p = (same_name p.0.0 p.1.0 ≡ false) × (same_name p.1.0 p.0.0 ≡ false)
 
-abbrev pub IsOther : Nodes → Nodes → Type 0
+abbrev pub IsOther : NodePair → NodePair → Type 0
 IsOther p q = ((same_name q.0.0 p.0.0 && same_name q.1.0 p.1.0) ≡ false) × ((same_name q.0.0 p.1.0 && same_name q.1.0 p.0.0) ≡ false)
 
-abbrev pub NoTwins : List Nodes → Type 0
+abbrev pub NoTwins : List NodePair → Type 0
 NoTwins [] = Unit {0}
 NoTwins (p ∷ ps) = IsProper p × AllByRecursion (IsOther p) ps × NoTwins ps
 
@@ -70,7 +70,7 @@ own_to_all P (s ∷ ss) t h = (
 
 -- a change of the session of two nodes, where there is no other between them
 module _ (P P' : Session → Type 0) (a b : Name) (miss : (s : Session) → joins a b s ≡ false → joins b a s ≡ false → P s → P' s) where
-  others_missed : (p : Nodes) → p.0.0 ≡ a → p.1.0 ≡ b → (ss : List Session) → AllByRecursion (IsOther p) (map nodes ss) → Each P ss → Each P' ss
+  others_missed : (p : NodePair) → p.0.0 ≡ a → p.1.0 ≡ b → (ss : List Session) → AllByRecursion (IsOther p) (map nodes ss) → Each P ss → Each P' ss
   others_missed p e f [] o h = tt
   others_missed p e f (s ∷ ss) o h = (
     miss s (ap (λ (a : Name). same_name s.near.name a && same_name s.far.name b) (sym e) ∙ ap (λ (b : Name). same_name s.near.name p.0.0 && same_name s.far.name b) (sym f) ∙ o.0.0)
@@ -78,7 +78,7 @@ module _ (P P' : Session → Type 0) (a b : Name) (miss : (s : Session) → join
     others_missed p e f ss o.1 h.1,
   )
 
-  others_missed_back : (p : Nodes) → p.0.0 ≡ b → p.1.0 ≡ a → (ss : List Session) → AllByRecursion (IsOther p) (map nodes ss) → Each P ss → Each P' ss
+  others_missed_back : (p : NodePair) → p.0.0 ≡ b → p.1.0 ≡ a → (ss : List Session) → AllByRecursion (IsOther p) (map nodes ss) → Each P ss → Each P' ss
   others_missed_back p e f [] o h = tt
   others_missed_back p e f (s ∷ ss) o h = (
     miss s (ap (λ (a : Name). same_name s.near.name a && same_name s.far.name b) (sym f) ∙ ap (λ (b : Name). same_name s.near.name p.1.0 && same_name s.far.name b) (sym e) ∙ o.0.1)

@@ -8,46 +8,46 @@ use Rattle.std.proofs.Common.{refl, sym, ◌∙◌, ap, subst}
 use Rattle.config_model.specs.declared.edit.Edit.{Edit}
 use Rattle.machine_model.specs.Setup.{Name, edited, longest, moves}
 use Rattle.machine_model.specs.Session.{Message, Session, shut, lost, arrived, octets_arrived}
-use Rattle.machine_model.specs.Network.{Network}
+use Rattle.machine_model.specs.Network.{MachineState}
 use Rattle.machine_model.specs.Steps.{change_session, change_node, pass, session_in, session_of, in_flight, repeat, deliver, Due, dues, notice_stands, deliver_due, deliver_all, round, connect, may_connect, connect_found, connect_if, connect_all, is_quiet, without_breaks, rounds_from, resumed, settle}
-use Rattle.machine_model.specs.Events.{Event, Edits, Deliver, DeliverOctets, Lose, Connect, Restart, Round, Settle, Show, Trace, Break, edits, lose, is_earlier, add_break, is_node, next, after}
+use Rattle.machine_model.specs.Events.{MachineEvent, Edits, Deliver, DeliverOctets, Lose, Connect, Restart, Round, Settle, Show, Trace, Break, edits, lose, is_earlier, add_break, is_node, next, after}
 
-module _ (Q : Network → Type 0) where
+module _ (Q : MachineState → Type 0) where
   -- ---- deliveries: one message is taken, and a pass is made
   abbrev pub Takes : Type 0
-  Takes = (from to : Name) (w : Network) → Q w → Q (pass to (change_session to from arrived w))
+  Takes = (from to : Name) (w : MachineState) → Q w → Q (pass to (change_session to from arrived w))
 
   module _ (takes : Takes) where
-    pub deliver_walk : (from to : Name) (w : Network) → Q w → Q (deliver from to w)
+    pub deliver_walk : (from to : Name) (w : MachineState) → Q w → Q (deliver from to w)
     deliver_walk from to w q = elim (in_flight w from to == 0) as (λ b. Q (cond b w (pass to (change_session to from arrived w)))) [ true ↦ q | false ↦ takes from to w q ]
 
-    repeat_walk : (f : Network → Network) → ((w : Network) → Q w → Q (f w)) → (n : ℕ) (w : Network) → Q w → Q (repeat n f w)
+    repeat_walk : (f : MachineState → MachineState) → ((w : MachineState) → Q w → Q (f w)) → (n : ℕ) (w : MachineState) → Q w → Q (repeat n f w)
     repeat_walk f h zero w q = q
     repeat_walk f h (suc n) w q = repeat_walk f h n (f w) (h w q)
 
-    pub delivers_walk : (n : ℕ) (from to : Name) (w : Network) → Q w → Q (repeat n (deliver from to) w)
+    pub delivers_walk : (n : ℕ) (from to : Name) (w : MachineState) → Q w → Q (repeat n (deliver from to) w)
     delivers_walk n from to = repeat_walk (deliver from to) (deliver_walk from to) n
 
-    pub due_walk : (d : Due) (w : Network) → Q w → Q (deliver_due d w)
+    pub due_walk : (d : Due) (w : MachineState) → Q w → Q (deliver_due d w)
     due_walk d w q = elim (beq (notice_stands w d) d.is_notice) as (λ b. Q (cond b (deliver d.from d.to w) w)) [ true ↦ deliver_walk d.from d.to w q | false ↦ q ]
 
-    pub dues_walk : (n : ℕ) (d : Due) (w : Network) → Q w → Q (repeat n (deliver_due d) w)
+    pub dues_walk : (n : ℕ) (d : Due) (w : MachineState) → Q w → Q (repeat n (deliver_due d) w)
     dues_walk n d = repeat_walk (deliver_due d) (due_walk d) n
 
-    pub all_walk : (ds : List Due) (w : Network) → Q w → Q (deliver_all ds w)
+    pub all_walk : (ds : List Due) (w : MachineState) → Q w → Q (deliver_all ds w)
     all_walk [] w q = q
     all_walk (d ∷ ds) w q = all_walk ds (repeat d.count (deliver_due d) w) (dues_walk d.count d w q)
 
-    pub round_walk : (w : Network) → Q w → Q (round w)
+    pub round_walk : (w : MachineState) → Q w → Q (round w)
     unfolding round
     round_walk w q = all_walk (dues w) w q
 
   -- ---- connections of sessions that may connect
   abbrev pub Connects : Type 0
-  Connects = (a b : Name) (w : Network) → ((s : Session) → session_in w.sessions a b ≡ Some s → may_connect s ≡ true) → is_some (session_in w.sessions a b) ≡ true → Q w → Q (connect a b w)
+  Connects = (a b : Name) (w : MachineState) → ((s : Session) → session_in w.sessions a b ≡ Some s → may_connect s ≡ true) → is_some (session_in w.sessions a b) ≡ true → Q w → Q (connect a b w)
 
   module _ (connects : Connects) where
-    pub connect_walk : (a b : Name) (w : Network) → Q w → Q (connect_if a b w)
+    pub connect_walk : (a b : Name) (w : MachineState) → Q w → Q (connect_if a b w)
     connect_walk a b w q =
         elim (session_of w a b) as (λ o. session_of w a b ≡ o → Q (connect_found o a b w)) [
           | None ↦ λ _. q
@@ -57,45 +57,45 @@ module _ (Q : Network → Type 0) where
           ] refl
         ] refl
 
-    pub connections_walk : (ss : List Session) (w : Network) → Q w → Q (connect_all ss w)
+    pub connections_walk : (ss : List Session) (w : MachineState) → Q w → Q (connect_all ss w)
     connections_walk [] w q = q
     connections_walk (s ∷ ss) w q = connections_walk ss (connect_if s.near.name s.far.name w) (connect_walk s.near.name s.far.name w q)
 
   -- ---- settling
   abbrev pub Clears : Type 0
-  Clears = (w : Network) → Q w → Q (record { setup = w.setup; sessions = map without_breaks w.sessions })
+  Clears = (w : MachineState) → Q w → Q (record { setup = w.setup; sessions = map without_breaks w.sessions })
 
   module _ (takes : Takes) (connects : Connects) (clears : Clears) where
-    rounds_walk : (n done : ℕ) (w : Network) → Q w → Q (rounds_from n done w).1
+    rounds_walk : (n done : ℕ) (w : MachineState) → Q w → Q (rounds_from n done w).1
     rounds_walk zero done w q = q
     rounds_walk (suc n) done w q = elim (is_quiet w) as (λ b. Q (cond b (done, w) (rounds_from n (done + 1) (round w))).1) [ true ↦ q | false ↦ rounds_walk n (done + 1) (round w) (round_walk takes w q) ]
 
-    pub resumed_walk : (w : Network) → Q w → Q (resumed w)
+    pub resumed_walk : (w : MachineState) → Q w → Q (resumed w)
     resumed_walk w q =
         let v = round (record { setup = w.setup; sessions = map without_breaks w.sessions }) in
         connections_walk connects v.sessions v (round_walk takes (record { setup = w.setup; sessions = map without_breaks w.sessions }) (clears w q))
 
-    pub settle_walk : (w : Network) → Q w → Q (settle w).1
+    pub settle_walk : (w : MachineState) → Q w → Q (settle w).1
     unfolding settle
     settle_walk w q = rounds_walk (longest w.setup + 5) 1 (resumed w) (resumed_walk w q)
 
 -- ---- events
 -- every step that an event is made of, but for edits
-pub record Steps (size : Name → Message → ℕ) (Q : Network → Type 0) : Type 0 where
+pub record Steps (size : Name → Message → ℕ) (Q : MachineState → Type 0) : Type 0 where
   pub takes : Takes Q
-  pub octets : (from to : Name) (n : ℕ) (w : Network) → Q w → Q (pass to (change_session to from (octets_arrived size n) w))
-  pub loses : (a b : Name) (w : Network) → Q w → Q (change_session a b lost w)
+  pub octets : (from to : Name) (n : ℕ) (w : MachineState) → Q w → Q (pass to (change_session to from (octets_arrived size n) w))
+  pub loses : (a b : Name) (w : MachineState) → Q w → Q (change_session a b lost w)
   pub connects : Connects Q
-  pub restarts : (n : Name) (w : Network) → Q w → Q (change_node n shut w)
+  pub restarts : (n : Name) (w : MachineState) → Q w → Q (change_node n shut w)
   pub clears : Clears Q
-  pub breaks : (a b : Name) (n : ℕ) (w : Network) → Q w → Q (change_session a b (add_break n) w)
+  pub breaks : (a b : Name) (n : ℕ) (w : MachineState) → Q w → Q (change_session a b (add_break n) w)
 
-module _ (size : Name → Message → ℕ) (Q : Network → Type 0) (k : Steps size Q) where
-  lose_walk : (o : Option Session) (a b : Name) (w : Network) → Q w → Q (lose o a b w)
+module _ (size : Name → Message → ℕ) (Q : MachineState → Type 0) (k : Steps size Q) where
+  lose_walk : (o : Option Session) (a b : Name) (w : MachineState) → Q w → Q (lose o a b w)
   lose_walk None a b w q = q
   lose_walk (Some s) a b w q = elim s.is_down as (λ c. Q (cond c w (change_session a b lost w))) [ true ↦ q | false ↦ k.loses a b w q ]
 
-  pub next_walk : (w : Network) (e : Event) → ((d : Edit) → e ≡ Edits d → Q w → Q (edits (moves d w.setup.topology) (edited w.setup d) w)) → Q w → Q (next size w e)
+  pub next_walk : (w : MachineState) (e : MachineEvent) → ((d : Edit) → e ≡ Edits d → Q w → Q (edits (moves d w.setup.topology) (edited w.setup d) w)) → Q w → Q (next size w e)
   unfolding next
   next_walk w (Edits d) edit q = edit d refl q
   next_walk w (Deliver from to n) edit q = delivers_walk Q k.takes n from to w q
@@ -110,6 +110,6 @@ module _ (size : Name → Message → ℕ) (Q : Network → Type 0) (k : Steps s
   next_walk w (Break a b n) edit q = k.breaks a b n w q
 
   -- where edits keep it too, a schedule keeps it
-  pub after_walk : ((d : Edit) (w : Network) → Q w → Q (edits (moves d w.setup.topology) (edited w.setup d) w)) → (w : Network) (es : List Event) → Q w → Q (after size w es)
+  pub after_walk : ((d : Edit) (w : MachineState) → Q w → Q (edits (moves d w.setup.topology) (edited w.setup d) w)) → (w : MachineState) (es : List MachineEvent) → Q w → Q (after size w es)
   after_walk edit w [] q = q
   after_walk edit w (e ∷ es) q = after_walk edit (next size w e) es (next_walk w e (λ d _. edit d w) q)

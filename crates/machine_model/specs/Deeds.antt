@@ -15,10 +15,10 @@ use Rattle.config_check.specs.Finding.{node_named}
 use Rattle.node_model.specs.Members.{Member}
 use Rattle.node_model.specs.Step.{Idle, Opened}
 use Rattle.machine_model.specs.Setup.{Name}
-use Rattle.machine_model.specs.Session.{End, Session}
-use Rattle.machine_model.specs.Network.{Network, is_at, is_of, sessions_of, views_of}
+use Rattle.machine_model.specs.Session.{SessionEnd, Session}
+use Rattle.machine_model.specs.Network.{MachineState, is_at, is_of, sessions_of, views_of}
 use Rattle.machine_model.specs.Steps.{session_of}
-use Rattle.machine_model.specs.Events.{Event, Deliver, DeliverOctets, Lose, Connect, Restart, Show, Break}
+use Rattle.machine_model.specs.Events.{MachineEvent, Deliver, DeliverOctets, Lose, Connect, Restart, Show, Break}
 use Rattle.machine_model.specs.Moments.{TellsWanted}
 
 -- two nodes are not these two, either way round
@@ -34,7 +34,7 @@ pub record IsOpenedAt (o : Option Session) : Type 0 where
   pub far : session.far.phase ≡ Opened
 
 -- an end that has nothing
-pub record IsClosed (e : End) : Type 0 where
+pub record IsClosed (e : SessionEnd) : Type 0 where
   pub phase : e.phase ≡ Idle
   pub notice : e.notice ≡ false
   pub sent : e.sent ≡ empty
@@ -69,7 +69,7 @@ abbrev pub IsNoNode : Topology → Name → Type 0
 IsNoNode t name =
     ((c : NodeId) → Member c t.controllers → c.name ≢ name) × ((n : Node) → Member n t.nodes → n.name ≢ name)
 
-abbrev pub HasNothingToDo : Network → Event → Type 0
+abbrev pub HasNothingToDo : MachineState → MachineEvent → Type 0
 HasNothingToDo w (Deliver from to n) = NoneOr WaitsForNothing (session_of w to from)
 HasNothingToDo w (DeliverOctets from to n) = NoneOr WaitsForNothing (session_of w to from)
 HasNothingToDo w (Lose a b) = NoneOr (λ s. s.is_down ≡ true) (session_of w a b)
@@ -106,7 +106,7 @@ SendsFreely name s =
     (is_at name s.near ≡ true → s.near.breaks ≡ []) × (is_at name s.far ≡ true → s.far.breaks ≡ [])
 
 -- on each session that may send, what was sent is what the node wants, also where one of its sessions is down
-abbrev pub NodeTells : Network → Name → Type 0
+abbrev pub NodeTells : MachineState → Name → Type 0
 NodeTells w name = TellsWanted w.setup (views_of name w.sessions) (sessions_of name w.sessions)
 
 -- ---- numbers

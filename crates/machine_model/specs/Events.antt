@@ -23,28 +23,28 @@ use Rattle.node_model.specs.Tables.{rows}
 use Rattle.node_model.specs.Agent as agent
 use Rattle.machine_model.specs.Setup.{Name, Setup, Move, checked, edited, moves}
 use Rattle.machine_model.specs.Session.{Session, Message, lost, shut}
-use Rattle.machine_model.specs.Network.{Network, config, views_of, control_holdings, agent_holdings}
+use Rattle.machine_model.specs.Network.{MachineState, config, views_of, control_holdings, agent_holdings}
 use Rattle.machine_model.specs.Network.{replaced, brought}
 use Rattle.machine_model.specs.Steps.{change_session, change_node, pass, joins, session_of, in_flight, repeat, deliver}
 use Rattle.machine_model.specs.Steps.{deliver_octets, round, is_broken, may_connect, connect_if, is_settled, settle}
 
-pub data Event : Type 0 where
-  Edits : Edit → Event
-  Deliver : Name → Name → ℕ → Event
+pub data MachineEvent : Type 0 where
+  Edits : Edit → MachineEvent
+  Deliver : Name → Name → ℕ → MachineEvent
   -- so many octets, which may end within a message
-  DeliverOctets : Name → Name → ℕ → Event
-  Lose : Name → Name → Event
-  Connect : Name → Name → Event
-  Restart : Name → Event
-  Round : Event
-  Settle : Event
-  Show : Name → Event
-  Trace : Packet → Event
+  DeliverOctets : Name → Name → ℕ → MachineEvent
+  Lose : Name → Name → MachineEvent
+  Connect : Name → Name → MachineEvent
+  Restart : Name → MachineEvent
+  Round : MachineEvent
+  Settle : MachineEvent
+  Show : Name → MachineEvent
+  Trace : Packet → MachineEvent
   -- the n-th send from now on that direction fails
-  Break : Name → Name → ℕ → Event
+  Break : Name → Name → ℕ → MachineEvent
 
 -- the events of documents
-abbrev pub event_of : Written → Event
+abbrev pub event_of : Written → MachineEvent
 event_of (written.Edit e) = Edits e
 event_of (written.Deliver from to n) = Deliver from to n
 event_of (written.DeliverOctets from to n) = DeliverOctets from to n
@@ -59,24 +59,24 @@ event_of (written.Break from to n) = Break from to n
 
 -- ---- what it makes of the network
 -- each of these nodes makes its pass, in their order
-abbrev pub passes : List Name → Network → Network
+abbrev pub passes : List Name → MachineState → MachineState
 passes [] w = w
 passes (n ∷ ns) w = passes ns (pass n w)
 
 -- the sessions of a compute node that comes, goes or lists other control nodes are taken away: each control node that it
 -- listed closes its end and makes its pass. Those of its new list are new
-abbrev pub moved : Option Move → Network → Network
+abbrev pub moved : Option Move → MachineState → MachineState
 moved None w = w
 moved (Some m) w =
     passes m.left
     (record { setup = w.setup; sessions = replaced m.name (brought w.setup.topology.controllers m.now) w.sessions })
 
 -- an edit that is accepted is applied at the configuration node, which makes its pass then
-abbrev pub edits : Option Move → Option Setup → Network → Network
+abbrev pub edits : Option Move → Option Setup → MachineState → MachineState
 edits m None w = w
 edits m (Some x) w = pass config (moved m (record { setup = x; sessions = w.sessions }))
 
-abbrev pub lose : Option Session → Name → Name → Network → Network
+abbrev pub lose : Option Session → Name → Name → MachineState → MachineState
 lose None a b w = w
 lose (Some s) a b w = if s.is_down then w else change_session a b lost w
 
@@ -90,14 +90,14 @@ abbrev pub add_break : ℕ → Session → Session
 add_break n s = record s { near = record s.near { breaks = with_break n s.near.breaks } }
 
 -- a control node or an agent
-abbrev pub is_node : Network → Name → Bool
+abbrev pub is_node : MachineState → Name → Bool
 is_node w name =
     list_any (λ (c : NodeId). same_name c.name name) w.setup.topology.controllers
     || is_some (node_named w.setup.topology name)
 
 -- a message from a node of that name has `size` octets
 module _ (size : Name → Message → ℕ) where
-  unfoldable pub next : Network → Event → Network
+  unfoldable pub next : MachineState → MachineEvent → MachineState
   next w (Edits e) = edits (moves e w.setup.topology) (edited w.setup e) w
   next w (Deliver from to n) = repeat n (deliver from to) w
   next w (DeliverOctets from to n) = deliver_octets size from to n w
@@ -111,23 +111,23 @@ module _ (size : Name → Message → ℕ) where
   next w (Break from to n) = change_session from to (add_break n) w
 
   -- the state after a schedule
-  abbrev pub after : Network → List Event → Network
+  abbrev pub after : MachineState → List MachineEvent → MachineState
   after w [] = w
   after w (e ∷ es) = after (next w e) es
 
 -- ---- what is shown
-abbrev pub agent_rows : Network → Name → agent.Holdings
+abbrev pub agent_rows : MachineState → Name → agent.Holdings
 agent_rows w name = agent_holdings w.setup name (views_of name w.sessions)
 
-abbrev pub shown_of : Option Node → Network → Name → NodeRows
+abbrev pub shown_of : Option Node → MachineState → Name → NodeRows
 shown_of (Some n) w name = Rows.Agent (agent.rows (agent_rows w name))
 shown_of None w name = Rows.Control (rows (control_holdings w.setup name (views_of name w.sessions)))
 
-abbrev pub shown : Network → Name → NodeRows
+abbrev pub shown : MachineState → Name → NodeRows
 shown w name = shown_of (node_named w.setup.topology name) w name
 
 -- what the agents forward by, in the order of the topology
-abbrev pub forwarders : Network → List Forwarder
+abbrev pub forwarders : MachineState → List Forwarder
 forwarders w =
     map (λ (n : Node). record { address = n.address; rows = agent.rows (agent_rows w n.name) }) w.setup.topology.nodes
 
@@ -139,7 +139,7 @@ abbrev pub edit_answer : Option EditFault → Answer
 edit_answer None = Did
 edit_answer (Some f) = EditRefused f
 
-abbrev pub answer_to : Network → Event → Answer
+abbrev pub answer_to : MachineState → MachineEvent → Answer
 answer_to w (Edits e) = edit_answer (edit_fault (checked w.setup) e)
 answer_to w (Deliver from to n) = unless (in_flight w from to == 0)
 answer_to w (DeliverOctets from to n) = unless (in_flight w from to == 0)
@@ -154,6 +154,6 @@ answer_to w (Break from to n) = unless (not (is_some (session_of w from to)))
 
 module _ (size : Name → Message → ℕ) where
   -- the answers of a schedule
-  abbrev pub run : Network → List Event → List Answer
+  abbrev pub run : MachineState → List MachineEvent → List Answer
   run w [] = []
   run w (e ∷ es) = answer_to w e ∷ run (next size w e) es

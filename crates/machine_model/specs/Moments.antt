@@ -13,20 +13,20 @@ use Rattle.config_check.specs.Checked.{Checked}
 use Rattle.node_model.specs.Maps.{Change}
 use Rattle.node_model.specs.Step.{Phase, Idle, Opened, Confirmed, Up}
 use Rattle.machine_model.specs.Setup.{Name, Setup, agents_of, edited, id_of, lists}
-use Rattle.machine_model.specs.Session.{Role, End, Session, Message, Open, Keepalive, Hello, Carries, is_live}
+use Rattle.machine_model.specs.Session.{Role, SessionEnd, Session, Message, Open, Keepalive, Hello, Carries, is_live}
 use Rattle.machine_model.specs.Session.{is_peering, may_send, may_send_at}
-use Rattle.machine_model.specs.Network.{Network, View, AreNamed, asked, start, view, views_of, sessions_of, wanted}
-use Rattle.machine_model.specs.Events.{Event, Edits, next, after}
+use Rattle.machine_model.specs.Network.{MachineState, View, AreNamed, asked, start, view, views_of, sessions_of, wanted}
+use Rattle.machine_model.specs.Events.{MachineEvent, Edits, next, after}
 
 -- ---- lists of sessions
 abbrev pub Each : (Session → Type 0) → List Session → Type 0
 Each P sessions = AllByRecursion P sessions
 
 -- the two nodes of a session
-abbrev pub Nodes : Type 0
-Nodes = (Name × Role) × (Name × Role)
+abbrev pub NodePair : Type 0
+NodePair = (Name × Role) × (Name × Role)
 
-abbrev pub nodes : Session → Nodes
+abbrev pub nodes : Session → NodePair
 nodes s = ((s.near.name, s.near.role), (s.far.name, s.far.role))
 
 -- ---- what the state of an end says
@@ -67,7 +67,7 @@ abbrev pub IsPartly : (Message → ℕ) → List Message → ℕ → Type 0
 IsPartly size [] taken = taken ≡ 0
 IsPartly size (m ∷ ms) taken = taken < size m
 
-pub record IsProperEnd (size : Name → Message → ℕ) (e : End) : Type 0 where
+pub record IsProperEnd (size : Name → Message → ℕ) (e : SessionEnd) : Type 0 where
   pub live : IsTrue (is_live e) ↔ (e.phase ≢ Idle)
   -- an end that is not live has sent and held nothing
   pub tidy : is_live e ≡ false → (e.sent ≡ empty) × (e.held ≡ empty)
@@ -76,7 +76,7 @@ pub record IsProperEnd (size : Name → Message → ℕ) (e : End) : Type 0 wher
   pub taken : IsPartly (size e.name) e.flight e.taken
 
 -- ---- a session that is not down, from its far end to its near one
-pub record IsFlowing (peering : Bool) (near far : End) : Type 0 where
+pub record IsFlowing (peering : Bool) (near far : SessionEnd) : Type 0 where
   -- what is in flight: greetings ahead of all changes
   pub greetings : List Message
   pub changes : List Change
@@ -117,7 +117,7 @@ TellsWanted x vs own = Each (λ s. may_send s ≡ true → s.near.sent ≡ wante
 abbrev pub HasTold : Setup → List Session → Type 0
 HasTold x own = AreWhole own → TellsWanted x (map view own) own
 
-abbrev pub NodeHasTold : Network → Name → Type 0
+abbrev pub NodeHasTold : MachineState → Name → Type 0
 NodeHasTold w n = HasTold w.setup (sessions_of n w.sessions)
 
 -- ---- after any schedule, from the empty state
@@ -125,16 +125,16 @@ NodeHasTold w n = HasTold w.setup (sessions_of n w.sessions)
 abbrev pub ArePositive : (Name → Message → ℕ) → Type 0
 ArePositive size = (n : Name) (m : Message) → 0 < size n m
 
-abbrev pub AtEveryMoment : ((Name → Message → ℕ) → Network → Type 0) → Type 0
+abbrev pub AtEveryMoment : ((Name → Message → ℕ) → MachineState → Type 0) → Type 0
 AtEveryMoment P =
     (size : Name → Message → ℕ) → ArePositive size
-    → (x : Checked) (es : List Event) → P size (after size (start x) es)
+    → (x : Checked) (es : List MachineEvent) → P size (after size (start x) es)
 
 -- the same, where names tell nodes apart
-abbrev pub WhereNamed : ((Name → Message → ℕ) → Network → Type 0) → Type 0
+abbrev pub WhereNamed : ((Name → Message → ℕ) → MachineState → Type 0) → Type 0
 WhereNamed P =
     (size : Name → Message → ℕ) → ArePositive size
-    → (x : Checked) → AreNamed x.topology → (es : List Event) → P size (after size (start x) es)
+    → (x : Checked) → AreNamed x.topology → (es : List MachineEvent) → P size (after size (start x) es)
 
 -- ---- at rest
 -- as the near node sees it: in each direction what is held is what was sent and what the sender's holdings want
@@ -142,7 +142,7 @@ pub record IsAtRestWith (x : Setup) (vs : List View) (s : Session) : Type 0 wher
   pub held : s.far.held ≡ s.near.sent
   pub wanted : s.near.sent ≡ wanted x vs (view s)
 
-abbrev pub IsAtRest : Network → Type 0
+abbrev pub IsAtRest : MachineState → Type 0
 IsAtRest w = (n : Name) → Each (IsAtRestWith w.setup (views_of n w.sessions)) (sessions_of n w.sessions)
 
 -- ---- where the topology of each moment is laid out
@@ -152,25 +152,25 @@ pub record IsLaidOut (t : Topology) : Type 0 where
   pub listing : (n : Node) → Member n t.nodes → (c : NodeId) × Member c t.controllers × (lists n c ≡ true)
 
 -- a property of setups that edits keep: each edit of a schedule that is accepted leads to one that has it
-abbrev pub EditIsValid : (Setup → Type 0) → Network → Event → Type 0
+abbrev pub EditIsValid : (Setup → Type 0) → MachineState → MachineEvent → Type 0
 EditIsValid Valid w (Edits e) = (y : Setup) → edited w.setup e ≡ Some y → Valid y
 EditIsValid Valid w _ = Unit {0}
 
-abbrev pub EditsAreValid : (Name → Message → ℕ) → (Setup → Type 0) → Network → List Event → Type 0
+abbrev pub EditsAreValid : (Name → Message → ℕ) → (Setup → Type 0) → MachineState → List MachineEvent → Type 0
 EditsAreValid size Valid w [] = Unit {0}
 EditsAreValid size Valid w (e ∷ es) = EditIsValid Valid w e × EditsAreValid size Valid (next size w e) es
 
 abbrev pub LaidOut : Setup → Type 0
 LaidOut x = IsLaidOut x.topology
 
-abbrev pub WhereLaidOut : ((Name → Message → ℕ) → Network → Type 0) → Type 0
+abbrev pub WhereLaidOut : ((Name → Message → ℕ) → MachineState → Type 0) → Type 0
 WhereLaidOut P =
     (size : Name → Message → ℕ) → ArePositive size
-    → (x : Checked) → IsLaidOut x.topology → (es : List Event) → EditsAreValid size LaidOut (start x) es
+    → (x : Checked) → IsLaidOut x.topology → (es : List MachineEvent) → EditsAreValid size LaidOut (start x) es
     → P size (after size (start x) es)
 
 -- the sessions are those that the topology asks for, in the order of a round
-abbrev pub HasSessions : Network → Type 0
+abbrev pub HasSessions : MachineState → Type 0
 HasSessions w = map nodes w.sessions ≡ map nodes (asked w.setup.topology)
 
 -- ---- numbers

@@ -22,16 +22,16 @@ use Rattle.node_model.specs.Agent as agent
 use Rattle.node_model.specs.Step.{Phase, Idle}
 pub use Rattle.machine_model.specs.Setup.{lists}
 use Rattle.machine_model.specs.Setup.{Name, Setup, low, listed_by, opening, agents_of}
-use Rattle.machine_model.specs.Session.{Session, End, Role, Configuration, Controller, Agent, turned, is_up_phase}
+use Rattle.machine_model.specs.Session.{Session, SessionEnd, Role, Configuration, Controller, Agent, turned, is_up_phase}
 
 -- a state: what the network stands on at present, and each session with its two ends, the earlier node's near. What a
 -- node holds stands at its ends
-pub record Network : Type 0 where
+pub record MachineState : Type 0 where
   pub setup : Setup
   pub sessions : List Session
 
 -- ---- the start
-abbrev pub fresh : Name → Role → End
+abbrev pub fresh : Name → Role → SessionEnd
 fresh name role = record {
   name = name;
   role = role;
@@ -67,7 +67,7 @@ abbrev pub asked : Topology → List Session
 asked t = feeds t.controllers ++ peerings t.controllers ++ accesses t.controllers t.nodes
 
 -- every node is empty and every session is down
-abbrev pub start : Checked → Network
+abbrev pub start : Checked → MachineState
 start x = record { setup = opening x; sessions = asked x.topology }
 
 -- no two nodes have one name, and none has the configuration node's
@@ -75,7 +75,7 @@ abbrev pub AreNamed : Topology → Type 0
 AreNamed t = AreDistinct (config ∷ controller_names t ++ node_names t)
 
 -- ---- nodes
-abbrev pub is_at : Name → End → Bool
+abbrev pub is_at : Name → SessionEnd → Bool
 is_at name e = same_name e.name name
 
 -- the session as the named node sees it, if it is one of that node

@@ -24,7 +24,7 @@ pub data Message : Type 0 where
   Carries : Change → Message
 
 -- what one node has of a session, with what it sent and the other has not taken
-pub record End : Type 0 where
+pub record SessionEnd : Type 0 where
   pub name : Name
   pub role : Role
   pub phase : Phase
@@ -40,18 +40,18 @@ pub record End : Type 0 where
 
 pub record Session : Type 0 where
   pub is_down : Bool
-  pub near : End
-  pub far : End
+  pub near : SessionEnd
+  pub far : SessionEnd
 
 -- as the other end sees it
 abbrev pub turned : Session → Session
 turned s = record { is_down = s.is_down; near = s.far; far = s.near }
 
 -- from its opening until it takes its notice, is closed by its node or its node restarts
-abbrev pub is_live : End → Bool
+abbrev pub is_live : SessionEnd → Bool
 is_live e = not (is_idle e.phase)
 
-abbrev pub is_up : End → Bool
+abbrev pub is_up : SessionEnd → Bool
 is_up e = is_up_phase e.phase
 
 -- between two control nodes
@@ -70,11 +70,11 @@ abbrev pub may_send : Session → Bool
 may_send s = may_send_at (is_peering s) s.near.phase
 
 -- ---- an end that closes, and one that is told of a loss
-abbrev pub closed : End → End
+abbrev pub closed : SessionEnd → SessionEnd
 closed e = record e { phase = Idle; notice = false; sent = empty; held = empty; flight = []; taken = 0 }
 
 -- a notice stands only at a live end
-abbrev pub noticed : End → End
+abbrev pub noticed : SessionEnd → SessionEnd
 noticed e = record e { notice = is_live e; flight = []; taken = 0 }
 
 -- the near end closes by itself

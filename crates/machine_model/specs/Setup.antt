@@ -23,7 +23,7 @@ use Rattle.config_check.specs.Finding.{node_named}
 use Rattle.config_check.specs.declared.edits.EditFault.{EditFault}
 use Rattle.config_check.specs.Edits as edits
 use Rattle.transform_model.specs.Objects.{low_objects}
-use Rattle.transform_model.specs.Uses.{Use, uses}
+use Rattle.transform_model.specs.Uses.{ConfiguredUse, uses}
 use Rattle.node_model.specs.Maps.{Map}
 use Rattle.node_model.specs.Wants.{slice_entry}
 
@@ -101,7 +101,7 @@ abbrev pub low : Setup → Map
 low x = low_in (checked x)
 
 -- the greatest number of services of a use in effect, or 0
-abbrev pub longest_of : List Use → ℕ
+abbrev pub longest_of : List ConfiguredUse → ℕ
 longest_of [] = 0
 longest_of (u ∷ us) = max (length u.services) (longest_of us)
 

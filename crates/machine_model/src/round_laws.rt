@@ -2,7 +2,7 @@
 //! of a function that does nothing.
 ghost use Rattle.std.specs.Prelude.{◌≡◌, ◌⊎◌, ◌≤◌, ◌+◌, ◌-◌, ℕ, true};
 ghost use Rattle.machine_model.specs.Setup.{Name, longest};
-ghost use Rattle.machine_model.specs.Network.{Network};
+ghost use Rattle.machine_model.specs.Network.{MachineState};
 ghost use Rattle.machine_model.specs.Steps.{in_flight, is_quiet, settle};
 ghost use Rattle.machine_model.specs.Events.{Deliver, next};
 ghost use Rattle.machine_model.specs.Rounds.{IsOfDeliveries, IsTakenInTurns, is_unbroken, is_whole};
@@ -30,6 +30,6 @@ pub fn rounds_are_of_deliveries()
 /// Settling does at most 6 more rounds than the longest chain in effect has services, and fewer only where nothing is
 /// in flight then.
 pub fn settling_stops()
-    ensures at_most { (w : Network) → (settle w).0 ≤ longest w.setup + 6 }
-    ensures quiet { (w : Network) → (is_quiet (settle w).1 ≡ true) ⊎ ((settle w).0 ≡ longest w.setup + 6) }
+    ensures at_most { (w : MachineState) → (settle w).0 ≤ longest w.setup + 6 }
+    ensures quiet { (w : MachineState) → (is_quiet (settle w).1 ≡ true) ⊎ ((settle w).0 ≡ longest w.setup + 6) }
 {}

@@ -12,7 +12,7 @@ ghost use Rattle.config_check.specs.Checked.{Checked};
 ghost use Rattle.config_check.specs.Edits.{edit_fault};
 ghost use Rattle.config_check.specs.Finding.{node_named};
 ghost use Rattle.transform_model.specs.Objects.{low_objects};
-ghost use Rattle.transform_model.specs.Uses.{Use, uses};
+ghost use Rattle.transform_model.specs.Uses.{ConfiguredUse, uses};
 ghost use Rattle.node_model.specs.Members.{Member};
 ghost use Rattle.node_model.specs.Maps.{objects};
 ghost use Rattle.node_model.specs.Wants.{slice_entry};
@@ -28,9 +28,9 @@ pub fn the_feed_is_of_low_level_objects()
 /// The longest chain in effect has as many services as one use in effect, and no use has more; where none is in effect
 /// it has 0.
 pub fn the_longest_chain_is_in_effect()
-    ensures greatest { (x : Setup) (u : Use) → Member u (uses x.config) → length u.services ≤ longest x }
+    ensures greatest { (x : Setup) (u : ConfiguredUse) → Member u (uses x.config) → length u.services ≤ longest x }
     ensures met { (x : Setup)
-        → (longest x ≡ 0) ⊎ ((u : Use) × Member u (uses x.config) × (length u.services ≡ longest x)) }
+        → (longest x ≡ 0) ⊎ ((u : ConfiguredUse) × Member u (uses x.config) × (length u.services ≡ longest x)) }
 {}
 
 /// A put moves the compute node, unless one of its name stands there with the same address and the same list of control

@@ -16,8 +16,8 @@ use Rattle.node_model.specs.Members.{Member}
 use Rattle.node_model.proofs.Members.{from_filter, none_some}
 use Rattle.machine_model.specs.Setup.{Name, Move, Setup, checked, edited, edited_without, lists, moves, remade, renumbered}
 use Rattle.machine_model.specs.Session.{Agent, Controller, Message, Session, turned, shut, lost, passed, opened, arrived, octets_arrived}
-use Rattle.machine_model.specs.Network.{Network, between, brought, config, replaced, sessions_of, view, views_of, wanted}
-use Rattle.machine_model.specs.Events.{Event, Edits, Deliver, DeliverOctets, Lose, Connect, Restart, Round, Settle, Show, Trace, Break, edits, moved, passes, add_break, next, after}
+use Rattle.machine_model.specs.Network.{MachineState, between, brought, config, replaced, sessions_of, view, views_of, wanted}
+use Rattle.machine_model.specs.Events.{MachineEvent, Edits, Deliver, DeliverOctets, Lose, Connect, Restart, Round, Settle, Show, Trace, Break, edits, moved, passes, add_break, next, after}
 use Rattle.machine_model.specs.Steps.{at_node, with_session, change_session, pass, is_broken, around, connect, resumed, without_breaks}
 use Rattle.machine_model.specs.Moments.{EditIsValid, EditsAreValid}
 use Rattle.machine_model.proofs.Changing.{MoverIs, Moves, found_member, renews}
@@ -62,7 +62,7 @@ pub record Keeps (size : Name → Message → ℕ) (Valid : Setup → Type 0) (P
   pub wants : (x : Setup) (ss : List Session) (n : Name) → Valid x → Each P ss → Each (λ s. MayTell s (wanted x (views_of n ss) (view s))) (sessions_of n ss)
 
 module _ (size : Name → Message → ℕ) (Valid : Setup → Type 0) (P : Session → Type 0) (MayTell : Session → Map → Type 0) (k : Keeps size Valid P MayTell) where
-  abbrev pub AllKeep : Network → Type 0
+  abbrev pub AllKeep : MachineState → Type 0
   AllKeep w = Valid w.setup × Each P w.sessions
 
   at_far : (f : Session → Session) → ((s : Session) → P s → P (f s)) → (s : Session) → P s → P (turned (f (turned s)))
@@ -74,15 +74,15 @@ module _ (size : Name → Message → ℕ) (Valid : Setup → Type 0) (P : Sessi
   on_node : (n : Name) (f : Session → Session) (Q : Session → Type 0) → ((s : Session) → Q s → P s → P (f s)) → (ss : List Session) → Each P ss → Each Q (sessions_of n ss) → Each P (map (at_node n f) ss)
   on_node n f Q h ss e q = each_at_node P Q P n f (λ s p q. h s q p) (λ s p q. k.both (f (turned s)) (h (turned s) q (k.both s p))) (λ s p. p) ss e q
 
-  pub pass_keeps : (n : Name) (w : Network) → AllKeep w → AllKeep (pass n w)
+  pub pass_keeps : (n : Name) (w : MachineState) → AllKeep w → AllKeep (pass n w)
   pass_keeps n w e = (e.0, on_node n (λ s. passed (wanted w.setup (views_of n w.sessions) (view s)) s) (λ s. MayTell s (wanted w.setup (views_of n w.sessions) (view s))) (λ s q p. k.passes (wanted w.setup (views_of n w.sessions) (view s)) s q p) w.sessions e.1 (k.wants w.setup w.sessions n e.0 e.1))
 
   takes_keep : Takes AllKeep
   takes_keep from to w e = pass_keeps to (change_session to from arrived w) (e.0, on_session to from arrived k.arrives w.sessions e.1)
 
-  connect_keeps : (a b : Name) (w : Network) → AllKeep w → AllKeep (connect a b w)
+  connect_keeps : (a b : Name) (w : MachineState) → AllKeep w → AllKeep (connect a b w)
   connect_keeps a b w e =
-      let u : Network = pass a (change_session a b opened w) in
+      let u : MachineState = pass a (change_session a b opened w) in
       let first : AllKeep u = pass_keeps a (change_session a b opened w) (e.0, on_session a b opened k.opens w.sessions e.1) in
       elim (is_broken u a b) as (λ c. AllKeep (cond c u (pass b (change_session a b (around opened) u)))) [
         | true ↦ first
@@ -108,10 +108,10 @@ module _ (size : Name → Message → ℕ) (Valid : Setup → Type 0) (P : Sessi
     breaks = λ a b n w h. (h.0, on_session a b (add_break n) (λ s p. k.breaks (add_break n s).near.breaks s.far.breaks s p) w.sessions h.1);
   }
 
-  pub resumed_keeps : (w : Network) → AllKeep w → AllKeep (resumed w)
+  pub resumed_keeps : (w : MachineState) → AllKeep w → AllKeep (resumed w)
   resumed_keeps = resumed_walk AllKeep steps_keep.takes steps_keep.connects steps_keep.clears
 
-  passes_keep : (ns : List Name) (w : Network) → AllKeep w → AllKeep (passes ns w)
+  passes_keep : (ns : List Name) (w : MachineState) → AllKeep w → AllKeep (passes ns w)
   passes_keep [] w h = h
   passes_keep (n ∷ ns) w h = passes_keep ns (pass n w) (pass_keeps n w h)
 
@@ -121,28 +121,28 @@ module _ (size : Name → Message → ℕ) (Valid : Setup → Type 0) (P : Sessi
       each_member P (λ (c : NodeId). between c.name Controller n.name Agent) (filter (lists n) x.topology.controllers)
       (λ c m. k.begins x v c (from_filter (lists n) c x.topology.controllers m).0 n (there n refl))
 
-  moved_keeps : (m : Option Move) (w : Network) → Comes m w.setup → AllKeep w → AllKeep (moved m w)
+  moved_keeps : (m : Option Move) (w : MachineState) → Comes m w.setup → AllKeep w → AllKeep (moved m w)
   moved_keeps None w there h = h
   moved_keeps (Some m) w there h =
       let new : List Session = brought w.setup.topology.controllers m.now in
       passes_keep m.left (record { setup = w.setup; sessions = replaced m.name new w.sessions })
       (h.0, each_replaced P P m.name (λ s off p. p) new w.sessions (brought_keep w.setup h.0 m.now there) h.1)
 
-  edits_keep : (m : Option Move) (o : Option Setup) (w : Network) → ((x : Setup) → o ≡ Some x → Valid x × Comes m x) → AllKeep w → AllKeep (edits m o w)
+  edits_keep : (m : Option Move) (o : Option Setup) (w : MachineState) → ((x : Setup) → o ≡ Some x → Valid x × Comes m x) → AllKeep w → AllKeep (edits m o w)
   edits_keep m None w ok h = h
   edits_keep m (Some x) w ok h =
-      let v : Network = record { setup = x; sessions = w.sessions } in
+      let v : MachineState = record { setup = x; sessions = w.sessions } in
       pass_keeps config (moved m v) (moved_keeps m v (ok x refl).1 ((ok x refl).0, h.1))
 
-  next_keeps : (w : Network) (e : Event) → EditIsValid Valid w e → AllKeep w → AllKeep (next size w e)
+  next_keeps : (w : MachineState) (e : MachineEvent) → EditIsValid Valid w e → AllKeep w → AllKeep (next size w e)
   next_keeps w e ok = next_walk size AllKeep steps_keep w e (λ d is. edits_keep (moves d w.setup.topology) (edited w.setup d) w (λ x e. (subst (EditIsValid Valid w) is ok x e, comes_there w.setup d x e)))
 
-  pub after_keeps : (w : Network) (es : List Event) → EditsAreValid size Valid w es → AllKeep w → AllKeep (after size w es)
+  pub after_keeps : (w : MachineState) (es : List MachineEvent) → EditsAreValid size Valid w es → AllKeep w → AllKeep (after size w es)
   after_keeps w [] ok h = h
   after_keeps w (e ∷ es) ok h = after_keeps (next size w e) es ok.1 (next_keeps w e ok.0 h)
 
 -- ---- from one sense of valid to another
-pub edit_valid : (Old New : Setup → Type 0) (w : Network) (e : Event) → ((d : Edit) (y : Setup) → edited w.setup d ≡ Some y → Old y → New y) → EditIsValid Old w e → EditIsValid New w e
+pub edit_valid : (Old New : Setup → Type 0) (w : MachineState) (e : MachineEvent) → ((d : Edit) (y : Setup) → edited w.setup d ≡ Some y → Old y → New y) → EditIsValid Old w e → EditIsValid New w e
 edit_valid Old New w (Edits d) h v = λ y is. h d y is (v y is)
 edit_valid Old New w (Deliver a b n) h v = tt
 edit_valid Old New w (DeliverOctets a b n) h v = tt
@@ -155,13 +155,13 @@ edit_valid Old New w (Show n) h v = tt
 edit_valid Old New w (Trace p) h v = tt
 edit_valid Old New w (Break a b n) h v = tt
 
-pub edits_valid : (size : Name → Message → ℕ) (Old New : Setup → Type 0) → ((y : Setup) → Old y → New y) → (w : Network) (es : List Event) → EditsAreValid size Old w es → EditsAreValid size New w es
+pub edits_valid : (size : Name → Message → ℕ) (Old New : Setup → Type 0) → ((y : Setup) → Old y → New y) → (w : MachineState) (es : List MachineEvent) → EditsAreValid size Old w es → EditsAreValid size New w es
 edits_valid size Old New h w [] v = tt
 edits_valid size Old New h w (e ∷ es) v = (edit_valid Old New w e (λ d y is old. h y old) v.0, edits_valid size Old New h (next size w e) es v.1)
 
 -- where that takes the setup before the edit too
 module _ (size : Name → Message → ℕ) (Old New : Setup → Type 0) (P : Session → Type 0) (MayTell : Session → Map → Type 0) (k : Keeps size New P MayTell) (leads : (x : Setup) (d : Edit) (y : Setup) → New x → edited x d ≡ Some y → Old y → New y) where
-  pub edits_valid_on : (w : Network) (es : List Event) → New w.setup × Each P w.sessions → EditsAreValid size Old w es → EditsAreValid size New w es
+  pub edits_valid_on : (w : MachineState) (es : List MachineEvent) → New w.setup × Each P w.sessions → EditsAreValid size Old w es → EditsAreValid size New w es
   edits_valid_on w [] h v = tt
   edits_valid_on w (e ∷ es) h v =
       let ok = edit_valid Old New w e (λ d y is old. leads w.setup d y h.0 is old) v.0 in

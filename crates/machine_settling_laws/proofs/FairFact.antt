@@ -14,7 +14,7 @@ use Rattle.machine_model.specs.Session.{Agent, Controller, Role, Message, Open, 
 use Rattle.node_model.specs.Step.{Phase, Idle, Opened, Confirmed, Up}
 use Rattle.machine_settling_laws.specs.Settling.{FairMap, FairMessage, FairMessages, FairAt, Fair, WantsFair}
 use Rattle.machine_model.proofs.SessionFact.{sends, told_cases}
-use Rattle.machine_model.proofs.NetworkFact.{Nodes, nodes, passed_nodes, opened_nodes}
+use Rattle.machine_model.proofs.NetworkFact.{NodePair, nodes, passed_nodes, opened_nodes}
 use Rattle.machine_model.proofs.NodesFact.{arrived_nodes, octets_nodes}
 use Rattle.machine_settling_laws.proofs.EachFact.{Keeps}
 
@@ -30,10 +30,10 @@ module _ (fair : Name × Role → Name × Role → Key → Value → Type 0) whe
   no_values : (from to : Name × Role) → FairMap fair from to empty
   no_values from to = empty_values key_cmp (fair from to)
 
-  fair_shut : (p : Nodes) (s : Session) → FairAt fair p s → FairAt fair p (shut s)
+  fair_shut : (p : NodePair) (s : Session) → FairAt fair p s → FairAt fair p (shut s)
   fair_shut p s f = record { near_held = no_values p.1 p.0; far_held = f.far_held; near_flight = tt; far_flight = tt }
 
-  fair_told : (p : Nodes) (ms : List Message) (s : Session) → FairMessages fair p.0 p.1 ms → FairAt fair p s → FairAt fair p (told ms s)
+  fair_told : (p : NodePair) (ms : List Message) (s : Session) → FairMessages fair p.0 p.1 ms → FairAt fair p s → FairAt fair p (told ms s)
   fair_told p ms s h f =
       elim (told_cases ms s) as (λ _. FairAt fair p (told ms s)) [
         | inl q ↦ subst (FairAt fair p) (sym q.1) (record { near_held = no_values p.1 p.0; far_held = f.far_held; near_flight = tt; far_flight = tt })
@@ -43,7 +43,7 @@ module _ (fair : Name × Role → Name × Role → Key → Value → Type 0) whe
         ])
       ]
 
-  fair_passed : (p : Nodes) (m : Map) (s : Session) → FairMap fair p.0 p.1 m → FairAt fair p s → FairAt fair p (passed m s)
+  fair_passed : (p : NodePair) (m : Map) (s : Session) → FairMap fair p.0 p.1 m → FairAt fair p s → FairAt fair p (passed m s)
   unfolding passed
   fair_passed p m s h f =
       elim (may_send s) as (λ b. FairAt fair p (cond b (told (map Carries (difference s.near.sent m)) (record s { near = record s.near { sent = m } })) s)) [
@@ -52,7 +52,7 @@ module _ (fair : Name × Role → Name × Role → Key → Value → Type 0) whe
         | false ↦ f
       ]
 
-  fair_peer_took : (p : Nodes) (q : Phase) (m : Message) (s : Session) → FairMessage fair p.1 p.0 m → FairAt fair p s → FairAt fair p (peer_took q m s)
+  fair_peer_took : (p : NodePair) (q : Phase) (m : Message) (s : Session) → FairMessage fair p.1 p.0 m → FairAt fair p s → FairAt fair p (peer_took q m s)
   fair_peer_took p Idle m s h f = f
   fair_peer_took p Opened Open s h f = fair_told p (Keepalive ∷ []) (with_phase Confirmed s) (tt, tt) (record { near_held = f.near_held; far_held = f.far_held; near_flight = f.near_flight; far_flight = f.far_flight })
   fair_peer_took p Confirmed Keepalive s h f = record { near_held = f.near_held; far_held = f.far_held; near_flight = f.near_flight; far_flight = f.far_flight }
@@ -60,13 +60,13 @@ module _ (fair : Name × Role → Name × Role → Key → Value → Type 0) whe
   fair_peer_took p Up (Carries d) s h f = record { near_held = changed_values {R = key_cmp} (fair p.1 p.0) key_total key_exact s.near.held d f.near_held h; far_held = f.far_held; near_flight = f.near_flight; far_flight = f.far_flight }
   fair_peer_took p _ _ s h f = fair_shut p s f
 
-  fair_item_took : (p : Nodes) (q : Phase) (m : Message) (s : Session) → FairMessage fair p.1 p.0 m → FairAt fair p s → FairAt fair p (item_took q m s)
+  fair_item_took : (p : NodePair) (q : Phase) (m : Message) (s : Session) → FairMessage fair p.1 p.0 m → FairAt fair p s → FairAt fair p (item_took q m s)
   fair_item_took p Idle m s h f = f
   fair_item_took p Opened Hello s h f = record { near_held = f.near_held; far_held = f.far_held; near_flight = f.near_flight; far_flight = f.far_flight }
   fair_item_took p Up (Carries d) s h f = record { near_held = changed_values {R = key_cmp} (fair p.1 p.0) key_total key_exact s.near.held d f.near_held h; far_held = f.far_held; near_flight = f.near_flight; far_flight = f.far_flight }
   fair_item_took p _ _ s h f = fair_shut p s f
 
-  fair_took : (p : Nodes) (m : Message) (ms : List Message) (s : Session) → FairMessages fair p.1 p.0 (m ∷ ms) → FairAt fair p s → FairAt fair p (took m (without_first ms s))
+  fair_took : (p : NodePair) (m : Message) (ms : List Message) (s : Session) → FairMessages fair p.1 p.0 (m ∷ ms) → FairAt fair p s → FairAt fair p (took m (without_first ms s))
   fair_took p m ms s h f =
       let g : FairAt fair p (without_first ms s) = record { near_held = f.near_held; far_held = f.far_held; near_flight = f.near_flight; far_flight = h.1 } in
       elim (is_peering s) as (λ b. FairAt fair p (cond b (peer_took s.near.phase m (without_first ms s)) (item_took s.near.phase m (without_first ms s)))) [
@@ -74,11 +74,11 @@ module _ (fair : Name × Role → Name × Role → Key → Value → Type 0) whe
         | false ↦ fair_item_took p s.near.phase m (without_first ms s) h.0 g
       ]
 
-  fair_first : (p : Nodes) (f : List Message) (s : Session) → FairMessages fair p.1 p.0 f → FairAt fair p s → FairAt fair p (took_first f s)
+  fair_first : (p : NodePair) (f : List Message) (s : Session) → FairMessages fair p.1 p.0 f → FairAt fair p s → FairAt fair p (took_first f s)
   fair_first p [] s h g = g
   fair_first p (m ∷ ms) s h g = fair_took p m ms s h g
 
-  fair_arrived : (p : Nodes) (s : Session) → FairAt fair p s → FairAt fair p (arrived s)
+  fair_arrived : (p : NodePair) (s : Session) → FairAt fair p s → FairAt fair p (arrived s)
   unfolding arrived
   fair_arrived p s f =
       elim s.near.notice as (λ b. FairAt fair p (cond b (record s { near = closed s.near }) (took_first s.far.flight s))) [
@@ -87,7 +87,7 @@ module _ (fair : Name × Role → Name × Role → Key → Value → Type 0) whe
       ]
 
   module _ (size : Name → Message → ℕ) where
-    fair_octets : (p : Nodes) (g : List Message) (n : ℕ) (s : Session) → FairMessages fair p.1 p.0 g → FairAt fair p s → FairAt fair p (took_octets size n g s)
+    fair_octets : (p : NodePair) (g : List Message) (n : ℕ) (s : Session) → FairMessages fair p.1 p.0 g → FairAt fair p s → FairAt fair p (took_octets size n g s)
     fair_octets p [] n s h f = f
     fair_octets p (m ∷ ms) n s h f =
         elim s.is_down as (λ b. FairAt fair p (cond b s (cond (nat_lt n (size s.far.name m - s.far.taken)) (record s { far = record s.far { taken = s.far.taken + n } }) (took_octets size (n - (size s.far.name m - s.far.taken)) ms (took m (without_first ms s)))))) [
@@ -98,7 +98,7 @@ module _ (fair : Name × Role → Name × Role → Key → Value → Type 0) whe
           ]
         ]
 
-    fair_octets_arrived : (p : Nodes) (n : ℕ) (s : Session) → FairAt fair p s → FairAt fair p (octets_arrived size n s)
+    fair_octets_arrived : (p : NodePair) (n : ℕ) (s : Session) → FairAt fair p s → FairAt fair p (octets_arrived size n s)
     unfolding octets_arrived
     fair_octets_arrived p n s f =
         elim s.near.notice as (λ b. FairAt fair p (cond b (record s { near = closed s.near }) (took_octets size n s.far.flight s))) [
@@ -106,7 +106,7 @@ module _ (fair : Name × Role → Name × Role → Key → Value → Type 0) whe
           | false ↦ fair_octets p s.far.flight n s f.far_flight f
         ]
 
-    fair_opened : (p : Nodes) (s : Session) → FairAt fair p s → FairAt fair p (opened s)
+    fair_opened : (p : NodePair) (s : Session) → FairAt fair p s → FairAt fair p (opened s)
     unfolding opened
     fair_opened p s f =
         fair_told p (greeting s ∷ []) (record { is_down = false; near = record s.near { phase = Opened }; far = s.far })

@@ -18,7 +18,7 @@ use Rattle.machine_model.specs.Session.{Message, Open, Keepalive, Hello, Carries
 use Rattle.machine_settling_laws.specs.Settling.{back, Rank, RanksFit, Right}
 use Rattle.machine_model.specs.Moments.{IsPartly}
 use Rattle.machine_model.proofs.SessionFact.{took_keeps, more_taken, append_nil, Joined, Fact, Fact-turned, greetings, meets, passed_keeps, arrived_keeps, are_peers-turned, live_receiver}
-use Rattle.machine_model.proofs.NetworkFact.{Nodes, nodes}
+use Rattle.machine_model.proofs.NetworkFact.{NodePair, nodes}
 use Rattle.machine_model.proofs.NodesFact.{arrived_nodes, took_nodes}
 use Rattle.machine_model.proofs.Calm.{telling, passed_easy, Arrival, ArrivalOf, arrives}
 
@@ -46,14 +46,14 @@ later_weaker rank r from to [] a = tt
 later_weaker rank r from to (m ∷ f) a = (omega (arith, a.0), later_weaker rank r from to f a.1)
 
 -- what was in flight as a round began is at most what its deliveries still take, and what was sent since is of a later rank
-pub record Due (rank : Rank) (r : ℕ) (from to : Name) (n : ℕ) (f : List Message) : Type 0 where
+pub record DueByRank (rank : Rank) (r : ℕ) (from to : Name) (n : ℕ) (f : List Message) : Type 0 where
   pub old : List Message
   pub new : List Message
   pub split : f ≡ old ++ new
   pub few : length old ≤ n
   pub later : Later rank (suc r) from to new
 
-due_append : (rank : Rank) (r : ℕ) (from to : Name) (n : ℕ) (f g : List Message) → Due rank r from to n f → Later rank (suc r) from to g → Due rank r from to n (f ++ g)
+due_append : (rank : Rank) (r : ℕ) (from to : Name) (n : ℕ) (f g : List Message) → DueByRank rank r from to n f → Later rank (suc r) from to g → DueByRank rank r from to n (f ++ g)
 due_append rank r from to n f g d h = record {
   old = d.old;
   new = d.new ++ g;
@@ -62,7 +62,7 @@ due_append rank r from to n f g d h = record {
   later = later_append rank (suc r) from to d.new g d.later h;
 }
 
-due_first : (rank : Rank) (r : ℕ) (from to : Name) (n : ℕ) (m : Message) (ms old new : List Message) → m ∷ ms ≡ old ++ new → length old ≤ suc n → Later rank (suc r) from to new → Due rank r from to n ms
+due_first : (rank : Rank) (r : ℕ) (from to : Name) (n : ℕ) (m : Message) (ms old new : List Message) → m ∷ ms ≡ old ++ new → length old ≤ suc n → Later rank (suc r) from to new → DueByRank rank r from to n ms
 due_first rank r from to n m ms [] [] e few later = cc
 due_first rank r from to n m ms [] (k ∷ new) e few later = record { old = []; new = ms; split = refl; few = omega arith; later = subst (Later rank (suc r) from to) (cc) later.1 }
 due_first rank r from to n m ms (o ∷ old) new e few later = record { old = old; new = new; split = cc; few = omega arith; later = later }
@@ -71,10 +71,10 @@ due_first rank r from to n m ms (o ∷ old) new e few later = record { old = old
 module _ (size : Name → Message → ℕ) (positive : (n : Name) (m : Message) → 0 < size n m) (rank : Rank) (goal : Name → Name → Key → Option Value) where
   -- what is held is right up to a rank
   -- what is sent is right up to a rank
-  abbrev pub SentRight : Nodes → ℕ → Session → Type 0
+  abbrev pub SentRight : NodePair → ℕ → Session → Type 0
   SentRight p r s = (k : Key) → rank p.0.0 p.1.0 k ≤ r → may_send s ≡ true → get s.near.sent k ≡ goal p.0.0 p.1.0 k
 
-  abbrev pub Clean : Nodes → ℕ → Session → Type 0
+  abbrev pub Clean : NodePair → ℕ → Session → Type 0
   Clean p r s = Later rank r p.1.0 p.0.0 s.far.flight
 
   -- the keys between control nodes come after the greetings
@@ -169,28 +169,28 @@ module _ (size : Name → Message → ℕ) (positive : (n : Name) (m : Message) 
       none n a b = omega arith
 
   -- ---- what a session keeps during a round, up to rank r. The deliveries to come take at least `inward` messages from the far end, and `outward` the other way
-  pub record Core (p : Nodes) (r inward outward : ℕ) (s : Session) : Type 0 where
+  pub record Core (p : NodePair) (r inward outward : ℕ) (s : Session) : Type 0 where
     pub joined : Joined size s
     pub near_breaks : s.near.breaks ≡ []
     pub far_breaks : s.far.breaks ≡ []
     pub clean : Clean p r s
     pub clean_back : Clean (back p) r (turned s)
-    pub due : Due rank r p.1.0 p.0.0 inward s.far.flight
-    pub due_back : Due rank r p.0.0 p.1.0 outward s.near.flight
+    pub due : DueByRank rank r p.1.0 p.0.0 inward s.far.flight
+    pub due_back : DueByRank rank r p.0.0 p.1.0 outward s.near.flight
 
   joined_turned : (s : Session) → Joined size s → Joined size (turned s)
   joined_turned s j = elim (Fact-turned size s (inl j)) as (λ _. Joined size (turned s)) [ inl k ↦ k | inr d ↦ absurd (true≢false (sym d.down ∙ j.whole)) ]
 
-  pub core_turned : (p : Nodes) (r i o : ℕ) (s : Session) → Core p r i o s → Core (back p) r o i (turned s)
+  pub core_turned : (p : NodePair) (r i o : ℕ) (s : Session) → Core p r i o s → Core (back p) r o i (turned s)
   core_turned p r i o s c = record { joined = joined_turned s c.joined; near_breaks = c.far_breaks; far_breaks = c.near_breaks; clean = c.clean_back; clean_back = c.clean; due = c.due_back; due_back = c.due }
 
-  due_more : (r : ℕ) (from to : Name) (n m : ℕ) (f : List Message) → n ≤ m → Due rank r from to n f → Due rank r from to m f
+  due_more : (r : ℕ) (from to : Name) (n m : ℕ) (f : List Message) → n ≤ m → DueByRank rank r from to n f → DueByRank rank r from to m f
   due_more r from to n m f h d = record { old = d.old; new = d.new; split = d.split; few = more (length d.old) d.few; later = d.later }
     where
       more : (a : ℕ) → a ≤ n → a ≤ m
       more a k = omega (arith, h, k)
 
-  pub core_more : (p : Nodes) (r i o j q : ℕ) (s : Session) → i ≤ j → o ≤ q → Core p r i o s → Core p r j q s
+  pub core_more : (p : NodePair) (r i o j q : ℕ) (s : Session) → i ≤ j → o ≤ q → Core p r i o s → Core p r j q s
   core_more p r i o j q s h k c = record { joined = c.joined; near_breaks = c.near_breaks; far_breaks = c.far_breaks; clean = c.clean; clean_back = c.clean_back; due = due_more r p.1.0 p.0.0 i j s.far.flight h c.due; due_back = due_more r p.0.0 p.1.0 o q s.near.flight k c.due_back }
 
   -- ---- a pass of the near end
@@ -203,7 +203,7 @@ module _ (size : Name → Message → ℕ) (positive : (n : Name) (m : Message) 
   whole_joined s (inl j) e = j
   whole_joined s (inr d) e = absurd (true≢false (sym d.down ∙ e))
 
-  pub core_passed : (p : Nodes) (r i o : ℕ) (m : Map) (s : Session) → Core p r i o s → SentRight p (suc r) s → ((k : Key) → rank p.0.0 p.1.0 k ≤ suc r → get m k ≡ goal p.0.0 p.1.0 k) → Core p r i o (passed m s)
+  pub core_passed : (p : NodePair) (r i o : ℕ) (m : Map) (s : Session) → Core p r i o s → SentRight p (suc r) s → ((k : Key) → rank p.0.0 p.1.0 k ≤ suc r → get m k ≡ goal p.0.0 p.1.0 k) → Core p r i o (passed m s)
   core_passed p r i o m s c sent want =
       subst (Core p r i o) (sym (passed_easy m s c.joined.whole c.near_breaks))
       (elim (may_send s) as (λ b. may_send s ≡ b → Core p r i o (cond b (telling m s) s)) [
@@ -224,19 +224,19 @@ module _ (size : Name → Message → ℕ) (positive : (n : Name) (m : Message) 
       ] refl)
 
   -- ---- a delivery to the near end
-  pub record Known (p : Nodes) (r : ℕ) (s : Session) : Type 0 where
+  pub record Known (p : NodePair) (r : ℕ) (s : Session) : Type 0 where
     pub right : Right rank goal p r s
     pub right_back : Right rank goal (back p) r (turned s)
     pub sent : SentRight p (suc r) s
     pub sent_back : SentRight (back p) (suc r) (turned s)
 
-  peering_kept : (p : Nodes) (s : Session) → nodes s ≡ p → is_peering s ≡ are_peers p.0.1 p.1.1
-  peering_kept p s e = ap (λ (p : Nodes). are_peers p.0.1 p.1.1) e
+  peering_kept : (p : NodePair) (s : Session) → nodes s ≡ p → is_peering s ≡ are_peers p.0.1 p.1.1
+  peering_kept p s e = ap (λ (p : NodePair). are_peers p.0.1 p.1.1) e
 
-  back_kept : (p : Nodes) (s t : Session) → nodes s ≡ p → nodes t ≡ p → t.far.phase ≡ s.far.phase → may_send (turned t) ≡ may_send (turned s)
+  back_kept : (p : NodePair) (s t : Session) → nodes s ≡ p → nodes t ≡ p → t.far.phase ≡ s.far.phase → may_send (turned t) ≡ may_send (turned s)
   back_kept p s t e f q = (λ i. may_send_at (are_peers (f i).1.1 (f i).0.1) (q i)) ∙ (λ i. may_send_at (are_peers (sym e i).1.1 (sym e i).0.1) s.far.phase)
 
-  known_arrived : (p : Nodes) (r : ℕ) (s t : Session) (m : Message) (ms : List Message) → nodes s ≡ p → nodes t ≡ p → RanksFit rank (back p) → s.far.flight ≡ m ∷ ms → Later rank r p.1.0 p.0.0 (m ∷ ms) → Arrival m ms s t → Known p r s → Known p r t
+  known_arrived : (p : NodePair) (r : ℕ) (s t : Session) (m : Message) (ms : List Message) → nodes s ≡ p → nodes t ≡ p → RanksFit rank (back p) → s.far.flight ≡ m ∷ ms → Later rank r p.1.0 p.0.0 (m ∷ ms) → Arrival m ms s t → Known p r s → Known p r t
   known_arrived p r s t m ms e f fit in_flight later a k = record {
     right = record {
       held = λ j h. elim a.held as (λ _. get t.near.held j ≡ goal p.1.0 p.0.0 j) [
@@ -259,7 +259,7 @@ module _ (size : Name → Message → ℕ) (positive : (n : Name) (m : Message) 
       late : (n : ℕ) → r < 2 → 3 ≤ n → n ≤ suc r → ⊥
       late n l h e = omega arith
 
-  core_arrival : (p : Nodes) (r i o : ℕ) (s t : Session) (m : Message) (ms : List Message) → s.far.flight ≡ m ∷ ms → Joined size t → Arrival m ms s t → Core p r (suc i) o s → Core p r i o t
+  core_arrival : (p : NodePair) (r i o : ℕ) (s t : Session) (m : Message) (ms : List Message) → s.far.flight ≡ m ∷ ms → Joined size t → Arrival m ms s t → Core p r (suc i) o s → Core p r i o t
   core_arrival p r i o s t m ms in_flight j a c =
       let later : Later rank r p.1.0 p.0.0 (m ∷ ms) = subst (Later rank r p.1.0 p.0.0) in_flight c.clean in
       let replies : (f : List Message) → s.near.flight ++ f ≡ t.near.flight → Later rank (suc r) p.0.0 p.1.0 f → Core p r i o t = λ (f : List Message) (e : s.near.flight ++ f ≡ t.near.flight) (l : Later rank (suc r) p.0.0 p.1.0 f). record {
@@ -268,8 +268,8 @@ module _ (size : Name → Message → ℕ) (positive : (n : Name) (m : Message) 
         far_breaks = a.far_breaks ∙ c.far_breaks;
         clean = subst (Later rank r p.1.0 p.0.0) (sym a.taken) later.1;
         clean_back = subst (Later rank r p.0.0 p.1.0) e (later_append rank r p.0.0 p.1.0 s.near.flight f c.clean_back (later_weaker rank r p.0.0 p.1.0 f l));
-        due = subst (Due rank r p.1.0 p.0.0 i) (sym a.taken) (due_first rank r p.1.0 p.0.0 i m ms c.due.old c.due.new (sym in_flight ∙ c.due.split) c.due.few c.due.later);
-        due_back = subst (Due rank r p.0.0 p.1.0 o) e (due_append rank r p.0.0 p.1.0 o s.near.flight f c.due_back l);
+        due = subst (DueByRank rank r p.1.0 p.0.0 i) (sym a.taken) (due_first rank r p.1.0 p.0.0 i m ms c.due.old c.due.new (sym in_flight ∙ c.due.split) c.due.few c.due.later);
+        due_back = subst (DueByRank rank r p.0.0 p.1.0 o) e (due_append rank r p.0.0 p.1.0 o s.near.flight f c.due_back l);
       } in
       elim a.reply as (λ _. Core p r i o t) [
         | inl same ↦ replies [] (sym (append_nil s.near.flight) ∙ sym same) tt
@@ -280,19 +280,19 @@ module _ (size : Name → Message → ℕ) (positive : (n : Name) (m : Message) 
       first r h = omega arith
 
   -- some messages are taken from the far end, without a pass. What is due falls by their number
-  pub record Taken (p : Nodes) (r : ℕ) (s t : Session) : Type 0 where
+  pub record Taken (p : NodePair) (r : ℕ) (s t : Session) : Type 0 where
     pub count : ℕ
     pub fewer : count + length t.far.flight ≡ length s.far.flight
     pub core : (i o : ℕ) → Core p r (count + i) o s → Known p r s → Core p r i o t × Known p r t
 
-  none_taken : (p : Nodes) (r : ℕ) (s t : Session) → length t.far.flight ≡ length s.far.flight → ((i o : ℕ) → Core p r i o s → Known p r s → Core p r i o t × Known p r t) → Taken p r s t
+  none_taken : (p : NodePair) (r : ℕ) (s t : Session) → length t.far.flight ≡ length s.far.flight → ((i o : ℕ) → Core p r i o s → Known p r s → Core p r i o t × Known p r t) → Taken p r s t
   none_taken p r s t e h = record { count = 0; fewer = nothing (length t.far.flight) ∙ e; core = λ i o c. h i o (subst (λ n. Core p r n o s) (nothing i) c) }
     where
       nothing : (n : ℕ) → 0 + n ≡ n
       nothing n = omega arith
 
   -- a message is taken, and then some
-  one_taken : (p : Nodes) (r : ℕ) (s t u : Session) (m : Message) (ms : List Message) → nodes s ≡ p → nodes t ≡ p → RanksFit rank (back p) → s.far.flight ≡ m ∷ ms → Joined size t → Arrival m ms s t → Taken p r t u → Taken p r s u
+  one_taken : (p : NodePair) (r : ℕ) (s t u : Session) (m : Message) (ms : List Message) → nodes s ≡ p → nodes t ≡ p → RanksFit rank (back p) → s.far.flight ≡ m ∷ ms → Joined size t → Arrival m ms s t → Taken p r t u → Taken p r s u
   one_taken p r s t u m ms e f fit is j a k = record {
     count = suc k.count;
     fewer = one k.count (length u.far.flight) ∙ ap suc (k.fewer ∙ ap length a.taken) ∙ ap length (sym is);
@@ -304,11 +304,11 @@ module _ (size : Name → Message → ℕ) (positive : (n : Name) (m : Message) 
       one : (a b : ℕ) → suc a + b ≡ suc (a + b)
       one a b = omega arith
 
-  taken_none : (p : Nodes) (r : ℕ) (s : Session) → Taken p r s s
+  taken_none : (p : NodePair) (r : ℕ) (s : Session) → Taken p r s s
   taken_none p r s = none_taken p r s s refl (λ i o c k. (c, k))
 
   -- whatever arrives, if something does
-  pub arrived_taken : (p : Nodes) (r : ℕ) (s : Session) → nodes s ≡ p → RanksFit rank (back p) → Joined size s → s.near.breaks ≡ [] → Taken p r s (arrived s)
+  pub arrived_taken : (p : NodePair) (r : ℕ) (s : Session) → nodes s ≡ p → RanksFit rank (back p) → Joined size s → s.near.breaks ≡ [] → Taken p r s (arrived s)
   arrived_taken p r s e fit j unbroken =
       by_flight s.far.flight refl (arrives size s j unbroken)
     where
@@ -341,7 +341,7 @@ module _ (size : Name → Message → ℕ) (positive : (n : Name) (m : Message) 
     outward = record { changes = j.outward.changes; phases = j.outward.phases; flight = j.outward.flight; early = j.outward.early; tells = j.outward.tells; partly = j.outward.partly };
   }
 
-  octets_taken : (p : Nodes) (r : ℕ) (f : List Message) (n : ℕ) (s : Session) → nodes s ≡ p → RanksFit rank (back p) → Joined size s → s.near.breaks ≡ [] → s.far.flight ≡ f → Taken p r s (took_octets size n f s)
+  octets_taken : (p : NodePair) (r : ℕ) (f : List Message) (n : ℕ) (s : Session) → nodes s ≡ p → RanksFit rank (back p) → Joined size s → s.near.breaks ≡ [] → s.far.flight ≡ f → Taken p r s (took_octets size n f s)
   octets_taken p r [] n s e fit j unbroken is = taken_none p r s
   octets_taken p r (m ∷ ms) n s e fit j unbroken is =
       let t = took m (without_first ms s) in
@@ -360,10 +360,10 @@ module _ (size : Name → Message → ℕ) (positive : (n : Name) (m : Message) 
             (octets_taken p r ms (n - (size s.far.name m - s.far.taken)) t same fit joined (a.near_breaks ∙ unbroken) a.taken)
       ] refl)
 
-  pub octets_arrived_taken : (n : ℕ) (p : Nodes) (r : ℕ) (s : Session) → nodes s ≡ p → RanksFit rank (back p) → Joined size s → s.near.breaks ≡ [] → Taken p r s (octets_arrived size n s)
+  pub octets_arrived_taken : (n : ℕ) (p : NodePair) (r : ℕ) (s : Session) → nodes s ≡ p → RanksFit rank (back p) → Joined size s → s.near.breaks ≡ [] → Taken p r s (octets_arrived size n s)
   unfolding octets_arrived
   octets_arrived_taken n p r s e fit j unbroken =
       subst (λ b. Taken p r s (cond b (record s { near = closed s.near }) (took_octets size n s.far.flight s))) (sym j.near_notice) (octets_taken p r s.far.flight n s e fit j unbroken refl)
 
-  pub known_turned : (p : Nodes) (r : ℕ) (s : Session) → Known p r s → Known (back p) r (turned s)
+  pub known_turned : (p : NodePair) (r : ℕ) (s : Session) → Known p r s → Known (back p) r (turned s)
   known_turned p r s k = record { right = k.right_back; right_back = k.right; sent = k.sent_back; sent_back = k.sent }

@@ -11,9 +11,9 @@ use Rattle.machine_model.specs.Setup.{Setup}
 use Rattle.config_model.specs.declared.edit.Edit.{Edit}
 use Rattle.machine_model.specs.Setup.{Name, edited, opening}
 use Rattle.machine_model.specs.Session.{Role, Message, Session}
-use Rattle.machine_model.specs.Network.{Network, start}
+use Rattle.machine_model.specs.Network.{MachineState, start}
 use Rattle.machine_model.specs.Steps.{resumed}
-use Rattle.machine_model.specs.Events.{Event, after}
+use Rattle.machine_model.specs.Events.{MachineEvent, after}
 use Rattle.machine_model.specs.Moments.{Each, IsLaidOut, nodes, WhereLaidOut}
 use Rattle.machine_model.proofs.Twins.{NoTwins}
 use Rattle.machine_model.proofs.NetworkFact.{after_sound}
@@ -42,11 +42,11 @@ module _ (size : Name → Message → ℕ) (positive : (n : Name) (m : Message) 
     start_fair = start_each (Fair fair) (λ n m r q. record { near_held = empty_values key_cmp (fair (m, q) (n, r)); far_held = empty_values key_cmp (fair (n, r) (m, q)); near_flight = tt; far_flight = tt }) x
 
     -- where an edit of a valid setup that leads to a setup as asked leads to a valid one
-    pub stay_valid : (Asked : Setup → Type 0) → ((y : Setup) (d : Edit) (z : Setup) → Valid y → edited y d ≡ Some z → Asked z → Valid z) → Valid (opening x) → (es : List Event) → EditsAreValid size Asked (start x) es → EditsAreValid size Valid (start x) es
+    pub stay_valid : (Asked : Setup → Type 0) → ((y : Setup) (d : Edit) (z : Setup) → Valid y → edited y d ≡ Some z → Asked z → Valid z) → Valid (opening x) → (es : List MachineEvent) → EditsAreValid size Asked (start x) es → EditsAreValid size Valid (start x) es
     stay_valid Asked leads valid es edits = edits_valid_on size Asked Valid (Fair fair) MayTell keeps leads (start x) es (valid, start_fair) edits
 
-    module _ (valid : Valid (opening x)) (es : List Event) (edits : EditsAreValid size Valid (start x) es) where
-      abbrev now : Network
+    module _ (valid : Valid (opening x)) (es : List MachineEvent) (edits : EditsAreValid size Valid (start x) es) where
+      abbrev now : MachineState
       now = after size (start x) es
 
       -- at each moment of a schedule the setup is valid, and all is fair

@@ -16,12 +16,12 @@ use Rattle.node_model.specs.Maps.{Map, Change}
 use Rattle.machine_model.specs.Setup.{Name, Setup, longest}
 use Rattle.ov_types.specs.First.{same_name}
 use Rattle.machine_model.specs.Session.{is_peering, Message, Open, Keepalive, Hello, Carries, Session, turned, is_up, is_up_phase, may_send, passed, arrived, octets_arrived, waiting}
-use Rattle.machine_model.specs.Network.{Network, is_at, sessions_of, view, views_of, wanted}
-use Rattle.machine_model.specs.Events.{Event, Edits, Deliver, DeliverOctets, Lose, Connect, Restart, Round, Settle, Show, Trace, Break, next, after}
+use Rattle.machine_model.specs.Network.{MachineState, is_at, sessions_of, view, views_of, wanted}
+use Rattle.machine_model.specs.Events.{MachineEvent, Edits, Deliver, DeliverOctets, Lose, Connect, Restart, Round, Settle, Show, Trace, Break, next, after}
 use Rattle.machine_model.specs.Steps.{at_node, joins, with_session, change_session, pass, session_in, in_flight, repeat, deliver, Due as Waiting, dues, round, is_rested, is_settled, is_quiet, resumed, rounds_from, settle, without_breaks}
 use Rattle.machine_model.specs.Rounds.{goes, is_delivery, taken_by, taken_of, IsRound, AreRounds, after_rounds}
 use Rattle.machine_model.proofs.SessionFact.{append_nil, greetings, Joined, Fact-turned}
-use Rattle.machine_model.proofs.NetworkFact.{IsSound, Each, Nodes, nodes, KeepsNodes, passed_nodes}
+use Rattle.machine_model.proofs.NetworkFact.{IsSound, Each, NodePair, nodes, KeepsNodes, passed_nodes}
 use Rattle.machine_model.proofs.NodesFact.{arrived_nodes, octets_nodes, session_nodes, step_nodes, map_nodes, round_nodes, connect_all_nodes}
 use Rattle.machine_model.proofs.ToldFact.{Touches, arrived_touches, step_tells}
 use Rattle.machine_model.specs.Moments.{AreWhole, TellsWanted}
@@ -34,23 +34,23 @@ use Rattle.machine_model.proofs.Calm.{telling, passed_easy}
 use Rattle.machine_model.proofs.RoundFact.{fact_joined, IsCalm, AreCalm, as_event, as_deliveries, as_round, round_same}
 use Rattle.machine_settling_laws.proofs.SettleFact.{resumed_calm, resumed_setup}
 use Rattle.machine_model.proofs.AtRest.{no_messages}
-use Rattle.machine_settling_laws.proofs.Ranks.{Later, Due, SentRight, later_le, ends_up, right_zero, right_next, Core, core_turned, core_more, core_passed, Known, known_turned, Taken, arrived_taken, octets_arrived_taken}
+use Rattle.machine_settling_laws.proofs.Ranks.{Later, DueByRank, SentRight, later_le, ends_up, right_zero, right_next, Core, core_turned, core_more, core_passed, Known, known_turned, Taken, arrived_taken, octets_arrived_taken}
 use Rattle.machine_settling_laws.specs.Settling as bound
 
 -- a node takes something on one session, and makes its pass
-abbrev pub stepping : (Session → Session) → Name → Name → Network → Network
+abbrev pub stepping : (Session → Session) → Name → Name → MachineState → MachineState
 stepping f from to w = cond (in_flight w from to == 0) w (pass to (change_session to from f w))
 
 -- how many messages and notices of a direction a step takes
-abbrev pub taken : (Network → Network) → Bool → Name → Name → Network → ℕ
+abbrev pub taken : (MachineState → MachineState) → Bool → Name → Name → MachineState → ℕ
 taken f goes from to w = cond goes (in_flight w from to - in_flight (f w) from to) 0
 
 passed_waiting : (m : Map) (s : Session) → s.is_down ≡ false → s.near.breaks ≡ [] → waiting (passed m s) ≡ waiting s
 passed_waiting m s e b = ap waiting (passed_easy m s e b) ∙ elim (may_send s) as (λ c. waiting (cond c (telling m s) s) ≡ waiting s) [ true ↦ refl | false ↦ refl ]
 
-module _ (size : Name → Message → ℕ) (positive : (n : Name) (m : Message) → 0 < size n m) (rank : Rank) (goal : Name → Name → Key → Option Value) (x : Setup) (places : List Nodes) (Valid : Setup → Type 0) (P : Session → Type 0) (MayTell : Session → Map → Type 0) where
+module _ (size : Name → Message → ℕ) (positive : (n : Name) (m : Message) → 0 < size n m) (rank : Rank) (goal : Name → Name → Key → Option Value) (x : Setup) (places : List NodePair) (Valid : Setup → Type 0) (P : Session → Type 0) (MayTell : Session → Map → Type 0) where
   -- by how much each direction is still due
-  abbrev CoreP : Nodes → ℕ → (Name → Name → ℕ) → Session → Type 0
+  abbrev CoreP : NodePair → ℕ → (Name → Name → ℕ) → Session → Type 0
   CoreP p r left s = Core size positive rank goal p r (left p.1.0 p.0.0) (left p.0.0 p.1.0) s
 
   abbrev CoreAt : ℕ → (Name → Name → ℕ) → Session → Type 0
@@ -76,7 +76,7 @@ module _ (size : Name → Message → ℕ) (positive : (n : Name) (m : Message) 
     abbrev FitsAt : Session → Type 0
     FitsAt s = RanksFit rank (nodes s) × RanksFit rank (nodes (turned s))
 
-    fits_each : (ss : List Session) (ps : List Nodes) → map nodes ss ≡ ps → AllByRecursion (λ p. RanksFit rank p × RanksFit rank (back p)) ps → Each FitsAt ss
+    fits_each : (ss : List Session) (ps : List NodePair) → map nodes ss ≡ ps → AllByRecursion (λ p. RanksFit rank p × RanksFit rank (back p)) ps → Each FitsAt ss
     fits_each ss ps e f = go ss (subst (AllByRecursion (λ p. RanksFit rank p × RanksFit rank (back p))) (sym e) f)
       where
         go : (ss : List Session) → AllByRecursion (λ p. RanksFit rank p × RanksFit rank (back p)) (map nodes ss) → Each FitsAt ss
@@ -131,7 +131,7 @@ module _ (size : Name → Message → ℕ) (positive : (n : Name) (m : Message) 
       cores = each_weaker (CoreAt r left) (CoreAt r more) (λ s c. core_more size positive rank goal (nodes s) r (left s.far.name s.near.name) (left s.near.name s.far.name) (more s.far.name s.near.name) (more s.near.name s.far.name) s (h s.far.name s.near.name) (h s.near.name s.far.name) c) ss g.cores;
     }
 
-    abbrev pub GoingOn : ℕ → (Name → Name → ℕ) → Network → Type 0
+    abbrev pub GoingOn : ℕ → (Name → Name → ℕ) → MachineState → Type 0
     GoingOn r left w = (w.setup ≡ x) × Going r left w.sessions
 
     -- ---- one step that takes messages
@@ -163,15 +163,15 @@ module _ (size : Name → Message → ℕ) (positive : (n : Name) (m : Message) 
     -- what a node does with what arrives on a session: it takes some messages, without a pass
     pub record Takes (f : Session → Session) : Type 0 where
       pub kept : KeepsNodes f
-      pub takes : (p : Nodes) (r : ℕ) (s : Session) → nodes s ≡ p → RanksFit rank (back p) → Joined size s → s.near.breaks ≡ [] → Taken size positive rank goal p r s (f s)
+      pub takes : (p : NodePair) (r : ℕ) (s : Session) → nodes s ≡ p → RanksFit rank (back p) → Joined size s → s.near.breaks ≡ [] → Taken size positive rank goal p r s (f s)
       pub touches : (s : Session) → Touches s (f s)
       pub fair : (s : Session) → P s → P (f s)
 
     module _ (f : Session → Session) (takes : Takes f) (r : ℕ) (left : Name → Name → ℕ) (from to : Name) (ss : List Session) where
-      abbrev old : Network
+      abbrev old : MachineState
       old = record { setup = x; sessions = ss }
 
-      abbrev new : Network
+      abbrev new : MachineState
       new = pass to (change_session to from f old)
 
       -- with what this step takes
@@ -268,9 +268,9 @@ module _ (size : Name → Message → ℕ) (positive : (n : Name) (m : Message) 
           none false n o = omega arith
 
     -- in any state of this configuration
-    goes_on : (f : Session → Session) → Takes f → (r : ℕ) (left : Name → Name → ℕ) (from to : Name) (w : Network) → GoingOn r (λ g t. taken (stepping f from to) (same_name from g && same_name to t) g t w + left g t) w → GoingOn r left (stepping f from to w)
+    goes_on : (f : Session → Session) → Takes f → (r : ℕ) (left : Name → Name → ℕ) (from to : Name) (w : MachineState) → GoingOn r (λ g t. taken (stepping f from to) (same_name from g && same_name to t) g t w + left g t) w → GoingOn r left (stepping f from to w)
     goes_on f takes r left from to w g =
-        subst (λ (w : Network). GoingOn r (λ g t. taken (stepping f from to) (same_name from g && same_name to t) g t w + left g t) w → GoingOn r left (stepping f from to w)) (λ i. record { setup = sym g.0 i; sessions = w.sessions })
+        subst (λ (w : MachineState). GoingOn r (λ g t. taken (stepping f from to) (same_name from g && same_name to t) g t w + left g t) w → GoingOn r left (stepping f from to w)) (λ i. record { setup = sym g.0 i; sessions = w.sessions })
         (λ h. stepped f takes r left from to w.sessions h.1) g
 
     arrival_takes : Takes arrived
@@ -279,10 +279,10 @@ module _ (size : Name → Message → ℕ) (positive : (n : Name) (m : Message) 
     octets_take : (n : ℕ) → Takes (octets_arrived size n)
     octets_take n = record { kept = octets_nodes size n; takes = octets_arrived_taken size positive rank goal n; touches = octets_touches size n; fair = keeps.octets n }
 
-    on_more : (r : ℕ) (left more : Name → Name → ℕ) (w : Network) → ((from to : Name) → left from to ≤ more from to) → GoingOn r left w → GoingOn r more w
+    on_more : (r : ℕ) (left more : Name → Name → ℕ) (w : MachineState) → ((from to : Name) → left from to ≤ more from to) → GoingOn r left w → GoingOn r more w
     on_more r left more w h g = (g.0, going_more r left more w.sessions h g.1)
 
-    delivers_on : (n r : ℕ) (left : Name → Name → ℕ) (from to : Name) (w : Network) → GoingOn r (λ g t. taken (repeat n (deliver from to)) (same_name from g && same_name to t) g t w + left g t) w → GoingOn r left (repeat n (deliver from to) w)
+    delivers_on : (n r : ℕ) (left : Name → Name → ℕ) (from to : Name) (w : MachineState) → GoingOn r (λ g t. taken (repeat n (deliver from to)) (same_name from g && same_name to t) g t w + left g t) w → GoingOn r left (repeat n (deliver from to) w)
     delivers_on zero r left from to w g = on_more r (λ g t. taken (repeat 0 (deliver from to)) (same_name from g && same_name to t) g t w + left g t) left w (λ g t. none (same_name from g && same_name to t) (in_flight w g t) (left g t)) g
       where
         none : (b : Bool) (n o : ℕ) → cond b (n - n) 0 + o ≤ o
@@ -304,7 +304,7 @@ module _ (size : Name → Message → ℕ) (positive : (n : Name) (m : Message) 
     reordered : (a b c : ℕ) → (a + b) + c ≤ a + (b + c)
     reordered a b c = omega arith
 
-    dues_go_on : (r : ℕ) (left : Name → Name → ℕ) (ds : List Waiting) (w : Network) → GoingOn r (λ g t. taken_of size g t w (map (as_event size positive) ds) + left g t) w → GoingOn r left (after size w (map (as_event size positive) ds))
+    dues_go_on : (r : ℕ) (left : Name → Name → ℕ) (ds : List Waiting) (w : MachineState) → GoingOn r (λ g t. taken_of size g t w (map (as_event size positive) ds) + left g t) w → GoingOn r left (after size w (map (as_event size positive) ds))
     unfolding next
     dues_go_on r left [] w g = on_more r (λ g t. 0 + left g t) left w (λ g t. nothing (left g t)) g
       where
@@ -316,10 +316,10 @@ module _ (size : Name → Message → ℕ) (positive : (n : Name) (m : Message) 
         (on_more r (λ g t. taken_of size g t w (as_event size positive d ∷ map (as_event size positive) ds) + left g t) (λ g t. taken (repeat d.count (deliver d.from d.to)) (same_name d.from g && same_name d.to t) g t w + (taken_of size g t v (map (as_event size positive) ds) + left g t)) w
         (λ g t. reordered (taken (repeat d.count (deliver d.from d.to)) (same_name d.from g && same_name d.to t) g t w) (taken_of size g t v (map (as_event size positive) ds)) (left g t)) g))
 
-    calm_on : (r : ℕ) (left : Name → Name → ℕ) (w : Network) → GoingOn r left w → AreCalm size positive w
+    calm_on : (r : ℕ) (left : Name → Name → ℕ) (w : MachineState) → GoingOn r left w → AreCalm size positive w
     calm_on r left w g = each_weaker (CoreAt r left) (IsCalm size positive) (λ s c. (c.joined, c.near_breaks, c.far_breaks)) w.sessions g.1.cores
 
-    event_goes_on : (r : ℕ) (left : Name → Name → ℕ) (e : Event) (w : Network) → is_delivery e ≡ true → GoingOn r (λ g t. taken_by size g t w e + left g t) w → GoingOn r left (next size w e)
+    event_goes_on : (r : ℕ) (left : Name → Name → ℕ) (e : MachineEvent) (w : MachineState) → is_delivery e ≡ true → GoingOn r (λ g t. taken_by size g t w e + left g t) w → GoingOn r left (next size w e)
     unfolding next
     event_goes_on r left (Deliver from to n) w d g = delivers_on n r left from to w g
     event_goes_on r left (DeliverOctets from to n) w d g = goes_on (octets_arrived size n) (octets_take n) r left from to w g
@@ -343,28 +343,28 @@ module _ (size : Name → Message → ℕ) (positive : (n : Name) (m : Message) 
     abbrev pub nothing_left : Name → Name → ℕ
     nothing_left from to = 0
 
-    round_ends : (r : ℕ) (es : List Event) (w : Network) → list_all is_delivery es ≡ true → GoingOn r (λ from to. taken_of size from to w es) w → GoingOn r nothing_left (after size w es)
+    round_ends : (r : ℕ) (es : List MachineEvent) (w : MachineState) → list_all is_delivery es ≡ true → GoingOn r (λ from to. taken_of size from to w es) w → GoingOn r nothing_left (after size w es)
     round_ends r [] w d g = g
     round_ends r (e ∷ es) w d g =
         let p = and_parts (is_delivery e) (list_all is_delivery es) d in
         round_ends r es (next size w e) p.1 (event_goes_on r (λ from to. taken_of size from to (next size w e) es) e w p.0 g)
 
     -- what is still due at the end of a round is nothing
-    over : (r : ℕ) (from to : Name) (f : List Message) → Due rank r from to 0 f → Later rank (suc r) from to f
+    over : (r : ℕ) (from to : Name) (f : List Message) → DueByRank rank r from to 0 f → Later rank (suc r) from to f
     over r from to f d = none d.old d.new (d.split) d.few d.later
       where
         none : (old new : List Message) → f ≡ old ++ new → length old ≤ 0 → Later rank (suc r) from to new → Later rank (suc r) from to f
         none [] new e few later = subst (Later rank (suc r) from to) (sym e) later
         none (m ∷ old) new e few later = absurd (omega (arith, few))
 
-    next_due : (r : ℕ) (from to : Name) (n : ℕ) (f : List Message) → length f ≤ n → Due rank r from to n f
+    next_due : (r : ℕ) (from to : Name) (n : ℕ) (f : List Message) → length f ≤ n → DueByRank rank r from to n f
     next_due r from to n f h = record { old = f; new = []; split = append_nil f; few = h; later = tt }
 
     -- what is in flight is less than what the round takes
     Enough : (Name → Name → ℕ) → Session → Type 0
     Enough more s = (length s.far.flight ≤ more s.far.name s.near.name) × (length s.near.flight ≤ more s.near.name s.far.name)
 
-    enough_each : (w : Network) (more : Name → Name → ℕ) → NoTwins (map nodes w.sessions) → ((from to : Name) → in_flight w from to ≤ more from to) → Each (Joined size) w.sessions → Each (Enough more) w.sessions
+    enough_each : (w : MachineState) (more : Name → Name → ℕ) → NoTwins (map nodes w.sessions) → ((from to : Name) → in_flight w from to ≤ more from to) → Each (Joined size) w.sessions → Each (Enough more) w.sessions
     unfolding Enough
     enough_each w more t h j = each_weaker (λ s. Joined size s × Found w.sessions s) (Enough more) (λ s c. (
       fewer (in_flight w s.far.name s.near.name) (length s.far.flight) (more s.far.name s.near.name)
@@ -376,7 +376,7 @@ module _ (size : Name → Message → ℕ) (positive : (n : Name) (m : Message) 
         fewer : (u m n : ℕ) → u ≡ m → u ≤ n → m ≤ n
         fewer u m n e h = omega (arith, e, h)
 
-    round_begins : (r : ℕ) (es : List Event) (w : Network) → GoingOn r nothing_left w → IsRound size w es → GoingOn (suc r) (λ from to. taken_of size from to w es) w
+    round_begins : (r : ℕ) (es : List MachineEvent) (w : MachineState) → GoingOn r nothing_left w → IsRound size w es → GoingOn (suc r) (λ from to. taken_of size from to w es) w
     unfolding Enough
     round_begins r es w g t =
         let ss = w.sessions in
@@ -400,7 +400,7 @@ module _ (size : Name → Message → ℕ) (positive : (n : Name) (m : Message) 
           },
         )
 
-    rounds_end : (r : ℕ) (rounds : List (List Event)) (w : Network) → GoingOn r nothing_left w → AreRounds size w rounds → GoingOn (r + length rounds) nothing_left (after_rounds size w rounds)
+    rounds_end : (r : ℕ) (rounds : List (List MachineEvent)) (w : MachineState) → GoingOn r nothing_left w → AreRounds size w rounds → GoingOn (r + length rounds) nothing_left (after_rounds size w rounds)
     rounds_end r [] w g a = subst (λ n. GoingOn n nothing_left w) (plus_none r) g
       where
         plus_none : (r : ℕ) → r ≡ r + 0
@@ -492,7 +492,7 @@ module _ (size : Name → Message → ℕ) (positive : (n : Name) (m : Message) 
         none : (m : ℕ) → 1 ≤ m → m ≤ 0 → ⊥
         none m h k = omega (arith, h, k)
 
-    pub settled_at_once : (w : Network) → map nodes w.sessions ≡ places → ((from to : Name) (k : Key) → rank from to k ≤ 0) → is_settled w ≡ true
+    pub settled_at_once : (w : MachineState) → map nodes w.sessions ≡ places → ((from to : Name) (k : Key) → rank from to k ≤ 0) → is_settled w ≡ true
     settled_at_once w e b = no_session w.sessions (fits_each w.sessions places e fits) b
 
     -- a state before its first round: nothing is known of it but the fact of every moment
@@ -503,7 +503,7 @@ module _ (size : Name → Message → ℕ) (positive : (n : Name) (m : Message) 
     later_zero from to (Keepalive ∷ f) h = (omega arith, later_zero from to f h)
     later_zero from to (Carries d ∷ f) h = (h (key_of d), later_zero from to f h)
 
-    first_round : (es : List Event) (w : Network) → w.setup ≡ x → map nodes w.sessions ≡ places → Each P w.sessions → AllHaveTold w → AreCalm size positive w → IsRound size w es → GoingOn 0 (λ from to. taken_of size from to w es) w
+    first_round : (es : List MachineEvent) (w : MachineState) → w.setup ≡ x → map nodes w.sessions ≡ places → Each P w.sessions → AllHaveTold w → AreCalm size positive w → IsRound size w es → GoingOn 0 (λ from to. taken_of size from to w es) w
     unfolding Enough
     first_round es w same e fair told o t =
         let ss = w.sessions in
@@ -529,7 +529,7 @@ module _ (size : Name → Message → ℕ) (positive : (n : Name) (m : Message) 
         )
 
     -- the bound: as many rounds as the greatest rank settle the network
-    pub settles : (es : List Event) (rounds : List (List Event)) (w : Network) → w.setup ≡ x → map nodes w.sessions ≡ places → Each P w.sessions → AllHaveTold w → AreCalm size positive w
+    pub settles : (es : List MachineEvent) (rounds : List (List MachineEvent)) (w : MachineState) → w.setup ≡ x → map nodes w.sessions ≡ places → Each P w.sessions → AllHaveTold w → AreCalm size positive w
         → AreRounds size w (es ∷ rounds) → ((from to : Name) (k : Key) → rank from to k ≤ suc (length rounds)) → is_settled (after_rounds size w (es ∷ rounds)) ≡ true
     settles es rounds w same e fair told o a b =
         let g = rounds_end 0 rounds (after size w es) (round_ends 0 es w a.0.deliveries (first_round es w same e fair told o a.0)) a.1 in
@@ -549,20 +549,20 @@ module _ (size : Name → Message → ℕ) (positive : (n : Name) (m : Message) 
         (and_from (waiting s == 0) (waiting (turned s) == 0) (and_parts (is_up s.near && is_up s.far) (waiting s == 0) q.0).1 q.1) (settled_quiet ss p.1)
 
     -- settled, after at most m rounds more than were done
-    abbrev SettledBy : ℕ → ℕ → ℕ × Network → Type 0
+    abbrev SettledBy : ℕ → ℕ → ℕ × MachineState → Type 0
     SettledBy m done r = (is_settled r.1 ≡ true) × (r.0 ≤ m + done)
 
     some : (m done : ℕ) → done ≤ suc m + done
     some m done = omega arith
 
-    later : (m done : ℕ) (r : ℕ × Network) → SettledBy m (done + 1) r → SettledBy (suc m) done r
+    later : (m done : ℕ) (r : ℕ × MachineState) → SettledBy m (done + 1) r → SettledBy (suc m) done r
     later m done r s = (s.0, one s.1)
       where
         one : r.0 ≤ m + (done + 1) → r.0 ≤ suc m + done
         one h = omega (arith, h)
 
     -- a settled state is left as it is
-    stops : (n done : ℕ) (w : Network) → is_settled w ≡ true → SettledBy 0 done (rounds_from n done w)
+    stops : (n done : ℕ) (w : MachineState) → is_settled w ≡ true → SettledBy 0 done (rounds_from n done w)
     stops zero done w e = (e, omega arith)
     stops (suc n) done w e = subst (λ q. SettledBy 0 done (cond q (done, w) (rounds_from n (done + 1) (round w)))) (sym (settled_quiet w.sessions e)) (e, omega arith)
 
@@ -577,14 +577,14 @@ module _ (size : Name → Message → ℕ) (positive : (n : Name) (m : Message) 
         and_from (is_rested s) (list_all is_rested ss) (quiet_rested s c.0.0 (none_waits s.far.flight s.near.notice c.0.0.near_notice (eqb-true (waiting s) 0 q.0)) (none_waits s.near.flight s.far.notice c.0.0.far_notice (eqb-true (waiting (turned s)) 0 q.1))) (quiet_settled ss c.1 p.1)
 
     -- a round from a state of which something is known
-    round_goes_on : (r : ℕ) (w : Network) → GoingOn r nothing_left w → GoingOn (suc r) nothing_left (round w)
+    round_goes_on : (r : ℕ) (w : MachineState) → GoingOn r nothing_left w → GoingOn (suc r) nothing_left (round w)
     round_goes_on r w g =
         let c = calm_on r nothing_left w g in
         let a = as_round size positive w c in
         subst (GoingOn (suc r) nothing_left) (sym (round_same size positive w c)) (round_ends (suc r) (as_deliveries size positive w) w a.deliveries (round_begins r (as_deliveries size positive w) w g a))
 
     -- at most m more rounds settle it
-    rounds_settle : (n m done r : ℕ) (w : Network) → GoingOn r nothing_left w → m ≤ n → ((from to : Name) (k : Key) → rank from to k ≤ suc (r + m)) → SettledBy m done (rounds_from n done w)
+    rounds_settle : (n m done r : ℕ) (w : MachineState) → GoingOn r nothing_left w → m ≤ n → ((from to : Name) (k : Key) → rank from to k ≤ suc (r + m)) → SettledBy m done (rounds_from n done w)
     rounds_settle n zero done r w g l b =
         stops n done w (all_rested r w.sessions (fits_each w.sessions places g.1.nodes_same fits) (λ from to k. none (rank from to k) (b from to k)) g.1.cores)
       where
@@ -603,16 +603,16 @@ module _ (size : Name → Message → ℕ) (positive : (n : Name) (m : Message) 
         fewer : suc m ≤ suc n → m ≤ n
         fewer l = omega (arith, l)
 
-    abbrev pub IsReady : Network → Type 0
+    abbrev pub IsReady : MachineState → Type 0
     IsReady w = (w.setup ≡ x) × (map nodes w.sessions ≡ places) × Each P w.sessions × AllHaveTold w
 
-    first_goes_on : (w : Network) → IsReady w → AreCalm size positive w → GoingOn 0 nothing_left (round w)
+    first_goes_on : (w : MachineState) → IsReady w → AreCalm size positive w → GoingOn 0 nothing_left (round w)
     first_goes_on w h c =
         let a = as_round size positive w c in
         subst (GoingOn 0 nothing_left) (sym (round_same size positive w c)) (round_ends 0 (as_deliveries size positive w) w a.deliveries (first_round (as_deliveries size positive w) w h.0 h.1 h.2 h.3 c a))
 
     -- rounds of the event `round`, until nothing is in flight
-    rounds_rest : (n m done : ℕ) (w : Network) → IsReady w → AreCalm size positive w → m ≤ n → ((from to : Name) (k : Key) → rank from to k ≤ m) → SettledBy m done (rounds_from n done w)
+    rounds_rest : (n m done : ℕ) (w : MachineState) → IsReady w → AreCalm size positive w → m ≤ n → ((from to : Name) (k : Key) → rank from to k ≤ m) → SettledBy m done (rounds_from n done w)
     rounds_rest n zero done w h c l b = stops n done w (settled_at_once w h.1 b)
     rounds_rest zero (suc m) done w h c l b = absurd (omega (arith, l))
     rounds_rest (suc n) (suc m) done w h c l b =
@@ -628,10 +628,10 @@ module _ (size : Name → Message → ℕ) (positive : (n : Name) (m : Message) 
         more i h = omega (arith, h)
 
     -- `settle` ends settled, with at most one round more than the greatest rank
-    pub settle_settles : (greatest : ℕ) (w : Network) → IsReady w → IsSound size positive w → greatest ≤ longest w.setup + 5 → ((from to : Name) (k : Key) → rank from to k ≤ greatest) → (is_settled (settle w).1 ≡ true) × ((settle w).0 ≤ greatest + 1)
+    pub settle_settles : (greatest : ℕ) (w : MachineState) → IsReady w → IsSound size positive w → greatest ≤ longest w.setup + 5 → ((from to : Name) (k : Key) → rank from to k ≤ greatest) → (is_settled (settle w).1 ≡ true) × ((settle w).0 ≤ greatest + 1)
     unfolding settle
     settle_settles greatest w h sound l b =
-        let u : Network = record { setup = w.setup; sessions = map without_breaks w.sessions } in
+        let u : MachineState = record { setup = w.setup; sessions = map without_breaks w.sessions } in
         let v = round u in
         let nodes_v : map nodes v.sessions ≡ places = round_nodes u ∙ map_nodes without_breaks (λ s. refl) w.sessions ∙ h.1 in
         let ready : IsReady (resumed w) = (

@@ -25,9 +25,9 @@ use Rattle.node_model.proofs.Orders.{key_total, key_exact}
 use Rattle.node_model.proofs.Local.{local_slices, local_of_agents}
 use Rattle.machine_model.specs.Setup.{Name, Move, Setup, agents_in, agents_of, checked, edited, edited_without, listed_by, lists, low, moves, opening, renumbered}
 use Rattle.machine_model.specs.Session.{Configuration, Controller, Agent, Message, Session, turned, is_up_phase}
-use Rattle.machine_model.specs.Network.{Network, AreNamed, config, start, view, views_of, sessions_of, seen_by, wanted, accesses, feeds, heard_from, holdings_of, peerings, told_on}
-use Rattle.machine_model.specs.Events.{Event, Edits, Deliver, DeliverOctets, Lose, Connect, Restart, Round, Settle, Show, Trace, Break, edits, next, after}
-use Rattle.machine_model.specs.Moments.{ArePositive, Each, EditIsValid, EditsAreValid, IsLaidOut, LaidOut, Nodes, nodes}
+use Rattle.machine_model.specs.Network.{MachineState, AreNamed, config, start, view, views_of, sessions_of, seen_by, wanted, accesses, feeds, heard_from, holdings_of, peerings, told_on}
+use Rattle.machine_model.specs.Events.{MachineEvent, Edits, Deliver, DeliverOctets, Lose, Connect, Restart, Round, Settle, Show, Trace, Break, edits, next, after}
+use Rattle.machine_model.specs.Moments.{ArePositive, Each, EditIsValid, EditsAreValid, IsLaidOut, LaidOut, NodePair, nodes}
 use Rattle.machine_settling_laws.specs.Settling.{FairMap, Fair, WantsFair, Rank, Goal, back, RanksFit, RightAt, WantAt, Steps, Ranked, SettlesIn, SettleSettlesIn}
 use Rattle.config_check.specs.Edits.{edit_fault, edited_topology}
 use Rattle.config_model.specs.declared.edit.Edit.TheVariants.{Put, Delete}
@@ -46,27 +46,27 @@ use Rattle.machine_settling_laws.proofs.RanksSettle.{ranks_settle, settle_settle
 use Rattle.node_model.proofs.Members.{none_some}
 
 -- ---- sessions with these nodes
-abbrev placed : Nodes → Session → Session
+abbrev placed : NodePair → Session → Session
 placed p s = record { is_down = s.is_down; near = record s.near { name = p.0.0; role = p.0.1 }; far = record s.far { name = p.1.0; role = p.1.1 } }
 
-is_placed : (p : Nodes) (s : Session) → nodes s ≡ p → s ≡ placed p s
+is_placed : (p : NodePair) (s : Session) → nodes s ≡ p → s ≡ placed p s
 is_placed p s e = λ i. record { is_down = s.is_down; near = record s.near { name = (e i).0.0; role = (e i).0.1 }; far = record s.far { name = (e i).1.0; role = (e i).1.1 } }
 
-abbrev feed : Nodes
+abbrev feed : NodePair
 feed = ((config, Configuration), (control_node, Controller))
 
-abbrev access : Nodes
+abbrev access : NodePair
 access = ((control_node, Controller), (compute_node, Agent))
 
-abbrev head_of : Nodes → List Nodes → Nodes
+abbrev head_of : NodePair → List NodePair → NodePair
 head_of d [] = d
 head_of d (p ∷ ps) = p
 
-abbrev rest_of : List Nodes → List Nodes
+abbrev rest_of : List NodePair → List NodePair
 rest_of [] = []
 rest_of (p ∷ ps) = ps
 
-abbrev has_two : List Nodes → Bool
+abbrev has_two : List NodePair → Bool
 has_two (p ∷ q ∷ []) = true
 has_two _ = false
 
@@ -323,7 +323,7 @@ module _ (asn : ℕ) (a b : Addr) (c : Config) where
       ] is
 
   module _ (size : Name → Message → ℕ) where
-    next_same : (w : Network) (e : Event) → LeavesNodes e → IsSame w.setup → IsSame (next size w e).setup
+    next_same : (w : MachineState) (e : MachineEvent) → LeavesNodes e → IsSame w.setup → IsSame (next size w e).setup
     next_same w e l q = next_walk size (Holds (λ y ps. IsSame y)) (holds_steps size (λ y ps. IsSame y)) w e (λ d is _. edit d (subst LeavesNodes is l)) q
       where
         edit : (d : Edit) → LeavesNodes (Edits d) → IsSame (edits (moves d w.setup.topology) (edited w.setup d) w).setup
@@ -333,11 +333,11 @@ module _ (asn : ℕ) (a b : Addr) (c : Config) where
               | Some z ↦ λ is. subst IsSame (sym (moved_setup (moves d w.setup.topology) (record { setup = z; sessions = w.sessions }))) (same_edit w.setup z d l is q)
             ] refl
 
-    after_same : (w : Network) (es : List Event) → AllByRecursion LeavesNodes es → IsSame w.setup → IsSame (after size w es).setup
+    after_same : (w : MachineState) (es : List MachineEvent) → AllByRecursion LeavesNodes es → IsSame w.setup → IsSame (after size w es).setup
     after_same w [] l q = q
     after_same w (e ∷ es) l q = after_same (next size w e) es l.1 (next_same w e l.0 q)
 
-    edit_is : (P : Setup → Type 0) → ((y : Setup) → IsSame y → P y) → (w : Network) (e : Event) → LeavesNodes e → IsSame w.setup → EditIsValid P w e
+    edit_is : (P : Setup → Type 0) → ((y : Setup) → IsSame y → P y) → (w : MachineState) (e : MachineEvent) → LeavesNodes e → IsSame w.setup → EditIsValid P w e
     edit_is P h w (Edits d) l q = λ y is. h y (same_edit w.setup y d l is q)
     edit_is P h w (Deliver a b n) l q = tt
     edit_is P h w (DeliverOctets a b n) l q = tt
@@ -350,12 +350,12 @@ module _ (asn : ℕ) (a b : Addr) (c : Config) where
     edit_is P h w (Trace p) l q = tt
     edit_is P h w (Break a b n) l q = tt
 
-    edits_are : (P : Setup → Type 0) → ((y : Setup) → IsSame y → P y) → (w : Network) (es : List Event) → AllByRecursion LeavesNodes es → IsSame w.setup → EditsAreValid size P w es
+    edits_are : (P : Setup → Type 0) → ((y : Setup) → IsSame y → P y) → (w : MachineState) (es : List MachineEvent) → AllByRecursion LeavesNodes es → IsSame w.setup → EditsAreValid size P w es
     edits_are P h w [] l q = tt
     edits_are P h w (e ∷ es) l q = (edit_is P h w e l.0 q, edits_are P h (next size w e) es l.1 (next_same w e l.0 q))
 
-    module _ (positive : ArePositive size) (es : List Event) (leave : AllByRecursion LeavesNodes es) where
-      abbrev now : Network
+    module _ (positive : ArePositive size) (es : List MachineEvent) (leave : AllByRecursion LeavesNodes es) where
+      abbrev now : MachineState
       now = after size (start first) es
 
       laid_edits : EditsAreValid size LaidOut (start first) es
@@ -368,7 +368,7 @@ module _ (asn : ℕ) (a b : Addr) (c : Config) where
       places = (sessions_are_asked size positive first laid_first es laid_edits).1 ∙ ap (λ (t : Topology). map nodes (feeds t.controllers ++ peerings t.controllers ++ accesses t.controllers t.nodes)) now_same.0
 
       ranked : Ranked 4 (Fair (λ p q k v. true ≡ true)) (map nodes now.sessions) now.setup
-      ranked = subst (λ (ps : List Nodes). Ranked 4 (Fair (λ p q k v. true ≡ true)) ps now.setup) (sym places) (small_ranked now.setup (valid_same now.setup now_same) (Fair (λ p q k v. true ≡ true)))
+      ranked = subst (λ (ps : List NodePair). Ranked 4 (Fair (λ p q k v. true ≡ true)) ps now.setup) (sym places) (small_ranked now.setup (valid_same now.setup now_same) (Fair (λ p q k v. true ≡ true)))
 
       valid_edits : EditsAreValid size (λ y. valid y ≡ true) (start first) es
       valid_edits = edits_are (λ y. valid y ≡ true) valid_same (start first) es leave (refl, refl)

@@ -11,32 +11,32 @@ use Rattle.node_model.specs.Maps.{Map}
 use Rattle.machine_model.specs.Setup.{Name, Setup, longest, opening}
 use Rattle.machine_model.specs.Session.{Role, Message, Open, Keepalive, Hello, Carries, Session, turned, is_up_phase}
 use Rattle.machine_model.specs.Session.{are_peers}
-use Rattle.machine_model.specs.Network.{Network, start, wanted, view, views_of, sessions_of}
+use Rattle.machine_model.specs.Network.{MachineState, start, wanted, view, views_of, sessions_of}
 use Rattle.machine_model.specs.Steps.{is_settled, settle}
-use Rattle.machine_model.specs.Events.{Event, after}
+use Rattle.machine_model.specs.Events.{MachineEvent, after}
 use Rattle.machine_model.specs.Rounds.{AreRounds, after_rounds, is_unbroken, is_whole}
-use Rattle.machine_model.specs.Moments.{ArePositive, Each, EditsAreValid, IsLaidOut, LaidOut, Nodes, nodes}
+use Rattle.machine_model.specs.Moments.{ArePositive, Each, EditsAreValid, IsLaidOut, LaidOut, NodePair, nodes}
 
 -- ---- what may be told
-abbrev pub Node : Type 0
-Node = Name × Role
+abbrev pub NodeWithRole : Type 0
+NodeWithRole = Name × Role
 
 -- what is fair for one node to tell another, by their names and roles. All that is held or in flight is
-module _ (fair : Node → Node → Key → Value → Type 0) where
-  abbrev pub FairMap : Node → Node → Map → Type 0
+module _ (fair : NodeWithRole → NodeWithRole → Key → Value → Type 0) where
+  abbrev pub FairMap : NodeWithRole → NodeWithRole → Map → Type 0
   FairMap from to m = Values {R = key_cmp} (fair from to) m
 
-  abbrev pub FairMessage : Node → Node → Message → Type 0
+  abbrev pub FairMessage : NodeWithRole → NodeWithRole → Message → Type 0
   FairMessage from to (Carries d) = PutOf (fair from to) d
   FairMessage from to Open = Unit {0}
   FairMessage from to Keepalive = Unit {0}
   FairMessage from to Hello = Unit {0}
 
-  abbrev pub FairMessages : Node → Node → List Message → Type 0
+  abbrev pub FairMessages : NodeWithRole → NodeWithRole → List Message → Type 0
   FairMessages from to f = AllByRecursion (FairMessage from to) f
 
   -- on a session with these nodes
-  pub record FairAt (p : Nodes) (s : Session) : Type 0 where
+  pub record FairAt (p : NodePair) (s : Session) : Type 0 where
     pub near_held : FairMap p.1 p.0 s.near.held
     pub far_held : FairMap p.0 p.1 s.far.held
     pub near_flight : FairMessages p.0 p.1 s.near.flight
@@ -59,17 +59,17 @@ Rank = Name → Name → Key → ℕ
 abbrev pub Goal : Type 0
 Goal = Name → Name → Key → Option Value
 
-abbrev pub back : Nodes → Nodes
+abbrev pub back : NodePair → NodePair
 back p = (p.1, p.0)
 
 -- every rank is at least 1, and between control nodes at least 3, since their greetings come first
-abbrev pub RanksFit : Rank → Nodes → Type 0
+abbrev pub RanksFit : Rank → NodePair → Type 0
 RanksFit rank p =
     ((k : Key) → 1 ≤ rank p.1.0 p.0.0 k) × (are_peers p.0.1 p.1.1 ≡ true → (k : Key) → 3 ≤ rank p.1.0 p.0.0 k)
 
 module _ (rank : Rank) (goal : Goal) where
   -- what is held is right up to a rank
-  pub record Right (p : Nodes) (r : ℕ) (s : Session) : Type 0 where
+  pub record Right (p : NodePair) (r : ℕ) (s : Session) : Type 0 where
     pub held : (k : Key) → rank p.1.0 p.0.0 k ≤ r → get s.near.held k ≡ goal p.1.0 p.0.0 k
     pub up : 1 ≤ r → are_peers p.0.1 p.1.1 ≡ false → is_up_phase s.near.phase ≡ true
 
@@ -83,14 +83,14 @@ module _ (rank : Rank) (goal : Goal) where
       → get (wanted x (views_of n ss) (view s)) k ≡ goal s.near.name s.far.name k
 
   -- where all that is held is right up to a rank, and is as P says, all that is wanted is right up to the next
-  abbrev pub Steps : Setup → List Nodes → (Session → Type 0) → Type 0
+  abbrev pub Steps : Setup → List NodePair → (Session → Type 0) → Type 0
   Steps x places P =
       (ss : List Session) (r : ℕ) → map nodes ss ≡ places → Each P ss
       → Each (λ s. RightAt r s × RightAt r (turned s)) ss
       → (n : Name) → Each (WantAt x ss n (suc r)) (sessions_of n ss)
 
 -- ranks for the configuration of a moment, none above the greatest
-pub record Ranked (greatest : ℕ) (P : Session → Type 0) (places : List Nodes) (x : Setup) : Type 0 where
+pub record Ranked (greatest : ℕ) (P : Session → Type 0) (places : List NodePair) (x : Setup) : Type 0 where
   pub rank : Rank
   pub goal : Goal
   pub steps : Steps rank goal x places P
@@ -99,9 +99,9 @@ pub record Ranked (greatest : ℕ) (P : Session → Type 0) (places : List Nodes
 
 -- ---- settling
 -- where no session is down and no break is pending, so many rounds of deliveries, or more, end settled
-abbrev pub SettlesIn : ℕ → (Name → Message → ℕ) → Network → Type 0
+abbrev pub SettlesIn : ℕ → (Name → Message → ℕ) → MachineState → Type 0
 SettlesIn greatest size w =
-    (rounds : List (List Event)) → is_whole w ≡ true → is_unbroken w ≡ true
+    (rounds : List (List MachineEvent)) → is_whole w ≡ true → is_unbroken w ≡ true
     → greatest ≤ length rounds → AreRounds size w rounds
     → is_settled (after_rounds size w rounds) ≡ true
 
@@ -114,21 +114,21 @@ pub record IsCalmed (s : Session) : Type 0 where
   pub far_breaks : s.far.breaks ≡ []
 
 -- `settle` ends settled, with at most one round more, where it has as many rounds
-abbrev pub SettleSettlesIn : ℕ → Network → Type 0
+abbrev pub SettleSettlesIn : ℕ → MachineState → Type 0
 SettleSettlesIn greatest w =
     greatest ≤ longest w.setup + 5
     → (is_settled (settle w).1 ≡ true) × ((settle w).0 ≤ greatest + 1)
 
 -- from each moment of each schedule whose configuration has such ranks. Which configurations are valid, and what is
 -- fair, is for the caller to choose
-abbrev pub WhereRanked : (ℕ → (Name → Message → ℕ) → Network → Type 0) → Type 0
+abbrev pub WhereRanked : (ℕ → (Name → Message → ℕ) → MachineState → Type 0) → Type 0
 WhereRanked Settles =
     (size : Name → Message → ℕ) → ArePositive size
     → (x : Checked) → IsLaidOut x.topology
     → (valid : Setup → Bool) → valid (opening x) ≡ true
-    → (fair : Node → Node → Key → Value → Bool)
+    → (fair : NodeWithRole → NodeWithRole → Key → Value → Bool)
     → WantsFair (λ p q k v. fair p q k v ≡ true) (λ y. valid y ≡ true)
-    → (es : List Event) → EditsAreValid size LaidOut (start x) es → EditsAreValid size (λ y. valid y ≡ true) (start x) es
+    → (es : List MachineEvent) → EditsAreValid size LaidOut (start x) es → EditsAreValid size (λ y. valid y ≡ true) (start x) es
     → (greatest : ℕ)
     → Ranked greatest (Fair (λ p q k v. fair p q k v ≡ true)) (map nodes (after size (start x) es).sessions)
     (after size (start x) es).setup

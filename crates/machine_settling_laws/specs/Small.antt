@@ -7,7 +7,7 @@ use Rattle.config_model.specs.declared.edit.Edit.TheVariants.{Put, Delete}
 use Rattle.config_model.specs.declared.edit.Object.TheVariants as objects
 use Rattle.config_model.specs.declared.edit.ObjectKind.TheVariants as kinds
 use Rattle.machine_model.specs.Setup.{Name}
-use Rattle.machine_model.specs.Events.{Event, Edits}
+use Rattle.machine_model.specs.Events.{MachineEvent, Edits}
 
 -- c1 and n1
 abbrev pub control_node : Name
@@ -28,7 +28,7 @@ small asn control compute config = record {
 }
 
 -- an event that puts and deletes no compute node
-abbrev pub LeavesNodes : Event → Type 0
+abbrev pub LeavesNodes : MachineEvent → Type 0
 LeavesNodes (Edits (Put (objects.Node n))) = ⊥
 LeavesNodes (Edits (Delete kinds.Node name)) = ⊥
 LeavesNodes _ = Unit {0}

@@ -7,7 +7,7 @@ ghost use Rattle.machine_model.specs.Setup.{Name};
 ghost use Rattle.machine_model.specs.Session.{Message};
 ghost use Rattle.machine_model.specs.Network.{start};
 ghost use Rattle.machine_model.specs.Steps.{resumed};
-ghost use Rattle.machine_model.specs.Events.{Event, after};
+ghost use Rattle.machine_model.specs.Events.{MachineEvent, after};
 ghost use Rattle.machine_model.specs.Moments.{ArePositive, Each, WhereLaidOut};
 ghost use Rattle.machine_settling_laws.specs.Settling.{IsCalmed, SettleSettlesIn, SettlesIn, WhereRanked};
 ghost use Rattle.machine_settling_laws.specs.Small.{LeavesNodes, small};
@@ -35,9 +35,9 @@ pub fn settle_settles()
 /// configuration is and whatever came before, but for compute nodes that were put or deleted.
 pub fn the_least_network_settles()
     ensures rounds { (size : Name → Message → ℕ) → ArePositive size
-        → (asn : ℕ) (control compute : Addr) (config : Config) (es : List Event)
+        → (asn : ℕ) (control compute : Addr) (config : Config) (es : List MachineEvent)
         → AllByRecursion LeavesNodes es → SettlesIn 4 size (after size (start (small asn control compute config)) es) }
     ensures settle { (size : Name → Message → ℕ) → ArePositive size
-        → (asn : ℕ) (control compute : Addr) (config : Config) (es : List Event)
+        → (asn : ℕ) (control compute : Addr) (config : Config) (es : List MachineEvent)
         → AllByRecursion LeavesNodes es → SettleSettlesIn 4 (after size (start (small asn control compute config)) es) }
 {}

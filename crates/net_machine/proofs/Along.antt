@@ -6,7 +6,7 @@ use Rattle.std.specs.Option.{option_to_list}
 use Rattle.std.specs.List.{cons_option, list_all}
 use Rattle.std.proofs.Common.{refl, ◌∙◌, ap, arith, get_or}
 use Rattle.std.proofs.lemmas.List.{append-nil, append_assoc, at_drop_more, drop_all}
-use Rattle.transform_model.specs.Uses.{Use}
+use Rattle.transform_model.specs.Uses.{ConfiguredUse}
 use Rattle.machine_model.specs.Setup.{longest_of}
 use Rattle.net_machine.specs.declared.ends.SessionEnds.{SessionEnds}
 use Rattle.net_machine.specs.Longest.{services_in}
@@ -53,12 +53,12 @@ one_more xs None ys = ap (λ zs. zs ++ ys) (append-nil xs)
 one_more xs (Some x) ys = append_assoc xs (x ∷ []) ys
 
 -- ---- the longest use
-pub longest_more : (o : Option Use) (us : List Use) (m n : ℕ) → n ≡ max (services_in o) m
+pub longest_more : (o : Option ConfiguredUse) (us : List ConfiguredUse) (m n : ℕ) → n ≡ max (services_in o) m
     → max n (longest_of us) ≡ max m (longest_of (cons_option o us))
 longest_more None us m n e = omega (arith, e)
 longest_more (Some u) us m n e = omega (arith, e)
 
-pub longest_both : (us vs : List Use) (m n : ℕ) → n ≡ max (longest_of us) m
+pub longest_both : (us vs : List ConfiguredUse) (m n : ℕ) → n ≡ max (longest_of us) m
     → max n (longest_of vs) ≡ max m (longest_of (us ++ vs))
 longest_both [] vs m n e = omega (arith, e)
 longest_both (u ∷ us) vs m n e =

@@ -27,7 +27,7 @@ use Rattle.config_model.specs.declared.topology.Topology.{Topology}
 use Rattle.machine_compiled_laws.specs.Setups.{IsNamed}
 use Rattle.headline_laws.specs.Headline.{IsWritten}
 use Rattle.headline_laws.proofs.Written.{none_broken}
-use Rattle.machine_model.specs.Network.{Network}
+use Rattle.machine_model.specs.Network.{MachineState}
 use Rattle.machine_model.specs.Session.{Agent, Configuration, Controller}
 use Rattle.machine_model.specs.Setup.{Move, Name, Setup, checked, id_of, listed_by, lists, moves}
 use Rattle.machine_model.proofs.Changing.{MoverIs, Moves, renews}
@@ -168,7 +168,7 @@ differ_of [] a = tt
 differ_of (c ∷ cs) a = (differs c cs a.0, differ_of cs a.1)
 
 -- ---- at a moment
-module _ (w : Network) (m : IsMoment w) (seats : List Seat) (stands : StandsFor seats w) where
+module _ (w : MachineState) (m : IsMoment w) (seats : List Seat) (stands : StandsFor seats w) where
   written : IsWritten w.setup
   written = moment_written w m
 
@@ -338,7 +338,7 @@ module _ (w : Network) (m : IsMoment w) (seats : List Seat) (stands : StandsFor 
       comes = comes_there move is;
     }
 
-pub can_happen : (w : Network) → IsMoment w → (seats : List Seat) → StandsFor seats w → (e : Event)
+pub can_happen : (w : MachineState) → IsMoment w → (seats : List Seat) → StandsFor seats w → (e : Event)
     → IsTrue (has_event_form e) → CanHappen (checked w.setup) e seats
 can_happen w m seats stands (event.Edit d) form = λ none.
     can_move w m seats stands d (edit_form d form) none (moves d w.setup.topology) refl

@@ -6,10 +6,10 @@ use Rattle.std.proofs.Common.{refl, sym, ◌∙◌, ap, subst}
 use Rattle.ov_types.specs.First.{same_name}
 use Rattle.machine_model.specs.Setup.{Name}
 use Rattle.machine_model.specs.Session.{Session}
-use Rattle.machine_model.specs.Network.{Network}
+use Rattle.machine_model.specs.Network.{MachineState}
 use Rattle.machine_model.specs.Steps.{connect_all, connect_if, joins}
 use Rattle.machine_model.specs.Events.{Connect, is_earlier, next}
-use Rattle.machine_model.specs.Moments.{Nodes, nodes}
+use Rattle.machine_model.specs.Moments.{NodePair, nodes}
 use Rattle.machine_model.proofs.NodesFact.{connect_if_nodes}
 use Rattle.running_model.specs.Seats.{Seat}
 use Rattle.running_model.specs.Stands.{message_size}
@@ -22,7 +22,7 @@ use Rattle.net_machine.proofs.Facts.{At, Facts, IsStood}
 use Rattle.net_machine.proofs.Kept.{among_kept, ends_of_kept, keeps_all, keeps_both}
 
 -- ---- which of two nodes comes first goes by names alone
-abbrev pub earlier_of : List Nodes → Name → Name → Bool
+abbrev pub earlier_of : List NodePair → Name → Name → Bool
 earlier_of [] a b = true
 earlier_of (p ∷ ps) a b =
     cond (same_name p.0.0 a && same_name p.1.0 b) true
@@ -51,18 +51,18 @@ other_earlier (s ∷ ss) a b e =
     ] e
 
 -- a session that may be connected, by its two names
-pub record IsNext (seats : List Seat) (w : Network) (s : Session) : Type 0 where
+pub record IsNext (seats : List Seat) (w : MachineState) (s : Session) : Type 0 where
   pub ends : SessionEnds
   pub are : ends_of seats s.near.name s.far.name ≡ Some ends
   pub earlier : is_earlier w.sessions s.near.name s.far.name ≡ true
 
-pub are_next : (seats : List Seat) (w : Network) (ss : List Session) → AllByRecursion (IsStood seats w) ss
+pub are_next : (seats : List Seat) (w : MachineState) (ss : List Session) → AllByRecursion (IsStood seats w) ss
     → AllByRecursion (IsNext seats w) ss
 are_next seats w [] all = tt
 are_next seats w (s ∷ ss) all =
     (record { ends = all.0.ends; are = all.0.are; earlier = all.0.earlier }, are_next seats w ss all.1)
 
-next_kept : (seats after : List Seat) (w v : Network) (ss : List Session) → Keeps seats after
+next_kept : (seats after : List Seat) (w v : MachineState) (ss : List Session) → Keeps seats after
     → map nodes v.sessions ≡ map nodes w.sessions → AllByRecursion (IsNext seats w) ss → AllByRecursion (IsNext after v) ss
 next_kept seats after w v [] k e all = tt
 next_kept seats after w v (s ∷ ss) k e all = (
@@ -74,13 +74,13 @@ next_kept seats after w v (s ∷ ss) k e all = (
   next_kept seats after w v ss k e all.1,
 )
 
-module _ (M : Network → Type 0) (f : Facts M) where
-  one_connection : (w : Network) (a b : Name) → is_earlier w.sessions a b ≡ true
+module _ (M : MachineState → Type 0) (f : Facts M) where
+  one_connection : (w : MachineState) (a b : Name) → is_earlier w.sessions a b ≡ true
       → next message_size w (Connect a b) ≡ connect_if a b w
   unfolding next
   one_connection w a b e = ap (λ c. cond c (connect_if a b w) (connect_if b a w)) e
 
-  pub one_connected : (seats after : List Seat) (w : Network) (a b : Name) (e : SessionEnds) → At M seats w
+  pub one_connected : (seats after : List Seat) (w : MachineState) (a b : Name) (e : SessionEnds) → At M seats w
       → is_earlier w.sessions a b ≡ true → ends_of seats a b ≡ Some e → Connects seats e after
       → At M after (connect_if a b w)
   one_connected seats after w a b e h first is c = record {
@@ -88,7 +88,7 @@ module _ (M : Network → Type 0) (f : Facts M) where
     stands = f.connects seats after w a b e h.moment h.stands first is c;
   }
 
-  pub all_connected : (ss : List Session) (seats after : List Seat) (w : Network) (es : List SessionEnds) → At M seats w
+  pub all_connected : (ss : List Session) (seats after : List Seat) (w : MachineState) (es : List SessionEnds) → At M seats w
       → AllByRecursion (IsNext seats w) ss → es ≡ order_among seats ss → ConnectsAll es seats after
       → Keeps seats after × At M after (connect_all ss w)
   all_connected [] seats after w es h all same c =

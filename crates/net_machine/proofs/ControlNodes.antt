@@ -14,7 +14,7 @@ use Rattle.node_model.proofs.Members.{any_in, from_any, in_map, none_some}
 use Rattle.control_node.specs.Core.{Core, holdings}
 use Rattle.running_model.specs.Controls.{Controls}
 use Rattle.control_quiet_laws.specs.Quiet.{SameButQuiet}
-use Rattle.machine_model.specs.Network.{Network, config}
+use Rattle.machine_model.specs.Network.{MachineState, config}
 use Rattle.machine_model.specs.Setup.{Name, checked}
 use Rattle.machine_model.proofs.Apart.{NamesApart}
 use Rattle.machine_compiled_laws.specs.Setups.{IsNamed}
@@ -36,7 +36,7 @@ use Rattle.running_telling_laws.proofs.Moments.{moment_numbers, moment_sessions,
 use Rattle.net_machine.specs.Looking.{held_at, is_control_node}
 
 -- what is found by a name, or nothing, is what the control node of that name holds
-pub record Finds (w : Network) (name : Name) (held : Option Holdings) : Type 0 where
+pub record Finds (w : MachineState) (name : Name) (held : Option Holdings) : Type 0 where
   pub is : is_some held ≡ is_control_node w.setup.topology name
   pub holds : IfSome held (λ h. h ≡ held_at w name)
 
@@ -44,7 +44,7 @@ false_when : (b : Bool) → (b ≡ true → ⊥) → b ≡ false
 false_when true h = absurd (h refl)
 false_when false h = refl
 
-module _ (w : Network) (m : IsMoment w) (seats : List Seat) (stands : StandsFor seats w) where
+module _ (w : MachineState) (m : IsMoment w) (seats : List Seat) (stands : StandsFor seats w) where
   written : IsWritten w.setup
   written = moment_written w m
 
@@ -134,7 +134,7 @@ copied_some (Some x) = refl
 abbrev pub held_of : Core → Holdings
 held_of c = holdings c.plan c.posts
 
-pub core_is : (w : Network) (name : Name) (core : Option Core) (held : Option Holdings) → HoldsAs core held
+pub core_is : (w : MachineState) (name : Name) (core : Option Core) (held : Option Holdings) → HoldsAs core held
     → Finds w name held
     → (is_some core ≡ is_control_node w.setup.topology name) × IfSome core (λ c. SameButQuiet (held_of c) (held_at w name))
 core_is w name None None e f = (f.is, tt)
@@ -142,7 +142,7 @@ core_is w name None (Some h) e f = absurd e
 core_is w name (Some c) None e f = absurd e
 core_is w name (Some c) (Some h) e f = (f.is, subst (SameButQuiet (held_of c)) f.holds e.1)
 
-pub core_exact : (w : Network) (name : Name) (core : Option Core) (held : Option Holdings) → HoldsAs core held
+pub core_exact : (w : MachineState) (name : Name) (core : Option Core) (held : Option Holdings) → HoldsAs core held
     → Finds w name held → IfSome core (λ c. present c ≡ held_at w name)
 core_exact w name None None e f = tt
 core_exact w name None (Some h) e f = absurd e

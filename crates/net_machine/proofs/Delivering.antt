@@ -6,7 +6,7 @@ use Rattle.std.specs.Option.{option_map, unwrap_or}
 use Rattle.std.proofs.Common.{refl, sym, ◌∙◌, ap, subst}
 use Rattle.machine_model.specs.Setup.{Name}
 use Rattle.machine_model.specs.Session.{Session}
-use Rattle.machine_model.specs.Network.{Network}
+use Rattle.machine_model.specs.Network.{MachineState}
 use Rattle.machine_model.specs.Steps.{Due as Waiting, deliver, deliver_all, deliver_due, notice_stands, repeat}
 use Rattle.machine_model.specs.Events.{Deliver, DeliverOctets, next}
 use Rattle.running_model.specs.Seats.{Seat, notice_at}
@@ -20,7 +20,7 @@ use Rattle.net_machine.proofs.Carried.{delivers_keeps, due_keeps, dues_keeps, fo
 use Rattle.net_machine.proofs.Facts.{At, Facts}
 use Rattle.net_machine.proofs.Kept.{ends_of_kept, keeps_all, keeps_both}
 
-one_delivery : (w : Network) (from to : Name) → next message_size w (Deliver from to 1) ≡ deliver from to w
+one_delivery : (w : MachineState) (from to : Name) → next message_size w (Deliver from to 1) ≡ deliver from to w
 unfolding next
 one_delivery w from to = refl
 
@@ -50,23 +50,23 @@ are_due_kept seats after (d ∷ ds) [] k h = h
 are_due_kept seats after (d ∷ ds) (m ∷ ms) k h =
     (due_kept seats after d m k h.0, are_due_kept seats after ds ms k h.1)
 
-module _ (M : Network → Type 0) (f : Facts M) where
-  pub stays : (seats after : List Seat) (w : Network) → after ≡ seats → At M seats w → At M after w
+module _ (M : MachineState → Type 0) (f : Facts M) where
+  pub stays : (seats after : List Seat) (w : MachineState) → after ≡ seats → At M seats w → At M after w
   stays seats after w e h = subst (λ s. At M s w) (sym e) h
 
-  pub ends_here : (seats : List Seat) (w : Network) (a b : Name) (e : SessionEnds) → At M seats w
+  pub ends_here : (seats : List Seat) (w : MachineState) (a b : Name) (e : SessionEnds) → At M seats w
       → ends_of seats a b ≡ Some e → AreSeated seats e
   ends_here seats w a b e h is = found_seated seats a b e h.stands.seats_are.long is
 
   -- ---- up to so many
-  one_delivered : (seats after : List Seat) (w : Network) (from to : Name) (e : SessionEnds) → At M seats w
+  one_delivered : (seats after : List Seat) (w : MachineState) (from to : Name) (e : SessionEnds) → At M seats w
       → ends_of seats to from ≡ Some e → Delivers seats e after → At M after (deliver from to w)
   one_delivered seats after w from to e h is d = record {
     moment = subst M (one_delivery w from to) (f.next w (Deliver from to 1) tt h.moment);
     stands = f.delivers seats after w from to e h.moment h.stands is d;
   }
 
-  pub many_delivered : (n : ℕ) (seats after : List Seat) (w : Network) (from to : Name) (e : SessionEnds) → At M seats w
+  pub many_delivered : (n : ℕ) (seats after : List Seat) (w : MachineState) (from to : Name) (e : SessionEnds) → At M seats w
       → ends_of seats to from ≡ Some e → DeliversMany n seats e after → At M after (repeat n (deliver from to) w)
   many_delivered zero seats after w from to e h is d = stays seats after w d h
   many_delivered (suc n) seats after w from to e h is (between, one, rest) =
@@ -75,7 +75,7 @@ module _ (M : Network → Type 0) (f : Facts M) where
       (ends_of_kept seats between to from k ∙ is) rest
 
   -- ---- octets
-  pub octets_delivered : (seats after : List Seat) (w : Network) (from to : Name) (e : SessionEnds) (n : ℕ) → At M seats w
+  pub octets_delivered : (seats after : List Seat) (w : MachineState) (from to : Name) (e : SessionEnds) (n : ℕ) → At M seats w
       → ends_of seats to from ≡ Some e → 0 < n → DeliversOctets seats e n after
       → At M after (next message_size w (DeliverOctets from to n))
   unfolding next
@@ -85,18 +85,18 @@ module _ (M : Network → Type 0) (f : Facts M) where
   }
 
   -- ---- in a round
-  notice_there : (seats : List Seat) (w : Network) (d : Due) (m : Waiting) → At M seats w → IsDue seats d m
+  notice_there : (seats : List Seat) (w : MachineState) (d : Due) (m : Waiting) → At M seats w → IsDue seats d m
       → notice_stands w m ≡ notice_at seats d.ends.near
   notice_there seats w d m h is =
       let s = f.says seats w m.to m.from d.ends h.moment h.stands is.ends in
       ap (λ o. unwrap_or (option_map (λ (s : Session). s.near.notice) o) false) s.found ∙ sym s.says.has_notice
 
-  where_delivered : (b : Bool) (seats after : List Seat) (w : Network) (d : Due) (m : Waiting) → At M seats w
+  where_delivered : (b : Bool) (seats after : List Seat) (w : MachineState) (d : Due) (m : Waiting) → At M seats w
       → IsDue seats d m → DeliversWhere b d seats after → At M after (cond b (deliver m.from m.to w) w)
   where_delivered true seats after w d m h is one = one_delivered seats after w m.from m.to d.ends h is.ends one
   where_delivered false seats after w d m h is one = stays seats after w one h
 
-  due_delivered : (seats after : List Seat) (w : Network) (d : Due) (m : Waiting) → At M seats w → IsDue seats d m
+  due_delivered : (seats after : List Seat) (w : MachineState) (d : Due) (m : Waiting) → At M seats w → IsDue seats d m
       → DeliversDue d seats after → At M after (deliver_due m w)
   due_delivered seats after w d m h is one =
       let same : beq (notice_stands w m) m.is_notice ≡ beq (notice_at seats d.ends.near) d.is_notice =
@@ -104,7 +104,7 @@ module _ (M : Network → Type 0) (f : Facts M) where
       subst (λ b. At M after (cond b (deliver m.from m.to w) w)) (sym same)
       (where_delivered (beq (notice_at seats d.ends.near) d.is_notice) seats after w d m h is one)
 
-  dues_delivered : (n : ℕ) (seats after : List Seat) (w : Network) (d : Due) (m : Waiting) → At M seats w → IsDue seats d m
+  dues_delivered : (n : ℕ) (seats after : List Seat) (w : MachineState) (d : Due) (m : Waiting) → At M seats w → IsDue seats d m
       → DeliversDues n d seats after → At M after (repeat n (deliver_due m) w)
   dues_delivered zero seats after w d m h is all = stays seats after w all h
   dues_delivered (suc n) seats after w d m h is (between, one, rest) =
@@ -112,7 +112,7 @@ module _ (M : Network → Type 0) (f : Facts M) where
       dues_delivered n between after (deliver_due m w) d m (due_delivered seats between w d m h is one)
       (due_kept seats between d m k is) rest
 
-  pub all_delivered : (ds : List Due) (ms : List Waiting) (seats after : List Seat) (w : Network) → At M seats w
+  pub all_delivered : (ds : List Due) (ms : List Waiting) (seats after : List Seat) (w : MachineState) → At M seats w
       → AreDue seats ds ms → DeliversAll ds seats after → Keeps seats after × At M after (deliver_all ms w)
   all_delivered [] [] seats after w h is all =
       (subst (Keeps seats) (sym all) (keeps_all seats h.stands.seats_are.long), stays seats after w all h)

@@ -9,11 +9,11 @@ use Rattle.config_check.specs.Edits.{edit_fault}
 use Rattle.machine_model.specs.Setup.{Name, checked}
 use Rattle.machine_model.specs.Session as session
 use Rattle.machine_model.specs.Session.{Session}
-use Rattle.machine_model.specs.Network.{Network}
+use Rattle.machine_model.specs.Network.{MachineState}
 use Rattle.machine_model.specs.Steps as steps
 use Rattle.machine_model.specs.Steps.{connect_if, deliver, deliver_octets, session_of}
 use Rattle.machine_model.specs.Events as events
-use Rattle.machine_model.specs.Events.{Event, Break, DeliverOctets, Edits as Changes, Lose, Restart, forwarders, is_node}
+use Rattle.machine_model.specs.Events.{MachineEvent, Break, DeliverOctets, Edits as Changes, Lose, Restart, forwarders, is_node}
 use Rattle.machine_model.specs.Events.{next, shown}
 use Rattle.running_model.specs.Seats.{Seat, notice_at, seat, seat_named}
 use Rattle.running_model.specs.Stands.{StandsFor, message_size}
@@ -37,13 +37,13 @@ pub record Says (seats : List Seat) (e : SessionEnds) (s : Session) : Type 0 whe
   pub may : may_connect seats e ≡ steps.may_connect s
   pub rests : is_rested seats e ≡ steps.is_rested s
 
-pub record SaysOf (seats : List Seat) (w : Network) (a b : Name) (e : SessionEnds) : Type 0 where
+pub record SaysOf (seats : List Seat) (w : MachineState) (a b : Name) (e : SessionEnds) : Type 0 where
   pub session : Session
   pub found : session_of w a b ≡ Some session
   pub says : Says seats e session
 
 -- a session among all has its two ends, by which it is found
-pub record IsStood (seats : List Seat) (w : Network) (s : Session) : Type 0 where
+pub record IsStood (seats : List Seat) (w : MachineState) (s : Session) : Type 0 where
   pub ends : SessionEnds
   pub are : ends_of seats s.near.name s.far.name ≡ Some ends
   pub found : session_of w s.near.name s.far.name ≡ Some s
@@ -56,50 +56,50 @@ IsNotAfter (Some (suc k)) = ⊥
 IsNotAfter _ = Unit {0}
 
 -- an edit is of the written form, and octets and sends are counted from 1
-abbrev pub MayHappen : Event → Type 0
+abbrev pub MayHappen : MachineEvent → Type 0
 MayHappen (Changes e) = IsTrue (has_edit_form e)
 MayHappen (DeliverOctets from to n) = 0 < n
 MayHappen (Break from to n) = 0 < n
 MayHappen _ = Unit {0}
 
 -- ---- all of it, where M are the moments
-pub record Facts (M : Network → Type 0) : Type 0 where
-  pub says : (seats : List Seat) (w : Network) (a b : Name) (e : SessionEnds) → M w → StandsFor seats w
+pub record Facts (M : MachineState → Type 0) : Type 0 where
+  pub says : (seats : List Seat) (w : MachineState) (a b : Name) (e : SessionEnds) → M w → StandsFor seats w
       → ends_of seats a b ≡ Some e → SaysOf seats w a b e
-  pub none : (seats : List Seat) (w : Network) (a b : Name) → M w → StandsFor seats w
+  pub none : (seats : List Seat) (w : MachineState) (a b : Name) → M w → StandsFor seats w
       → ends_of seats a b ≡ None → session_of w a b ≡ None
-  pub turns : (seats : List Seat) (w : Network) (a b : Name) (e : SessionEnds) → M w → StandsFor seats w
+  pub turns : (seats : List Seat) (w : MachineState) (a b : Name) (e : SessionEnds) → M w → StandsFor seats w
       → ends_of seats a b ≡ Some e → ends_of seats b a ≡ Some (turned e)
-  pub stood : (seats : List Seat) (w : Network) → M w → StandsFor seats w → AllByRecursion (IsStood seats w) w.sessions
-  pub removes : (seats : List Seat) (w : Network) → M w → StandsFor seats w
+  pub stood : (seats : List Seat) (w : MachineState) → M w → StandsFor seats w → AllByRecursion (IsStood seats w) w.sessions
+  pub removes : (seats : List Seat) (w : MachineState) → M w → StandsFor seats w
       → StandsFor (map unbroken_seat seats) (unbroken w) × M (unbroken w)
-  pub breaks : (seats : List Seat) (w : Network) (from to : Name) (e : SessionEnds) (n : ℕ) → M w → StandsFor seats w
+  pub breaks : (seats : List Seat) (w : MachineState) (from to : Name) (e : SessionEnds) (n : ℕ) → M w → StandsFor seats w
       → ends_of seats from to ≡ Some e → 0 < n
       → StandsFor (with_break_at e.near n seats) (next message_size w (Break from to n))
-  pub delivers_octets : (seats after : List Seat) (w : Network) (from to : Name) (e : SessionEnds) (n : ℕ) → M w
+  pub delivers_octets : (seats after : List Seat) (w : MachineState) (from to : Name) (e : SessionEnds) (n : ℕ) → M w
       → StandsFor seats w → ends_of seats to from ≡ Some e → 0 < n → DeliversOctets seats e n after
       → StandsFor after (deliver_octets message_size from to n w)
-  pub delivers : (seats after : List Seat) (w : Network) (from to : Name) (e : SessionEnds) → M w → StandsFor seats w
+  pub delivers : (seats after : List Seat) (w : MachineState) (from to : Name) (e : SessionEnds) → M w → StandsFor seats w
       → ends_of seats to from ≡ Some e → Delivers seats e after → StandsFor after (deliver from to w)
-  pub connects : (seats after : List Seat) (w : Network) (a b : Name) (e : SessionEnds) → M w → StandsFor seats w
+  pub connects : (seats after : List Seat) (w : MachineState) (a b : Name) (e : SessionEnds) → M w → StandsFor seats w
       → events.is_earlier w.sessions a b ≡ true → ends_of seats a b ≡ Some e → Connects seats e after
       → StandsFor after (connect_if a b w)
-  pub loses : (seats : List Seat) (w : Network) (a b : Name) (e : SessionEnds) → M w → StandsFor seats w
+  pub loses : (seats : List Seat) (w : MachineState) (a b : Name) (e : SessionEnds) → M w → StandsFor seats w
       → ends_of seats a b ≡ Some e → StandsFor (lost seats e) (next message_size w (Lose a b))
-  pub restarts : (seats : List Seat) (w : Network) (name : Name) (k : ℕ) → M w → StandsFor seats w
+  pub restarts : (seats : List Seat) (w : MachineState) (name : Name) (k : ℕ) → M w → StandsFor seats w
       → seat_named seats name ≡ Some (suc k) → StandsFor (restarted seats (suc k)) (next message_size w (Restart name))
-  pub edits : (seats after : List Seat) (w : Network) (e : Edit) → MayHappen (Changes e) → M w → StandsFor seats w
+  pub edits : (seats after : List Seat) (w : MachineState) (e : Edit) → MayHappen (Changes e) → M w → StandsFor seats w
       → EditsUnless (edit_fault (checked w.setup) e) seats (checked w.setup) e after
       → StandsFor after (next message_size w (Changes e))
-  pub nodes : (seats : List Seat) (w : Network) (name : Name) (k : ℕ) → M w → StandsFor seats w
+  pub nodes : (seats : List Seat) (w : MachineState) (name : Name) (k : ℕ) → M w → StandsFor seats w
       → seat_named seats name ≡ Some (suc k)
       → (is_node w name ≡ true) × (shown w name ≡ shown_by (seat seats (suc k)))
-  pub others : (seats : List Seat) (w : Network) (name : Name) → M w → StandsFor seats w
+  pub others : (seats : List Seat) (w : MachineState) (name : Name) → M w → StandsFor seats w
       → IsNotAfter (seat_named seats name) → is_node w name ≡ false
-  pub forwards : (seats : List Seat) (w : Network) → M w → StandsFor seats w → forwarders w ≡ forwarders_of seats
-  pub next : (w : Network) (e : Event) → MayHappen e → M w → M (next message_size w e)
+  pub forwards : (seats : List Seat) (w : MachineState) → M w → StandsFor seats w → forwarders w ≡ forwarders_of seats
+  pub next : (w : MachineState) (e : MachineEvent) → MayHappen e → M w → M (next message_size w e)
 
 -- seats that stand for a moment
-pub record At (M : Network → Type 0) (seats : List Seat) (w : Network) : Type 0 where
+pub record At (M : MachineState → Type 0) (seats : List Seat) (w : MachineState) : Type 0 where
   pub moment : M w
   pub stands : StandsFor seats w

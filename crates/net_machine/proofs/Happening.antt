@@ -14,7 +14,7 @@ use Rattle.schedule_script.specs.declared.answer.Answer.TheVariants.{Idle, Round
 use Rattle.machine_model.specs.Setup.{Name, checked, longest_in}
 use Rattle.machine_model.specs.Session as session
 use Rattle.machine_model.specs.Session.{Session, shut}
-use Rattle.machine_model.specs.Network.{Network}
+use Rattle.machine_model.specs.Network.{MachineState}
 use Rattle.machine_model.specs.Steps as steps
 use Rattle.machine_model.specs.Steps.{connect_found, connect_if, deliver, in_flight, is_broken, repeat, session_of, settle}
 use Rattle.machine_model.specs.Steps.{change_node, change_session, deliver_octets, joins, pass, session_in, with_session}
@@ -40,7 +40,7 @@ use Rattle.net_machine.proofs.Resting.{settled_is}
 use Rattle.net_machine.proofs.Rounding.{round_stands}
 use Rattle.net_machine.proofs.Settled.{settle_leads}
 
-again : (n : ℕ) (f : Network → Network) (w : Network) → f w ≡ w → repeat n f w ≡ w
+again : (n : ℕ) (f : MachineState → MachineState) (w : MachineState) → f w ≡ w → repeat n f w ≡ w
 again zero f w e = refl
 again (suc n) f w e = ap (repeat n f) e ∙ again n f w e
 
@@ -59,19 +59,19 @@ no_session a b g (s ∷ ss) e =
           ] e
     ] e
 
-unbroken_so : (w : Network) (a b : Name) (n : ℕ) → session_of w a b ≡ None → next message_size w (Break a b n) ≡ w
+unbroken_so : (w : MachineState) (a b : Name) (n : ℕ) → session_of w a b ≡ None → next message_size w (Break a b n) ≡ w
 unfolding next
 unbroken_so w a b n e =
     ap (λ (ss : List Session). record { setup = w.setup; sessions = ss }) (no_session a b (add_break n) w.sessions e)
 
-module _ (M : Network → Type 0) (f : Facts M) where
+module _ (M : MachineState → Type 0) (f : Facts M) where
   -- the answer, and the state after it
-  pub record Makes (w v : Network) (answer answer' : Answer) (after : List Seat) : Type 0 where
+  pub record Makes (w v : MachineState) (answer answer' : Answer) (after : List Seat) : Type 0 where
     pub answers : answer ≡ answer'
     pub stands : At M after v
 
   -- ---- deliveries
-  module _ (seats after : List Seat) (w : Network) (a b : Name) (answer : Answer) (h : At M seats w) where
+  module _ (seats after : List Seat) (w : MachineState) (a b : Name) (answer : Answer) (h : At M seats w) where
     none_in_flight : session_of w a b ≡ None → in_flight w b a ≡ 0
     none_in_flight e = ap (λ o. unwrap_or (option_map session.waiting o) 0) e
 
@@ -162,7 +162,7 @@ module _ (M : Network → Type 0) (f : Facts M) where
         }
 
   -- ---- of two nodes that have no session, neither is connected
-  none_back : (seats : List Seat) (w : Network) (a b : Name) → At M seats w → ends_of seats a b ≡ None
+  none_back : (seats : List Seat) (w : MachineState) (a b : Name) → At M seats w → ends_of seats a b ≡ None
       → ends_of seats b a ≡ None
   none_back seats w a b h is =
       elim (ends_of seats b a) as (λ o. ends_of seats b a ≡ o → o ≡ None) [
@@ -172,11 +172,11 @@ module _ (M : Network → Type 0) (f : Facts M) where
             cc
       ] refl
 
-  none_connected : (seats : List Seat) (w : Network) (a b : Name) → At M seats w → ends_of seats a b ≡ None
+  none_connected : (seats : List Seat) (w : MachineState) (a b : Name) → At M seats w → ends_of seats a b ≡ None
       → connect_if a b w ≡ w
   none_connected seats w a b h is = ap (λ o. connect_found o a b w) (f.none seats w a b h.moment h.stands is)
 
-  first_connected : (c : Bool) (seats after : List Seat) (w : Network) (a b : Name) (e : SessionEnds) → At M seats w
+  first_connected : (c : Bool) (seats after : List Seat) (w : MachineState) (a b : Name) (e : SessionEnds) → At M seats w
       → ends_of seats a b ≡ Some e → events.is_earlier w.sessions a b ≡ c → Connects seats (cond c e (turned e)) after
       → At M after (cond c (connect_if a b w) (connect_if b a w))
   first_connected true seats after w a b e h is first c = one_connected M f seats after w a b e h first is c
@@ -184,7 +184,7 @@ module _ (M : Network → Type 0) (f : Facts M) where
       one_connected M f seats after w b a (turned e) h (other_earlier w.sessions a b first)
       (f.turns seats w a b e h.moment h.stands is) c
 
-  connected_on : (seats after : List Seat) (w : Network) (order : List SessionEnds) (a b : Name) (answer : Answer)
+  connected_on : (seats after : List Seat) (w : MachineState) (order : List SessionEnds) (a b : Name) (answer : Answer)
       (o : Option SessionEnds) → At M seats w → order ≡ order_among seats w.sessions → ends_of seats a b ≡ o
       → ConnectsOn o order seats answer after
       → Makes w (next message_size w (Connect a b)) answer (answer_to w (Connect a b)) after
@@ -215,11 +215,11 @@ module _ (M : Network → Type 0) (f : Facts M) where
       }
 
   -- ---- at one node
-  not_restarted : (w : Network) (name : Name) → is_node w name ≡ false → next message_size w (Restart name) ≡ w
+  not_restarted : (w : MachineState) (name : Name) → is_node w name ≡ false → next message_size w (Restart name) ≡ w
   unfolding next
   not_restarted w name e = ap (λ b. cond b (change_node name shut w) w) e
 
-  module _ (seats after : List Seat) (w : Network) (name : Name) (answer : Answer) (h : At M seats w) where
+  module _ (seats after : List Seat) (w : MachineState) (name : Name) (answer : Answer) (h : At M seats w) where
     restarted_none : is_node w name ≡ false → (answer ≡ Idle) × (after ≡ seats)
         → Makes w (next message_size w (Restart name)) answer (answer_to w (Restart name)) after
     restarted_none e r = record {
@@ -253,7 +253,7 @@ module _ (M : Network → Type 0) (f : Facts M) where
         a ∙ ap Shown (sym n.1) ∙ sym (ap (λ b. cond b (Shown (shown w name)) Idle) n.0)
 
   -- ---- every event
-  pub happens : (seats after : List Seat) (w : Network) (x : Checked) (order : List SessionEnds) (e : Written)
+  pub happens : (seats after : List Seat) (w : MachineState) (x : Checked) (order : List SessionEnds) (e : Written)
       (answer : Answer) → At M seats w → x ≡ checked w.setup → order ≡ order_among seats w.sessions → MayHappen (event_of e)
       → Happens x order e seats answer after
       → Makes w (next message_size w (event_of e)) answer (answer_to w (event_of e)) after

@@ -17,10 +17,10 @@ use Rattle.config_check.specs.declared.edits.EditFault.{EditFault}
 use Rattle.machine_model.specs.Setup.{Name, checked}
 use Rattle.machine_model.specs.Session as session
 use Rattle.machine_model.specs.Session.{arrived, octets_arrived}
-use Rattle.machine_model.specs.Network.{Network}
+use Rattle.machine_model.specs.Network.{MachineState}
 use Rattle.machine_model.specs.Steps as machine
 use Rattle.machine_model.specs.Steps.{change_session, connect_if, deliver, deliver_octets, pass}
-use Rattle.machine_model.specs.Events.{Connect, Deliver, DeliverOctets, Break, Event, Edits as Changes, Lose, Restart}
+use Rattle.machine_model.specs.Events.{Connect, Deliver, DeliverOctets, Break, MachineEvent, Edits as Changes, Lose, Restart}
 use Rattle.machine_model.specs.Events.{Round, Settle, Show, Trace, is_node, next, shown}
 use Rattle.machine_model.proofs.NetworkFact.{found}
 use Rattle.machine_model.proofs.Twins.{itself}
@@ -67,7 +67,7 @@ opens_behind seats p q n one true after is live o = (
 )
 opens_behind seats p q n one false after is live o = o ∙ ap (λ ss. cleared ss p.node) is
 
-module _ (p : Proved) (seats : List Seat) (w : Network) (m : IsMoment w) (st : StandsFor seats w) where
+module _ (p : Proved) (seats : List Seat) (w : MachineState) (m : IsMoment w) (st : StandsFor seats w) where
   -- ---- deliveries
   nothing_there : (from to : Name) (e : SessionEnds) → ends_of seats to from ≡ Some e → live_at seats e.near ≡ false
       → deliver from to w ≡ w
@@ -266,7 +266,7 @@ module _ (p : Proved) (seats : List Seat) (w : Network) (m : IsMoment w) (st : S
       not_after (suc k) above off = off
 
 -- what may happen leads on
-asked_of : (w : Network) (e : Event) → IsMoment w → MayHappen e → EditIsValid IsOfForm w e
+asked_of : (w : MachineState) (e : MachineEvent) → IsMoment w → MayHappen e → EditIsValid IsOfForm w e
 asked_of w (Changes e) m may =
     λ y at. edited_form w.setup y e may (moment_written w m) at
 asked_of w (Deliver from to n) m may = tt

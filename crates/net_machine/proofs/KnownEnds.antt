@@ -9,7 +9,7 @@ use Rattle.headline_laws.proofs.Written.{sound_setup}
 use Rattle.machine_model.specs.Setup.{Name, checked}
 use Rattle.machine_model.specs.Session as session
 use Rattle.machine_model.specs.Session.{Session, is_idle, is_peering}
-use Rattle.machine_model.specs.Network.{Network}
+use Rattle.machine_model.specs.Network.{MachineState}
 use Rattle.machine_model.specs.Steps as steps
 use Rattle.machine_model.specs.Steps.{session_of}
 use Rattle.machine_model.specs.Events as events
@@ -52,7 +52,7 @@ pub at_are_ends : (seats : List Seat) (a b : Name) (p q : SessionPlace) → AreA
 at_are_ends seats a b p q at = ap (ends_at seats) at.0 ∙ ap (ends_from p) at.1
 
 -- ---- a session that is down is one of which no end is live, or where a notice waits
-pub fact_of : (w : Network) (a b : Name) (s : Session) → IsMoment w → session_of w a b ≡ Some s → Fact message_size s
+pub fact_of : (w : MachineState) (a b : Name) (s : Session) → IsMoment w → session_of w a b ≡ Some s → Fact message_size s
 fact_of w a b s m is = found (Fact message_size) (Fact-turned message_size) w.sessions a b (moment_sound w m) s is
 
 -- the two ends are closed exactly where the session may be connected
@@ -73,7 +73,7 @@ closed_waits s (inl j) closed =
     cc
 closed_waits s (inr d) closed = (λ i. cond ((d.near.notice ∙ closed) i) 1 (length (d.far.flight i)))
 
-module _ (p : Proved) (seats : List Seat) (w : Network) (m : IsMoment w) (st : StandsFor seats w) where
+module _ (p : Proved) (seats : List Seat) (w : MachineState) (m : IsMoment w) (st : StandsFor seats w) where
   written : IsWritten w.setup
   written = moment_written w m
 

@@ -11,7 +11,7 @@ use Rattle.std.proofs.lemmas.Option.{same_Some}
 use Rattle.ov_types.specs.First.{same_name}
 use Rattle.machine_model.specs.Setup.{Name}
 use Rattle.machine_model.specs.Session.{Session}
-use Rattle.machine_model.specs.Network.{Network}
+use Rattle.machine_model.specs.Network.{MachineState}
 use Rattle.machine_model.specs.Steps.{joins}
 use Rattle.machine_model.specs.Events as events
 use Rattle.machine_model.proofs.Twins.{itself}
@@ -86,8 +86,8 @@ joins_is seats a b e s d is at =
     let one : d ≡ e = same_Some d e (sym at ∙ (λ i. ends_of seats (near i) (far i)) ∙ is) in
     ap (λ c. same_ends c e) one ∙ ends_itself e)
 
-module _ (M : Network → Type 0) (f : Facts M) where
-  earlier_among : (seats : List Seat) (w : Network) (a b : Name) (e : SessionEnds) (ss : List Session)
+module _ (M : MachineState → Type 0) (f : Facts M) where
+  earlier_among : (seats : List Seat) (w : MachineState) (a b : Name) (e : SessionEnds) (ss : List Session)
       → ends_of seats a b ≡ Some e → ends_of seats b a ≡ Some (turned e) → AllByRecursion (IsStood seats w) ss
       → is_earlier (order_among seats ss) e ≡ events.is_earlier ss a b
   earlier_among seats w a b e [] is back all = refl
@@ -97,7 +97,7 @@ module _ (M : Network → Type 0) (f : Facts M) where
       (cond (joins_is seats b a (turned e) s all.0.ends back all.0.are i) false
       (earlier_among seats w a b e ss is back all.1 i)))
 
-  pub earlier_is : (seats : List Seat) (w : Network) (a b : Name) (e : SessionEnds) (order : List SessionEnds) → At M seats w
+  pub earlier_is : (seats : List Seat) (w : MachineState) (a b : Name) (e : SessionEnds) (order : List SessionEnds) → At M seats w
       → ends_of seats a b ≡ Some e → order ≡ order_among seats w.sessions
       → is_earlier order e ≡ events.is_earlier w.sessions a b
   earlier_is seats w a b e order h is ordered =

@@ -10,9 +10,9 @@ use Rattle.config_model.specs.declared.event.Event.{Event as Written}
 use Rattle.config_model.specs.declared.event.Event.TheVariants as written
 use Rattle.config_ties.specs.declared.breaking.Tie.{Tie}
 use Rattle.machine_isolation_laws.specs.Refusing.{TiedNetwork, next_tied}
-use Rattle.machine_model.specs.Events.{Edits, Event, answer_to, edit_answer, edits, event_of, next}
-use Rattle.machine_model.specs.Moments.{HasSessions, Nodes, nodes}
-use Rattle.machine_model.specs.Network.{Network, asked, config}
+use Rattle.machine_model.specs.Events.{Edits, MachineEvent, answer_to, edit_answer, edits, event_of, next}
+use Rattle.machine_model.specs.Moments.{HasSessions, NodePair, nodes}
+use Rattle.machine_model.specs.Network.{MachineState, asked, config}
 use Rattle.machine_model.specs.Setup.{Move, Setup, checked, edited_without, moves, remade, renumbered}
 use Rattle.machine_model.proofs.NodesFact.{Holds, holds_steps, pass_nodes}
 use Rattle.machine_model.proofs.Walk.{next_walk}
@@ -30,31 +30,31 @@ use Rattle.net_machine.proofs.Kept.{among_kept}
 use Rattle.net_machine.proofs.Rounding.{same_order}
 use Rattle.net_machine.proofs.Tied.{next_where, stepped}
 
-abbrev SameNodes : Network → Network → Type 0
+abbrev SameNodes : MachineState → MachineState → Type 0
 SameNodes w v = map nodes v.sessions ≡ map nodes w.sessions
 
 -- ---- events that move no compute node keep the nodes of all sessions
-no_edit : (w : Network) (e : Event) → ((d : Edit) → e ≢ Edits d) → SameNodes w (next message_size w e)
+no_edit : (w : MachineState) (e : MachineEvent) → ((d : Edit) → e ≢ Edits d) → SameNodes w (next message_size w e)
 no_edit w e off =
     next_walk message_size (Holds (λ x ps. ps ≡ map nodes w.sessions))
     (holds_steps message_size (λ x ps. ps ≡ map nodes w.sessions)) w e (λ d is _. absurd (off d is)) refl
 
-edit_next : (w : Network) (d : Edit) (m : Option Move) (o : Option EditFault) → moves d w.setup.topology ≡ m
+edit_next : (w : MachineState) (d : Edit) (m : Option Move) (o : Option EditFault) → moves d w.setup.topology ≡ m
     → edit_fault (checked w.setup) d ≡ o → next message_size w (Edits d) ≡ edits m (edited_without o w.setup d) w
 unfolding next
 edit_next w d m o at is = λ i. edits (at i) (edited_without (is i) w.setup d) w
 
-unmoved : (w : Network) (d : Edit) (o : Option EditFault) → edit_fault (checked w.setup) d ≡ o
+unmoved : (w : MachineState) (d : Edit) (o : Option EditFault) → edit_fault (checked w.setup) d ≡ o
     → moved_by (checked w.setup) (written.Edit d) (Answered (edit_answer o)) ≡ None
     → SameNodes w (next message_size w (Edits d))
 unmoved w d None is none =
     let y = remade (config_edits.edited d (checked w.setup)) (renumbered None w.setup.numbers) in
-    ap (λ (v : Network). map nodes v.sessions) (edit_next w d None None none is)
+    ap (λ (v : MachineState). map nodes v.sessions) (edit_next w d None None none is)
     ∙ pass_nodes config _
 unmoved w d (Some f) is none =
-    ap (λ (v : Network). map nodes v.sessions) (edit_next w d (moves d w.setup.topology) (Some f) refl is)
+    ap (λ (v : MachineState). map nodes v.sessions) (edit_next w d (moves d w.setup.topology) (Some f) refl is)
 
-next_nodes : (w : Network) (e : Written) (a : Answer) → a ≡ answer_to w (event_of e)
+next_nodes : (w : MachineState) (e : Written) (a : Answer) → a ≡ answer_to w (event_of e)
     → moved_by (checked w.setup) e (Answered a) ≡ None → SameNodes w (next message_size w (event_of e))
 next_nodes w (written.Edit d) a is none =
     unmoved w d (edit_fault (checked w.setup) d) refl
@@ -87,7 +87,7 @@ module _ (s : TiedNetwork) (e : Written) where
       nodes_by (tie_broken s (event_of e)) refl
       (ap (λ (b : TiedAnswer). moved_by (checked s.network.setup) e b) (sym is) ∙ none)
 
-  module _ (v : Network) (v_is : v ≡ (next_tied message_size s (event_of e)).network) (asked_now : HasSessions v)
+  module _ (v : MachineState) (v_is : v ≡ (next_tied message_size s (event_of e)).network) (asked_now : HasSessions v)
       (seats after : List Seat) (order then : List SessionEnds) (who : (seat after 0).who ≡ Configuring (checked v.setup))
       (ordered : order ≡ order_among seats s.network.sessions) (a : TiedAnswer) (answers : a ≡ answer_tied s (event_of e))
     where
@@ -96,7 +96,7 @@ module _ (s : TiedNetwork) (e : Written) where
       ordered_by None none h =
           h.1 ∙ ordered ∙ sym (among_kept seats after s.network.sessions h.0)
           ∙ same_order after s.network.sessions v.sessions
-          (sym (ap (λ (u : Network). map nodes u.sessions) v_is ∙ nodes_stay a answers none))
+          (sym (ap (λ (u : MachineState). map nodes u.sessions) v_is ∙ nodes_stay a answers none))
           ∙ same_order after v.sessions (asked v.setup.topology) asked_now
       ordered_by (Some m) moved h = h (checked v.setup) who
 

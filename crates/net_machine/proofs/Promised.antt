@@ -3,8 +3,8 @@ use Rattle.std.specs.Prelude.{◌≡◌, ◌<◌, ℕ, zero, suc, List, length, 
 use Rattle.std.proofs.Common.{sym, ◌∙◌, ap, subst, arith}
 use Rattle.std.proofs.lemmas.Option.{same_Some}
 use Rattle.config_check.specs.Checked.{Checked}
-use Rattle.machine_model.specs.Network.{Network, start}
-use Rattle.machine_model.specs.Events.{Event, after, shown}
+use Rattle.machine_model.specs.Network.{MachineState, start}
+use Rattle.machine_model.specs.Events.{MachineEvent, after, shown}
 use Rattle.machine_model.specs.Steps.{is_settled}
 use Rattle.machine_model.specs.Moments.{EditsAreValid}
 use Rattle.machine_model.specs.Setup.{checked}
@@ -23,22 +23,22 @@ use Rattle.running_telling_laws.proofs.Moments.{moment_numbers, moment_of, momen
 use Rattle.net_machine.specs.Shown.{ShowsCompiled, compiled_for}
 
 -- ---- what all schedules promise, of the state after one
-pub record IsAfter (w : Network) : Type 0 where
+pub record IsAfter (w : MachineState) : Type 0 where
   pub opening : Checked
   pub written : IsWritten (opening_setup opening)
-  pub events : List Event
+  pub events : List MachineEvent
   pub asked : EditsAreValid message_size IsOfForm (start opening) events
   pub is : w ≡ after message_size (start opening) events
 
-pub after_moment : (w : Network) → IsAfter w → IsMoment w
+pub after_moment : (w : MachineState) → IsAfter w → IsMoment w
 after_moment w a = subst IsMoment (sym a.is) (moment_of a.opening a.written a.events a.asked)
 
-after_controls : (w : Network) → IsAfter w → ControlNodesShowTables w
+after_controls : (w : MachineState) → IsAfter w → ControlNodesShowTables w
 after_controls w a =
     subst ControlNodesShowTables (sym a.is)
     (control_nodes_show_tables message_size positive a.opening a.written a.events a.asked)
 
-after_agents : (w : Network) → IsAfter w → AgentsShowRows w
+after_agents : (w : MachineState) → IsAfter w → AgentsShowRows w
 after_agents w a =
     subst AgentsShowRows (sym a.is) (agents_show_rows message_size positive a.opening a.written a.events a.asked)
 
@@ -46,7 +46,7 @@ after_agents w a =
 first_shows : (n : Seat) (x y : Checked) → n.who ≡ Configuring y → shown_by n ≡ compiled_for x n.who
 first_shows n x y e = ap (λ (v : Who). shown_by (record n { who = v })) e ∙ sym (ap (compiled_for x) e)
 
-module _ (w : Network) (a : IsAfter w) (seats : List Seat) (stands : StandsFor seats w)
+module _ (w : MachineState) (a : IsAfter w) (seats : List Seat) (stands : StandsFor seats w)
     (settled : is_settled w ≡ true) where
   abbrev m : IsMoment w
   m = after_moment w a

@@ -4,7 +4,7 @@ use Rattle.std.specs.List.{AllByRecursion, cons_option, list_all}
 use Rattle.std.proofs.Common.{refl, ◌∙◌, ap}
 use Rattle.machine_model.specs.Session as session
 use Rattle.machine_model.specs.Session.{Session}
-use Rattle.machine_model.specs.Network.{Network}
+use Rattle.machine_model.specs.Network.{MachineState}
 use Rattle.machine_model.specs.Steps as steps
 use Rattle.running_model.specs.Seats.{Seat}
 use Rattle.net_machine.specs.declared.ends.SessionEnds.{SessionEnds}
@@ -13,8 +13,8 @@ use Rattle.net_machine.specs.Settling.{is_quiet, is_rested, is_settled, is_still
 use Rattle.net_machine.proofs.Facts.{At, Facts, IsStood}
 use Rattle.net_machine.proofs.Rounding.{said}
 
-module _ (M : Network → Type 0) (f : Facts M) where
-  all_rest : (seats : List Seat) (w : Network) (ss : List Session) → At M seats w → AllByRecursion (IsStood seats w) ss
+module _ (M : MachineState → Type 0) (f : Facts M) where
+  all_rest : (seats : List Seat) (w : MachineState) (ss : List Session) → At M seats w → AllByRecursion (IsStood seats w) ss
       → list_all (is_rested seats) (order_among seats ss) ≡ list_all steps.is_rested ss
   all_rest seats w [] h all = refl
   all_rest seats w (s ∷ ss) h all =
@@ -24,7 +24,7 @@ module _ (M : Network → Type 0) (f : Facts M) where
   abbrev is_calm : Session → Bool
   is_calm s = (session.waiting s == 0) && (session.waiting (session.turned s) == 0)
 
-  all_still : (seats : List Seat) (w : Network) (ss : List Session) → At M seats w → AllByRecursion (IsStood seats w) ss
+  all_still : (seats : List Seat) (w : MachineState) (ss : List Session) → At M seats w → AllByRecursion (IsStood seats w) ss
       → list_all (is_still seats) (order_among seats ss) ≡ list_all is_calm ss
   all_still seats w [] h all = refl
   all_still seats w (s ∷ ss) h all =
@@ -32,12 +32,12 @@ module _ (M : Network → Type 0) (f : Facts M) where
       ap (λ o. list_all (is_still seats) (cons_option o (order_among seats ss))) all.0.are
       ∙ (λ i. ((says.waits i == 0) && (says.waits_back i == 0)) && all_still seats w ss h all.1 i)
 
-  pub settled_is : (seats : List Seat) (w : Network) (order : List SessionEnds) → At M seats w
+  pub settled_is : (seats : List Seat) (w : MachineState) (order : List SessionEnds) → At M seats w
       → order ≡ order_among seats w.sessions → is_settled seats order ≡ steps.is_settled w
   settled_is seats w order h is =
       ap (is_settled seats) is ∙ all_rest seats w w.sessions h (f.stood seats w h.moment h.stands)
 
-  pub quiet_is : (seats : List Seat) (w : Network) (order : List SessionEnds) → At M seats w
+  pub quiet_is : (seats : List Seat) (w : MachineState) (order : List SessionEnds) → At M seats w
       → order ≡ order_among seats w.sessions → is_quiet seats order ≡ steps.is_quiet w
   quiet_is seats w order h is =
       ap (is_quiet seats) is ∙ all_still seats w w.sessions h (f.stood seats w h.moment h.stands)

@@ -15,9 +15,9 @@ use Rattle.config_model.specs.declared.edit.Edit.{Edit}
 use Rattle.config_model.specs.declared.topology.Node.{Node}
 use Rattle.headline_laws.specs.Headline.{IsOfForm, IsWritten}
 use Rattle.machine_settling_laws.proofs.EachFact.{Keeps, after_keeps, edit_valid}
-use Rattle.machine_model.specs.Events.{Event, next}
+use Rattle.machine_model.specs.Events.{MachineEvent, next}
 use Rattle.machine_model.specs.Moments.{AreOnce, Each, EditIsValid, NumbersFit}
-use Rattle.machine_model.specs.Network.{Network, sessions_of}
+use Rattle.machine_model.specs.Network.{MachineState, sessions_of}
 use Rattle.machine_model.specs.Session.{Session}
 use Rattle.machine_model.specs.Setup.{Move, Name, Numbers, Setup, agents_in, agents_of, came_at, checked, edited, edited_without, first_numbers, has_name, id_of}
 use Rattle.machine_model.specs.Setup.{is_listed, lists, moves, opening, remade, renumbered, renumbered_at, with_agent, without_agent}
@@ -206,10 +206,10 @@ few_keep = record {
   wants = λ y ss n f p. each_anything (sessions_of n ss);
 }
 
-abbrev IsRoomy : Setup → Network → Type 0
+abbrev IsRoomy : Setup → MachineState → Type 0
 IsRoomy x w = Follows x w.setup × HasFew w.setup
 
-roomy_followed : (x : Setup) (w : Network) (e : Event) → EditIsValid IsOfForm w e → IsRoomy x w
+roomy_followed : (x : Setup) (w : MachineState) (e : MachineEvent) → EditIsValid IsOfForm w e → IsRoomy x w
     → IsRoomy x (next message_size w e)
 roomy_followed x w e valid h = (
   follows_next x w e valid h.0,
@@ -218,7 +218,7 @@ roomy_followed x w e valid h = (
       (h.1, each_anything w.sessions)).0,
 )
 
-pub moment_few : (w : Network) → IsMoment w → (c : NodeId) → Member c w.setup.topology.controllers
+pub moment_few : (w : MachineState) → IsMoment w → (c : NodeId) → Member c w.setup.topology.controllers
     → length (agents_of w.setup c.name) ≤ 64
 moment_few w m =
     (at_moment (IsRoomy (opening m.opening)) (λ v h. h) (roomy_followed (opening m.opening)) w m

@@ -5,10 +5,10 @@ use Rattle.std.proofs.Common.{refl, sym, ◌∙◌, ap, subst}
 use Rattle.std.proofs.lemmas.Option.{same_Some}
 use Rattle.machine_model.specs.Session as session
 use Rattle.machine_model.specs.Session.{Session}
-use Rattle.machine_model.specs.Network.{Network}
+use Rattle.machine_model.specs.Network.{MachineState}
 use Rattle.machine_model.specs.Steps as steps
 use Rattle.machine_model.specs.Steps.{round}
-use Rattle.machine_model.specs.Moments.{Nodes, nodes}
+use Rattle.machine_model.specs.Moments.{NodePair, nodes}
 use Rattle.running_model.specs.Seats.{Seat}
 use Rattle.net_machine.specs.declared.ends.SessionEnds.{SessionEnds}
 use Rattle.net_machine.specs.Rounds.{IsRound, due_at, dues}
@@ -18,24 +18,24 @@ use Rattle.net_machine.proofs.Facts.{At, Facts, IsStood, Says}
 
 -- ---- the order of a round goes by names alone
 among_names : (seats : List Seat) (ss : List Session)
-    → order_among seats ss ≡ filter_map (λ (p : Nodes). ends_of seats p.0.0 p.1.0) (map nodes ss)
+    → order_among seats ss ≡ filter_map (λ (p : NodePair). ends_of seats p.0.0 p.1.0) (map nodes ss)
 among_names seats [] = refl
 among_names seats (s ∷ ss) = ap (cons_option (ends_of seats s.near.name s.far.name)) (among_names seats ss)
 
 pub same_order : (seats : List Seat) (ss ts : List Session) → map nodes ss ≡ map nodes ts
     → order_among seats ss ≡ order_among seats ts
 same_order seats ss ts e =
-    among_names seats ss ∙ ap (filter_map (λ (p : Nodes). ends_of seats p.0.0 p.1.0)) e ∙ sym (among_names seats ts)
+    among_names seats ss ∙ ap (filter_map (λ (p : NodePair). ends_of seats p.0.0 p.1.0)) e ∙ sym (among_names seats ts)
 
-module _ (M : Network → Type 0) (f : Facts M) where
+module _ (M : MachineState → Type 0) (f : Facts M) where
   -- a session's ends say what it is, and so do they as the other end sees it
-  pub said : (seats : List Seat) (w : Network) (s : Session) → At M seats w → (i : IsStood seats w s)
+  pub said : (seats : List Seat) (w : MachineState) (s : Session) → At M seats w → (i : IsStood seats w s)
       → Says seats i.ends s
   said seats w s h i =
       let found = f.says seats w s.near.name s.far.name i.ends h.moment h.stands i.are in
       subst (Says seats i.ends) (same_Some found.session s (sym found.found ∙ i.found)) found.says
 
-  pub said_back : (seats : List Seat) (w : Network) (s : Session) → At M seats w → (i : IsStood seats w s)
+  pub said_back : (seats : List Seat) (w : MachineState) (s : Session) → At M seats w → (i : IsStood seats w s)
       → Says seats (turned i.ends) (session.turned s)
   said_back seats w s h i =
       let back = f.turns seats w s.near.name s.far.name i.ends h.moment h.stands i.are in
@@ -43,7 +43,7 @@ module _ (M : Network → Type 0) (f : Facts M) where
       subst (Says seats (turned i.ends)) (same_Some found.session (session.turned s) (sym found.found ∙ i.back)) found.says
 
   -- ---- what waits
-  pub are_due : (seats : List Seat) (w : Network) (ss : List Session) → At M seats w → AllByRecursion (IsStood seats w) ss
+  pub are_due : (seats : List Seat) (w : MachineState) (ss : List Session) → At M seats w → AllByRecursion (IsStood seats w) ss
       → AreDue seats (dues seats (order_among seats ss))
       (flat_map (λ s. steps.due_at (session.turned s) ∷ steps.due_at s ∷ []) ss)
   are_due seats w [] h all = tt
@@ -66,7 +66,7 @@ module _ (M : Network → Type 0) (f : Facts M) where
       (steps.due_at (session.turned s) ∷ steps.due_at s ∷ rest)) (sym i.are) (one, (two, are_due seats w ss h all.1))
 
   -- ---- the round
-  pub round_stands : (seats after : List Seat) (w : Network) (order : List SessionEnds) → At M seats w
+  pub round_stands : (seats after : List Seat) (w : MachineState) (order : List SessionEnds) → At M seats w
       → order ≡ order_among seats w.sessions → IsRound order seats after → Keeps seats after × At M after (round w)
   unfolding round
   round_stands seats after w order h is all =

@@ -3,7 +3,7 @@ use Rattle.std.specs.Prelude.{◌≡◌, ◌+◌, ℕ, zero, suc, List, [], ◌�
 use Rattle.std.proofs.Common.{refl, sym, ◌∙◌, ap, subst}
 use Rattle.machine_model.specs.Setup.{longest}
 use Rattle.machine_model.specs.Session.{Session}
-use Rattle.machine_model.specs.Network.{Network}
+use Rattle.machine_model.specs.Network.{MachineState}
 use Rattle.machine_model.specs.Steps as steps
 use Rattle.machine_model.specs.Steps.{connect_all, round, rounds_from, settle, without_breaks}
 use Rattle.machine_model.specs.Moments.{nodes}
@@ -29,21 +29,21 @@ unbroken_nodes [] = refl
 unbroken_nodes (s ∷ ss) = ap (λ ns. nodes s ∷ ns) (unbroken_nodes ss)
 
 -- the order stays
-pub order_stays : (seats after : List Seat) (w v : Network) (order : List SessionEnds) → Keeps seats after
+pub order_stays : (seats after : List Seat) (w v : MachineState) (order : List SessionEnds) → Keeps seats after
     → map nodes v.sessions ≡ map nodes w.sessions → order ≡ order_among seats w.sessions
     → order ≡ order_among after v.sessions
 order_stays seats after w v order k e is =
     is ∙ sym (among_kept seats after w.sessions k) ∙ same_order after w.sessions v.sessions (sym e)
 
-module _ (M : Network → Type 0) (f : Facts M) where
+module _ (M : MachineState → Type 0) (f : Facts M) where
   -- the number of rounds, and where they lead
-  pub record Leads (done : ℕ × Network) (w : Network) (order : List SessionEnds) (rounds : ℕ) (after : List Seat)
+  pub record Leads (done : ℕ × MachineState) (w : MachineState) (order : List SessionEnds) (rounds : ℕ) (after : List Seat)
       : Type 0 where
     pub count : done.0 ≡ rounds
     pub stands : At M after done.1
     pub ordered : order ≡ order_among after done.1.sessions
 
-  stop : (done : ℕ) (seats after : List Seat) (w : Network) (order : List SessionEnds) (n : ℕ) → At M seats w
+  stop : (done : ℕ) (seats after : List Seat) (w : MachineState) (order : List SessionEnds) (n : ℕ) → At M seats w
       → order ≡ order_among seats w.sessions → (n ≡ done) × (after ≡ seats) → Leads (done, w) w order n after
   stop done seats after w order n h is e = record {
     count = sym e.0;
@@ -51,7 +51,7 @@ module _ (M : Network → Type 0) (f : Facts M) where
     ordered = is ∙ ap (λ s. order_among s w.sessions) (sym e.1);
   }
 
-  rounds_lead : (n done : ℕ) (seats after : List Seat) (w : Network) (order : List SessionEnds) (rounds : ℕ) → At M seats w
+  rounds_lead : (n done : ℕ) (seats after : List Seat) (w : MachineState) (order : List SessionEnds) (rounds : ℕ) → At M seats w
       → order ≡ order_among seats w.sessions → RoundsFrom n done order seats rounds after
       → Leads (rounds_from n done w) w order rounds after
   rounds_lead zero done seats after w order rounds h is all = stop done seats after w order rounds h is all
@@ -69,7 +69,7 @@ module _ (M : Network → Type 0) (f : Facts M) where
       ((between : List Seat) × IsRound order seats between × RoundsFrom n (done + 1) order between rounds after))
       (quiet_is M f seats w order h is) all)
 
-  pub settle_leads : (seats after : List Seat) (w : Network) (order : List SessionEnds) (rounds : ℕ) → At M seats w
+  pub settle_leads : (seats after : List Seat) (w : MachineState) (order : List SessionEnds) (rounds : ℕ) → At M seats w
       → order ≡ order_among seats w.sessions → Settles (longest w.setup) order seats rounds after
       → Leads (settle w) w order rounds after
   unfolding settle

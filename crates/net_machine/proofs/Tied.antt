@@ -14,7 +14,7 @@ use Rattle.config_ties.specs.Ties.{Ties}
 use Rattle.config_ties.specs.declared.breaking.Tie.{Tie}
 use Rattle.machine_isolation_laws.specs.Refusing.{TiedNetwork, next_tied}
 use Rattle.machine_isolation_laws.specs.Running.{ties_next, ties_with}
-use Rattle.machine_model.specs.Events.{Event, answer_to, event_of, next}
+use Rattle.machine_model.specs.Events.{MachineEvent, answer_to, event_of, next}
 use Rattle.machine_model.specs.Setup.{Setup, checked, edited_without, opening}
 use Rattle.running_model.specs.Seats.{Seat}
 use Rattle.running_model.specs.Stands.{StandsFor, message_size}
@@ -69,10 +69,10 @@ then_is s (written.Show name) = refl
 then_is s (written.Trace p) = refl
 then_is s (written.Break from to n) = refl
 
-abbrev pub stepped : TiedNetwork → Event → TiedNetwork
+abbrev pub stepped : TiedNetwork → MachineEvent → TiedNetwork
 stepped s e = record { ties = ties_next s.ties s.network e; network = next message_size s.network e }
 
-pub next_where : (s : TiedNetwork) (e : Event) (o : Option Tie) → tie_broken s e ≡ o
+pub next_where : (s : TiedNetwork) (e : MachineEvent) (o : Option Tie) → tie_broken s e ≡ o
     → next_tied message_size s e ≡ cond (is_some o) s (stepped s e)
 next_where s e o is = ap (λ (b : Bool). cond b s (stepped s e)) (refused_is s e ∙ ap is_some is)
 

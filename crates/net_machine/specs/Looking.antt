@@ -6,12 +6,12 @@ use Rattle.ov_types.specs.declared.rows.NodeId.{NodeId}
 use Rattle.config_model.specs.declared.topology.Topology.{Topology}
 use Rattle.node_model.specs.Paths.{Holdings}
 use Rattle.machine_model.specs.Setup.{Name}
-use Rattle.machine_model.specs.Network.{Network, control_holdings, views_of}
+use Rattle.machine_model.specs.Network.{MachineState, control_holdings, views_of}
 
 -- a control node of a topology has the name
 abbrev pub is_control_node : Topology → Name → Bool
 is_control_node t name = list_any (λ (c : NodeId). same_name c.name name) t.controllers
 
 -- what the control node of a name holds of all its sessions
-abbrev pub held_at : Network → Name → Holdings
+abbrev pub held_at : MachineState → Name → Holdings
 held_at w name = control_holdings w.setup name (views_of name w.sessions)

@@ -2,10 +2,10 @@
 use Rattle.std.specs.Prelude.{ℕ, zero, suc, List, [], ◌∷◌, Bool, not}
 pub use Rattle.node_model.specs.Step.{is_idle, is_up}
 use Rattle.node_model.specs.Step.{Phase, Post, Idle, Up, nothing}
-use Rattle.node_core.specs.declared.ends.End.{End}
-use Rattle.node_core.specs.declared.ends.End.TheVariants as end
+use Rattle.node_core.specs.declared.ends.EndState.{EndState}
+use Rattle.node_core.specs.declared.ends.EndState.TheVariants as end
 
-abbrev pub end_at : Phase → End
+abbrev pub end_at : Phase → EndState
 end_at Idle = end.Idle
 end_at Up = end.Up
 end_at _ = end.Opened

@@ -31,7 +31,7 @@ pub struct Started<C> {
 }
 
 /// How an end is.
-pub enum End {
+pub enum EndState {
     Idle,
     /// It was opened, and is not up yet.
     Opened,
@@ -61,7 +61,7 @@ pub trait Ends {
         ensures { result ≡ length (posts self.now) };
 
     /// How the end of a session is.
-    fn state(&self, session: u16) -> End
+    fn state(&self, session: u16) -> EndState
         requires { session < length (posts self.now) }
         ensures { result ≡ end_at (post (posts self.now) session).phase };
 

@@ -4,7 +4,7 @@ ghost use Rattle.node_model.specs.Step.{post};
 ghost use Rattle.node_core.specs.Keeping.{AreSwept, nothing_kept};
 ghost use Rattle.node_core.specs.Resting.{is_idle};
 
-use crate::ends::{End, Ends};
+use crate::ends::{EndState, Ends};
 use ov_link::Inbox;
 use ov_types::NoMemory;
 use std::alloc::Global;
@@ -26,8 +26,8 @@ pub(crate) fn is_live<E: Ends>(ends: &E, session: u16) -> bool
     ensures { result ≡ not (is_idle (post (E.posts ends.now) session).phase) }
 {
     match ends.state(session) {
-        End::Idle => false,
-        End::Opened | End::Up => true,
+        EndState::Idle => false,
+        EndState::Opened | EndState::Up => true,
     }
 }
 

@@ -9,6 +9,6 @@ mod node;
 mod telling;
 
 pub use answers::answer;
-pub use ends::{End, Ends, Plan, Started};
-pub use node::Node;
+pub use ends::{EndState, Ends, Plan, Started};
+pub use node::NodeCore;
 pub use telling::tell;

@@ -6,7 +6,7 @@ ghost use Rattle.node_core.specs.Resting.{is_idle, is_up, nothings};
 ghost use Rattle.node_core.specs.Whole.{Comes, IsWholeStep, session_of};
 
 use crate::advancing::{advance_keeping, session_of};
-use crate::ends::{End, Ends};
+use crate::ends::{EndState, Ends};
 use crate::keeping::{empty_inboxes, is_live, sweep};
 use ov_link::{Inbox, Input, Link, Links, NodeFault, Stepped};
 use ov_types::NoMemory;
@@ -25,7 +25,7 @@ fn close_all<E: Ends>(ends: &mut E)
 
 /// A node: the ends of its sessions, the octets that it keeps of each, and whether memory was wanting.
 #[derive(Drop)]
-pub struct Node<E> {
+pub struct NodeCore<E> {
     pub ends: E,
     /// The octets of each session that are no whole message yet.
     pub inboxes: Vec<Inbox>,
@@ -33,9 +33,9 @@ pub struct Node<E> {
     pub failed: bool,
 }
 
-impl<E: Ends> Node<E> {
+impl<E: Ends> NodeCore<E> {
     /// A node with these ends, of which nothing is kept.
-    pub fn new(alloc: Global, ends: E) -> Result<Node<E>, NoMemory>
+    pub fn new(alloc: Global, ends: E) -> Result<NodeCore<E>, NoMemory>
     where
         E: Drop,
         ensures ends { IfOk result (λ node. node.ends ≡ ends) }
@@ -43,7 +43,7 @@ impl<E: Ends> Node<E> {
         ensures works { IfOk result (λ node. node.failed ≡ false) }
     {
         let inboxes = empty_inboxes(alloc, ends.sessions())?;
-        Ok(Node {
+        Ok(NodeCore {
             ends,
             inboxes,
             failed: false,
@@ -71,8 +71,8 @@ impl<E: Ends> Node<E> {
         ensures { result ≡ is_up (post (E.posts self.now.ends) session).phase }
     {
         match self.ends.state(session) {
-            End::Up => true,
-            End::Idle | End::Opened => false,
+            EndState::Up => true,
+            EndState::Idle | EndState::Opened => false,
         }
     }
 

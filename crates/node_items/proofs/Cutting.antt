@@ -15,7 +15,7 @@ use Rattle.item_wire.specs.declared.input.Came.{Came}
 use Rattle.item_wire.specs.declared.input.Came.TheVariants as Comes
 use Rattle.item_wire.proofs.Cutting.{FrameIs, part_of, long_of, whole_of, read_frame}
 use Rattle.node_model.proofs.Members.{none_some}
-use Rattle.node_items.specs.Hearing.{came_with, next_of, next_in, GoesOn, Hears, Heard, heard, and_record, cause_in}
+use Rattle.node_items.specs.Hearing.{came_with, next_of, next_in, GoesOn, Hears, ItemHearing, heard, and_record, cause_in}
 use Rattle.node_items.specs.Keeping.{GoesOnLeaving, Leaves, session_after, and_then, WhileUp, PartsLeave}
 use Rattle.node_items.proofs.Hearings.{with_event}
 
@@ -194,7 +194,7 @@ leaves_few s octets (came ∷ more) left x =
     goes_short (answer s came) more left (Leaves (after s came) x.0 more left) (leaves_few (after s came) x.0 more left) x.2
 
 -- ---- a part that leaves the session up
-live_on : (event : ItemEvent) (state : ItemState) (more : Heard) → (with_event event state more).cause ≡ None
+live_on : (event : ItemEvent) (state : ItemState) (more : ItemHearing) → (with_event event state more).cause ≡ None
     → (cause_in event ≡ None → more.cause ≡ None → more.state ≢ Idle) → (with_event event state more).state ≢ Idle
 live_on (Event.Record item) state more up f = f refl up
 live_on Event.Quiet state more up f = f refl up
@@ -294,7 +294,7 @@ cut_down s a b (came ∷ more) left cause live x down =
           (cut_down (after s came) x.0 b more left cause (stays_live s.state came live here) x' down')),
     )
 
-none_on : (event : ItemEvent) (state : ItemState) (h : Heard) (more : List Came) (left : List ℕ) (cause : ItemCause) (Then : Type 0)
+none_on : (event : ItemEvent) (state : ItemState) (h : ItemHearing) (more : List Came) (left : List ℕ) (cause : ItemCause) (Then : Type 0)
     → GoesOnLeaving event more left Then → (with_event event state h).cause ≡ Some cause
     → (Then → h.cause ≡ Some cause → left ≡ []) → left ≡ []
 none_on (Event.Record item) state h more left cause Then x down f = f x down

@@ -19,7 +19,7 @@ use Rattle.item_wire.specs.declared.input.Came.{Came}
 use Rattle.item_wire.specs.declared.input.Came.TheVariants as Comes
 use Rattle.item_wire.specs.declared.item.Item.{Item}
 use Rattle.item_wire.specs.declared.item.Item.TheVariants as I
-use Rattle.node_items.specs.Hearing.{came_with, next_of, next_in, Heard, and_record, heard, records_in, cause_in, Brings}
+use Rattle.node_items.specs.Hearing.{came_with, next_of, next_in, ItemHearing, and_record, heard, records_in, cause_in, Brings}
 use Rattle.node_items.specs.Keeping.{GoesOnLeaving, Leaves}
 
 -- ---- one record
@@ -82,7 +82,7 @@ pub leads_start : (start : SessionFields) (octets : List ℕ) → LeadsFrom star
 leads_start start octets inputs left h = record { all = inputs; leaves = h; records_are = refl; state_is = refl; cause_is = refl }
 
 -- what an event makes of what is heard after it
-abbrev pub with_event : ItemEvent → ItemState → Heard → Heard
+abbrev pub with_event : ItemEvent → ItemState → ItemHearing → ItemHearing
 with_event event state more = elim event [
   | Event.Record i ↦ and_record i more
   | Event.Down cause ↦ record { records = []; state = state; cause = Some cause }
@@ -91,12 +91,12 @@ with_event event state more = elim event [
   | Event.Up ↦ more
 ]
 
-record AddsTo (event : ItemEvent) (state : ItemState) (more : Heard) : Type 0 where
+record AddsTo (event : ItemEvent) (state : ItemState) (more : ItemHearing) : Type 0 where
   records_are : (with_event event state more).records ≡ records_in event ++ more.records
   state_is : (with_event event state more).state ≡ more.state
   cause_is : (with_event event state more).cause ≡ more.cause
 
-adds : (event : ItemEvent) (state : ItemState) (more : Heard) → cause_in event ≡ None → AddsTo event state more
+adds : (event : ItemEvent) (state : ItemState) (more : ItemHearing) → cause_in event ≡ None → AddsTo event state more
 adds (Event.Record i) state more h = record { records_are = refl; state_is = refl; cause_is = refl }
 adds (Event.Down cause) state more h = absurd (cc)
 adds Event.Quiet state more h = record { records_are = refl; state_is = refl; cause_is = refl }
@@ -149,7 +149,7 @@ leads_down start octets records s rest came next cause leads brings down =
     let w = leads (came ∷ []) [] (next, brings, last) in
     let is : heard s (came ∷ []) ≡ record { records = []; state = (after s came).state; cause = Some cause } =
     ap (λ (event : ItemEvent). with_event event (after s came).state (heard (after s came) [])) down in
-    (w.all, w.leaves, sym (w.records_are ∙ ap (λ (h : Heard). records ++ h.records) is ∙ append-nil records), sym (w.cause_is ∙ ap (λ (h : Heard). h.cause) is), sym (w.state_is ∙ ap (λ (h : Heard). h.state) is))
+    (w.all, w.leaves, sym (w.records_are ∙ ap (λ (h : ItemHearing). records ++ h.records) is ∙ append-nil records), sym (w.cause_is ∙ ap (λ (h : ItemHearing). h.cause) is), sym (w.state_is ∙ ap (λ (h : ItemHearing). h.state) is))
 
 -- ---- in the words of what was brought
 pub leads_past : (start : SessionFields) (octets : List ℕ) (records : List Item) (s : SessionFields) (rest : List ℕ) (s' : SessionFields) (event : ItemEvent) (size : ℕ)

@@ -25,7 +25,7 @@ use Rattle.item_wire.specs.declared.item.Item.TheVariants as I
 use Rattle.node_model.specs.Step.{Beginning, Post}
 use Rattle.node_model.proofs.Members.{none_some}
 use Rattle.node_items.specs.Beginning.{Begins, BeginsKeeping}
-use Rattle.node_items.specs.Hearing.{came_with, next_of, GoesOn, Hears, Heard, and_record, heard, cause_in}
+use Rattle.node_items.specs.Hearing.{came_with, next_of, GoesOn, Hears, ItemHearing, and_record, heard, cause_in}
 use Rattle.node_items.proofs.Cutting.{leaving_hears}
 
 -- a cause is not the end of the connection
@@ -81,7 +81,7 @@ by_state State.Up (Comes.OtherRecord i) h = tt
 by_state State.Up Comes.Closed h = h
 
 -- what is heard, by the first event and what is heard after it
-abbrev with_event : ItemEvent → ItemState → Heard → Heard
+abbrev with_event : ItemEvent → ItemState → ItemHearing → ItemHearing
 with_event event state more = elim event [
   | Event.Record i ↦ and_record i more
   | Event.Down cause ↦ record { records = []; state = state; cause = Some cause }
@@ -90,7 +90,7 @@ with_event event state more = elim event [
   | Event.Up ↦ more
 ]
 
-by_event : (event : ItemEvent) (state : ItemState) (more : Heard) (left : List Came) (Then : Type 0) → IsOtherIn (cause_in event)
+by_event : (event : ItemEvent) (state : ItemState) (more : ItemHearing) (left : List Came) (Then : Type 0) → IsOtherIn (cause_in event)
     → GoesOn event left Then → (Then → IsOtherIn more.cause) → IsOtherIn (with_event event state more).cause
 by_event (Event.Record i) state more left Then h goes rest = rest goes
 by_event (Event.Down cause) state more left Then h goes rest = h

@@ -13,7 +13,7 @@ use Rattle.item_wire.specs.declared.input.Came.{Came}
 use Rattle.item_wire.specs.declared.item.Item.TheVariants.{Hello}
 use Rattle.node_model.specs.Step.{Beginning, Phase, Idle, Opened, Up, Post}
 use Rattle.node_items.specs.Told.{change_of}
-use Rattle.node_items.specs.Hearing.{Hears, Heard, heard}
+use Rattle.node_items.specs.Hearing.{Hears, ItemHearing, heard}
 use Rattle.node_items.specs.Keeping.{Leaves}
 
 abbrev pub phase_of : ItemState → Phase
@@ -28,7 +28,7 @@ state_at _ = State.Opened
 
 -- an end after what was heard: the records that were handed out are applied in order, and nothing is left where the
 -- session went down
-abbrev pub left_by : Post → Heard → Option ItemCause → Option Post
+abbrev pub left_by : Post → ItemHearing → Option ItemCause → Option Post
 left_by p h None = Some (record p { phase = phase_of h.state; held = after p.held (filter_map change_of h.records) })
 left_by p h (Some cause) = None
 

@@ -43,17 +43,17 @@ Hears s octets (came ∷ more) =
     × GoesOn (answer s came) more (Hears (after s came) rest more)
 
 -- ---- what comes of it
-pub record Heard : Type 0 where
+pub record ItemHearing : Type 0 where
   -- the records that were handed out, in order
   pub records : List Item
   pub state : ItemState
   -- why the session went down, where it did
   pub cause : Option ItemCause
 
-abbrev pub and_record : Item → Heard → Heard
+abbrev pub and_record : Item → ItemHearing → ItemHearing
 and_record i h = record h { records = i ∷ h.records }
 
-abbrev pub heard : SessionFields → List Came → Heard
+abbrev pub heard : SessionFields → List Came → ItemHearing
 heard s [] = record { records = []; state = s.state; cause = None }
 heard s (came ∷ more) =
     elim (answer s came) [

@@ -5,7 +5,7 @@ use Rattle.item_wire.specs.declared.event.ItemCause.{ItemCause}
 use Rattle.item_wire.specs.declared.event.ItemEvent.{ItemEvent}
 use Rattle.item_wire.specs.declared.event.ItemEvent.TheVariants as Event
 use Rattle.item_wire.specs.declared.input.Came.{Came}
-use Rattle.node_items.specs.Hearing.{next_in, Heard, heard}
+use Rattle.node_items.specs.Hearing.{next_in, ItemHearing, heard}
 
 -- ---- what is left of octets
 -- nothing is heard once the session went down, and nothing is left then
@@ -27,7 +27,7 @@ abbrev pub session_after : SessionFields → List Came → SessionFields
 session_after s inputs = record s { state = (heard s inputs).state }
 
 -- what is heard, and then more
-abbrev pub and_then : Heard → Heard → Heard
+abbrev pub and_then : ItemHearing → ItemHearing → ItemHearing
 and_then first more = record more { records = first.records ++ more.records }
 
 -- a part that takes the session down is the last that is heard

@@ -22,7 +22,7 @@ const LENGTH_SIZE: usize = 4;
 
 /// What octets brought to a session.
 #[derive(Drop)]
-pub struct Heard {
+pub struct HeardRecords {
     /// The records that were handed out, in order.
     pub records: Vec<Item>,
     /// How many octets were taken, from the first on: all of them where the session went down. Those behind them are
@@ -118,7 +118,11 @@ fn past(bytes: &[u8], size: usize) -> &[u8]
 
 /// Hears octets: each record of them in order, up to one that takes the session down. Octets at the end that are no
 /// whole record are left. Where memory runs out, some of the records may have been heard.
-pub fn hear(alloc: Global, session: &mut ItemSession, bytes: &[u8]) -> Result<Heard, NoMemory>
+pub fn hear(
+    alloc: Global,
+    session: &mut ItemSession,
+    bytes: &[u8],
+) -> Result<HeardRecords, NoMemory>
     ensures heard { IfOk result (λ w. (inputs : List Came) × Hears session.old bytes.now inputs
         × (w.records.items ≡ (heard session.old inputs).records) × (w.cause ≡ (heard session.old inputs).cause)
         × (session.new.state ≡ (heard session.old inputs).state)) }
@@ -138,14 +142,14 @@ pub fn hear(alloc: Global, session: &mut ItemSession, bytes: &[u8]) -> Result<He
     'hearing: while let Some((event, size)) = take_record(alloc, session, rest)? {
         rest = past(rest, size);
         if let Some(cause) = keep(&mut records, event)? {
-            return Ok(Heard {
+            return Ok(HeardRecords {
                 records,
                 taken: bytes.len(),
                 cause: Some(cause),
             });
         }
     }
-    Ok(Heard {
+    Ok(HeardRecords {
         records,
         taken: bytes.len() - rest.len(),
         cause: None,

@@ -7,6 +7,6 @@ pub mod laws;
 mod naming;
 mod telling;
 
-pub use hearing::{Heard, greet, hear};
+pub use hearing::{HeardRecords, greet, hear};
 pub use naming::config_name;
 pub use telling::{down_change, low_change, spell_down, spell_low, spell_up, up_change};

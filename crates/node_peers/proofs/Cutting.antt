@@ -16,7 +16,7 @@ use Rattle.bgp_session.specs.Inputs.{Came, Opened, RightOpen, WrongOpen, Keepali
 use Rattle.node_peers.specs.Hearing.{IsNext, message, fault, GoesOn, Hears, heard, and_reply, and_changes, reply_octets}
 use Rattle.node_peers.specs.Keeping.{GoesOnLeaving, Leaves, session_after, and_then, WhileUp, PartsLeave}
 use Rattle.node_peers.specs.Taking.{cause_of}
-use Rattle.node_peers.specs.declared.hearing.Heard.{Heard as HeardSoFar}
+use Rattle.node_peers.specs.declared.hearing.HeardRoutes.{HeardRoutes as HeardSoFar}
 use Rattle.node_peers.proofs.Leading.{by_happening, Deltas, Outcome, OutcomeLeaving}
 use Rattle.node_peers.proofs.One.{next_one, hears_one}
 use Rattle.node_peers.proofs.Some.{heard_some}

@@ -15,7 +15,7 @@ use Rattle.bgp_session.proofs.TableLemmas.{words_of}
 use Rattle.bgp_session.specs.Inputs.{Came, Opened, RightUpdate, BringsUpdate, right, wrong, Brings, open_refusal, came_by_open}
 use Rattle.node_peers.specs.Hearing.{IsNext, message, fault, GoesOn, Hears, heard}
 use Rattle.node_peers.specs.Taking.{handed}
-use Rattle.node_peers.specs.declared.hearing.Heard.{Heard as HeardSoFar}
+use Rattle.node_peers.specs.declared.hearing.HeardRoutes.{HeardRoutes as HeardSoFar}
 use Rattle.node_peers.proofs.Leading.{by_happening, Outcome}
 
 -- what came, with labels of 20 bits

@@ -7,15 +7,15 @@ use Rattle.ov_types.specs.declared.vpn.VpnRoute.{VpnRoute}
 use Rattle.ov_sync.specs.declared.Delta.{Delta}
 use Rattle.bgp_wire.specs.Frames.{IsProperPrefix}
 use Rattle.bgp_session.specs.declared.event.Cause.{Cause}
-use Rattle.bgp_session.specs.declared.event.Event.{Event}
+use Rattle.bgp_session.specs.declared.event.SessionEvent.{SessionEvent}
 use Rattle.bgp_session.specs.declared.event.State.{State}
 use Rattle.bgp_session.specs.Happenings.{SessionFields, Happening, Passes, Sends, ComesUp, HandsOut, GoesDown}
 use Rattle.bgp_session.specs.Happenings.{after, answer, happening_of}
 use Rattle.bgp_session.specs.Inputs.{Came}
-use Rattle.node_peers.specs.Hearing.{IsNext, Hears, Heard, heard, and_reply, and_changes, reply_octets, notification}
+use Rattle.node_peers.specs.Hearing.{IsNext, Hears, RouteHearing, heard, and_reply, and_changes, reply_octets, notification}
 use Rattle.node_peers.specs.Keeping.{GoesOnLeaving, Leaves}
 use Rattle.node_peers.specs.Taking.{TakesNext, replied, handed, cause_of, IsAdded}
-use Rattle.node_peers.specs.declared.hearing.Heard.{Heard as HeardSoFar}
+use Rattle.node_peers.specs.declared.hearing.HeardRoutes.{HeardRoutes as HeardSoFar}
 
 abbrev pub Replies : Type 0
 Replies = List (List ℕ)
@@ -24,11 +24,11 @@ abbrev pub Deltas : Type 0
 Deltas = List (Delta VpnKey VpnRoute)
 
 -- what was heard before comes first
-abbrev pub behind : Replies → Deltas → Heard → Heard
+abbrev pub behind : Replies → Deltas → RouteHearing → RouteHearing
 behind replies changes h = record h { replies = replies ++ h.replies; changes = changes ++ h.changes }
 
 -- this is heard of octets, and these are left
-abbrev pub IsHeard : Addr → SessionFields → List ℕ → List ℕ → Heard → Type 0
+abbrev pub IsHeard : Addr → SessionFields → List ℕ → List ℕ → RouteHearing → Type 0
 IsHeard id s octets left h = (inputs : List Came) × Leaves s octets inputs left × (heard id s inputs ≡ h)
 
 -- whatever is heard from here on is heard from the start, behind what was heard before
@@ -40,7 +40,7 @@ pub leads_at_start : (id : Addr) (s : SessionFields) (octets : List ℕ) → Lea
 leads_at_start id s octets = record { whole = λ inputs left leaves. (inputs, leaves, refl) }
 
 -- one input, and the others
-abbrev pub by_happening : Addr → SessionFields → Came → List Came → Happening → Heard
+abbrev pub by_happening : Addr → SessionFields → Came → List Came → Happening → RouteHearing
 by_happening id s came more h =
     elim h [
       | Passes ↦ heard id (after s came) more
@@ -88,7 +88,7 @@ ends_here (Sends r) cause Then down = absurd cc
 ends_here ComesUp cause Then down = absurd cc
 ends_here (HandsOut changes) cause Then down = absurd cc
 
-behind_both : (r q : Replies) (c d : Deltas) (h : Heard) → behind r c (behind q d h) ≡ behind (r ++ q) (c ++ d) h
+behind_both : (r q : Replies) (c d : Deltas) (h : RouteHearing) → behind r c (behind q d h) ≡ behind (r ++ q) (c ++ d) h
 behind_both r q c d h =
     ap (λ (x : Replies). record h { replies = x; changes = c ++ (d ++ h.changes) }) (sym (append_assoc r q h.replies))
     ∙ ap (λ (y : Deltas). record h { replies = (r ++ q) ++ h.replies; changes = y }) (sym (append_assoc c d h.changes))
@@ -144,7 +144,7 @@ Outcome id s octets w state wide =
     × (w.replies ≡ (heard id s inputs).replies) × (w.changes.items ≡ (heard id s inputs).changes)
     × (w.cause ≡ (heard id s inputs).cause) × (state ≡ (heard id s inputs).state) × (wide ≡ (heard id s inputs).wide)
 
-abbrev seen_in : HeardSoFar → State → Bool → Heard
+abbrev seen_in : HeardSoFar → State → Bool → RouteHearing
 seen_in w state wide =
     record { replies = w.replies; changes = w.changes.items; state = state; wide = wide; cause = w.cause }
 
@@ -153,24 +153,24 @@ outcome : (id : Addr) (s : SessionFields) (octets left : List ℕ) (w : HeardSoF
 outcome id s octets left w state wide is = (
   is.0,
   is.1,
-  sym (ap (λ (h : Heard). h.replies) is.2),
-  sym (ap (λ (h : Heard). h.changes) is.2),
-  sym (ap (λ (h : Heard). h.cause) is.2),
-  sym (ap (λ (h : Heard). h.state) is.2),
-  sym (ap (λ (h : Heard). h.wide) is.2),
+  sym (ap (λ (h : RouteHearing). h.replies) is.2),
+  sym (ap (λ (h : RouteHearing). h.changes) is.2),
+  sym (ap (λ (h : RouteHearing). h.cause) is.2),
+  sym (ap (λ (h : RouteHearing). h.state) is.2),
+  sym (ap (λ (h : RouteHearing). h.wide) is.2),
 )
 
 heard_as : (replies replies' : Replies) (changes changes' : Deltas) (state state' : State) (wide wide' : Bool) (cause cause' : Option Cause)
     → replies ≡ replies' → changes ≡ changes' → state ≡ state' → wide ≡ wide' → cause ≡ cause'
-    → (let h : Heard = record { replies = replies; changes = changes; state = state; wide = wide; cause = cause } in h)
+    → (let h : RouteHearing = record { replies = replies; changes = changes; state = state; wide = wide; cause = cause } in h)
     ≡ record { replies = replies'; changes = changes'; state = state'; wide = wide'; cause = cause' }
 heard_as replies replies' changes changes' state state' wide wide' cause cause' r c s n w =
     λ i. record { replies = r i; changes = c i; state = s i; wide = n i; cause = w i }
 
 -- one step of hearing
-pub record Step (id : Addr) (start now now' : SessionFields) (octets rest rest' : List ℕ) (old new : HeardSoFar) : Type 0 where
+pub record HearingStep (id : Addr) (start now now' : SessionFields) (octets rest rest' : List ℕ) (old new : HeardSoFar) : Type 0 where
   pub leads : Leads id start octets now rest old.replies old.changes.items
-  pub event : Event
+  pub event : SessionEvent
   pub takes : TakesNext now rest now' event rest'
   pub adds : IsAdded now.asn id (happening_of event) old new
 
@@ -183,7 +183,7 @@ no_cause (Some cause) is = absurd cc
 no_cause None is = refl
 
 module _ (id : Addr) (start now now' : SessionFields) (octets rest rest' : List ℕ) (old new : HeardSoFar)
-    (s : Step id start now now' octets rest rest' old new) where
+    (s : HearingStep id start now now' octets rest rest' old new) where
   abbrev said : Happening
   said = answer now s.takes.came
 

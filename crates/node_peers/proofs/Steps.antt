@@ -8,7 +8,7 @@ use Rattle.bgp_wire.specs.Frames.{IsProperPrefix}
 use Rattle.bgp_wire.specs.Messages.{BeginsWith, HasFault}
 use Rattle.bgp_wire.proofs.Octets.{range_from}
 use Rattle.bgp_wire.proofs.Readings.{never_message_and_prefix, never_prefix_and_fault}
-use Rattle.bgp_session.specs.declared.event.Event.{Event}
+use Rattle.bgp_session.specs.declared.event.SessionEvent.{SessionEvent}
 use Rattle.bgp_session.specs.Happenings.{SessionFields, happening_of, after, answer, Takes}
 use Rattle.bgp_session.specs.Inputs.{BadFrame}
 use Rattle.node_peers.specs.Hearing.{message, fault}
@@ -30,7 +30,7 @@ pub fault_shortens : (octets : List ℕ) (f : WireFault) → HasFault octets f �
 fault_shortens [] f has = absurd (never_prefix_and_fault [] f nothing_is_prefix has)
 fault_shortens (x ∷ xs) f has = omega arith
 
-pub takes_message : (old new : SessionFields) (octets : List ℕ) (content : Content) (n : ℕ) (event : Event) → BeginsWith octets content n
+pub takes_message : (old new : SessionFields) (octets : List ℕ) (content : Content) (n : ℕ) (event : SessionEvent) → BeginsWith octets content n
     → Takes old content new event → TakesNext old octets new event (take (length octets - n) (drop n octets))
 takes_message old new octets content n event begins takes =
     let rest : TakesNext old octets new event (drop n octets) = record {
@@ -41,7 +41,7 @@ takes_message old new octets content n event begins takes =
       shorter = message_shortens octets content n begins;
     } in subst (TakesNext old octets new event) (sym (range_from n octets)) rest
 
-pub takes_fault : (old new : SessionFields) (octets : List ℕ) (f : WireFault) (event : Event) → HasFault octets f
+pub takes_fault : (old new : SessionFields) (octets : List ℕ) (f : WireFault) (event : SessionEvent) → HasFault octets f
     → new ≡ after old (BadFrame f) → happening_of event ≡ answer old (BadFrame f) → TakesNext old octets new event []
 takes_fault old new octets f event has state happens = record {
   came = BadFrame f;

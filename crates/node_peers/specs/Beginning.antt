@@ -12,7 +12,7 @@ use Rattle.bgp_session.specs.Inputs.{Came}
 use Rattle.node_model.specs.Keys.{Vpn}
 use Rattle.node_model.specs.Values.{Route}
 use Rattle.node_model.specs.Step.{Beginning, Phase, Idle, Opened, Confirmed, Up, Post}
-use Rattle.node_peers.specs.Hearing.{Hears, Heard, heard, open_octets}
+use Rattle.node_peers.specs.Hearing.{Hears, RouteHearing, heard, open_octets}
 use Rattle.node_peers.specs.Keeping.{Leaves}
 
 abbrev pub phase_of : State → Phase
@@ -23,7 +23,7 @@ phase_of State.Established = Up
 
 -- an end after what was heard: the changes of routes are applied in order, the session reads as the OPEN that came said,
 -- and nothing is left where the session went down
-abbrev pub left_by : Post → Heard → Option Cause → Option Post
+abbrev pub left_by : Post → RouteHearing → Option Cause → Option Post
 left_by p h None =
     Some (record p {
       phase = phase_of h.state;

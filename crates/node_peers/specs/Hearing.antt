@@ -64,7 +64,7 @@ abbrev pub notification : Option (ℕ × ℕ) → List (List ℕ)
 notification None = []
 notification (Some r) = spelling (Notifies r.0 r.1) ∷ []
 
-pub record Heard : Type 0 where
+pub record RouteHearing : Type 0 where
   pub replies : List (List ℕ)
   -- the changes of routes that were handed out, in order
   pub changes : List (Delta VpnKey VpnRoute)
@@ -74,14 +74,14 @@ pub record Heard : Type 0 where
   -- why the session went down, where it did
   pub cause : Option Cause
 
-abbrev pub and_reply : List ℕ → Heard → Heard
+abbrev pub and_reply : List ℕ → RouteHearing → RouteHearing
 and_reply octets h = record h { replies = octets ∷ h.replies }
 
-abbrev pub and_changes : List (Delta VpnKey VpnRoute) → Heard → Heard
+abbrev pub and_changes : List (Delta VpnKey VpnRoute) → RouteHearing → RouteHearing
 and_changes changes h = record h { changes = changes ++ h.changes }
 
 -- by a session of the speaker at this address. Before it goes down it notifies, where there is something to notify
-abbrev pub heard : Addr → SessionFields → List Came → Heard
+abbrev pub heard : Addr → SessionFields → List Came → RouteHearing
 heard id s [] = record { replies = []; changes = []; state = s.state; wide = s.wide; cause = None }
 heard id s (came ∷ more) =
     elim (answer s came) [

@@ -5,7 +5,7 @@ use Rattle.bgp_wire.specs.Frames.{IsProperPrefix}
 use Rattle.bgp_session.specs.declared.event.Cause.{Cause}
 use Rattle.bgp_session.specs.Happenings.{SessionFields, Happening, GoesDown, after, answer}
 use Rattle.bgp_session.specs.Inputs.{Came}
-use Rattle.node_peers.specs.Hearing.{IsNext, Heard, heard}
+use Rattle.node_peers.specs.Hearing.{IsNext, RouteHearing, heard}
 
 -- ---- what is left of octets
 -- nothing is heard once the session went down, and nothing is left then
@@ -26,7 +26,7 @@ abbrev pub session_after : Addr → SessionFields → List Came → SessionField
 session_after id s inputs = record s { state = (heard id s inputs).state; wide = (heard id s inputs).wide }
 
 -- what is heard, and then more
-abbrev pub and_then : Heard → Heard → Heard
+abbrev pub and_then : RouteHearing → RouteHearing → RouteHearing
 and_then first more = record more { replies = first.replies ++ more.replies; changes = first.changes ++ more.changes }
 
 -- a part that takes the session down is the last that is heard

@@ -5,15 +5,15 @@ use Rattle.ov_types.specs.declared.vpn.VpnKey.{VpnKey}
 use Rattle.ov_types.specs.declared.vpn.VpnRoute.{VpnRoute}
 use Rattle.ov_sync.specs.declared.Delta.{Delta}
 use Rattle.bgp_session.specs.declared.event.Cause.{Cause}
-use Rattle.bgp_session.specs.declared.event.Event.{Event}
+use Rattle.bgp_session.specs.declared.event.SessionEvent.{SessionEvent}
 use Rattle.bgp_session.specs.Happenings.{SessionFields, Happening, Sends, HandsOut, GoesDown, happening_of}
 use Rattle.bgp_session.specs.Happenings.{after, answer}
 use Rattle.bgp_session.specs.Inputs.{Came}
 use Rattle.node_peers.specs.Hearing.{IsNext, reply_octets, notification}
-use Rattle.node_peers.specs.declared.hearing.Heard.{Heard as HeardSoFar}
+use Rattle.node_peers.specs.declared.hearing.HeardRoutes.{HeardRoutes as HeardSoFar}
 
 -- a session takes what octets begin with, and these octets are left
-pub record TakesNext (old : SessionFields) (octets : List ℕ) (new : SessionFields) (event : Event) (rest : List ℕ)
+pub record TakesNext (old : SessionFields) (octets : List ℕ) (new : SessionFields) (event : SessionEvent) (rest : List ℕ)
     : Type 0 where
   pub came : Came
   pub next : IsNext old octets came rest

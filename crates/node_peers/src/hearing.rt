@@ -11,7 +11,7 @@ ghost use Rattle.node_peers.specs.Hearing.{Hears, heard, open_octets, reply_octe
 ghost use Rattle.node_peers.specs.Keeping.{Leaves};
 ghost use Rattle.node_peers.specs.Taking.{TakesNext, IsAdded};
 
-use bgp_session::{Cause, Event, Reply, Session};
+use bgp_session::{Cause, Reply, Session, SessionEvent};
 use bgp_wire::{OpenOut, read_message, write_keepalive, write_notification, write_open};
 use ov_sync::Delta;
 use ov_types::{Addr, Items, NoMemory, VpnKey, VpnRoute};
@@ -19,7 +19,7 @@ use std::alloc::Global;
 
 /// What octets brought to a session.
 #[derive(Drop)]
-pub struct Heard {
+pub struct HeardRoutes {
     /// The octets of each message that is to be sent, in order.
     pub replies: Items<Items<u8>>,
     /// The changes of routes that were handed out, in order.
@@ -73,18 +73,24 @@ fn push_notification(
 }
 
 /// Adds what an event says.
-fn add(alloc: Global, asn: u32, me: Addr, event: Event, heard: &mut Heard) -> Result<(), NoMemory>
+fn add(
+    alloc: Global,
+    asn: u32,
+    me: Addr,
+    event: SessionEvent,
+    heard: &mut HeardRoutes,
+) -> Result<(), NoMemory>
     requires identifier { me.0 ≢ 0 }
     requires up { heard.old.cause ≡ None }
     ensures { OnOk result (IsAdded asn me (happening_of event) heard.old heard.new) }
 {
     match event {
-        Event::Quiet | Event::Up => {}
-        Event::Send(reply) => heard.replies.push(reply_octets(alloc, asn, me, reply)?)?,
-        Event::Deltas(mut deltas) => {
+        SessionEvent::Quiet | SessionEvent::Up => {}
+        SessionEvent::Send(reply) => heard.replies.push(reply_octets(alloc, asn, me, reply)?)?,
+        SessionEvent::Deltas(mut deltas) => {
             heard.changes.append(&mut deltas)?;
         }
-        Event::Down { cause, reply } => {
+        SessionEvent::Down { cause, reply } => {
             push_notification(alloc, reply, &mut heard.replies)?;
             heard.cause = Some(cause);
         }
@@ -97,7 +103,7 @@ fn take_next<'a>(
     alloc: Global,
     session: &mut Session,
     octets: &'a [u8],
-) -> Result<Option<(Event, &'a [u8])>, NoMemory>
+) -> Result<Option<(SessionEvent, &'a [u8])>, NoMemory>
     ensures next { IfOk result (λ next. MatchOption next ((session.new ≡ session.old) × IsProperPrefix octets.now)
         (λ x. TakesNext session.old octets.now session.new x.0 x.1.now)) }
     ensures asn { session.new.asn ≡ session.old.asn }
@@ -139,7 +145,7 @@ pub fn hear(
     asn: u32,
     me: Addr,
     bytes: &[u8],
-) -> Result<Heard, NoMemory>
+) -> Result<HeardRoutes, NoMemory>
     requires own { session.old.asn ≡ asn }
     requires identifier { me.0 ≢ 0 }
     ensures heard { IfOk result (λ w. (inputs : List Came) × Hears session.old bytes.now inputs
@@ -160,7 +166,7 @@ pub fn hear(
     ensures labels { IfOk result (λ w.
         AllByRecursion (λ d. IfPut d (λ route. route.label.0 < 2 ^ 20)) w.changes.items) }
 {
-    let mut heard = Heard {
+    let mut heard = HeardRoutes {
         replies: Items::new(alloc),
         changes: Vec::new(alloc),
         taken: 0,

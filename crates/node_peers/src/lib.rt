@@ -5,5 +5,5 @@ mod hearing;
 pub mod laws;
 mod telling;
 
-pub use hearing::{Heard, greet, hear};
+pub use hearing::{HeardRoutes, greet, hear};
 pub use telling::spell;

@@ -2,26 +2,26 @@
 use Rattle.std.specs.Prelude.{◌≡◌, ℕ, List, [], ◌∷◌, codes, nat_eq, String, string_bytes, IsTrue}
 use Rattle.std.specs.Cmp.Lexicographic.{pointwise}
 use Rattle.std.specs.declared.alloc.Global.{Global}
-use Rattle.explanations.specs.declared.ends.Heard.{Heard}
-use Rattle.explanations.specs.declared.ends.Heard.TheVariants.{Nothing, Digits, Document}
+use Rattle.explanations.specs.declared.ends.KeptInput.{KeptInput}
+use Rattle.explanations.specs.declared.ends.KeptInput.TheVariants.{Nothing, Digits, Document}
 
 -- a document of which nothing is read yet
-abbrev IsEmpty : Heard → Type 0
+abbrev IsEmpty : KeptInput → Type 0
 IsEmpty (Document kept) = kept.items ≡ []
 IsEmpty heard = ⊥
 
 -- a text of digits of which nothing is read yet
-abbrev AreNone : Heard → Type 0
+abbrev AreNone : KeptInput → Type 0
 AreNone (Digits kept) = kept.items ≡ []
 AreNone heard = ⊥
 
 -- by the name of a command: the octets of its digits, or those of its document
-pub record KeepsForName (word : List ℕ) (heard : Heard) : Type 0 where
+pub record KeepsForName (word : List ℕ) (heard : KeptInput) : Type 0 where
   pub digits : IsTrue (pointwise nat_eq word (codes "decode")) → AreNone heard
   pub document : ¬ IsTrue (pointwise nat_eq word (codes "decode")) → IsEmpty heard
 
 -- by the words: nothing where they are none or several
-abbrev pub KeepsFor : List (String Global) → Heard → Type 0
+abbrev pub KeepsFor : List (String Global) → KeptInput → Type 0
 KeepsFor [] heard = heard ≡ Nothing
 KeepsFor (word ∷ []) heard = KeepsForName (string_bytes word) heard
 KeepsFor (word ∷ more ∷ words) heard = heard ≡ Nothing

@@ -15,7 +15,7 @@ ghost use Rattle.overlay.specs.Saying.{IsSaid};
 ghost use Rattle.top_call.specs.Runs.{number_of};
 
 use explanations::{
-    Advice, Explanation, FrontSink, Heard, HeardSource, HelpText, UsageText, explain_form,
+    Advice, Explanation, FrontSink, HeardSource, HelpText, KeptInput, UsageText, explain_form,
     explain_refusal, explain_stop,
 };
 use ov_io::{StdSink, StdSource};
@@ -88,21 +88,21 @@ fn printed<D: Display + Drop>(rt: &impl Print, text: D) -> Status
 
 /// What is kept of the input for people: the octets of `decode`'s digits or of a document, and nothing where the words
 /// are none or several.
-fn kept_for(alloc: Global, words: &[String]) -> Heard
+fn kept_for(alloc: Global, words: &[String]) -> KeptInput
     ensures { KeepsFor words.now result }
 {
     match words {
         [word] => kept_for_name(alloc, word.as_str()),
-        _ => Heard::Nothing,
+        _ => KeptInput::Nothing,
     }
 }
 
-fn kept_for_name(alloc: Global, word: &str) -> Heard
+fn kept_for_name(alloc: Global, word: &str) -> KeptInput
     ensures { KeepsForName word.now result }
 {
     match word {
-        "decode" => Heard::Digits(Vec::new(alloc)),
-        _ => Heard::Document(Vec::new(alloc)),
+        "decode" => KeptInput::Digits(Vec::new(alloc)),
+        _ => KeptInput::Document(Vec::new(alloc)),
     }
 }
 
@@ -112,7 +112,7 @@ fn explanation<'a>(
     alloc: Global,
     status: Status,
     front: &'a [u8],
-    heard: &Heard,
+    heard: &KeptInput,
 ) -> Option<Explanation<'a>>
     ensures { IsSaid status front.now heard.now (option_map explanation_text result) }
 {
@@ -129,7 +129,7 @@ fn explanation<'a>(
 }
 
 /// Says to people on standard error how a run ended. A fault there changes nothing.
-fn say(rt: &HostRuntime, status: Status, front: &[u8], heard: &Heard) {
+fn say(rt: &HostRuntime, status: Status, front: &[u8], heard: &KeptInput) {
     if status == Status::Usage {
         let _ = rt.eprint(UsageText);
     }
@@ -152,14 +152,14 @@ fn run(rt: &HostRuntime, words: &[String]) -> Status {
 /// Prints what is asked of `main` itself, and says to people how that ended.
 fn tell<D: Display + Drop>(rt: &HostRuntime, text: D) -> Status {
     let status = printed(rt, text);
-    say(rt, status, &[], &Heard::Nothing);
+    say(rt, status, &[], &KeptInput::Nothing);
     status
 }
 
 /// Ends without words, and says so to people.
 fn end_without_words(rt: &HostRuntime, error: &io::Error) -> Status {
     let status = status_without_words(error);
-    say(rt, status, &[], &Heard::Nothing);
+    say(rt, status, &[], &KeptInput::Nothing);
     status
 }
 

@@ -20,10 +20,10 @@ use Rattle.ov_types.specs.declared.packet.Packet.{Packet}
 use Rattle.ov_types.proofs.FirstLemmas.{found_is}
 use Rattle.packet_trace.specs.Circuits.{IsOfAUse}
 use Rattle.packet_trace.specs.Steps.{as_leading, lookup_at}
-use Rattle.packet_trace.specs.declared.step.Step.TheVariants as Does
+use Rattle.packet_trace.specs.declared.step.LookupStep.TheVariants as Does
 use Rattle.packet_trace.specs.declared.hops.Hop.{Hop}
 use Rattle.packet_trace.specs.declared.step.LookupPlace.{LookupPlace}
-use Rattle.packet_trace.specs.declared.step.Step.{Step}
+use Rattle.packet_trace.specs.declared.step.LookupStep.{LookupStep}
 
 -- what becomes of a packet by what a lookup leads to
 abbrev pub outcome_by : (Forwarder → List ServiceNo → InstanceId → Outcome) → List ServiceNo → Leading → Outcome
@@ -54,7 +54,7 @@ mapped_alike f g same None = refl
 mapped_alike {A} {B} f g same (Some x) = let some : B → Option B = λ y. Some y in ap some (same x)
 
 module _ (agents : List Forwarder) (address : ℕ) where
-  pub stepped : (m : ℕ) (services : List ServiceNo) (p : LookupPlace) (r : Step) → as_leading agents r ≡ option_map (leading agents address) (lookup_at agents p)
+  pub stepped : (m : ℕ) (services : List ServiceNo) (p : LookupPlace) (r : LookupStep) → as_leading agents r ≡ option_map (leading agents address) (lookup_at agents p)
       → option_map (λ x. walk agents address (suc m) x.agent services x.instance) (lookup_at agents p)
       ≡ option_map (outcome_by (walk agents address m) services) (as_leading agents r)
   stepped m services p r is =
@@ -78,7 +78,7 @@ module _ (agents : List Forwarder) (address : ℕ) where
       let some : List Hop → Option (List Hop) = λ l. Some l in
       ap some (ap (λ (k : Hop). hops ++ k ∷ rest) (sym same) ∙ sym (append_assoc hops (h ∷ []) rest))
 
-  pub hopped : (m : ℕ) (hops : List Hop) (h : Hop) (p : LookupPlace) (r : Step) → Some h ≡ option_map hop_of (lookup_at agents p)
+  pub hopped : (m : ℕ) (hops : List Hop) (h : Hop) (p : LookupPlace) (r : LookupStep) → Some h ≡ option_map hop_of (lookup_at agents p)
       → as_leading agents r ≡ option_map (leading agents address) (lookup_at agents p)
       → option_map (λ x. hops ++ map hop_of (lookups_from agents address (suc m) x)) (lookup_at agents p)
       ≡ option_map (hops_by m (hops ++ h ∷ [])) (as_leading agents r)
@@ -86,7 +86,7 @@ module _ (agents : List Forwarder) (address : ℕ) where
 
   -- the same with so many left
 
-  pub walk_step : (left : ℕ) (services : List ServiceNo) (p : LookupPlace) (r : Step) (all : Option Outcome) → 0 < left
+  pub walk_step : (left : ℕ) (services : List ServiceNo) (p : LookupPlace) (r : LookupStep) (all : Option Outcome) → 0 < left
       → as_leading agents r ≡ option_map (leading agents address) (lookup_at agents p)
       → option_map (λ x. walk agents address left x.agent services x.instance) (lookup_at agents p) ≡ all
       → option_map (outcome_by (walk agents address (left - 1)) services) (as_leading agents r) ≡ all
@@ -95,7 +95,7 @@ module _ (agents : List Forwarder) (address : ℕ) where
       sym (stepped (left - 1) services p r is)
       ∙ subst (λ (n : ℕ). option_map (λ x. walk agents address n x.agent services x.instance) (lookup_at agents p) ≡ all) e so_far
 
-  pub hops_step : (left : ℕ) (hops : List Hop) (h : Hop) (p : LookupPlace) (r : Step) (all : Option (List Hop)) → 0 < left
+  pub hops_step : (left : ℕ) (hops : List Hop) (h : Hop) (p : LookupPlace) (r : LookupStep) (all : Option (List Hop)) → 0 < left
       → Some h ≡ option_map hop_of (lookup_at agents p)
       → as_leading agents r ≡ option_map (leading agents address) (lookup_at agents p)
       → option_map (λ x. hops ++ map hop_of (lookups_from agents address left x)) (lookup_at agents p) ≡ all

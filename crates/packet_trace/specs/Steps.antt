@@ -5,8 +5,8 @@ use Rattle.route_targets.specs.Forwarding.{Forwarder}
 use Rattle.packet_trace.specs.Lookups as of
 use Rattle.packet_trace.specs.Lookups.{Leading, Lookup}
 use Rattle.packet_trace.specs.declared.step.LookupPlace.{LookupPlace}
-use Rattle.packet_trace.specs.declared.step.Step.{Step}
-use Rattle.packet_trace.specs.declared.step.Step.TheVariants.{Arrives, Stops, Passes}
+use Rattle.packet_trace.specs.declared.step.LookupStep.{LookupStep}
+use Rattle.packet_trace.specs.declared.step.LookupStep.TheVariants.{Arrives, Stops, Passes}
 
 -- the agent in a place of the list
 abbrev pub forwarder_at : List Forwarder → Option ℕ → Option Forwarder
@@ -16,13 +16,13 @@ forwarder_at agents (Some k) = slice_get agents k
 abbrev pub lookup_at : List Forwarder → LookupPlace → Option Lookup
 lookup_at agents p = option_map (λ g. record { agent = g; instance = p.instance }) (slice_get agents p.agent)
 
-abbrev pub as_leading : List Forwarder → Step → Option Leading
+abbrev pub as_leading : List Forwarder → LookupStep → Option Leading
 as_leading agents (Arrives port) = Some (of.Arrives port)
 as_leading agents (Stops why) = Some (of.Stops why)
 as_leading agents (Passes service behind) = option_map (λ l. of.Passes service l) (lookup_at agents behind)
 
 -- the place behind a service is one of so many
-abbrev pub IsWithin : ℕ → Step → Type 0
+abbrev pub IsWithin : ℕ → LookupStep → Type 0
 IsWithin n (Arrives port) = Unit {0}
 IsWithin n (Stops why) = Unit {0}
 IsWithin n (Passes service behind) = behind.agent < n

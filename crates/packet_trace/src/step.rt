@@ -21,28 +21,28 @@ pub(crate) struct LookupPlace {
 
 /// What a lookup leads to: a port, a reason to drop the packet, or a service, behind which is the next lookup.
 #[derive(Clone, Copy)]
-pub(crate) enum Step {
+pub(crate) enum LookupStep {
     Arrives(PortNo),
     Stops(Why),
     Passes(ServiceNo, LookupPlace),
 }
 
-pub(crate) fn look_up<V: Vrouter>(agents: &[V], address: Addr, place: LookupPlace) -> Step
+pub(crate) fn look_up<V: Vrouter>(agents: &[V], address: Addr, place: LookupPlace) -> LookupStep
     requires { place.agent < length agents.now }
     ensures place { IsWithin (length agents.now) result }
     ensures leading { as_leading (map V.forwarder agents.now) result
         ≡ option_map (leading (map V.forwarder agents.now) address.0) (lookup_at (map V.forwarder agents.now) place) }
 {
     let Some(entry) = agents[place.agent].route(place.instance, address) else {
-        return Step::Stops(Why::NoRoute);
+        return LookupStep::Stops(Why::NoRoute);
     };
     let Some(agent) = agent_at(agents, entry.next_hop) else {
-        return Step::Stops(Why::NoLabel);
+        return LookupStep::Stops(Why::NoLabel);
     };
     match agents[agent].find(entry.label) {
-        None => Step::Stops(Why::NoLabel),
-        Some(Attached::Port { port, .. }) => Step::Arrives(port),
-        Some(Attached::Circuit { circuit, service }) => Step::Passes(
+        None => LookupStep::Stops(Why::NoLabel),
+        Some(Attached::Port { port, .. }) => LookupStep::Arrives(port),
+        Some(Attached::Circuit { circuit, service }) => LookupStep::Passes(
             service,
             behind(agent, circuit),
         ),

@@ -5,7 +5,7 @@ ghost use Rattle.packet_trace.specs.Lookups.{hop_of, hops_of, lookups_from};
 ghost use Rattle.packet_trace.specs.Steps.{lookup_at};
 
 use crate::hops::{Hops, Trace};
-use crate::step::{LookupPlace, Step, hop_at, look_up, source_of, verdict_at};
+use crate::step::{LookupPlace, LookupStep, hop_at, look_up, source_of, verdict_at};
 use crate::vrouter::Vrouter;
 use ov_types::{Addr, Outcome, Packet, Services, Verdict, Why};
 
@@ -62,15 +62,15 @@ fn walk<V: Vrouter>(agents: &[V], address: Addr, start: LookupPlace, lookups: u8
         left -= 1;
         hops.push(hop_at(agents, place));
         match look_up(agents, address, place) {
-            Step::Arrives(port) => {
+            LookupStep::Arrives(port) => {
                 let outcome = Outcome::Delivered { port, services };
                 return Trace { outcome, hops };
             }
-            Step::Stops(why) => {
+            LookupStep::Stops(why) => {
                 let outcome = Outcome::Dropped { why };
                 return Trace { outcome, hops };
             }
-            Step::Passes(service, behind) => {
+            LookupStep::Passes(service, behind) => {
                 services.push(service);
                 place = behind;
             }

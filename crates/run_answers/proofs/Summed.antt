@@ -10,7 +10,7 @@ use Rattle.scenario_run.specs.declared.tally.Tally.{Tally}
 use Rattle.scenario_run.specs.Scheduled.{opening, schedule}
 use Rattle.scenario_run.specs.Tallies.{tally}
 use Rattle.compile_answers.specs.declared.unfit.Reception.TheVariants.{Good}
-use Rattle.compile_answers.specs.Answers.{Answer, WasGiven, answer_good}
+use Rattle.compile_answers.specs.Answers.{DocumentAnswer, WasGiven, answer_good}
 use Rattle.run_answers.specs.Answers.{gen_answer}
 use Rattle.run_answers.specs.Generating.{summary_of, summary_text}
 use Rattle.run_answers.proofs.Ending.{gen_promised}
@@ -25,13 +25,13 @@ schedules_are_short n = let is : length (schedule n) ≡ 45 = refl in omega (ari
 text_is : (n : ℕ) (t : Tally) → t ≡ tally (opening n) (schedule n) → gen_answer n ≡ answer_good (summary_text n)
     → summary_of n t ≡ (gen_answer n).text
 unfolding summary_text
-text_is n t is fit = ap (summary_of n) is ∙ ap (λ (a : Answer). a.text) (sym fit)
+text_is n t is fit = ap (summary_of n) is ∙ ap (λ (a : DocumentAnswer). a.text) (sym fit)
 
 pub summary_given : (n : ℕ) (t : Tally) (old new : Option (List ℕ)) → t ≡ tally (opening n) (schedule n)
     → gen_answer n ≡ answer_good (summary_text n) → Appends old new (summary_of n t)
     → WasGiven (gen_answer n) Good old new
 summary_given n t old new is fit taken = record {
-  is = ap (λ (a : Answer). a.verdict) (sym fit);
+  is = ap (λ (a : DocumentAnswer). a.verdict) (sym fit);
   taken = subst (Appends old new) (text_is n t is fit) taken;
 }
 

@@ -22,7 +22,7 @@ use Rattle.node_model.specs.Maps.{Change, Map}
 use Rattle.node_model.specs.Step.{Beginning, Phase, Idle, Opened, Confirmed, Up, Post, is_idle}
 use Rattle.node_model.proofs.Members.{none_some}
 use Rattle.node_items.specs.Beginning.{BeginsKeeping, left_by, phase_of, state_at}
-use Rattle.node_items.specs.Hearing.{Heard, heard}
+use Rattle.node_items.specs.Hearing.{ItemHearing, heard}
 use Rattle.node_items.specs.Keeping.{Leaves, session_after}
 use Rattle.node_items.specs.Keeping as keeping
 use Rattle.node_items.specs.Told.{change_of}
@@ -47,20 +47,20 @@ live_phase State.Up live = refl
 
 -- ---- an end after what was heard
 -- the end that is left where the session stays up
-abbrev after_up : Post → Heard → Post
+abbrev after_up : Post → ItemHearing → Post
 after_up p h = record p { phase = phase_of h.state; held = keyed.after p.held (filter_map change_of h.records) }
 
-stays : (p q : Post) (h : Heard) (o : Option ItemCause) → h.cause ≡ o → left_by p h o ≡ Some q
+stays : (p q : Post) (h : ItemHearing) (o : Option ItemCause) → h.cause ≡ o → left_by p h o ≡ Some q
     → (h.cause ≡ None) × (q ≡ after_up p h)
 stays p q h None e is = (e, sym (same_Some (after_up p h) q is))
 stays p q h (Some cause) e is = absurd (none_some q is)
 
-goes_down : (p : Post) (h : Heard) (o : Option ItemCause) → h.cause ≡ o → left_by p h o ≡ None
+goes_down : (p : Post) (h : ItemHearing) (o : Option ItemCause) → h.cause ≡ o → left_by p h o ≡ None
     → (cause : ItemCause) × (h.cause ≡ Some cause)
 goes_down p h None e is = absurd (none_some (after_up p h) (sym is))
 goes_down p h (Some cause) e is = (cause, e)
 
-left_by_both : (p : Post) (h k : Heard) (o : Option ItemCause)
+left_by_both : (p : Post) (h k : ItemHearing) (o : Option ItemCause)
     → left_by (after_up p h) k o ≡ left_by p (keeping.and_then h k) o
 left_by_both p h k None =
     ap (λ (m : Map). Some (record p { phase = phase_of k.state; held = m }))
@@ -69,7 +69,7 @@ left_by_both p h k None =
 left_by_both p h k (Some cause) = refl
 
 -- what was sent on the end stays
-left_by_told : (p : Post) (h : Heard) (o : Option ItemCause) (sent : Map)
+left_by_told : (p : Post) (h : ItemHearing) (o : Option ItemCause) (sent : Map)
     → left_by (told sent p) h o ≡ option_map (told sent) (left_by p h o)
 left_by_told p h None sent = refl
 left_by_told p h (Some cause) sent = refl
@@ -94,7 +94,7 @@ module _ (me peer : List ℕ) (from : ItemFrom) (i : ℕ) where
     abbrev s : SessionFields
     s = session_at p.phase
 
-    abbrev h : Heard
+    abbrev h : ItemHearing
     h = heard s x.0
 
     -- the end that the first part leaves
@@ -123,8 +123,8 @@ module _ (me peer : List ℕ) (from : ItemFrom) (i : ℕ) where
             subst (λ (o : List ℕ). Leaves s o (x.0 ++ y.0) left) joined leaves,
             (λ j. and_then (x.2 j) (y.2 j))
                 ∙ ap (λ (after : Option Post). record { replies = []; after = after }) (left_by_both p h k k.cause)
-                ∙ ap (λ (z : Heard). record { replies = []; after = left_by p z z.cause }) (sym both),
-            y.3 ∙ ap (λ (z : Heard). z.cause) (sym both),
+                ∙ ap (λ (z : ItemHearing). record { replies = []; after = left_by p z z.cause }) (sym both),
+            y.3 ∙ ap (λ (z : ItemHearing). z.cause) (sym both),
           )
 
       pub items_up : (q : Post) (more : Beginning) (d : Option ItemCause) (left : List ℕ) → first.after ≡ Some q

@@ -24,7 +24,7 @@ use Rattle.node_model.specs.Step.{Beginning, Phase, Idle, Opened, Confirmed, Up,
 use Rattle.node_model.specs.Values.{Route}
 use Rattle.node_model.proofs.Members.{none_some}
 use Rattle.node_peers.specs.Beginning.{BeginsKeeping, left_by, phase_of}
-use Rattle.node_peers.specs.Hearing.{Heard, heard}
+use Rattle.node_peers.specs.Hearing.{RouteHearing, heard}
 use Rattle.node_peers.specs.Keeping.{Leaves, session_after}
 use Rattle.node_peers.specs.Keeping as keeping
 use Rattle.node_peers.proofs.Cutting.{cut_down, cut_up, heard_of_both, leaves_one, live_after, nothing_left}
@@ -51,24 +51,24 @@ live_phase State.Established live = refl
 
 -- ---- an end after what was heard
 -- the end that is left where the session stays up
-abbrev after_up : Post → Heard → Post
+abbrev after_up : Post → RouteHearing → Post
 after_up p h = record p {
   phase = phase_of h.state;
   held = keyed.after p.held (map (moved_delta Vpn Route) h.changes);
   wide = h.wide;
 }
 
-stays : (p q : Post) (h : Heard) (o : Option Cause) → h.cause ≡ o → left_by p h o ≡ Some q
+stays : (p q : Post) (h : RouteHearing) (o : Option Cause) → h.cause ≡ o → left_by p h o ≡ Some q
     → (h.cause ≡ None) × (q ≡ after_up p h)
 stays p q h None e is = (e, sym (same_Some (after_up p h) q is))
 stays p q h (Some cause) e is = absurd (none_some q is)
 
-goes_down : (p : Post) (h : Heard) (o : Option Cause) → h.cause ≡ o → left_by p h o ≡ None
+goes_down : (p : Post) (h : RouteHearing) (o : Option Cause) → h.cause ≡ o → left_by p h o ≡ None
     → (cause : Cause) × (h.cause ≡ Some cause)
 goes_down p h None e is = absurd (none_some (after_up p h) (sym is))
 goes_down p h (Some cause) e is = (cause, e)
 
-left_by_both : (p : Post) (h k : Heard) (o : Option Cause)
+left_by_both : (p : Post) (h k : RouteHearing) (o : Option Cause)
     → left_by (after_up p h) k o ≡ left_by p (keeping.and_then h k) o
 left_by_both p h k None =
     let moved = moved_delta Vpn Route in
@@ -78,7 +78,7 @@ left_by_both p h k None =
 left_by_both p h k (Some cause) = refl
 
 -- what was sent on the end stays
-left_by_told : (p : Post) (h : Heard) (o : Option Cause) (sent : Map)
+left_by_told : (p : Post) (h : RouteHearing) (o : Option Cause) (sent : Map)
     → left_by (told sent p) h o ≡ option_map (told sent) (left_by p h o)
 left_by_told p h None sent = refl
 left_by_told p h (Some cause) sent = refl
@@ -103,7 +103,7 @@ module _ (id : Addr) (asn : ℕ) (peer : NodeId) (i : ℕ) where
     abbrev s : SessionFields
     s = session_at p
 
-    abbrev h : Heard
+    abbrev h : RouteHearing
     h = heard id s x.0
 
     -- the end that the first part leaves
@@ -133,8 +133,8 @@ module _ (id : Addr) (asn : ℕ) (peer : NodeId) (i : ℕ) where
             (λ j. and_then (x.2 j) (y.2 j))
                 ∙ ap (λ (after : Option Post). record { replies = h.replies ++ k.replies; after = after })
                 (left_by_both p h k k.cause)
-                ∙ ap (λ (z : Heard). record { replies = z.replies; after = left_by p z z.cause }) (sym both),
-            y.3 ∙ ap (λ (z : Heard). z.cause) (sym both),
+                ∙ ap (λ (z : RouteHearing). record { replies = z.replies; after = left_by p z z.cause }) (sym both),
+            y.3 ∙ ap (λ (z : RouteHearing). z.cause) (sym both),
           )
 
       pub routes_up : (q : Post) (more : Beginning) (d : Option Cause) (left : List ℕ) → first.after ≡ Some q

@@ -16,8 +16,8 @@ use Rattle.node_model.specs.Step.{nothing, post}
 use Rattle.node_peers.specs.Hearing.{open_octets}
 use Rattle.node_peers.specs.Told as routes
 use Rattle.machine_model.specs.Setup.{Name}
-use Rattle.machine_model.specs.Session.{Message, Open, Keepalive, Hello, Carries, End, Session, is_live, is_peering}
-use Rattle.machine_model.specs.Network.{Network, start}
+use Rattle.machine_model.specs.Session.{Message, Open, Keepalive, Hello, Carries, SessionEnd, Session, is_live, is_peering}
+use Rattle.machine_model.specs.Network.{MachineState, start}
 use Rattle.machine_model.specs.Steps.{session_of}
 use Rattle.machine_model.specs.Events.{after, event_of}
 use Rattle.running_model.specs.Seats.{Who, Controlling, Seat, whos, name_of, others_of}
@@ -72,7 +72,7 @@ pub record IsEnd (n : Seat) (i : ℕ) (s : Session) : Type 0 where
   pub taken : s.far.taken ≡ taken_in n i
 
 -- it stands among the sessions of the network, with the node of this name at its other end
-pub record HasEnd (w : Network) (n : Seat) (i : ℕ) (b : Name) : Type 0 where
+pub record HasEnd (w : MachineState) (n : Seat) (i : ℕ) (b : Name) : Type 0 where
   pub session : Session
   pub found : session_of w (name_of n.who) b ≡ Some session
   pub is : IsEnd n i session
@@ -93,7 +93,7 @@ pub record IsLong (n : Seat) : Type 0 where
   pub notices : length n.notices ≡ length (others_of n.who)
 
 -- ---- all of them
-abbrev pub is_whole_end : End → Bool
+abbrev pub is_whole_end : SessionEnd → Bool
 is_whole_end e = is_live e && not e.notice
 
 -- a session is down where an end is not live, or a notice waits
@@ -112,7 +112,7 @@ KeepsPart seats p =
     → kept_at seats p ≡ take (length (kept_at seats p)) (first_of (link_at seats far))
 
 -- these are the seats of the network's nodes, and each end is as its seat has it
-pub record Seats (seats : List Seat) (w : Network) : Type 0 where
+pub record Seats (seats : List Seat) (w : MachineState) : Type 0 where
   pub who : map (λ (n : Seat). n.who) seats ≡ whos w.setup
   pub long : (k : ℕ) → k < length seats → IsLong (seat seats k)
   pub ends : (k i : ℕ) → k < length seats → i < length (seat seats k).posts
@@ -122,10 +122,10 @@ pub record Seats (seats : List Seat) (w : Network) : Type 0 where
   pub parts : (k i : ℕ) → k < length seats → i < length (seat seats k).posts
       → KeepsPart seats (record { node = k; session = i })
 
-pub record StandsFor (seats : List Seat) (w : Network) : Type 0 where
+pub record StandsFor (seats : List Seat) (w : MachineState) : Type 0 where
   pub seats_are : Seats seats w
   pub down : AllByRecursion IsDownWhere w.sessions
 
 -- ---- the state after the events of a schedule, from the empty state with an opening configuration
-abbrev pub moment : Checked → List Written → Network
+abbrev pub moment : Checked → List Written → MachineState
 moment opening events = after message_size (start opening) (map event_of events)

@@ -25,15 +25,15 @@ coded_controls =
     (λ c. (c.me, (c.asn, (c.peers, c.agents))))
     (λ c. record { me = c.0; asn = c.1.0; peers = c.1.1.0; agents = c.1.1.1 }) (λ _. refl)
 
-abbrev pub Plan : Type 0
-Plan = Checked ⊎ (Controls ⊎ AgentPlan)
+abbrev pub WhoCode : Type 0
+WhoCode = Checked ⊎ (Controls ⊎ AgentPlan)
 
-abbrev pub plan_of : Who → Plan
+abbrev pub plan_of : Who → WhoCode
 plan_of (Configuring x) = inl x
 plan_of (Controlling c) = inr (inl c)
 plan_of (Forwarding plan) = inr (inr plan)
 
-abbrev pub who_of : Plan → Who
+abbrev pub who_of : WhoCode → Who
 who_of (inl x) = Configuring x
 who_of (inr (inl c)) = Controlling c
 who_of (inr (inr plan)) = Forwarding plan
@@ -45,7 +45,7 @@ plans_tell (Forwarding plan) = refl
 
 abbrev pub coded_who : Coded Who
 coded_who =
-    code_by Plan (coded⊎ valid.the_row.coded (coded⊎ coded_controls agents.the_row.coded))
+    code_by WhoCode (coded⊎ valid.the_row.coded (coded⊎ coded_controls agents.the_row.coded))
     plan_of who_of plans_tell
 
 -- ---- halves
@@ -61,10 +61,10 @@ coded_inner =
     code_by (Who × (List Post × Lists)) (coded× coded_who (coded× (coded_list coded_post) coded_lists))
     (λ n. (n.who, (n.posts, n.kept))) (λ c. record { who = c.0; posts = c.1.0; kept = c.1.1 }) (λ _. refl)
 
-abbrev pub Links : Type 0
-Links = List Lists
+abbrev pub LinkLists : Type 0
+LinkLists = List Lists
 
-abbrev pub coded_links : Coded Links
+abbrev pub coded_links : Coded LinkLists
 coded_links = coded_list coded_lists
 
 abbrev pub coded_names : Coded (List (Option Name))
@@ -72,7 +72,7 @@ coded_names = coded_list (coded_option (coded_list coded_ℕ))
 
 abbrev pub coded_outer : Coded Outer
 coded_outer =
-    code_by (Name × (List (Option Name) × (Links × (Lists × List Bool))))
+    code_by (Name × (List (Option Name) × (LinkLists × (Lists × List Bool))))
     (coded× (coded_list coded_ℕ) (coded× coded_names (coded× coded_links (coded× coded_lists (coded_list coded_bool)))))
     (λ o. (o.name, (o.others, (o.links, (o.breaks, o.notices)))))
     (λ c. record { name = c.0; others = c.1.0; links = c.1.1.0; breaks = c.1.1.1.0; notices = c.1.1.1.1 }) (λ _. refl)
@@ -80,7 +80,7 @@ coded_outer =
 -- ---- seats
 abbrev pub coded_seat : Coded Seat
 coded_seat =
-    code_by (Inner × (Links × (Lists × List Bool)))
+    code_by (Inner × (LinkLists × (Lists × List Bool)))
     (coded× coded_inner (coded× coded_links (coded× coded_lists (coded_list coded_bool))))
     (λ n. (record { who = n.who; posts = n.posts; kept = n.kept }, (n.links, (n.breaks, n.notices))))
     (λ c. seated c.0 c.1.0 c.1.1.0 c.1.1.1) (λ _. refl)

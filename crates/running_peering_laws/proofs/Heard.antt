@@ -10,7 +10,7 @@ use Rattle.node_model.specs.Members.{Member}
 use Rattle.node_model.specs.Wants.{wanted_by_peers}
 use Rattle.node_model.proofs.Members.{any_in}
 use Rattle.machine_model.specs.Moments.{Each, HasNumbers, HasSessions, IsAtRest, IsAtRestWith, nodes}
-use Rattle.machine_model.specs.Network.{Network, View, control_holdings, lists, same_role, sessions_of, view, views_of, wanted, wanted_from, wanted_from_control, with_role}
+use Rattle.machine_model.specs.Network.{MachineState, View, control_holdings, lists, same_role, sessions_of, view, views_of, wanted, wanted_from, wanted_from_control, with_role}
 use Rattle.machine_model.specs.Session.{Agent, Configuration, Controller, Role, Session, turned}
 use Rattle.machine_model.specs.Setup.{Name, Setup, agents_of, checked}
 use Rattle.machine_model.specs.Steps.{is_settled}
@@ -64,7 +64,7 @@ roles_apart : (x : Setup) (ss : List Session) → AllByRecursion (HasRoles x) (m
 roles_apart x [] h = tt
 roles_apart x (s ∷ ss) h = (h.0, roles_apart x ss h.1)
 
-module _ (w : Network) (m : IsMoment w) (rest : IsAtRest w) (twins : NoTwins (map nodes w.sessions)) where
+module _ (w : MachineState) (m : IsMoment w) (rest : IsAtRest w) (twins : NoTwins (map nodes w.sessions)) where
   abbrev x : Setup
   x = w.setup
 
@@ -153,10 +153,10 @@ module _ (w : Network) (m : IsMoment w) (rest : IsAtRest w) (twins : NoTwins (ma
     hears = all_heard (sessions_of c.name w.sessions) (fars_are c.name w.sessions ∙ ap (others c.name) has ∙ site_sees x named c i) heard_of
 
 -- ---- at a settled moment
-without_twins : (w : Network) → IsMoment w → NoTwins (map nodes w.sessions)
+without_twins : (w : MachineState) → IsMoment w → NoTwins (map nodes w.sessions)
 without_twins w m =
     subst NoTwins (sym (moment_sessions w m)) (no_twins (checked w.setup) (written_named w.setup (moment_written w m)).apart)
 
-pub all_hear : (w : Network) → IsMoment w → is_settled w ≡ true → AllHearTheirPeers w
+pub all_hear : (w : MachineState) → IsMoment w → is_settled w ≡ true → AllHearTheirPeers w
 all_hear w m settled c i =
     hears w m (at_rest message_size w (moment_sound w m) (moment_told w m) settled) (without_twins w m) c i

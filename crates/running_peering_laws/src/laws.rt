@@ -1,6 +1,6 @@
 //! Laws of settled networks: each is the contract of a function that does nothing.
 ghost use Rattle.std.specs.Prelude.{◌≡◌, true};
-ghost use Rattle.machine_model.specs.Network.{Network};
+ghost use Rattle.machine_model.specs.Network.{MachineState};
 ghost use Rattle.machine_model.specs.Steps.{is_settled};
 ghost use Rattle.running_telling_laws.specs.Moments.{IsMoment};
 ghost use Rattle.running_peering_laws.specs.Hearing.{AllHearTheirPeers};
@@ -8,5 +8,5 @@ ghost use Rattle.running_peering_laws.specs.Hearing.{AllHearTheirPeers};
 /// At a settled moment a control node holds of each peer exactly what that peer is to tell its peers: its own routes and
 /// those that it re-originates.
 pub fn control_nodes_hold_what_their_peers_tell()
-    ensures { (w : Network) → IsMoment w → is_settled w ≡ true → AllHearTheirPeers w }
+    ensures { (w : MachineState) → IsMoment w → is_settled w ≡ true → AllHearTheirPeers w }
 {}

@@ -10,7 +10,7 @@ use Rattle.node_model.specs.Agent.{wanted as wanted_by}
 use Rattle.node_model.specs.Members.{Member}
 use Rattle.node_model.specs.Step.{Post, nothing, post}
 use Rattle.machine_model.specs.Moments.{HasNumbers, HasSessions}
-use Rattle.machine_model.specs.Network.{Network, agent_holdings, views_of}
+use Rattle.machine_model.specs.Network.{MachineState, agent_holdings, views_of}
 use Rattle.machine_model.specs.Session.{Carries, Session, are_peers, is_peering, is_up_phase}
 use Rattle.machine_model.specs.Setup.{Name}
 use Rattle.machine_model.specs.Steps.{session_of}
@@ -30,7 +30,7 @@ use Rattle.running_seat_laws.proofs.Seating.{ListsApart, party_at, party_there, 
 use Rattle.running_seat_laws.proofs.Sessions.{all_found, names_differ, nodes_at}
 use Rattle.running_seat_laws.proofs.Vacant.{named_at}
 
-module _ (w : Network) (named : IsNamed w.setup.topology) (numbers : HasNumbers w.setup) (listed : ListsApart w.setup) (seats : List Seat) (stands : Seats seats w) (has : HasSessions w) where
+module _ (w : MachineState) (named : IsNamed w.setup.topology) (numbers : HasNumbers w.setup) (listed : ListsApart w.setup) (seats : List Seat) (stands : Seats seats w) (has : HasSessions w) where
   -- ---- agents
   pub computer_holds : (n : Node) → Member n w.setup.topology.nodes → (posts : List Post) → Ends w (Forwarding (agent_plan w.setup.topology n)) posts → agent_holdings w.setup n.name (views_of n.name w.sessions) ≡ agent.holdings posts
   computer_holds n m posts h =

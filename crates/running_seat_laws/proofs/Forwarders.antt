@@ -12,7 +12,7 @@ use Rattle.node_model.specs.Members.{Member}
 use Rattle.machine_model.specs.Events as events
 use Rattle.machine_model.specs.Events.{forwarders}
 use Rattle.machine_model.specs.Moments.{HasNumbers, HasSessions}
-use Rattle.machine_model.specs.Network.{Network}
+use Rattle.machine_model.specs.Network.{MachineState}
 use Rattle.machine_model.specs.Setup.{checked}
 use Rattle.machine_compiled_laws.specs.Setups.{IsNamed}
 use Rattle.running_model.specs.Seats.{Configuring, Controlling, Forwarding, Seat, Who, agent_plan, control_plan, nobody}
@@ -26,7 +26,7 @@ use Rattle.running_seat_laws.proofs.Seating.{ListsApart}
 forwards_as : (n : Seat) (v : Who) → n.who ≡ v → forwarder_of n ≡ forwarder_of (record n { who = v })
 forwards_as n v e = ap (λ (v : Who). forwarder_of (record n { who = v })) e
 
-module _ (w : Network) (named : IsNamed w.setup.topology) (numbers : HasNumbers w.setup) (listed : ListsApart w.setup) (seats : List Seat) (stands : Seats seats w) (has : HasSessions w) where
+module _ (w : MachineState) (named : IsNamed w.setup.topology) (numbers : HasNumbers w.setup) (listed : ListsApart w.setup) (seats : List Seat) (stands : Seats seats w) (has : HasSessions w) where
   abbrev machine_forwarder : Node → Forwarder
   machine_forwarder n = record { address = n.address; rows = agent_rows (events.agent_rows w n.name) }
 

@@ -18,8 +18,8 @@ use Rattle.node_model.specs.Step.{Confirmed, Idle, Opened, Phase, Post, Up, post
 use Rattle.node_model.specs.Wants.{wanted_by_agent, wanted_by_peers}
 use Rattle.node_model.proofs.Members.{in_map, none_some}
 use Rattle.node_peers.specs.Told as routes
-use Rattle.machine_model.specs.Moments.{AreOnce, Each, HasNumbers, HasSessions, Nodes, NumbersFit}
-use Rattle.machine_model.specs.Network.{Network, View, address_in, config, control_holdings, heard_from, holdings_of, lists, sessions_of, view, views_of, wanted, wanted_from, wanted_from_control}
+use Rattle.machine_model.specs.Moments.{AreOnce, Each, HasNumbers, HasSessions, NodePair, NumbersFit}
+use Rattle.machine_model.specs.Network.{MachineState, View, address_in, config, control_holdings, heard_from, holdings_of, lists, sessions_of, view, views_of, wanted, wanted_from, wanted_from_control}
 use Rattle.machine_model.specs.Session.{Agent, Carries, Configuration, Controller, Role, Session, are_peers, is_peering, may_send, may_send_at}
 use Rattle.machine_model.specs.Setup.{Name, Setup, agents_of, checked}
 use Rattle.machine_model.proofs.Twins.{Found, itself}
@@ -46,12 +46,12 @@ use Rattle.running_seat_laws.proofs.Parties.{computer, parties_of, root, site}
 use Rattle.running_seat_laws.proofs.Positions.{AtAgent, AtFeed, AtPeer, Position, agent_at, agent_is, agent_told, both_long, not_feed, peer_at, peer_is, position}
 use Rattle.running_seat_laws.proofs.Vacant.{named_at, some_member, there_at}
 
-pub record Goes (w : Network) (v : Who) (posts : List Post) (i : ℕ) (s : Session) : Type 0 where
+pub record Goes (w : MachineState) (v : Who) (posts : List Post) (i : ℕ) (s : Session) : Type 0 where
   pub wanted : wanted w.setup (views_of (name_of v) w.sessions) (view s) ≡ (kind_of v).wanted posts i
   pub may_send : may_send s ≡ (kind_of v).may_send i (post posts i).phase
   pub told : (c : Change) → octets_of v (is_peering s) (Carries c) ≡ (kind_of v).spelled i c
 
-abbrev pub GoesWell : Network → Who → Type 0
+abbrev pub GoesWell : MachineState → Who → Type 0
 GoesWell w v = (posts : List Post) → Ends w v posts → (i : ℕ) (s : Session) → IsAt w v i s → Goes w v posts i s
 
 wanted_is : (x : Setup) (vs : List View) (v : View) → wanted x vs v ≡ wanted_from x vs v v.role
@@ -86,21 +86,21 @@ control_tells v true c = refl
 control_tells v false c = refl
 
 -- ---- the roles of a session's two ends
-module _ (w : Network) (v : Who) (posts : List Post) (h : Ends w v posts) (i : ℕ) (s : Session) (at : IsAt w v i s) where
+module _ (w : MachineState) (v : Who) (posts : List Post) (h : Ends w v posts) (i : ℕ) (s : Session) (at : IsAt w v i s) where
   pub same : Same s (post posts i)
   same = end_is w v posts h i at.far.0 at.there s at.found
 
   near_name : s.near.name ≡ name_of v
-  near_name = ap (λ (n : Nodes). n.0.0) at.nodes_are
+  near_name = ap (λ (n : NodePair). n.0.0) at.nodes_are
 
   pub near_role : s.near.role ≡ role_of v
-  near_role = ap (λ (n : Nodes). n.0.1) at.nodes_are
+  near_role = ap (λ (n : NodePair). n.0.1) at.nodes_are
 
   far_role : s.far.role ≡ at.far.1
-  far_role = ap (λ (n : Nodes). n.1.1) at.nodes_are
+  far_role = ap (λ (n : NodePair). n.1.1) at.nodes_are
 
   far_name : s.far.name ≡ at.far.0
-  far_name = ap (λ (n : Nodes). n.1.0) at.nodes_are
+  far_name = ap (λ (n : NodePair). n.1.0) at.nodes_are
 
   pub wanted_near : wanted w.setup (views_of (name_of v) w.sessions) (view s) ≡ wanted_from w.setup (views_of (name_of v) w.sessions) (view s) (role_of v)
   wanted_near = wanted_is w.setup (views_of (name_of v) w.sessions) (view s) ∙ ap (wanted_from w.setup (views_of (name_of v) w.sessions) (view s)) near_role
@@ -109,7 +109,7 @@ module _ (w : Network) (v : Who) (posts : List Post) (h : Ends w v posts) (i : �
   sends b e = (λ k. may_send_at (e k) (same.0 k))
 
 -- ---- the configuration node
-pub root_goes : (w : Network) → GoesWell w (Configuring (checked w.setup))
+pub root_goes : (w : MachineState) → GoesWell w (Configuring (checked w.setup))
 root_goes w posts h i s at =
     let v = Configuring (checked w.setup) in
     let apart : is_peering s ≡ false = ap (λ r. are_peers r s.far.role) (near_role w v posts h i s at) in
@@ -130,7 +130,7 @@ address_found a (Some b ∷ agents) h (inl e) =
 address_found a (Some b ∷ agents) h (inr m) =
     ap (λ c. cond c b.address (address_in agents a.name)) (same_false b.name a.name (h.0 a m)) ∙ address_found a agents h.1 m
 
-module _ (w : Network) (named : IsNamed w.setup.topology) (numbers : HasNumbers w.setup) (has : HasSessions w) (found : Each (Found w.sessions) w.sessions) where
+module _ (w : MachineState) (named : IsNamed w.setup.topology) (numbers : HasNumbers w.setup) (has : HasSessions w) (found : Each (Found w.sessions) w.sessions) where
   names : NamesApart w.setup.topology
   names = apart_names w.setup.topology named.apart
 

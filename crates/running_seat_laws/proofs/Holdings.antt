@@ -9,7 +9,7 @@ use Rattle.config_model.specs.declared.topology.Node.{Node}
 use Rattle.node_model.specs.Paths.{Told}
 use Rattle.node_model.specs.Step.{Post, post}
 use Rattle.machine_model.specs.Moments.{Each}
-use Rattle.machine_model.specs.Network.{Network, View, config, first_held, heard_from, holdings_of, same_role, told_by, view, with_role}
+use Rattle.machine_model.specs.Network.{MachineState, View, config, first_held, heard_from, holdings_of, same_role, told_by, view, with_role}
 use Rattle.machine_model.specs.Session.{Agent, Configuration, Controller, Role, Session}
 use Rattle.machine_model.specs.Setup.{Name}
 use Rattle.machine_model.specs.Steps.{session_in, session_of}
@@ -26,7 +26,7 @@ abbrev pub Same : Session → Post → Type 0
 Same s p = (s.near.phase ≡ p.phase) × (s.near.held ≡ p.held)
 
 -- it is of the node of this name, and found by the names of its two nodes
-abbrev pub IsSeen : Network → Name → Session → Type 0
+abbrev pub IsSeen : MachineState → Name → Session → Type 0
 IsSeen w n s = (s.near.name ≡ n) × (session_in w.sessions s.near.name s.far.name ≡ Some s)
 
 -- ---- sessions of one role among others
@@ -69,7 +69,7 @@ agents_told vs posts (Some b ∷ agents) m h =
     (λ j a e. let on : m + suc j ≡ (m + 1) + j = omega arith in h (suc j) a e ∙ ap (λ k. (post posts k).held) on) in
     λ i. record { session = m; address = b.address; map = first i } ∷ rest i
 
-module _ (w : Network) (name : Name) where
+module _ (w : MachineState) (name : Name) where
   -- ---- the ends of peers, one after another
   abbrev pub Fits : List NodeId → List Post → Type 0
   Fits [] posts = Unit {0}

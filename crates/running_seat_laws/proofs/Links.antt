@@ -8,7 +8,7 @@ use Rattle.ov_types.specs.declared.rows.NodeId.{NodeId}
 use Rattle.config_model.specs.declared.topology.Node.{Node}
 use Rattle.node_model.specs.Members.{Member}
 use Rattle.node_model.proofs.Members.{from_filter, from_flat_map, from_map, in_either, in_filter, in_flat_map, in_left, in_map, in_right}
-use Rattle.machine_model.specs.Moments.{Nodes, nodes}
+use Rattle.machine_model.specs.Moments.{NodePair, nodes}
 use Rattle.machine_model.specs.Network.{accesses, asked, feeds, lists, peerings}
 use Rattle.machine_model.specs.Session.{Session}
 use Rattle.machine_model.specs.Setup.{Setup, checked}
@@ -19,7 +19,7 @@ use Rattle.machine_compiled_laws.specs.Setups.{IsNamed}
 use Rattle.machine_compiled_laws.proofs.Placing.{in_peerings}
 use Rattle.running_seat_laws.proofs.Parties.{Feed, Fed, Peers, Serves, Served, Ties}
 
-abbrev pub links : Setup → List Nodes
+abbrev pub links : Setup → List NodePair
 links x = map nodes (asked x.topology)
 
 -- ---- where they stand
@@ -47,32 +47,32 @@ module _ (x : Setup) (named : IsNamed x.topology) where
   IsLinked a o = Member (a, o) (links x) ⊎ Member (o, a) (links x)
 
   pub link_of : (a o : Party) → Ties x.topology a o → IsLinked a o
-  link_of a o (Feed c m e f) = inl (subst (λ (p : Nodes). Member p (links x)) (λ i. (sym e i, sym f i)) (feed_in c m))
-  link_of a o (Fed c m e f) = inr (subst (λ (p : Nodes). Member p (links x)) (λ i. (sym f i, sym e i)) (feed_in c m))
+  link_of a o (Feed c m e f) = inl (subst (λ (p : NodePair). Member p (links x)) (λ i. (sym e i, sym f i)) (feed_in c m))
+  link_of a o (Fed c m e f) = inr (subst (λ (p : NodePair). Member p (links x)) (λ i. (sym f i, sym e i)) (feed_in c m))
   link_of a o (Peers c d m k h e f) =
       elim (in_peerings cs c d m k h) as (λ _. IsLinked a o) [
-        | inl l ↦ inl (subst (λ (p : Nodes). Member p (links x)) (λ i. (sym e i, sym f i)) (peer_in (peer_session c d) l))
-        | inr l ↦ inr (subst (λ (p : Nodes). Member p (links x)) (λ i. (sym f i, sym e i)) (peer_in (peer_session d c) l))
+        | inl l ↦ inl (subst (λ (p : NodePair). Member p (links x)) (λ i. (sym e i, sym f i)) (peer_in (peer_session c d) l))
+        | inr l ↦ inr (subst (λ (p : NodePair). Member p (links x)) (λ i. (sym f i, sym e i)) (peer_in (peer_session d c) l))
       ]
-  link_of a o (Serves c n m k l e f) = inl (subst (λ (p : Nodes). Member p (links x)) (λ i. (sym e i, sym f i)) (access_in c n m k l))
-  link_of a o (Served c n m k l e f) = inr (subst (λ (p : Nodes). Member p (links x)) (λ i. (sym f i, sym e i)) (access_in c n m k l))
+  link_of a o (Serves c n m k l e f) = inl (subst (λ (p : NodePair). Member p (links x)) (λ i. (sym e i, sym f i)) (access_in c n m k l))
+  link_of a o (Served c n m k l e f) = inr (subst (λ (p : NodePair). Member p (links x)) (λ i. (sym f i, sym e i)) (access_in c n m k l))
 
   -- ---- and back
   pub twinless : NoTwins (links x)
   twinless = no_twins (checked x) named.apart
 
-  proper_in : (ps : List Nodes) → NoTwins ps → (p : Nodes) → Member p ps → IsProper p
+  proper_in : (ps : List NodePair) → NoTwins ps → (p : NodePair) → Member p ps → IsProper p
   proper_in [] h p m = absurd m
   proper_in (q ∷ ps) h p (inl e) = subst IsProper e h.0
   proper_in (q ∷ ps) h p (inr m) = proper_in ps h.2 p m
 
-  pub proper : (p : Nodes) → Member p (links x) → IsProper p
+  pub proper : (p : NodePair) → Member p (links x) → IsProper p
   proper p m = proper_in (links x) twinless p m
 
-  abbrev AreTied : Nodes → Type 0
+  abbrev AreTied : NodePair → Type 0
   AreTied p = Ties x.topology p.0 p.1
 
-  pub tied_of : (p : Nodes) → Member p (links x) → AreTied p
+  pub tied_of : (p : NodePair) → Member p (links x) → AreTied p
   tied_of p m =
       let q = from_map nodes p (asked x.topology) m in
       let s = q.0 in

@@ -12,7 +12,7 @@ use Rattle.ov_types.specs.declared.rows.NodeId.{NodeId}
 use Rattle.config_model.specs.declared.topology.Node.{Node}
 use Rattle.node_model.specs.Members.{Member}
 use Rattle.node_model.proofs.Members.{from_filter, in_filter, in_map}
-use Rattle.machine_model.specs.Moments.{Nodes, nodes}
+use Rattle.machine_model.specs.Moments.{NodePair, nodes}
 use Rattle.machine_model.specs.Network.{accesses, config, feeds, lists, peerings}
 use Rattle.machine_model.specs.Session.{Session}
 use Rattle.machine_model.specs.Setup.{Name, Setup}
@@ -30,7 +30,7 @@ cons_before : {A : Type 0} (o : Option A) (xs ys : List A) → cons_option o (xs
 cons_before None xs ys = refl
 cons_before (Some x) xs ys = refl
 
-others_both : (name : Name) (ps qs : List Nodes) → others name (ps ++ qs) ≡ others name ps ++ others name qs
+others_both : (name : Name) (ps qs : List NodePair) → others name (ps ++ qs) ≡ others name ps ++ others name qs
 others_both name [] qs = refl
 others_both name (p ∷ ps) qs = ap (cons_option (other_end name p)) (others_both name ps qs) ∙ cons_before (other_end name p) (others name ps) (others name qs)
 
@@ -56,7 +56,7 @@ module _ (c : NodeId) where
   other_than d ds a m e = a.0 c.name (in_map (λ (d : NodeId). d.name) c ds m) e
 
   -- ---- links of which those at the node of this name lead to r
-  module _ (r : Party) (f : NodeId → Nodes) (at : (d : NodeId) → other_end c.name (f d) ≡ cond (same_name d.name c.name) (Some r) None) where
+  module _ (r : Party) (f : NodeId → NodePair) (at : (d : NodeId) → other_end c.name (f d) ≡ cond (same_name d.name c.name) (Some r) None) where
     none_of : (ds : List NodeId) → Without ds → others c.name (map f ds) ≡ []
     none_of [] h = refl
     none_of (d ∷ ds) h =

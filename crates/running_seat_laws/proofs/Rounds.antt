@@ -7,13 +7,13 @@ use Rattle.ov_types.specs.declared.rows.NodeId.{NodeId}
 use Rattle.config_model.specs.declared.topology.Node.{Node}
 use Rattle.config_model.specs.declared.topology.Topology.{Topology}
 use Rattle.node_model.proofs.Members.{from_map}
-use Rattle.machine_model.specs.Moments.{HasNumbers, HasSessions, Nodes, nodes}
-use Rattle.machine_model.specs.Network.{Network, accesses, asked, feeds, lists, peerings}
+use Rattle.machine_model.specs.Moments.{HasNumbers, HasSessions, NodePair, nodes}
+use Rattle.machine_model.specs.Network.{MachineState, accesses, asked, feeds, lists, peerings}
 use Rattle.machine_model.specs.Setup.{Setup}
 use Rattle.machine_compiled_laws.specs.Setups.{IsNamed}
 use Rattle.machine_model.proofs.Apart.{access_session, feed_session, peer_session}
 use Rattle.running_model.specs.Seats.{Seat}
-use Rattle.running_seat_laws.specs.Wired.{HasPlace, Pair, access_pairs, names_of, pairs, peer_pairs}
+use Rattle.running_seat_laws.specs.Wired.{HasPlace, NamePair, access_pairs, names_of, pairs, peer_pairs}
 use Rattle.running_seat_laws.specs.Wiring.{AreSeats}
 use Rattle.running_seat_laws.proofs.Links.{links, tied_of}
 use Rattle.running_seat_laws.proofs.Lists.{all_of, map_twice}
@@ -36,14 +36,14 @@ asked_named t =
     let cs = t.controllers in
     let ns = t.nodes in
     map-append names_of (feeds cs ++ peerings cs) (accesses cs ns)
-    ∙ ap (λ (ps : List Pair). ps ++ map names_of (accesses cs ns)) (map-append names_of (feeds cs) (peerings cs))
+    ∙ ap (λ (ps : List NamePair). ps ++ map names_of (accesses cs ns)) (map-append names_of (feeds cs) (peerings cs))
     ∙ (λ i. (map_twice names_of feed_session cs i ++ peerings_named cs i) ++ accesses_named cs ns i)
 
-abbrev names : Nodes → Pair
+abbrev names : NodePair → NamePair
 names p = (p.0.0, p.1.0)
 
 -- at every moment
-pub sessions_named : (w : Network) → HasSessions w → map names_of w.sessions ≡ pairs w.setup.topology
+pub sessions_named : (w : MachineState) → HasSessions w → map names_of w.sessions ≡ pairs w.setup.topology
 sessions_named w has = sym (map_twice names nodes w.sessions) ∙ ap (map names) has ∙ map_twice names nodes (asked w.setup.topology) ∙ asked_named w.setup.topology
 
 -- ---- their places

@@ -10,8 +10,8 @@ use Rattle.std.proofs.lemmas.Option.{same_Some}
 use Rattle.ov_types.specs.First.{same_name}
 use Rattle.node_model.specs.Members.{Member}
 use Rattle.node_model.proofs.Members.{from_map, in_map, none_some}
-use Rattle.machine_model.specs.Moments.{Each, HasNumbers, HasSessions, Nodes, nodes}
-use Rattle.machine_model.specs.Network.{Network, is_at}
+use Rattle.machine_model.specs.Moments.{Each, HasNumbers, HasSessions, NodePair, nodes}
+use Rattle.machine_model.specs.Network.{MachineState, is_at}
 use Rattle.machine_model.specs.Session.{Session, turned}
 use Rattle.machine_model.specs.Setup.{Name}
 use Rattle.machine_model.specs.Steps.{joins, session_in, session_of}
@@ -50,7 +50,7 @@ stands_in (u ∷ ss) a b s e =
     later : StandsIn ss a b s → StandsIn (u ∷ ss) a b s
     later h = (h.0, h.1, elim h.2 as (λ _. Member s (u ∷ ss) ⊎ Member (turned s) (u ∷ ss)) [ inl m ↦ inl (inr m) | inr m ↦ inr (inr m) ])
 
-module _ (w : Network) (named : IsNamed w.setup.topology) (numbers : HasNumbers w.setup) (listed : ListsApart w.setup) (seats : List Seat) (are : AreSeats w.setup seats) (has : HasSessions w) where
+module _ (w : MachineState) (named : IsNamed w.setup.topology) (numbers : HasNumbers w.setup) (listed : ListsApart w.setup) (seats : List Seat) (are : AreSeats w.setup seats) (has : HasSessions w) where
   -- ---- sessions
   twins : NoTwins (map nodes w.sessions)
   twins = subst NoTwins (sym has) (twinless w.setup named)
@@ -89,15 +89,15 @@ module _ (w : Network) (named : IsNamed w.setup.topology) (numbers : HasNumbers 
             let q = from_map nodes (a, o) w.sessions (subst (Member (a, o)) (sym has) m) in
             record {
               session = q.0;
-              found = subst (λ (p : Nodes). session_in w.sessions p.0.0 p.1.0 ≡ Some q.0) q.2 (found_at q.0 q.1).0;
+              found = subst (λ (p : NodePair). session_in w.sessions p.0.0 p.1.0 ≡ Some q.0) q.2 (found_at q.0 q.1).0;
               nodes_are = q.2;
             }
         | inr m ↦
             let q = from_map nodes (o, a) w.sessions (subst (Member (o, a)) (sym has) m) in
             record {
               session = turned q.0;
-              found = subst (λ (p : Nodes). session_in w.sessions p.1.0 p.0.0 ≡ Some (turned q.0)) q.2 (found_at q.0 q.1).1;
-              nodes_are = ap (λ (p : Nodes). (p.1, p.0)) q.2;
+              found = subst (λ (p : NodePair). session_in w.sessions p.1.0 p.0.0 ≡ Some (turned q.0)) q.2 (found_at q.0 q.1).1;
+              nodes_are = ap (λ (p : NodePair). (p.1, p.0)) q.2;
             }
       ]
 
@@ -120,12 +120,12 @@ module _ (w : Network) (named : IsNamed w.setup.topology) (numbers : HasNumbers 
       record {
         session = s.session;
         found = subst (λ b. session_of w (name_at seats p) b ≡ Some s.session) other s.found;
-        near_name = ap (λ (n : Nodes). n.0.0) s.nodes_are;
-        far_name = ap (λ (n : Nodes). n.1.0) s.nodes_are ∙ other;
-        near_role = ap (λ (n : Nodes). n.0.1) s.nodes_are;
+        near_name = ap (λ (n : NodePair). n.0.0) s.nodes_are;
+        far_name = ap (λ (n : NodePair). n.1.0) s.nodes_are ∙ other;
+        near_role = ap (λ (n : NodePair). n.0.1) s.nodes_are;
         far_role = λ q e.
             let same : f.has.far ≡ q = same_Some f.has.far q (sym f.has.found ∙ e) in
-            subst (λ (q : SessionPlace). s.session.far.role ≡ role_of (seat seats q.node).who) same (ap (λ (n : Nodes). n.1.1) s.nodes_are ∙ sym f.role);
+            subst (λ (q : SessionPlace). s.session.far.role ≡ role_of (seat seats q.node).who) same (ap (λ (n : NodePair). n.1.1) s.nodes_are ∙ sym f.role);
       }
 
   -- ---- each session has its place

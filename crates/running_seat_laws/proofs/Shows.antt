@@ -16,7 +16,7 @@ use Rattle.node_model.specs.Tables.{rows as control_rows}
 use Rattle.node_model.proofs.Members.{any_in, from_any, in_map}
 use Rattle.machine_model.specs.Events.{is_node, shown_of}
 use Rattle.machine_model.specs.Moments.{HasNumbers, HasSessions}
-use Rattle.machine_model.specs.Network.{Network}
+use Rattle.machine_model.specs.Network.{MachineState}
 use Rattle.machine_model.specs.Session.{Configuration, Controller, Agent}
 use Rattle.machine_model.specs.Setup.{Name}
 use Rattle.machine_compiled_laws.specs.Setups.{IsNamed}
@@ -64,7 +64,7 @@ shown_control n plan e = ap (λ (v : Who). shown_by (record n { who = v })) e
 shown_agent : (n : Seat) (plan : _) → n.who ≡ Forwarding plan → shown_by n ≡ Rows.Agent (agent_rows (agent.holdings n.posts))
 shown_agent n plan e = ap (λ (v : Who). shown_by (record n { who = v })) e
 
-module _ (w : Network) (named : IsNamed w.setup.topology) (numbers : HasNumbers w.setup) (listed : ListsApart w.setup) (seats : List Seat) (stands : Seats seats w) (has : HasSessions w) where
+module _ (w : MachineState) (named : IsNamed w.setup.topology) (numbers : HasNumbers w.setup) (listed : ListsApart w.setup) (seats : List Seat) (stands : Seats seats w) (has : HasSessions w) where
   names : NamesApart w.setup.topology
   names = apart_names w.setup.topology named.apart
 

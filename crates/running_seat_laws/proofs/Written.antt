@@ -9,7 +9,7 @@ use Rattle.config_check.specs.Sentences.{AreDistinct}
 use Rattle.config_check.proofs.Validity.{valid_iff}
 use Rattle.machine_model.specs.Events.{forwarders, is_node}
 use Rattle.machine_model.specs.Moments.{Each, HasNumbers, HasSessions}
-use Rattle.machine_model.specs.Network.{Network}
+use Rattle.machine_model.specs.Network.{MachineState}
 use Rattle.machine_model.specs.Session.{Session}
 use Rattle.machine_model.specs.Setup.{Name, Setup}
 use Rattle.machine_model.specs.Steps.{session_of}
@@ -55,7 +55,7 @@ module _ (x : Setup) (written : IsWritten x) (numbers : HasNumbers x) (seats : L
   pairs_placed = rounds.pairs_placed x (written_named x written) numbers (written_apart x written) seats are
 
 -- ---- sessions
-module _ (w : Network) (written : IsWritten w.setup) (numbers : HasNumbers w.setup) (seats : List Seat) (are : AreSeats w.setup seats) (has : HasSessions w) where
+module _ (w : MachineState) (written : IsWritten w.setup) (numbers : HasNumbers w.setup) (seats : List Seat) (are : AreSeats w.setup seats) (has : HasSessions w) where
   named : IsNamed w.setup.topology
   named = written_named w.setup written
 
@@ -84,7 +84,7 @@ module _ (w : Network) (written : IsWritten w.setup) (numbers : HasNumbers w.set
   names_differ = sessions.sessions_proper w named numbers apart seats are has
 
 -- ---- what nodes go by
-module _ (w : Network) (written : IsWritten w.setup) (numbers : HasNumbers w.setup) (seats : List Seat) (stands : Seats seats w) (has : HasSessions w) where
+module _ (w : MachineState) (written : IsWritten w.setup) (numbers : HasNumbers w.setup) (seats : List Seat) (stands : Seats seats w) (has : HasSessions w) where
   pub goes_by : (p : SessionPlace) → IsPlace seats p → (s : Session) → session_of w (name_at seats p) (other_at seats p) ≡ Some s → GoesBy seats w p s
   goes_by p h s e = agents.goes_by w (written_named w.setup written) numbers (written_apart w.setup written) seats stands has p h s e
 

@@ -6,7 +6,7 @@ use Rattle.node_model.specs.Maps.{Change}
 use Rattle.node_model.specs.Step.{post}
 use Rattle.machine_model.specs.Setup.{Name, Setup}
 use Rattle.machine_model.specs.Session.{Carries, Session, is_peering, may_send}
-use Rattle.machine_model.specs.Network.{Network, view, views_of, wanted}
+use Rattle.machine_model.specs.Network.{MachineState, view, views_of, wanted}
 use Rattle.machine_model.specs.Steps.{session_of}
 use Rattle.machine_model.specs.Events.{shown}
 pub use Rattle.machine_model.specs.Moments.{HasNumbers, HasSessions}
@@ -48,7 +48,7 @@ pub record IsPlaceOf (seats : List Seat) (a b : Name) (p : SessionPlace) : Type 
   pub other : other_at seats p ≡ b
 
 -- each place has a session, as its node sees it
-pub record HasSession (seats : List Seat) (w : Network) (p : SessionPlace) : Type 0 where
+pub record HasSession (seats : List Seat) (w : MachineState) (p : SessionPlace) : Type 0 where
   pub session : Session
   pub found : session_of w (name_at seats p) (other_at seats p) ≡ Some session
   pub near_name : session.near.name ≡ name_at seats p
@@ -57,14 +57,14 @@ pub record HasSession (seats : List Seat) (w : Network) (p : SessionPlace) : Typ
   pub far_role : (q : SessionPlace) → far_of seats p ≡ Some q → session.far.role ≡ role_of (seat seats q.node).who
 
 -- a session among all has a place, by which it is found
-pub record IsFound (seats : List Seat) (w : Network) (s : Session) : Type 0 where
+pub record IsFound (seats : List Seat) (w : MachineState) (s : Session) : Type 0 where
   pub place : SessionPlace
   pub place_is : place_of seats s.near.name s.far.name ≡ Some place
   pub is_place : IsPlace seats place
   pub found : session_of w s.near.name s.far.name ≡ Some s
 
 -- what the machine's node wants, may send and tells at a place is what the node at its seat does
-pub record GoesBy (seats : List Seat) (w : Network) (p : SessionPlace) (s : Session) : Type 0 where
+pub record GoesBy (seats : List Seat) (w : MachineState) (p : SessionPlace) (s : Session) : Type 0 where
   pub wanted : wanted w.setup (views_of (name_at seats p) w.sessions) (view s)
       ≡ (kind_of (seat seats p.node).who).wanted (seat seats p.node).posts p.session
   pub may_send : may_send s
@@ -75,7 +75,7 @@ pub record GoesBy (seats : List Seat) (w : Network) (p : SessionPlace) (s : Sess
 
 -- a name is that of a control node or of an agent exactly where a seat after the configuration node's has it, and that
 -- seat shows what the machine's node does
-pub record ShowsAt (seats : List Seat) (w : Network) (name : Name) (k : ℕ) : Type 0 where
+pub record ShowsAt (seats : List Seat) (w : MachineState) (name : Name) (k : ℕ) : Type 0 where
   pub seat_is : seat_named seats name ≡ Some k
   pub above : 0 < k
   pub within : k < length seats

@@ -8,7 +8,7 @@ use Rattle.node_core.specs.Keeping.{AreSwept}
 use Rattle.node_model.specs.Step.{nothing, post}
 use Rattle.machine_model.specs.Setup.{Name}
 use Rattle.machine_model.specs.Session.{Session, is_idle, turned}
-use Rattle.machine_model.specs.Network.{Network}
+use Rattle.machine_model.specs.Network.{MachineState}
 use Rattle.machine_model.specs.Steps.{change_session, joins, pass, with_session}
 use Rattle.machine_model.proofs.NetworkFact.{found}
 use Rattle.machine_model.proofs.SessionFact.{Fact, Fact-turned}
@@ -38,7 +38,7 @@ same_sessions a b (s ∷ ss) = by_tests (joins a b s) (joins b a s) (same_sessio
     by_tests false true e = refl
     by_tests false false e = ap (λ ts. s ∷ ts) e
 
-module _ (wired : Wired) (r : List Seat) (v : Network) (right : IsRight v) (sound : IsSound v) (stands : Seats r v) (k : ℕ)
+module _ (wired : Wired) (r : List Seat) (v : MachineState) (right : IsRight v) (sound : IsSound v) (stands : Seats r v) (k : ℕ)
     (is : IsPlace r (place k 0)) where
   abbrev p : SessionPlace
   p = place k 0
@@ -75,7 +75,7 @@ module _ (wired : Wired) (r : List Seat) (v : Network) (right : IsRight v) (soun
     kept = (ap (slice_set m.kept 0) nothing_left ∙ set-get_or m.kept 0 []) x;
   }
 
-  abbrev same_v : Network
+  abbrev same_v : MachineState
   same_v = change_session (name_at r p) (other_at r p) (λ s. s) v
 
   is_v : same_v ≡ v

@@ -6,7 +6,7 @@ use Rattle.std.proofs.lemmas.Option.{same_Some}
 use Rattle.std.proofs.Common.{refl, sym, ◌∙◌, ap, subst}
 use Rattle.machine_model.specs.Setup.{Name}
 use Rattle.machine_model.specs.Session.{Session, is_idle, is_peering, is_up_phase, turned}
-use Rattle.machine_model.specs.Network.{Network}
+use Rattle.machine_model.specs.Network.{MachineState}
 use Rattle.machine_model.specs.Steps.{session_of}
 use Rattle.running_model.specs.Seats.{Seat, is_down_at, link_at, seat}
 use Rattle.running_model.specs.Stands.{IsEnd, Seats, octets_of}
@@ -40,14 +40,14 @@ says seats p far s near there down = record {
     sent seats p s e = ap length e.flight ∙ length-map s.near.flight (octets_of (seat seats p.node).who (is_peering s))
 
 -- the place of two names, where the seats stand for a moment
-pub record AtNames (seats : List Seat) (w : Network) (a b : Name) (p far : SessionPlace) : Type 0 where
+pub record AtNames (seats : List Seat) (w : MachineState) (a b : Name) (p far : SessionPlace) : Type 0 where
   pub is_place : IsPlace seats p
   pub name : name_at seats p ≡ a
   pub other : other_at seats p ≡ b
   pub here_is : Here seats w p
   pub far_is : here_is.far.far ≡ far
 
-module _ (facts : Facts) (seats : List Seat) (w : Network) (moment : IsMoment w) (stands : Seats seats w) where
+module _ (facts : Facts) (seats : List Seat) (w : MachineState) (moment : IsMoment w) (stands : Seats seats w) where
   abbrev right : IsRight w
   right = moment_right facts.moments w moment
 

@@ -6,7 +6,7 @@ use Rattle.std.proofs.lemmas.Bool.{true≢false}
 use Rattle.std.proofs.lemmas.List.{nil_from_length}
 use Rattle.machine_model.specs.Setup.{Name}
 use Rattle.machine_model.specs.Session.{Session, is_idle, is_live, is_peering}
-use Rattle.machine_model.specs.Network.{Network}
+use Rattle.machine_model.specs.Network.{MachineState}
 use Rattle.machine_model.specs.Steps.{session_of}
 use Rattle.machine_model.specs.Moments.{Each, IsJoined}
 use Rattle.machine_model.proofs.EveryMoment.{joined_is}
@@ -21,7 +21,7 @@ pub use Rattle.running_telling_laws.proofs.Moments.{IsSound, moment_sound}
 use Rattle.running_step_laws.proofs.Facts.{IsRight, Moments}
 use Rattle.running_step_laws.proofs.Quiet.{IsQuiet, quiet_of}
 
-pub moment_right : Moments → (w : Network) → IsMoment w → IsRight w
+pub moment_right : Moments → (w : MachineState) → IsMoment w → IsRight w
 moment_right moments w m = record {
   written = moments.written w m;
   numbers = moments.numbers w m;
@@ -46,14 +46,14 @@ down_where s (inr d) =
     (ap (λ b. not ((is_live s.near && not b) && is_whole_end s.far)) d.near.notice
     ∙ ap (λ b. not (b && is_whole_end s.far)) (none_whole (is_live s.near)))
 
-pub all_down_where : (w : Network) → IsSound w → Each IsDownWhere w.sessions
+pub all_down_where : (w : MachineState) → IsSound w → Each IsDownWhere w.sessions
 all_down_where w sound = each_weaker (Fact message_size) IsDownWhere down_where w.sessions sound
 
-pub all_quiet : (w : Network) → IsSound w → Each IsQuiet w.sessions
+pub all_quiet : (w : MachineState) → IsSound w → Each IsQuiet w.sessions
 all_quiet w sound = each_weaker (Fact message_size) IsQuiet (quiet_of message_size) w.sessions sound
 
 -- a moment's seats, by its ends alone
-pub stands_at : (seats : List Seat) (w : Network) → IsMoment w → Seats seats w → StandsFor seats w
+pub stands_at : (seats : List Seat) (w : MachineState) → IsMoment w → Seats seats w → StandsFor seats w
 stands_at seats w m s = record { seats_are = s; down = all_down_where w (moment_sound w m) }
 
 -- ---- an end that is not live
@@ -71,7 +71,7 @@ kept_closed n i s is fact closed =
     (sym (ap (λ b. cond b 0 (length (kept_in n i))) (sym is.notice ∙ d.near.notice ∙ closed)) ∙ sym is.taken ∙ d.far.taken)
 
 -- ---- a session that is found at a moment
-module _ (w : Network) (m : IsMoment w) (a b : Name) (s : Session) (is : session_of w a b ≡ Some s) where
+module _ (w : MachineState) (m : IsMoment w) (a b : Name) (s : Session) (is : session_of w a b ≡ Some s) where
   pub found_sound : Fact message_size s
   found_sound = found (Fact message_size) (Fact-turned message_size) w.sessions a b (moment_sound w m) s is
 

@@ -11,7 +11,7 @@ use Rattle.ov_link.specs.Breaks.{with_break}
 use Rattle.schedule_script.specs.declared.answer.Answer.TheVariants.{Did, Idle}
 use Rattle.machine_model.specs.Setup.{Name}
 use Rattle.machine_model.specs.Session.{Session, turned}
-use Rattle.machine_model.specs.Network.{Network}
+use Rattle.machine_model.specs.Network.{MachineState}
 use Rattle.machine_model.specs.Steps.{change_session, joins, session_in, session_of, without_breaks}
 use Rattle.machine_model.specs.Events.{Break, add_break, answer_to, next, unless}
 use Rattle.machine_model.proofs.Idle.{idle_same}
@@ -34,7 +34,7 @@ use Rattle.running_step_laws.proofs.Lists.{seats_fit}
 use Rattle.running_step_laws.proofs.Started.{all_alike, all_long}
 
 -- ---- one that is set
-module _ (facts : Facts) (seats : List Seat) (w : Network) (moment : IsMoment w) (stands : Seats seats w) where
+module _ (facts : Facts) (seats : List Seat) (w : MachineState) (moment : IsMoment w) (stands : Seats seats w) where
   abbrev right : IsRight w
   right = moment_right facts.moments w moment
 
@@ -180,7 +180,7 @@ unbroken_end n i s is = record {
   taken = is.taken;
 }
 
-module _ (facts : Facts) (seats : List Seat) (w : Network) (moment : IsMoment w) (stands : Seats seats w) where
+module _ (facts : Facts) (seats : List Seat) (w : MachineState) (moment : IsMoment w) (stands : Seats seats w) where
   abbrev calm : IsRight w
   calm = moment_right facts.moments w moment
 

@@ -7,8 +7,8 @@ use Rattle.std.proofs.lemmas.List.{get_or-set_other, length-set}
 use Rattle.std.proofs.lemmas.Option.{none-some, same_Some}
 use Rattle.std.proofs.Common.{refl, sym, ◌∙◌, ap, subst, inl, inr}
 use Rattle.node_model.specs.Step.{Post, nothing, post}
-use Rattle.machine_model.specs.Session.{End, Session, is_peering}
-use Rattle.machine_model.specs.Network.{Network}
+use Rattle.machine_model.specs.Session.{SessionEnd, Session, is_peering}
+use Rattle.machine_model.specs.Network.{MachineState}
 use Rattle.machine_model.specs.Steps.{session_of}
 use Rattle.running_model.specs.Seats.{Seat, breaks_in, far_of, kept_in, link, notice, other, others_of, seat, whos}
 use Rattle.running_model.specs.Steps.{with_seat}
@@ -231,13 +231,13 @@ stored_began n i p kept messages breaks = record {
 pub moved : (n n' : Seat) (i : ℕ) (s s' : Session) → n'.who ≡ n.who → SameEnd n n' i → s'.near ≡ s.near
     → s'.far.taken ≡ s.far.taken → is_peering s' ≡ is_peering s → IsEnd n i s → IsEnd n' i s'
 moved n n' i s s' who same near taken peering h = record {
-  phase = ap (λ (e : End). e.phase) near ∙ h.phase ∙ ap (λ (p : Post). p.phase) (sym same.post);
-  sent = ap (λ (e : End). e.sent) near ∙ h.sent ∙ ap (λ (p : Post). p.sent) (sym same.post);
-  held = ap (λ (e : End). e.held) near ∙ h.held ∙ ap (λ (p : Post). p.held) (sym same.post);
-  notice = ap (λ (e : End). e.notice) near ∙ h.notice ∙ sym same.notice;
+  phase = ap (λ (e : SessionEnd). e.phase) near ∙ h.phase ∙ ap (λ (p : Post). p.phase) (sym same.post);
+  sent = ap (λ (e : SessionEnd). e.sent) near ∙ h.sent ∙ ap (λ (p : Post). p.sent) (sym same.post);
+  held = ap (λ (e : SessionEnd). e.held) near ∙ h.held ∙ ap (λ (p : Post). p.held) (sym same.post);
+  notice = ap (λ (e : SessionEnd). e.notice) near ∙ h.notice ∙ sym same.notice;
   flight = same.link ∙ h.flight
-      ∙ (λ j. map (octets_of (sym who j) (sym peering j)) (ap (λ (e : End). e.flight) (sym near) j));
-  breaks = ap (λ (e : End). e.breaks) near ∙ h.breaks ∙ sym same.breaks;
+      ∙ (λ j. map (octets_of (sym who j) (sym peering j)) (ap (λ (e : SessionEnd). e.flight) (sym near) j));
+  breaks = ap (λ (e : SessionEnd). e.breaks) near ∙ h.breaks ∙ sym same.breaks;
   taken = taken ∙ h.taken ∙ (λ j. cond (sym same.notice j) 0 (length (sym same.kept j)));
 }
 
@@ -287,7 +287,7 @@ part_more n n' i far far' j more kept waits flight h =
     ∙ (λ x. take (length (sym kept x)) (first_of (sym flight x)))
 
 -- ---- seats are those of a state by their places
-pub seats_by_places : (seats : List Seat) (w : Network) → map (λ (n : Seat). n.who) seats ≡ whos w.setup
+pub seats_by_places : (seats : List Seat) (w : MachineState) → map (λ (n : Seat). n.who) seats ≡ whos w.setup
     → AreFit seats
     → ((p : SessionPlace) → IsPlace seats p → EndAt w seats p)
     → ((p : SessionPlace) → IsPlace seats p → KeepsPart seats p)
@@ -308,7 +308,7 @@ seats_by_places seats w who fit each parts = record {
     part p (inr none) = λ far found. absurd (none-some far (sym (far_nowhere seats p none) ∙ found))
 
 -- an end of a place by the names of earlier seats
-pub has_end : (seats seats' : List Seat) (w : Network) (p : SessionPlace) (s : Session) → AreAlike seats seats'
+pub has_end : (seats seats' : List Seat) (w : MachineState) (p : SessionPlace) (s : Session) → AreAlike seats seats'
     → session_of w (name_at seats p) (other_at seats p) ≡ Some s → IsEnd (seat seats' p.node) p.session s
     → EndAt w seats' p
 has_end seats seats' w p s alike found is = record {

@@ -5,7 +5,7 @@ use Rattle.std.proofs.lemmas.Option.{same_Some}
 use Rattle.std.proofs.Common.{refl, sym, ◌∙◌, ap, subst, inl, inr}
 use Rattle.machine_model.specs.Setup.{Name}
 use Rattle.machine_model.specs.Session.{Session, turned}
-use Rattle.machine_model.specs.Network.{Network}
+use Rattle.machine_model.specs.Network.{MachineState}
 use Rattle.machine_model.specs.Steps.{change_session, session_of}
 use Rattle.machine_model.specs.Moments.{Each}
 use Rattle.machine_model.proofs.NetworkFact.{KeepsNodes}
@@ -22,7 +22,7 @@ use Rattle.running_step_laws.proofs.Quiet.{IsQuiet}
 use Rattle.running_step_laws.proofs.Sides.{changed_elsewhere, changed_here, changed_there}
 
 -- the state after a change of a session that keeps who is there, and leaves no session down with messages in flight
-pub changed_right : (a b : Name) (f : Session → Session) → KeepsNodes f → (w : Network) → IsRight w
+pub changed_right : (a b : Name) (f : Session → Session) → KeepsNodes f → (w : MachineState) → IsRight w
     → Each IsQuiet (change_session a b f w).sessions → IsRight (change_session a b f w)
 changed_right a b f kept w right quiet = record {
   written = right.written;
@@ -31,7 +31,7 @@ changed_right a b f kept w right quiet = record {
   quiet = quiet;
 }
 
-module _ (wired : Wired) (seats : List Seat) (w : Network) (right : IsRight w) (stands : Seats seats w) where
+module _ (wired : Wired) (seats : List Seat) (w : MachineState) (right : IsRight w) (stands : Seats seats w) where
   -- two places with the same names are one
   pub one_place : (p q : SessionPlace) → IsPlace seats p → IsPlace seats q → name_at seats p ≡ name_at seats q
       → other_at seats p ≡ other_at seats q → p ≡ q
@@ -59,7 +59,7 @@ module _ (wired : Wired) (seats : List Seat) (w : Network) (right : IsRight w) (
       (far : IsEnd (seat seats' h.far.far.node) h.far.far.session (turned (f h.session)))
       (elsewhere : (r : SessionPlace) → IsPlace seats r → r ≢ p → r ≢ h.far.far → SameEnd (seat seats r.node) (seat seats' r.node) r.session)
       (near_part : KeepsPart seats' p) (far_part : KeepsPart seats' h.far.far) where
-    abbrev changed : Network
+    abbrev changed : MachineState
     changed = change_session (name_at seats p) (other_at seats p) f w
 
     here_changed : EndAt changed seats' p

@@ -13,7 +13,7 @@ use Rattle.node_model.specs.Maps.{Map}
 use Rattle.node_model.specs.Step.{Post, post}
 use Rattle.machine_model.specs.Setup.{Name}
 use Rattle.machine_model.specs.Session.{Session, is_idle, is_live, greeting, opened, passed, told, turned}
-use Rattle.machine_model.specs.Network.{Network, view, views_of, wanted}
+use Rattle.machine_model.specs.Network.{MachineState, view, views_of, wanted}
 use Rattle.machine_model.specs.Steps.{around, change_session, connect, is_broken, joins, pass, session_of, with_session}
 use Rattle.machine_model.specs.Moments.{nodes}
 use Rattle.machine_model.proofs.Deeds.{others_stay, strangers_stay}
@@ -68,7 +68,7 @@ at_least j = omega arith
 at_most : (n j : ℕ) → j < n → j < 0 + n
 at_most n j h = omega (arith, h)
 
-module _ (facts : Facts) (seats : List Seat) (w : Network) (moment : IsMoment w) (stands : Seats seats w) (p : SessionPlace)
+module _ (facts : Facts) (seats : List Seat) (w : MachineState) (moment : IsMoment w) (stands : Seats seats w) (p : SessionPlace)
     (is : IsPlace seats p) (down : Down (here facts.wired seats w (moment_right facts.moments w moment) stands p is).session)
     (quiet : notice_at seats p ≡ false)
     (quiet_there : notice_at seats (here facts.wired seats w (moment_right facts.moments w moment) stands p is).far.far ≡ false)
@@ -92,10 +92,10 @@ module _ (facts : Facts) (seats : List Seat) (w : Network) (moment : IsMoment w)
   not_far e = at.apart (sym (ap (λ k. name_of (seat seats k).who) e) ∙ at.far.name)
 
   -- ---- the near end opens
-  abbrev w1 : Network
+  abbrev w1 : MachineState
   w1 = change_session (name_at seats p) (other_at seats p) opened w
 
-  abbrev w2 : Network
+  abbrev w2 : MachineState
   w2 = pass (name_at seats p) w1
 
   right2 : IsRight w2
@@ -349,7 +349,7 @@ module _ (facts : Facts) (seats : List Seat) (w : Network) (moment : IsMoment w)
         ∙ sym (strangers_stay (name_at seats p) a b at.apart (λ e. not_me (sym e)) tells tells_nodes w1.sessions)
         ∙ ap (λ c. session_of w2 c b) (sym name_q) ∙ found_it))
 
-    abbrev w3 : Network
+    abbrev w3 : MachineState
     w3 = change_session (name_at standing q) (other_at standing q) opened w2
 
     pub open_connects : connect (name_at seats p) (other_at seats p) w ≡ pass (name_at standing q) w3

@@ -9,7 +9,7 @@ use Rattle.std.proofs.Common.{refl, sym, ◌∙◌, ap, subst, inl, inr}
 use Rattle.ov_types.specs.First.{same_name}
 use Rattle.machine_model.specs.Setup.{Name}
 use Rattle.machine_model.specs.Session.{Configuration, Session}
-use Rattle.machine_model.specs.Network.{Network, between, is_at}
+use Rattle.machine_model.specs.Network.{MachineState, between, is_at}
 use Rattle.machine_model.specs.Steps.{connect, connect_found, connect_if, joins, may_connect, session_of}
 use Rattle.machine_model.specs.Events.{Connect, is_earlier, next}
 use Rattle.machine_model.specs.Moments.{Each, nodes}
@@ -31,10 +31,10 @@ use Rattle.running_step_laws.proofs.Facts.{Facts, IsRight, right_twins}
 use Rattle.running_step_laws.proofs.Here.{Here, here}
 
 -- a connection keeps what holds of each session
-connected_sound : (a b : Name) (w : Network) → IsSound w → IsSound (connect_if a b w)
+connected_sound : (a b : Name) (w : MachineState) → IsSound w → IsSound (connect_if a b w)
 connected_sound a b w sound = connect_all_sound message_size positive (between a Configuration b Configuration ∷ []) w sound
 
-connect_when : (w : Network) (a b : Name) (s : Session) (may : Bool) → session_of w a b ≡ Some s → may_connect s ≡ may
+connect_when : (w : MachineState) (a b : Name) (s : Session) (may : Bool) → session_of w a b ≡ Some s → may_connect s ≡ may
     → connect_if a b w ≡ cond may (connect a b w) w
 connect_when w a b s may found e =
     ap (λ (o : Option Session). connect_found o a b w) found ∙ ap (λ c. cond c (connect a b w) w) e
@@ -103,7 +103,7 @@ connections_are_made facts seats w moment stands a b p far are may after opens =
             (closed_stands facts seats w moment stands.seats_are p place.is_place down quiet quiet' opens.near_node opens.near_takes dead))
 
 -- ---- events
-pub connect_event : (w : Network) (a b : Name) → is_earlier w.sessions a b ≡ true → next message_size w (Connect a b) ≡ connect_if a b w
+pub connect_event : (w : MachineState) (a b : Name) → is_earlier w.sessions a b ≡ true → next message_size w (Connect a b) ≡ connect_if a b w
 unfolding next
 connect_event w a b e = ap (λ c. cond c (connect_if a b w) (connect_if b a w)) e
 

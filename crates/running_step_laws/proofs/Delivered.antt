@@ -7,7 +7,7 @@ use Rattle.std.proofs.Common.{refl, sym, ◌∙◌, ap, subst, inl, inr}
 use Rattle.ov_link.specs.declared.step.Input.TheVariants.{Bytes}
 use Rattle.machine_model.specs.Setup.{Name}
 use Rattle.machine_model.specs.Session.{Session, arrived, octets_arrived, waiting}
-use Rattle.machine_model.specs.Network.{Network}
+use Rattle.machine_model.specs.Network.{MachineState}
 use Rattle.machine_model.specs.Steps.{change_session, deliver, deliver_octets, in_flight, pass}
 use Rattle.machine_model.specs.Events.{Deliver, next}
 use Rattle.running_model.specs.Seats.{Seat, link_at}
@@ -24,12 +24,12 @@ use Rattle.running_step_laws.proofs.Here.{here}
 use Rattle.running_step_laws.proofs.Message.{message_delivered, message_stands}
 use Rattle.running_step_laws.proofs.Notice.{notice_delivered, notice_stands}
 
-pub one_delivery : (w : Network) (from to : Name) → next message_size w (Deliver from to 1) ≡ deliver from to w
+pub one_delivery : (w : MachineState) (from to : Name) → next message_size w (Deliver from to 1) ≡ deliver from to w
 unfolding next
 one_delivery w from to = refl
 
 -- where nothing is in flight
-idle_delivery : (w : Network) (from to : Name) → in_flight w from to ≡ 0
+idle_delivery : (w : MachineState) (from to : Name) → in_flight w from to ≡ 0
     → (deliver from to w ≡ w) × ((n : ℕ) → deliver_octets message_size from to n w ≡ w)
 idle_delivery w from to e = (
   ap (λ n. cond (n == 0) w (pass to (change_session to from arrived w))) e,
@@ -37,7 +37,7 @@ idle_delivery w from to e = (
 )
 
 module _ (facts : Facts) where
-  pub deliver_moment : (w : Network) (from to : Name) → IsMoment w → IsMoment (deliver from to w)
+  pub deliver_moment : (w : MachineState) (from to : Name) → IsMoment w → IsMoment (deliver from to w)
   deliver_moment w from to m = subst IsMoment (one_delivery w from to) (facts.moments.after w (Deliver from to 1) m tt)
 
   pub messages_are_delivered : MessagesAreDelivered

@@ -4,7 +4,7 @@ use Rattle.std.proofs.Common.{sym, ◌∙◌, ap}
 use Rattle.std.proofs.Math.Bool.{and_comm}
 use Rattle.node_model.specs.Step.{post}
 use Rattle.machine_model.specs.Session.{Session, is_idle, turned}
-use Rattle.machine_model.specs.Network.{Network}
+use Rattle.machine_model.specs.Network.{MachineState}
 use Rattle.running_model.specs.Seats.{Seat, is_down_at, notice, seat, whole_at, whole_there}
 use Rattle.running_model.specs.Stands.{IsDownWhere, IsEnd, Seats, is_whole_end}
 use Rattle.running_model.specs.declared.place.SessionPlace.{SessionPlace}
@@ -21,7 +21,7 @@ pub whole_is : (n : Seat) (i : ℕ) (s : Session) → IsEnd n i s
     → (not (is_idle (post n.posts i).phase) && not (notice n i)) ≡ is_whole_end s.near
 whole_is n i s e = λ j. not (is_idle (sym e.phase j)) && not (sym e.notice j)
 
-module _ (wired : Wired) (seats : List Seat) (w : Network) (right : IsRight w) (stands : Seats seats w) where
+module _ (wired : Wired) (seats : List Seat) (w : MachineState) (right : IsRight w) (stands : Seats seats w) where
   -- as the session says
   module _ (seats' : List Seat) (alike : AreAlike seats seats') (same : (p : SessionPlace) → IsPlace seats p → whole_at seats' p ≡ whole_at seats p) where
     pub down_is : (p : SessionPlace) → IsPlace seats p → (h : Here seats w p) → IsDownWhere h.session → is_down_at seats' p ≡ h.session.is_down

@@ -22,7 +22,7 @@ use Rattle.node_core.specs.Keeping.{AreSwept}
 use Rattle.node_model.specs.Step.{Post, nothing, post}
 use Rattle.machine_model.specs.Setup.{Move, Name, Setup, checked, edited_without, moves, renumbered}
 use Rattle.machine_model.specs.Session.{Message, Open, Keepalive, Hello, Carries, Session, is_idle, is_live, is_peering, turned}
-use Rattle.machine_model.specs.Network.{Network, config}
+use Rattle.machine_model.specs.Network.{MachineState, config}
 use Rattle.machine_model.specs.Steps.{change_session, joins, pass, session_of, with_session}
 use Rattle.machine_model.specs.Events as events
 use Rattle.machine_model.specs.Events.{Edits, answer_to, edit_answer, edits, next}
@@ -82,7 +82,7 @@ same_octets x y false Hello = refl
 same_octets x y false (Carries c) = refl
 
 -- ---- the configuration node has another configuration, of the same topology
-module _ (seats : List Seat) (w : Network) (stands : Seats seats w) where
+module _ (seats : List Seat) (w : MachineState) (stands : Seats seats w) where
   abbrev n : Seat
   n = seat seats 0
 
@@ -98,7 +98,7 @@ module _ (seats : List Seat) (w : Network) (stands : Seats seats w) where
     abbrev y : Setup
     y = record { topology = w.setup.topology; config = c; numbers = w.setup.numbers }
 
-    abbrev v : Network
+    abbrev v : MachineState
     v = record { setup = y; sessions = w.sessions }
 
     -- the configuration node once the edit is made
@@ -246,7 +246,7 @@ first_some : (cs : List NodeId) → 0 < length cs → (b : Name) × (slice_index
 first_some [] lt = absurd (omega (arith, lt))
 first_some (c ∷ cs) lt = (c.name, refl)
 
-module _ (facts : Facts) (seats : List Seat) (v : Network) (stands : Seats seats v) (sound : IsSound v)
+module _ (facts : Facts) (seats : List Seat) (v : MachineState) (stands : Seats seats v) (sound : IsSound v)
     (later : IsMoment (pass config v)) (n' : Seat) (stepped : IsStepped (seat seats 0) n' 0 (as_it_is (seat seats 0)))
     (swept : AreSwept n'.posts (seat seats 0).kept n'.kept) where
   abbrev me : Seat
@@ -305,7 +305,7 @@ module _ (facts : Facts) (seats : List Seat) (v : Network) (stands : Seats seats
     kept = (ap (slice_set me.kept 0) nothing_left ∙ set-get_or me.kept 0 []) x;
   }
 
-  abbrev same_v : Network
+  abbrev same_v : MachineState
   same_v = change_session (name_at seats p) (other_at seats p) (λ s. s) v
 
   is_v : same_v ≡ v
@@ -327,12 +327,12 @@ module _ (facts : Facts) (seats : List Seat) (v : Network) (stands : Seats seats
       (subst (λ kept. AreSwept n'.posts kept n'.kept) (sym (set-get_or me.kept 0 [])) swept)))
 
 -- ---- a compute node moves, or none does
-module _ (facts : Facts) (seats : List Seat) (w : Network) (moment : IsMoment w) (stands : Seats seats w) (e : Edit)
+module _ (facts : Facts) (seats : List Seat) (w : MachineState) (moment : IsMoment w) (stands : Seats seats w) (e : Edit)
     (form : EditIsValid IsOfForm w (Edits e)) (none : edit_fault (checked w.setup) e ≡ None) where
   abbrev now : Setup
   now = setup_after w.setup e
 
-  abbrev then : Option Move → Network
+  abbrev then : Option Move → MachineState
   then move = events.moved move (record { setup = now; sessions = w.sessions })
 
   unmoved_now : moves e w.setup.topology ≡ None
@@ -354,7 +354,7 @@ module _ (facts : Facts) (seats : List Seat) (w : Network) (moment : IsMoment w)
   moved_or_not (Some m) is after made = moved_stands facts seats w moment stands e form none m is after made
 
 -- ---- the events
-edit_step : (w : Network) (e : Edit) (o : Option EditFault) → edit_fault (checked w.setup) e ≡ o
+edit_step : (w : MachineState) (e : Edit) (o : Option EditFault) → edit_fault (checked w.setup) e ≡ o
     → (next message_size w (Edits e) ≡ edits (moves e w.setup.topology) (edited_without o w.setup e) w)
     × (answer_to w (Edits e) ≡ edit_answer o)
 unfolding next

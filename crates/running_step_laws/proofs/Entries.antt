@@ -16,8 +16,8 @@ use Rattle.config_check.specs.declared.edits.EditFault.{EditFault}
 use Rattle.node_model.specs.Members.{Member}
 use Rattle.machine_model.specs.Setup.{Move, Name, Numbers, Setup, agents_in, checked, edited_without, first_numbers, moves, renumbered}
 use Rattle.machine_model.specs.Setup.{renumbered_at}
-use Rattle.machine_model.specs.Network.{Network, start}
-use Rattle.machine_model.specs.Events.{Event, Edits, Deliver, DeliverOctets, Lose, Connect, Restart, Round, Settle, Show, Trace, Break}
+use Rattle.machine_model.specs.Network.{MachineState, start}
+use Rattle.machine_model.specs.Events.{MachineEvent, Edits, Deliver, DeliverOctets, Lose, Connect, Restart, Round, Settle, Show, Trace, Break}
 use Rattle.machine_model.specs.Events.{edits, next}
 use Rattle.machine_model.proofs.Changing.{renews}
 use Rattle.machine_model.proofs.Deeds.{setup_kept}
@@ -47,7 +47,7 @@ same_controls : (o : Option Move) (ns : List Numbers)
 same_controls None ns = refl
 same_controls (Some m) ns = all_renumbered m ns
 
-edit_keeps : (d : Edit) (w : Network) → HasEntries w.setup → (o : Option EditFault) → edit_fault (checked w.setup) d ≡ o
+edit_keeps : (d : Edit) (w : MachineState) → HasEntries w.setup → (o : Option EditFault) → edit_fault (checked w.setup) d ≡ o
     → HasEntries (edits (moves d w.setup.topology) (edited_without o w.setup d) w).setup
 edit_keeps d w h (Some f) is = h
 edit_keeps d w h None is =
@@ -59,20 +59,20 @@ edit_keeps d w h None is =
     in
     subst HasEntries (sym (moved_setup m (record { setup = y; sessions = w.sessions }))) made
 
-edit_next : (d : Edit) (w : Network) → HasEntries w.setup → HasEntries (next message_size w (Edits d)).setup
+edit_next : (d : Edit) (w : MachineState) → HasEntries w.setup → HasEntries (next message_size w (Edits d)).setup
 unfolding next
 edit_next d w h = edit_keeps d w h (edit_fault (checked w.setup) d) refl
 
 -- ---- every other event keeps the setup
-abbrev is_edit : Event → Bool
+abbrev is_edit : MachineEvent → Bool
 is_edit (Edits d) = true
 is_edit _ = false
 
-other_next : (w : Network) (e : Event) → is_edit e ≡ false → HasEntries w.setup → HasEntries (next message_size w e).setup
+other_next : (w : MachineState) (e : MachineEvent) → is_edit e ≡ false → HasEntries w.setup → HasEntries (next message_size w e).setup
 other_next w e off h =
     subst HasEntries (sym (setup_kept message_size w e (λ d is. true≢false (sym (ap is_edit is) ∙ off)))) h
 
-next_keeps : (w : Network) (e : Event) → HasEntries w.setup → HasEntries (next message_size w e).setup
+next_keeps : (w : MachineState) (e : MachineEvent) → HasEntries w.setup → HasEntries (next message_size w e).setup
 next_keeps w (Edits d) h = edit_next d w h
 next_keeps w (Deliver from to n) h = other_next w (Deliver from to n) refl h
 next_keeps w (DeliverOctets from to n) h = other_next w (DeliverOctets from to n) refl h
@@ -85,14 +85,14 @@ next_keeps w (Show name) h = other_next w (Show name) refl h
 next_keeps w (Trace p) h = other_next w (Trace p) refl h
 next_keeps w (Break from to n) h = other_next w (Break from to n) refl h
 
-moves_keep : (w : Network) (ms : List (Option Event)) → HasEntries w.setup → HasEntries (after_moves w ms).setup
+moves_keep : (w : MachineState) (ms : List (Option MachineEvent)) → HasEntries w.setup → HasEntries (after_moves w ms).setup
 moves_keep w [] h = h
 moves_keep w (None ∷ ms) h = moves_keep (moved w None) ms h
 moves_keep w (Some e ∷ ms) h = moves_keep (moved w (Some e)) ms (next_keeps w e h)
 
-pub entries : (w : Network) → IsMoment w → HasEntries w.setup
+pub entries : (w : MachineState) → IsMoment w → HasEntries w.setup
 entries w m =
-    subst (λ (v : Network). HasEntries v.setup) (sym m.is)
+    subst (λ (v : MachineState). HasEntries v.setup) (sym m.is)
     (moves_keep (start m.opening) m.moves (first_entries m.opening.topology.nodes m.opening.topology.controllers))
 
 -- ---- numbers that are alike

@@ -12,9 +12,9 @@ use Rattle.node_model.specs.Members.{Member}
 use Rattle.node_model.specs.Step.{Beginning, Phase, Post}
 use Rattle.machine_model.specs.Setup.{Name, Setup, checked}
 use Rattle.machine_model.specs.Session.{Message, Session, are_peers, is_idle}
-use Rattle.machine_model.specs.Network.{AreNamed, Network, config}
+use Rattle.machine_model.specs.Network.{AreNamed, MachineState, config}
 use Rattle.machine_model.specs.Steps.{session_of}
-use Rattle.machine_model.specs.Events.{Event, is_node, next}
+use Rattle.machine_model.specs.Events.{MachineEvent, is_node, next}
 use Rattle.machine_model.specs.Moments.{Each, EditIsValid, NoneGoesDown, cell, nodes}
 use Rattle.machine_model.proofs.Apart.{Apart, NamesApart, apart_of, names_apart, no_twins}
 use Rattle.machine_model.proofs.Twins.{NoTwins}
@@ -39,21 +39,21 @@ pub record Wired : Type 0 where
       → place_of seats (name_at seats p) (other_at seats p) ≡ Some p
   pub place_is : (x : Setup) (seats : List Seat) (a b : Name) (p : SessionPlace) → IsWritten x → HasNumbers x → AreSeats x seats
       → place_of seats a b ≡ Some p → IsPlaceOf seats a b p
-  pub session : (w : Network) (seats : List Seat) (p : SessionPlace) → IsWritten w.setup → HasNumbers w.setup → HasSessions w → AreSeats w.setup seats
+  pub session : (w : MachineState) (seats : List Seat) (p : SessionPlace) → IsWritten w.setup → HasNumbers w.setup → HasSessions w → AreSeats w.setup seats
       → IsPlace seats p → HasSession seats w p
-  pub none : (w : Network) (seats : List Seat) (a b : Name) → IsWritten w.setup → HasNumbers w.setup → HasSessions w → AreSeats w.setup seats
+  pub none : (w : MachineState) (seats : List Seat) (a b : Name) → IsWritten w.setup → HasNumbers w.setup → HasSessions w → AreSeats w.setup seats
       → place_of seats a b ≡ None → session_of w a b ≡ None
-  pub found : (w : Network) (seats : List Seat) → IsWritten w.setup → HasNumbers w.setup → HasSessions w → AreSeats w.setup seats
+  pub found : (w : MachineState) (seats : List Seat) → IsWritten w.setup → HasNumbers w.setup → HasSessions w → AreSeats w.setup seats
       → AllByRecursion (IsFound seats w) w.sessions
-  pub goes_by : (w : Network) (seats : List Seat) (p : SessionPlace) (s : Session) → IsWritten w.setup → HasNumbers w.setup → HasSessions w
+  pub goes_by : (w : MachineState) (seats : List Seat) (p : SessionPlace) (s : Session) → IsWritten w.setup → HasNumbers w.setup → HasSessions w
       → Seats seats w → IsPlace seats p → session_of w (name_at seats p) (other_at seats p) ≡ Some s → GoesBy seats w p s
-  pub nodes : (w : Network) (seats : List Seat) (k : ℕ) → IsWritten w.setup → HasNumbers w.setup → HasSessions w → Seats seats w → 0 < k
+  pub nodes : (w : MachineState) (seats : List Seat) (k : ℕ) → IsWritten w.setup → HasNumbers w.setup → HasSessions w → Seats seats w → 0 < k
       → k < length seats → is_node w (name_of (seat seats k).who) ≡ true
-  pub shown : (w : Network) (seats : List Seat) (name : Name) → IsWritten w.setup → HasNumbers w.setup → HasSessions w → Seats seats w
+  pub shown : (w : MachineState) (seats : List Seat) (name : Name) → IsWritten w.setup → HasNumbers w.setup → HasSessions w → Seats seats w
       → is_node w name ≡ true → (k : ℕ) × ShowsAt seats w name k
 
 -- ---- of what a node hears
-pub record Heard : Type 0 where
+pub record HearingFacts : Type 0 where
   pub message : (x : Setup) → IsWritten x → HasNumbers x → (a b : Who) → Member a (whos x) → Member b (whos x)
       → (i : ℕ) → i < length (others_of a) → slice_index_or (others_of a) i None ≡ Some (name_of b)
       → (p : Post) → is_idle p.phase ≡ false → (m : Message) (after : Phase)
@@ -84,41 +84,41 @@ pub record Heard : Type 0 where
 
 -- ---- of moments
 pub record Moments : Type 0 where
-  pub written : (w : Network) → IsMoment w → IsWritten w.setup
-  pub numbers : (w : Network) → IsMoment w → HasNumbers w.setup
-  pub sessions : (w : Network) → IsMoment w → HasSessions w
-  pub after : (w : Network) (e : Event) → IsMoment w → EditIsValid IsOfForm w e → IsMoment (next message_size w e)
-  pub unbreaks : (w : Network) → IsMoment w → IsMoment (unbroken w)
-  pub heard : (w : Network) → IsMoment w → AllByRecursion CanBeHeard w.sessions
+  pub written : (w : MachineState) → IsMoment w → IsWritten w.setup
+  pub numbers : (w : MachineState) → IsMoment w → HasNumbers w.setup
+  pub sessions : (w : MachineState) → IsMoment w → HasSessions w
+  pub after : (w : MachineState) (e : MachineEvent) → IsMoment w → EditIsValid IsOfForm w e → IsMoment (next message_size w e)
+  pub unbreaks : (w : MachineState) → IsMoment w → IsMoment (unbroken w)
+  pub heard : (w : MachineState) → IsMoment w → AllByRecursion CanBeHeard w.sessions
 
 pub record Facts : Type 0 where
   pub wired : Wired
-  pub hears : Heard
+  pub hears : HearingFacts
   pub moments : Moments
 
 -- ---- states between moments
-pub record IsRight (w : Network) : Type 0 where
+pub record IsRight (w : MachineState) : Type 0 where
   pub written : IsWritten w.setup
   pub numbers : HasNumbers w.setup
   pub sessions : HasSessions w
   pub quiet : Each IsQuiet w.sessions
 
-right_names : (w : Network) → IsRight w → AreNamed w.setup.topology
+right_names : (w : MachineState) → IsRight w → AreNamed w.setup.topology
 right_names w r =
     let t = w.setup.topology in
     let c = w.setup.config in
     (is_named t c r.written.topology ((valid_iff t c).0 r.written.valid)).apart
 
-pub right_twins : (w : Network) → IsRight w → NoTwins (map nodes w.sessions)
+pub right_twins : (w : MachineState) → IsRight w → NoTwins (map nodes w.sessions)
 right_twins w r = subst NoTwins (sym r.sessions) (no_twins (checked w.setup) (right_names w r))
 
-right_apart : (w : Network) → IsRight w → NamesApart w.setup.topology
+right_apart : (w : MachineState) → IsRight w → NamesApart w.setup.topology
 right_apart w r =
     let t = w.setup.topology in
     names_apart t (apart_of (config ∷ controller_names t ++ node_names t) (right_names w r))
 
-pub right_sites : (w : Network) → IsRight w → Apart (controller_names w.setup.topology)
+pub right_sites : (w : MachineState) → IsRight w → Apart (controller_names w.setup.topology)
 right_sites w r = (right_apart w r).sites_apart
 
-pub right_computers : (w : Network) → IsRight w → Apart (node_names w.setup.topology)
+pub right_computers : (w : MachineState) → IsRight w → Apart (node_names w.setup.topology)
 right_computers w r = (right_apart w r).computers_apart

@@ -9,7 +9,7 @@ use Rattle.config_model.specs.declared.topology.Node.{Node}
 use Rattle.config_check.specs.Checked.{Checked}
 use Rattle.config_check.specs.Edits as config_edits
 use Rattle.machine_model.specs.Setup.{Move, Name, Setup, checked, id_of, moves, remade, renumbered}
-use Rattle.machine_model.specs.Network.{Network, brought, replaced}
+use Rattle.machine_model.specs.Network.{MachineState, brought, replaced}
 use Rattle.machine_model.specs.Steps.{pass}
 use Rattle.running_model.specs.Seats.{Seat, Configuring, seat}
 use Rattle.running_model.specs.Moving.{is_listed_who, joined, vacated}
@@ -34,5 +34,5 @@ ghosts y name now seats =
     with_seat 0 (record (seat (map (ghost name now) seats) 0) { who = Configuring y }) (map (ghost name now) seats)
 
 -- the network whose sessions were replaced, and in which no control node has made its pass yet
-abbrev pub resettled : Move → Setup → Network → Network
+abbrev pub resettled : Move → Setup → MachineState → MachineState
 resettled m y w = record { setup = y; sessions = replaced m.name (brought y.topology.controllers m.now) w.sessions }

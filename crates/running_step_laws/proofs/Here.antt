@@ -4,7 +4,7 @@ use Rattle.std.specs.declared.option.Option.TheVariants.{Some}
 use Rattle.std.proofs.lemmas.Option.{same_Some}
 use Rattle.std.proofs.Common.{sym, ◌∙◌, ap, subst}
 use Rattle.machine_model.specs.Session.{Session, turned}
-use Rattle.machine_model.specs.Network.{Network}
+use Rattle.machine_model.specs.Network.{MachineState}
 use Rattle.machine_model.specs.Steps.{session_of}
 use Rattle.machine_model.proofs.NetworkFact.{found}
 use Rattle.running_model.specs.Seats.{Seat, name_of, seat, seat_named}
@@ -16,7 +16,7 @@ use Rattle.running_step_laws.proofs.Lists.{EndAt, named_by}
 use Rattle.running_step_laws.proofs.Quiet.{IsQuiet, quiet_turned}
 use Rattle.running_step_laws.proofs.Sides.{found_apart, seen_back}
 
-pub record Here (seats : List Seat) (w : Network) (p : SessionPlace) : Type 0 where
+pub record Here (seats : List Seat) (w : MachineState) (p : SessionPlace) : Type 0 where
   pub far : HasFar seats p
   pub session : Session
   pub found : session_of w (name_at seats p) (other_at seats p) ≡ Some session
@@ -27,12 +27,12 @@ pub record Here (seats : List Seat) (w : Network) (p : SessionPlace) : Type 0 wh
   pub quiet : IsQuiet session
 
 -- an end of a place that there is
-pub end_at : (seats : List Seat) (w : Network) → Seats seats w → (p : SessionPlace) → IsPlace seats p → EndAt w seats p
+pub end_at : (seats : List Seat) (w : MachineState) → Seats seats w → (p : SessionPlace) → IsPlace seats p → EndAt w seats p
 end_at seats w stands p is =
     stands.ends p.node p.session is.node
     (subst (λ n. p.session < n) (sym (stands.long p.node is.node).posts) is.session) (other_at seats p) is.somebody
 
-module _ (wired : Wired) (seats : List Seat) (w : Network) (right : IsRight w) (stands : Seats seats w) where
+module _ (wired : Wired) (seats : List Seat) (w : MachineState) (right : IsRight w) (stands : Seats seats w) where
   pub here : (p : SessionPlace) → IsPlace seats p → Here seats w p
   here p is =
       let far = wired.far w.setup seats p right.written right.numbers stands.who is in

@@ -12,7 +12,7 @@ use Rattle.std.proofs.Common.{refl, sym, ◌∙◌, ap, subst, inl, inr}
 use Rattle.ov_types.specs.First.{same_name}
 use Rattle.node_model.specs.Step.{nothing}
 use Rattle.machine_model.specs.Setup.{Name}
-use Rattle.machine_model.specs.Network.{Network}
+use Rattle.machine_model.specs.Network.{MachineState}
 use Rattle.running_model.specs.Seats.{Seat, far_of, index_from, is_name, name_of, nobody, other, others_of, place_at, place_of}
 use Rattle.running_model.specs.Seats.{seat, seat_named, session_with}
 use Rattle.running_model.specs.Stands.{HasEnd, IsLong, IsVacant, Seats}
@@ -193,11 +193,11 @@ fit_within seats long vacant = record {
     by_node p none (inr out) b =
         subst (λ n. IsVacant n p.session) (sym (get_or_past seats p.node nobody out)) (vacant_nobody p.session)
 
-pub seats_fit : (seats : List Seat) (w : Network) → Seats seats w → AreFit seats
+pub seats_fit : (seats : List Seat) (w : MachineState) → Seats seats w → AreFit seats
 seats_fit seats w stands =
     fit_within seats stands.long
     (λ k i lt less none. stands.vacant k i lt (subst (λ m. i < m) (sym (stands.long k lt).posts) less) none)
 
 -- what stands at a place
-abbrev pub EndAt : Network → List Seat → SessionPlace → Type 0
+abbrev pub EndAt : MachineState → List Seat → SessionPlace → Type 0
 EndAt w seats p = HasEnd w (seat seats p.node) p.session (other_at seats p)

@@ -10,7 +10,7 @@ use Rattle.std.proofs.Common.{refl, sym, ◌∙◌, ap, subst}
 use Rattle.schedule_script.specs.declared.answer.Answer.TheVariants.{Did, Idle}
 use Rattle.machine_model.specs.Setup.{Name}
 use Rattle.machine_model.specs.Session.{Session, lost, turned}
-use Rattle.machine_model.specs.Network.{Network}
+use Rattle.machine_model.specs.Network.{MachineState}
 use Rattle.machine_model.specs.Steps.{change_session, session_of}
 use Rattle.machine_model.specs.Events.{Lose, answer_to, lose, next, unless}
 use Rattle.running_model.specs.Seats.{Seat, is_down_at, link_at, notice_at, others_of, place_of, seat}
@@ -117,7 +117,7 @@ module _ (seats : List Seat) (p q : SessionPlace) (apart : p ≢ q) (lt : p.node
       (subst (λ n. q.session < n) (sym l.links) (subst (λ x. q.session < length (others_of x)) (sym (same_who seats s3 (but3.alike ∙ but2.alike ∙ but1.alike) q.node)) within'))
 
 -- ---- the theorem
-module _ (facts : Facts) (seats : List Seat) (w : Network) (moment : IsMoment w) (stands : Seats seats w) where
+module _ (facts : Facts) (seats : List Seat) (w : MachineState) (moment : IsMoment w) (stands : Seats seats w) where
   abbrev right : IsRight w
   right = moment_right facts.moments w moment
 

@@ -5,7 +5,7 @@ use Rattle.std.proofs.lemmas.Bool.{cases_eq}
 use Rattle.std.proofs.lemmas.List.{get_or-set_same, nil_from_length}
 use Rattle.std.proofs.Common.{refl, sym, ◌∙◌, ap, subst, inl, inr}
 use Rattle.node_model.specs.Step.{Post}
-use Rattle.machine_model.specs.Session.{End, Session, is_live, is_peering, noticed, closed}
+use Rattle.machine_model.specs.Session.{SessionEnd, Session, is_live, is_peering, noticed, closed}
 use Rattle.node_model.specs.Step.{nothing, post}
 use Rattle.running_model.specs.Seats.{Seat, breaks_in, kept_in, link, link_at, notice, notice_at, seat}
 use Rattle.running_model.specs.Steps.{with_link, with_notice, with_seat}
@@ -102,12 +102,12 @@ kept_nothing n i s is quiet none =
 pub end_noticed : (n n' : Seat) (i : ℕ) (s t : Session) → Stays n n' i → notice n' i ≡ is_live s.near → link n' i ≡ []
     → t.near ≡ noticed s.near → t.far.taken ≡ 0 → (is_live s.near ≡ false → kept_in n i ≡ []) → IsEnd n i s → IsEnd n' i t
 end_noticed n n' i s t same waits none near taken idle h = record {
-  phase = ap (λ (e : End). e.phase) near ∙ h.phase ∙ ap (λ (p : Post). p.phase) (sym same.post);
-  sent = ap (λ (e : End). e.sent) near ∙ h.sent ∙ ap (λ (p : Post). p.sent) (sym same.post);
-  held = ap (λ (e : End). e.held) near ∙ h.held ∙ ap (λ (p : Post). p.held) (sym same.post);
-  notice = ap (λ (e : End). e.notice) near ∙ sym waits;
-  flight = none ∙ sym (ap (λ (e : End). map (octets_of n'.who (is_peering t)) e.flight) near);
-  breaks = ap (λ (e : End). e.breaks) near ∙ h.breaks ∙ sym same.breaks;
+  phase = ap (λ (e : SessionEnd). e.phase) near ∙ h.phase ∙ ap (λ (p : Post). p.phase) (sym same.post);
+  sent = ap (λ (e : SessionEnd). e.sent) near ∙ h.sent ∙ ap (λ (p : Post). p.sent) (sym same.post);
+  held = ap (λ (e : SessionEnd). e.held) near ∙ h.held ∙ ap (λ (p : Post). p.held) (sym same.post);
+  notice = ap (λ (e : SessionEnd). e.notice) near ∙ sym waits;
+  flight = none ∙ sym (ap (λ (e : SessionEnd). map (octets_of n'.who (is_peering t)) e.flight) near);
+  breaks = ap (λ (e : SessionEnd). e.breaks) near ∙ h.breaks ∙ sym same.breaks;
   taken = taken ∙ by_live (is_live s.near) refl;
 }
   where
@@ -118,14 +118,14 @@ end_noticed n n' i s t same waits none near taken idle h = record {
         (ap (λ (b : Bool). cond b 0 (length (kept_in n' i))) (waits ∙ e) ∙ ap length (same.kept ∙ idle e))
 
 -- whatever it was before
-pub end_closed : (n : Seat) (i : ℕ) (e : End) (t : Session) → post n.posts i ≡ nothing → kept_in n i ≡ [] → notice n i ≡ false
+pub end_closed : (n : Seat) (i : ℕ) (e : SessionEnd) (t : Session) → post n.posts i ≡ nothing → kept_in n i ≡ [] → notice n i ≡ false
     → link n i ≡ [] → e.breaks ≡ breaks_in n i → t.near ≡ closed e → t.far.taken ≡ 0 → IsEnd n i t
 end_closed n i e t empty bare quiet none breaks near taken = record {
-  phase = ap (λ (e : End). e.phase) near ∙ ap (λ (p : Post). p.phase) (sym empty);
-  sent = ap (λ (e : End). e.sent) near ∙ ap (λ (p : Post). p.sent) (sym empty);
-  held = ap (λ (e : End). e.held) near ∙ ap (λ (p : Post). p.held) (sym empty);
-  notice = ap (λ (e : End). e.notice) near ∙ sym quiet;
-  flight = none ∙ sym (ap (λ (e : End). map (octets_of n.who (is_peering t)) e.flight) near);
-  breaks = ap (λ (e : End). e.breaks) near ∙ breaks;
+  phase = ap (λ (e : SessionEnd). e.phase) near ∙ ap (λ (p : Post). p.phase) (sym empty);
+  sent = ap (λ (e : SessionEnd). e.sent) near ∙ ap (λ (p : Post). p.sent) (sym empty);
+  held = ap (λ (e : SessionEnd). e.held) near ∙ ap (λ (p : Post). p.held) (sym empty);
+  notice = ap (λ (e : SessionEnd). e.notice) near ∙ sym quiet;
+  flight = none ∙ sym (ap (λ (e : SessionEnd). map (octets_of n.who (is_peering t)) e.flight) near);
+  breaks = ap (λ (e : SessionEnd). e.breaks) near ∙ breaks;
   taken = taken ∙ sym (ap (λ (b : Bool). cond b 0 (length (kept_in n i))) quiet ∙ ap length bare);
 }

@@ -12,7 +12,7 @@ use Rattle.std.proofs.Common.{refl, sym, ◌∙◌, ap, subst, suc-ne-zero}
 use Rattle.ov_link.specs.declared.step.Input.TheVariants as input
 use Rattle.node_model.specs.Step.{Beginning, Phase, Post, end_of, nothing, post}
 use Rattle.machine_model.specs.Session.{Message, Session, are_peers, arrived, is_idle, is_peering, told, turned, waiting, without_first}
-use Rattle.machine_model.specs.Network.{Network}
+use Rattle.machine_model.specs.Network.{MachineState}
 use Rattle.machine_model.specs.Steps.{change_session, deliver, in_flight, pass}
 use Rattle.machine_model.specs.Moments.{IsJoined, NoneGoesDown, cell}
 use Rattle.machine_model.proofs.NetworkFact.{with_session_keeps}
@@ -67,7 +67,7 @@ take_and_drop (suc n) [] = refl
 take_and_drop (suc n) (x ∷ xs) = ap (λ ys. x ∷ ys) (take_and_drop n xs)
 
 -- ---- the theorem
-module _ (facts : Facts) (seats : List Seat) (w : Network) (moment : IsMoment w) (stands : Seats seats w) (p : SessionPlace)
+module _ (facts : Facts) (seats : List Seat) (w : MachineState) (moment : IsMoment w) (stands : Seats seats w) (p : SessionPlace)
     (is : IsPlace seats p) (quiet : notice_at seats p ≡ false) where
   abbrev right : IsRight w
   right = moment_right facts.moments w moment

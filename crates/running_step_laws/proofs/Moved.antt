@@ -19,7 +19,7 @@ use Rattle.config_check.specs.Rules.{controller_names, node_names}
 use Rattle.node_model.specs.Members.{Member}
 use Rattle.node_model.proofs.Members.{from_filter, from_map, in_either, in_map}
 use Rattle.machine_model.specs.Setup.{Move, Name, Setup, agents_of, checked, listed_by, lists, moves}
-use Rattle.machine_model.specs.Network.{Network, config}
+use Rattle.machine_model.specs.Network.{MachineState, config}
 use Rattle.machine_model.specs.Events.{Edits, moved}
 use Rattle.machine_model.specs.Moments.{EditIsValid}
 use Rattle.machine_model.proofs.Changing.{found_member}
@@ -51,7 +51,7 @@ use Rattle.running_step_laws.proofs.MovedStep.{Between, IsClear, peers_past}
 abbrev pub reconfigured : Checked → List Seat → List Seat
 reconfigured y seats = with_seat 0 (record (seat seats 0) { who = Configuring y }) seats
 
-module _ (facts : Facts) (seats : List Seat) (w : Network) (moment : IsMoment w) (stands : Seats seats w) (e : Edit)
+module _ (facts : Facts) (seats : List Seat) (w : MachineState) (moment : IsMoment w) (stands : Seats seats w) (e : Edit)
     (form : EditIsValid IsOfForm w (Edits e)) (none : edit_fault (checked w.setup) e ≡ None) (m : Move)
     (is : moves e w.setup.topology ≡ Some m) where
   abbrev y : Setup
@@ -223,7 +223,7 @@ module _ (facts : Facts) (seats : List Seat) (w : Network) (moment : IsMoment w)
       (stage_end facts.wired y m.name m.now is_now sites_off_then config_off made.left (moved (Some m) (record { setup = y; sessions = w.sessions }))
       (stage_last facts.wired y m.name m.now is_now sites_off_then config_off m.left r (resettled m y w) stage sites made.left made.leaves))
 
-pub moved_stands : Facts → (seats : List Seat) (w : Network) → IsMoment w → Seats seats w → (e : Edit)
+pub moved_stands : Facts → (seats : List Seat) (w : MachineState) → IsMoment w → Seats seats w → (e : Edit)
     → EditIsValid IsOfForm w (Edits e) → edit_fault (checked w.setup) e ≡ None
     → (m : Move) → moves e w.setup.topology ≡ Some m
     → (after : List Seat) → Moves (config_edits.edited e (checked w.setup)).topology m seats after

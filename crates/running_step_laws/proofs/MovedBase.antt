@@ -25,8 +25,8 @@ use Rattle.node_model.specs.Members.{Member}
 use Rattle.node_model.proofs.Members.{from_map, in_either, in_map, in_right}
 use Rattle.node_model.specs.Step.{Post}
 use Rattle.machine_model.specs.Setup.{Move, Name, Setup, agents_in, agents_of, came_at, checked, moves, renumbered, without_agent}
-use Rattle.machine_model.specs.Session.{Message, Open, Keepalive, Hello, Carries, End, Session, Agent, is_peering}
-use Rattle.machine_model.specs.Network.{AreNamed, Network, brought, config, same_role}
+use Rattle.machine_model.specs.Session.{Message, Open, Keepalive, Hello, Carries, SessionEnd, Session, Agent, is_peering}
+use Rattle.machine_model.specs.Network.{AreNamed, MachineState, brought, config, same_role}
 use Rattle.machine_model.specs.Steps.{session_of}
 use Rattle.machine_model.specs.Events.{Edits}
 use Rattle.machine_model.specs.Moments.{Each, EditIsValid, NumbersFit}
@@ -60,13 +60,13 @@ use Rattle.running_step_laws.proofs.Started.{HasNothing, taken_nowhere}
 -- there is nothing, and nothing is in the session
 vacant_end : (n : Seat) (i : ℕ) (s : Session) → IsVacant n i → HasNothing s.near → HasNothing s.far → IsEnd n i s
 vacant_end n i s v h there = record {
-  phase = ap (λ (e : End). e.phase) h.is ∙ sym (ap (λ (p : Post). p.phase) v.post);
-  sent = ap (λ (e : End). e.sent) h.is ∙ sym (ap (λ (p : Post). p.sent) v.post);
-  held = ap (λ (e : End). e.held) h.is ∙ sym (ap (λ (p : Post). p.held) v.post);
-  notice = ap (λ (e : End). e.notice) h.is ∙ sym v.notice;
-  flight = v.link ∙ sym (ap (λ (e : End). map (octets_of n.who (is_peering s)) e.flight) h.is);
-  breaks = ap (λ (e : End). e.breaks) h.is ∙ sym v.breaks;
-  taken = ap (λ (e : End). e.taken) there.is ∙ sym (taken_nowhere n i v.notice v.kept);
+  phase = ap (λ (e : SessionEnd). e.phase) h.is ∙ sym (ap (λ (p : Post). p.phase) v.post);
+  sent = ap (λ (e : SessionEnd). e.sent) h.is ∙ sym (ap (λ (p : Post). p.sent) v.post);
+  held = ap (λ (e : SessionEnd). e.held) h.is ∙ sym (ap (λ (p : Post). p.held) v.post);
+  notice = ap (λ (e : SessionEnd). e.notice) h.is ∙ sym v.notice;
+  flight = v.link ∙ sym (ap (λ (e : SessionEnd). map (octets_of n.who (is_peering s)) e.flight) h.is);
+  breaks = ap (λ (e : SessionEnd). e.breaks) h.is ∙ sym v.breaks;
+  taken = ap (λ (e : SessionEnd). e.taken) there.is ∙ sym (taken_nowhere n i v.notice v.kept);
 }
 
 -- nodes that spell alike
@@ -206,17 +206,17 @@ who_names x =
     (map-append name_of (map f x.topology.controllers) (map g x.topology.nodes)
     ∙ (λ i. names_map f x.topology.controllers i ++ names_map g x.topology.nodes i))
 
-named_of : (w : Network) → IsRight w → AreNamed w.setup.topology
+named_of : (w : MachineState) → IsRight w → AreNamed w.setup.topology
 named_of w r =
     let t = w.setup.topology in
     (is_named t w.setup.config r.written.topology ((valid_iff t w.setup.config).0 r.written.valid)).apart
 
-pub names_of_all : (w : Network) → IsRight w → Apart (config ∷ controller_names w.setup.topology ++ node_names w.setup.topology)
+pub names_of_all : (w : MachineState) → IsRight w → Apart (config ∷ controller_names w.setup.topology ++ node_names w.setup.topology)
 names_of_all w r =
     let t = w.setup.topology in
     apart_of (config ∷ controller_names t ++ node_names t) (named_of w r)
 
-module _ (facts : Facts) (seats : List Seat) (w : Network) (moment : IsMoment w) (stands : Seats seats w) (e : Edit)
+module _ (facts : Facts) (seats : List Seat) (w : MachineState) (moment : IsMoment w) (stands : Seats seats w) (e : Edit)
     (form : EditIsValid IsOfForm w (Edits e)) (none : edit_fault (checked w.setup) e ≡ None) (m : Move)
     (is : moves e w.setup.topology ≡ Some m) where
   abbrev x : Setup
@@ -231,7 +231,7 @@ module _ (facts : Facts) (seats : List Seat) (w : Network) (moment : IsMoment w)
   abbrev u : Topology
   u = y.topology
 
-  abbrev v : Network
+  abbrev v : MachineState
   v = resettled m y w
 
   abbrev new : List Seat

@@ -15,7 +15,7 @@ use Rattle.config_check.specs.Checked.{Checked}
 use Rattle.node_model.specs.Members.{Member}
 use Rattle.node_model.proofs.Members.{from_filter, in_left, in_map}
 use Rattle.machine_model.specs.Setup.{Name, Setup, checked, id_of, is_listed, without_agent}
-use Rattle.machine_model.specs.Network.{Network, config}
+use Rattle.machine_model.specs.Network.{MachineState, config}
 use Rattle.machine_model.specs.Events.{passes}
 use Rattle.machine_model.specs.Steps.{pass}
 use Rattle.agent_node.specs.declared.plan.AgentPlan.{AgentPlan}
@@ -104,7 +104,7 @@ module _ (wired : Wired) (x : Setup) (name : Name) (now : Option Node) (is_now :
   abbrev all : List Seat → List Seat
   all r = ghosts (checked x) name now r
 
-  pub record Stage (cs : List Name) (r : List Seat) (v : Network) : Type 0 where
+  pub record Stage (cs : List Name) (r : List Seat) (v : MachineState) : Type 0 where
     pub setup : v.setup ≡ x
     pub between : Between (checked x) r
     pub right : IsRight v
@@ -112,7 +112,7 @@ module _ (wired : Wired) (x : Setup) (name : Name) (now : Option Node) (is_now :
     pub stands : Seats (all r) v
     pub clear : (k : ℕ) → k < length r → IsClearBut name cs (seat r k).who
 
-  module _ (cs : List Name) (r : List Seat) (v : Network) (s : Stage cs r v) where
+  module _ (cs : List Name) (r : List Seat) (v : MachineState) (s : Stage cs r v) where
     -- a control node's seat is found by its name
     control_named : (k0 : ℕ) → suc k0 < length r → (b : Controls) → (seat r (suc k0)).who ≡ Controlling b
         → seat_named r b.me.name ≡ Some (suc k0)
@@ -152,7 +152,7 @@ module _ (wired : Wired) (x : Setup) (name : Name) (now : Option Node) (is_now :
           was = from_ghost name now (seat r (suc k0)).who (control_plan x d) (sym (who_seat y name now is_now r (suc k0) lt) ∙ e);
         }
 
-  module _ (c : Name) (cs : List Name) (r : List Seat) (v : Network) (s : Stage (c ∷ cs) r v) (d : NodeId)
+  module _ (c : Name) (cs : List Name) (r : List Seat) (v : MachineState) (s : Stage (c ∷ cs) r v) (d : NodeId)
       (is : Member d x.topology.controllers) (named : d.name ≡ c) where
     abbrev f : Found (c ∷ cs) r v s d
     f = found_site (c ∷ cs) r v s d is
@@ -243,7 +243,7 @@ module _ (wired : Wired) (x : Setup) (name : Name) (now : Option Node) (is_now :
         let l : LeavesAt name (Some k) r after = subst (λ o. LeavesAt name o r after) here leaves in
         subst (λ a. Stage cs a (pass c v)) (sym l.2) (next_stage l.0 l.1)
 
-  pub stage_last : (cs : List Name) (r : List Seat) (v : Network) → Stage cs r v
+  pub stage_last : (cs : List Name) (r : List Seat) (v : MachineState) → Stage cs r v
       → ((c : Name) → Member c cs → (d : NodeId) × Member d x.topology.controllers × (d.name ≡ c))
       → (after : List Seat) → LeavesAll name cs r after → Stage [] after (passes cs v)
   stage_last [] r v s sites after leaves = subst (λ a. Stage [] a v) (sym leaves) s
@@ -252,7 +252,7 @@ module _ (wired : Wired) (x : Setup) (name : Name) (now : Option Node) (is_now :
       stage_last cs leaves.0 (pass c v) (stage_after c cs r v s d.0 d.1 d.2 leaves.0 leaves.1) (λ c m. sites c (inr m)) after leaves.2
 
   -- then it has come to those that it lists
-  pub stage_end : (r : List Seat) (v : Network) → Stage [] r v
+  pub stage_end : (r : List Seat) (v : MachineState) → Stage [] r v
       → Seats (with_seat 0 (record (seat (came now r) 0) { who = Configuring (checked x) }) (came now r)) v
   stage_end r v s =
       subst (λ a. Seats (with_seat 0 (record (seat a 0) { who = Configuring (checked x) }) a) v)

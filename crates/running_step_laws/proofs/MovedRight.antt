@@ -8,7 +8,7 @@ use Rattle.config_check.specs.Edits.{edit_fault}
 use Rattle.config_check.specs.declared.edits.EditFault.{EditFault}
 use Rattle.machine_model.specs.Setup.{Move, Name, Setup, checked, edited_without, moves}
 use Rattle.machine_model.specs.Session.{Role, Session, passed}
-use Rattle.machine_model.specs.Network.{Network, asked, brought, config, fresh, view, views_of, wanted}
+use Rattle.machine_model.specs.Network.{MachineState, asked, brought, config, fresh, view, views_of, wanted}
 use Rattle.machine_model.specs.Steps.{pass}
 use Rattle.machine_model.specs.Events.{Edits, edits, moved, next, passes}
 use Rattle.machine_model.specs.Moments.{EditIsValid, nodes}
@@ -34,23 +34,23 @@ fresh_sound n m r q = inr (record {
   far = record { notice = refl; flight = refl; taken = refl; tidy = λ _. (refl, refl) };
 })
 
-pub resettled_sound : (m : Move) (y : Setup) (w : Network) → IsSound w → IsSound (resettled m y w)
+pub resettled_sound : (m : Move) (y : Setup) (w : MachineState) → IsSound w → IsSound (resettled m y w)
 resettled_sound m y w sound =
     each_replaced (Fact message_size) (Fact message_size) m.name (λ s off f. f) (brought y.topology.controllers m.now)
     w.sessions (each_brought (Fact message_size) fresh_sound y.topology.controllers m.now) sound
 
-pub pass_sound : (n : Name) (v : Network) → IsSound v → IsSound (pass n v)
+pub pass_sound : (n : Name) (v : MachineState) → IsSound v → IsSound (pass n v)
 pass_sound n v sound =
     let told : Session → Session = λ s. passed (wanted v.setup (views_of n v.sessions) (view s)) s in
     nodes_keep (Fact message_size) (Fact-turned message_size) told
     (λ s f. passed_keeps message_size positive (wanted v.setup (views_of n v.sessions) (view s)) s f) n v.sessions sound
 
-pub passes_sound : (ns : List Name) (v : Network) → IsSound v → IsSound (passes ns v)
+pub passes_sound : (ns : List Name) (v : MachineState) → IsSound v → IsSound (passes ns v)
 passes_sound [] v sound = sound
 passes_sound (n ∷ ns) v sound = passes_sound ns (pass n v) (pass_sound n v sound)
 
 -- ---- what passes keep
-pub pass_right : (n : Name) (v : Network) → IsSound v → IsRight v → IsRight (pass n v)
+pub pass_right : (n : Name) (v : MachineState) → IsSound v → IsRight v → IsRight (pass n v)
 pass_right n v sound r = record {
   written = r.written;
   numbers = r.numbers;
@@ -58,12 +58,12 @@ pass_right n v sound r = record {
   quiet = all_quiet (pass n v) (pass_sound n v sound);
 }
 
-pub passes_right : (ns : List Name) (v : Network) → IsSound v → IsRight v → IsRight (passes ns v)
+pub passes_right : (ns : List Name) (v : MachineState) → IsSound v → IsRight v → IsRight (passes ns v)
 passes_right [] v sound r = r
 passes_right (n ∷ ns) v sound r = passes_right ns (pass n v) (pass_sound n v sound) (pass_right n v sound r)
 
 -- ---- at a moment
-module _ (facts : Facts) (w : Network) (moment : IsMoment w) (e : Edit) (form : EditIsValid IsOfForm w (Edits e))
+module _ (facts : Facts) (w : MachineState) (moment : IsMoment w) (e : Edit) (form : EditIsValid IsOfForm w (Edits e))
     (none : edit_fault (checked w.setup) e ≡ None) (m : Move) (is : moves e w.setup.topology ≡ Some m) where
   abbrev y : Setup
   y = setup_after w.setup e

@@ -16,7 +16,7 @@ use Rattle.machine_model.specs.Setup.{Name, lists}
 use Rattle.machine_model.specs.Session.{Configuration, Controller, Agent, Session, turned}
 use Rattle.machine_model.specs.Network.{accesses, accesses_of, asked, between, brought, config, feeds, is_at, is_of, peerings, replaced, same_role}
 use Rattle.machine_model.specs.Steps.{joins, session_in}
-use Rattle.machine_model.specs.Moments.{Each, Nodes, nodes}
+use Rattle.machine_model.specs.Moments.{Each, NodePair, nodes}
 use Rattle.machine_model.proofs.Distinct.{same_false}
 use Rattle.machine_model.proofs.Listed.{each_member, of_nodes, to_nodes}
 use Rattle.machine_model.proofs.Replaced.{each_append, each_brought, each_of, each_replaced}
@@ -39,7 +39,7 @@ module _ (name : Name) where
   bare_turned s h (inr e) = let b = h (inl e) in (b.1, b.0)
 
   -- no other has its name
-  abbrev pub IsOnly : Nodes → Type 0
+  abbrev pub IsOnly : NodePair → Type 0
   IsOnly p = (same_name p.0.0 name ≡ false) × (same_name p.1.0 name ≡ true → same_role Agent p.1.1 ≡ true)
 
   module _ (t : Topology) (off_config : same_name config name ≡ false) (off : (c : NodeId) → Member c t.controllers → same_name c.name name ≡ false) where

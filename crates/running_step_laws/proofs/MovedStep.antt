@@ -18,7 +18,7 @@ use Rattle.node_model.specs.Members.{Member}
 use Rattle.node_model.specs.Step.{Phase, Post, nothing, post}
 use Rattle.machine_model.specs.Setup.{Name, has_name, is_listed, without_agent}
 use Rattle.machine_model.specs.Session.{is_idle, is_peering, turned}
-use Rattle.machine_model.specs.Network.{Network, config}
+use Rattle.machine_model.specs.Network.{MachineState, config}
 use Rattle.machine_model.specs.Steps.{pass}
 use Rattle.machine_model.proofs.NetworkFact.{found}
 use Rattle.machine_model.proofs.SessionFact.{Down, Fact, Fact-turned}
@@ -194,7 +194,7 @@ pub record Between (y : Checked) (r : List Seat) : Type 0 where
   pub fit : AreFit r
 
 module _ (wired : Wired) (y : Checked) (name : Name) (now : Option Node) (is_now : IsNow name now) (r : List Seat)
-    (between : Between y r) (v : Network) (right : IsRight v) (sound : IsSound v) (stands : Seats (ghosts y name now r) v)
+    (between : Between y r) (v : MachineState) (right : IsRight v) (sound : IsSound v) (stands : Seats (ghosts y name now r) v)
     (k0 : ℕ) (within : suc k0 < length r) (c : Controls) (ctl : (seat r (suc k0)).who ≡ Controlling c)
     (own : c.me.name ≢ name) (config_off : config ≢ name) (peers_off : (d : NodeId) → Member d c.peers → d.name ≢ name)
     (n' : Seat) (leaves : Leaves name (seat r (suc k0)) n') where

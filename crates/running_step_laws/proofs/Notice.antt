@@ -9,7 +9,7 @@ use Rattle.std.proofs.Common.{refl, sym, ◌∙◌, ap, subst, inl, inr}
 use Rattle.ov_link.specs.declared.step.Input.TheVariants as input
 use Rattle.node_model.specs.Step.{Beginning, end_of, nothing, post}
 use Rattle.machine_model.specs.Session.{Session, arrived, closed as closed_end, is_idle, is_peering, told, turned, waiting}
-use Rattle.machine_model.specs.Network.{Network}
+use Rattle.machine_model.specs.Network.{MachineState}
 use Rattle.machine_model.specs.Steps.{change_session, deliver, in_flight, pass}
 use Rattle.machine_model.proofs.NetworkFact.{with_session_keeps}
 use Rattle.machine_model.proofs.NodesFact.{arrived_nodes}
@@ -31,7 +31,7 @@ use Rattle.running_step_laws.proofs.Marks.{end_closed, kept_nothing, notice_but}
 use Rattle.running_step_laws.proofs.Sent.{arrived_closes, told_none}
 use Rattle.running_step_laws.proofs.Stepped.{IsReady, stands_after, taking}
 
-module _ (facts : Facts) (seats : List Seat) (w : Network) (moment : IsMoment w) (stands : Seats seats w) (p : SessionPlace)
+module _ (facts : Facts) (seats : List Seat) (w : MachineState) (moment : IsMoment w) (stands : Seats seats w) (p : SessionPlace)
     (is : IsPlace seats p) (waits : notice_at seats p ≡ true) where
   abbrev right : IsRight w
   right = moment_right facts.moments w moment

@@ -13,9 +13,9 @@ use Rattle.std.proofs.Common.{refl, sym, ◌∙◌, ap, subst, inl, inr}
 use Rattle.ov_link.specs.declared.step.Input.TheVariants as input
 use Rattle.node_model.specs.Step.{Beginning, Phase, Post, end_of, nothing, post}
 use Rattle.machine_model.specs.Setup.{Name}
-use Rattle.machine_model.specs.Session.{Message, End, Session, are_peers, arrived, closed, is_idle, is_live, is_peering, octets_arrived}
+use Rattle.machine_model.specs.Session.{Message, SessionEnd, Session, are_peers, arrived, closed, is_idle, is_live, is_peering, octets_arrived}
 use Rattle.machine_model.specs.Session.{took_first, took_octets, told, turned, waiting}
-use Rattle.machine_model.specs.Network.{Network}
+use Rattle.machine_model.specs.Network.{MachineState}
 use Rattle.machine_model.specs.Steps.{change_session, deliver_octets, in_flight, joins, pass, session_in, session_of}
 use Rattle.machine_model.specs.Steps.{with_session}
 use Rattle.machine_model.specs.Events.{DeliverOctets, next}
@@ -62,7 +62,7 @@ some_phase b phase [] some passing = absurd (some refl)
 some_phase b phase (m ∷ ms) some passing = phase_of_cell b phase m passing.0 passing.1
 
 -- ---- the place
-module _ (facts : Facts) (seats : List Seat) (w : Network) (moment : IsMoment w) (stands : Seats seats w) (p : SessionPlace)
+module _ (facts : Facts) (seats : List Seat) (w : MachineState) (moment : IsMoment w) (stands : Seats seats w) (p : SessionPlace)
     (is : IsPlace seats p) (quiet : notice_at seats p ≡ false) where
   abbrev right : IsRight w
   right = moment_right facts.moments w moment
@@ -260,14 +260,14 @@ module _ (facts : Facts) (seats : List Seat) (w : Network) (moment : IsMoment w)
     far_end =
         let far : t0.far ≡ record s.far { flight = rest; taken = taken_of z total s.far.flight } = kept_up.far in
         record {
-          phase = ap (λ (e : End). e.phase) far ∙ at.far_is.phase ∙ ap (λ n. (post n.posts q.session).phase) (sym far_seat_is);
-          sent = ap (λ (e : End). e.sent) far ∙ at.far_is.sent ∙ ap (λ n. (post n.posts q.session).sent) (sym far_seat_is);
-          held = ap (λ (e : End). e.held) far ∙ at.far_is.held ∙ ap (λ n. (post n.posts q.session).held) (sym far_seat_is);
-          notice = ap (λ (e : End). e.notice) far ∙ at.far_is.notice ∙ ap (λ (n : Seat). slice_index_or n.notices q.session false) (sym far_seat_is);
+          phase = ap (λ (e : SessionEnd). e.phase) far ∙ at.far_is.phase ∙ ap (λ n. (post n.posts q.session).phase) (sym far_seat_is);
+          sent = ap (λ (e : SessionEnd). e.sent) far ∙ at.far_is.sent ∙ ap (λ n. (post n.posts q.session).sent) (sym far_seat_is);
+          held = ap (λ (e : SessionEnd). e.held) far ∙ at.far_is.held ∙ ap (λ n. (post n.posts q.session).held) (sym far_seat_is);
+          notice = ap (λ (e : SessionEnd). e.notice) far ∙ at.far_is.notice ∙ ap (λ (n : Seat). slice_index_or n.notices q.session false) (sym far_seat_is);
           flight = link_then
               ∙ (λ i. map (octets_of (ap (λ (n : Seat). n.who) (sym far_seat_is) i)
               ((sym peering_same ∙ are_peers-turned t0.near.role t0.far.role) i)) (sym far i).flight);
-          breaks = ap (λ (e : End). e.breaks) far ∙ at.far_is.breaks ∙ ap (λ (n : Seat). slice_index_or n.breaks q.session []) (sym far_seat_is);
+          breaks = ap (λ (e : SessionEnd). e.breaks) far ∙ at.far_is.breaks ∙ ap (λ (n : Seat). slice_index_or n.breaks q.session []) (sym far_seat_is);
           taken = kept_up.taken ∙ at.far_is.taken
               ∙ ap (λ (n : Seat). cond (slice_index_or n.notices q.session false) 0 (length (slice_index_or n.kept q.session []))) (sym far_seat_is);
         }
@@ -365,7 +365,7 @@ module _ (facts : Facts) (seats : List Seat) (w : Network) (moment : IsMoment w)
         notice = kept_up.notice ∙ at.near_is.notice;
         flight = at.near_is.flight ∙ (λ i. map (octets_of who (sym peering_same i)) (sym kept_up.flight i));
         breaks = kept_up.breaks ∙ at.near_is.breaks;
-        taken = ap (λ (e : End). e.taken) kept_up.far ∙ sym part_length
+        taken = ap (λ (e : SessionEnd). e.taken) kept_up.far ∙ sym part_length
             ∙ (λ i. cond (sym quiet i) 0 (length (sym kept_then i)));
       }
 
@@ -417,7 +417,7 @@ module _ (facts : Facts) (seats : List Seat) (w : Network) (moment : IsMoment w)
         (pass (name_at seats p) (change_session (name_at seats p) (other_at seats p) (octets_arrived message_size n) w))) some_waits
 
 -- ---- by names
-one_delivery : (w : Network) (from to : Name) (n : ℕ)
+one_delivery : (w : MachineState) (from to : Name) (n : ℕ)
     → next message_size w (DeliverOctets from to n) ≡ deliver_octets message_size from to n w
 unfolding next
 one_delivery w from to n = refl

@@ -12,9 +12,9 @@ use Rattle.config_check.specs.Rules.{controller_names}
 use Rattle.node_model.specs.Maps.{Change}
 use Rattle.machine_model.specs.Session.{Carries, Message, Session, are_peers, is_idle, is_peering, turned}
 use Rattle.machine_model.specs.Setup.{Setup, agents_in, checked}
-use Rattle.machine_model.specs.Network.{Network, asked}
+use Rattle.machine_model.specs.Network.{MachineState, asked}
 use Rattle.machine_model.specs.Steps.{session_of}
-use Rattle.machine_model.specs.Moments.{Each, Nodes, nodes}
+use Rattle.machine_model.specs.Moments.{Each, NodePair, nodes}
 use Rattle.machine_model.proofs.NetworkFact.{found}
 use Rattle.machine_model.proofs.SessionFact.{Fact, Fact-turned, greetings}
 use Rattle.machine_model.proofs.Twins.{Found, found_each}
@@ -50,7 +50,7 @@ pub record AreAlike (s t : Session) : Type 0 where
 
 alike_turned : (s t : Session) → AreAlike s t → AreAlike (turned s) (turned t)
 alike_turned s t a = record {
-  nodes = ap (λ (p : Nodes). (p.1, p.0)) a.nodes;
+  nodes = ap (λ (p : NodePair). (p.1, p.0)) a.nodes;
   near_phase = a.far_phase;
   far_phase = a.near_phase;
   down = a.down;
@@ -66,8 +66,8 @@ same_flight who s t a (inl j) (inr d) p q e = absurd (true≢false (sym d.down �
 same_flight who s t a (inr d) (inl j) p q e = absurd (true≢false (sym d.down ∙ a.down ∙ j.whole))
 same_flight who s t a (inl j) (inl k) p q e =
     let b : Bool = is_peering s in
-    let roles : s.near.role ≡ t.near.role = ap (λ (p : Nodes). p.0.1) a.nodes in
-    let others : s.far.role ≡ t.far.role = ap (λ (p : Nodes). p.1.1) a.nodes in
+    let roles : s.near.role ≡ t.near.role = ap (λ (p : NodePair). p.0.1) a.nodes in
+    let others : s.far.role ≡ t.far.role = ap (λ (p : NodePair). p.1.1) a.nodes in
     let peering : is_peering t ≡ b = λ i. are_peers (sym roles i) (sym others i) in
     let g : List Message = greetings b s.far.phase s.near.phase in
     let there : t.near.flight ≡ g ++ map Carries k.outward.changes =
@@ -99,8 +99,8 @@ same_flight who s t a (inl j) (inl k) p q e =
 same_near : (n m : Seat) (i j : ℕ) (s t : Session) → AreAlike s t → IsEnd n i s → IsEnd n i t
     → IsEnd m j (turned s) → IsEnd m j (turned t) → s.near.flight ≡ t.near.flight → s.near ≡ t.near
 same_near n m i j s t a x y x' y' flight =
-    let names : s.near.name ≡ t.near.name = ap (λ (p : Nodes). p.0.0) a.nodes in
-    let roles : s.near.role ≡ t.near.role = ap (λ (p : Nodes). p.0.1) a.nodes in
+    let names : s.near.name ≡ t.near.name = ap (λ (p : NodePair). p.0.0) a.nodes in
+    let roles : s.near.role ≡ t.near.role = ap (λ (p : NodePair). p.0.1) a.nodes in
     let phase : s.near.phase ≡ t.near.phase = x.phase ∙ sym y.phase in
     let notice : s.near.notice ≡ t.near.notice = x.notice ∙ sym y.notice in
     let sent : s.near.sent ≡ t.near.sent = x.sent ∙ sym y.sent in
@@ -137,7 +137,7 @@ agents_alike x y (c ∷ cs) behind behind' e = (
 )
 
 -- ---- the session at a place
-module _ (facts : Facts) (seats : List Seat) (w v : Network) (moment : IsMoment w) (moment' : IsMoment v)
+module _ (facts : Facts) (seats : List Seat) (w v : MachineState) (moment : IsMoment w) (moment' : IsMoment v)
     (stands : StandsFor seats w) (stands' : StandsFor seats v) where
   right : IsRight w
   right = moment_right facts.moments w moment
@@ -244,7 +244,7 @@ module _ (facts : Facts) (seats : List Seat) (w v : Network) (moment : IsMoment 
           let second : h'.session ≡ t =
           same_Some h'.session t
           (sym h'.found
-          ∙ (λ i. session_of v ((of.name ∙ ap (λ (p : Nodes). p.0.0) e) i) ((of.other ∙ ap (λ (p : Nodes). p.1.0) e) i))
+          ∙ (λ i. session_of v ((of.name ∙ ap (λ (p : NodePair). p.0.0) e) i) ((of.other ∙ ap (λ (p : NodePair). p.1.0) e) i))
           ∙ g.0)
           in
           sym first ∙ one_session p of.is_place ∙ second

@@ -11,7 +11,7 @@ use Rattle.ov_link.specs.declared.step.Input.TheVariants as input
 use Rattle.node_model.specs.Step.{Beginning, Opened, Post, begun, end_of, nothing, post, told_all}
 use Rattle.machine_model.specs.Setup.{Name}
 use Rattle.machine_model.specs.Session.{Message, Session, are_peers, greeting, is_idle, is_live, is_peering, opened, passed, shut, told, turned, with_breaks}
-use Rattle.machine_model.specs.Network.{Network, view, views_of, wanted}
+use Rattle.machine_model.specs.Network.{MachineState, view, views_of, wanted}
 use Rattle.machine_model.specs.Steps.{change_session, pass, session_of}
 use Rattle.machine_model.proofs.Deeds.{others_stay}
 use Rattle.machine_model.proofs.NetworkFact.{nodes_keep, opened_nodes, with_session_keeps}
@@ -96,12 +96,12 @@ stepped_live n n' i given stepped j less ne live = by_idle (is_idle (post n.post
             ∙ e
 
 -- ---- states
-pub opened_right : (a b : Name) (w : Network) → IsRight w → IsRight (change_session a b opened w)
+pub opened_right : (a b : Name) (w : MachineState) → IsRight w → IsRight (change_session a b opened w)
 opened_right a b w right =
     changed_right a b opened opened_nodes w right
     (with_session_keeps IsQuiet quiet_turned opened (λ s _. opened_quiet s) a b w.sessions right.quiet)
 
-pub passed_right : (name : Name) (w : Network) → IsRight w → IsRight (pass name w)
+pub passed_right : (name : Name) (w : MachineState) → IsRight w → IsRight (pass name w)
 passed_right name w right = record {
   written = right.written;
   numbers = right.numbers;
@@ -111,7 +111,7 @@ passed_right name w right = record {
 }
 
 -- ---- an end opens at a place, of which nothing was taken
-module _ (facts : Facts) (seats : List Seat) (w : Network) (right : IsRight w) (stands : Seats seats w) (p : SessionPlace)
+module _ (facts : Facts) (seats : List Seat) (w : MachineState) (right : IsRight w) (stands : Seats seats w) (p : SessionPlace)
     (is : IsPlace seats p) (n' : Seat) (takes : Takes (seat seats p.node) n' (input.Opened p.session))
     (bare : (here facts.wired seats w right stands p is).session.far.taken ≡ 0)
     (fine : is_live (here facts.wired seats w right stands p is).session.far ≡ false
@@ -206,7 +206,7 @@ module _ (facts : Facts) (seats : List Seat) (w : Network) (right : IsRight w) (
   far_keeps : IsPart (seat seats q.node) q.session n p.session
   far_keeps = part_at seats q p at.far.back (part_here facts.wired seats w right stands q at.far.is_place)
 
-  abbrev pub opened_network : Network
+  abbrev pub opened_network : MachineState
   opened_network = change_session (name_at seats p) (other_at seats p) opened w
 
   right1 : IsRight opened_network

@@ -13,7 +13,7 @@ use Rattle.node_model.specs.Maps.{Change, Map, difference}
 use Rattle.node_model.specs.Step.{NodeKind, Post, changes, nothing, post, told_all}
 use Rattle.machine_model.specs.Setup.{Name}
 use Rattle.machine_model.specs.Session.{Carries, Message, Session, is_idle, is_live, is_peering, may_send, passed, told, turned}
-use Rattle.machine_model.specs.Network.{Network, view, views_of, wanted}
+use Rattle.machine_model.specs.Network.{MachineState, view, views_of, wanted}
 use Rattle.machine_model.specs.Steps.{pass, session_of}
 use Rattle.machine_model.specs.Moments.{nodes}
 use Rattle.machine_model.proofs.NetworkFact.{passed_nodes}
@@ -101,11 +101,11 @@ telling_ready w s r = record {
 
 -- ---- the network after the pass
 -- the sessions of a node as its pass begins
-abbrev pub AreReady : Network → Name → Type 0
+abbrev pub AreReady : MachineState → Name → Type 0
 AreReady w me = (b : Name) (s : Session) → session_of w me b ≡ Some s → IsReady s
 
 -- the node told each of its sessions what is wanted. Where a message failed the end is closed, and the other end is told
-pub record IsPassed (w : Network) (seats after : List Seat) (k : ℕ) : Type 0 where
+pub record IsPassed (w : MachineState) (seats after : List Seat) (k : ℕ) : Type 0 where
   pub alike : AreAlike seats after
   pub fit : AreFit after
   pub own : (i : ℕ) → IsPlace seats (place k i) → (s : Session)
@@ -117,7 +117,7 @@ pub record IsPassed (w : Network) (seats after : List Seat) (k : ℕ) : Type 0 w
   pub rest : (r : SessionPlace) → IsPlace seats r → r.node ≢ k → ((i : ℕ) → far_of seats r ≢ Some (place k i))
       → SameEnd (seat seats r.node) (seat after r.node) r.session
 
-module _ (wired : Wired) (seats : List Seat) (w : Network) (right : IsRight w) (stands : Seats seats w) (k : ℕ)
+module _ (wired : Wired) (seats : List Seat) (w : MachineState) (right : IsRight w) (stands : Seats seats w) (k : ℕ)
     (after : List Seat) (lt : k < length seats) (named : seat_named seats (name_of (seat seats k).who) ≡ Some k)
     (ready : AreReady w (name_of (seat seats k).who)) (done : IsPassed w seats after k) where
   abbrev me : Name

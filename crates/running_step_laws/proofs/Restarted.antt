@@ -12,7 +12,7 @@ use Rattle.schedule_script.specs.declared.answer.Answer.TheVariants.{Idle}
 use Rattle.node_model.specs.Step.{nothing, post}
 use Rattle.machine_model.specs.Setup.{Name}
 use Rattle.machine_model.specs.Session.{is_idle, is_live, shut, turned}
-use Rattle.machine_model.specs.Network.{Network}
+use Rattle.machine_model.specs.Network.{MachineState}
 use Rattle.machine_model.specs.Steps.{change_node, session_of}
 use Rattle.machine_model.specs.Events.{Restart, answer_to, is_node, next, unless}
 use Rattle.running_model.specs.Seats.{Seat, breaks_in, far_of, index_from, kept_in, link, name_of, nobody, notice, notice_at, seat}
@@ -56,7 +56,7 @@ seat_of_name seats name k e =
       (bytes_decides (name_of (seat seats k).who) name).0 (subst (λ k. same_name (name_of (seat seats k).who) name ≡ true) (sym same) (r.3 nobody)),
     )
 
-module _ (facts : Facts) (seats : List Seat) (w : Network) (moment : IsMoment w) (stands : Seats seats w) (k : ℕ)
+module _ (facts : Facts) (seats : List Seat) (w : MachineState) (moment : IsMoment w) (stands : Seats seats w) (k : ℕ)
     (lt : k < length seats) (named : seat_named seats (name_of (seat seats k).who) ≡ Some k) where
   abbrev right : IsRight w
   right = moment_right facts.moments w moment
@@ -114,7 +114,7 @@ module _ (facts : Facts) (seats : List Seat) (w : Network) (moment : IsMoment w)
   going : Going seats after
   going = all_going seats k far count 0 empty empty_going
 
-  abbrev later : Network
+  abbrev later : MachineState
   later = change_node me shut w
 
   -- ---- the node's own ends
@@ -270,7 +270,7 @@ module _ (facts : Facts) (seats : List Seat) (w : Network) (moment : IsMoment w)
       by_node p is (inr off) = other_end p is off
 
 -- ---- by names
-restart_made : (w : Network) (name : Name) (b : Bool) → is_node w name ≡ b
+restart_made : (w : MachineState) (name : Name) (b : Bool) → is_node w name ≡ b
     → (next message_size w (Restart name) ≡ cond b (change_node name shut w) w) × (answer_to w (Restart name) ≡ unless (not b))
 unfolding next
 restart_made w name b e = (ap (λ b. cond b (change_node name shut w) w) e, ap (λ b. unless (not b)) e)

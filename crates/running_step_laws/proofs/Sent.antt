@@ -8,7 +8,7 @@ use Rattle.std.proofs.Common.{refl, sym, ◌∙◌, ap, subst}
 use Rattle.ov_link.specs.Breaks.{counted, is_break}
 use Rattle.node_model.specs.Maps.{Map, difference}
 use Rattle.node_model.specs.Step.{Phase, Idle, Opened, Confirmed, Up}
-use Rattle.machine_model.specs.Session.{Message, Open, Keepalive, Hello, Carries, End, Session, closed, is_idle, is_peering}
+use Rattle.machine_model.specs.Session.{Message, Open, Keepalive, Hello, Carries, SessionEnd, Session, closed, is_idle, is_peering}
 use Rattle.machine_model.specs.Session.{arrived, greeting, item_took, left, may_send, may_send_at, opened, passed, peer_took, shut}
 use Rattle.machine_model.specs.Session.{told, took, took_first, with_breaks, without_first}
 use Rattle.machine_model.specs.Moments.{cell}
@@ -66,20 +66,20 @@ sends_go_on b (x ∷ xs) ys e = by_test (sends_go_on (counted b) xs ys) (is_brea
 abbrev pub as_sent : Sending → List Message → Session → Session
 as_sent r ms s = cond r.failed (shut (with_breaks r.breaks s)) (with_breaks r.breaks (sends ms s))
 
-nothing_sent : (d : Bool) (near far : End) (b : List ℕ) → near.breaks ≡ b
+nothing_sent : (d : Bool) (near far : SessionEnd) (b : List ℕ) → near.breaks ≡ b
     → ◌≡◌ {A = Session} (record { is_down = d; near = near; far = far })
     (with_breaks b (sends [] (record { is_down = d; near = near; far = far })))
 nothing_sent true near far b e = λ i. record { is_down = true; near = record near { breaks = e i }; far = far }
 nothing_sent false near far b e =
     λ i. record { is_down = false; near = record near { flight = append_nil near.flight i; breaks = e i }; far = far }
 
-shut_left : (d : Bool) (near far : End) (m : Message) (b c : List ℕ)
+shut_left : (d : Bool) (near far : SessionEnd) (m : Message) (b c : List ℕ)
     → shut (with_breaks b (left m (with_breaks c (record { is_down = d; near = near; far = far }))))
     ≡ shut (with_breaks b (record { is_down = d; near = near; far = far }))
 shut_left true near far m b c = refl
 shut_left false near far m b c = refl
 
-left_breaks : (d : Bool) (near far : End) (m : Message) (c : List ℕ)
+left_breaks : (d : Bool) (near far : SessionEnd) (m : Message) (c : List ℕ)
     → (left m (with_breaks c (record { is_down = d; near = near; far = far }))).near.breaks ≡ c
 left_breaks true near far m c = refl
 left_breaks false near far m c = refl
@@ -127,7 +127,7 @@ pub record AllLeft (b : List ℕ) (ms : List Message) (s t : Session) : Type 0 w
   pub flight : t.near.flight ≡ cond s.is_down s.near.flight (s.near.flight ++ ms)
   pub breaks : t.near.breaks ≡ b
 
-by_down : (d : Bool) (near far : End) (b : List ℕ) (ms : List Message)
+by_down : (d : Bool) (near far : SessionEnd) (b : List ℕ) (ms : List Message)
     → AllLeft b ms (record { is_down = d; near = near; far = far })
     (with_breaks b (sends ms (record { is_down = d; near = near; far = far })))
 by_down true near far b ms = record {

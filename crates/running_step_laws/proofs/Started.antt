@@ -6,7 +6,7 @@ use Rattle.std.proofs.Common.{refl, sym, ◌∙◌, ap, subst, arith}
 use Rattle.config_check.specs.Checked.{Checked}
 use Rattle.node_model.specs.Step.{Post, nothing}
 use Rattle.machine_model.specs.Setup.{opening}
-use Rattle.machine_model.specs.Session.{End, Session, is_peering}
+use Rattle.machine_model.specs.Session.{SessionEnd, Session, is_peering}
 use Rattle.machine_model.specs.Network.{start, fresh as fresh_end}
 use Rattle.machine_model.specs.Moments.{Each}
 use Rattle.machine_model.proofs.NetworkFact.{found}
@@ -56,7 +56,7 @@ fresh_vacant (x ∷ xs) zero i = record {
 fresh_vacant (x ∷ xs) (suc k) i = fresh_vacant xs k i
 
 -- ---- an end that has nothing
-pub record HasNothing (e : End) : Type 0 where
+pub record HasNothing (e : SessionEnd) : Type 0 where
   pub is : e ≡ fresh_end e.name e.role
 
 -- where nothing is kept nothing is taken
@@ -67,13 +67,13 @@ nothing_end : (who : Who) (i : ℕ) (s : Session) → HasNothing s.near → HasN
 nothing_end who i s h there =
     let none = all_alike nothing (others_of who) i in
     record {
-      phase = ap (λ (e : End). e.phase) h.is ∙ sym (ap (λ (p : Post). p.phase) none);
-      sent = ap (λ (e : End). e.sent) h.is ∙ sym (ap (λ (p : Post). p.sent) none);
-      held = ap (λ (e : End). e.held) h.is ∙ sym (ap (λ (p : Post). p.held) none);
-      notice = ap (λ (e : End). e.notice) h.is ∙ sym (all_alike false (others_of who) i);
-      flight = all_alike [] (others_of who) i ∙ sym (ap (λ (e : End). map (octets_of who (is_peering s)) e.flight) h.is);
-      breaks = ap (λ (e : End). e.breaks) h.is ∙ sym (all_alike [] (others_of who) i);
-      taken = ap (λ (e : End). e.taken) there.is
+      phase = ap (λ (e : SessionEnd). e.phase) h.is ∙ sym (ap (λ (p : Post). p.phase) none);
+      sent = ap (λ (e : SessionEnd). e.sent) h.is ∙ sym (ap (λ (p : Post). p.sent) none);
+      held = ap (λ (e : SessionEnd). e.held) h.is ∙ sym (ap (λ (p : Post). p.held) none);
+      notice = ap (λ (e : SessionEnd). e.notice) h.is ∙ sym (all_alike false (others_of who) i);
+      flight = all_alike [] (others_of who) i ∙ sym (ap (λ (e : SessionEnd). map (octets_of who (is_peering s)) e.flight) h.is);
+      breaks = ap (λ (e : SessionEnd). e.breaks) h.is ∙ sym (all_alike [] (others_of who) i);
+      taken = ap (λ (e : SessionEnd). e.taken) there.is
           ∙ sym (taken_nowhere (fresh_seat who) i (all_alike false (others_of who) i) (all_alike [] (others_of who) i));
     }
 

@@ -12,7 +12,7 @@ use Rattle.node_model.specs.Step.{Beginning, NodeKind, Post, changes, end_of, no
 use Rattle.node_model.specs.Maps.{difference}
 use Rattle.machine_model.specs.Setup.{Name}
 use Rattle.machine_model.specs.Session.{Message, Session, is_idle, is_peering, may_send, shut, told, turned, with_breaks}
-use Rattle.machine_model.specs.Network.{Network}
+use Rattle.machine_model.specs.Network.{MachineState}
 use Rattle.machine_model.specs.Steps.{change_session, pass, session_of}
 use Rattle.machine_model.specs.Moments.{Each}
 use Rattle.machine_model.proofs.NetworkFact.{KeepsNodes, found}
@@ -126,7 +126,7 @@ all_low j = omega arith
 all_high : (j count : ℕ) → j < count → j < 0 + count
 all_high j count lt = omega (arith, lt)
 
-module _ (wired : Wired) (seats : List Seat) (w : Network) (right : IsRight w) (stands : Seats seats w) (p : SessionPlace)
+module _ (wired : Wired) (seats : List Seat) (w : MachineState) (right : IsRight w) (stands : Seats seats w) (p : SessionPlace)
     (is : IsPlace seats p) where
   abbrev at : Here seats w p
   at = here wired seats w right stands p is
@@ -289,7 +289,7 @@ module _ (wired : Wired) (seats : List Seat) (w : Network) (right : IsRight w) (
       who_far : (seat replied_seats q.node).who ≡ (seat begun q.node).who
       who_far = same_who seats replied_seats c1.going.alike q.node ∙ sym (same_who seats begun alike q.node)
 
-      abbrev w1 : Network
+      abbrev w1 : MachineState
       w1 = change_session (name_at seats p) (other_at seats p) f w
 
       pub stands1 : Seats replied_seats w1
@@ -709,7 +709,7 @@ module _ (wired : Wired) (seats : List Seat) (w : Network) (right : IsRight w) (
               (all_cleared seats p.node far off stepped_seats stepped_going count stepped_going_long) agrees
 
 -- ---- where every session is as at a moment once the input has changed its own
-module _ (wired : Wired) (seats : List Seat) (w : Network) (right : IsRight w) (stands : Seats seats w) (p : SessionPlace)
+module _ (wired : Wired) (seats : List Seat) (w : MachineState) (right : IsRight w) (stands : Seats seats w) (p : SessionPlace)
     (is : IsPlace seats p) (begun : List Seat) (alike : AreAlike seats begun) (fit : AreFit begun)
     (same : (r : SessionPlace) → IsPlace seats r → r ≢ p → r ≢ (here wired seats w right stands p is).far.far
     → SameEnd (seat seats r.node) (seat begun r.node) r.session)
@@ -739,7 +739,7 @@ module _ (wired : Wired) (seats : List Seat) (w : Network) (right : IsRight w) (
 
 -- ---- the theorem, at a moment: the seats as the node takes the input are those of the state but at the two ends of its
 -- session
-module _ (facts : Facts) (seats : List Seat) (w : Network) (moment : IsMoment w) (stands : Seats seats w) (p : SessionPlace)
+module _ (facts : Facts) (seats : List Seat) (w : MachineState) (moment : IsMoment w) (stands : Seats seats w) (p : SessionPlace)
     (is : IsPlace seats p) (begun : List Seat) (alike : AreAlike seats begun) (fit : AreFit begun)
     (same : (r : SessionPlace) → IsPlace seats r → r ≢ p
     → r ≢ (here facts.wired seats w (moment_right facts.moments w moment) stands p is).far.far

@@ -3,7 +3,7 @@ use Rattle.std.specs.Prelude.{◌≡◌, ℕ, List, [], length, Bool, false, not
 use Rattle.std.specs.declared.option.Option.TheVariants.{Some, None}
 use Rattle.machine_model.specs.Setup.{Name}
 use Rattle.machine_model.specs.Session.{Session, is_live, is_up, turned, waiting}
-use Rattle.machine_model.specs.Network.{Network}
+use Rattle.machine_model.specs.Network.{MachineState}
 use Rattle.machine_model.specs.Steps.{is_rested, may_connect, session_of}
 use Rattle.running_model.specs.Seats.{Seat, far_of, is_down_at, link_at, live_at, notice_at, place_of, up_at}
 use Rattle.running_model.specs.Stands.{StandsFor}
@@ -39,25 +39,25 @@ AreAt seats a b p far = (place_of seats a b ≡ Some p) × (far_of seats p ≡ S
 -- at each place stands the session of its two nodes, and both of its ends say what it is
 abbrev pub PlacesSayWhatSessionsAre : Type 0
 PlacesSayWhatSessionsAre =
-    (seats : List Seat) (w : Network) → IsMoment w → StandsFor seats w → (a b : Name) (p far : SessionPlace)
+    (seats : List Seat) (w : MachineState) → IsMoment w → StandsFor seats w → (a b : Name) (p far : SessionPlace)
     → AreAt seats a b p far
     → (s : Session) × (session_of w a b ≡ Some s) × SaysAt seats p far s × SaysAt seats far p (turned s)
 
 -- and where there is no place there is no session
 abbrev pub NoPlaceIsNoSession : Type 0
 NoPlaceIsNoSession =
-    (seats : List Seat) (w : Network) → IsMoment w → StandsFor seats w → (a b : Name)
+    (seats : List Seat) (w : MachineState) → IsMoment w → StandsFor seats w → (a b : Name)
     → place_of seats a b ≡ None → session_of w a b ≡ None
 
 -- at an end that is not live no notice waits, and nothing is in flight on its session
 abbrev pub NothingWaitsAtClosedEnds : Type 0
 NothingWaitsAtClosedEnds =
-    (seats : List Seat) (w : Network) → IsMoment w → StandsFor seats w → (a b : Name) (p far : SessionPlace)
+    (seats : List Seat) (w : MachineState) → IsMoment w → StandsFor seats w → (a b : Name) (p far : SessionPlace)
     → AreAt seats a b p far → live_at seats p ≡ false
     → (notice_at seats p ≡ false) × (link_at seats far ≡ []) × (link_at seats p ≡ [])
 
 -- a session may be connected exactly where neither end is live
 abbrev pub ClosedSessionsMayConnect : Type 0
 ClosedSessionsMayConnect =
-    (seats : List Seat) (w : Network) → IsMoment w → StandsFor seats w → (a b : Name) (p far : SessionPlace)
+    (seats : List Seat) (w : MachineState) → IsMoment w → StandsFor seats w → (a b : Name) (p far : SessionPlace)
     → AreAt seats a b p far → may_connect_at seats p far ≡ (not (live_at seats p) && not (live_at seats far))

@@ -3,7 +3,7 @@ use Rattle.std.specs.Prelude.{◌≡◌, Bool, List, true, false}
 use Rattle.std.specs.List.{AllByRecursion}
 use Rattle.ov_link.specs.declared.step.Input.TheVariants.{Opened}
 use Rattle.machine_model.specs.Setup.{Name}
-use Rattle.machine_model.specs.Network.{Network}
+use Rattle.machine_model.specs.Network.{MachineState}
 use Rattle.machine_model.specs.Steps.{connect_if}
 use Rattle.machine_model.specs.Events.{is_earlier}
 use Rattle.running_model.specs.Seats.{Seat, live_at, seat}
@@ -30,23 +30,23 @@ pub record OpensBoth (seats : List Seat) (p far : SessionPlace) (after : List Se
 -- the first node opens before the second
 abbrev pub ConnectionsAreMade : Type 0
 ConnectionsAreMade =
-    (seats : List Seat) (w : Network) → IsMoment w → StandsFor seats w → (a b : Name) (p far : SessionPlace)
+    (seats : List Seat) (w : MachineState) → IsMoment w → StandsFor seats w → (a b : Name) (p far : SessionPlace)
     → AreAt seats a b p far → may_connect_at seats p far ≡ true → (after : List Seat) → OpensBoth seats p far after
     → StandsFor after (connect_if a b w)
 
 -- where the session may not connect
 abbrev pub NothingIsConnected : Type 0
 NothingIsConnected =
-    (seats : List Seat) (w : Network) → IsMoment w → StandsFor seats w → (a b : Name) (p far : SessionPlace)
+    (seats : List Seat) (w : MachineState) → IsMoment w → StandsFor seats w → (a b : Name) (p far : SessionPlace)
     → AreAt seats a b p far → may_connect_at seats p far ≡ false → connect_if a b w ≡ w
 
 -- a connection from the earlier node of a session to the later one is an event
 abbrev pub EarlierConnectionsAreEvents : Type 0
 EarlierConnectionsAreEvents =
-    (w : Network) → IsMoment w → (a b : Name) → is_earlier w.sessions a b ≡ true → IsMoment (connect_if a b w)
+    (w : MachineState) → IsMoment w → (a b : Name) → is_earlier w.sessions a b ≡ true → IsMoment (connect_if a b w)
 
 -- the near node of each session is the earlier one
 abbrev pub NearIsEarlier : Type 0
 NearIsEarlier =
-    (w : Network) → IsMoment w
+    (w : MachineState) → IsMoment w
     → AllByRecursion (λ s. is_earlier w.sessions s.near.name s.far.name ≡ true) w.sessions

@@ -6,7 +6,7 @@ use Rattle.std.specs.declared.option.Option.TheVariants.{None}
 use Rattle.ov_link.specs.declared.step.Input.{Input}
 use Rattle.ov_link.specs.declared.step.Input.TheVariants.{Bytes, Closed}
 use Rattle.machine_model.specs.Setup.{Name}
-use Rattle.machine_model.specs.Network.{Network}
+use Rattle.machine_model.specs.Network.{MachineState}
 use Rattle.machine_model.specs.Steps.{deliver, deliver_octets}
 use Rattle.running_model.specs.Seats.{Seat, kept_at, link_at, notice_at, place_of, seat}
 use Rattle.running_model.specs.Steps.{Takes, cleared, untaken, with_link, with_notice, with_seat}
@@ -24,7 +24,7 @@ pub record TakesAt (seats : List Seat) (p : SessionPlace) (input : Input) (after
 -- what is left of the first message that left the far end is taken
 abbrev pub MessagesAreDelivered : Type 0
 MessagesAreDelivered =
-    (seats : List Seat) (w : Network) → IsMoment w → StandsFor seats w → (from to : Name) (p far : SessionPlace)
+    (seats : List Seat) (w : MachineState) → IsMoment w → StandsFor seats w → (from to : Name) (p far : SessionPlace)
     → AreAt seats to from p far → notice_at seats p ≡ false
     → (octets : List ℕ) (rest : List (List ℕ)) → link_at seats far ≡ octets ∷ rest
     → (bytes : Bor (List ℕ)) → bytes.now ≡ drop (length (kept_at seats p)) octets
@@ -34,7 +34,7 @@ MessagesAreDelivered =
 -- the next n octets that left the far end are taken, or all where there are fewer. They may end within a message
 abbrev pub OctetsAreDelivered : Type 0
 OctetsAreDelivered =
-    (seats : List Seat) (w : Network) → IsMoment w → StandsFor seats w → (from to : Name) (p far : SessionPlace)
+    (seats : List Seat) (w : MachineState) → IsMoment w → StandsFor seats w → (from to : Name) (p far : SessionPlace)
     → AreAt seats to from p far → notice_at seats p ≡ false → link_at seats far ≢ [] → (n : ℕ) → 0 < n
     → (bytes : Bor (List ℕ)) → bytes.now ≡ take n (drop (length (kept_at seats p)) (concat (link_at seats far)))
     → (after : List Seat)
@@ -45,7 +45,7 @@ OctetsAreDelivered =
 -- a notice of loss is taken
 abbrev pub NoticesAreDelivered : Type 0
 NoticesAreDelivered =
-    (seats : List Seat) (w : Network) → IsMoment w → StandsFor seats w → (from to : Name) (p far : SessionPlace)
+    (seats : List Seat) (w : MachineState) → IsMoment w → StandsFor seats w → (from to : Name) (p far : SessionPlace)
     → AreAt seats to from p far → notice_at seats p ≡ true
     → (after : List Seat) → TakesAt (with_notice p false seats) p (Closed p.session) after
     → StandsFor after (deliver from to w) × IsMoment (deliver from to w)
@@ -53,14 +53,14 @@ NoticesAreDelivered =
 -- whatever number of octets is asked for
 abbrev pub NoticesCountAsOctets : Type 0
 NoticesCountAsOctets =
-    (seats : List Seat) (w : Network) → IsMoment w → StandsFor seats w → (from to : Name) (p far : SessionPlace)
+    (seats : List Seat) (w : MachineState) → IsMoment w → StandsFor seats w → (from to : Name) (p far : SessionPlace)
     → AreAt seats to from p far → notice_at seats p ≡ true
     → (n : ℕ) → deliver_octets message_size from to n w ≡ deliver from to w
 
 -- where nothing waits, nothing is done
 abbrev pub NothingIsDelivered : Type 0
 NothingIsDelivered =
-    (seats : List Seat) (w : Network) → IsMoment w → StandsFor seats w → (from to : Name)
+    (seats : List Seat) (w : MachineState) → IsMoment w → StandsFor seats w → (from to : Name)
     → ((place_of seats to from ≡ None)
     ⊎ ((p : SessionPlace) × (far : SessionPlace) × AreAt seats to from p far × (notice_at seats p ≡ false)
     × (link_at seats far ≡ [])))

@@ -6,7 +6,7 @@ use Rattle.config_check.specs.Checked.{Checked}
 use Rattle.config_check.specs.Edits.{edit_fault, edited}
 use Rattle.config_check.specs.declared.edits.EditFault.{EditFault}
 use Rattle.schedule_script.specs.declared.answer.Answer.TheVariants.{Did, EditRefused}
-use Rattle.machine_model.specs.Network.{Network}
+use Rattle.machine_model.specs.Network.{MachineState}
 use Rattle.machine_model.specs.Setup.{checked, moves}
 use Rattle.machine_model.specs.Events.{Edits, answer_to, next}
 use Rattle.machine_model.specs.Moments.{EditIsValid}
@@ -29,7 +29,7 @@ pub record MakesEdit (seats : List Seat) (x : Checked) (e : Edit) (after : List 
 -- an edit without a fault is made
 abbrev pub EditsAreMade : Type 0
 EditsAreMade =
-    (seats : List Seat) (w : Network) → IsMoment w → StandsFor seats w → (e : Edit)
+    (seats : List Seat) (w : MachineState) → IsMoment w → StandsFor seats w → (e : Edit)
     → EditIsValid IsOfForm w (Edits e) → edit_fault (checked w.setup) e ≡ None
     → (after : List Seat) → MakesEdit seats (checked w.setup) e after
     → StandsFor after (next message_size w (Edits e)) × IsMoment (next message_size w (Edits e))
@@ -38,5 +38,5 @@ EditsAreMade =
 -- one with a fault changes nothing
 abbrev pub FaultyEditsAreRefused : Type 0
 FaultyEditsAreRefused =
-    (w : Network) (e : Edit) (f : EditFault) → edit_fault (checked w.setup) e ≡ Some f
+    (w : MachineState) (e : Edit) (f : EditFault) → edit_fault (checked w.setup) e ≡ Some f
     → (next message_size w (Edits e) ≡ w) × (answer_to w (Edits e) ≡ EditRefused f)

@@ -3,7 +3,7 @@ use Rattle.std.specs.Prelude.{◌≡◌, ℕ, zero, suc, ◌+◌, List, [], leng
 use Rattle.std.specs.declared.option.Option.TheVariants.{Some}
 use Rattle.schedule_script.specs.declared.answer.Answer.TheVariants.{Did, Idle}
 use Rattle.machine_model.specs.Setup.{Name}
-use Rattle.machine_model.specs.Network.{Network}
+use Rattle.machine_model.specs.Network.{MachineState}
 use Rattle.machine_model.specs.Events.{Lose, Restart, answer_to, next}
 use Rattle.running_model.specs.Seats.{Seat, far_of, is_down_at, place_of, seat, seat_named}
 use Rattle.running_model.specs.Steps.{emptied, told_of_loss, with_link, with_notice, with_seat}
@@ -19,7 +19,7 @@ cut p far seats = with_link far [] (with_link p [] (with_notice far true (with_n
 
 abbrev pub LossesAreMade : Type 0
 LossesAreMade =
-    (seats : List Seat) (w : Network) → IsMoment w → StandsFor seats w → (a b : Name) (p far : SessionPlace)
+    (seats : List Seat) (w : MachineState) → IsMoment w → StandsFor seats w → (a b : Name) (p far : SessionPlace)
     → AreAt seats a b p far → is_down_at seats p ≡ false
     → StandsFor (cut p far seats) (next message_size w (Lose a b)) × IsMoment (next message_size w (Lose a b))
     × (answer_to w (Lose a b) ≡ Did)
@@ -27,7 +27,7 @@ LossesAreMade =
 -- where the session is down, or there is none
 abbrev pub NothingIsLost : Type 0
 NothingIsLost =
-    (seats : List Seat) (w : Network) → IsMoment w → StandsFor seats w → (a b : Name)
+    (seats : List Seat) (w : MachineState) → IsMoment w → StandsFor seats w → (a b : Name)
     → ((p : SessionPlace) → place_of seats a b ≡ Some p → is_down_at seats p ≡ true)
     → (next message_size w (Lose a b) ≡ w) × (answer_to w (Lose a b) ≡ Idle)
 
@@ -44,7 +44,7 @@ restarted seats k = all_told (length (seat seats k).posts) k 0 (with_seat k (emp
 
 abbrev pub RestartsAreMade : Type 0
 RestartsAreMade =
-    (seats : List Seat) (w : Network) → IsMoment w → StandsFor seats w → (name : Name) (k : ℕ)
+    (seats : List Seat) (w : MachineState) → IsMoment w → StandsFor seats w → (name : Name) (k : ℕ)
     → seat_named seats name ≡ Some (suc k)
     → StandsFor (restarted seats (suc k)) (next message_size w (Restart name)) × IsMoment (next message_size w (Restart name))
     × (answer_to w (Restart name) ≡ Did)
@@ -52,6 +52,6 @@ RestartsAreMade =
 -- where no node but perhaps the configuration node has the name
 abbrev pub NothingIsRestarted : Type 0
 NothingIsRestarted =
-    (seats : List Seat) (w : Network) → IsMoment w → StandsFor seats w → (name : Name)
+    (seats : List Seat) (w : MachineState) → IsMoment w → StandsFor seats w → (name : Name)
     → ((k : ℕ) → seat_named seats name ≡ Some k → k ≡ 0)
     → (next message_size w (Restart name) ≡ w) × (answer_to w (Restart name) ≡ Idle)

@@ -1,6 +1,6 @@
 -- The state for which seats stand is one.
 use Rattle.std.specs.Prelude.{◌≡◌, List}
-use Rattle.machine_model.specs.Network.{Network}
+use Rattle.machine_model.specs.Network.{MachineState}
 use Rattle.running_model.specs.Seats.{Seat}
 use Rattle.running_model.specs.Stands.{StandsFor}
 use Rattle.running_telling_laws.specs.Moments.{IsMoment}
@@ -10,4 +10,4 @@ use Rattle.running_telling_laws.specs.Moments.{IsMoment}
 -- first one are taken, and its breaks
 abbrev pub SeatsStandForOneState : Type 0
 SeatsStandForOneState =
-    (seats : List Seat) (w v : Network) → IsMoment w → IsMoment v → StandsFor seats w → StandsFor seats v → w ≡ v
+    (seats : List Seat) (w v : MachineState) → IsMoment w → IsMoment v → StandsFor seats w → StandsFor seats v → w ≡ v

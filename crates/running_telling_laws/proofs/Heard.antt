@@ -5,10 +5,10 @@ use Rattle.std.proofs.Common.{subst}
 use Rattle.ov_sync.proofs.KeyedLaws.{empty_values}
 use Rattle.config_check.specs.Checked.{Checked}
 use Rattle.node_model.specs.Keys.{key_cmp}
-use Rattle.machine_model.specs.Events.{Event, next}
+use Rattle.machine_model.specs.Events.{MachineEvent, next}
 use Rattle.machine_model.specs.Moments.{Each, EditIsValid, nodes}
 use Rattle.machine_model.specs.Setup.{Setup, checked, opening}
-use Rattle.machine_model.specs.Network.{Network, start}
+use Rattle.machine_model.specs.Network.{MachineState, start}
 use Rattle.machine_model.specs.Session.{Agent, Carries, Controller, Hello, Keepalive, Message, Open, Role, Session}
 use Rattle.machine_model.specs.Steps.{without_breaks}
 use Rattle.machine_model.proofs.NetworkFact.{each_map}
@@ -88,22 +88,22 @@ module _ (x : Setup) where
       }))
       news
 
-  abbrev HasSent : Network → Type 0
+  abbrev HasSent : MachineState → Type 0
   HasSent w = Follows x w.setup × Each (AllSent x) w.sessions
 
-  sent_removed : (w : Network) → HasSent w → HasSent (unbroken w)
+  sent_removed : (w : MachineState) → HasSent w → HasSent (unbroken w)
   sent_removed w h =
       (h.0, each_map (AllSent x) (AllSent x) without_breaks (λ s f. keeps.breaks [] [] s f) w.sessions h.1)
 
-  sent_followed : (w : Network) (e : Event) → EditIsValid IsOfForm w e → HasSent w → HasSent (next message_size w e)
+  sent_followed : (w : MachineState) (e : MachineEvent) → EditIsValid IsOfForm w e → HasSent w → HasSent (next message_size w e)
   sent_followed w e valid h =
       after_keeps message_size (Follows x) (AllSent x) (λ s k. EntriesOf (IsFit s.near.role s.far.role) k) keeps w
       (e ∷ []) (follows_edit x w e valid h.0, tt) h
 
-sent_now : (w : Network) (m : IsMoment w) → Each (AllSent (opening m.opening)) w.sessions
+sent_now : (w : MachineState) (m : IsMoment w) → Each (AllSent (opening m.opening)) w.sessions
 sent_now w m =
     (at_moment (HasSent (opening m.opening)) (sent_removed (opening m.opening)) (sent_followed (opening m.opening)) w m
     (at_first m.opening m.written, start_sent m.opening m.written)).1
 
-pub heard : (w : Network) → IsMoment w → AllByRecursion CanBeHeard w.sessions
+pub heard : (w : MachineState) → IsMoment w → AllByRecursion CanBeHeard w.sessions
 heard w m = all_heard (opening m.opening) w.sessions (sent_now w m)

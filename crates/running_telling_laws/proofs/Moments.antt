@@ -12,9 +12,9 @@ use Rattle.node_model.specs.Maps.{Map}
 use Rattle.node_model.specs.Members.{Member}
 use Rattle.ov_types.specs.declared.rows.NodeId.{NodeId}
 use Rattle.node_model.proofs.Members.{none_some}
-use Rattle.machine_model.specs.Events.{Event, after, next}
+use Rattle.machine_model.specs.Events.{MachineEvent, after, next}
 use Rattle.machine_model.specs.Moments.{Each, EditIsValid, EditsAreValid, HasSessions, IsLaidOut, LaidOut, NumbersFit, nodes}
-use Rattle.machine_model.specs.Network.{Network, sessions_of, start}
+use Rattle.machine_model.specs.Network.{MachineState, sessions_of, start}
 use Rattle.machine_model.specs.Session.{Session}
 use Rattle.machine_model.specs.Setup.{Setup, agents_of, checked, edited, edited_without, opening}
 use Rattle.machine_model.specs.Steps.{without_breaks}
@@ -37,18 +37,18 @@ use Rattle.running_model.proofs.Sizes.{positive}
 use Rattle.running_telling_laws.specs.Moments.{AreValidMoves, IsMoment, IsValidMove, after_moves, moved, unbroken}
 
 -- ---- what every move keeps
-module _ (Q : Network → Type 0) (removed : (w : Network) → Q w → Q (unbroken w))
-    (followed : (w : Network) (e : Event) → EditIsValid IsOfForm w e → Q w → Q (next message_size w e)) where
-  moved_keeps : (w : Network) (move : Option Event) → IsValidMove w move → Q w → Q (moved w move)
+module _ (Q : MachineState → Type 0) (removed : (w : MachineState) → Q w → Q (unbroken w))
+    (followed : (w : MachineState) (e : MachineEvent) → EditIsValid IsOfForm w e → Q w → Q (next message_size w e)) where
+  moved_keeps : (w : MachineState) (move : Option MachineEvent) → IsValidMove w move → Q w → Q (moved w move)
   moved_keeps w None valid q = removed w q
   moved_keeps w (Some e) valid q = followed w e valid q
 
-  moves_keep : (w : Network) (moves : List (Option Event)) → AreValidMoves w moves → Q w → Q (after_moves w moves)
+  moves_keep : (w : MachineState) (moves : List (Option MachineEvent)) → AreValidMoves w moves → Q w → Q (after_moves w moves)
   moves_keep w [] valid q = q
   moves_keep w (move ∷ moves) valid q = moves_keep (moved w move) moves valid.1 (moved_keeps w move valid.0 q)
 
   -- holds at every moment where it holds at the start
-  pub at_moment : (w : Network) (m : IsMoment w) → Q (start m.opening) → Q w
+  pub at_moment : (w : MachineState) (m : IsMoment w) → Q (start m.opening) → Q w
   at_moment w m q = subst Q (sym m.is) (moves_keep (start m.opening) m.moves m.edits q)
 
 -- ---- a valid configuration of the written form, with the control nodes of the opening one, and the numbers of its agents
@@ -98,13 +98,13 @@ module _ (x : Setup) where
   }
 
   -- an edit that is asked for leads to such a configuration
-  pub follows_edit : (w : Network) (e : Event) → EditIsValid IsOfForm w e → Follows x w.setup
+  pub follows_edit : (w : MachineState) (e : MachineEvent) → EditIsValid IsOfForm w e → Follows x w.setup
       → EditIsValid (Follows x) w e
   follows_edit w e valid f =
       (edits_valid_on message_size IsOfForm (Follows x) Anything MayTellAnything setups_keep (follows x) w (e ∷ [])
       (f, each_anything w.sessions) (valid, tt)).0
 
-  pub follows_next : (w : Network) (e : Event) → EditIsValid IsOfForm w e → Follows x w.setup
+  pub follows_next : (w : MachineState) (e : MachineEvent) → EditIsValid IsOfForm w e → Follows x w.setup
       → Follows x (next message_size w e).setup
   follows_next w e valid f =
       (after_keeps message_size (Follows x) Anything MayTellAnything setups_keep w (e ∷ [])
@@ -115,33 +115,33 @@ at_first x written =
     record { controllers = refl; written = written; fits = start_fits x (laid (opening x) written) }
 
 -- ---- its configuration
-pub follows_now : (w : Network) (m : IsMoment w) → Follows (opening m.opening) w.setup
+pub follows_now : (w : MachineState) (m : IsMoment w) → Follows (opening m.opening) w.setup
 follows_now w m =
-    at_moment (λ (v : Network). Follows (opening m.opening) v.setup) (λ v f. f) (follows_next (opening m.opening)) w m
+    at_moment (λ (v : MachineState). Follows (opening m.opening) v.setup) (λ v f. f) (follows_next (opening m.opening)) w m
     (at_first m.opening m.written)
 
-pub moment_written : (w : Network) → IsMoment w → IsWritten w.setup
+pub moment_written : (w : MachineState) → IsMoment w → IsWritten w.setup
 moment_written w m = (follows_now w m).written
 
 -- ---- the numbers of its agents
-pub moment_numbers : (w : Network) → IsMoment w → (c : NodeId) → Member c w.setup.topology.controllers
+pub moment_numbers : (w : MachineState) → IsMoment w → (c : NodeId) → Member c w.setup.topology.controllers
     → NumbersFit w.setup.topology c (agents_of w.setup c.name)
 moment_numbers w m c i = (follows_now w m).fits.fit c i
 
 -- ---- its sessions
 -- they are those of its topology, and nodes are listed by the control nodes of their sessions
-abbrev HasNodes : Setup → Network → Type 0
+abbrev HasNodes : Setup → MachineState → Type 0
 HasNodes x w = Follows x w.setup × (HasSessions w × Holds Placed w)
 
-nodes_removed : (x : Setup) (w : Network) → HasNodes x w → HasNodes x (unbroken w)
+nodes_removed : (x : Setup) (w : MachineState) → HasNodes x w → HasNodes x (unbroken w)
 nodes_removed x w h =
     let same = map_nodes without_breaks (λ s. refl) w.sessions in
     (h.0, (same ∙ h.1.0, subst (Placed w.setup) (sym same) h.1.1))
 
-laid_edit : (w : Network) (e : Event) (x : Setup) → EditIsValid IsOfForm w e → Follows x w.setup → EditIsValid LaidOut w e
+laid_edit : (w : MachineState) (e : MachineEvent) (x : Setup) → EditIsValid IsOfForm w e → Follows x w.setup → EditIsValid LaidOut w e
 laid_edit w e x valid f = edit_valid (Follows x) LaidOut w e (λ d y is g. laid y g.written) (follows_edit x w e valid f)
 
-nodes_followed : (x : Setup) (w : Network) (e : Event) → EditIsValid IsOfForm w e → HasNodes x w → HasNodes x (next message_size w e)
+nodes_followed : (x : Setup) (w : MachineState) (e : MachineEvent) → EditIsValid IsOfForm w e → HasNodes x w → HasNodes x (next message_size w e)
 nodes_followed x w e valid h = (
   follows_next x w e valid h.0,
   (
@@ -150,41 +150,41 @@ nodes_followed x w e valid h = (
   ),
 )
 
-moment_nodes : (w : Network) (m : IsMoment w) → HasNodes (opening m.opening) w
+moment_nodes : (w : MachineState) (m : IsMoment w) → HasNodes (opening m.opening) w
 moment_nodes w m =
     at_moment (HasNodes (opening m.opening)) (nodes_removed (opening m.opening)) (nodes_followed (opening m.opening)) w m
     (at_first m.opening m.written, (refl, start_placed m.opening (laid (opening m.opening) m.written).apart))
 
-pub moment_sessions : (w : Network) → IsMoment w → HasSessions w
+pub moment_sessions : (w : MachineState) → IsMoment w → HasSessions w
 moment_sessions w m = (moment_nodes w m).1.0
 
-abbrev pub IsSound : Network → Type 0
+abbrev pub IsSound : MachineState → Type 0
 IsSound w = Each (Fact message_size) w.sessions
 
-sound_removed : (w : Network) → IsSound w → IsSound (unbroken w)
+sound_removed : (w : MachineState) → IsSound w → IsSound (unbroken w)
 sound_removed w h =
     each_map (Fact message_size) (Fact message_size) without_breaks
     (λ s f. breaks_apart message_size positive [] [] s f) w.sessions h
 
 -- each of them is sound
-pub moment_sound : (w : Network) → IsMoment w → IsSound w
+pub moment_sound : (w : MachineState) → IsMoment w → IsSound w
 moment_sound w m =
     at_moment IsSound sound_removed (λ v e valid h. after_sound message_size positive v (e ∷ []) h) w m
     (start_sound message_size positive m.opening)
 
 -- ---- its nodes have told what they want
-abbrev HasToldOf : Network → Type 0
+abbrev HasToldOf : MachineState → Type 0
 HasToldOf w = Holds Placed w × AllHaveTold w
 
-told_removed : (w : Network) → HasToldOf w → HasToldOf (unbroken w)
+told_removed : (w : MachineState) → HasToldOf w → HasToldOf (unbroken w)
 told_removed w h =
     (subst (Placed w.setup) (sym (map_nodes without_breaks (λ s. refl) w.sessions)) h.0, unbroken_told w h.1)
 
-told_followed : (w : Network) (e : Event) → HasToldOf w → HasToldOf (next message_size w e)
+told_followed : (w : MachineState) (e : MachineEvent) → HasToldOf w → HasToldOf (next message_size w e)
 told_followed w e h =
     (after_placed message_size w (e ∷ []) h.0, after_told message_size w (e ∷ []) h.0 h.1)
 
-pub moment_told : (w : Network) → IsMoment w → AllHaveTold w
+pub moment_told : (w : MachineState) → IsMoment w → AllHaveTold w
 moment_told w m =
     (at_moment HasToldOf told_removed (λ v e valid h. told_followed v e h) w m
     (start_placed m.opening (laid (opening m.opening) m.written).apart, start_told m.opening)).1
@@ -193,40 +193,40 @@ moment_told w m =
 pub moment_start : (x : Checked) → IsWritten (opening x) → IsMoment (start x)
 moment_start x written = record { opening = x; written = written; moves = []; edits = tt; is = refl }
 
-after_one_more : (w : Network) (moves : List (Option Event)) (move : Option Event)
+after_one_more : (w : MachineState) (moves : List (Option MachineEvent)) (move : Option MachineEvent)
     → after_moves w (moves ++ move ∷ []) ≡ moved (after_moves w moves) move
 after_one_more w [] move = refl
 after_one_more w (first ∷ moves) move = after_one_more (moved w first) moves move
 
-one_more_valid : (w : Network) (moves : List (Option Event)) (move : Option Event) → AreValidMoves w moves
+one_more_valid : (w : MachineState) (moves : List (Option MachineEvent)) (move : Option MachineEvent) → AreValidMoves w moves
     → IsValidMove (after_moves w moves) move → AreValidMoves w (moves ++ move ∷ [])
 one_more_valid w [] move all valid = (valid, tt)
 one_more_valid w (first ∷ moves) move all valid = (all.0, one_more_valid (moved w first) moves move all.1 valid)
 
-moment_moved : (w : Network) (move : Option Event) → IsMoment w → IsValidMove w move → IsMoment (moved w move)
+moment_moved : (w : MachineState) (move : Option MachineEvent) → IsMoment w → IsValidMove w move → IsMoment (moved w move)
 moment_moved w move m valid = record {
   opening = m.opening;
   written = m.written;
   moves = m.moves ++ move ∷ [];
   edits = one_more_valid (start m.opening) m.moves move m.edits
-      (subst (λ (v : Network). IsValidMove v move) m.is valid);
-  is = ap (λ (v : Network). moved v move) m.is ∙ sym (after_one_more (start m.opening) m.moves move);
+      (subst (λ (v : MachineState). IsValidMove v move) m.is valid);
+  is = ap (λ (v : MachineState). moved v move) m.is ∙ sym (after_one_more (start m.opening) m.moves move);
 }
 
-pub moment_next : (w : Network) (e : Event) → IsMoment w → EditIsValid IsOfForm w e → IsMoment (next message_size w e)
+pub moment_next : (w : MachineState) (e : MachineEvent) → IsMoment w → EditIsValid IsOfForm w e → IsMoment (next message_size w e)
 moment_next w e m valid = moment_moved w (Some e) m valid
 
 -- where the breaks are removed that were not met
-pub moment_unbroken : (w : Network) → IsMoment w → IsMoment (unbroken w)
+pub moment_unbroken : (w : MachineState) → IsMoment w → IsMoment (unbroken w)
 moment_unbroken w m = moment_moved w None m tt
 
 -- after more events of a schedule
-pub moment_after : (w : Network) (es : List Event) → IsMoment w → EditsAreValid message_size IsOfForm w es
+pub moment_after : (w : MachineState) (es : List MachineEvent) → IsMoment w → EditsAreValid message_size IsOfForm w es
     → IsMoment (after message_size w es)
 moment_after w [] m valid = m
 moment_after w (e ∷ es) m valid = moment_after (next message_size w e) es (moment_next w e m valid.0) valid.1
 
 -- after any schedule
-pub moment_of : (x : Checked) → IsWritten (opening x) → (es : List Event) → EditsAreValid message_size IsOfForm (start x) es
+pub moment_of : (x : Checked) → IsWritten (opening x) → (es : List MachineEvent) → EditsAreValid message_size IsOfForm (start x) es
     → IsMoment (after message_size (start x) es)
 moment_of x written es valid = moment_after (start x) es (moment_start x written) valid

@@ -9,7 +9,7 @@ use Rattle.config_model.specs.declared.topology.Node.{Node}
 use Rattle.config_model.specs.declared.topology.Topology.{Topology}
 use Rattle.node_model.specs.Members.{Member}
 use Rattle.node_model.proofs.Members.{any_in, from_any, from_filter, in_map}
-use Rattle.machine_model.specs.Moments.{IsLaidOut, Nodes, nodes}
+use Rattle.machine_model.specs.Moments.{IsLaidOut, NodePair, nodes}
 use Rattle.machine_model.specs.Network.{accesses, accesses_of, asked, between, config, feeds, peerings}
 use Rattle.machine_model.specs.Session.{Agent, Configuration, Controller, Role, Session}
 use Rattle.machine_model.specs.Setup.{Name, lists}
@@ -23,7 +23,7 @@ abbrev pub role_among : List NodeId → Name → Role
 role_among cs name =
     cond (same_name name config) Configuration (cond (list_any (λ (c : NodeId). same_name c.name name) cs) Controller Agent)
 
-abbrev pub HaveRoles : List NodeId → Nodes → Type 0
+abbrev pub HaveRoles : List NodeId → NodePair → Type 0
 HaveRoles cs p = (p.0.1 ≡ role_among cs p.0.0) × (p.1.1 ≡ role_among cs p.1.0)
 
 -- a name that has a control node's role is the name of one
@@ -38,7 +38,7 @@ control_named cs name e = by_config (same_name name config) refl e
     by_config true is e = cc
     by_config false is e = by_any (list_any (λ (c : NodeId). same_name c.name name) cs) refl e
 
-pub back : (cs : List NodeId) (p : Nodes) → HaveRoles cs p → HaveRoles cs (p.1, p.0)
+pub back : (cs : List NodeId) (p : NodePair) → HaveRoles cs p → HaveRoles cs (p.1, p.0)
 back cs p h = (h.1, h.0)
 
 config_role : (cs : List NodeId) → Configuration ≡ role_among cs config

@@ -16,7 +16,7 @@ use Rattle.node_model.specs.Maps.{Change, Map, difference}
 use Rattle.node_model.specs.Step.{Confirmed, Idle, Opened, Phase, Up}
 use Rattle.node_model.specs.Values.{Value, same_value}
 use Rattle.node_model.proofs.Orders.{key_exact, key_total}
-use Rattle.machine_model.specs.Moments.{Each, Nodes, nodes}
+use Rattle.machine_model.specs.Moments.{Each, NodePair, nodes}
 use Rattle.machine_model.specs.Network.{sessions_of, view, views_of, wanted}
 use Rattle.machine_model.specs.Session.{Agent, Carries, Controller, Hello, Keepalive, Message, Open, Role, Session, arrived, closed, greeting, is_peering, item_took, may_send, octets_arrived, opened, passed, peer_took, shut, told, took, took_first, took_octets, with_breaks, with_phase, without_first}
 use Rattle.machine_model.specs.Setup.{Name, Setup}
@@ -172,14 +172,14 @@ module _ (fit : Role → Role → Key → Value → Type 0) where
           ]
 
 -- and `placed` what holds of the nodes of a session
-module _ (fit : Role → Role → Key → Value → Type 0) (placed : Nodes → Type 0) (back : (p : Nodes) → placed p → placed (p.1, p.0)) where
+module _ (fit : Role → Role → Key → Value → Type 0) (placed : NodePair → Type 0) (back : (p : NodePair) → placed p → placed (p.1, p.0)) where
   pub record IsSent (s : Session) : Type 0 where
     pub place : placed (nodes s)
     pub sent : SentAt fit s.near.role s.far.role s
 
   -- where a step keeps the nodes
   at_nodes : (s t : Session) → nodes t ≡ nodes s → placed (nodes s) → SentAt fit s.near.role s.far.role t → IsSent t
-  at_nodes s t e h f = record { place = subst placed (sym e) h; sent = subst (λ (p : Nodes). SentAt fit p.0.1 p.1.1 t) (sym e) f }
+  at_nodes s t e h f = record { place = subst placed (sym e) h; sent = subst (λ (p : NodePair). SentAt fit p.0.1 p.1.1 t) (sym e) f }
 
   -- where what a node wants is fit whenever what it holds is, all is at every moment
   abbrev pub WantsFit : (Setup → Type 0) → Type 0

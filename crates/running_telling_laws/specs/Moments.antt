@@ -3,38 +3,38 @@ use Rattle.std.specs.Prelude.{◌≡◌, List, [], ◌∷◌, map}
 use Rattle.std.specs.declared.option.Option.{Option}
 use Rattle.std.specs.declared.option.Option.TheVariants.{Some, None}
 use Rattle.config_check.specs.Checked.{Checked}
-use Rattle.machine_model.specs.Network.{Network, start}
+use Rattle.machine_model.specs.Network.{MachineState, start}
 use Rattle.machine_model.specs.Steps.{without_breaks}
-use Rattle.machine_model.specs.Events.{Event, next}
+use Rattle.machine_model.specs.Events.{MachineEvent, next}
 use Rattle.machine_model.specs.Moments.{EditIsValid}
 use Rattle.machine_model.specs.Setup.{opening as opening_setup}
 use Rattle.headline_laws.specs.Headline.{IsOfForm, IsWritten}
 use Rattle.running_model.specs.Stands.{message_size}
 
 -- no send is to fail
-abbrev pub unbroken : Network → Network
+abbrev pub unbroken : MachineState → MachineState
 unbroken w = record { setup = w.setup; sessions = map without_breaks w.sessions }
 
 -- an event, or that the breaks are removed that were not met, as settling begins
-abbrev pub moved : Network → Option Event → Network
+abbrev pub moved : MachineState → Option MachineEvent → MachineState
 moved w None = unbroken w
 moved w (Some e) = next message_size w e
 
-abbrev pub after_moves : Network → List (Option Event) → Network
+abbrev pub after_moves : MachineState → List (Option MachineEvent) → MachineState
 after_moves w [] = w
 after_moves w (m ∷ moves) = after_moves (moved w m) moves
 
-abbrev pub IsValidMove : Network → Option Event → Type 0
+abbrev pub IsValidMove : MachineState → Option MachineEvent → Type 0
 IsValidMove w None = Unit {0}
 IsValidMove w (Some e) = EditIsValid IsOfForm w e
 
-abbrev pub AreValidMoves : Network → List (Option Event) → Type 0
+abbrev pub AreValidMoves : MachineState → List (Option MachineEvent) → Type 0
 AreValidMoves w [] = Unit {0}
 AreValidMoves w (m ∷ moves) = IsValidMove w m × AreValidMoves (moved w m) moves
 
-pub record IsMoment (w : Network) : Type 0 where
+pub record IsMoment (w : MachineState) : Type 0 where
   pub opening : Checked
   pub written : IsWritten (opening_setup opening)
-  pub moves : List (Option Event)
+  pub moves : List (Option MachineEvent)
   pub edits : AreValidMoves (start opening) moves
   pub is : w ≡ after_moves (start opening) moves

@@ -5,9 +5,9 @@
 ghost use Rattle.std.specs.List.{AllByRecursion};
 ghost use Rattle.std.specs.Prelude.{◌≡◌, List, false};
 ghost use Rattle.config_check.specs.Checked.{Checked};
-ghost use Rattle.machine_model.specs.Events.{Event, after, next};
+ghost use Rattle.machine_model.specs.Events.{MachineEvent, after, next};
 ghost use Rattle.machine_model.specs.Moments.{Each, EditIsValid, EditsAreValid, HasSessions, IsJoined, NumbersFit};
-ghost use Rattle.machine_model.specs.Network.{Network, start};
+ghost use Rattle.machine_model.specs.Network.{MachineState, start};
 ghost use Rattle.machine_model.specs.Setup.{agents_of, opening};
 ghost use Rattle.node_model.specs.Members.{Member};
 ghost use Rattle.ov_types.specs.declared.rows.NodeId.{NodeId};
@@ -19,26 +19,26 @@ ghost use Rattle.running_telling_laws.specs.Moments.{IsMoment, unbroken};
 /// At every moment each message in flight is one that its receiver hears as it was told: a change between control nodes
 /// is one of a route that has an UPDATE, and any other has a record that its sender may send there.
 pub fn what_is_in_flight_can_be_heard()
-    ensures { (w : Network) → IsMoment w → AllByRecursion CanBeHeard w.sessions }
+    ensures { (w : MachineState) → IsMoment w → AllByRecursion CanBeHeard w.sessions }
 {}
 
 /// The state after any schedule of a valid configuration is a moment. So is the one after the next event of a moment,
 /// where what an edit puts is of the written form, and the one in which no send is to fail any more.
 pub fn moments_lead_to_moments()
-    ensures first { (x : Checked) → IsWritten (opening x) → (es : List Event) → EditsAreValid message_size IsOfForm (start x) es
+    ensures first { (x : Checked) → IsWritten (opening x) → (es : List MachineEvent) → EditsAreValid message_size IsOfForm (start x) es
         → IsMoment (after message_size (start x) es) }
-    ensures events { (w : Network) → IsMoment w → (e : Event) → EditIsValid IsOfForm w e
+    ensures events { (w : MachineState) → IsMoment w → (e : MachineEvent) → EditIsValid IsOfForm w e
         → IsMoment (next message_size w e) }
-    ensures unbroken { (w : Network) → IsMoment w → IsMoment (unbroken w) }
+    ensures unbroken { (w : MachineState) → IsMoment w → IsMoment (unbroken w) }
 {}
 
 /// At every moment the configuration is a valid one of the written form, the sessions are those of its topology, the
 /// numbers of agents' sessions at each control node are of the agents that list it, and each session that is not down is
 /// joined: what was sent and not taken is in flight in order, as both ends' states say.
 pub fn moments_are_of_valid_configurations()
-    ensures written { (w : Network) → IsMoment w → IsWritten w.setup }
-    ensures sessions { (w : Network) → IsMoment w → HasSessions w }
-    ensures numbers { (w : Network) → IsMoment w → (c : NodeId) → Member c w.setup.topology.controllers
+    ensures written { (w : MachineState) → IsMoment w → IsWritten w.setup }
+    ensures sessions { (w : MachineState) → IsMoment w → HasSessions w }
+    ensures numbers { (w : MachineState) → IsMoment w → (c : NodeId) → Member c w.setup.topology.controllers
         → NumbersFit w.setup.topology c (agents_of w.setup c.name) }
-    ensures joined { (w : Network) → IsMoment w → Each (λ s. s.is_down ≡ false → IsJoined s) w.sessions }
+    ensures joined { (w : MachineState) → IsMoment w → Each (λ s. s.is_down ≡ false → IsJoined s) w.sessions }
 {}

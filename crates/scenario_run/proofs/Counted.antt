@@ -19,7 +19,7 @@ use Rattle.config_ties.specs.declared.breaking.Tie.{Tie}
 use Rattle.schedule_script.specs.declared.answer.Answer.TheVariants.{Did, Idle, Shown, Traced}
 use Rattle.machine_isolation_laws.specs.Refusing.{TiedNetwork, after_tied, next_tied, tied_start}
 use Rattle.machine_model.specs.Session.{Session}
-use Rattle.machine_model.specs.Network.{Network}
+use Rattle.machine_model.specs.Network.{MachineState}
 use Rattle.machine_model.specs.Setup.{checked}
 use Rattle.machine_model.specs.Steps.{in_flight, is_broken, may_connect, session_of}
 use Rattle.machine_model.specs.Events.{edit_answer, event_of, forwarders, is_node, next, shown, unless}
@@ -52,7 +52,7 @@ plain_connect : (o : Option Session)
 plain_connect None = record { delivery = refl; rounds = refl }
 plain_connect (Some s) = plain_unless (not (may_connect s))
 
-plain_show : (w : Network) (name : List ℕ) (is : Bool)
+plain_show : (w : MachineState) (name : List ℕ) (is : Bool)
     → IsPlain (Answered (if is then Shown (shown w name) else Idle))
 plain_show w name true = record { delivery = refl; rounds = refl }
 plain_show w name false = record { delivery = refl; rounds = refl }

@@ -34,9 +34,9 @@ use Rattle.transform_model.specs.Tables.{control_rows}
 use Rattle.node_model.specs.Members.{Member}
 use Rattle.node_model.proofs.Members.{any_in}
 use Rattle.machine_model.specs.Setup.{Setup, checked, edited_without, moves, opening, remade, renumbered}
-use Rattle.machine_model.specs.Network.{Network, start}
+use Rattle.machine_model.specs.Network.{MachineState, start}
 use Rattle.machine_model.specs.Steps.{is_settled, settle}
-use Rattle.machine_model.specs.Events.{Event, Edits, Show, after, answer_to, edits as edits_of, event_of, is_node, next, run, shown}
+use Rattle.machine_model.specs.Events.{MachineEvent, Edits, Show, after, answer_to, edits as edits_of, event_of, is_node, next, run, shown}
 use Rattle.machine_model.proofs.Deeds.{edit_made, setup_kept}
 use Rattle.machine_model.specs.Moments.{EditIsValid, EditsAreValid}
 use Rattle.headline_laws.specs.Headline.{IsOfForm, IsWritten}
@@ -59,7 +59,7 @@ pub each_once : (x : Setup) → IsWritten x → (p : Packet) → PassesEachOnce 
 each_once x valid p = each_once_as x valid p (reachability x.config p) refl
 
 -- ---- the answer of a place is that to its event, at the moment before it
-at_place : (es : List Written) (w : Network) (place : ℕ) (e : Written) (a : Answer)
+at_place : (es : List Written) (w : MachineState) (place : ℕ) (e : Written) (a : Answer)
     → slice_get es place ≡ Some e → slice_get (run message_size w (map event_of es)) place ≡ Some a
     → a ≡ answer_to (after message_size w (map event_of (take place es))) (event_of e)
 at_place [] w place e a is answered = absurd cc
@@ -67,7 +67,7 @@ at_place (d ∷ es) w zero e a is answered = sym (same_Some (answer_to w (event_
 at_place (d ∷ es) w (suc place) e a is answered = at_place es (next message_size w (event_of d)) place e a is answered
 
 -- ---- the event of a place leads to the moment behind it
-moment_there : (es : List Written) (w : Network) (place : ℕ) (e : Written) → slice_get es place ≡ Some e
+moment_there : (es : List Written) (w : MachineState) (place : ℕ) (e : Written) → slice_get es place ≡ Some e
     → after message_size w (map event_of (take (suc place) es))
     ≡ next message_size (after message_size w (map event_of (take place es))) (event_of e)
 moment_there [] w place e is = absurd cc
@@ -90,8 +90,8 @@ form_of_edited x d y None none form old is =
     (form_of_made x d form old none)
 form_of_edited x d y (Some f) found form old is = absurd cc
 
-module _ (w : Network) (old : IsOfForm w.setup) where
-  same_form : (e : Event) → ((d : Edit) → e ≢ Edits d) → IsOfForm (next message_size w e).setup
+module _ (w : MachineState) (old : IsOfForm w.setup) where
+  same_form : (e : MachineEvent) → ((d : Edit) → e ≢ Edits d) → IsOfForm (next message_size w e).setup
   same_form e no_edit = subst IsOfForm (sym (setup_kept message_size w e no_edit)) old
 
   refused_form : (d : Edit) (f : EditFault) → edits.edit_fault (checked w.setup) d ≡ Some f → IsOfForm (next message_size w (Edits d)).setup
@@ -135,7 +135,7 @@ module _ (w : Network) (old : IsOfForm w.setup) where
   edit_of_form (written.Trace p) form = tt
   edit_of_form (written.Break from to n) form = tt
 
-pub edits_of_form : (es : List Written) (w : Network) → IsTrue (list_all has_event_form es) → IsOfForm w.setup
+pub edits_of_form : (es : List Written) (w : MachineState) → IsTrue (list_all has_event_form es) → IsOfForm w.setup
     → EditsAreValid message_size IsOfForm w (map event_of es)
 edits_of_form [] w forms old = tt
 edits_of_form (e ∷ es) w forms old =
@@ -150,8 +150,8 @@ forms_of_front (suc place) (e ∷ es) forms =
     and_from (has_event_form e) (list_all has_event_form (take place es)) parts.0 (forms_of_front place es parts.1)
 
 -- ---- a moment of any schedule
-module _ (x : Checked) (valid : IsWritten (opening x)) (before : List Event) (asked : EditsAreValid message_size IsOfForm (start x) before) where
-  abbrev w : Network
+module _ (x : Checked) (valid : IsWritten (opening x)) (before : List MachineEvent) (asked : EditsAreValid message_size IsOfForm (start x) before) where
+  abbrev w : MachineState
   w = after message_size (start x) before
 
   -- what shows, where a name is a node's
@@ -194,16 +194,16 @@ module _ (x : Checked) (valid : IsWritten (opening x)) (before : List Event) (as
 
 -- ---- a moment of the schedule
 module _ (x : Checked) (valid : IsWritten (opening x)) (es : List Written) (forms : IsTrue (list_all has_event_form es)) (place : ℕ) where
-  abbrev before_it : List Event
+  abbrev before_it : List MachineEvent
   before_it = map event_of (take place es)
 
-  abbrev w_there : Network
+  abbrev w_there : MachineState
   w_there = moment x (take place es)
 
   asked_there : EditsAreValid message_size IsOfForm (start x) before_it
   asked_there = edits_of_form (take place es) (start x) (forms_of_front place es forms) (valid.topology, valid.config)
 
-  settles_at : (e : Written) (w' : Network) → w' ≡ next message_size w_there (event_of e) → SettlesAtOnce w_there e (answer_to w_there (event_of e)) w'
+  settles_at : (e : Written) (w' : MachineState) → w' ≡ next message_size w_there (event_of e) → SettlesAtOnce w_there e (answer_to w_there (event_of e)) w'
   unfolding next
   settles_at written.Settle w' leads =
       let s = written_settle_settles message_size positive x valid before_it asked_there in

@@ -9,7 +9,7 @@ use Rattle.ov_types.specs.declared.packet.Outcome.TheVariants.{Delivered}
 use Rattle.ov_types.specs.declared.packet.Packet.{Packet}
 use Rattle.config_model.specs.declared.event.Event.TheVariants.{Settle, Trace}
 use Rattle.config_check.specs.Checked.{Checked}
-use Rattle.machine_model.specs.Network.{Network}
+use Rattle.machine_model.specs.Network.{MachineState}
 use Rattle.machine_model.specs.Setup.{longest}
 use Rattle.machine_model.specs.Steps.{is_settled}
 use Rattle.schedule_compiled_laws.specs.Compiled.{AnswersCompiled, PassesEachOnce}
@@ -30,7 +30,7 @@ same_rounds m n s t is = cc
 same_end : (m n : ℕ) (s t : Bool) → Rounds m s ≡ Rounds n t → s ≡ t
 same_end m n s t is = cc
 
-pub few_rounds : (before then : Network) (rounds : ℕ) (settled : Bool)
+pub few_rounds : (before then : MachineState) (rounds : ℕ) (settled : Bool)
     → SettlesAtOnce before Settle (Rounds rounds settled) then
     → (rounds ≤ longest before.setup + 6) × (settled ≡ true) × (is_settled then ≡ true)
 few_rounds before then rounds settled ends = (

@@ -14,7 +14,7 @@ ghost use Rattle.config_check.specs.Checked.{Checked};
 ghost use Rattle.machine_compiled_laws.specs.Moments.{SettlesInTime};
 ghost use Rattle.running_model.specs.Stands.{moment};
 ghost use Rattle.machine_settling_laws.specs.Settling.{SettlesIn};
-ghost use Rattle.machine_model.specs.Network.{Network};
+ghost use Rattle.machine_model.specs.Network.{MachineState};
 ghost use Rattle.machine_model.specs.Session.{Message};
 ghost use Rattle.machine_model.specs.Setup.{Name, checked, longest};
 ghost use Rattle.machine_model.specs.Steps.{is_settled};
@@ -61,13 +61,13 @@ pub fn each_service_is_passed_once()
 /// Where no session is down and no break is pending, five rounds more than the longest chain in effect has services end
 /// settled.
 pub fn rounds_are_few()
-    ensures { (size : Name → Message → ℕ) (w : Network) → SettlesInTime size w
+    ensures { (size : Name → Message → ℕ) (w : MachineState) → SettlesInTime size w
         → SettlesIn (longest w.setup + 5) size w }
 {}
 
 /// `settle` takes at most six more, and ends settled.
 pub fn settle_takes_few_rounds()
-    ensures { (before then : Network) (rounds : ℕ) (settled : Bool)
+    ensures { (before then : MachineState) (rounds : ℕ) (settled : Bool)
         → SettlesAtOnce before Settle (Rounds rounds settled) then
         → (rounds ≤ longest before.setup + 6) × (settled ≡ true) × (is_settled then ≡ true) }
 {}

@@ -8,7 +8,7 @@ use Rattle.std.proofs.lemmas.Bool.{and_from, and_parts}
 use Rattle.config_model.specs.Event.{has_event_form}
 use Rattle.config_model.specs.declared.event.Event.{Event as Written}
 use Rattle.config_check.specs.Checked.{Checked}
-use Rattle.machine_model.specs.Events.{Event, Edits, Deliver, DeliverOctets, Lose, Connect, Restart, Round, Settle, Show, Trace, Break, after, event_of, next}
+use Rattle.machine_model.specs.Events.{MachineEvent, Edits, Deliver, DeliverOctets, Lose, Connect, Restart, Round, Settle, Show, Trace, Break, after, event_of, next}
 use Rattle.machine_model.specs.Moments.{EditsAreValid}
 use Rattle.machine_model.specs.Network.{start}
 use Rattle.machine_model.specs.Setup.{Setup, edited, opening}
@@ -26,7 +26,7 @@ broken_is : (t : Ties) (o : Option Setup) → breaks t o ≡ is_some (broken_by 
 broken_is t None = refl
 broken_is t (Some y) = refl
 
-pub refused_is : (s : TiedNetwork) (e : Event) → refuses s.ties s.network e ≡ is_some (tie_broken s e)
+pub refused_is : (s : TiedNetwork) (e : MachineEvent) → refuses s.ties s.network e ≡ is_some (tie_broken s e)
 refused_is s (Edits d) = broken_is s.ties (edited s.network.setup d)
 refused_is s (Deliver a b n) = refl
 refused_is s (DeliverOctets a b n) = refl
@@ -40,7 +40,7 @@ refused_is s (Trace p) = refl
 refused_is s (Break a b n) = refl
 
 -- ---- the events of a document that are kept
-abbrev pub stepped : TiedNetwork → Event → TiedNetwork
+abbrev pub stepped : TiedNetwork → MachineEvent → TiedNetwork
 stepped s e = record { ties = ties_next s.ties s.network e; network = next message_size s.network e }
 
 abbrev pub kept_from : TiedNetwork → List Written → List Written
@@ -58,7 +58,7 @@ kept_is s (e ∷ es) =
     elim (refuses s.ties s.network (event_of e)) as (λ b. map event_of (cond b (kept_from s es) (e ∷ kept_from (stepped s (event_of e)) es))
     ≡ cond b (kept_events message_size s (map event_of es)) (event_of e ∷ kept_events message_size (stepped s (event_of e)) (map event_of es))) [
       | true ↦ kept_is s es
-      | false ↦ ap (λ (ys : List Event). event_of e ∷ ys) (kept_is (stepped s (event_of e)) es)
+      | false ↦ ap (λ (ys : List MachineEvent). event_of e ∷ ys) (kept_is (stepped s (event_of e)) es)
     ]
 
 pub same_moment : (x : Checked) (es : List Written) → (tied_moment x es).network ≡ moment x (kept x es)
@@ -88,7 +88,7 @@ module _ (x : Checked) (written : IsWritten (opening x)) (es : List Written) (fo
 -- ---- an event more
 map_more : (es : List Written) (e : Written) → map event_of (es ++ e ∷ []) ≡ map event_of es ++ event_of e ∷ []
 map_more [] e = refl
-map_more (d ∷ es) e = ap (λ (ys : List Event). event_of d ∷ ys) (map_more es e)
+map_more (d ∷ es) e = ap (λ (ys : List MachineEvent). event_of d ∷ ys) (map_more es e)
 
 pub tied_more : (x : Checked) (es : List Written) (e : Written)
     → tied_moment x (es ++ e ∷ []) ≡ next_tied message_size (tied_moment x es) (event_of e)

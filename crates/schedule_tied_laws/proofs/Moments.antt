@@ -20,7 +20,7 @@ use Rattle.machine_compiled_laws.specs.Moments.{SettleSettles, SettlesInTime}
 use Rattle.headline_laws.specs.Headline.{IsWritten}
 use Rattle.headline_laws.proofs.Written.{written_rounds_settle, written_settle_settles}
 use Rattle.machine_model.specs.Events.{Settle, answer_to, event_of, forwarders, next}
-use Rattle.machine_model.specs.Network.{Network}
+use Rattle.machine_model.specs.Network.{MachineState}
 use Rattle.machine_model.specs.Setup.{checked, opening}
 use Rattle.machine_model.specs.Steps.{is_settled, settle}
 use Rattle.running_model.specs.Stands.{message_size}
@@ -62,7 +62,7 @@ of_answer Fact s (written.Trace p) h = h
 of_answer Fact s (written.Break from to n) h = h
 
 -- ---- a delivery
-delivered_as : (Joins : PortNo → PortNo → Type 0) (w : Network) (p : Packet)
+delivered_as : (Joins : PortNo → PortNo → Type 0) (w : MachineState) (p : Packet)
     → ((q : PortNo) (services : List ServiceNo) → forwarding (forwarders w) p ≡ Delivered q services → Joins p.source q)
     → (o : Outcome) → forwarding (forwarders w) p ≡ o → OfDelivery Joins (written.Trace p) (Answered (Traced o))
 delivered_as Joins w p h (Delivered q services) is = h q services is
@@ -86,7 +86,7 @@ of_delivery Joins s h (written.Show name) = tt
 of_delivery Joins s h (written.Break from to n) = tt
 
 -- ---- `settle` ends settled
-ends_settled : (w : Network) → SettleSettles w → (e : Written) (w' : Network) → w' ≡ next message_size w (event_of e)
+ends_settled : (w : MachineState) → SettleSettles w → (e : Written) (w' : MachineState) → w' ≡ next message_size w (event_of e)
     → SettlesAtOnce w e (answer_to w (event_of e)) w'
 unfolding next
 ends_settled w s written.Settle w' leads = record {
@@ -140,7 +140,7 @@ module _ (x : Checked) (valid : IsWritten (opening x)) (es : List Written) (form
   kept_compiled : is_settled s.network ≡ true → (e : Written)
       → AnswersCompiled (checked s.network.setup) e (answer_to s.network (event_of e))
   kept_compiled =
-      subst (λ (w : Network). is_settled w ≡ true → (e : Written) → AnswersCompiled (checked w.setup) e (answer_to w (event_of e)))
+      subst (λ (w : MachineState). is_settled w ≡ true → (e : Written) → AnswersCompiled (checked w.setup) e (answer_to w (event_of e)))
       (sym (same_moment x es))
       (compiled_at x valid (map event_of (kept x es)) (asked_of_kept x valid es forms))
 

@@ -11,7 +11,7 @@ use Rattle.config_ties.specs.declared.breaking.Tie.{Tie}
 use Rattle.schedule_script.specs.declared.answer.Answer.{Answer}
 use Rattle.schedule_ties.specs.declared.answer.TiedAnswer.{TiedAnswer}
 use Rattle.schedule_ties.specs.declared.answer.TiedAnswer.TheVariants.{Answered, EditTied}
-use Rattle.machine_model.specs.Events.{Event, Edits, answer_to, event_of}
+use Rattle.machine_model.specs.Events.{MachineEvent, Edits, answer_to, event_of}
 use Rattle.machine_model.specs.Network.{start}
 use Rattle.machine_model.specs.Session.{Message}
 use Rattle.machine_model.specs.Setup.{Name, Setup, checked, edited}
@@ -25,7 +25,7 @@ broken_by t None = None
 broken_by t (Some y) = broken_tie t (checked y)
 
 -- only an edit breaks ties
-abbrev pub tie_broken : TiedNetwork → Event → Option Tie
+abbrev pub tie_broken : TiedNetwork → MachineEvent → Option Tie
 tie_broken s (Edits e) = broken_by s.ties (edited s.network.setup e)
 tie_broken s _ = None
 
@@ -34,12 +34,12 @@ unless_tied None a = Answered a
 unless_tied (Some tie) a = EditTied tie
 
 -- what an event answers: an edit that would break a tie is refused so, and to every other event the network answers
-abbrev pub answer_tied : TiedNetwork → Event → TiedAnswer
+abbrev pub answer_tied : TiedNetwork → MachineEvent → TiedAnswer
 answer_tied s e = unless_tied (tie_broken s e) (answer_to s.network e)
 
 module _ (size : Name → Message → ℕ) where
   -- the answers of a schedule
-  abbrev pub run_tied : TiedNetwork → List Event → List TiedAnswer
+  abbrev pub run_tied : TiedNetwork → List MachineEvent → List TiedAnswer
   run_tied s [] = []
   run_tied s (e ∷ es) = answer_tied s e ∷ run_tied (next_tied size s e) es
 

@@ -9,7 +9,7 @@ ghost use Rattle.config_model.specs.Event.{has_event_form};
 ghost use Rattle.config_model.specs.declared.event.Event.{Event};
 ghost use Rattle.headline_laws.specs.Headline.{IsWritten};
 ghost use Rattle.machine_isolation_laws.specs.Refusing.{TiedNetwork, refuses};
-ghost use Rattle.machine_model.specs.Events.{Event as Happening};
+ghost use Rattle.machine_model.specs.Events.{MachineEvent as Happening};
 ghost use Rattle.machine_model.specs.Setup.{opening};
 ghost use Rattle.schedule_tied_laws.specs.Compiled.{AreAsCompiled};
 ghost use Rattle.schedule_tied_laws.specs.Isolated.{IsIsolated};

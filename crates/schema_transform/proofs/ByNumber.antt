@@ -15,7 +15,7 @@ use Rattle.config_model.specs.declared.config.Network.{Network}
 use Rattle.config_model.specs.declared.topology.Topology.{Topology}
 use Rattle.config_check.specs.Finding.{network_numbered}
 use Rattle.transform_model.specs.Tables.{Row, circuit_row, circuits_in, end_rows, hop_rows, instance_table, rows_of, subnet_rows, with_rows}
-use Rattle.transform_model.specs.Uses.{Circuit, Use, left_circuits, right_circuits, first_hop, last_hop, uses}
+use Rattle.transform_model.specs.Uses.{Circuit, ConfiguredUse, left_circuits, right_circuits, first_hop, last_hop, uses}
 use Rattle.transform_model.proofs.InUse.{use_is}
 use Rattle.transform_model.proofs.Lists.{place_within}
 use Rattle.transform_model.proofs.Rows.{at_end, either_in, left_in, right_in}
@@ -36,7 +36,7 @@ no_end_rows : (t : Topology) (c : Config) (i end : InstanceId) (n : Network) →
 no_end_rows t c i end n apart = nothing_in (end_rows t c i end n) (λ r h. apart (at_end t c i end n r h).at)
 
 -- then the use gives it nothing
-gives_nothing : (t : Topology) (c : Config) (i : InstanceId) (u : Use) → length u.services ≤ 15 → Apart u.number i
+gives_nothing : (t : Topology) (c : Config) (i : InstanceId) (u : ConfiguredUse) → length u.services ≤ 15 → Apart u.number i
     → hop_rows t c i u ≡ []
 gives_nothing t c i u few apart =
     let no_left : (k : Circuit) → Contains (circuits_in i (left_circuits u)) k → ⊥ = λ k h.
@@ -68,8 +68,8 @@ gives_nothing t c i u few apart =
     ∙ ap (λ (rs : List Row). rs ++ last) (no_end_rows t c i (first_hop u) u.left (apart 0 (omega arith)))
     ∙ no_end_rows t c i (last_hop u) u.right (apart (length u.services) few)
 
-all_give_nothing : (t : Topology) (c : Config) (i : InstanceId) (us : List Use)
-    → ((u : Use) → Contains us u → length u.services ≤ 15) → ((u : Use) → Contains us u → Apart u.number i)
+all_give_nothing : (t : Topology) (c : Config) (i : InstanceId) (us : List ConfiguredUse)
+    → ((u : ConfiguredUse) → Contains us u → length u.services ≤ 15) → ((u : ConfiguredUse) → Contains us u → Apart u.number i)
     → flat_map (hop_rows t c i) us ≡ []
 all_give_nothing t c i [] few apart = refl
 all_give_nothing t c i (u ∷ us) few apart =
@@ -78,21 +78,21 @@ all_give_nothing t c i (u ∷ us) few apart =
     ∙ all_give_nothing t c i us (λ v h. few v (contains_later v u us h)) (λ v h. apart v (contains_later v u us h))
 
 -- of uses that each have a number of their own, at most the one of this number gives the instance anything
-one_gives : (t : Topology) (c : Config) (i : InstanceId) (n : ℕ) (us : List Use)
-    → ((u : Use) → Contains us u → length u.services ≤ 15) → AllPairs (λ u v. u.number ≢ v.number) us
+one_gives : (t : Topology) (c : Config) (i : InstanceId) (n : ℕ) (us : List ConfiguredUse)
+    → ((u : ConfiguredUse) → Contains us u → length u.services ≤ 15) → AllPairs (λ u v. u.number ≢ v.number) us
     → ((m : ℕ) → m ≢ n → Apart m i)
     → use_rows t c i (use_numbered us n) ≡ flat_map (hop_rows t c i) us
 one_gives t c i n [] few distinct apart = refl
 one_gives t c i n (u ∷ us) few distinct apart =
-    let few_left : (v : Use) → Contains us v → length v.services ≤ 15 = λ v h. few v (contains_later v u us h) in
+    let few_left : (v : ConfiguredUse) → Contains us v → length v.services ≤ 15 = λ v h. few v (contains_later v u us h) in
     elim (u.number == n) as (λ b. (u.number == n) ≡ b → use_rows t c i (cond b (Some u) (use_numbered us n))
     ≡ hop_rows t c i u ++ flat_map (hop_rows t c i) us) [
       | true ↦ λ e.
           let same : u.number ≡ n = grind (arith, nat_tests, e) in
-          let others : (v : Use) → Contains us v → Apart v.number i = λ v h.
+          let others : (v : ConfiguredUse) → Contains us v → Apart v.number i = λ v h.
           let differ : u.number ≢ v.number =
-          All-contains (λ (w : Use). u.number ≢ w.number) us v
-          (pairs_head (λ (v w : Use). v.number ≢ w.number) u us distinct) h
+          All-contains (λ (w : ConfiguredUse). u.number ≢ w.number) us v
+          (pairs_head (λ (v w : ConfiguredUse). v.number ≢ w.number) u us distinct) h
           in
           apart v.number (λ one. differ (same ∙ sym one))
           in
@@ -100,12 +100,12 @@ one_gives t c i n (u ∷ us) few distinct apart =
           ∙ ap (λ (rs : List Row). hop_rows t c i u ++ rs) (sym (all_give_nothing t c i us few_left others))
       | false ↦ λ e.
           let differ : u.number ≢ n = λ one. absurd (grind (arith, nat_tests, e, one)) in
-          one_gives t c i n us few_left (pairs_tail (λ (v w : Use). v.number ≢ w.number) u us distinct) apart
+          one_gives t c i n us few_left (pairs_tail (λ (v w : ConfiguredUse). v.number ≢ w.number) u us distinct) apart
           ∙ ap (λ (rs : List Row). rs ++ flat_map (hop_rows t c i) us)
           (sym (gives_nothing t c i u (few u (contains_here u us)) (apart u.number differ)))
     ] refl
 
-few_in_use : (c : Config) → IsSound c → (u : Use) → Contains (uses c) u → length u.services ≤ 15
+few_in_use : (c : Config) → IsSound c → (u : ConfiguredUse) → Contains (uses c) u → length u.services ≤ 15
 few_in_use c h u inside =
     let used = use_is c u inside in
     subst (λ n. n ≤ 15) (sym (ap length used.services)) (is_short c used.chain h)
@@ -148,7 +148,7 @@ hop_is_apart i n m h differ = λ j few same.
     let one : m ≡ n = omega arith in
     differ one
 
-pub use_rows_are : (t : Topology) (c : Config) (i : InstanceId) (among : ℕ → Option Use) → IsSound c
+pub use_rows_are : (t : Topology) (c : Config) (i : InstanceId) (among : ℕ → Option ConfiguredUse) → IsSound c
     → ((n : ℕ) → among n ≡ use_numbered (uses c) n)
     → use_rows t c i (use_at among i) ≡ flat_map (hop_rows t c i) (uses c)
 use_rows_are t c i among h is =
@@ -163,7 +163,7 @@ use_rows_are t c i among h is =
     ] refl
 
 -- the rows of the network with an instance's number, and then what the uses give it
-pub table_put : (t : Topology) (c : Config) (i : InstanceId) (among : ℕ → Option Use) (before more after : List Row) → IsSound c
+pub table_put : (t : Topology) (c : Config) (i : InstanceId) (among : ℕ → Option ConfiguredUse) (before more after : List Row) → IsSound c
     → ((n : ℕ) → among n ≡ use_numbered (uses c) n)
     → more ≡ with_rows before (rows_of t c (network_numbered c i.0))
     → after ≡ with_rows more (use_rows t c i (use_at among i))

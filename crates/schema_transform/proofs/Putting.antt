@@ -15,18 +15,18 @@ use Rattle.config_model.specs.declared.config.Config.{Config}
 use Rattle.config_model.specs.declared.topology.Topology.{Topology}
 use Rattle.std.proofs.Common.{Option, Some, None}
 use Rattle.std.proofs.lemmas.List.Elements.{filter_map-append, filter-append}
-use Rattle.transform_model.specs.Objects.{Object, acl_objects, circuit_object, circuit_objects, instance_cmp}
+use Rattle.transform_model.specs.Objects.{LowObject, acl_objects, circuit_object, circuit_objects, instance_cmp}
 use Rattle.transform_model.specs.Objects.{instance_object, low_objects, port_object, use_object, with_instances}
 use Rattle.transform_model.specs.Objects.{with_objects}
 use Rattle.transform_model.specs.Tables.{Row, circuit_row, circuits_in, end_rows, hop_rows, subnet_rows, with_rows}
-use Rattle.transform_model.specs.Uses.{Circuit, Use, first_hop, last_hop, left_circuits, right_circuits, uses}
+use Rattle.transform_model.specs.Uses.{Circuit, ConfiguredUse, first_hop, last_hop, left_circuits, right_circuits, uses}
 use Rattle.ov_types.proofs.FirstLemmas.{next_is}
 
 pub rows_append : (xs ys entries : List Row) → with_rows entries (xs ++ ys) ≡ with_rows (with_rows entries xs) ys
 rows_append [] ys entries = refl
 rows_append (x ∷ xs) ys entries = rows_append xs ys (insert_entry row_key_cmp entries x.0 x.1)
 
-pub objects_append : (xs ys entries : List Object)
+pub objects_append : (xs ys entries : List LowObject)
     → with_objects entries (xs ++ ys) ≡ with_objects (with_objects entries xs) ys
 objects_append [] ys entries = refl
 objects_append (x ∷ xs) ys entries = objects_append xs ys (insert_entry low_key_cmp entries x.0 x.1)
@@ -66,15 +66,15 @@ pub tables_go_on : {A : Type 0} (rows : A → List Row) (items : List A) (i : �
 tables_go_on rows = goes_on with_rows rows_append rows (flat_map rows) (λ x xs. refl)
 
 -- the objects of the item at i are put next
-pub objects_go_on : {A B : Type 0} (objects : B → List Object) (seen : A → B) (items : List A) (i : ℕ) (item : A)
-    (before after total : List Object) → i < length items → item ≡ get_or items i item
+pub objects_go_on : {A B : Type 0} (objects : B → List LowObject) (seen : A → B) (items : List A) (i : ℕ) (item : A)
+    (before after total : List LowObject) → i < length items → item ≡ get_or items i item
     → after ≡ with_objects before (objects (seen item))
     → with_objects before (flat_map objects (map seen (drop i items))) ≡ total
     → with_objects after (flat_map objects (map seen (drop (i + 1) items))) ≡ total
 objects_go_on objects seen = goes_on with_objects objects_append (λ x. objects (seen x)) (λ xs. flat_map objects (map seen xs)) (λ x xs. refl)
 
-pub lists_go_on : {A : Type 0} (objects : A → List Object) (items : List A) (i : ℕ) (item : A)
-    (before after total : List Object) → i < length items → item ≡ get_or items i item
+pub lists_go_on : {A : Type 0} (objects : A → List LowObject) (items : List A) (i : ℕ) (item : A)
+    (before after total : List LowObject) → i < length items → item ≡ get_or items i item
     → after ≡ with_objects before (objects item)
     → with_objects before (flat_map objects (drop i items)) ≡ total
     → with_objects after (flat_map objects (drop (i + 1) items)) ≡ total
@@ -89,12 +89,12 @@ pub needs_go_on : {A : Type 0} (needs : A → List InstanceId) (items : List A) 
 needs_go_on needs = goes_on with_instances instances_append needs (flat_map needs) (λ x xs. refl)
 
 -- ---- several lists
-one_first : (o : Option Use) (us : List Use) → option_to_list o ++ us ≡ cons_option o us
+one_first : (o : Option ConfiguredUse) (us : List ConfiguredUse) → option_to_list o ++ us ≡ cons_option o us
 one_first None us = refl
 one_first (Some u) us = refl
 
 -- the left circuits of a use and then the right ones
-pub circuits_put : (t : Topology) (u : Use) (lefts rights : List Circuit) (before : List Object)
+pub circuits_put : (t : Topology) (u : ConfiguredUse) (lefts rights : List Circuit) (before : List LowObject)
     → lefts ≡ left_circuits u → rights ≡ right_circuits u
     → with_objects (with_objects before (filter_map (circuit_object t) lefts)) (filter_map (circuit_object t) rights)
     ≡ with_objects before (circuit_objects t u)
@@ -105,7 +105,7 @@ circuits_put t u lefts rights before left right =
     ∙ ap (λ (ks : List Circuit). filter_map (circuit_object t) (left_circuits u ++ ks)) right)
 
 -- the five kinds of objects one after the other
-pub all_put : (t : Topology) (c : Config) (us : List Use) (a b d e f : List Object) → us ≡ uses c
+pub all_put : (t : Topology) (c : Config) (us : List ConfiguredUse) (a b d e f : List LowObject) → us ≡ uses c
     → a ≡ with_objects [] (map (instance_object c) c.networks)
     → b ≡ with_objects a (filter_map (port_object t c) c.ports)
     → d ≡ with_objects b (flat_map (circuit_objects t) us)
@@ -114,24 +114,24 @@ pub all_put : (t : Topology) (c : Config) (us : List Use) (a b d e f : List Obje
     → f ≡ low_objects t c
 unfolding low_objects
 all_put t c us a b d e f same ha hb hd he hf =
-    let o1 : List Object = map (instance_object c) c.networks in
-    let o2 : List Object = filter_map (port_object t c) c.ports in
-    let o3 : List Object = flat_map (circuit_objects t) us in
-    let o4 : List Object = flat_map (acl_objects c) c.networks in
-    let o5 : List Object = map (use_object t) us in
-    hf ∙ ap (λ (x : List Object). with_objects x o5) (he
-    ∙ ap (λ (x : List Object). with_objects x o4) (hd
-    ∙ ap (λ (x : List Object). with_objects x o3) (hb
-    ∙ ap (λ (x : List Object). with_objects x o2) ha)))
+    let o1 : List LowObject = map (instance_object c) c.networks in
+    let o2 : List LowObject = filter_map (port_object t c) c.ports in
+    let o3 : List LowObject = flat_map (circuit_objects t) us in
+    let o4 : List LowObject = flat_map (acl_objects c) c.networks in
+    let o5 : List LowObject = map (use_object t) us in
+    hf ∙ ap (λ (x : List LowObject). with_objects x o5) (he
+    ∙ ap (λ (x : List LowObject). with_objects x o4) (hd
+    ∙ ap (λ (x : List LowObject). with_objects x o3) (hb
+    ∙ ap (λ (x : List LowObject). with_objects x o2) ha)))
     ∙ sym (objects_append o4 o5 (with_objects (with_objects (with_objects [] o1) o2) o3))
     ∙ sym (objects_append o3 (o4 ++ o5) (with_objects (with_objects [] o1) o2))
     ∙ sym (objects_append o2 (o3 ++ (o4 ++ o5)) (with_objects [] o1))
     ∙ sym (objects_append o1 (o2 ++ (o3 ++ (o4 ++ o5))) [])
-    ∙ ap (λ (vs : List Use). with_objects [] (o1 ++ (o2 ++ (flat_map (circuit_objects t) vs ++ (o4
+    ∙ ap (λ (vs : List ConfiguredUse). with_objects [] (o1 ++ (o2 ++ (flat_map (circuit_objects t) vs ++ (o4
     ++ map (use_object t) vs))))) same
 
 -- what a use gives an instance, one kind after the other
-pub hop_put : (t : Topology) (c : Config) (i : InstanceId) (u : Use) (lefts rights : List Circuit) (first last : InstanceId)
+pub hop_put : (t : Topology) (c : Config) (i : InstanceId) (u : ConfiguredUse) (lefts rights : List Circuit) (first last : InstanceId)
     (o a b d e f g : List Row) → lefts ≡ left_circuits u → rights ≡ right_circuits u
     → first ≡ first_hop u → last ≡ last_hop u
     → a ≡ with_rows o (filter_map (circuit_row t i) (circuits_in i lefts))
@@ -178,7 +178,7 @@ hop_put t c i u lefts rights first last o a b d e f g left right at_first at_las
     ∙ ap (λ (x : List Row). s1 ++ (s3 ++ (s4 ++ (end_rows t c i (first_hop u) u.left ++ x)))) same6)
 
 -- the uses that the item at i gives come next
-pub uses_go_on : {A : Type 0} (give : A → Option Use) (items : List A) (i : ℕ) (item : A) (before after total : List Use)
+pub uses_go_on : {A : Type 0} (give : A → Option ConfiguredUse) (items : List A) (i : ℕ) (item : A) (before after total : List ConfiguredUse)
     → i < length items → item ≡ get_or items i item → after ≡ before ++ option_to_list (give item)
     → before ++ filter_map give (drop i items) ≡ total → after ++ filter_map give (drop (i + 1) items) ≡ total
 uses_go_on give = goes_on (λ before us. before ++ us) (λ us vs before. sym (append_assoc before us vs))

@@ -6,10 +6,10 @@ use Rattle.ov_types.specs.declared.objects.LowKey.TheVariants.{Instance, Attach,
 use Rattle.ov_types.specs.declared.objects.LowValue.{LowValue}
 use Rattle.ov_types.specs.declared.prefix.Addr.{Addr}
 use Rattle.transform_model.specs.Compiled.{concerns, networks_at, slice_of}
-use Rattle.transform_model.specs.Objects.{Object}
+use Rattle.transform_model.specs.Objects.{LowObject}
 use Rattle.schema_transform.specs.Concerning.{concerns_among}
 
-same_test : (low : List Object) (a : Addr) (k : LowKey) (v : LowValue)
+same_test : (low : List LowObject) (a : Addr) (k : LowKey) (v : LowValue)
     → concerns_among (networks_at low a) a k v ≡ concerns low a k v
 same_test low a (Instance n) v = refl
 same_test low a (Attach label) v = refl
@@ -20,7 +20,7 @@ same_filter : {A : Type 0} (f g : A → Bool) → ((x : A) → f x ≡ g x) → 
 same_filter f g h [] = refl
 same_filter f g h (x ∷ xs) = rw (h x) (rw (same_filter f g h xs) refl)
 
-pub slice_is : (low : List Object) (a : Addr)
+pub slice_is : (low : List LowObject) (a : Addr)
     → filter (λ e. concerns_among (networks_at low a) a e.0 e.1) low ≡ slice_of low a
 slice_is low a =
     same_filter (λ e. concerns_among (networks_at low a) a e.0 e.1) (λ e. concerns low a e.0 e.1)

@@ -7,12 +7,12 @@ use Rattle.config_model.specs.declared.config.Config.{Config}
 use Rattle.config_model.specs.declared.config.Network.{Network}
 use Rattle.config_model.specs.declared.topology.Topology.{Topology}
 use Rattle.policy_rules.specs.Related.{are_related}
-use Rattle.transform_model.specs.Objects.{Object, acl_object}
+use Rattle.transform_model.specs.Objects.{LowObject, acl_object}
 use Rattle.transform_model.specs.Tables.{Row, subnet_rows}
 use Rattle.transform_model.specs.Uses.{Circuit}
 
 -- the access list of a network towards another, where that is the same or related to it
-abbrev pub acl_towards : Config → Network → Network → List Object
+abbrev pub acl_towards : Config → Network → Network → List LowObject
 acl_towards c a m =
     if same_name m.name a.name || are_related c a m then acl_object c a m ∷ [] else []
 

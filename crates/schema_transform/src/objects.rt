@@ -29,7 +29,7 @@ use std::alloc::Global;
 use std::collections::{BTreeMap, BTreeSet};
 
 /// A low-level object with its key.
-type Object = (LowKey, LowValue);
+type LowObject = (LowKey, LowValue);
 
 /// Low-level objects by their keys.
 pub(crate) type Objects = BTreeMap<LowKey, LowValue>;
@@ -63,7 +63,7 @@ fn imports_of(
 }
 
 /// Puts an object.
-fn put_object(object: Object, low: &mut Objects) -> Result<(), NoMemory>
+fn put_object(object: LowObject, low: &mut Objects) -> Result<(), NoMemory>
     ensures { OnOk result (low.new.entries ≡ insert_entry low_key_cmp low.old.entries object.0 object.1) }
 {
     low.insert(object.0, object.1)?;
@@ -87,7 +87,7 @@ fn put_instances(alloc: Global, config: &Config, low: &mut Objects) -> Result<()
 
 /// A port, in the instance of its network and at its node.
 #[tactic(auto, unfolding(config_model::specs::Form::has_port_form))]
-fn port_object(topology: &Topology, config: &Config, port: &Port) -> Option<Object>
+fn port_object(topology: &Topology, config: &Config, port: &Port) -> Option<LowObject>
     requires { IsTrue (has_port_form port.now) }
     ensures { result ≡ port_object topology.now config.now port.now }
 {
@@ -118,7 +118,7 @@ fn put_ports(topology: &Topology, config: &Config, low: &mut Objects) -> Result<
 }
 
 /// A circuit, at the node of its service.
-fn circuit_object(topology: &Topology, circuit: &Attachment) -> Option<Object>
+fn circuit_object(topology: &Topology, circuit: &Attachment) -> Option<LowObject>
     ensures { result ≡ circuit_object topology.now (circuit_of circuit.now) }
 {
     let node = node_named(topology, &circuit.service.node)?;

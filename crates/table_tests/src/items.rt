@@ -3,7 +3,7 @@ ghost use Rattle.item_wire.specs.declared.event.ItemState.TheVariants.{Idle};
 
 use item_wire::{Item, ItemCause, ItemFrom, ItemSession, ItemState};
 use node_items::{
-    Heard, down_change, greet, hear, low_change, spell_down, spell_low, spell_up, up_change,
+    HeardRecords, down_change, greet, hear, low_change, spell_down, spell_low, spell_up, up_change,
 };
 use ov_sync::Delta;
 use ov_types::{
@@ -66,7 +66,7 @@ fn a_node_greets(rt: HostRuntime) {
 }
 
 /// The publication was heard, and nothing else.
-fn is_a_publication(rt: &impl Abort, heard: &Heard) {
+fn is_a_publication(rt: &impl Abort, heard: &HeardRecords) {
     match heard.records.as_slice() {
         [record] => assert!(rt; *record == publication()),
         _ => assert!(rt; false, "another number of records"),
@@ -88,7 +88,7 @@ fn a_hello_and_a_publication_are_heard(rt: HostRuntime) {
 }
 
 /// No record was heard, for this cause.
-fn has_cause(rt: &impl Abort, heard: &Heard, cause: ItemCause) {
+fn has_cause(rt: &impl Abort, heard: &HeardRecords, cause: ItemCause) {
     assert!(rt; heard.records.is_empty());
     assert!(rt; heard.cause == Some(cause));
 }

@@ -6,7 +6,7 @@ use bgp_wire::WireFault;
 use node_peers::laws::{
     differences_can_be_written, route_changes, updates_are_heard, what_is_heard_is_one,
 };
-use node_peers::{Heard, greet, hear, spell};
+use node_peers::{HeardRoutes, greet, hear, spell};
 use ov_sync::Delta;
 use ov_types::{Addr, Items, Label, Name, NodeId, Prefix, Rd, Targets, VpnKey, VpnRoute};
 use std::alloc::Global;
@@ -54,7 +54,7 @@ fn peer(rt: &impl Abort) -> NodeId {
     }
 }
 
-fn hear_text(rt: &impl Abort, alloc: Global, session: &mut Session, text: &str) -> Heard
+fn hear_text(rt: &impl Abort, alloc: Global, session: &mut Session, text: &str) -> HeardRoutes
     requires { session.old.asn ≡ 64512 }
     ensures { session.new.asn ≡ session.old.asn }
 {
@@ -97,7 +97,7 @@ fn check_reply(rt: &impl Abort, alloc: Global, replies: &Items<Items<u8>>, wante
 fn brings(
     rt: &impl Abort,
     alloc: Global,
-    heard: &Heard,
+    heard: &HeardRoutes,
     changes: usize,
     wanted: Option<&str>,
     cause: Option<Cause>,

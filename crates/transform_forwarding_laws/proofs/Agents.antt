@@ -25,7 +25,7 @@ use Rattle.node_model.specs.Agent.{attached as listed, needed_by, needed_for}
 use Rattle.node_model.specs.Wants.{is_at}
 use Rattle.transform_model.specs.Compiled.{agent_rows, concerns, slice_of, route_of}
 use Rattle.transform_model.specs.IsRow.{IsRow}
-use Rattle.transform_model.specs.Objects.{Object, low_objects, ascending_instances}
+use Rattle.transform_model.specs.Objects.{LowObject, low_objects, ascending_instances}
 use Rattle.transform_model.specs.Tables.{Row, tables_of}
 use Rattle.policy_rules.proofs.Lists.{is_mapped, mapped_is, is_kept, kept_is, is_joined}
 use Rattle.transform_model.proofs.Lists.{gives, given}
@@ -86,7 +86,7 @@ route_is i r s =
 
 module _ (t : Topology) (c : Config) (form : IsTrue (has_config_form c)) (v : IsValid t c) (a : Addr) where
   in_slice : (k : LowKey) (w : LowValue) → Contains (low_objects t c) (k, w) → concerns (low_objects t c) a k w ≡ true → Contains (slice_of (low_objects t c) a) (k, w)
-  in_slice k w h e = is_kept (λ (o : Object). concerns (low_objects t c) a o.0 o.1) (low_objects t c) (k, w) h e
+  in_slice k w h e = is_kept (λ (o : LowObject). concerns (low_objects t c) a o.0 o.1) (low_objects t c) (k, w) h e
 
   abbrev pub Under : Label → Attached → Type 0
   Under label what =
@@ -97,22 +97,22 @@ module _ (t : Topology) (c : Config) (form : IsTrue (has_config_form c)) (v : Is
       → Under label what
   unfolding agent_rows
   under_label label what h =
-      let labels : List (Label × Attached) = filter_map (λ (o : Object). listed o.0 o.1) (slice_of (low_objects t c) a) in
+      let labels : List (Label × Attached) = filter_map (λ (o : LowObject). listed o.0 o.1) (slice_of (low_objects t c) a) in
       elim (find (λ (e : Label × Attached). e.0.0 == label.0) labels) as (λ f. find (λ (e : Label × Attached). e.0.0 == label.0) labels ≡ f → option_map (λ (e : Label × Attached). e.1) f ≡ Some what → Under label what) [
         | None ↦ λ e k. cc
         | Some e ↦ λ f k.
             let found = found_is (λ (e : Label × Attached). e.0.0 == label.0) labels e f in
-            let from = given (λ (o : Object). listed o.0 o.1) (slice_of (low_objects t c) a) e found.1 in
-            let o : Object = from.0 in
-            let in_low = kept_is (λ (o : Object). concerns (low_objects t c) a o.0 o.1) (low_objects t c) o from.1 in
+            let from = given (λ (o : LowObject). listed o.0 o.1) (slice_of (low_objects t c) a) e found.1 in
+            let o : LowObject = from.0 in
+            let in_low = kept_is (λ (o : LowObject). concerns (low_objects t c) a o.0 o.1) (low_objects t c) o from.1 in
             let number : e.0.0 ≡ label.0 = eqb-true e.0.0 label.0 found.0 in
             let key : o.0 ≡ Key.Attach label.0 = key_of_listed o.0 o.1 e from.2 ∙ ap Key.Attach number in
             let whole : o ≡ (Key.Attach label.0, o.1) = ap (λ (k : LowKey). (k, o.1)) key in
             let labelled : e ≡ (label, what) = same_entry e label what number cc in (
               o.1,
-              subst (λ (x : Object). Contains (low_objects t c) x) whole in_low.0,
-              subst (λ (x : Object). concerns (low_objects t c) a x.0 x.1 ≡ true) whole in_low.1,
-              subst (λ (x : Object). listed x.0 x.1 ≡ Some (label, what)) whole (from.2 ∙ ap Some labelled),
+              subst (λ (x : LowObject). Contains (low_objects t c) x) whole in_low.0,
+              subst (λ (x : LowObject). concerns (low_objects t c) a x.0 x.1 ≡ true) whole in_low.1,
+              subst (λ (x : LowObject). listed x.0 x.1 ≡ Some (label, what)) whole (from.2 ∙ ap Some labelled),
             )
       ] refl h
 
@@ -120,18 +120,18 @@ module _ (t : Topology) (c : Config) (form : IsTrue (has_config_form c)) (v : Is
       → listed (Key.Attach label.0) w ≡ Some (label, what) → attached (agent_rows t c a) label ≡ Some what
   unfolding agent_rows
   label_leads label w what h at is =
-      let labels : List (Label × Attached) = filter_map (λ (o : Object). listed o.0 o.1) (slice_of (low_objects t c) a) in
+      let labels : List (Label × Attached) = filter_map (λ (o : LowObject). listed o.0 o.1) (slice_of (low_objects t c) a) in
       let inside : Contains labels (label, what) =
-      gives (λ (o : Object). listed o.0 o.1) (slice_of (low_objects t c) a) (Key.Attach label.0, w) (label, what) (in_slice (Key.Attach label.0) w h at) is in
+      gives (λ (o : LowObject). listed o.0 o.1) (slice_of (low_objects t c) a) (Key.Attach label.0, w) (label, what) (in_slice (Key.Attach label.0) w h at) is in
       let found : find (λ (e : Label × Attached). e.0.0 == label.0) labels ≡ Some (label, what) =
       finds (λ (e : Label × Attached). e.0.0 == label.0) labels (label, what) inside (eq-eqb label.0 label.0 refl)
       (λ e in_e passes.
-      let from = given (λ (o : Object). listed o.0 o.1) (slice_of (low_objects t c) a) e in_e in
-      let o : Object = from.0 in
-      let in_low = kept_is (λ (o : Object). concerns (low_objects t c) a o.0 o.1) (low_objects t c) o from.1 in
+      let from = given (λ (o : LowObject). listed o.0 o.1) (slice_of (low_objects t c) a) e in_e in
+      let o : LowObject = from.0 in
+      let in_low = kept_is (λ (o : LowObject). concerns (low_objects t c) a o.0 o.1) (low_objects t c) o from.1 in
       let key : o.0 ≡ Key.Attach label.0 = key_of_listed o.0 o.1 e from.2 ∙ ap Key.Attach (eqb-true e.0.0 label.0 passes) in
       let one : o ≡ (Key.Attach label.0, w) = one_object t c o (Key.Attach label.0, w) in_low.0 h key in
-      let both : Some e ≡ Some (label, what) = sym from.2 ∙ ap (λ (o : Object). listed o.0 o.1) one ∙ is in
+      let both : Some e ≡ Some (label, what) = sym from.2 ∙ ap (λ (o : LowObject). listed o.0 o.1) one ∙ is in
       cc) in
       ap (option_map (λ (e : Label × Attached). e.1)) found
 
@@ -178,7 +178,7 @@ module _ (t : Topology) (c : Config) (form : IsTrue (has_config_form c)) (v : Is
       ap (option_map (λ (x : Block × Entry). x.1)) nothing
 
   pub needed_at : (k : LowKey) (w : LowValue) (i : InstanceId) → Contains (low_objects t c) (k, w) → concerns (low_objects t c) a k w ≡ true → Contains (needed_for w) i → Needs t c a i
-  needed_at k w i h e n = is_joined (λ (o : Object). needed_for o.1) (slice_of (low_objects t c) a) (k, w) i (in_slice k w h e) n
+  needed_at k w i h e n = is_joined (λ (o : LowObject). needed_for o.1) (slice_of (low_objects t c) a) (k, w) i (in_slice k w h e) n
 
 module _ (t : Topology) (c : Config) (v : IsValid t c) where
   pub agent_is : (n : Node) → Contains t.nodes n → agent_at (agents_of t c) n.address ≡ Some (forwarder t c n)

@@ -25,7 +25,7 @@ use Rattle.transform_model.specs.IsRow.IsRow.{to_right_subnet, to_left_subnet, a
 use Rattle.transform_model.specs.IsUse.{IsUse, IsLeftCircuit, IsRightCircuit}
 use Rattle.transform_model.specs.Objects.{low_objects, attached_circuit}
 use Rattle.transform_model.specs.Tables.{Row, host_route, circuit_route}
-use Rattle.transform_model.specs.Uses.{Use, Circuit}
+use Rattle.transform_model.specs.Uses.{ConfiguredUse, Circuit}
 use Rattle.transform_model.proofs.Circuits.{left_instance, right_instance}
 use Rattle.transform_model.proofs.InUse.{few_services, services_are}
 use Rattle.transform_forwarding_laws.proofs.Agents.{Needs, needed_at}
@@ -82,7 +82,7 @@ same_circuit k l e f =
     let same : record { number = k.number; service = k.service } ≡ record { number = l.number; service = l.service } = cc in
     same
 
-module _ (t : Topology) (c : Config) (form : IsTrue (has_config_form c)) (v : IsValid t c) (u : Use) (is_u : IsUse c u) (d : ℕ) where
+module _ (t : Topology) (c : Config) (form : IsTrue (has_config_form c)) (v : IsValid t c) (u : ConfiguredUse) (is_u : IsUse c u) (d : ℕ) where
   abbrev hop_at : ℕ → InstanceId
   hop_at place = hop_instance_of u.number place
 

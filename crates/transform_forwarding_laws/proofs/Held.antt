@@ -19,7 +19,7 @@ use Rattle.config_check.proofs.OneHome.{two_among}
 use Rattle.transform_model.specs.IsObject.{IsObject}
 use Rattle.transform_model.specs.IsRow.{IsRow}
 use Rattle.transform_model.specs.IsRow.IsRow.{to_port, to_left_circuit, to_right_circuit, to_right_subnet, to_left_subnet, at_left_end, at_right_end}
-use Rattle.transform_model.specs.Objects.{Object, low_objects, ascending_instances}
+use Rattle.transform_model.specs.Objects.{LowObject, low_objects, ascending_instances}
 use Rattle.transform_model.specs.Tables.{Row, instance_table, tables_of}
 use Rattle.transform_model.proofs.Ascending.{Rises, is_ascending, ascending_rises}
 use Rattle.transform_model.proofs.Kept.{tables_kept}
@@ -41,9 +41,9 @@ not_below (Attach n) = not_less _ (same_number n)
 not_below (Acl a b) = not_less _ (ap (λ (o : Ordering). ordering_then o (nat_cmp b b)) (same_number a) ∙ same_number b)
 not_below (ChainUse n) = not_less _ (same_number n)
 
-pub one_object : (t : Topology) (c : Config) (o p : Object) → Contains (low_objects t c) o → Contains (low_objects t c) p → o.0 ≡ p.0 → o ≡ p
+pub one_object : (t : Topology) (c : Config) (o p : LowObject) → Contains (low_objects t c) o → Contains (low_objects t c) p → o.0 ≡ p.0 → o ≡ p
 one_object t c o p in_o in_p e =
-    let R : Object → Object → Type 0 = λ d e. low_key_cmp d.0 e.0 ≡ Less in
+    let R : LowObject → LowObject → Type 0 = λ d e. low_key_cmp d.0 e.0 ≡ Less in
     elim (two_among R (low_objects t c) o p (low_in_order t c) in_o in_p) [
       | inl same ↦ same
       | inr h ↦ elim h [
@@ -63,10 +63,10 @@ instance_of_row t c i r (at_left_end u port node is_use is_port at is) = ap (λ 
 instance_of_row t c i r (at_right_end u port node is_use is_port at is) = ap (λ (x : Row). x.0.0) is
 
 module _ (t : Topology) (c : Config) (form : IsTrue (has_config_form c)) (v : IsValid t c) where
-  pub object_is : (o : Object) → Contains (low_objects t c) o → IsObject t c o
+  pub object_is : (o : LowObject) → Contains (low_objects t c) o → IsObject t c o
   object_is o h = (low_iff t c o v form).0 h
 
-  pub is_object : (o : Object) → IsObject t c o → Contains (low_objects t c) o
+  pub is_object : (o : LowObject) → IsObject t c o → Contains (low_objects t c) o
   is_object o h = (low_iff t c o v form).1 h
 
   -- ---- the rows of several instances

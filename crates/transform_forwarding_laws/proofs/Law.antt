@@ -62,9 +62,9 @@ use Rattle.transform_model.specs.IsObject.IsObject.{of_port, of_networks}
 use Rattle.transform_model.specs.IsRow.{IsRow, IsPort}
 use Rattle.transform_model.specs.IsRow.IsRow.{to_port, to_left_circuit, to_right_circuit, to_right_subnet, to_left_subnet, at_left_end, at_right_end}
 use Rattle.transform_model.specs.IsUse.{IsUse}
-use Rattle.transform_model.specs.Objects.{Object, low_objects, attached_port}
+use Rattle.transform_model.specs.Objects.{LowObject, low_objects, attached_port}
 use Rattle.transform_model.specs.Tables.{Row, host_route}
-use Rattle.transform_model.specs.Uses.{Use}
+use Rattle.transform_model.specs.Uses.{ConfiguredUse}
 use Rattle.transform_model.proofs.Lists.{gives}
 use Rattle.transform_model.proofs.InUse.{few_services}
 use Rattle.transform_model.proofs.Objects.{one_named, one_numbered}
@@ -172,7 +172,7 @@ module _ (t : Topology) (c : Config) (form : IsTrue (has_config_form c)) (v : Is
   has_port =
       let here : eqb n.address.0 n.address.0 ≡ true = eq-eqb n.address.0 n.address.0 refl in
       let at : network_at n.address (Value.AttachPort q.id own.id q.address n.address) ≡ Some own.id = rw here refl in
-      gives (λ (o : Object). network_at n.address o.1) (low_objects t c) (attached_port q own n) own.id object at
+      gives (λ (o : LowObject). network_at n.address o.1) (low_objects t c) (attached_port q own n) own.id object at
 
   -- in the network's own instance
   inside : (b : Network) → IsTowards c own b there → (own.name ≡ b.name) ⊎ PassesBetween c own b
@@ -237,7 +237,7 @@ module _ (t : Topology) (c : Config) (form : IsTrue (has_config_form c)) (v : Is
       through false chain use_no way acts =
           let named = ends chain use_no acts in
           let taken = subst (IsTaken own b p.tuple m.rule.rule) way is_deciding.taken in
-          let u : Use = record { number = use_no; left = own; right = b; services = expansion c chain } in
+          let u : ConfiguredUse = record { number = use_no; left = own; right = b; services = expansion c chain } in
           let is_u : IsUse c u = record {
             policy = between.policy;
             rule = m.rule.rule;
@@ -261,7 +261,7 @@ module _ (t : Topology) (c : Config) (form : IsTrue (has_config_form c)) (v : Is
           let named = ends chain use_no acts in
           let taken = subst (IsTaken own b p.tuple m.rule.rule) way is_deciding.taken in
           let services : List Service = expansion c chain in
-          let u : Use = record { number = use_no; left = b; right = own; services = services } in
+          let u : ConfiguredUse = record { number = use_no; left = b; right = own; services = services } in
           let is_u : IsUse c u = record {
             policy = between.policy;
             rule = m.rule.rule;

@@ -28,7 +28,7 @@ use Rattle.node_model.specs.Wants.{is_at}
 use Rattle.transform_model.specs.IsObject.{IsObject}
 use Rattle.transform_model.specs.IsObject.IsObject.{of_network, of_port, of_left_circuit, of_right_circuit, of_networks, of_use}
 use Rattle.transform_model.specs.IsRow.{IsPort}
-use Rattle.transform_model.specs.Objects.{Object, low_objects, attached_port}
+use Rattle.transform_model.specs.Objects.{LowObject, low_objects, attached_port}
 use Rattle.policy_rules.proofs.Lists.{is_mapped, mapped_is}
 use Rattle.transform_forwarding_laws.proofs.Agents.{forwarder, agents_of, label_leads, under_label}
 use Rattle.transform_forwarding_laws.proofs.Held.{object_is, is_object, one_object}
@@ -41,19 +41,19 @@ same_port a b e = ap (λ n. record { 0 = n }) e
 -- an attachment of a port is that of a configured port, under its label
 port_of_object : (t : Topology) (c : Config) (n : ℕ) (port : PortNo) (instance : InstanceId) (address node : Addr) → IsObject t c (Key.Attach n, Value.AttachPort port instance address node)
     → (q : Port) × Contains c.ports q × (n ≡ 16 + q.id.0)
-port_of_object t c n port instance address node (of_network m is in_m imports at) = let never : Key.Attach n ≡ Key.Instance m.id.0 = ap (λ (o : Object). o.0) at in absurd cc
+port_of_object t c n port instance address node (of_network m is in_m imports at) = let never : Key.Attach n ≡ Key.Instance m.id.0 = ap (λ (o : LowObject). o.0) at in absurd cc
 port_of_object t c n port instance address node (of_port m q d stands at) =
-    let key : Key.Attach n ≡ Key.Attach (16 + q.id.0) = ap (λ (o : Object). o.0) at in
+    let key : Key.Attach n ≡ Key.Attach (16 + q.id.0) = ap (λ (o : LowObject). o.0) at in
     let label : n ≡ 16 + q.id.0 = cc in
     (q, stands.has_port, label)
 port_of_object t c n port instance address node (of_left_circuit u j k d is_u is_k at_k at) =
-    let never : Value.AttachPort port instance address node ≡ Value.AttachCircuit k.number k.service.id d.address = ap (λ (o : Object). o.1) at in
+    let never : Value.AttachPort port instance address node ≡ Value.AttachCircuit k.number k.service.id d.address = ap (λ (o : LowObject). o.1) at in
     absurd cc
 port_of_object t c n port instance address node (of_right_circuit u j k d is_u is_k at_k at) =
-    let never : Value.AttachPort port instance address node ≡ Value.AttachCircuit k.number k.service.id d.address = ap (λ (o : Object). o.1) at in
+    let never : Value.AttachPort port instance address node ≡ Value.AttachCircuit k.number k.service.id d.address = ap (λ (o : LowObject). o.1) at in
     absurd cc
-port_of_object t c n port instance address node (of_networks a b in_a in_b near at) = let never : Key.Attach n ≡ Key.Acl a.id.0 b.id.0 = ap (λ (o : Object). o.0) at in absurd cc
-port_of_object t c n port instance address node (of_use u hops is_u are_hops at) = let never : Key.Attach n ≡ Key.ChainUse u.number = ap (λ (o : Object). o.0) at in absurd cc
+port_of_object t c n port instance address node (of_networks a b in_a in_b near at) = let never : Key.Attach n ≡ Key.Acl a.id.0 b.id.0 = ap (λ (o : LowObject). o.0) at in absurd cc
+port_of_object t c n port instance address node (of_use u hops is_u are_hops at) = let never : Key.Attach n ≡ Key.ChainUse u.number = ap (λ (o : LowObject). o.0) at in absurd cc
 
 -- what stands under a label as a port is the attachment of a port
 port_listed : (n : ℕ) (w : LowValue) (label : Label) (port : PortNo) (instance : InstanceId) → listed (Key.Attach n) w ≡ Some (label, Is.Port port instance)
@@ -92,7 +92,7 @@ module _ (t : Topology) (c : Config) (form : IsTrue (has_config_form c)) (v : Is
             let under = under_label t c form v m.address label_there what e in
             let one : (Key.Attach label_there.0, under.0) ≡ (Key.Attach label_there.0, value) =
             one_object t c (Key.Attach label_there.0, under.0) (Key.Attach label_there.0, value) under.1 object refl in
-            let at : is_at m.address value ≡ true = sym (ap (λ (o : Object). is_at m.address o.1) one) ∙ under.2 in
+            let at : is_at m.address value ≡ true = sym (ap (λ (o : LowObject). is_at m.address o.1) one) ∙ under.2 in
             sym (one_node_at t c v n m stands.has_node from.1 (eqb-true n.address.0 m.address.0 at))
       ] refl in
       let both : Some y ≡ Some (forwarder t c n, own.id) = sym answers ∙ ap (source_at p) (sym from.2 ∙ ap (forwarder t c) here) ∙ gives in

@@ -26,7 +26,7 @@ use Rattle.reach_plain.proofs.Found.{target_is}
 use Rattle.transform_model.specs.Compiled.{agent_rows, concerns, networks_at, slice_of}
 use Rattle.transform_model.specs.IsObject.{IsObject}
 use Rattle.transform_model.specs.IsObject.IsObject.{of_network, of_port, of_left_circuit, of_right_circuit, of_networks, of_use}
-use Rattle.transform_model.specs.Objects.{Object, low_objects}
+use Rattle.transform_model.specs.Objects.{LowObject, low_objects}
 use Rattle.policy_rules.proofs.Lists.{is_kept, kept_is}
 use Rattle.transform_model.proofs.Lists.{gives, given}
 use Rattle.transform_model.proofs.Objects.{one_named, one_numbered}
@@ -35,7 +35,7 @@ use Rattle.transform_forwarding_laws.proofs.Lists.{nothing_in, in_any, of_any}
 
 -- ---- the one access list that holds an address
 
-access_one : (network d : ℕ) (es : List Object) (x : Access) → ((e : Object) (y : Access) → Contains es e → access_by network d e.0 e.1 ≡ Some y → y ≡ x)
+access_one : (network d : ℕ) (es : List LowObject) (x : Access) → ((e : LowObject) (y : Access) → Contains es e → access_by network d e.0 e.1 ≡ Some y → y ≡ x)
     → (access_towards network d es ≡ None) ⊎ (access_towards network d es ≡ Some x)
 access_one network d [] x only = inl refl
 access_one network d (e ∷ es) x only =
@@ -55,24 +55,24 @@ lesser_none None b h = (refl, h)
 lesser_none (Some x) None h = absurd cc
 lesser_none (Some x) (Some y) h = elim (leb x.to y.to) as (λ b. cond b (Some x) (Some y) ≡ None → (Some x ≡ None) × (Some y ≡ None)) [ true ↦ λ e. absurd cc | false ↦ λ e. absurd cc ] h
 
-none_there : (network d : ℕ) (es : List Object) → access_towards network d es ≡ None → (e : Object) → Contains es e → access_by network d e.0 e.1 ≡ None
+none_there : (network d : ℕ) (es : List LowObject) → access_towards network d es ≡ None → (e : LowObject) → Contains es e → access_by network d e.0 e.1 ≡ None
 none_there network d [] n e h = nothing_in _ e h
 none_there network d (f ∷ fs) n e h =
     let parts = lesser_none (access_by network d f.0 f.1) (access_towards network d fs) n in
     elim (contains_cases f fs e h) [
-      | inl same ↦ ap (λ (x : Object). access_by network d x.0 x.1) (sym same) ∙ parts.0
+      | inl same ↦ ap (λ (x : LowObject). access_by network d x.0 x.1) (sym same) ∙ parts.0
       | inr later ↦ none_there network d fs parts.1 e later
     ]
 
-only_access : (network d : ℕ) (es : List Object) (e : Object) (x : Access) → Contains es e → access_by network d e.0 e.1 ≡ Some x
-    → ((f : Object) (y : Access) → Contains es f → access_by network d f.0 f.1 ≡ Some y → y ≡ x) → access_towards network d es ≡ Some x
+only_access : (network d : ℕ) (es : List LowObject) (e : LowObject) (x : Access) → Contains es e → access_by network d e.0 e.1 ≡ Some x
+    → ((f : LowObject) (y : Access) → Contains es f → access_by network d f.0 f.1 ≡ Some y → y ≡ x) → access_towards network d es ≡ Some x
 only_access network d es e x h is only =
     elim (access_one network d es x only) [
       | inl none ↦ let never : None ≡ Some x = sym (none_there network d es none e h) ∙ is in absurd cc
       | inr some ↦ some
     ]
 
-no_access : (network d : ℕ) (es : List Object) → ((f : Object) (y : Access) → Contains es f → access_by network d f.0 f.1 ≡ Some y → ⊥) → access_towards network d es ≡ None
+no_access : (network d : ℕ) (es : List LowObject) → ((f : LowObject) (y : Access) → Contains es f → access_by network d f.0 f.1 ≡ Some y → ⊥) → access_towards network d es ≡ None
 no_access network d [] none = refl
 no_access network d (e ∷ es) none =
     elim (access_by network d e.0 e.1) as (λ o. access_by network d e.0 e.1 ≡ o → lesser o (access_towards network d es) ≡ None) [
@@ -105,7 +105,7 @@ abbrev pub access_to : Config → Network → Network → Access
 access_to c own b = record { to = b.id.0; rules = acl_rules c own b }
 
 -- an access list among the objects is of two networks, the one or related to it
-record IsList (c : Config) (o : Object) : Type 0 where
+record IsList (c : Config) (o : LowObject) : Type 0 where
   pub from : Network
   pub to : Network
   pub has_from : Contains c.networks from
@@ -113,10 +113,10 @@ record IsList (c : Config) (o : Object) : Type 0 where
   pub near : (from ≡ to) ⊎ AreRelated c from to
   pub is : o ≡ (Key.Acl from.id.0 to.id.0, acl_value c from to)
 
-no_key : (k : LowKey) (w : LowValue) (o : Object) (from to : ℕ) → o ≡ (k, w) → o.0 ≡ Key.Acl from to → k ≡ Key.Acl from to
-no_key k w o from to e h = sym (ap (λ (x : Object). x.0) e) ∙ h
+no_key : (k : LowKey) (w : LowValue) (o : LowObject) (from to : ℕ) → o ≡ (k, w) → o.0 ≡ Key.Acl from to → k ≡ Key.Acl from to
+no_key k w o from to e h = sym (ap (λ (x : LowObject). x.0) e) ∙ h
 
-list_is : (t : Topology) (c : Config) (o : Object) (from to : ℕ) → o.0 ≡ Key.Acl from to → IsObject t c o → IsList c o
+list_is : (t : Topology) (c : Config) (o : LowObject) (from to : ℕ) → o.0 ≡ Key.Acl from to → IsObject t c o → IsList c o
 list_is t c o from to key (of_network n is in_n imports at) = let never = no_key _ _ o from to at key in absurd cc
 list_is t c o from to key (of_port n p node is_port at) = let never = no_key _ _ o from to at key in absurd cc
 list_is t c o from to key (of_left_circuit u j k node is_u is_k is_at at) = let never = no_key _ _ o from to at key in absurd cc
@@ -124,15 +124,15 @@ list_is t c o from to key (of_right_circuit u j k node is_u is_k is_at at) = let
 list_is t c o from to key (of_networks a b in_a in_b near at) = record { from = a; to = b; has_from = in_a; has_to = in_b; near = near; is = at }
 list_is t c o from to key (of_use u hops is_u are_hops at) = let never = no_key _ _ o from to at key in absurd cc
 
-entry_is : (k : LowKey) (w : LowValue) (e : Object) → acl_entry k w ≡ Some e → (from : ℕ) × (to : ℕ) × (k ≡ Key.Acl from to) × (e ≡ (k, w))
+entry_is : (k : LowKey) (w : LowValue) (e : LowObject) → acl_entry k w ≡ Some e → (from : ℕ) × (to : ℕ) × (k ≡ Key.Acl from to) × (e ≡ (k, w))
 entry_is (Key.Acl from to) w e h = (from, to, refl, cc)
 entry_is k w e h = cc
 
 module _ (t : Topology) (c : Config) (form : IsTrue (has_config_form c)) (v : IsValid t c) (own : Network) (in_own : Contains c.networks own) (a : Addr) (d : ℕ) where
   -- what holds the address leads to a network that the address is of
-  leads_towards : (o : Object) (y : Access) → IsList c o → access_by own.id.0 d o.0 o.1 ≡ Some y → (b : Network) × IsTowards c own b d × (y ≡ access_to c own b)
+  leads_towards : (o : LowObject) (y : Access) → IsList c o → access_by own.id.0 d o.0 o.1 ≡ Some y → (b : Network) × IsTowards c own b d × (y ≡ access_to c own b)
   leads_towards o y l e =
-      let at : access_by own.id.0 d (Key.Acl l.from.id.0 l.to.id.0) (acl_value c l.from l.to) ≡ Some y = ap (λ (x : Object). access_by own.id.0 d x.0 x.1) (sym l.is) ∙ e in
+      let at : access_by own.id.0 d (Key.Acl l.from.id.0 l.to.id.0) (acl_value c l.from l.to) ≡ Some y = ap (λ (x : LowObject). access_by own.id.0 d x.0 x.1) (sym l.is) ∙ e in
       let parts = cond_some (eqb l.from.id.0 own.id.0 && list_any (λ p. contains p d) (ascending l.to.subnets)) (access_to c l.from l.to) y at in
       let tests = and_parts (eqb l.from.id.0 own.id.0) (list_any (λ p. contains p d) (ascending l.to.subnets)) parts.0 in
       let number : l.from.id ≡ own.id = ap (λ (n : ℕ). record { 0 = n }) (eqb-true l.from.id.0 own.id.0 tests.0) in
@@ -148,12 +148,12 @@ module _ (t : Topology) (c : Config) (form : IsTrue (has_config_form c)) (v : Is
         sym parts.1 ∙ ap (λ (n : Network). access_to c n l.to) mine,
       )
 
-  list_of : (e : Object) → Contains (agent_rows t c a).acls e → IsList c e
+  list_of : (e : LowObject) → Contains (agent_rows t c a).acls e → IsList c e
   unfolding agent_rows
   list_of e h =
-      let from = given (λ (o : Object). acl_entry o.0 o.1) (slice_of (low_objects t c) a) e h in
-      let o : Object = from.0 in
-      let in_low = kept_is (λ (o : Object). concerns (low_objects t c) a o.0 o.1) (low_objects t c) o from.1 in
+      let from = given (λ (o : LowObject). acl_entry o.0 o.1) (slice_of (low_objects t c) a) e h in
+      let o : LowObject = from.0 in
+      let in_low = kept_is (λ (o : LowObject). concerns (low_objects t c) a o.0 o.1) (low_objects t c) o from.1 in
       let entry = entry_is o.0 o.1 e from.2 in
       let l = list_is t c o entry.0 entry.1 entry.2 (object_is t c form v o in_low.0) in
       subst (IsList c) (sym entry.3) l
@@ -169,12 +169,12 @@ module _ (t : Topology) (c : Config) (form : IsTrue (has_config_form c)) (v : Is
       → Contains (agent_rows t c a).acls (Key.Acl own.id.0 b.id.0, acl_value c own b)
   unfolding agent_rows
   list_there b in_b near has_port =
-      let o : Object = (Key.Acl own.id.0 b.id.0, acl_value c own b) in
+      let o : LowObject = (Key.Acl own.id.0 b.id.0, acl_value c own b) in
       let object = is_object t c form v o (of_networks own b in_own in_b near refl) in
       let concerned : concerns (low_objects t c) a o.0 o.1 ≡ true =
       in_any (λ (n : InstanceId). n.0 == own.id.0) (networks_at (low_objects t c) a) own.id has_port (eq-eqb own.id.0 own.id.0 refl) in
-      let in_slice = is_kept (λ (o : Object). concerns (low_objects t c) a o.0 o.1) (low_objects t c) o object concerned in
-      gives (λ (o : Object). acl_entry o.0 o.1) (slice_of (low_objects t c) a) o o in_slice refl
+      let in_slice = is_kept (λ (o : LowObject). concerns (low_objects t c) a o.0 o.1) (low_objects t c) o object concerned in
+      gives (λ (o : LowObject). acl_entry o.0 o.1) (slice_of (low_objects t c) a) o o in_slice refl
 
   pub towards_network : (b : Network) → IsTowards c own b d → Contains (networks_at (low_objects t c) a) own.id
       → access_towards own.id.0 d (agent_rows t c a).acls ≡ Some (access_to c own b)

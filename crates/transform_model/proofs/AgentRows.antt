@@ -32,7 +32,7 @@ use Rattle.transform_model.specs.IsNeeded.{IsAccessList, IsNeeded, IsRoute}
 use Rattle.transform_model.specs.IsObject.{IsObject, of_network, of_port, of_left_circuit, of_right_circuit, of_networks, of_use}
 use Rattle.transform_model.specs.IsRow.{IsRow}
 use Rattle.transform_model.specs.Leads.{LeadsToPort, LeadsToCircuit}
-use Rattle.transform_model.specs.Objects.{Object, acl_object, ascending_instances, low_objects}
+use Rattle.transform_model.specs.Objects.{LowObject, acl_object, ascending_instances, low_objects}
 use Rattle.transform_model.specs.Tables.{circuit_route, host_route, instance_table, tables_of}
 use Rattle.transform_model.specs.Uses.{Circuit}
 use Rattle.transform_model.proofs.Ascending.{Rises, ascending_is, is_ascending, ascending_rises}
@@ -44,19 +44,19 @@ use Rattle.transform_model.proofs.LowKeys.{low_in_order, low_is, is_low}
 use Rattle.transform_model.proofs.Needed.{has_port, port_there, needed_for_is, is_needed_for}
 use Rattle.transform_model.proofs.Rows.{is_row, row_is}
 
-abbrev listed : Object → Option Object
+abbrev listed : LowObject → Option LowObject
 listed o = acl_entry o.0 o.1
 
 module _ (t : Topology) (c : Config) (v : IsValid t c) (form : IsTrue (has_config_form c)) (a : Addr) where
-  abbrev low : List Object
+  abbrev low : List LowObject
   low = low_objects t c
 
-  abbrev asked : Object → Type 0
+  abbrev asked : LowObject → Type 0
   asked o = concerns low a o.0 o.1 ≡ true
 
   -- ---- access lists
 
-  list_of : (o e : Object) → IsObject t c o → asked o → listed o ≡ Some e → IsAccessList t c a e
+  list_of : (o e : LowObject) → IsObject t c o → asked o → listed o ≡ Some e → IsAccessList t c a e
   list_of o e (of_network n is in_n are f) here h = let none : None ≡ Some e = ap listed (sym f) ∙ h in cc
   list_of o e (of_port n p d at f) here h = let none : None ≡ Some e = ap listed (sym f) ∙ h in cc
   list_of o e (of_left_circuit u j k d used left at f) here h = let none : None ≡ Some e = ap listed (sym f) ∙ h in cc
@@ -68,23 +68,23 @@ module _ (t : Topology) (c : Config) (v : IsValid t c) (form : IsTrue (has_confi
       record { from = x; to = y; has_port = has_port t c v form a x in_x there; has_to = in_y; around = around; is = sym same }
   list_of o e (of_use u hops used zip f) here h = let none : None ≡ Some e = ap listed (sym f) ∙ h in cc
 
-  acl_is : (e : Object) → Contains (agent_rows t c a).acls e → IsAccessList t c a e
+  acl_is : (e : LowObject) → Contains (agent_rows t c a).acls e → IsAccessList t c a e
   unfolding agent_rows
   acl_is e h =
       let g = given listed (slice_of low a) e h in
-      let k = kept_is (λ (o : Object). concerns low a o.0 o.1) low g.0 g.1 in
+      let k = kept_is (λ (o : LowObject). concerns low a o.0 o.1) low g.0 g.1 in
       list_of g.0 e (low_is t c g.0 v form k.0) k.1 g.2
 
-  is_acl : (e : Object) → IsAccessList t c a e → Contains (agent_rows t c a).acls e
+  is_acl : (e : LowObject) → IsAccessList t c a e → Contains (agent_rows t c a).acls e
   unfolding agent_rows
   is_acl e h =
-      let o : Object = acl_object c h.from h.to in
+      let o : LowObject = acl_object c h.from h.to in
       let object : IsObject t c o = of_networks h.from h.to h.has_port.at.has_home h.has_to h.around refl in
       let there : Contains (slice_of low a) o =
-      is_kept (λ (x : Object). concerns low a x.0 x.1) low o (is_low t c o v form object) (port_there t c v form a h.from h.has_port) in
-      gives listed (slice_of low a) o e there (ap (λ (x : Object). Some x) (sym h.is))
+      is_kept (λ (x : LowObject). concerns low a x.0 x.1) low o (is_low t c o v form object) (port_there t c v form a h.from h.has_port) in
+      gives listed (slice_of low a) o e there (ap (λ (x : LowObject). Some x) (sym h.is))
 
-  pub acls_iff : (e : Object) → Contains (agent_rows t c a).acls e ↔ IsAccessList t c a e
+  pub acls_iff : (e : LowObject) → Contains (agent_rows t c a).acls e ↔ IsAccessList t c a e
   acls_iff e = (acl_is e, is_acl e)
 
   -- ---- routes
@@ -150,24 +150,24 @@ key_of_label (Key.Attach n) (Value.AttachCircuit circuit service node) l h =
     let both : (label, what) ≡ l = cc in
     ap (λ (x : Label × Attached). Key.Attach x.0.0) both
 
-key_of_list : (k : LowKey) (w : LowValue) (e : Object) → acl_entry k w ≡ Some e → k ≡ e.0
+key_of_list : (k : LowKey) (w : LowValue) (e : LowObject) → acl_entry k w ≡ Some e → k ≡ e.0
 key_of_list (Key.Instance n) w e h = cc
 key_of_list (Key.Attach n) w e h = cc
 key_of_list (Key.ChainUse n) w e h = cc
 key_of_list (Key.Acl from to) w e h =
     let both : (Key.Acl from to, w) ≡ e = cc in
-    ap (λ (x : Object). x.0) both
+    ap (λ (x : LowObject). x.0) both
 
-abbrev Below : Object → Object → Type 0
+abbrev Below : LowObject → LowObject → Type 0
 Below d e = low_key_cmp d.0 e.0 ≡ Less
 
 slice_in_order : (t : Topology) (c : Config) (a : Addr) → AllPairs Below (slice_of (low_objects t c) a)
-slice_in_order t c a = AllPairs-filter Below (λ (o : Object). concerns (low_objects t c) a o.0 o.1) (low_objects t c) (low_in_order t c)
+slice_in_order t c a = AllPairs-filter Below (λ (o : LowObject). concerns (low_objects t c) a o.0 o.1) (low_objects t c) (low_in_order t c)
 
 pub labels_in_order : (t : Topology) (c : Config) (a : Addr) → AllPairs (λ l m. l.0.0 < m.0.0) (agent_rows t c a).labels
 unfolding agent_rows
 labels_in_order t c a =
-    pairs_given_by (λ (o : Object). attached o.0 o.1) (λ (l m : Label × Attached). l.0.0 < m.0.0) Below (slice_of (low_objects t c) a) (slice_in_order t c a)
+    pairs_given_by (λ (o : LowObject). attached o.0 o.1) (λ (l m : Label × Attached). l.0.0 < m.0.0) Below (slice_of (low_objects t c) a) (slice_in_order t c a)
     (λ d e l m in_d in_e below is_l is_m.
     let first = key_of_label d.0 d.1 l is_l in
     let second = key_of_label e.0 e.1 m is_m in

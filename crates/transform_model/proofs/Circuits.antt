@@ -7,7 +7,7 @@ use Rattle.ov_types.proofs.FirstLemmas.{contains_here, contains_later, contains_
 use Rattle.route_targets.specs.Numbers.{hop_instance_of, left_circuit_of, right_circuit_of, circuit_instance_of}
 use Rattle.config_model.specs.declared.config.Service.{Service}
 use Rattle.transform_model.specs.IsUse.{IsLeftCircuit, IsRightCircuit}
-use Rattle.transform_model.specs.Uses.{Use, Circuit, left_circuits_from, right_circuits_from, left_circuits, right_circuits}
+use Rattle.transform_model.specs.Uses.{ConfiguredUse, Circuit, left_circuits_from, right_circuits_from, left_circuits, right_circuits}
 use Rattle.transform_model.proofs.Lists.{no_pairs, pairs_append_by}
 
 -- circuits with the numbers that a function gives services, which count from the first
@@ -81,44 +81,44 @@ by_differ f first (s ∷ ss) rises =
 
 -- ---- of a use
 
-pub left_is : (u : Use) (k : Circuit) → Contains (left_circuits u) k → (place : ℕ) × IsLeftCircuit u place k
+pub left_is : (u : ConfiguredUse) (k : Circuit) → Contains (left_circuits u) k → (place : ℕ) × IsLeftCircuit u place k
 left_is u k h =
     let q = by_is (left_circuit_of u.number) 1 u.services k (subst (λ (ks : List Circuit). Contains ks k) (lefts_are u.number 1 u.services) h) in
     let next : 1 + q.place ≡ q.place + 1 = omega arith in
     (q.place, record { service = q.service; number = q.number ∙ ap (left_circuit_of u.number) next })
 
-pub is_left : (u : Use) (place : ℕ) (k : Circuit) → IsLeftCircuit u place k → Contains (left_circuits u) k
+pub is_left : (u : ConfiguredUse) (place : ℕ) (k : Circuit) → IsLeftCircuit u place k → Contains (left_circuits u) k
 is_left u place k h =
     let next : place + 1 ≡ 1 + place = omega arith in
     subst (λ (ks : List Circuit). Contains ks k) (sym (lefts_are u.number 1 u.services))
     (is_by (left_circuit_of u.number) 1 u.services place k h.service (h.number ∙ ap (left_circuit_of u.number) next))
 
-pub right_is : (u : Use) (k : Circuit) → Contains (right_circuits u) k → (place : ℕ) × IsRightCircuit u place k
+pub right_is : (u : ConfiguredUse) (k : Circuit) → Contains (right_circuits u) k → (place : ℕ) × IsRightCircuit u place k
 right_is u k h =
     let q = by_is (right_circuit_of u.number) 1 u.services k (subst (λ (ks : List Circuit). Contains ks k) (rights_are u.number 1 u.services) h) in
     let next : 1 + q.place ≡ q.place + 1 = omega arith in
     (q.place, record { service = q.service; number = q.number ∙ ap (right_circuit_of u.number) next })
 
-pub is_right : (u : Use) (place : ℕ) (k : Circuit) → IsRightCircuit u place k → Contains (right_circuits u) k
+pub is_right : (u : ConfiguredUse) (place : ℕ) (k : Circuit) → IsRightCircuit u place k → Contains (right_circuits u) k
 is_right u place k h =
     let next : place + 1 ≡ 1 + place = omega arith in
     subst (λ (ks : List Circuit). Contains ks k) (sym (rights_are u.number 1 u.services))
     (is_by (right_circuit_of u.number) 1 u.services place k h.service (h.number ∙ ap (right_circuit_of u.number) next))
 
-pub left_circuits_iff : (u : Use) (k : Circuit) → Contains (left_circuits u) k ↔ ((place : ℕ) × IsLeftCircuit u place k)
+pub left_circuits_iff : (u : ConfiguredUse) (k : Circuit) → Contains (left_circuits u) k ↔ ((place : ℕ) × IsLeftCircuit u place k)
 left_circuits_iff u k = (left_is u k, λ h. is_left u h.0 k h.1)
 
-pub right_circuits_iff : (u : Use) (k : Circuit) → Contains (right_circuits u) k ↔ ((place : ℕ) × IsRightCircuit u place k)
+pub right_circuits_iff : (u : ConfiguredUse) (k : Circuit) → Contains (right_circuits u) k ↔ ((place : ℕ) × IsRightCircuit u place k)
 right_circuits_iff u k = (right_is u k, λ h. is_right u h.0 k h.1)
 
 -- ---- their numbers
 
-pub left_number : (u : Use) (place : ℕ) (k : Circuit) → IsLeftCircuit u place k → k.number ≡ 2 * (16384 + 16 * u.number + place) + 1
+pub left_number : (u : ConfiguredUse) (place : ℕ) (k : Circuit) → IsLeftCircuit u place k → k.number ≡ 2 * (16384 + 16 * u.number + place) + 1
 left_number u place k h =
     let less : place + 1 - 1 ≡ place = omega arith in
     h.number ∙ ap (λ (j : ℕ). 2 * (16384 + 16 * u.number + j) + 1) less
 
-pub right_number : (u : Use) (place : ℕ) (k : Circuit) → IsRightCircuit u place k → k.number ≡ 2 * (16384 + 16 * u.number + (place + 1))
+pub right_number : (u : ConfiguredUse) (place : ℕ) (k : Circuit) → IsRightCircuit u place k → k.number ≡ 2 * (16384 + 16 * u.number + (place + 1))
 right_number u place k h = h.number
 
 half_odd : (n : ℕ) → (2 * n + 1) / 2 ≡ n
@@ -127,18 +127,18 @@ half_odd n = omega arith
 half_even : (n : ℕ) → (2 * n) / 2 ≡ n
 half_even n = omega arith
 
-pub left_instance : (u : Use) (place : ℕ) (k : Circuit) → IsLeftCircuit u place k → circuit_instance_of k.number ≡ hop_instance_of u.number place
+pub left_instance : (u : ConfiguredUse) (place : ℕ) (k : Circuit) → IsLeftCircuit u place k → circuit_instance_of k.number ≡ hop_instance_of u.number place
 left_instance u place k h =
     let half : k.number / 2 ≡ 16384 + 16 * u.number + place = ap (λ (n : ℕ). n / 2) (left_number u place k h) ∙ half_odd (16384 + 16 * u.number + place) in
     λ i. record { 0 = half i }
 
-pub right_instance : (u : Use) (place : ℕ) (k : Circuit) → IsRightCircuit u place k → circuit_instance_of k.number ≡ hop_instance_of u.number (place + 1)
+pub right_instance : (u : ConfiguredUse) (place : ℕ) (k : Circuit) → IsRightCircuit u place k → circuit_instance_of k.number ≡ hop_instance_of u.number (place + 1)
 right_instance u place k h =
     let half : k.number / 2 ≡ 16384 + 16 * u.number + (place + 1) = ap (λ (n : ℕ). n / 2) (right_number u place k h) ∙ half_even (16384 + 16 * u.number + (place + 1)) in
     λ i. record { 0 = half i }
 
 -- no circuit is a left and a right one
-pub sides_differ : (u v : Use) (a b : ℕ) (k l : Circuit) → IsLeftCircuit u a k → IsRightCircuit v b l → k.number ≢ l.number
+pub sides_differ : (u v : ConfiguredUse) (a b : ℕ) (k l : Circuit) → IsLeftCircuit u a k → IsRightCircuit v b l → k.number ≢ l.number
 sides_differ u v a b k l left right same =
     let odd : 2 * (16384 + 16 * u.number + a) + 1 ≡ 2 * (16384 + 16 * v.number + (b + 1)) = sym (left_number u a k left) ∙ same ∙ right_number v b l right in
     omega arith
@@ -153,13 +153,13 @@ rights_rise number a b from lt same =
     let one : 2 * (16384 + 16 * number + a) ≡ 2 * (16384 + 16 * number + b) = same in
     omega arith
 
-pub lefts_differ : (u : Use) → AllPairs Differ (left_circuits u)
+pub lefts_differ : (u : ConfiguredUse) → AllPairs Differ (left_circuits u)
 lefts_differ u = subst (AllPairs Differ) (sym (lefts_are u.number 1 u.services)) (by_differ (left_circuit_of u.number) 1 u.services (lefts_rise u.number))
 
-pub rights_differ : (u : Use) → AllPairs Differ (right_circuits u)
+pub rights_differ : (u : ConfiguredUse) → AllPairs Differ (right_circuits u)
 rights_differ u = subst (AllPairs Differ) (sym (rights_are u.number 1 u.services)) (by_differ (right_circuit_of u.number) 1 u.services (rights_rise u.number))
 
-pub circuits_differ : (u : Use) → AllPairs Differ (left_circuits u ++ right_circuits u)
+pub circuits_differ : (u : ConfiguredUse) → AllPairs Differ (left_circuits u ++ right_circuits u)
 circuits_differ u =
     pairs_append_by Differ (left_circuits u) (right_circuits u) (lefts_differ u) (rights_differ u)
     (λ k l in_k in_l. let a = left_is u k in_k in let b = right_is u l in_l in sides_differ u u a.0 b.0 k l a.1 b.1)

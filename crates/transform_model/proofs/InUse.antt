@@ -29,7 +29,7 @@ use Rattle.config_check.proofs.Finders.{finds_network_named}
 use Rattle.config_check.proofs.OneHome.{two_among}
 use Rattle.policy_rules.proofs.Standing.{attaches_iff}
 use Rattle.transform_model.specs.IsUse.{IsUse}
-use Rattle.transform_model.specs.Uses.{Use, network_at, use_between, use_by, uses_of, uses}
+use Rattle.transform_model.specs.Uses.{ConfiguredUse, network_at, use_between, use_by, uses_of, uses}
 use Rattle.policy_rules.proofs.Lists.{is_joined, joined_is, mapped_is}
 use Rattle.transform_model.proofs.Lists.{given, gives, some_if, is_some, at_place, pairs_joined_by, pairs_given_by, pairs_in_part, pairs_of_parts, pairs_mapped, pairs_ungiven, Across}
 
@@ -41,7 +41,7 @@ named c name a h =
 
 -- ---- what is a use is in effect
 
-record GivesUse (c : Config) (p : Policy) (chain : List ℕ) (number : ℕ) (o q : Option Network) (u : Use) : Type 0 where
+record GivesUse (c : Config) (p : Policy) (chain : List ℕ) (number : ℕ) (o q : Option Network) (u : ConfiguredUse) : Type 0 where
   left : Network
   right : Network
   left_is : o ≡ Some left
@@ -50,12 +50,12 @@ record GivesUse (c : Config) (p : Policy) (chain : List ℕ) (number : ℕ) (o q
   right_attaches : Contains right.policies p.name
   use_is : record { number = number; left = left; right = right; services = expansion c chain } ≡ u
 
-between_is : (c : Config) (p : Policy) (chain : List ℕ) (number : ℕ) (o q : Option Network) (u : Use)
+between_is : (c : Config) (p : Policy) (chain : List ℕ) (number : ℕ) (o q : Option Network) (u : ConfiguredUse)
     → use_between c p chain number o q ≡ Some u → GivesUse c p chain number o q u
 between_is c p chain number None q u h = cc
 between_is c p chain number (Some left) None u h = cc
 between_is c p chain number (Some left) (Some right) u h =
-    let used : Use = record { number = number; left = left; right = right; services = expansion c chain } in
+    let used : ConfiguredUse = record { number = number; left = left; right = right; services = expansion c chain } in
     let k = some_if (attaches left p && attaches right p) used u h in
     let both = and_parts (attaches left p) (attaches right p) k.0 in
     record {
@@ -72,7 +72,7 @@ named_end : (c : Config) (e : End) (n : Network) → network_at c e ≡ Some n �
 named_end c Any n h = cc
 named_end c (Named name) n h = let f = named c name n h in (ap Named (sym f.0), f.1)
 
-by_action : (c : Config) (p : Policy) (r : Rule) (a : Action) (u : Use) → r.action ≡ a → use_by c p r a ≡ Some u
+by_action : (c : Config) (p : Policy) (r : Rule) (a : Action) (u : ConfiguredUse) → r.action ≡ a → use_by c p r a ≡ Some u
     → Contains c.policies p → Contains p.rules r → IsUse c u
 by_action c p r Pass u e h in_p in_r = cc
 by_action c p r Deny u e h in_p in_r = cc
@@ -96,7 +96,7 @@ by_action c p r (Through chain number) u e h in_p in_r =
       services = refl;
     })
 
-pub use_is : (c : Config) (u : Use) → Contains (uses c) u → IsUse c u
+pub use_is : (c : Config) (u : ConfiguredUse) → Contains (uses c) u → IsUse c u
 use_is c u h =
     let p = joined_is (uses_of c) c.policies u h in
     let r = given (λ (r : Rule). use_by c p.0 r r.action) p.0.rules u p.2 in
@@ -107,27 +107,27 @@ use_is c u h =
 named_is : (t : Topology) (c : Config) (n : Network) → IsValid t c → Contains c.networks n → network_named c n.name ≡ Some n
 named_is t c n v within = ((finds_network_named t c n.name v).some n).1 (within, refl)
 
-gives_use : (t : Topology) (c : Config) (u : Use) → IsValid t c → (h : IsUse c u) → use_by c h.policy h.rule h.rule.action ≡ Some u
+gives_use : (t : Topology) (c : Config) (u : ConfiguredUse) → IsValid t c → (h : IsUse c u) → use_by c h.policy h.rule h.rule.action ≡ Some u
 gives_use t c u v h =
     let p : Policy = h.policy in
     let left : network_at c h.rule.source ≡ Some u.left = ap (network_at c) h.from ∙ named_is t c u.left v h.has_left in
     let right : network_at c h.rule.destination ≡ Some u.right = ap (network_at c) h.to ∙ named_is t c u.right v h.has_right in
     let one : IsTrue (attaches u.left p) = (attaches_iff u.left p).1 h.left_attaches in
     let two : IsTrue (attaches u.right p) = (attaches_iff u.right p).1 h.right_attaches in
-    let used : Use = record { number = u.number; left = u.left; right = u.right; services = expansion c h.chain } in
+    let used : ConfiguredUse = record { number = u.number; left = u.left; right = u.right; services = expansion c h.chain } in
     let same : used ≡ u = λ i. record { number = u.number; left = u.left; right = u.right; services = sym h.services i } in
     ap (use_by c p h.rule) h.leads
     ∙ ap (λ (o : Option Network). use_between c p h.chain u.number o (network_at c h.rule.destination)) left
     ∙ ap (λ (o : Option Network). use_between c p h.chain u.number (Some u.left) o) right
     ∙ is_some (attaches u.left p && attaches u.right p) used (and_from (attaches u.left p) (attaches u.right p) one two)
-    ∙ ap (λ (w : Use). Some w) same
+    ∙ ap (λ (w : ConfiguredUse). Some w) same
 
-pub is_use : (t : Topology) (c : Config) (u : Use) → IsValid t c → IsUse c u → Contains (uses c) u
+pub is_use : (t : Topology) (c : Config) (u : ConfiguredUse) → IsValid t c → IsUse c u → Contains (uses c) u
 is_use t c u v h =
     is_joined (uses_of c) c.policies h.policy u h.has_policy
     (gives (λ (r : Rule). use_by c h.policy r r.action) h.policy.rules h.rule u h.has_rule (gives_use t c u v h))
 
-pub uses_iff : (t : Topology) (c : Config) (u : Use) → IsValid t c → Contains (uses c) u ↔ IsUse c u
+pub uses_iff : (t : Topology) (c : Config) (u : ConfiguredUse) → IsValid t c → Contains (uses c) u ↔ IsUse c u
 uses_iff t c u v = (use_is c u, is_use t c u v)
 
 -- ---- the rules of a policy, numbered
@@ -146,15 +146,15 @@ among_all c p x in_p in_x = is_joined numbered_rules c.policies p x in_p in_x
 
 -- ---- numbers of uses
 
-abbrev pub Differ : Use → Use → Type 0
+abbrev pub Differ : ConfiguredUse → ConfiguredUse → Type 0
 Differ u v = u.number ≢ v.number
 
-number_of : (c : Config) (p : Policy) (r : Rule) (a : Action) (u : Use) → use_by c p r a ≡ Some u → use_of a ≡ Some u.number
+number_of : (c : Config) (p : Policy) (r : Rule) (a : Action) (u : ConfiguredUse) → use_by c p r a ≡ Some u → use_of a ≡ Some u.number
 number_of c p r Pass u h = cc
 number_of c p r Deny u h = cc
 number_of c p r (Through chain number) u h =
     let b = between_is c p chain number (network_at c r.source) (network_at c r.destination) u h in
-    ap (λ (w : Use). Some w.number) b.use_is
+    ap (λ (w : ConfiguredUse). Some w.number) b.use_is
 
 abbrev LeadsApart : Rule → Rule → Type 0
 LeadsApart q r = (m n : ℕ) → use_of q.action ≡ Some m → use_of r.action ≡ Some n → m ≢ n
@@ -188,7 +188,7 @@ uses_differ t c v =
     (ap (λ (r : Rule). use_of r.action) y.2 ∙ number_of c q b.0 b.0.action w b.2))
 
 -- a number has one use
-pub one_use : (t : Topology) (c : Config) (u w : Use) → IsValid t c → IsUse c u → IsUse c w → u.number ≡ w.number → u ≡ w
+pub one_use : (t : Topology) (c : Config) (u w : ConfiguredUse) → IsValid t c → IsUse c u → IsUse c w → u.number ≡ w.number → u ≡ w
 one_use t c u w v p q same =
     elim (two_among Differ (uses c) u w (uses_differ t c v) (is_use t c u v p) (is_use t c w v q)) [
       | inl one ↦ one
@@ -197,15 +197,15 @@ one_use t c u w v p q same =
 
 -- ---- a use's services and networks
 
-record RuleOf (c : Config) (u : Use) (h : IsUse c u) : Type 0 where
+record RuleOf (c : Config) (u : ConfiguredUse) (h : IsUse c u) : Type 0 where
   pub rule : NumberedRule
   pub there : Contains (all_rules c) rule
   pub is : rule.rule ≡ h.rule
 
-rule_of : (c : Config) (u : Use) (h : IsUse c u) → RuleOf c u h
+rule_of : (c : Config) (u : ConfiguredUse) (h : IsUse c u) → RuleOf c u h
 rule_of c u h = let x = numbered h.policy h.rule h.has_rule in record { rule = x.0; there = among_all c h.policy x.0 h.has_policy x.1; is = x.2 }
 
-pub few_services : (t : Topology) (c : Config) (u : Use) → IsValid t c → IsUse c u → length u.services ≤ 15
+pub few_services : (t : Topology) (c : Config) (u : ConfiguredUse) → IsValid t c → IsUse c u → length u.services ≤ 15
 few_services t c u v h =
     let x = rule_of c u h in
     let referents = All-contains (λ (r : NumberedRule). EndExists (network_names c) r.rule.source × EndExists (network_names c) r.rule.destination
@@ -243,18 +243,18 @@ of_services c chain s inside =
     within (length c.chains) c q.0 s q.2
 
 -- and so are those of a use
-pub services_are : (c : Config) (u : Use) (s : Service) → IsUse c u → Contains u.services s → Contains c.services s
+pub services_are : (c : Config) (u : ConfiguredUse) (s : Service) → IsUse c u → Contains u.services s → Contains c.services s
 services_are c u s h inside = of_services c h.chain s (subst (λ (ss : List Service). Contains ss s) h.services inside)
 
 -- its two networks differ, and are related
-pub ends_differ : (t : Topology) (c : Config) (u : Use) → IsValid t c → IsUse c u → u.left.name ≢ u.right.name
+pub ends_differ : (t : Topology) (c : Config) (u : ConfiguredUse) → IsValid t c → IsUse c u → u.left.name ≢ u.right.name
 ends_differ t c u v h same =
     let x = rule_of c u h in
     let two : NamesTwo x.rule.rule = All-contains (λ (r : NumberedRule). NamesTwo r.rule) (all_rules c) x.rule v.two x.there in
     two h.chain u.left.name u.number (ap (λ (r : Rule). r.action) x.is ∙ h.leads) (ap (λ (r : Rule). r.source) x.is ∙ h.from)
     (ap (λ (r : Rule). r.destination) x.is ∙ h.to ∙ ap Named (sym same))
 
-pub ends_related : (t : Topology) (c : Config) (u : Use) → IsValid t c → IsUse c u → AreRelated c u.left u.right
+pub ends_related : (t : Topology) (c : Config) (u : ConfiguredUse) → IsValid t c → IsUse c u → AreRelated c u.left u.right
 ends_related t c u v h =
     let at = at_place h.policy.rules h.rule h.has_rule in
     record {
@@ -277,5 +277,5 @@ ends_related t c u v h =
       lets = subst LetsThrough (sym h.leads) tt;
     }
 
-pub around_right : (t : Topology) (c : Config) (u : Use) → IsValid t c → IsUse c u → IsAround c u.left u.right
+pub around_right : (t : Topology) (c : Config) (u : ConfiguredUse) → IsValid t c → IsUse c u → IsAround c u.left u.right
 around_right t c u v h = inr ((related_iff c u.left u.right).1 (ends_related t c u v h))

@@ -14,7 +14,7 @@ use Rattle.config_model.specs.declared.topology.Topology.{Topology}
 use Rattle.config_check.specs.Sentences.{IsValid}
 use Rattle.transform_model.specs.IsUse.{IsInstance, of_network, of_hop}
 use Rattle.transform_model.specs.Tables.{instances}
-use Rattle.transform_model.specs.Uses.{Use, uses, hops_from, hops}
+use Rattle.transform_model.specs.Uses.{ConfiguredUse, uses, hops_from, hops}
 use Rattle.transform_model.proofs.InUse.{use_is, is_use, uses_differ, few_services}
 use Rattle.transform_model.proofs.InUse as in_use
 use Rattle.policy_rules.proofs.Lists.{mapped_is, is_mapped, joined_is, is_joined}
@@ -72,13 +72,13 @@ from_differ number first (suc more) =
     absurd (omega arith))
     (from_differ number (first + 1) more)
 
-pub hop_is : (u : Use) (i : InstanceId) → Contains (hops u) i → (j : ℕ) × (j ≤ length u.services) × (i ≡ hop_instance_of u.number j)
+pub hop_is : (u : ConfiguredUse) (i : InstanceId) → Contains (hops u) i → (j : ℕ) × (j ≤ length u.services) × (i ≡ hop_instance_of u.number j)
 hop_is u i h =
     let q = from_is u.number 0 (length u.services) i h in
     let hi = q.to in
     (q.place, omega arith, q.at)
 
-pub is_hop : (u : Use) (j : ℕ) → j ≤ length u.services → Contains (hops u) (hop_instance_of u.number j)
+pub is_hop : (u : ConfiguredUse) (j : ℕ) → j ≤ length u.services → Contains (hops u) (hop_instance_of u.number j)
 is_hop u j le =
     let start : 0 + j ≡ j = omega arith in
     subst (λ (k : ℕ). Contains (hops u) (hop_instance_of u.number k)) start (is_from u.number 0 (length u.services) j le)

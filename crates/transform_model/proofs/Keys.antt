@@ -21,8 +21,8 @@ use Rattle.ov_types.specs.declared.objects.LowKey.TheVariants.{Instance, Attach,
 use Rattle.ov_types.proofs.FirstLemmas.{pairs_head, pairs_tail}
 use Rattle.node_model.specs.Keys.{low_numbers, low_of}
 use Rattle.node_model.proofs.Orders.{then_equal}
-use Rattle.transform_model.specs.Objects.{Object, with_objects}
-use Rattle.transform_model.specs.Tables.{Key, Row, with_rows}
+use Rattle.transform_model.specs.Objects.{LowObject, with_objects}
+use Rattle.transform_model.specs.Tables.{TableKey, Row, with_rows}
 use Rattle.transform_model.proofs.Lists.{no_pairs}
 
 -- ---- an entry put into a map
@@ -118,10 +118,10 @@ both_equal Greater p h = cc
 
 row_order : IsTotalOrder row_key_cmp
 row_order =
-    then_total (on_total (λ (k : Key). k.0.0) nat_cmp_total)
-    (then_total (on_total (λ (k : Key). k.1.addr) nat_cmp_total) (on_total (λ (k : Key). k.1.len) nat_cmp_total))
+    then_total (on_total (λ (k : TableKey). k.0.0) nat_cmp_total)
+    (then_total (on_total (λ (k : TableKey). k.1.addr) nat_cmp_total) (on_total (λ (k : TableKey). k.1.len) nat_cmp_total))
 
-row_exact : (a b : Key) → row_key_cmp a b ≡ Equal → a ≡ b
+row_exact : (a b : TableKey) → row_key_cmp a b ≡ Equal → a ≡ b
 row_exact a b h =
     let parts = both_equal (nat_cmp a.0.0 b.0.0) (block_cmp a.1 b.1) h in
     let block = both_equal (nat_cmp a.1.addr b.1.addr) (nat_cmp a.1.len b.1.len) parts.1 in
@@ -184,16 +184,16 @@ low_exact a b e =
     ∙ ap (λ (ns : List ℕ). low_of (0 ∷ ns)) (slice_cmp-IsAntisymmetric nat_cmp-IsAntisymmetric (low_numbers a) (low_numbers b) (same_low a b ∙ e))
     ∙ numbers_tell b
 
-objects_are : (os es : List Object) → with_objects es os ≡ all_with low_key_cmp es os
+objects_are : (os es : List LowObject) → with_objects es os ≡ all_with low_key_cmp es os
 objects_are [] es = refl
 objects_are (o ∷ os) es = objects_are os (insert_entry low_key_cmp es o.0 o.1)
 
-pub objects_in_order : (os : List Object) → AllPairs (λ d e. low_key_cmp d.0 e.0 ≡ Less) (with_objects [] os)
+pub objects_in_order : (os : List LowObject) → AllPairs (λ d e. low_key_cmp d.0 e.0 ≡ Less) (with_objects [] os)
 objects_in_order os =
-    let Below : Object → Object → Type 0 = λ d e. low_key_cmp d.0 e.0 ≡ Less in
+    let Below : LowObject → LowObject → Type 0 = λ d e. low_key_cmp d.0 e.0 ≡ Less in
     subst (AllPairs Below) (sym (objects_are os [])) (all_in_order low_key_cmp low_order low_exact os [] (no_pairs Below))
 
-pub objects_added : (os : List Object) → AllPairs (λ d e. d.0 ≢ e.0) os → IsPermutation os (with_objects [] os)
+pub objects_added : (os : List LowObject) → AllPairs (λ d e. d.0 ≢ e.0) os → IsPermutation os (with_objects [] os)
 objects_added os pairs =
     subst (IsPermutation os) (sym (objects_are os []))
     (all_added low_key_cmp low_order low_exact os [] pairs (λ k d lt i e within. absurd (omega arith)))

@@ -23,9 +23,9 @@ use Rattle.transform_model.specs.IsLabel as label
 use Rattle.transform_model.specs.IsObject.{IsObject, of_network, of_port, of_left_circuit, of_right_circuit, of_networks, of_use}
 use Rattle.transform_model.specs.IsRow.{IsRow, to_port, to_left_circuit, to_right_circuit, to_right_subnet, to_left_subnet, at_left_end, at_right_end, IsPort, IsCircuitAt}
 use Rattle.transform_model.specs.IsUse.{IsUse, IsLeftCircuit, IsRightCircuit}
-use Rattle.transform_model.specs.Objects.{Object, attached_port, attached_circuit, low_objects}
+use Rattle.transform_model.specs.Objects.{LowObject, attached_port, attached_circuit, low_objects}
 use Rattle.transform_model.specs.Tables.{Row, host_route, circuit_route, instance_table}
-use Rattle.transform_model.specs.Uses.{Use, Circuit}
+use Rattle.transform_model.specs.Uses.{ConfiguredUse, Circuit}
 use Rattle.transform_model.proofs.Circuits.{left_instance, right_instance}
 use Rattle.policy_rules.proofs.Lists.{kept_is, is_kept}
 use Rattle.transform_model.proofs.Lists.{given, gives}
@@ -33,16 +33,16 @@ use Rattle.transform_model.proofs.LowKeys.{low_is, is_low}
 use Rattle.transform_model.proofs.Rows.{row_is, is_row}
 use Rattle.transform_model.proofs.Needed.{same_address}
 
-abbrev told : Object → Option (Label × Attached)
+abbrev told : LowObject → Option (Label × Attached)
 told o = attached o.0 o.1
 
 -- ---- what is attached is labelled
 
 module _ (t : Topology) (c : Config) (a : Addr) (l : Label × Attached) where
-  abbrev asked : Object → Type 0
+  abbrev asked : LowObject → Type 0
   asked o = concerns (low_objects t c) a o.0 o.1 ≡ true
 
-  of_object : (o : Object) → IsObject t c o → asked o → told o ≡ Some l → IsLabel t c a l
+  of_object : (o : LowObject) → IsObject t c o → asked o → told o ≡ Some l → IsLabel t c a l
   of_object o (of_network n is in_n are e) here is_l = let none : None ≡ Some l = ap told (sym e) ∙ is_l in cc
   of_object o (of_port n p d at e) here is_l =
       let some : Some (port_label_of p.id, Is.Port p.id n.id) ≡ Some l = ap told (sym e) ∙ is_l in
@@ -66,14 +66,14 @@ module _ (t : Topology) (c : Config) (a : Addr) (l : Label × Attached) where
   unfolding agent_rows
   label_is v form h =
       let g = given told (slice_of (low_objects t c) a) l h in
-      let k = kept_is (λ (e : Object). concerns (low_objects t c) a e.0 e.1) (low_objects t c) g.0 g.1 in
+      let k = kept_is (λ (e : LowObject). concerns (low_objects t c) a e.0 e.1) (low_objects t c) g.0 g.1 in
       of_object g.0 (low_is t c g.0 v form k.0) k.1 g.2
 
-  from_object : IsValid t c → IsTrue (has_config_form c) → (o : Object) → IsObject t c o → asked o → told o ≡ Some l → Contains (agent_rows t c a).labels l
+  from_object : IsValid t c → IsTrue (has_config_form c) → (o : LowObject) → IsObject t c o → asked o → told o ≡ Some l → Contains (agent_rows t c a).labels l
   unfolding agent_rows
   from_object v form o is here is_l =
       gives told (slice_of (low_objects t c) a) o l
-      (is_kept (λ (e : Object). concerns (low_objects t c) a e.0 e.1) (low_objects t c) o (is_low t c o v form is) here) is_l
+      (is_kept (λ (e : LowObject). concerns (low_objects t c) a e.0 e.1) (low_objects t c) o (is_low t c o v form is) here) is_l
 
   at_address : (d : Node) → a ≡ d.address → (d.address.0 == a.0) ≡ true
   at_address d e = eq-eqb d.address.0 a.0 (ap (λ (x : Addr). x.0) (sym e))
@@ -100,7 +100,7 @@ to_port_at : (t : Topology) (c : Config) (i : InstanceId) (home : Network) (p : 
 to_port_at t c i home p d r at route =
     subst (HasLabel t c) (sym route) (Is.Port p.id home.id, label.of_port home p d at refl refl)
 
-to_circuit_at : (t : Topology) (c : Config) (i : InstanceId) (u : Use) (j : ℕ) (k : Circuit) (d : Node) (r : Row) (prefix : Block) → IsUse c u
+to_circuit_at : (t : Topology) (c : Config) (i : InstanceId) (u : ConfiguredUse) (j : ℕ) (k : Circuit) (d : Node) (r : Row) (prefix : Block) → IsUse c u
     → IsLeftCircuit u j k ⊎ IsRightCircuit u j k → IsCircuitAt t k d → r ≡ circuit_route i prefix k d → HasLabel t c r
 to_circuit_at t c i u j k d r prefix used side at route =
     subst (HasLabel t c) (sym route) (Is.Circuit k.number k.service.id, label.of_circuit u j k d used side at refl refl)

@@ -27,9 +27,9 @@ use Rattle.transform_model.specs.IsObject.{IsObject}
 use Rattle.transform_model.specs.IsRow.{IsRow}
 use Rattle.transform_model.specs.IsUse.{IsInstance, IsLeftCircuit, IsRightCircuit, IsUse}
 use Rattle.transform_model.specs.Leads.{LeadsToCircuit, LeadsToPort}
-use Rattle.transform_model.specs.Objects.{Object, low_objects, objects}
+use Rattle.transform_model.specs.Objects.{LowObject, low_objects, objects}
 use Rattle.transform_model.specs.Tables.{Row, circuit_route, control_rows, host_route, instance_table, instances, tables_of}
-use Rattle.transform_model.specs.Uses.{Circuit, Use, left_circuits, right_circuits, uses}
+use Rattle.transform_model.specs.Uses.{Circuit, ConfiguredUse, left_circuits, right_circuits, uses}
 use Rattle.transform_model.proofs.AgentRows.{acls_iff, routes_iff, labels_in_order, acls_in_order, routes_in_order, host_leads, circuit_leads}
 use Rattle.transform_model.proofs.Circuits.{left_circuits_iff, right_circuits_iff}
 use Rattle.transform_model.proofs.Instances.{instances_iff, instances_differ}
@@ -43,16 +43,16 @@ use Rattle.transform_model.proofs.Rows.{rows_iff}
 
 -- ---- uses, circuits and instances
 
-pub uses_are_those_in_effect : (t : Topology) (c : Config) (u : Use) → first_broken t c ≡ None → Contains (uses c) u ↔ IsUse c u
+pub uses_are_those_in_effect : (t : Topology) (c : Config) (u : ConfiguredUse) → first_broken t c ≡ None → Contains (uses c) u ↔ IsUse c u
 uses_are_those_in_effect t c u valid = uses_iff t c u ((valid_iff t c).0 valid)
 
 pub uses_are_distinct : (t : Topology) (c : Config) → first_broken t c ≡ None → AllPairs (λ u v. u.number ≢ v.number) (uses c)
 uses_are_distinct t c valid = uses_differ t c ((valid_iff t c).0 valid)
 
-pub left_circuits_are_of_services : (u : Use) (k : Circuit) → Contains (left_circuits u) k ↔ ((place : ℕ) × IsLeftCircuit u place k)
+pub left_circuits_are_of_services : (u : ConfiguredUse) (k : Circuit) → Contains (left_circuits u) k ↔ ((place : ℕ) × IsLeftCircuit u place k)
 left_circuits_are_of_services = left_circuits_iff
 
-pub right_circuits_are_of_services : (u : Use) (k : Circuit) → Contains (right_circuits u) k ↔ ((place : ℕ) × IsRightCircuit u place k)
+pub right_circuits_are_of_services : (u : ConfiguredUse) (k : Circuit) → Contains (right_circuits u) k ↔ ((place : ℕ) × IsRightCircuit u place k)
 right_circuits_are_of_services = right_circuits_iff
 
 pub instances_are_of_networks_and_hops : (t : Topology) (c : Config) (i : InstanceId) → first_broken t c ≡ None
@@ -95,7 +95,7 @@ all_rows_are_kept t c form valid = all_kept t c ((valid_iff t c).0 valid) form
 
 -- ---- low-level objects
 
-pub objects_are_exactly_these : (t : Topology) (c : Config) (o : Object) → IsTrue (has_config_form c) → first_broken t c ≡ None
+pub objects_are_exactly_these : (t : Topology) (c : Config) (o : LowObject) → IsTrue (has_config_form c) → first_broken t c ≡ None
     → Contains (low_objects t c) o ↔ IsObject t c o
 objects_are_exactly_these t c o form valid = low_iff t c o ((valid_iff t c).0 valid) form
 
@@ -119,7 +119,7 @@ pub labels_are_exactly_these : (t : Topology) (c : Config) (a : Addr) (l : Label
     → Contains (agent_rows t c a).labels l ↔ IsLabel t c a l
 labels_are_exactly_these t c a l form valid = labels_iff t c a l ((valid_iff t c).0 valid) form
 
-pub access_lists_are_exactly_these : (t : Topology) (c : Config) (a : Addr) (o : Object) → IsTrue (has_config_form c) → first_broken t c ≡ None
+pub access_lists_are_exactly_these : (t : Topology) (c : Config) (a : Addr) (o : LowObject) → IsTrue (has_config_form c) → first_broken t c ≡ None
     → Contains (agent_rows t c a).acls o ↔ IsAccessList t c a o
 access_lists_are_exactly_these t c a o form valid = acls_iff t c ((valid_iff t c).0 valid) form a o
 

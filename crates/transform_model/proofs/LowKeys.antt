@@ -18,8 +18,8 @@ use Rattle.policy_rules.specs.Related.{are_related}
 use Rattle.config_check.specs.Rules.{group_of}
 use Rattle.config_check.specs.Sentences.{IsValid}
 use Rattle.transform_model.specs.IsObject.{IsObject}
-use Rattle.transform_model.specs.Objects.{Object, instance_object, port_object, circuit_object, circuit_objects, acl_object, acl_objects, use_object, objects, low_objects}
-use Rattle.transform_model.specs.Uses.{Use, Circuit, uses, left_circuits, right_circuits}
+use Rattle.transform_model.specs.Objects.{LowObject, instance_object, port_object, circuit_object, circuit_objects, acl_object, acl_objects, use_object, objects, low_objects}
+use Rattle.transform_model.specs.Uses.{ConfiguredUse, Circuit, uses, left_circuits, right_circuits}
 use Rattle.transform_model.proofs.Circuits.{left_is, right_is, left_number, right_number, circuits_differ}
 use Rattle.transform_model.proofs.Circuits as circuit
 use Rattle.transform_model.proofs.InUse.{use_is, uses_differ, few_services}
@@ -30,18 +30,18 @@ use Rattle.transform_model.proofs.Lists.{given, pairs_append_by, pairs_given_by,
 use Rattle.transform_model.proofs.Objects.{from_port, from_circuit, instance_part, port_part, circuit_part, acl_part, use_part, object_is, is_object}
 use Rattle.transform_model.proofs.Prefixes.{port_number}
 
-abbrev Differ : Object → Object → Type 0
+abbrev Differ : LowObject → LowObject → Type 0
 Differ d e = d.0 ≢ e.0
 
 -- ---- circuits of two uses
 
 -- the hop of a circuit
-record HasNumber (u : Use) (k : Circuit) : Type 0 where
+record HasNumber (u : ConfiguredUse) (k : Circuit) : Type 0 where
   hop : ℕ
   low : hop ≤ length u.services
   side : (k.number ≡ 2 * (16384 + 16 * u.number + hop) + 1) ⊎ (k.number ≡ 2 * (16384 + 16 * u.number + hop))
 
-has_number : (u : Use) (k : Circuit) → Contains (left_circuits u ++ right_circuits u) k → HasNumber u k
+has_number : (u : ConfiguredUse) (k : Circuit) → Contains (left_circuits u ++ right_circuits u) k → HasNumber u k
 has_number u k h =
     elim (Contains-append_cases (left_circuits u) (right_circuits u) k h) [
       | inl left ↦
@@ -84,15 +84,15 @@ module _ (t : Topology) (c : Config) (v : IsValid t c) (form : IsTrue (has_confi
       let a = from_port t c p d is_d in
       let b = from_port t c q e is_e in
       let one : 16 + p.id.0 ≡ 16 + q.id.0 =
-      same_attach (16 + p.id.0) (16 + q.id.0) (sym (ap (λ (x : Object). x.0) a.is) ∙ same ∙ ap (λ (x : Object). x.0) b.is) in
+      same_attach (16 + p.id.0) (16 + q.id.0) (sym (ap (λ (x : LowObject). x.0) a.is) ∙ same ∙ ap (λ (x : LowObject). x.0) b.is) in
       differ (omega arith))
 
-  circuit_label : (k : Circuit) (l : Circuit) (d e : Object) → circuit_object t k ≡ Some d → circuit_object t l ≡ Some e → d.0 ≡ e.0 → k.number ≡ l.number
+  circuit_label : (k : Circuit) (l : Circuit) (d e : LowObject) → circuit_object t k ≡ Some d → circuit_object t l ≡ Some e → d.0 ≡ e.0 → k.number ≡ l.number
   circuit_label k l d e is_d is_e same =
       let a = from_circuit t k d is_d in
       let b = from_circuit t l e is_e in
       let one : 2 ^ 19 + k.number ≡ 2 ^ 19 + l.number =
-      same_attach (2 ^ 19 + k.number) (2 ^ 19 + l.number) (sym (ap (λ (x : Object). x.0) a.is) ∙ same ∙ ap (λ (x : Object). x.0) b.is) in
+      same_attach (2 ^ 19 + k.number) (2 ^ 19 + l.number) (sym (ap (λ (x : LowObject). x.0) a.is) ∙ same ∙ ap (λ (x : LowObject). x.0) b.is) in
       omega arith
 
   circuit_keys : AllPairs Differ (circuit_part t c)
@@ -125,54 +125,54 @@ module _ (t : Topology) (c : Config) (v : IsValid t c) (form : IsTrue (has_confi
       (λ a b d e in_a in_b differ in_d in_e same.
       let x = mapped_is (acl_object c a) (group_of c a) d in_d in
       let y = mapped_is (acl_object c b) (group_of c b) e in_e in
-      let one : Key.Acl a.id.0 x.0.id.0 ≡ Key.Acl b.id.0 y.0.id.0 = ap (λ (z : Object). z.0) x.2 ∙ same ∙ sym (ap (λ (z : Object). z.0) y.2) in
+      let one : Key.Acl a.id.0 x.0.id.0 ≡ Key.Acl b.id.0 y.0.id.0 = ap (λ (z : LowObject). z.0) x.2 ∙ same ∙ sym (ap (λ (z : LowObject). z.0) y.2) in
       let number : a.id.0 ≡ b.id.0 = cc in
       differ number)
 
   use_keys : AllPairs Differ (use_part t c)
   use_keys =
       pairs_mapped (use_object t) Differ (uses c)
-      (pairs_weaker in_use.Differ (λ (u w : Use). Differ (use_object t u) (use_object t w)) (uses c) (uses_differ t c v)
+      (pairs_weaker in_use.Differ (λ (u w : ConfiguredUse). Differ (use_object t u) (use_object t w)) (uses c) (uses_differ t c v)
       (λ u w in_u in_w differ same. let one : Key.ChainUse u.number ≡ Key.ChainUse w.number = same in let number : u.number ≡ w.number = cc in differ number))
 
   -- ---- keys of two parts
 
-  instance_kind : (o : Object) → Contains (instance_part c) o → kind_of o.0 ≡ 0
-  instance_kind o h = let q = mapped_is (instance_object c) c.networks o h in ap (λ (x : Object). kind_of x.0) (sym q.2)
+  instance_kind : (o : LowObject) → Contains (instance_part c) o → kind_of o.0 ≡ 0
+  instance_kind o h = let q = mapped_is (instance_object c) c.networks o h in ap (λ (x : LowObject). kind_of x.0) (sym q.2)
 
-  acl_kind : (o : Object) → Contains (acl_part c) o → kind_of o.0 ≡ 2
+  acl_kind : (o : LowObject) → Contains (acl_part c) o → kind_of o.0 ≡ 2
   acl_kind o h =
       let a = joined_is (acl_objects c) c.networks o h in
       let b = mapped_is (acl_object c a.0) (group_of c a.0) o a.2 in
-      ap (λ (x : Object). kind_of x.0) (sym b.2)
+      ap (λ (x : LowObject). kind_of x.0) (sym b.2)
 
-  use_kind : (o : Object) → Contains (use_part t c) o → kind_of o.0 ≡ 3
-  use_kind o h = let u = mapped_is (use_object t) (uses c) o h in ap (λ (x : Object). kind_of x.0) (sym u.2)
+  use_kind : (o : LowObject) → Contains (use_part t c) o → kind_of o.0 ≡ 3
+  use_kind o h = let u = mapped_is (use_object t) (uses c) o h in ap (λ (x : LowObject). kind_of x.0) (sym u.2)
 
-  port_key : (o : Object) → Contains (port_part t c) o → (n : ℕ) × (n ≤ 524287) × (o.0 ≡ Key.Attach n)
+  port_key : (o : LowObject) → Contains (port_part t c) o → (n : ℕ) × (n ≤ 524287) × (o.0 ≡ Key.Attach n)
   port_key o h =
       let g = given (port_object t c) c.ports o h in
       let f = from_port t c g.0 o g.2 in
       let low = port_number c g.0 form g.1 in
-      (16 + g.0.id.0, omega arith, ap (λ (x : Object). x.0) f.is)
+      (16 + g.0.id.0, omega arith, ap (λ (x : LowObject). x.0) f.is)
 
-  circuit_key : (o : Object) → Contains (circuit_part t c) o → (n : ℕ) × (524288 ≤ n) × (o.0 ≡ Key.Attach n)
+  circuit_key : (o : LowObject) → Contains (circuit_part t c) o → (n : ℕ) × (524288 ≤ n) × (o.0 ≡ Key.Attach n)
   circuit_key o h =
       let u = joined_is (circuit_objects t) (uses c) o h in
       let g = given (circuit_object t) (left_circuits u.0 ++ right_circuits u.0) o u.2 in
       let f = from_circuit t g.0 o g.2 in
-      (2 ^ 19 + g.0.number, omega arith, ap (λ (x : Object). x.0) f.is)
+      (2 ^ 19 + g.0.number, omega arith, ap (λ (x : LowObject). x.0) f.is)
 
-  port_kind : (o : Object) → Contains (port_part t c) o → kind_of o.0 ≡ 1
+  port_kind : (o : LowObject) → Contains (port_part t c) o → kind_of o.0 ≡ 1
   port_kind o h = ap kind_of (port_key o h).2
 
-  circuit_kind : (o : Object) → Contains (circuit_part t c) o → kind_of o.0 ≡ 1
+  circuit_kind : (o : LowObject) → Contains (circuit_part t c) o → kind_of o.0 ≡ 1
   circuit_kind o h = ap kind_of (circuit_key o h).2
 
-  kinds_differ : (d e : Object) (m n : ℕ) → kind_of d.0 ≡ m → kind_of e.0 ≡ n → m ≢ n → Differ d e
+  kinds_differ : (d e : LowObject) (m n : ℕ) → kind_of d.0 ≡ m → kind_of e.0 ≡ n → m ≢ n → Differ d e
   kinds_differ d e m n is_m is_n differ same = differ (sym is_m ∙ ap kind_of same ∙ is_n)
 
-  ports_and_circuits : (d e : Object) → Contains (port_part t c) d → Contains (circuit_part t c) e → Differ d e
+  ports_and_circuits : (d e : LowObject) → Contains (port_part t c) d → Contains (circuit_part t c) e → Differ d e
   ports_and_circuits d e in_d in_e same =
       let p = port_key d in_d in
       let k = circuit_key e in_e in
@@ -183,10 +183,10 @@ module _ (t : Topology) (c : Config) (v : IsValid t c) (form : IsTrue (has_confi
 
   pub keys_differ : AllPairs (λ d e. d.0 ≢ e.0) (objects t c)
   keys_differ =
-      let acls : List Object = acl_part c in
-      let uses : List Object = use_part t c in
-      let circuits : List Object = circuit_part t c in
-      let ports : List Object = port_part t c in
+      let acls : List LowObject = acl_part c in
+      let uses : List LowObject = use_part t c in
+      let circuits : List LowObject = circuit_part t c in
+      let ports : List LowObject = port_part t c in
       let after_circuits : AllPairs Differ (acls ++ uses) =
       pairs_append_by Differ acls uses acl_keys use_keys (λ d e in_d in_e. kinds_differ d e 2 3 (acl_kind d in_d) (use_kind e in_e) (omega arith)) in
       let after_ports : AllPairs Differ (circuits ++ (acls ++ uses)) =
@@ -229,13 +229,13 @@ pub low_kept : (t : Topology) (c : Config) → IsValid t c → IsTrue (has_confi
 unfolding low_objects
 low_kept t c v form = objects_added (objects t c) (keys_differ t c v form)
 
-pub low_is : (t : Topology) (c : Config) (o : Object) → IsValid t c → IsTrue (has_config_form c) → Contains (low_objects t c) o → IsObject t c o
+pub low_is : (t : Topology) (c : Config) (o : LowObject) → IsValid t c → IsTrue (has_config_form c) → Contains (low_objects t c) o → IsObject t c o
 low_is t c o v form h =
     object_is t c v o
     (Contains-permutation (low_objects t c) (objects t c) o (IsPermutation-sym (objects t c) (low_objects t c) (low_kept t c v form)) h)
 
-pub is_low : (t : Topology) (c : Config) (o : Object) → IsValid t c → IsTrue (has_config_form c) → IsObject t c o → Contains (low_objects t c) o
+pub is_low : (t : Topology) (c : Config) (o : LowObject) → IsValid t c → IsTrue (has_config_form c) → IsObject t c o → Contains (low_objects t c) o
 is_low t c o v form h = Contains-permutation (objects t c) (low_objects t c) o (low_kept t c v form) (is_object t c v o h)
 
-pub low_iff : (t : Topology) (c : Config) (o : Object) → IsValid t c → IsTrue (has_config_form c) → Contains (low_objects t c) o ↔ IsObject t c o
+pub low_iff : (t : Topology) (c : Config) (o : LowObject) → IsValid t c → IsTrue (has_config_form c) → Contains (low_objects t c) o ↔ IsObject t c o
 low_iff t c o v form = (low_is t c o v form, is_low t c o v form)

@@ -42,8 +42,8 @@ use Rattle.transform_model.specs.IsObject.{IsObject, of_network, of_port, of_lef
 use Rattle.transform_model.specs.IsRow.{IsPort}
 use Rattle.transform_model.specs.IsUse.{IsUse, IsInstance}
 use Rattle.transform_model.specs.IsUse as instance
-use Rattle.transform_model.specs.Objects.{Object, acl_object, attached_circuit, attached_port, low_objects}
-use Rattle.transform_model.specs.Uses.{Use}
+use Rattle.transform_model.specs.Objects.{LowObject, acl_object, attached_circuit, attached_port, low_objects}
+use Rattle.transform_model.specs.Uses.{ConfiguredUse}
 use Rattle.transform_model.proofs.Circuits.{left_instance, right_instance}
 use Rattle.transform_model.proofs.InUse.{numbered, among_all, ends_related}
 use Rattle.policy_rules.proofs.Lists.{is_joined, joined_is, is_kept, kept_is}
@@ -87,7 +87,7 @@ named_end AnyNetwork n never h = absurd (never refl)
 named_end (Named name) n never h = ap Named h
 
 -- the use of a chain by a rule between two networks
-abbrev use_by_rule : Config → Network → Network → List ℕ → ℕ → Use
+abbrev use_by_rule : Config → Network → Network → List ℕ → ℕ → ConfiguredUse
 use_by_rule c a b chain number = record { number = number; left = a; right = b; services = expansion c chain }
 
 record UsedBy (c : Config) (a b : Network) (r : NumberedRule) (chain : List ℕ) (number : ℕ) : Type 0 where
@@ -182,13 +182,13 @@ pub same_address : (a b : Addr) → IsTrue (a.0 == b.0) → b ≡ a
 same_address a b h = λ k. record { 0 = sym (eqb-true a.0 b.0 h) k }
 
 module _ (t : Topology) (c : Config) (v : IsValid t c) (form : IsTrue (has_config_form c)) (a : Addr) where
-  abbrev low : List Object
+  abbrev low : List LowObject
   low = low_objects t c
 
-  abbrev at_port : Object → Option InstanceId
+  abbrev at_port : LowObject → Option InstanceId
   at_port o = port_at a o.1
 
-  port_of : (n : Network) (o : Object) (m : InstanceId) → Contains c.networks n → IsObject t c o → at_port o ≡ Some m → m.0 ≡ n.id.0 → HasPortAt t c a n
+  port_of : (n : Network) (o : LowObject) (m : InstanceId) → Contains c.networks n → IsObject t c o → at_port o ≡ Some m → m.0 ≡ n.id.0 → HasPortAt t c a n
   port_of n o m in_n (of_network x is in_x are e) h same = let none : None ≡ Some m = ap at_port (sym e) ∙ h in cc
   port_of n o m in_n (of_port home p d at e) h same =
       let there = some_if (d.address.0 == a.0) home.id m (ap at_port (sym e) ∙ h) in
@@ -214,7 +214,7 @@ module _ (t : Topology) (c : Config) (v : IsValid t c) (form : IsTrue (has_confi
 
   pub port_there : (n : Network) → HasPortAt t c a n → IsTrue (list_any (is_number n.id.0) (networks_at low a))
   port_there n h =
-      let o : Object = attached_port h.port n h.node in
+      let o : LowObject = attached_port h.port n h.node in
       let there : Contains (networks_at low a) n.id =
       gives at_port low o n.id (is_low t c o v form (of_port n h.port h.node h.at refl)) (is_some (h.node.address.0 == a.0) n.id (at_node h.node h.address)) in
       list_any-from_Any (is_number n.id.0) (networks_at low a)
@@ -222,60 +222,60 @@ module _ (t : Topology) (c : Config) (v : IsValid t c) (form : IsTrue (has_confi
 
   -- ---- what an object needs
 
-  abbrev pub asked : Object → Type 0
+  abbrev pub asked : LowObject → Type 0
   asked o = concerns low a o.0 o.1 ≡ true
 
-  abbrev needs : Object → List InstanceId
+  abbrev needs : LowObject → List InstanceId
   needs o = needed_for o.1
 
-  object_needs : (o : Object) (i : InstanceId) → IsObject t c o → asked o → Contains (needs o) i → IsNeeded t c a i
+  object_needs : (o : LowObject) (i : InstanceId) → IsObject t c o → asked o → Contains (needs o) i → IsNeeded t c a i
   object_needs o i (of_network n is in_n are e) here h =
-      let none : Contains {X = InstanceId} [] i = subst (λ (x : Object). Contains (needs x) i) e h in
+      let none : Contains {X = InstanceId} [] i = subst (λ (x : LowObject). Contains (needs x) i) e h in
       absurd (omega (arith, none.1))
   object_needs o i (of_port n p d at e) here h =
-      let only : Contains (n.id ∷ []) i = subst (λ (x : Object). Contains (needs x) i) e h in
+      let only : Contains (n.id ∷ []) i = subst (λ (x : LowObject). Contains (needs x) i) e h in
       let there : IsTrue (d.address.0 == a.0) = subst asked e here in
       by_port n (record { port = p; node = d; at = at; address = same_address d.address a there }) (one_only n.id i only)
   object_needs o i (of_left_circuit u j k d used left at e) here h =
-      let only : Contains (circuit_instance_of k.number ∷ []) i = subst (λ (x : Object). Contains (needs x) i) e h in
+      let only : Contains (circuit_instance_of k.number ∷ []) i = subst (λ (x : LowObject). Contains (needs x) i) e h in
       let there : IsTrue (d.address.0 == a.0) = subst asked e here in
       by_circuit u j k d used (inl left) at (same_address d.address a there) (one_only (circuit_instance_of k.number) i only)
   object_needs o i (of_right_circuit u j k d used right at e) here h =
-      let only : Contains (circuit_instance_of k.number ∷ []) i = subst (λ (x : Object). Contains (needs x) i) e h in
+      let only : Contains (circuit_instance_of k.number ∷ []) i = subst (λ (x : LowObject). Contains (needs x) i) e h in
       let there : IsTrue (d.address.0 == a.0) = subst asked e here in
       by_circuit u j k d used (inr right) at (same_address d.address a there) (one_only (circuit_instance_of k.number) i only)
   object_needs o i (of_networks x y in_x in_y around e) here h =
-      let rules : Contains (filter_map (λ (r : AclRule). entered_by r.action) (acl_rules c x y)) i = subst (λ (z : Object). Contains (needs z) i) e h in
+      let rules : Contains (filter_map (λ (r : AclRule). entered_by r.action) (acl_rules c x y)) i = subst (λ (z : LowObject). Contains (needs z) i) e h in
       let there : IsTrue (list_any (is_number x.id.0) (networks_at low a)) = subst asked e here in
       let g = given (λ (r : AclRule). entered_by r.action) (acl_rules c x y) i rules in
       entered t c a x y g.0 i v in_x in_y (has_port x in_x there) g.1 g.2
   object_needs o i (of_use u hops used zip e) here h =
-      let none : Contains {X = InstanceId} [] i = subst (λ (x : Object). Contains (needs x) i) e h in
+      let none : Contains {X = InstanceId} [] i = subst (λ (x : LowObject). Contains (needs x) i) e h in
       absurd (omega (arith, none.1))
 
   pub needed_for_is : (i : InstanceId) → Contains (needed_by (slice_of low a)) i → IsNeeded t c a i
   needed_for_is i h =
       let q = joined_is needs (slice_of low a) i h in
-      let k = kept_is (λ (e : Object). concerns low a e.0 e.1) low q.0 q.1 in
+      let k = kept_is (λ (e : LowObject). concerns low a e.0 e.1) low q.0 q.1 in
       object_needs q.0 i (low_is t c q.0 v form k.0) k.1 q.2
 
   -- ---- and what it needs, an object makes it need
 
-  by_object : (o : Object) (i : InstanceId) → IsObject t c o → asked o → Contains (needs o) i → Contains (needed_by (slice_of low a)) i
+  by_object : (o : LowObject) (i : InstanceId) → IsObject t c o → asked o → Contains (needs o) i → Contains (needed_by (slice_of low a)) i
   by_object o i is here h =
-      is_joined needs (slice_of low a) o i (is_kept (λ (e : Object). concerns low a e.0 e.1) low o (is_low t c o v form is) here) h
+      is_joined needs (slice_of low a) o i (is_kept (λ (e : LowObject). concerns low a e.0 e.1) low o (is_low t c o v form is) here) h
 
   only_one : (j i : InstanceId) → i ≡ j → Contains (j ∷ []) i
   only_one j i e = subst (Contains (j ∷ [])) (sym e) (contains_here j [])
 
   -- a rule of a use in effect, between its networks
-  record RuleOf (u : Use) (used : IsUse c u) : Type 0 where
+  record RuleOf (u : ConfiguredUse) (used : IsUse c u) : Type 0 where
     rule : NumberedRule
     is : rule.rule ≡ used.rule
     stands : IsBetween c u.left u.right rule
     fit : Fits rule.rule u.left u.right
 
-  rule_of : (u : Use) (used : IsUse c u) → RuleOf u used
+  rule_of : (u : ConfiguredUse) (used : IsUse c u) → RuleOf u used
   rule_of u used =
       let place = at_place used.policy.rules used.rule used.has_rule in
       let fit : Fits used.rule u.left u.right = (
@@ -307,7 +307,7 @@ module _ (t : Topology) (c : Config) (v : IsValid t c) (form : IsTrue (has_confi
       → HasPortAt t c a x → IsBetween c x y r → Contains (entries_of c x y r) entry → entered_by entry.action ≡ Some i
       → Contains (needed_by (slice_of low a)) i
   enters_by x y r entry i in_x in_y related port stands inside enters =
-      let o : Object = acl_object c x y in
+      let o : LowObject = acl_object c x y in
       let apart : same_name x.name y.name ≢ true = λ same. related.differ ((same_name_iff x.name y.name).0 same) in
       let there : Contains (acl_rules c x y) entry =
       where_not_same (same_name x.name y.name) (oriented c x y) entry apart

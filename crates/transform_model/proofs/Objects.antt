@@ -28,8 +28,8 @@ use Rattle.acl_compile.specs.Oriented.{ascending}
 use Rattle.transform_model.specs.IsObject.{IsObject, of_network, of_port, of_left_circuit, of_right_circuit, of_networks, of_use, AreImports, IsHop}
 use Rattle.transform_model.specs.IsRow.{IsPort, IsCircuitAt}
 use Rattle.transform_model.specs.IsUse.{IsUse}
-use Rattle.transform_model.specs.Objects.{Object, imports_of, instance_object, attached_port, port_object, attached_circuit, circuit_object, circuit_objects, acl_object, acl_objects, hop_of, use_object, objects}
-use Rattle.transform_model.specs.Uses.{Use, Circuit, uses, left_circuits, right_circuits}
+use Rattle.transform_model.specs.Objects.{LowObject, imports_of, instance_object, attached_port, port_object, attached_circuit, circuit_object, circuit_objects, acl_object, acl_objects, hop_of, use_object, objects}
+use Rattle.transform_model.specs.Uses.{ConfiguredUse, Circuit, uses, left_circuits, right_circuits}
 use Rattle.transform_model.proofs.Ascending.{ascending_is, is_ascending, ascending_rises, one_list}
 use Rattle.transform_model.proofs.Circuits.{left_is, is_left, right_is, is_right}
 use Rattle.transform_model.proofs.InUse.{named, use_is, is_use, services_are}
@@ -96,13 +96,13 @@ imports_are c n is h =
 
 -- ---- attachments
 
-pub record FromPort (t : Topology) (c : Config) (p : Port) (o : Object) : Type 0 where
+pub record FromPort (t : Topology) (c : Config) (p : Port) (o : LowObject) : Type 0 where
   pub home : Network
   pub node : Node
   pub at : Contains c.ports p → IsPort t c home p node
   pub is : o ≡ attached_port p home node
 
-comes : (t : Topology) (c : Config) (p : Port) (o : Object) (n : Option Network) → network_named c p.network ≡ n
+comes : (t : Topology) (c : Config) (p : Port) (o : LowObject) (n : Option Network) → network_named c p.network ≡ n
     → option_and_then (λ n. option_map (attached_port p n) (node_named t p.node)) n ≡ Some o → FromPort t c p o
 comes t c p o None e h = cc
 comes t c p o (Some n) e h =
@@ -116,7 +116,7 @@ comes t c p o (Some n) e h =
       is = sym m.2;
     }
 
-pub from_port : (t : Topology) (c : Config) (p : Port) (o : Object) → port_object t c p ≡ Some o → FromPort t c p o
+pub from_port : (t : Topology) (c : Config) (p : Port) (o : LowObject) → port_object t c p ≡ Some o → FromPort t c p o
 from_port t c p o h = comes t c p o (network_named c p.network) refl h
 
 gives_port : (t : Topology) (c : Config) (n : Network) (p : Port) (d : Node) → IsValid t c → IsPort t c n p d
@@ -126,12 +126,12 @@ gives_port t c n p d v at =
     ap (λ (o : Option Network). option_and_then (λ n. option_map (attached_port p n) (node_named t p.node)) o) home
     ∙ ap (λ (o : Option Node). option_map (attached_port p n) o) (is_node t c p.node d v at.has_node at.node_of)
 
-pub record FromCircuit (t : Topology) (k : Circuit) (o : Object) : Type 0 where
+pub record FromCircuit (t : Topology) (k : Circuit) (o : LowObject) : Type 0 where
   pub node : Node
   pub at : IsCircuitAt t k node
   pub is : o ≡ attached_circuit k node
 
-pub from_circuit : (t : Topology) (k : Circuit) (o : Object) → circuit_object t k ≡ Some o → FromCircuit t k o
+pub from_circuit : (t : Topology) (k : Circuit) (o : LowObject) → circuit_object t k ≡ Some o → FromCircuit t k o
 from_circuit t k o h =
     let m = mapped_some (attached_circuit k) (node_named t k.service.node) o h in
     let node = node_is t k.service.node m.0 m.1 in
@@ -140,7 +140,7 @@ from_circuit t k o h =
 gives_circuit : (t : Topology) (c : Config) (k : Circuit) (d : Node) → IsValid t c → IsCircuitAt t k d → circuit_object t k ≡ Some (attached_circuit k d)
 gives_circuit t c k d v at = ap (λ (o : Option Node). option_map (attached_circuit k) o) (is_node t c k.service.node d v at.has_node at.node_of)
 
-circuit_is : (t : Topology) (c : Config) (u : Use) (o : Object) → IsUse c u → Contains (circuit_objects t u) o → IsObject t c o
+circuit_is : (t : Topology) (c : Config) (u : ConfiguredUse) (o : LowObject) → IsUse c u → Contains (circuit_objects t u) o → IsObject t c o
 circuit_is t c u o used h =
     let g = given (circuit_object t) (left_circuits u ++ right_circuits u) o h in
     let f = from_circuit t g.0 o g.2 in
@@ -203,22 +203,22 @@ are_hops t c (s ∷ ss) (x ∷ xs) v h =
 
 -- ---- all of them
 
-abbrev pub instance_part : Config → List Object
+abbrev pub instance_part : Config → List LowObject
 instance_part c = map (instance_object c) c.networks
 
-abbrev pub port_part : Topology → Config → List Object
+abbrev pub port_part : Topology → Config → List LowObject
 port_part t c = filter_map (port_object t c) c.ports
 
-abbrev pub circuit_part : Topology → Config → List Object
+abbrev pub circuit_part : Topology → Config → List LowObject
 circuit_part t c = flat_map (circuit_objects t) (uses c)
 
-abbrev pub acl_part : Config → List Object
+abbrev pub acl_part : Config → List LowObject
 acl_part c = flat_map (acl_objects c) c.networks
 
-abbrev pub use_part : Topology → Config → List Object
+abbrev pub use_part : Topology → Config → List LowObject
 use_part t c = map (use_object t) (uses c)
 
-module _ (t : Topology) (c : Config) (v : IsValid t c) (o : Object) where
+module _ (t : Topology) (c : Config) (v : IsValid t c) (o : LowObject) where
   instance_is : Contains (instance_part c) o → IsObject t c o
   instance_is h =
       let q = mapped_is (instance_object c) c.networks o h in
@@ -278,7 +278,7 @@ module _ (t : Topology) (c : Config) (v : IsValid t c) (o : Object) where
   in_ports : Contains (port_part t c) o → Contains (objects t c) o
   in_ports h = after_instances (Contains-append_left (port_part t c) (circuit_part t c ++ (acl_part c ++ use_part t c)) o h)
 
-  in_circuits : (u : Use) (k : Circuit) (d : Node) → IsUse c u → Contains (left_circuits u ++ right_circuits u) k → IsCircuitAt t k d
+  in_circuits : (u : ConfiguredUse) (k : Circuit) (d : Node) → IsUse c u → Contains (left_circuits u ++ right_circuits u) k → IsCircuitAt t k d
       → o ≡ attached_circuit k d → Contains (objects t c) o
   in_circuits u k d used inside at is =
       let of : Contains (circuit_objects t u) (attached_circuit k d) = gives (circuit_object t) (left_circuits u ++ right_circuits u) k (attached_circuit k d) inside (gives_circuit t c k d v at) in

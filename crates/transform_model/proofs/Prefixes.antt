@@ -32,7 +32,7 @@ use Rattle.config_check.proofs.Nested.{overlap_at}
 use Rattle.config_check.proofs.OneHome.{HasBlocks, blocks_of, meet, one_home, two_among, networks_have_form}
 use Rattle.transform_model.specs.IsUse.{IsUse}
 use Rattle.transform_model.specs.Tables.{Row, port_row, network_rows, rows_of, row_towards, circuits_in, circuit_row, holds_port, held_subnets, subnet_rows, end_row, end_rows, hop_rows, instance_table}
-use Rattle.transform_model.specs.Uses.{Use, Circuit, uses, first_hop, last_hop, left_circuits, right_circuits}
+use Rattle.transform_model.specs.Uses.{ConfiguredUse, Circuit, uses, first_hop, last_hop, left_circuits, right_circuits}
 use Rattle.transform_model.proofs.Circuits as circuit
 use Rattle.transform_model.proofs.Circuits.{left_number, right_number, lefts_differ, rights_differ, circuits_differ}
 use Rattle.transform_model.proofs.InUse.{named, few_services, ends_differ, around_right, use_is, uses_differ}
@@ -92,7 +92,7 @@ action_form r h =
     sixth_of_six (has_end_form r.source) (has_end_form r.destination) (has_protocol_form r.protocol) (is_range r.source_ports) (is_range r.destination_ports)
     (has_action_form r.action) h
 
-pub use_number : (c : Config) (u : Use) → IsTrue (has_config_form c) → IsUse c u → u.number ≤ 3071
+pub use_number : (c : Config) (u : ConfiguredUse) → IsTrue (has_config_form c) → IsUse c u → u.number ≤ 3071
 use_number c u form h =
     let policy = All-contains (λ (p : Policy). IsTrue (has_policy_form p)) c.policies h.policy (policies_form c form) h.has_policy in
     let rule = All-contains (λ (r : Rule). IsTrue (has_rule_form r)) h.policy.rules h.rule (rules_form h.policy policy) h.has_rule in
@@ -198,12 +198,12 @@ record OnSide (n : Network) (i : InstanceId) (number place : ℕ) (r : Row) : Ty
   lies : LiesIn n r.0.1
 
 -- a row of a circuit
-record OfCircuit (i : InstanceId) (u : Use) (r : Row) : Type 0 where
+record OfCircuit (i : InstanceId) (u : ConfiguredUse) (r : Row) : Type 0 where
   circuit : Circuit
   side : LeftIn u i circuit ⊎ RightIn u i circuit
   prefix : r.0.1 ≡ host_prefix (circuit_address_of circuit.number).0
 
-module _ (t : Topology) (c : Config) (v : IsValid t c) (form : IsTrue (has_config_form c)) (i : InstanceId) (u : Use) (used : IsUse c u) where
+module _ (t : Topology) (c : Config) (v : IsValid t c) (form : IsTrue (has_config_form c)) (i : InstanceId) (u : ConfiguredUse) (used : IsUse c u) where
   few : length u.services ≤ 15
   few = few_services t c u v used
 

@@ -24,7 +24,7 @@ use Rattle.config_check.proofs.Finders.{finds_network_named, finds_network_numbe
 use Rattle.transform_model.specs.IsRow.{IsRow, to_port, to_left_circuit, to_right_circuit, to_right_subnet, to_left_subnet, at_left_end, at_right_end, IsPort, IsCircuitAt, HoldsPort}
 use Rattle.transform_model.specs.IsUse.{IsUse, IsLeftCircuit, IsRightCircuit}
 use Rattle.transform_model.specs.Tables.{Row, host_route, row_if, port_row, network_rows, rows_of, circuit_route, row_towards, circuits_in, circuit_row, holds_port, held_subnets, subnet_rows, end_row, end_rows, hop_rows, instance_table}
-use Rattle.transform_model.specs.Uses.{Use, Circuit, uses, first_hop, last_hop, left_circuits, right_circuits}
+use Rattle.transform_model.specs.Uses.{ConfiguredUse, Circuit, uses, first_hop, last_hop, left_circuits, right_circuits}
 use Rattle.transform_model.proofs.Circuits.{left_is, is_left, right_is, is_right, left_instance, right_instance}
 use Rattle.transform_model.proofs.InUse.{named, use_is, is_use}
 use Rattle.policy_rules.proofs.Lists.{joined_is, is_joined, kept_is, is_kept}
@@ -142,22 +142,22 @@ to_circuit t c i k prefix d v at =
     ap (λ (o : Option Node). option_map (circuit_route i prefix k) o) (is_node t c k.service.node d v at.has_node at.node_of)
 
 -- a left circuit in an instance, and a right one
-pub record LeftIn (u : Use) (i : InstanceId) (k : Circuit) : Type 0 where
+pub record LeftIn (u : ConfiguredUse) (i : InstanceId) (k : Circuit) : Type 0 where
   pub place : ℕ
   pub is : IsLeftCircuit u place k
   pub at : i ≡ hop_instance_of u.number place
 
-pub record RightIn (u : Use) (i : InstanceId) (k : Circuit) : Type 0 where
+pub record RightIn (u : ConfiguredUse) (i : InstanceId) (k : Circuit) : Type 0 where
   pub place : ℕ
   pub is : IsRightCircuit u place k
   pub at : i ≡ hop_instance_of u.number (place + 1)
 
-left_here : (u : Use) (i : InstanceId) (k : Circuit) → Contains (left_circuits u) k → IsTrue ((circuit_instance_of k.number).0 == i.0) → LeftIn u i k
+left_here : (u : ConfiguredUse) (i : InstanceId) (k : Circuit) → Contains (left_circuits u) k → IsTrue ((circuit_instance_of k.number).0 == i.0) → LeftIn u i k
 left_here u i k inside here =
     let q = left_is u k inside in
     record { place = q.0; is = q.1; at = sym (same_instance (circuit_instance_of k.number) i here) ∙ left_instance u q.0 k q.1 }
 
-right_here : (u : Use) (i : InstanceId) (k : Circuit) → Contains (right_circuits u) k → IsTrue ((circuit_instance_of k.number).0 == i.0) → RightIn u i k
+right_here : (u : ConfiguredUse) (i : InstanceId) (k : Circuit) → Contains (right_circuits u) k → IsTrue ((circuit_instance_of k.number).0 == i.0) → RightIn u i k
 right_here u i k inside here =
     let q = right_is u k inside in
     record { place = q.0; is = q.1; at = sym (same_instance (circuit_instance_of k.number) i here) ∙ right_instance u q.0 k q.1 }
@@ -165,13 +165,13 @@ right_here u i k inside here =
 abbrev pub is_in : InstanceId → Circuit → Bool
 is_in i k = (circuit_instance_of k.number).0 == i.0
 
-pub left_in : (u : Use) (i : InstanceId) (k : Circuit) → Contains (circuits_in i (left_circuits u)) k → LeftIn u i k
+pub left_in : (u : ConfiguredUse) (i : InstanceId) (k : Circuit) → Contains (circuits_in i (left_circuits u)) k → LeftIn u i k
 left_in u i k h = let q = kept_is (is_in i) (left_circuits u) k h in left_here u i k q.0 q.1
 
-pub right_in : (u : Use) (i : InstanceId) (k : Circuit) → Contains (circuits_in i (right_circuits u)) k → RightIn u i k
+pub right_in : (u : ConfiguredUse) (i : InstanceId) (k : Circuit) → Contains (circuits_in i (right_circuits u)) k → RightIn u i k
 right_in u i k h = let q = kept_is (is_in i) (right_circuits u) k h in right_here u i k q.0 q.1
 
-pub either_in : (u : Use) (i : InstanceId) (k : Circuit) → Contains (circuits_in i (left_circuits u ++ right_circuits u)) k → LeftIn u i k ⊎ RightIn u i k
+pub either_in : (u : ConfiguredUse) (i : InstanceId) (k : Circuit) → Contains (circuits_in i (left_circuits u ++ right_circuits u)) k → LeftIn u i k ⊎ RightIn u i k
 either_in u i k h =
     let q = kept_is (is_in i) (left_circuits u ++ right_circuits u) k h in
     elim (Contains-append_cases (left_circuits u) (right_circuits u) k q.0) [
@@ -180,19 +180,19 @@ either_in u i k h =
     ]
 
 -- it is in its instance
-here_left : (u : Use) (i : InstanceId) (k : Circuit) → LeftIn u i k → is_in i k ≡ true
+here_left : (u : ConfiguredUse) (i : InstanceId) (k : Circuit) → LeftIn u i k → is_in i k ≡ true
 here_left u i k h = eq-eqb (circuit_instance_of k.number).0 i.0 (ap (λ (j : InstanceId). j.0) (left_instance u h.place k h.is ∙ sym h.at))
 
-here_right : (u : Use) (i : InstanceId) (k : Circuit) → RightIn u i k → is_in i k ≡ true
+here_right : (u : ConfiguredUse) (i : InstanceId) (k : Circuit) → RightIn u i k → is_in i k ≡ true
 here_right u i k h = eq-eqb (circuit_instance_of k.number).0 i.0 (ap (λ (j : InstanceId). j.0) (right_instance u h.place k h.is ∙ sym h.at))
 
-in_left : (u : Use) (i : InstanceId) (k : Circuit) → LeftIn u i k → Contains (circuits_in i (left_circuits u)) k
+in_left : (u : ConfiguredUse) (i : InstanceId) (k : Circuit) → LeftIn u i k → Contains (circuits_in i (left_circuits u)) k
 in_left u i k h = is_kept (is_in i) (left_circuits u) k (is_left u h.place k h.is) (here_left u i k h)
 
-in_right : (u : Use) (i : InstanceId) (k : Circuit) → RightIn u i k → Contains (circuits_in i (right_circuits u)) k
+in_right : (u : ConfiguredUse) (i : InstanceId) (k : Circuit) → RightIn u i k → Contains (circuits_in i (right_circuits u)) k
 in_right u i k h = is_kept (is_in i) (right_circuits u) k (is_right u h.place k h.is) (here_right u i k h)
 
-in_either : (u : Use) (i : InstanceId) (k : Circuit) → LeftIn u i k ⊎ RightIn u i k → Contains (circuits_in i (left_circuits u ++ right_circuits u)) k
+in_either : (u : ConfiguredUse) (i : InstanceId) (k : Circuit) → LeftIn u i k ⊎ RightIn u i k → Contains (circuits_in i (left_circuits u ++ right_circuits u)) k
 in_either u i k h =
     let both = left_circuits u ++ right_circuits u in
     elim h [
@@ -220,19 +220,19 @@ is_held c n prefix h =
 
 -- ---- its rows
 
-abbrev pub circuit_part : Topology → InstanceId → Use → List Row
+abbrev pub circuit_part : Topology → InstanceId → ConfiguredUse → List Row
 circuit_part t i u = filter_map (circuit_row t i) (circuits_in i (left_circuits u ++ right_circuits u))
 
-abbrev pub right_part : Topology → Config → InstanceId → Use → List Row
+abbrev pub right_part : Topology → Config → InstanceId → ConfiguredUse → List Row
 right_part t c i u = flat_map (subnet_rows t c i u.right) (circuits_in i (left_circuits u))
 
-abbrev pub left_part : Topology → Config → InstanceId → Use → List Row
+abbrev pub left_part : Topology → Config → InstanceId → ConfiguredUse → List Row
 left_part t c i u = flat_map (subnet_rows t c i u.left) (circuits_in i (right_circuits u))
 
-abbrev pub first_part : Topology → Config → InstanceId → Use → List Row
+abbrev pub first_part : Topology → Config → InstanceId → ConfiguredUse → List Row
 first_part t c i u = end_rows t c i (first_hop u) u.left
 
-abbrev pub last_part : Topology → Config → InstanceId → Use → List Row
+abbrev pub last_part : Topology → Config → InstanceId → ConfiguredUse → List Row
 last_part t c i u = end_rows t c i (last_hop u) u.right
 
 -- a row that leads to an end of a chain
@@ -290,7 +290,7 @@ to_subnet t c i n ks k prefix d v in_k held at =
     is_joined (subnet_rows t c i n) ks k (circuit_route i prefix k d) in_k
     (gives (row_towards t i k) (held_subnets c n) prefix (circuit_route i prefix k d) (is_held c n prefix held) (to_circuit t c i k prefix d v at))
 
-circuit_is : (t : Topology) (c : Config) (i : InstanceId) (u : Use) (r : Row) → IsUse c u → Contains (circuit_part t i u) r → IsRow t c i r
+circuit_is : (t : Topology) (c : Config) (i : InstanceId) (u : ConfiguredUse) (r : Row) → IsUse c u → Contains (circuit_part t i u) r → IsRow t c i r
 circuit_is t c i u r used h =
     let g = given (circuit_row t i) (circuits_in i (left_circuits u ++ right_circuits u)) r h in
     let k : Circuit = g.0 in
@@ -300,29 +300,29 @@ circuit_is t c i u r used h =
       | inr right ↦ to_right_circuit u right.place k to.node used right.is to.at right.at to.route
     ]
 
-right_subnet_is : (t : Topology) (c : Config) (i : InstanceId) (u : Use) (r : Row) → IsUse c u → Contains (right_part t c i u) r → IsRow t c i r
+right_subnet_is : (t : Topology) (c : Config) (i : InstanceId) (u : ConfiguredUse) (r : Row) → IsUse c u → Contains (right_part t c i u) r → IsRow t c i r
 right_subnet_is t c i u r used h =
     let q = towards_subnet t c i u.right (circuits_in i (left_circuits u)) r h in
     let left = left_in u i q.circuit q.there in
     to_right_subnet u left.place q.circuit q.towards.node q.prefix used left.is q.towards.at q.held left.at q.towards.route
 
-left_subnet_is : (t : Topology) (c : Config) (i : InstanceId) (u : Use) (r : Row) → IsUse c u → Contains (left_part t c i u) r → IsRow t c i r
+left_subnet_is : (t : Topology) (c : Config) (i : InstanceId) (u : ConfiguredUse) (r : Row) → IsUse c u → Contains (left_part t c i u) r → IsRow t c i r
 left_subnet_is t c i u r used h =
     let q = towards_subnet t c i u.left (circuits_in i (right_circuits u)) r h in
     let right = right_in u i q.circuit q.there in
     to_left_subnet u right.place q.circuit q.towards.node q.prefix used right.is q.towards.at q.held right.at q.towards.route
 
-first_is : (t : Topology) (c : Config) (i : InstanceId) (u : Use) (r : Row) → IsUse c u → Contains (first_part t c i u) r → IsRow t c i r
+first_is : (t : Topology) (c : Config) (i : InstanceId) (u : ConfiguredUse) (r : Row) → IsUse c u → Contains (first_part t c i u) r → IsRow t c i r
 first_is t c i u r used h =
     let e = at_end t c i (first_hop u) u.left r h in
     at_left_end u e.port e.node used (end_port t c i (first_hop u) u.left r used.has_left e) e.at e.route
 
-last_is : (t : Topology) (c : Config) (i : InstanceId) (u : Use) (r : Row) → IsUse c u → Contains (last_part t c i u) r → IsRow t c i r
+last_is : (t : Topology) (c : Config) (i : InstanceId) (u : ConfiguredUse) (r : Row) → IsUse c u → Contains (last_part t c i u) r → IsRow t c i r
 last_is t c i u r used h =
     let e = at_end t c i (last_hop u) u.right r h in
     at_right_end u e.port e.node used (end_port t c i (last_hop u) u.right r used.has_right e) e.at e.route
 
-hop_row : (t : Topology) (c : Config) (i : InstanceId) (u : Use) (r : Row) → IsUse c u → Contains (hop_rows t c i u) r → IsRow t c i r
+hop_row : (t : Topology) (c : Config) (i : InstanceId) (u : ConfiguredUse) (r : Row) → IsUse c u → Contains (hop_rows t c i u) r → IsRow t c i r
 hop_row t c i u r used h =
     let ends = first_part t c i u ++ last_part t c i u in
     elim (Contains-append_cases (circuit_part t i u) (right_part t c i u ++ (left_part t c i u ++ ends)) r h) [
@@ -349,35 +349,35 @@ row_is t c i r h =
     ]
 
 module _ (t : Topology) (c : Config) (i : InstanceId) (v : IsValid t c) where
-  of_hop : (u : Use) (r : Row) → IsUse c u → Contains (hop_rows t c i u) r → Contains (instance_table t c i) r
+  of_hop : (u : ConfiguredUse) (r : Row) → IsUse c u → Contains (hop_rows t c i u) r → Contains (instance_table t c i) r
   of_hop u r used h =
       Contains-append_right (rows_of t c (network_numbered c i.0)) (flat_map (hop_rows t c i) (uses c)) r
       (is_joined (hop_rows t c i) (uses c) u r (is_use t c u v used) h)
 
-  abbrev after_circuits : Use → List Row
+  abbrev after_circuits : ConfiguredUse → List Row
   after_circuits u = right_part t c i u ++ (left_part t c i u ++ (first_part t c i u ++ last_part t c i u))
 
-  abbrev after_right : Use → List Row
+  abbrev after_right : ConfiguredUse → List Row
   after_right u = left_part t c i u ++ (first_part t c i u ++ last_part t c i u)
 
-  in_circuits : (u : Use) (r : Row) → IsUse c u → Contains (circuit_part t i u) r → Contains (instance_table t c i) r
+  in_circuits : (u : ConfiguredUse) (r : Row) → IsUse c u → Contains (circuit_part t i u) r → Contains (instance_table t c i) r
   in_circuits u r used h = of_hop u r used (Contains-append_left (circuit_part t i u) (after_circuits u) r h)
 
-  in_right_part : (u : Use) (r : Row) → IsUse c u → Contains (right_part t c i u) r → Contains (instance_table t c i) r
+  in_right_part : (u : ConfiguredUse) (r : Row) → IsUse c u → Contains (right_part t c i u) r → Contains (instance_table t c i) r
   in_right_part u r used h =
       of_hop u r used (Contains-append_right (circuit_part t i u) (after_circuits u) r (Contains-append_left (right_part t c i u) (after_right u) r h))
 
-  in_after_right : (u : Use) (r : Row) → IsUse c u → Contains (after_right u) r → Contains (instance_table t c i) r
+  in_after_right : (u : ConfiguredUse) (r : Row) → IsUse c u → Contains (after_right u) r → Contains (instance_table t c i) r
   in_after_right u r used h =
       of_hop u r used (Contains-append_right (circuit_part t i u) (after_circuits u) r (Contains-append_right (right_part t c i u) (after_right u) r h))
 
-  in_left_part : (u : Use) (r : Row) → IsUse c u → Contains (left_part t c i u) r → Contains (instance_table t c i) r
+  in_left_part : (u : ConfiguredUse) (r : Row) → IsUse c u → Contains (left_part t c i u) r → Contains (instance_table t c i) r
   in_left_part u r used h = in_after_right u r used (Contains-append_left (left_part t c i u) (first_part t c i u ++ last_part t c i u) r h)
 
-  in_ends : (u : Use) (r : Row) → IsUse c u → Contains (first_part t c i u ++ last_part t c i u) r → Contains (instance_table t c i) r
+  in_ends : (u : ConfiguredUse) (r : Row) → IsUse c u → Contains (first_part t c i u ++ last_part t c i u) r → Contains (instance_table t c i) r
   in_ends u r used h = in_after_right u r used (Contains-append_right (left_part t c i u) (first_part t c i u ++ last_part t c i u) r h)
 
-  to_host : (u : Use) (k : Circuit) (d : Node) → LeftIn u i k ⊎ RightIn u i k → IsCircuitAt t k d
+  to_host : (u : ConfiguredUse) (k : Circuit) (d : Node) → LeftIn u i k ⊎ RightIn u i k → IsCircuitAt t k d
       → Contains (circuit_part t i u) (circuit_route i (host_prefix (circuit_address_of k.number).0) k d)
   to_host u k d side at =
       let prefix : Block = host_prefix (circuit_address_of k.number).0 in

@@ -17,21 +17,21 @@ use Rattle.config_model.specs.declared.topology.Topology.{Topology}
 use Rattle.config_check.specs.Checked.{Checked}
 use Rattle.node_model.specs.Agent.{acl_entry, attached, needed_by}
 use Rattle.node_model.specs.Wants.{is_at, port_at}
-use Rattle.transform_model.specs.Objects.{Object, ascending_instances, low_objects}
+use Rattle.transform_model.specs.Objects.{LowObject, ascending_instances, low_objects}
 use Rattle.transform_model.specs.Tables.{Row, control_rows, tables_of}
 use Rattle.transform_model.specs.declared.tables.Compiled.{Compiled}
 
 -- the networks of the ports at an address
-abbrev pub networks_at : List Object → Addr → List InstanceId
+abbrev pub networks_at : List LowObject → Addr → List InstanceId
 networks_at low a = filter_map (λ e. port_at a e.1) low
 
 -- what concerns the agent at an address: the attachments there, and the access lists of its ports' networks
-abbrev pub concerns : List Object → Addr → LowKey → LowValue → Bool
+abbrev pub concerns : List LowObject → Addr → LowKey → LowValue → Bool
 concerns low a (Attach label) v = is_at a v
 concerns low a (Acl from to) v = list_any (λ n. n.0 == from) (networks_at low a)
 concerns low a _ v = false
 
-abbrev pub slice_of : List Object → Addr → List Object
+abbrev pub slice_of : List LowObject → Addr → List LowObject
 slice_of low a = filter (λ e. concerns low a e.0 e.1) low
 
 -- a row without its distinguisher
@@ -39,7 +39,7 @@ abbrev pub route_of : Row → (InstanceId × Block) × Entry
 route_of r = (r.0, record { next_hop = r.1.next_hop; label = r.1.label })
 
 -- the rows of an agent by what concerns it: its labels, its access lists, and the tables of the instances that it needs
-abbrev pub agent_rows_by : Topology → Config → List Object → AgentRows
+abbrev pub agent_rows_by : Topology → Config → List LowObject → AgentRows
 agent_rows_by t c slice = record {
   labels = filter_map (λ e. attached e.0 e.1) slice;
   acls = filter_map (λ e. acl_entry e.0 e.1) slice;

@@ -13,7 +13,7 @@ use Rattle.config_model.specs.declared.topology.Node.{Node}
 use Rattle.config_model.specs.declared.topology.Topology.{Topology}
 use Rattle.transform_model.specs.IsRow.{IsCircuitAt, IsPort}
 use Rattle.transform_model.specs.IsUse.{IsUse, IsLeftCircuit, IsRightCircuit}
-use Rattle.transform_model.specs.Uses.{Use, Circuit}
+use Rattle.transform_model.specs.Uses.{ConfiguredUse, Circuit}
 
 -- the instance of what a label leads to
 abbrev pub instance_of : Attached → InstanceId
@@ -25,6 +25,6 @@ instance_of (Is.Circuit circuit service) = circuit_instance_of circuit
 pub data IsLabel (t : Topology) (c : Config) (a : Addr) (l : Label × Attached) : Type 0 where
   of_port : (home : Network) (port : Port) (node : Node) → IsPort t c home port node → a ≡ node.address
       → l ≡ (port_label_of port.id, Is.Port port.id home.id) → IsLabel t c a l
-  of_circuit : (u : Use) (j : ℕ) (k : Circuit) (node : Node) → IsUse c u
+  of_circuit : (u : ConfiguredUse) (j : ℕ) (k : Circuit) (node : Node) → IsUse c u
       → IsLeftCircuit u j k ⊎ IsRightCircuit u j k → IsCircuitAt t k node → a ≡ node.address
       → l ≡ (circuit_label_of k.number, Is.Circuit k.number k.service.id) → IsLabel t c a l

@@ -17,9 +17,9 @@ use Rattle.policy_rules.specs.Standing.{AreRelated}
 use Rattle.acl_compile.specs.Oriented.{acl_value}
 use Rattle.transform_model.specs.IsRow.{IsCircuitAt, IsPort, IsRow}
 use Rattle.transform_model.specs.IsUse.{IsUse, IsLeftCircuit, IsRightCircuit}
-use Rattle.transform_model.specs.Objects.{Object}
+use Rattle.transform_model.specs.Objects.{LowObject}
 use Rattle.transform_model.specs.Tables.{Row}
-use Rattle.transform_model.specs.Uses.{Use, Circuit}
+use Rattle.transform_model.specs.Uses.{ConfiguredUse, Circuit}
 
 -- a port of a network is at the node of an address
 pub record HasPortAt (t : Topology) (c : Config) (a : Addr) (n : Network) : Type 0 where
@@ -32,16 +32,16 @@ pub record HasPortAt (t : Topology) (c : Config) (a : Addr) (n : Network) : Type
 pub data IsNeeded (t : Topology) (c : Config) (a : Addr) (i : InstanceId) : Type 0 where
   -- that of the network of a port there, and of a circuit there
   by_port : (n : Network) → HasPortAt t c a n → i ≡ n.id → IsNeeded t c a i
-  by_circuit : (u : Use) (j : ℕ) (k : Circuit) (node : Node) → IsUse c u → IsLeftCircuit u j k ⊎ IsRightCircuit u j k
+  by_circuit : (u : ConfiguredUse) (j : ℕ) (k : Circuit) (node : Node) → IsUse c u → IsLeftCircuit u j k ⊎ IsRightCircuit u j k
       → IsCircuitAt t k node → a ≡ node.address → i ≡ circuit_instance_of k.number → IsNeeded t c a i
   -- where packets of a port there enter a chain: that of the first hop, from the left network
-  by_first_hop : (u : Use) → IsUse c u → HasPortAt t c a u.left → i ≡ hop_instance_of u.number 0 → IsNeeded t c a i
+  by_first_hop : (u : ConfiguredUse) → IsUse c u → HasPortAt t c a u.left → i ≡ hop_instance_of u.number 0 → IsNeeded t c a i
   -- and that of the last, from the right network, by a rule of both directions
-  by_last_hop : (u : Use) (used : IsUse c u) → used.rule.direction ≡ BothWays → HasPortAt t c a u.right
+  by_last_hop : (u : ConfiguredUse) (used : IsUse c u) → used.rule.direction ≡ BothWays → HasPortAt t c a u.right
       → i ≡ hop_instance_of u.number (length u.services) → IsNeeded t c a i
 
 -- an access list of the agent at an address: of the network of a port there, towards itself or one related to it
-pub record IsAccessList (t : Topology) (c : Config) (a : Addr) (o : Object) : Type 0 where
+pub record IsAccessList (t : Topology) (c : Config) (a : Addr) (o : LowObject) : Type 0 where
   pub from : Network
   pub to : Network
   pub has_port : HasPortAt t c a from

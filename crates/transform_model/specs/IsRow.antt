@@ -13,7 +13,7 @@ use Rattle.policy_rules.specs.Standing.{PassesBetween}
 use Rattle.std.specs.Prelude.{length, ◌+◌}
 use Rattle.transform_model.specs.IsUse.{IsUse, IsLeftCircuit, IsRightCircuit}
 use Rattle.transform_model.specs.Tables.{Row, host_route, circuit_route}
-use Rattle.transform_model.specs.Uses.{Use, Circuit}
+use Rattle.transform_model.specs.Uses.{ConfiguredUse, Circuit}
 
 -- a port of a network, and the node where it is
 pub record IsPort (t : Topology) (c : Config) (home : Network) (port : Port) (node : Node) : Type 0 where
@@ -43,23 +43,23 @@ pub data IsRow (t : Topology) (c : Config) (i : InstanceId) (r : Row) : Type 0 w
       → IsPort t c home port node → (network.name ≡ home.name) ⊎ PassesBetween c network home
       → i ≡ network.id → r ≡ host_route i home node port → IsRow t c i r
   -- behind service j of a use in effect and before the next, the route to the circuit that leads into the next
-  to_left_circuit : (u : Use) (j : ℕ) (k : Circuit) (node : Node) → IsUse c u → IsLeftCircuit u j k
+  to_left_circuit : (u : ConfiguredUse) (j : ℕ) (k : Circuit) (node : Node) → IsUse c u → IsLeftCircuit u j k
       → IsCircuitAt t k node → i ≡ hop_instance_of u.number j
       → r ≡ circuit_route i (host_prefix (circuit_address_of k.number).0) k node → IsRow t c i r
   -- and to the circuit that leads back
-  to_right_circuit : (u : Use) (j : ℕ) (k : Circuit) (node : Node) → IsUse c u → IsRightCircuit u j k
+  to_right_circuit : (u : ConfiguredUse) (j : ℕ) (k : Circuit) (node : Node) → IsUse c u → IsRightCircuit u j k
       → IsCircuitAt t k node → i ≡ hop_instance_of u.number (j + 1)
       → r ≡ circuit_route i (host_prefix (circuit_address_of k.number).0) k node → IsRow t c i r
   -- a subnet of the right network that holds a port of it, towards the circuit that leads on
-  to_right_subnet : (u : Use) (j : ℕ) (k : Circuit) (node : Node) (prefix : Block) → IsUse c u
+  to_right_subnet : (u : ConfiguredUse) (j : ℕ) (k : Circuit) (node : Node) (prefix : Block) → IsUse c u
       → IsLeftCircuit u j k → IsCircuitAt t k node → HoldsPort c u.right prefix
       → i ≡ hop_instance_of u.number j → r ≡ circuit_route i prefix k node → IsRow t c i r
   -- a subnet of the left network that holds a port of it, towards the circuit that leads back
-  to_left_subnet : (u : Use) (j : ℕ) (k : Circuit) (node : Node) (prefix : Block) → IsUse c u
+  to_left_subnet : (u : ConfiguredUse) (j : ℕ) (k : Circuit) (node : Node) (prefix : Block) → IsUse c u
       → IsRightCircuit u j k → IsCircuitAt t k node → HoldsPort c u.left prefix
       → i ≡ hop_instance_of u.number (j + 1) → r ≡ circuit_route i prefix k node → IsRow t c i r
   -- before the first service the route to a port of the left network, and behind the last to one of the right
-  at_left_end : (u : Use) (port : Port) (node : Node) → IsUse c u → IsPort t c u.left port node
+  at_left_end : (u : ConfiguredUse) (port : Port) (node : Node) → IsUse c u → IsPort t c u.left port node
       → i ≡ hop_instance_of u.number 0 → r ≡ host_route i u.left node port → IsRow t c i r
-  at_right_end : (u : Use) (port : Port) (node : Node) → IsUse c u → IsPort t c u.right port node
+  at_right_end : (u : ConfiguredUse) (port : Port) (node : Node) → IsUse c u → IsPort t c u.right port node
       → i ≡ hop_instance_of u.number (length u.services) → r ≡ host_route i u.right node port → IsRow t c i r

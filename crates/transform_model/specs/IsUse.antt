@@ -10,11 +10,11 @@ use Rattle.config_model.specs.declared.config.Network.{Network}
 use Rattle.config_model.specs.declared.config.Policy.{Policy}
 use Rattle.config_model.specs.declared.config.Rule.{Rule}
 use Rattle.chain_expand.specs.Expansion.{expansion}
-use Rattle.transform_model.specs.Uses.{Use, Circuit}
+use Rattle.transform_model.specs.Uses.{ConfiguredUse, Circuit}
 
 -- a use is in effect: a rule of a policy leads through a chain by the use's number, from the left network to the right
 -- one, which both attach that policy; its services are those of the chain
-pub record IsUse (c : Config) (u : Use) : Type 0 where
+pub record IsUse (c : Config) (u : ConfiguredUse) : Type 0 where
   pub policy : Policy
   pub rule : Rule
   pub chain : List ℕ
@@ -31,11 +31,11 @@ pub record IsUse (c : Config) (u : Use) : Type 0 where
 
 -- a circuit is the left one, or the right one, of the service at a place of a use; places count from 0 here, and the
 -- circuits' services from 1
-pub record IsLeftCircuit (u : Use) (place : ℕ) (k : Circuit) : Type 0 where
+pub record IsLeftCircuit (u : ConfiguredUse) (place : ℕ) (k : Circuit) : Type 0 where
   pub service : slice_get u.services place ≡ Some k.service
   pub number : k.number ≡ left_circuit_of u.number (place + 1)
 
-pub record IsRightCircuit (u : Use) (place : ℕ) (k : Circuit) : Type 0 where
+pub record IsRightCircuit (u : ConfiguredUse) (place : ℕ) (k : Circuit) : Type 0 where
   pub service : slice_get u.services place ≡ Some k.service
   pub number : k.number ≡ right_circuit_of u.number (place + 1)
 
@@ -43,4 +43,4 @@ pub record IsRightCircuit (u : Use) (place : ℕ) (k : Circuit) : Type 0 where
 -- one of them
 pub data IsInstance (c : Config) (i : InstanceId) : Type 0 where
   of_network : (n : Network) → Contains c.networks n → i ≡ n.id → IsInstance c i
-  of_hop : (u : Use) (j : ℕ) → IsUse c u → j ≤ length u.services → i ≡ hop_instance_of u.number j → IsInstance c i
+  of_hop : (u : ConfiguredUse) (j : ℕ) → IsUse c u → j ≤ length u.services → i ≡ hop_instance_of u.number j → IsInstance c i

@@ -17,14 +17,14 @@ use Rattle.config_model.specs.declared.topology.Node.{Node}
 use Rattle.config_model.specs.declared.topology.Topology.{Topology}
 use Rattle.policy_rules.specs.Related.{imports}
 use Rattle.config_check.specs.Finding.{network_named, network_numbered, node_named}
-use Rattle.transform_model.specs.Uses.{Use, Circuit, uses, hops, first_hop, last_hop, left_circuits, right_circuits}
+use Rattle.transform_model.specs.Uses.{ConfiguredUse, Circuit, uses, hops, first_hop, last_hop, left_circuits, right_circuits}
 
 -- an instance and a prefix, and where the instance's table leads for it
-abbrev pub Key : Type 0
-Key = InstanceId × Block
+abbrev pub TableKey : Type 0
+TableKey = InstanceId × Block
 
 abbrev pub Row : Type 0
-Row = Key × TableRow
+Row = TableKey × TableRow
 
 -- ---- routes to ports
 -- in an instance, the route to a port of a network at a node: the node's address and the port's label, and the
@@ -94,7 +94,7 @@ end_rows t c i end n = if i.0 == end.0 then filter_map (end_row t i n) c.ports e
 -- what a use gives an instance: the host route of each circuit there; each right subnet towards the left circuit there,
 -- which leads into the next service; each left subnet towards the right circuit there, which leads back; and the
 -- hosts of the left network at the first hop, of the right one at the last
-abbrev pub hop_rows : Topology → Config → InstanceId → Use → List Row
+abbrev pub hop_rows : Topology → Config → InstanceId → ConfiguredUse → List Row
 hop_rows t c i u =
     filter_map (circuit_row t i) (circuits_in i (left_circuits u ++ right_circuits u))
     ++ (flat_map (subnet_rows t c i u.right) (circuits_in i (left_circuits u))

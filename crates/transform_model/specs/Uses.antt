@@ -18,7 +18,7 @@ use Rattle.policy_rules.specs.Related.{attaches}
 use Rattle.config_check.specs.Finding.{network_named}
 
 -- the use of a chain by a rule: its number, the networks that the rule names, and the services of the chain
-pub record Use : Type 0 where
+pub record ConfiguredUse : Type 0 where
   pub number : ℕ
   pub left : Network
   pub right : Network
@@ -30,23 +30,23 @@ network_at c Any = None
 network_at c (Named name) = network_named c name
 
 -- it is in effect where both networks attach the policy of its rule
-abbrev pub use_between : Config → Policy → List ℕ → ℕ → Option Network → Option Network → Option Use
+abbrev pub use_between : Config → Policy → List ℕ → ℕ → Option Network → Option Network → Option ConfiguredUse
 use_between c p chain number (Some left) (Some right) =
     if attaches left p && attaches right p
     then Some (record { number = number; left = left; right = right; services = expansion c chain }) else None
 use_between c p chain number _ _ = None
 
-abbrev pub use_by : Config → Policy → Rule → Action → Option Use
+abbrev pub use_by : Config → Policy → Rule → Action → Option ConfiguredUse
 use_by c p r Pass = None
 use_by c p r Deny = None
 use_by c p r (Through chain number) =
     use_between c p chain number (network_at c r.source) (network_at c r.destination)
 
-abbrev pub uses_of : Config → Policy → List Use
+abbrev pub uses_of : Config → Policy → List ConfiguredUse
 uses_of c p = filter_map (λ r. use_by c p r r.action) p.rules
 
 -- the uses in effect, in the order of the document
-abbrev pub uses : Config → List Use
+abbrev pub uses : Config → List ConfiguredUse
 uses c = flat_map (uses_of c) c.policies
 
 -- ---- the instances of a use: one before its first service, and one behind each
@@ -54,13 +54,13 @@ abbrev pub hops_from : ℕ → ℕ → ℕ → List InstanceId
 hops_from number place zero = hop_instance_of number place ∷ []
 hops_from number place (suc more) = hop_instance_of number place ∷ hops_from number (place + 1) more
 
-abbrev pub hops : Use → List InstanceId
+abbrev pub hops : ConfiguredUse → List InstanceId
 hops u = hops_from u.number 0 (length u.services)
 
-abbrev pub first_hop : Use → InstanceId
+abbrev pub first_hop : ConfiguredUse → InstanceId
 first_hop u = hop_instance_of u.number 0
 
-abbrev pub last_hop : Use → InstanceId
+abbrev pub last_hop : ConfiguredUse → InstanceId
 last_hop u = hop_instance_of u.number (length u.services)
 
 -- ---- the circuits of a use
@@ -80,8 +80,8 @@ right_circuits_from number place (s ∷ ss) =
     record { number = right_circuit_of number place; service = s } ∷ right_circuits_from number (place + 1) ss
 
 -- the left and the right circuit of each service; services count from 1
-abbrev pub left_circuits : Use → List Circuit
+abbrev pub left_circuits : ConfiguredUse → List Circuit
 left_circuits u = left_circuits_from u.number 1 u.services
 
-abbrev pub right_circuits : Use → List Circuit
+abbrev pub right_circuits : ConfiguredUse → List Circuit
 right_circuits u = right_circuits_from u.number 1 u.services

@@ -26,15 +26,15 @@ ghost use Rattle.transform_model.specs.IsObject.{IsObject};
 ghost use Rattle.transform_model.specs.IsRow.{IsRow};
 ghost use Rattle.transform_model.specs.IsUse.{IsInstance, IsLeftCircuit, IsRightCircuit, IsUse};
 ghost use Rattle.transform_model.specs.Leads.{LeadsToCircuit, LeadsToPort};
-ghost use Rattle.transform_model.specs.Objects.{Object, low_objects, objects};
+ghost use Rattle.transform_model.specs.Objects.{LowObject, low_objects, objects};
 ghost use Rattle.transform_model.specs.Tables.{Row, circuit_route, control_rows, host_route, instance_table};
 ghost use Rattle.transform_model.specs.Tables.{instances, tables_of};
-ghost use Rattle.transform_model.specs.Uses.{Circuit, Use, left_circuits, right_circuits, uses};
+ghost use Rattle.transform_model.specs.Uses.{Circuit, ConfiguredUse, left_circuits, right_circuits, uses};
 
 /// In a valid configuration the uses are those of chain rules whose networks both attach the rule's policy, and no two
 /// have one number.
 pub fn uses_are_those_in_effect()
-    ensures exactly { (t : Topology) (c : Config) (u : Use) → first_broken t c ≡ None
+    ensures exactly { (t : Topology) (c : Config) (u : ConfiguredUse) → first_broken t c ≡ None
         → Contains (uses c) u ↔ IsUse c u }
     ensures distinct { (t : Topology) (c : Config) → first_broken t c ≡ None
         → AllPairs (λ u v. u.number ≢ v.number) (uses c) }
@@ -42,8 +42,8 @@ pub fn uses_are_those_in_effect()
 
 /// The circuits of a use are those of its services.
 pub fn circuits_are_of_services()
-    ensures left { (u : Use) (k : Circuit) → Contains (left_circuits u) k ↔ ((place : ℕ) × IsLeftCircuit u place k) }
-    ensures right { (u : Use) (k : Circuit) → Contains (right_circuits u) k ↔ ((place : ℕ) × IsRightCircuit u place k) }
+    ensures left { (u : ConfiguredUse) (k : Circuit) → Contains (left_circuits u) k ↔ ((place : ℕ) × IsLeftCircuit u place k) }
+    ensures right { (u : ConfiguredUse) (k : Circuit) → Contains (right_circuits u) k ↔ ((place : ℕ) × IsRightCircuit u place k) }
 {}
 
 /// In a valid configuration the instances are those of its networks and of the hops of its uses in effect, each once.
@@ -77,7 +77,7 @@ pub fn prefixes_are_distinct()
 
 /// In a valid configuration the low-level objects are exactly those that networks, ports, and uses in effect give.
 pub fn objects_are_exactly_these()
-    ensures { (t : Topology) (c : Config) (o : Object) → IsTrue (has_config_form c) → first_broken t c ≡ None
+    ensures { (t : Topology) (c : Config) (o : LowObject) → IsTrue (has_config_form c) → first_broken t c ≡ None
         → Contains (low_objects t c) o ↔ IsObject t c o }
 {}
 
@@ -131,7 +131,7 @@ pub fn labels_are_exactly_these()
 
 /// In a valid configuration an agent has exactly the access lists of the networks that have a port at its node.
 pub fn access_lists_are_exactly_these()
-    ensures { (t : Topology) (c : Config) (a : Addr) (o : Object) → IsTrue (has_config_form c)
+    ensures { (t : Topology) (c : Config) (a : Addr) (o : LowObject) → IsTrue (has_config_form c)
         → first_broken t c ≡ None → Contains (agent_rows t c a).acls o ↔ IsAccessList t c a o }
 {}
 

@@ -24,8 +24,8 @@ use Rattle.acl_compile.proofs.Orders.{ascending_permutes}
 use Rattle.transform_model.specs.IsObject.{AreImports, IsHop, IsObject, of_left_circuit, of_network, of_networks, of_port, of_right_circuit, of_use}
 use Rattle.transform_model.specs.IsRow.{IsCircuitAt, IsPort}
 use Rattle.transform_model.specs.IsUse.{IsUse, IsLeftCircuit, IsRightCircuit}
-use Rattle.transform_model.specs.Objects.{Object as LowObject}
-use Rattle.transform_model.specs.Uses.{Use, Circuit}
+use Rattle.transform_model.specs.Objects.{LowObject}
+use Rattle.transform_model.specs.Uses.{ConfiguredUse, Circuit}
 use Rattle.transform_model.proofs.Circuits.{left_number, right_number}
 use Rattle.transform_model.proofs.InUse.{few_services, services_are}
 use Rattle.transform_model.proofs.Lists.{place_within}
@@ -97,10 +97,10 @@ module _ (t : Topology) (c : Config) (nodes : IsTrue (has_topology_form t)) (for
       (between 16 655358 (2 ^ 19 + k.number) (omega (arith, least)) (omega (arith, most)))
       (ap (λ (b : Bool). cond b (Some i) None) (eq-eqb (2 ^ 19 + k.number) (2 ^ 19 + k.number) refl)) (plain i range refl)
 
-  service_of : (u : Use) (j : ℕ) (s : Service) → IsUse c u → slice_get u.services j ≡ Some s → Contains c.services s
+  service_of : (u : ConfiguredUse) (j : ℕ) (s : Service) → IsUse c u → slice_get u.services j ≡ Some s → Contains c.services s
   service_of u j s used at = services_are c u s used (contains_at u.services j s at)
 
-  left_told : (u : Use) (j : ℕ) (k : Circuit) (d : Node) → IsUse c u → IsLeftCircuit u j k → IsCircuitAt t k d
+  left_told : (u : ConfiguredUse) (j : ℕ) (k : Circuit) (d : Node) → IsUse c u → IsLeftCircuit u j k → IsCircuitAt t k d
       → Fits (Low (Key.Attach (circuit_label_of k.number).0)) (Object (Value.AttachCircuit k.number k.service.id d.address))
   left_told u j k d used is at =
       let number = left_number u j k is in
@@ -109,7 +109,7 @@ module _ (t : Topology) (c : Config) (nodes : IsTrue (has_topology_form t)) (for
       let place = place_within u.services j k.service is.service in
       circuit_told k d (omega arith) (omega arith) (service_of u j k.service used is.service) at
 
-  right_told : (u : Use) (j : ℕ) (k : Circuit) (d : Node) → IsUse c u → IsRightCircuit u j k → IsCircuitAt t k d
+  right_told : (u : ConfiguredUse) (j : ℕ) (k : Circuit) (d : Node) → IsUse c u → IsRightCircuit u j k → IsCircuitAt t k d
       → Fits (Low (Key.Attach (circuit_label_of k.number).0)) (Object (Value.AttachCircuit k.number k.service.id d.address))
   right_told u j k d used is at =
       let number = right_number u j k is in
@@ -144,7 +144,7 @@ module _ (t : Topology) (c : Config) (nodes : IsTrue (has_topology_form t)) (for
       })
 
   -- ---- uses
-  hops_pass : (u : Use) (hops : List (ServiceNo × Addr)) → IsUse c u → AllZip (IsHop t) u.services hops → list_all is_hop hops ≡ true
+  hops_pass : (u : ConfiguredUse) (hops : List (ServiceNo × Addr)) → IsUse c u → AllZip (IsHop t) u.services hops → list_all is_hop hops ≡ true
   hops_pass u hops used zip =
       each_passes is_hop hops
       (λ h at.
@@ -153,7 +153,7 @@ module _ (t : Topology) (c : Config) (nodes : IsTrue (has_topology_form t)) (for
       subst (λ (h : ServiceNo × Addr). is_hop h ≡ true) (sym s.2.is)
       (and_from (nat_le s.0.id.0 65535) (is_node_address s.2.node.address) service (node_fits t nodes s.2.node s.2.has_node)))
 
-  use_told : (u : Use) (hops : List (ServiceNo × Addr)) → IsUse c u → AllZip (IsHop t) u.services hops
+  use_told : (u : ConfiguredUse) (hops : List (ServiceNo × Addr)) → IsUse c u → AllZip (IsHop t) u.services hops
       → Fits (Low (Key.ChainUse u.number)) (Object (Value.ChainUse u.left.id u.right.id (ascending u.left.subnets) (ascending u.right.subnets) hops))
   use_told u hops used zip =
       let lefts = ascending u.left.subnets in

@@ -25,7 +25,7 @@ use Rattle.config_check.specs.Sentences.{ChainExists, EndExists, IsValid}
 use Rattle.config_check.proofs.EachRule.{straight_iff}
 use Rattle.config_check.proofs.Straight.{no_loop}
 use Rattle.transform_model.specs.IsUse.{IsUse}
-use Rattle.transform_model.specs.Uses.{Use}
+use Rattle.transform_model.specs.Uses.{ConfiguredUse}
 use Rattle.transform_model.proofs.InUse.{among_all, numbered}
 use Rattle.policy_rules.proofs.Lists.{mapped_is}
 use Rattle.transform_record_laws.proofs.Forms.{chain_has_hops}
@@ -91,7 +91,7 @@ module _ (t : Topology) (c : Config) (form : IsTrue (has_config_form c)) (v : Is
           some_services (expansion_expands c d.name (is_loop_free d.name) (names_things d.name)) some
 
   -- and so has a use
-  pub some_of_use : (u : Use) → IsUse c u → 1 ≤ length u.services
+  pub some_of_use : (u : ConfiguredUse) → IsUse c u → 1 ≤ length u.services
   some_of_use u h =
       let x = numbered h.policy h.rule h.has_rule in
       let there = among_all c h.policy x.0 h.has_policy x.1 in

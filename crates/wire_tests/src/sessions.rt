@@ -3,7 +3,7 @@
 use crate::fault::CaseFault;
 use crate::octets::octets;
 use crate::updates::push_deltas;
-use bgp_session::{Cause, Event, Reply, Session, State};
+use bgp_session::{Cause, SessionEvent, Reply, Session, State};
 use bgp_wire::{WireFault, read_message};
 use ov_io::TextOut;
 use ov_types::{Addr, Name, NoMemory, NodeId};
@@ -71,7 +71,7 @@ fn spelled(input: &str) -> &str {
     }
 }
 
-fn at_input(alloc: Global, session: &mut Session, input: &str) -> Result<Event, CaseFault> {
+fn at_input(alloc: Global, session: &mut Session, input: &str) -> Result<SessionEvent, CaseFault> {
     match input {
         "opened" => Ok(session.opened()),
         "closed" => Ok(session.closed()),
@@ -79,7 +79,7 @@ fn at_input(alloc: Global, session: &mut Session, input: &str) -> Result<Event, 
     }
 }
 
-fn at_octets(alloc: Global, session: &mut Session, input: &str) -> Result<Event, CaseFault> {
+fn at_octets(alloc: Global, session: &mut Session, input: &str) -> Result<SessionEvent, CaseFault> {
     let octets = octets(alloc, input)?;
     match read_message(octets.as_slice()) {
         Ok(Some((message, _))) => Ok(session.message(alloc, &message)?),
@@ -88,14 +88,14 @@ fn at_octets(alloc: Global, session: &mut Session, input: &str) -> Result<Event,
     }
 }
 
-fn push_event(event: &Event, out: &mut TextOut) -> Result<(), NoMemory> {
+fn push_event(event: &SessionEvent, out: &mut TextOut) -> Result<(), NoMemory> {
     match event {
-        Event::Quiet => out.push(b"-"),
-        Event::Send(Reply::Hello) => out.push(b"send open"),
-        Event::Send(Reply::Keepalive) => out.push(b"send keepalive"),
-        Event::Up => out.push(b"up"),
-        Event::Deltas(deltas) => push_deltas(deltas.as_slice(), out),
-        Event::Down { cause, reply } => push_down(*cause, *reply, out),
+        SessionEvent::Quiet => out.push(b"-"),
+        SessionEvent::Send(Reply::Hello) => out.push(b"send open"),
+        SessionEvent::Send(Reply::Keepalive) => out.push(b"send keepalive"),
+        SessionEvent::Up => out.push(b"up"),
+        SessionEvent::Deltas(deltas) => push_deltas(deltas.as_slice(), out),
+        SessionEvent::Down { cause, reply } => push_down(*cause, *reply, out),
     }
 }
 

@@ -6,7 +6,7 @@ use Rattle.ov_io.proofs.PieceLemmas.{cause_from, ends_cut, ends_whole, on_err, t
 use Rattle.ov_io.specs.Inputs.{TookFront}
 use Rattle.ov_io.specs.Pieces.{IsOnItsWay}
 use Rattle.flow_script.specs.Steps.{has_step_form}
-use Rattle.flow_script.specs.declared.step.Step.{Step}
+use Rattle.flow_script.specs.declared.step.FlowStep.{FlowStep}
 use Rattle.flow_answers.proofs.Telling.{first_line}
 use Rattle.flow_answers.proofs.replaying.write_steps.Goals as goal
 
@@ -40,7 +40,7 @@ loop-index-preserved g c =
           (subst (λ (t : List ℕ). IsOnItsWay (g.K.Sink.taken c.loop-index.sink) (g.K.Sink.taken c.write_piece.new.sink) c.write_piece.new.gathered [] t)
           c.in_ok-push_answer.ensures.ok c.in_ok-write_piece.ensures.ok);
       form = (and_parts (has_step_form c.index-steps-index.result) (list_all has_step_form (drop (i + 1) steps))
-          (subst (λ (xs : List Step). list_all has_step_form xs ≡ true) split c.loop-index.invariant.form)).1;
+          (subst (λ (xs : List FlowStep). list_all has_step_form xs ≡ true) split c.loop-index.invariant.form)).1;
       kept = c.in_ok-write_piece.ensures.cause ∙ c.loop-index.invariant.kept;
     }
 

@@ -1,5 +1,5 @@
 use Rattle.std.proofs.Common.{◌≡◌, ◌<◌, ◌≤◌, ◌-◌, ◌++◌, ℕ, map, [], ◌∷◌, ◌∙◌, arith, suc}
-use Rattle.packet_trace.specs.declared.step.Step.TheVariants as Does
+use Rattle.packet_trace.specs.declared.step.LookupStep.TheVariants as Does
 use Rattle.packet_trace.proofs.Places.{one_more, some_mapped}
 use Rattle.packet_trace.proofs.Walks.{all_hops, walk_step, hops_step, walk_on, hops_on, walk_spent, hops_spent}
 use Rattle.packet_trace.proofs.tracing.walk.Goals as goal

@@ -1,5 +1,5 @@
 use Rattle.node_core.proofs.Kept.{swept_few, swept_live}
-use Rattle.node_core.proofs.node.Node.sweep.Goals as goal
+use Rattle.node_core.proofs.node.NodeCore.sweep.Goals as goal
 
 pub returns-clause-few : goal.returns-clause-few
 returns-clause-few g c = swept_few (g.E.Ends.posts c.args.self.now.ends) _ _ c.sweep.ensures

@@ -2,7 +2,7 @@ use Rattle.std.proofs.Common.{◌<◌, ◌≤◌, List, ℕ, arith, length, subs
 use Rattle.std.specs.Prelude.{[]}
 use Rattle.std.proofs.lemmas.List.{get_or_read}
 use Rattle.node_core.proofs.Kept.{set_few, swept_few, swept_live}
-use Rattle.node_core.proofs.node.Node.step.Goals as goal
+use Rattle.node_core.proofs.node.NodeCore.step.Goals as goal
 
 pub returns-clause-few : goal.returns-clause-few
 returns-clause-few g c = λ few.

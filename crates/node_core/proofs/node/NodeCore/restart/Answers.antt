@@ -1,6 +1,6 @@
 use Rattle.std.proofs.Common.{◌∙◌, sym, ap, length}
 use Rattle.node_core.proofs.Kept.{nothing_left, nothings_long}
-use Rattle.node_core.proofs.node.Node.restart.Goals as goal
+use Rattle.node_core.proofs.node.NodeCore.restart.Goals as goal
 
 pub sweep-requires : goal.sweep-requires
 sweep-requires g c =
