@@ -31,7 +31,7 @@ use std::alloc::Global;
 use std::marker::Brand;
 use std::sync::ledger::{Blank, Ledger};
 use std::time::Instant;
-use vpn_stored_rows::Tables;
+use vpn_stored_rows::StoredTables;
 
 const ASN: u32 = 64512;
 
@@ -62,7 +62,7 @@ fn route(alloc: Global, port: u32, networks: u16) -> Result<VpnRoute, NoMemory> 
     Ok(VpnRoute { next_hop: Addr(0xc000_020c), label: Label(16u32.wrapping_add(port)), targets })
 }
 
-fn fill(alloc: Global, tables: &mut Tables, ports: u32, networks: u16) -> Result<(), NoMemory> {
+fn fill(alloc: Global, tables: &mut StoredTables, ports: u32, networks: u16) -> Result<(), NoMemory> {
     for number in 1..=networks {
         tables.set_low(Delta::Put(LowKey::Instance(number), network(alloc, networks)?))?;
     }
@@ -80,7 +80,7 @@ fn fill(alloc: Global, tables: &mut Tables, ports: u32, networks: u16) -> Result
 
 fn change<L: Ledger>(
     alloc: Global,
-    tables: &mut Tables,
+    tables: &mut StoredTables,
     ports: u32,
     networks: u16,
     rounds: u32,
@@ -96,7 +96,7 @@ fn change<L: Ledger>(
     Ok(())
 }
 
-fn ask(tables: &Tables, ports: u32, networks: u16, rounds: u32) -> Result<u32, NoMemory> {
+fn ask(tables: &StoredTables, ports: u32, networks: u16, rounds: u32) -> Result<u32, NoMemory> {
     let mut sum = 0u32;
     for round in 0..rounds {
         let port = round.wrapping_mul(7) % ports;
@@ -109,7 +109,7 @@ fn ask(tables: &Tables, ports: u32, networks: u16, rounds: u32) -> Result<u32, N
 
 fn main(rt: HostRuntime) {
     for (ports, networks, rounds) in [(64u32, 8u16, 50u32), (256, 32, 20), (1024, 8, 20), (1024, 128, 4)] {
-        let mut tables = Tables::new(rt.alloc(), ASN);
+        let mut tables = StoredTables::new(rt.alloc(), ASN);
         fill(rt.alloc(), &mut tables, ports, networks).expect(&rt, "memory");
         let start = Instant::now(&rt).expect(&rt, "a clock");
         let first = ask(&tables, ports, networks, rounds).expect(&rt, "memory");

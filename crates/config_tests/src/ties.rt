@@ -4,8 +4,8 @@ ghost use Rattle.config_model.specs.Edit.{has_edit_form};
 
 use config_check::{EditFault, Refusal, Valid, check};
 use config_model::{Edit, read_compile, read_edit};
-use config_ties::{Tie, TiedFault, TiedRefusal, Ties, apply_tied_edit};
 use ov_types::{Addr, InstanceId, Name, PortNo};
+use run_ties::{Tie, TiedFault, TiedRefusal, Ties, apply_tied_edit};
 use serde_json::Value;
 use std::alloc::Global;
 use std::process::Abort;

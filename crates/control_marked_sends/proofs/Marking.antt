@@ -27,8 +27,8 @@ use Rattle.node_model.proofs.Directions.{down_exact, down_keeps, down_total, vpn
 use Rattle.node_model.proofs.Orders.{key_total}
 use Rattle.vpn_tables.specs.Listing.{told_in}
 use Rattle.vpn_tables.specs.Views.{peer_of}
-use Rattle.control_slice_laws.specs.Here.{wanted_on}
-use Rattle.control_dirty_keys.specs.Marks.{Marks}
+use Rattle.control_touched_agent_laws.specs.Here.{wanted_on}
+use Rattle.control_marked_keys.specs.Marks.{Marks}
 use Rattle.control_key_sends.proofs.Images.{agree}
 use Rattle.control_marked_sends.specs.Wanted.{AreItems, AreRoutes, IsSentToAgent, IsSentToPeer}
 

@@ -9,7 +9,7 @@ use Rattle.control_wants.specs.Entries.{hop_of}
 use Rattle.node_model.specs.Directions.{down_order}
 use Rattle.node_model.specs.Paths.{Holdings}
 use Rattle.vpn_tables.specs.At.{row_at}
-use Rattle.control_dirty_keys.specs.Marks.{Marks}
+use Rattle.control_marked_keys.specs.Marks.{Marks}
 use Rattle.control_marked_sends.specs.declared.marked.MarkedItem.{MarkedItem}
 use Rattle.control_marked_sends.specs.declared.marked.MarkedItem.TheVariants.{Row, Slice}
 

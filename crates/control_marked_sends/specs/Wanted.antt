@@ -18,8 +18,8 @@ use Rattle.node_model.specs.Values.{Route}
 use Rattle.node_model.specs.Wants.{wanted_by_peers}
 use Rattle.vpn_tables.specs.Listing.{told_in}
 use Rattle.vpn_tables.specs.Views.{peer_of}
-use Rattle.control_slice_laws.specs.Here.{wanted_on}
-use Rattle.control_dirty_keys.specs.Marks.{IsCleanItem, IsCleanRoute, Marks}
+use Rattle.control_touched_agent_laws.specs.Here.{wanted_on}
+use Rattle.control_marked_keys.specs.Marks.{IsCleanItem, IsCleanRoute, Marks}
 use Rattle.control_marked_sends.specs.declared.routes.RoutesWanted.{RoutesWanted}
 use Rattle.control_marked_sends.specs.declared.routes.RoutesWanted.TheVariants.{Marked, Whole}
 

@@ -7,14 +7,14 @@ ghost use Rattle.node_model.specs.Keys.{of_down};
 ghost use Rattle.node_model.specs.Maps.{difference};
 ghost use Rattle.node_model.specs.Members.{Member};
 ghost use Rattle.vpn_tables.specs.Listing.{told_in};
-ghost use Rattle.control_slice_laws.specs.Here.{wanted_on};
-ghost use Rattle.control_dirty_keys.specs.Marks.{Marks};
+ghost use Rattle.control_touched_agent_laws.specs.Here.{wanted_on};
+ghost use Rattle.control_marked_keys.specs.Marks.{Marks};
 ghost use Rattle.control_marked_sends.specs.Marked.{AreMarkedItems, HasItsRow};
 ghost use Rattle.control_marked_sends.specs.Wanted.{AreItems, IsSentToAgent};
 
 use crate::marked::{MarkedItem, key_of, value_of};
-use control_dirty_keys::Dirty;
 use control_key_sends::tell_items;
+use control_marked_keys::Dirty;
 use control_wants::wanted_by_agent;
 use ov_sync::{Delta, SyncOut};
 use ov_types::{DownKey, DownValue, NoMemory};

@@ -7,10 +7,10 @@ ghost use Rattle.node_model.specs.Keys.{Subscribe, of_down};
 ghost use Rattle.node_model.specs.Values.{Entry as EntryOf};
 ghost use Rattle.control_wants.specs.Entries.{hop_of};
 ghost use Rattle.vpn_tables.specs.Listing.{told_in};
-ghost use Rattle.control_slice_laws.specs.Here.{wanted_on};
+ghost use Rattle.control_touched_agent_laws.specs.Here.{wanted_on};
 ghost use Rattle.control_marked_sends.specs.Marked.{AreMarkedItems, HasItsRow, marked_key};
 
-use control_dirty_keys::Dirty;
+use control_marked_keys::Dirty;
 use control_wants::wanted_down;
 use ov_types::{DownKey, DownValue, Entry, InstanceId, LowKey, NoMemory, Prefix, TableRow};
 use std::alloc::Global;

@@ -8,8 +8,8 @@ ghost use Rattle.node_model.specs.Wants.{wanted_by_peers as wanted_among};
 ghost use Rattle.vpn_tables.specs.Views.{peer_of};
 ghost use Rattle.control_marked_sends.specs.Wanted.{AreRoutes, AreRoutesWanted, IsSentToPeer};
 
-use control_dirty_keys::Dirty;
 use control_key_sends::tell_routes;
+use control_marked_keys::Dirty;
 use control_wants::{wanted_by_peers, wanted_route};
 use ov_sync::{Delta, SyncOut};
 use ov_types::{NoMemory, VpnKey, VpnRoute};

@@ -15,8 +15,8 @@ use Rattle.node_items.specs.Told.{ChangeFits, down_value}
 use Rattle.node_model.specs.Keys.{Vpn, of_down}
 use Rattle.node_model.specs.Maps.{Change, Map, difference}
 use Rattle.node_model.specs.Values.{Route}
-use Rattle.node_peers.specs.Told.{IsWritable, route_change}
-use Rattle.node_peers.proofs.Writable.{among_all}
+use Rattle.node_routes.specs.Told.{IsWritable, route_change}
+use Rattle.node_routes.proofs.Writable.{among_all}
 
 -- ---- routes
 moved_written : (ds : List (Delta VpnKey VpnRoute))

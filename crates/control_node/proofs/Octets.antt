@@ -14,9 +14,9 @@ use Rattle.item_wire.specs.declared.event.ItemCause.{ItemCause}
 use Rattle.item_wire.specs.declared.event.ItemCause.TheVariants.{Ended as ItemEnded}
 use Rattle.node_items.proofs.Begun as items
 use Rattle.node_items.proofs.NotEnded as item_causes
-use Rattle.node_peers.specs.Beginning as route
-use Rattle.node_peers.proofs.Cutting as route_cutting
-use Rattle.node_peers.proofs.NotEnded as route_causes
+use Rattle.node_routes.specs.Beginning as route
+use Rattle.node_routes.proofs.Cutting as route_cutting
+use Rattle.node_routes.proofs.NotEnded as route_causes
 use Rattle.node_model.specs.Step.{Beginning, Post}
 use Rattle.control_node.specs.Beginning.{BeginsKeeping, ItemKeeps, KeepsBy, PeerKeeps, item_session, peer_session}
 use Rattle.control_node.specs.Core.{is_peer}

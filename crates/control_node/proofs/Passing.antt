@@ -23,8 +23,8 @@ use Rattle.node_model.specs.Step.{NodeKind, Post, changes, post, told_all}
 use Rattle.node_model.specs.Values.{same_value}
 use Rattle.node_model.specs.Wants.{wanted_by_agent, wanted_by_peers}
 use Rattle.node_model.proofs.Alike.{same_value_decides}
-use Rattle.node_peers.specs.Beginning as route
-use Rattle.node_peers.specs.Told as routes
+use Rattle.node_routes.specs.Beginning as route
+use Rattle.node_routes.specs.Told as routes
 use Rattle.vpn_tables.specs.Views.{peer_of}
 use Rattle.control_node.specs.Core.{holdings, is_peer}
 use Rattle.control_node.specs.Ends.{AreEnds, Ends, agent_post, peer_post, plan_of, posts_of}

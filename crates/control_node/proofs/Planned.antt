@@ -21,7 +21,7 @@ use Rattle.node_model.specs.Maps.{Map, Change, difference}
 use Rattle.node_model.specs.Paths.{Holdings, Told}
 use Rattle.node_model.specs.Values.{Route}
 use Rattle.node_model.specs.Wants.{wanted_by_peers}
-use Rattle.node_peers.specs.Told as routes
+use Rattle.node_routes.specs.Told as routes
 use Rattle.vpn_tables.specs.Views.{peer_of}
 use Rattle.control_node.specs.Planning.{AreAgentsTold, ArePeersTold, IsAgentTold, IsPeerTold, agent_plan, agent_plans, agent_sends}
 use Rattle.control_node.specs.Planning.{peer_plan, peer_sends, plan_of, wanted_on}

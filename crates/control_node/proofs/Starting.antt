@@ -27,9 +27,9 @@ use Rattle.node_model.specs.Maps.{Change}
 use Rattle.node_model.specs.Paths.{Holdings}
 use Rattle.node_model.specs.Step.{Opened, Post, end_of, nothing, post}
 use Rattle.node_model.specs.Values.{Route}
-use Rattle.node_peers.specs.Beginning as route
-use Rattle.node_peers.specs.Hearing as route_hearing
-use Rattle.node_peers.specs.Hearing.{open_octets}
+use Rattle.node_routes.specs.Beginning as route
+use Rattle.node_routes.specs.Hearing as route_hearing
+use Rattle.node_routes.specs.Hearing.{open_octets}
 use Rattle.control_node.specs.Beginning.{BeginsKeeping, KeepsBy}
 use Rattle.control_node.specs.Begun.{IsBegun, IsHeard}
 use Rattle.control_node.specs.Core.{is_peer}

@@ -22,7 +22,7 @@ use Rattle.node_items.specs.Beginning as item
 use Rattle.node_model.specs.Maps.{Map}
 use Rattle.node_model.specs.Paths.{Holdings, Told}
 use Rattle.node_model.specs.Step.{Beginning, Post, post}
-use Rattle.node_peers.specs.Beginning as route
+use Rattle.node_routes.specs.Beginning as route
 use Rattle.control_node.specs.Beginning.{BeginsKeeping, KeepsBy, agent_at, config, item_session, item_state, no_node, peer_session, peer_state}
 use Rattle.control_node.specs.Core.{is_peer}
 use Rattle.control_node.specs.Ends.{AreEnds, IsAgentEnd, agent_post, peer_post, plan_of, posts_of}

@@ -16,7 +16,7 @@ use Rattle.node_model.specs.Codes.{coded_post}
 use Rattle.node_model.specs.Maps.{Map}
 use Rattle.node_model.specs.Paths.{Holdings, Told}
 use Rattle.node_model.specs.Step.{Post}
-use Rattle.node_peers.specs.Beginning as route
+use Rattle.node_routes.specs.Beginning as route
 use Rattle.vpn_tables.specs.Views.{peer_of}
 use Rattle.control_node.specs.Beginning.{config}
 use Rattle.control_node.specs.declared.ends.AgentEnd.{AgentEnd}

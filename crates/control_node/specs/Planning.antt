@@ -6,10 +6,10 @@ use Rattle.node_items.specs.Told as items
 use Rattle.node_model.specs.Maps.{Map, Change, difference}
 use Rattle.node_model.specs.Paths.{Holdings}
 use Rattle.node_model.specs.Wants.{wanted_by_peers}
-use Rattle.node_peers.specs.Beginning as route
-use Rattle.node_peers.specs.Told as routes
+use Rattle.node_routes.specs.Beginning as route
+use Rattle.node_routes.specs.Told as routes
 use Rattle.vpn_tables.specs.Views.{peer_of}
-pub use Rattle.control_slice_laws.specs.Here.{wanted_on}
+pub use Rattle.control_touched_agent_laws.specs.Here.{wanted_on}
 use Rattle.control_node.specs.Wanting.{is_idle, is_up}
 use Rattle.control_node.specs.declared.ends.AgentEnd.{AgentEnd}
 use Rattle.control_node.specs.declared.ends.PeerEnd.{PeerEnd}

@@ -19,8 +19,8 @@ use Rattle.node_items.specs.Keeping as kept_items
 use Rattle.node_items.specs.Told.{change_of}
 use Rattle.node_model.specs.Maps.{Map, Change}
 use Rattle.node_model.specs.Paths.{Holdings}
-use Rattle.node_peers.specs.Hearing as route
-use Rattle.node_peers.specs.Keeping as kept_routes
+use Rattle.node_routes.specs.Hearing as route
+use Rattle.node_routes.specs.Keeping as kept_routes
 use Rattle.vpn_tables.specs.Changes.{at_session}
 
 -- a map after a change that may not be there

@@ -6,7 +6,7 @@ use Rattle.item_wire.specs.Happenings.{SessionFields}
 use Rattle.node_items.specs.Told.{down_of}
 use Rattle.node_model.specs.Paths.{Holdings}
 use Rattle.vpn_tables.specs.Views.{peer_of}
-use Rattle.control_dirty_keys.specs.Marks.{Covered, IsWithin, Marks}
+use Rattle.control_marked_keys.specs.Marks.{Covered, IsWithin, Marks}
 use Rattle.control_marked_sends.specs.Wanted.{IsSentToAgent, IsSentToPeer}
 use Rattle.control_node.specs.Ends.{AreEnds}
 use Rattle.control_node.specs.Planning.{agent_sends, peer_sends}

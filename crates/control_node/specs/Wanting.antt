@@ -7,7 +7,7 @@ use Rattle.node_model.specs.Maps.{Map, Change}
 pub use Rattle.node_core.specs.Resting.{is_idle, is_up}
 use Rattle.node_model.specs.Step.{NodeKind, Phase, Post, Idle}
 use Rattle.node_model.specs.Wants.{wanted_by_agent, wanted_by_peers}
-use Rattle.node_peers.specs.Told as routes
+use Rattle.node_routes.specs.Told as routes
 use Rattle.control_node.specs.Core.{holdings, is_peer}
 use Rattle.control_node.specs.declared.plan.ControlPlan.{ControlPlan}
 

@@ -2,7 +2,7 @@
 ghost use Rattle.std.specs.Prelude.{◌≡◌, length, not, refl};
 ghost use Rattle.std.proofs.Common.{◌∙◌};
 ghost use Rattle.node_items.specs.Beginning as item;
-ghost use Rattle.node_peers.specs.Beginning as route;
+ghost use Rattle.node_routes.specs.Beginning as route;
 ghost use Rattle.control_node.specs.Beginning.{BeginsKeeping};
 ghost use Rattle.control_node.specs.Behind.{begins_behind};
 ghost use Rattle.control_node.specs.Core.{sessions};
@@ -13,7 +13,7 @@ use crate::closing::{EndPlace, place_of};
 use crate::looking::{item_end, peer_end};
 use crate::planning::plan_marked;
 use bgp_session::{Session, State};
-use control_dirty_keys::Dirty;
+use control_marked_keys::Dirty;
 use item_wire::{ItemSession, ItemState};
 use node_core::{EndState, Ends, Plan, Started};
 use ov_link::Input;

@@ -12,10 +12,10 @@ ghost use Rattle.item_wire.specs.declared.item.Item.TheVariants.{Hello};
 ghost use Rattle.node_model.specs.Keys.{Vpn};
 ghost use Rattle.node_model.specs.Maps.{Change};
 ghost use Rattle.node_model.specs.Values.{Route};
-ghost use Rattle.node_peers.specs.Hearing.{open_octets};
+ghost use Rattle.node_routes.specs.Hearing.{open_octets};
 ghost use Rattle.control_node.specs.Ends.{opened_agent, opened_peer};
 ghost use Rattle.control_node.specs.Stays.{StaysHeld};
-ghost use Rattle.control_dirty_keys.specs.Marks.{IsWithin};
+ghost use Rattle.control_marked_keys.specs.Marks.{IsWithin};
 ghost use Rattle.control_node.specs.Planning.{agent_sends, peer_sends};
 ghost use Rattle.control_node.specs.Taking.{ItemsHeard, RoutesHeard, agent_by, feed_by, peer_by, taken};
 ghost use Rattle.control_node.specs.Tracking.{AreMarked};
@@ -23,7 +23,7 @@ ghost use Rattle.control_node.specs.Tracking.{AreMarked};
 use crate::ends::{AgentEnd, PeerEnd};
 use crate::taking::{take_objects, take_publications, take_routes};
 use bgp_session::Cause;
-use control_dirty_keys::Dirty;
+use control_marked_keys::Dirty;
 use item_wire::{ItemCause, ItemSession};
 use ov_types::{Addr, Items, Name, NoMemory};
 use std::alloc::Global;
@@ -41,7 +41,7 @@ pub(crate) fn greet_peer(
     ensures opened { end.new ≡ opened_peer end.old }
     ensures hello { IfOk result (λ replies. replies ≡ open_octets asn me ∷ []) }
 {
-    node_peers::greet(alloc, &mut end.session, asn, me)
+    node_routes::greet(alloc, &mut end.session, asn, me)
 }
 
 /// Opens the end of a session with an agent: its hello is to be sent.
@@ -193,7 +193,7 @@ pub(crate) fn hear_from_peer(
     ensures marked { AreMarked dirty.old dirty.new tables.old tables.new }
 {
     mark_silent_peer(dirty, end);
-    let heard = node_peers::hear(alloc, &mut end.session, asn, me, bytes)?;
+    let heard = node_routes::hear(alloc, &mut end.session, asn, me, bytes)?;
     match heard.cause {
         Some(cause) => Ok(HeardPeer {
             replies: heard.replies,

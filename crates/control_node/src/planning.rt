@@ -6,7 +6,7 @@ ghost use Rattle.bgp_vpn.specs.Written.{IfPut};
 ghost use Rattle.node_model.specs.Keys.{Vpn, of_down};
 ghost use Rattle.node_model.specs.Values.{Route};
 ghost use Rattle.node_items.specs.Told.{ChangeFits, down_value, spelled as spelled_item};
-ghost use Rattle.node_peers.specs.Told.{IsWritable, spelled as spelled_route};
+ghost use Rattle.node_routes.specs.Told.{IsWritable, spelled as spelled_route};
 ghost use Rattle.control_wants.specs.Held.{HoldingsFit};
 ghost use Rattle.control_node.specs.Ends.{IsAgentEnd};
 ghost use Rattle.control_node.specs.Planning.{
@@ -25,7 +25,7 @@ ghost use Rattle.control_marked_sends.specs.Marked.{AreMarkedItems};
 ghost use Rattle.control_marked_sends.specs.Wanted.{AreRoutesWanted};
 
 use crate::ends::{AgentEnd, PeerEnd};
-use control_dirty_keys::Dirty;
+use control_marked_keys::Dirty;
 use control_marked_sends::{
     MarkedItem, RoutesWanted, items_marked, routes_wanted, tell_agent, tell_peer,
 };
@@ -46,7 +46,7 @@ fn spell_routes(
 {
     let mut messages = Vec::new(alloc);
     for delta in deltas {
-        messages.push(node_peers::spell(alloc, delta)?)?;
+        messages.push(node_routes::spell(alloc, delta)?)?;
     }
     Ok(Items::from_vec(messages))
 }

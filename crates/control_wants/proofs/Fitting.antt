@@ -42,7 +42,7 @@ use Rattle.node_model.proofs.Orders.{key_total, key_exact, prefix_total}
 use Rattle.node_model.proofs.Routes.{own_route_from, reoriginated_from, published_here}
 use Rattle.node_model.proofs.Selection.{selected_least}
 use Rattle.node_model.proofs.Wanted.{row_of_path, slice_is, subscription_from}
-use Rattle.node_peers.specs.Told.{IsWritable}
+use Rattle.node_routes.specs.Told.{IsWritable}
 use Rattle.control_wants.specs.Held.{HoldingsFit, RouteFits}
 
 -- ---- members of what is held

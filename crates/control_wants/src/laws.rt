@@ -8,7 +8,7 @@ ghost use Rattle.node_model.specs.Keys.{Vpn};
 ghost use Rattle.node_model.specs.Values.{Route};
 ghost use Rattle.node_model.specs.Paths.{Holdings, Told};
 ghost use Rattle.node_model.specs.Wants.{wanted_by_agent, wanted_by_peers};
-ghost use Rattle.node_peers.specs.Told.{IsWritable};
+ghost use Rattle.node_routes.specs.Told.{IsWritable};
 ghost use Rattle.control_wants.specs.Held.{HoldingsFit};
 
 /// Where what is held can be told, so can all that is wanted.

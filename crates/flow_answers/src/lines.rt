@@ -3,11 +3,11 @@ ghost use Rattle.std.specs.Prelude.{◌≡◌, ◌++◌, OnOk, OnErr, Some};
 ghost use Rattle.flow_answers.specs.Lines.{flow_line, tied_fault_text};
 
 use config_check::EditFault;
-use config_ties::TiedFault;
 use flow_state::FlowAnswer;
 use ov_io::TextOut;
 use ov_types::NoMemory;
 use report::{LinesOf, OutcomeLines, did_lines};
+use run_ties::TiedFault;
 use std::alloc::Global;
 use std::fmt;
 

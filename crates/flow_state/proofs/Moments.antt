@@ -16,8 +16,8 @@ use Rattle.config_check.specs.declared.edits.EditFault.{EditFault}
 use Rattle.config_check.specs.declared.edits.EditFault.TheVariants.{Missing, Rule}
 use Rattle.config_check.specs.declared.refusal.Refusal.{Refusal}
 use Rattle.config_check.proofs.Edited.{form_is_kept}
-use Rattle.config_ties.specs.declared.edits.TiedFault.{TiedFault}
-use Rattle.config_ties.specs.declared.edits.TiedFault.TheVariants.{Edit as Faulty}
+use Rattle.run_ties.specs.declared.edits.TiedFault.{TiedFault}
+use Rattle.run_ties.specs.declared.edits.TiedFault.TheVariants.{Edit as Faulty}
 use Rattle.reach_plain.specs.Reachability.{reachability}
 use Rattle.flow_script.specs.Steps.{has_step_form}
 use Rattle.flow_script.specs.declared.step.FlowStep.{FlowStep}

@@ -3,11 +3,11 @@ use Rattle.std.specs.Prelude.{◌≡◌, ℕ, List, [], ◌∷◌, Option, Some,
 use Rattle.config_model.specs.declared.edit.Edit.{Edit}
 use Rattle.config_check.specs.Checked.{Checked}
 use Rattle.config_check.specs.Edits.{edited}
-use Rattle.config_ties.specs.Kept.{Kept, ties_in}
-use Rattle.config_ties.specs.Ties.{Ties}
-use Rattle.config_ties.specs.Tied.{tied_fault}
-use Rattle.config_ties.specs.Tying.{joined, ties_of}
-use Rattle.config_ties.specs.declared.edits.TiedFault.{TiedFault}
+use Rattle.run_ties.specs.Kept.{Kept, ties_in}
+use Rattle.run_ties.specs.Ties.{Ties}
+use Rattle.run_ties.specs.Tied.{tied_fault}
+use Rattle.run_ties.specs.Tying.{joined, ties_of}
+use Rattle.run_ties.specs.declared.edits.TiedFault.{TiedFault}
 use Rattle.flow_script.specs.declared.step.FlowStep.{FlowStep}
 use Rattle.flow_script.specs.declared.step.FlowStep.TheVariants as Steps
 use Rattle.flow_state.specs.declared.flow.Flow.{Flow}

@@ -1,6 +1,6 @@
 //! What steps answer.
-use config_ties::TiedFault;
 use ov_types::Outcome;
+use run_ties::TiedFault;
 
 /// The answer to a step.
 #[derive(Drop)]

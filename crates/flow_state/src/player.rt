@@ -10,9 +10,9 @@ use crate::answer::FlowAnswer;
 use crate::table::FlowTable;
 use config_check::Valid;
 use config_model::Edit;
-use config_ties::{TiedRefusal, Ties, apply_tied_edit};
 use flow_script::FlowStep;
 use ov_types::NoMemory;
+use run_ties::{TiedRefusal, Ties, apply_tied_edit};
 use std::alloc::Global;
 use std::marker::Model;
 

@@ -11,9 +11,9 @@ use Rattle.compile_answers.specs.declared.unfit.Unfit.{Unfit}
 use Rattle.compile_answers.specs.declared.unfit.Reception.{Reception}
 use Rattle.compile_answers.specs.declared.unfit.Reception.TheVariants.{Refused}
 use Rattle.compile_answers.specs.Answers.{DocumentAnswer, IsAnswered, WasGiven}
-use Rattle.graceful_script.specs.declared.entry.LogEntry.{LogEntry}
-use Rattle.graceful_script.specs.Reading.{log_at}
-use Rattle.graceful_script.proofs.Forms.{log_form}
+use Rattle.graceful_log.specs.declared.entry.LogEntry.{LogEntry}
+use Rattle.graceful_log.specs.Reading.{log_at}
+use Rattle.graceful_log.proofs.Forms.{log_form}
 use Rattle.graceful_answers.specs.Answers.{AreLog, IsUnfit, WritesLog, graceful_verdict, log_in, of_reading, of_value}
 use Rattle.graceful_answers.proofs.SomeText.{some_text}
 

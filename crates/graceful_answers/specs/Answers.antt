@@ -9,8 +9,8 @@ use Rattle.compile_answers.specs.declared.unfit.Unfit.TheVariants.{NoMemory}
 use Rattle.compile_answers.specs.Answers.{DocumentAnswer, IsAnswered, answer_bad, answer_not_json}
 use Rattle.ov_io.specs.Pieces.{TookText}
 use Rattle.ov_json.specs.Json.{json_of}
-use Rattle.graceful_script.specs.declared.entry.LogEntry.{LogEntry}
-use Rattle.graceful_script.specs.Reading.{log_at}
+use Rattle.graceful_log.specs.declared.entry.LogEntry.{LogEntry}
+use Rattle.graceful_log.specs.Reading.{log_at}
 use Rattle.graceful_answers.specs.Logs.{IsLogText}
 
 abbrev pub of_reading : Result (List LogEntry) Fault → Result (List LogEntry) DocumentAnswer

@@ -3,7 +3,7 @@ use Rattle.std.specs.Prelude.{◌≡◌, ℕ, ◌+◌, List, [], ◌∷◌, ◌+
 use Rattle.ov_io.specs.Pieces.{IsOnItsWay}
 use Rattle.bgp_restart.specs.Events.{RestartEvent}
 use Rattle.bgp_restart.specs.Keeping.{Kept, StandsFor}
-use Rattle.graceful_script.specs.declared.entry.LogEntry.{LogEntry}
+use Rattle.graceful_log.specs.declared.entry.LogEntry.{LogEntry}
 use Rattle.graceful_answers.specs.Logs.{Answers, IsLogText}
 
 -- an entry was answered, so that what it answers was appended, and what is held is that of the events after it

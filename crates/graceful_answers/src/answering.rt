@@ -3,13 +3,13 @@ ghost use Rattle.std.specs.Prelude.{◌≡◌, ◌≢◌, Some, Ok, IfOk, IfErr,
 ghost use Rattle.std.specs.List.{AllByRecursion};
 ghost use Rattle.serde_json.specs.View.{view};
 ghost use Rattle.ov_io.specs.Pieces.{HasWriteCause, TookFrontOf, TookText};
-ghost use Rattle.graceful_script.specs.Entries.{HasEntryForm};
+ghost use Rattle.graceful_log.specs.Entries.{HasEntryForm};
 ghost use Rattle.graceful_answers.specs.Answers.{IsUnfit, TookLog, WritesLog, graceful_verdict, log_in, of_value};
 
 use crate::replaying::write_log;
 use compile_answers::{Reception, Unfit, write_unfit};
 use config_model::ReadRefusal;
-use graceful_script::{LogEntry, read_log};
+use graceful_log::{LogEntry, read_log};
 use ov_io::{Sink, WriteRefusal};
 use ov_json::value_of;
 use ov_types::{Items, NoMemory};

@@ -38,7 +38,7 @@ use Rattle.node_model.specs.Maps.{Map}
 use Rattle.node_model.specs.Uses.{is_hop, use_of}
 use Rattle.node_model.proofs.Heard.{route_is}
 use Rattle.node_model.proofs.Members.{from_filter_map, from_map, none_some}
-use Rattle.config_ties.specs.Ties.{Ties}
+use Rattle.run_ties.specs.Ties.{Ties}
 use Rattle.machine_isolation_laws.specs.Tied.{AreTied, IsInUse, IsRowLabel, IsTied, IsTiedObject}
 use Rattle.machine_isolation_laws.proofs.Labels.{label_of, object_tied}
 

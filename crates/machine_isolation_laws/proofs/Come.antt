@@ -10,9 +10,9 @@ use Rattle.config_model.specs.declared.edit.Edit.{Edit}
 use Rattle.config_check.specs.Checked.{Checked}
 use Rattle.config_check.specs.Sentences.{IsValid}
 use Rattle.config_check.proofs.Validity.{valid_iff}
-use Rattle.config_ties.specs.Ties.{AreNear, HasPort, HasRelated, HasUse, Ties}
-use Rattle.config_ties.specs.Tying.{joined, no_ties, port_network, relates, ties_of, use_networks}
-use Rattle.config_ties.proofs.Having.{port_iff, relates_iff, use_iff}
+use Rattle.run_ties.specs.Ties.{AreNear, HasPort, HasRelated, HasUse, Ties}
+use Rattle.run_ties.specs.Tying.{joined, no_ties, port_network, relates, ties_of, use_networks}
+use Rattle.run_ties.proofs.Having.{port_iff, relates_iff, use_iff}
 use Rattle.std.proofs.lemmas.Option.{same_Some}
 use Rattle.ov_types.specs.declared.numbers.InstanceId.{InstanceId}
 use Rattle.node_model.specs.Members.{Member}

@@ -35,7 +35,7 @@ use Rattle.node_model.proofs.Members.{from_flat_map, in_either, member_when}
 use Rattle.node_model.proofs.Objects.{is_hop-hop, use_of-hop}
 use Rattle.node_model.proofs.Members.{contains_of}
 use Rattle.config_model.specs.declared.config.Rule.{Rule}
-use Rattle.config_ties.specs.Ties.{HasUse, IsTiedBy, Ties}
+use Rattle.run_ties.specs.Ties.{HasUse, IsTiedBy, Ties}
 use Rattle.machine_isolation_laws.specs.Tied.{StandsBetween}
 
 -- ---- ends of rules

@@ -15,7 +15,7 @@ use Rattle.node_model.specs.Members.{Member}
 use Rattle.node_model.specs.Uses.{Use, hop_imports, imports, is_hop, network_imports, place_of, use_from, use_of}
 use Rattle.node_model.specs.Values.{Entry, Label, Object, Route, Value}
 use Rattle.node_model.proofs.Members.{in_either, member_when}
-use Rattle.config_ties.specs.Ties.{Ties}
+use Rattle.run_ties.specs.Ties.{Ties}
 use Rattle.machine_isolation_laws.specs.Tied.{AreTied, IsOwnLabel, IsPortLabel, IsRowLabel, IsTiedObject}
 use Rattle.machine_isolation_laws.proofs.Labels.{own_port, own_use, place_back}
 

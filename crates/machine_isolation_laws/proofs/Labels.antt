@@ -23,7 +23,7 @@ use Rattle.node_model.proofs.Members.{none_some}
 use Rattle.node_model.proofs.Objects.{object_of}
 use Rattle.machine_compiled_laws.specs.Compiled.{circuit_prefix}
 use Rattle.node_model.proofs.Routes.{label_is, led_by}
-use Rattle.config_ties.specs.Ties.{Ties}
+use Rattle.run_ties.specs.Ties.{Ties}
 use Rattle.machine_isolation_laws.specs.Tied.{AreTied, IsOwnLabel, IsPortLabel, IsRowLabel, IsTiedObject}
 
 pub place_back : (i : InstanceId) → is_hop i ≡ true → hop_instance_of (use_of i) (place_of i) ≡ i

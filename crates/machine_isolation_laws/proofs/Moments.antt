@@ -20,7 +20,7 @@ use Rattle.machine_model.specs.Setup.{Name, Setup, edited, opening}
 use Rattle.machine_settling_laws.specs.Settling.{WantsFair}
 use Rattle.machine_settling_laws.proofs.RanksSettle.{kept, stay_valid}
 use Rattle.headline_laws.specs.Headline.{IsWritten}
-use Rattle.config_ties.specs.Ties.{IsTiedBy, Ties}
+use Rattle.run_ties.specs.Ties.{IsTiedBy, Ties}
 use Rattle.machine_isolation_laws.specs.Tied.{AreTied, tied}
 use Rattle.machine_isolation_laws.specs.Moments.{AtTiedMoments, IsTiedState, KeepsTies}
 use Rattle.machine_isolation_laws.proofs.Edited.{same_asn, written_edit}

@@ -33,7 +33,7 @@ use Rattle.node_model.proofs.Members.{contains_of}
 use Rattle.config_model.specs.declared.config.Rule.{Rule}
 use Rattle.transform_model.specs.IsUse.{IsUse}
 use Rattle.transform_model.specs.Uses.{ConfiguredUse}
-use Rattle.config_ties.specs.Ties.{AreNear, HasUse, IsTiedBy, Ties}
+use Rattle.run_ties.specs.Ties.{AreNear, HasUse, IsTiedBy, Ties}
 use Rattle.machine_isolation_laws.specs.Tied.{AreTied, IsTied, IsTiedObject}
 use Rattle.machine_isolation_laws.proofs.Circuits.{next_hop, other_of_left, other_of_right, sides_in}
 use Rattle.machine_isolation_laws.proofs.Entered.{of_rules}

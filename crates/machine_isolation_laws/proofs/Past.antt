@@ -11,20 +11,20 @@ use Rattle.config_check.specs.Edits.{edit_fault, missing_name}
 use Rattle.config_check.specs.Rules.{broken_id, broken_limit, broken_long, broken_loop, broken_name, broken_needs, broken_nested, broken_outside, broken_overlap, broken_reference, broken_reserved, broken_same, broken_taken, broken_twice, first_broken}
 use Rattle.policy_rules.specs.Matching.{deciding}
 use Rattle.reach_plain.specs.Reachability.{reachability}
-use Rattle.config_ties.specs.Ties.{HasPort, HasRelated}
-use Rattle.config_ties.specs.Tying.{port_network, relates}
+use Rattle.run_ties.specs.Ties.{HasPort, HasRelated}
+use Rattle.run_ties.specs.Tying.{port_network, relates}
 use Rattle.headline_laws.specs.Headline.{IsWritten}
 use Rattle.config_check.specs.Sentences.{IsValid}
-use Rattle.config_ties.proofs.Having.{port_iff, relates_iff}
+use Rattle.run_ties.proofs.Having.{port_iff, relates_iff}
 use Rattle.machine_model.specs.Events.{Edits, MachineEvent, Settle, after}
 use Rattle.machine_model.specs.Network.{start}
 use Rattle.machine_model.specs.Setup.{opening as setup_of}
 use Rattle.machine_isolation_laws.specs.Untied.{packet}
 use Rattle.machine_isolation_laws.specs.Past.{StaysAmongPresent, leave, related, with_first_attaching}
 use Rattle.machine_isolation_laws.specs.Running.{AtMomentsOfRuns, EditsKeep}
-use Rattle.config_ties.specs.Ties.{BreaksNone}
-use Rattle.config_ties.specs.Tying.{ties_of}
-use Rattle.config_ties.proofs.Broken.{broken_iff}
+use Rattle.run_ties.specs.Ties.{BreaksNone}
+use Rattle.run_ties.specs.Tying.{ties_of}
+use Rattle.run_ties.proofs.Broken.{broken_iff}
 use Rattle.machine_isolation_laws.proofs.AtOnce.{edit_leads, leads_to_form, never_one, now_config, positive, size, still_goes, valid_after}
 
 abbrev parted : Config

@@ -7,9 +7,9 @@ use Rattle.config_model.specs.declared.config.Config.{Config}
 use Rattle.config_model.specs.declared.edit.Edit.{Edit}
 use Rattle.config_check.specs.Checked.{Checked}
 use Rattle.config_check.proofs.Validity.{valid_iff}
-use Rattle.config_ties.specs.Ties.{BreaksNone, Grows, IsTiedBy, Ties}
-use Rattle.config_ties.specs.Tying.{joined, no_ties, ties_of}
-use Rattle.config_ties.proofs.Growing.{breaks_nothing, grows_itself, grows_on, joined_grows, joined_tied, tied_grows}
+use Rattle.run_ties.specs.Ties.{BreaksNone, Grows, IsTiedBy, Ties}
+use Rattle.run_ties.specs.Tying.{joined, no_ties, ties_of}
+use Rattle.run_ties.proofs.Growing.{breaks_nothing, grows_itself, grows_on, joined_grows, joined_tied, tied_grows}
 use Rattle.node_model.specs.Members.{Member}
 use Rattle.machine_model.specs.Events.{Break, Connect, Deliver, DeliverOctets, Edits, MachineEvent, Lose, Restart, Round, Settle, Show, Trace, next}
 use Rattle.machine_model.specs.Moments.{Each, EditIsValid, EditsAreValid}

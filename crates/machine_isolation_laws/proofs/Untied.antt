@@ -10,11 +10,11 @@ use Rattle.config_check.specs.Edits as edits
 use Rattle.config_check.specs.Edits.{edit_fault, missing_name}
 use Rattle.config_check.specs.Rules.{broken_id, broken_limit, broken_long, broken_loop, broken_name, broken_needs, broken_nested, broken_outside, broken_overlap, broken_reference, broken_reserved, broken_same, broken_taken, broken_twice, first_broken}
 use Rattle.reach_plain.specs.Reachability.{reachability}
-use Rattle.config_ties.specs.Ties.{HasPort, HasRelated}
-use Rattle.config_ties.specs.Tying.{relates}
+use Rattle.run_ties.specs.Ties.{HasPort, HasRelated}
+use Rattle.run_ties.specs.Tying.{relates}
 use Rattle.headline_laws.specs.Headline.{IsWritten}
 use Rattle.config_check.proofs.Validity.{valid_iff}
-use Rattle.config_ties.proofs.Having.{port_iff, relates_iff}
+use Rattle.run_ties.proofs.Having.{port_iff, relates_iff}
 use Rattle.machine_model.specs.Events.{Edits, Settle}
 use Rattle.machine_model.specs.Network.{start}
 use Rattle.machine_model.specs.Setup.{opening as setup_of}

@@ -27,7 +27,7 @@ use Rattle.node_model.specs.Members.{Member}
 use Rattle.node_model.specs.Uses.{is_hop, use_of}
 use Rattle.node_model.proofs.Members.{none_some}
 use Rattle.machine_model.specs.Events.{forwarders}
-use Rattle.config_ties.specs.Ties.{AreNear, Ties}
+use Rattle.run_ties.specs.Ties.{AreNear, Ties}
 use Rattle.machine_isolation_laws.specs.Tied.{IsPortLabel, IsRowLabel, IsTiedObject, StandsBetween}
 use Rattle.machine_isolation_laws.specs.Moments.{AreJoined, AtTiedMoments, DeliversToJoined}
 use Rattle.machine_isolation_laws.proofs.Found.{agent_in, attached_in, delivered_to, dropped, never_both, route_found, same_circuit, same_port}

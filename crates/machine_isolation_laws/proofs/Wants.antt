@@ -19,7 +19,7 @@ use Rattle.machine_model.proofs.Twins.{all_to_own, each_weaker}
 use Rattle.machine_settling_laws.specs.Settling.{Fair}
 use Rattle.machine_compiled_laws.proofs.Views.{views}
 use Rattle.ov_types.specs.First.{same_name}
-use Rattle.config_ties.specs.Ties.{Ties}
+use Rattle.run_ties.specs.Ties.{Ties}
 use Rattle.machine_isolation_laws.specs.Tied.{AreTied, tied}
 use Rattle.machine_isolation_laws.proofs.Labels.{none_tied}
 use Rattle.machine_isolation_laws.proofs.Control.{to_agent, to_peers}

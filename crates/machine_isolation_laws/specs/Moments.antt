@@ -7,7 +7,7 @@ use Rattle.ov_types.specs.declared.packet.Outcome.TheVariants.{Delivered}
 use Rattle.ov_types.specs.declared.packet.Packet.{Packet}
 use Rattle.route_targets.specs.Forwarding.{forwarding}
 use Rattle.config_check.specs.Checked.{Checked}
-use Rattle.config_ties.specs.Ties.{AreNear, IsTiedBy, Ties}
+use Rattle.run_ties.specs.Ties.{AreNear, IsTiedBy, Ties}
 use Rattle.machine_model.specs.Events.{MachineEvent, after, forwarders}
 use Rattle.machine_model.specs.Moments.{ArePositive, Each, EditsAreValid}
 use Rattle.machine_model.specs.Network.{MachineState, start}

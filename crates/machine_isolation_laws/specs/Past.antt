@@ -17,7 +17,7 @@ use Rattle.config_model.specs.declared.edit.Edit.{Edit}
 use Rattle.config_model.specs.declared.edit.Edit.TheVariants.{Put}
 use Rattle.config_model.specs.declared.edit.Object.TheVariants as Objects
 use Rattle.config_check.specs.Checked.{Checked}
-use Rattle.config_ties.specs.Ties.{HasPort, HasRelated, Ties}
+use Rattle.run_ties.specs.Ties.{HasPort, HasRelated, Ties}
 use Rattle.machine_model.specs.Events.{forwarders}
 use Rattle.machine_model.specs.Network.{MachineState}
 use Rattle.machine_isolation_laws.specs.Untied.{opening, port}

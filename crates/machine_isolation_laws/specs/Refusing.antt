@@ -2,9 +2,9 @@
 use Rattle.std.specs.Prelude.{◌≡◌, ℕ, Bool, false, is_some, List, [], ◌∷◌, ◌++◌, Option, Some, None, if◌then◌else◌}
 use Rattle.config_model.specs.declared.config.Config.{Config}
 use Rattle.config_check.specs.Checked.{Checked}
-use Rattle.config_ties.specs.Broken.{broken_tie}
-use Rattle.config_ties.specs.Ties.{Ties}
-use Rattle.config_ties.specs.Tying.{ties_of}
+use Rattle.run_ties.specs.Broken.{broken_tie}
+use Rattle.run_ties.specs.Ties.{Ties}
+use Rattle.run_ties.specs.Tying.{ties_of}
 use Rattle.machine_model.specs.Events.{MachineEvent, Edits, after, next}
 use Rattle.machine_model.specs.Moments.{ArePositive, EditsAreValid}
 use Rattle.machine_model.specs.Network.{MachineState, start}

@@ -2,8 +2,8 @@
 use Rattle.std.specs.Prelude.{◌≡◌, ℕ, List, [], ◌∷◌, Option, Some, None}
 use Rattle.config_model.specs.declared.config.Config.{Config}
 use Rattle.config_check.specs.Checked.{Checked}
-use Rattle.config_ties.specs.Ties.{BreaksNone, IsTiedBy, Ties}
-use Rattle.config_ties.specs.Tying.{joined, ties_of}
+use Rattle.run_ties.specs.Ties.{BreaksNone, IsTiedBy, Ties}
+use Rattle.run_ties.specs.Tying.{joined, ties_of}
 use Rattle.node_model.specs.Members.{Member}
 use Rattle.machine_model.specs.Events.{MachineEvent, Edits, after, next}
 use Rattle.machine_model.specs.Moments.{ArePositive}

@@ -43,10 +43,10 @@ use Rattle.running_model.specs.Stands.{StandsFor}
 use Rattle.running_nodes.specs.Fresh.{IsSetUp}
 use Rattle.running_nodes.proofs.SetUp.{set_up}
 use Rattle.running_step_laws.proofs.Lists.{who_at}
-use Rattle.running_seat_laws.specs.Wiring.{HasNumbers, IsPlace, name_at, other_at}
-use Rattle.running_seat_laws.proofs.Parties.{site_in}
-use Rattle.running_seat_laws.proofs.Seating.{ListsApart, seat_found, seat_of}
-use Rattle.running_seat_laws.proofs.Written.{place_found, written_apart, written_named}
+use Rattle.running_holding_laws.specs.Wiring.{HasNumbers, IsPlace, name_at, other_at}
+use Rattle.running_holding_laws.proofs.Parties.{site_in}
+use Rattle.running_holding_laws.proofs.Seating.{ListsApart, seat_found, seat_of}
+use Rattle.running_holding_laws.proofs.Written.{place_found, written_apart, written_named}
 use Rattle.running_telling_laws.specs.Moments.{IsMoment}
 use Rattle.running_telling_laws.proofs.Moments.{moment_numbers, moment_written}
 use Rattle.net_machine.specs.Moving.{AreLeft, CanCome, CanHappen, CanMoveIf, Differ, HasAgent, HasAgentsBehind, HasControls, HasRoom}

@@ -13,7 +13,7 @@ use Rattle.node_model.specs.Step.{Post}
 use Rattle.node_model.proofs.Members.{any_in, from_any, in_map, none_some}
 use Rattle.control_node.specs.Core.{Core, holdings}
 use Rattle.running_model.specs.Controls.{Controls}
-use Rattle.control_quiet_laws.specs.Quiet.{SameButQuiet}
+use Rattle.control_silent_agent_laws.specs.Quiet.{SameButQuiet}
 use Rattle.machine_model.specs.Network.{MachineState, config}
 use Rattle.machine_model.specs.Setup.{Name, checked}
 use Rattle.machine_model.proofs.Apart.{NamesApart}
@@ -24,13 +24,13 @@ use Rattle.running_model.specs.Seats.{Configuring, Controlling, Forwarding, Seat
 use Rattle.running_model.specs.Seats.{seat_named}
 use Rattle.running_model.specs.Stands.{StandsFor}
 use Rattle.running_nodes.specs.Cores.{HoldsAs, held_by, present}
-use Rattle.running_seat_laws.specs.Wiring.{HasNumbers, HasSessions}
-use Rattle.running_seat_laws.proofs.Ends.{Ends, seat_ends}
-use Rattle.running_seat_laws.proofs.Going.{site_holds}
-use Rattle.running_seat_laws.proofs.Parties.{by_node, site_in}
-use Rattle.running_seat_laws.proofs.Seating.{ListsApart, root_at, seat_found, seat_is, seat_of, who_above}
-use Rattle.running_seat_laws.proofs.Sessions.{all_found}
-use Rattle.running_seat_laws.proofs.Written.{written_apart, written_named}
+use Rattle.running_holding_laws.specs.Wiring.{HasNumbers, HasSessions}
+use Rattle.running_holding_laws.proofs.Ends.{Ends, seat_ends}
+use Rattle.running_holding_laws.proofs.Going.{site_holds}
+use Rattle.running_holding_laws.proofs.Parties.{by_node, site_in}
+use Rattle.running_holding_laws.proofs.Seating.{ListsApart, root_at, seat_found, seat_is, seat_of, who_above}
+use Rattle.running_holding_laws.proofs.Sessions.{all_found}
+use Rattle.running_holding_laws.proofs.Written.{written_apart, written_named}
 use Rattle.running_telling_laws.specs.Moments.{IsMoment}
 use Rattle.running_telling_laws.proofs.Moments.{moment_numbers, moment_sessions, moment_written}
 use Rattle.net_machine.specs.Looking.{held_at, is_control_node}

@@ -34,8 +34,8 @@ use Rattle.running_model.specs.Stands.{StandsFor, message_size}
 use Rattle.running_model.specs.declared.place.SessionPlace.{SessionPlace}
 use Rattle.running_telling_laws.specs.Moments.{IsMoment}
 use Rattle.running_telling_laws.proofs.Moments.{moment_next, moment_numbers, moment_sessions, moment_written}
-use Rattle.running_seat_laws.specs.Wiring.{name_at, other_at}
-use Rattle.running_seat_laws.proofs.Written.{forwarders_are, has_far, has_session, names_differ, no_node_above, place_is, shows_at}
+use Rattle.running_holding_laws.specs.Wiring.{name_at, other_at}
+use Rattle.running_holding_laws.proofs.Written.{forwarders_are, has_far, has_session, names_differ, no_node_above, place_is, shows_at}
 use Rattle.running_step_laws.specs.Connecting.{OpensBehind, OpensBoth}
 use Rattle.running_step_laws.specs.Delivering as deliveries
 use Rattle.running_step_laws.specs.Losing.{cut, restarted}

@@ -23,8 +23,8 @@ use Rattle.running_model.specs.Stands.{StandsFor, message_size}
 use Rattle.running_model.specs.declared.place.SessionPlace.{SessionPlace}
 use Rattle.running_telling_laws.specs.Moments.{IsMoment}
 use Rattle.running_telling_laws.proofs.Moments.{moment_numbers, moment_sessions, moment_sound, moment_written}
-use Rattle.running_seat_laws.specs.Wiring.{AreSeats, HasNumbers, HasSessions, IsFound}
-use Rattle.running_seat_laws.proofs.Written.{far_is, has_far, place_is, session_without_place, sessions_found}
+use Rattle.running_holding_laws.specs.Wiring.{AreSeats, HasNumbers, HasSessions, IsFound}
+use Rattle.running_holding_laws.proofs.Written.{far_is, has_far, place_is, session_without_place, sessions_found}
 use Rattle.running_step_laws.specs.Asking.{AreAt}
 use Rattle.net_machine.specs.declared.ends.SessionEnds.{SessionEnds}
 use Rattle.net_machine.specs.Seating.{ends_at, ends_from, ends_of, turned}

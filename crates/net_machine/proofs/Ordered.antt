@@ -8,7 +8,7 @@ use Rattle.config_check.specs.declared.edits.EditFault.{EditFault}
 use Rattle.config_model.specs.declared.edit.Edit.{Edit}
 use Rattle.config_model.specs.declared.event.Event.{Event as Written}
 use Rattle.config_model.specs.declared.event.Event.TheVariants as written
-use Rattle.config_ties.specs.declared.breaking.Tie.{Tie}
+use Rattle.run_ties.specs.declared.breaking.Tie.{Tie}
 use Rattle.machine_isolation_laws.specs.Refusing.{TiedNetwork, next_tied}
 use Rattle.machine_model.specs.Events.{Edits, MachineEvent, answer_to, edit_answer, edits, event_of, next}
 use Rattle.machine_model.specs.Moments.{HasSessions, NodePair, nodes}
@@ -20,8 +20,8 @@ use Rattle.config_check.specs.Edits as config_edits
 use Rattle.running_model.specs.Seats.{Configuring, Seat, seat}
 use Rattle.running_model.specs.Stands.{message_size}
 use Rattle.schedule_script.specs.declared.answer.Answer.{Answer}
-use Rattle.schedule_ties.specs.declared.answer.TiedAnswer.{TiedAnswer}
-use Rattle.schedule_ties.specs.declared.answer.TiedAnswer.TheVariants.{Answered, EditTied}
+use Rattle.schedule_tied_answers.specs.declared.answer.TiedAnswer.{TiedAnswer}
+use Rattle.schedule_tied_answers.specs.declared.answer.TiedAnswer.TheVariants.{Answered, EditTied}
 use Rattle.schedule_tied_laws.specs.Runs.{answer_tied, tie_broken, unless_tied}
 use Rattle.net_machine.specs.declared.ends.SessionEnds.{SessionEnds}
 use Rattle.net_machine.specs.Seating.{Keeps, order_among, order_of}

@@ -15,9 +15,9 @@ use Rattle.running_model.specs.Seats.{Configuring, Seat, Who, name_of, seat}
 use Rattle.running_model.specs.Stands.{StandsFor, message_size}
 use Rattle.running_model.specs.Steps.{shown_by}
 use Rattle.running_model.proofs.Sizes.{positive}
-use Rattle.running_seat_laws.proofs.Parties.{by_node}
-use Rattle.running_seat_laws.proofs.Seating.{root_at, seat_found, who_above}
-use Rattle.running_seat_laws.proofs.Written.{seats_are_nodes, shows_at, written_apart, written_named}
+use Rattle.running_holding_laws.proofs.Parties.{by_node}
+use Rattle.running_holding_laws.proofs.Seating.{root_at, seat_found, who_above}
+use Rattle.running_holding_laws.proofs.Written.{seats_are_nodes, shows_at, written_apart, written_named}
 use Rattle.running_telling_laws.specs.Moments.{IsMoment}
 use Rattle.running_telling_laws.proofs.Moments.{moment_numbers, moment_of, moment_sessions, moment_written}
 use Rattle.net_machine.specs.Shown.{ShowsCompiled, compiled_for}

@@ -10,10 +10,10 @@ use Rattle.config_model.specs.declared.event.Event.TheVariants.{Break, Connect, 
 use Rattle.config_model.specs.declared.event.Event.TheVariants.{Round, Settle, Show, Trace}
 use Rattle.config_model.specs.Event.{has_event_form}
 use Rattle.config_check.specs.Checked.{Checked}
-use Rattle.config_ties.specs.Kept.{AreAlike, Kept, ties_in}
-use Rattle.config_ties.specs.Ties.{Ties}
-use Rattle.config_ties.specs.Tying.{ties_of}
-use Rattle.config_ties.proofs.Alike.{alike_is_one}
+use Rattle.run_ties.specs.Kept.{AreAlike, Kept, ties_in}
+use Rattle.run_ties.specs.Ties.{Ties}
+use Rattle.run_ties.specs.Tying.{ties_of}
+use Rattle.run_ties.proofs.Alike.{alike_is_one}
 use Rattle.headline_laws.specs.Headline.{IsWritten}
 use Rattle.machine_isolation_laws.specs.Refusing.{TiedNetwork, kept_events, next_tied, tied_start}
 use Rattle.machine_isolation_laws.proofs.Refused.{keeps_what_is_not_refused}
@@ -29,7 +29,7 @@ use Rattle.running_telling_laws.proofs.Moments.{moment_sessions}
 use Rattle.running_model.specs.Steps.{fresh_seat}
 use Rattle.running_step_laws.proofs.Given.{given}
 use Rattle.running_step_laws.proofs.Started.{fresh_seats_stand}
-use Rattle.schedule_ties.specs.declared.answer.TiedAnswer.{TiedAnswer}
+use Rattle.schedule_tied_answers.specs.declared.answer.TiedAnswer.{TiedAnswer}
 use Rattle.schedule_tied_laws.specs.Compiled.{EndsAtOnce, IsAsCompiled}
 use Rattle.schedule_tied_laws.specs.Isolated.{DeliversSoFar, DeliversTied}
 use Rattle.schedule_tied_laws.specs.Runs.{answer_tied, tied_moment}

@@ -2,7 +2,7 @@
 use Rattle.std.specs.Prelude.{List, Bool}
 use Rattle.config_check.specs.Checked.{Checked}
 use Rattle.config_model.specs.declared.event.Event.{Event}
-use Rattle.config_ties.specs.Kept.{Kept}
+use Rattle.run_ties.specs.Kept.{Kept}
 use Rattle.running_model.specs.Seats.{Seat}
 
 -- the configuration that it began with, the ties of its configurations so far, the events that it took, its nodes with

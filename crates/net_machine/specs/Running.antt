@@ -4,7 +4,7 @@ use Rattle.std.specs.List.{list_all}
 use Rattle.config_check.specs.Checked.{Checked}
 use Rattle.config_model.specs.Event.{has_event_form}
 use Rattle.config_model.specs.declared.event.Event.{Event}
-use Rattle.config_ties.specs.Kept.{AreAlike, Kept, ties_in}
+use Rattle.run_ties.specs.Kept.{AreAlike, Kept, ties_in}
 use Rattle.headline_laws.specs.Headline.{IsWritten}
 use Rattle.machine_model.specs.Setup.{checked}
 use Rattle.machine_model.specs.Setup.{opening as opening_setup}

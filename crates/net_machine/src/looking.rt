@@ -2,7 +2,7 @@
 ghost use Rattle.std.specs.Prelude.{◌≡◌, false, is_some, option_copied, IfSome};
 ghost use Rattle.control_node.specs.Core.{holdings};
 ghost use Rattle.running_nodes.specs.Cores.{present};
-ghost use Rattle.control_quiet_laws.specs.Quiet.{SameButQuiet};
+ghost use Rattle.control_silent_agent_laws.specs.Quiet.{SameButQuiet};
 ghost use Rattle.schedule_tied_laws.specs.Runs.{tied_moment};
 ghost use Rattle.net_machine.specs.Looking.{held_at, is_control_node};
 

@@ -9,7 +9,7 @@ ghost use Rattle.config_model.specs.Event.{has_event_form};
 ghost use Rattle.config_model.specs.declared.event.Event.TheVariants as written;
 ghost use Rattle.running_model.specs.Seats.{Configuring, seat};
 ghost use Rattle.running_step_laws.specs.Editing.{MakesEdit};
-ghost use Rattle.schedule_ties.specs.Answers.{OfAnswer};
+ghost use Rattle.schedule_tied_answers.specs.Answers.{OfAnswer};
 ghost use Rattle.machine_model.specs.Setup.{moves};
 ghost use Rattle.net_machine.specs.Moving.{CanHappen, CanMoveIf};
 ghost use Rattle.net_machine.specs.Seating.{AreLong, AreSeated, IsConfigured};
@@ -21,11 +21,11 @@ use crate::happen::happen;
 use crate::order::order_of;
 use config_check::{EditFault, Valid};
 use config_model::{Edit, Event};
-use config_ties::{Tie, TiedFault, TiedRefusal, Ties, apply_tied_edit};
 use ov_types::NoMemory;
+use run_ties::{Tie, TiedFault, TiedRefusal, Ties, apply_tied_edit};
 use running_nodes::Nodes;
 use schedule_script::Answer;
-use schedule_ties::TiedAnswer;
+use schedule_tied_answers::TiedAnswer;
 use std::alloc::Global;
 
 /// What is found of an edit.

@@ -4,15 +4,15 @@ ghost use Rattle.report.specs.Answers.{IsAnswerTo};
 
 use config_check::{EditFault, Refusal};
 use config_model::{Edit, ObjectKind};
-use config_ties::Tie;
 use ov_io::TextOut;
 use ov_types::{
     Addr, InstanceId, Items, Label, Name, NoMemory, NodeRows, Outcome, PortNo, Prefix, Rd, RuleNo,
     ServiceNo, Services, TableRow, Why,
 };
 use report::{answer_lines, tied_answer_lines};
+use run_ties::Tie;
 use schedule_script::{Answer, Event};
-use schedule_ties::TiedAnswer;
+use schedule_tied_answers::TiedAnswer;
 use std::alloc::Global;
 use std::process::Abort;
 

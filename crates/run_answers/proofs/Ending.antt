@@ -13,7 +13,7 @@ use Rattle.config_model.specs.declared.event.Event.{Event}
 use Rattle.compile_answers.specs.declared.unfit.Reception.TheVariants.{Good}
 use Rattle.headline_laws.specs.Headline.{IsWritten}
 use Rattle.scenario_run.specs.NetState.{NetState}
-use Rattle.config_ties.specs.Kept.{AreAlike, ties_in}
+use Rattle.run_ties.specs.Kept.{AreAlike, ties_in}
 use Rattle.running_model.specs.Stands.{StandsFor}
 use Rattle.machine_model.specs.Setup.{opening as opening_setup}
 use Rattle.schedule_tied_laws.specs.Runs.{tied_moment}

@@ -7,7 +7,7 @@ use Rattle.std.specs.declared.result.Result.TheVariants.{Ok}
 use Rattle.std.specs.Io.KnownBytes.{Appends}
 use Rattle.serde_json.specs.Data.{Data}
 use Rattle.config_check.specs.Checked.{Checked}
-use Rattle.config_ties.specs.Kept.{AreAlike, ties_in}
+use Rattle.run_ties.specs.Kept.{AreAlike, ties_in}
 use Rattle.config_model.specs.declared.event.Event.{Event}
 use Rattle.config_model.specs.declared.event.RunInput.{RunInput}
 use Rattle.config_model.specs.Event.{run_at}

@@ -4,7 +4,7 @@ ghost use Rattle.std.specs.List.{list_all};
 ghost use Rattle.std.specs.Io.KnownBytes.{Appends};
 ghost use Rattle.serde_json.specs.View.{view};
 ghost use Rattle.config_model.specs.Event.{has_event_form, run_at};
-ghost use Rattle.config_ties.specs.Kept.{AreAlike, ties_in};
+ghost use Rattle.run_ties.specs.Kept.{AreAlike, ties_in};
 ghost use Rattle.headline_laws.specs.Headline.{IsWritten};
 ghost use Rattle.running_model.specs.Stands.{StandsFor};
 ghost use Rattle.machine_model.specs.Events.{event_of};

@@ -23,11 +23,11 @@ use Rattle.node_model.specs.Maps.{Change, Map}
 use Rattle.node_model.specs.Step.{Beginning, Phase, Idle, Opened, Confirmed, Up, Post, is_idle}
 use Rattle.node_model.specs.Values.{Route}
 use Rattle.node_model.proofs.Members.{none_some}
-use Rattle.node_peers.specs.Beginning.{BeginsKeeping, left_by, phase_of}
-use Rattle.node_peers.specs.Hearing.{RouteHearing, heard}
-use Rattle.node_peers.specs.Keeping.{Leaves, session_after}
-use Rattle.node_peers.specs.Keeping as keeping
-use Rattle.node_peers.proofs.Cutting.{cut_down, cut_up, heard_of_both, leaves_one, live_after, nothing_left}
+use Rattle.node_routes.specs.Beginning.{BeginsKeeping, left_by, phase_of}
+use Rattle.node_routes.specs.Hearing.{RouteHearing, heard}
+use Rattle.node_routes.specs.Keeping.{Leaves, session_after}
+use Rattle.node_routes.specs.Keeping as keeping
+use Rattle.node_routes.proofs.Cutting.{cut_down, cut_up, heard_of_both, leaves_one, live_after, nothing_left}
 use Rattle.control_node.specs.Beginning.{peer_state}
 use Rattle.running_hearing_laws.specs.Cutting.{and_then, told, with_sent}
 

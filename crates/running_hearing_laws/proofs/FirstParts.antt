@@ -28,8 +28,8 @@ use Rattle.item_wire.specs.declared.item.Item.{Item}
 use Rattle.item_wire.proofs.Cutting.{FrameIs, part_of, long_of, whole_of, read_frame}
 use Rattle.item_wire.proofs.Framed.{framed_is_read}
 use Rattle.node_items.specs.Told.{IsWritable}
-use Rattle.node_peers.specs.First.{ChangeFitsItsTypes}
-use Rattle.node_peers.specs.Told.{IsWritable as IsWritableRoute}
+use Rattle.node_routes.specs.First.{ChangeFitsItsTypes}
+use Rattle.node_routes.specs.Told.{IsWritable as IsWritableRoute}
 
 -- ---- records
 one_frame : (r : Result (Option (List ℕ)) TooLong) (a b : List ℕ) → r ≡ Ok (Some a) → r ≡ Ok (Some b) → a ≡ b

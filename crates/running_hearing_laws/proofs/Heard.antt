@@ -42,8 +42,8 @@ use Rattle.node_model.proofs.Members.{none_some}
 use Rattle.node_items.specs.Beginning as item
 use Rattle.node_items.proofs.Changes.{spelling_of_what_is_told}
 use Rattle.node_items.proofs.Fitting.{without_lists}
-use Rattle.node_peers.specs.Hearing.{open_octets}
-use Rattle.node_peers.specs.Told as routes
+use Rattle.node_routes.specs.Hearing.{open_octets}
+use Rattle.node_routes.specs.Told as routes
 use Rattle.config_node.specs.Beginning as configuration
 use Rattle.control_node.specs.Beginning as control
 use Rattle.control_node.specs.Core.{is_peer}

@@ -23,13 +23,13 @@ use Rattle.node_model.specs.Maps.{Change, Map}
 use Rattle.node_model.specs.Step.{Beginning, Phase, Idle, Opened, Confirmed, Up, Post}
 use Rattle.node_model.specs.Values.{Route}
 use Rattle.node_model.proofs.Members.{none_some}
-use Rattle.node_peers.specs.Beginning as route
-use Rattle.node_peers.specs.First.{BringFirst}
-use Rattle.node_peers.specs.Hearing.{heard, open_octets}
-use Rattle.node_peers.specs.Keeping.{Leaves}
-use Rattle.node_peers.specs.Told as routes
-use Rattle.node_peers.proofs.Cutting.{leaves_one}
-use Rattle.node_peers.proofs.One.{keepalive_first, open_first, update_first}
+use Rattle.node_routes.specs.Beginning as route
+use Rattle.node_routes.specs.First.{BringFirst}
+use Rattle.node_routes.specs.Hearing.{heard, open_octets}
+use Rattle.node_routes.specs.Keeping.{Leaves}
+use Rattle.node_routes.specs.Told as routes
+use Rattle.node_routes.proofs.Cutting.{leaves_one}
+use Rattle.node_routes.proofs.One.{keepalive_first, open_first, update_first}
 use Rattle.control_node.specs.Beginning.{peer_state}
 use Rattle.machine_model.specs.Session.{Message, Open, Keepalive, Hello, Carries, is_idle}
 use Rattle.machine_model.specs.Moments.{NoneGoesDown}

@@ -13,7 +13,7 @@ use Rattle.node_model.specs.Keys.{Low, Vpn, Row, Publish, Subscribe}
 use Rattle.node_model.specs.Maps.{Change}
 use Rattle.node_model.specs.Values.{Route}
 use Rattle.node_model.proofs.Members.{none_some}
-use Rattle.node_peers.specs.Told as routes
+use Rattle.node_routes.specs.Told as routes
 use Rattle.machine_model.specs.Session.{Configuration, Controller, Agent, Role, Message, Open, Keepalive, Hello, Carries, are_peers}
 use Rattle.running_model.specs.Controls.{Controls}
 use Rattle.running_model.specs.Seats.{Who, Configuring, Controlling, Forwarding, name_of, role_of}

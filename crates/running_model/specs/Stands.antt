@@ -13,8 +13,8 @@ use Rattle.node_items.specs.Told as items
 use Rattle.node_model.specs.Keys.{Vpn}
 use Rattle.node_model.specs.Maps.{Change}
 use Rattle.node_model.specs.Step.{nothing, post}
-use Rattle.node_peers.specs.Hearing.{open_octets}
-use Rattle.node_peers.specs.Told as routes
+use Rattle.node_routes.specs.Hearing.{open_octets}
+use Rattle.node_routes.specs.Told as routes
 use Rattle.machine_model.specs.Setup.{Name}
 use Rattle.machine_model.specs.Session.{Message, Open, Keepalive, Hello, Carries, SessionEnd, Session, is_live, is_peering}
 use Rattle.machine_model.specs.Network.{MachineState, start}

@@ -13,8 +13,8 @@ use Rattle.node_items.specs.Told.{CanBeTold}
 use Rattle.node_model.specs.Keys.{Vpn}
 use Rattle.node_model.specs.Maps.{Change}
 use Rattle.node_model.specs.Values.{Route}
-use Rattle.node_peers.specs.First.{ChangeFitsItsTypes}
-use Rattle.node_peers.specs.Told.{IsWritable}
+use Rattle.node_routes.specs.First.{ChangeFitsItsTypes}
+use Rattle.node_routes.specs.Told.{IsWritable}
 use Rattle.machine_model.specs.Session.{Role, Configuration, Controller, Agent, are_peers}
 use Rattle.machine_model.specs.Session.{Message, Carries, Session}
 

@@ -29,8 +29,8 @@ use Rattle.control_node.specs.declared.cause.NodeCause.TheVariants as Cause
 use Rattle.control_node.specs.declared.plan.ControlPlan.{ControlPlan}
 use Rattle.machine_model.specs.Setup.{Name}
 use Rattle.machine_model.specs.Network.{config as named_config}
-use Rattle.control_quiet_laws.specs.Quiet.{IsWithout, SameButQuiet}
-use Rattle.control_quiet_laws.proofs.Quiet.{quiet_by_agent, quiet_by_peers}
+use Rattle.control_silent_agent_laws.specs.Quiet.{IsWithout, SameButQuiet}
+use Rattle.control_silent_agent_laws.proofs.Quiet.{quiet_by_agent, quiet_by_peers}
 use Rattle.running_model.specs.Controls as controls
 use Rattle.running_model.specs.Controls.{agents_at, controls_of, plan_of, told_at}
 use Rattle.running_model.specs.Seats.{Controlling, name_there, names_of, others_of}

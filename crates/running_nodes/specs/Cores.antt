@@ -9,7 +9,7 @@ use Rattle.config_node.specs.Core as configuration
 use Rattle.control_node.specs.Agents.{is_retired}
 use Rattle.control_node.specs.Core as control
 use Rattle.agent_node.specs.Core as agent
-use Rattle.control_quiet_laws.specs.Quiet.{SameButQuiet}
+use Rattle.control_silent_agent_laws.specs.Quiet.{SameButQuiet}
 use Rattle.running_model.specs.Controls as controls
 use Rattle.running_model.specs.Controls.{controls_of}
 use Rattle.running_model.specs.Seats.{Who, Configuring, Controlling, Forwarding}

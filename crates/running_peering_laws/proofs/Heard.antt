@@ -26,10 +26,10 @@ use Rattle.headline_laws.proofs.Written.{sound_setup}
 use Rattle.running_model.specs.Controls.{Controls}
 use Rattle.running_model.specs.Seats.{control_plan}
 use Rattle.running_model.specs.Stands.{message_size}
-use Rattle.running_seat_laws.proofs.Lists.{first_is, rest_is, some_nothing}
-use Rattle.running_seat_laws.proofs.Order.{site_sees}
-use Rattle.running_seat_laws.proofs.Parties.{computer, root, site}
-use Rattle.running_seat_laws.proofs.Written.{written_named}
+use Rattle.running_holding_laws.proofs.Lists.{first_is, rest_is, some_nothing}
+use Rattle.running_holding_laws.proofs.Order.{site_sees}
+use Rattle.running_holding_laws.proofs.Parties.{computer, root, site}
+use Rattle.running_holding_laws.proofs.Written.{written_named}
 use Rattle.running_telling_laws.specs.Moments.{IsMoment}
 use Rattle.running_telling_laws.proofs.Moments.{moment_numbers, moment_sessions, moment_sound, moment_told, moment_written}
 use Rattle.running_peering_laws.specs.Hearing.{HearsItsPeers, AllHearTheirPeers, told_by}

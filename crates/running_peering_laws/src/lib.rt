@@ -1,4 +1,4 @@
-//! What control nodes hold of their peers in a settled network: laws alone.
+//! What control nodes hold of their peers in a settled network: a law alone.
 #![tactic(auto)]
 
 pub mod laws;

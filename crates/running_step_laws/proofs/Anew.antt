@@ -16,7 +16,7 @@ use Rattle.running_model.specs.Seats.{Seat, kept_in, seat}
 use Rattle.running_model.specs.Steps.{IsStepped, as_it_is, cleared, with_seat}
 use Rattle.running_model.specs.Stands.{IsEnd, Seats, message_size}
 use Rattle.running_model.specs.declared.place.SessionPlace.{SessionPlace}
-use Rattle.running_seat_laws.specs.Wiring.{IsPlace, name_at, other_at}
+use Rattle.running_holding_laws.specs.Wiring.{IsPlace, name_at, other_at}
 use Rattle.running_step_laws.proofs.AtMoments.{IsSound, kept_closed}
 use Rattle.running_step_laws.proofs.Building.{IsPart, end_refl, part_at}
 use Rattle.running_step_laws.proofs.Clearing.{place}

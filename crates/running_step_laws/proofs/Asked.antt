@@ -12,7 +12,7 @@ use Rattle.running_model.specs.Seats.{Seat, is_down_at, link_at, seat}
 use Rattle.running_model.specs.Stands.{IsEnd, Seats, octets_of}
 use Rattle.running_model.specs.declared.place.SessionPlace.{SessionPlace}
 use Rattle.running_telling_laws.specs.Moments.{IsMoment}
-use Rattle.running_seat_laws.specs.Wiring.{IsPlace, name_at, other_at}
+use Rattle.running_holding_laws.specs.Wiring.{IsPlace, name_at, other_at}
 use Rattle.running_step_laws.specs.Asking.{AreAt, NoPlaceIsNoSession, PlacesSayWhatSessionsAre, SaysAt}
 use Rattle.running_step_laws.proofs.AtMoments.{down_where, found_sound, moment_right}
 use Rattle.running_step_laws.proofs.Down.{down_is}

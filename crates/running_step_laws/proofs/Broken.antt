@@ -20,7 +20,7 @@ use Rattle.running_model.specs.Steps.{unbroken as unbroken_seat, with_break_at}
 use Rattle.running_model.specs.Stands.{IsEnd, IsLong, IsVacant, KeepsPart, Seats, StandsFor, first_of, message_size}
 use Rattle.running_model.specs.declared.place.SessionPlace.{SessionPlace}
 use Rattle.running_telling_laws.specs.Moments.{IsMoment, unbroken}
-use Rattle.running_seat_laws.specs.Wiring.{IsPlace, name_at, other_at}
+use Rattle.running_holding_laws.specs.Wiring.{IsPlace, name_at, other_at}
 use Rattle.running_step_laws.specs.Asking.{AreAt}
 use Rattle.running_step_laws.specs.Breaking.{BreaksAreRemoved, BreaksAreSet, NothingIsBroken}
 use Rattle.running_step_laws.proofs.AtMoments.{moment_right, stands_at}

@@ -14,7 +14,7 @@ use Rattle.running_model.specs.Seats.{Seat, breaks_in, far_of, kept_in, link, no
 use Rattle.running_model.specs.Steps.{with_seat}
 use Rattle.running_model.specs.Stands.{HasEnd, IsEnd, IsLong, IsVacant, KeepsPart, Seats, first_of, octets_of}
 use Rattle.running_model.specs.declared.place.SessionPlace.{SessionPlace}
-use Rattle.running_seat_laws.specs.Wiring.{IsPlace, name_at, other_at}
+use Rattle.running_holding_laws.specs.Wiring.{IsPlace, name_at, other_at}
 use Rattle.running_step_laws.proofs.Lists.{AreAlike, AreFit, EndAt, far_nowhere, not_nobody, place_with, same_name_at, same_other}
 use Rattle.running_step_laws.proofs.Lists.{same_other_at, seat_elsewhere, seat_here, there_or_nobody, with_alike}
 

@@ -13,7 +13,7 @@ use Rattle.machine_model.proofs.NodesFact.{session_nodes}
 use Rattle.running_model.specs.Seats.{Seat, far_of, place_of, seat}
 use Rattle.running_model.specs.Stands.{IsEnd, KeepsPart, Seats}
 use Rattle.running_model.specs.declared.place.SessionPlace.{SessionPlace}
-use Rattle.running_seat_laws.specs.Wiring.{IsPlace, name_at, other_at}
+use Rattle.running_holding_laws.specs.Wiring.{IsPlace, name_at, other_at}
 use Rattle.running_step_laws.proofs.Building.{SameEnd, has_end, moved, part_at, part_of, part_same, seats_by_places}
 use Rattle.running_step_laws.proofs.Facts.{IsRight, Wired}
 use Rattle.running_step_laws.proofs.Here.{Here, here, part_here}

@@ -13,7 +13,7 @@ use Rattle.running_model.specs.Seats.{Seat, far_of, is_down_at, link_at, live_at
 use Rattle.running_model.specs.Stands.{IsVacant}
 use Rattle.running_model.specs.Steps.{cleared, cleared_at, cleared_from, told_of_loss, with_link, with_notice, with_seat}
 use Rattle.running_model.specs.declared.place.SessionPlace.{SessionPlace}
-use Rattle.running_seat_laws.specs.Wiring.{HasFar, IsPlace}
+use Rattle.running_holding_laws.specs.Wiring.{HasFar, IsPlace}
 use Rattle.running_step_laws.proofs.Building.{AllBut, SameEnd, Stays, end_refl, end_trans, fit_but, stays_refl, stays_trans}
 use Rattle.running_step_laws.proofs.Lists.{far_nowhere, not_nobody, same_far_of, same_or_other, same_other, same_place, seat_elsewhere}
 use Rattle.running_step_laws.proofs.Lists.{there_or_nobody}

@@ -24,7 +24,7 @@ use Rattle.running_model.specs.Steps.{Takes, cleared, with_seat}
 use Rattle.running_model.specs.Stands.{Seats}
 use Rattle.running_model.specs.declared.place.SessionPlace.{SessionPlace}
 use Rattle.running_telling_laws.specs.Moments.{IsMoment}
-use Rattle.running_seat_laws.specs.Wiring.{HasFar, IsPlace, name_at, other_at}
+use Rattle.running_holding_laws.specs.Wiring.{HasFar, IsPlace, name_at, other_at}
 use Rattle.running_step_laws.proofs.Asked.{down_here}
 use Rattle.running_step_laws.proofs.AtMoments.{found_sound, moment_right}
 use Rattle.running_step_laws.proofs.Building.{SameEnd, Stays, both_vacant, stays_back, stays_trans}

@@ -21,7 +21,7 @@ use Rattle.running_model.specs.Steps.{cleared, with_seat}
 use Rattle.running_model.specs.Stands.{Seats, StandsFor, message_size}
 use Rattle.running_model.specs.declared.place.SessionPlace.{SessionPlace}
 use Rattle.running_telling_laws.specs.Moments.{IsMoment}
-use Rattle.running_seat_laws.specs.Wiring.{IsPlaceOf, name_at, other_at}
+use Rattle.running_holding_laws.specs.Wiring.{IsPlaceOf, name_at, other_at}
 use Rattle.running_step_laws.specs.Connecting.{ConnectionsAreMade, EarlierConnectionsAreEvents, NearIsEarlier, NothingIsConnected, OpensBehind, OpensBoth}
 use Rattle.running_step_laws.proofs.Asked.{down_here, places_say}
 use Rattle.running_model.proofs.Sizes.{positive}

@@ -15,7 +15,7 @@ use Rattle.running_model.specs.Steps.{cleared, with_link, with_notice, with_seat
 use Rattle.running_model.specs.Stands.{Seats, StandsFor, message_size}
 use Rattle.running_model.specs.declared.place.SessionPlace.{SessionPlace}
 use Rattle.running_telling_laws.specs.Moments.{IsMoment}
-use Rattle.running_seat_laws.specs.Wiring.{HasFar, IsPlaceOf}
+use Rattle.running_holding_laws.specs.Wiring.{HasFar, IsPlaceOf}
 use Rattle.running_step_laws.specs.Delivering.{MessagesAreDelivered, NoticesAreDelivered, NothingIsDelivered, TakesAt}
 use Rattle.running_step_laws.proofs.Asked.{places_say}
 use Rattle.running_step_laws.proofs.AtMoments.{moment_right, stands_at}

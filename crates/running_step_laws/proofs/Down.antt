@@ -8,7 +8,7 @@ use Rattle.machine_model.specs.Network.{MachineState}
 use Rattle.running_model.specs.Seats.{Seat, is_down_at, notice, seat, whole_at, whole_there}
 use Rattle.running_model.specs.Stands.{IsDownWhere, IsEnd, Seats, is_whole_end}
 use Rattle.running_model.specs.declared.place.SessionPlace.{SessionPlace}
-use Rattle.running_seat_laws.specs.Wiring.{IsPlace}
+use Rattle.running_holding_laws.specs.Wiring.{IsPlace}
 use Rattle.running_step_laws.proofs.Facts.{IsRight, Wired}
 use Rattle.running_step_laws.proofs.Here.{Here}
 use Rattle.running_step_laws.proofs.Lists.{AreAlike, same_far_of}

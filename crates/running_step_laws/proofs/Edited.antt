@@ -39,7 +39,7 @@ use Rattle.running_model.specs.Stands.{IsEnd, IsLong, KeepsPart, Seats, message_
 use Rattle.running_model.specs.declared.place.SessionPlace.{SessionPlace}
 use Rattle.running_model.proofs.Sizes.{positive}
 use Rattle.running_telling_laws.specs.Moments.{IsMoment}
-use Rattle.running_seat_laws.specs.Wiring.{IsPlace, name_at, other_at}
+use Rattle.running_holding_laws.specs.Wiring.{IsPlace, name_at, other_at}
 use Rattle.running_hearing_laws.proofs.Named.{forms}
 use Rattle.running_step_laws.specs.Editing.{EditsAreMade, FaultyEditsAreRefused}
 use Rattle.running_step_laws.proofs.AtMoments.{IsSound, all_quiet, moment_right, moment_sound, stands_at}

@@ -28,8 +28,8 @@ use Rattle.running_model.specs.Telling.{CanBeHeard, CanSend}
 use Rattle.running_model.specs.declared.place.SessionPlace.{SessionPlace}
 use Rattle.running_hearing_laws.specs.Hearing.{IsMessageOf, IsPartial, IsPhaseOf}
 use Rattle.running_telling_laws.specs.Moments.{IsMoment, unbroken}
-use Rattle.running_seat_laws.specs.Wiring.{AreSeats, GoesBy, HasFar, HasNumbers, HasSession, HasSessions, IsFound, IsPlace, IsPlaceOf}
-use Rattle.running_seat_laws.specs.Wiring.{ShowsAt, name_at, other_at}
+use Rattle.running_holding_laws.specs.Wiring.{AreSeats, GoesBy, HasFar, HasNumbers, HasSession, HasSessions, IsFound, IsPlace, IsPlaceOf}
+use Rattle.running_holding_laws.specs.Wiring.{ShowsAt, name_at, other_at}
 use Rattle.running_step_laws.proofs.Quiet.{IsQuiet}
 
 -- ---- of seats

@@ -25,7 +25,7 @@ use Rattle.running_model.specs.Seats.{notice, notice_at, other, others_of, place
 use Rattle.running_model.specs.Stands.{IsLong, IsVacant}
 use Rattle.running_model.specs.Steps.{cleared, cleared_at, cleared_from, told_of_loss, with_link, with_notice, with_seat}
 use Rattle.running_model.specs.declared.place.SessionPlace.{SessionPlace}
-use Rattle.running_seat_laws.specs.Wiring.{HasFar, IsPlace, name_at, other_at}
+use Rattle.running_holding_laws.specs.Wiring.{HasFar, IsPlace, name_at, other_at}
 use Rattle.running_step_laws.proofs.Building.{SameEnd, end_refl, end_trans}
 use Rattle.running_step_laws.proofs.Clearing.{far_once, one_cleared, place}
 use Rattle.running_step_laws.proofs.Ghost.{ghost, ghosts}

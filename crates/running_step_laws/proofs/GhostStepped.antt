@@ -26,8 +26,8 @@ use Rattle.running_model.specs.Moving.{is_listed_who, joined_at, joined_by, numb
 use Rattle.running_model.specs.Seats.{Controlling, Seat, breaks_in, kept_in, kind_of, link, name_there, names_of, others_of}
 use Rattle.running_model.specs.Stands.{IsLong, IsVacant}
 use Rattle.running_model.specs.Steps.{IsStepped, Sending, as_it_is, end_after, reply_fails, sending, sent_on}
-use Rattle.control_quiet_laws.specs.Quiet.{IsWithout, SameButQuiet}
-use Rattle.control_quiet_laws.proofs.Quiet.{quiet_by_agent, quiet_by_peers}
+use Rattle.control_silent_agent_laws.specs.Quiet.{IsWithout, SameButQuiet}
+use Rattle.control_silent_agent_laws.proofs.Quiet.{quiet_by_agent, quiet_by_peers}
 use Rattle.running_step_laws.proofs.Ghost.{comes_to}
 use Rattle.running_step_laws.proofs.Lists.{vacant_past}
 use Rattle.running_step_laws.proofs.Reshaped.{get_put_nothing, take_put}

@@ -17,7 +17,7 @@ use Rattle.running_model.specs.Controls.{Controls, first_agent}
 use Rattle.running_model.specs.Moving.{is_listed_who, number_for, number_in, retired_of}
 use Rattle.running_model.specs.Seats.{Who, Configuring, Controlling, Forwarding, index_from, is_name, name_of, name_there, names_of}
 use Rattle.running_model.specs.Seats.{others_of}
-use Rattle.running_seat_laws.proofs.Lists.{index_found}
+use Rattle.running_holding_laws.proofs.Lists.{index_found}
 use Rattle.running_step_laws.proofs.Reshaped.{ghost_slot, ghost_who, joined_who, slot_for, slot_of, who_came}
 
 -- the compute node that comes has the name of the one that went

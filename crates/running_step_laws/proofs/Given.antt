@@ -1,7 +1,7 @@
 -- What is known of seats, of what nodes hear, and of moments, all together.
 use Rattle.running_hearing_laws.proofs.Heard.{end_closed, end_opened, message_heard, octets_heard}
 use Rattle.running_hearing_laws.proofs.Sizes.{has_size}
-use Rattle.running_seat_laws.proofs.Written as seats
+use Rattle.running_holding_laws.proofs.Written as seats
 use Rattle.running_telling_laws.proofs.Heard.{heard}
 use Rattle.running_telling_laws.proofs.Moments.{moment_next, moment_numbers, moment_sessions, moment_unbroken, moment_written}
 use Rattle.running_step_laws.proofs.Facts.{Facts}

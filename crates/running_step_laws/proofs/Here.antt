@@ -10,7 +10,7 @@ use Rattle.machine_model.proofs.NetworkFact.{found}
 use Rattle.running_model.specs.Seats.{Seat, name_of, seat, seat_named}
 use Rattle.running_model.specs.Stands.{IsEnd, KeepsPart, Seats}
 use Rattle.running_model.specs.declared.place.SessionPlace.{SessionPlace}
-use Rattle.running_seat_laws.specs.Wiring.{HasFar, IsPlace, name_at, other_at}
+use Rattle.running_holding_laws.specs.Wiring.{HasFar, IsPlace, name_at, other_at}
 use Rattle.running_step_laws.proofs.Facts.{IsRight, Wired, right_twins}
 use Rattle.running_step_laws.proofs.Lists.{EndAt, named_by}
 use Rattle.running_step_laws.proofs.Quiet.{IsQuiet, quiet_turned}

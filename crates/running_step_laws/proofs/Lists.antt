@@ -18,7 +18,7 @@ use Rattle.running_model.specs.Seats.{seat, seat_named, session_with}
 use Rattle.running_model.specs.Stands.{HasEnd, IsLong, IsVacant, Seats}
 use Rattle.running_model.specs.Steps.{with_seat}
 use Rattle.running_model.specs.declared.place.SessionPlace.{SessionPlace}
-use Rattle.running_seat_laws.specs.Wiring.{IsPlace, name_at, other_at}
+use Rattle.running_holding_laws.specs.Wiring.{IsPlace, name_at, other_at}
 
 -- ---- seats
 pub seat_here : (k : ℕ) (n : Seat) (seats : List Seat) → k < length seats → seat (with_seat k n seats) k ≡ n

@@ -18,7 +18,7 @@ use Rattle.running_model.specs.Steps.{with_link, with_notice}
 use Rattle.running_model.specs.Stands.{IsLong, Seats, StandsFor, message_size}
 use Rattle.running_model.specs.declared.place.SessionPlace.{SessionPlace}
 use Rattle.running_telling_laws.specs.Moments.{IsMoment}
-use Rattle.running_seat_laws.specs.Wiring.{IsPlace, name_at, other_at}
+use Rattle.running_holding_laws.specs.Wiring.{IsPlace, name_at, other_at}
 use Rattle.running_step_laws.specs.Asking.{AreAt}
 use Rattle.running_step_laws.specs.Losing.{LossesAreMade, NothingIsLost, cut}
 use Rattle.running_step_laws.proofs.Asked.{down_here}

@@ -25,7 +25,7 @@ use Rattle.running_model.specs.Taking.{held_after, replies_to, taken, wide_after
 use Rattle.running_model.specs.Telling.{CanSend}
 use Rattle.running_model.specs.declared.place.SessionPlace.{SessionPlace}
 use Rattle.running_telling_laws.specs.Moments.{IsMoment}
-use Rattle.running_seat_laws.specs.Wiring.{IsPlace, name_at, other_at}
+use Rattle.running_holding_laws.specs.Wiring.{IsPlace, name_at, other_at}
 use Rattle.running_model.proofs.Sizes.{positive}
 use Rattle.running_step_laws.proofs.Arriving.{live_after}
 use Rattle.running_step_laws.proofs.AtMoments.{IsSound, found_heard, found_joined, moment_right, moment_sound}

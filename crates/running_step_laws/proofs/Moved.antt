@@ -32,7 +32,7 @@ use Rattle.running_model.specs.Moving.{Moves, reseated, seats_of}
 use Rattle.running_model.specs.Stands.{Seats}
 use Rattle.running_model.specs.Steps.{with_seat}
 use Rattle.running_telling_laws.specs.Moments.{IsMoment}
-use Rattle.running_seat_laws.proofs.Lists.{member_of_at}
+use Rattle.running_holding_laws.proofs.Lists.{member_of_at}
 use Rattle.running_step_laws.proofs.AtMoments.{moment_right}
 use Rattle.running_step_laws.proofs.Clearing.{place}
 use Rattle.running_step_laws.proofs.Facts.{Facts, IsRight}

@@ -42,8 +42,8 @@ use Rattle.running_model.specs.Steps.{fresh_seat}
 use Rattle.running_model.specs.Stands.{IsEnd, IsLong, IsVacant, KeepsPart, Seats, octets_of}
 use Rattle.running_model.specs.declared.place.SessionPlace.{SessionPlace}
 use Rattle.running_telling_laws.specs.Moments.{IsMoment}
-use Rattle.running_seat_laws.specs.Wiring.{IsPlace, name_at, other_at}
-use Rattle.running_seat_laws.proofs.Lists.{at_of_member, member_of_at}
+use Rattle.running_holding_laws.specs.Wiring.{IsPlace, name_at, other_at}
+use Rattle.running_holding_laws.proofs.Lists.{at_of_member, member_of_at}
 use Rattle.running_step_laws.proofs.AtMoments.{moment_right}
 use Rattle.running_step_laws.proofs.Building.{SameEnd, part_at, part_none, part_of, part_same, seats_by_places}
 use Rattle.running_step_laws.proofs.Facts.{Facts, IsRight}

@@ -25,7 +25,7 @@ use Rattle.running_model.specs.Seats.{Who, Configuring, Controlling, Forwarding,
 use Rattle.running_model.specs.Seats.{other, others_of, seat, seat_named, whos}
 use Rattle.running_model.specs.Steps.{cleared, with_seat}
 use Rattle.running_model.specs.Stands.{Seats}
-use Rattle.running_seat_laws.proofs.Lists.{at_of_member}
+use Rattle.running_holding_laws.proofs.Lists.{at_of_member}
 use Rattle.running_step_laws.proofs.AtMoments.{IsSound}
 use Rattle.running_step_laws.proofs.Clearing.{place}
 use Rattle.running_step_laws.proofs.Facts.{IsRight, Wired}

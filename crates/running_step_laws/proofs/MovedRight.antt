@@ -20,7 +20,7 @@ use Rattle.headline_laws.specs.Headline.{IsOfForm, IsWritten}
 use Rattle.running_model.specs.Stands.{message_size}
 use Rattle.running_model.proofs.Sizes.{positive}
 use Rattle.running_telling_laws.specs.Moments.{IsMoment}
-use Rattle.running_seat_laws.specs.Wiring.{HasNumbers}
+use Rattle.running_holding_laws.specs.Wiring.{HasNumbers}
 use Rattle.running_step_laws.proofs.AtMoments.{IsSound, all_quiet, moment_sound}
 use Rattle.running_step_laws.proofs.Facts.{Facts, IsRight}
 use Rattle.running_step_laws.proofs.Ghost.{resettled, setup_after}

@@ -24,7 +24,7 @@ use Rattle.running_model.specs.Steps.{all_of, fresh_seat}
 use Rattle.running_model.specs.Stands.{IsLong, IsVacant}
 use Rattle.running_step_laws.proofs.Building.{SameEnd, end_trans, vacant_same}
 use Rattle.running_step_laws.proofs.Ghost.{ghost}
-use Rattle.running_seat_laws.proofs.Lists.{index_found}
+use Rattle.running_holding_laws.proofs.Lists.{index_found}
 
 -- ---- lists with an item stored
 -- what is stored is there, and also where there is no place for it and it is what stands past the end

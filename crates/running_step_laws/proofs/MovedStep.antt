@@ -29,7 +29,7 @@ use Rattle.running_model.specs.Seats.{is_live as is_live_in, link, name_there, n
 use Rattle.running_model.specs.Stands.{IsLong, IsVacant, Seats, message_size, octets_of}
 use Rattle.running_model.specs.Steps.{as_it_is, cleared, with_seat}
 use Rattle.running_model.specs.declared.place.SessionPlace.{SessionPlace}
-use Rattle.running_seat_laws.specs.Wiring.{HasFar, IsPlace, name_at, other_at}
+use Rattle.running_holding_laws.specs.Wiring.{HasFar, IsPlace, name_at, other_at}
 use Rattle.running_step_laws.proofs.Anew.{told_anew}
 use Rattle.running_step_laws.proofs.AtMoments.{IsSound, closed_down}
 use Rattle.running_step_laws.proofs.Clearing.{place}

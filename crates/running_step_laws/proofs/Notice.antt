@@ -20,7 +20,7 @@ use Rattle.running_model.specs.Stands.{IsEnd, Seats, message_size, octets_of}
 use Rattle.running_model.specs.Taking.{closed}
 use Rattle.running_model.specs.declared.place.SessionPlace.{SessionPlace}
 use Rattle.running_telling_laws.specs.Moments.{IsMoment}
-use Rattle.running_seat_laws.specs.Wiring.{IsPlace, name_at, other_at}
+use Rattle.running_holding_laws.specs.Wiring.{IsPlace, name_at, other_at}
 use Rattle.running_model.proofs.Sizes.{positive}
 use Rattle.running_step_laws.proofs.AtMoments.{IsSound, found_sound, moment_right, moment_sound}
 use Rattle.running_step_laws.proofs.Building.{AllBut, IsPart, fit_but, part_none}

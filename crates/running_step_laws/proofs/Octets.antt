@@ -32,7 +32,7 @@ use Rattle.running_model.specs.declared.place.SessionPlace.{SessionPlace}
 use Rattle.running_hearing_laws.specs.Hearing.{IsMessageOf, IsPartial, IsPhaseOf}
 use Rattle.running_hearing_laws.proofs.Heard.{message_of, phase_of_cell}
 use Rattle.running_telling_laws.specs.Moments.{IsMoment}
-use Rattle.running_seat_laws.specs.Wiring.{HasFar, HasSession, IsPlace, IsPlaceOf, name_at, other_at}
+use Rattle.running_holding_laws.specs.Wiring.{HasFar, HasSession, IsPlace, IsPlaceOf, name_at, other_at}
 use Rattle.running_model.proofs.Sizes.{positive}
 use Rattle.running_step_laws.specs.Delivering.{NoticesCountAsOctets, OctetsAreDelivered, TakesAt}
 use Rattle.running_step_laws.proofs.Arriving.{live_after, octets_taken, rest_of, still, taken_of, unanswered, whole_of}

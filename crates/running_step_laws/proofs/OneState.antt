@@ -23,7 +23,7 @@ use Rattle.running_model.specs.Stands.{IsDownWhere, IsEnd, StandsFor, message_si
 use Rattle.running_model.specs.Telling.{CanBeHeard, CanSend, from_of}
 use Rattle.running_model.specs.declared.place.SessionPlace.{SessionPlace}
 use Rattle.running_telling_laws.specs.Moments.{IsMoment}
-use Rattle.running_seat_laws.specs.Wiring.{IsPlace, name_at, other_at}
+use Rattle.running_holding_laws.specs.Wiring.{IsPlace, name_at, other_at}
 use Rattle.running_step_laws.specs.OneState.{SeatsStandForOneState}
 use Rattle.running_step_laws.proofs.AtMoments.{found_heard, found_sound, moment_right}
 use Rattle.running_step_laws.proofs.Down.{down_turned}

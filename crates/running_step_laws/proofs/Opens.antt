@@ -22,7 +22,7 @@ use Rattle.running_model.specs.Steps.{IsStepped, Sending, Takes, end_after, repl
 use Rattle.running_model.specs.Stands.{IsEnd, Seats, octets_of}
 use Rattle.running_model.specs.Taking.{opened as opened_by}
 use Rattle.running_model.specs.declared.place.SessionPlace.{SessionPlace}
-use Rattle.running_seat_laws.specs.Wiring.{IsPlace, name_at, other_at}
+use Rattle.running_holding_laws.specs.Wiring.{IsPlace, name_at, other_at}
 use Rattle.running_step_laws.proofs.Building.{IsPart, SameEnd, end_refl, moved, part_at, part_none}
 use Rattle.running_step_laws.proofs.Changing.{changed_right}
 use Rattle.running_step_laws.proofs.Clearing.{IsCleared, place}

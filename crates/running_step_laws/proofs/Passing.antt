@@ -22,7 +22,7 @@ use Rattle.running_model.specs.Seats.{Seat, breaks_in, far_of, kind_of, name_of,
 use Rattle.running_model.specs.Steps.{sending}
 use Rattle.running_model.specs.Stands.{IsEnd, KeepsPart, Seats, octets_of}
 use Rattle.running_model.specs.declared.place.SessionPlace.{SessionPlace}
-use Rattle.running_seat_laws.specs.Wiring.{GoesBy, IsPlace, name_at, other_at}
+use Rattle.running_holding_laws.specs.Wiring.{GoesBy, IsPlace, name_at, other_at}
 use Rattle.running_step_laws.proofs.Building.{SameEnd, end_refl, has_end, moved, part_at, part_of, part_same, seats_by_places}
 use Rattle.running_step_laws.proofs.Clearing.{place}
 use Rattle.running_step_laws.proofs.Ends.{HearsEnd, IsReady, TellsEnd, far_part, far_told, near_part, near_told}
@@ -31,7 +31,7 @@ use Rattle.running_step_laws.proofs.Here.{Here, here, other_named, part_here, pl
 use Rattle.running_step_laws.proofs.Lists.{AreAlike, AreFit, EndAt, same_far_of, same_place, same_who}
 use Rattle.running_step_laws.proofs.Sent.{idle_stays, idle_tells_nothing, passed_tells, telling_session, wanted_messages}
 use Rattle.running_step_laws.proofs.Sides.{node_elsewhere, node_here, node_there}
-use Rattle.running_seat_laws.proofs.Lists.{map_twice}
+use Rattle.running_holding_laws.proofs.Lists.{map_twice}
 
 -- ---- what a pass makes of an end
 pub told_phase : (k : NodeKind) (posts : List Post) (i : ℕ) → (told_all k posts i).phase ≡ (post posts i).phase

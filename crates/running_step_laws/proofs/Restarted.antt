@@ -21,7 +21,7 @@ use Rattle.running_model.specs.Steps.{emptied, with_seat}
 use Rattle.running_model.specs.Stands.{IsLong, IsVacant, KeepsPart, Seats, message_size}
 use Rattle.running_model.specs.declared.place.SessionPlace.{SessionPlace}
 use Rattle.running_telling_laws.specs.Moments.{IsMoment}
-use Rattle.running_seat_laws.specs.Wiring.{HasFar, IsPlace, name_at, other_at}
+use Rattle.running_holding_laws.specs.Wiring.{HasFar, IsPlace, name_at, other_at}
 use Rattle.running_step_laws.specs.Losing.{NothingIsRestarted, RestartsAreMade, all_told, restarted}
 use Rattle.running_step_laws.proofs.AtMoments.{found_sound, kept_closed, moment_right, stands_at}
 use Rattle.running_step_laws.proofs.Building.{SameEnd, Stays, has_end, long_again, moved, part_at, part_none, part_of, part_same, seats_by_places}

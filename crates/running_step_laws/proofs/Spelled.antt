@@ -13,9 +13,9 @@ use Rattle.node_items.proofs.Changes.{one_change}
 use Rattle.node_model.specs.Keys.{Vpn}
 use Rattle.node_model.specs.Maps.{Change}
 use Rattle.node_model.specs.Values.{Route}
-use Rattle.node_peers.specs.Hearing.{IsNext}
-use Rattle.node_peers.specs.Told.{spelled}
-use Rattle.node_peers.proofs.One.{update_first}
+use Rattle.node_routes.specs.Hearing.{IsNext}
+use Rattle.node_routes.specs.Told.{spelled}
+use Rattle.node_routes.proofs.One.{update_first}
 use Rattle.machine_model.specs.Session.{Carries, Message}
 use Rattle.machine_model.proofs.SessionFact.{map_append}
 use Rattle.running_model.specs.Seats.{Who, no_node}

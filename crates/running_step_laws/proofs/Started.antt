@@ -18,7 +18,7 @@ use Rattle.running_model.specs.Stands.{IsEnd, IsLong, IsVacant, KeepsPart, Seats
 use Rattle.running_model.specs.declared.place.SessionPlace.{SessionPlace}
 use Rattle.running_telling_laws.specs.Moments.{IsMoment}
 use Rattle.running_telling_laws.proofs.Moments.{moment_start}
-use Rattle.running_seat_laws.specs.Wiring.{IsPlace, name_at, other_at}
+use Rattle.running_holding_laws.specs.Wiring.{IsPlace, name_at, other_at}
 use Rattle.running_step_laws.specs.Starting.{FreshSeatsStandForTheStart}
 use Rattle.running_step_laws.proofs.AtMoments.{moment_right, stands_at}
 use Rattle.running_step_laws.proofs.Building.{part_none, seats_by_places}

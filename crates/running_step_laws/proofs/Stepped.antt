@@ -22,7 +22,7 @@ use Rattle.running_model.specs.Seats.{seat, seat_named}
 use Rattle.running_model.specs.Steps.{IsStepped, Sending, cleared, end_after, sending, sent_on, with_seat}
 use Rattle.running_model.specs.Stands.{IsDownWhere, IsEnd, IsLong, Seats, message_size, octets_of}
 use Rattle.running_model.specs.declared.place.SessionPlace.{SessionPlace}
-use Rattle.running_seat_laws.specs.Wiring.{HasFar, IsPlace, name_at, other_at}
+use Rattle.running_holding_laws.specs.Wiring.{HasFar, IsPlace, name_at, other_at}
 use Rattle.running_telling_laws.specs.Moments.{IsMoment}
 use Rattle.running_step_laws.proofs.AtMoments.{IsSound, all_down_where, all_quiet, moment_right}
 use Rattle.running_step_laws.proofs.Building.{AllBut, IsPart, SameEnd, Stays, began, end_back, end_trans, fit_but, part_of, put_but, stays_back}

@@ -11,7 +11,7 @@ use Rattle.machine_model.specs.Session.{is_idle}
 use Rattle.running_model.specs.Seats.{Seat, far_of, link_at, live_at, notice_at, other, seat}
 use Rattle.running_model.specs.Steps.{with_link, with_notice}
 use Rattle.running_model.specs.declared.place.SessionPlace.{SessionPlace}
-use Rattle.running_seat_laws.specs.Wiring.{HasFar, IsPlace}
+use Rattle.running_holding_laws.specs.Wiring.{HasFar, IsPlace}
 use Rattle.running_model.specs.Steps.{told_of_loss}
 use Rattle.running_step_laws.specs.Losing.{all_told}
 use Rattle.running_step_laws.proofs.Building.{AllBut, SameEnd, Stays, end_refl, end_trans, fit_but, stays_refl, stays_trans}

@@ -14,7 +14,7 @@ use Rattle.running_model.specs.Seats.{Who, Configuring, Controlling, Forwarding,
 use Rattle.running_model.specs.Steps.{IsStepped, Sending, end_after, reply_fails, sending, sent_on, with_seat}
 use Rattle.running_model.specs.Stands.{IsLong, IsVacant}
 use Rattle.running_model.specs.declared.place.SessionPlace.{SessionPlace}
-use Rattle.running_seat_laws.specs.Wiring.{IsPlace}
+use Rattle.running_holding_laws.specs.Wiring.{IsPlace}
 use Rattle.running_step_laws.proofs.Building.{long_again}
 use Rattle.running_step_laws.proofs.Lists.{AreFit, fit_within, not_nobody, same_other, same_who, seat_elsewhere, seat_here, with_alike}
 use Rattle.running_step_laws.proofs.Wholes.{with_long}

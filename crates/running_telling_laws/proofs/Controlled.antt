@@ -43,8 +43,8 @@ use Rattle.node_model.proofs.Orders.{key_exact, key_total, prefix_total}
 use Rattle.node_model.proofs.Routes.{own_route_from, published_here, reoriginated_from}
 use Rattle.node_model.proofs.Selection.{selected_least}
 use Rattle.node_model.proofs.Wanted.{row_of_path}
-use Rattle.node_peers.specs.First.{RouteFitsItsTypes}
-use Rattle.node_peers.specs.Told.{IsWritable}
+use Rattle.node_routes.specs.First.{RouteFitsItsTypes}
+use Rattle.node_routes.specs.Told.{IsWritable}
 use Rattle.control_wants.specs.Held.{HoldingsFit, RouteFits}
 use Rattle.control_wants.proofs.Fitting.{agents_fit, peers_fit, hop_small, all_at, numbered, within, instance_small}
 use Rattle.running_telling_laws.proofs.Fitness.{FitsItem, FitsPeer, MayTell}

@@ -18,8 +18,8 @@ use Rattle.node_items.proofs.Maps.{key_of_what_fits}
 use Rattle.node_model.specs.Keys.{Key, Low, Publish, Row, Subscribe, Vpn}
 use Rattle.node_model.specs.Maps.{Change}
 use Rattle.node_model.specs.Values.{Entry, Route, Value}
-use Rattle.node_peers.specs.First.{RouteFitsItsTypes}
-use Rattle.node_peers.specs.Told.{IsWritable}
+use Rattle.node_routes.specs.First.{RouteFitsItsTypes}
+use Rattle.node_routes.specs.Told.{IsWritable}
 use Rattle.machine_model.specs.Session.{Role, are_peers}
 use Rattle.running_model.specs.Telling.{CanCarry, CanCarryAs, IsRecordChange, IsRouteChange, from_of}
 

@@ -13,8 +13,8 @@ use Rattle.machine_isolation_laws.specs.Refusing.{TiedNetwork, after_tied, next_
 use Rattle.machine_model.specs.Events.{event_of, forwarders, next}
 use Rattle.machine_model.specs.Setup.{checked}
 use Rattle.running_model.specs.Stands.{message_size}
-use Rattle.schedule_ties.specs.declared.answer.TiedAnswer.{TiedAnswer}
-use Rattle.schedule_ties.specs.declared.answer.TiedAnswer.TheVariants.{Answered, EditTied}
+use Rattle.schedule_tied_answers.specs.declared.answer.TiedAnswer.{TiedAnswer}
+use Rattle.schedule_tied_answers.specs.declared.answer.TiedAnswer.TheVariants.{Answered, EditTied}
 use Rattle.schedule_tied_laws.specs.Runs.{answer_tied, tied_moment}
 use Rattle.schedule_tied_laws.proofs.Kept.{tied_more}
 use Rattle.scenario_run.specs.declared.tally.Tally.{Tally}

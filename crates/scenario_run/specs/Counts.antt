@@ -11,8 +11,8 @@ use Rattle.config_model.specs.declared.event.Event.{Event}
 use Rattle.config_model.specs.declared.event.Event.TheVariants.{Trace}
 use Rattle.reach_plain.specs.Reachability.{reachability}
 use Rattle.schedule_script.specs.declared.answer.Answer.TheVariants.{Rounds, Traced}
-use Rattle.schedule_ties.specs.declared.answer.TiedAnswer.{TiedAnswer}
-use Rattle.schedule_ties.specs.declared.answer.TiedAnswer.TheVariants.{Answered}
+use Rattle.schedule_tied_answers.specs.declared.answer.TiedAnswer.{TiedAnswer}
+use Rattle.schedule_tied_answers.specs.declared.answer.TiedAnswer.TheVariants.{Answered}
 use Rattle.schedule_tied_laws.specs.Isolated.{StandsAt}
 use Rattle.schedule_tied_laws.specs.Runs.{answers, tied_moment}
 use Rattle.scenario_run.specs.declared.tally.Tally.{Tally}

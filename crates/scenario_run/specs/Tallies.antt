@@ -17,8 +17,8 @@ use Rattle.machine_isolation_laws.specs.Refusing.{TiedNetwork, next_tied, tied_s
 use Rattle.machine_model.specs.Events.{event_of}
 use Rattle.machine_model.specs.Setup.{checked}
 use Rattle.running_model.specs.Stands.{message_size}
-use Rattle.schedule_ties.specs.declared.answer.TiedAnswer.{TiedAnswer}
-use Rattle.schedule_ties.specs.declared.answer.TiedAnswer.TheVariants.{Answered}
+use Rattle.schedule_tied_answers.specs.declared.answer.TiedAnswer.{TiedAnswer}
+use Rattle.schedule_tied_answers.specs.declared.answer.TiedAnswer.TheVariants.{Answered}
 use Rattle.schedule_tied_laws.specs.Runs.{answer_tied}
 use Rattle.scenario_run.specs.declared.tally.Tally.{Tally}
 

@@ -2,7 +2,7 @@
 ghost use Rattle.std.specs.Prelude.{◌≡◌, ◌≤◌, ◌<◌, ◌^◌, ◌+◌, ◌++◌, ◌∷◌, [], length, false, IfOk, OnOk, IsTrue};
 ghost use Rattle.std.specs.List.{list_all};
 ghost use Rattle.config_model.specs.Event.{has_event_form};
-ghost use Rattle.config_ties.specs.Kept.{AreAlike, ties_in};
+ghost use Rattle.run_ties.specs.Kept.{AreAlike, ties_in};
 ghost use Rattle.running_model.specs.Stands.{StandsFor};
 ghost use Rattle.machine_model.specs.Events.{event_of};
 ghost use Rattle.machine_model.specs.Setup.{checked};

@@ -9,7 +9,7 @@ use config_model::Event;
 use ov_types::{Outcome, Packet};
 use reach_plain::reach;
 use schedule_script::Answer;
-use schedule_ties::TiedAnswer;
+use schedule_tied_answers::TiedAnswer;
 
 /// What the answers of a schedule were counted to be.
 #[derive(Clone, Copy, PartialEq, Eq)]

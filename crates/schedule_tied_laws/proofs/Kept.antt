@@ -18,7 +18,7 @@ use Rattle.schedule_compiled_laws.proofs.AsCompiled.{edits_of_form}
 use Rattle.machine_isolation_laws.specs.Refusing.{TiedNetwork, after_tied, breaks, kept_events, next_tied, refuses, tied_start}
 use Rattle.machine_isolation_laws.specs.Running.{ties_next}
 use Rattle.machine_isolation_laws.proofs.Refused.{goes_on, keeps_what_is_not_refused}
-use Rattle.config_ties.specs.Ties.{Ties}
+use Rattle.run_ties.specs.Ties.{Ties}
 use Rattle.schedule_tied_laws.specs.Runs.{broken_by, tie_broken, tied_moment}
 
 -- ---- what is refused is answered with a tie

@@ -15,7 +15,7 @@ use Rattle.config_model.specs.declared.edit.Edit.{Edit}
 use Rattle.config_model.specs.declared.event.Event.{Event as Written}
 use Rattle.config_model.specs.declared.event.Event.TheVariants as written
 use Rattle.config_check.specs.Checked.{Checked}
-use Rattle.config_ties.specs.declared.breaking.Tie.{Tie}
+use Rattle.run_ties.specs.declared.breaking.Tie.{Tie}
 use Rattle.machine_compiled_laws.specs.Moments.{SettleSettles, SettlesInTime}
 use Rattle.headline_laws.specs.Headline.{IsWritten}
 use Rattle.headline_laws.proofs.Written.{written_rounds_settle, written_settle_settles}
@@ -30,8 +30,8 @@ use Rattle.schedule_script.specs.declared.answer.Answer.TheVariants.{Rounds, Tra
 use Rattle.schedule_compiled_laws.specs.Compiled.{AnswersCompiled}
 use Rattle.schedule_compiled_laws.specs.Ends.{SettlesAtOnce}
 use Rattle.schedule_compiled_laws.proofs.AsCompiled.{compiled_at}
-use Rattle.schedule_ties.specs.Answers.{OfAnswer}
-use Rattle.schedule_ties.specs.declared.answer.TiedAnswer.TheVariants.{Answered}
+use Rattle.schedule_tied_answers.specs.Answers.{OfAnswer}
+use Rattle.schedule_tied_answers.specs.declared.answer.TiedAnswer.TheVariants.{Answered}
 use Rattle.machine_isolation_laws.specs.Moments.{AreJoined}
 use Rattle.machine_isolation_laws.specs.Refusing.{TiedNetwork, next_tied}
 use Rattle.machine_isolation_laws.proofs.Refused.{among_with_ties, isolated_with_ties, joined_with_ties}

@@ -12,7 +12,7 @@ use Rattle.machine_model.specs.Events.{event_of}
 use Rattle.machine_model.specs.Setup.{opening}
 use Rattle.running_model.specs.Stands.{message_size}
 use Rattle.schedule_compiled_laws.proofs.AsCompiled.{forms_of_front}
-use Rattle.schedule_ties.specs.declared.answer.TiedAnswer.{TiedAnswer}
+use Rattle.schedule_tied_answers.specs.declared.answer.TiedAnswer.{TiedAnswer}
 use Rattle.machine_isolation_laws.specs.Refusing.{TiedNetwork, after_tied, next_tied, tied_start}
 use Rattle.schedule_tied_laws.specs.Compiled.{AreAsCompiled, EndsAtOnce, IsAsCompiled}
 use Rattle.schedule_tied_laws.specs.Isolated.{DeliversSoFar, IsIsolated, StandsAt}

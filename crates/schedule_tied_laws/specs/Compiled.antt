@@ -6,8 +6,8 @@ use Rattle.machine_model.specs.Setup.{checked}
 use Rattle.machine_model.specs.Steps.{is_settled}
 use Rattle.schedule_compiled_laws.specs.Compiled.{AnswersCompiled}
 use Rattle.schedule_compiled_laws.specs.Ends.{SettlesAtOnce}
-use Rattle.schedule_ties.specs.Answers.{OfAnswer}
-use Rattle.schedule_ties.specs.declared.answer.TiedAnswer.{TiedAnswer}
+use Rattle.schedule_tied_answers.specs.Answers.{OfAnswer}
+use Rattle.schedule_tied_answers.specs.declared.answer.TiedAnswer.{TiedAnswer}
 use Rattle.machine_isolation_laws.specs.Refusing.{TiedNetwork}
 use Rattle.schedule_tied_laws.specs.Isolated.{StandsAt}
 use Rattle.schedule_tied_laws.specs.Runs.{tied_moment}

@@ -8,10 +8,10 @@ use Rattle.config_model.specs.declared.config.Config.{Config}
 use Rattle.config_model.specs.declared.event.Event.{Event}
 use Rattle.config_model.specs.declared.event.Event.TheVariants.{Trace}
 use Rattle.config_check.specs.Checked.{Checked}
-use Rattle.config_ties.specs.Ties.{HasPort, HasRelated, Ties}
+use Rattle.run_ties.specs.Ties.{HasPort, HasRelated, Ties}
 use Rattle.schedule_script.specs.declared.answer.Answer.TheVariants.{Traced}
-use Rattle.schedule_ties.specs.declared.answer.TiedAnswer.{TiedAnswer}
-use Rattle.schedule_ties.specs.declared.answer.TiedAnswer.TheVariants.{Answered}
+use Rattle.schedule_tied_answers.specs.declared.answer.TiedAnswer.{TiedAnswer}
+use Rattle.schedule_tied_answers.specs.declared.answer.TiedAnswer.TheVariants.{Answered}
 use Rattle.machine_isolation_laws.specs.Moments.{AreJoined}
 use Rattle.machine_isolation_laws.specs.Stood.{InSome, WereJoined}
 use Rattle.schedule_tied_laws.specs.Runs.{configs_so_far}

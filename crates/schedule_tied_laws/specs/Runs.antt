@@ -5,12 +5,12 @@ use Rattle.std.specs.declared.option.Option.TheVariants.{Some, None}
 use Rattle.config_model.specs.declared.config.Config.{Config}
 use Rattle.config_model.specs.declared.event.Event.{Event as Written}
 use Rattle.config_check.specs.Checked.{Checked}
-use Rattle.config_ties.specs.Broken.{broken_tie}
-use Rattle.config_ties.specs.Ties.{Ties}
-use Rattle.config_ties.specs.declared.breaking.Tie.{Tie}
+use Rattle.run_ties.specs.Broken.{broken_tie}
+use Rattle.run_ties.specs.Ties.{Ties}
+use Rattle.run_ties.specs.declared.breaking.Tie.{Tie}
 use Rattle.schedule_script.specs.declared.answer.Answer.{Answer}
-use Rattle.schedule_ties.specs.declared.answer.TiedAnswer.{TiedAnswer}
-use Rattle.schedule_ties.specs.declared.answer.TiedAnswer.TheVariants.{Answered, EditTied}
+use Rattle.schedule_tied_answers.specs.declared.answer.TiedAnswer.{TiedAnswer}
+use Rattle.schedule_tied_answers.specs.declared.answer.TiedAnswer.TheVariants.{Answered, EditTied}
 use Rattle.machine_model.specs.Events.{MachineEvent, Edits, answer_to, event_of}
 use Rattle.machine_model.specs.Network.{start}
 use Rattle.machine_model.specs.Session.{Message}

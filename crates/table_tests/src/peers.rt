@@ -3,10 +3,10 @@ ghost use Rattle.bgp_session.specs.declared.event.State.TheVariants.{Idle};
 
 use bgp_session::{Cause, Session, State};
 use bgp_wire::WireFault;
-use node_peers::laws::{
+use node_routes::laws::{
     differences_can_be_written, route_changes, updates_are_heard, what_is_heard_is_one,
 };
-use node_peers::{HeardRoutes, greet, hear, spell};
+use node_routes::{HeardRoutes, greet, hear, spell};
 use ov_sync::Delta;
 use ov_types::{Addr, Items, Label, Name, NodeId, Prefix, Rd, Targets, VpnKey, VpnRoute};
 use std::alloc::Global;

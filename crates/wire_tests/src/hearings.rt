@@ -22,7 +22,7 @@ fn hear_messages(
 ) -> Result<(), CaseFault>
     requires { session.old.asn ≡ 64512 }
 {
-    let heard = node_peers::hear(alloc, session, 64512, ME, octets)?;
+    let heard = node_routes::hear(alloc, session, 64512, ME, octets)?;
     for reply in heard.replies.as_slice() {
         out.push(b"send ")?;
         tell_octets(reply.as_slice(), out)?;
@@ -46,7 +46,7 @@ pub(crate) fn tell_messages(
 ) -> Result<(), CaseFault> {
     let octets = octets(alloc, given)?;
     let mut session = Session::new(64512, sessions::peer()?);
-    let _hello = node_peers::greet(alloc, &mut session, 64512, ME)?;
+    let _hello = node_routes::greet(alloc, &mut session, 64512, ME)?;
     hear_messages(alloc, &mut session, octets.as_slice(), out)?;
     Ok(out.push(sessions::name_of(session.state()))?)
 }

@@ -3,7 +3,7 @@
 use crate::fault::CaseFault;
 use crate::octets::octets;
 use crate::updates::push_deltas;
-use bgp_session::{Cause, SessionEvent, Reply, Session, State};
+use bgp_session::{Cause, Reply, Session, SessionEvent, State};
 use bgp_wire::{WireFault, read_message};
 use ov_io::TextOut;
 use ov_types::{Addr, Name, NoMemory, NodeId};

@@ -4,7 +4,7 @@ use Rattle.std.specs.List.{AllByRecursion}
 use Rattle.std.specs.Option.{option_map}
 use Rattle.node_items.specs.Told.{down_value}
 use Rattle.node_model.specs.Keys.{of_down}
-use Rattle.control_slice_laws.specs.Here.{wanted_on}
+use Rattle.control_touched_agent_laws.specs.Here.{wanted_on}
 use Rattle.control_marked_sends.specs.Marked.{marked_key}
 use Rattle.control_marked_sends.proofs.items.marked_items.Given as goal
 

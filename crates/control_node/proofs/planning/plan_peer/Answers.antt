@@ -5,7 +5,7 @@ use Rattle.ov_types.specs.declared.vpn.VpnKey.{VpnKey}
 use Rattle.ov_types.specs.declared.vpn.VpnRoute.{VpnRoute}
 use Rattle.bgp_vpn.specs.Written.{IfPut}
 use Rattle.node_model.specs.Wants.{wanted_by_peers}
-use Rattle.node_peers.specs.Told.{IsWritable}
+use Rattle.node_routes.specs.Told.{IsWritable}
 use Rattle.vpn_tables.specs.Views.{peer_of}
 use Rattle.control_wants.proofs.Fitting.{peers_fit}
 use Rattle.control_node.specs.Planning.{peer_sends}

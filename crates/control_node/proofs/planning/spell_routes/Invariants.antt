@@ -2,7 +2,7 @@ use Rattle.std.proofs.Common.{◌≡◌, map, take}
 use Rattle.ov_sync.specs.Embed.{moved_delta}
 use Rattle.node_model.specs.Keys.{Vpn}
 use Rattle.node_model.specs.Values.{Route}
-use Rattle.node_peers.specs.Told.{spelled}
+use Rattle.node_routes.specs.Told.{spelled}
 use Rattle.control_node.proofs.planning.spell_routes.Given as goal
 
 abbrev pub invariant-loop-delta : goal.invariant-loop-delta

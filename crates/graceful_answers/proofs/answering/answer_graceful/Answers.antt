@@ -1,6 +1,6 @@
 use Rattle.std.proofs.Common.{List, [], subst}
 use Rattle.ov_io.specs.Pieces.{TookText}
-use Rattle.graceful_script.specs.declared.entry.LogEntry.{LogEntry}
+use Rattle.graceful_log.specs.declared.entry.LogEntry.{LogEntry}
 use Rattle.graceful_answers.specs.Logs.{IsLogText}
 use Rattle.graceful_answers.specs.Answers.{log_in}
 use Rattle.graceful_answers.proofs.Written.{answers, are_log, some_written, verdict_given, unrefused_given, text_given, front_given}

@@ -1,5 +1,5 @@
 use Rattle.std.proofs.Common.{◌≡◌, ◌++◌, [], false}
-use Rattle.config_ties.specs.Kept.{AreAlike, ties_in}
+use Rattle.run_ties.specs.Kept.{AreAlike, ties_in}
 use Rattle.running_model.specs.Stands.{StandsFor}
 use Rattle.ov_io.specs.Pieces.{IsOnItsWay}
 use Rattle.schedule_tied_laws.specs.Runs.{tied_moment}

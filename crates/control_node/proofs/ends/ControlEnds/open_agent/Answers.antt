@@ -4,7 +4,7 @@ use Rattle.node_model.specs.Paths.{Holdings}
 use Rattle.node_model.specs.Step.{post}
 use Rattle.ov_types.specs.declared.prefix.Addr.{Addr}
 use Rattle.vpn_tables.specs.Listing.{told_in}
-use Rattle.control_dirty_keys.specs.Marks.{IsCleanItem}
+use Rattle.control_marked_keys.specs.Marks.{IsCleanItem}
 use Rattle.control_node.specs.Begun.{IsBegun}
 use Rattle.control_node.specs.Ends.{Ends, IsAgentEnd, opened_agent, posts_of}
 use Rattle.control_node.specs.Wanting.{is_idle}

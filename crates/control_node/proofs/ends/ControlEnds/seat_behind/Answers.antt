@@ -1,5 +1,5 @@
 use Rattle.std.proofs.Common.{◌≡◌, ◌+◌, ◌++◌, ◌∷◌, ◌∙◌, [], ap, arith, length, suc}
-use Rattle.control_dirty_keys.specs.Marks.{Marks}
+use Rattle.control_marked_keys.specs.Marks.{Marks}
 use Rattle.control_node.specs.Ends.{Ends}
 use Rattle.control_node.specs.declared.ends.AgentEnd.{AgentEnd}
 use Rattle.control_node.specs.declared.ends.PeerEnd.{PeerEnd}

@@ -6,7 +6,7 @@ use Rattle.node_core.specs.Resting.{end_at}
 use Rattle.node_items.specs.Beginning as item
 use Rattle.node_model.specs.Paths.{Told}
 use Rattle.node_model.specs.Step.{Post, post}
-use Rattle.node_peers.specs.Beginning as route
+use Rattle.node_routes.specs.Beginning as route
 use Rattle.control_node.specs.Ends.{Ends}
 use Rattle.control_node.specs.declared.ends.AgentEnd.{AgentEnd}
 use Rattle.control_node.specs.declared.ends.PeerEnd.{PeerEnd}

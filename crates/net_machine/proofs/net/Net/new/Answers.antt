@@ -1,7 +1,7 @@
 use Rattle.std.proofs.Common.{IfOk, map, sym, ◌∙◌, ◌≡◌, ap, subst}
 use Rattle.config_check.specs.Checked.{Checked}
-use Rattle.config_ties.specs.Kept.{AreAlike, ties_in}
-use Rattle.config_ties.specs.Tying.{ties_of}
+use Rattle.run_ties.specs.Kept.{AreAlike, ties_in}
+use Rattle.run_ties.specs.Tying.{ties_of}
 use Rattle.machine_model.specs.Setup.{opening as opening_setup}
 use Rattle.running_model.specs.Seats.{whos}
 use Rattle.running_model.specs.Steps.{fresh_seat}

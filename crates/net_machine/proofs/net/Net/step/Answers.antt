@@ -1,6 +1,6 @@
 use Rattle.std.proofs.Common.{◌∙◌, ap, subst}
 use Rattle.std.specs.Prelude.{◌≡◌}
-use Rattle.config_ties.specs.Kept.{ties_in}
+use Rattle.run_ties.specs.Kept.{ties_in}
 use Rattle.machine_model.specs.Events.{event_of}
 use Rattle.schedule_tied_laws.specs.Compiled.{EndsAtOnce, IsAsCompiled}
 use Rattle.schedule_tied_laws.specs.Isolated.{DeliversSoFar, DeliversTied}

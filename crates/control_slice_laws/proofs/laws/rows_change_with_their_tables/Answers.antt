@@ -1,8 +1,0 @@
-use Rattle.control_slice_laws.proofs.Agents.{publication_rows, route_rows}
-use Rattle.control_slice_laws.proofs.laws.rows_change_with_their_tables.Goals as goal
-
-pub returns-clause-route : goal.returns-clause-route
-returns-clause-route c = route_rows
-
-pub returns-clause-publication : goal.returns-clause-publication
-returns-clause-publication c = publication_rows

@@ -1,5 +1,0 @@
-use Rattle.node_peers.proofs.Writable.{is_route_change}
-use Rattle.node_peers.proofs.laws.route_changes.Goals as goal
-
-pub returns : goal.returns
-returns c = is_route_change
