@@ -6,6 +6,7 @@ mod forgetting;
 mod kept;
 mod keys;
 mod leading;
+mod publishing;
 mod received;
 mod selecting;
 mod sides;

@@ -1,18 +1,21 @@
 //! What a control node holds, kept by prefix too.
 ghost use Rattle.std.specs.Prelude.{◌≡◌, ◌↔◌, OnOk, OnErr, IfOk};
-ghost use Rattle.std.specs.Prelude.{Some};
+ghost use Rattle.std.specs.Prelude.{Some, true};
 ghost use Rattle.ov_sync.specs.Keyed.{PutOf, IsPut, key_of};
 ghost use Rattle.node_model.specs.Members.{Member};
 ghost use Rattle.node_model.specs.Reaching.{AreShort};
+ghost use Rattle.control_silent_agent_laws.specs.Quiet.{PublishesNothing};
 ghost use Rattle.path_select.specs.declared.selection.Path.{Path as PathOf};
 ghost use Rattle.vpn_tables.specs.At.{paths_at, row_at};
 ghost use Rattle.vpn_tables.specs.Changes.{nothing, with_agent, with_low, with_publication, with_route, without};
+ghost use Rattle.vpn_tables.specs.Listing.{told_in};
 ghost use Rattle.vpn_tables.specs.Ranges.{Fits};
 ghost use Rattle.vpn_tables_by_prefix.specs.Indexed.{place_told, received_at};
 
 use crate::forgetting::{forget_labels, forget_routes};
 use crate::kept::{drop_label, drop_route, put_label, put_route};
 use crate::keys::{LabelAt, Labels, Routes, place_told, told_key};
+use crate::publishing::has_label;
 use crate::received::{push_labels, push_routes, wanted};
 use crate::selecting::{best_of, shown};
 use ov_sync::Delta;
@@ -146,6 +149,13 @@ impl IndexedTables {
         self.held.drop_session(session);
         forget_routes(&mut self.routes, session);
         forget_labels(&mut self.labels, session);
+    }
+
+    /// Whether nothing is published on a session, whatever is subscribed. It takes no memory.
+    pub fn publishes_nothing(&self, session: u16) -> bool
+        ensures { result ≡ true → PublishesNothing (told_in self.now.agents session).map }
+    {
+        !has_label(&self.labels, session)
     }
 
     /// The paths of an instance to a prefix, of those that it received, in some order. It looks at what was told with
