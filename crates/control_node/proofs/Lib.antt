@@ -19,4 +19,5 @@ pub mod AtTheEnd
 pub mod Retired
 pub mod Placed
 pub mod Seated
+pub mod Silent
 pub mod Removed

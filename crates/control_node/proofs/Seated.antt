@@ -35,7 +35,7 @@ first_seat : (a : Told) (ts : List Told) (e : AgentEnd) (es : List AgentEnd) (fi
     → map seat (a ∷ ts) ≡ seats first (e ∷ es) → seat a ≡ (first, e.id.address)
 first_seat a ts e es first h = ap (λ (l : List (ℕ × Addr)). get_or l 0 (seat a)) h
 
-named-there : (ts : List Told) (es : List AgentEnd) (first session i : ℕ) (d : Told) (to : Addr)
+pub named-there : (ts : List Told) (es : List AgentEnd) (first session i : ℕ) (d : Told) (to : Addr)
     → map seat ts ≡ seats first es → session ≡ first + i → i < length es
     → named ts session to ≡ set ts i (record (get_or ts i d) { address = to })
 named-there ts [] first session i d to h at lt = absurd (omega (arith, lt))
@@ -52,7 +52,7 @@ named-there (a ∷ ts) (e ∷ es) first session (suc i) d to h at lt =
     rw low (ap (λ (l : List Told). a ∷ l)
     (named-there ts es (suc first) session i d to rest (omega (arith, at)) (omega (arith, lt))))
 
-named-seats : (ts : List Told) (es : List AgentEnd) (first session i : ℕ) (e : AgentEnd) → map seat ts ≡ seats first es
+pub named-seats : (ts : List Told) (es : List AgentEnd) (first session i : ℕ) (e : AgentEnd) → map seat ts ≡ seats first es
     → session ≡ first + i → i < length es → map seat (named ts session e.id.address) ≡ seats first (set es i e)
 named-seats ts [] first session i e h at lt = absurd (omega (arith, lt))
 named-seats [] (x ∷ es) first session i e h at lt = cc

@@ -1,8 +1,10 @@
 //! Ends that are closed.
-ghost use Rattle.std.specs.Prelude.{◌≡◌, ◌<◌, ◌+◌, suc, true, length, slice_set};
+ghost use Rattle.std.specs.Prelude.{◌≡◌, ◌<◌, ◌+◌, suc, true, false, length, slice_set};
 ghost use Rattle.item_wire.specs.declared.event.ItemState.TheVariants as ItemState;
 ghost use Rattle.node_model.specs.Step.{nothing};
 ghost use Rattle.vpn_tables.specs.Changes.{without};
+ghost use Rattle.vpn_tables.specs.Listing.{told_in};
+ghost use Rattle.control_silent_agent_laws.specs.Quiet.{PublishesNothing};
 ghost use Rattle.control_node.specs.Places.{IsPlace};
 ghost use Rattle.control_node.specs.Ends.{closed_peer, closed_agent};
 
@@ -57,12 +59,26 @@ fn shut_agent(end: &mut AgentEnd)
 }
 
 /// Nothing is held any more of a session, and everything is marked.
-pub(crate) fn lose(tables: &mut IndexedTables, dirty: &mut Dirty, session: u16)
+fn lose(tables: &mut IndexedTables, dirty: &mut Dirty, session: u16)
     ensures tables { tables.new ≡ without tables.old session }
     ensures all { dirty.new.all ≡ true }
 {
     tables.drop_session(session);
     dirty.set_all();
+}
+
+/// Nothing is held any more of an agent's session. Where something was published on it, everything is marked, and else
+/// nothing is: what it told was told to nobody else.
+pub(crate) fn lose_agent(tables: &mut IndexedTables, dirty: &mut Dirty, session: u16)
+    ensures tables { tables.new ≡ without tables.old session }
+    ensures kept { dirty.new.all ≡ false → dirty.new ≡ dirty.old }
+    ensures silent { dirty.new.all ≡ false → PublishesNothing (told_in tables.old.agents session).map }
+{
+    if tables.publishes_nothing(session) {
+        tables.drop_session(session);
+    } else {
+        lose(tables, dirty, session);
+    }
 }
 
 impl ControlEnds {
@@ -91,7 +107,7 @@ impl ControlEnds {
         ensures closed { self.new.posts ≡ slice_set self.old.posts session nothing }
     {
         shut_agent(&mut self.agents[place]);
-        lose(&mut self.tables, &mut self.dirty, session);
+        lose_agent(&mut self.tables, &mut self.dirty, session);
     }
 
     /// Closes an end: it is idle, and nothing was sent on it and nothing is held of it. It takes no memory.

@@ -6,7 +6,7 @@ ghost use Rattle.control_node.specs.Core.{sessions};
 ghost use Rattle.control_node.specs.Made.{new_agent};
 ghost use Rattle.control_node.specs.Seating.{seated};
 
-use crate::closing::lose;
+use crate::closing::lose_agent;
 use crate::ends::{AgentEnd, ControlEnds};
 use crate::making::new_agent;
 use item_wire::{ItemFrom, ItemSession};
@@ -51,7 +51,7 @@ impl ControlEnds {
     {
         self.tables.set_agent(session, agent.address)?;
         hand_over(&mut self.agents[place], agent);
-        lose(&mut self.tables, &mut self.dirty, session);
+        lose_agent(&mut self.tables, &mut self.dirty, session);
         Ok(())
     }
 
@@ -68,12 +68,11 @@ impl ControlEnds {
         self.agents.reserve(1)?;
         self.tables.set_agent(session, agent.address)?;
         self.agents.push_reserved(new_agent(self.alloc, agent));
-        self.dirty.set_all();
         Ok(())
     }
 
-    /// An agent gets a session, that of another agent or one behind all others. Its end is closed, and everything is
-    /// marked.
+    /// An agent gets a session, that of another agent or one behind all others. Its end is closed. Where the other agent
+    /// published something, everything is marked, and else nothing is.
     pub(crate) fn seat(&mut self, session: u16, agent: &NodeId) -> Result<(), NoMemory>
         requires agents { length self.old.plan.peers < session }
         requires few { session < 65535 }

@@ -1,11 +1,10 @@
 use Rattle.std.proofs.Common.{◌≡◌, ◌+◌, ◌++◌, ◌∷◌, ◌∙◌, [], ap, arith, length, suc}
-use Rattle.control_marked_keys.specs.Marks.{Marks}
 use Rattle.control_node.specs.Ends.{Ends}
 use Rattle.control_node.specs.declared.ends.AgentEnd.{AgentEnd}
 use Rattle.control_node.specs.declared.ends.PeerEnd.{PeerEnd}
 use Rattle.control_node.proofs.Keeping.{many}
 use Rattle.control_node.proofs.Seated.{behind_are, behind_seen, seen_behind}
-use Rattle.control_node.proofs.Tracking.{tracks-all}
+use Rattle.control_node.proofs.Silent.{tracks-behind}
 use Rattle.control_node.proofs.ends.ControlEnds.seat_behind.Goals as goal
 
 pub invariant_of-self-2 : goal.invariant_of-self-2
@@ -18,7 +17,8 @@ invariant_of-self-2 c =
     record {
       ends = behind_are inside.me inside.asn inside.feed inside.peers.items inside.agents.items inside.tables c.self.invariant.ends c.args.agent.now
           c.args.session c.push_reserved.new.self.items c.set_agent.new.self is c.in_ok-set_agent.ensures.ok at c.requires.few;
-      tracked = tracks-all c.set_all.new.self c.set_agent.new.self _ _ (ap (λ (d : Marks). d.all) c.set_all.ensures);
+      tracked = tracks-behind inside.tables inside.peers.items inside.agents.items c.self.invariant.ends.peers_held c.self.invariant.ends.agents_held
+          inside.dirty c.args.session c.args.agent.now c.push_reserved.new.self.items c.set_agent.new.self c.self.invariant.tracked at is c.in_ok-set_agent.ensures.ok;
     }
 
 pub returns-clause-ok : goal.returns-clause-ok
