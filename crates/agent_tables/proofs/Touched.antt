@@ -1,5 +1,5 @@
 -- Routes that change one by one change their rows alone.
-use Rattle.std.specs.Prelude.{◌≡◌, ℕ, zero, suc, ◌==◌, ◌&&◌, ◌||◌, List, [], ◌∷◌, ◌++◌, map, Bool, true, false, cond, get_or, drop}
+use Rattle.std.specs.Prelude.{◌≡◌, ℕ, zero, suc, ◌==◌, ◌&&◌, ◌||◌, List, [], ◌∷◌, ◌++◌, map, Bool, true, false, cond, get_or, drop, is_some}
 use Rattle.std.specs.declared.cmp.Ordering.{Ordering}
 use Rattle.std.specs.declared.cmp.Ordering.TheVariants.{Less, Equal, Greater}
 use Rattle.std.specs.declared.option.Option.{Option}
@@ -36,7 +36,7 @@ use Rattle.node_model.proofs.Heard.{first_rows, route_is, row_exact, row_total, 
 use Rattle.node_model.proofs.Members.{found, from_find, none_some}
 use Rattle.node_model.proofs.Orders.{key_exact, key_total, then_equal}
 use Rattle.agent_tables.specs.Routes.{Table, has_table, instance_order, routes_of}
-use Rattle.agent_tables.specs.Touched.{AgreeBut, AreTables, RowKey, Tabled, is_among, is_listed, led, led_all, led_in, route_key, with_row, with_rows, with_routes}
+use Rattle.agent_tables.specs.Touched.{AgreeBut, AreTables, RowKey, SameRoutes, Tabled, is_among, is_listed, led, led_all, led_in, route_key, with_row, with_rows, with_routes}
 use Rattle.agent_tables.proofs.Lists.{or_none}
 use Rattle.agent_tables.proofs.Ordered.{ascends_filter, ascends_inserted, ascends_map, find-inserted, same_lists}
 use Rattle.agent_tables.proofs.Routes.{Routed, key, over_routes, same_instance}
@@ -245,6 +245,22 @@ route_found h k = same_options (find row_key_cmp k (routes h)) (cond (is_needed 
 ascends_held : (h : Holdings) → Ascends row_key_cmp (routes h)
 ascends_held h = ascends_filter row_key_cmp (λ k. is_needed h k.0) (entries (first_rows h)) (ascends_map row_key_cmp row_total row_exact (first_rows h))
 
+-- the routes follow from the routes that are heard and the instances that are needed
+pub routes_same : (h g : Holdings) → SameRoutes h g → ((i : InstanceId) → is_needed h i ≡ is_needed g i) → routes h ≡ routes g
+routes_same h g same needs =
+    same_lists row_key_cmp row_total row_exact (routes h) (routes g) (ascends_held h) (ascends_held g)
+    (λ q. route_found h q ∙ (λ x. cond (needs q.0 x) (same.routes q x) None) ∙ sym (route_found g q))
+
+-- tables with the labels and access lists of what is held now, where the same routes were heard before
+pub objects_set : (h g : Holdings) (t u : Tabled) → AreTables h t → SameRoutes h g → ((i : InstanceId) → is_listed t.instances i ≡ is_needed g i)
+    → u.rows.labels ≡ (rows_held g).labels → u.rows.acls ≡ (rows_held g).acls → u.rows.routes ≡ t.rows.routes → u.instances ≡ t.instances → AreTables g u
+objects_set h g t u are same needs labels lists stay instances =
+    let routes_are = stay ∙ ap (λ (r : AgentRows). r.routes) are.rows ∙ routes_same h g same (λ i. sym (are.instances i) ∙ needs i) in
+    record {
+      rows = λ x. record { labels = labels x; acls = lists x; routes = routes_are x };
+      instances = λ i. ap (λ (is : List InstanceId). is_listed is i) instances ∙ needs i;
+    }
+
 and_false : (b : Bool) → (b && false) ≡ false
 and_false true = refl
 and_false false = refl
@@ -420,7 +436,49 @@ all_changed (i ∷ items) (k ∷ ks) m e =
           }
     ] (ap (λ (l : List (Option RowKey)). get_or l 0 None) e)
 
+-- a change of what is no route leaves each route as it was
+pub rows_stay : (m : Map) (c : Change) → route_key (Some c) ≡ None → (k : RowKey) → get m (Row k.0 k.1) ≡ get (changed m c) (Row k.0 k.1)
+rows_stay m (Put (Row i p) v) e k = absurd (none_some (i, p) (sym e))
+rows_stay m (Drop (Row i p)) e k = absurd (none_some (i, p) (sym e))
+rows_stay m (Put (Low l) v) e k = sym (get-insert key_total m (Low l) v (Row k.0 k.1))
+rows_stay m (Put (Vpn l) v) e k = sym (get-insert key_total m (Vpn l) v (Row k.0 k.1))
+rows_stay m (Put (Publish i p) v) e k = sym (get-insert key_total m (Publish i p) v (Row k.0 k.1))
+rows_stay m (Put (Subscribe i) v) e k = sym (get-insert key_total m (Subscribe i) v (Row k.0 k.1))
+rows_stay m (Drop (Low l)) e k = sym (get-remove key_total m (Low l) (Row k.0 k.1))
+rows_stay m (Drop (Vpn l)) e k = sym (get-remove key_total m (Vpn l) (Row k.0 k.1))
+rows_stay m (Drop (Publish i p)) e k = sym (get-remove key_total m (Publish i p) (Row k.0 k.1))
+rows_stay m (Drop (Subscribe i)) e k = sym (get-remove key_total m (Subscribe i) (Row k.0 k.1))
+
+no_key : (o : Option RowKey) → is_some o ≡ false → o ≡ None
+no_key None e = refl
+no_key (Some k) e = absurd (true≢false e)
+
+-- and so do records
+pub all_stay : (items : List Item) (m : Map) → list_any (λ i. is_some (route_key (change_of i))) items ≡ false
+    → (k : RowKey) → get m (Row k.0 k.1) ≡ get (after m (filter_map change_of items)) (Row k.0 k.1)
+all_stay [] m none k = refl
+all_stay (i ∷ items) m none k =
+    let parts = or_parts (is_some (route_key (change_of i))) (list_any (λ i. is_some (route_key (change_of i))) items) none in
+    elim (change_of i) as (λ o. route_key o ≡ None → get m (Row k.0 k.1) ≡ get (after m (cons_option o (filter_map change_of items))) (Row k.0 k.1)) [
+      | None ↦ λ s. all_stay items m parts.1 k
+      | Some c ↦ λ s. rows_stay m c s k ∙ all_stay items (changed m c) parts.1 k
+    ] (no_key (route_key (change_of i)) (or_none_of (is_some (route_key (change_of i))) (list_any (λ i. is_some (route_key (change_of i))) items) none))
+
 -- ---- one session of an agent
+pub session_stays : (h : Holdings) (n : ℕ) (s g : Heard) → ((d : Heard) → get_or h n d ≡ s) → g.is_up ≡ s.is_up
+    → ((k : RowKey) → get s.map (Row k.0 k.1) ≡ get g.map (Row k.0 k.1)) → SameRoutes h (set h n g)
+session_stays [] n s g at up same = record { routes = λ k. refl }
+session_stays (t ∷ h) zero s g at up same =
+    let here : t ≡ s = at t in
+    record {
+      routes = λ k.
+          let row = ap (λ (y : Heard). get y.map (Row k.0 k.1)) here ∙ same k in
+          λ x. cond ((ap (λ (y : Heard). y.is_up) here ∙ sym up) x) (first_some (as_hop (row x)) (route_from h k.0 k.1)) (route_from h k.0 k.1);
+    }
+session_stays (t ∷ h) (suc n) s g at up same =
+    let rest = session_stays h n s g at up same in
+    record { routes = λ k. λ x. cond t.is_up (first_some (as_hop (get t.map (Row k.0 k.1))) (rest.routes k x)) (rest.routes k x) }
+
 pub session_changed : (h : Holdings) (n : ℕ) (s g : Heard) (ks : List RowKey) → ((d : Heard) → get_or h n d ≡ s) → g.is_up ≡ s.is_up → MapsAgreeBut ks s.map g.map → AgreeBut ks h (set h n g)
 session_changed [] n s g ks at up agree = record { besides = refl; routes = λ k apart. refl }
 session_changed (t ∷ h) zero s g ks at up agree =

@@ -5,3 +5,4 @@ pub mod Slice
 pub mod Kept
 pub mod Routes
 pub mod Touched
+pub mod Sliced

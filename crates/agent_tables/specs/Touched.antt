@@ -3,6 +3,8 @@
 --     with_routes h t ks      the tables, where each of the routes ks is that of the first session that is up and has it
 --     AreTables h t      the tables are those of what is held
 --     AgreeBut ks h g      two holdings have the same routes but for ks, and the same of all else
+--     SameRoutes h g      two holdings have the same routes, whatever they have of all else
+--     HaveRoutes h t      the tables are those of holdings with the same routes as h
 use Rattle.std.specs.Prelude.{◌≡◌, ℕ, Bool, false, ◌==◌, List, [], ◌∷◌, if◌then◌else◌}
 use Rattle.std.specs.declared.option.Option.{Option}
 use Rattle.std.specs.declared.option.Option.TheVariants.{Some, None}
@@ -72,6 +74,15 @@ is_among ks k = list_any (λ n. eq_by_cmp row_key_cmp k n) ks
 pub record AgreeBut (ks : List RowKey) (h g : Holdings) : Type 0 where
   pub besides : besides_rows h ≡ besides_rows g
   pub routes : (k : RowKey) → is_among ks k ≡ false → route_from h k.0 k.1 ≡ route_from g k.0 k.1
+
+pub record SameRoutes (h g : Holdings) : Type 0 where
+  pub routes : (k : RowKey) → route_from h k.0 k.1 ≡ route_from g k.0 k.1
+
+-- the tables are those of holdings with the same routes
+pub record HaveRoutes (h : Holdings) (t : Tabled) : Type 0 where
+  pub before : Holdings
+  pub same : SameRoutes before h
+  pub are : AreTables before t
 
 -- the key of the route that a change puts or drops, where it is one
 abbrev pub route_key : Option Change → Option RowKey

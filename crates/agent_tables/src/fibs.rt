@@ -1,5 +1,5 @@
 //! The routes of the instances that an agent needs.
-ghost use Rattle.std.specs.Prelude.{◌≡◌, ◌==◌, [], IfOk, OnOk, map};
+ghost use Rattle.std.specs.Prelude.{◌≡◌, ◌==◌, [], IfOk, IsTrue, OnOk, map};
 ghost use Rattle.std.specs.BTreeMap.{IsOrdered};
 ghost use Rattle.std.specs.List.{AllByRecursion, list_any};
 ghost use Rattle.node_items.specs.Told.{down_of, down_value};
@@ -32,6 +32,31 @@ pub(crate) fn empty_fibs(alloc: Global, instances: &[InstanceId]) -> Result<Fibs
         fibs.insert(*instance, Fib::new(alloc))?;
     }
     Ok(fibs)
+}
+
+/// The instances that have a table.
+fn instances(alloc: Global, fibs: &Fibs) -> Result<Vec<InstanceId>, NoMemory>
+    ensures { IfOk result (λ instances. instances.items ≡ map (λ t. t.0) fibs.now.entries) }
+{
+    let mut instances = Vec::new(alloc);
+    for (instance, _) in fibs.iter() {
+        instances.push(*instance)?;
+    }
+    Ok(instances)
+}
+
+/// Whether the very same instances have a table in both.
+pub(crate) fn have_same_instances(
+    alloc: Global,
+    fibs: &Fibs,
+    others: &Fibs,
+) -> Result<bool, NoMemory>
+    ensures { IfOk result (λ same. IsTrue same
+        → map (λ t. t.0) fibs.now.entries ≡ map (λ t. t.0) others.now.entries) }
+{
+    let instances_here = instances(alloc, fibs)?;
+    let instances_there = instances(alloc, others)?;
+    Ok(instances_here.as_slice() == instances_there.as_slice())
 }
 
 /// Adds the routes of the sessions that are up: of each prefix of an instance with a table that of the first session

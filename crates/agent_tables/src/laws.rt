@@ -1,11 +1,12 @@
 //! Laws of what an agent wants: each is the contract of a function that does nothing.
-ghost use Rattle.std.specs.Prelude.{◌≡◌, ℕ, Some, if◌then◌else◌};
+ghost use Rattle.std.specs.Prelude.{◌≡◌, ℕ, None, Some, if◌then◌else◌};
 ghost use Rattle.std.specs.List.{AllByRecursion};
+ghost use Rattle.ov_types.specs.declared.numbers.InstanceId.{InstanceId};
 ghost use Rattle.node_items.specs.Told.{AllFit};
 ghost use Rattle.node_model.specs.Agent.{Heard, Holdings, is_needed, route_from, routes, rows, slice_in_use, wanted};
 ghost use Rattle.node_model.specs.Maps.{Change};
 ghost use Rattle.node_model.specs.Step.{At};
-ghost use Rattle.agent_tables.specs.Touched.{RowKey, route_key, told, with_row};
+ghost use Rattle.agent_tables.specs.Touched.{RowKey, SameRoutes, route_key, told, with_row};
 
 /// Where what is held can be told, so can all that is wanted.
 pub fn what_is_wanted_can_be_told()
@@ -23,6 +24,15 @@ pub fn a_route_changes_one_row()
         } }
     ensures wanted { (h : Holdings) (session : ℕ) (s : Heard) (change : Change) (k : RowKey) → At h session s
         → route_key (Some change) ≡ Some k → wanted (told h session s change) ≡ wanted h }
+{}
+
+/// A change of what is no route leaves the routes that are heard as they were. What an agent forwards by on such routes
+/// is the same wherever the same routes are heard and the same instances are needed, whatever else is held.
+pub fn what_is_no_route_changes_no_route()
+    ensures heard { (h : Holdings) (session : ℕ) (s : Heard) (change : Change) → At h session s
+        → route_key (Some change) ≡ None → SameRoutes h (told h session s change) }
+    ensures routes { (h g : Holdings) → SameRoutes h g → ((i : InstanceId) → is_needed h i ≡ is_needed g i)
+        → routes h ≡ routes g }
 {}
 
 /// What is wanted of the control nodes is a function of the slice in use.

@@ -10,6 +10,7 @@ mod needs;
 mod object;
 mod rows;
 mod slice;
+mod sliced;
 mod tables;
 mod wants;
 

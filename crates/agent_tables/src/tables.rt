@@ -1,5 +1,5 @@
 //! What an agent forwards by.
-ghost use Rattle.std.specs.Prelude.{◌≡◌, [], IfOk, OnOk, map};
+ghost use Rattle.std.specs.Prelude.{◌≡◌, [], IfOk, OnErr, OnOk, map};
 ghost use Rattle.std.specs.List.{All, AllByRecursion};
 ghost use Rattle.ov_types.specs.Access.{verdict};
 ghost use Rattle.route_targets.specs.Forwarding.{attached, looked_up};
@@ -7,16 +7,14 @@ ghost use Rattle.packet_trace.specs.Circuits.{IsOfAUse};
 ghost use Rattle.node_items.specs.Told.{AllFit};
 ghost use Rattle.node_model.specs.Agent.{Heard};
 ghost use Rattle.flow_acl.specs.Flows.{AreOf};
-ghost use Rattle.agent_tables.specs.Touched.{AreTables, with_routes};
+ghost use Rattle.agent_tables.specs.Touched.{AreTables, HaveRoutes, with_routes};
+ghost use Rattle.agent_tables.specs.Sliced.{AreOfSlice};
 ghost use Rattle.agent_tables.specs.Views.{heard_of};
 
-use crate::acls::acls_of;
-use crate::fibs::{Fibs, empty_fibs, keep_heard, lead_all};
+use crate::fibs::{Fibs, have_same_instances, keep_heard, lead_all};
 use crate::hearing::Hearing;
-use crate::labels::labels_of;
-use crate::needs::needed;
 use crate::rows::{acl_rows, label_rows, route_rows};
-use crate::slice::slice_in_use;
+use crate::sliced::{SliceTables, slice_tables};
 use flow_acl::{Acls, FlowCache};
 use ov_types::{
     Addr, AgentRows, Attached, Entry, InstanceId, Label, NoMemory, Packet, Prefix, Verdict,
@@ -27,7 +25,7 @@ use std::marker::Model;
 use vrouter_fib::Labels;
 
 /// The labels, access lists and routes of an agent, which contracts see as its rows, with the instances that have a table
-/// of routes, perhaps of none. Its calls but for `of`, `set_routes` and `rows` take no memory.
+/// of routes, perhaps of none. Its calls but for `of`, `set_routes`, `set_objects` and `rows` take no memory.
 #[derive(Drop)]
 pub struct AgentTables {
     labels: Labels,
@@ -73,13 +71,69 @@ impl AgentTables {
         requires { AllByRecursion (λ (s : Heard). AllFit s.map) (map heard_of sessions.now) }
         ensures { IfOk result (λ tables. AreTables (map heard_of sessions.now) tables) }
     {
-        let slice = slice_in_use(alloc, sessions)?;
-        let needed = needed(alloc, slice.as_slice())?;
-        let labels = labels_of(alloc, slice.as_slice())?;
-        let acls = acls_of(alloc, slice.as_slice())?;
-        let mut fibs = empty_fibs(alloc, needed.as_slice())?;
+        let tables = slice_tables(alloc, sessions)?;
+        AgentTables::with_heard(tables, sessions)
+    }
+
+    /// What the slice in use gives, with the routes of the sessions that are up.
+    fn with_heard(tables: SliceTables, sessions: &[Hearing]) -> Result<AgentTables, NoMemory>
+        requires { AreOfSlice (map heard_of sessions.now) tables }
+        ensures { IfOk result (λ tables. AreTables (map heard_of sessions.now) tables) }
+    {
+        let SliceTables {
+            labels,
+            acls,
+            mut fibs,
+        } = tables;
         keep_heard(&mut fibs, sessions)?;
         Ok(AgentTables { labels, acls, fibs })
+    }
+
+    /// Forwards by what the sessions give from now on, where these tables were those of sessions with the same routes:
+    /// by the attachments and access lists of the slice in use. While the same instances are needed their routes stay
+    /// where they are; otherwise all tables are made anew. What is kept of verdicts goes where the access lists change.
+    pub fn set_objects(
+        &mut self,
+        flows: &mut FlowCache,
+        alloc: Global,
+        sessions: &[Hearing],
+    ) -> Result<(), NoMemory>
+        requires fits { AllByRecursion (λ (s : Heard). AllFit s.map) (map heard_of sessions.now) }
+        requires kept { AreOf self.old.rows.acls flows.old }
+        ensures set { OnOk result (HaveRoutes (map heard_of sessions.now) self.old
+            → AreTables (map heard_of sessions.now) self.new) }
+        ensures unchanged { OnErr result (self.new ≡ self.old) }
+        ensures kept { AreOf self.new.rows.acls flows.new }
+    {
+        let tables = slice_tables(alloc, sessions)?;
+        let same = have_same_instances(alloc, &self.fibs, &tables.fibs)?;
+        if same {
+            self.put_objects(flows, tables);
+            return Ok(());
+        }
+        let made = AgentTables::with_heard(tables, sessions)?;
+        self.renew(flows, made);
+        Ok(())
+    }
+
+    /// The labels and access lists are these from now on. The routes stay.
+    fn put_objects(&mut self, flows: &mut FlowCache, tables: SliceTables)
+        requires circuits { All (λ e. IsOfAUse e.1) tables.labels }
+        requires kept { AreOf self.old.rows.acls flows.old }
+        ensures put { self.new ≡ record self.old {
+          rows = record self.old.rows {
+            labels = tables.labels;
+            acls = tables.acls;
+          };
+        } }
+        ensures kept { AreOf self.new.rows.acls flows.new }
+    {
+        let SliceTables { labels, acls, .. } = tables;
+        if !self.acls.is(&acls) {
+            flows.clear();
+        }
+        self.labels = labels;
+        self.acls = acls;
     }
 
     /// Each of these routes is that of the first session that is up and has it from now on, and there is none where none
