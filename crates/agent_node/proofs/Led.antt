@@ -1,12 +1,13 @@
 -- Octets that put or drop some routes alone, and ends that are told all.
-use Rattle.std.specs.Prelude.{◌≡◌, ◌<◌, ◌≤◌, ℕ, zero, suc, List, [], ◌∷◌, map, length, Bool, true, false, cond, nat_lt}
+use Rattle.std.specs.Prelude.{◌≡◌, ◌<◌, ◌≤◌, ℕ, zero, suc, List, [], ◌∷◌, map, length, Bool, true, false, cond, is_some, nat_lt}
 use Rattle.std.specs.declared.option.Option.{Option}
 use Rattle.std.specs.declared.option.Option.TheVariants.{Some, None}
 use Rattle.std.specs.declared.result.Result.{Result}
 use Rattle.std.specs.declared.result.Result.TheVariants.{Ok, Err}
 use Rattle.std.specs.Option.{IfSome}
 use Rattle.std.specs.Result.{IfOk}
-use Rattle.std.specs.List.{slice_index_or, filter_map}
+use Rattle.std.specs.FinMap.{get}
+use Rattle.std.specs.List.{slice_index_or, filter_map, list_any}
 use Rattle.std.proofs.Common.{refl, sym, ◌∙◌, ap, subst, set, arith}
 use Rattle.std.proofs.lemmas.Bool.{ltb-true}
 use Rattle.std.proofs.lemmas.List.{get_or-map, get_or_past, length-set}
@@ -18,17 +19,19 @@ use Rattle.node_core.specs.declared.ends.Plan.{Plan}
 use Rattle.node_items.specs.Beginning.{phase_of}
 use Rattle.node_items.specs.Told.{change_of, down_of, spelled, up_of}
 use Rattle.node_laws.specs.Stepped.{AreTold, HoldTheSame}
+use Rattle.node_laws.proofs.AtTheEnd.{seen_alike}
 use Rattle.node_model.specs.Agent.{Holdings, told_of as told_by}
+use Rattle.node_model.specs.Keys.{Row}
 use Rattle.node_model.specs.Maps.{Change, Map, difference}
 use Rattle.node_model.specs.Step.{Post, nothing, post}
 use Rattle.node_model.specs.Values.{same_value}
 use Rattle.node_model.proofs.Alike.{same_value_decides}
-use Rattle.agent_tables.specs.Touched.{AgreeBut, RowKey, route_key}
+use Rattle.agent_tables.specs.Touched.{AgreeBut, RowKey, SameRoutes, route_key}
 use Rattle.agent_tables.specs.Views.{heard_of, is_up as is_heard_up}
 use Rattle.agent_tables.specs.declared.hearing.Hearing.{Hearing}
-use Rattle.agent_tables.proofs.Touched.{MapsAgreeBut, all_changed, same_slice, session_changed}
-use Rattle.agent_node.specs.Applying.{AreLed, HasLed}
-use Rattle.agent_node.specs.Core.{holdings, kind, may_send, wanted}
+use Rattle.agent_tables.proofs.Touched.{MapsAgreeBut, all_changed, all_stay, same_slice, session_changed, session_stays}
+use Rattle.agent_node.specs.Applying.{AreLed, HasKeptRoutes, HasLed}
+use Rattle.agent_node.specs.Core.{heard_at, holdings, is_up, kind, may_send, wanted}
 use Rattle.agent_node.specs.Ends.{AreEnds, Sent, end_at, posts_of}
 use Rattle.agent_node.specs.Planning.{AreSilent, sent_at}
 use Rattle.agent_node.specs.declared.plan.AgentPlan.{AgentPlan}
@@ -60,6 +63,14 @@ has_led h h' items keys state e held =
     let agree = all_changed items keys (down_of h.held) e in
     let both = subst (MapsAgreeBut keys (down_of h.held)) (sym held) agree in
     record { state = state; objects_same = both.objects_same; rows_same = both.rows_same }
+
+pub has_kept_routes : (h h' : Hearing) (items : List Item) → h'.session.state ≡ h.session.state
+    → list_any (λ i. is_some (route_key (change_of i))) items ≡ false
+    → down_of h'.held ≡ after (down_of h.held) (filter_map change_of items) → HasKeptRoutes h h'
+has_kept_routes h h' items state none held = record {
+  state = state;
+  rows_same = λ k. all_stay items (down_of h.held) none k ∙ ap (λ (m : Map). get m (Row k.0 k.1)) (sym held);
+}
 
 map_set : (hs : List Hearing) (i : ℕ) (h : Hearing) → map heard_of (set hs i h) ≡ set (map heard_of hs) i (heard_of h)
 map_set [] i h = refl
@@ -94,6 +105,16 @@ module _ (plan : AgentPlan) (hs : List Hearing) (ss : List Sent) (ends : AreEnds
         agree = subst (λ (p : Holdings × Holdings). AgreeBut keys p.0 p.1)
             (λ j. (sym (holdings_as hs ss) j, (sym (map_set hs i h') ∙ sym (holdings_as (set hs i h') ss)) j)) agree;
       }
+
+module _ (plan : AgentPlan) (hs : List Hearing) (ss : List Sent) (ends : AreEnds plan hs ss) (i : ℕ) (h : Hearing)
+    (lt : i < length hs) (is : h ≡ slice_index_or hs i h) (h' : Hearing) where
+  pub routes_kept : HasKeptRoutes h h' → SameRoutes (holdings (posts_of hs ss)) (holdings (posts_of (set hs i h') ss))
+  routes_kept t =
+      let same : SameRoutes (map heard_of hs) (set (map heard_of hs) i (heard_of h')) =
+      session_stays (map heard_of hs) i (heard_of h) (heard_of h')
+      (λ d. get_or-map heard_of hs i h d lt ∙ ap heard_of (sym is)) (ap is_heard_up t.state) t.rows_same in
+      subst (λ (p : Holdings × Holdings). SameRoutes p.0 p.1)
+      (λ j. (sym (holdings_as hs ss) j, (sym (map_set hs i h') ∙ sym (holdings_as (set hs i h') ss)) j)) same
 
 -- ---- what was told stays told
 same_at : (posts : List Post) (s : ℕ) (m : Map) (j : ℕ)
@@ -138,13 +159,10 @@ silent_plans posts plans n long told silent =
       ends = λ i lt. all_same (post posts i) (wanted posts i) (may_send i (post posts i).phase) (told i lt);
     }
 
--- ---- what was planned is told
-pub told_by_plans : (posts posts' : List Post) (plans : List Plan) → length posts' ≡ length posts
-    → ArePlans kind posts posts' plans → AreTold kind posts'
-told_by_plans posts posts' plans long planned i lt may =
-    let under : i < length posts = subst (λ n. i < n) long lt in
-    sent under (may_send i (post posts i).phase) refl (ap (may_send i) (sym (same i).0) ∙ may)
-    ∙ sym (wants_by_holdings.wants posts posts' long same i)
+-- ---- plans leave what is held as it was
+pub held_on : (posts posts' : List Post) (plans : List Plan) → length posts' ≡ length posts
+    → ArePlans kind posts posts' plans → HoldTheSame posts posts'
+held_on posts posts' plans long planned = λ i. at i (nat_lt i (length posts)) refl
   where
     parts : (p q : Post) (wants : Map) (b : Bool) → q ≡ cond b (record p { sent = wants }) p → (q.phase ≡ p.phase) × (q.held ≡ p.held)
     parts p q wants true e = (ap (λ (x : Post). x.phase) e, ap (λ (x : Post). x.held) e)
@@ -165,8 +183,22 @@ told_by_plans posts posts' plans long planned i lt may =
         (planned.ends i (ltb-true i (length posts) e))
     at i false e = (ap (λ (x : Post). x.phase) (past i e), ap (λ (x : Post). x.held) (past i e))
 
+pub holdings_on : (posts posts' : List Post) (plans : List Plan) → length posts' ≡ length posts
+    → ArePlans kind posts posts' plans → holdings posts' ≡ holdings posts
+holdings_on posts posts' plans long planned =
+    seen_alike heard_at (λ p q phase held j. record { is_up = is_up (phase j); map = held j }) posts posts' long
+    (held_on posts posts' plans long planned)
+
+-- ---- what was planned is told
+pub told_by_plans : (posts posts' : List Post) (plans : List Plan) → length posts' ≡ length posts
+    → ArePlans kind posts posts' plans → AreTold kind posts'
+told_by_plans posts posts' plans long planned i lt may =
+    let under : i < length posts = subst (λ n. i < n) long lt in
+    sent under (may_send i (post posts i).phase) refl (ap (may_send i) (sym (same i).0) ∙ may)
+    ∙ sym (wants_by_holdings.wants posts posts' long same i)
+  where
     same : HoldTheSame posts posts'
-    same i = at i (nat_lt i (length posts)) refl
+    same = held_on posts posts' plans long planned
 
     sent : i < length posts → (b : Bool) → may_send i (post posts i).phase ≡ b → b ≡ true → (post posts' i).sent ≡ wanted posts i
     sent under b e on =

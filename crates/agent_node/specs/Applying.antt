@@ -48,3 +48,9 @@ pub record AreLed (keys : List RowKey) (session : ℕ) (posts posts' : List Post
   pub held : Map
   pub left : posts' ≡ slice_set posts session (record (post posts session) { held = held })
   pub agree : AgreeBut keys (holdings posts) (holdings posts')
+
+-- ---- octets that put and drop no route
+-- an end is in the same state, and holds the same routes
+pub record HasKeptRoutes (h h' : Hearing) : Type 0 where
+  pub state : h'.session.state ≡ h.session.state
+  pub rows_same : (k : RowKey) → get (down_of h.held) (Row k.0 k.1) ≡ get (down_of h'.held) (Row k.0 k.1)

@@ -1,7 +1,7 @@
 //! What an input makes of the end of its session.
 ghost use Rattle.std.specs.Prelude.{◌≡◌, ◌<◌, ◌≤◌, ◌∷◌, [], IfOk, IfSome, IsTrue, OnOk, drop, length, map, slice_set};
-ghost use Rattle.std.specs.Prelude.{Some, true, false};
-ghost use Rattle.std.specs.List.{AllByRecursion, filter_map};
+ghost use Rattle.std.specs.Prelude.{Some, is_some, true, false};
+ghost use Rattle.std.specs.List.{AllByRecursion, filter_map, list_any};
 ghost use Rattle.ov_sync.specs.Keyed.{after};
 ghost use Rattle.item_wire.specs.Inputs.{is_of_control};
 ghost use Rattle.item_wire.specs.Records.{spelling};
@@ -13,10 +13,10 @@ ghost use Rattle.node_core.specs.Whole.{Comes, session_of};
 ghost use Rattle.node_items.specs.Told.{AllFit, IsWritable, change_of, down_of};
 ghost use Rattle.node_model.specs.Step.{Beginning, Idle, Opened, post};
 ghost use Rattle.agent_node.specs.Beginning.{BeginsKeeping};
-ghost use Rattle.agent_node.specs.Core.{is_idle, sessions};
+ghost use Rattle.agent_node.specs.Core.{holdings, is_idle, sessions};
 ghost use Rattle.agent_node.specs.Ends.{HeldFits, whom};
-ghost use Rattle.agent_node.specs.Applying.{AreLed, HasHeard, HasLed, HasTaken, changed_by};
-ghost use Rattle.agent_tables.specs.Touched.{route_key};
+ghost use Rattle.agent_node.specs.Applying.{AreLed, HasHeard, HasKeptRoutes, HasLed, HasTaken, changed_by};
+ghost use Rattle.agent_tables.specs.Touched.{SameRoutes, route_key};
 
 use crate::ends::AgentEnds;
 use agent_tables::Hearing;
@@ -106,6 +106,30 @@ fn routes_alone(
     }
 }
 
+/// Whether one of these records puts or drops a route.
+fn has_route(records: &[Item]) -> bool
+    ensures { result ≡ list_any (λ i. is_some (route_key (change_of i))) records.now }
+{
+    for record in records {
+        if route_of(record).is_some() {
+            return true;
+        }
+    }
+    false
+}
+
+/// Whether none of the records of a session that stays opened or up puts or drops a route.
+fn routes_stay(before: ItemState, after: ItemState, items: &[Item]) -> bool
+    ensures state { IsTrue result → after ≡ before }
+    ensures routes { IsTrue result → list_any (λ i. is_some (route_key (change_of i))) items.now ≡ false }
+{
+    match (before, after) {
+        (ItemState::Opened, ItemState::Opened) => !has_route(items),
+        (ItemState::Up, ItemState::Up) => !has_route(items),
+        _ => false,
+    }
+}
+
 /// What octets came to at an end.
 #[derive(Drop)]
 struct Taken {
@@ -115,6 +139,8 @@ struct Taken {
     cause: Option<ItemCause>,
     /// The routes that they put or dropped, where they did nothing else.
     routes: Option<Vec<(InstanceId, Prefix)>>,
+    /// Whether they put and dropped no route, and left the session as it was.
+    routes_stay: bool,
 }
 
 /// Hears octets at an end, and applies their records, where none of them takes the session down.
@@ -125,6 +151,7 @@ fn hear_at(alloc: Global, hearing: &mut Hearing, bytes: &[u8]) -> Result<Taken, 
         came.cause) }
     ensures taken { IfOk result (λ came. came.taken ≤ length bytes.now) }
     ensures led { IfOk result (λ came. IfSome came.routes (λ keys. HasLed keys.items hearing.old hearing.new)) }
+    ensures stay { IfOk result (λ came. IsTrue came.routes_stay → HasKeptRoutes hearing.old hearing.new) }
     ensures whom { whom hearing.new ≡ whom hearing.old }
     ensures fits { HeldFits hearing.new }
 {
@@ -139,15 +166,18 @@ fn hear_at(alloc: Global, hearing: &mut Hearing, bytes: &[u8]) -> Result<Taken, 
             taken,
             cause,
             routes: None,
+            routes_stay: false,
         });
     }
     let after = hearing.session.state();
     let routes = routes_alone(alloc, before, after, &records)?;
+    let routes_stay = routes_stay(before, after, &records);
     apply_all(&mut hearing.held, records)?;
     Ok(Taken {
         taken,
         cause: None,
         routes,
+        routes_stay,
     })
 }
 
@@ -157,6 +187,8 @@ pub(crate) struct Applied {
     pub(crate) started: Started<ItemCause>,
     /// The routes that it put or dropped, where it did nothing else.
     pub(crate) routes: Option<Vec<(InstanceId, Prefix)>>,
+    /// Whether it put and dropped no route, and left its session as it was.
+    pub(crate) routes_stay: bool,
 }
 
 impl AgentEnds {
@@ -182,17 +214,21 @@ impl AgentEnds {
         ensures taken { IfOk result (λ came. came.taken ≤ length bytes.now) }
         ensures led { IfOk result (λ came. IfSome came.routes (λ keys.
             AreLed keys.items session self.old.posts self.new.posts)) }
+        ensures stay { IfOk result (λ came. IsTrue came.routes_stay
+            → SameRoutes (holdings self.old.posts) (holdings self.new.posts)) }
     {
         let Taken {
             taken,
             cause,
             routes,
+            routes_stay,
         } = hear_at(self.alloc, &mut self.hearings[usize::from(session)], bytes)?;
         match cause {
             None => Ok(Taken {
                 taken,
                 cause: None,
                 routes,
+                routes_stay,
             }),
             Some(cause) => {
                 self.close(session);
@@ -200,6 +236,7 @@ impl AgentEnds {
                     taken,
                     cause: Some(cause),
                     routes: None,
+                    routes_stay: false,
                 })
             }
         }
@@ -219,6 +256,8 @@ impl AgentEnds {
         ensures few { IfOk result (λ applied. length (left_in input.entry applied.started.taken) ≤ 65539) }
         ensures led { IfOk result (λ applied. IfSome applied.routes (λ keys.
             AreLed keys.items (session_of input.entry) self.old.posts self.new.posts)) }
+        ensures stay { IfOk result (λ applied. IsTrue applied.routes_stay
+            → SameRoutes (holdings self.old.posts) (holdings self.new.posts)) }
     {
         let alloc = self.alloc;
         match input {
@@ -231,6 +270,7 @@ impl AgentEnds {
                         cause: None,
                     },
                     routes: None,
+                    routes_stay: false,
                 })
             }
             Input::Bytes { session, bytes } => {
@@ -238,6 +278,7 @@ impl AgentEnds {
                     taken,
                     cause,
                     routes,
+                    routes_stay,
                 } = self.hear_on(session, bytes)?;
                 Ok(Applied {
                     started: Started {
@@ -246,6 +287,7 @@ impl AgentEnds {
                         cause,
                     },
                     routes,
+                    routes_stay,
                 })
             }
             Input::Closed { session } => {
@@ -257,6 +299,7 @@ impl AgentEnds {
                         cause: None,
                     },
                     routes: None,
+                    routes_stay: false,
                 })
             }
         }

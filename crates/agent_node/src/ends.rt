@@ -6,12 +6,14 @@ ghost use Rattle.node_core.specs.Plans.{ArePlans};
 ghost use Rattle.node_core.specs.Resting.{end_at};
 ghost use Rattle.node_items.specs.Beginning.{phase_of};
 ghost use Rattle.node_model.specs.Step.{nothing, post};
-ghost use Rattle.agent_tables.specs.Touched.{AreTables, with_routes};
+ghost use Rattle.flow_acl.specs.Flows.{AreOf};
+ghost use Rattle.agent_tables.specs.Touched.{AreTables, HaveRoutes, with_routes};
 ghost use Rattle.agent_node.specs.Core.{holdings, kind, nothings, sessions};
 
 use crate::plan::AgentPlan;
 use crate::planning::plan_all;
 use agent_tables::{AgentTables, Hearing, wanted};
+use flow_acl::FlowCache;
 use item_wire::{ItemFrom, ItemSession, ItemState};
 use node_core::{EndState, Plan};
 use ov_sync::{SyncIn, SyncOut};
@@ -153,5 +155,19 @@ impl AgentEnds {
         ensures lists { tables.new.rows.acls ≡ tables.old.rows.acls }
     {
         tables.set_routes(&self.hearings, keys)
+    }
+
+    /// The tables are what the sessions give from now on, where they were those of sessions with the same routes.
+    pub(crate) fn set_objects(
+        &self,
+        tables: &mut AgentTables,
+        flows: &mut FlowCache,
+    ) -> Result<(), NoMemory>
+        requires { AreOf tables.old.rows.acls flows.old }
+        ensures set { OnOk result (HaveRoutes (holdings self.now.posts) tables.old
+            → AreTables (holdings self.now.posts) tables.new) }
+        ensures kept { AreOf tables.new.rows.acls flows.new }
+    {
+        tables.set_objects(flows, self.alloc, &self.hearings)
     }
 }

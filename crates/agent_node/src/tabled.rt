@@ -8,7 +8,7 @@ ghost use Rattle.node_core.specs.Plans.{ArePlans};
 ghost use Rattle.node_model.specs.Agent.{Holdings, rows as rows_of};
 ghost use Rattle.node_laws.specs.Stepped.{AreTold};
 ghost use Rattle.flow_acl.specs.Flows.{AreOf};
-ghost use Rattle.agent_tables.specs.Touched.{AgreeBut, AreTables};
+ghost use Rattle.agent_tables.specs.Touched.{AgreeBut, AreTables, HaveRoutes};
 ghost use Rattle.agent_node.specs.Core.{holdings, kind, nothings, sessions};
 ghost use Rattle.agent_node.specs.Planning.{AreSilent};
 
@@ -27,13 +27,15 @@ use std::alloc::Global;
 use std::marker::Model;
 
 /// The ends of all sessions, and the tables of what they hold. An input that puts or drops routes alone changes their
-/// rows alone, and tells nothing.
+/// rows alone, and tells nothing. One that puts and drops no route leaves the routes of the instances that stay needed.
 #[derive(Drop)]
 pub(crate) struct TabledEnds {
     ends: AgentEnds,
     tables: AgentTables,
     /// Whether the tables are those of what is held.
     current: bool,
+    /// Whether the tables are those of sessions with the same routes as what is held.
+    routed: bool,
     /// Whether what was sent is what is wanted, on each session that may send.
     told: bool,
 }
@@ -41,7 +43,7 @@ pub(crate) struct TabledEnds {
 impl Model for TabledEnds {
     ghost use Rattle.std.specs.Prelude.{◌≡◌, true};
     ghost use Rattle.node_laws.specs.Stepped.{AreTold};
-    ghost use Rattle.agent_tables.specs.Touched.{AreTables};
+    ghost use Rattle.agent_tables.specs.Touched.{AreTables, HaveRoutes};
     ghost use Rattle.agent_node.specs.Core.{holdings, kind};
     ghost use Rattle.agent_node.specs.Ends.{Forwarding, coded_forwarding};
 
@@ -52,6 +54,7 @@ impl Model for TabledEnds {
     ghost view = { λ t. record { plan = t.ends.plan; posts = t.ends.posts; rows = t.tables.rows } };
 
     ghost invariant = { λ t. (t.current ≡ true → AreTables (holdings t.ends.posts) t.tables)
+        × (t.routed ≡ true → HaveRoutes (holdings t.ends.posts) t.tables)
         × (t.told ≡ true → AreTold kind t.ends.posts) };
 }
 
@@ -88,6 +91,35 @@ fn lead(
     }
 }
 
+/// Makes the tables those of what is held. Where they were those of sessions with the same routes, the routes of the
+/// instances that stay needed stay where they are.
+fn renew(
+    ends: &AgentEnds,
+    tables: &mut AgentTables,
+    flows: &mut FlowCache,
+    routed: bool,
+) -> Result<(), NoMemory>
+    requires { AreOf tables.old.rows.acls flows.old }
+    ensures set { OnOk result ((routed ≡ true → HaveRoutes (holdings ends.now.posts) tables.old)
+        → AreTables (holdings ends.now.posts) tables.new) }
+    ensures kept { AreOf tables.new.rows.acls flows.new }
+{
+    if routed {
+        return ends.set_objects(tables, flows);
+    }
+    let made = ends.tables()?;
+    tables.renew(flows, made);
+    Ok(())
+}
+
+/// Whether both hold.
+fn are_both(current: bool, routes_stay: bool) -> bool
+    ensures current { result ≡ true → current ≡ true }
+    ensures stay { result ≡ true → routes_stay ≡ true }
+{
+    if current { routes_stay } else { false }
+}
+
 impl Ends for TabledEnds {
     ghost use Rattle.std.specs.Prelude.{◌≡◌, refl};
     ghost use Rattle.std.proofs.Common.{◌∙◌};
@@ -121,11 +153,17 @@ impl Ends for TabledEnds {
         let current = self.current;
         let told = self.told;
         self.current = false;
+        self.routed = false;
         self.told = false;
         let applied = self.ends.apply(input);
         let _after = self.ends.sessions();
-        let Applied { started, routes } = applied?;
+        let Applied {
+            started,
+            routes,
+            routes_stay,
+        } = applied?;
         let Some(routes) = routes else {
+            self.routed = are_both(current, routes_stay);
             return Ok(started);
         };
         lead(&self.ends, &mut self.tables, &routes, current)?;
@@ -138,14 +176,18 @@ impl Ends for TabledEnds {
         if self.told {
             return no_plans(self.ends.alloc(), self.ends.sessions());
         }
+        let routed = self.routed;
         self.current = false;
+        self.routed = false;
         let plans = self.ends.plan()?;
+        self.routed = routed;
         self.told = true;
         Ok(plans)
     }
 
     fn close(&mut self, session: u16) {
         self.current = false;
+        self.routed = false;
         self.told = false;
         self.ends.close(session);
     }
@@ -172,6 +214,7 @@ impl TabledEnds {
             ends,
             tables: AgentTables::new(alloc),
             current: false,
+            routed: false,
             told: false,
         })
     }
@@ -194,8 +237,9 @@ impl TabledEnds {
         if self.current {
             return Ok(());
         }
-        let tables = self.ends.tables()?;
-        self.tables.renew(flows, tables);
+        let routed = self.routed;
+        self.routed = false;
+        renew(&self.ends, &mut self.tables, flows, routed)?;
         self.current = true;
         Ok(())
     }
@@ -207,6 +251,7 @@ impl TabledEnds {
         ensures rows { self.new.rows ≡ record { labels = []; acls = []; routes = [] } }
     {
         self.current = false;
+        self.routed = false;
         self.tables = AgentTables::new(self.ends.alloc());
     }
 

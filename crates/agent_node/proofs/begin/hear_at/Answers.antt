@@ -1,10 +1,11 @@
-use Rattle.std.proofs.Common.{◌≡◌, List, map, Some, ap, sym, ◌∙◌}
+use Rattle.std.proofs.Common.{◌≡◌, List, map, Some, ap, sym, ◌∙◌, is_some}
+use Rattle.std.specs.List.{list_any}
 use Rattle.item_wire.specs.declared.item.Item.{Item}
 use Rattle.node_items.specs.Told.{change_of}
 use Rattle.agent_tables.specs.Touched.{route_key}
 use Rattle.agent_tables.specs.declared.hearing.Hearing.{Hearing}
 use Rattle.agent_node.specs.Applying.{HasLed}
-use Rattle.agent_node.proofs.Led.{has_led, if_both}
+use Rattle.agent_node.proofs.Led.{has_kept_routes, has_led, if_both}
 use Rattle.agent_node.proofs.begin.hear_at.Goals as goal
 
 pub returns-clause-led : goal.returns-clause-led
@@ -18,3 +19,12 @@ returns-clause-led c =
     (sym c.state-after.ensures ∙ state ∙ c.state-before.ensures)
     (ap (λ (is : List Item). map (λ i. route_key (change_of i)) is) (sym c.deref.ensures.value) ∙ routes)
     c.in_ok-apply_all.ensures.after) c.in_ok-routes.ensures.state c.in_ok-routes.ensures.routes
+
+pub returns-clause-stay : goal.returns-clause-stay
+returns-clause-stay c = λ on.
+    let h = c.args.hearing.now in
+    let h' : Hearing = record { session = c.hear.new.session; held = c.apply_all.new.held } in
+    has_kept_routes h h' c.in_ok-records.field-0.records.items
+    (sym c.state-after.ensures ∙ c.routes_stay-routes_stay.ensures.state on ∙ c.state-before.ensures)
+    (ap (list_any (λ (i : Item). is_some (route_key (change_of i)))) (sym c.deref-2.ensures.value) ∙ c.routes_stay-routes_stay.ensures.routes on)
+    c.in_ok-apply_all.ensures.after

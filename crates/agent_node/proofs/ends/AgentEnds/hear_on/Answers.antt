@@ -3,9 +3,11 @@ use Rattle.std.proofs.Common.{ap, ◌∙◌, arith, Some, None}
 use Rattle.std.proofs.lemmas.List.{length-set}
 use Rattle.node_model.specs.Step.{nothing}
 use Rattle.agent_node.specs.Applying.{AreLed, HasHeard, HasLed, HasTaken}
+use Rattle.agent_tables.specs.Touched.{SameRoutes}
+use Rattle.agent_node.specs.Core.{holdings}
 use Rattle.agent_node.specs.Ends.{Ends, posts_of}
 use Rattle.agent_node.proofs.Begins.{taken_down, taken_on, whom_at}
-use Rattle.agent_node.proofs.Led.{are_led, if_some}
+use Rattle.agent_node.proofs.Led.{are_led, if_some, routes_kept}
 use Rattle.agent_node.proofs.Posts.{ends_long, posts_long}
 use Rattle.agent_node.proofs.ends.AgentEnds.hear_on.Goals as goal
 
@@ -83,3 +85,16 @@ returns-in-None-clause-led c =
     (subst (λ (e : Ends). AreLed keys.items c.from.result e.posts (posts_of (slice_set hs c.from.result h') ss)) c.self.view_is
     (are_led c.self.inside.plan hs ss c.self.invariant c.from.result h lt c.index_mut.ensures.value h' keys.items t)))
     c.in_ok-taken.ensures.led
+
+pub returns-in-None-clause-stay : goal.returns-in-None-clause-stay
+returns-in-None-clause-stay c = λ on.
+    let hs = c.self.inside.hearings.items in
+    let ss = c.self.inside.sents.items in
+    let h = c.index_mut.result.now in
+    let h' = c.hear_at.new.hearing in
+    let controllers = ap (λ (e : Ends). length e.plan.controllers) c.self.view_is in
+    let long = ends_long c.self.inside.plan hs ss c.self.invariant in
+    let lt : c.from.result < length hs = omega (arith, long, controllers, c.requires.known, c.from.ensures) in
+    subst (λ (e : Ends). SameRoutes (holdings e.posts) (holdings (posts_of (slice_set hs c.from.result h') ss))) c.self.view_is
+    (routes_kept c.self.inside.plan hs ss c.self.invariant c.from.result h lt c.index_mut.ensures.value h'
+    (c.in_ok-taken.ensures.stay on))

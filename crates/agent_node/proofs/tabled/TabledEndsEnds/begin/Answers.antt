@@ -1,4 +1,5 @@
 use Rattle.std.proofs.Common.{List, subst, sym}
+use Rattle.std.proofs.lemmas.Bool.{true≢false}
 use Rattle.node_core.specs.Whole.{session_of}
 use Rattle.agent_tables.specs.Touched.{AgreeBut, RowKey}
 use Rattle.agent_node.specs.Applying.{AreLed}
@@ -17,5 +18,6 @@ invariant_of-self-2 c =
       (λ on. c.in_ok-lead.ensures.led on (holdings before)
           (subst (λ (ks : List RowKey). AgreeBut ks (holdings before) (holdings after)) (sym c.deref.ensures.value) led.agree)
           (c.self.invariant.0 on)),
-      λ on. told_on keys (session_of c.args.input) before after led (c.self.invariant.1 on),
+      λ off. absurd (true≢false (sym off)),
+      λ on. told_on keys (session_of c.args.input) before after led (c.self.invariant.2 on),
     )
