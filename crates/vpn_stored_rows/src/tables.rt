@@ -26,11 +26,12 @@ use std::alloc::Global;
 use std::marker::{Brand, Model};
 use std::sync::ledger::{Blank, Ledger};
 use vpn_tables::VpnTables;
+use vpn_tables_by_prefix::IndexedTables;
 
 /// What a control node holds of its sessions, and the rows that follow from it.
 #[derive(Drop)]
 pub struct StoredTables {
-    pub(crate) held: VpnTables,
+    pub(crate) held: IndexedTables,
     rows: Rows,
     /// Whether every row is stored. Where memory was wanting for that, none counts.
     stored: bool,
@@ -68,21 +69,21 @@ fn keys_at(alloc: Global, rows: &[(InstanceId, Prefix)]) -> Result<Vec<RowKey>, 
 /// The rows that a change of a peer's route touches.
 fn touched_by_route(
     alloc: Global,
-    held: &VpnTables,
+    held: &IndexedTables,
     session: u16,
     delta: &Delta<VpnKey, VpnRoute>,
 ) -> Result<Vec<RowKey>, NoMemory>
     ensures { IfOk result (λ keys. keys.items ≡ map key_at
         (touched_rows held.now (targets_by_route held.now session delta.now) (key_of delta.now).prefix)) }
 {
-    let touched = held.touched_by_route(session, delta)?;
+    let touched = held.held().touched_by_route(session, delta)?;
     keys_at(alloc, touched.as_slice())
 }
 
 /// Selects the touched rows anew, where rows are stored. Says whether they are stored then.
 fn restore<L: Ledger>(
     rows: &mut Rows,
-    held: &VpnTables,
+    held: &IndexedTables,
     touched: &[RowKey],
     stored: bool,
     steps: &mut Steps<L>,
@@ -104,7 +105,7 @@ fn restore<L: Ledger>(
 /// Applies a change of a peer's route, and selects the rows that it touches anew. Says whether they are stored then.
 fn change_route<L: Ledger>(
     alloc: Global,
-    held: &mut VpnTables,
+    held: &mut IndexedTables,
     rows: &mut Rows,
     stored: bool,
     session: u16,
@@ -149,7 +150,7 @@ fn low_key(delta: &Delta<LowKey, LowValue>) -> LowKey
 
 /// Applies a change that the feed told. Says whether the rows are stored then.
 fn change_low(
-    held: &mut VpnTables,
+    held: &mut IndexedTables,
     rows: &Rows,
     stored: bool,
     delta: Delta<LowKey, LowValue>,
@@ -169,21 +170,21 @@ fn change_low(
 /// The rows that a change of what an agent told touches.
 fn touched_by_publication(
     alloc: Global,
-    held: &VpnTables,
+    held: &IndexedTables,
     session: u16,
     delta: &Delta<UpKey, Label>,
 ) -> Result<Vec<RowKey>, NoMemory>
     ensures { IfOk result (λ keys. keys.items ≡ map key_at
         (rows_by_key held.now (targets_by_publication held.now session delta.now) (key_of delta.now))) }
 {
-    let touched = held.touched_by_publication(session, delta)?;
+    let touched = held.held().touched_by_publication(session, delta)?;
     keys_at(alloc, touched.as_slice())
 }
 
 /// Applies a change of what an agent told, and selects the rows that it touches anew. Says whether they are stored then.
 fn change_publication<L: Ledger>(
     alloc: Global,
-    held: &mut VpnTables,
+    held: &mut IndexedTables,
     rows: &mut Rows,
     stored: bool,
     session: u16,
@@ -209,7 +210,7 @@ impl StoredTables {
         ensures { result ≡ nothing asn }
     {
         StoredTables {
-            held: VpnTables::new(alloc, asn),
+            held: IndexedTables::new(alloc, asn),
             rows: SyncIn::new(alloc),
             stored: false,
             alloc,
@@ -309,7 +310,7 @@ impl StoredTables {
         ensures { IfOk result (λ rows. rows.items ≡ rows_at self.now i) }
     {
         if !self.stored {
-            return self.held.table(i);
+            return self.held.held().table(i);
         }
         listed(self.alloc, &self.rows, i)
     }
@@ -396,7 +397,7 @@ fn set_publication_on<L: Ledger>(
 /// Stores the row of every table.
 fn store_all<L: Ledger>(
     rows: &mut Rows,
-    held: &VpnTables,
+    held: &IndexedTables,
     alloc: Global,
     blank: Blank,
 ) -> Result<(), NoMemory>
@@ -407,7 +408,7 @@ fn store_all<L: Ledger>(
 {
     held.uses_are_short();
     rows.reset();
-    let keys = all_keys(alloc, held)?;
+    let keys = all_keys(alloc, held.held())?;
     let mut steps = Steps::<L>::new(blank);
     reselect_all(rows, held, keys.as_slice(), &mut steps)
 }
