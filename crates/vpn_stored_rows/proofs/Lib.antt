@@ -4,3 +4,9 @@ pub mod Turns
 pub mod Stays
 pub mod Publications
 pub mod Alike
+pub mod LedStays
+pub mod LedObjects
+pub mod LedInOrder
+pub mod LedPlaces
+pub mod LedUp
+pub mod LedAll

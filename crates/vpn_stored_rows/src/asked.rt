@@ -20,6 +20,7 @@ ghost use Rattle.vpn_tables.specs.Touched.{rows_by_key, touched_rows};
 ghost use Rattle.vpn_tables.specs.TouchedKeys.{first_keyed, key_published, keys_led};
 ghost use Rattle.vpn_tables.specs.Views.{up_order};
 
+use crate::led::all_led;
 use crate::tables::StoredTables;
 use ov_sync::Delta;
 use ov_types::{
@@ -118,11 +119,15 @@ impl StoredTables {
     }
 
     /// The re-originated routes: of each held use by number, the right side's before the left's, by the distance that
-    /// they lead from, and then by subnet. Two may have one key; the first of these counts.
+    /// they lead from, and then by subnet. Two may have one key; the first of these counts. Where the routes of each use
+    /// are stored, they are listed.
     pub fn reoriginated_paths(&self) -> Result<Vec<Route>, NoMemory>
         ensures { IfOk result (λ routes. map path_of routes.items ≡ reoriginated_paths self.now) }
     {
-        self.held.held().reoriginated_paths()
+        if !self.stored {
+            return self.held.held().reoriginated_paths();
+        }
+        all_led(self.alloc, self.led.as_slice())
     }
 
     /// The first re-originated route of a key, where there is one. It takes no memory.

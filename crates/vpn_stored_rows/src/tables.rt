@@ -1,4 +1,4 @@
-//! What a control node holds, with the rows of its tables stored.
+//! What a control node holds, with the rows of its tables and the re-originated routes of its uses stored.
 ghost use Rattle.std.specs.Prelude.{◌≡◌, ◌≢◌, ℕ, ◌≤◌, ◌<◌, ◌+◌, ◌++◌, true, false, map, length, IfOk, OnOk, OnErr};
 ghost use Rattle.std.specs.List.{list_any};
 ghost use Rattle.std.specs.Ordering.{eq_by_cmp};
@@ -12,9 +12,11 @@ ghost use Rattle.vpn_tables.specs.Answers.{rows_at};
 ghost use Rattle.vpn_tables.specs.At.{row_at};
 ghost use Rattle.vpn_tables.specs.Changes.{nothing, with_agent, with_low, with_publication, with_route, without};
 ghost use Rattle.vpn_tables.specs.Ranges.{Fits};
+ghost use Rattle.vpn_stored_rows.specs.Led.{AreLed, is_row_of, routes_at};
 ghost use Rattle.vpn_stored_rows.specs.Stored.{AreRows, key_at, key_in, keys_of, row_of, row_order};
 ghost use Rattle.vpn_stored_rows.specs.declared.rows.RowKey.{RowKey as RowKeyOf};
 
+use crate::led::{Led, remake_all, store_led};
 use crate::listing::{listed, selected, shown};
 use crate::rows::{RowKey, Rows, reselect_all};
 use ov_sync::{Delta, SyncIn};
@@ -33,15 +35,17 @@ use vpn_tables_by_prefix::IndexedTables;
 pub struct StoredTables {
     pub(crate) held: IndexedTables,
     rows: Rows,
-    /// Whether every row is stored. Where memory was wanting for that, none counts.
-    stored: bool,
-    alloc: Global,
+    pub(crate) led: Led,
+    /// Whether every row and every re-originated route is stored. Where memory was wanting for that, none counts.
+    pub(crate) stored: bool,
+    pub(crate) alloc: Global,
 }
 
 impl Model for StoredTables {
     ghost use Rattle.node_model.specs.Paths.{Holdings};
     ghost use Rattle.std.specs.Prelude.{◌≡◌, true};
     ghost use Rattle.vpn_tables.specs.Codes.{coded_holdings};
+    ghost use Rattle.vpn_stored_rows.specs.Led.{AreLed};
     ghost use Rattle.vpn_stored_rows.specs.Stored.{AreRows};
 
     ghost Value = { Holdings };
@@ -50,7 +54,7 @@ impl Model for StoredTables {
 
     ghost view = { λ s. s.held };
 
-    ghost invariant = { λ s. s.stored ≡ true → AreRows s.rows s.held };
+    ghost invariant = { λ s. s.stored ≡ true → AreRows s.rows s.held × AreLed s.led.items s.held };
 }
 
 fn keys_at(alloc: Global, rows: &[(InstanceId, Prefix)]) -> Result<Vec<RowKey>, NoMemory>
@@ -88,6 +92,7 @@ fn restore<L: Ledger>(
     stored: bool,
     steps: &mut Steps<L>,
 ) -> bool
+    ensures stored { result ≡ true → stored ≡ true }
     ensures rows { (h : Holdings) → (stored ≡ true → AreRows rows.old h)
         → ((k : RowKeyOf) → list_any (eq_by_cmp row_order k) touched.now ≡ false → row_of h k ≡ row_of held.now k)
         → result ≡ true → AreRows rows.new held.now }
@@ -102,31 +107,59 @@ fn restore<L: Ledger>(
     }
 }
 
-/// Applies a change of a peer's route, and selects the rows that it touches anew. Says whether they are stored then.
+/// Makes the routes of the uses that touched rows are of anew, where routes are stored. Says whether they are stored
+/// then.
+fn restore_led(
+    led: &mut Led,
+    alloc: Global,
+    held: &IndexedTables,
+    touched: &[RowKey],
+    stored: bool,
+) -> bool
+    ensures stored { result ≡ true → stored ≡ true }
+    ensures led { (h : Holdings) → (stored ≡ true → AreLed led.old.items h) → h.feed ≡ held.now.feed
+        → ((n : ℕ) → list_any (is_row_of n) touched.now ≡ false → routes_at h n ≡ routes_at held.now n)
+        → result ≡ true → AreLed led.new.items held.now }
+{
+    if !stored {
+        return false;
+    }
+    match remake_all(led, alloc, held.held(), touched) {
+        Ok(()) => true,
+        Err(NoMemory) => false,
+    }
+}
+
+/// Applies a change of a peer's route, and makes what it touches anew. Says whether all is stored then.
 fn change_route<L: Ledger>(
     alloc: Global,
     held: &mut IndexedTables,
     rows: &mut Rows,
+    led: &mut Led,
     stored: bool,
     session: u16,
     delta: Delta<VpnKey, VpnRoute>,
     steps: &mut Steps<L>,
 ) -> Result<bool, NoMemory>
-    requires { stored ≡ true → AreRows rows.old held.old }
+    requires rows { stored ≡ true → AreRows rows.old held.old }
+    requires led { stored ≡ true → AreLed led.old.items held.old }
     ensures ok { OnOk result (held.new ≡ with_route held.old session delta) }
     ensures rows { IfOk result (λ stored. stored ≡ true → AreRows rows.new held.new) }
-    ensures err { OnErr result ((held.new ≡ held.old) × (rows.new ≡ rows.old)) }
+    ensures led { IfOk result (λ stored. stored ≡ true → AreLed led.new.items held.new) }
+    ensures err { OnErr result ((held.new ≡ held.old) × (rows.new ≡ rows.old) × (led.new.items ≡ led.old.items)) }
     ensures steps { steps.new ≤ steps.old + touched held.old (targets_by_route held.old session delta) }
 {
     let touched = touched_by_route(alloc, held, session, &delta)?;
     held.uses_are_short();
     held.set_peer_route(session, delta)?;
-    let stored = restore(rows, held, touched.as_slice(), stored, steps);
-    Ok(stored)
+    let keys = touched.as_slice();
+    let rows_stored = restore(rows, held, keys, stored, steps);
+    let all_stored = restore_led(led, alloc, held, keys, rows_stored);
+    Ok(all_stored)
 }
 
-/// Whether stored rows stay, as an object changes: tables follow from instances and uses alone, besides what was told.
-fn keeps_rows(stored: bool, delta: &Delta<LowKey, LowValue>) -> bool
+/// Whether what is stored stays, as an object changes: tables and re-originated routes follow from instances and uses alone, besides what was told.
+fn keeps_stored(stored: bool, delta: &Delta<LowKey, LowValue>) -> bool
     ensures { result ≡ true → (stored ≡ true) × ((n : ℕ) → key_of delta.now ≢ key.Instance n)
         × ((n : ℕ) → key_of delta.now ≢ key.ChainUse n) }
 {
@@ -148,21 +181,24 @@ fn low_key(delta: &Delta<LowKey, LowValue>) -> LowKey
     }
 }
 
-/// Applies a change that the feed told. Says whether the rows are stored then.
+/// Applies a change that the feed told. Says whether all is stored then.
 fn change_low(
     held: &mut IndexedTables,
     rows: &Rows,
+    led: &Led,
     stored: bool,
     delta: Delta<LowKey, LowValue>,
 ) -> Result<bool, NoMemory>
     requires fits { PutOf Fits delta }
     requires rows { stored ≡ true → AreRows rows.now held.old }
+    requires led { stored ≡ true → AreLed led.now.items held.old }
     ensures ok { OnOk result (held.new ≡ with_low held.old delta) }
     ensures rows { IfOk result (λ stored. stored ≡ true → AreRows rows.now held.new) }
+    ensures led { IfOk result (λ stored. stored ≡ true → AreLed led.now.items held.new) }
     ensures err { OnErr result (held.new ≡ held.old) }
     ensures memory { OnErr result (IsPut delta) }
 {
-    let keeps = keeps_rows(stored, &delta);
+    let keeps = keeps_stored(stored, &delta);
     held.set_low(delta)?;
     Ok(keeps)
 }
@@ -181,27 +217,32 @@ fn touched_by_publication(
     keys_at(alloc, touched.as_slice())
 }
 
-/// Applies a change of what an agent told, and selects the rows that it touches anew. Says whether they are stored then.
+/// Applies a change of what an agent told, and makes what it touches anew. Says whether all is stored then.
 fn change_publication<L: Ledger>(
     alloc: Global,
     held: &mut IndexedTables,
     rows: &mut Rows,
+    led: &mut Led,
     stored: bool,
     session: u16,
     delta: Delta<UpKey, Label>,
     steps: &mut Steps<L>,
 ) -> Result<bool, NoMemory>
-    requires { stored ≡ true → AreRows rows.old held.old }
+    requires rows { stored ≡ true → AreRows rows.old held.old }
+    requires led { stored ≡ true → AreLed led.old.items held.old }
     ensures ok { OnOk result (held.new ≡ with_publication held.old session delta) }
     ensures rows { IfOk result (λ stored. stored ≡ true → AreRows rows.new held.new) }
-    ensures err { OnErr result ((held.new ≡ held.old) × (rows.new ≡ rows.old)) }
+    ensures led { IfOk result (λ stored. stored ≡ true → AreLed led.new.items held.new) }
+    ensures err { OnErr result ((held.new ≡ held.old) × (rows.new ≡ rows.old) × (led.new.items ≡ led.old.items)) }
     ensures steps { steps.new ≤ steps.old + touched held.old (targets_by_publication held.old session delta) }
 {
     let touched = touched_by_publication(alloc, held, session, &delta)?;
     held.uses_are_short();
     held.set_publication(session, delta)?;
-    let stored = restore(rows, held, touched.as_slice(), stored, steps);
-    Ok(stored)
+    let keys = touched.as_slice();
+    let rows_stored = restore(rows, held, keys, stored, steps);
+    let all_stored = restore_led(led, alloc, held, keys, rows_stored);
+    Ok(all_stored)
 }
 
 impl StoredTables {
@@ -212,6 +253,7 @@ impl StoredTables {
         StoredTables {
             held: IndexedTables::new(alloc, asn),
             rows: SyncIn::new(alloc),
+            led: Vec::new(alloc),
             stored: false,
             alloc,
         }
@@ -224,7 +266,7 @@ impl StoredTables {
         ensures err { OnErr result (self.new ≡ self.old) }
         ensures memory { OnErr result (IsPut delta) }
     {
-        self.stored = change_low(&mut self.held, &self.rows, self.stored, delta)?;
+        self.stored = change_low(&mut self.held, &self.rows, &self.led, self.stored, delta)?;
         Ok(())
     }
 
@@ -251,6 +293,7 @@ impl StoredTables {
             self.alloc,
             &mut self.held,
             &mut self.rows,
+            &mut self.led,
             self.stored,
             session,
             delta,
@@ -274,6 +317,7 @@ impl StoredTables {
             self.alloc,
             &mut self.held,
             &mut self.rows,
+            &mut self.led,
             self.stored,
             session,
             delta,
@@ -349,13 +393,15 @@ impl StoredTables {
         Ok(())
     }
 
-    /// Stores the row of every table, where they are not stored. Where memory is wanting, nothing changes.
+    /// Stores the row of every table and the re-originated routes of every use, where they are not stored. Where memory is
+    /// wanting, nothing changes.
     pub fn refresh(&mut self) -> Result<(), NoMemory>
         ensures { self.new ≡ self.old }
     {
         if !self.stored {
             self.stored = false;
             store_all::<Brand>(&mut self.rows, &self.held, self.alloc, Blank::new(1))?;
+            store_led(&mut self.led, self.alloc, self.held.held())?;
             self.stored = true;
         }
         Ok(())

@@ -9,6 +9,9 @@ use Rattle.vpn_tables.specs.Touched.{rows_by_key}
 use Rattle.vpn_stored_rows.specs.Stored.{row_of, row_order}
 use Rattle.vpn_stored_rows.proofs.Publications.{few_rows, publication_row}
 use Rattle.vpn_stored_rows.proofs.Stays.{few_steps_of, not_listed}
+use Rattle.node_model.specs.Paths.{Holdings}
+use Rattle.vpn_stored_rows.specs.Led.{is_row_of, routes_at}
+use Rattle.vpn_stored_rows.proofs.LedStays.{publication_leads}
 use Rattle.vpn_stored_rows.proofs.tables.change_publication.Goals as goal
 
 pub returns-clause-rows : goal.returns-clause-rows
@@ -17,16 +20,26 @@ returns-clause-rows g c =
     let d = c.args.delta in
     let after = with_publication h c.args.session d in
     let rows = rows_by_key h (targets_by_publication h c.args.session d) (key_of d) in
-    let keys = c.as_slice.ensures.value ∙ c.in_ok-touched.ensures in
-    λ on. c.restore-stored.ensures.rows h c.requires (λ k none.
+    let keys = c.as_slice-keys.ensures.value ∙ c.in_ok-touched.ensures in
+    λ on. c.restore-rows_stored.ensures.rows h c.requires.rows (λ k none.
     not_listed h after rows k (publication_row h c.args.session d c.uses_are_short.ensures (key_of d) refl k.instance k.prefix)
     (sym (ap (λ ks. list_any (eq_by_cmp row_order k) ks) keys) ∙ none)
-    ∙ ap (λ g. row_of g k) (sym c.in_ok-set_publication.ensures.ok)) on
+    ∙ ap (λ g. row_of g k) (sym c.in_ok-set_publication.ensures.ok)) (c.restore_led-all_stored.ensures.stored on)
+
+pub returns-clause-led : goal.returns-clause-led
+returns-clause-led g c =
+    let h = c.args.held.now in
+    let d = c.args.delta in
+    let keys = c.as_slice-keys.ensures.value ∙ c.in_ok-touched.ensures in
+    λ on. c.restore_led-all_stored.ensures.led h (λ s. c.requires.led (c.restore-rows_stored.ensures.stored s))
+    (ap (λ (g : Holdings). g.feed) (sym c.in_ok-set_publication.ensures.ok)) (λ n none.
+    publication_leads h c.args.session d c.uses_are_short.ensures (key_of d) refl n (sym (ap (λ ks. list_any (is_row_of n) ks) keys) ∙ none)
+    ∙ ap (λ g. routes_at g n) (sym c.in_ok-set_publication.ensures.ok)) on
 
 pub returns-clause-steps : goal.returns-clause-steps
 returns-clause-steps g c =
     let h = c.args.held.now in
     let d = c.args.delta in
     let targets = targets_by_publication h c.args.session d in
-    few_steps_of c.restore-stored.new.steps c.args.steps.now c.as_slice.result.now (rows_by_key h targets (key_of d)) (touched h targets)
-    c.restore-stored.ensures.steps (c.as_slice.ensures.value ∙ c.in_ok-touched.ensures) (few_rows h targets (key_of d))
+    few_steps_of c.restore-rows_stored.new.steps c.args.steps.now c.as_slice-keys.result.now (rows_by_key h targets (key_of d)) (touched h targets)
+    c.restore-rows_stored.ensures.steps (c.as_slice-keys.ensures.value ∙ c.in_ok-touched.ensures) (few_rows h targets (key_of d))

@@ -14,5 +14,5 @@ both_ok (Err e) f p q = tt
 pub returns : goal.returns
 returns c =
     both_ok c.listed.result (λ x is sorted.
-    is ∙ table_listed c.self.inside.held c.args.i c.self.inside.rows (c.self.invariant c.if-not-self.false) sorted ∙ ap (λ (h : Holdings). rows_at h c.args.i) c.self.view_is)
+    is ∙ table_listed c.self.inside.held c.args.i c.self.inside.rows (c.self.invariant c.if-not-self.false).0 sorted ∙ ap (λ (h : Holdings). rows_at h c.args.i) c.self.view_is)
     c.listed.ensures.rows c.listed.ensures.ascending

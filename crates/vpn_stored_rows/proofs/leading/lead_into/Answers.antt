@@ -1,0 +1,10 @@
+use Rattle.std.proofs.Common.{ap, sym, ◌∙◌, map}
+use Rattle.node_model.specs.Reaching.{publisher}
+use Rattle.vpn_tables.specs.Routes.{path_of}
+use Rattle.vpn_tables.proofs.Leads.{none_led}
+use Rattle.vpn_stored_rows.proofs.leading.lead_into.Goals as goal
+
+pub returns-in-None : goal.returns-in-None
+returns-in-None c =
+    none_led c.args.held.now c.args.side.now c.args.distance (map path_of c.args.routes.now.items)
+    (ap (publisher c.args.held.now) (sym c.circuit_at.ensures.circuit) ∙ sym (c.publisher.ensures.counts c.circuit_at.ensures.at_most) ∙ c.in-None.is)
