@@ -22,7 +22,7 @@ use Rattle.node_model.specs.Members.{Member}
 use Rattle.node_model.specs.Values.{Value, Object, Route, Entry, Label}
 use Rattle.node_model.specs.Uses.{Use, as_use, use_from, uses}
 use Rattle.node_model.specs.Paths.{Holdings, Path}
-use Rattle.node_model.specs.Reaching.{Side, below, reoriginated_paths, sides_of}
+use Rattle.node_model.specs.Reaching.{below, reoriginated_paths, sides_of}
 use Rattle.node_model.proofs.Images as images
 use Rattle.node_model.proofs.Members.{from_filter_map, in_filter_map, none_some}
 use Rattle.node_model.proofs.Objects.{use_held}

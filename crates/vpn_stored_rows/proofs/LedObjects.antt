@@ -1,5 +1,5 @@
 -- Re-originated routes follow from the instances and uses of the feed alone, besides what peers and agents told.
-use Rattle.std.specs.Prelude.{◌≡◌, ◌≢◌, ℕ, zero, suc, ◌<◌, List, [], ◌∷◌, ◌++◌, map, cond, ◌&&◌, ◌||◌, is_some, Vec}
+use Rattle.std.specs.Prelude.{◌≡◌, ◌≢◌, ℕ, zero, suc, List, [], ◌∷◌, ◌++◌, map, cond, ◌&&◌, ◌||◌, is_some, Vec}
 use Rattle.std.specs.declared.alloc.Global.{Global}
 use Rattle.std.specs.declared.option.Option.{Option}
 use Rattle.std.specs.declared.option.Option.TheVariants.{Some, None}
@@ -21,14 +21,14 @@ use Rattle.node_model.specs.Keys.{Key, Low, Vpn, Row, Publish, Subscribe}
 use Rattle.node_model.specs.Maps.{Map, object}
 use Rattle.node_model.specs.Members.{Member}
 use Rattle.node_model.specs.Values.{Value, Object, Route, Entry, Label}
-use Rattle.node_model.specs.Uses.{Use, hop_imports, imports, is_hop, is_known, is_place, network_imports, place_of, use_from, use_of, uses}
+use Rattle.node_model.specs.Uses.{hop_imports, imports, is_hop, is_known, is_place, network_imports, place_of, use_from, use_of, uses}
 use Rattle.node_model.specs.Paths.{Holdings, Path, Told, has_target, own_path, own_paths, peer_paths, received}
-use Rattle.node_model.specs.Reaching.{Side, below, circuit_at, hop_at, into, is_up, publisher, sides_of, subnets, towards}
+use Rattle.node_model.specs.Reaching.{Side, below, circuit_at, hop_at, into, is_up, publisher, subnets, towards}
 use Rattle.vpn_tables.specs.Changes.{with_low}
 use Rattle.vpn_tables.specs.Leading.{leads, sides_of_held}
 use Rattle.vpn_tables.specs.declared.routes.Route.{Route as Stored}
 use Rattle.control_touched_laws.proofs.Objects.{object_stays, uses_stay}
-use Rattle.vpn_stored_rows.specs.Led.{AreLed, routes_at, stored_at}
+use Rattle.vpn_stored_rows.specs.Led.{AreLed, routes_at}
 
 abbrev path_from : ℕ → Told → InstanceId → Block → LabelNo → Path
 path_from asn a i prefix label = record { prefix = prefix; rd = distinguisher_of a.address i; next_hop = a.address; label = label; targets = target_of asn i ∷ []; session = a.session }

@@ -2,7 +2,7 @@
 use Rattle.std.specs.Prelude.{◌≡◌, ◌≢◌, ℕ, zero, suc, ◌<◌, ◌≤◌, List, [], ◌∷◌, ◌++◌, map, Bool, true, false, cond, ◌==◌, ◌&&◌, ◌||◌, is_some, Some, None}
 use Rattle.std.specs.declared.option.Option.{Option}
 use Rattle.std.specs.List.{filter, flat_map, list_any}
-use Rattle.std.proofs.lemmas.Bool.{true≢false, eq-eqb, or_left, or_right}
+use Rattle.std.proofs.lemmas.Bool.{true≢false, eq-eqb, or_left}
 use Rattle.std.proofs.Common.{refl, sym, ◌∙◌, ap, subst, inl, inr, arith}
 use Rattle.ov_sync.specs.declared.Delta.{Delta}
 use Rattle.ov_sync.specs.Keyed.{key_of}
@@ -17,7 +17,6 @@ use Rattle.ov_types.specs.declared.targets.Target.{Target}
 use Rattle.ov_types.specs.declared.vpn.VpnKey.{VpnKey}
 use Rattle.ov_types.specs.declared.vpn.VpnRoute.{VpnRoute}
 use Rattle.route_targets.specs.Numbers.{hop_instance_of, hop_of, target_of}
-use Rattle.route_targets.specs.declared.numbers.UseHop.{UseHop}
 use Rattle.node_model.specs.Members.{Member}
 use Rattle.node_model.specs.Maps.{Map, object}
 use Rattle.node_model.specs.Uses.{Use, hop, imports, use_from, uses}
@@ -43,7 +42,6 @@ use Rattle.control_touched_laws.proofs.Untouched.{circuit_place, received_same}
 use Rattle.control_touched_laws.proofs.Wanted.{at_row}
 use Rattle.vpn_stored_rows.specs.Led.{is_of, is_row_of, routes_at}
 use Rattle.vpn_stored_rows.specs.Stored.{key_at}
-use Rattle.vpn_stored_rows.specs.declared.rows.RowKey.{RowKey}
 
 module _ (h : Holdings) (peers : List Map) (agents : List Told) (moved : List Path) (place : Option InstanceId) (m : Moves moved place h (told_otherwise h peers agents)) (targets : List Target) (covers : Covers h.asn moved place targets) where
   abbrev later : Holdings

@@ -1,5 +1,5 @@
 -- Whether a subnet is up at a place is asked at the place's instance.
-use Rattle.std.specs.Prelude.{◌≡◌, ℕ, zero, suc, ◌<◌, ◌≤◌, ◌-◌, List, [], ◌∷◌, ◌++◌, Bool, true, false, cond, ◌==◌, ◌&&◌, get_or, length, nat_le, if◌then◌else◌}
+use Rattle.std.specs.Prelude.{◌≡◌, ℕ, zero, suc, ◌<◌, ◌≤◌, ◌-◌, List, [], ◌∷◌, Bool, true, false, cond, ◌==◌, ◌&&◌, get_or, length}
 use Rattle.std.specs.declared.option.Option.{Option}
 use Rattle.std.specs.declared.option.Option.TheVariants.{Some, None}
 use Rattle.std.specs.Option.{option_map}
@@ -8,12 +8,11 @@ use Rattle.std.proofs.lemmas.Bool.{eq-eqb, le-leb, or_left, or_right}
 use Rattle.std.proofs.lemmas.Option.{same_Some}
 use Rattle.std.proofs.Common.{refl, sym, ◌∙◌, ap, subst, arith}
 use Rattle.ov_types.specs.Prefix.{Block}
-use Rattle.ov_types.specs.declared.numbers.InstanceId.{InstanceId}
 use Rattle.ov_types.specs.declared.objects.LowKey.TheVariants as key
 use Rattle.route_targets.specs.Numbers.{hop_instance_of}
 use Rattle.node_model.specs.Maps.{Map, object}
 use Rattle.node_model.specs.Members.{Member}
-use Rattle.node_model.specs.Uses.{Use, is_hop, place_of, use_from, use_of, uses}
+use Rattle.node_model.specs.Uses.{Use, place_of, use_from, use_of, uses}
 use Rattle.node_model.specs.Paths.{Holdings}
 use Rattle.node_model.specs.Reaching.{AreShort, Side, hop_at, is_up, subnets}
 use Rattle.node_model.specs.Tables.{same_prefix}

@@ -5,7 +5,6 @@ use Rattle.std.specs.Result.{IfOk}
 use Rattle.std.specs.declared.alloc.Global.{Global}
 use Rattle.std.specs.declared.result.Result.{Result}
 use Rattle.std.specs.declared.result.Result.TheVariants.{Ok, Err}
-use Rattle.node_model.specs.Paths.{Holdings}
 use Rattle.node_model.specs.Reaching.{below, reoriginated_paths}
 use Rattle.vpn_tables.specs.declared.routes.Route.{Route}
 use Rattle.vpn_stored_rows.specs.Led.{stored_at}
