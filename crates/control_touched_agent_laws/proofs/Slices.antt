@@ -1,12 +1,13 @@
--- Slices, as an object changes that is attached elsewhere.
-use Rattle.std.specs.Prelude.{◌≡◌, ◌≢◌, ℕ, List, ◌++◌, Bool, true, false, cond, map, ◌&&◌, ◌==◌}
+-- Slices, as an object changes.
+use Rattle.std.specs.Prelude.{◌≡◌, ◌≢◌, ℕ, List, [], ◌∷◌, ◌++◌, Bool, true, false, cond, is_some, map, ◌&&◌, ◌||◌, ◌==◌}
 use Rattle.std.specs.declared.option.Option.{Option}
 use Rattle.std.specs.declared.option.Option.TheVariants.{Some, None}
 use Rattle.std.specs.List.{cons_option, filter, filter_map, flat_map, list_any}
 use Rattle.std.specs.Ordering.{eq_by_cmp}
 use Rattle.std.specs.Cmp.{Equal-is}
 use Rattle.std.specs.FinMap.{entries, find, get, get-from_entries}
-use Rattle.std.proofs.Common.{refl, sym, ◌∙◌, ap}
+use Rattle.std.proofs.Common.{refl, sym, ◌∙◌, ap, subst, arith}
+use Rattle.std.proofs.lemmas.Bool.Decides.{nat_tests}
 use Rattle.ov_types.specs.declared.numbers.InstanceId.{InstanceId}
 use Rattle.ov_types.specs.declared.objects.LowKey.{LowKey}
 use Rattle.ov_types.specs.declared.objects.LowKey.TheVariants as key
@@ -21,12 +22,15 @@ use Rattle.node_model.specs.Keys.{Key, Low, Vpn, Row, Publish, Subscribe, key_cm
 use Rattle.node_model.specs.Values.{Value, Object, Route, Entry, Label}
 use Rattle.node_model.specs.Maps.{Map, as_object, low_entry, object, objects}
 use Rattle.node_model.specs.Paths.{Holdings, Told}
-use Rattle.node_model.specs.Wants.{is_at, is_in_slice, networks_at, port_at, rows_of, slice, slice_entry, subscriptions, wanted_by_agent}
+use Rattle.node_model.specs.Wants.{is_in_slice, networks_at, port_at, rows_of, slice, slice_entry, subscriptions, wanted_by_agent}
+use Rattle.node_model.proofs.Members.{none_some}
+use Rattle.node_model.proofs.Objects.{object_of}
 use Rattle.node_model.proofs.Orders.{key_exact, key_total}
+use Rattle.node_model.proofs.Wanted.{slice_is, wanted_object}
 use Rattle.vpn_tables.specs.Changes.{with_low}
 use Rattle.control_touched_laws.proofs.Filtering.{filter_twice, found_among, found_in_each}
-use Rattle.control_touched_laws.proofs.Objects.{tables_stay}
-use Rattle.control_touched_agent_laws.specs.Here.{is_here, put_by}
+use Rattle.control_touched_laws.proofs.Objects.{object_stays, tables_stay}
+use Rattle.control_touched_agent_laws.specs.Here.{IsListOfPort, is_here, port_here, put_by}
 use Rattle.control_touched_agent_laws.proofs.Kept.{Unsaid, filter_alike, filter_said, found_both, kept, map_said, said, said_stays, value_put}
 
 -- ---- a change of an object, among all changes
@@ -41,6 +45,22 @@ key_moved (Drop k) = refl
 value_moved : (d : Delta LowKey LowValue) → value_put (moved_delta Low Object d) ≡ put_value (put_by d)
 value_moved (Put k v) = refl
 value_moved (Drop k) = refl
+
+-- ---- whether one passes is whether any is left of those that do
+abbrev some_of : {X : Type 0} → List X → Bool
+some_of [] = false
+some_of (x ∷ xs) = true
+
+any_some : {X : Type 0} (p : X → Bool) (xs : List X) → list_any p xs ≡ some_of (filter p xs)
+any_some p [] = refl
+any_some p (x ∷ xs) = elim (p x) as (λ b. (b || list_any p xs) ≡ some_of (cond b (x ∷ filter p xs) (filter p xs))) [ true ↦ refl | false ↦ any_some p xs ]
+
+falls : (b : Bool) → (b && false) ≡ false
+falls true = refl
+falls false = refl
+
+unlike : (m n : ℕ) → m ≢ n → (m == n) ≡ false
+unlike m n apart = grind (arith, nat_tests)
 
 module _ (address : Addr) where
   -- ---- networks
@@ -64,41 +84,58 @@ module _ (address : Addr) where
   networks_said : (m : Map) → networks_at m address ≡ said network (entries m)
   networks_said m = map_said (λ x. port_at address x.1) (λ e. low_entry e.0 e.1) (λ e. network e.0 e.1) network_first (entries m)
 
-  -- what is not attached here is no port here
-  no_port : (v : LowValue) → is_at address v ≡ false → port_at address v ≡ None
-  no_port (low.AttachPort port instance host node) e = ap (λ b. cond b (Some instance) None) e
-  no_port (low.AttachCircuit circuit service node) e = refl
-  no_port (low.Acl subnets rules) e = refl
-  no_port (low.Instance imports) e = refl
-  no_port (low.ChainUse left right left_subnets right_subnets hops) e = refl
+  -- ---- whether a port of a network is here
+  abbrev of_network : ℕ → InstanceId → Bool
+  of_network from n = n.0 == from
 
-  unsaid : (k : LowKey) (o : Option Value) → is_here address (as_object o) ≡ false → Unsaid network (Low k) o
-  unsaid k None e = tt
-  unsaid k (Some (Object v)) e = no_port v e
-  unsaid k (Some (Route r)) e = refl
-  unsaid k (Some (Entry r)) e = refl
-  unsaid k (Some (Label l)) e = refl
+  abbrev network_from : ℕ → Key → Value → Option InstanceId
+  network_from from k v = kept (of_network from) (network k v)
+
+  any_said : (from : ℕ) (m : Map) → list_any (of_network from) (networks_at m address) ≡ some_of (said (network_from from) (entries m))
+  any_said from m =
+      any_some (of_network from) (networks_at m address)
+      ∙ ap (λ xs. some_of (filter (of_network from) xs)) (networks_said m)
+      ∙ ap some_of (filter_said (of_network from) (λ e. network e.0 e.1) (entries m))
+
+  -- an object is no port of this network here
+  abbrev IsNoPort : ℕ → Option LowValue → Type 0
+  IsNoPort from o = (n : InstanceId) → port_here address o ≡ Some n → n.0 ≢ from
+
+  not_kept : (from : ℕ) (o : Option InstanceId) → ((n : InstanceId) → o ≡ Some n → n.0 ≢ from) → kept (of_network from) o ≡ None
+  not_kept from None h = refl
+  not_kept from (Some n) h = ap (λ b. cond b (Some n) None) (unlike n.0 from (h n refl))
+
+  unsaid : (from : ℕ) (k : LowKey) (o : Option Value) → IsNoPort from (as_object o) → Unsaid (network_from from) (Low k) o
+  unsaid from k None h = tt
+  unsaid from k (Some (Object v)) h = not_kept from (port_at address v) h
+  unsaid from k (Some (Route r)) h = refl
+  unsaid from k (Some (Entry r)) h = refl
+  unsaid from k (Some (Label l)) h = refl
 
   back : (o : Option LowValue) → as_object (put_value o) ≡ o
   back None = refl
   back (Some v) = refl
 
-  module _ (m : Map) (d : Delta LowKey LowValue) (before : is_here address (object m (key_of d)) ≡ false) (after : is_here address (put_by d) ≡ false) where
+  module _ (m : Map) (d : Delta LowKey LowValue) where
     abbrev next : Map
     next = changed m (moved_delta Low Object d)
 
-    networks_stay : networks_at m address ≡ networks_at next address
-    networks_stay =
-        networks_said m
-        ∙ said_stays network m (moved_delta Low Object d)
-        (rw (key_moved d) (unsaid (key_of d) (get m (Low (key_of d))) before))
-        (rw (key_moved d, value_moved d) (unsaid (key_of d) (put_value (put_by d)) (ap (is_here address) (back (put_by d)) ∙ after)))
-        ∙ sym (networks_said next)
+    any_stays : (from : ℕ) → IsNoPort from (object m (key_of d)) → IsNoPort from (put_by d) → list_any (of_network from) (networks_at m address) ≡ list_any (of_network from) (networks_at next address)
+    any_stays from before after =
+        any_said from m
+        ∙ ap some_of
+        (said_stays (network_from from) m (moved_delta Low Object d)
+        (rw (key_moved d) (unsaid from (key_of d) (get m (Low (key_of d))) before))
+        (rw (key_moved d, value_moved d) (unsaid from (key_of d) (put_value (put_by d)) (subst (IsNoPort from) (sym (back (put_by d))) after))))
+        ∙ sym (any_said from next)
 
     -- ---- the slice at another key
-    module _ (k : Key) (away : k ≢ Low (key_of d)) where
+    module _ (k : Key) (away : k ≢ Low (key_of d)) (apart : (from to : ℕ) → k ≡ Low (key.Acl from to) → IsNoPort from (object m (key_of d)) × IsNoPort from (put_by d)) where
       abbrev belongs : LowKey × LowValue → Bool
       belongs x = is_in_slice m address x.0 x.1
+
+      abbrev belongs_then : LowKey × LowValue → Bool
+      belongs_then x = is_in_slice next address x.0 x.1
 
       abbrev of_key : LowKey × LowValue → Bool
       of_key x = eq_by_cmp key_cmp k (slice_entry x).0
@@ -106,14 +143,18 @@ module _ (address : Addr) where
       abbrev counts : LowKey × LowValue → Bool
       counts x = belongs x && of_key x
 
-      belongs_same : (x : LowKey × LowValue) → is_in_slice next address x.0 x.1 ≡ belongs x
-      belongs_same x = by_kind x.0 x.1
+      counts_same : (x : LowKey × LowValue) → (belongs_then x && of_key x) ≡ counts x
+      counts_same x =
+          elim (of_key x) as (λ b. of_key x ≡ b → (belongs_then x && b) ≡ (belongs x && b)) [
+            | true ↦ λ e. ap (λ b. b && true) (by_kind x.0 x.1 (key_exact k (Low x.0) ((Equal-is (key_cmp k (Low x.0))).0 e)))
+            | false ↦ λ _. falls (belongs_then x) ∙ sym (falls (belongs x))
+          ] refl
         where
-          by_kind : (j : LowKey) (v : LowValue) → is_in_slice next address j v ≡ is_in_slice m address j v
-          by_kind (key.Attach label) v = refl
-          by_kind (key.Acl from to) v = ap (list_any (λ (n : InstanceId). n.0 == from)) (sym networks_stay)
-          by_kind (key.Instance n) v = refl
-          by_kind (key.ChainUse n) v = refl
+          by_kind : (j : LowKey) (v : LowValue) → k ≡ Low j → is_in_slice next address j v ≡ is_in_slice m address j v
+          by_kind (key.Attach label) v is = refl
+          by_kind (key.Acl from to) v is = (let no_port = apart from to is in sym (any_stays from no_port.0 no_port.1))
+          by_kind (key.Instance n) v is = refl
+          by_kind (key.ChainUse n) v is = refl
 
       abbrev counted : Key → Value → Option (LowKey × LowValue)
       counted j v = kept counts (low_entry j v)
@@ -125,10 +166,6 @@ module _ (address : Addr) where
             | false ↦ λ _. refl
           ] refl
 
-      falls : (b : Bool) → (b && false) ≡ false
-      falls true = refl
-      falls false = refl
-
       uncounted : (o : Option Value) → Unsaid counted (Low (key_of d)) o
       uncounted None = tt
       uncounted (Some (Object v)) =
@@ -138,30 +175,113 @@ module _ (address : Addr) where
       uncounted (Some (Entry r)) = refl
       uncounted (Some (Label l)) = refl
 
-      found_by : (n : Map) → find key_cmp k (map slice_entry (filter belongs (objects n))) ≡ find key_cmp k (map slice_entry (said counted (entries n)))
-      found_by n =
-          found_among key_cmp k slice_entry (filter belongs (objects n))
-          ∙ ap (λ xs. find key_cmp k (map slice_entry xs))
-          (filter_twice of_key belongs (objects n) ∙ filter_said counts (λ e. low_entry e.0 e.1) (entries n))
+      abbrev found : List (LowKey × LowValue) → Option Value
+      found xs = find key_cmp k (map slice_entry xs)
 
-      pub slice_stays : find key_cmp k (map slice_entry (slice m address)) ≡ find key_cmp k (map slice_entry (slice next address))
+      found_by : (p : LowKey × LowValue → Bool) (n : Map) → found (filter p (objects n)) ≡ found (filter (λ x. p x && of_key x) (objects n))
+      found_by p n = found_among key_cmp k slice_entry (filter p (objects n)) ∙ ap found (filter_twice of_key p (objects n))
+
+      found_counted : (n : Map) → found (filter counts (objects n)) ≡ found (said counted (entries n))
+      found_counted n = ap found (filter_said counts (λ e. low_entry e.0 e.1) (entries n))
+
+      pub slice_stays : found (slice m address) ≡ found (slice next address)
       slice_stays =
-          found_by m
-          ∙ ap (λ xs. find key_cmp k (map slice_entry xs))
+          found_by belongs m
+          ∙ found_counted m
+          ∙ ap found
           (said_stays counted m (moved_delta Low Object d) (rw (key_moved d) (uncounted (get m (Low (key_of d))))) (rw (key_moved d) (uncounted (value_put (moved_delta Low Object d)))))
-          ∙ sym (found_by next)
-          ∙ ap (λ xs. find key_cmp k (map slice_entry xs)) (sym (filter_alike (λ x. is_in_slice next address x.0 x.1) belongs belongs_same (objects next)))
+          ∙ sym (found_counted next)
+          ∙ ap found (sym (filter_alike (λ x. belongs_then x && of_key x) counts counts_same (objects next)))
+          ∙ sym (found_by belongs_then next)
 
-pub object_elsewhere : (h : Holdings) (d : Delta LowKey LowValue) (a : Told) (k : Key) → ((n : ℕ) → key_of d ≢ key.Instance n) → ((n : ℕ) → key_of d ≢ key.ChainUse n)
-    → is_here a.address (object h.feed (key_of d)) ≡ false → is_here a.address (put_by d) ≡ false → k ≢ Low (key_of d)
+-- ---- what an agent is to be told, at another key
+apart_stays : (h : Holdings) (d : Delta LowKey LowValue) (a : Told) (k : Key) → ((n : ℕ) → key_of d ≢ key.Instance n) → ((n : ℕ) → key_of d ≢ key.ChainUse n) → k ≢ Low (key_of d)
+    → ((from to : ℕ) → k ≡ Low (key.Acl from to) → IsNoPort a.address from (object h.feed (key_of d)) × IsNoPort a.address from (put_by d))
     → get (wanted_by_agent h a) k ≡ get (wanted_by_agent (with_low h d) a) k
-object_elsewhere h d a k instances uses before after away =
+apart_stays h d a k instances uses away apart =
     let g = with_low h d in
     get-from_entries key_total (map slice_entry (slice h.feed a.address) ++ flat_map (rows_of h) (subscriptions a.map)) k
     ∙ found_both key_cmp k (map slice_entry (slice h.feed a.address)) (flat_map (rows_of h) (subscriptions a.map)) (map slice_entry (slice g.feed a.address)) (flat_map (rows_of g) (subscriptions a.map))
-    (slice_stays a.address h.feed d before after k away)
+    (slice_stays a.address h.feed d k away apart)
     (found_in_each key_cmp k (rows_of h) (rows_of g) (subscriptions a.map) (λ j _. ap (find key_cmp k) (rows_same j)))
     ∙ sym (get-from_entries key_total (map slice_entry (slice g.feed a.address) ++ flat_map (rows_of g) (subscriptions a.map)) k)
   where
     rows_same : (j : InstanceId) → rows_of h j ≡ rows_of (with_low h d) j
     rows_same j = ap (λ t. map (λ e. (Row j e.0, Entry (record { next_hop = e.1.next_hop; label = e.1.label }))) (entries t)) (tables_stay h d instances uses j)
+
+-- what is not held is not told
+untold : (h : Holdings) (a : Told) (j : LowKey) → object h.feed j ≡ None → get (wanted_by_agent h a) (Low j) ≡ None
+untold h a j absent =
+    elim (get (wanted_by_agent h a) (Low j)) as (λ o. get (wanted_by_agent h a) (Low j) ≡ o → o ≡ None) [
+      | None ↦ λ _. refl
+      | Some v ↦ λ e.
+          let q = wanted_object h a j v e in
+          absurd (none_some q.0 (sym absent ∙ ap as_object (object_of h.feed j q.0 ((slice_is h.feed a.address j q.0).0 q.1).0)))
+    ] refl
+
+abbrev low_in : Key → LowKey → LowKey
+low_in (Low k) d = k
+low_in _ d = d
+
+abbrev Stays : Holdings → Delta LowKey LowValue → Told → Key → Type 0
+Stays h d a k = get (wanted_by_agent h a) k ≡ get (wanted_by_agent (with_low h d) a) k
+
+pub attachment : (h : Holdings) (d : Delta LowKey LowValue) (a : Told) (k : Key) → ((n : ℕ) → key_of d ≢ key.Instance n) → ((n : ℕ) → key_of d ≢ key.ChainUse n) → k ≢ Low (key_of d)
+    → (IsListOfPort h.feed a.address (object h.feed (key_of d)) k → ⊥) → (IsListOfPort h.feed a.address (put_by d) k → ⊥)
+    → get (wanted_by_agent h a) k ≡ get (wanted_by_agent (with_low h d) a) k
+attachment h d a k instances uses away before after = by_key k refl
+  where
+    no_list : ((from to : ℕ) → k ≡ Low (key.Acl from to) → ⊥) → Stays h d a k
+    no_list none = apart_stays h d a k instances uses away (λ from to is. absurd (none from to is))
+
+    held_list : (from to : ℕ) (v : LowValue) → k ≡ Low (key.Acl from to) → object h.feed (key.Acl from to) ≡ Some v → Stays h d a k
+    held_list from to v is held =
+        apart_stays h d a k instances uses away (λ x y here. (λ n port same. before (listed (object h.feed (key_of d)) x y here n port same), λ n port same. after (listed (put_by d) x y here n port same)))
+      where
+        listed : (o : Option LowValue) (x y : ℕ) → k ≡ Low (key.Acl x y) → (n : InstanceId) → port_here a.address o ≡ Some n → n.0 ≡ x → IsListOfPort h.feed a.address o k
+        listed o x y here n port same =
+            let here_is : k ≡ Low (key.Acl n.0 y) = here ∙ ap (λ z. Low (key.Acl z y)) (sym same) in
+            let same_key : key.Acl from to ≡ key.Acl n.0 y = ap (λ z. low_in z (key.Acl from to)) (sym is ∙ here_is) in
+            record {
+              network = n;
+              to = y;
+              port_is = port;
+              held = subst (λ (j : LowKey). is_some (object h.feed j) ≡ true) same_key (ap is_some held);
+              key_is = here_is;
+            }
+
+    no_object : (j : LowKey) → k ≡ Low j → object h.feed j ≡ None → Stays h d a k
+    no_object j is absent =
+        ap (λ (x : Key). get (wanted_by_agent h a) x) is
+        ∙ untold h a j absent
+        ∙ sym (untold (with_low h d) a j (sym (object_stays h.feed d j (λ e. away (is ∙ ap Low (sym e)))) ∙ absent))
+        ∙ ap (λ (x : Key). get (wanted_by_agent (with_low h d) a) x) (sym is)
+
+    by_object : (from to : ℕ) (o : Option LowValue) → k ≡ Low (key.Acl from to) → object h.feed (key.Acl from to) ≡ o → Stays h d a k
+    by_object from to None is e = no_object (key.Acl from to) is e
+    by_object from to (Some v) is e = held_list from to v is e
+
+    by_key : (j : Key) → k ≡ j → Stays h d a k
+    by_key (Low (key.Acl from to)) is = by_object from to (object h.feed (key.Acl from to)) is refl
+    by_key (Low (key.Attach label)) is = no_list (λ from to e. cc)
+    by_key (Low (key.Instance n)) is = no_list (λ from to e. cc)
+    by_key (Low (key.ChainUse n)) is = no_list (λ from to e. cc)
+    by_key (Vpn v) is = no_list (λ from to e. cc)
+    by_key (Row i q) is = no_list (λ from to e. cc)
+    by_key (Publish i q) is = no_list (λ from to e. cc)
+    by_key (Subscribe i) is = no_list (λ from to e. cc)
+
+-- what is not attached here is no port here
+no_port : (address : Addr) (o : Option LowValue) → is_here address o ≡ false → port_here address o ≡ None
+no_port address None e = refl
+no_port address (Some (low.AttachPort port instance host node)) e = ap (λ b. cond b (Some instance) None) e
+no_port address (Some (low.AttachCircuit circuit service node)) e = refl
+no_port address (Some (low.Acl subnets rules)) e = refl
+no_port address (Some (low.Instance imports)) e = refl
+no_port address (Some (low.ChainUse left right left_subnets right_subnets hops)) e = refl
+
+pub object_elsewhere : (h : Holdings) (d : Delta LowKey LowValue) (a : Told) (k : Key) → ((n : ℕ) → key_of d ≢ key.Instance n) → ((n : ℕ) → key_of d ≢ key.ChainUse n)
+    → is_here a.address (object h.feed (key_of d)) ≡ false → is_here a.address (put_by d) ≡ false → k ≢ Low (key_of d)
+    → get (wanted_by_agent h a) k ≡ get (wanted_by_agent (with_low h d) a) k
+object_elsewhere h d a k instances uses before after away =
+    attachment h d a k instances uses away (λ l. none_some l.network (sym (no_port a.address (object h.feed (key_of d)) before) ∙ l.port_is)) (λ l. none_some l.network (sym (no_port a.address (put_by d) after) ∙ l.port_is))
