@@ -9,6 +9,8 @@ use Rattle.ov_types.specs.declared.keys.UpKey.TheVariants as Up
 use Rattle.ov_types.specs.declared.numbers.InstanceId.{InstanceId}
 use Rattle.ov_types.specs.declared.numbers.Label.{Label as LabelNo}
 use Rattle.ov_types.specs.declared.objects.LowKey.{LowKey}
+use Rattle.ov_types.specs.declared.objects.LowKey.TheVariants as key
+use Rattle.ov_types.specs.declared.objects.LowValue.{LowValue}
 use Rattle.ov_types.specs.declared.prefix.Addr.{Addr}
 use Rattle.ov_types.specs.declared.vpn.VpnKey.{VpnKey}
 use Rattle.ov_types.specs.declared.vpn.VpnRoute.{VpnRoute}
@@ -29,7 +31,7 @@ use Rattle.control_touched_laws.proofs.Covering.{publication_keys, publication_r
 use Rattle.control_touched_laws.proofs.Touching as touching
 use Rattle.control_touched_agent_laws.specs.Here.{wanted_on}
 use Rattle.control_touched_agent_laws.proofs.Agents.{publication_address, publication_rows, route_address, route_rows, subscription_elsewhere}
-use Rattle.control_marked_keys.specs.Marks.{AreRoutesMarked, AreRowsMarked, Covers, IsCleanItem, IsCleanRoute, IsWithin, Marks}
+use Rattle.control_marked_keys.specs.Marks.{AreListsMarked, AreRoutesMarked, AreRowsMarked, Covers, IsCleanItem, IsCleanRoute, IsWithin, Marks}
 
 -- ---- marks stay as others are added
 pub rows_stay : (d d' : Marks) (rows : List (InstanceId × Block)) → AreRowsMarked d rows → IsWithin d d' → AreRowsMarked d' rows
@@ -54,6 +56,16 @@ rows_more d d' rows i e lt at so w now = λ all j q n address clean.
       | inr is ↦ now all address (subst (λ (r : InstanceId × Block). IsCleanItem d' address (Row r.0 r.1)) (sym (at ∙ is)) clean)
     ]
 
+pub lists_more : (d d' : Marks) (from : ℕ) (objects : List (LowKey × LowValue)) (i : ℕ) (e : LowKey × LowValue) → i < length objects → e ≡ get_or objects i e → AreListsMarked d from (take i objects)
+    → IsWithin d d' → (d'.all ≡ false → (to : ℕ) → e.0 ≡ key.Acl from to → (address : Addr) → IsCleanItem d' address (Low e.0) → ⊥) → AreListsMarked d' from (take (suc i) objects)
+lists_more d d' from objects i e lt at so w now = λ all to v n address clean.
+    elim (one_more objects i e (key.Acl from to, v) lt n) as (λ _. ⊥) [
+      | inl m ↦ so (w.all all) to v m address (w.items address (Low (key.Acl from to)) clean)
+      | inr is ↦
+          let named : e.0 ≡ key.Acl from to = ap (λ (x : LowKey × LowValue). x.0) (at ∙ is) in
+          now all to named address (subst (λ (x : LowKey). IsCleanItem d' address (Low x)) (sym named) clean)
+    ]
+
 pub routes_more : (d d' : Marks) (keys : List VpnKey) (i : ℕ) (e : VpnKey) → i < length keys → e ≡ get_or keys i e → AreRoutesMarked d (take i keys) → IsWithin d d'
     → (d'.all ≡ false → IsCleanRoute d' (Vpn e) → ⊥) → AreRoutesMarked d' (take (suc i) keys)
 routes_more d d' keys i e lt at so w now = λ all k n clean.
@@ -68,6 +80,9 @@ taken_all (x ∷ xs) = ap (λ ys. x ∷ ys) (taken_all xs)
 
 pub all_rows : (d : Marks) (rows : List (InstanceId × Block)) (i : ℕ) → i ≡ length rows → AreRowsMarked d (take i rows) → AreRowsMarked d rows
 all_rows d rows i end m = subst (AreRowsMarked d) (ap (λ n. take n rows) end ∙ taken_all rows) m
+
+pub all_lists : (d : Marks) (from : ℕ) (objects : List (LowKey × LowValue)) (i : ℕ) → i ≡ length objects → AreListsMarked d from (take i objects) → AreListsMarked d from objects
+all_lists d from objects i end m = subst (AreListsMarked d from) (ap (λ n. take n objects) end ∙ taken_all objects) m
 
 pub all_routes : (d : Marks) (keys : List VpnKey) (i : ℕ) → i ≡ length keys → AreRoutesMarked d (take i keys) → AreRoutesMarked d keys
 all_routes d keys i end m = subst (AreRoutesMarked d) (ap (λ n. take n keys) end ∙ taken_all keys) m

@@ -1,5 +1,5 @@
 -- What may have changed of what sessions are to be told, since they were told last.
-use Rattle.std.specs.Prelude.{◌≡◌, ℕ, List, map, Bool, true, false, refl}
+use Rattle.std.specs.Prelude.{◌≡◌, ℕ, List, map, Bool, false, refl}
 use Rattle.std.specs.declared.option.Option.{Option}
 use Rattle.std.specs.declared.option.Option.TheVariants.{Some, None}
 use Rattle.std.specs.Coded.{Coded, code_by, coded×, coded_bool, coded_list}
@@ -10,13 +10,15 @@ use Rattle.ov_types.specs.contracts.vpn.VpnKey as vpn_keys
 use Rattle.ov_types.specs.declared.keys.DownKey.{DownKey}
 use Rattle.ov_types.specs.Prefix.{Block}
 use Rattle.ov_types.specs.declared.numbers.InstanceId.{InstanceId}
+use Rattle.ov_types.specs.declared.objects.LowKey.{LowKey}
+use Rattle.ov_types.specs.declared.objects.LowKey.TheVariants as key
 use Rattle.ov_types.specs.declared.objects.LowValue.{LowValue}
 use Rattle.ov_types.specs.declared.prefix.Addr.{Addr}
 use Rattle.ov_types.specs.declared.vpn.VpnKey.{VpnKey}
 use Rattle.node_model.specs.Members.{Member}
-use Rattle.node_model.specs.Keys.{Key, Row, Vpn, of_down}
+use Rattle.node_model.specs.Keys.{Key, Low, Row, Vpn, of_down}
 use Rattle.node_model.specs.Paths.{Holdings}
-use Rattle.node_model.specs.Wants.{is_at, wanted_by_peers}
+use Rattle.node_model.specs.Wants.{port_at, wanted_by_peers}
 use Rattle.vpn_tables.specs.Listing.{told_in}
 use Rattle.control_touched_agent_laws.specs.Here.{wanted_on}
 
@@ -35,10 +37,11 @@ coded_marks =
     (λ d. (d.all, (d.addresses, (d.routes, d.items))))
     (λ c. record { all = c.0; addresses = c.1.0; routes = c.1.1.0; items = c.1.1.1 }) (λ _. refl)
 
--- where an object is attached: nowhere else, and nowhere where that is none
-abbrev pub IsPlace : LowValue → Option Addr → Type 0
-IsPlace object None = (address : Addr) → is_at address object ≡ false
-IsPlace object (Some place) = (address : Addr) → is_at address object ≡ true → address ≡ place
+-- where an object is a port, and of which network: nowhere else and of no other, and nowhere where that is none
+abbrev pub IsPort : LowValue → Option (Addr × InstanceId) → Type 0
+IsPort object None = (address : Addr) → port_at address object ≡ None
+IsPort object (Some port) =
+    (address : Addr) (n : InstanceId) → port_at address object ≡ Some n → (port.0 ≡ address) × (port.1 ≡ n)
 
 -- a key is not marked, of peers, and of the agents at an address
 abbrev pub IsCleanRoute : Marks → Key → Type 0
@@ -71,3 +74,9 @@ AreRowsMarked d rows =
 
 abbrev pub AreRoutesMarked : Marks → List VpnKey → Type 0
 AreRoutesMarked d keys = d.all ≡ false → (k : VpnKey) → Member k keys → IsCleanRoute d (Vpn k) → ⊥
+
+-- the access lists from a network among these objects are marked
+abbrev pub AreListsMarked : Marks → ℕ → List (LowKey × LowValue) → Type 0
+AreListsMarked d from objects =
+    d.all ≡ false → (to : ℕ) (v : LowValue) → Member (key.Acl from to, v) objects → (address : Addr)
+    → IsCleanItem d address (Low (key.Acl from to)) → ⊥

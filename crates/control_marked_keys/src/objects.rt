@@ -1,19 +1,21 @@
 //! Changes that the feed told.
-ghost use Rattle.std.specs.Prelude.{◌≡◌, ◌≢◌, ℕ, false, OnOk, OnErr};
+ghost use Rattle.std.specs.Prelude.{◌≡◌, ◌≢◌, ℕ, false, Some, OnOk, OnErr};
 ghost use Rattle.ov_sync.specs.Keyed.{PutOf};
+ghost use Rattle.ov_types.specs.declared.objects.LowKey.{LowKey as NameOf};
 ghost use Rattle.ov_types.specs.declared.objects.LowKey.TheVariants as key;
 ghost use Rattle.ov_types.specs.declared.prefix.Addr.{Addr as At};
 ghost use Rattle.node_model.specs.Keys.{Key, Low};
 ghost use Rattle.node_model.specs.Maps.{object};
-ghost use Rattle.node_model.specs.Wants.{is_at};
+ghost use Rattle.node_model.specs.Wants.{slice};
 ghost use Rattle.vpn_tables.specs.Changes.{with_low};
 ghost use Rattle.vpn_tables.specs.Ranges.{Fits};
-ghost use Rattle.control_touched_agent_laws.specs.Here.{is_here};
-ghost use Rattle.control_marked_keys.specs.Marks.{Covered, IsCleanItem, IsPlace, IsWithin};
+ghost use Rattle.control_touched_agent_laws.specs.Here.{IsListOfPort};
+ghost use Rattle.control_marked_keys.specs.Marks.{AreListsMarked, Covered, IsCleanItem, IsPort, IsWithin};
 
 use crate::dirty::Dirty;
+use crate::told::key_of;
 use ov_sync::Delta;
-use ov_types::{Addr, DownKey, LowKey, LowValue, NoMemory};
+use ov_types::{Addr, DownKey, InstanceId, LowKey, LowValue, NoMemory};
 use vpn_tables::VpnTables;
 use vpn_tables_by_prefix::IndexedTables;
 
@@ -30,54 +32,73 @@ fn mark_name(dirty: &mut Dirty, name: LowKey)
     }
 }
 
-/// Where an object is attached.
-fn place_of(object: &LowValue) -> Option<Addr>
-    ensures { IsPlace object.now result }
+/// Where an object is a port, and of which network.
+fn port_of(object: &LowValue) -> Option<(Addr, InstanceId)>
+    ensures { IsPort object.now result }
 {
     match object {
-        LowValue::AttachPort { node, .. } => Some(*node),
-        LowValue::AttachCircuit { node, .. } => Some(*node),
+        LowValue::AttachPort { instance, node, .. } => Some((*node, *instance)),
         _ => None,
     }
 }
 
-/// Marks everything of the agents where an object is attached.
-fn mark_place(dirty: &mut Dirty, object: &LowValue)
+/// Marks a name that is that of an access list from a network.
+fn mark_list(dirty: &mut Dirty, from: u16, name: LowKey)
     ensures within { IsWithin dirty.old dirty.new }
-    ensures marked { dirty.new.all ≡ false → (address : At) (k : Key) → IsCleanItem dirty.new address k
-        → is_at address object.now ≡ false }
+    ensures marked { dirty.new.all ≡ false → (to : ℕ) → name ≡ key.Acl from to → (address : At)
+        → IsCleanItem dirty.new address (Low name) → ⊥ }
 {
-    if let Some(address) = place_of(object) {
-        dirty.add_address(address);
+    match name {
+        LowKey::Acl { from: number, .. } if number == from => dirty.add_item(DownKey::Slice(name)),
+        _ => {}
     }
 }
 
-/// Marks everything of the agents where the object of a name is attached.
+/// Marks the access lists from a network among some objects.
+fn mark_lists(dirty: &mut Dirty, from: u16, objects: &[(LowKey, LowValue)])
+    ensures within { IsWithin dirty.old dirty.new }
+    ensures marked { AreListsMarked dirty.new from objects.now }
+{
+    for (name, _object) in objects {
+        mark_list(dirty, from, *name);
+    }
+}
+
+/// Marks the held access lists from a network that has a port at an address.
+fn mark_network(dirty: &mut Dirty, tables: &VpnTables, address: Addr, network: InstanceId)
+    ensures within { IsWithin dirty.old dirty.new }
+    ensures marked { AreListsMarked dirty.new network.0 (slice tables.now.feed address) }
+{
+    match tables.slice(address) {
+        Ok(objects) => mark_lists(dirty, network.0, &objects),
+        Err(_) => dirty.set_all(),
+    }
+}
+
+/// Marks the held access lists of the network of an object, where that is a port.
+fn mark_object(dirty: &mut Dirty, tables: &VpnTables, value: &LowValue)
+    ensures within { IsWithin dirty.old dirty.new }
+    ensures marked { dirty.new.all ≡ false → (name : NameOf) → object tables.now.feed name ≡ Some value.now
+        → (address : At) (k : Key) → IsCleanItem dirty.new address k
+        → IsListOfPort tables.now.feed address (Some value.now) k → ⊥ }
+{
+    if let Some((address, network)) = port_of(value) {
+        mark_network(dirty, tables, address, network);
+    }
+}
+
+/// Marks the held access lists of the network of the port that is held at a name. Where all is marked, there is nothing
+/// to look at.
 fn mark_held(dirty: &mut Dirty, tables: &VpnTables, name: &LowKey)
     ensures within { IsWithin dirty.old dirty.new }
     ensures marked { dirty.new.all ≡ false → (address : At) (k : Key) → IsCleanItem dirty.new address k
-        → is_here address (object tables.now.feed name.now) ≡ false }
+        → IsListOfPort tables.now.feed address (object tables.now.feed name.now) k → ⊥ }
 {
-    if let Some(object) = tables.low(name) {
-        mark_place(dirty, object);
+    if dirty.is_all() {
+        return;
     }
-}
-
-/// Marks what a change of an object may change.
-fn mark_object(dirty: &mut Dirty, tables: &VpnTables, delta: &Delta<LowKey, LowValue>)
-    ensures within { IsWithin dirty.old dirty.new }
-    ensures covers { Covered dirty.new tables.now (with_low tables.now delta.now) }
-{
-    match delta {
-        Delta::Put(key, value) => {
-            mark_name(dirty, *key);
-            mark_held(dirty, tables, key);
-            mark_place(dirty, value);
-        }
-        Delta::Drop(key) => {
-            mark_name(dirty, *key);
-            mark_held(dirty, tables, key);
-        }
+    if let Some(object) = tables.low(name) {
+        mark_object(dirty, tables, object);
     }
 }
 
@@ -94,7 +115,12 @@ impl Dirty {
         ensures within { IsWithin self.old self.new }
         ensures covers { Covered self.new tables.old tables.new }
     {
-        mark_object(self, tables.held(), &delta);
-        tables.set_low(delta)
+        let before = tables.held();
+        let name = key_of(&delta);
+        mark_name(self, name);
+        mark_held(self, before, &name);
+        tables.set_low(delta)?;
+        mark_held(self, tables.held(), &name);
+        Ok(())
     }
 }

@@ -22,7 +22,7 @@ use vpn_tables::VpnTables;
 use vpn_tables_by_prefix::IndexedTables;
 
 /// The key of a change.
-fn key_of<K: Copy, V>(delta: &Delta<K, V>) -> K
+pub(crate) fn key_of<K: Copy, V>(delta: &Delta<K, V>) -> K
     ensures { result ≡ key_of delta.now }
 {
     match delta {

@@ -1,7 +1,10 @@
-use Rattle.control_marked_keys.proofs.Marking.{held_at}
-use Rattle.node_model.specs.Maps.{object}
+use Rattle.std.proofs.Common.{sym, subst}
+use Rattle.std.specs.declared.option.Option.{Option}
+use Rattle.ov_types.specs.declared.objects.LowValue.{LowValue}
+use Rattle.control_touched_agent_laws.specs.Here.{IsListOfPort}
 use Rattle.control_marked_keys.proofs.objects.mark_held.Goals as goal
 
 pub returns-in-Some-clause-marked : goal.returns-in-Some-clause-marked
-returns-in-Some-clause-marked c = λ all address k clean.
-    held_at (object c.args.tables.now.feed c.args.name.now) c.in-Some.object.now address c.in-Some.ensures.object (c.mark_place.ensures.marked all address k clean)
+returns-in-Some-clause-marked c = λ all address k clean l.
+    c.mark_object.ensures.marked all c.args.name.now (sym c.in-Some.ensures.object) address k clean
+    (subst (λ (o : Option LowValue). IsListOfPort c.args.tables.now.feed address o k) (sym c.in-Some.ensures.object) l)

@@ -1,0 +1,9 @@
+use Rattle.std.proofs.Common.{subst}
+use Rattle.ov_types.specs.declared.objects.LowKey.{LowKey}
+use Rattle.node_model.specs.Keys.{Low}
+use Rattle.control_marked_keys.specs.Marks.{IsCleanItem}
+use Rattle.control_marked_keys.proofs.objects.mark_list.Goals as goal
+
+pub returns-in-Acl-clause-marked : goal.returns-in-Acl-clause-marked
+returns-in-Acl-clause-marked c = λ all to is address clean.
+    c.add_item.ensures.marked all address (subst (λ (x : LowKey). IsCleanItem c.add_item.new.self address (Low x)) c.in-Acl.is clean)
