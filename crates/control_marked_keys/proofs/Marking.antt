@@ -1,15 +1,13 @@
 -- Marks of a change cover what it changes.
-use Rattle.std.specs.Prelude.{◌≡◌, ◌≢◌, ℕ, cond, is_some, true, false}
+use Rattle.std.specs.Prelude.{◌≡◌, ◌≢◌, ◌==◌, ℕ, Bool, cond, is_some, true, false}
 use Rattle.std.specs.declared.option.Option.{Option}
 use Rattle.std.specs.declared.option.Option.TheVariants.{Some, None}
-use Rattle.std.specs.Ordering.{is_eq}
-use Rattle.std.specs.Cmp.{tied_itself}
-use Rattle.std.specs.FinMap.{get, get-insert, get-remove}
-use Rattle.std.proofs.Common.{refl, sym, ◌∙◌, ap, subst}
+use Rattle.std.specs.FinMap.{get}
+use Rattle.std.proofs.Common.{refl, sym, ◌∙◌, ap, subst, arith}
+use Rattle.std.proofs.lemmas.Bool.Decides.{nat_tests}
 use Rattle.std.proofs.lemmas.Bool.{true≢false}
 use Rattle.std.proofs.lemmas.Option.{same_Some}
 use Rattle.ov_sync.specs.declared.Delta.{Delta}
-use Rattle.ov_sync.specs.declared.Delta.TheVariants.{Put, Drop}
 use Rattle.ov_sync.specs.Embed.{moved_delta}
 use Rattle.ov_sync.specs.Keyed.{changed, key_of}
 use Rattle.ov_types.specs.declared.numbers.InstanceId.{InstanceId}
@@ -18,56 +16,48 @@ use Rattle.ov_types.specs.declared.objects.LowKey.TheVariants as key
 use Rattle.ov_types.specs.declared.objects.LowValue.{LowValue}
 use Rattle.ov_types.specs.declared.prefix.Addr.{Addr}
 use Rattle.node_model.specs.Keys.{Key, Low}
-use Rattle.node_model.specs.Maps.{Map, as_object, object, objects}
-use Rattle.node_model.specs.Members.{Member}
+use Rattle.node_model.specs.Maps.{Map, object}
 use Rattle.node_model.specs.Paths.{Holdings}
-use Rattle.node_model.specs.Values.{Value, Object, Route, Entry, Label}
+use Rattle.node_model.specs.Values.{Object}
 use Rattle.node_model.specs.Wants.{slice}
 use Rattle.node_model.proofs.Members.{none_some}
-use Rattle.node_model.proofs.Objects.{in_objects}
-use Rattle.node_model.proofs.Orders.{key_total}
 use Rattle.node_model.proofs.Wanted.{slice_is}
 use Rattle.vpn_tables.specs.Changes.{with_low}
 use Rattle.vpn_tables.specs.Listing.{told_in}
 use Rattle.control_touched_laws.proofs.Objects.{object_stays, peers_stay}
 use Rattle.control_touched_agent_laws.specs.Here.{IsListOfPort, port_here, put_by}
+use Rattle.control_touched_agent_laws.proofs.Ports.{held_object, object_put}
 use Rattle.control_touched_agent_laws.proofs.Slices.{attachment}
-use Rattle.control_marked_keys.specs.Marks.{AreListsMarked, Covers, IsCleanItem, IsPort, Marks}
+use Rattle.control_marked_keys.specs.Marks.{AreListsMarked, Covers, IsCleanItem, IsPort, Marks, seen_at}
 
 pub covers_itself : (d : Marks) (h : Holdings) → Covers d h h
 covers_itself d h = record { addresses = λ a. refl; peers = λ k c. refl; agents = λ a k c. refl }
 
 -- ---- what is held
-object_is : (o : Option Value) (v : LowValue) → as_object o ≡ Some v → o ≡ Some (Object v)
-object_is None v e = absurd (none_some v e)
-object_is (Some (Object w)) v e = ap (λ (w : LowValue). Some (Object w)) (same_Some w v e)
-object_is (Some (Route r)) v e = absurd (none_some v e)
-object_is (Some (Entry r)) v e = absurd (none_some v e)
-object_is (Some (Label l)) v e = absurd (none_some v e)
-
-held_object : (feed : Map) (k : LowKey) (v : LowValue) → object feed k ≡ Some v → Member (k, v) (objects feed)
-held_object feed k v e = in_objects feed k v (object_is (get feed (Low k)) v e)
-
 some_value : (o : Option LowValue) → is_some o ≡ true → (v : LowValue) × (o ≡ Some v)
 some_value (Some v) e = (v, refl)
 some_value None e = absurd (true≢false (sym e))
 
--- a change puts what it puts
-object_put : (feed : Map) (d : Delta LowKey LowValue) → object (changed feed (moved_delta Low Object d)) (key_of d) ≡ put_by d
-object_put feed (Put k v) = ap as_object (get-insert key_total feed (Low k) (Object v) (Low k) ∙ ap (λ b. cond b (Some (Object v)) (get feed (Low k))) (ap is_eq (tied_itself key_total (Low k))))
-object_put feed (Drop k) = ap as_object (get-remove key_total feed (Low k) (Low k) ∙ ap (λ b. cond b None (get feed (Low k))) (ap is_eq (tied_itself key_total (Low k))))
+-- what is excluded where something stays, and where it does not
+pub unless : (stays : Bool) (A : Type 0) → (stays ≡ true → A) → (A → ⊥) → (stays ≡ false → ⊥) → ⊥
+unless true A same differ marked = differ (same refl)
+unless false A same differ marked = marked refl
 
 -- ---- access lists of the networks of ports
-pub no_lists : (feed : Map) (v : LowValue) → IsPort v None → (address : Addr) (k : Key) → IsListOfPort feed address (Some v) k → ⊥
-no_lists feed v port address k l = none_some l.network (sym (port address) ∙ l.port_is)
+seen : (port : Addr × InstanceId) (address : Addr) (n : InstanceId) → seen_at address (Some port) ≡ Some n → (port.0 ≡ address) × (port.1 ≡ n)
+seen port address n e =
+    elim (port.0.0 == address.0) as (λ t. (port.0.0 == address.0) ≡ t → cond t (Some port.1) None ≡ Some n → (port.0 ≡ address) × (port.1 ≡ n)) [
+      | true ↦ λ same e. (ap (λ (z : ℕ). record { 0 = z }) (same_number same), same_Some port.1 n e)
+      | false ↦ λ _ e. absurd (none_some n e)
+    ] refl e
+  where
+    same_number : (port.0.0 == address.0) ≡ true → port.0.0 ≡ address.0
+    same_number same = grind (arith, nat_tests)
 
-pub none_held : (feed : Map) (o : Option LowValue) → None ≡ o → (address : Addr) (k : Key) → IsListOfPort feed address o k → ⊥
-none_held feed o is address k l = none_some l.network (subst (λ (o : Option LowValue). port_here address o ≡ Some l.network) (sym is) l.port_is)
-
-pub port_lists : (m : Marks) (feed : Map) (v : LowValue) (port : Addr × InstanceId) → IsPort v (Some port) → AreListsMarked m port.1.0 (slice feed port.0) → m.all ≡ false
+pub port_lists : (m : Marks) (feed : Map) (v : LowValue) (port : Addr × InstanceId) → IsPort (Some v) (Some port) → AreListsMarked m port.1.0 (slice feed port.0) → m.all ≡ false
     → (name : LowKey) → object feed name ≡ Some v → (address : Addr) (k : Key) → IsCleanItem m address k → IsListOfPort feed address (Some v) k → ⊥
 port_lists m feed v port is marked all name held address k clean l =
-    let q = is address l.network l.port_is in
+    let q = seen port address l.network (sym (is address) ∙ l.port_is) in
     let so = subst (λ (n : InstanceId). AreListsMarked m n.0 (slice feed address)) q.1 (subst (λ (a : Addr). AreListsMarked m port.1.0 (slice feed a)) q.0 marked) in
     let w = some_value (object feed (key.Acl l.network.0 l.to)) l.held in
     so all l.to w.0 ((slice_is feed address (key.Acl l.network.0 l.to) w.0).1 (held_object feed (key.Acl l.network.0 l.to) w.0 w.1, record { name = name; port = v; held = held_object feed name v held; port_is = l.port_is }))
@@ -85,12 +75,12 @@ still feed d address k away l = record {
 }
 
 pub covers_object : (m : Marks) (h : Holdings) (d : Delta LowKey LowValue) → ((n : ℕ) → key_of d ≢ key.Instance n) → ((n : ℕ) → key_of d ≢ key.ChainUse n)
-    → ((address : Addr) → IsCleanItem m address (Low (key_of d)) → ⊥) → ((address : Addr) (k : Key) → IsCleanItem m address k → IsListOfPort h.feed address (object h.feed (key_of d)) k → ⊥)
-    → ((address : Addr) (k : Key) → IsCleanItem m address k → IsListOfPort (with_low h d).feed address (object (with_low h d).feed (key_of d)) k → ⊥) → Covers m h (with_low h d)
+    → ((address : Addr) → IsCleanItem m address (Low (key_of d)) → ⊥) → ((address : Addr) (k : Key) → IsCleanItem m address k → port_here address (object h.feed (key_of d)) ≢ port_here address (put_by d) → IsListOfPort h.feed address (object h.feed (key_of d)) k → ⊥)
+    → ((address : Addr) (k : Key) → IsCleanItem m address k → port_here address (object h.feed (key_of d)) ≢ port_here address (put_by d) → IsListOfPort (with_low h d).feed address (object (with_low h d).feed (key_of d)) k → ⊥) → Covers m h (with_low h d)
 covers_object m h d instances uses marked before after = record {
   addresses = λ agent. refl;
   peers = λ k clean. ap (λ w. get w k) (peers_stay h d instances uses);
   agents = λ agent k clean. (let address = (told_in h.agents agent).address in
       let away : k ≢ Low (key_of d) = λ e. marked address (subst (IsCleanItem m address) e clean) in
-      attachment h d (told_in h.agents agent) k instances uses away (before address k clean) (λ l. after address k clean (still h.feed d address k away l)));
+      attachment h d (told_in h.agents agent) k instances uses away (before address k clean) (λ differ l. after address k clean differ (still h.feed d address k away l)));
 }

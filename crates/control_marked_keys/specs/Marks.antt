@@ -1,5 +1,5 @@
 -- What may have changed of what sessions are to be told, since they were told last.
-use Rattle.std.specs.Prelude.{◌≡◌, ℕ, List, map, Bool, false, refl}
+use Rattle.std.specs.Prelude.{◌≡◌, ◌==◌, ℕ, List, map, Bool, if◌then◌else◌, false, refl}
 use Rattle.std.specs.declared.option.Option.{Option}
 use Rattle.std.specs.declared.option.Option.TheVariants.{Some, None}
 use Rattle.std.specs.Coded.{Coded, code_by, coded×, coded_bool, coded_list}
@@ -18,9 +18,9 @@ use Rattle.ov_types.specs.declared.vpn.VpnKey.{VpnKey}
 use Rattle.node_model.specs.Members.{Member}
 use Rattle.node_model.specs.Keys.{Key, Low, Row, Vpn, of_down}
 use Rattle.node_model.specs.Paths.{Holdings}
-use Rattle.node_model.specs.Wants.{port_at, wanted_by_peers}
+use Rattle.node_model.specs.Wants.{wanted_by_peers}
 use Rattle.vpn_tables.specs.Listing.{told_in}
-use Rattle.control_touched_agent_laws.specs.Here.{wanted_on}
+use Rattle.control_touched_agent_laws.specs.Here.{port_here, wanted_on}
 
 -- everything of every session, or everything of the agents at some addresses, some keys of peers, and some of agents
 pub record Marks : Type 0 where
@@ -37,11 +37,14 @@ coded_marks =
     (λ d. (d.all, (d.addresses, (d.routes, d.items))))
     (λ c. record { all = c.0; addresses = c.1.0; routes = c.1.1.0; items = c.1.1.1 }) (λ _. refl)
 
--- where an object is a port, and of which network: nowhere else and of no other, and nowhere where that is none
-abbrev pub IsPort : LowValue → Option (Addr × InstanceId) → Type 0
-IsPort object None = (address : Addr) → port_at address object ≡ None
-IsPort object (Some port) =
-    (address : Addr) (n : InstanceId) → port_at address object ≡ Some n → (port.0 ≡ address) × (port.1 ≡ n)
+-- the network of a port, where it is at this address
+abbrev pub seen_at : Addr → Option (Addr × InstanceId) → Option InstanceId
+seen_at address None = None
+seen_at address (Some port) = if port.0.0 == address.0 then Some port.1 else None
+
+-- where an object that may not be there is a port, and of which network
+abbrev pub IsPort : Option LowValue → Option (Addr × InstanceId) → Type 0
+IsPort object port = (address : Addr) → port_here address object ≡ seen_at address port
 
 -- a key is not marked, of peers, and of the agents at an address
 abbrev pub IsCleanRoute : Marks → Key → Type 0

@@ -1,6 +1,6 @@
 //! Changes that the feed told.
-ghost use Rattle.std.specs.Prelude.{◌≡◌, ◌≢◌, ℕ, false, Some, OnOk, OnErr};
-ghost use Rattle.ov_sync.specs.Keyed.{PutOf};
+ghost use Rattle.std.specs.Prelude.{◌≡◌, ◌≢◌, ℕ, true, false, Some, OnOk, OnErr};
+ghost use Rattle.ov_sync.specs.Keyed.{PutOf, key_of};
 ghost use Rattle.ov_types.specs.declared.objects.LowKey.{LowKey as NameOf};
 ghost use Rattle.ov_types.specs.declared.objects.LowKey.TheVariants as key;
 ghost use Rattle.ov_types.specs.declared.prefix.Addr.{Addr as At};
@@ -9,7 +9,7 @@ ghost use Rattle.node_model.specs.Maps.{object};
 ghost use Rattle.node_model.specs.Wants.{slice};
 ghost use Rattle.vpn_tables.specs.Changes.{with_low};
 ghost use Rattle.vpn_tables.specs.Ranges.{Fits};
-ghost use Rattle.control_touched_agent_laws.specs.Here.{IsListOfPort};
+ghost use Rattle.control_touched_agent_laws.specs.Here.{IsListOfPort, port_here, put_by};
 ghost use Rattle.control_marked_keys.specs.Marks.{AreListsMarked, Covered, IsCleanItem, IsPort, IsWithin};
 
 use crate::dirty::Dirty;
@@ -34,12 +34,53 @@ fn mark_name(dirty: &mut Dirty, name: LowKey)
 
 /// Where an object is a port, and of which network.
 fn port_of(object: &LowValue) -> Option<(Addr, InstanceId)>
-    ensures { IsPort object.now result }
+    ensures { IsPort (Some object.now) result }
 {
     match object {
         LowValue::AttachPort { instance, node, .. } => Some((*node, *instance)),
         _ => None,
     }
+}
+
+/// Where the object that is held at a name is a port, and of which network.
+fn held_port(tables: &VpnTables, name: &LowKey) -> Option<(Addr, InstanceId)>
+    ensures { IsPort (object tables.now.feed name.now) result }
+{
+    match tables.low(name) {
+        Some(object) => port_of(object),
+        None => None,
+    }
+}
+
+/// Where the object that a change puts is a port, and of which network.
+fn put_port(delta: &Delta<LowKey, LowValue>) -> Option<(Addr, InstanceId)>
+    ensures { IsPort (put_by delta.now) result }
+{
+    match delta {
+        Delta::Put(_, value) => port_of(value),
+        Delta::Drop(_) => None,
+    }
+}
+
+/// Whether a port is the other, or both are none.
+fn is_same(port: Option<(Addr, InstanceId)>, other: Option<(Addr, InstanceId)>) -> bool
+    ensures { result ≡ true → port ≡ other }
+{
+    match (port, other) {
+        (Some((address, network)), Some((place, instance))) => {
+            address.0 == place.0 && network.0 == instance.0
+        }
+        (None, None) => true,
+        _ => false,
+    }
+}
+
+/// Whether an object stays a port of its network where it is, or none.
+fn port_stays(tables: &VpnTables, delta: &Delta<LowKey, LowValue>) -> bool
+    ensures { result ≡ true → (address : At) → port_here address (object tables.now.feed (key_of delta.now))
+        ≡ port_here address (put_by delta.now) }
+{
+    is_same(held_port(tables, &key_of(delta)), put_port(delta))
 }
 
 /// Marks a name that is that of an access list from a network.
@@ -87,14 +128,14 @@ fn mark_object(dirty: &mut Dirty, tables: &VpnTables, value: &LowValue)
     }
 }
 
-/// Marks the held access lists of the network of the port that is held at a name. Where all is marked, there is nothing
-/// to look at.
-fn mark_held(dirty: &mut Dirty, tables: &VpnTables, name: &LowKey)
+/// Marks the held access lists of the network of the port that is held at a name. Where all is marked, or the port
+/// stays, there is nothing to look at.
+fn mark_held(dirty: &mut Dirty, tables: &VpnTables, name: &LowKey, stays: bool)
     ensures within { IsWithin dirty.old dirty.new }
-    ensures marked { dirty.new.all ≡ false → (address : At) (k : Key) → IsCleanItem dirty.new address k
+    ensures marked { stays ≡ false → dirty.new.all ≡ false → (address : At) (k : Key) → IsCleanItem dirty.new address k
         → IsListOfPort tables.now.feed address (object tables.now.feed name.now) k → ⊥ }
 {
-    if dirty.is_all() {
+    if stays || dirty.is_all() {
         return;
     }
     if let Some(object) = tables.low(name) {
@@ -117,10 +158,11 @@ impl Dirty {
     {
         let before = tables.held();
         let name = key_of(&delta);
+        let stays = port_stays(before, &delta);
         mark_name(self, name);
-        mark_held(self, before, &name);
+        mark_held(self, before, &name, stays);
         tables.set_low(delta)?;
-        mark_held(self, tables.held(), &name);
+        mark_held(self, tables.held(), &name, stays);
         Ok(())
     }
 }

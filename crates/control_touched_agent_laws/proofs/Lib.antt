@@ -1,4 +1,5 @@
 -- Lemmas, in the order in which they stand on each other.
 pub mod Kept
+pub mod Ports
 pub mod Slices
 pub mod Agents

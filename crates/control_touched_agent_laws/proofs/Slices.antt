@@ -1,12 +1,12 @@
 -- Slices, as an object changes.
-use Rattle.std.specs.Prelude.{◌≡◌, ◌≢◌, ℕ, List, [], ◌∷◌, ◌++◌, Bool, true, false, cond, is_some, map, ◌&&◌, ◌||◌, ◌==◌}
+use Rattle.std.specs.Prelude.{◌≡◌, ◌≢◌, ◌⊎◌, ℕ, List, [], ◌∷◌, ◌++◌, Bool, true, false, cond, is_some, map, ◌&&◌, ◌||◌, ◌==◌}
 use Rattle.std.specs.declared.option.Option.{Option}
 use Rattle.std.specs.declared.option.Option.TheVariants.{Some, None}
 use Rattle.std.specs.List.{cons_option, filter, filter_map, flat_map, list_any}
 use Rattle.std.specs.Ordering.{eq_by_cmp}
 use Rattle.std.specs.Cmp.{Equal-is}
 use Rattle.std.specs.FinMap.{entries, find, get, get-from_entries}
-use Rattle.std.proofs.Common.{refl, sym, ◌∙◌, ap, subst, arith}
+use Rattle.std.proofs.Common.{refl, sym, ◌∙◌, ap, subst, inl, inr, arith}
 use Rattle.std.proofs.lemmas.Bool.Decides.{nat_tests}
 use Rattle.ov_types.specs.declared.numbers.InstanceId.{InstanceId}
 use Rattle.ov_types.specs.declared.objects.LowKey.{LowKey}
@@ -31,6 +31,7 @@ use Rattle.vpn_tables.specs.Changes.{with_low}
 use Rattle.control_touched_laws.proofs.Filtering.{filter_twice, found_among, found_in_each}
 use Rattle.control_touched_laws.proofs.Objects.{object_stays, tables_stay}
 use Rattle.control_touched_agent_laws.specs.Here.{IsListOfPort, is_here, port_here, put_by}
+use Rattle.control_touched_agent_laws.proofs.Ports.{low_in, networks_alike, one_network}
 use Rattle.control_touched_agent_laws.proofs.Kept.{Unsaid, filter_alike, filter_said, found_both, kept, map_said, said, said_stays, value_put}
 
 -- ---- a change of an object, among all changes
@@ -62,6 +63,9 @@ falls false = refl
 unlike : (m n : ℕ) → m ≢ n → (m == n) ≡ false
 unlike m n apart = grind (arith, nat_tests)
 
+abbrev of_network : ℕ → InstanceId → Bool
+of_network from n = n.0 == from
+
 module _ (address : Addr) where
   -- ---- networks
   abbrev network : Key → Value → Option InstanceId
@@ -85,9 +89,6 @@ module _ (address : Addr) where
   networks_said m = map_said (λ x. port_at address x.1) (λ e. low_entry e.0 e.1) (λ e. network e.0 e.1) network_first (entries m)
 
   -- ---- whether a port of a network is here
-  abbrev of_network : ℕ → InstanceId → Bool
-  of_network from n = n.0 == from
-
   abbrev network_from : ℕ → Key → Value → Option InstanceId
   network_from from k v = kept (of_network from) (network k v)
 
@@ -130,7 +131,7 @@ module _ (address : Addr) where
         ∙ sym (any_said from next)
 
     -- ---- the slice at another key
-    module _ (k : Key) (away : k ≢ Low (key_of d)) (apart : (from to : ℕ) → k ≡ Low (key.Acl from to) → IsNoPort from (object m (key_of d)) × IsNoPort from (put_by d)) where
+    module _ (k : Key) (away : k ≢ Low (key_of d)) (same : (from to : ℕ) → k ≡ Low (key.Acl from to) → list_any (of_network from) (networks_at m address) ≡ list_any (of_network from) (networks_at next address)) where
       abbrev belongs : LowKey × LowValue → Bool
       belongs x = is_in_slice m address x.0 x.1
 
@@ -152,7 +153,7 @@ module _ (address : Addr) where
         where
           by_kind : (j : LowKey) (v : LowValue) → k ≡ Low j → is_in_slice next address j v ≡ is_in_slice m address j v
           by_kind (key.Attach label) v is = refl
-          by_kind (key.Acl from to) v is = (let no_port = apart from to is in sym (any_stays from no_port.0 no_port.1))
+          by_kind (key.Acl from to) v is = sym (same from to is)
           by_kind (key.Instance n) v is = refl
           by_kind (key.ChainUse n) v is = refl
 
@@ -195,14 +196,14 @@ module _ (address : Addr) where
           ∙ sym (found_by belongs_then next)
 
 -- ---- what an agent is to be told, at another key
-apart_stays : (h : Holdings) (d : Delta LowKey LowValue) (a : Told) (k : Key) → ((n : ℕ) → key_of d ≢ key.Instance n) → ((n : ℕ) → key_of d ≢ key.ChainUse n) → k ≢ Low (key_of d)
-    → ((from to : ℕ) → k ≡ Low (key.Acl from to) → IsNoPort a.address from (object h.feed (key_of d)) × IsNoPort a.address from (put_by d))
+lists_stay : (h : Holdings) (d : Delta LowKey LowValue) (a : Told) (k : Key) → ((n : ℕ) → key_of d ≢ key.Instance n) → ((n : ℕ) → key_of d ≢ key.ChainUse n) → k ≢ Low (key_of d)
+    → ((from to : ℕ) → k ≡ Low (key.Acl from to) → list_any (of_network from) (networks_at h.feed a.address) ≡ list_any (of_network from) (networks_at (with_low h d).feed a.address))
     → get (wanted_by_agent h a) k ≡ get (wanted_by_agent (with_low h d) a) k
-apart_stays h d a k instances uses away apart =
+lists_stay h d a k instances uses away same =
     let g = with_low h d in
     get-from_entries key_total (map slice_entry (slice h.feed a.address) ++ flat_map (rows_of h) (subscriptions a.map)) k
     ∙ found_both key_cmp k (map slice_entry (slice h.feed a.address)) (flat_map (rows_of h) (subscriptions a.map)) (map slice_entry (slice g.feed a.address)) (flat_map (rows_of g) (subscriptions a.map))
-    (slice_stays a.address h.feed d k away apart)
+    (slice_stays a.address h.feed d k away same)
     (found_in_each key_cmp k (rows_of h) (rows_of g) (subscriptions a.map) (λ j _. ap (find key_cmp k) (rows_same j)))
     ∙ sym (get-from_entries key_total (map slice_entry (slice g.feed a.address) ++ flat_map (rows_of g) (subscriptions a.map)) k)
   where
@@ -219,24 +220,21 @@ untold h a j absent =
           absurd (none_some q.0 (sym absent ∙ ap as_object (object_of h.feed j q.0 ((slice_is h.feed a.address j q.0).0 q.1).0)))
     ] refl
 
-abbrev low_in : Key → LowKey → LowKey
-low_in (Low k) d = k
-low_in _ d = d
-
 abbrev Stays : Holdings → Delta LowKey LowValue → Told → Key → Type 0
 Stays h d a k = get (wanted_by_agent h a) k ≡ get (wanted_by_agent (with_low h d) a) k
 
 pub attachment : (h : Holdings) (d : Delta LowKey LowValue) (a : Told) (k : Key) → ((n : ℕ) → key_of d ≢ key.Instance n) → ((n : ℕ) → key_of d ≢ key.ChainUse n) → k ≢ Low (key_of d)
-    → (IsListOfPort h.feed a.address (object h.feed (key_of d)) k → ⊥) → (IsListOfPort h.feed a.address (put_by d) k → ⊥)
+    → (port_here a.address (object h.feed (key_of d)) ≢ port_here a.address (put_by d) → IsListOfPort h.feed a.address (object h.feed (key_of d)) k → ⊥)
+    → (port_here a.address (object h.feed (key_of d)) ≢ port_here a.address (put_by d) → IsListOfPort h.feed a.address (put_by d) k → ⊥)
     → get (wanted_by_agent h a) k ≡ get (wanted_by_agent (with_low h d) a) k
 attachment h d a k instances uses away before after = by_key k refl
   where
     no_list : ((from to : ℕ) → k ≡ Low (key.Acl from to) → ⊥) → Stays h d a k
-    no_list none = apart_stays h d a k instances uses away (λ from to is. absurd (none from to is))
+    no_list none = lists_stay h d a k instances uses away (λ from to is. absurd (none from to is))
 
     held_list : (from to : ℕ) (v : LowValue) → k ≡ Low (key.Acl from to) → object h.feed (key.Acl from to) ≡ Some v → Stays h d a k
     held_list from to v is held =
-        apart_stays h d a k instances uses away (λ x y here. (λ n port same. before (listed (object h.feed (key_of d)) x y here n port same), λ n port same. after (listed (put_by d) x y here n port same)))
+        lists_stay h d a k instances uses away (λ x y here. same x y here (one_network (port_here a.address (object h.feed (key_of d))) (port_here a.address (put_by d))))
       where
         listed : (o : Option LowValue) (x y : ℕ) → k ≡ Low (key.Acl x y) → (n : InstanceId) → port_here a.address o ≡ Some n → n.0 ≡ x → IsListOfPort h.feed a.address o k
         listed o x y here n port same =
@@ -249,6 +247,12 @@ attachment h d a k instances uses away before after = by_key k refl
               held = subst (λ (j : LowKey). is_some (object h.feed j) ≡ true) same_key (ap is_some held);
               key_is = here_is;
             }
+
+        same : (x y : ℕ) → k ≡ Low (key.Acl x y) → (port_here a.address (object h.feed (key_of d)) ≡ port_here a.address (put_by d)) ⊎ (port_here a.address (object h.feed (key_of d)) ≢ port_here a.address (put_by d))
+            → list_any (of_network x) (networks_at h.feed a.address) ≡ list_any (of_network x) (networks_at (with_low h d).feed a.address)
+        same x y here (inl alike) = networks_alike a.address h.feed d alike (of_network x)
+        same x y here (inr differ) =
+            any_stays a.address h.feed d x (λ n port is. before differ (listed (object h.feed (key_of d)) x y here n port is)) (λ n port is. after differ (listed (put_by d) x y here n port is))
 
     no_object : (j : LowKey) → k ≡ Low j → object h.feed j ≡ None → Stays h d a k
     no_object j is absent =
@@ -284,4 +288,4 @@ pub object_elsewhere : (h : Holdings) (d : Delta LowKey LowValue) (a : Told) (k 
     → is_here a.address (object h.feed (key_of d)) ≡ false → is_here a.address (put_by d) ≡ false → k ≢ Low (key_of d)
     → get (wanted_by_agent h a) k ≡ get (wanted_by_agent (with_low h d) a) k
 object_elsewhere h d a k instances uses before after away =
-    attachment h d a k instances uses away (λ l. none_some l.network (sym (no_port a.address (object h.feed (key_of d)) before) ∙ l.port_is)) (λ l. none_some l.network (sym (no_port a.address (put_by d) after) ∙ l.port_is))
+    attachment h d a k instances uses away (λ _ l. none_some l.network (sym (no_port a.address (object h.feed (key_of d)) before) ∙ l.port_is)) (λ _ l. none_some l.network (sym (no_port a.address (put_by d) after) ∙ l.port_is))

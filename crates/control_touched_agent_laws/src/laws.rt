@@ -21,7 +21,7 @@ ghost use Rattle.node_model.specs.Tables.{table};
 ghost use Rattle.node_model.specs.Wants.{wanted_by_agent};
 ghost use Rattle.vpn_tables.specs.Changes.{with_low, with_publication, with_route};
 ghost use Rattle.vpn_tables.specs.Listing.{told_in};
-ghost use Rattle.control_touched_agent_laws.specs.Here.{IsListOfPort, is_here, put_by, wanted_on};
+ghost use Rattle.control_touched_agent_laws.specs.Here.{IsListOfPort, is_here, port_here, put_by, wanted_on};
 
 /// A change of an object that is no instance and no use, as an attachment or an access list, changes of what an agent
 /// is to be told at most that object, where the agent is at neither address at which the object was attached and is.
@@ -33,12 +33,15 @@ pub fn an_object_elsewhere_changes_itself_alone()
 {}
 
 /// A change of an object that is no instance and no use changes of what an agent is to be told at most that object and,
-/// where it is a port at the agent's address before the change or after it, held access lists of the port's network.
+/// where it is a port at the agent's address before the change or after it, and does not stay one of the same network
+/// there, held access lists of the port's network.
 pub fn an_attachment_changes_itself_and_its_networks_lists()
     ensures { (h : Holdings) (d : Delta LowKey LowValue) (a : Told) (k : Key) → ((n : ℕ) → key_of d ≢ key.Instance n)
         → ((n : ℕ) → key_of d ≢ key.ChainUse n) → k ≢ Low (key_of d)
-        → (IsListOfPort h.feed a.address (object h.feed (key_of d)) k → ⊥)
-        → (IsListOfPort h.feed a.address (put_by d) k → ⊥)
+        → (port_here a.address (object h.feed (key_of d)) ≢ port_here a.address (put_by d)
+        → IsListOfPort h.feed a.address (object h.feed (key_of d)) k → ⊥)
+        → (port_here a.address (object h.feed (key_of d)) ≢ port_here a.address (put_by d)
+        → IsListOfPort h.feed a.address (put_by d) k → ⊥)
         → get (wanted_by_agent h a) k ≡ get (wanted_by_agent (with_low h d) a) k }
 {}
 

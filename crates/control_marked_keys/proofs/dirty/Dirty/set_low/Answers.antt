@@ -1,13 +1,14 @@
-use Rattle.std.proofs.Common.{subst, sym, ap, ◌∙◌}
+use Rattle.std.proofs.Common.{◌≡◌, subst, sym, ap, ◌∙◌}
 use Rattle.ov_types.specs.declared.objects.LowKey.{LowKey}
+use Rattle.ov_sync.specs.Keyed.{key_of}
 use Rattle.node_model.specs.Keys.{Low}
 use Rattle.node_model.specs.Maps.{object}
 use Rattle.node_model.specs.Paths.{Holdings}
 use Rattle.vpn_tables.specs.Changes.{with_low}
-use Rattle.control_touched_agent_laws.specs.Here.{IsListOfPort}
+use Rattle.control_touched_agent_laws.specs.Here.{IsListOfPort, port_here, put_by}
 use Rattle.control_marked_keys.specs.Marks.{Covers, IsCleanItem}
 use Rattle.control_marked_keys.proofs.Growing.{within_then}
-use Rattle.control_marked_keys.proofs.Marking.{covers_object}
+use Rattle.control_marked_keys.proofs.Marking.{covers_object, unless}
 use Rattle.control_marked_keys.proofs.dirty.Dirty.set_low.Goals as goal
 
 pub returns-in_err-set_low-clause-within : goal.returns-in_err-set_low-clause-within
@@ -32,7 +33,7 @@ returns-clause-covers c = λ all.
     (λ n is. c.mark_name.ensures.no_instance (since.all all) n (sym named ∙ is))
     (λ n is. c.mark_name.ensures.no_use (since.all all) n (sym named ∙ is))
     (λ address clean. c.mark_name.ensures.marked (since.all all) address (since.items address (Low name) (subst (λ (j : LowKey). IsCleanItem m address (Low j)) (sym c.key_of-name.ensures) clean)))
-    (λ address k clean l. c.mark_held.ensures.marked (last.all all) address k (last.items address k clean) (subst (λ (j : LowKey). IsListOfPort h.feed address (object h.feed j) k) named l))
-    (λ address k clean l. c.mark_held-2.ensures.marked all address k clean
+    (λ address k clean differ l. unless c.port_stays-stays.result (port_here address (object h.feed (key_of c.args.delta)) ≡ port_here address (put_by c.args.delta)) (λ stays. c.port_stays-stays.ensures stays address) differ (λ no. c.mark_held.ensures.marked no (last.all all) address k (last.items address k clean) (subst (λ (j : LowKey). IsListOfPort h.feed address (object h.feed j) k) named l)))
+    (λ address k clean differ l. unless c.port_stays-stays.result (port_here address (object h.feed (key_of c.args.delta)) ≡ port_here address (put_by c.args.delta)) (λ stays. c.port_stays-stays.ensures stays address) differ (λ no. c.mark_held-2.ensures.marked no all address k clean
     (subst (λ (g : Holdings). IsListOfPort g.feed address (object g.feed name) k) (sym (c.held.ensures ∙ applied))
-    (subst (λ (j : LowKey). IsListOfPort g.feed address (object g.feed j) k) named l)))))
+    (subst (λ (j : LowKey). IsListOfPort g.feed address (object g.feed j) k) named l))))))
