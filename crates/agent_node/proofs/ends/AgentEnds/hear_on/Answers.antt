@@ -5,10 +5,10 @@ use Rattle.node_model.specs.Step.{nothing}
 use Rattle.agent_node.specs.Applying.{AreLed, HasHeard, HasLed, HasTaken}
 use Rattle.agent_tables.specs.Touched.{SameRoutes}
 use Rattle.agent_node.specs.Core.{holdings}
-use Rattle.agent_node.specs.Ends.{Ends, posts_of}
+use Rattle.agent_node.specs.Ends.{Ends, posts_of, whom}
 use Rattle.agent_node.proofs.Begins.{taken_down, taken_on, whom_at}
 use Rattle.agent_node.proofs.Led.{are_led, if_some, routes_kept}
-use Rattle.agent_node.proofs.Posts.{ends_long, posts_long}
+use Rattle.agent_node.proofs.Posts.{ends_hear, ends_long, posts_long}
 use Rattle.agent_node.proofs.ends.AgentEnds.hear_on.Goals as goal
 
 pub hear_at-requires-clause-from : goal.hear_at-requires-clause-from
@@ -20,6 +20,12 @@ hear_at-requires-clause-from c =
     let long = ends_long c.self.inside.plan hs ss c.self.invariant in
     let lt : c.from.result < length hs = omega (arith, long, controllers, c.requires.known, c.from.ensures) in
     (λ i. (whom_at c.self.inside.plan hs ss c.self.invariant c.from.result h lt c.index_mut.ensures.value i).1)
+
+pub invariant_of-self-in-Some : goal.invariant_of-self-in-Some
+invariant_of-self-in-Some c =
+    ends_hear c.self.inside.plan c.self.inside.hearings.items c.self.inside.sents.items c.from.result
+    c.hear_at.new.hearing c.index_mut.result.now c.self.invariant
+    (c.in_ok-taken.ensures.whom ∙ ap whom c.index_mut.ensures.value) c.in_ok-taken.ensures.fits
 
 pub close-requires : goal.close-requires
 close-requires c =
