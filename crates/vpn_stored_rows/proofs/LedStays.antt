@@ -1,4 +1,4 @@
--- The re-originated routes of a use that is not touched stay.
+-- What follows of a use that is not touched stays: which subnets are up, and the routes that lead them on.
 use Rattle.std.specs.Prelude.{◌≡◌, ◌≢◌, ℕ, zero, suc, ◌<◌, ◌≤◌, List, [], ◌∷◌, ◌++◌, map, Bool, true, false, cond, ◌==◌, ◌&&◌, ◌||◌, is_some, Some, None}
 use Rattle.std.specs.declared.option.Option.{Option}
 use Rattle.std.specs.List.{filter, flat_map, list_any}
@@ -28,6 +28,7 @@ use Rattle.node_model.proofs.Objects.{imports_hop, in_sides, side_use}
 use Rattle.node_model.proofs.Places.{use_found}
 use Rattle.node_model.proofs.Routes.{from_below}
 use Rattle.node_model.proofs.Unknown.{le_trans, place_at, place_at-within}
+use Rattle.vpn_tables.specs.Answers.{side_at}
 use Rattle.vpn_tables.specs.Changes.{with_publication, with_route}
 use Rattle.vpn_tables.specs.Leading.{leads, sides_of_held}
 use Rattle.vpn_tables.specs.Listing.{hops}
@@ -40,8 +41,15 @@ use Rattle.control_touched_laws.proofs.Moves.{Covers, Moves, told_otherwise}
 use Rattle.control_touched_laws.proofs.Touching.{covers_publication, publication_moves, route_moves, subscription_targets}
 use Rattle.control_touched_laws.proofs.Untouched.{circuit_place, received_same}
 use Rattle.control_touched_laws.proofs.Wanted.{at_row}
-use Rattle.vpn_stored_rows.specs.Led.{is_of, is_row_of, routes_at}
+use Rattle.vpn_stored_rows.specs.Led.{routes_at}
+use Rattle.vpn_stored_rows.specs.Reached.{is_of, is_row_of, reached_at}
+use Rattle.vpn_stored_rows.specs.Up.{up_from, ups_of, ups_of_held}
 use Rattle.vpn_stored_rows.specs.Stored.{key_at}
+use Rattle.vpn_stored_rows.proofs.LedUp.{side_parts}
+
+map_same : {X Y : Type 0} (f g : X → Y) (xs : List X) → ((x : X) → Member x xs → f x ≡ g x) → map f xs ≡ map g xs
+map_same f g [] e = refl
+map_same f g (x ∷ xs) e = λ i. e x (inl refl) i ∷ map_same f g xs (λ y m. e y (inr m)) i
 
 module _ (h : Holdings) (peers : List Map) (agents : List Told) (moved : List Path) (place : Option InstanceId) (m : Moves moved place h (told_otherwise h peers agents)) (targets : List Target) (covers : Covers h.asn moved place targets) where
   abbrev later : Holdings
@@ -81,6 +89,15 @@ module _ (h : Holdings) (peers : List Map) (agents : List Told) (moved : List Pa
         before : (d k : ℕ) → suc d ≤ k → d ≤ k
         before d k h = omega arith
 
+    ups_same : ups_of h s ≡ ups_of later s
+    ups_same =
+        map_same (up_from h s) (up_from later s) (below (suc s.chain.services)) (λ d b.
+        map_same (λ subnet. is_up h s subnet d) (λ subnet. is_up later s subnet d) (subnets s) (λ subnet _.
+        up_same d subnet (to_last d s.chain.services (from_below (suc s.chain.services) d b))))
+      where
+        to_last : (d k : ℕ) → d < suc k → d ≤ k
+        to_last d k h = omega arith
+
     towards_same : (i : InstanceId) (subnet : Block) (o : Option (Addr × LabelNo)) → towards h i subnet o ≡ towards later i subnet o
     towards_same i subnet None = refl
     towards_same i subnet (Some p) = refl
@@ -114,6 +131,21 @@ module _ (h : Holdings) (peers : List Map) (agents : List Told) (moved : List Pa
 
   routes_same : (n : ℕ) → AreShort h.feed → ((u : Use) → Member u (uses h.feed) → u.number ≡ n → is_touched h targets u ≡ false) → routes_at h n ≡ routes_at later n
   routes_same n short clean = both_sides n (use_from n (object h.feed (key.ChainUse n))) short refl clean
+
+  seen_same : (n : ℕ) (b : Bool) (o : Option Side) → AreShort h.feed → side_at h.feed n b ≡ o
+      → ((u : Use) → Member u (uses h.feed) → u.number ≡ n → is_touched h targets u ≡ false)
+      → ups_of_held h o ≡ ups_of_held later o
+  seen_same n b None short e clean = refl
+  seen_same n b (Some s) short e clean =
+      let q = side_parts h.feed n b s e in
+      ups_same s (in_sides h.feed s.chain s.is_right q.0) short (clean s.chain q.0 q.1.0)
+
+  reached_same : (n : ℕ) → AreShort h.feed → ((u : Use) → Member u (uses h.feed) → u.number ≡ n → is_touched h targets u ≡ false) → reached_at h n ≡ reached_at later n
+  reached_same n short clean = λ i. record {
+    up_right = seen_same n true (side_at h.feed n true) short refl clean i;
+    up_left = seen_same n false (side_at h.feed n false) short refl clean i;
+    routes = routes_same n short clean i;
+  }
 
 -- ---- the rows of a touched use
 hop_number : (u j : ℕ) → j ≤ 15 → is_of u (hop_of (hop_instance_of u j)) ≡ true
@@ -150,11 +182,11 @@ covers_all asn moved = record {
   published = λ i e. cc;
 }
 
-pub route_leads : (h : Holdings) (session : ℕ) (d : Delta VpnKey VpnRoute) → AreShort h.feed → (n : ℕ)
-    → list_any (is_row_of n) (map key_at (touched_rows h (targets_by_route h session d) (key_of d).prefix)) ≡ false → routes_at h n ≡ routes_at (with_route h session d) n
-route_leads h zero d short n none = refl
-route_leads h (suc place) d short n none =
-    routes_same h (with_route h (suc place) d).peers h.agents (moved_by_route h (suc place) d) None (route_moves h (suc place) d) (targets_by_route h (suc place) d)
+pub route_reached : (h : Holdings) (session : ℕ) (d : Delta VpnKey VpnRoute) → AreShort h.feed → (n : ℕ)
+    → list_any (is_row_of n) (map key_at (touched_rows h (targets_by_route h session d) (key_of d).prefix)) ≡ false → reached_at h n ≡ reached_at (with_route h session d) n
+route_reached h zero d short n none = refl
+route_reached h (suc place) d short n none =
+    reached_same h (with_route h (suc place) d).peers h.agents (moved_by_route h (suc place) d) None (route_moves h (suc place) d) (targets_by_route h (suc place) d)
     (covers_all h.asn (moved_by_route h (suc place) d)) n short (λ u held number. not_touched h (targets_by_route h (suc place) d) (key_of d).prefix n u short held number none)
 
 pub route_feed : (h : Holdings) (session : ℕ) (d : Delta VpnKey VpnRoute) → h.feed ≡ (with_route h session d).feed
@@ -165,10 +197,10 @@ untargeted : (h : Holdings) (is : List InstanceId) → list_any (imports_one h [
 untargeted h [] = refl
 untargeted h (i ∷ is) = untargeted h is
 
-pub publication_leads : (h : Holdings) (session : ℕ) (d : Delta UpKey LabelNo) → AreShort h.feed → (k : UpKey) → key_of d ≡ k → (n : ℕ)
-    → list_any (is_row_of n) (map key_at (rows_by_key h (targets_by_publication h session d) k)) ≡ false → routes_at h n ≡ routes_at (with_publication h session d) n
-publication_leads h session d short k e n none =
-    routes_same h h.peers (with_publication h session d).agents (moved_by_publication h session d) (place_by_publication h session d) (publication_moves h session d) (targets_by_publication h session d)
+pub publication_reached : (h : Holdings) (session : ℕ) (d : Delta UpKey LabelNo) → AreShort h.feed → (k : UpKey) → key_of d ≡ k → (n : ℕ)
+    → list_any (is_row_of n) (map key_at (rows_by_key h (targets_by_publication h session d) k)) ≡ false → reached_at h n ≡ reached_at (with_publication h session d) n
+publication_reached h session d short k e n none =
+    reached_same h h.peers (with_publication h session d).agents (moved_by_publication h session d) (place_by_publication h session d) (publication_moves h session d) (targets_by_publication h session d)
     (covers_publication h session d) n short (clean k e none)
   where
     clean : (k : UpKey) → key_of d ≡ k → list_any (is_row_of n) (map key_at (rows_by_key h (targets_by_publication h session d) k)) ≡ false

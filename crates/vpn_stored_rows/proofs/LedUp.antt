@@ -24,7 +24,7 @@ use Rattle.vpn_tables.specs.Answers.{distance, is_up_at, is_up_on, seen_from, si
 use Rattle.vpn_stored_rows.specs.Led.{IsHeldSide}
 
 -- the use of a side that is held
-side_parts : (feed : Map) (n : ℕ) (b : Bool) (s : Side) → side_at feed n b ≡ Some s → (Member s.chain (uses feed)) × ((s.chain.number ≡ n) × (s.is_right ≡ b))
+pub side_parts : (feed : Map) (n : ℕ) (b : Bool) (s : Side) → side_at feed n b ≡ Some s → (Member s.chain (uses feed)) × ((s.chain.number ≡ n) × (s.is_right ≡ b))
 side_parts feed n b s e = of_held (use_from n (object feed (key.ChainUse n))) refl e
   where
     of_held : (o : Option Use) → use_from n (object feed (key.ChainUse n)) ≡ o → option_map (seen_from b) o ≡ Some s → (Member s.chain (uses feed)) × ((s.chain.number ≡ n) × (s.is_right ≡ b))

@@ -4,9 +4,11 @@ pub mod Turns
 pub mod Stays
 pub mod Publications
 pub mod Alike
+pub mod LedUp
 pub mod LedStays
 pub mod LedObjects
 pub mod LedInOrder
-pub mod LedPlaces
-pub mod LedUp
-pub mod LedAll
+pub mod Below
+pub mod UsePlaces
+pub mod UpPlaces
+pub mod UsesAll

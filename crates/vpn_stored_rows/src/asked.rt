@@ -20,8 +20,8 @@ ghost use Rattle.vpn_tables.specs.Touched.{rows_by_key, touched_rows};
 ghost use Rattle.vpn_tables.specs.TouchedKeys.{first_keyed, key_published, keys_led};
 ghost use Rattle.vpn_tables.specs.Views.{up_order};
 
-use crate::led::all_led;
 use crate::tables::StoredTables;
+use crate::uses::{all_routes, stored_up};
 use ov_sync::Delta;
 use ov_types::{
     Addr, InstanceId, Label, LowKey, LowValue, NoMemory, Prefix, Target, UpKey, VpnKey, VpnRoute,
@@ -97,11 +97,14 @@ impl StoredTables {
     }
 
     /// Whether a subnet of a side of the use that the instance is a hop of is reachable from there: false for another
-    /// instance or subnet. It takes no memory.
+    /// instance or subnet. It takes no memory. Where what follows of each use is stored, it is looked up.
     pub fn up(&self, hop: InstanceId, subnet: &Prefix, right: bool) -> bool
         ensures { result ≡ is_up_at self.now hop subnet.now right }
     {
-        self.held.held().up(hop, subnet, right)
+        if !self.stored {
+            return self.held.held().up(hop, subnet, right);
+        }
+        stored_up(self.uses.as_slice(), self.held.held(), hop, subnet, right)
     }
 
     /// The own routes, by session and then by publication. Two may have one key; the first of these counts.
@@ -127,7 +130,7 @@ impl StoredTables {
         if !self.stored {
             return self.held.held().reoriginated_paths();
         }
-        all_led(self.alloc, self.led.as_slice())
+        all_routes(self.alloc, self.uses.as_slice())
     }
 
     /// The first re-originated route of a key, where there is one. It takes no memory.

@@ -1,13 +1,13 @@
-//! The re-originated routes of a use.
-ghost use Rattle.std.specs.Prelude.{◌≡◌, ◌≤◌, ◌<◌, ◌++◌, ◌+◌, true, Some, OnOk, IfOk, map};
-ghost use Rattle.std.specs.List.{flat_map, list_any};
-ghost use Rattle.node_model.specs.Reaching.{below, circuit_at, into, is_up, publisher, subnets};
-ghost use Rattle.node_model.specs.Tables.{same_prefix};
+//! The re-originated routes of a use, from which of its subnets are up.
+ghost use Rattle.std.specs.Prelude.{◌≡◌, ◌<◌, ◌++◌, ◌+◌, true, false, Some, OnOk, IfOk, map};
+ghost use Rattle.std.specs.List.{flat_map};
+ghost use Rattle.node_model.specs.Reaching.{below, circuit_at, into, is_up, publisher};
 ghost use Rattle.vpn_tables.specs.Routes.{path_of};
 ghost use Rattle.vpn_stored_rows.specs.Led.{IsHeldSide, led_to, routes_at};
+ghost use Rattle.vpn_stored_rows.specs.Up.{up_from, ups_at, ups_of};
 
 use crate::sides::{Side, held_side};
-use ov_types::{Addr, Label, NoMemory, Prefix};
+use ov_types::{Addr, Items, Label, NoMemory, Prefix};
 use path_select::Path;
 use route_targets::{rd, target};
 use std::alloc::Global;
@@ -21,7 +21,11 @@ pub(crate) fn routes_of(
     alloc: Global,
     held: &VpnTables,
     number: u16,
+    up_right: &[Items<bool>],
+    up_left: &[Items<bool>],
 ) -> Result<Vec<Route>, NoMemory>
+    requires right { up_right.now ≡ ups_at held.now number true }
+    requires left { up_left.now ≡ ups_at held.now number false }
     ensures { IfOk result (λ routes. map path_of routes.items ≡ routes_at held.now number) }
 {
     let mut routes = Vec::new(alloc);
@@ -30,8 +34,8 @@ pub(crate) fn routes_of(
         held_side(held, number, false),
     ) {
         (Some(right), Some(left)) => {
-            lead_side(&mut routes, held, &right)?;
-            lead_side(&mut routes, held, &left)?;
+            lead_side(&mut routes, held, &right, up_right)?;
+            lead_side(&mut routes, held, &left, up_left)?;
             Ok(routes)
         }
         _ => Ok(routes),
@@ -39,32 +43,41 @@ pub(crate) fn routes_of(
 }
 
 /// Those of a side, by the distance that they lead from.
-fn lead_side(routes: &mut Vec<Route>, held: &VpnTables, side: &Side<'_>) -> Result<(), NoMemory>
+fn lead_side(
+    routes: &mut Vec<Route>,
+    held: &VpnTables,
+    side: &Side<'_>,
+    ups: &[Items<bool>],
+) -> Result<(), NoMemory>
     requires held { IsHeldSide held.now side.now }
+    requires ups { ups.now ≡ ups_of held.now side.now }
     ensures { OnOk result (map path_of routes.new.items ≡ map path_of routes.old.items
         ++ flat_map (into (is_up held.now) held.now side.now) (below side.now.chain.services)) }
 {
     for distance in 0..side.services() {
-        lead_into(routes, held, side, distance)?;
+        let up = ups[usize::from(distance)].as_slice();
+        lead_into(routes, held, side, distance, up)?;
     }
     Ok(())
 }
 
-/// Those from a distance into the next place.
+/// Those from a distance, at which these subnets are up, into the next place.
 fn lead_into(
     routes: &mut Vec<Route>,
     held: &VpnTables,
     side: &Side<'_>,
     distance: u8,
+    up: &[bool],
 ) -> Result<(), NoMemory>
     requires held { IsHeldSide held.now side.now }
     requires within { distance < side.now.chain.services }
     requires short { distance < 15 }
+    requires up { up.now ≡ up_from held.now side.now distance }
     ensures { OnOk result (map path_of routes.new.items ≡ map path_of routes.old.items
         ++ into (is_up held.now) held.now side.now distance) }
 {
     match held.publisher(side.circuit_at(distance + 1)) {
-        Some((address, label)) => lead_towards(routes, held, side, distance, address, label),
+        Some((address, label)) => lead_towards(routes, held, side, distance, address, label, up),
         None => Ok(()),
     }
 }
@@ -77,21 +90,25 @@ fn lead_towards(
     distance: u8,
     address: Addr,
     label: Label,
+    up: &[bool],
 ) -> Result<(), NoMemory>
     requires held { IsHeldSide held.now side.now }
     requires within { distance < side.now.chain.services }
     requires short { distance < 15 }
     requires published { publisher held.now (circuit_at side.now (distance + 1)) ≡ Some (address, label) }
+    requires up { up.now ≡ up_from held.now side.now distance }
     ensures { OnOk result (map path_of routes.new.items ≡ map path_of routes.old.items
         ++ into (is_up held.now) held.now side.now distance) }
 {
-    for subnet in side.subnets() {
-        lead_subnet(routes, held, side, distance, address, label, subnet)?;
+    for (index, subnet) in side.subnets().iter().enumerate() {
+        lead_subnet(
+            routes, held, side, distance, address, label, subnet, up[index],
+        )?;
     }
     Ok(())
 }
 
-/// That of a subnet of the side.
+/// That of a subnet of the side, where it is up.
 fn lead_subnet(
     routes: &mut Vec<Route>,
     held: &VpnTables,
@@ -100,16 +117,16 @@ fn lead_subnet(
     address: Addr,
     label: Label,
     subnet: &Prefix,
+    up: bool,
 ) -> Result<(), NoMemory>
-    requires held { IsHeldSide held.now side.now }
-    requires listed { list_any (same_prefix subnet.now) (subnets side.now) ≡ true }
     requires within { distance < side.now.chain.services }
     requires short { distance < 15 }
     requires published { publisher held.now (circuit_at side.now (distance + 1)) ≡ Some (address, label) }
+    requires up { up ≡ is_up held.now side.now subnet.now distance }
     ensures { OnOk result (map path_of routes.new.items ≡ map path_of routes.old.items
         ++ led_to held.now side.now distance subnet.now) }
 {
-    if is_up(held, side, distance, subnet) {
+    if up {
         let hop = side.hop_at(distance + 1);
         let path = Path {
             session: OWN_SESSION,
@@ -125,15 +142,4 @@ fn lead_subnet(
         })?;
     }
     Ok(())
-}
-
-/// Whether a subnet of the side is up at a distance from its end.
-fn is_up(held: &VpnTables, side: &Side<'_>, distance: u8, subnet: &Prefix) -> bool
-    requires held { IsHeldSide held.now side.now }
-    requires listed { list_any (same_prefix subnet.now) (subnets side.now) ≡ true }
-    requires within { distance ≤ side.now.chain.services }
-    ensures { result ≡ is_up held.now side.now subnet.now distance }
-{
-    held.uses_are_short();
-    held.up(side.hop_at(distance), subnet, side.is_right())
 }

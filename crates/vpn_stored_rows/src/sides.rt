@@ -4,7 +4,7 @@ ghost use Rattle.std.specs.Option.{option_map};
 ghost use Rattle.node_model.specs.Reaching.{hop_at, circuit_at, subnets};
 ghost use Rattle.node_model.specs.Uses.{as_use};
 ghost use Rattle.vpn_tables.specs.Ranges.{Fits};
-ghost use Rattle.vpn_tables.specs.Answers.{seen_from, side_at};
+ghost use Rattle.vpn_tables.specs.Answers.{distance, seen_from, side_at};
 ghost use Rattle.vpn_stored_rows.specs.Led.{IsHeldSide};
 
 use ov_types::{InstanceId, LowKey, LowValue, Prefix};
@@ -46,6 +46,12 @@ impl<'a> Model for Side<'a> {
 }
 
 impl<'a> Side<'a> {
+    pub(crate) fn number(&self) -> u16
+        ensures { result ≡ self.now.chain.number }
+    {
+        self.number
+    }
+
     pub(crate) fn services(&self) -> u8
         ensures number { result ≡ self.now.chain.services }
         ensures at_most { result ≤ 15 }
@@ -85,6 +91,19 @@ impl<'a> Side<'a> {
             left_circuit(self.number, self.services - distance + 1)
         } else {
             right_circuit(self.number, distance)
+        }
+    }
+
+    /// How far a place of the use is from the end.
+    pub(crate) fn distance_of(&self, place: u8) -> u8
+        requires { place ≤ self.now.chain.services }
+        ensures distance { result ≡ distance self.now place }
+        ensures within { result ≤ self.now.chain.services }
+    {
+        if self.is_right {
+            self.services - place
+        } else {
+            place
         }
     }
 

@@ -1,4 +1,5 @@
-//! What a control node holds, with the rows of its tables and the re-originated routes of its uses stored.
+//! What a control node holds, with the rows of its tables stored, and of its uses which subnets are up and the routes that
+//! lead them on.
 ghost use Rattle.std.specs.Prelude.{◌≡◌, ◌≢◌, ℕ, ◌≤◌, ◌<◌, ◌+◌, ◌++◌, true, false, map, length, IfOk, OnOk, OnErr};
 ghost use Rattle.std.specs.List.{list_any};
 ghost use Rattle.std.specs.Ordering.{eq_by_cmp};
@@ -12,13 +13,13 @@ ghost use Rattle.vpn_tables.specs.Answers.{rows_at};
 ghost use Rattle.vpn_tables.specs.At.{row_at};
 ghost use Rattle.vpn_tables.specs.Changes.{nothing, with_agent, with_low, with_publication, with_route, without};
 ghost use Rattle.vpn_tables.specs.Ranges.{Fits};
-ghost use Rattle.vpn_stored_rows.specs.Led.{AreLed, is_row_of, routes_at};
+ghost use Rattle.vpn_stored_rows.specs.Reached.{AreReached, is_row_of, reached_at};
 ghost use Rattle.vpn_stored_rows.specs.Stored.{AreRows, key_at, key_in, keys_of, row_of, row_order};
 ghost use Rattle.vpn_stored_rows.specs.declared.rows.RowKey.{RowKey as RowKeyOf};
 
-use crate::led::{Led, remake_all, store_led};
 use crate::listing::{listed, selected, shown};
 use crate::rows::{RowKey, Rows, reselect_all};
+use crate::uses::{Uses, remake_all, store_uses};
 use ov_sync::{Delta, SyncIn};
 use ov_types::{
     Addr, InstanceId, Label, LowKey, LowValue, NoMemory, Prefix, TableRow, UpKey, VpnKey, VpnRoute,
@@ -30,13 +31,13 @@ use std::sync::ledger::{Blank, Ledger};
 use vpn_tables::VpnTables;
 use vpn_tables_by_prefix::IndexedTables;
 
-/// What a control node holds of its sessions, and the rows that follow from it.
+/// What a control node holds of its sessions, and the rows and the reachable subnets that follow from it.
 #[derive(Drop)]
 pub struct StoredTables {
     pub(crate) held: IndexedTables,
     rows: Rows,
-    pub(crate) led: Led,
-    /// Whether every row and every re-originated route is stored. Where memory was wanting for that, none counts.
+    pub(crate) uses: Uses,
+    /// Whether every row is stored, and every use. Where memory was wanting for that, none counts.
     pub(crate) stored: bool,
     pub(crate) alloc: Global,
 }
@@ -45,7 +46,7 @@ impl Model for StoredTables {
     ghost use Rattle.node_model.specs.Paths.{Holdings};
     ghost use Rattle.std.specs.Prelude.{◌≡◌, true};
     ghost use Rattle.vpn_tables.specs.Codes.{coded_holdings};
-    ghost use Rattle.vpn_stored_rows.specs.Led.{AreLed};
+    ghost use Rattle.vpn_stored_rows.specs.Reached.{AreReached};
     ghost use Rattle.vpn_stored_rows.specs.Stored.{AreRows};
 
     ghost Value = { Holdings };
@@ -54,7 +55,7 @@ impl Model for StoredTables {
 
     ghost view = { λ s. s.held };
 
-    ghost invariant = { λ s. s.stored ≡ true → AreRows s.rows s.held × AreLed s.led.items s.held };
+    ghost invariant = { λ s. s.stored ≡ true → AreRows s.rows s.held × AreReached s.uses.items s.held };
 }
 
 fn keys_at(alloc: Global, rows: &[(InstanceId, Prefix)]) -> Result<Vec<RowKey>, NoMemory>
@@ -107,24 +108,24 @@ fn restore<L: Ledger>(
     }
 }
 
-/// Makes the routes of the uses that touched rows are of anew, where routes are stored. Says whether they are stored
+/// Makes what is stored of the uses that touched rows are of anew, where uses are stored. Says whether they are stored
 /// then.
-fn restore_led(
-    led: &mut Led,
+fn restore_uses(
+    uses: &mut Uses,
     alloc: Global,
     held: &IndexedTables,
     touched: &[RowKey],
     stored: bool,
 ) -> bool
     ensures stored { result ≡ true → stored ≡ true }
-    ensures led { (h : Holdings) → (stored ≡ true → AreLed led.old.items h) → h.feed ≡ held.now.feed
-        → ((n : ℕ) → list_any (is_row_of n) touched.now ≡ false → routes_at h n ≡ routes_at held.now n)
-        → result ≡ true → AreLed led.new.items held.now }
+    ensures uses { (h : Holdings) → (stored ≡ true → AreReached uses.old.items h) → h.feed ≡ held.now.feed
+        → ((n : ℕ) → list_any (is_row_of n) touched.now ≡ false → reached_at h n ≡ reached_at held.now n)
+        → result ≡ true → AreReached uses.new.items held.now }
 {
     if !stored {
         return false;
     }
-    match remake_all(led, alloc, held.held(), touched) {
+    match remake_all(uses, alloc, held.held(), touched) {
         Ok(()) => true,
         Err(NoMemory) => false,
     }
@@ -135,18 +136,18 @@ fn change_route<L: Ledger>(
     alloc: Global,
     held: &mut IndexedTables,
     rows: &mut Rows,
-    led: &mut Led,
+    uses: &mut Uses,
     stored: bool,
     session: u16,
     delta: Delta<VpnKey, VpnRoute>,
     steps: &mut Steps<L>,
 ) -> Result<bool, NoMemory>
     requires rows { stored ≡ true → AreRows rows.old held.old }
-    requires led { stored ≡ true → AreLed led.old.items held.old }
+    requires uses { stored ≡ true → AreReached uses.old.items held.old }
     ensures ok { OnOk result (held.new ≡ with_route held.old session delta) }
     ensures rows { IfOk result (λ stored. stored ≡ true → AreRows rows.new held.new) }
-    ensures led { IfOk result (λ stored. stored ≡ true → AreLed led.new.items held.new) }
-    ensures err { OnErr result ((held.new ≡ held.old) × (rows.new ≡ rows.old) × (led.new.items ≡ led.old.items)) }
+    ensures uses { IfOk result (λ stored. stored ≡ true → AreReached uses.new.items held.new) }
+    ensures err { OnErr result ((held.new ≡ held.old) × (rows.new ≡ rows.old) × (uses.new.items ≡ uses.old.items)) }
     ensures steps { steps.new ≤ steps.old + touched held.old (targets_by_route held.old session delta) }
 {
     let touched = touched_by_route(alloc, held, session, &delta)?;
@@ -154,11 +155,11 @@ fn change_route<L: Ledger>(
     held.set_peer_route(session, delta)?;
     let keys = touched.as_slice();
     let rows_stored = restore(rows, held, keys, stored, steps);
-    let all_stored = restore_led(led, alloc, held, keys, rows_stored);
+    let all_stored = restore_uses(uses, alloc, held, keys, rows_stored);
     Ok(all_stored)
 }
 
-/// Whether what is stored stays, as an object changes: tables and re-originated routes follow from instances and uses alone, besides what was told.
+/// Whether what is stored stays, as an object changes: tables and what follows of uses follow from instances and uses alone, besides what was told.
 fn keeps_stored(stored: bool, delta: &Delta<LowKey, LowValue>) -> bool
     ensures { result ≡ true → (stored ≡ true) × ((n : ℕ) → key_of delta.now ≢ key.Instance n)
         × ((n : ℕ) → key_of delta.now ≢ key.ChainUse n) }
@@ -185,16 +186,16 @@ fn low_key(delta: &Delta<LowKey, LowValue>) -> LowKey
 fn change_low(
     held: &mut IndexedTables,
     rows: &Rows,
-    led: &Led,
+    uses: &Uses,
     stored: bool,
     delta: Delta<LowKey, LowValue>,
 ) -> Result<bool, NoMemory>
     requires fits { PutOf Fits delta }
     requires rows { stored ≡ true → AreRows rows.now held.old }
-    requires led { stored ≡ true → AreLed led.now.items held.old }
+    requires uses { stored ≡ true → AreReached uses.now.items held.old }
     ensures ok { OnOk result (held.new ≡ with_low held.old delta) }
     ensures rows { IfOk result (λ stored. stored ≡ true → AreRows rows.now held.new) }
-    ensures led { IfOk result (λ stored. stored ≡ true → AreLed led.now.items held.new) }
+    ensures uses { IfOk result (λ stored. stored ≡ true → AreReached uses.now.items held.new) }
     ensures err { OnErr result (held.new ≡ held.old) }
     ensures memory { OnErr result (IsPut delta) }
 {
@@ -222,18 +223,18 @@ fn change_publication<L: Ledger>(
     alloc: Global,
     held: &mut IndexedTables,
     rows: &mut Rows,
-    led: &mut Led,
+    uses: &mut Uses,
     stored: bool,
     session: u16,
     delta: Delta<UpKey, Label>,
     steps: &mut Steps<L>,
 ) -> Result<bool, NoMemory>
     requires rows { stored ≡ true → AreRows rows.old held.old }
-    requires led { stored ≡ true → AreLed led.old.items held.old }
+    requires uses { stored ≡ true → AreReached uses.old.items held.old }
     ensures ok { OnOk result (held.new ≡ with_publication held.old session delta) }
     ensures rows { IfOk result (λ stored. stored ≡ true → AreRows rows.new held.new) }
-    ensures led { IfOk result (λ stored. stored ≡ true → AreLed led.new.items held.new) }
-    ensures err { OnErr result ((held.new ≡ held.old) × (rows.new ≡ rows.old) × (led.new.items ≡ led.old.items)) }
+    ensures uses { IfOk result (λ stored. stored ≡ true → AreReached uses.new.items held.new) }
+    ensures err { OnErr result ((held.new ≡ held.old) × (rows.new ≡ rows.old) × (uses.new.items ≡ uses.old.items)) }
     ensures steps { steps.new ≤ steps.old + touched held.old (targets_by_publication held.old session delta) }
 {
     let touched = touched_by_publication(alloc, held, session, &delta)?;
@@ -241,7 +242,7 @@ fn change_publication<L: Ledger>(
     held.set_publication(session, delta)?;
     let keys = touched.as_slice();
     let rows_stored = restore(rows, held, keys, stored, steps);
-    let all_stored = restore_led(led, alloc, held, keys, rows_stored);
+    let all_stored = restore_uses(uses, alloc, held, keys, rows_stored);
     Ok(all_stored)
 }
 
@@ -253,7 +254,7 @@ impl StoredTables {
         StoredTables {
             held: IndexedTables::new(alloc, asn),
             rows: SyncIn::new(alloc),
-            led: Vec::new(alloc),
+            uses: Vec::new(alloc),
             stored: false,
             alloc,
         }
@@ -266,7 +267,7 @@ impl StoredTables {
         ensures err { OnErr result (self.new ≡ self.old) }
         ensures memory { OnErr result (IsPut delta) }
     {
-        self.stored = change_low(&mut self.held, &self.rows, &self.led, self.stored, delta)?;
+        self.stored = change_low(&mut self.held, &self.rows, &self.uses, self.stored, delta)?;
         Ok(())
     }
 
@@ -293,7 +294,7 @@ impl StoredTables {
             self.alloc,
             &mut self.held,
             &mut self.rows,
-            &mut self.led,
+            &mut self.uses,
             self.stored,
             session,
             delta,
@@ -317,7 +318,7 @@ impl StoredTables {
             self.alloc,
             &mut self.held,
             &mut self.rows,
-            &mut self.led,
+            &mut self.uses,
             self.stored,
             session,
             delta,
@@ -393,15 +394,15 @@ impl StoredTables {
         Ok(())
     }
 
-    /// Stores the row of every table and the re-originated routes of every use, where they are not stored. Where memory is
-    /// wanting, nothing changes.
+    /// Stores the row of every table, and of every use which subnets are up and the routes that lead them on, where they
+    /// are not stored. Where memory is wanting, nothing changes.
     pub fn refresh(&mut self) -> Result<(), NoMemory>
         ensures { self.new ≡ self.old }
     {
         if !self.stored {
             self.stored = false;
             store_all::<Brand>(&mut self.rows, &self.held, self.alloc, Blank::new(1))?;
-            store_led(&mut self.led, self.alloc, self.held.held())?;
+            store_uses(&mut self.uses, self.alloc, self.held.held())?;
             self.stored = true;
         }
         Ok(())

@@ -4,7 +4,7 @@ use Rattle.vpn_tables.specs.Routes.{path_of}
 use Rattle.vpn_stored_rows.specs.Led.{led_to}
 use Rattle.vpn_stored_rows.proofs.leading.lead_towards.Given as goal
 
-abbrev pub invariant-loop-subnet : goal.invariant-loop-subnet
-invariant-loop-subnet l =
-    map path_of l.routes.items ++ flat_map (led_to l.held l.side l.distance) (drop l.subnet-index l.subnet-items)
+abbrev pub invariant-loop-index : goal.invariant-loop-index
+invariant-loop-index l =
+    map path_of l.routes.items ++ flat_map (led_to l.held l.side l.distance) (drop l.index l.subnet-items)
     ≡ map path_of l.fn.routes.items ++ flat_map (led_to l.held l.side l.distance) l.subnet-items

@@ -10,8 +10,8 @@ use Rattle.vpn_tables.specs.Changes.{with_route}
 use Rattle.vpn_stored_rows.specs.Stored.{row_of, row_order}
 use Rattle.vpn_stored_rows.proofs.Stays.{few_steps, not_listed}
 use Rattle.node_model.specs.Paths.{Holdings}
-use Rattle.vpn_stored_rows.specs.Led.{is_row_of, routes_at}
-use Rattle.vpn_stored_rows.proofs.LedStays.{route_feed, route_leads}
+use Rattle.vpn_stored_rows.specs.Reached.{is_row_of, reached_at}
+use Rattle.vpn_stored_rows.proofs.LedStays.{route_feed, route_reached}
 use Rattle.vpn_stored_rows.proofs.tables.change_route.Goals as goal
 
 pub returns-clause-rows : goal.returns-clause-rows
@@ -24,17 +24,17 @@ returns-clause-rows g c =
     λ on. c.restore-rows_stored.ensures.rows h c.requires.rows (λ k none.
     not_listed h after rows k (route_rows h c.args.session d c.uses_are_short.ensures k.instance k.prefix)
     (sym (ap (λ ks. list_any (eq_by_cmp row_order k) ks) keys) ∙ none)
-    ∙ ap (λ g. row_of g k) (sym c.in_ok-set_peer_route.ensures.ok)) (c.restore_led-all_stored.ensures.stored on)
+    ∙ ap (λ g. row_of g k) (sym c.in_ok-set_peer_route.ensures.ok)) (c.restore_uses-all_stored.ensures.stored on)
 
-pub returns-clause-led : goal.returns-clause-led
-returns-clause-led g c =
+pub returns-clause-uses : goal.returns-clause-uses
+returns-clause-uses g c =
     let h = c.args.held.now in
     let d = c.args.delta in
     let keys = c.as_slice-keys.ensures.value ∙ c.in_ok-touched.ensures in
-    λ on. c.restore_led-all_stored.ensures.led h (λ s. c.requires.led (c.restore-rows_stored.ensures.stored s))
+    λ on. c.restore_uses-all_stored.ensures.uses h (λ s. c.requires.uses (c.restore-rows_stored.ensures.stored s))
     (route_feed h c.args.session d ∙ ap (λ (g : Holdings). g.feed) (sym c.in_ok-set_peer_route.ensures.ok)) (λ n none.
-    route_leads h c.args.session d c.uses_are_short.ensures n (sym (ap (λ ks. list_any (is_row_of n) ks) keys) ∙ none)
-    ∙ ap (λ g. routes_at g n) (sym c.in_ok-set_peer_route.ensures.ok)) on
+    route_reached h c.args.session d c.uses_are_short.ensures n (sym (ap (λ ks. list_any (is_row_of n) ks) keys) ∙ none)
+    ∙ ap (λ g. reached_at g n) (sym c.in_ok-set_peer_route.ensures.ok)) on
 
 pub returns-clause-steps : goal.returns-clause-steps
 returns-clause-steps g c =
