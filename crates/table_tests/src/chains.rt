@@ -14,7 +14,7 @@ pub const NEAR: Addr = Addr(0xc000_020b);
 pub const FAR: Addr = Addr(0xc000_020c);
 
 /// The instance, the address and the label of what the agent publishes: a port, and the circuits of the first service.
-const PUBLISHED: [(u16, u32, u32); 3] = [
+pub const PUBLISHED: [(u16, u32, u32); 3] = [
     (1, 0x0a01_0001, 17),
     (16384, 0xfa00_8001, 557_057),
     (16385, 0xfa00_8002, 557_058),
@@ -36,32 +36,48 @@ pub fn chain(rt: &impl Abort, alloc: Global, tables: &mut VpnTables, left: Prefi
 }
 
 fn feed_chain(rt: &impl Abort, alloc: Global, tables: &mut VpnTables, left: Prefix, right: Prefix) {
+    let object = chain_object(rt, alloc, left, right);
+    let told = tables.set_low(Delta::Put(LowKey::ChainUse(0), object));
+    told.expect(rt, "memory");
+}
+
+/// The use of the chain.
+pub fn chain_object(rt: &impl Abort, alloc: Global, left: Prefix, right: Prefix) -> LowValue {
     let lefts = vec![in alloc; left].expect(rt, "memory");
     let rights = vec![in alloc; right].expect(rt, "memory");
     let hops = vec![in alloc; (ServiceNo(1), NEAR), (ServiceNo(2), FAR)].expect(rt, "memory");
-    let chain = LowValue::ChainUse {
+    LowValue::ChainUse {
         left: InstanceId(1),
         right: InstanceId(2),
         left_prefixes: Items::from_vec(lefts),
         right_prefixes: Items::from_vec(rights),
         hops: Items::from_vec(hops),
-    };
-    let told = tables.set_low(Delta::Put(LowKey::ChainUse(0), chain));
-    told.expect(rt, "memory");
+    }
 }
 
 fn feed_network(rt: &impl Abort, alloc: Global, tables: &mut VpnTables) {
-    let itself = vec![in alloc; InstanceId(1)].expect(rt, "memory");
-    let imports = Items::from_vec(itself);
-    let told = tables.set_low(Delta::Put(LowKey::Instance(1), LowValue::Instance { imports }));
+    let told = tables.set_low(Delta::Put(LowKey::Instance(1), left_network(rt, alloc)));
     told.expect(rt, "memory");
 }
 
+/// The left network, which imports itself.
+pub fn left_network(rt: &impl Abort, alloc: Global) -> LowValue {
+    let itself = vec![in alloc; InstanceId(1)].expect(rt, "memory");
+    LowValue::Instance {
+        imports: Items::from_vec(itself),
+    }
+}
+
 pub fn publish(rt: &impl Abort, tables: &mut VpnTables, session: u16, told: (u16, u32, u32)) {
+    let told = tables.set_publication(session, publication(told));
+    told.expect(rt, "memory");
+}
+
+/// The agent publishes an address in an instance, with a label.
+pub fn publication(told: (u16, u32, u32)) -> Delta<UpKey, Label> {
     let (instance, host, label) = told;
     let key = UpKey::Publish(InstanceId(instance), Prefix::host(Addr(host)));
-    let told = tables.set_publication(session, Delta::Put(key, Label(label)));
-    told.expect(rt, "memory");
+    Delta::Put(key, Label(label))
 }
 
 pub fn withdraw(rt: &impl Abort, tables: &mut VpnTables, session: u16, instance: u16, host: u32) {
@@ -89,20 +105,33 @@ pub fn lead_right_to(
     right: Prefix,
     target: Target,
 ) {
+    let told = tables.set_peer_route(1, led_right(rt, alloc, right, target));
+    told.expect(rt, "memory");
+}
+
+/// Its route.
+pub fn led_right(
+    rt: &impl Abort,
+    alloc: Global,
+    right: Prefix,
+    target: Target,
+) -> Delta<VpnKey, VpnRoute> {
     let mut targets = Targets::new(alloc);
     let added = targets.insert(target);
     added.expect(rt, "memory");
-    let key = VpnKey {
-        rd: Rd(0x0001_c000_020c_4001),
-        prefix: right,
-    };
     let route = VpnRoute {
         next_hop: FAR,
         label: Label(557_059),
         targets,
     };
-    let told = tables.set_peer_route(1, Delta::Put(key, route));
-    told.expect(rt, "memory");
+    Delta::Put(right_key(right), route)
+}
+
+pub fn right_key(right: Prefix) -> VpnKey {
+    VpnKey {
+        rd: Rd(0x0001_c000_020c_4001),
+        prefix: right,
+    }
 }
 
 /// The feed tells a port of network 1 at the agent.

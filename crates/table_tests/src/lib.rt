@@ -16,6 +16,8 @@ mod peers;
 #[cfg(test)]
 mod selection;
 #[cfg(test)]
+mod stored;
+#[cfg(test)]
 mod tables;
 #[cfg(test)]
 mod touched;
