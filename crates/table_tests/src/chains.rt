@@ -1,5 +1,8 @@
 //! A control node at a chain of two services between networks 1 and 2: its agent, on session 2, stands at the first
 //! service, and its peer, on session 1, has an agent at the second.
+ghost use Rattle.ov_types.specs.declared.objects.LowKey.TheVariants as key;
+ghost use Rattle.vpn_tables.specs.Ranges.{Fits};
+
 use ov_sync::Delta;
 use ov_types::{
     Addr, InstanceId, Items, Label, LowKey, LowValue, PortNo, Prefix, Rd, ServiceNo, Target,
@@ -42,7 +45,9 @@ fn feed_chain(rt: &impl Abort, alloc: Global, tables: &mut VpnTables, left: Pref
 }
 
 /// The use of the chain.
-pub fn chain_object(rt: &impl Abort, alloc: Global, left: Prefix, right: Prefix) -> LowValue {
+pub fn chain_object(rt: &impl Abort, alloc: Global, left: Prefix, right: Prefix) -> LowValue
+    ensures { Fits (key.ChainUse 0) result }
+{
     let lefts = vec![in alloc; left].expect(rt, "memory");
     let rights = vec![in alloc; right].expect(rt, "memory");
     let hops = vec![in alloc; (ServiceNo(1), NEAR), (ServiceNo(2), FAR)].expect(rt, "memory");

@@ -32,8 +32,8 @@ fn tell(rt: &impl Abort, alloc: Global, tables: &mut StoredTables) {
 }
 
 /// Whether a subnet is up at a place, by what is stored and by the plain tables.
-fn is_up(rt: &impl Abort, tables: &StoredTables, place: u16, of: &Prefix, right: bool) -> bool {
-    let hop = InstanceId(16384 + place);
+fn is_up(rt: &impl Abort, tables: &StoredTables, place: u8, of: &Prefix, right: bool) -> bool {
+    let hop = InstanceId(16384 + u16::from(place));
     let up = tables.up(hop, of, right);
     assert!(rt; up == tables.held().up(hop, of, right));
     up
@@ -44,7 +44,7 @@ fn is_up(rt: &impl Abort, tables: &StoredTables, place: u16, of: &Prefix, right:
 fn are_up(rt: &impl Abort, alloc: Global, tables: &StoredTables, want: &str) {
     let (left, right) = ends(rt);
     let mut text = String::new(alloc);
-    for place in 0..4u16 {
+    for place in 0..4u8 {
         let from_left = is_up(rt, tables, place, &left, false);
         let from_right = is_up(rt, tables, place, &right, true);
         assert!(rt; !is_up(rt, tables, place, &left, true));
