@@ -23,7 +23,8 @@ pub const COMMANDS: &str =
 ";
 
 /// A line for each exit status.
-pub const STATUSES: &str = "exit status, each but 0 with a sentence for people on standard error:
+pub const STATUSES: &str =
+    "exit status; from 3 on standard error has a sentence for people, at 2 the usage:
   0  done: all was read, and all is written
   2  the words are no command
   3  standard input could not be read
