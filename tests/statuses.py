@@ -118,7 +118,7 @@ BAD = [
     (b"[]", b"Kind", b"the document is a JSON value of another kind than the form wants there"),
     (b"{}", b"topology Missing", b"topology is missing, and the form wants it"),
     (document(networks=[network("red", 0)]), b"configuration.networks[0].id Range",
-     b"configuration.networks[0].id is a number, a text or a list outside what the form allows there"),
+     b"configuration.networks[0].id is outside what the form allows there (docs/FORMATS.md)"),
     (document(nets=[]), b"configuration.nets Unknown", b"configuration.nets is a member that the form does not have there"),
     (document(**{"n" * 600: []}), b"configuration.%s Unknown" % (b"n" * 600),
      b"configuration.%s.. breaks the form; standard output has the whole path, and how" % (b"n" * 485)),

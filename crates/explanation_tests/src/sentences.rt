@@ -23,7 +23,7 @@ fn each_kind_of_fault_has_a_sentence(rt: HostRuntime) {
         ),
         (
             "bad document configuration.networks[0].id Range\n",
-            "overlay: configuration.networks[0].id is a number, a text or a list outside what the form allows there\n",
+            "overlay: configuration.networks[0].id is outside what the form allows there (docs/FORMATS.md)\n",
         ),
         (
             "bad document topology.Kind Range Unknown\n",

@@ -20,7 +20,7 @@ subject_of path = if length path == 0 then codes "the document" else path
 abbrev pub form_sentence : FormKind → List ℕ → List ℕ
 form_sentence Missing path = subject_of path ++ codes " is missing, and the form wants it"
 form_sentence Kind path = subject_of path ++ codes " is a JSON value of another kind than the form wants there"
-form_sentence Range path = subject_of path ++ codes " is a number, a text or a list outside what the form allows there"
+form_sentence Range path = subject_of path ++ codes " is outside what the form allows there (docs/FORMATS.md)"
 form_sentence Unknown path = subject_of path ++ codes " is a member that the form does not have there"
 form_sentence Cut path = path ++ codes ".. breaks the form; standard output has the whole path, and how"
 

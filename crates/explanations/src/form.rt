@@ -51,7 +51,7 @@ impl fmt::Display for FormFault<'_> {
             ),
             FormKind::Range => write!(
                 f,
-                "{subject} is a number, a text or a list outside what the form allows there"
+                "{subject} is outside what the form allows there (docs/FORMATS.md)"
             ),
             FormKind::Unknown => write!(
                 f,
