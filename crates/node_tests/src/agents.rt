@@ -1,7 +1,7 @@
+//! Agents: what happens at one, step by step, and what is seen of it then.
 ghost use Rattle.std.specs.Prelude.{◌≤◌};
 
-use crate::links::{add_queues, were_sent};
-use crate::scenes::{AtAgent, at_an_agent};
+use crate::links::{add_failing, add_queues, break_link, were_sent};
 use agent_node::{AgentNode, AgentPlan};
 use item_wire::ItemCause;
 use ov_link::{FailingLink, Input, Link, Links, NodeFault, QueueLink, Stepped};
@@ -38,6 +38,57 @@ const SECOND: &[u8] = b"\0\0\0\x1a{\"name\":\"c2\",\"op\":\"hello\"}\
 
 const SECOND_HELLO: &[u8] = b"\0\0\0\x1a{\"name\":\"c2\",\"op\":\"hello\"}";
 
+pub const N1: Addr = Addr(0xc000_020b);
+
+const N2: Addr = Addr(0xc000_020c);
+
+/// A row: its instance, the address and the length of its prefix, its next hop and its label.
+type Row = (u16, u32, u8, Addr, u32);
+
+/// What happens at an agent, or what is seen of it then.
+#[derive(Clone, Copy)]
+pub enum Step {
+    /// The session is opened.
+    Open(u16),
+    /// It is opened, and its link fails.
+    OpenInVain(u16),
+    /// Octets come on it.
+    Bring(u16, &'static [u8]),
+    /// Octets come on it that close it, for this cause.
+    BringWrong(u16, &'static [u8], ItemCause),
+    /// A record comes on it, behind its length.
+    BringRecord(u16, &'static [u8]),
+    /// On the first session come the octets of `FIRST` from one place to another.
+    BringPart(usize, usize),
+    /// On the first session come the octets of `FIRST` one by one.
+    BringOctets,
+    /// On the first session come the length of the longest record, and as many blanks as it lacks but one.
+    BringBlanks,
+    /// The session is lost.
+    Close(u16),
+    Restart,
+    /// The access lists say nothing of 10.1.0.9.
+    Undecided,
+    /// On the link of the session these messages were sent. They are taken out.
+    Sent(u16, &'static [&'static [u8]]),
+    /// The session is live or not, and up or not.
+    Stands(u16, bool, bool),
+    /// So many octets are kept of the first session.
+    Keeps(usize),
+    /// These labels are shown.
+    Labels(&'static [(Label, Attached)]),
+    /// These routes are shown.
+    Routes(&'static [Row]),
+    /// No access list is shown.
+    NoLists,
+    /// A label leads there.
+    Finds(u32, Option<Attached>),
+    /// An instance leads 10.1.0.9 there.
+    Leads(u16, Option<Entry>),
+    /// It is at 192.0.2.11, and no memory was wanting.
+    Works,
+}
+
 pub fn id(rt: &impl Abort, name: &str, address: u32) -> NodeId {
     NodeId {
         name: Name::new(name).expect(rt, "a name"),
@@ -46,7 +97,7 @@ pub fn id(rt: &impl Abort, name: &str, address: u32) -> NodeId {
 }
 
 /// The agent a1, with these control nodes.
-pub fn agent(rt: &impl Abort, alloc: Global, address: Addr, controllers: &[NodeId]) -> AgentNode {
+fn agent(rt: &impl Abort, alloc: Global, address: Addr, controllers: &[NodeId]) -> AgentNode {
     let controllers = Vec::from_slice(alloc, controllers).expect(rt, "memory");
     let plan = AgentPlan {
         me: id(rt, "a1", address.0),
@@ -57,70 +108,272 @@ pub fn agent(rt: &impl Abort, alloc: Global, address: Addr, controllers: &[NodeI
 }
 
 /// The agent a1 at 192.0.2.11, with control nodes c1 and c2.
-pub fn with_two(rt: &impl Abort, alloc: Global) -> AgentNode {
+fn with_two(rt: &impl Abort, alloc: Global) -> AgentNode {
     let controllers = [id(rt, "c1", 0xc000_0201), id(rt, "c2", 0xc000_0202)];
     agent(rt, alloc, N1, &controllers)
 }
 
-/// What comes of opening a session that is closed.
-fn opened<L: Link>(
-    rt: &impl Abort,
+/// What comes of an input.
+type Answer = Result<Stepped<ItemCause>, NodeFault>;
+
+const DONE: Answer = Ok(Stepped::Done);
+
+/// Whether this comes of opening a session that is closed.
+fn opens<L: Link>(
     node: &mut AgentNode,
     links: &mut Links<L>,
     session: u16,
-) -> Result<Stepped<ItemCause>, NodeFault> {
-    assert!(rt; links.len() == node.sessions());
-    assert!(rt; session < node.sessions());
-    assert!(rt; !node.is_live(session));
-    node.step(Input::Opened { session }, links)
+    answer: Answer,
+) -> bool {
+    if links.len() != node.sessions() {
+        return false;
+    }
+    if session >= node.sessions() {
+        return false;
+    }
+    if node.is_live(session) {
+        return false;
+    }
+    node.step(Input::Opened { session }, links) == answer
 }
 
-/// The session is opened, and nothing else comes of it.
-pub fn open<L: Link>(rt: &impl Abort, node: &mut AgentNode, links: &mut Links<L>, session: u16) {
-    let answer = opened(rt, node, links, session);
-    assert!(rt; matches!(answer, Ok(Stepped::Done)), "{session}");
-}
-
-/// What comes of octets.
-pub fn told<L: Link>(
-    rt: &impl Abort,
-    node: &mut AgentNode,
-    links: &mut Links<L>,
-    session: u16,
-    bytes: &[u8],
-) -> Result<Stepped<ItemCause>, NodeFault> {
-    assert!(rt; links.len() == node.sessions());
-    assert!(rt; session < node.sessions());
-    assert!(rt; node.is_live(session));
-    node.step(Input::Bytes { session, bytes }, links)
-}
-
-/// Octets come, and nothing else comes of them.
-pub fn bring<L: Link>(
-    rt: &impl Abort,
+/// Whether this comes of octets.
+fn hears<L: Link>(
     node: &mut AgentNode,
     links: &mut Links<L>,
     session: u16,
     bytes: &[u8],
+    answer: Answer,
+) -> bool {
+    if links.len() != node.sessions() {
+        return false;
+    }
+    if session >= node.sessions() {
+        return false;
+    }
+    if !node.is_live(session) {
+        return false;
+    }
+    node.step(Input::Bytes { session, bytes }, links) == answer
+}
+
+/// Whether nothing else comes of the loss of a session.
+fn loses<L: Link>(node: &mut AgentNode, links: &mut Links<L>, session: u16) -> bool {
+    if links.len() != node.sessions() {
+        return false;
+    }
+    if session >= node.sessions() {
+        return false;
+    }
+    if !node.is_live(session) {
+        return false;
+    }
+    node.step(Input::Closed { session }, links) == DONE
+}
+
+/// Appends a record behind its length, which has one octet.
+fn push_record(octets: &mut Vec<u8>, json: &[u8]) -> Option<()> {
+    let length = u8::try_from(json.len()).ok()?;
+    octets.extend_from_slice(&[0, 0, 0, length]).ok()?;
+    octets.extend_from_slice(json).ok()
+}
+
+/// Whether nothing else comes of records, each behind its length.
+pub fn hears_records<L: Link>(
+    alloc: Global,
+    node: &mut AgentNode,
+    links: &mut Links<L>,
+    session: u16,
+    records: &[&[u8]],
+) -> bool {
+    let mut octets = Vec::new(alloc);
+    for json in records {
+        if push_record(&mut octets, json).is_none() {
+            return false;
+        }
+    }
+    hears(node, links, session, octets.as_slice(), DONE)
+}
+
+fn hears_part<L: Link>(node: &mut AgentNode, links: &mut Links<L>, from: usize, to: usize) -> bool {
+    let octets = FIRST;
+    if to > octets.len() {
+        return false;
+    }
+    if from > to {
+        return false;
+    }
+    hears(node, links, 0, &octets[from..to], DONE)
+}
+
+fn hears_octets<L: Link>(node: &mut AgentNode, links: &mut Links<L>) -> bool {
+    for octet in FIRST {
+        if !hears(node, links, 0, &[*octet], DONE) {
+            return false;
+        }
+    }
+    true
+}
+
+fn push_blanks(octets: &mut Vec<u8>) -> Option<()> {
+    octets.extend_from_slice(&[0, 1, 0, 0]).ok()?;
+    for _ in 0..65_535 {
+        octets.push(b' ').ok()?;
+    }
+    Some(())
+}
+
+fn hears_blanks<L: Link>(alloc: Global, node: &mut AgentNode, links: &mut Links<L>) -> bool {
+    let mut octets = Vec::new(alloc);
+    if push_blanks(&mut octets).is_none() {
+        return false;
+    }
+    hears(node, links, 0, octets.as_slice(), DONE)
+}
+
+fn restarts(node: &mut AgentNode) -> bool {
+    node.restart();
+    true
+}
+
+fn is_undecided(node: &mut AgentNode) -> bool {
+    node.verdict(InstanceId(1), &packet(7, AT_9.0)) == Verdict::NoDestination
+}
+
+/// Whether an input comes to what it is to come to, or what is to be seen is seen.
+fn takes<L: Link>(alloc: Global, node: &mut AgentNode, links: &mut Links<L>, step: Step) -> bool {
+    match step {
+        Step::Open(session) => opens(node, links, session, DONE),
+        Step::OpenInVain(session) => {
+            opens(node, links, session, Err(NodeFault::LinkFailed { session }))
+        }
+        Step::Bring(session, octets) => hears(node, links, session, octets, DONE),
+        Step::BringWrong(session, octets, cause) => {
+            let closed = Ok(Stepped::Closed { session, cause });
+            hears(node, links, session, octets, closed)
+        }
+        Step::BringRecord(session, json) => hears_records(alloc, node, links, session, &[json]),
+        Step::BringPart(from, to) => hears_part(node, links, from, to),
+        Step::BringOctets => hears_octets(node, links),
+        Step::BringBlanks => hears_blanks(alloc, node, links),
+        Step::Close(session) => loses(node, links, session),
+        Step::Restart => restarts(node),
+        Step::Undecided => is_undecided(node),
+        seen => sees(node, seen),
+    }
+}
+
+/// Whether this is seen of an agent, apart from its links.
+fn sees(node: &AgentNode, seen: Step) -> bool {
+    match seen {
+        Step::Stands(session, is_live, is_up) => stands(node, session, is_live, is_up),
+        Step::Keeps(count) => keeps(node, count),
+        Step::Finds(label, at) => node.find(Label(label)) == at,
+        Step::Leads(instance, entry) => node.route(InstanceId(instance), AT_9) == entry,
+        Step::Works => works(node),
+        shown => shows(node, shown),
+    }
+}
+
+fn stands(node: &AgentNode, session: u16, is_live: bool, is_up: bool) -> bool {
+    if session >= node.sessions() {
+        return false;
+    }
+    if node.is_live(session) != is_live {
+        return false;
+    }
+    node.is_up(session) == is_up
+}
+
+fn keeps(node: &AgentNode, count: usize) -> bool {
+    if node.sessions() < 1 {
+        return false;
+    }
+    node.pending(0) == count
+}
+
+fn works(node: &AgentNode) -> bool {
+    if node.failed() {
+        return false;
+    }
+    node.address() == N1
+}
+
+/// Whether this is among the rows that an agent shows.
+fn shows(node: &AgentNode, shown: Step) -> bool {
+    match node.rows() {
+        Ok(rows) => are_shown(&rows, shown),
+        Err(_) => false,
+    }
+}
+
+fn are_shown(rows: &AgentRows, shown: Step) -> bool {
+    match shown {
+        Step::Labels(labels) => rows.labels.as_slice() == labels,
+        Step::Routes(routes) => are_routes(rows.routes.as_slice(), routes),
+        Step::NoLists => rows.acls.is_empty(),
+        _ => false,
+    }
+}
+
+fn are_routes(shown: &[((InstanceId, Prefix), Entry)], routes: &[Row]) -> bool {
+    for (one, wanted) in shown.iter().zip(routes) {
+        if !is_route(one, wanted) {
+            return false;
+        }
+    }
+    shown.len() == routes.len()
+}
+
+/// Whether a row is shown so.
+fn is_route(shown: &((InstanceId, Prefix), Entry), wanted: &Row) -> bool {
+    let (instance, address, length, next_hop, label) = *wanted;
+    let entry = Entry {
+        next_hop,
+        label: Label(label),
+    };
+    match Prefix::new(Addr(address), length) {
+        Some(prefix) => *shown == ((InstanceId(instance), prefix), entry),
+        None => false,
+    }
+}
+
+fn takes_over_queues(
+    alloc: Global,
+    node: &mut AgentNode,
+    links: &mut Links<QueueLink>,
+    step: Step,
+) -> bool {
+    match step {
+        Step::Sent(session, messages) => were_sent(links, session, messages),
+        other => takes(alloc, node, links, other),
+    }
+}
+
+/// These steps come to what they are to come to, over links on which nothing fails.
+fn take_all(
+    rt: &impl Abort,
+    alloc: Global,
+    node: &mut AgentNode,
+    links: &mut Links<QueueLink>,
+    steps: &[Step],
 ) {
-    let answer = told(rt, node, links, session, bytes);
-    assert!(rt; matches!(answer, Ok(Stepped::Done)), "{session}");
+    for (place, step) in steps.iter().enumerate() {
+        let is_so = takes_over_queues(alloc, node, links, *step);
+        assert!(rt; is_so, "step {place}");
+    }
 }
 
-/// The session is lost, and nothing else comes of it.
-pub fn close<L: Link>(rt: &impl Abort, node: &mut AgentNode, links: &mut Links<L>, session: u16) {
-    assert!(rt; links.len() == node.sessions());
-    assert!(rt; session < node.sessions());
-    assert!(rt; node.is_live(session));
-    let answer = node.step(Input::Closed { session }, links);
-    assert!(rt; matches!(answer, Ok(Stepped::Done)), "{session}");
+/// They do so at an agent that is new, with two control nodes.
+pub fn at_an_agent(rt: &impl Abort, alloc: Global, steps: &[Step]) {
+    let mut node = with_two(rt, alloc);
+    over_two_queues(rt, alloc, &mut node, steps);
 }
 
-/// How far a session is.
-pub fn stands(rt: &impl Abort, node: &AgentNode, session: u16, is_live: bool, is_up: bool) {
-    assert!(rt; session < node.sessions());
-    assert!(rt; node.is_live(session) == is_live, "{session}");
-    assert!(rt; node.is_up(session) == is_up, "{session}");
+fn over_two_queues(rt: &impl Abort, alloc: Global, node: &mut AgentNode, steps: &[Step]) {
+    let mut links = Links::new(alloc);
+    assert!(rt; add_queues(alloc, &mut links, 2));
+    take_all(rt, alloc, node, &mut links, steps);
 }
 
 const PORT_7: Attached = Attached::Port {
@@ -129,29 +382,27 @@ const PORT_7: Attached = Attached::Port {
 };
 
 /// The first control node comes, then the second, and then the first is lost.
-pub fn change_control_nodes(rt: &impl Abort, node: &mut AgentNode, links: &mut Links<QueueLink>) {
-    open(rt, node, links, 0);
-    were_sent(rt, links, 0, &[HELLO]);
-    stands(rt, node, 0, true, false);
-    bring(rt, node, links, 0, FIRST);
-    stands(rt, node, 0, true, true);
-    were_sent(rt, links, 0, &[PUBLISH, SUBSCRIBE]);
-
-    open(rt, node, links, 1);
-    were_sent(rt, links, 1, &[HELLO, PUBLISH, SUBSCRIBE]);
-    bring(rt, node, links, 1, SECOND);
-    were_sent(rt, links, 0, &[]);
-    were_sent(rt, links, 1, &[]);
-
-    close(rt, node, links, 0);
-    were_sent(rt, links, 0, &[]);
-    were_sent(rt, links, 1, &[UNPUBLISH, PUBLISH_OTHER]);
-    assert!(rt; node.find(Label(23)) == Some(PORT_7));
-}
+const CONTROL_NODES_CHANGE: [Step; 15] = [
+    Step::Open(0),
+    Step::Sent(0, &[HELLO]),
+    Step::Stands(0, true, false),
+    Step::Bring(0, FIRST),
+    Step::Stands(0, true, true),
+    Step::Sent(0, &[PUBLISH, SUBSCRIBE]),
+    Step::Open(1),
+    Step::Sent(1, &[HELLO, PUBLISH, SUBSCRIBE]),
+    Step::Bring(1, SECOND),
+    Step::Sent(0, &[]),
+    Step::Sent(1, &[]),
+    Step::Close(0),
+    Step::Sent(0, &[]),
+    Step::Sent(1, &[UNPUBLISH, PUBLISH_OTHER]),
+    Step::Finds(23, Some(PORT_7)),
+];
 
 #[test]
 fn an_agent_comes_up_and_goes_on_with_the_second_control_node(rt: HostRuntime) {
-    at_an_agent(&rt, rt.alloc(), AtAgent::ChangeControlNodes);
+    at_an_agent(&rt, rt.alloc(), &CONTROL_NODES_CHANGE);
 }
 
 const TO_9: Entry = Entry {
@@ -161,139 +412,164 @@ const TO_9: Entry = Entry {
 
 const AT_9: Addr = Addr(0x0a01_0009);
 
-/// The label of port 7 is the only one that is shown, and no list is.
-fn has_port_7(rt: &impl Abort, rows: &AgentRows) {
-    assert!(rt; rows.labels.as_slice() == [(Label(23), PORT_7)].as_slice());
-    assert!(rt; rows.acls.is_empty());
-}
+/// The label of port 7 is the only one.
+const PORT_7_ALONE: Step = Step::Labels(&[(Label(23), PORT_7)]);
 
-/// The route of 10.1.0.9 is the only one.
-fn has_route_9(rt: &impl Abort, rows: &AgentRows) {
-    let route = ((InstanceId(1), Prefix::host(AT_9)), TO_9);
-    assert!(rt; rows.routes.as_slice() == [route].as_slice());
-}
-
-/// The label of port 7 and the route of 10.1.0.9 are all that is shown.
-fn shows_both(rt: &impl Abort, node: &AgentNode) {
-    let rows = node.rows().expect(rt, "memory");
-    has_port_7(rt, &rows);
-    has_route_9(rt, &rows);
-}
-
-/// The label of port 7 is all that is shown.
-fn shows_the_port(rt: &impl Abort, node: &AgentNode) {
-    let rows = node.rows().expect(rt, "memory");
-    has_port_7(rt, &rows);
-    assert!(rt; rows.routes.is_empty());
-}
-
-/// No label is shown.
-fn shows_no_label(rt: &impl Abort, node: &AgentNode) {
-    let rows = node.rows().expect(rt, "memory");
-    assert!(rt; rows.labels.is_empty());
-}
-
-fn finds(rt: &impl Abort, node: &AgentNode) {
-    assert!(rt; node.address() == N1);
-    assert!(rt; node.find(Label(23)) == Some(PORT_7));
-    assert!(rt; node.find(Label(24)).is_none());
-}
-
-fn leads(rt: &impl Abort, node: &AgentNode) {
-    assert!(rt; node.route(InstanceId(1), AT_9) == Some(TO_9));
-    assert!(rt; node.route(InstanceId(2), AT_9).is_none());
-}
-
-/// The access lists say nothing of 10.1.0.9.
-fn decides(rt: &impl Abort, node: &mut AgentNode) {
-    let verdict = node.verdict(InstanceId(1), &packet(7, AT_9.0));
-    assert!(rt; verdict == Verdict::NoDestination);
-}
+/// The route of 10.1.0.9 that the second control node tells is the only one.
+const ROUTE_9_ALONE: Step = Step::Routes(&[(1, 0x0a01_0009, 32, N2, 24)]);
 
 /// The second control node tells its rows, and then the agent is started again.
-pub fn show_and_restart(rt: &impl Abort, node: &mut AgentNode, links: &mut Links<QueueLink>) {
-    open(rt, node, links, 1);
-    bring(rt, node, links, 1, SECOND);
-    shows_both(rt, node);
-    finds(rt, node);
-    leads(rt, node);
-    decides(rt, node);
-    node.restart();
-    assert!(rt; !node.failed());
-    stands(rt, node, 1, false, false);
-    shows_no_label(rt, node);
-    assert!(rt; node.route(InstanceId(1), AT_9).is_none());
-}
+const ROWS_ARE_SHOWN: [Step; 17] = [
+    Step::Open(1),
+    Step::Bring(1, SECOND),
+    PORT_7_ALONE,
+    Step::NoLists,
+    ROUTE_9_ALONE,
+    Step::Works,
+    Step::Finds(23, Some(PORT_7)),
+    Step::Finds(24, None),
+    Step::Leads(1, Some(TO_9)),
+    Step::Leads(2, None),
+    Step::Undecided,
+    Step::Restart,
+    Step::Works,
+    Step::Stands(1, false, false),
+    Step::Labels(&[]),
+    Step::Leads(1, None),
+    Step::Routes(&[]),
+];
 
 #[test]
 fn rows_are_shown_and_forwarded_by(rt: HostRuntime) {
-    at_an_agent(&rt, rt.alloc(), AtAgent::ShowAndRestart);
+    at_an_agent(&rt, rt.alloc(), &ROWS_ARE_SHOWN);
 }
 
 /// The second control node greets on the session of the first.
-pub fn greet_by_another_name(rt: &impl Abort, node: &mut AgentNode, links: &mut Links<QueueLink>) {
-    open(rt, node, links, 0);
-    match told(rt, node, links, 0, SECOND_HELLO) {
-        Ok(Stepped::Closed { session, cause }) => {
-            assert!(rt; session == 0);
-            assert!(rt; cause == ItemCause::WrongName);
-        }
-        _ => assert!(rt; false, "another node's hello is heard"),
-    }
-    stands(rt, node, 0, false, false);
-    open(rt, node, links, 0);
-    were_sent(rt, links, 0, &[HELLO, HELLO]);
-}
+const ANOTHER_GREETS: [Step; 5] = [
+    Step::Open(0),
+    Step::BringWrong(0, SECOND_HELLO, ItemCause::WrongName),
+    Step::Stands(0, false, false),
+    Step::Open(0),
+    Step::Sent(0, &[HELLO, HELLO]),
+];
 
 #[test]
 fn a_hello_of_another_node_closes_the_session(rt: HostRuntime) {
-    at_an_agent(&rt, rt.alloc(), AtAgent::GreetByAnotherName);
+    at_an_agent(&rt, rt.alloc(), &ANOTHER_GREETS);
 }
 
-/// The second send from now on fails on the link of the second session.
-fn break_second(rt: &impl Abort, links: &mut Links<FailingLink>) {
-    assert!(rt; 1 < links.len());
-    links.get_mut(1).add_break(2).expect(rt, "memory");
-}
+/// Once the first control node has told its port, the link of the second session fails as the agent publishes.
+const PUBLICATION_FAILS: [Step; 8] = [
+    Step::OpenInVain(1),
+    Step::Stands(0, true, true),
+    Step::Stands(1, false, false),
+    PORT_7_ALONE,
+    Step::NoLists,
+    Step::Routes(&[]),
+    Step::Works,
+    Step::Open(1),
+];
 
-/// The second session is opened, and its link fails.
-fn open_in_vain(rt: &impl Abort, node: &mut AgentNode, links: &mut Links<FailingLink>) {
-    let answer = opened(rt, node, links, 1);
-    assert!(rt; matches!(answer, Err(NodeFault::LinkFailed { session: 1 })));
-}
-
-/// The link of the second session fails as the agent publishes.
-fn publish_over_a_break(rt: &impl Abort, node: &mut AgentNode, links: &mut Links<FailingLink>) {
-    open(rt, node, links, 0);
-    bring(rt, node, links, 0, FIRST);
-    break_second(rt, links);
-    open_in_vain(rt, node, links);
-    stands(rt, node, 0, true, true);
-    stands(rt, node, 1, false, false);
-    shows_the_port(rt, node);
-    assert!(rt; !node.failed());
-    open(rt, node, links, 1);
-}
-
-/// Two links on which sends may fail.
-fn add_failing(rt: &impl Abort, alloc: Global, links: &mut Links<FailingLink>) {
-    for _ in 0..2 {
-        assert!(rt; links.len() < 9);
-        links.push(FailingLink::new(alloc)).expect(rt, "memory");
+fn take_over_breaks(
+    rt: &impl Abort,
+    alloc: Global,
+    node: &mut AgentNode,
+    links: &mut Links<FailingLink>,
+    steps: &[Step],
+) {
+    for (place, step) in steps.iter().enumerate() {
+        let is_so = takes(alloc, node, links, *step);
+        assert!(rt; is_so, "step {place}");
     }
+}
+
+/// The second send on the second of two links fails.
+fn publish_over_a_break(rt: &impl Abort, alloc: Global, node: &mut AgentNode) {
+    let mut links = Links::new(alloc);
+    assert!(rt; add_failing(alloc, &mut links, 2));
+    take_over_breaks(
+        rt,
+        alloc,
+        node,
+        &mut links,
+        &[Step::Open(0), Step::Bring(0, FIRST)],
+    );
+    assert!(rt; break_link(&mut links, 1, 2));
+    take_over_breaks(rt, alloc, node, &mut links, &PUBLICATION_FAILS);
 }
 
 #[test]
 fn a_publication_that_fails_closes_its_session_alone(rt: HostRuntime) {
-    let mut links = Links::new(rt.alloc());
-    add_failing(&rt, rt.alloc(), &mut links);
     let mut node = with_two(&rt, rt.alloc());
-    publish_over_a_break(&rt, &mut node, &mut links);
+    publish_over_a_break(&rt, rt.alloc(), &mut node);
 }
 
-pub const N1: Addr = Addr(0xc000_020b);
+/// Both control nodes come, and tell routes one by one, of which nothing is told on; then the first is lost. Instance 2 is
+/// not needed.
+const ROUTES_COME_AND_GO: [Step; 36] = [
+    Step::Open(0),
+    Step::Bring(0, FIRST),
+    PORT_7_ALONE,
+    Step::Routes(&[]),
+    Step::Open(1),
+    Step::Bring(1, SECOND),
+    PORT_7_ALONE,
+    ROUTE_9_ALONE,
+    Step::Sent(0, &[HELLO, PUBLISH, SUBSCRIBE]),
+    Step::Sent(1, &[HELLO, PUBLISH, SUBSCRIBE]),
+    Step::BringRecord(
+        0,
+        b"{\"instance\":1,\"label\":23,\"next_hop\":\"192.0.2.11\",\"op\":\"route\",\"prefix\":\"10.1.0.9/32\"}",
+    ),
+    PORT_7_ALONE,
+    Step::Routes(&[(1, 0x0a01_0009, 32, N1, 23)]),
+    Step::BringRecord(
+        1,
+        b"{\"instance\":1,\"label\":25,\"next_hop\":\"192.0.2.12\",\"op\":\"route\",\"prefix\":\"10.1.0.8/32\"}",
+    ),
+    PORT_7_ALONE,
+    Step::Routes(&[(1, 0x0a01_0008, 32, N2, 25), (1, 0x0a01_0009, 32, N1, 23)]),
+    Step::BringRecord(
+        0,
+        b"{\"instance\":2,\"label\":23,\"next_hop\":\"192.0.2.11\",\"op\":\"route\",\"prefix\":\"10.1.0.9/32\"}",
+    ),
+    PORT_7_ALONE,
+    Step::Routes(&[(1, 0x0a01_0008, 32, N2, 25), (1, 0x0a01_0009, 32, N1, 23)]),
+    Step::BringRecord(
+        1,
+        b"{\"instance\":1,\"label\":26,\"next_hop\":\"192.0.2.12\",\"op\":\"route\",\"prefix\":\"10.1.0.9/32\"}",
+    ),
+    PORT_7_ALONE,
+    Step::Routes(&[(1, 0x0a01_0008, 32, N2, 25), (1, 0x0a01_0009, 32, N1, 23)]),
+    Step::BringRecord(
+        0,
+        b"{\"instance\":1,\"op\":\"unroute\",\"prefix\":\"10.1.0.9/32\"}",
+    ),
+    PORT_7_ALONE,
+    Step::Routes(&[(1, 0x0a01_0008, 32, N2, 25), (1, 0x0a01_0009, 32, N2, 26)]),
+    Step::BringRecord(
+        1,
+        b"{\"instance\":1,\"op\":\"unroute\",\"prefix\":\"10.1.0.8/32\"}",
+    ),
+    PORT_7_ALONE,
+    Step::Routes(&[(1, 0x0a01_0009, 32, N2, 26)]),
+    Step::BringRecord(
+        0,
+        b"{\"instance\":1,\"label\":24,\"next_hop\":\"192.0.2.11\",\"op\":\"route\",\"prefix\":\"10.1.0.0/24\"}",
+    ),
+    PORT_7_ALONE,
+    Step::Routes(&[(1, 0x0a01_0000, 24, N1, 24), (1, 0x0a01_0009, 32, N2, 26)]),
+    Step::Sent(0, &[]),
+    Step::Sent(1, &[]),
+    Step::Close(0),
+    PORT_7_ALONE,
+    Step::Routes(&[(1, 0x0a01_0009, 32, N2, 26)]),
+];
 
-const N2: Addr = Addr(0xc000_020c);
+#[test]
+fn routes_come_and_go_one_by_one(rt: HostRuntime) {
+    at_an_agent(&rt, rt.alloc(), &ROUTES_COME_AND_GO);
+}
 
 /// The slice of 192.0.2.11, and all rows of the instances that it needs, where port 1 of network 1 and port 2 of network
 /// 2 are joined by a chain of a service here and one at 192.0.2.12.
@@ -332,9 +608,6 @@ const TOLD_AT_N2: [&[u8]; 14] = [
     b"{\"instance\":16386,\"label\":557060,\"next_hop\":\"192.0.2.12\",\"op\":\"route\",\"prefix\":\"250.0.128.4/32\"}",
 ];
 
-/// A row: its instance, the address and the length of its prefix, its next hop and its label.
-type Row = (u16, u32, u8, Addr, u32);
-
 /// The rows of the chain at 192.0.2.11.
 const ROUTES_AT_N1: [Row; 8] = [
     (1, 0x0a01_0001, 32, N1, 17),
@@ -359,26 +632,92 @@ const ROUTES_AT_N2: [Row; 8] = [
     (16_386, 0xfa00_8004, 32, N2, 557_060),
 ];
 
-/// Records, each behind its length, which has one octet.
-pub fn framed(rt: &impl Abort, alloc: Global, records: &[&[u8]]) -> Vec<u8> {
-    let mut octets = Vec::new(alloc);
-    for json in records {
-        let length = u8::try_from(json.len()).ok().expect(rt, "a short record");
-        octets
-            .extend_from_slice(&[0, 0, 0, length])
-            .expect(rt, "memory");
-        octets.extend_from_slice(json).expect(rt, "memory");
+/// What is shown of the chain at 192.0.2.11.
+const SHOWN_AT_N1: [Step; 2] = [
+    Step::Labels(&[
+        (
+            Label(17),
+            Attached::Port {
+                port: PortNo(1),
+                instance: InstanceId(1),
+            },
+        ),
+        (
+            Label(557_057),
+            Attached::Circuit {
+                circuit: 32_769,
+                service: ServiceNo(1),
+            },
+        ),
+        (
+            Label(557_058),
+            Attached::Circuit {
+                circuit: 32_770,
+                service: ServiceNo(1),
+            },
+        ),
+    ]),
+    Step::Routes(&ROUTES_AT_N1),
+];
+
+/// And at 192.0.2.12.
+const SHOWN_AT_N2: [Step; 2] = [
+    Step::Labels(&[
+        (
+            Label(18),
+            Attached::Port {
+                port: PortNo(2),
+                instance: InstanceId(2),
+            },
+        ),
+        (
+            Label(557_059),
+            Attached::Circuit {
+                circuit: 32_771,
+                service: ServiceNo(2),
+            },
+        ),
+        (
+            Label(557_060),
+            Attached::Circuit {
+                circuit: 32_772,
+                service: ServiceNo(2),
+            },
+        ),
+    ]),
+    Step::Routes(&ROUTES_AT_N2),
+];
+
+/// Whether the one control node can tell these records, once its session is opened.
+fn is_filled(
+    alloc: Global,
+    node: &mut AgentNode,
+    links: &mut Links<QueueLink>,
+    records: &[&[u8]],
+) -> bool {
+    if !opens(node, links, 0, DONE) {
+        return false;
     }
-    octets
+    hears_records(alloc, node, links, 0, records)
 }
 
 /// The one control node tells these records.
-pub fn fill(rt: &impl Abort, alloc: Global, node: &mut AgentNode, records: &[&[u8]]) {
+fn fill(rt: &impl Abort, alloc: Global, node: &mut AgentNode, records: &[&[u8]]) {
     let mut links = Links::new(alloc);
-    add_queues(rt, alloc, &mut links, 1);
-    open(rt, node, &mut links, 0);
-    let octets = framed(rt, alloc, records);
-    bring(rt, node, &mut links, 0, octets.as_slice());
+    assert!(rt; add_queues(alloc, &mut links, 1));
+    assert!(rt; is_filled(alloc, node, &mut links, records));
+}
+
+/// The agent with one control node, which tells these records.
+pub fn told_of_a_chain(
+    rt: &impl Abort,
+    alloc: Global,
+    address: Addr,
+    records: &[&[u8]],
+) -> AgentNode {
+    let mut node = agent(rt, alloc, address, &[id(rt, "c1", 0xc000_0201)]);
+    fill(rt, alloc, &mut node, records);
+    node
 }
 
 pub fn packet(source: u16, destination: u32) -> Packet
@@ -395,177 +734,98 @@ pub fn packet(source: u16, destination: u32) -> Packet
     }
 }
 
-fn hop(node: Addr, instance: u16) -> Hop {
-    Hop {
-        node,
-        instance: InstanceId(instance),
-    }
-}
+/// A packet's source and destination, the port that it arrives at, the services that it passes, and its lookups.
+type Passage = (u16, u32, u32, &'static [ServiceNo], &'static [Hop]);
 
-/// The hops are these, and the packet arrives at a port past these services.
-fn arrived(rt: &impl Abort, trace: &Trace, to: u32, visited: &[ServiceNo], hops: &[Hop]) {
-    assert!(rt; trace.hops.as_slice() == hops);
-    match &trace.outcome {
-        Outcome::Delivered { port, services } => {
-            assert!(rt; port.0 == to);
-            assert!(rt; services.as_slice() == visited);
-        }
-        Outcome::Dropped { .. } => assert!(rt; false, "dropped"),
-    }
-}
+/// The lookup in an instance at an agent.
+const BEFORE: Hop = Hop {
+    node: N1,
+    instance: InstanceId(16384),
+};
 
-/// A row as it is shown.
-fn row(rt: &impl Abort, wanted: &Row) -> ((InstanceId, Prefix), Entry) {
-    let (instance, address, length, next_hop, label) = *wanted;
-    let prefix = Prefix::new(Addr(address), length).expect(rt, "a prefix");
-    let entry = Entry {
-        next_hop,
-        label: Label(label),
-    };
-    ((InstanceId(instance), prefix), entry)
-}
+const BETWEEN_AT_N1: Hop = Hop {
+    node: N1,
+    instance: InstanceId(16385),
+};
 
-/// What is shown has exactly these labels.
-fn labels_are(rt: &impl Abort, shown: &[(Label, Attached)], labels: &[u32]) {
-    assert!(rt; shown.len() == labels.len());
-    for (one, label) in shown.iter().zip(labels) {
-        assert!(rt; one.0.0 == *label);
-    }
-}
+const BETWEEN_AT_N2: Hop = Hop {
+    node: N2,
+    instance: InstanceId(16385),
+};
 
-/// What is shown has exactly these routes.
-fn routes_are(rt: &impl Abort, shown: &[((InstanceId, Prefix), Entry)], routes: &[Row]) {
-    assert!(rt; shown.len() == routes.len());
-    for (one, wanted) in shown.iter().zip(routes) {
-        assert!(rt; *one == row(rt, wanted));
-    }
-}
+const BEHIND: Hop = Hop {
+    node: N2,
+    instance: InstanceId(16386),
+};
 
-/// The agent shows exactly these labels and these rows.
-fn shows(rt: &impl Abort, node: &AgentNode, labels: &[u32], routes: &[Row]) {
-    let rows = node.rows().expect(rt, "memory");
-    labels_are(rt, rows.labels.as_slice(), labels);
-    routes_are(rt, rows.routes.as_slice(), routes);
-}
-
-/// A record that a session brings, and the rows that the agent shows then.
-type Turn = (u16, &'static [u8], &'static [Row]);
-
-/// Routes that come and go on two sessions, once both are up and the second leads 10.1.0.9 to 192.0.2.12. Instance 2 is
-/// not needed.
-const TURNS: [Turn; 7] = [
-    (
-        0,
-        b"{\"instance\":1,\"label\":23,\"next_hop\":\"192.0.2.11\",\"op\":\"route\",\"prefix\":\"10.1.0.9/32\"}",
-        &[(1, 0x0a01_0009, 32, N1, 23)],
-    ),
+const THERE_AND_BACK: [Passage; 2] = [
     (
         1,
-        b"{\"instance\":1,\"label\":25,\"next_hop\":\"192.0.2.12\",\"op\":\"route\",\"prefix\":\"10.1.0.8/32\"}",
-        &[(1, 0x0a01_0008, 32, N2, 25), (1, 0x0a01_0009, 32, N1, 23)],
+        0x0a02_0002,
+        2,
+        &[ServiceNo(1), ServiceNo(2)],
+        &[BEFORE, BETWEEN_AT_N1, BEHIND],
     ),
     (
-        0,
-        b"{\"instance\":2,\"label\":23,\"next_hop\":\"192.0.2.11\",\"op\":\"route\",\"prefix\":\"10.1.0.9/32\"}",
-        &[(1, 0x0a01_0008, 32, N2, 25), (1, 0x0a01_0009, 32, N1, 23)],
-    ),
-    (
+        2,
+        0x0a01_0001,
         1,
-        b"{\"instance\":1,\"label\":26,\"next_hop\":\"192.0.2.12\",\"op\":\"route\",\"prefix\":\"10.1.0.9/32\"}",
-        &[(1, 0x0a01_0008, 32, N2, 25), (1, 0x0a01_0009, 32, N1, 23)],
-    ),
-    (
-        0,
-        b"{\"instance\":1,\"op\":\"unroute\",\"prefix\":\"10.1.0.9/32\"}",
-        &[(1, 0x0a01_0008, 32, N2, 25), (1, 0x0a01_0009, 32, N2, 26)],
-    ),
-    (
-        1,
-        b"{\"instance\":1,\"op\":\"unroute\",\"prefix\":\"10.1.0.8/32\"}",
-        &[(1, 0x0a01_0009, 32, N2, 26)],
-    ),
-    (
-        0,
-        b"{\"instance\":1,\"label\":24,\"next_hop\":\"192.0.2.11\",\"op\":\"route\",\"prefix\":\"10.1.0.0/24\"}",
-        &[(1, 0x0a01_0000, 24, N1, 24), (1, 0x0a01_0009, 32, N2, 26)],
+        &[ServiceNo(2), ServiceNo(1)],
+        &[BEHIND, BETWEEN_AT_N2, BEFORE],
     ),
 ];
 
-/// Both control nodes come, and the second leads 10.1.0.9 to 192.0.2.12.
-fn hear_of_two(rt: &impl Abort, node: &mut AgentNode, links: &mut Links<QueueLink>) {
-    open(rt, node, links, 0);
-    bring(rt, node, links, 0, FIRST);
-    shows(rt, node, &[23], &[]);
-    open(rt, node, links, 1);
-    bring(rt, node, links, 1, SECOND);
-    shows(rt, node, &[23], &[(1, 0x0a01_0009, 32, N2, 24)]);
-    were_sent(rt, links, 0, &[HELLO, PUBLISH, SUBSCRIBE]);
-    were_sent(rt, links, 1, &[HELLO, PUBLISH, SUBSCRIBE]);
-}
-
-/// A session brings its record.
-fn take_turn(
-    rt: &impl Abort,
-    alloc: Global,
-    node: &mut AgentNode,
-    links: &mut Links<QueueLink>,
-    turn: &Turn,
-) {
-    let octets = framed(rt, alloc, &[turn.1]);
-    bring(rt, node, links, turn.0, octets.as_slice());
-    shows(rt, node, &[23], turn.2);
-}
-
-/// Both control nodes come, and tell routes one by one, of which nothing is told on; then the first is lost.
-pub fn take_turns(
-    rt: &impl Abort,
-    alloc: Global,
-    node: &mut AgentNode,
-    links: &mut Links<QueueLink>,
-) {
-    hear_of_two(rt, node, links);
-    for turn in &TURNS {
-        take_turn(rt, alloc, node, links, turn);
+/// Whether a packet arrived at a port past these services.
+fn arrived(outcome: &Outcome, to: u32, visited: &[ServiceNo]) -> bool {
+    match outcome {
+        Outcome::Delivered { port, services } => {
+            if port.0 != to {
+                return false;
+            }
+            services.as_slice() == visited
+        }
+        Outcome::Dropped { .. } => false,
     }
-    were_sent(rt, links, 0, &[]);
-    were_sent(rt, links, 1, &[]);
-    close(rt, node, links, 0);
-    shows(rt, node, &[23], &[(1, 0x0a01_0009, 32, N2, 26)]);
 }
 
-#[test]
-fn routes_come_and_go_one_by_one(rt: HostRuntime) {
-    at_an_agent(&rt, rt.alloc(), AtAgent::TakeTurns);
+/// Whether the lookups are these, and the packet arrived.
+fn passed(trace: &Trace, to: u32, visited: &[ServiceNo], hops: &[Hop]) -> bool {
+    if trace.hops.as_slice() != hops {
+        return false;
+    }
+    arrived(&trace.outcome, to, visited)
 }
 
-/// Traces a packet each way.
+fn passes(agents: &mut [AgentNode], passage: &Passage) -> bool {
+    let (source, destination, to, visited, hops) = *passage;
+    passed(
+        &trace(agents, packet(source, destination)),
+        to,
+        visited,
+        hops,
+    )
+}
+
+/// A packet passes each way.
 fn pass_both_ways(rt: &impl Abort, agents: &mut [AgentNode]) {
-    let there = trace(agents, packet(1, 0x0a02_0002));
-    let hops = [hop(N1, 16384), hop(N1, 16385), hop(N2, 16386)];
-    arrived(rt, &there, 2, &[ServiceNo(1), ServiceNo(2)], &hops);
-    let back = trace(agents, packet(2, 0x0a01_0001));
-    let hops = [hop(N2, 16386), hop(N2, 16385), hop(N1, 16384)];
-    arrived(rt, &back, 1, &[ServiceNo(2), ServiceNo(1)], &hops);
+    for passage in &THERE_AND_BACK {
+        let passes = passes(agents, passage);
+        assert!(rt; passes, "to port {}", passage.2);
+    }
 }
 
-/// The agent with one control node, which tells these records.
-pub fn told_of_a_chain(
-    rt: &impl Abort,
-    alloc: Global,
-    address: Addr,
-    records: &[&[u8]],
-) -> AgentNode {
-    let mut node = agent(rt, alloc, address, &[id(rt, "c1", 0xc000_0201)]);
-    fill(rt, alloc, &mut node, records);
-    node
+fn see_all(rt: &impl Abort, node: &AgentNode, steps: &[Step]) {
+    for (place, step) in steps.iter().enumerate() {
+        let is_so = sees(node, *step);
+        assert!(rt; is_so, "step {place}");
+    }
 }
 
 #[test]
 fn both_packets_pass_the_chain(rt: HostRuntime) {
-    let alloc = rt.alloc();
-    let near = told_of_a_chain(&rt, alloc, N1, &TOLD_AT_N1);
-    let far = told_of_a_chain(&rt, alloc, N2, &TOLD_AT_N2);
-    shows(&rt, &near, &[17, 557_057, 557_058], &ROUTES_AT_N1);
-    shows(&rt, &far, &[18, 557_059, 557_060], &ROUTES_AT_N2);
+    let near = told_of_a_chain(&rt, rt.alloc(), N1, &TOLD_AT_N1);
+    see_all(&rt, &near, &SHOWN_AT_N1);
+    let far = told_of_a_chain(&rt, rt.alloc(), N2, &TOLD_AT_N2);
+    see_all(&rt, &far, &SHOWN_AT_N2);
     pass_both_ways(&rt, &mut [near, far]);
 }

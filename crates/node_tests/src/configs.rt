@@ -1,7 +1,8 @@
+//! The configuration node: what happens there, step by step, and what is seen of it then.
 ghost use Rattle.std.specs.Prelude.{◌≡◌, IfOk, IfSome, IsTrue};
 ghost use Rattle.config_model.specs.Edit.{has_edit_form};
 
-use crate::links::{add_queues, were_sent};
+use crate::links::{add_failing, add_queues, break_link, were_sent};
 use config_check::{EditFault, EditRefusal, Refusal, Valid, apply_edit, check};
 use config_model::{Edit, read_compile, read_edit};
 use config_node::ConfigNode;
@@ -77,6 +78,43 @@ fn valid_of(alloc: Global, text: &str) -> Option<Valid> {
     check(alloc, input.topology, input.config).ok()
 }
 
+/// What happens at a configuration node, or what is seen of it then.
+#[derive(Clone, Copy)]
+enum Step {
+    /// The one session is opened.
+    Open,
+    /// It is opened, and its link fails.
+    OpenInVain,
+    /// The octets of the control node's hello from one place to another come.
+    Hear(usize, usize),
+    /// Octets come that close the session, for this cause.
+    HearWrong(&'static [u8], ItemCause),
+    /// An edit is made.
+    Change(&'static str),
+    /// An edit is made, and the link fails as it is told.
+    ChangeInVain(&'static str),
+    /// An edit has this fault.
+    Refuse(&'static str, Fault),
+    Restart,
+    /// These messages were sent. They are taken out.
+    Sent(Messages),
+    /// The session is live or not, and up or not.
+    Stands(bool, bool),
+    /// So many octets are kept.
+    Keeps(usize),
+    /// The first port that is valid has this address.
+    PortAt(u32),
+    /// So many compute nodes are valid, and no memory was wanting.
+    Works(usize),
+}
+
+/// Why an edit of the port is not made.
+#[derive(Clone, Copy)]
+enum Fault {
+    Outside,
+    Missing,
+}
+
 fn node(rt: &impl Abort, alloc: Global) -> ConfigNode {
     let valid = valid_of(alloc, DOCUMENT).expect(rt, "a valid document");
     ConfigNode::new(alloc, valid).expect(rt, "memory")
@@ -89,92 +127,61 @@ fn edit_of(alloc: Global, text: &str) -> Option<Edit>
     read_edit(alloc, &value).ok()
 }
 
-/// What happens at a configuration node over a link on which nothing fails.
-#[derive(Clone, Copy)]
-enum Scene {
-    BeToldChanges,
-    BeToldOfNodes,
-    BeRefused,
-    CloseAtARecord,
-    KeepWhatIsValid,
-    BeGreetedInTwoParts,
-}
+/// What comes of an input.
+type Answer = Result<Stepped<ItemCause>, NodeFault>;
 
-fn happen(
-    rt: &impl Abort,
-    alloc: Global,
-    scene: Scene,
-    node: &mut ConfigNode,
-    links: &mut Links<QueueLink>,
-) {
-    match scene {
-        Scene::BeToldChanges => be_told_changes(rt, alloc, node, links),
-        Scene::BeToldOfNodes => be_told_of_nodes(rt, alloc, node, links),
-        Scene::BeRefused => be_refused(rt, alloc, node, links),
-        Scene::CloseAtARecord => close_at_a_record(rt, alloc, node, links),
-        Scene::KeepWhatIsValid => keep_what_is_valid(rt, alloc, node, links),
-        Scene::BeGreetedInTwoParts => be_greeted_in_two_parts(rt, alloc, node, links),
+const DONE: Answer = Ok(Stepped::Done);
+
+const FAILED: NodeFault = NodeFault::LinkFailed { session: 0 };
+
+/// Whether this comes of opening the one session, which is closed.
+fn opens<L: Link>(node: &mut ConfigNode, links: &mut Links<L>, answer: Answer) -> bool {
+    if links.len() != node.sessions() {
+        return false;
     }
-}
-
-fn over_a_queue(rt: &impl Abort, alloc: Global, scene: Scene, node: &mut ConfigNode) {
-    let mut links = Links::new(alloc);
-    add_queues(rt, alloc, &mut links, 1);
-    happen(rt, alloc, scene, node, &mut links);
-}
-
-/// It happens at a node that is new.
-fn at_the_node(rt: &impl Abort, alloc: Global, scene: Scene) {
-    let mut node = node(rt, alloc);
-    over_a_queue(rt, alloc, scene, &mut node);
-}
-
-/// The link fails at times, and octets are kept as it does or not.
-fn over_breaks(rt: &impl Abort, alloc: Global, are_kept: bool, node: &mut ConfigNode) {
-    let mut links = Links::new(alloc);
-    links.push(FailingLink::new(alloc)).expect(rt, "memory");
-    if are_kept {
-        forget_what_was_kept(rt, alloc, node, &mut links);
-    } else {
-        go_over_breaks(rt, alloc, node, &mut links);
+    if node.sessions() < 1 {
+        return false;
     }
+    if node.is_live(0) {
+        return false;
+    }
+    node.step(Input::Opened { session: 0 }, links) == answer
 }
 
-/// What comes of opening the one session, which is closed.
-fn opened<L: Link>(
-    rt: &impl Abort,
-    node: &mut ConfigNode,
-    links: &mut Links<L>,
-) -> Result<Stepped<ItemCause>, NodeFault> {
-    assert!(rt; links.len() == node.sessions());
-    assert!(rt; node.sessions() > 0);
-    assert!(rt; !node.is_live(0));
-    node.step(Input::Opened { session: 0 }, links)
-}
-
-/// The session is opened, and nothing else comes of it.
-fn open<L: Link>(rt: &impl Abort, node: &mut ConfigNode, links: &mut Links<L>) {
-    let answer = opened(rt, node, links);
-    assert!(rt; matches!(answer, Ok(Stepped::Done)));
-}
-
-/// What comes of octets.
-fn told<L: Link>(
-    rt: &impl Abort,
+/// Whether this comes of octets.
+fn hears<L: Link>(
     node: &mut ConfigNode,
     links: &mut Links<L>,
     bytes: &[u8],
-) -> Result<Stepped<ItemCause>, NodeFault> {
-    assert!(rt; links.len() == node.sessions());
-    assert!(rt; node.sessions() > 0);
-    assert!(rt; node.is_live(0));
-    node.step(Input::Bytes { session: 0, bytes }, links)
+    answer: Answer,
+) -> bool {
+    if links.len() != node.sessions() {
+        return false;
+    }
+    if node.sessions() < 1 {
+        return false;
+    }
+    if !node.is_live(0) {
+        return false;
+    }
+    node.step(Input::Bytes { session: 0, bytes }, links) == answer
 }
 
-/// The control node says who it is, and nothing else comes of it.
-fn be_greeted<L: Link>(rt: &impl Abort, node: &mut ConfigNode, links: &mut Links<L>) {
-    let answer = told(rt, node, links, FROM_CONTROLLER);
-    assert!(rt; matches!(answer, Ok(Stepped::Done)));
+/// Whether nothing comes of a part of the control node's hello but that it is heard.
+fn hears_part<L: Link>(
+    node: &mut ConfigNode,
+    links: &mut Links<L>,
+    from: usize,
+    to: usize,
+) -> bool {
+    let octets = FROM_CONTROLLER;
+    if to > octets.len() {
+        return false;
+    }
+    if from > to {
+        return false;
+    }
+    hears(node, links, &octets[from..to], DONE)
 }
 
 /// What an edit makes of what is valid. It has the same control nodes.
@@ -186,270 +193,355 @@ fn made_by(alloc: Global, valid: &Valid, edit: &Edit) -> Result<Valid, EditRefus
     apply_edit(alloc, valid, edit)
 }
 
-/// What comes of an edit: unless it has a fault, what it makes of what is valid is set.
-fn edited<L: Link>(
-    rt: &impl Abort,
+/// Whether an edit is made, and it comes to this that what it makes is set.
+fn is_set<L: Link>(
+    alloc: Global,
+    node: &mut ConfigNode,
+    links: &mut Links<L>,
+    edit: &Edit,
+    answer: Result<(), NodeFault>,
+) -> bool
+    requires { IsTrue (has_edit_form edit.now) }
+{
+    if links.len() != node.sessions() {
+        return false;
+    }
+    match made_by(alloc, node.valid(), edit) {
+        Ok(valid) => node.set_valid(valid, links) == answer,
+        Err(_) => false,
+    }
+}
+
+/// Whether the edit that is spelled so is made, and comes to this.
+fn changes<L: Link>(
     alloc: Global,
     node: &mut ConfigNode,
     links: &mut Links<L>,
     text: &str,
-) -> Result<Option<EditFault>, NodeFault> {
-    let edit = edit_of(alloc, text).expect(rt, "an edit");
-    match made_by(alloc, node.valid(), &edit) {
-        Ok(valid) => {
-            assert!(rt; links.len() == node.sessions());
-            node.set_valid(valid, links)?;
-            Ok(None)
-        }
-        Err(EditRefusal::Edit(fault)) => Ok(Some(fault)),
-        Err(EditRefusal::NoMemory) => Err(NodeFault::NoMemory),
+    answer: Result<(), NodeFault>,
+) -> bool {
+    match edit_of(alloc, text) {
+        Some(edit) => is_set(alloc, node, links, &edit, answer),
+        None => false,
     }
 }
 
-/// The edit is made, and these messages are sent.
-fn change(
-    rt: &impl Abort,
-    alloc: Global,
-    node: &mut ConfigNode,
-    links: &mut Links<QueueLink>,
-    text: &str,
-    sent: &[&[u8]],
-) {
-    let answer = edited(rt, alloc, node, links, text);
-    assert!(rt; matches!(answer, Ok(None)), "{text}");
-    were_sent(rt, links, 0, sent);
-}
-
-/// The edit has this fault, and nothing is sent.
-fn refuse(
-    rt: &impl Abort,
-    alloc: Global,
-    node: &mut ConfigNode,
-    links: &mut Links<QueueLink>,
-    text: &str,
-    fault: EditFault,
-) {
-    match edited(rt, alloc, node, links, text) {
-        Ok(Some(found)) => assert!(rt; found == fault, "{text}"),
-        _ => assert!(rt; false, "{text} is made"),
+/// Whether an edit has this fault.
+fn has_fault(alloc: Global, valid: &Valid, edit: &Edit, wanted: EditFault) -> bool
+    requires { IsTrue (has_edit_form edit.now) }
+{
+    match made_by(alloc, valid, edit) {
+        Err(EditRefusal::Edit(fault)) => fault == wanted,
+        _ => false,
     }
-    were_sent(rt, links, 0, &[]);
 }
 
-/// The session is open, or is up too.
-fn stands(rt: &impl Abort, node: &ConfigNode, is_live: bool, is_up: bool) {
-    assert!(rt; node.sessions() > 0);
-    assert!(rt; node.is_live(0) == is_live);
-    assert!(rt; node.is_up(0) == is_up);
-}
-
-/// The first port that is valid has this address.
-fn port_is_at(rt: &impl Abort, node: &ConfigNode, address: u32) {
-    let port = node.valid().config().ports.get(0).expect(rt, "a port");
-    assert!(rt; port.address == Addr(address));
-}
-
-fn be_told_changes(
-    rt: &impl Abort,
-    alloc: Global,
-    node: &mut ConfigNode,
-    links: &mut Links<QueueLink>,
-) {
-    open(rt, node, links);
-    were_sent(rt, links, 0, ALL);
-    stands(rt, node, true, false);
-    be_greeted(rt, node, links);
-    were_sent(rt, links, 0, &[]);
-    change(rt, alloc, node, links, MOVE, &[MOVED]);
-    change(rt, alloc, node, links, MOVE, &[]);
-    change(rt, alloc, node, links, DELETE, &[GONE]);
-    change(rt, alloc, node, links, MOVE, &[MOVED]);
-    stands(rt, node, true, true);
-    port_is_at(rt, node, 0x0a01_0006);
-}
-
-#[test]
-fn a_control_node_is_told_the_objects_and_what_an_edit_changes(rt: HostRuntime) {
-    at_the_node(&rt, rt.alloc(), Scene::BeToldChanges);
-}
-
-fn be_told_of_nodes(
-    rt: &impl Abort,
-    alloc: Global,
-    node: &mut ConfigNode,
-    links: &mut Links<QueueLink>,
-) {
-    open(rt, node, links);
-    were_sent(rt, links, 0, ALL);
-    change(rt, alloc, node, links, COME, &[]);
-    change(rt, alloc, node, links, LEAVE, &[ELSEWHERE]);
-    change(rt, alloc, node, links, GO, &[]);
-    stands(rt, node, true, false);
-    assert!(rt; node.valid().topology().nodes.len() == 1);
-}
-
-#[test]
-fn a_compute_node_that_comes_or_goes_is_told_by_its_ports_alone(rt: HostRuntime) {
-    at_the_node(&rt, rt.alloc(), Scene::BeToldOfNodes);
-}
-
-fn be_refused(rt: &impl Abort, alloc: Global, node: &mut ConfigNode, links: &mut Links<QueueLink>) {
-    let port = Name::new("vm1").expect(rt, "a name");
-    let outside = EditFault::Rule(Refusal::AddressOutside { port });
-    let missing = EditFault::Missing { name: port };
-    open(rt, node, links);
-    were_sent(rt, links, 0, ALL);
-    refuse(rt, alloc, node, links, STRAY, outside);
-    be_greeted(rt, node, links);
-    change(rt, alloc, node, links, DELETE, &[GONE]);
-    refuse(rt, alloc, node, links, DELETE, missing);
-}
-
-#[test]
-fn an_edit_with_a_fault_changes_nothing(rt: HostRuntime) {
-    at_the_node(&rt, rt.alloc(), Scene::BeRefused);
-}
-
-fn close_at_a_record(
-    rt: &impl Abort,
-    alloc: Global,
-    node: &mut ConfigNode,
-    links: &mut Links<QueueLink>,
-) {
-    open(rt, node, links);
-    were_sent(rt, links, 0, ALL);
-    be_greeted(rt, node, links);
-    match told(rt, node, links, SUBSCRIBE) {
-        Ok(Stepped::Closed { cause, .. }) => assert!(rt; cause == ItemCause::Order),
-        _ => assert!(rt; false, "a record is heard"),
+/// Whether the edit that is spelled so has this fault.
+fn is_refused(alloc: Global, valid: &Valid, text: &str, fault: Fault) -> bool {
+    let Some(name) = Name::new("vm1") else {
+        return false;
+    };
+    let wanted = match fault {
+        Fault::Outside => EditFault::Rule(Refusal::AddressOutside { port: name }),
+        Fault::Missing => EditFault::Missing { name },
+    };
+    match edit_of(alloc, text) {
+        Some(edit) => has_fault(alloc, valid, &edit, wanted),
+        None => false,
     }
-    stands(rt, node, false, false);
-    change(rt, alloc, node, links, MOVE, &[]);
-    open(rt, node, links);
-    were_sent(rt, links, 0, ALL_MOVED);
 }
 
-#[test]
-fn a_record_of_a_control_node_closes_the_session(rt: HostRuntime) {
-    at_the_node(&rt, rt.alloc(), Scene::CloseAtARecord);
-}
-
-fn keep_what_is_valid(
-    rt: &impl Abort,
-    alloc: Global,
-    node: &mut ConfigNode,
-    links: &mut Links<QueueLink>,
-) {
-    open(rt, node, links);
-    were_sent(rt, links, 0, ALL);
-    change(rt, alloc, node, links, MOVE, &[MOVED]);
+fn restarts(node: &mut ConfigNode) -> bool {
     node.restart();
-    assert!(rt; !node.failed());
-    stands(rt, node, false, false);
-    port_is_at(rt, node, 0x0a01_0006);
+    true
 }
 
-#[test]
-fn a_restart_closes_the_session_and_keeps_what_is_valid(rt: HostRuntime) {
-    at_the_node(&rt, rt.alloc(), Scene::KeepWhatIsValid);
+/// Whether an input comes to what it is to come to, or what is to be seen is seen.
+fn takes<L: Link>(alloc: Global, node: &mut ConfigNode, links: &mut Links<L>, step: Step) -> bool {
+    match step {
+        Step::Open => opens(node, links, DONE),
+        Step::OpenInVain => opens(node, links, Err(FAILED)),
+        Step::Hear(from, to) => hears_part(node, links, from, to),
+        Step::HearWrong(octets, cause) => {
+            hears(
+                node,
+                links,
+                octets,
+                Ok(Stepped::Closed { session: 0, cause }),
+            )
+        }
+        Step::Change(text) => changes(alloc, node, links, text, Ok(())),
+        Step::ChangeInVain(text) => changes(alloc, node, links, text, Err(FAILED)),
+        Step::Refuse(text, fault) => is_refused(alloc, node.valid(), text, fault),
+        Step::Restart => restarts(node),
+        seen => sees(node, seen),
+    }
 }
 
-/// Of the sends on the link the nth from now on fails.
-fn fail_at(rt: &impl Abort, links: &mut Links<FailingLink>, n: u32) {
-    assert!(rt; n > 0);
-    assert!(rt; links.len() > 0);
-    links.get_mut(0).add_break(n).expect(rt, "memory");
+/// Whether this is seen of the node, apart from its links.
+fn sees(node: &ConfigNode, seen: Step) -> bool {
+    match seen {
+        Step::Stands(is_live, is_up) => stands(node, is_live, is_up),
+        Step::Keeps(count) => keeps(node, count),
+        Step::PortAt(address) => port_is_at(node, address),
+        Step::Works(count) => works(node, count),
+        _ => false,
+    }
 }
 
-/// Opens the session and makes an edit while the link fails at times.
-fn go_over_breaks(
+fn stands(node: &ConfigNode, is_live: bool, is_up: bool) -> bool {
+    if node.sessions() < 1 {
+        return false;
+    }
+    if node.is_live(0) != is_live {
+        return false;
+    }
+    node.is_up(0) == is_up
+}
+
+fn keeps(node: &ConfigNode, count: usize) -> bool {
+    if node.sessions() < 1 {
+        return false;
+    }
+    node.pending(0) == count
+}
+
+fn port_is_at(node: &ConfigNode, address: u32) -> bool {
+    match node.valid().config().ports.get(0) {
+        Some(port) => port.address == Addr(address),
+        None => false,
+    }
+}
+
+fn works(node: &ConfigNode, count: usize) -> bool {
+    if node.failed() {
+        return false;
+    }
+    node.valid().topology().nodes.len() == count
+}
+
+fn takes_over_a_queue(
+    alloc: Global,
+    node: &mut ConfigNode,
+    links: &mut Links<QueueLink>,
+    step: Step,
+) -> bool {
+    match step {
+        Step::Sent(messages) => were_sent(links, 0, messages),
+        other => takes(alloc, node, links, other),
+    }
+}
+
+/// These steps come to what they are to come to, over a link on which nothing fails.
+fn take_all(
+    rt: &impl Abort,
+    alloc: Global,
+    node: &mut ConfigNode,
+    links: &mut Links<QueueLink>,
+    steps: &[Step],
+) {
+    for (place, step) in steps.iter().enumerate() {
+        let is_so = takes_over_a_queue(alloc, node, links, *step);
+        assert!(rt; is_so, "step {place}");
+    }
+}
+
+fn over_a_queue(rt: &impl Abort, alloc: Global, node: &mut ConfigNode, steps: &[Step]) {
+    let mut links = Links::new(alloc);
+    assert!(rt; add_queues(alloc, &mut links, 1));
+    take_all(rt, alloc, node, &mut links, steps);
+}
+
+/// They do so at a node that is new.
+fn at_the_node(rt: &impl Abort, alloc: Global, steps: &[Step]) {
+    let mut node = node(rt, alloc);
+    over_a_queue(rt, alloc, &mut node, steps);
+}
+
+/// They do so over a link that fails at times.
+fn take_over_breaks(
     rt: &impl Abort,
     alloc: Global,
     node: &mut ConfigNode,
     links: &mut Links<FailingLink>,
+    steps: &[Step],
 ) {
-    fail_at(rt, links, 3);
-    let answer = opened(rt, node, links);
-    assert!(rt; matches!(answer, Err(NodeFault::LinkFailed { session: 0 })));
-    stands(rt, node, false, false);
-    open(rt, node, links);
-    fail_at(rt, links, 1);
-    let answer = edited(rt, alloc, node, links, MOVE);
-    assert!(rt; matches!(answer, Err(NodeFault::LinkFailed { session: 0 })));
-    stands(rt, node, false, false);
-    open(rt, node, links);
-    assert!(rt; !node.failed());
-    port_is_at(rt, node, 0x0a01_0006);
+    for (place, step) in steps.iter().enumerate() {
+        let is_so = takes(alloc, node, links, *step);
+        assert!(rt; is_so, "step {place}");
+    }
+}
+
+/// The parts of the control node's hello of 30 octets.
+const HELLO_COMES: Step = Step::Hear(0, 30);
+
+const HELLO_BEGINS: Step = Step::Hear(0, 9);
+
+const HELLO_ENDS: Step = Step::Hear(9, 30);
+
+const CHANGES_ARE_TOLD: [Step; 15] = [
+    Step::Open,
+    Step::Sent(ALL),
+    Step::Stands(true, false),
+    HELLO_COMES,
+    Step::Sent(&[]),
+    Step::Change(MOVE),
+    Step::Sent(&[MOVED]),
+    Step::Change(MOVE),
+    Step::Sent(&[]),
+    Step::Change(DELETE),
+    Step::Sent(&[GONE]),
+    Step::Change(MOVE),
+    Step::Sent(&[MOVED]),
+    Step::Stands(true, true),
+    Step::PortAt(0x0a01_0006),
+];
+
+#[test]
+fn a_control_node_is_told_the_objects_and_what_an_edit_changes(rt: HostRuntime) {
+    at_the_node(&rt, rt.alloc(), &CHANGES_ARE_TOLD);
+}
+
+const NODES_COME_AND_GO: [Step; 10] = [
+    Step::Open,
+    Step::Sent(ALL),
+    Step::Change(COME),
+    Step::Sent(&[]),
+    Step::Change(LEAVE),
+    Step::Sent(&[ELSEWHERE]),
+    Step::Change(GO),
+    Step::Sent(&[]),
+    Step::Stands(true, false),
+    Step::Works(1),
+];
+
+#[test]
+fn a_compute_node_that_comes_or_goes_is_told_by_its_ports_alone(rt: HostRuntime) {
+    at_the_node(&rt, rt.alloc(), &NODES_COME_AND_GO);
+}
+
+const EDITS_HAVE_FAULTS: [Step; 9] = [
+    Step::Open,
+    Step::Sent(ALL),
+    Step::Refuse(STRAY, Fault::Outside),
+    Step::Sent(&[]),
+    HELLO_COMES,
+    Step::Change(DELETE),
+    Step::Sent(&[GONE]),
+    Step::Refuse(DELETE, Fault::Missing),
+    Step::Sent(&[]),
+];
+
+#[test]
+fn an_edit_with_a_fault_changes_nothing(rt: HostRuntime) {
+    at_the_node(&rt, rt.alloc(), &EDITS_HAVE_FAULTS);
+}
+
+const RECORD_CLOSES: [Step; 9] = [
+    Step::Open,
+    Step::Sent(ALL),
+    HELLO_COMES,
+    Step::HearWrong(SUBSCRIBE, ItemCause::Order),
+    Step::Stands(false, false),
+    Step::Change(MOVE),
+    Step::Sent(&[]),
+    Step::Open,
+    Step::Sent(ALL_MOVED),
+];
+
+#[test]
+fn a_record_of_a_control_node_closes_the_session(rt: HostRuntime) {
+    at_the_node(&rt, rt.alloc(), &RECORD_CLOSES);
+}
+
+const RESTART_KEEPS_WHAT_IS_VALID: [Step; 8] = [
+    Step::Open,
+    Step::Sent(ALL),
+    Step::Change(MOVE),
+    Step::Sent(&[MOVED]),
+    Step::Restart,
+    Step::Works(1),
+    Step::Stands(false, false),
+    Step::PortAt(0x0a01_0006),
+];
+
+#[test]
+fn a_restart_closes_the_session_and_keeps_what_is_valid(rt: HostRuntime) {
+    at_the_node(&rt, rt.alloc(), &RESTART_KEEPS_WHAT_IS_VALID);
+}
+
+/// What follows where the third send fails, and then the first of an edit.
+const OPENED_IN_VAIN: [Step; 3] = [Step::OpenInVain, Step::Stands(false, false), Step::Open];
+
+const CHANGED_IN_VAIN: [Step; 5] = [
+    Step::ChangeInVain(MOVE),
+    Step::Stands(false, false),
+    Step::Open,
+    Step::Works(1),
+    Step::PortAt(0x0a01_0006),
+];
+
+/// The session is opened and an edit is made while the link fails at times.
+fn go_over_breaks(rt: &impl Abort, alloc: Global, node: &mut ConfigNode) {
+    let mut links = Links::new(alloc);
+    assert!(rt; add_failing(alloc, &mut links, 1));
+    assert!(rt; break_link(&mut links, 0, 3));
+    take_over_breaks(rt, alloc, node, &mut links, &OPENED_IN_VAIN);
+    assert!(rt; break_link(&mut links, 0, 1));
+    take_over_breaks(rt, alloc, node, &mut links, &CHANGED_IN_VAIN);
 }
 
 #[test]
 fn a_link_that_fails_closes_its_session_and_the_edit_stays(rt: HostRuntime) {
     let mut node = node(&rt, rt.alloc());
-    over_breaks(&rt, rt.alloc(), false, &mut node);
-}
-
-/// So many octets are kept of the session.
-fn keeps(rt: &impl Abort, node: &ConfigNode, count: usize) {
-    assert!(rt; node.sessions() > 0);
-    assert!(rt; node.pending(0) == count, "{count}");
+    go_over_breaks(&rt, rt.alloc(), &mut node);
 }
 
 /// The control node says who it is in two parts, with an edit between them.
-fn be_greeted_in_two_parts(
-    rt: &impl Abort,
-    alloc: Global,
-    node: &mut ConfigNode,
-    links: &mut Links<QueueLink>,
-) {
-    let octets = FROM_CONTROLLER;
-    assert!(rt; octets.len() > 9);
-    open(rt, node, links);
-    were_sent(rt, links, 0, ALL);
-    let answer = told(rt, node, links, &octets[..9]);
-    assert!(rt; matches!(answer, Ok(Stepped::Done)));
-    keeps(rt, node, 9);
-    change(rt, alloc, node, links, MOVE, &[MOVED]);
-    keeps(rt, node, 9);
-    stands(rt, node, true, false);
-    let answer = told(rt, node, links, &octets[9..]);
-    assert!(rt; matches!(answer, Ok(Stepped::Done)));
-    keeps(rt, node, 0);
-    stands(rt, node, true, true);
-}
+const HELLO_IN_TWO_PARTS: [Step; 11] = [
+    Step::Open,
+    Step::Sent(ALL),
+    HELLO_BEGINS,
+    Step::Keeps(9),
+    Step::Change(MOVE),
+    Step::Sent(&[MOVED]),
+    Step::Keeps(9),
+    Step::Stands(true, false),
+    HELLO_ENDS,
+    Step::Keeps(0),
+    Step::Stands(true, true),
+];
 
 #[test]
 fn a_hello_in_two_parts_is_heard_once_it_is_whole(rt: HostRuntime) {
-    at_the_node(&rt, rt.alloc(), Scene::BeGreetedInTwoParts);
+    at_the_node(&rt, rt.alloc(), &HELLO_IN_TWO_PARTS);
 }
 
-/// Octets are kept, and then the link fails in an edit, or the node restarts.
-fn forget_what_was_kept(
-    rt: &impl Abort,
-    alloc: Global,
-    node: &mut ConfigNode,
-    links: &mut Links<FailingLink>,
-) {
-    let octets = FROM_CONTROLLER;
-    assert!(rt; octets.len() > 9);
-    open(rt, node, links);
-    let answer = told(rt, node, links, &octets[..9]);
-    assert!(rt; matches!(answer, Ok(Stepped::Done)));
-    fail_at(rt, links, 1);
-    let answer = edited(rt, alloc, node, links, MOVE);
-    assert!(rt; matches!(answer, Err(NodeFault::LinkFailed { session: 0 })));
-    keeps(rt, node, 0);
-    open(rt, node, links);
-    let answer = told(rt, node, links, &octets[..9]);
-    assert!(rt; matches!(answer, Ok(Stepped::Done)));
-    node.restart();
-    keeps(rt, node, 0);
-    open(rt, node, links);
-    be_greeted(rt, node, links);
-    stands(rt, node, true, true);
+const KEPT: [Step; 2] = [Step::Open, HELLO_BEGINS];
+
+/// The link fails in an edit, and later the node restarts.
+const FORGOTTEN: [Step; 9] = [
+    Step::ChangeInVain(MOVE),
+    Step::Keeps(0),
+    Step::Open,
+    HELLO_BEGINS,
+    Step::Restart,
+    Step::Keeps(0),
+    Step::Open,
+    HELLO_COMES,
+    Step::Stands(true, true),
+];
+
+fn forget_what_was_kept(rt: &impl Abort, alloc: Global, node: &mut ConfigNode) {
+    let mut links = Links::new(alloc);
+    assert!(rt; add_failing(alloc, &mut links, 1));
+    take_over_breaks(rt, alloc, node, &mut links, &KEPT);
+    assert!(rt; break_link(&mut links, 0, 1));
+    take_over_breaks(rt, alloc, node, &mut links, &FORGOTTEN);
 }
 
 #[test]
 fn nothing_is_kept_of_a_session_whose_link_failed(rt: HostRuntime) {
     let mut node = node(&rt, rt.alloc());
-    over_breaks(&rt, rt.alloc(), true, &mut node);
+    forget_what_was_kept(&rt, rt.alloc(), &mut node);
 }

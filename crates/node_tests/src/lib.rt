@@ -17,5 +17,3 @@ mod links;
 mod malformed;
 #[cfg(test)]
 mod parts;
-#[cfg(test)]
-mod scenes;
