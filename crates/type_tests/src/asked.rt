@@ -1,15 +1,16 @@
 //! What is asked of values of several types.
 use std::alloc::Global;
 use std::fmt::Display;
-use std::process::Abort;
 
-/// A value has this text.
-pub(crate) fn prints<T: Display>(rt: &impl Abort, alloc: Global, value: &T, text: &str) {
-    let printed = format!(in alloc; "{value}").expect(rt, "memory");
-    assert!(rt; printed.as_str() == text, "{printed}");
+/// Whether a value has this text.
+pub(crate) fn prints<T: Display>(alloc: Global, value: &T, text: &str) -> bool {
+    match format!(in alloc; "{value}") {
+        Ok(printed) => printed.as_str() == text,
+        Err(_) => false,
+    }
 }
 
-/// A value is less than another.
-pub(crate) fn precedes<T: Ord>(rt: &impl Abort, value: &T, next: &T) {
-    assert!(rt; value < next);
+/// Whether a value is less than another.
+pub(crate) fn precedes<T: Ord>(value: &T, next: &T) -> bool {
+    value < next
 }

@@ -12,9 +12,20 @@ fn middle(row: usize) -> u16
     table.cell(row, 1)
 }
 
+/// Whether the cell of a row and a column is this one.
+fn is_cell(row: usize, column: usize, cell: u16) -> bool {
+    let table = case_table![[17, 0, 3], [16, 65535, 5]];
+    if row >= 2 {
+        return false;
+    }
+    if column >= 3 {
+        return false;
+    }
+    table.cell(row, column) == cell
+}
+
 #[test]
 fn cells_are_the_written_ones(rt: HostRuntime) {
-    let table = case_table![[17, 0, 3], [16, 65535, 5]];
     for (row, column, cell) in [
         (0, 0, 17),
         (0, 1, 0),
@@ -23,9 +34,7 @@ fn cells_are_the_written_ones(rt: HostRuntime) {
         (1, 1, 65535),
         (1, 2, 5),
     ] {
-        assert!(rt; row < 2 && column < 3);
-        assert!(rt; table.cell(row, column) == cell);
+        assert!(rt; is_cell(row, column, cell), "{row} {column}");
     }
-    assert!(rt; middle(0) == 2);
-    assert!(rt; middle(1) == 5);
+    assert!(rt; middle(0) == 2 && middle(1) == 5);
 }

@@ -6,49 +6,43 @@ use route_targets::{
     other_side, port_label, rd, right_circuit, target,
 };
 use std::alloc::Global;
-use std::process::Abort;
 
-/// A circuit has this label, this address, and this one on its other side.
-fn has_numbers(
-    rt: &impl Abort,
-    alloc: Global,
-    circuit: u32,
-    label: u32,
-    address: &str,
-    other: u32,
-) {
-    assert!(rt; (32_769..=131_070).contains(&circuit));
-    assert!(rt; circuit_label(circuit) == Label(label));
-    prints(rt, alloc, &circuit_address(circuit), address);
-    assert!(rt; other_side(circuit) == other);
+/// Whether a circuit has this label, this address, and this one on its other side.
+fn has_numbers(alloc: Global, circuit: u32, label: u32, address: &str, other: u32) -> bool {
+    if !(32_769..=131_070).contains(&circuit) {
+        return false;
+    }
+    if circuit_label(circuit) != Label(label) {
+        return false;
+    }
+    if other_side(circuit) != other {
+        return false;
+    }
+    prints(alloc, &circuit_address(circuit), address)
 }
 
 #[test]
 fn numbers_of_the_first_use(rt: HostRuntime) {
-    assert!(rt; hop_instance(0, 0) == InstanceId(16384));
-    assert!(rt; hop_instance(0, 2) == InstanceId(16386));
+    let (first, third) = (hop_instance(0, 0), hop_instance(0, 2));
+    assert!(rt; first == InstanceId(16384) && third == InstanceId(16386));
     for (circuit, label, address, other) in [
         (32_769, 557_057, "250.0.128.1", 32_770),
         (32_770, 557_058, "250.0.128.2", 32_769),
         (32_771, 557_059, "250.0.128.3", 32_772),
         (32_772, 557_060, "250.0.128.4", 32_771),
     ] {
-        has_numbers(&rt, rt.alloc(), circuit, label, address, other);
+        let is_so = has_numbers(rt.alloc(), circuit, label, address, other);
+        assert!(rt; is_so, "{circuit}");
     }
 }
 
-/// The target of an instance has this number and this text.
-fn has_target(
-    rt: &impl Abort,
-    alloc: Global,
-    asn: u32,
-    instance: InstanceId,
-    number: u64,
-    text: &str,
-) {
+/// Whether the target of an instance has this number and this text.
+fn has_target(alloc: Global, asn: u32, instance: InstanceId, number: u64, text: &str) -> bool {
     let made = target(asn, instance);
-    assert!(rt; made == Target(number));
-    prints(rt, alloc, &made, text);
+    if made != Target(number) {
+        return false;
+    }
+    prints(alloc, &made, text)
 }
 
 /// AS numbers up to 65534 make targets of one type, those above make targets of the other.
@@ -72,23 +66,25 @@ fn targets_are_of_two_types(rt: HostRuntime) {
             "L4294967294:65535",
         ),
     ] {
-        has_target(&rt, rt.alloc(), asn, InstanceId(instance), number, text);
+        let is_so = has_target(rt.alloc(), asn, InstanceId(instance), number, text);
+        assert!(rt; is_so, "{text}");
     }
 }
 
 #[test]
 fn numbers_at_the_ends_of_the_ranges(rt: HostRuntime) {
-    assert!(rt; port_label(PortNo(0)) == Label(16));
-    assert!(rt; port_label(PortNo(524_271)) == Label(524_287));
-    let last = hop_instance(3071, 15);
-    assert!(rt; last == InstanceId(65535));
-    let distinguisher = rd(Addr(0xdfff_ffff), last);
-    prints(&rt, rt.alloc(), &distinguisher, "223.255.255.255:65535");
+    let (first, last) = (port_label(PortNo(0)), port_label(PortNo(524_271)));
+    assert!(rt; first == Label(16) && last == Label(524_287));
+    let instance = hop_instance(3071, 15);
+    assert!(rt; instance == InstanceId(65535));
+    let distinguisher = rd(Addr(0xdfff_ffff), instance);
+    assert!(rt; prints(rt.alloc(), &distinguisher, "223.255.255.255:65535"));
     for (circuit, label, address, other) in [
         (131_069, 655_357, "250.1.255.253", 131_070),
         (131_070, 655_358, "250.1.255.254", 131_069),
     ] {
-        has_numbers(&rt, rt.alloc(), circuit, label, address, other);
+        let is_so = has_numbers(rt.alloc(), circuit, label, address, other);
+        assert!(rt; is_so, "{circuit}");
     }
 }
 

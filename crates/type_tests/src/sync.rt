@@ -6,33 +6,52 @@ use std::process::Abort;
 
 type Pairs = &'static [(u8, u8)];
 
-fn fill(rt: &impl Abort, map: &mut BTreeMap<u8, u8>, pairs: Pairs) {
+fn puts(map: &mut BTreeMap<u8, u8>, key: u8, value: u8) -> bool {
+    let done: Result<_, _> = map.insert(key, value);
+    done.is_ok()
+}
+
+fn fill(map: &mut BTreeMap<u8, u8>, pairs: Pairs) -> bool {
     for pair in pairs {
-        let done: Result<_, _> = map.insert(pair.0, pair.1);
-        done.expect(rt, "memory");
+        if !puts(map, pair.0, pair.1) {
+            return false;
+        }
+    }
+    true
+}
+
+/// Whether these changes are told of a wanted table.
+fn replaces(
+    out: &mut SyncOut<u8, u8>,
+    wanted: &BTreeMap<u8, u8>,
+    changes: &[Delta<u8, u8>],
+) -> bool {
+    match out.replace(wanted) {
+        Ok(told) => told.as_slice() == changes,
+        Err(_) => false,
     }
 }
 
 fn tells(
-    rt: &impl Abort,
     alloc: Global,
     out: &mut SyncOut<u8, u8>,
     pairs: Pairs,
     changes: &[Delta<u8, u8>],
-) {
+) -> bool {
     let mut wanted = BTreeMap::new(alloc);
-    fill(rt, &mut wanted, pairs);
-    let told = out.replace(&wanted).expect(rt, "memory");
-    assert!(rt; told.as_slice() == changes);
+    if !fill(&mut wanted, pairs) {
+        return false;
+    }
+    replaces(out, &wanted, changes)
 }
 
 fn tell_in_order(rt: &impl Abort, alloc: Global, out: &mut SyncOut<u8, u8>) {
     let puts = [Delta::Put(1, 10), Delta::Put(3, 30), Delta::Put(5, 50)];
-    tells(rt, alloc, out, &[(3, 30), (1, 10), (5, 50)], &puts);
+    assert!(rt; tells(alloc, out, &[(3, 30), (1, 10), (5, 50)], &puts));
     let changes = [Delta::Put(0, 7), Delta::Drop(1), Delta::Put(3, 31)];
-    tells(rt, alloc, out, &[(0, 7), (3, 31), (5, 50)], &changes);
+    assert!(rt; tells(alloc, out, &[(0, 7), (3, 31), (5, 50)], &changes));
     out.reset();
-    tells(rt, alloc, out, &[(5, 50)], &[Delta::Put(5, 50)]);
+    assert!(rt; tells(alloc, out, &[(5, 50)], &[Delta::Put(5, 50)]));
 }
 
 #[test]
@@ -52,10 +71,21 @@ const KEYS: [(u8, Option<u8>, Option<Delta<u8, u8>>); 7] = [
     (3, None, None),
 ];
 
+fn tells_key(
+    out: &mut SyncOut<u8, u8>,
+    key: u8,
+    wanted: Option<u8>,
+    change: Option<Delta<u8, u8>>,
+) -> bool {
+    match out.replace_key(key, wanted) {
+        Ok(told) => told == change,
+        Err(_) => false,
+    }
+}
+
 fn tell_keys(rt: &impl Abort, out: &mut SyncOut<u8, u8>) {
     for (key, wanted, change) in KEYS {
-        let told = out.replace_key(key, wanted).expect(rt, "memory");
-        assert!(rt; told == change);
+        assert!(rt; tells_key(out, key, wanted, change));
     }
 }
 
@@ -63,13 +93,8 @@ fn tell_keys(rt: &impl Abort, out: &mut SyncOut<u8, u8>) {
 fn tells_one_key_where_it_differs(rt: HostRuntime) {
     let mut out = SyncOut::new(rt.alloc());
     tell_keys(&rt, &mut out);
-    tells(
-        &rt,
-        rt.alloc(),
-        &mut out,
-        &[(3, 30), (5, 30)],
-        &[Delta::Put(3, 30)],
-    );
+    let change = [Delta::Put(3, 30)];
+    assert!(rt; tells(rt.alloc(), &mut out, &[(3, 30), (5, 30)], &change));
 }
 
 /// Changes that are made in turn, each with what the key 4 then has.
@@ -80,10 +105,16 @@ const CHANGES: [(Delta<u8, u8>, Option<u8>); 4] = [
     (Delta::Put(4, 41), Some(41)),
 ];
 
+fn holds_then(held: &mut SyncIn<u8, u8>, change: Delta<u8, u8>, value: Option<u8>) -> bool {
+    if held.apply(change) != Ok(()) {
+        return false;
+    }
+    held.get(&4).copied() == value
+}
+
 fn hold(rt: &impl Abort, held: &mut SyncIn<u8, u8>) {
     for (change, value) in CHANGES {
-        assert!(rt; held.apply(change) == Ok(()));
-        assert!(rt; held.get(&4).copied() == value);
+        assert!(rt; holds_then(held, change, value));
     }
     held.reset();
     assert!(rt; held.get(&4).is_none());
@@ -108,31 +139,53 @@ fn value_of(octet: u8) -> Option<u8> {
     }
 }
 
-fn fill_row(rt: &impl Abort, map: &mut BTreeMap<u8, u8>, row: &str) {
+fn fill_row(map: &mut BTreeMap<u8, u8>, row: &str) -> bool {
     for (key, octet) in [0, 1, 2, 3, 4].into_iter().zip(row.bytes()) {
         if let Some(value) = value_of(octet) {
-            let done: Result<_, _> = map.insert(key, value);
-            done.expect(rt, "memory");
+            if !puts(map, key, value) {
+                return false;
+            }
         }
     }
+    true
 }
 
-/// What is told of a wanted table is held.
-fn follow(
-    rt: &impl Abort,
+/// Whether what is told of a wanted table can be held.
+fn follows(
     out: &mut SyncOut<u8, u8>,
     held: &mut SyncIn<u8, u8>,
     wanted: &BTreeMap<u8, u8>,
-) {
-    for delta in out.replace(wanted).expect(rt, "memory") {
-        held.apply(delta).expect(rt, "memory");
+) -> bool {
+    let Ok(told) = out.replace(wanted) else {
+        return false;
+    };
+    for delta in told {
+        if held.apply(delta).is_err() {
+            return false;
+        }
     }
+    true
 }
 
-fn are_held(rt: &impl Abort, held: &SyncIn<u8, u8>, row: &str) {
+fn are_held(held: &SyncIn<u8, u8>, row: &str) -> bool {
     for (key, octet) in [0, 1, 2, 3, 4].into_iter().zip(row.bytes()) {
-        assert!(rt; held.get(&key).copied() == value_of(octet), "{row}");
+        if held.get(&key).copied() != value_of(octet) {
+            return false;
+        }
     }
+    true
+}
+
+/// Whether a wanted table is held once it is told.
+fn is_held(alloc: Global, out: &mut SyncOut<u8, u8>, held: &mut SyncIn<u8, u8>, row: &str) -> bool {
+    let mut wanted = BTreeMap::new(alloc);
+    if !fill_row(&mut wanted, row) {
+        return false;
+    }
+    if !follows(out, held, &wanted) {
+        return false;
+    }
+    are_held(held, row)
 }
 
 #[test]
@@ -140,9 +193,6 @@ fn what_is_held_follows_what_is_wanted(rt: HostRuntime) {
     let mut out = SyncOut::new(rt.alloc());
     let mut held = SyncIn::new(rt.alloc());
     for row in TABLES.split_whitespace() {
-        let mut wanted = BTreeMap::new(rt.alloc());
-        fill_row(&rt, &mut wanted, row);
-        follow(&rt, &mut out, &mut held, &wanted);
-        are_held(&rt, &held, row);
+        assert!(rt; is_held(rt.alloc(), &mut out, &mut held, row), "{row}");
     }
 }

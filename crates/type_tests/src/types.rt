@@ -4,17 +4,26 @@ use ov_types::written::{address_from, prefix_from};
 use ov_types::{
     Addr, DownKey, InstanceId, Items, LowKey, Name, Prefix, Rd, Target, Targets, UpKey, is_target,
 };
-use std::process::Abort;
 
-fn push_and_copy(rt: &impl Abort, items: &mut Items<u8>) {
-    items.push(7).expect(rt, "memory");
-    assert!(rt; items.clone().expect(rt, "memory").as_slice() == [7].as_slice());
+/// Whether a copy of a list has these.
+fn is_copied(items: &Items<u8>, want: &[u8]) -> bool {
+    match items.clone() {
+        Ok(copy) => copy.as_slice() == want,
+        Err(_) => false,
+    }
+}
+
+fn is_pushed_and_copied(items: &mut Items<u8>) -> bool {
+    if items.push(7).is_err() {
+        return false;
+    }
+    is_copied(items, &[7])
 }
 
 #[test]
 fn items_are_pushed_and_copied(rt: HostRuntime) {
     let mut items = Items::new(rt.alloc());
-    push_and_copy(&rt, &mut items);
+    assert!(rt; is_pushed_and_copied(&mut items));
 }
 
 #[test]
@@ -32,7 +41,7 @@ fn distinguishers_are_printed_by_their_type(rt: HostRuntime) {
         (0x0002_0001_0000_0007, "L65536:7"),
         (0x00ab_0000_0000_0001, "x00ab000000000001"),
     ] {
-        prints(&rt, rt.alloc(), &Rd(octets), text);
+        assert!(rt; prints(rt.alloc(), &Rd(octets), text), "{text}");
     }
 }
 
@@ -50,41 +59,53 @@ const ASCENDING: [LowKey; 6] = [
 fn keys_ascend(rt: HostRuntime) {
     let mut last = LowKey::Instance(8);
     for key in ASCENDING {
-        precedes(&rt, &last, &key);
-        precedes(&rt, &DownKey::Slice(last), &DownKey::Slice(key));
+        assert!(rt; precedes(&last, &key));
+        assert!(rt; precedes(&DownKey::Slice(last), &DownKey::Slice(key)));
         last = key;
     }
     let host = Prefix::host(Addr(0));
     let use_key = DownKey::Slice(LowKey::ChainUse(3071));
-    precedes(&rt, &use_key, &DownKey::Route(InstanceId(1), host));
-    precedes(
-        &rt,
-        &UpKey::Publish(InstanceId(9), host),
-        &UpKey::Subscribe(InstanceId(1)),
-    );
+    assert!(rt; precedes(&use_key, &DownKey::Route(InstanceId(1), host)));
+    let published = UpKey::Publish(InstanceId(9), host);
+    assert!(rt; precedes(&published, &UpKey::Subscribe(InstanceId(1))));
 }
 
-fn prefix(rt: &impl Abort, address: u32, length: u8) -> Prefix {
-    Prefix::new(Addr(address), length).expect(rt, "a prefix")
+/// Whether 10.1.0.0/16 is printed so, and has these addresses in it.
+fn is_the_net(alloc: Global, net: &Prefix) -> bool {
+    if !net.contains(Addr(0x0a01_ffff)) {
+        return false;
+    }
+    if net.contains(Addr(0x0a02_0000)) {
+        return false;
+    }
+    if !Prefix::host(Addr(0x0a01_0005)).within(net) {
+        return false;
+    }
+    prints(alloc, net, "10.1.0.0/16")
 }
 
 #[test]
 fn prefixes_are_read_and_printed(rt: HostRuntime) {
-    let net = prefix(&rt, 0x0a01_0000, 16);
-    prints(&rt, rt.alloc(), &net, "10.1.0.0/16");
-    assert!(rt; net.contains(Addr(0x0a01_ffff)));
-    assert!(rt; !net.contains(Addr(0x0a02_0000)));
-    assert!(rt; Prefix::host(Addr(0x0a01_0005)).within(&net));
+    let net = Prefix::new(Addr(0x0a01_0000), 16).expect(&rt, "a prefix");
+    assert!(rt; is_the_net(rt.alloc(), &net));
     assert!(rt; Prefix::new(Addr(0x0a01_0001), 16).is_none());
 }
 
+/// Prefixes, each less than the next, by their addresses and lengths.
+const ASCENDING_PREFIXES: [(u32, u8); 3] = [
+    (0x0a00_0000, 24),
+    (0x0a00_0005, 32),
+    (0x0a01_0000, 16),
+];
+
 #[test]
 fn prefixes_ascend_by_address_and_then_length(rt: HostRuntime) {
-    let host = Prefix::host(Addr(0x0a00_0005));
-    let narrow = prefix(&rt, 0x0a00_0000, 24);
-    precedes(&rt, &prefix(&rt, 0x0a00_0000, 8), &narrow);
-    precedes(&rt, &narrow, &host);
-    precedes(&rt, &host, &prefix(&rt, 0x0a01_0000, 16));
+    let mut last = Prefix::new(Addr(0x0a00_0000), 8).expect(&rt, "a prefix");
+    for (address, length) in ASCENDING_PREFIXES {
+        let next = Prefix::new(Addr(address), length).expect(&rt, "a prefix");
+        assert!(rt; precedes(&last, &next));
+        last = next;
+    }
 }
 
 #[test]
@@ -101,19 +122,31 @@ fn targets_are_told_from_other_communities(rt: HostRuntime) {
     }
 }
 
-fn insert_and_copy(rt: &impl Abort, targets: &mut Targets) {
+fn insert_all(targets: &mut Targets) -> bool {
     for number in [3, 1, 3] {
-        targets.insert(Target(number)).expect(rt, "memory");
+        if targets.insert(Target(number)).is_err() {
+            return false;
+        }
     }
-    let want = [Target(1), Target(3)];
-    assert!(rt; targets.items() == want.as_slice());
-    assert!(rt; targets.clone().expect(rt, "memory").items() == want.as_slice());
+    true
+}
+
+/// Whether these are the targets, and those of a copy.
+fn are_targets(targets: &Targets, want: &[Target]) -> bool {
+    if targets.items() != want {
+        return false;
+    }
+    match targets.clone() {
+        Ok(copy) => copy.items() == want,
+        Err(_) => false,
+    }
 }
 
 #[test]
 fn targets_stand_in_order_once(rt: HostRuntime) {
     let mut targets = Targets::new(rt.alloc());
-    insert_and_copy(&rt, &mut targets);
+    assert!(rt; insert_all(&mut targets));
+    assert!(rt; are_targets(&targets, &[Target(1), Target(3)]));
 }
 
 #[test]
