@@ -6,123 +6,172 @@ use ov_types::{
     Targets, UpKey, VpnKey, VpnRoute,
 };
 use std::alloc::Global;
-use std::process::Abort;
 use vpn_tables::VpnTables;
 
 pub const NEAR: Addr = Addr(0xc000_020b);
 
 pub const FAR: Addr = Addr(0xc000_020c);
 
-/// The instance, the address and the label of what the agent publishes: a port, and the circuits of the first service.
-const PUBLISHED: [(u16, u32, u32); 3] = [
+/// What an agent publishes: an instance, an address and a label.
+pub type Published = (u16, u32, u32);
+
+/// What the agent publishes: a port, and the circuits of the first service.
+const PUBLISHED: [Published; 3] = [
     (1, 0x0a01_0001, 17),
     (16384, 0xfa00_8001, 557_057),
     (16385, 0xfa00_8002, 557_058),
 ];
 
-/// A subnet of 256 addresses.
-pub fn subnet(rt: &impl Abort, first: u32) -> Prefix {
-    Prefix::new(Addr(first), 24).expect(rt, "a subnet")
+/// The first address of a subnet, and the length of its prefix.
+pub type Subnet = (u32, u8);
+
+pub const LEFT: Subnet = (0x0a01_0000, 24);
+
+pub const RIGHT: Subnet = (0x0a02_0000, 24);
+
+pub fn subnet(subnet: Subnet) -> Option<Prefix> {
+    let (first, length) = subnet;
+    Prefix::new(Addr(first), length)
 }
 
-/// The feed tells the chain and the left network, and the agent what it has.
-pub fn chain(rt: &impl Abort, alloc: Global, tables: &mut VpnTables, left: Prefix, right: Prefix) {
-    feed_chain(rt, alloc, tables, left, right);
-    feed_network(rt, alloc, tables);
-    tables.set_agent(2, NEAR).expect(rt, "memory");
+/// Whether the feed can tell the chain and the left network, and the agent what it has.
+pub fn tells_chain(alloc: Global, tables: &mut VpnTables, left: Subnet, right: Subnet) -> bool {
+    if !feeds_chain(alloc, tables, left, right) {
+        return false;
+    }
+    if !feeds_network(alloc, tables, 1, &[1]) {
+        return false;
+    }
+    if tables.set_agent(2, NEAR).is_err() {
+        return false;
+    }
     for told in PUBLISHED {
-        publish(rt, tables, 2, told);
+        if !publishes(tables, 2, told) {
+            return false;
+        }
+    }
+    true
+}
+
+/// The chain between two subnets.
+fn chain_of(alloc: Global, left: Subnet, right: Subnet) -> Option<LowValue> {
+    let left = subnet(left)?;
+    let right = subnet(right)?;
+    let mut left_prefixes = Items::new(alloc);
+    left_prefixes.push(left).ok()?;
+    let mut right_prefixes = Items::new(alloc);
+    right_prefixes.push(right).ok()?;
+    let mut hops = Items::new(alloc);
+    hops.push((ServiceNo(1), NEAR)).ok()?;
+    hops.push((ServiceNo(2), FAR)).ok()?;
+    Some(LowValue::ChainUse {
+        left: InstanceId(1),
+        right: InstanceId(2),
+        left_prefixes,
+        right_prefixes,
+        hops,
+    })
+}
+
+fn feeds_chain(alloc: Global, tables: &mut VpnTables, left: Subnet, right: Subnet) -> bool {
+    match chain_of(alloc, left, right) {
+        Some(chain) => {
+            let told = Delta::Put(LowKey::ChainUse(0), chain);
+            tables.set_low(told).is_ok()
+        }
+        None => false,
     }
 }
 
-fn feed_chain(rt: &impl Abort, alloc: Global, tables: &mut VpnTables, left: Prefix, right: Prefix) {
-    let lefts = vec![in alloc; left].expect(rt, "memory");
-    let rights = vec![in alloc; right].expect(rt, "memory");
-    let hops = vec![in alloc; (ServiceNo(1), NEAR), (ServiceNo(2), FAR)].expect(rt, "memory");
-    let chain = LowValue::ChainUse {
-        left: InstanceId(1),
-        right: InstanceId(2),
-        left_prefixes: Items::from_vec(lefts),
-        right_prefixes: Items::from_vec(rights),
-        hops: Items::from_vec(hops),
-    };
-    let told = tables.set_low(Delta::Put(LowKey::ChainUse(0), chain));
-    told.expect(rt, "memory");
+/// A network that imports these.
+pub fn network(alloc: Global, imports: &[u16]) -> Option<LowValue> {
+    let mut instances = Items::new(alloc);
+    for number in imports {
+        instances.push(InstanceId(*number)).ok()?;
+    }
+    Some(LowValue::Instance { imports: instances })
 }
 
-fn feed_network(rt: &impl Abort, alloc: Global, tables: &mut VpnTables) {
-    let itself = vec![in alloc; InstanceId(1)].expect(rt, "memory");
-    let imports = Items::from_vec(itself);
-    let told = tables.set_low(Delta::Put(LowKey::Instance(1), LowValue::Instance { imports }));
-    told.expect(rt, "memory");
+pub fn feeds_network(alloc: Global, tables: &mut VpnTables, number: u16, imports: &[u16]) -> bool {
+    match network(alloc, imports) {
+        Some(object) => {
+            let told = Delta::Put(LowKey::Instance(number), object);
+            tables.set_low(told).is_ok()
+        }
+        None => false,
+    }
 }
 
-pub fn publish(rt: &impl Abort, tables: &mut VpnTables, session: u16, told: (u16, u32, u32)) {
+pub fn publishes(tables: &mut VpnTables, session: u16, told: Published) -> bool {
     let (instance, host, label) = told;
     let key = UpKey::Publish(InstanceId(instance), Prefix::host(Addr(host)));
-    let told = tables.set_publication(session, Delta::Put(key, Label(label)));
-    told.expect(rt, "memory");
+    tables
+        .set_publication(session, Delta::Put(key, Label(label)))
+        .is_ok()
 }
 
-pub fn withdraw(rt: &impl Abort, tables: &mut VpnTables, session: u16, instance: u16, host: u32) {
+pub fn withdraws(tables: &mut VpnTables, session: u16, instance: u16, host: u32) -> bool {
     let key = UpKey::Publish(InstanceId(instance), Prefix::host(Addr(host)));
-    let told = tables.set_publication(session, Delta::Drop(key));
-    told.expect(rt, "memory");
+    tables.set_publication(session, Delta::Drop(key)).is_ok()
 }
 
-pub fn subscribe(rt: &impl Abort, tables: &mut VpnTables, session: u16, instance: u16) {
+pub fn subscribes(tables: &mut VpnTables, session: u16, instance: u16) -> bool {
     let key = UpKey::Subscribe(InstanceId(instance));
-    let told = tables.set_publication(session, Delta::Put(key, Label(0)));
-    told.expect(rt, "memory");
+    tables
+        .set_publication(session, Delta::Put(key, Label(0)))
+        .is_ok()
 }
 
-/// In AS 64512 the peer leads the right subnet into the place between the two services.
-pub fn lead_right(rt: &impl Abort, alloc: Global, tables: &mut VpnTables, right: Prefix) {
-    lead_right_to(rt, alloc, tables, right, Target(0x0002_fc00_007a_5201));
-}
-
-/// The peer leads the right subnet into that place, whose target this is.
-pub fn lead_right_to(
-    rt: &impl Abort,
+/// A route of the peer with one target.
+pub fn route_of_peer(
     alloc: Global,
-    tables: &mut VpnTables,
-    right: Prefix,
+    key: VpnKey,
+    label: u32,
     target: Target,
-) {
+) -> Option<Delta<VpnKey, VpnRoute>> {
     let mut targets = Targets::new(alloc);
-    let added = targets.insert(target);
-    added.expect(rt, "memory");
-    let key = VpnKey {
-        rd: Rd(0x0001_c000_020c_4001),
-        prefix: right,
-    };
+    targets.insert(target).ok()?;
     let route = VpnRoute {
         next_hop: FAR,
-        label: Label(557_059),
+        label: Label(label),
         targets,
     };
-    let told = tables.set_peer_route(1, Delta::Put(key, route));
-    told.expect(rt, "memory");
+    Some(Delta::Put(key, route))
 }
 
-/// The feed tells a port of network 1 at the agent.
-pub fn feed_port(rt: &impl Abort, tables: &mut VpnTables, address: u32) {
+/// Whether the peer can lead the right subnet into the place between the two services, whose target this is.
+pub fn leads_right(alloc: Global, tables: &mut VpnTables, target: Target) -> bool {
+    let Some(prefix) = subnet(RIGHT) else {
+        return false;
+    };
+    let key = VpnKey {
+        rd: Rd(0x0001_c000_020c_4001),
+        prefix,
+    };
+    match route_of_peer(alloc, key, 557_059, target) {
+        Some(told) => tables.set_peer_route(1, told).is_ok(),
+        None => false,
+    }
+}
+
+/// Whether the feed can tell a port of network 1 at the agent.
+pub fn feeds_port(tables: &mut VpnTables, address: u32) -> bool {
     let port = LowValue::AttachPort {
         port: PortNo(1),
         instance: InstanceId(1),
         address: Addr(address),
         node: NEAR,
     };
-    let told = tables.set_low(Delta::Put(LowKey::Attach(17), port));
-    told.expect(rt, "memory");
+    tables.set_low(Delta::Put(LowKey::Attach(17), port)).is_ok()
 }
 
-/// The feed tells an access list with no entries.
-pub fn feed_list(rt: &impl Abort, alloc: Global, tables: &mut VpnTables, from: u16, to: u16) {
+/// Whether the feed can tell an access list with no entries.
+pub fn feeds_list(alloc: Global, tables: &mut VpnTables, from: u16, to: u16) -> bool {
     let list = LowValue::Acl {
         subnets: Items::new(alloc),
         rules: Items::new(alloc),
     };
-    let told = tables.set_low(Delta::Put(LowKey::Acl { from, to }, list));
-    told.expect(rt, "memory");
+    tables
+        .set_low(Delta::Put(LowKey::Acl { from, to }, list))
+        .is_ok()
 }

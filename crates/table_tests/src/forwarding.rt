@@ -6,13 +6,13 @@ use vrouter_fib::{Fib, Labels};
 
 const ADDRESS: u32 = 0x8000_0001;
 
-fn prefix(rt: &impl Abort, len: u8) -> Prefix
+fn prefix(len: u8) -> Option<Prefix>
     requires { len ≤ 32 }
 {
     let size = 1u64 << (32 - len);
     let first = u64::from(ADDRESS) / size * size;
-    let first = u32::try_from(first).ok().expect(rt, "four octets");
-    Prefix::new(Addr(first), len).expect(rt, "no bits past the length")
+    let first = u32::try_from(first).ok()?;
+    Prefix::new(Addr(first), len)
 }
 
 fn entry(len: u8) -> Entry {
@@ -22,72 +22,133 @@ fn entry(len: u8) -> Entry {
     }
 }
 
-fn set(rt: &impl Abort, fib: &mut Fib, len: u8)
+fn sets(fib: &mut Fib, len: u8) -> bool
     requires { len ≤ 32 }
 {
-    fib.set(prefix(rt, len), entry(len)).expect(rt, "memory");
-}
-
-/// The row of an address is that of the prefix of this length.
-fn leads(rt: &impl Abort, fib: &Fib, address: Addr, len: u8) {
-    assert!(rt; fib.lookup(address) == Some(entry(len)), "to bit {len}");
-}
-
-/// Each prefix leads the addresses that are in it and in none that is longer.
-fn lead_to_the_last_common_bit(rt: &impl Abort, fib: &Fib) {
-    for bit in 0..32u8 {
-        leads(rt, fib, Addr(ADDRESS ^ (0x8000_0000 >> bit)), bit);
+    match prefix(len) {
+        Some(prefix) => fib.set(prefix, entry(len)).is_ok(),
+        None => false,
     }
+}
+
+/// Whether the row of an address is that of the prefix of this length.
+fn leads(fib: &Fib, address: Addr, len: u8) -> bool {
+    fib.lookup(address) == Some(entry(len))
+}
+
+fn leads_nowhere(fib: &Fib) -> bool {
+    fib.lookup(Addr(ADDRESS)).is_none()
+}
+
+fn sets_the_shortest_first(fib: &mut Fib) -> bool {
+    for len in 0..33 {
+        if !sets(fib, len) {
+            return false;
+        }
+    }
+    true
+}
+
+/// Whether each prefix leads the addresses that are in it and in none that is longer.
+fn leads_to_the_last_common_bit(fib: &Fib) -> bool {
+    for bit in 0..32u8 {
+        if !leads(fib, Addr(ADDRESS ^ (0x8000_0000 >> bit)), bit) {
+            return false;
+        }
+    }
+    true
+}
+
+/// Whether the longest leads, and is removed.
+fn removes_the_longest(fib: &mut Fib, len: u8) -> bool
+    requires { len ≤ 32 }
+{
+    if !leads(fib, Addr(ADDRESS), len) {
+        return false;
+    }
+    match prefix(len) {
+        Some(gone) => {
+            fib.remove(&gone);
+            true
+        }
+        None => false,
+    }
+}
+
+fn removes_the_longest_first(fib: &mut Fib) -> bool {
+    for len in (0..33).rev() {
+        if !removes_the_longest(fib, len) {
+            return false;
+        }
+    }
+    true
 }
 
 fn take_the_longest(rt: &impl Abort, fib: &mut Fib) {
-    for len in 0..33 {
-        set(rt, fib, len);
-    }
-    lead_to_the_last_common_bit(rt, fib);
-    remove_the_longest_first(rt, fib);
-    assert!(rt; fib.lookup(Addr(ADDRESS)).is_none());
+    assert!(rt; sets_the_shortest_first(fib));
+    assert!(rt; leads_to_the_last_common_bit(fib));
+    assert!(rt; removes_the_longest_first(fib));
+    assert!(rt; leads_nowhere(fib));
 }
 
-fn remove_the_longest_first(rt: &impl Abort, fib: &mut Fib) {
+fn sets_the_longest_first(fib: &mut Fib) -> bool {
     for len in (0..33).rev() {
-        leads(rt, fib, Addr(ADDRESS), len);
-        fib.remove(&prefix(rt, len));
+        if !sets(fib, len) {
+            return false;
+        }
+    }
+    true
+}
+
+fn has_routes(fib: &Fib, count: usize) -> bool {
+    match fib.routes() {
+        Ok(routes) => routes.len() == count,
+        Err(_) => false,
     }
 }
 
-fn has_routes(rt: &impl Abort, fib: &Fib, count: usize) {
-    let routes = fib.routes().expect(rt, "memory");
-    assert!(rt; routes.len() == count);
+/// Whether the row of a prefix is there, and then gone.
+fn removes_row(fib: &mut Fib, gone: &Prefix, len: u8) -> bool {
+    if fib.get(gone) != Some(entry(len)) {
+        return false;
+    }
+    fib.remove(gone);
+    fib.get(gone).is_none()
 }
 
-fn remove(rt: &impl Abort, fib: &mut Fib, len: u8)
+/// Whether the row of a length is removed, and the longest leads as long as it is there.
+fn removes_the_shortest(fib: &mut Fib, len: u8) -> bool
     requires { len ≤ 32 }
 {
-    let gone = prefix(rt, len);
-    assert!(rt; fib.get(&gone) == Some(entry(len)), "{len}");
-    fib.remove(&gone);
-    assert!(rt; fib.get(&gone).is_none(), "{len}");
+    let Some(gone) = prefix(len) else {
+        return false;
+    };
+    if !removes_row(fib, &gone, len) {
+        return false;
+    }
+    if len < 32 {
+        leads(fib, Addr(ADDRESS), 32)
+    } else {
+        leads_nowhere(fib)
+    }
 }
 
-fn remove_the_shortest_first(rt: &impl Abort, fib: &mut Fib) {
+fn removes_the_shortest_first(fib: &mut Fib) -> bool {
     for len in 0..33 {
-        remove(rt, fib, len);
-        let longest = if len < 32 { Some(entry(32)) } else { None };
-        assert!(rt; fib.lookup(Addr(ADDRESS)) == longest, "{len}");
+        if !removes_the_shortest(fib, len) {
+            return false;
+        }
     }
+    true
 }
 
 /// The same prefixes, the longest first, and removed from the shortest on.
 fn keep_the_longer(rt: &impl Abort, fib: &mut Fib) {
-    for len in (0..33).rev() {
-        set(rt, fib, len);
-    }
-    has_routes(rt, fib, 33);
-    remove_the_shortest_first(rt, fib);
-    has_routes(rt, fib, 0);
-    set(rt, fib, 8);
-    leads(rt, fib, Addr(ADDRESS), 8);
+    assert!(rt; sets_the_longest_first(fib));
+    assert!(rt; has_routes(fib, 33));
+    assert!(rt; removes_the_shortest_first(fib));
+    assert!(rt; has_routes(fib, 0));
+    assert!(rt; sets(fib, 8) && leads(fib, Addr(ADDRESS), 8));
 }
 
 #[test]
@@ -102,23 +163,36 @@ fn the_longest_of_overlapping_prefixes_is_taken(rt: HostRuntime) {
     take_the_longest(&rt, &mut fib);
 }
 
-fn lead_to_the_last(rt: &impl Abort, labels: &mut Labels) {
-    let port = Attached::Port {
-        port: PortNo(7),
-        instance: InstanceId(1),
-    };
-    let circuit = Attached::Circuit {
-        circuit: 32_769,
-        service: ServiceNo(1),
-    };
-    for (label, at) in [(23, port), (557_057, port), (557_057, circuit)] {
-        labels.set(Label(label), at).expect(rt, "memory");
+const PORT: Attached = Attached::Port {
+    port: PortNo(7),
+    instance: InstanceId(1),
+};
+
+const CIRCUIT: Attached = Attached::Circuit {
+    circuit: 32_769,
+    service: ServiceNo(1),
+};
+
+fn sets_labels(labels: &mut Labels) -> bool {
+    for (label, at) in [(23, PORT), (557_057, PORT), (557_057, CIRCUIT)] {
+        if labels.set(Label(label), at).is_err() {
+            return false;
+        }
     }
-    assert!(rt; labels.find(Label(23)) == Some(port));
-    assert!(rt; labels.find(Label(557_057)) == Some(circuit));
-    assert!(rt; labels.find(Label(24)).is_none());
+    true
+}
+
+fn finds(labels: &Labels, label: u32, at: Option<Attached>) -> bool {
+    labels.find(Label(label)) == at
+}
+
+fn lead_to_the_last(rt: &impl Abort, labels: &mut Labels) {
+    assert!(rt; sets_labels(labels));
+    assert!(rt; finds(labels, 23, Some(PORT)));
+    assert!(rt; finds(labels, 557_057, Some(CIRCUIT)));
+    assert!(rt; finds(labels, 24, None));
     labels.remove(Label(23));
-    assert!(rt; labels.find(Label(23)).is_none());
+    assert!(rt; finds(labels, 23, None));
 }
 
 #[test]

@@ -43,107 +43,118 @@ fn publication() -> Item {
     }
 }
 
-/// The only reply is a hello.
-fn is_a_hello(rt: &impl Abort, replies: &[Items<u8>]) {
+/// Whether the only reply is a hello.
+fn is_a_hello(replies: &[Items<u8>]) -> bool {
     match replies {
-        [reply] => assert!(rt; reply.as_slice() == HELLO),
-        _ => assert!(rt; false, "another number of replies"),
+        [reply] => reply.as_slice() == HELLO,
+        _ => false,
     }
 }
 
-fn be_greeted(rt: &impl Abort, alloc: Global, session: &mut ItemSession)
+fn is_greeted(alloc: Global, session: &mut ItemSession, me: &Name) -> bool
     requires { session.old.state ≡ Idle }
 {
-    let replies = greet(alloc, session, &node(rt, "c1")).expect(rt, "memory");
-    is_a_hello(rt, replies.as_slice());
-    assert!(rt; session.state() == ItemState::Opened);
+    let Ok(replies) = greet(alloc, session, me) else {
+        return false;
+    };
+    if !is_a_hello(replies.as_slice()) {
+        return false;
+    }
+    session.state() == ItemState::Opened
 }
 
 #[test]
 fn a_node_greets(rt: HostRuntime) {
     let mut session = ItemSession::new(node(&rt, "a1"), ItemFrom::Agent);
-    be_greeted(&rt, rt.alloc(), &mut session);
+    assert!(rt; is_greeted(rt.alloc(), &mut session, &node(&rt, "c1")));
 }
 
-/// The publication was heard, and nothing else.
-fn is_a_publication(rt: &impl Abort, heard: &HeardRecords) {
-    match heard.records.as_slice() {
-        [record] => assert!(rt; *record == publication()),
-        _ => assert!(rt; false, "another number of records"),
+/// Whether the publication was heard, and nothing else.
+fn is_a_publication(heard: &HeardRecords) -> bool {
+    if heard.cause.is_some() {
+        return false;
     }
-    assert!(rt; heard.cause.is_none());
+    match heard.records.as_slice() {
+        [record] => *record == publication(),
+        _ => false,
+    }
 }
 
-fn hear_both(rt: &impl Abort, alloc: Global, session: &mut ItemSession) {
+fn hears_both(alloc: Global, session: &mut ItemSession) -> bool {
     let _hello = session.opened();
-    let heard = hear(alloc, session, HELLO_AND_PUBLICATION).expect(rt, "memory");
-    is_a_publication(rt, &heard);
-    assert!(rt; session.state() == ItemState::Up);
+    let Ok(heard) = hear(alloc, session, HELLO_AND_PUBLICATION) else {
+        return false;
+    };
+    if !is_a_publication(&heard) {
+        return false;
+    }
+    session.state() == ItemState::Up
 }
 
 #[test]
 fn a_hello_and_a_publication_are_heard(rt: HostRuntime) {
     let mut session = ItemSession::new(node(&rt, "c1"), ItemFrom::Agent);
-    hear_both(&rt, rt.alloc(), &mut session);
+    assert!(rt; hears_both(rt.alloc(), &mut session));
 }
 
-/// No record was heard, for this cause.
-fn has_cause(rt: &impl Abort, heard: &HeardRecords, cause: ItemCause) {
-    assert!(rt; heard.records.is_empty());
-    assert!(rt; heard.cause == Some(cause));
+/// Whether no record was heard, for this cause.
+fn has_cause(heard: &HeardRecords, cause: ItemCause) -> bool {
+    if !heard.records.is_empty() {
+        return false;
+    }
+    heard.cause == Some(cause)
 }
 
-fn go_down(
-    rt: &impl Abort,
-    alloc: Global,
-    session: &mut ItemSession,
-    octets: &[u8],
-    cause: ItemCause,
-) {
+fn goes_down(alloc: Global, session: &mut ItemSession, octets: &[u8], cause: ItemCause) -> bool {
     let _hello = session.opened();
-    let heard = hear(alloc, session, octets).expect(rt, "memory");
-    has_cause(rt, &heard, cause);
-    assert!(rt; session.state() == ItemState::Idle);
+    let Ok(heard) = hear(alloc, session, octets) else {
+        return false;
+    };
+    if !has_cause(&heard, cause) {
+        return false;
+    }
+    session.state() == ItemState::Idle
 }
+
+/// Octets, and why they take the session of c2 down.
+const WRONG: [(&[u8], ItemCause); 3] = [
+    (&[0, 1, 0, 1], ItemCause::TooLong { length: 65_537 }),
+    (HELLO, ItemCause::WrongName),
+    (PUBLICATION, ItemCause::Order),
+];
 
 #[test]
 fn what_is_wrong_takes_a_session_down(rt: HostRuntime) {
-    let much = ItemCause::TooLong { length: 65_537 };
-    for (octets, cause) in [
-        ([0, 1, 0, 1].as_slice(), much),
-        (HELLO, ItemCause::WrongName),
-        (PUBLICATION, ItemCause::Order),
-    ] {
+    for (octets, cause) in WRONG {
         let mut session = ItemSession::new(node(&rt, "c2"), ItemFrom::Agent);
-        go_down(&rt, rt.alloc(), &mut session, octets, cause);
+        assert!(rt; goes_down(rt.alloc(), &mut session, octets, cause));
     }
 }
 
-fn be_a_publication(rt: &impl Abort) {
+fn is_the_publication_put() -> bool {
     let published = Delta::Put(UpKey::Publish(InstanceId(1), host()), Label(23));
-    assert!(rt; up_change(publication()) == Some(published));
+    up_change(publication()) == Some(published)
 }
 
-fn be_a_route_that_goes(rt: &impl Abort) {
+fn is_a_route_that_goes() -> bool {
     let routed = Item::Unroute {
         instance: InstanceId(1),
         prefix: host(),
     };
-    let change = down_change(routed);
     let route = Delta::Drop(DownKey::Route(InstanceId(1), host()));
-    assert!(rt; change == Some(route));
+    down_change(routed) == Some(route)
 }
 
-fn be_a_label_that_goes(rt: &impl Abort) {
+fn is_a_label_that_goes() -> bool {
     let change = low_change(Item::NoAttach { label: Label(23) });
-    assert!(rt; change == Some(Delta::Drop(LowKey::Attach(23))));
+    change == Some(Delta::Drop(LowKey::Attach(23)))
 }
 
 #[test]
 fn items_are_changes(rt: HostRuntime) {
-    be_a_publication(&rt);
-    be_a_route_that_goes(&rt);
-    be_a_label_that_goes(&rt);
+    assert!(rt; is_the_publication_put());
+    assert!(rt; is_a_route_that_goes());
+    assert!(rt; is_a_label_that_goes());
 }
 
 #[test]

@@ -16,7 +16,11 @@ mod peers;
 #[cfg(test)]
 mod selection;
 #[cfg(test)]
+mod steps;
+#[cfg(test)]
 mod tables;
+#[cfg(test)]
+mod texts;
 #[cfg(test)]
 mod touched;
 #[cfg(test)]

@@ -1,3 +1,4 @@
+ghost use Rattle.std.specs.Prelude.{IfSome};
 ghost use Rattle.flow_acl.specs.Lists.{IsAccessList};
 
 use flow_acl::{Acls, evaluate};
@@ -18,17 +19,30 @@ const ALL: Range16 = Range16 { lo: 0, hi: 65535 };
 
 const SSH: Range16 = Range16 { lo: 22, hi: 23 };
 
-fn list(rt: &impl Abort, alloc: Global, first: u32, len: u8, entries: &[AclRule]) -> LowValue
-    ensures { IsAccessList result }
+fn list(alloc: Global, first: u32, len: u8, entries: &[AclRule]) -> Option<LowValue>
+    ensures { IfSome result (λ list. IsAccessList list) }
 {
-    let subnet = Prefix::new(Addr(first), len).expect(rt, "no bits past the length");
+    let subnet = Prefix::new(Addr(first), len)?;
     let mut subnets = Items::new(alloc);
-    subnets.push(subnet).expect(rt, "memory");
+    subnets.push(subnet).ok()?;
     let mut rules = Items::new(alloc);
     for entry in entries {
-        rules.push(*entry).expect(rt, "memory");
+        rules.push(*entry).ok()?;
     }
-    LowValue::Acl { subnets, rules }
+    Some(LowValue::Acl { subnets, rules })
+}
+
+fn sets(
+    alloc: Global,
+    acls: &mut Acls,
+    to: InstanceId,
+    subnet: (u32, u8),
+    entries: &[AclRule],
+) -> bool {
+    match list(alloc, subnet.0, subnet.1, entries) {
+        Some(list) => acls.set(RED, to, list).is_ok(),
+        None => false,
+    }
 }
 
 fn entry(protocol: Option<u8>, dports: Range16, action: AclAction, position: u16) -> AclRule {
@@ -70,20 +84,21 @@ const DENIED_BY_9: Verdict = Verdict::Denied {
     }),
 };
 
-/// Three lists of red: to blue, to green, whose network has blue's addresses in it, and within red.
-fn fill(rt: &impl Abort, alloc: Global, acls: &mut Acls) {
+/// Whether red can have three lists: to blue, to green, whose network has blue's addresses in it, and within red.
+fn fills(alloc: Global, acls: &mut Acls) -> bool {
     let rules = [
         entry(Some(6), SSH, AclAction::Deny, 1),
         entry(Some(17), ALL, AclAction::Enter(InstanceId(16384)), 2),
         entry(Some(6), ALL, AclAction::Pass, 3),
     ];
     let inside = [entry(None, ALL, AclAction::Deny, 9)];
-    let to_green = list(rt, alloc, 0x0a02_0000, 16, &inside);
-    acls.set(RED, GREEN, to_green).expect(rt, "memory");
-    let to_blue = list(rt, alloc, 0x0a02_0000, 24, &rules);
-    acls.set(RED, BLUE, to_blue).expect(rt, "memory");
-    let within = list(rt, alloc, 0x0a01_0000, 24, &inside);
-    acls.set(RED, RED, within).expect(rt, "memory");
+    if !sets(alloc, acls, GREEN, (0x0a02_0000, 16), &inside) {
+        return false;
+    }
+    if !sets(alloc, acls, BLUE, (0x0a02_0000, 24), &rules) {
+        return false;
+    }
+    sets(alloc, acls, RED, (0x0a01_0000, 24), &inside)
 }
 
 /// A packet's destination, its protocol and its port, and what the lists of red say of it.
@@ -101,19 +116,20 @@ const LINES: [Line; 9] = [
     (0x0a03_0001, 6, 80, Verdict::NoDestination),
 ];
 
-/// Red's lists say this, and blue has none.
-fn decides(rt: &impl Abort, acls: &Acls, line: &Line) {
+/// Whether red's lists say this, and blue has none.
+fn decides(acls: &Acls, line: &Line) -> bool {
     let (destination, proto, dport, verdict) = *line;
     let packet = packet(destination, proto, dport);
-    let said = evaluate(acls, RED, &packet);
-    assert!(rt; said == verdict, "{destination} {proto} {dport}");
-    assert!(rt; evaluate(acls, BLUE, &packet) == Verdict::NoDestination);
+    if evaluate(acls, RED, &packet) != verdict {
+        return false;
+    }
+    evaluate(acls, BLUE, &packet) == Verdict::NoDestination
 }
 
 fn decide_by_the_least(rt: &impl Abort, alloc: Global, acls: &mut Acls) {
-    fill(rt, alloc, acls);
+    assert!(rt; fills(alloc, acls));
     for line in &LINES {
-        decides(rt, acls, line);
+        assert!(rt; decides(acls, line), "{} {} {}", line.0, line.1, line.2);
     }
     acls.remove(RED, BLUE);
     let to_green = evaluate(acls, RED, &packet(0x0a02_0002, 6, 80));

@@ -1,4 +1,4 @@
-ghost use Rattle.std.specs.Prelude.{◌≤◌};
+ghost use Rattle.std.specs.Prelude.{◌≤◌, IfSome};
 ghost use Rattle.std.specs.List.{All};
 ghost use Rattle.flow_acl.specs.Lists.{IsAccessList};
 ghost use Rattle.packet_trace.specs.Circuits.{IsOfAUse};
@@ -75,48 +75,62 @@ impl Agent {
         done
     }
 
-    fn table(&mut self, rt: &impl Abort, alloc: Global, instance: u16, routes: Routes) {
-        let fib = fib_of(rt, alloc, routes);
-        self.tables
-            .push((InstanceId(instance), fib))
-            .expect(rt, "memory");
+    /// Whether the table of an instance can be put in.
+    fn has_table(&mut self, alloc: Global, instance: u16, routes: Routes) -> bool {
+        match fib_of(alloc, routes) {
+            Some(fib) => self.tables.push((InstanceId(instance), fib)).is_ok(),
+            None => false,
+        }
     }
 
-    /// All packets from one network to another, whose subnet has 256 addresses, enter an instance.
-    fn enter(
-        &mut self,
-        rt: &impl Abort,
-        alloc: Global,
-        from: u16,
-        to: u16,
-        first: u32,
-        instance: u16,
-    ) {
-        let list = entering(rt, alloc, first, instance);
-        let done = self.acls.set(InstanceId(from), InstanceId(to), list);
-        done.expect(rt, "memory");
+    /// Whether all packets from one network to another, whose subnet has 256 addresses, can enter an instance.
+    fn enters(&mut self, alloc: Global, from: u16, to: u16, first: u32, instance: u16) -> bool {
+        match entering(alloc, first, instance) {
+            Some(list) => {
+                let done = self.acls.set(InstanceId(from), InstanceId(to), list);
+                done.is_ok()
+            }
+            None => false,
+        }
     }
 }
 
-fn fib_of(rt: &impl Abort, alloc: Global, routes: Routes) -> Fib {
+fn sets_route(fib: &mut Fib, route: &(u32, u8, Addr, u32)) -> bool {
+    let (first, len, next_hop, label) = *route;
+    let Some(prefix) = Prefix::new(Addr(first), len) else {
+        return false;
+    };
+    let entry = Entry {
+        next_hop,
+        label: Label(label),
+    };
+    fib.set(prefix, entry).is_ok()
+}
+
+fn sets_routes(fib: &mut Fib, routes: Routes) -> bool {
+    for route in routes {
+        if !sets_route(fib, route) {
+            return false;
+        }
+    }
+    true
+}
+
+fn fib_of(alloc: Global, routes: Routes) -> Option<Fib> {
     let mut fib = Fib::new(alloc);
-    for (first, len, next_hop, label) in routes {
-        let prefix = Prefix::new(Addr(*first), *len).expect(rt, "no bits past the length");
-        let entry = Entry {
-            next_hop: *next_hop,
-            label: Label(*label),
-        };
-        fib.set(prefix, entry).expect(rt, "memory");
+    if sets_routes(&mut fib, routes) {
+        Some(fib)
+    } else {
+        None
     }
-    fib
 }
 
-fn entering(rt: &impl Abort, alloc: Global, first: u32, instance: u16) -> LowValue
-    ensures { IsAccessList result }
+fn entering(alloc: Global, first: u32, instance: u16) -> Option<LowValue>
+    ensures { IfSome result (λ list. IsAccessList list) }
 {
-    let subnet = Prefix::new(Addr(first), 24).expect(rt, "no bits past the length");
+    let subnet = Prefix::new(Addr(first), 24)?;
     let mut subnets = Items::new(alloc);
-    subnets.push(subnet).expect(rt, "memory");
+    subnets.push(subnet).ok()?;
     let rule = AclRule {
         protocol: None,
         sports: ALL,
@@ -128,8 +142,8 @@ fn entering(rt: &impl Abort, alloc: Global, first: u32, instance: u16) -> LowVal
         },
     };
     let mut rules = Items::new(alloc);
-    rules.push(rule).expect(rt, "memory");
-    LowValue::Acl { subnets, rules }
+    rules.push(rule).ok()?;
+    Some(LowValue::Acl { subnets, rules })
 }
 
 fn port(port: u32, instance: u16) -> Attached
@@ -179,34 +193,60 @@ const BEHIND: Routes = &[
     (0xfa00_8004, 32, N2, 557_060),
 ];
 
-/// Port 1 of red, and the first service of the chain.
-fn fill_first(rt: &impl Abort, alloc: Global, agent: &mut Agent) {
-    agent.attach(17, port(1, 1)).expect(rt, "memory");
-    agent
-        .attach(557_057, circuit(32_769, 1))
-        .expect(rt, "memory");
-    agent
-        .attach(557_058, circuit(32_770, 1))
-        .expect(rt, "memory");
-    agent.enter(rt, alloc, 1, 2, 0x0a02_0000, 16384);
-    agent.table(rt, alloc, 1, RED);
-    agent.table(rt, alloc, 16384, BEFORE);
-    agent.table(rt, alloc, 16385, BETWEEN);
+/// Whether port 1 of red and the first service of the chain can be attached.
+fn attaches_first(agent: &mut Agent) -> bool {
+    if agent.attach(17, port(1, 1)).is_err() {
+        return false;
+    }
+    if agent.attach(557_057, circuit(32_769, 1)).is_err() {
+        return false;
+    }
+    agent.attach(557_058, circuit(32_770, 1)).is_ok()
 }
 
-/// Port 2 of blue, and the second service.
-fn fill_second(rt: &impl Abort, alloc: Global, agent: &mut Agent) {
-    agent.attach(18, port(2, 2)).expect(rt, "memory");
-    agent
-        .attach(557_059, circuit(32_771, 2))
-        .expect(rt, "memory");
-    agent
-        .attach(557_060, circuit(32_772, 2))
-        .expect(rt, "memory");
-    agent.enter(rt, alloc, 2, 1, 0x0a01_0000, 16386);
-    agent.table(rt, alloc, 2, BLUE);
-    agent.table(rt, alloc, 16385, BETWEEN);
-    agent.table(rt, alloc, 16386, BEHIND);
+/// They, with the tables that lead there.
+fn fills_first(alloc: Global, agent: &mut Agent) -> bool {
+    if !attaches_first(agent) {
+        return false;
+    }
+    if !agent.enters(alloc, 1, 2, 0x0a02_0000, 16384) {
+        return false;
+    }
+    if !agent.has_table(alloc, 1, RED) {
+        return false;
+    }
+    if !agent.has_table(alloc, 16384, BEFORE) {
+        return false;
+    }
+    agent.has_table(alloc, 16385, BETWEEN)
+}
+
+/// Whether port 2 of blue and the second service can be attached.
+fn attaches_second(agent: &mut Agent) -> bool {
+    if agent.attach(18, port(2, 2)).is_err() {
+        return false;
+    }
+    if agent.attach(557_059, circuit(32_771, 2)).is_err() {
+        return false;
+    }
+    agent.attach(557_060, circuit(32_772, 2)).is_ok()
+}
+
+/// They, with the tables that lead there.
+fn fills_second(alloc: Global, agent: &mut Agent) -> bool {
+    if !attaches_second(agent) {
+        return false;
+    }
+    if !agent.enters(alloc, 2, 1, 0x0a01_0000, 16386) {
+        return false;
+    }
+    if !agent.has_table(alloc, 2, BLUE) {
+        return false;
+    }
+    if !agent.has_table(alloc, 16385, BETWEEN) {
+        return false;
+    }
+    agent.has_table(alloc, 16386, BEHIND)
 }
 
 fn packet(source: u16, destination: u32) -> Packet
@@ -227,13 +267,15 @@ fn follow(agents: &mut [Agent], source: u16, destination: u32) -> Trace {
     trace(agents, packet(source, destination))
 }
 
-fn hop(node: Addr, instance: u16) -> Hop {
+/// A lookup in an instance at an agent.
+fn at(node: Addr, instance: u16) -> Hop {
     Hop {
         node,
         instance: InstanceId(instance),
     }
 }
 
+/// Why a packet is dropped, if it is.
 fn reason(outcome: &Outcome) -> Option<Why> {
     match outcome {
         Outcome::Delivered { .. } => None,
@@ -241,98 +283,129 @@ fn reason(outcome: &Outcome) -> Option<Why> {
     }
 }
 
-/// The packet arrives at a port past these services.
-fn delivered(rt: &impl Abort, outcome: &Outcome, to: u32, visited: &[ServiceNo]) {
+/// Whether the packet arrives at a port past these services.
+fn is_delivered(outcome: &Outcome, to: u32, visited: &[ServiceNo]) -> bool {
     match outcome {
         Outcome::Delivered { port, services } => {
-            assert!(rt; port.0 == to);
-            assert!(rt; services.as_slice() == visited);
+            if port.0 != to {
+                return false;
+            }
+            services.as_slice() == visited
         }
-        Outcome::Dropped { .. } => assert!(rt; false, "dropped"),
+        Outcome::Dropped { .. } => false,
     }
 }
 
-/// The hops are these, and the packet arrives at a port past these services.
-fn arrived(rt: &impl Abort, trace: &Trace, to: u32, visited: &[ServiceNo], hops: &[Hop]) {
-    assert!(rt; trace.hops.as_slice() == hops);
-    delivered(rt, &trace.outcome, to, visited);
+/// Whether the hops are these, and the packet arrives at a port past these services.
+fn arrives(
+    agents: &mut [Agent],
+    packet: (u16, u32),
+    to: u32,
+    visited: &[ServiceNo],
+    hops: &[Hop],
+) -> bool {
+    let trace = follow(agents, packet.0, packet.1);
+    if trace.hops.as_slice() != hops {
+        return false;
+    }
+    is_delivered(&trace.outcome, to, visited)
 }
 
 fn pass_the_chain(rt: &impl Abort, agents: &mut [Agent]) {
-    let trace = follow(agents, 1, 0x0a02_0002);
-    let hops = [hop(N1, 16384), hop(N1, 16385), hop(N2, 16386)];
-    arrived(rt, &trace, 2, &[ServiceNo(1), ServiceNo(2)], &hops);
-    let trace = follow(agents, 2, 0x0a01_0001);
-    let hops = [hop(N2, 16386), hop(N2, 16385), hop(N1, 16384)];
-    arrived(rt, &trace, 1, &[ServiceNo(2), ServiceNo(1)], &hops);
+    let hops = [at(N1, 16384), at(N1, 16385), at(N2, 16386)];
+    let visited = [ServiceNo(1), ServiceNo(2)];
+    assert!(rt; arrives(agents, (1, 0x0a02_0002), 2, &visited, &hops));
+    let hops = [at(N2, 16386), at(N2, 16385), at(N1, 16384)];
+    let visited = [ServiceNo(2), ServiceNo(1)];
+    assert!(rt; arrives(agents, (2, 0x0a01_0001), 1, &visited, &hops));
 }
 
 #[test]
 fn both_packets_pass_the_chain(rt: HostRuntime) {
-    let alloc = rt.alloc();
-    let (mut one, mut two) = (Agent::new(alloc, N1), Agent::new(alloc, N2));
-    fill_first(&rt, alloc, &mut one);
-    fill_second(&rt, alloc, &mut two);
+    let (mut one, mut two) = (Agent::new(rt.alloc(), N1), Agent::new(rt.alloc(), N2));
+    assert!(rt; fills_first(rt.alloc(), &mut one));
+    assert!(rt; fills_second(rt.alloc(), &mut two));
     pass_the_chain(&rt, &mut [one, two]);
 }
 
-/// The packet is dropped for this reason after so many hops.
-fn dropped(rt: &impl Abort, trace: &Trace, why: Why, hops: usize) {
-    assert!(rt; trace.hops.as_slice().len() == hops, "{hops}");
-    assert!(rt; reason(&trace.outcome) == Some(why), "{hops}");
+/// Whether a packet is dropped for this reason after so many hops.
+fn is_dropped(agents: &mut [Agent], packet: (u16, u32), why: Why, hops: usize) -> bool {
+    let trace = follow(agents, packet.0, packet.1);
+    if trace.hops.as_slice().len() != hops {
+        return false;
+    }
+    reason(&trace.outcome) == Some(why)
 }
 
+/// Packets that are dropped, why, and after how many hops.
+const DROPPED: [((u16, u32), Why, usize); 3] = [
+    ((2, 0x0a02_0002), Why::NoSourcePort, 0),
+    ((1, 0x0a03_0001), Why::NoDestination, 0),
+    ((1, 0x0a02_0002), Why::NoLabel, 2),
+];
+
 fn be_dropped(rt: &impl Abort, agents: &mut [Agent]) {
-    dropped(rt, &follow(agents, 2, 0x0a02_0002), Why::NoSourcePort, 0);
-    dropped(rt, &follow(agents, 1, 0x0a03_0001), Why::NoDestination, 0);
-    dropped(rt, &follow(agents, 1, 0x0a02_0002), Why::NoLabel, 2);
+    for (packet, why, hops) in DROPPED {
+        assert!(rt; is_dropped(agents, packet, why, hops), "{hops}");
+    }
 }
 
 #[test]
 fn packets_are_dropped_with_their_reason(rt: HostRuntime) {
     let mut agent = Agent::new(rt.alloc(), N1);
-    fill_first(&rt, rt.alloc(), &mut agent);
+    assert!(rt; fills_first(rt.alloc(), &mut agent));
     be_dropped(&rt, &mut [agent]);
+}
+
+fn attaches_one(agent: &mut Agent) -> bool {
+    agent.attach(557_060, circuit(32_772, 2)).is_ok()
 }
 
 #[test]
 fn a_label_that_the_next_agent_lacks_is_no_label(rt: HostRuntime) {
-    let alloc = rt.alloc();
-    let (mut one, mut two) = (Agent::new(alloc, N1), Agent::new(alloc, N2));
-    fill_first(&rt, alloc, &mut one);
-    two.attach(557_060, circuit(32_772, 2))
-        .expect(&rt, "memory");
+    let (mut one, mut two) = (Agent::new(rt.alloc(), N1), Agent::new(rt.alloc(), N2));
+    assert!(rt; fills_first(rt.alloc(), &mut one));
+    assert!(rt; attaches_one(&mut two));
     be_dropped(&rt, &mut [one, two]);
 }
 
 /// Port 9 of red, within which all packets pass.
 const OWN: Routes = &[(0x0a01_0009, 32, N1, 19)];
 
-/// Both agents have port 1, and the one at N1 alone knows what is in its network.
-fn begin_at_the_first(rt: &impl Abort, agents: &mut [Agent], is_known: bool) {
-    let trace = follow(agents, 1, 0x0a01_0009);
+/// Whether a packet from port 1 arrives at port 9 where the first agent knows its network, and else is dropped.
+fn begins_at_the_first(agents: &mut [Agent], is_known: bool) -> bool {
     if is_known {
-        arrived(rt, &trace, 9, &[], &[hop(N1, 1)]);
+        arrives(agents, (1, 0x0a01_0009), 9, &[], &[at(N1, 1)])
     } else {
-        assert!(rt; reason(&trace.outcome) == Some(Why::NoDestination));
+        is_dropped(agents, (1, 0x0a01_0009), Why::NoDestination, 0)
     }
 }
 
-/// Ports 1 and 9 of red.
-fn fill_own(rt: &impl Abort, alloc: Global, agent: &mut Agent) {
-    agent.attach(17, port(1, 1)).expect(rt, "memory");
-    agent.attach(19, port(9, 1)).expect(rt, "memory");
-    agent.enter(rt, alloc, 1, 1, 0x0a01_0000, 16384);
-    agent.table(rt, alloc, 1, OWN);
+/// Whether ports 1 and 9 of red can be attached, with what is in their network.
+fn fills_own(alloc: Global, agent: &mut Agent) -> bool {
+    if agent.attach(17, port(1, 1)).is_err() {
+        return false;
+    }
+    if agent.attach(19, port(9, 1)).is_err() {
+        return false;
+    }
+    if !agent.enters(alloc, 1, 1, 0x0a01_0000, 16384) {
+        return false;
+    }
+    agent.has_table(alloc, 1, OWN)
 }
 
-/// The agent that knows its network is the first, or the second.
+fn attaches_port_1(agent: &mut Agent) -> bool {
+    agent.attach(17, port(1, 1)).is_ok()
+}
+
+/// Both agents have port 1, and the one at N1 alone, which is the first or the second, knows what is in its network.
 fn begin_with(rt: &impl Abort, alloc: Global, is_known: bool) {
     let (mut one, mut two) = (Agent::new(alloc, N1), Agent::new(alloc, N2));
-    fill_own(rt, alloc, &mut one);
-    two.attach(17, port(1, 1)).expect(rt, "memory");
+    assert!(rt; fills_own(alloc, &mut one));
+    assert!(rt; attaches_port_1(&mut two));
     let mut agents = if is_known { [one, two] } else { [two, one] };
-    begin_at_the_first(rt, &mut agents, is_known);
+    assert!(rt; begins_at_the_first(&mut agents, is_known));
 }
 
 #[test]
@@ -346,28 +419,34 @@ const ROUND: Routes = &[(0x0a02_0000, 24, N1, 557_057)];
 
 const AND_ROUND: Routes = &[(0x0a02_0000, 24, N1, 557_058)];
 
-fn fill_round(rt: &impl Abort, alloc: Global, agent: &mut Agent) {
-    agent.attach(17, port(1, 1)).expect(rt, "memory");
-    agent
-        .attach(557_057, circuit(32_769, 1))
-        .expect(rt, "memory");
-    agent
-        .attach(557_058, circuit(32_770, 1))
-        .expect(rt, "memory");
-    agent.enter(rt, alloc, 1, 2, 0x0a02_0000, 16384);
-    agent.table(rt, alloc, 16384, ROUND);
-    agent.table(rt, alloc, 16385, AND_ROUND);
+fn fills_round(alloc: Global, agent: &mut Agent) -> bool {
+    if !attaches_first(agent) {
+        return false;
+    }
+    if !agent.enters(alloc, 1, 2, 0x0a02_0000, 16384) {
+        return false;
+    }
+    if !agent.has_table(alloc, 16384, ROUND) {
+        return false;
+    }
+    agent.has_table(alloc, 16385, AND_ROUND)
 }
 
-fn go_round(rt: &impl Abort, agents: &mut [Agent]) {
+/// Whether a packet goes round until its 64th lookup, which is at N1 in the place behind the service.
+fn goes_round(agents: &mut [Agent]) -> bool {
     let trace = follow(agents, 1, 0x0a02_0002);
-    assert!(rt; trace.hops.as_slice().last().copied() == Some(hop(N1, 16385)));
-    dropped(rt, &trace, Why::TtlExpired, 64);
+    if trace.hops.as_slice().last().copied() != Some(at(N1, 16385)) {
+        return false;
+    }
+    if trace.hops.as_slice().len() != 64 {
+        return false;
+    }
+    reason(&trace.outcome) == Some(Why::TtlExpired)
 }
 
 #[test]
 fn no_packet_has_more_than_64_lookups(rt: HostRuntime) {
     let mut agent = Agent::new(rt.alloc(), N1);
-    fill_round(&rt, rt.alloc(), &mut agent);
-    go_round(&rt, &mut [agent]);
+    assert!(rt; fills_round(rt.alloc(), &mut agent));
+    assert!(rt; goes_round(&mut [agent]));
 }

@@ -28,18 +28,19 @@ fn counted<L: Ledger>(paths: &[Path], blank: Blank) -> Option<usize>
 /// Which of the first so many paths of the test is selected.
 const WANTED: [Option<usize>; 6] = [None, Some(0), Some(1), Some(2), Some(3), Some(3)];
 
-/// This is selected, also where steps are counted.
-fn is_selected(rt: &impl Abort, paths: &[Path], want: Option<usize>) {
-    assert!(rt; select(paths) == want);
-    assert!(rt; counted::<Brand>(paths, Blank::new(1)) == want);
+/// Whether this is selected, also where steps are counted.
+fn is_selected(paths: &[Path], want: Option<usize>) -> bool {
+    if select(paths) != want {
+        return false;
+    }
+    counted::<Brand>(paths, Blank::new(1)) == want
 }
 
 fn select_of_some(rt: &impl Abort, paths: &[Path; 5]) {
     for count in 0..paths.len() + 1 {
-        is_selected(rt, &paths[..count], WANTED[count]);
+        assert!(rt; is_selected(&paths[..count], WANTED[count]), "{count}");
     }
-    assert!(rt; better(&paths[1], &paths[0]));
-    assert!(rt; !better(&paths[3], &paths[4]));
+    assert!(rt; better(&paths[1], &paths[0]) && !better(&paths[3], &paths[4]));
 }
 
 #[test]

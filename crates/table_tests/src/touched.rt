@@ -1,11 +1,13 @@
-//! A change through the counted calls leaves the tables that the plain calls leave.
+//! What a change touches, and that a change through the counted calls leaves the tables that the plain calls leave.
 ghost use Rattle.std.specs.Prelude.{◌≡◌, ◌<◌};
 
-use crate::chains::{FAR, NEAR, chain, lead_right, subnet};
+use crate::chains::{NEAR, network, route_of_peer};
+use crate::steps::{BETWEEN, Step, in_tables};
+use crate::texts::Text;
 use ov_sync::Delta;
 use ov_types::{
-    Addr, InstanceId, Items, Label, LowKey, LowValue, NoMemory, Prefix, Rd, Target, Targets, UpKey,
-    VpnKey, VpnRoute,
+    Addr, InstanceId, Label, LowKey, NoMemory, Prefix, Rd, TableRow, Target, UpKey, VpnKey,
+    VpnRoute,
 };
 use path_select::Steps;
 use std::alloc::Global;
@@ -17,84 +19,34 @@ use vpn_stored_rows::StoredTables;
 use vpn_tables::VpnTables;
 
 /// The peer's route to the port 10.2.0.2 of network 2.
-fn right_port() -> VpnKey {
+pub fn right_port() -> VpnKey {
     VpnKey {
         rd: Rd(0x0001_c000_020c_0002),
         prefix: Prefix::host(Addr(0x0a02_0002)),
     }
 }
 
-fn to_right_port(rt: &impl Abort, alloc: Global) -> Delta<VpnKey, VpnRoute> {
-    let mut targets = Targets::new(alloc);
-    let added = targets.insert(Target(0x0002_fc00_007a_1202));
-    added.expect(rt, "memory");
-    let route = VpnRoute {
-        next_hop: FAR,
-        label: Label(18),
-        targets,
-    };
-    Delta::Put(right_port(), route)
+fn to_right_port(alloc: Global) -> Option<Delta<VpnKey, VpnRoute>> {
+    route_of_peer(alloc, right_port(), 18, Target(0x0002_fc00_007a_1202))
 }
 
-fn network(rt: &impl Abort, alloc: Global, imports: &[u16]) -> LowValue {
-    let mut instances = Vec::new(alloc);
-    for number in imports {
-        instances.push(InstanceId(*number)).expect(rt, "memory");
-    }
-    LowValue::Instance {
-        imports: Items::from_vec(instances),
+/// Whether the peer can lead to that port.
+pub fn leads_to_right_port(alloc: Global, tables: &mut VpnTables) -> bool {
+    match to_right_port(alloc) {
+        Some(told) => tables.set_peer_route(1, told).is_ok(),
+        None => false,
     }
 }
 
 /// The chain, with the port of network 2 at the peer.
-fn chain_to_a_port(rt: &impl Abort, alloc: Global, tables: &mut VpnTables) {
-    let (left, right) = (subnet(rt, 0x0a01_0000), subnet(rt, 0x0a02_0000));
-    chain(rt, alloc, tables, left, right);
-    let fed = tables.set_low(Delta::Put(LowKey::Instance(2), network(rt, alloc, &[2])));
-    fed.expect(rt, "memory");
-    lead_right(rt, alloc, tables, right);
-    let told = tables.set_peer_route(1, to_right_port(rt, alloc));
-    told.expect(rt, "memory");
-}
-
-/// A line for each row that a change touches.
-fn rows_written(
-    rt: &impl Abort,
-    text: &mut String,
-    tables: &VpnTables,
-    change: &Delta<VpnKey, VpnRoute>,
-) {
-    let rows = tables.touched_by_route(1, change).expect(rt, "memory");
-    for (instance, prefix) in &rows {
-        writeln!(text, "{} {prefix}", instance.0).expect(rt, "memory");
-    }
-}
-
-/// A line for each key towards peers that these targets lead.
-fn keys_written(rt: &impl Abort, text: &mut String, tables: &VpnTables, targets: &[Target]) {
-    let keys = tables.keys_led(targets).expect(rt, "memory");
-    for key in &keys {
-        writeln!(text, "{} {}", key.rd, key.prefix).expect(rt, "memory");
-    }
-}
-
-/// A line for each row and each key that a change touches.
-fn touched_written(
-    rt: &impl Abort,
-    text: &mut String,
-    tables: &VpnTables,
-    change: &Delta<VpnKey, VpnRoute>,
-) {
-    rows_written(rt, text, tables, change);
-    let targets = tables.targets_by_route(1, change).expect(rt, "memory");
-    keys_written(rt, text, tables, targets.as_slice());
-}
-
-fn touch_a_chain(rt: &impl Abort, alloc: Global, tables: &mut VpnTables) {
-    chain_to_a_port(rt, alloc, tables);
-    let mut text = String::new(alloc);
-    touched_written(rt, &mut text, tables, &Delta::Drop(right_port()));
-    let want = "2 10.2.0.2/32\n\
+const CHAIN_IS_TOUCHED: [Step; 5] = [
+    Step::Chain,
+    Step::Network(2, &[2]),
+    Step::LeadRight(BETWEEN),
+    Step::LeadToRightPort,
+    Step::Lines(
+        Text::Touched,
+        "2 10.2.0.2/32\n\
 16386 10.2.0.2/32\n\
 16384 10.1.0.0/24\n\
 16384 10.2.0.0/24\n\
@@ -103,29 +55,51 @@ fn touch_a_chain(rt: &impl Abort, alloc: Global, tables: &mut VpnTables) {
 16386 10.1.0.0/24\n\
 16386 10.2.0.0/24\n\
 192.0.2.11:16384 10.2.0.0/24\n\
-192.0.2.11:16385 10.1.0.0/24\n";
-    assert!(rt; text.as_str() == want, "{text}");
-}
+192.0.2.11:16385 10.1.0.0/24\n",
+    ),
+];
 
 #[test]
 fn a_withdrawal_touches_the_rows_of_a_chain(rt: HostRuntime) {
-    let mut tables = VpnTables::new(rt.alloc(), 64512);
-    touch_a_chain(&rt, rt.alloc(), &mut tables);
+    in_tables(&rt, rt.alloc(), &CHAIN_IS_TOUCHED);
 }
 
-/// Networks 1 and 2 import each other, and have a port each; all rows are stored.
-fn relate(rt: &impl Abort, alloc: Global, tables: &mut StoredTables) {
-    for number in [1, 2] {
-        let object = network(rt, alloc, &[1, 2]);
-        let fed = tables.set_low(Delta::Put(LowKey::Instance(number), object));
-        fed.expect(rt, "memory");
+/// Whether the feed can tell a network that imports 1 and 2.
+fn feeds(alloc: Global, tables: &mut StoredTables, number: u16) -> bool {
+    match network(alloc, &[1, 2]) {
+        Some(object) => {
+            let told = Delta::Put(LowKey::Instance(number), object);
+            tables.set_low(told).is_ok()
+        }
+        None => false,
     }
-    tables.set_agent(2, NEAR).expect(rt, "memory");
-    let told = tables.set_publication(2, port(1, 0x0a01_0001));
-    told.expect(rt, "memory");
-    let told = tables.set_peer_route(1, to_right_port(rt, alloc));
-    told.expect(rt, "memory");
-    tables.refresh().expect(rt, "memory");
+}
+
+fn leads(alloc: Global, tables: &mut StoredTables) -> bool {
+    match to_right_port(alloc) {
+        Some(told) => tables.set_peer_route(1, told).is_ok(),
+        None => false,
+    }
+}
+
+/// Whether networks 1 and 2 can import each other and have a port each; all rows are stored.
+fn relates(alloc: Global, tables: &mut StoredTables) -> bool {
+    if !feeds(alloc, tables, 1) {
+        return false;
+    }
+    if !feeds(alloc, tables, 2) {
+        return false;
+    }
+    if tables.set_agent(2, NEAR).is_err() {
+        return false;
+    }
+    if tables.set_publication(2, port(1, 0x0a01_0001)).is_err() {
+        return false;
+    }
+    if !leads(alloc, tables) {
+        return false;
+    }
+    tables.refresh().is_ok()
 }
 
 /// The agent tells a port.
@@ -153,44 +127,59 @@ fn change(tables: &mut StoredTables) -> Result<(), NoMemory> {
     Ok(())
 }
 
+fn push_rows(number: u16, rows: &[(Prefix, TableRow)], text: &mut String) -> bool {
+    for (prefix, row) in rows {
+        if writeln!(text, "{number} {prefix} {row}").is_err() {
+            return false;
+        }
+    }
+    true
+}
+
 /// A line for each row of a network.
-fn table_written(rt: &impl Abort, text: &mut String, tables: &StoredTables, number: u16) {
-    let rows = tables.table(InstanceId(number)).expect(rt, "memory");
-    for (prefix, row) in &rows {
-        writeln!(text, "{number} {prefix} {row}").expect(rt, "memory");
+fn push_table(tables: &StoredTables, number: u16, text: &mut String) -> bool {
+    match tables.table(InstanceId(number)) {
+        Ok(rows) => push_rows(number, &rows, text),
+        Err(_) => false,
     }
 }
 
-/// The tables of both networks.
-fn are_left(rt: &impl Abort, alloc: Global, tables: &StoredTables) {
+/// Whether the tables of both networks are left so.
+fn are_left(alloc: Global, tables: &StoredTables) -> bool {
     let mut text = String::new(alloc);
-    table_written(rt, &mut text, tables, 1);
-    table_written(rt, &mut text, tables, 2);
-    let want = "1 10.1.0.1/32 192.0.2.11:1 192.0.2.11 17\n\
+    if !push_table(tables, 1, &mut text) {
+        return false;
+    }
+    if !push_table(tables, 2, &mut text) {
+        return false;
+    }
+    text.as_str()
+        == "1 10.1.0.1/32 192.0.2.11:1 192.0.2.11 17\n\
 1 10.1.0.2/32 192.0.2.11:1 192.0.2.11 18\n\
 2 10.1.0.1/32 192.0.2.11:1 192.0.2.11 17\n\
-2 10.1.0.2/32 192.0.2.11:1 192.0.2.11 18\n";
-    assert!(rt; text.as_str() == want, "{text}");
+2 10.1.0.2/32 192.0.2.11:1 192.0.2.11 18\n"
 }
 
-fn is_empty(rt: &impl Abort, tables: &StoredTables) {
-    let rows = tables.table(InstanceId(1)).expect(rt, "memory");
-    assert!(rt; rows.is_empty());
+fn is_empty(tables: &StoredTables) -> bool {
+    match tables.table(InstanceId(1)) {
+        Ok(rows) => rows.is_empty(),
+        Err(_) => false,
+    }
 }
 
 fn change_by_counted_calls(rt: &impl Abort, alloc: Global, tables: &mut StoredTables) {
-    relate(rt, alloc, tables);
+    assert!(rt; relates(alloc, tables));
     let changed = change_counted::<Brand>(tables, Blank::new(1));
-    changed.expect(rt, "memory");
-    are_left(rt, alloc, tables);
+    assert!(rt; changed.is_ok());
+    assert!(rt; are_left(alloc, tables));
 }
 
 fn change_by_plain_calls(rt: &impl Abort, alloc: Global, tables: &mut StoredTables) {
-    relate(rt, alloc, tables);
-    change(tables).expect(rt, "memory");
-    are_left(rt, alloc, tables);
+    assert!(rt; relates(alloc, tables));
+    assert!(rt; change(tables).is_ok());
+    assert!(rt; are_left(alloc, tables));
     tables.drop_session(2);
-    is_empty(rt, tables);
+    assert!(rt; is_empty(tables));
 }
 
 #[test]
