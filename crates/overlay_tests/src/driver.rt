@@ -3,8 +3,6 @@ ghost use Rattle.std.specs.Prelude.{◌≡◌, length, IfOk};
 
 use ov_io::{MemSink, MemSource, Sink, Source};
 use std::alloc::{AllocError, Global};
-use std::process::Abort;
-use std::test::Fail;
 use top_call::{Net, Status, overlay};
 
 /// A run: a command, its input, how it is to end, and what it is to write. The input is a document of a topology, a
@@ -56,29 +54,48 @@ pub(crate) fn no_network(alloc: Global) -> Result<Vec<Option<Net>>, AllocError>
     Ok(nets)
 }
 
-/// How a run ended. The network that it leaves is let go.
+/// How a run ended, where there was memory for it. The network that it leaves is let go.
 pub(crate) fn run_over<S: Source, K: Sink>(
     alloc: Global,
     words: &[&str],
     source: &mut S,
     sink: &mut K,
-) -> Result<Status, Fail> {
-    let words = words_of(alloc, words)?;
-    let mut nets = no_network(alloc)?;
-    Ok(overlay(alloc, words.as_slice(), source, sink, &mut nets[0]))
+) -> Option<Status> {
+    let words = words_of(alloc, words).ok()?;
+    let mut nets = no_network(alloc).ok()?;
+    Some(overlay(alloc, words.as_slice(), source, sink, &mut nets[0]))
 }
 
-/// Runs one case from a source.
-pub(crate) fn answers_from<S: Source>(
-    rt: &impl Abort,
+/// Whether a run ends so from a source, and writes this.
+pub(crate) fn answers<S: Source>(
     alloc: Global,
-    case: &Case,
+    words: &[&str],
     source: &mut S,
-) -> Result<(), Fail> {
+    status: Status,
+    output: &[u8],
+) -> bool {
     let mut sink = MemSink::new(alloc, Vec::new(alloc));
-    let status = run_over(alloc, &[case.word], source, &mut sink)?;
-    let more = case.more;
-    assert!(rt; sink.taken() == case.output.as_bytes(), "{more}");
-    assert!(rt; status == case.status, "{more}");
-    Ok(())
+    if run_over(alloc, words, source, &mut sink) != Some(status) {
+        return false;
+    }
+    sink.taken() == output
+}
+
+/// Whether a case does.
+pub(crate) fn answers_from<S: Source>(alloc: Global, case: &Case, source: &mut S) -> bool {
+    let output = case.output.as_bytes();
+    answers(alloc, &[case.word], source, case.status, output)
+}
+
+/// What these octets are read from. No read fails.
+pub(crate) fn source_of(alloc: Global, octets: Vec<u8>) -> MemSource {
+    MemSource::new(alloc, octets, Vec::new(alloc))
+}
+
+/// The ends of which the first call fails.
+pub(crate) fn failing(alloc: Global) -> Option<(MemSource, MemSink)> {
+    let reads = vec![in alloc; 1].ok()?;
+    let writes = vec![in alloc; 1].ok()?;
+    let source = MemSource::new(alloc, Vec::new(alloc), reads);
+    Some((source, MemSink::new(alloc, writes)))
 }

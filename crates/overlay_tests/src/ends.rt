@@ -1,12 +1,8 @@
 //! Whole runs over ends that fail, or that take little at a time.
-ghost use Rattle.std.specs.Prelude.{◌≤◌};
-
 use crate::document_cases::{NOT_HEX, SMALLEST};
-use crate::driver::{Case, answers_from, input_of, run_over};
+use crate::driver::{Case, answers_from, input_of, run_over, source_of};
 use ov_io::{MemSink, MemSource, Sink, SinkFault, Source, SourceFault};
 use std::alloc::Global;
-use std::process::Abort;
-use std::test::Fail;
 use top_call::Status;
 
 /// Which call of an end fails, counted from 1.
@@ -26,92 +22,100 @@ const FAILING: [(Failing, Status); 5] = [
     (Failing::Write(2), Status::Done),
 ];
 
-/// The read that fails, if one does.
-fn reads_of(alloc: Global, failing: Failing) -> Result<Vec<u64>, Fail> {
+/// The smallest document, where these reads fail.
+fn source_of_the_smallest(alloc: Global, reads: Vec<u64>) -> Option<MemSource> {
+    let octets = input_of(alloc, &SMALLEST).ok()?;
+    Some(MemSource::new(alloc, octets, reads))
+}
+
+/// The ends of a run of the smallest document.
+fn ends_of(alloc: Global, failing: Failing) -> Option<(MemSource, MemSink)> {
     match failing {
-        Failing::Read(number) => Ok(vec![in alloc; number]?),
-        Failing::Write(_) => Ok(Vec::new(alloc)),
+        Failing::Read(number) => {
+            let reads = vec![in alloc; number].ok()?;
+            let source = source_of_the_smallest(alloc, reads)?;
+            Some((source, MemSink::new(alloc, Vec::new(alloc))))
+        }
+        Failing::Write(number) => {
+            let writes = vec![in alloc; number].ok()?;
+            let source = source_of_the_smallest(alloc, Vec::new(alloc))?;
+            Some((source, MemSink::new(alloc, writes)))
+        }
     }
 }
 
-/// The write that fails, if one does.
-fn writes_of(alloc: Global, failing: Failing) -> Result<Vec<u64>, Fail> {
-    match failing {
-        Failing::Read(_) => Ok(Vec::new(alloc)),
-        Failing::Write(number) => Ok(vec![in alloc; number]?),
+/// Whether a run of the smallest document ends so. Nothing is written where that is no good end.
+fn is_ended(alloc: Global, source: &mut MemSource, sink: &mut MemSink, status: Status) -> bool {
+    if run_over(alloc, &[SMALLEST.word], source, sink) != Some(status) {
+        return false;
     }
-}
-
-/// Runs the smallest document where these reads fail.
-fn run_the_smallest(alloc: Global, reads: Vec<u64>, sink: &mut MemSink) -> Result<Status, Fail> {
-    let mut source = MemSource::new(alloc, input_of(alloc, &SMALLEST)?, reads);
-    run_over(alloc, &[SMALLEST.word], &mut source, sink)
-}
-
-/// How a run of the smallest document ends where a call fails. Nothing is written where that is no good end.
-fn ends_so(rt: &impl Abort, alloc: Global, failing: Failing, status: Status) -> Result<(), Fail> {
-    let mut sink = MemSink::new(alloc, writes_of(alloc, failing)?);
-    let ended = run_the_smallest(alloc, reads_of(alloc, failing)?, &mut sink)?;
-    assert!(rt; ended == status);
-    let output = if status == Status::Done {
-        SMALLEST.output
+    if status == Status::Done {
+        sink.taken() == SMALLEST.output.as_bytes()
     } else {
-        ""
-    };
-    assert!(rt; sink.taken() == output.as_bytes());
-    Ok(())
+        sink.taken().is_empty()
+    }
+}
+
+/// Whether it does where a call fails.
+fn ends_so(alloc: Global, failing: Failing, status: Status) -> bool {
+    match ends_of(alloc, failing) {
+        Some((mut source, mut sink)) => is_ended(alloc, &mut source, &mut sink, status),
+        None => false,
+    }
 }
 
 #[test]
-fn a_fault_of_each_call_is_told(rt: HostRuntime) -> Result<(), Fail> {
+fn a_fault_of_each_call_is_told(rt: HostRuntime) {
     for (failing, status) in FAILING {
-        ends_so(&rt, rt.alloc(), failing, status)?;
+        assert!(rt; ends_so(rt.alloc(), failing, status));
     }
-    Ok(())
 }
 
 /// Enough messages that what is told of them is written in pieces.
-fn many_messages(alloc: Global) -> Result<Vec<u8>, Fail> {
+fn many_messages(alloc: Global) -> Option<Vec<u8>> {
     let mut digits = Vec::new(alloc);
     for _message in 0..16_384 {
-        digits.extend_from_slice(b"ffffffffffffffffffffffffffffffff001304\n")?;
+        digits
+            .extend_from_slice(b"ffffffffffffffffffffffffffffffff001304\n")
+            .ok()?;
     }
-    Ok(digits)
+    Some(digits)
 }
 
-/// How a run over many messages ended, and what it wrote.
-fn told(alloc: Global, failing: Vec<u64>) -> Result<(Status, MemSink), Fail> {
-    let mut source = MemSource::new(alloc, many_messages(alloc)?, Vec::new(alloc));
+/// How a run over many messages ended.
+fn told(alloc: Global, sink: &mut MemSink) -> Option<Status> {
+    let mut source = source_of(alloc, many_messages(alloc)?);
+    run_over(alloc, &["decode"], &mut source, sink)
+}
+
+/// Whether it ended so, and so much was written.
+fn tells(alloc: Global, failing: Vec<u64>, status: Status, count: usize) -> bool {
     let mut sink = MemSink::new(alloc, failing);
-    let status = run_over(alloc, &["decode"], &mut source, &mut sink)?;
-    Ok((status, sink))
-}
-
-#[test]
-fn many_messages_are_told(rt: HostRuntime) -> Result<(), Fail> {
-    let (status, sink) = told(rt.alloc(), Vec::new(rt.alloc()))?;
-    assert!(rt; status == Status::Done);
-    assert!(rt; sink.taken().len() == 163_840);
-    Ok(())
-}
-
-/// What was written before the write that fails is all that is left.
-fn leaves_a_front(rt: &impl Abort, alloc: Global, failing: u64) -> Result<(), Fail>
-    requires first { 1 ≤ failing }
-    requires last { failing ≤ 3 }
-{
-    let (status, sink) = told(alloc, vec![in alloc; failing]?)?;
-    assert!(rt; status == Status::WriteFault);
-    assert!(rt; sink.taken().len() == 65_540 * (failing as usize - 1));
-    Ok(())
-}
-
-#[test]
-fn each_failed_write_leaves_a_front(rt: HostRuntime) -> Result<(), Fail> {
-    for failing in 1..=3u64 {
-        leaves_a_front(&rt, rt.alloc(), failing)?;
+    if told(alloc, &mut sink) != Some(status) {
+        return false;
     }
-    Ok(())
+    sink.taken().len() == count
+}
+
+#[test]
+fn many_messages_are_told(rt: HostRuntime) {
+    let none = Vec::new(rt.alloc());
+    assert!(rt; tells(rt.alloc(), none, Status::Done, 163_840));
+}
+
+/// Whether what was written before the write that fails is all that is left.
+fn leaves_a_front(alloc: Global, failing: u64, count: usize) -> bool {
+    match vec![in alloc; failing] {
+        Ok(writes) => tells(alloc, writes, Status::WriteFault, count),
+        Err(_) => false,
+    }
+}
+
+#[test]
+fn each_failed_write_leaves_a_front(rt: HostRuntime) {
+    for (failing, count) in [(1, 0), (2, 65_540), (3, 131_080)] {
+        assert!(rt; leaves_a_front(rt.alloc(), failing, count), "{failing}");
+    }
 }
 
 /// A source that gives at most so many octets a call, and that doesn't tell what it holds.
@@ -157,42 +161,49 @@ impl Sink for Dribble {
     }
 }
 
-/// Runs the smallest document from a source that gives so much a call.
-fn run_by_trickles(alloc: Global, most: usize, sink: &mut Dribble) -> Result<Status, Fail> {
-    let inner = MemSource::new(alloc, input_of(alloc, &SMALLEST)?, Vec::new(alloc));
-    let mut source = Trickle { inner, most };
-    run_over(alloc, &[SMALLEST.word], &mut source, sink)
+/// What is read of a case, so much a call.
+fn trickle(alloc: Global, case: &Case, most: usize) -> Option<Trickle> {
+    let octets = input_of(alloc, case).ok()?;
+    let inner = source_of(alloc, octets);
+    Some(Trickle { inner, most })
 }
 
-/// The smallest document is answered through ends that take so much a call.
-fn is_answered_through(rt: &impl Abort, alloc: Global, most: usize) -> Result<(), Fail> {
+/// Whether a run of the smallest document writes its output through a sink.
+fn is_answered(alloc: Global, source: &mut Trickle, sink: &mut Dribble) -> bool {
+    if run_over(alloc, &[SMALLEST.word], source, sink) != Some(Status::Done) {
+        return false;
+    }
+    sink.inner.taken() == SMALLEST.output.as_bytes()
+}
+
+/// Whether the smallest document is answered through ends that take so much a call.
+fn is_answered_through(alloc: Global, most: usize) -> bool {
+    let Some(mut source) = trickle(alloc, &SMALLEST, most) else {
+        return false;
+    };
     let inner = MemSink::new(alloc, Vec::new(alloc));
     let mut sink = Dribble { inner, most };
-    let status = run_by_trickles(alloc, most, &mut sink)?;
-    assert!(rt; status == Status::Done);
-    assert!(rt; sink.inner.taken() == SMALLEST.output.as_bytes());
-    Ok(())
+    is_answered(alloc, &mut source, &mut sink)
 }
 
 #[test]
-fn short_reads_and_writes_lose_nothing(rt: HostRuntime) -> Result<(), Fail> {
+fn short_reads_and_writes_lose_nothing(rt: HostRuntime) {
     for most in 1..=300 {
-        is_answered_through(&rt, rt.alloc(), most)?;
+        assert!(rt; is_answered_through(rt.alloc(), most), "{most}");
     }
-    Ok(())
 }
 
-/// A case is answered from a source that gives 7 octets a call.
-fn is_so_by_trickles(rt: &impl Abort, alloc: Global, case: &Case) -> Result<(), Fail> {
-    let inner = MemSource::new(alloc, input_of(alloc, case)?, Vec::new(alloc));
-    let mut source = Trickle { inner, most: 7 };
-    answers_from(rt, alloc, case, &mut source)
+/// Whether a case is answered from a source that gives 7 octets a call.
+fn is_so_by_trickles(alloc: Global, case: &Case) -> bool {
+    match trickle(alloc, case, 7) {
+        Some(mut source) => answers_from(alloc, case, &mut source),
+        None => false,
+    }
 }
 
 #[test]
-fn what_spells_no_octets_is_so_from_each_source(rt: HostRuntime) -> Result<(), Fail> {
+fn what_spells_no_octets_is_so_from_each_source(rt: HostRuntime) {
     for case in &NOT_HEX {
-        is_so_by_trickles(&rt, rt.alloc(), case)?;
+        assert!(rt; is_so_by_trickles(rt.alloc(), case));
     }
-    Ok(())
 }

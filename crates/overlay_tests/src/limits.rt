@@ -1,18 +1,10 @@
 //! Documents at their limits, and past them.
 use crate::compiled_texts::ONE_TEXT;
 use crate::documents::ONE_NODE;
-use crate::driver::{document, run_over};
-use ov_io::{MemSink, MemSource};
+use crate::driver::{answers, document, run_over, source_of};
+use ov_io::MemSink;
 use std::alloc::{AllocError, Global};
-use std::process::Abort;
-use std::test::Fail;
 use top_call::Status;
-
-/// How a run of `compile` over octets ended.
-fn compiled(alloc: Global, octets: Vec<u8>, sink: &mut MemSink) -> Result<Status, Fail> {
-    let mut source = MemSource::new(alloc, octets, Vec::new(alloc));
-    run_over(alloc, &["compile"], &mut source, sink)
-}
 
 /// A configuration with so many services, and a chain of all of them.
 fn chain_of(alloc: Global, count: u32) -> Result<String, AllocError> {
@@ -37,61 +29,61 @@ fn chain_of(alloc: Global, count: u32) -> Result<String, AllocError> {
 }
 
 /// A configuration with one node.
-fn of_one_node(alloc: Global, configuration: &str) -> Result<Vec<u8>, AllocError> {
-    let text = document(alloc, ONE_NODE, configuration, "")?;
-    text.as_bytes().to_vec(alloc)
+fn of_one_node(alloc: Global, configuration: &str) -> Option<Vec<u8>> {
+    let text = document(alloc, ONE_NODE, configuration, "").ok()?;
+    text.as_bytes().to_vec(alloc).ok()
 }
 
-fn is_compiled(
-    rt: &impl Abort,
-    alloc: Global,
-    octets: Vec<u8>,
-    status: Status,
-    output: &str,
-) -> Result<(), Fail> {
-    let mut sink = MemSink::new(alloc, Vec::new(alloc));
-    let ended = compiled(alloc, octets, &mut sink)?;
-    assert!(rt; ended == status);
-    assert!(rt; sink.taken() == output.as_bytes());
-    Ok(())
+/// Whether `compile` ends so over octets, and writes this.
+fn is_compiled(alloc: Global, octets: Vec<u8>, status: Status, output: &str) -> bool {
+    let mut source = source_of(alloc, octets);
+    answers(alloc, &["compile"], &mut source, status, output.as_bytes())
 }
 
-/// What a chain of so many services comes to.
-fn has_services(
-    rt: &impl Abort,
-    alloc: Global,
-    count: u32,
-    status: Status,
-    output: &str,
-) -> Result<(), Fail> {
-    let configuration = chain_of(alloc, count)?;
-    let octets = of_one_node(alloc, configuration.as_str())?;
-    is_compiled(rt, alloc, octets, status, output)
+/// A chain of so many services.
+fn services(alloc: Global, count: u32) -> Option<Vec<u8>> {
+    let configuration = chain_of(alloc, count).ok()?;
+    of_one_node(alloc, configuration.as_str())
+}
+
+/// Whether a chain of so many services comes to this.
+fn has_services(alloc: Global, count: u32, status: Status, output: &str) -> bool {
+    match services(alloc, count) {
+        Some(octets) => is_compiled(alloc, octets, status, output),
+        None => false,
+    }
 }
 
 #[test]
-fn chains_have_at_most_fifteen_services(rt: HostRuntime) -> Result<(), Fail> {
+fn chains_have_at_most_fifteen_services(rt: HostRuntime) {
     let refused = "refused ChainTooLong long\n";
-    has_services(&rt, rt.alloc(), 15, Status::Done, ONE_TEXT)?;
-    has_services(&rt, rt.alloc(), 16, Status::Refused, refused)
+    assert!(rt; has_services(rt.alloc(), 15, Status::Done, ONE_TEXT));
+    assert!(rt; has_services(rt.alloc(), 16, Status::Refused, refused));
 }
 
 #[test]
-fn octets_that_are_no_text_are_not_json(rt: HostRuntime) -> Result<(), Fail> {
-    let octets = b"\"\xff\"".as_slice().to_vec(rt.alloc())?;
-    is_compiled(&rt, rt.alloc(), octets, Status::NotJson, "not json\n")
+fn octets_that_are_no_text_are_not_json(rt: HostRuntime) {
+    let octets = b"\"\xff\"".as_slice().to_vec(rt.alloc());
+    let octets = octets.expect(&rt, "memory");
+    assert!(rt; is_compiled(rt.alloc(), octets, Status::NotJson, "not json\n"));
+}
+
+/// Whether so many spaces come to this.
+fn are_spaces(alloc: Global, count: usize, status: Status, output: &str) -> bool {
+    match vec![in alloc; b' '; count] {
+        Ok(spaces) => is_compiled(alloc, spaces, status, output),
+        Err(_) => false,
+    }
 }
 
 #[test]
-fn one_octet_past_the_limit_is_too_long(rt: HostRuntime) -> Result<(), Fail> {
-    let spaces = vec![in rt.alloc(); b' '; 16_777_217]?;
-    is_compiled(&rt, rt.alloc(), spaces, Status::TooLong, "")
+fn one_octet_past_the_limit_is_too_long(rt: HostRuntime) {
+    assert!(rt; are_spaces(rt.alloc(), 16_777_217, Status::TooLong, ""));
 }
 
 #[test]
-fn as_many_octets_as_the_limit_are_read(rt: HostRuntime) -> Result<(), Fail> {
-    let spaces = vec![in rt.alloc(); b' '; 16_777_216]?;
-    is_compiled(&rt, rt.alloc(), spaces, Status::NotJson, "not json\n")
+fn as_many_octets_as_the_limit_are_read(rt: HostRuntime) {
+    assert!(rt; are_spaces(rt.alloc(), 16_777_216, Status::NotJson, "not json\n"));
 }
 
 /// 128 unrelated networks of one subnet.
@@ -121,22 +113,27 @@ fn ports_written(ports: &mut String) -> Result<(), AllocError> {
 }
 
 /// A document of both.
-fn at_the_limits(alloc: Global) -> Result<Vec<u8>, AllocError> {
+fn at_the_limits(alloc: Global) -> Option<Vec<u8>> {
     let mut networks = String::new(alloc);
-    networks_written(&mut networks)?;
+    networks_written(&mut networks).ok()?;
     let mut ports = String::new(alloc);
-    ports_written(&mut ports)?;
-    let configuration = format!(in alloc; r#"{{"networks":[{networks}],"ports":[{ports}]}}"#)?;
+    ports_written(&mut ports).ok()?;
+    let configuration = format!(in alloc; r#"{{"networks":[{networks}],"ports":[{ports}]}}"#).ok()?;
     of_one_node(alloc, configuration.as_str())
 }
 
-#[test]
-fn a_document_at_the_limits_compiles(rt: HostRuntime) -> Result<(), Fail> {
-    let alloc = rt.alloc();
+/// Whether `compile` writes so many lines of octets.
+fn has_lines(alloc: Global, octets: Vec<u8>, count: usize) -> bool {
+    let mut source = source_of(alloc, octets);
     let mut sink = MemSink::new(alloc, Vec::new(alloc));
-    let ended = compiled(alloc, at_the_limits(alloc)?, &mut sink)?;
-    assert!(rt; ended == Status::Done);
-    let lines = sink.taken().iter().filter(|octet| **octet == b'\n').count();
-    assert_eq!(rt; lines, 4480);
-    Ok(())
+    if run_over(alloc, &["compile"], &mut source, &mut sink) != Some(Status::Done) {
+        return false;
+    }
+    sink.taken().iter().filter(|octet| **octet == b'\n').count() == count
+}
+
+#[test]
+fn a_document_at_the_limits_compiles(rt: HostRuntime) {
+    let octets = at_the_limits(rt.alloc()).expect(&rt, "memory");
+    assert!(rt; has_lines(rt.alloc(), octets, 4480));
 }

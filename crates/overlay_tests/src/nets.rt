@@ -1,67 +1,61 @@
 //! The network that a run leaves.
 use crate::documents::{ACROSS, TWO_NODES};
-use crate::driver::{document, no_network, words_of};
+use crate::driver::{document, no_network, source_of, words_of};
 use crate::run_cases::{CHAIN_SETTLES, SEVEN_ROUNDS, SIX_ROUNDS};
 use config_model::Event;
 use ov_io::{MemSink, MemSource};
 use std::alloc::Global;
-use std::process::Abort;
-use std::test::Fail;
 use top_call::{Net, Status, overlay};
 
-/// How a run of a document ended where these writes fail. The network is left in `net`.
-fn left(
-    alloc: Global,
-    document: &str,
-    failing: &[u64],
-    net: &mut Option<Net>,
-) -> Result<Status, Fail> {
-    let words = words_of(alloc, &["run"])?;
-    let octets = document.as_bytes().to_vec(alloc)?;
-    let mut source = MemSource::new(alloc, octets, Vec::new(alloc));
-    let mut sink = MemSink::new(alloc, failing.to_vec(alloc)?);
-    Ok(overlay(alloc, words.as_slice(), &mut source, &mut sink, net))
+/// The input and the words of a run.
+fn run_of(alloc: Global, document: &str) -> Option<(Vec<String>, MemSource)> {
+    let words = words_of(alloc, &["run"]).ok()?;
+    let octets = document.as_bytes().to_vec(alloc).ok()?;
+    Some((words, source_of(alloc, octets)))
 }
 
-/// Whether there is a network, and it is settled.
-fn is_settled(net: &Option<Net>) -> bool {
+/// How a run of a document ended where these writes fail. The network is left in `net`.
+fn left(alloc: Global, document: &str, failing: &[u64], net: &mut Option<Net>) -> Option<Status> {
+    let (words, mut source) = run_of(alloc, document)?;
+    let mut sink = MemSink::new(alloc, failing.to_vec(alloc).ok()?);
+    Some(overlay(alloc, words.as_slice(), &mut source, &mut sink, net))
+}
+
+/// Whether there is a network, and it is settled or not.
+fn is_settled(net: &Option<Net>, settled: bool) -> bool {
     match net {
-        Some(net) => !net.failed() && net.settled(),
+        Some(net) => (!net.failed() && net.settled()) == settled,
         None => false,
     }
 }
 
-/// The chain of two leaves a network after these rounds, which is settled or not.
-fn rounds_leave(
-    rt: &impl Abort,
-    alloc: Global,
-    rounds: &str,
-    settled: bool,
-    net: &mut Option<Net>,
-) -> Result<(), Fail> {
-    let document = document(alloc, TWO_NODES, ACROSS, rounds)?;
-    let status = left(alloc, document.as_str(), &[], net)?;
-    assert!(rt; status == Status::Done && net.is_some());
-    assert!(rt; is_settled(net) == settled);
-    Ok(())
+/// Whether the chain of two leaves a network after these rounds, which is settled or not.
+fn rounds_leave(alloc: Global, rounds: &str, settled: bool, net: &mut Option<Net>) -> bool {
+    let Ok(document) = document(alloc, TWO_NODES, ACROSS, rounds) else {
+        return false;
+    };
+    if left(alloc, document.as_str(), &[], net) != Some(Status::Done) {
+        return false;
+    }
+    is_settled(net, settled)
 }
 
 #[test]
-fn six_rounds_that_go_backwards_do_not_settle_a_chain_of_two(rt: HostRuntime) -> Result<(), Fail> {
-    let mut nets = no_network(rt.alloc())?;
-    rounds_leave(&rt, rt.alloc(), SIX_ROUNDS, false, &mut nets[0])
+fn six_rounds_that_go_backwards_do_not_settle_a_chain_of_two(rt: HostRuntime) {
+    let mut nets = no_network(rt.alloc()).expect(&rt, "memory");
+    assert!(rt; rounds_leave(rt.alloc(), SIX_ROUNDS, false, &mut nets[0]));
 }
 
 #[test]
-fn seven_rounds_that_go_backwards_settle_it(rt: HostRuntime) -> Result<(), Fail> {
-    let mut nets = no_network(rt.alloc())?;
-    rounds_leave(&rt, rt.alloc(), SEVEN_ROUNDS, true, &mut nets[0])
+fn seven_rounds_that_go_backwards_settle_it(rt: HostRuntime) {
+    let mut nets = no_network(rt.alloc()).expect(&rt, "memory");
+    assert!(rt; rounds_leave(rt.alloc(), SEVEN_ROUNDS, true, &mut nets[0]));
 }
 
-/// Runs the chain that settles where these writes fail.
-fn run_the_chain(alloc: Global, failing: &[u64], net: &mut Option<Net>) -> Result<Status, Fail> {
-    let case = CHAIN_SETTLES;
-    let document = document(alloc, case.topology, case.configuration, case.more)?;
+/// How a run of the chain that settles ended where these writes fail.
+fn run_the_chain(alloc: Global, failing: &[u64], net: &mut Option<Net>) -> Option<Status> {
+    let case = &CHAIN_SETTLES;
+    let document = document(alloc, case.topology, case.configuration, case.more).ok()?;
     left(alloc, document.as_str(), failing, net)
 }
 
@@ -83,26 +77,28 @@ fn took_the_chain(net: &Option<Net>) -> bool {
         && net.settled()
 }
 
-fn is_left(rt: &impl Abort, alloc: Global, net: &mut Option<Net>) -> Result<(), Fail> {
-    let status = run_the_chain(alloc, &[], net)?;
-    assert!(rt; took_the_chain(net) && status == Status::Done);
-    Ok(())
+fn is_left(alloc: Global, net: &mut Option<Net>) -> bool {
+    if run_the_chain(alloc, &[], net) != Some(Status::Done) {
+        return false;
+    }
+    took_the_chain(net)
 }
 
 #[test]
-fn the_network_that_took_the_events_is_left(rt: HostRuntime) -> Result<(), Fail> {
-    let mut nets = no_network(rt.alloc())?;
-    is_left(&rt, rt.alloc(), &mut nets[0])
+fn the_network_that_took_the_events_is_left(rt: HostRuntime) {
+    let mut nets = no_network(rt.alloc()).expect(&rt, "memory");
+    assert!(rt; is_left(rt.alloc(), &mut nets[0]));
 }
 
-fn is_not_left(rt: &impl Abort, alloc: Global, net: &mut Option<Net>) -> Result<(), Fail> {
-    let status = run_the_chain(alloc, &[1], net)?;
-    assert!(rt; net.is_none() && status == Status::WriteFault);
-    Ok(())
+fn is_not_left(alloc: Global, net: &mut Option<Net>) -> bool {
+    if run_the_chain(alloc, &[1], net) != Some(Status::WriteFault) {
+        return false;
+    }
+    net.is_none()
 }
 
 #[test]
-fn no_network_is_left_of_a_run_that_fails(rt: HostRuntime) -> Result<(), Fail> {
-    let mut nets = no_network(rt.alloc())?;
-    is_not_left(&rt, rt.alloc(), &mut nets[0])
+fn no_network_is_left_of_a_run_that_fails(rt: HostRuntime) {
+    let mut nets = no_network(rt.alloc()).expect(&rt, "memory");
+    assert!(rt; is_not_left(rt.alloc(), &mut nets[0]));
 }
