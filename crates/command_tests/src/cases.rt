@@ -1,12 +1,13 @@
 //! One run, and how it is held against what it wants.
+ghost use Rattle.std.specs.Prelude.{◌≡◌, length, IfOk};
 
 use crate::fault::CaseFault;
 use ov_io::{MemSink, MemSource, TextOut};
 use ov_types::NoMemory;
-use std::alloc::Global;
-use top_call::{Status, overlay};
+use std::alloc::{AllocError, Global};
+use top_call::{Net, Status, overlay};
 
-fn words_of(alloc: Global, command: &str) -> Result<Vec<String>, CaseFault> {
+fn words_of(alloc: Global, command: &str) -> Result<Vec<String>, AllocError> {
     let mut words = Vec::new(alloc);
     for word in command.split_whitespace() {
         words.push(String::from_str(alloc, word)?)?;
@@ -15,7 +16,7 @@ fn words_of(alloc: Global, command: &str) -> Result<Vec<String>, CaseFault> {
 }
 
 /// The octets of an input, in which a line feed, a carriage return and a tab are spelled as in JSON.
-fn input_of(alloc: Global, text: &str) -> Result<Vec<u8>, CaseFault> {
+fn input_of(alloc: Global, text: &str) -> Result<Vec<u8>, AllocError> {
     let mut octets = Vec::new(alloc);
     let mut is_escaped = false;
     for octet in text.bytes() {
@@ -40,22 +41,52 @@ fn escaped(octet: u8) -> u8 {
     }
 }
 
-/// How the run ended. The network that it leaves is let go.
-fn ran(alloc: Global, words: &[String], input: Vec<u8>, sink: &mut MemSink) -> Status {
-    let mut source = MemSource::new(alloc, input, Vec::new(alloc));
-    let mut net = None;
-    overlay(alloc, words, &mut source, sink, &mut net)
+/// A place for the network that a run leaves. There is none in it.
+fn no_network(alloc: Global) -> Result<Vec<Option<Net>>, AllocError>
+    ensures { IfOk result (λ nets. length nets.items ≡ 1) }
+{
+    let mut nets = Vec::new(alloc);
+    nets.push(None)?;
+    Ok(nets)
+}
+
+/// How a run ended. The network that it leaves is let go.
+fn ran(
+    alloc: Global,
+    words: &[String],
+    source: &mut MemSource,
+    sink: &mut MemSink,
+) -> Result<Status, AllocError> {
+    let mut nets = no_network(alloc)?;
+    Ok(overlay(alloc, words, source, sink, &mut nets[0]))
+}
+
+/// How a command ended over an input.
+fn run(
+    alloc: Global,
+    command: &str,
+    input: &str,
+    sink: &mut MemSink,
+) -> Result<Status, AllocError> {
+    let words = words_of(alloc, command)?;
+    let mut source = MemSource::new(alloc, input_of(alloc, input)?, Vec::new(alloc));
+    ran(alloc, words.as_slice(), &mut source, sink)
+}
+
+/// Tells a status, and behind slashes the lines.
+fn push_run(status: Status, text: &[u8], out: &mut TextOut) -> Result<(), NoMemory> {
+    let number = status.number();
+    write!(out, "{number}")?;
+    push_lines(text, out)
 }
 
 /// Tells the status of a run, and behind slashes its lines.
-fn tell(alloc: Global, command: &str, input: &str, out: &mut TextOut) -> Result<(), CaseFault> {
-    let words = words_of(alloc, command)?;
-    let input = input_of(alloc, input)?;
+fn tell(alloc: Global, command: &str, input: &str, out: &mut TextOut) -> Result<(), NoMemory> {
     let mut sink = MemSink::new(alloc, Vec::new(alloc));
-    let status = ran(alloc, words.as_slice(), input, &mut sink);
-    let number = status.number();
-    write!(out, "{number}")?;
-    Ok(push_lines(sink.taken(), out)?)
+    match run(alloc, command, input, &mut sink) {
+        Ok(status) => push_run(status, sink.taken(), out),
+        Err(_) => Err(NoMemory),
+    }
 }
 
 /// The last line ends as each does.

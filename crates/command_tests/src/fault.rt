@@ -1,7 +1,6 @@
 //! Why a case has no answer.
 
 use ov_types::NoMemory;
-use std::alloc::{AllocError, AllocFailed};
 use std::fmt;
 
 #[derive(Clone, Copy)]
@@ -22,18 +21,6 @@ impl fmt::Display for CaseFault {
 
 impl From<NoMemory> for CaseFault {
     fn from(_e: NoMemory) -> CaseFault {
-        CaseFault::NoMemory
-    }
-}
-
-impl From<AllocError> for CaseFault {
-    fn from(_e: AllocError) -> CaseFault {
-        CaseFault::NoMemory
-    }
-}
-
-impl<T: Drop> From<AllocFailed<T>> for CaseFault {
-    fn from(_e: AllocFailed<T>) -> CaseFault {
         CaseFault::NoMemory
     }
 }

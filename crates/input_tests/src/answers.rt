@@ -1,6 +1,6 @@
 //! What commands answer to documents.
 
-use crate::fault::CaseFault;
+use crate::fault::{CaseFault, told};
 use compile_answers::{answer_compile, answer_reach};
 use ov_io::{MemSink, TextOut};
 use ov_types::NoMemory;
@@ -24,7 +24,7 @@ pub(crate) fn tell_compiled(
 ) -> Result<(), CaseFault> {
     let mut sink = MemSink::new(alloc, Vec::new(alloc));
     let _verdict = answer_compile(alloc, document.as_bytes(), &mut sink)?;
-    Ok(push_lines(sink.taken(), front, out)?)
+    told(push_lines(sink.taken(), front, out))
 }
 
 /// All lines of what `reach` writes.
@@ -35,7 +35,7 @@ pub(crate) fn tell_reach(
 ) -> Result<(), CaseFault> {
     let mut sink = MemSink::new(alloc, Vec::new(alloc));
     let _verdict = answer_reach(alloc, document.as_bytes(), &mut sink)?;
-    Ok(push_lines(sink.taken(), "", out)?)
+    told(push_lines(sink.taken(), "", out))
 }
 
 /// The lines that begin so, with slashes between them.

@@ -1,10 +1,10 @@
 //! Which rule a configuration breaks, and what an edit makes of one.
-ghost use Rattle.std.specs.Prelude.{IsTrue};
+ghost use Rattle.std.specs.Prelude.{IfOk, IsTrue};
 ghost use Rattle.config_model.specs.Edit.{has_edit_form};
 
-use crate::fault::CaseFault;
+use crate::fault::{CaseFault, told};
 use config_check::{CheckRefusal, EditFault, EditRefusal, Valid, apply_edit, check};
-use config_model::{Config, Edit, Topology, read_compile, read_edit};
+use config_model::{Config, Edit, Network, Port, Topology, read_compile, read_edit};
 use ov_io::TextOut;
 use ov_types::NoMemory;
 use serde_json::Value;
@@ -20,11 +20,10 @@ pub(crate) fn tell_check(
     let value = Value::from_str(alloc, document)?;
     let input = read_compile(alloc, &value)?;
     match check(alloc, input.topology, input.config) {
-        Ok(_valid) => out.push(b"valid")?,
-        Err(CheckRefusal::Rule(refusal)) => write!(out, "{refusal}")?,
-        Err(CheckRefusal::NoMemory) => return Err(CaseFault::NoMemory),
+        Ok(_valid) => told(out.push(b"valid")),
+        Err(CheckRefusal::Rule(refusal)) => told(write!(out, "{refusal}")),
+        Err(CheckRefusal::NoMemory) => Err(CaseFault::NoMemory),
     }
-    Ok(())
 }
 
 #[tactic(auto, using(crate::proofs::Forms::nodes_form))]
@@ -37,6 +36,16 @@ fn valid_of(alloc: Global, document: &str) -> Result<Valid, CaseFault> {
     }
 }
 
+fn edit_of(alloc: Global, text: &str) -> Result<Edit, CaseFault>
+    ensures { IfOk result (λ edit. IsTrue (has_edit_form edit)) }
+{
+    let value = Value::from_str(alloc, text)?;
+    match read_edit(alloc, &value) {
+        Ok(edit) => Ok(edit),
+        Err(_) => Err(CaseFault::Unreadable),
+    }
+}
+
 /// What an edit makes of the configuration of a document, which stays as it was.
 pub(crate) fn tell_edited(
     alloc: Global,
@@ -44,10 +53,15 @@ pub(crate) fn tell_edited(
     document: &str,
     out: &mut TextOut,
 ) -> Result<(), CaseFault> {
-    let value = Value::from_str(alloc, edit)?;
-    let edit = read_edit(alloc, &value)?;
+    let edit = edit_of(alloc, edit)?;
+    tell_edit(alloc, &edit, document, out)
+}
+
+fn tell_edit(alloc: Global, edit: &Edit, document: &str, out: &mut TextOut) -> Result<(), CaseFault>
+    requires { IsTrue (has_edit_form edit.now) }
+{
     let valid = valid_of(alloc, document)?;
-    push_edited(alloc, &valid, &edit, out)
+    push_edited(alloc, &valid, edit, out)
 }
 
 fn push_edited(
@@ -59,11 +73,10 @@ fn push_edited(
     requires { IsTrue (has_edit_form edit.now) }
 {
     match apply_edit(alloc, valid, edit) {
-        Ok(made) => push_made(&made, out)?,
-        Err(EditRefusal::Edit(fault)) => push_fault(&fault, out)?,
-        Err(EditRefusal::NoMemory) => return Err(CaseFault::NoMemory),
+        Ok(made) => told(push_made(&made, out)),
+        Err(EditRefusal::Edit(fault)) => told(push_fault(&fault, out)),
+        Err(EditRefusal::NoMemory) => Err(CaseFault::NoMemory),
     }
-    Ok(())
 }
 
 /// The names of networks, and the names and addresses of ports and of compute nodes.
@@ -82,18 +95,26 @@ fn push_nodes(topology: &Topology, out: &mut TextOut) -> Result<(), NoMemory> {
     Ok(())
 }
 
-fn push_config(config: &Config, out: &mut TextOut) -> Result<(), NoMemory> {
-    for network in config.networks.as_slice() {
+fn push_networks(networks: &[Network], out: &mut TextOut) -> Result<(), NoMemory> {
+    for network in networks {
         let name = network.name;
         write!(out, "{name},")?;
     }
-    out.push(b" ")?;
-    for port in config.ports.as_slice() {
+    out.push(b" ")
+}
+
+fn push_ports(ports: &[Port], out: &mut TextOut) -> Result<(), NoMemory> {
+    for port in ports {
         let name = port.name;
         let address = port.address;
         write!(out, "{name}@{address},")?;
     }
     Ok(())
+}
+
+fn push_config(config: &Config, out: &mut TextOut) -> Result<(), NoMemory> {
+    push_networks(config.networks.as_slice(), out)?;
+    push_ports(config.ports.as_slice(), out)
 }
 
 fn push_fault(fault: &EditFault, out: &mut TextOut) -> Result<(), NoMemory> {

@@ -1,6 +1,6 @@
 //! What is read of documents and of their parts.
 
-use crate::fault::CaseFault;
+use crate::fault::{CaseFault, told};
 use config_model::{
     DocFault, ReadRefusal, read_compile, read_config, read_edit, read_events, read_packet,
     read_reach, read_run, read_topology,
@@ -47,11 +47,10 @@ fn tell_whole(
 /// What was read, or the path and the kind of the fault.
 fn push<T: Debug + Drop>(read: Result<T, ReadRefusal>, out: &mut TextOut) -> Result<(), CaseFault> {
     match read {
-        Ok(value) => write!(out, "{value:?}")?,
-        Err(ReadRefusal::Doc(fault)) => push_fault(&fault, out)?,
-        Err(ReadRefusal::NoMemory) => return Err(CaseFault::NoMemory),
+        Ok(value) => told(write!(out, "{value:?}")),
+        Err(ReadRefusal::Doc(fault)) => told(push_fault(&fault, out)),
+        Err(ReadRefusal::NoMemory) => Err(CaseFault::NoMemory),
     }
-    Ok(())
 }
 
 fn push_fault(fault: &DocFault, out: &mut TextOut) -> Result<(), NoMemory> {

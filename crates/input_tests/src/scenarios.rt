@@ -1,12 +1,21 @@
 //! Scenarios beside documents.
+ghost use Rattle.std.specs.Prelude.{◌≤◌};
 
-use crate::fault::CaseFault;
+use crate::fault::{CaseFault, told};
 use config_model::{Edit, Event, RunInput, read_run};
 use ov_io::TextOut;
 use ov_types::{NoMemory, Packet};
 use scenario_gen::{Scenario, scenario};
 use serde_json::Value;
 use std::alloc::Global;
+
+fn run_of(alloc: Global, document: &str) -> Result<RunInput, CaseFault> {
+    let value = Value::from_str(alloc, document)?;
+    match read_run(alloc, &value) {
+        Ok(input) => Ok(input),
+        Err(_) => Err(CaseFault::Unreadable),
+    }
+}
 
 /// Whether the scenario of a number is that of a document of `run`: its parts that are others are told.
 pub(crate) fn tell_scenario(
@@ -19,10 +28,16 @@ pub(crate) fn tell_scenario(
     if n < 1 || n > 999 {
         return Err(CaseFault::Unreadable);
     }
-    let value = Value::from_str(alloc, document)?;
-    let input = read_run(alloc, &value)?;
+    let input = run_of(alloc, document)?;
+    tell_beside(alloc, n, &input, out)
+}
+
+fn tell_beside(alloc: Global, n: u16, input: &RunInput, out: &mut TextOut) -> Result<(), CaseFault>
+    requires first { 1 ≤ n }
+    requires last { n ≤ 999 }
+{
     let made = scenario(alloc, n)?;
-    Ok(push_parts(&made, &input, out)?)
+    told(push_parts(&made, input, out))
 }
 
 fn push_parts(made: &Scenario, input: &RunInput, out: &mut TextOut) -> Result<(), NoMemory> {
