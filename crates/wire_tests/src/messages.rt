@@ -1,6 +1,7 @@
 //! What messages say that come in octets.
+ghost use Rattle.std.specs.Prelude.{◌≢◌};
 
-use crate::fault::CaseFault;
+use crate::fault::{CaseFault, told};
 use crate::octets::{octets, push_octets};
 use bgp_wire::{
     Attribute, Message, OpenOut, OpenPart, UpdatePart, WireFault, attributes, read_message,
@@ -18,7 +19,7 @@ pub(crate) fn push_fault(fault: WireFault, out: &mut TextOut) -> Result<(), NoMe
 /// The message that the octets begin with, and how many of them it has.
 pub(crate) fn tell_message(alloc: Global, given: &str, out: &mut TextOut) -> Result<(), CaseFault> {
     let octets = octets(alloc, given)?;
-    Ok(tell_octets(octets.as_slice(), out)?)
+    told(tell_octets(octets.as_slice(), out))
 }
 
 pub(crate) fn tell_octets(octets: &[u8], out: &mut TextOut) -> Result<(), NoMemory> {
@@ -29,15 +30,18 @@ pub(crate) fn tell_octets(octets: &[u8], out: &mut TextOut) -> Result<(), NoMemo
     }
 }
 
+fn push_size(octets: &[u8], out: &mut TextOut) -> Result<(), NoMemory> {
+    match read_message(octets) {
+        Ok(Some((Message::Hello(_), len))) => write!(out, "open {len}"),
+        Ok(Some((Message::Update(_), len))) => write!(out, "update {len}"),
+        _ => out.push(b"another"),
+    }
+}
+
 /// Whether the octets are an OPEN or an UPDATE, and their number.
 pub(crate) fn tell_size(alloc: Global, given: &str, out: &mut TextOut) -> Result<(), CaseFault> {
     let octets = octets(alloc, given)?;
-    match read_message(octets.as_slice()) {
-        Ok(Some((Message::Hello(_), len))) => write!(out, "open {len}")?,
-        Ok(Some((Message::Update(_), len))) => write!(out, "update {len}")?,
-        _ => out.push(b"another")?,
-    }
-    Ok(())
+    told(push_size(octets.as_slice(), out))
 }
 
 fn push_message(message: &Message<'_>, len: usize, out: &mut TextOut) -> Result<(), NoMemory> {
@@ -87,6 +91,14 @@ fn push_attribute(attribute: &Attribute<'_>, out: &mut TextOut) -> Result<(), No
     out.push(b" ")
 }
 
+fn push_written_open(alloc: Global, part: &OpenOut, out: &mut TextOut) -> Result<(), NoMemory>
+    requires { part.now.id.0 ≢ 0 }
+{
+    let mut octets = Vec::new(alloc);
+    write_open(alloc, part, &mut octets)?;
+    push_octets(octets.as_slice(), out)
+}
+
 /// The OPEN of a system and an identifier, as two numbers.
 pub(crate) fn tell_written_open(
     alloc: Global,
@@ -101,9 +113,18 @@ pub(crate) fn tell_written_open(
     if part.id.0 == 0 {
         return Err(CaseFault::Unreadable);
     }
-    let mut octets = Vec::new(alloc);
-    write_open(alloc, &part, &mut octets)?;
-    Ok(push_octets(octets.as_slice(), out)?)
+    told(push_written_open(alloc, &part, out))
+}
+
+fn write_rest(alloc: Global, octets: &mut Vec<u8>) -> Result<(), NoMemory> {
+    write_notification(alloc, 5, 0, octets)?;
+    write_keepalive(alloc, octets)?;
+    write_attributes(alloc, &[0x40, 1, 1, 0], octets)
+}
+
+fn push_rest(alloc: Global, octets: &mut Vec<u8>, out: &mut TextOut) -> Result<(), NoMemory> {
+    write_rest(alloc, octets)?;
+    push_octets(octets.as_slice(), out)
 }
 
 /// A NOTIFICATION, a KEEPALIVE and an UPDATE of one attribute behind the octets that are given.
@@ -113,8 +134,5 @@ pub(crate) fn tell_written_rest(
     out: &mut TextOut,
 ) -> Result<(), CaseFault> {
     let mut octets = octets(alloc, given)?;
-    write_notification(alloc, 5, 0, &mut octets)?;
-    write_keepalive(alloc, &mut octets)?;
-    write_attributes(alloc, &[0x40, 1, 1, 0], &mut octets)?;
-    Ok(push_octets(octets.as_slice(), out)?)
+    told(push_rest(alloc, &mut octets, out))
 }

@@ -1,7 +1,7 @@
 //! What UPDATEs change.
 ghost use Rattle.std.specs.Prelude.{◌≡◌};
 
-use crate::fault::CaseFault;
+use crate::fault::{CaseFault, told};
 use crate::messages::push_fault;
 use crate::octets::{octets, push_octets};
 use bgp_vpn::{UpdateFault, read_update, write_update};
@@ -38,11 +38,10 @@ fn push_reading(
     out: &mut TextOut,
 ) -> Result<(), CaseFault> {
     match read_update(alloc, part, wide) {
-        Ok(deltas) => push_deltas(deltas.as_slice(), out)?,
-        Err(UpdateFault::Wire(fault)) => push_fault(fault, out)?,
-        Err(UpdateFault::NoMemory) => return Err(CaseFault::NoMemory),
+        Ok(deltas) => told(push_deltas(deltas.as_slice(), out)),
+        Err(UpdateFault::Wire(fault)) => told(push_fault(fault, out)),
+        Err(UpdateFault::NoMemory) => Err(CaseFault::NoMemory),
     }
-    Ok(())
 }
 
 /// The changes in their order.
@@ -121,6 +120,22 @@ fn write_drop(alloc: Global, octets: &mut Vec<u8>) -> Result<(), NoMemory> {
     )
 }
 
+fn write_all(alloc: Global, network: Prefix, octets: &mut Vec<u8>) -> Result<(), NoMemory> {
+    write_put(alloc, octets)?;
+    write_put_without_targets(alloc, network, octets)?;
+    write_drop(alloc, octets)
+}
+
+fn push_written(
+    alloc: Global,
+    octets: &mut Vec<u8>,
+    network: Prefix,
+    out: &mut TextOut,
+) -> Result<(), NoMemory> {
+    write_all(alloc, network, octets)?;
+    push_octets(octets.as_slice(), out)
+}
+
 /// UPDATEs behind the octets that are given: a put with a target, one without of 10.1.0.0/16, and a drop.
 pub(crate) fn tell_written_updates(
     alloc: Global,
@@ -129,8 +144,5 @@ pub(crate) fn tell_written_updates(
 ) -> Result<(), CaseFault> {
     let network = Prefix::new(Addr(0x0a01_0000), 16).ok_or(CaseFault::Unreadable)?;
     let mut octets = octets(alloc, given)?;
-    write_put(alloc, &mut octets)?;
-    write_put_without_targets(alloc, network, &mut octets)?;
-    write_drop(alloc, &mut octets)?;
-    Ok(push_octets(octets.as_slice(), out)?)
+    told(push_written(alloc, &mut octets, network, out))
 }
