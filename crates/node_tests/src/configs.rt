@@ -231,8 +231,9 @@ fn has_fault(alloc: Global, valid: &Valid, edit: &Edit, wanted: EditFault) -> bo
     requires { IsTrue (has_edit_form edit.now) }
 {
     match made_by(alloc, valid, edit) {
+        Ok(_) => false,
         Err(EditRefusal::Edit(fault)) => fault == wanted,
-        _ => false,
+        Err(EditRefusal::NoMemory) => false,
     }
 }
 

@@ -162,7 +162,7 @@ impl Sink for Dribble {
 }
 
 /// What is read of a case, so much a call.
-fn trickle(alloc: Global, case: &Case, most: usize) -> Option<Trickle> {
+fn trickling(alloc: Global, case: &Case, most: usize) -> Option<Trickle> {
     let octets = input_of(alloc, case).ok()?;
     let inner = source_of(alloc, octets);
     Some(Trickle { inner, most })
@@ -178,7 +178,7 @@ fn is_answered(alloc: Global, source: &mut Trickle, sink: &mut Dribble) -> bool 
 
 /// Whether the smallest document is answered through ends that take so much a call.
 fn is_answered_through(alloc: Global, most: usize) -> bool {
-    let Some(mut source) = trickle(alloc, &SMALLEST, most) else {
+    let Some(mut source) = trickling(alloc, &SMALLEST, most) else {
         return false;
     };
     let inner = MemSink::new(alloc, Vec::new(alloc));
@@ -195,7 +195,7 @@ fn short_reads_and_writes_lose_nothing(rt: HostRuntime) {
 
 /// Whether a case is answered from a source that gives 7 octets a call.
 fn is_so_by_trickles(alloc: Global, case: &Case) -> bool {
-    match trickle(alloc, case, 7) {
+    match trickling(alloc, case, 7) {
         Some(mut source) => answers_from(alloc, case, &mut source),
         None => false,
     }

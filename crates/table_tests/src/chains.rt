@@ -13,10 +13,10 @@ pub const NEAR: Addr = Addr(0xc000_020b);
 pub const FAR: Addr = Addr(0xc000_020c);
 
 /// What an agent publishes: an instance, an address and a label.
-pub type Published = (u16, u32, u32);
+pub type Publication = (u16, u32, u32);
 
 /// What the agent publishes: a port, and the circuits of the first service.
-const PUBLISHED: [Published; 3] = [
+const PUBLISHED: [Publication; 3] = [
     (1, 0x0a01_0001, 17),
     (16384, 0xfa00_8001, 557_057),
     (16385, 0xfa00_8002, 557_058),
@@ -29,7 +29,7 @@ pub const LEFT: Subnet = (0x0a01_0000, 24);
 
 pub const RIGHT: Subnet = (0x0a02_0000, 24);
 
-pub fn subnet(subnet: Subnet) -> Option<Prefix> {
+pub fn prefix_of(subnet: Subnet) -> Option<Prefix> {
     let (first, length) = subnet;
     Prefix::new(Addr(first), length)
 }
@@ -55,8 +55,8 @@ pub fn tells_chain(alloc: Global, tables: &mut VpnTables, left: Subnet, right: S
 
 /// The chain between two subnets.
 fn chain_of(alloc: Global, left: Subnet, right: Subnet) -> Option<LowValue> {
-    let left = subnet(left)?;
-    let right = subnet(right)?;
+    let left = prefix_of(left)?;
+    let right = prefix_of(right)?;
     let mut left_prefixes = Items::new(alloc);
     left_prefixes.push(left).ok()?;
     let mut right_prefixes = Items::new(alloc);
@@ -102,7 +102,7 @@ pub fn feeds_network(alloc: Global, tables: &mut VpnTables, number: u16, imports
     }
 }
 
-pub fn publishes(tables: &mut VpnTables, session: u16, told: Published) -> bool {
+pub fn publishes(tables: &mut VpnTables, session: u16, told: Publication) -> bool {
     let (instance, host, label) = told;
     let key = UpKey::Publish(InstanceId(instance), Prefix::host(Addr(host)));
     tables
@@ -141,7 +141,7 @@ pub fn route_of_peer(
 
 /// Whether the peer can lead the right subnet into the place between the two services, whose target this is.
 pub fn leads_right(alloc: Global, tables: &mut VpnTables, target: Target) -> bool {
-    let Some(prefix) = subnet(RIGHT) else {
+    let Some(prefix) = prefix_of(RIGHT) else {
         return false;
     };
     let key = VpnKey {

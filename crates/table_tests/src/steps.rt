@@ -1,7 +1,7 @@
 //! What control nodes hold, step by step, and what is seen of it then.
 use crate::chains::{
-    LEFT, Published, RIGHT, Subnet, feeds_list, feeds_network, feeds_port, leads_right, publishes,
-    subnet, subscribes, tells_chain, withdraws,
+    LEFT, Publication, RIGHT, Subnet, feeds_list, feeds_network, feeds_port, leads_right,
+    prefix_of, publishes, subscribes, tells_chain, withdraws,
 };
 use crate::tables::{has_rows, has_slice, is_address, is_published, relates_all};
 use crate::texts::{Text, is_written};
@@ -28,7 +28,7 @@ pub enum Step {
     /// The agent of a session is at an address.
     Agent(u16, Addr),
     /// The agent of a session publishes.
-    Publish(u16, Published),
+    Publish(u16, Publication),
     /// It withdraws an address of an instance.
     Withdraw(u16, u16, u32),
     /// It subscribes an instance.
@@ -114,7 +114,7 @@ fn sees(alloc: Global, tables: &VpnTables, seen: Step) -> bool {
 }
 
 fn is_up(tables: &VpnTables, instance: u16, of: Subnet, is_right: bool) -> bool {
-    match subnet(of) {
+    match prefix_of(of) {
         Some(prefix) => tables.up(InstanceId(instance), &prefix, is_right),
         None => false,
     }

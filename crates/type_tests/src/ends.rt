@@ -21,7 +21,7 @@ fn reads<S: Source>(
 }
 
 /// What each read of two octets answers where the second fails, and what stands in front then: no octet is lost.
-const READS: [(Result<usize, SourceFault>, &[u8]); 4] = [
+const READ_IN_TURN: [(Result<usize, SourceFault>, &[u8]); 4] = [
     (Ok(2), b"ab"),
     (Err(SourceFault::Failed), b""),
     (Ok(1), b"c"),
@@ -30,7 +30,7 @@ const READS: [(Result<usize, SourceFault>, &[u8]); 4] = [
 
 fn read_around_a_fault(rt: &impl Abort, source: &mut MemSource) {
     let mut two = [0u8; 2];
-    for (answer, front) in READS {
+    for (answer, front) in READ_IN_TURN {
         assert!(rt; reads(source, &mut two, answer, front));
     }
 }
@@ -44,7 +44,7 @@ fn a_listed_read_fails_and_loses_nothing(rt: HostRuntime) {
 }
 
 /// Texts that are written where the second write fails, what comes of each, and what is taken then.
-const WRITES: [(&[u8], Result<(), SinkFault>, &[u8]); 3] = [
+const WRITTEN_IN_TURN: [(&[u8], Result<(), SinkFault>, &[u8]); 3] = [
     (b"ab", Ok(()), b"ab"),
     (b"cd", Err(SinkFault::Failed), b"ab"),
     (b"ef", Ok(()), b"abef"),
@@ -58,7 +58,7 @@ fn takes(sink: &mut MemSink, text: &[u8], answer: Result<(), SinkFault>, taken: 
 }
 
 fn write_around_a_fault(rt: &impl Abort, sink: &mut MemSink) {
-    for (text, answer, taken) in WRITES {
+    for (text, answer, taken) in WRITTEN_IN_TURN {
         assert!(rt; takes(sink, text, answer, taken));
     }
 }
@@ -100,12 +100,16 @@ fn a_source_reads_what_its_reader_gives(rt: HostRuntime) {
     assert!(rt; reads(&mut broken, &mut into, Err(SourceFault::Failed), b""));
 }
 
+fn writes<K: Sink>(sink: &mut K, answer: Result<usize, SinkFault>) -> bool {
+    sink.write(b"abc") == answer
+}
+
 #[test]
 fn a_sink_writes_into_its_writer(rt: HostRuntime) {
     let mut sink = StdSink::new(Vec::new(rt.alloc()));
-    assert!(rt; sink.write(b"abc") == Ok(3));
+    assert!(rt; writes(&mut sink, Ok(3)));
     let mut broken = StdSink::new(Broken);
-    assert!(rt; broken.write(b"abc") == Err(SinkFault::Failed));
+    assert!(rt; writes(&mut broken, Err(SinkFault::Failed)));
 }
 
 /// Whether octets are appended to a text, which is then this one.
