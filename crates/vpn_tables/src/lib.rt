@@ -9,6 +9,7 @@ mod leading;
 mod least;
 mod listing;
 mod moved;
+mod ports;
 mod reaching;
 mod routes;
 mod sessions;
