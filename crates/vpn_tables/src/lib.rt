@@ -17,6 +17,7 @@ mod table;
 mod tables;
 mod touching;
 
+pub use chains::Side;
 pub use gathered::in_order;
 pub use routes::Route;
 pub use tables::VpnTables;
