@@ -7,12 +7,12 @@ ghost use Rattle.path_select.specs.Selection.{plain};
 ghost use Rattle.vpn_tables.specs.At.{led_at, led_from};
 
 use crate::received::{keep, wanted};
-use crate::sides::{Side, held_side};
 use crate::tables::IndexedTables;
 use crate::within::{have_labels, have_routes};
 use ov_types::{InstanceId, NoMemory, Prefix};
 use path_select::Path;
 use route_targets::{UseHop, hop_of, rd};
+use vpn_tables::Side;
 
 /// The session that a re-originated path counts as of.
 const OWN_SESSION: u16 = 65535;
@@ -108,7 +108,7 @@ impl IndexedTables {
         let Some(UseHop { use_no, place }) = hop_of(i) else {
             return Ok(None);
         };
-        let Some(side) = held_side(self.held(), use_no, right) else {
+        let Some(side) = self.held().side(use_no, right) else {
             return Ok(None);
         };
         if place > side.services() {
