@@ -6,6 +6,8 @@ mod chains;
 #[cfg(test)]
 mod forwarding;
 #[cfg(test)]
+mod indexed;
+#[cfg(test)]
 mod items;
 #[cfg(test)]
 mod lists;
