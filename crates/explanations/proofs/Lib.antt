@@ -3,4 +3,5 @@ mod Cuts
 mod Fronts
 mod Lines
 mod Plain
+mod Points
 mod Scans

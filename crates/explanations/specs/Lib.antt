@@ -9,4 +9,5 @@ pub mod Refusals
 pub mod Sentences
 pub mod Stops
 pub mod Told
+pub mod Wanted
 pub mod Words

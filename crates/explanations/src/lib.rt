@@ -13,6 +13,7 @@ mod place;
 mod refused;
 mod rule;
 mod text;
+mod wanted;
 
 pub use digits::DigitFault;
 pub use ends::{FrontSink, HeardSource, KeptInput};
