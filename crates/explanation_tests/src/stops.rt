@@ -39,8 +39,7 @@ fn a_document_that_is_no_json_stops_at_a_line_and_a_column(rt: HostRuntime) {
 #[test]
 fn an_empty_document_is_told_so(rt: HostRuntime) {
     let heard = document(&rt, rt.alloc(), b"");
-    let sentence =
-        "overlay: the input is empty: give it a document, as those of examples/\n";
+    let sentence = "overlay: the input is empty: give it a document, as those of examples/\n";
     says(&rt, rt.alloc(), &heard, sentence);
     let heard = document(&rt, rt.alloc(), b"\n");
     let sentence = "overlay: the input is no JSON, and reading it stopped at line 2, column 1\n";

@@ -3,34 +3,48 @@ use explanations::explain_form;
 use std::alloc::Global;
 use std::process::Abort;
 
+const NAME: &str = "a name of 1 to 32 of the characters a to z, 0 to 9, - and _";
+
+const NODE_NAME: &str =
+    "a name of 1 to 32 of the characters a to z, 0 to 9, - and _, but not config";
+
+const NETWORK_NAME: &str =
+    "a name of 1 to 32 of the characters a to z, 0 to 9, - and _, but not any";
+
+const NETWORK_OR_ANY: &str =
+    "the name of a network, 1 to 32 of the characters a to z, 0 to 9, - and _, or any";
+
+const NAME_OR_NUMBER: &str =
+    "a name of 1 to 32 of the characters a to z, 0 to 9, - and _, or in the third place a whole number from 1 to 1000000";
+
+const NODE_ADDRESS: &str = "an address from 1.0.0.0 to 223.255.255.255";
+
+const ADDRESS: &str = "an address such as 10.1.0.5";
+
+const PREFIX: &str = "a prefix such as 10.1.0.0/24, with no bit set past its length";
+
+const SIXTEEN_BITS: &str = "a whole number from 0 to 65535";
+
+const PORT_ID: &str = "a whole number from 0 to 524271";
+
+const PORT_RANGE: &str = "a list of two numbers, the first not above the second";
+
+const NAMES_AND_NUMBER: &str = "a list of two names and a number";
+
+const ONE_KIND: &str = "an object with one member: network, port, policy, service, chain or node";
+
+const NOTHING: &str = "docs/FORMATS.md has it";
+
 /// This is said of what the form wants at a path.
 fn says(rt: &impl Abort, alloc: Global, path: &str, phrase: &str) {
     let line = format!(in alloc; "bad document {path} Range\n").expect(rt, "memory");
     let explanation = explain_form(line.as_str().as_bytes());
     let text = format!(in alloc; "{explanation}").expect(rt, "memory");
-    let sentence = format!(in alloc; "overlay: {path} is outside what the form allows there: {phrase}\n")
-        .expect(rt, "memory");
+    let sentence = format!(in alloc;
+        "overlay: {path} is outside what the form allows there: {phrase}\n"
+    ).expect(rt, "memory");
     assert!(rt; text.as_str() == sentence.as_str(), "{text}");
 }
-
-const NAME: &str = "a name of 1 to 32 of the characters a to z, 0 to 9, - and _";
-const NODE_NAME: &str =
-    "a name of 1 to 32 of the characters a to z, 0 to 9, - and _, but not config";
-const NETWORK_NAME: &str =
-    "a name of 1 to 32 of the characters a to z, 0 to 9, - and _, but not any";
-const NETWORK_OR_ANY: &str =
-    "the name of a network, 1 to 32 of the characters a to z, 0 to 9, - and _, or any";
-const NAME_OR_NUMBER: &str =
-    "a name of 1 to 32 of the characters a to z, 0 to 9, - and _, or in the third place a whole number from 1 to 1000000";
-const NODE_ADDRESS: &str = "an address from 1.0.0.0 to 223.255.255.255";
-const ADDRESS: &str = "an address such as 10.1.0.5";
-const PREFIX: &str = "a prefix such as 10.1.0.0/24, with no bit set past its length";
-const SIXTEEN_BITS: &str = "a whole number from 0 to 65535";
-const PORT_ID: &str = "a whole number from 0 to 524271";
-const PORT_RANGE: &str = "a list of two numbers, the first not above the second";
-const NAMES_AND_NUMBER: &str = "a list of two names and a number";
-const ONE_KIND: &str = "an object with one member: network, port, policy, service, chain or node";
-const NOTHING: &str = "docs/FORMATS.md has it";
 
 #[test]
 fn documents_have_members(rt: HostRuntime) {
@@ -61,7 +75,10 @@ fn topologies_have_nodes(rt: HostRuntime) {
             "topology.as",
             "a whole number from 1 to 4294967294, neither 23456 nor 65535",
         ),
-        ("topology.controllers", "a list of at least one control node"),
+        (
+            "topology.controllers",
+            "a list of at least one control node",
+        ),
         ("topology.controllers[7]", "an object"),
         ("topology.controllers[7].name", NODE_NAME),
         ("topology.controllers[7].address", NODE_ADDRESS),
@@ -165,7 +182,10 @@ fn configurations_have_services_and_chains(rt: HostRuntime) {
         ("configuration.chains", "a list"),
         ("configuration.chains[0]", "an object"),
         ("configuration.chains[0].name", NAME),
-        ("configuration.chains[0].hops", "a list of at least one name"),
+        (
+            "configuration.chains[0].hops",
+            "a list of at least one name",
+        ),
         ("configuration.chains[0].hops[0]", NAME),
     ] {
         says(&rt, rt.alloc(), path, phrase);
@@ -274,7 +294,10 @@ fn edits_put_and_delete(rt: HostRuntime) {
         ("steps[0].edit.put.service.node", NAME),
         ("steps[0].edit.put.chain", "an object"),
         ("steps[0].edit.put.chain.name", NAME),
-        ("steps[0].edit.put.chain.hops", "a list of at least one name"),
+        (
+            "steps[0].edit.put.chain.hops",
+            "a list of at least one name",
+        ),
         ("steps[0].edit.put.chain.hops[2]", NAME),
         ("steps[0].edit.put.node", "an object"),
         ("steps[0].edit.put.node.name", NODE_NAME),

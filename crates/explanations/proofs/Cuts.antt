@@ -31,7 +31,7 @@ no_place (c ∷ w) h =
     let p = and_parts (plain c) (list_all plain w) h in
     rw (other_than_blank c p.0, no_place w p.1) (omega arith)
 
-past_first : (xs : List ℕ) (c : ℕ) (ys : List ℕ) → drop (length xs + 1) (xs ++ c ∷ ys) ≡ ys
+pub past_first : (xs : List ℕ) (c : ℕ) (ys : List ℕ) → drop (length xs + 1) (xs ++ c ∷ ys) ≡ ys
 past_first [] c ys = refl
 past_first (x ∷ xs) c ys = rw add-one (rw add-one at (past_first xs c ys))
 

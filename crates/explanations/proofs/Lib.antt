@@ -1,6 +1,7 @@
 mod Counts
 mod Cuts
 mod Fronts
+mod Leading
 mod Lines
 mod Plain
 mod Points

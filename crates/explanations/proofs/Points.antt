@@ -11,7 +11,7 @@ use Rattle.std.proofs.lemmas.Str.Pattern.{NoCharPasses-char}
 use Rattle.explanations.specs.Wanted.{before_point, behind_point}
 
 -- how many octets stand behind the last point
-abbrev behind : List ℕ → ℕ
+abbrev pub behind : List ℕ → ℕ
 behind text = suffix_len (λ c. not (c == 46)) text
 
 abbrev HasNoPoint : List ℕ → Type 0
@@ -42,12 +42,12 @@ behind_at text i j none here within =
     let next : j ≡ i + 1 = omega (arith, here.ends, len_utf8_ascii 46 (omega arith)) in
     suffix_len_is (λ c. not (c == 46)) text (i + 1) 0 (omega arith)
     (λ k low l.
-      let back : j + (k - j) ≡ k = omega arith in
-      let same : get_or (drop j text) (k - j) 0 ≡ get_or text k 0 = get_or-drop j text (k - j) 0 ∙ ap (λ n. get_or text n 0) back in
-      ap (λ c. not (c == 46)) (sym same) ∙ other_than_point (drop j text) none (k - j) (omega (arith, length-drop j text)))
+    let back : j + (k - j) ≡ k = omega arith in
+    let same : get_or (drop j text) (k - j) 0 ≡ get_or text k 0 = get_or-drop j text (k - j) 0 ∙ ap (λ n. get_or text n 0) back in
+    ap (λ c. not (c == 46)) (sym same) ∙ other_than_point (drop j text) none (k - j) (omega (arith, length-drop j text)))
     (λ l.
-      let at : i + 1 - 1 ≡ i = omega arith in
-      ap (λ n. not (get_or text n 0 == 46)) at ∙ ap not (eq-eqb (get_or text i 0) 46 (here.byte (omega arith))))
+    let at : i + 1 - 1 ≡ i = omega arith in
+    ap (λ n. not (get_or text n 0 == 46)) at ∙ ap not (eq-eqb (get_or text i 0) 46 (here.byte (omega arith))))
 
 pub before_is : (text : List ℕ) (i j : ℕ) → HasNoPoint (drop j text) → HasCharAt 46 text i j → j ≤ length text
     → take i text ≡ before_point text

@@ -4,6 +4,7 @@ pub mod Ends
 pub mod Explanations
 pub mod Form
 pub mod Help
+pub mod Leading
 pub mod Places
 pub mod Refusals
 pub mod Sentences

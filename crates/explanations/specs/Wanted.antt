@@ -57,7 +57,7 @@ unfoldable pub document_member : List ℕ → List ℕ
 document_member member =
     if is member (codes "") || is member (codes "topology") || is member (codes "configuration") then object
     else (if is member (codes "packets") || is member (codes "groups") || is member (codes "events")
-        || is member (codes "steps") then list
+    || is member (codes "steps") then list
     else (if is member (codes "capacity") then codes "a whole number from 1 to 65535"
     else no_phrase))
 
@@ -84,7 +84,7 @@ node_member member =
 unfoldable pub configuration_member : List ℕ → List ℕ
 configuration_member member =
     if is member (codes "networks") || is member (codes "ports") || is member (codes "policies")
-        || is member (codes "services") || is member (codes "chains") then list
+    || is member (codes "services") || is member (codes "chains") then list
     else no_phrase
 
 unfoldable pub network_member : List ℕ → List ℕ
@@ -173,7 +173,7 @@ edit_member member =
 unfoldable pub kind_member : List ℕ → List ℕ → List ℕ
 kind_member phrase member =
     if is member (codes "network") || is member (codes "port") || is member (codes "policy")
-        || is member (codes "service") || is member (codes "chain") || is member (codes "node") then phrase
+    || is member (codes "service") || is member (codes "chain") || is member (codes "node") then phrase
     else no_phrase
 
 -- of what the lists of the commands have: packets, groups, events and steps, and the edits in them
@@ -222,11 +222,11 @@ item_wanted parent member =
     if is member (codes "controllers") then controllers_item parent
     else (if is member (codes "policies") then policies_item parent
     else (if is member (codes "nodes") || is member (codes "networks") || is member (codes "ports")
-        || is member (codes "services") || is member (codes "chains") || is member (codes "rules")
-        || is member (codes "packets") || is member (codes "groups") then object
+    || is member (codes "services") || is member (codes "chains") || is member (codes "rules")
+    || is member (codes "packets") || is member (codes "groups") then object
     else (if is member (codes "subnets") then codes "a prefix such as 10.1.0.0/24, with no bit set past its length"
     else (if is member (codes "source_ports") || is member (codes "destination_ports")
-        || is member (codes "members") then sixteen_bits
+    || is member (codes "members") then sixteen_bits
     else (if is member (codes "hops") || is member (codes "lose") || is member (codes "connect") then name
     else (if is member (codes "deliver") || is member (codes "deliver-bytes") || is member (codes "break")
     then codes "a name of 1 to 32 of the characters a to z, 0 to 9, - and _, or in the third place a whole number from 1 to 1000000"

@@ -12,13 +12,20 @@ ghost use Rattle.explanations.specs.Wanted.{rule_member, service_member, topolog
 const NO_PHRASE: &str = "docs/FORMATS.md has it";
 
 const OBJECT: &str = "an object";
+
 const LIST: &str = "a list";
+
 const NAME: &str = "a name of 1 to 32 of the characters a to z, 0 to 9, - and _";
+
 const NODE_NAME: &str =
     "a name of 1 to 32 of the characters a to z, 0 to 9, - and _, but not config";
+
 const NODE_ADDRESS: &str = "an address from 1.0.0.0 to 223.255.255.255";
+
 const ADDRESS: &str = "an address such as 10.1.0.5";
+
 const PORT_ID: &str = "a whole number from 0 to 524271";
+
 const SIXTEEN_BITS: &str = "a whole number from 0 to 65535";
 
 /// What is wanted at a path.
