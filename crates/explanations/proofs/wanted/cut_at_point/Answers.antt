@@ -1,4 +1,4 @@
-use Rattle.std.proofs.Common.{◌≡◌, ◌∙◌, arith}
+use Rattle.std.proofs.Common.{◌∙◌, arith}
 use Rattle.explanations.proofs.Points.{before_is, behind_is, nothing_before, whole_behind}
 use Rattle.explanations.proofs.wanted.cut_at_point.Goals as goal
 
