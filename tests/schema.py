@@ -3,7 +3,8 @@
 
 A document that the schema refuses is to be answered `bad document`, and one that is answered `bad document` is to be refused
 by the schema at the place that the program names, unless the fault is one that a schema cannot say: a number of another
-spelling, a range that descends, members that do not ascend, a service that is not there or comes twice, or a message.
+spelling, a range that descends, members that do not ascend, a service that is not there or comes twice, or a message. Of each
+place that the program names, but of members that the form does not have, it is to say to people what the form wants there.
 
 The documents are those of examples/, each for every command; those of tests/*.jsonl; and documents that are made here: of one
 of each command each part in turn is left out, joined by another member, and put in place by values of every kind and by both
@@ -59,6 +60,8 @@ LISTS = [
     ["n1", "n2", 1000001], ["n1", "n2"], [[]], [{}],
 ]
 OBJECTS = [{"x": 0}, {"put": {}}, {"put": {"rule": 0}, "delete": {"port": "x"}}, {"delete": {"chain": "any"}}, {"show": "c1"}]
+# what is said to people of a place where the program does not know what the form wants
+NO_PHRASE = b": docs/FORMATS.md has it\n"
 KINDS = [None, True, "x", "any", 0, 1.5, [], {}]
 MEMBERS = ["", "x", "chain", "use", "$schema"]
 
@@ -140,15 +143,15 @@ def places(errors):
 
 
 def answer(program, command, text):
-    """The status of a run, or None where it takes long, and of a bad document the path and the kind."""
+    """The status of a run, or None where it takes long, and of a bad document the path, the kind, and what is said to people."""
     try:
-        run = subprocess.run([program, command], input=text, stdout=subprocess.PIPE, stderr=subprocess.DEVNULL, timeout=SECONDS)
+        run = subprocess.run([program, command], input=text, capture_output=True, timeout=SECONDS)
     except subprocess.TimeoutExpired:
-        return None, "", ""
+        return None, "", "", b""
     if run.returncode != 6:
-        return run.returncode, "", ""
+        return run.returncode, "", "", b""
     path, _, kind = run.stdout.decode()[len("bad document "):-1].rpartition(" ")
-    return 6, path, kind
+    return 6, path, kind, run.stderr
 
 
 def value_at(document, path):
@@ -186,7 +189,7 @@ def verdict(program, validator, command, text):
     """What the two say of a document, and where they disagree."""
     if len(text) > LARGEST:
         return "left out", None
-    status, path, kind = answer(program, command, text)
+    status, path, kind, said = answer(program, command, text)
     if status not in (0, 6, 7):
         return f"answered with status {status}" if status else f"without an answer in {SECONDS} seconds", None
     try:
@@ -196,6 +199,8 @@ def verdict(program, validator, command, text):
     found = set(places(validator.iter_errors(document)))
     if status != 6:
         return ("disagreed", f"is read, and the schema refuses {sorted(found)}") if found else ("read by both", None)
+    if kind != "Unknown" and said.endswith(NO_PHRASE):
+        return "disagreed", f"is answered {path} {kind}, and people are not told what the form wants there"
     holder = path.rpartition(".")[0]
     if path in found or kind == "Unknown" and holder in found:
         return "refused by both", None

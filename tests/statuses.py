@@ -4,6 +4,7 @@ another.
 
 Statuses 0 and 2 to 8, `--help`, `--version`, a word that is no UTF-8, and outputs that are closed or full; of standard error a
 sentence for each rule that a configuration breaks, for each kind of a document's fault, and for what is no JSON or no digits.
+Where a sentence says which numbers the form allows, they are to be those of docs/overlay.schema.json.
 Status 9, want of memory, is shown by tests/allocations.py.
 
 usage: tests/statuses.py PROGRAM
@@ -16,7 +17,10 @@ import os
 import subprocess
 import sys
 
-EXAMPLES = os.path.join(os.path.dirname(os.path.dirname(os.path.abspath(__file__))), "examples")
+TOP = os.path.dirname(os.path.dirname(os.path.abspath(__file__)))
+EXAMPLES = os.path.join(TOP, "examples")
+with open(os.path.join(TOP, "docs", "overlay.schema.json"), encoding="utf-8") as schema:
+    DEFINITIONS = json.load(schema)["$defs"]
 USAGE = b"usage: overlay COMMAND, with an input on standard input:\n"
 COMMANDS = b"compile reach scale flows constrain graceful run decode gen --help --version".split()
 STATUSES = b"0 2 3 4 5 6 7 8 9".split()
@@ -32,6 +36,8 @@ NO_READ = b"overlay: standard input could not be read: give it a file or a pipe 
 NO_WRITE = b"overlay: standard output could not be written: see that it is open, and that there is room where it goes\n"
 TOO_LONG = b"overlay: the input has more than 16,777,216 octets: leave out what is not asked for, or make two of it\n"
 NO_JSON = b"overlay: the input is no JSON, and reading it stopped at "
+EMPTY = b"overlay: the input is empty: give it a document, as those of examples/\n"
+MARK = b"overlay: the input begins with a byte order mark, which is no JSON: leave it out\n"
 NO_PAIR = b"overlay: hexadecimal digits stand in pairs, and that at line %d, column %d has no other\n"
 STRAY = b"overlay: neither a hexadecimal digit nor a blank stands at line %d, column %d\n"
 SUMMARY = b"""gen 3 controllers 3 nodes 20 networks 12 ports 192 uses 3
@@ -115,14 +121,122 @@ REFUSED = [
 
 # documents that break the form, the line behind `bad document `, and the sentence behind `overlay: `
 BAD = [
-    (b"[]", b"Kind", b"the document is a JSON value of another kind than the form wants there"),
-    (b"{}", b"topology Missing", b"topology is missing, and the form wants it"),
-    (document(networks=[network("red", 0)]), b"configuration.networks[0].id Range",
-     b"configuration.networks[0].id is outside what the form allows there (docs/FORMATS.md)"),
+    (b"[]", b"Kind", b"the document is a JSON value of another kind than the form wants there: an object"),
+    (b"{}", b"topology Missing", b"topology is missing, and the form wants it: an object"),
+    (b'{"topology": {"as": 1, "controllers": []}}', b"topology.controllers Range",
+     b"topology.controllers is outside what the form allows there: a list of at least one control node"),
+    (document(networks=[network("any", 1)]), b"configuration.networks[0].name Range",
+     b"configuration.networks[0].name is outside what the form allows there: "
+     b"a name of 1 to 32 of the characters a to z, 0 to 9, - and _, but not any"),
+    (document(networks=[network("red", 1, "10.1.0.0")]), b"configuration.networks[0].subnets[0] Range",
+     b"configuration.networks[0].subnets[0] is outside what the form allows there: "
+     b"a prefix such as 10.1.0.0/24, with no bit set past its length"),
+    (document(services=[{"id": 7, "node": "n1"}]), b"configuration.services[0].name Missing",
+     b"configuration.services[0].name is missing, and the form wants it: "
+     b"a name of 1 to 32 of the characters a to z, 0 to 9, - and _"),
+    (document(policies=[policy({"direction": "<"})]), b"configuration.policies[0].rules[0].direction Range",
+     b"configuration.policies[0].rules[0].direction is outside what the form allows there: > or <>"),
     (document(nets=[]), b"configuration.nets Unknown", b"configuration.nets is a member that the form does not have there"),
     (document(**{"n" * 600: []}), b"configuration.%s Unknown" % (b"n" * 600),
      b"configuration.%s.. breaks the form; standard output has the whole path, and how" % (b"n" * 485)),
 ]
+
+
+def in_schema(*path):
+    """A part of the schema, by the way to it from the definitions."""
+    found = DEFINITIONS
+    for step in path:
+        found = found[step]
+        while "$ref" in found:
+            found = DEFINITIONS[found["$ref"].rpartition("/")[2]]
+    return found
+
+
+def member_of(name, member):
+    return in_schema(name, "properties", member)
+
+
+def numbers(part):
+    """What a sentence says of the numbers that a part of the schema allows."""
+    return b"a whole number from %d to %d" % (part["minimum"], part["maximum"])
+
+
+def with_members(**members):
+    """A document of one compute node and no configuration, with these members beside it."""
+    return {**json.loads(document()), **members}
+
+
+def packet(**members):
+    return {"port": 1, "to": "10.1.0.5", "protocol": 6, "sport": 1, "dport": 2, **members}
+
+
+def group(*members):
+    return {**json.loads(document(services=[FIREWALL])), "groups": [{"service": "fw", "members": list(members)}], "packets": []}
+
+
+def numbered(past):
+    """Of each place of a number: the command, a document with a number there that is one past its bounds, the number's part of
+    the schema, its path, and what the sentence says beside the bounds. `past` gives a number of a part."""
+    autonomous = member_of("topology", "as")
+    reserved = b"%%s, neither %d nor %d" % tuple(autonomous["not"]["enum"])
+    yield b"compile", {"topology": {"as": past(autonomous)}}, autonomous, b"topology.as", reserved
+    for kind, made, member in (
+        ("network", lambda n: network("red", n), "id"),
+        ("port", lambda n: port("vm", n, "red", "10.1.0.5"), "id"),
+        ("policy", lambda n: {"name": "p", "sequence": n}, "sequence"),
+        ("service", lambda n: {**FIREWALL, "id": n}, "id"),
+    ):
+        part, named = member_of(kind, member), {"policy": "policies"}.get(kind, kind + "s")
+        listed = json.loads(document(**{named: [made(past(part))]}))
+        yield b"compile", listed, part, b"configuration.%s[0].%s" % (named.encode(), member.encode()), b"%s"
+        put = with_members(events=[{"edit": {"put": {kind: made(past(part))}}}])
+        yield b"run", put, part, b"events[0].edit.put.%s.%s" % (kind.encode(), member.encode()), b"%s"
+    for member, part, made, said in (
+        ("protocol", in_schema("rule", "properties", "protocol", "anyOf", 0), lambda n: {**PASSES, "protocol": n}, b"%s, or any"),
+        ("use", member_of("rule", "use"), lambda n: through("c", n), b"%s"),
+    ):
+        listed = json.loads(document(policies=[policy(made(past(part)))]))
+        yield b"compile", listed, part, b"configuration.policies[0].rules[0].%s" % member.encode(), said
+    for member in ("source_ports", "destination_ports"):
+        part = in_schema("rule", "properties", member, "items")
+        listed = json.loads(document(policies=[policy({**PASSES, member: [past(part), 65535]})]))
+        yield b"compile", listed, part, b"configuration.policies[0].rules[0].%s[0]" % member.encode(), b"%s"
+    for member in ("port", "protocol", "sport", "dport"):
+        part = member_of("packet", member)
+        tried = packet(**{member: past(part)})
+        yield b"reach", with_members(packets=[tried]), part, b"packets[0].%s" % member.encode(), b"%s"
+        yield b"flows", with_members(capacity=1, steps=[{"trace": tried}]), part, b"steps[0].trace.%s" % member.encode(), b"%s"
+    part = in_schema("group", "properties", "members", "items")
+    yield b"scale", group(past(part)), part, b"groups[0].members[0]", b"%s"
+    part = member_of("flows", "capacity")
+    yield b"flows", with_members(capacity=past(part), steps=[]), part, b"capacity", b"%s"
+    part = in_schema("names_and_number", "prefixItems", 2)
+    for member in ("deliver", "deliver-bytes", "break"):
+        lists = with_members(events=[{member: ["c1", "n1", past(part)]}])
+        name = b"a name of 1 to 32 of the characters a to z, 0 to 9, - and _"
+        yield b"run", lists, part, b"events[0].%s[2]" % member.encode(), name + b", or in the third place %s"
+
+
+def lengthy():
+    """A group with more members than there may be, its path, and what the form wants there."""
+    part = member_of("group", "members")
+    said = b"a list of %d to %d numbers, each below the next" % (part["minItems"], part["maxItems"])
+    return group(*range(part["maxItems"] + 1)), b"groups[0].members", said
+
+
+def outside(command, text, path, said):
+    """A run on a document that is outside the form at a path, as those of RUNS."""
+    sentence = b"overlay: %s is outside what the form allows there: %s\n" % (path, said)
+    return [command], json.dumps(text).encode(), 6, b"bad document %s Range\n" % path, sentence
+
+
+def bounds():
+    """Runs of numbers on both sides outside the bounds of the schema."""
+    for past in (lambda part: part["minimum"] - 1, lambda part: part["maximum"] + 1):
+        for command, text, part, path, said in numbered(past):
+            yield outside(command, text, path, said % numbers(part))
+    yield outside(b"scale", *lengthy())
+
 
 # the words, the input, the status, standard output, standard error
 RUNS = [
@@ -132,6 +246,9 @@ RUNS = [
     ([b"gen", b"3"], b"", 0, SUMMARY, b""),
     ([b"--version"], b"", 0, b"overlay 0.1.0\n", b""),
     ([b"compile"], b" " * 16_777_217, 4, b"", TOO_LONG),
+    ([b"compile"], b"", 5, b"not json\n", EMPTY),
+    ([b"compile"], b"\xef\xbb\xbf" + example("one.json"), 5, b"not json\n", MARK),
+    ([b"compile"], b"\n", 5, b"not json\n", NO_JSON + b"line 2, column 1\n"),
     ([b"compile"], b"{", 5, b"not json\n", NO_JSON + b"line 1, column 1\n"),
     ([b"run"], b'{"a": 1,\n "b": x}', 5, b"not json\n", NO_JSON + b"line 2, column 7\n"),
     ([b"reach"], b'{"a":\n  "\xff"}', 5, b"not json\n", NO_JSON + b"line 2, column 4\n"),
@@ -140,6 +257,7 @@ RUNS = [
     ([b"decode"], KEEPALIVE * 10_000 + b"00 0x", 5, b"not hex\n", STRAY % (10_001, 5)),
     *(([b"compile"], text, 7, b"refused " + line + b"\n", b"overlay: " + said + b"\n") for text, line, said in REFUSED),
     *(([b"compile"], text, 6, b"bad document " + line + b"\n", b"overlay: " + said + b"\n") for text, line, said in BAD),
+    *bounds(),
 ]
 # words that are no command
 WRONG = [[], [b"show"], [b"compile", b"reach"], [b"--help", b"compile"], [b"gen"], [b"gen", b"03"], [b"\xff"]]

@@ -1,5 +1,5 @@
 //! The routes of the instances that an agent needs.
-ghost use Rattle.std.specs.Prelude.{◌≡◌, ◌==◌, [], IfOk, IsTrue, OnOk, map};
+ghost use Rattle.std.specs.Prelude.{◌≡◌, ◌↔◌, ◌==◌, [], IfOk, IsTrue, OnOk, map};
 ghost use Rattle.std.specs.BTreeMap.{IsOrdered};
 ghost use Rattle.std.specs.List.{AllByRecursion, list_any};
 ghost use Rattle.node_items.specs.Told.{down_of, down_value};
@@ -52,7 +52,7 @@ pub(crate) fn have_same_instances(
     others: &Fibs,
 ) -> Result<bool, NoMemory>
     ensures { IfOk result (λ same. IsTrue same
-        → map (λ t. t.0) fibs.now.entries ≡ map (λ t. t.0) others.now.entries) }
+        ↔ (map (λ t. t.0) fibs.now.entries ≡ map (λ t. t.0) others.now.entries)) }
 {
     let instances_here = instances(alloc, fibs)?;
     let instances_there = instances(alloc, others)?;

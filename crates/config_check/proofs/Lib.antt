@@ -1,6 +1,7 @@
 pub mod Blocks
 pub mod Circuits
 pub mod Lists
+pub mod Keyed
 pub mod SomeRule
 pub mod Straight
 pub mod Few

@@ -17,6 +17,9 @@ some_here {A} {B} f xs i x y total lt at hit so_far =
     let step : first_of f (x ∷ drop (i + 1) xs) ≡ Some y = rw hit refl in
     sym step ∙ ap (first_of f) (sym (next_is xs i x lt at)) ∙ so_far
 
+pub taken_more : {A : Type 0} (xs : List A) (i : ℕ) (x : A) → i < length xs → x ≡ get_or xs i x → take (i + 1) xs ≡ take i xs ++ x ∷ []
+taken_more {A} xs i x lt at = take_more xs i x lt ∙ ap (λ (y : A). take i xs ++ y ∷ []) (sym at)
+
 pub met_here : {A : Type 0} (meets : A → A → Bool) (xs : List A) (i : ℕ) (x : A) (b : A) (total : Option (A × A)) → i < length xs → x ≡ get_or xs i x
     → find (λ b. meets b x) (take i xs) ≡ Some b → meeting_after meets (take i xs) (drop i xs) ≡ total → Some (b, x) ≡ total
 met_here {A} meets xs i x b total lt at hit so_far =
@@ -27,7 +30,7 @@ pub not_met_here : {A : Type 0} (meets : A → A → Bool) (xs : List A) (i : �
     → find (λ b. meets b x) (take i xs) ≡ None → meeting_after meets (take i xs) (drop i xs) ≡ total
     → meeting_after meets (take (i + 1) xs) (drop (i + 1) xs) ≡ total
 not_met_here {A} meets xs i x total lt at missed so_far =
-    let more : take (i + 1) xs ≡ take i xs ++ x ∷ [] = take_more xs i x lt ∙ ap (λ (y : A). take i xs ++ y ∷ []) (sym at) in
+    let more = taken_more xs i x lt at in
     let step : meeting_after meets (take i xs) (x ∷ drop (i + 1) xs) ≡ meeting_after meets (take i xs ++ x ∷ []) (drop (i + 1) xs) = rw missed refl in
     ap (λ (front : List A). meeting_after meets front (drop (i + 1) xs)) more ∙ sym step
     ∙ ap (meeting_after meets (take i xs)) (sym (next_is xs i x lt at)) ∙ so_far

@@ -88,11 +88,13 @@ fn use_numbers(alloc: Global, rules: &[NumberedRule]) -> Result<Vec<u32>, NoMemo
     )
 }
 
-fn repeated_id(what: IdKind, ids: &[u32]) -> Option<Refusal>
-    ensures { result ≡ repeated_id what ids.now }
+fn repeated_id(alloc: Global, what: IdKind, ids: &[u32]) -> Result<Option<Refusal>, NoMemory>
+    ensures { IfOk result (λ found. found ≡ repeated_id what ids.now) }
 {
-    let (_, id) = first_meeting(ids)?;
-    Some(Refusal::DuplicateId { what, id })
+    match first_meeting(alloc, ids)? {
+        Some((_, id)) => Ok(Some(Refusal::DuplicateId { what, id })),
+        None => Ok(None),
+    }
 }
 
 /// The first number that stands twice among those of its kind.
@@ -106,11 +108,11 @@ pub(crate) fn broken_id(
     requires { rules.now ≡ all_rules config.now }
     ensures { IfOk result (λ found. found ≡ broken_id topology.now config.now) }
 {
-    let addresses = repeated_id(IdKind::Address, &addresses(alloc, topology)?);
-    let networks = repeated_id(IdKind::Network, &network_ids(alloc, config)?);
-    let ports = repeated_id(IdKind::Port, &port_ids(alloc, config)?);
-    let sequences = repeated_id(IdKind::Sequence, &sequences(alloc, config)?);
-    let services = repeated_id(IdKind::Service, &service_ids(alloc, config)?);
-    let uses = repeated_id(IdKind::Use, &use_numbers(alloc, rules)?);
+    let addresses = repeated_id(alloc, IdKind::Address, &addresses(alloc, topology)?)?;
+    let networks = repeated_id(alloc, IdKind::Network, &network_ids(alloc, config)?)?;
+    let ports = repeated_id(alloc, IdKind::Port, &port_ids(alloc, config)?)?;
+    let sequences = repeated_id(alloc, IdKind::Sequence, &sequences(alloc, config)?)?;
+    let services = repeated_id(alloc, IdKind::Service, &service_ids(alloc, config)?)?;
+    let uses = repeated_id(alloc, IdKind::Use, &use_numbers(alloc, rules)?)?;
     Ok(addresses.or(networks.or(ports.or(sequences.or(services.or(uses))))))
 }

@@ -7,6 +7,7 @@ pub mod edit_laws;
 mod edits;
 mod finding;
 mod ids;
+mod known;
 pub mod laws;
 mod limits;
 mod meeting;

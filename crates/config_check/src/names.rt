@@ -5,7 +5,6 @@ ghost use Rattle.config_check.specs.Rules.{service_names, chain_names, repeated_
 ghost use Rattle.config_check.specs.Rules.{broken_name};
 ghost use Rattle.ov_types.specs.First.{first_of};
 
-use crate::asking::first_of;
 use crate::meeting::first_meeting;
 use crate::refusal::Refusal;
 use config_model::{Config, Node, Topology};
@@ -81,23 +80,31 @@ pub(crate) fn hop_names(alloc: Global, config: &Config) -> Result<Vec<Name>, NoM
     Ok(names)
 }
 
-fn repeated_name(names: &[Name]) -> Option<Refusal>
-    ensures { result ≡ repeated_name names.now }
+fn repeated_name(alloc: Global, names: &[Name]) -> Result<Option<Refusal>, NoMemory>
+    ensures { IfOk result (λ found. found ≡ repeated_name names.now) }
 {
-    let (_, name) = first_meeting(names)?;
-    Some(Refusal::DuplicateName { name })
+    match first_meeting(alloc, names)? {
+        Some((_, name)) => Ok(Some(Refusal::DuplicateName { name })),
+        None => Ok(None),
+    }
 }
 
-fn repeated_controller(node: &Node) -> Option<Refusal>
-    ensures { result ≡ repeated_controller node.now }
+fn repeated_controller(alloc: Global, node: &Node) -> Result<Option<Refusal>, NoMemory>
+    ensures { IfOk result (λ found. found ≡ repeated_controller node.now) }
 {
-    repeated_name(node.controllers.as_slice())
+    repeated_name(alloc, node.controllers.as_slice())
 }
 
-fn first_repeated_controller(nodes: &[Node]) -> Option<Refusal>
-    ensures { result ≡ first_of repeated_controller nodes.now }
+#[tactic(auto, using(crate::proofs::Lists::asked))]
+fn first_repeated_controller(alloc: Global, nodes: &[Node]) -> Result<Option<Refusal>, NoMemory>
+    ensures { IfOk result (λ found. found ≡ first_of repeated_controller nodes.now) }
 {
-    first_of(nodes, |node| repeated_controller(node))
+    for node in nodes {
+        if let Some(refusal) = repeated_controller(alloc, node)? {
+            return Ok(Some(refusal));
+        }
+    }
+    Ok(None)
 }
 
 /// The first name that stands twice in its namespace.
@@ -109,11 +116,11 @@ pub(crate) fn broken_name(
 ) -> Result<Option<Refusal>, NoMemory>
     ensures { IfOk result (λ found. found ≡ broken_name topology.now config.now) }
 {
-    let nodes = repeated_name(&all_node_names(alloc, topology)?);
-    let networks = repeated_name(&network_names(alloc, config)?);
-    let ports = repeated_name(&port_names(alloc, config)?);
-    let policies = repeated_name(&policy_names(alloc, config)?);
-    let hops = repeated_name(&hop_names(alloc, config)?);
-    let controllers = first_repeated_controller(topology.nodes.as_slice());
+    let nodes = repeated_name(alloc, &all_node_names(alloc, topology)?)?;
+    let networks = repeated_name(alloc, &network_names(alloc, config)?)?;
+    let ports = repeated_name(alloc, &port_names(alloc, config)?)?;
+    let policies = repeated_name(alloc, &policy_names(alloc, config)?)?;
+    let hops = repeated_name(alloc, &hop_names(alloc, config)?)?;
+    let controllers = first_repeated_controller(alloc, topology.nodes.as_slice())?;
     Ok(nodes.or(networks.or(ports.or(policies.or(hops.or(controllers))))))
 }

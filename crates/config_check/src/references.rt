@@ -1,13 +1,13 @@
 //! The rule of references: each name that is referred to exists.
 ghost use Rattle.std.specs.Prelude.{◌≡◌, IfOk};
-ghost use Rattle.std.specs.List.{list_any};
-ghost use Rattle.ov_types.specs.First.{same_name, first_of};
+ghost use Rattle.ov_types.specs.First.{first_of};
 ghost use Rattle.config_check.specs.Rules.{missing, missing_end, missing_chain, missing_in_node, missing_in_network};
 ghost use Rattle.config_check.specs.Rules.{missing_in_port, missing_in_rule, missing_in_service, missing_in_chain};
 ghost use Rattle.config_check.specs.Rules.{broken_reference};
 ghost use Rattle.policy_rules.specs.Related.{all_rules};
 
 use crate::asking::first_of;
+use crate::known::KnownNames;
 use crate::names::{
     chain_names, controller_names, hop_names, network_names, node_names, policy_names,
 };
@@ -17,30 +17,24 @@ use ov_types::{Name, NoMemory};
 use policy_rules::NumberedRule;
 use std::alloc::Global;
 
-fn is_among(names: &[Name], name: &Name) -> bool
-    ensures { result ≡ list_any (same_name name.now) names.now }
-{
-    names.iter().any(|n| *name == *n)
-}
-
 /// A refusal where none of the names is the one that is referred to.
-fn missing(names: &[Name], name: &Name) -> Option<Refusal>
+fn missing(names: &KnownNames, name: &Name) -> Option<Refusal>
     ensures { result ≡ missing names.now name.now }
 {
-    if is_among(names, name) {
+    if names.has(name) {
         None
     } else {
         Some(Refusal::BadReference { name: *name })
     }
 }
 
-fn first_missing(names: &[Name], references: &[Name]) -> Option<Refusal>
+fn first_missing(names: &KnownNames, references: &[Name]) -> Option<Refusal>
     ensures { result ≡ first_of (missing names.now) references.now }
 {
     first_of(references, |name| missing(names, name))
 }
 
-fn missing_end(networks: &[Name], end: &End) -> Option<Refusal>
+fn missing_end(networks: &KnownNames, end: &End) -> Option<Refusal>
     ensures { result ≡ missing_end networks.now end.now }
 {
     match end {
@@ -49,7 +43,7 @@ fn missing_end(networks: &[Name], end: &End) -> Option<Refusal>
     }
 }
 
-fn missing_chain(chains: &[Name], action: &Action) -> Option<Refusal>
+fn missing_chain(chains: &KnownNames, action: &Action) -> Option<Refusal>
     ensures { result ≡ missing_chain chains.now action.now }
 {
     match action {
@@ -58,13 +52,17 @@ fn missing_chain(chains: &[Name], action: &Action) -> Option<Refusal>
     }
 }
 
-fn missing_in_port(networks: &[Name], nodes: &[Name], port: &Port) -> Option<Refusal>
+fn missing_in_port(networks: &KnownNames, nodes: &KnownNames, port: &Port) -> Option<Refusal>
     ensures { result ≡ missing_in_port networks.now nodes.now port.now }
 {
     missing(networks, &port.network).or(missing(nodes, &port.node))
 }
 
-fn missing_in_rule(networks: &[Name], chains: &[Name], numbered: &NumberedRule) -> Option<Refusal>
+fn missing_in_rule(
+    networks: &KnownNames,
+    chains: &KnownNames,
+    numbered: &NumberedRule,
+) -> Option<Refusal>
     ensures { result ≡ missing_in_rule networks.now chains.now numbered.now }
 {
     let rule = &numbered.rule;
@@ -74,7 +72,7 @@ fn missing_in_rule(networks: &[Name], chains: &[Name], numbered: &NumberedRule) 
     source.or(destination.or(chain))
 }
 
-fn missing_in_nodes(controllers: &[Name], nodes: &[Node]) -> Option<Refusal>
+fn missing_in_nodes(controllers: &KnownNames, nodes: &[Node]) -> Option<Refusal>
     ensures { result ≡ first_of (missing_in_node controllers.now) nodes.now }
 {
     first_of(
@@ -83,7 +81,7 @@ fn missing_in_nodes(controllers: &[Name], nodes: &[Node]) -> Option<Refusal>
     )
 }
 
-fn missing_in_networks(policies: &[Name], networks: &[Network]) -> Option<Refusal>
+fn missing_in_networks(policies: &KnownNames, networks: &[Network]) -> Option<Refusal>
     ensures { result ≡ first_of (missing_in_network policies.now) networks.now }
 {
     first_of(
@@ -92,25 +90,29 @@ fn missing_in_networks(policies: &[Name], networks: &[Network]) -> Option<Refusa
     )
 }
 
-fn missing_in_ports(networks: &[Name], nodes: &[Name], ports: &[Port]) -> Option<Refusal>
+fn missing_in_ports(networks: &KnownNames, nodes: &KnownNames, ports: &[Port]) -> Option<Refusal>
     ensures { result ≡ first_of (missing_in_port networks.now nodes.now) ports.now }
 {
     first_of(ports, |port| missing_in_port(networks, nodes, port))
 }
 
-fn missing_in_rules(networks: &[Name], chains: &[Name], rules: &[NumberedRule]) -> Option<Refusal>
+fn missing_in_rules(
+    networks: &KnownNames,
+    chains: &KnownNames,
+    rules: &[NumberedRule],
+) -> Option<Refusal>
     ensures { result ≡ first_of (missing_in_rule networks.now chains.now) rules.now }
 {
     first_of(rules, |rule| missing_in_rule(networks, chains, rule))
 }
 
-fn missing_in_services(nodes: &[Name], services: &[Service]) -> Option<Refusal>
+fn missing_in_services(nodes: &KnownNames, services: &[Service]) -> Option<Refusal>
     ensures { result ≡ first_of (missing_in_service nodes.now) services.now }
 {
     first_of(services, |service| missing(nodes, &service.node))
 }
 
-fn missing_in_chains(hops: &[Name], chains: &[Chain]) -> Option<Refusal>
+fn missing_in_chains(hops: &KnownNames, chains: &[Chain]) -> Option<Refusal>
     ensures { result ≡ first_of (missing_in_chain hops.now) chains.now }
 {
     first_of(chains, |chain| first_missing(hops, chain.hops.as_slice()))
@@ -127,12 +129,12 @@ pub(crate) fn broken_reference(
     requires { rules.now ≡ all_rules config.now }
     ensures { IfOk result (λ found. found ≡ broken_reference topology.now config.now) }
 {
-    let controllers = controller_names(alloc, topology)?;
-    let nodes = node_names(alloc, topology)?;
-    let policies = policy_names(alloc, config)?;
-    let networks = network_names(alloc, config)?;
-    let chains = chain_names(alloc, config)?;
-    let hops = hop_names(alloc, config)?;
+    let controllers = KnownNames::new(alloc, controller_names(alloc, topology)?)?;
+    let nodes = KnownNames::new(alloc, node_names(alloc, topology)?)?;
+    let policies = KnownNames::new(alloc, policy_names(alloc, config)?)?;
+    let networks = KnownNames::new(alloc, network_names(alloc, config)?)?;
+    let chains = KnownNames::new(alloc, chain_names(alloc, config)?)?;
+    let hops = KnownNames::new(alloc, hop_names(alloc, config)?)?;
     let in_nodes = missing_in_nodes(&controllers, topology.nodes.as_slice());
     let in_networks = missing_in_networks(&policies, config.networks.as_slice());
     let in_ports = missing_in_ports(&networks, &nodes, config.ports.as_slice());

@@ -1,11 +1,11 @@
 //! The rules of subnets: none is reserved, and none of one network overlaps another of it.
-ghost use Rattle.std.specs.Prelude.{◌≡◌};
+ghost use Rattle.std.specs.Prelude.{◌≡◌, find, option_copied};
+ghost use Rattle.ov_types.specs.First.{first_meeting};
 ghost use Rattle.ov_types.specs.Prefix.{is_inside};
 ghost use Rattle.config_check.specs.Rules.{overlap, circuit_addresses, reserved_in, broken_reserved, nested_in};
 ghost use Rattle.config_check.specs.Rules.{broken_nested};
 
 use crate::asking::first_of;
-use crate::meeting::{Meets, first_meeting};
 use crate::refusal::Refusal;
 use config_model::{Config, Network};
 use ov_types::{Addr, Prefix};
@@ -23,14 +23,22 @@ pub(crate) fn overlap(p: &Prefix, q: &Prefix) -> bool
     is_inside(p, q) || is_inside(q, p)
 }
 
-impl Meets for Prefix {
-    ghost use Rattle.config_check.specs.Rules.{overlap};
+fn first_overlapped<'a>(before: &'a [Prefix], prefix: &Prefix) -> Option<&'a Prefix>
+    ensures { option_copied result ≡ find (λ p. overlap p prefix.now) before.now }
+{
+    before.iter().find(|p| overlap(p, prefix))
+}
 
-    ghost meets = { overlap };
-
-    fn meets(&self, other: &Prefix) -> bool {
-        overlap(self, other)
+/// The first prefix that overlaps one before it, after the first one that it overlaps.
+fn first_overlapping(prefixes: &[Prefix]) -> Option<(Prefix, Prefix)>
+    ensures { result ≡ first_meeting overlap prefixes.now }
+{
+    for (index, prefix) in prefixes.iter().enumerate() {
+        if let Some(earlier) = first_overlapped(&prefixes[..index], prefix) {
+            return Some((*earlier, *prefix));
+        }
     }
+    None
 }
 
 /// The addresses of circuits, 250.0.0.0/15.
@@ -68,7 +76,7 @@ pub(crate) fn broken_reserved(config: &Config) -> Option<Refusal>
 fn nested_in(network: &Network) -> Option<Refusal>
     ensures { result ≡ nested_in network.now }
 {
-    let (first, second) = first_meeting(network.subnets.as_slice())?;
+    let (first, second) = first_overlapping(network.subnets.as_slice())?;
     Some(Refusal::SubnetNested {
         network: network.name,
         first,

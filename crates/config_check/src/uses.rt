@@ -1,5 +1,5 @@
 //! The rules of chain rules: each names two networks, and they differ.
-ghost use Rattle.std.specs.Prelude.{◌≡◌, find};
+ghost use Rattle.std.specs.Prelude.{◌≡◌, find, option_copied};
 ghost use Rattle.config_check.specs.Rules.{is_chain_rule, is_any, same_end, lacks_network, turns_back, broken_needs};
 ghost use Rattle.config_check.specs.Rules.{broken_same};
 
@@ -46,16 +46,16 @@ fn turns_back(rule: &Rule) -> bool
     is_chain_rule(&rule.action) && is_same_end(&rule.source, &rule.destination)
 }
 
-fn first_lacking(rules: &[NumberedRule]) -> Option<NumberedRule>
-    ensures { result ≡ find (λ r. lacks_network r.rule) rules.now }
+fn first_lacking(rules: &[NumberedRule]) -> Option<&NumberedRule>
+    ensures { option_copied result ≡ find (λ r. lacks_network r.rule) rules.now }
 {
-    rules.iter().copied().find(|r| lacks_network(&r.rule))
+    rules.iter().find(|r| lacks_network(&r.rule))
 }
 
-fn first_turning(rules: &[NumberedRule]) -> Option<NumberedRule>
-    ensures { result ≡ find (λ r. turns_back r.rule) rules.now }
+fn first_turning(rules: &[NumberedRule]) -> Option<&NumberedRule>
+    ensures { option_copied result ≡ find (λ r. turns_back r.rule) rules.now }
 {
-    rules.iter().copied().find(|r| turns_back(&r.rule))
+    rules.iter().find(|r| turns_back(&r.rule))
 }
 
 /// The first chain rule that has `any` as an end.

@@ -86,14 +86,14 @@ pub(crate) fn copied_config(config: &Config) -> Result<Config, AllocError>
 }
 
 /// The first of the rules of subnets and ports that is broken.
-fn broken_place(config: &Config) -> Option<Refusal>
-    ensures { result ≡ broken_place config.now }
+fn broken_place(alloc: Global, config: &Config) -> Result<Option<Refusal>, NoMemory>
+    ensures { IfOk result (λ found. found ≡ broken_place config.now) }
 {
     let reserved = broken_reserved(config);
     let nested = broken_nested(config);
-    let outside = broken_outside(config);
-    let taken = broken_taken(config);
-    reserved.or(nested.or(outside.or(taken)))
+    let outside = broken_outside(alloc, config)?;
+    let taken = broken_taken(alloc, config)?;
+    Ok(reserved.or(nested.or(outside.or(taken))))
 }
 
 /// The first of the rules of chain rules that is broken.
@@ -138,7 +138,7 @@ fn first_broken(
     if let Some(refusal) = broken_reference(alloc, topology, config, &rules)? {
         return Ok(Some(refusal));
     }
-    if let Some(refusal) = broken_place(config) {
+    if let Some(refusal) = broken_place(alloc, config)? {
         return Ok(Some(refusal));
     }
     if let Some(refusal) = broken_use(&rules) {

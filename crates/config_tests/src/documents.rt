@@ -3,16 +3,17 @@ use config_check::{Valid, check};
 use config_model::read_compile;
 use serde_json::Value;
 use std::alloc::Global;
-use std::process::Abort;
 
-pub(crate) fn value_of(rt: &impl Abort, alloc: Global, text: &str) -> Value {
-    Value::from_str(alloc, text).expect(rt, "a value")
+#[tactic(auto, using(crate::proofs::Forms::nodes_form))]
+fn valid_in(alloc: Global, value: &Value) -> Option<Valid> {
+    let input = read_compile(alloc, value).ok()?;
+    check(alloc, input.topology, input.config).ok()
 }
 
-/// The valid configuration of a document of `compile`.
-#[tactic(auto, using(crate::proofs::Forms::nodes_form))]
-pub(crate) fn valid_of(rt: &impl Abort, alloc: Global, text: &str) -> Valid {
-    let value = value_of(rt, alloc, text);
-    let plan = read_compile(alloc, &value).expect(rt, "a document");
-    check(alloc, plan.topology, plan.config).expect(rt, "a valid configuration")
+/// The valid configuration of a document of `compile`, if it is one.
+pub(crate) fn valid_of(alloc: Global, text: &str) -> Option<Valid> {
+    match Value::from_str(alloc, text) {
+        Ok(value) => valid_in(alloc, &value),
+        Err(_) => None,
+    }
 }

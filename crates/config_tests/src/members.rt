@@ -1,11 +1,12 @@
 //! Members of services, and the visits of packets, written by hand.
-use crate::documents::{valid_of, value_of};
+use crate::asked::{Outcome, all_hold, holds};
+use crate::documents::valid_of;
 use config_check::Valid;
 use config_model::{DocKind, ReadRefusal};
 use ov_types::{Addr, Packet, PortNo, Tuple};
 use scale_out::{Group, Groups, Spread, choose, read_scale, scale_reach};
+use serde_json::Value;
 use std::alloc::Global;
-use std::process::Abort;
 
 /// Red and blue attach a policy that leads packets between them through two services.
 const PLAN: &str = r#""topology":{
@@ -28,7 +29,7 @@ const PLAN: &str = r#""topology":{
 const KEY: u64 = 335_791_017;
 
 /// Members, and the one that is chosen by this key: the scores of 1 to 5 are 11398, 445, 55028, 44075 and 33122.
-const CHOICES: [(&[u16], u16); 8] = [
+static CHOICES: [(&[u16], u16); 8] = [
     (&[1, 2, 3], 3),
     (&[1, 2], 1),
     (&[4, 5], 4),
@@ -39,15 +40,22 @@ const CHOICES: [(&[u16], u16); 8] = [
     (&[3, 4], 3),
 ];
 
+fn choose_all() -> Outcome {
+    for (place, (members, member)) in CHOICES.iter().enumerate() {
+        if choose(members, KEY) != *member {
+            return Outcome::Differs(place);
+        }
+    }
+    Outcome::AllHold
+}
+
 #[test]
 fn the_greatest_score_chooses(rt: HostRuntime) {
-    for (members, member) in CHOICES {
-        assert!(rt; choose(members, KEY) == member);
-    }
+    all_hold(&rt, choose_all());
 }
 
 /// Lists of groups, and the visits of the packet and of its reply by service and member.
-const VISITS: [(&str, [(u16, u16); 2]); 4] = [
+static VISITS: [(&str, [(u16, u16); 2]); 4] = [
     (
         r#"[{"service":"s1","members":[1,2,3]},{"service":"s2","members":[4,5]}]"#,
         [(1, 3), (2, 4)],
@@ -64,7 +72,7 @@ const VISITS: [(&str, [(u16, u16); 2]); 4] = [
 ];
 
 /// Lists of groups, each with the path and the kind of its first fault.
-const FAULTS: [(&str, &str, DocKind); 4] = [
+static FAULTS: [(&str, &str, DocKind); 4] = [
     (
         r#"[{"service":"s9","members":[1]}]"#,
         "[0].service",
@@ -83,9 +91,11 @@ const FAULTS: [(&str, &str, DocKind); 4] = [
     (r#"{}"#, "", DocKind::Kind),
 ];
 
-fn plan_of(rt: &impl Abort, alloc: Global) -> Valid {
-    let text = format!(in alloc; "{{{PLAN}}}").expect(rt, "memory");
-    valid_of(rt, alloc, text.as_str())
+fn plan_of(alloc: Global) -> Option<Valid> {
+    match format!(in alloc; "{{{PLAN}}}") {
+        Ok(text) => valid_of(alloc, text.as_str()),
+        Err(_) => None,
+    }
 }
 
 fn packet_of(source: u32, destination: u32, sport: u16, dport: u16) -> Packet {
@@ -111,31 +121,59 @@ fn are_made(spread: &Spread, number: u32, wanted: &[(u16, u16)]) -> bool {
     }
 }
 
-/// A packet and its reply visit these members, the reply in reverse.
-fn are_visited(rt: &impl Abort, valid: &Valid, groups: &Groups, wanted: [(u16, u16); 2]) {
-    let there = scale_reach(valid, groups, packet_of(1, 0x0a02_0002, 50000, 80));
-    let back = scale_reach(valid, groups, packet_of(2, 0x0a01_0001, 80, 50000));
+/// Whether a packet comes to a port by these visits.
+fn visits(
+    valid: &Valid,
+    groups: &Groups,
+    packet: Packet,
+    number: u32,
+    wanted: &[(u16, u16)],
+) -> bool {
+    are_made(&scale_reach(valid, groups, packet), number, wanted)
+}
+
+/// Whether a packet and its reply visit these members, the reply in reverse.
+fn are_visited(valid: &Valid, groups: &Groups, wanted: [(u16, u16); 2]) -> bool {
     let [first, second] = wanted;
-    assert!(rt; are_made(&there, 2, &[first, second]));
-    assert!(rt; are_made(&back, 1, &[second, first]));
+    let there = packet_of(1, 0x0a02_0002, 50000, 80);
+    let back = packet_of(2, 0x0a01_0001, 80, 50000);
+    visits(valid, groups, there, 2, &[first, second])
+        && visits(valid, groups, back, 1, &[second, first])
 }
 
-fn chooses(rt: &impl Abort, alloc: Global, valid: &Valid, text: &str, wanted: [(u16, u16); 2]) {
-    let value = value_of(rt, alloc, text);
-    let groups = Groups::read(alloc, &value, valid.config()).expect(rt, "groups");
-    are_visited(rt, valid, &groups, wanted);
+fn groups_of(alloc: Global, valid: &Valid, text: &str) -> Option<Groups> {
+    match Value::from_str(alloc, text) {
+        Ok(value) => Groups::read(alloc, &value, valid.config()).ok(),
+        Err(_) => None,
+    }
 }
 
-fn visit_members(rt: &impl Abort, alloc: Global, valid: &Valid) {
-    for (text, wanted) in VISITS {
-        chooses(rt, alloc, valid, text, wanted);
+fn chooses(alloc: Global, valid: &Valid, text: &str, wanted: [(u16, u16); 2]) -> bool {
+    match groups_of(alloc, valid, text) {
+        Some(groups) => are_visited(valid, &groups, wanted),
+        None => false,
+    }
+}
+
+fn visit_members(alloc: Global, valid: &Valid) -> Outcome {
+    for (place, (text, wanted)) in VISITS.iter().enumerate() {
+        if !chooses(alloc, valid, text, *wanted) {
+            return Outcome::Differs(place);
+        }
+    }
+    Outcome::AllHold
+}
+
+fn visit_in_a_plan(alloc: Global) -> Outcome {
+    match plan_of(alloc) {
+        Some(valid) => visit_members(alloc, &valid),
+        None => Outcome::NoDocument,
     }
 }
 
 #[test]
 fn packets_visit_members(rt: HostRuntime) {
-    let valid = plan_of(&rt, rt.alloc());
-    visit_members(&rt, rt.alloc(), &valid);
+    all_hold(&rt, visit_in_a_plan(rt.alloc()));
 }
 
 /// Whether this is the fault of a list of groups.
@@ -146,44 +184,73 @@ fn is_fault(read: &Result<Groups, ReadRefusal>, path: &str, kind: DocKind) -> bo
     }
 }
 
-/// A list of groups has this as its first fault.
-fn has_fault(rt: &impl Abort, alloc: Global, valid: &Valid, text: &str, path: &str, kind: DocKind) {
-    let value = value_of(rt, alloc, text);
-    let read = Groups::read(alloc, &value, valid.config());
-    assert!(rt; is_fault(&read, path, kind), "{text}");
+/// Whether a list of groups has this as its first fault.
+fn has_fault(alloc: Global, valid: &Valid, text: &str, path: &str, kind: DocKind) -> bool {
+    match Value::from_str(alloc, text) {
+        Ok(value) => is_fault(&Groups::read(alloc, &value, valid.config()), path, kind),
+        Err(_) => false,
+    }
 }
 
-fn have_faults(rt: &impl Abort, alloc: Global, valid: &Valid) {
-    for (text, path, kind) in FAULTS {
-        has_fault(rt, alloc, valid, text, path, kind);
+fn have_faults(alloc: Global, valid: &Valid) -> Outcome {
+    for (place, (text, path, kind)) in FAULTS.iter().enumerate() {
+        if !has_fault(alloc, valid, text, path, *kind) {
+            return Outcome::Differs(place);
+        }
+    }
+    Outcome::AllHold
+}
+
+fn have_faults_in_a_plan(alloc: Global) -> Outcome {
+    match plan_of(alloc) {
+        Some(valid) => have_faults(alloc, &valid),
+        None => Outcome::NoDocument,
     }
 }
 
 #[test]
 fn the_first_fault_of_a_list_is_found(rt: HostRuntime) {
-    let valid = plan_of(&rt, rt.alloc());
-    have_faults(&rt, rt.alloc(), &valid);
+    all_hold(&rt, have_faults_in_a_plan(rt.alloc()));
 }
 
-/// The second service is asked for with the members 7 and 9.
-fn is_asked(rt: &impl Abort, groups: &[Group]) {
+static SEVEN_AND_NINE: [u16; 2] = [7, 9];
+
+/// Whether the second service is asked for with the members 7 and 9.
+fn is_asked(groups: &[Group]) -> bool {
     match groups {
-        [group] => assert!(rt; group.members.as_slice() == [7, 9].as_slice()),
-        _ => assert!(rt; false, "another number of groups"),
+        [group] => group.members.as_slice() == SEVEN_AND_NINE.as_slice(),
+        _ => false,
     }
 }
 
-fn ask(rt: &impl Abort, alloc: Global, text: &str) {
-    let value = value_of(rt, alloc, text);
-    let asked = read_scale(alloc, &value).expect(rt, "a document");
-    is_asked(rt, asked.groups.as_slice());
-    assert!(rt; asked.packets.as_slice().is_empty());
+fn is_read(alloc: Global, value: &Value) -> bool {
+    match read_scale(alloc, value) {
+        Ok(asked) => is_asked(asked.groups.as_slice()) && asked.packets.as_slice().is_empty(),
+        Err(_) => false,
+    }
+}
+
+fn asks(alloc: Global, text: &str) -> bool {
+    match Value::from_str(alloc, text) {
+        Ok(value) => is_read(alloc, &value),
+        Err(_) => false,
+    }
+}
+
+fn document_of(alloc: Global) -> Option<String> {
+    format!(in alloc;
+        r#"{{{PLAN},"groups":[{{"service":"s2","members":[7,9]}}],"packets":[]}}"#
+    ).ok()
+}
+
+fn asks_of_a_document(alloc: Global) -> bool {
+    match document_of(alloc) {
+        Some(text) => asks(alloc, text.as_str()),
+        None => false,
+    }
 }
 
 #[test]
 fn a_document_of_groups_is_read(rt: HostRuntime) {
-    let text = format!(in rt.alloc();
-        r#"{{{PLAN},"groups":[{{"service":"s2","members":[7,9]}}],"packets":[]}}"#
-    ).expect(&rt, "memory");
-    ask(&rt, rt.alloc(), text.as_str());
+    holds(&rt, asks_of_a_document(rt.alloc()), "a list of groups");
 }

@@ -1,10 +1,10 @@
 //! Which rule decides on a packet, and how it is taken.
+use crate::asked::{Outcome, all_hold};
 use crate::documents::valid_of;
 use config_check::Valid;
 use ov_types::{InstanceId, RuleNo, Tuple};
 use reach_plain::{Decision, decide, is_network};
 use std::alloc::Global;
-use std::process::Abort;
 
 /// One control node and one compute node.
 const ONE_NODE: &str = r#"{
@@ -37,50 +37,77 @@ const SHOP: &str = r#"{
             "source_ports":[1024,2000],"destination_ports":[80,90],"action":"pass"}]}]
 }"#;
 
-fn plan_of(rt: &impl Abort, alloc: Global, configuration: &str) -> Valid {
+fn plan_of(alloc: Global, configuration: &str) -> Option<Valid> {
     let topology = ONE_NODE;
-    let text = format!(in alloc;
-        r#"{{"topology":{topology},"configuration":{configuration}}}"#
-    ).expect(rt, "memory");
-    valid_of(rt, alloc, text.as_str())
+    match format!(in alloc; r#"{{"topology":{topology},"configuration":{configuration}}}"#) {
+        Ok(text) => valid_of(alloc, text.as_str()),
+        Err(_) => None,
+    }
 }
 
-/// A packet from one network to another, by their numbers and the packet's ports, is decided on by the rule at a position of
-/// the policy of sequence 10, mirrored or not, or by none.
-fn decides(
-    rt: &impl Abort,
-    valid: &Valid,
-    (from, to): (u16, u16),
-    (sport, dport): (u16, u16),
-    rule: Option<(u16, bool)>,
-) {
+/// A packet from one network to another, by their numbers and the packet's ports, and the rule that decides on it by its position
+/// in the policy of sequence 10, mirrored or not, or none.
+type Line = ((u16, u16), (u16, u16), Option<(u16, bool)>);
+
+/// Whether a rule of the policy decides so.
+fn is_by(decision: &Decision, position: u16, mirrored: bool) -> bool {
+    let sequence = 10;
+    let rule = RuleNo { sequence, position };
+    *decision == Decision { rule, mirrored }
+}
+
+fn decides(valid: &Valid, line: &Line) -> bool {
+    let ((from, to), (sport, dport), by) = *line;
     let (from, to) = (InstanceId(from), InstanceId(to));
-    assert!(rt; is_network(valid, from) && is_network(valid, to));
+    if !(is_network(valid, from) && is_network(valid, to)) {
+        return false;
+    }
     let tuple = Tuple {
         proto: 6,
         sport,
         dport,
     };
-    let found = decide(valid, from, to, tuple);
-    let by_rule = rule.map(|(position, mirrored)| {
-        let sequence = 10;
-        let rule = RuleNo { sequence, position };
-        Decision { rule, mirrored }
-    });
-    assert!(rt; found == by_rule);
+    match (decide(valid, from, to, tuple), by) {
+        (Some(found), Some((position, mirrored))) => is_by(&found, position, mirrored),
+        (None, None) => true,
+        _ => false,
+    }
 }
+
+fn decide_in(valid: &Valid, lines: &[Line]) -> Outcome {
+    for (place, line) in lines.iter().enumerate() {
+        if !decides(valid, line) {
+            return Outcome::Differs(place);
+        }
+    }
+    Outcome::AllHold
+}
+
+/// What lines come to, each on its packet in a configuration.
+fn decide_all(alloc: Global, configuration: &str, lines: &[Line]) -> Outcome {
+    match plan_of(alloc, configuration) {
+        Some(valid) => decide_in(&valid, lines),
+        None => Outcome::NoDocument,
+    }
+}
+
+static OF_WEB: [Line; 2] = [
+    ((1, 2), (22, 40000), Some((1, true))),
+    ((1, 2), (40000, 80), Some((2, false))),
+];
 
 #[test]
 fn the_first_rule_decides_forwards_where_it_matches_both_ways(rt: HostRuntime) {
-    let valid = plan_of(&rt, rt.alloc(), WEB);
-    decides(&rt, &valid, (1, 2), (22, 40000), Some((1, true)));
-    decides(&rt, &valid, (1, 2), (40000, 80), Some((2, false)));
+    all_hold(&rt, decide_all(rt.alloc(), WEB, &OF_WEB));
 }
+
+static OF_SHOP: [Line; 3] = [
+    ((1, 2), (1024, 80), Some((1, false))),
+    ((2, 1), (80, 1024), None),
+    ((1, 2), (80, 1024), None),
+];
 
 #[test]
 fn one_way_rules_decide_on_no_answers(rt: HostRuntime) {
-    let valid = plan_of(&rt, rt.alloc(), SHOP);
-    decides(&rt, &valid, (1, 2), (1024, 80), Some((1, false)));
-    decides(&rt, &valid, (2, 1), (80, 1024), None);
-    decides(&rt, &valid, (1, 2), (80, 1024), None);
+    all_hold(&rt, decide_all(rt.alloc(), SHOP, &OF_SHOP));
 }

@@ -2,13 +2,14 @@
 ghost use Rattle.std.specs.Prelude.{IfSome, IsTrue};
 ghost use Rattle.config_model.specs.Edit.{has_edit_form};
 
-use config_check::{EditFault, Refusal, Valid, check};
-use config_model::{Edit, read_compile, read_edit};
+use crate::asked::{Outcome, all_hold};
+use crate::documents::valid_of;
+use config_check::{EditFault, Refusal, Valid};
+use config_model::{Edit, read_edit};
 use ov_types::{Addr, InstanceId, Name, PortNo};
 use run_ties::{Tie, TiedFault, TiedRefusal, Ties, apply_tied_edit};
 use serde_json::Value;
 use std::alloc::Global;
-use std::process::Abort;
 
 /// Red and blue have a port each, and attach `web`, which passes all packets. A rule of `led`, which neither attaches,
 /// leads from red to blue through a chain.
@@ -40,13 +41,18 @@ struct Run {
     ties: Ties,
 }
 
-#[tactic(auto, using(crate::proofs::Forms::nodes_form))]
 fn opened(alloc: Global) -> Option<Run> {
-    let value = Value::from_str(alloc, OPENING).ok()?;
-    let input = read_compile(alloc, &value).ok()?;
-    let valid = check(alloc, input.topology, input.config).ok()?;
-    let ties = Ties::new(alloc, &valid).ok()?;
-    Some(Run { valid, ties })
+    match valid_of(alloc, OPENING) {
+        Some(valid) => run_of(alloc, valid),
+        None => None,
+    }
+}
+
+fn run_of(alloc: Global, valid: Valid) -> Option<Run> {
+    match Ties::new(alloc, &valid) {
+        Ok(ties) => Some(Run { valid, ties }),
+        Err(_) => None,
+    }
 }
 
 fn edit_of(alloc: Global, text: &str) -> Option<Edit>
@@ -57,23 +63,29 @@ fn edit_of(alloc: Global, text: &str) -> Option<Edit>
 }
 
 /// What comes of an edit. What it makes is kept.
-fn told(rt: &impl Abort, alloc: Global, run: &mut Run, text: &str) -> Result<(), TiedRefusal> {
-    let edit = edit_of(alloc, text).expect(rt, "an edit");
-    let (valid, ties) = apply_tied_edit(alloc, &run.valid, &run.ties, &edit)?;
+fn told(alloc: Global, run: &mut Run, edit: &Edit) -> Result<(), TiedRefusal>
+    requires { IsTrue (has_edit_form edit.now) }
+{
+    match apply_tied_edit(alloc, &run.valid, &run.ties, edit) {
+        Ok((valid, ties)) => {
+            keep(run, valid, ties);
+            Ok(())
+        }
+        Err(refusal) => Err(refusal),
+    }
+}
+
+fn keep(run: &mut Run, valid: Valid, ties: Ties) {
     run.valid = valid;
     run.ties = ties;
-    Ok(())
 }
 
-fn is_made(rt: &impl Abort, alloc: Global, run: &mut Run, text: &str) {
-    assert!(rt; told(rt, alloc, run, text) == Ok(()), "{text}");
-}
-
-fn is_refused(rt: &impl Abort, alloc: Global, run: &mut Run, text: &str, fault: TiedFault) {
-    assert!(rt;
-        told(rt, alloc, run, text) == Err(TiedRefusal::Edit(fault)),
-        "{text}"
-    );
+/// Whether this comes of the edit that is spelled so.
+fn comes(alloc: Global, run: &mut Run, text: &str, answer: Result<(), TiedRefusal>) -> bool {
+    match edit_of(alloc, text) {
+        Some(edit) => told(alloc, run, &edit) == answer,
+        None => false,
+    }
 }
 
 const RED: InstanceId = InstanceId(1);
@@ -81,22 +93,6 @@ const RED: InstanceId = InstanceId(1);
 const BLUE: InstanceId = InstanceId(2);
 
 const GREEN: InstanceId = InstanceId(3);
-
-/// The network to which a port is tied, if to one.
-fn ties_port(rt: &impl Abort, ties: &Ties, port: u32, network: Option<InstanceId>) {
-    assert!(rt; ties.port(PortNo(port)) == network, "{port}");
-}
-
-/// The use 7 is tied to red and blue.
-fn ties_use(rt: &impl Abort, ties: &Ties) {
-    assert!(rt; ties.chain_use(7) == Some((RED, BLUE)));
-}
-
-/// Red and blue were related.
-fn relates(rt: &impl Abort, ties: &Ties) {
-    assert!(rt; ties.was_related(RED, BLUE));
-    assert!(rt; ties.was_related(BLUE, RED));
-}
 
 const CONTROLLER: Addr = Addr(0xc000_0201);
 
@@ -108,68 +104,40 @@ const THIRD: Addr = Addr(0xc000_020d);
 
 const FOURTH: Addr = Addr(0xc000_020e);
 
-/// A name and an address are tied to each other.
-fn ties_node(rt: &impl Abort, ties: &Ties, name: &str, address: Addr) {
-    let name = Name::new(name).expect(rt, "a name");
-    assert!(rt; ties.address(&name) == Some(address), "{name}");
-    assert!(rt; ties.name(address) == Some(name), "{name}");
-}
-
-/// Neither a name nor an address is tied.
-fn ties_nothing_of(rt: &impl Abort, ties: &Ties, name: &str, address: Addr) {
-    let name = Name::new(name).expect(rt, "a name");
-    assert!(rt; ties.address(&name).is_none(), "{name}");
-    assert!(rt; ties.name(address).is_none(), "{name}");
-}
-
-fn tie_what_stands(rt: &impl Abort, ties: &Ties) {
-    ties_port(rt, ties, 1, Some(RED));
-    ties_port(rt, ties, 2, Some(BLUE));
-    ties_port(rt, ties, 3, None);
-    ties_use(rt, ties);
-    assert!(rt; ties.chain_use(0).is_none());
-    relates(rt, ties);
-    assert!(rt; !ties.was_related(RED, RED));
-    assert!(rt; !ties.was_related(RED, GREEN));
-    ties_node(rt, ties, "n1", FIRST);
-    ties_node(rt, ties, "n2", SECOND);
-    ties_nothing_of(rt, ties, "n3", THIRD);
-    ties_nothing_of(rt, ties, "c1", CONTROLLER);
-}
-
 /// What happens to what is valid, with its ties.
-#[derive(Clone, Copy)]
-enum Scene {
-    TieWhatStands,
-    AnswerAfterRules,
-    StayTied,
-    StayBetweenNetworks,
-    TryPortsFirst,
-    StayAtAddresses,
-    StayAtAddressesThatAreGone,
+enum Step {
+    /// An edit is made.
+    Make(&'static str),
+    /// An edit is refused, for it deletes the port vm9, which there is not.
+    Miss(&'static str),
+    /// An edit is refused, for the port vm2 would be outside of its network.
+    Stray(&'static str),
+    /// An edit is refused, for it would break a tie.
+    Break(&'static str, Tie),
+    /// The rule of `led` is put again, from one network to another.
+    Lead(&'static str, &'static str),
+    /// That would break the tie of its use.
+    LeadInVain(&'static str, &'static str),
+    /// A compute node of a name is put at an address.
+    Node(&'static str, &'static str),
+    /// That would break the tie of an address.
+    NodeInVain(&'static str, &'static str, Addr),
+    /// This is seen of the ties.
+    See(Seen),
 }
 
-fn happen(rt: &impl Abort, alloc: Global, scene: Scene, run: &mut Run) {
-    match scene {
-        Scene::TieWhatStands => tie_what_stands(rt, &run.ties),
-        Scene::AnswerAfterRules => answer_after_rules(rt, alloc, run),
-        Scene::StayTied => stay_tied(rt, alloc, run),
-        Scene::StayBetweenNetworks => stay_between_networks(rt, alloc, run),
-        Scene::TryPortsFirst => try_ports_first(rt, alloc, run),
-        Scene::StayAtAddresses => stay_at_addresses(rt, alloc, run),
-        Scene::StayAtAddressesThatAreGone => stay_at_addresses_that_are_gone(rt, alloc, run),
-    }
-}
-
-/// It happens to the document.
-fn in_a_run(rt: &impl Abort, alloc: Global, scene: Scene) {
-    let mut run = opened(alloc).expect(rt, "a valid document");
-    happen(rt, alloc, scene, &mut run);
-}
-
-#[test]
-fn ties_are_of_what_stands_in_a_configuration(rt: HostRuntime) {
-    in_a_run(&rt, rt.alloc(), Scene::TieWhatStands);
+/// What is seen of ties.
+enum Seen {
+    /// A port is tied to a network, or to none.
+    Port(u32, Option<InstanceId>),
+    /// A chain's use is tied to two networks, or to none.
+    Use(u16, Option<(InstanceId, InstanceId)>),
+    /// Two networks were related, or weren't.
+    Related(InstanceId, InstanceId, bool),
+    /// A name and an address are tied to each other.
+    Tied(&'static str, Addr),
+    /// Neither a name nor an address is tied.
+    Free(&'static str, Addr),
 }
 
 const NO_PORT: &str = r#"{"delete":{"port":"vm9"}}"#;
@@ -183,59 +151,25 @@ const PORT_MOVED: &str =
 const PORT_AS_IT_WAS: &str =
     r#"{"put":{"port":{"name":"vm2","id":2,"network":"blue","address":"10.2.0.2","node":"n2"}}}"#;
 
-fn answer_after_rules(rt: &impl Abort, alloc: Global, run: &mut Run) {
-    let name = Name::new("vm9").expect(rt, "a name");
+fn is_missing(alloc: Global, run: &mut Run, text: &str) -> bool {
+    let Some(name) = Name::new("vm9") else {
+        return false;
+    };
     let missing = TiedFault::Edit(EditFault::Missing { name });
-    is_refused(rt, alloc, run, NO_PORT, missing);
-    let port = Name::new("vm2").expect(rt, "a name");
+    comes(alloc, run, text, Err(TiedRefusal::Edit(missing)))
+}
+
+fn is_outside(alloc: Global, run: &mut Run, text: &str) -> bool {
+    let Some(port) = Name::new("vm2") else {
+        return false;
+    };
     let outside = TiedFault::Edit(EditFault::Rule(Refusal::AddressOutside { port }));
-    is_refused(rt, alloc, run, PORT_OUTSIDE, outside);
-    port_is_tied(rt, alloc, run);
-    is_made(rt, alloc, run, PORT_AS_IT_WAS);
+    comes(alloc, run, text, Err(TiedRefusal::Edit(outside)))
 }
 
-/// The second port cannot move to red.
-fn port_is_tied(rt: &impl Abort, alloc: Global, run: &mut Run) {
-    is_refused(
-        rt,
-        alloc,
-        run,
-        PORT_MOVED,
-        TiedFault::Tied(Tie::Port(PortNo(2))),
-    );
-}
-
-#[test]
-fn edits_are_answered_after_their_rules_by_ties(rt: HostRuntime) {
-    in_a_run(&rt, rt.alloc(), Scene::AnswerAfterRules);
-}
-
-/// The second port and `led` go, red attaches no policy any more, and green has a port.
-const GONE: [&str; 4] = [
-    r#"{"delete":{"port":"vm2"}}"#,
-    r#"{"put":{"network":{"name":"red","id":1,"subnets":["10.1.0.0/24"],"policies":[]}}}"#,
-    r#"{"delete":{"policy":"led"}}"#,
-    r#"{"put":{"port":{"name":"vm3","id":3,"network":"green","address":"10.3.0.3","node":"n1"}}}"#,
-];
-
-fn tie_what_is_gone(rt: &impl Abort, ties: &Ties) {
-    ties_port(rt, ties, 2, Some(BLUE));
-    ties_port(rt, ties, 3, Some(GREEN));
-    relates(rt, ties);
-    ties_use(rt, ties);
-}
-
-fn stay_tied(rt: &impl Abort, alloc: Global, run: &mut Run) {
-    for text in &GONE {
-        is_made(rt, alloc, run, text);
-    }
-    tie_what_is_gone(rt, &run.ties);
-    port_is_tied(rt, alloc, run);
-}
-
-#[test]
-fn what_is_gone_stays_tied(rt: HostRuntime) {
-    in_a_run(&rt, rt.alloc(), Scene::StayTied);
+/// What comes of an edit that would break a tie.
+fn broken(tie: Tie) -> Result<(), TiedRefusal> {
+    Err(TiedRefusal::Edit(TiedFault::Tied(tie)))
 }
 
 /// The rule of `led` again, from one network to another.
@@ -246,39 +180,17 @@ fn led(alloc: Global, from: &str, to: &str) -> Option<String> {
     format!(in alloc; r#"{head}"source":"{from}","destination":"{to}",{rest}"#).ok()
 }
 
-fn use_is_tied(rt: &impl Abort, alloc: Global, run: &mut Run, text: &str) {
-    is_refused(rt, alloc, run, text, TiedFault::Tied(Tie::ChainUse(7)));
-}
-
-/// The rule from one network to another breaks the tie of its use.
-fn led_is_tied(rt: &impl Abort, alloc: Global, run: &mut Run, from: &str, to: &str) {
-    let text = led(alloc, from, to).expect(rt, "memory");
-    use_is_tied(rt, alloc, run, text.as_str());
-}
-
-fn stay_between_networks(rt: &impl Abort, alloc: Global, run: &mut Run) {
-    led_is_tied(rt, alloc, run, "blue", "red");
-    led_is_tied(rt, alloc, run, "red", "green");
-    let as_it_was = led(alloc, "red", "blue").expect(rt, "memory");
-    is_made(rt, alloc, run, as_it_was.as_str());
-}
-
-#[test]
-fn a_use_stays_between_its_networks(rt: HostRuntime) {
-    in_a_run(&rt, rt.alloc(), Scene::StayBetweenNetworks);
-}
-
-const NUMBER_CHANGED: &str =
-    r#"{"put":{"network":{"name":"red","id":9,"subnets":["10.1.0.0/24"],"policies":["web"]}}}"#;
-
-fn try_ports_first(rt: &impl Abort, alloc: Global, run: &mut Run) {
-    let tied = TiedFault::Tied(Tie::Port(PortNo(1)));
-    is_refused(rt, alloc, run, NUMBER_CHANGED, tied);
-}
-
-#[test]
-fn ports_are_tried_before_uses(rt: HostRuntime) {
-    in_a_run(&rt, rt.alloc(), Scene::TryPortsFirst);
+fn leads(
+    alloc: Global,
+    run: &mut Run,
+    from: &str,
+    to: &str,
+    answer: Result<(), TiedRefusal>,
+) -> bool {
+    match led(alloc, from, to) {
+        Some(text) => comes(alloc, run, text.as_str(), answer),
+        None => false,
+    }
 }
 
 /// A put of a compute node.
@@ -288,51 +200,198 @@ fn node_put(alloc: Global, name: &str, address: &str) -> Option<String> {
     format!(in alloc; r#"{head}"name":"{name}","address":"{address}",{rest}"#).ok()
 }
 
-fn node_is_put(rt: &impl Abort, alloc: Global, run: &mut Run, name: &str, address: &str) {
-    let text = node_put(alloc, name, address).expect(rt, "memory");
-    is_made(rt, alloc, run, text.as_str());
-}
-
-/// The compute node of a name cannot be at an address.
-fn node_is_tied(
-    rt: &impl Abort,
+fn puts_node(
     alloc: Global,
     run: &mut Run,
     name: &str,
     address: &str,
-    tied: Addr,
-) {
-    let text = node_put(alloc, name, address).expect(rt, "memory");
-    let fault = TiedFault::Tied(Tie::Node(tied));
-    is_refused(rt, alloc, run, text.as_str(), fault);
+    answer: Result<(), TiedRefusal>,
+) -> bool {
+    match node_put(alloc, name, address) {
+        Some(text) => comes(alloc, run, text.as_str(), answer),
+        None => false,
+    }
 }
 
-fn stay_at_addresses(rt: &impl Abort, alloc: Global, run: &mut Run) {
-    node_is_tied(rt, alloc, run, "n2", "192.0.2.13", THIRD);
-    node_is_put(rt, alloc, run, "n2", "192.0.2.12");
-    node_is_put(rt, alloc, run, "n3", "192.0.2.13");
-    ties_node(rt, &run.ties, "n3", THIRD);
-    node_is_tied(rt, alloc, run, "n3", "192.0.2.14", FOURTH);
-    ties_node(rt, &run.ties, "n3", THIRD);
+/// Whether an edit comes to what it is to come to, or what is to be seen is seen.
+fn takes(alloc: Global, run: &mut Run, step: &Step) -> bool {
+    match step {
+        Step::Make(text) => comes(alloc, run, text, Ok(())),
+        Step::Miss(text) => is_missing(alloc, run, text),
+        Step::Stray(text) => is_outside(alloc, run, text),
+        Step::Break(text, tie) => comes(alloc, run, text, broken(*tie)),
+        Step::See(seen) => sees(&run.ties, seen),
+        _ => puts(alloc, run, step),
+    }
 }
+
+/// The same of an edit that is put together of names.
+fn puts(alloc: Global, run: &mut Run, step: &Step) -> bool {
+    match step {
+        Step::Lead(from, to) => leads(alloc, run, from, to, Ok(())),
+        Step::LeadInVain(from, to) => leads(alloc, run, from, to, broken(Tie::ChainUse(7))),
+        Step::Node(name, address) => puts_node(alloc, run, name, address, Ok(())),
+        Step::NodeInVain(name, address, tied) => {
+            puts_node(alloc, run, name, address, broken(Tie::Node(*tied)))
+        }
+        _ => false,
+    }
+}
+
+/// Whether this is seen of ties.
+fn sees(ties: &Ties, seen: &Seen) -> bool {
+    match seen {
+        Seen::Port(port, network) => ties.port(PortNo(*port)) == *network,
+        Seen::Use(number, networks) => ties.chain_use(*number) == *networks,
+        Seen::Related(one, other, is_so) => ties.was_related(*one, *other) == *is_so,
+        Seen::Tied(name, address) => ties_node(ties, name, *address),
+        Seen::Free(name, address) => ties_nothing_of(ties, name, *address),
+    }
+}
+
+fn ties_node(ties: &Ties, name: &str, address: Addr) -> bool {
+    match Name::new(name) {
+        Some(name) => ties.address(&name) == Some(address) && ties.name(address) == Some(name),
+        None => false,
+    }
+}
+
+fn ties_nothing_of(ties: &Ties, name: &str, address: Addr) -> bool {
+    match Name::new(name) {
+        Some(name) => ties.address(&name).is_none() && ties.name(address).is_none(),
+        None => false,
+    }
+}
+
+fn take_all(alloc: Global, run: &mut Run, steps: &[Step]) -> Outcome {
+    for (place, step) in steps.iter().enumerate() {
+        if !takes(alloc, run, step) {
+            return Outcome::Differs(place);
+        }
+    }
+    Outcome::AllHold
+}
+
+/// What steps come to, from the document on.
+fn in_a_run(alloc: Global, steps: &[Step]) -> Outcome {
+    match opened(alloc) {
+        Some(mut run) => take_all(alloc, &mut run, steps),
+        None => Outcome::NoDocument,
+    }
+}
+
+/// Red and blue were related.
+const RELATED: Step = Step::See(Seen::Related(RED, BLUE, true));
+
+const RELATED_BACK: Step = Step::See(Seen::Related(BLUE, RED, true));
+
+/// The use 7 is tied to red and blue.
+const USE_TIED: Step = Step::See(Seen::Use(7, Some((RED, BLUE))));
+
+static WHAT_STANDS: [Step; 13] = [
+    Step::See(Seen::Port(1, Some(RED))),
+    Step::See(Seen::Port(2, Some(BLUE))),
+    Step::See(Seen::Port(3, None)),
+    USE_TIED,
+    Step::See(Seen::Use(0, None)),
+    RELATED,
+    RELATED_BACK,
+    Step::See(Seen::Related(RED, RED, false)),
+    Step::See(Seen::Related(RED, GREEN, false)),
+    Step::See(Seen::Tied("n1", FIRST)),
+    Step::See(Seen::Tied("n2", SECOND)),
+    Step::See(Seen::Free("n3", THIRD)),
+    Step::See(Seen::Free("c1", CONTROLLER)),
+];
+
+#[test]
+fn ties_are_of_what_stands_in_a_configuration(rt: HostRuntime) {
+    all_hold(&rt, in_a_run(rt.alloc(), &WHAT_STANDS));
+}
+
+/// The second port cannot move to red.
+const PORT_TIED: Step = Step::Break(PORT_MOVED, Tie::Port(PortNo(2)));
+
+static AFTER_RULES: [Step; 4] = [
+    Step::Miss(NO_PORT),
+    Step::Stray(PORT_OUTSIDE),
+    PORT_TIED,
+    Step::Make(PORT_AS_IT_WAS),
+];
+
+#[test]
+fn edits_are_answered_after_their_rules_by_ties(rt: HostRuntime) {
+    all_hold(&rt, in_a_run(rt.alloc(), &AFTER_RULES));
+}
+
+/// The second port and `led` go, red attaches no policy any more, and green has a port.
+static GONE: [Step; 10] = [
+    Step::Make(r#"{"delete":{"port":"vm2"}}"#),
+    Step::Make(
+        r#"{"put":{"network":{"name":"red","id":1,"subnets":["10.1.0.0/24"],"policies":[]}}}"#,
+    ),
+    Step::Make(r#"{"delete":{"policy":"led"}}"#),
+    Step::Make(
+        r#"{"put":{"port":{"name":"vm3","id":3,"network":"green","address":"10.3.0.3","node":"n1"}}}"#,
+    ),
+    Step::See(Seen::Port(2, Some(BLUE))),
+    Step::See(Seen::Port(3, Some(GREEN))),
+    RELATED,
+    RELATED_BACK,
+    USE_TIED,
+    PORT_TIED,
+];
+
+#[test]
+fn what_is_gone_stays_tied(rt: HostRuntime) {
+    all_hold(&rt, in_a_run(rt.alloc(), &GONE));
+}
+
+static BETWEEN_NETWORKS: [Step; 3] = [
+    Step::LeadInVain("blue", "red"),
+    Step::LeadInVain("red", "green"),
+    Step::Lead("red", "blue"),
+];
+
+#[test]
+fn a_use_stays_between_its_networks(rt: HostRuntime) {
+    all_hold(&rt, in_a_run(rt.alloc(), &BETWEEN_NETWORKS));
+}
+
+const NUMBER_CHANGED: &str =
+    r#"{"put":{"network":{"name":"red","id":9,"subnets":["10.1.0.0/24"],"policies":["web"]}}}"#;
+
+static PORTS_FIRST: [Step; 1] = [Step::Break(NUMBER_CHANGED, Tie::Port(PortNo(1)))];
+
+#[test]
+fn ports_are_tried_before_uses(rt: HostRuntime) {
+    all_hold(&rt, in_a_run(rt.alloc(), &PORTS_FIRST));
+}
+
+static AT_ADDRESSES: [Step; 6] = [
+    Step::NodeInVain("n2", "192.0.2.13", THIRD),
+    Step::Node("n2", "192.0.2.12"),
+    Step::Node("n3", "192.0.2.13"),
+    Step::See(Seen::Tied("n3", THIRD)),
+    Step::NodeInVain("n3", "192.0.2.14", FOURTH),
+    Step::See(Seen::Tied("n3", THIRD)),
+];
 
 #[test]
 fn a_compute_node_stays_at_its_address(rt: HostRuntime) {
-    in_a_run(&rt, rt.alloc(), Scene::StayAtAddresses);
+    all_hold(&rt, in_a_run(rt.alloc(), &AT_ADDRESSES));
 }
 
-const NODE_DELETED: &str = r#"{"delete":{"node":"n3"}}"#;
-
-fn stay_at_addresses_that_are_gone(rt: &impl Abort, alloc: Global, run: &mut Run) {
-    node_is_put(rt, alloc, run, "n3", "192.0.2.13");
-    is_made(rt, alloc, run, NODE_DELETED);
-    ties_node(rt, &run.ties, "n3", THIRD);
-    node_is_tied(rt, alloc, run, "n3", "192.0.2.14", FOURTH);
-    node_is_tied(rt, alloc, run, "n4", "192.0.2.13", THIRD);
-    node_is_put(rt, alloc, run, "n3", "192.0.2.13");
-}
+static AT_ADDRESSES_THAT_ARE_GONE: [Step; 6] = [
+    Step::Node("n3", "192.0.2.13"),
+    Step::Make(r#"{"delete":{"node":"n3"}}"#),
+    Step::See(Seen::Tied("n3", THIRD)),
+    Step::NodeInVain("n3", "192.0.2.14", FOURTH),
+    Step::NodeInVain("n4", "192.0.2.13", THIRD),
+    Step::Node("n3", "192.0.2.13"),
+];
 
 #[test]
 fn a_compute_node_that_is_gone_stays_tied(rt: HostRuntime) {
-    in_a_run(&rt, rt.alloc(), Scene::StayAtAddressesThatAreGone);
+    all_hold(&rt, in_a_run(rt.alloc(), &AT_ADDRESSES_THAT_ARE_GONE));
 }

@@ -11,3 +11,5 @@ mod refusals;
 mod sentences;
 #[cfg(test)]
 mod stops;
+#[cfg(test)]
+mod wanted;

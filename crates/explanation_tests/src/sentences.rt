@@ -15,15 +15,23 @@ fn each_kind_of_fault_has_a_sentence(rt: HostRuntime) {
     for (line, sentence) in [
         (
             "bad document packets Missing\n",
-            "overlay: packets is missing, and the form wants it\n",
+            "overlay: packets is missing, and the form wants it: a list\n",
         ),
         (
             "bad document Kind\n",
-            "overlay: the document is a JSON value of another kind than the form wants there\n",
+            "overlay: the document is a JSON value of another kind than the form wants there: an object\n",
+        ),
+        (
+            "bad document topology.as Kind\n",
+            "overlay: topology.as is a JSON value of another kind than the form wants there: a whole number from 1 to 4294967294, neither 23456 nor 65535\n",
         ),
         (
             "bad document configuration.networks[0].id Range\n",
-            "overlay: configuration.networks[0].id is outside what the form allows there (docs/FORMATS.md)\n",
+            "overlay: configuration.networks[0].id is outside what the form allows there: a whole number from 1 to 16383\n",
+        ),
+        (
+            "bad document groups[0].id Missing\n",
+            "overlay: groups[0].id is missing, and the form wants it: docs/FORMATS.md has it\n",
         ),
         (
             "bad document topology.Kind Range Unknown\n",

@@ -23,10 +23,6 @@ fn a_document_that_is_no_json_stops_at_a_line_and_a_column(rt: HostRuntime) {
             "overlay: the input is no JSON, and reading it stopped at line 2, column 7\n",
         ),
         (
-            "",
-            "overlay: the input is no JSON, and reading it stopped at line 1, column 1\n",
-        ),
-        (
             "[1, 2]\n\n  ]\n",
             "overlay: the input is no JSON, and reading it stopped at line 3, column 3\n",
         ),
@@ -38,6 +34,32 @@ fn a_document_that_is_no_json_stops_at_a_line_and_a_column(rt: HostRuntime) {
         let heard = document(&rt, rt.alloc(), text.as_bytes());
         says(&rt, rt.alloc(), &heard, sentence);
     }
+}
+
+/// This is said of a document of these octets.
+fn says_of(rt: &impl Abort, alloc: Global, octets: &[u8], sentence: &str) {
+    let heard = document(rt, alloc, octets);
+    says(rt, alloc, &heard, sentence);
+}
+
+#[test]
+fn an_empty_document_is_told_so(rt: HostRuntime) {
+    let sentence = "overlay: the input is empty: give it a document, as those of examples/\n";
+    says_of(&rt, rt.alloc(), b"", sentence);
+    let sentence = "overlay: the input is no JSON, and reading it stopped at line 2, column 1\n";
+    says_of(&rt, rt.alloc(), b"\n", sentence);
+}
+
+#[test]
+fn a_byte_order_mark_is_told(rt: HostRuntime) {
+    let sentence =
+        "overlay: the input begins with a byte order mark, which is no JSON: leave it out\n";
+    says_of(&rt, rt.alloc(), b"\xef\xbb\xbf{}", sentence);
+    says_of(&rt, rt.alloc(), b"\xef\xbb\xbf", sentence);
+    let sentence = "overlay: the input is no JSON, and reading it stopped at line 1, column 2\n";
+    says_of(&rt, rt.alloc(), b" \xef\xbb\xbf{}", sentence);
+    let sentence = "overlay: the input is no JSON, and reading it stopped at line 1, column 1\n";
+    says_of(&rt, rt.alloc(), b"\xef\xbb", sentence);
 }
 
 #[test]

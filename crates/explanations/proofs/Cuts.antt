@@ -1,7 +1,6 @@
 -- Texts that are cut at blanks.
-use Rattle.std.proofs.Common.{◌≡◌, ℕ, ◌+◌, ◌-◌, ◌&&◌, ◌==◌, Bool, true, false, not, nat_lt, nat_eq, eqb, List, [], ◌∷◌, ◌++◌, length, length-append, take, drop, refl, sym, ap, ◌∙◌, arith, add-one, codes, Option, Some, None, option_map, Bor}
+use Rattle.std.proofs.Common.{◌≡◌, ℕ, ◌+◌, ◌-◌, ◌==◌, true, false, nat_lt, List, [], ◌∷◌, ◌++◌, length, length-append, take, drop, refl, ap, ◌∙◌, arith, add-one, codes, option_map}
 use Rattle.std.specs.List.{list_all, position_or_len}
-use Rattle.std.specs.Str.{IsUtf8}
 use Rattle.std.proofs.lemmas.Bool.{and_parts, ltb-true, ne_eqb}
 use Rattle.std.proofs.lemmas.List.{take_all, take_at, drop_at}
 use Rattle.std.proofs.lemmas.List.Folds.{list_all-append}
@@ -31,7 +30,7 @@ no_place (c ∷ w) h =
     let p = and_parts (plain c) (list_all plain w) h in
     rw (other_than_blank c p.0, no_place w p.1) (omega arith)
 
-past_first : (xs : List ℕ) (c : ℕ) (ys : List ℕ) → drop (length xs + 1) (xs ++ c ∷ ys) ≡ ys
+pub past_first : (xs : List ℕ) (c : ℕ) (ys : List ℕ) → drop (length xs + 1) (xs ++ c ∷ ys) ≡ ys
 past_first [] c ys = refl
 past_first (x ∷ xs) c ys = rw add-one (rw add-one at (past_first xs c ys))
 

@@ -1,5 +1,5 @@
 -- The line of each refusal is read as its rule and its objects.
-use Rattle.std.proofs.Common.{◌≡◌, ℕ, List, [], ◌∷◌, ◌++◌, codes, refl, ◌∙◌, arith, Some, ◌<◌, ◌^◌, IsTrue, decimal}
+use Rattle.std.proofs.Common.{◌≡◌, ℕ, List, [], ◌∷◌, ◌++◌, codes, refl, ◌∙◌, arith, Some, ◌<◌, ◌^◌}
 use Rattle.config_check.specs.Texts.{id_text, id_word, limit_word}
 use Rattle.config_check.specs.declared.refusal.IdKind.{IdKind}
 use Rattle.config_check.specs.declared.refusal.IdKind.TheVariants as Id
@@ -11,7 +11,6 @@ use Rattle.explanations.specs.Sentences.{rule_named}
 use Rattle.explanations.specs.Told.{RefusalsAreTold}
 use Rattle.explanations.proofs.Cuts.{ascii_two, line_has, one_object, three_objects, two_objects}
 use Rattle.explanations.proofs.Plain.{IsPlain, address_is_plain, decimal_is_plain, name_is_plain, plain_is_ascii, prefix_is_plain, rule_is_plain}
-use Rattle.explanations.specs.Refusals.{RefusedWords}
 use Rattle.explanations.specs.declared.rule.RuleKind.{RuleKind}
 
 limit_is_plain : (what : LimitKind) → IsPlain (limit_word what)

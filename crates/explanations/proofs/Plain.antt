@@ -1,5 +1,5 @@
 -- Texts of names, numbers, addresses and prefixes are plain: they have no blank, and are US-ASCII.
-use Rattle.std.proofs.Common.{◌≡◌, ℕ, ◌+◌, ◌/◌, ◌%◌, ◌^◌, ◌<◌, ◌&&◌, Bool, true, IsTrue, nat_lt, List, [], ◌∷◌, ◌++◌, length, refl, ◌∙◌, arith, codes, decimal, ltb}
+use Rattle.std.proofs.Common.{◌≡◌, ℕ, ◌+◌, ◌/◌, ◌%◌, ◌^◌, ◌<◌, ◌&&◌, Bool, true, IsTrue, nat_lt, List, [], ◌∷◌, refl, ◌∙◌, arith, decimal}
 use Rattle.std.specs.List.{list_all}
 use Rattle.std.specs.Str.{IsAscii, IsUtf8}
 use Rattle.std.proofs.lemmas.Bool.{and_parts, ltb-true}

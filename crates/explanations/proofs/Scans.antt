@@ -28,7 +28,7 @@ next_is s (c ∷ text) = next_is (scan_after s c) text
 blank_is : (c : ℕ) → is_sound c ≡ true → is_hex_digit c ≡ false → is_blank c ≡ true
 blank_is c h e = rw e at h
 
-not_is_true : (b : Bool) → not b ≡ true → b ≡ false
+pub not_is_true : (b : Bool) → not b ≡ true → b ≡ false
 not_is_true true h = cc
 not_is_true false h = refl
 

@@ -1,5 +1,5 @@
 -- What places are, and what digits are at fault for, in plain words.
-use Rattle.std.specs.Prelude.{◌≡◌, ℕ, ◌+◌, ◌-◌, ◌^◌, ◌<◌, ◌==◌, ◌||◌, not, Bool, true, IsTrue, List, [], ◌∷◌, ◌++◌, length, Some, None, false}
+use Rattle.std.specs.Prelude.{◌≡◌, ℕ, ◌+◌, ◌-◌, ◌^◌, ◌<◌, ◌==◌, ◌||◌, not, Bool, true, List, [], ◌∷◌, ◌++◌, length, Some, None, false}
 use Rattle.std.specs.Prelude.{if◌then◌else◌}
 use Rattle.std.specs.List.{list_all}
 use Rattle.explanations.specs.Digits.{is_blank, is_hex_digit, nothing_scanned, scanned}

@@ -1,5 +1,6 @@
 -- What is said to people of a run: one line.
-use Rattle.std.specs.Prelude.{◌≡◌, ℕ, List, [], ◌∷◌, ◌++◌, codes, Option, Some, None, ◌⊎◌}
+use Rattle.std.specs.Prelude.{◌≡◌, ℕ, ◌==◌, List, [], ◌∷◌, ◌++◌, length, codes, Option, Some, None, ◌⊎◌}
+use Rattle.std.specs.Bool.{MatchBool}
 use Rattle.explanations.specs.Digits.{digit_sentence, nothing_scanned, scanned}
 use Rattle.explanations.specs.Form.{FormWords, form_fault_in, form_sentence}
 use Rattle.explanations.specs.Help.{advice_text}
@@ -7,6 +8,7 @@ use Rattle.explanations.specs.Places.{place_text}
 use Rattle.explanations.specs.Refusals.{RefusedWords, refused_in}
 use Rattle.explanations.specs.Sentences.{refused_sentence}
 use Rattle.explanations.specs.Stops.{IsJsonStop}
+use Rattle.explanations.specs.Words.{begins_so}
 use Rattle.explanations.specs.declared.digits.DigitFault.{DigitFault}
 use Rattle.explanations.specs.declared.ends.KeptInput.{KeptInput}
 use Rattle.explanations.specs.declared.ends.KeptInput.TheVariants as Kept
@@ -58,9 +60,23 @@ abbrev digits_said : Option DigitFault → List ℕ
 digits_said (Some fault) = said (digit_sentence fault)
 digits_said None = stop_advice
 
+-- octets that some editors put before a text
+abbrev byte_order_mark : List ℕ
+byte_order_mark = 239 ∷ (187 ∷ (191 ∷ []))
+
+-- where reading a document stopped that is no JSON, or what to give
+abbrev IsToldStop : List ℕ → List ℕ → Type 0
+IsToldStop octets text =
+    (text ≡ stop_advice) ⊎ ((place : TextPlace) × IsJsonStop octets place × (text ≡ said (json_sentence place)))
+
+-- what is said of a document that is no JSON: that it is empty, that a mark stands before it, or where reading it stopped
+abbrev pub IsDocumentStop : List ℕ → List ℕ → Type 0
+IsDocumentStop octets text =
+    MatchBool (length octets == 0) (text ≡ advised On.EmptyInput)
+    (MatchBool (begins_so byte_order_mark octets) (text ≡ advised On.ByteOrderMark) (IsToldStop octets text))
+
 -- what is said of an input that is no JSON, or no digits, by what was kept of it; without a place, what to give
 abbrev pub IsStop : KeptInput → List ℕ → Type 0
 IsStop Kept.Nothing text = text ≡ stop_advice
 IsStop (Kept.Digits kept) text = text ≡ digits_said (scanned nothing_scanned kept.items).fault
-IsStop (Kept.Document kept) text =
-    (text ≡ stop_advice) ⊎ ((place : TextPlace) × IsJsonStop kept.items place × (text ≡ said (json_sentence place)))
+IsStop (Kept.Document kept) text = IsDocumentStop kept.items text

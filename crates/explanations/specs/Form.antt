@@ -1,8 +1,9 @@
--- What is said of a document that breaks the form: which value, and how.
+-- What is said of a document that breaks the form: which value, how, and what the form wants there.
 use Rattle.std.specs.Prelude.{ℕ, List, [], ◌∷◌, ◌++◌, ◌==◌, length, drop, codes, Option, Some, None, if◌then◌else◌}
 use Rattle.explanations.specs.declared.form.FormFault.{FormFault}
 use Rattle.explanations.specs.declared.form.FormKind.{FormKind}
 use Rattle.explanations.specs.declared.form.FormKind.TheVariants.{Missing, Kind, Range, Unknown, Cut}
+use Rattle.explanations.specs.Wanted.{wanted_at}
 use Rattle.explanations.specs.Words.{begins_so, ends_so, utf8_front, without_end}
 
 -- a path, and how its value breaks the form
@@ -18,9 +19,11 @@ abbrev pub subject_of : List ℕ → List ℕ
 subject_of path = if length path == 0 then codes "the document" else path
 
 abbrev pub form_sentence : FormKind → List ℕ → List ℕ
-form_sentence Missing path = subject_of path ++ codes " is missing, and the form wants it"
-form_sentence Kind path = subject_of path ++ codes " is a JSON value of another kind than the form wants there"
-form_sentence Range path = subject_of path ++ codes " is outside what the form allows there (docs/FORMATS.md)"
+form_sentence Missing path = subject_of path ++ (codes " is missing, and the form wants it: " ++ wanted_at path)
+form_sentence Kind path =
+    subject_of path ++ (codes " is a JSON value of another kind than the form wants there: " ++ wanted_at path)
+form_sentence Range path =
+    subject_of path ++ (codes " is outside what the form allows there: " ++ wanted_at path)
 form_sentence Unknown path = subject_of path ++ codes " is a member that the form does not have there"
 form_sentence Cut path = path ++ codes ".. breaks the form; standard output has the whole path, and how"
 

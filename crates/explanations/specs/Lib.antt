@@ -4,9 +4,11 @@ pub mod Ends
 pub mod Explanations
 pub mod Form
 pub mod Help
+pub mod Leading
 pub mod Places
 pub mod Refusals
 pub mod Sentences
 pub mod Stops
 pub mod Told
+pub mod Wanted
 pub mod Words

@@ -1,7 +1,6 @@
 -- What the line of each refusal has to tell: its rule, and the texts of its objects.
-use Rattle.std.specs.Prelude.{◌≡◌, ℕ, ◌^◌, ◌<◌, ◌++◌, List, [], ◌∷◌, codes, decimal, IsTrue, Some, ⊤}
+use Rattle.std.specs.Prelude.{◌≡◌, ◌^◌, ◌<◌, ◌++◌, [], ◌∷◌, codes, IsTrue, Some, ⊤}
 use Rattle.ov_types.specs.Name.{is_name}
-use Rattle.ov_types.specs.Prefix.{Block}
 use Rattle.ov_types.specs.Rows.{rule_text}
 use Rattle.ov_types.specs.Texts.{prefix_text}
 use Rattle.ov_types.specs.declared.packet.RuleNo.{RuleNo}

@@ -1,6 +1,7 @@
 //! What is said to people of a run, in one sentence.
 ghost use Rattle.std.specs.Prelude.{◌≡◌};
-ghost use Rattle.explanations.specs.Explanations.{IsStop, explanation_text, form_explanation, refusal_explanation};
+ghost use Rattle.explanations.specs.Explanations.{IsDocumentStop, IsStop, explanation_text, form_explanation};
+ghost use Rattle.explanations.specs.Explanations.{refusal_explanation};
 
 use crate::digits::{DigitFault, digit_fault};
 use crate::ends::KeptInput;
@@ -43,7 +44,7 @@ impl fmt::Display for Explanation<'_> {
     }
 }
 
-/// Says where reading an input stopped that is no JSON, or no digits.
+/// Says why an input is no JSON, or no digits, and where reading it stopped.
 pub fn explain_stop(alloc: Global, heard: &KeptInput) -> Explanation<'static>
     ensures { IsStop heard.now (explanation_text result) }
 {
@@ -53,10 +54,24 @@ pub fn explain_stop(alloc: Global, heard: &KeptInput) -> Explanation<'static>
             Some(fault) => Explanation::DigitFault(fault),
             None => Explanation::Advice(Advice::NotJson),
         },
-        KeptInput::Document(octets) => match json_stop(alloc, octets.as_slice()) {
-            Some(place) => Explanation::JsonStop(place),
-            None => Explanation::Advice(Advice::NotJson),
-        },
+        KeptInput::Document(octets) => explain_document_stop(alloc, octets.as_slice()),
+    }
+}
+
+/// Says why a document is no JSON. An empty one, and one that begins with a byte order mark, are told so without a place,
+/// which would be the first octet's.
+fn explain_document_stop(alloc: Global, octets: &[u8]) -> Explanation<'static>
+    ensures { IsDocumentStop octets.now (explanation_text result) }
+{
+    if octets.is_empty() {
+        return Explanation::Advice(Advice::EmptyInput);
+    }
+    if octets.strip_prefix(b"\xef\xbb\xbf").is_some() {
+        return Explanation::Advice(Advice::ByteOrderMark);
+    }
+    match json_stop(alloc, octets) {
+        Some(place) => Explanation::JsonStop(place),
+        None => Explanation::Advice(Advice::NotJson),
     }
 }
 

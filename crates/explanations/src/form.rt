@@ -4,6 +4,7 @@ ghost use Rattle.explanations.specs.Form.{FormWords, form_fault_in, kind_at_end,
 ghost use Rattle.explanations.specs.Words.{utf8_front};
 
 use crate::text::utf8_front;
+use crate::wanted::wanted_at;
 use std::fmt;
 
 /// How a document breaks the form. `Cut` is where its line is longer than what was kept of it.
@@ -44,15 +45,24 @@ impl fmt::Display for FormFault<'_> {
         let path = self.path;
         let subject = subject_of(path);
         match self.kind {
-            FormKind::Missing => write!(f, "{subject} is missing, and the form wants it"),
-            FormKind::Kind => write!(
-                f,
-                "{subject} is a JSON value of another kind than the form wants there"
-            ),
-            FormKind::Range => write!(
-                f,
-                "{subject} is outside what the form allows there (docs/FORMATS.md)"
-            ),
+            FormKind::Missing => {
+                let wanted = wanted_at(path);
+                write!(f, "{subject} is missing, and the form wants it: {wanted}")
+            }
+            FormKind::Kind => {
+                let wanted = wanted_at(path);
+                write!(
+                    f,
+                    "{subject} is a JSON value of another kind than the form wants there: {wanted}"
+                )
+            }
+            FormKind::Range => {
+                let wanted = wanted_at(path);
+                write!(
+                    f,
+                    "{subject} is outside what the form allows there: {wanted}"
+                )
+            }
             FormKind::Unknown => write!(
                 f,
                 "{subject} is a member that the form does not have there"

@@ -66,6 +66,8 @@ pub enum Advice {
     ReadFault,
     TooLong,
     NotJson,
+    EmptyInput,
+    ByteOrderMark,
     BadDocument,
     Refused,
     WriteFault,
@@ -93,6 +95,9 @@ fn advice_text(advice: Advice) -> &'static str
             "the input has more than 16,777,216 octets: leave out what is not asked for, or make two of it",
         Advice::NotJson =>
             "the input cannot be read: give a JSON text, or for decode pairs of hexadecimal digits",
+        Advice::EmptyInput => "the input is empty: give it a document, as those of examples/",
+        Advice::ByteOrderMark =>
+            "the input begins with a byte order mark, which is no JSON: leave it out",
         Advice::BadDocument =>
             "the document breaks the form: docs/FORMATS.md has it, and docs/overlay.schema.json for an editor",
         Advice::Refused => "the configuration breaks a rule: docs/MODEL.md has the rules",

@@ -13,6 +13,7 @@ mod place;
 mod refused;
 mod rule;
 mod text;
+mod wanted;
 
 pub use digits::DigitFault;
 pub use ends::{FrontSink, HeardSource, KeptInput};
@@ -20,7 +21,10 @@ pub use explanation::{Explanation, explain_form, explain_refusal, explain_stop};
 pub use form::{FormFault, FormKind, form_fault_in};
 pub use help::{Advice, COMMANDS, HelpText, STATUSES, USAGE, UsageText};
 pub use json::json_stop;
-pub use laws::{columns_are_counted, digits_are_scanned, lines_are_counted, refusals_are_told};
+pub use laws::{
+    columns_are_counted, digits_are_scanned, lines_are_counted, paths_lead_to_phrases,
+    refusals_are_told,
+};
 pub use place::TextPlace;
 pub use refused::{Refused, refused_in};
 pub use rule::RuleKind;

@@ -5,30 +5,24 @@ use crate::{answers, configurations, readings, scenarios};
 use ov_io::TextOut;
 use std::alloc::Global;
 
-/// What stands before and after the first bar.
-fn halves(given: &str) -> Result<(&str, &str), CaseFault> {
-    given.split_once(" | ").ok_or(CaseFault::Unreadable)
-}
-
 /// What a case of this kind comes to.
 fn tell(alloc: Global, kind: &str, given: &str, out: &mut TextOut) -> Result<(), CaseFault> {
     match kind {
         "compile" => answers::tell_compile(alloc, given, out),
         "reach" => answers::tell_reach(alloc, given, out),
         "check" => configurations::tell_check(alloc, given, out),
-        "compiled" => {
-            let (front, document) = halves(given)?;
-            answers::tell_compiled(alloc, front, document, out)
-        }
-        "edited" => {
-            let (edit, document) = halves(given)?;
-            configurations::tell_edited(alloc, edit, document, out)
-        }
-        "scenario" => {
-            let (number, document) = halves(given)?;
-            scenarios::tell_scenario(alloc, number, document, out)
-        }
+        "compiled" | "edited" | "scenario" => tell_halves(alloc, kind, given, out),
         _ => readings::tell(alloc, kind, given, out),
+    }
+}
+
+/// The same, where a bar stands in what is given.
+fn tell_halves(alloc: Global, kind: &str, given: &str, out: &mut TextOut) -> Result<(), CaseFault> {
+    let (first, document) = given.split_once(" | ").ok_or(CaseFault::Unreadable)?;
+    match kind {
+        "compiled" => answers::tell_compiled(alloc, first, document, out),
+        "edited" => configurations::tell_edited(alloc, first, document, out),
+        _ => scenarios::tell_scenario(alloc, first, document, out),
     }
 }
 
@@ -37,10 +31,16 @@ fn tell(alloc: Global, kind: &str, given: &str, out: &mut TextOut) -> Result<(),
 /// A line is a kind, what is given, and behind `=>` what is wanted.
 pub(crate) fn holds(alloc: Global, line: &str, told: &mut TextOut) -> Result<bool, CaseFault> {
     let (case, wanted) = line.split_once(" => ").ok_or(CaseFault::Unreadable)?;
-    let (kind, given) = case.split_once(" ").ok_or(CaseFault::Unreadable)?;
     told.clear();
-    tell(alloc, kind, given, told)?;
+    tell_case(alloc, case, told)?;
     Ok(told.octets() == wanted.as_bytes())
+}
+
+fn tell_case(alloc: Global, case: &str, out: &mut TextOut) -> Result<(), CaseFault> {
+    match case.split_once(" ") {
+        Some((kind, given)) => tell(alloc, kind, given, out),
+        None => Err(CaseFault::Unreadable),
+    }
 }
 
 /// Whether a line has no case.

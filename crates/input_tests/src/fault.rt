@@ -58,3 +58,11 @@ impl From<ReadRefusal> for CaseFault {
         CaseFault::Unreadable
     }
 }
+
+/// What telling came to.
+pub(crate) fn told(answer: Result<(), NoMemory>) -> Result<(), CaseFault> {
+    match answer {
+        Ok(()) => Ok(()),
+        Err(_) => Err(CaseFault::NoMemory),
+    }
+}

@@ -1,6 +1,6 @@
 //! What is read of documents and of their parts.
 
-use crate::fault::CaseFault;
+use crate::fault::{CaseFault, told};
 use config_model::{
     DocFault, ReadRefusal, read_compile, read_config, read_edit, read_events, read_packet,
     read_reach, read_run, read_topology,
@@ -19,13 +19,17 @@ pub(crate) fn tell(
     out: &mut TextOut,
 ) -> Result<(), CaseFault> {
     let value = Value::from_str(alloc, text)?;
+    tell_part(alloc, part, &value, out)
+}
+
+fn tell_part(alloc: Global, part: &str, value: &Value, out: &mut TextOut) -> Result<(), CaseFault> {
     match part {
-        "topology" => push(read_topology(alloc, &value), out),
-        "config" => push(read_config(alloc, &value), out),
-        "packet" => push(read_packet(alloc, &value), out),
-        "edit" => push(read_edit(alloc, &value), out),
-        "events" => push(read_events(alloc, &value), out),
-        _ => tell_whole(alloc, part, &value, out),
+        "topology" => push(read_topology(alloc, value), out),
+        "config" => push(read_config(alloc, value), out),
+        "packet" => push(read_packet(alloc, value), out),
+        "edit" => push(read_edit(alloc, value), out),
+        "events" => push(read_events(alloc, value), out),
+        _ => tell_whole(alloc, part, value, out),
     }
 }
 
@@ -47,11 +51,10 @@ fn tell_whole(
 /// What was read, or the path and the kind of the fault.
 fn push<T: Debug + Drop>(read: Result<T, ReadRefusal>, out: &mut TextOut) -> Result<(), CaseFault> {
     match read {
-        Ok(value) => write!(out, "{value:?}")?,
-        Err(ReadRefusal::Doc(fault)) => push_fault(&fault, out)?,
-        Err(ReadRefusal::NoMemory) => return Err(CaseFault::NoMemory),
+        Ok(value) => told(write!(out, "{value:?}")),
+        Err(ReadRefusal::Doc(fault)) => told(push_fault(&fault, out)),
+        Err(ReadRefusal::NoMemory) => Err(CaseFault::NoMemory),
     }
-    Ok(())
 }
 
 fn push_fault(fault: &DocFault, out: &mut TextOut) -> Result<(), NoMemory> {

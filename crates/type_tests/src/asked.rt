@@ -3,13 +3,25 @@ use std::alloc::Global;
 use std::fmt::Display;
 use std::process::Abort;
 
-/// A value has this text.
-pub(crate) fn prints<T: Display>(rt: &impl Abort, alloc: Global, value: &T, text: &str) {
-    let printed = format!(in alloc; "{value}").expect(rt, "memory");
-    assert!(rt; printed.as_str() == text, "{printed}");
+/// A case, which is named, comes to what is wanted.
+pub(crate) fn holds(rt: &impl Abort, is_so: bool, case: &str) {
+    assert!(rt; is_so, "{case}");
 }
 
-/// A value is less than another.
-pub(crate) fn precedes<T: Ord>(rt: &impl Abort, value: &T, next: &T) {
-    assert!(rt; value < next);
+/// The case at a place of its table comes to what is wanted.
+pub(crate) fn holds_at(rt: &impl Abort, is_so: bool, place: usize) {
+    assert!(rt; is_so, "case {place}");
+}
+
+/// Whether a value has this text.
+pub(crate) fn prints<T: Display>(alloc: Global, value: &T, text: &str) -> bool {
+    match format!(in alloc; "{value}") {
+        Ok(printed) => printed.as_str() == text,
+        Err(_) => false,
+    }
+}
+
+/// Whether a value is less than another.
+pub(crate) fn precedes<T: Ord>(value: &T, next: &T) -> bool {
+    value < next
 }

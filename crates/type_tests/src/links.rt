@@ -1,161 +1,269 @@
 //! Links of queues.
+use crate::asked::{holds, holds_at};
 use ov_link::{FailingLink, Inbox, Link, LinkFault, Links, QueueLink, send_all};
 use ov_types::{Items, NoMemory};
 use std::alloc::Global;
 use std::process::Abort;
 
-/// A queue has so many messages, of which this is the first.
-fn has(rt: &impl Abort, link: &QueueLink, count: usize, first: Option<&[u8]>) {
-    assert!(rt; link.len() == count);
-    assert!(rt; link.front() == first);
+/// What is done with a queue, or what it has then.
+enum OfQueue {
+    Send(&'static [u8]),
+    /// This is taken out, or nothing.
+    Pop(Option<&'static [u8]>),
+    /// It has so many messages, of which this is the first.
+    Has(usize, Option<&'static [u8]>),
+    Clear,
 }
 
-fn send_two_and_take_one(rt: &impl Abort, link: &mut QueueLink) {
-    link.send(b"one").expect(rt, "memory");
-    link.send(b"").expect(rt, "memory");
-    has(rt, link, 2, Some(b"one"));
-    let popped = link.pop().expect(rt, "a message");
-    assert!(rt; popped.as_slice() == b"one".as_slice());
+static IN_ORDER: [OfQueue; 9] = [
+    OfQueue::Has(0, None),
+    OfQueue::Pop(None),
+    OfQueue::Send(b"one"),
+    OfQueue::Send(b""),
+    OfQueue::Has(2, Some(b"one")),
+    OfQueue::Pop(Some(b"one")),
+    OfQueue::Has(1, Some(b"")),
+    OfQueue::Clear,
+    OfQueue::Has(0, None),
+];
+
+fn pops(link: &mut QueueLink, message: Option<&[u8]>) -> bool {
+    match link.pop() {
+        Some(popped) => message == Some(popped.as_slice()),
+        None => message.is_none(),
+    }
 }
 
-fn queue_and_take(rt: &impl Abort, link: &mut QueueLink) {
-    has(rt, link, 0, None);
-    assert!(rt; link.pop().is_none());
-    send_two_and_take_one(rt, link);
-    has(rt, link, 1, Some(b""));
+fn has(link: &QueueLink, count: usize, first: Option<&[u8]>) -> bool {
+    link.len() == count && link.front() == first
+}
+
+fn clears(link: &mut QueueLink) -> bool {
     link.clear();
-    has(rt, link, 0, None);
+    true
+}
+
+fn takes(link: &mut QueueLink, step: &OfQueue) -> bool {
+    match step {
+        OfQueue::Send(message) => link.send(message).is_ok(),
+        OfQueue::Pop(message) => pops(link, *message),
+        OfQueue::Has(count, first) => has(link, *count, *first),
+        OfQueue::Clear => clears(link),
+    }
+}
+
+fn take_all(rt: &impl Abort, link: &mut QueueLink) {
+    for (place, step) in IN_ORDER.iter().enumerate() {
+        holds_at(rt, takes(link, step), place);
+    }
 }
 
 #[test]
 fn a_queue_keeps_its_messages_in_order(rt: HostRuntime) {
     let mut link = QueueLink::new(rt.alloc());
-    queue_and_take(&rt, &mut link);
+    take_all(&rt, &mut link);
 }
 
-/// Messages, each with what its send answers and how many breaks are then left.
-const SENDS: [(&[u8], Result<(), LinkFault>, usize); 5] = [
-    (b"1", Ok(()), 2),
-    (b"2", Err(LinkFault::Failed), 1),
-    (b"3", Ok(()), 1),
-    (b"4", Err(LinkFault::Failed), 0),
-    (b"5", Ok(()), 0),
+/// What is done with a queue on which sends fail at times, or what it has then.
+enum OfFailing {
+    /// The nth send from now on fails.
+    Break(u32),
+    /// A send answers so, and so many breaks are then left.
+    Send(&'static [u8], Result<(), LinkFault>, usize),
+    /// This is taken out.
+    Pop(&'static [u8]),
+    /// It has so many messages, of which this is the first.
+    Has(usize, Option<&'static [u8]>),
+    /// No send fails any more.
+    DropBreaks,
+    Clear,
+}
+
+static EACH_COUNTS: [OfFailing; 12] = [
+    OfFailing::Break(2),
+    OfFailing::Break(4),
+    OfFailing::Send(b"1", Ok(()), 2),
+    OfFailing::Send(b"2", Err(LinkFault::Failed), 1),
+    OfFailing::Send(b"3", Ok(()), 1),
+    OfFailing::Send(b"4", Err(LinkFault::Failed), 0),
+    OfFailing::Send(b"5", Ok(()), 0),
+    OfFailing::Has(3, Some(b"1")),
+    OfFailing::Pop(b"1"),
+    OfFailing::Has(2, Some(b"3")),
+    OfFailing::Clear,
+    OfFailing::Has(0, None),
 ];
 
-/// A send answers so, and so many breaks are then left.
+static USED_UP: [OfFailing; 6] = [
+    OfFailing::Break(2),
+    OfFailing::Send(b"1", Ok(()), 1),
+    OfFailing::Break(1),
+    OfFailing::Send(b"2", Err(LinkFault::Failed), 0),
+    OfFailing::Break(3),
+    OfFailing::DropBreaks,
+];
+
+fn breaks(link: &mut FailingLink, n: u32) -> bool {
+    if n < 1 {
+        return false;
+    }
+    link.add_break(n).is_ok()
+}
+
 fn sends(
-    rt: &impl Abort,
     link: &mut FailingLink,
     message: &[u8],
     answer: Result<(), LinkFault>,
     left: usize,
-) {
-    assert!(rt; link.send(message) == answer);
-    assert!(rt; link.breaks() == left);
+) -> bool {
+    link.send(message) == answer && link.breaks() == left
 }
 
-fn send_over_breaks(rt: &impl Abort, link: &mut FailingLink) {
-    link.add_break(2).expect(rt, "memory");
-    link.add_break(4).expect(rt, "memory");
-    for (message, answer, left) in SENDS {
-        sends(rt, link, message, answer, left);
+fn pops_off(link: &mut FailingLink, message: &[u8]) -> bool {
+    match link.pop() {
+        Some(popped) => popped.as_slice() == message,
+        None => false,
     }
 }
 
-fn take_what_was_sent(rt: &impl Abort, link: &mut FailingLink) {
-    assert!(rt; link.len() == 3);
-    let popped = link.pop().expect(rt, "a message");
-    assert!(rt; popped.as_slice() == b"1".as_slice());
-    assert!(rt; link.front() == Some(b"3".as_slice()));
+fn has_left(link: &FailingLink, count: usize, first: Option<&[u8]>) -> bool {
+    link.len() == count && link.front() == first
+}
+
+fn drops_breaks(link: &mut FailingLink) -> bool {
+    link.drop_breaks();
+    link.breaks() == 0
+}
+
+fn clears_off(link: &mut FailingLink) -> bool {
     link.clear();
-    assert!(rt; link.len() == 0);
+    true
+}
+
+fn goes(link: &mut FailingLink, step: &OfFailing) -> bool {
+    match step {
+        OfFailing::Break(n) => breaks(link, *n),
+        OfFailing::Send(message, answer, left) => sends(link, message, *answer, *left),
+        OfFailing::Pop(message) => pops_off(link, message),
+        OfFailing::Has(count, first) => has_left(link, *count, *first),
+        OfFailing::DropBreaks => drops_breaks(link),
+        OfFailing::Clear => clears_off(link),
+    }
+}
+
+fn go(rt: &impl Abort, link: &mut FailingLink, steps: &[OfFailing]) {
+    for (place, step) in steps.iter().enumerate() {
+        holds_at(rt, goes(link, step), place);
+    }
 }
 
 #[test]
 fn each_break_counts_every_send(rt: HostRuntime) {
     let mut link = FailingLink::new(rt.alloc());
-    send_over_breaks(&rt, &mut link);
-    take_what_was_sent(&rt, &mut link);
-}
-
-fn use_breaks_up(rt: &impl Abort, link: &mut FailingLink) {
-    link.add_break(2).expect(rt, "memory");
-    sends(rt, link, b"1", Ok(()), 1);
-    link.add_break(1).expect(rt, "memory");
-    sends(rt, link, b"2", Err(LinkFault::Failed), 0);
-    link.add_break(3).expect(rt, "memory");
-    link.drop_breaks();
-    assert!(rt; link.breaks() == 0);
+    go(&rt, &mut link, &EACH_COUNTS);
 }
 
 #[test]
 fn breaks_that_one_send_meets_are_all_used_up(rt: HostRuntime) {
     let mut link = FailingLink::new(rt.alloc());
-    use_breaks_up(&rt, &mut link);
+    go(&rt, &mut link, &USED_UP);
 }
 
-/// Two links, of which the second's third send fails.
-fn add_two(rt: &impl Abort, alloc: Global, links: &mut Links<FailingLink>) {
-    for _ in 0..2 {
-        assert!(rt; links.len() < 9);
-        links.push(FailingLink::new(alloc)).expect(rt, "memory");
+fn push_message(alloc: Global, messages: &mut Vec<Items<u8>>, message: &[u8]) -> bool {
+    match Vec::from_slice(alloc, message) {
+        Ok(octets) => messages.push(Items::from_vec(octets)).is_ok(),
+        Err(_) => false,
     }
-    assert!(rt; links.len() == 2);
-    assert!(rt; links.get_mut(1).add_break(3) == Ok(()));
 }
 
-fn add_messages(rt: &impl Abort, alloc: Global, messages: &mut Vec<Items<u8>>) {
+fn push_messages(alloc: Global, messages: &mut Vec<Items<u8>>) -> bool {
     for message in [b"a", b"b", b"c"] {
-        let octets = Vec::from_slice(alloc, message).expect(rt, "memory");
-        messages.push(Items::from_vec(octets)).expect(rt, "memory");
+        if !push_message(alloc, messages, message) {
+            return false;
+        }
     }
+    true
 }
 
-/// A list of messages is sent so, and the link then has so many.
+/// One more link.
+fn push_link(alloc: Global, links: &mut Links<FailingLink>) -> bool {
+    if links.len() >= 9 {
+        return false;
+    }
+    links.push(FailingLink::new(alloc)).is_ok()
+}
+
+/// Whether a list of messages is sent so, and the link then has so many.
 fn sends_all(
-    rt: &impl Abort,
     link: &mut FailingLink,
     messages: &[Items<u8>],
     answer: Result<(), LinkFault>,
     count: usize,
-) {
-    assert!(rt; send_all(link, messages) == answer);
-    assert!(rt; link.len() == count);
+) -> bool {
+    send_all(link, messages) == answer && link.len() == count
 }
 
+/// Two links, of which the second's third send fails.
 fn send_a_list(rt: &impl Abort, links: &mut Links<FailingLink>, messages: &[Items<u8>]) {
-    assert!(rt; links.len() == 2);
-    sends_all(rt, links.get_mut(0), messages, Ok(()), 3);
-    sends_all(rt, links.get_mut(1), messages, Err(LinkFault::Failed), 2);
+    if links.len() != 2 {
+        return holds(rt, false, "there are two links");
+    }
+    holds(rt, breaks(links.get_mut(1), 3), "a break is added");
+    let first = sends_all(links.get_mut(0), messages, Ok(()), 3);
+    holds(rt, first, "the first link");
+    let second = sends_all(links.get_mut(1), messages, Err(LinkFault::Failed), 2);
+    holds(rt, second, "the second link");
+}
+
+fn push_links(alloc: Global, links: &mut Links<FailingLink>) -> bool {
+    push_link(alloc, links) && push_link(alloc, links)
 }
 
 #[test]
 fn a_list_is_sent_until_one_fails(rt: HostRuntime) {
     let mut links = Links::new(rt.alloc());
-    add_two(&rt, rt.alloc(), &mut links);
+    holds(&rt, push_links(rt.alloc(), &mut links), "memory");
     let mut messages = Vec::new(rt.alloc());
-    add_messages(&rt, rt.alloc(), &mut messages);
+    holds(&rt, push_messages(rt.alloc(), &mut messages), "memory");
     send_a_list(&rt, &mut links, &messages);
 }
 
 #[test]
 fn want_of_memory_is_no_failure(rt: HostRuntime) {
-    assert!(rt; LinkFault::from(NoMemory) == LinkFault::NoMemory);
+    holds(
+        &rt,
+        LinkFault::from(NoMemory) == LinkFault::NoMemory,
+        "memory",
+    );
 }
 
-/// Octets come into an inbox, which then has these.
-fn takes_in(rt: &impl Abort, inbox: &mut Inbox, octets: &[u8], whole: &[u8]) {
-    inbox.push(octets).expect(rt, "memory");
-    assert!(rt; inbox.octets() == whole);
+/// Whether octets come into an inbox, which then has these.
+fn takes_in(inbox: &mut Inbox, octets: &[u8], whole: &[u8]) -> bool {
+    inbox.push(octets).is_ok() && inbox.octets() == whole
+}
+
+/// Whether the octets that come are kept without the first two.
+fn lets_two_go(inbox: &mut Inbox) -> bool {
+    if inbox.octets().len() != 3 {
+        return false;
+    }
+    inbox.take(2);
+    takes_in(inbox, b"d", b"cd")
+}
+
+fn clears_away(inbox: &mut Inbox) -> bool {
+    inbox.clear();
+    inbox.octets().is_empty()
 }
 
 fn push_and_take(rt: &impl Abort, inbox: &mut Inbox) {
-    takes_in(rt, inbox, b"abc", b"abc");
-    assert!(rt; inbox.octets().len() == 3);
-    inbox.take(2);
-    takes_in(rt, inbox, b"d", b"cd");
-    inbox.clear();
-    assert!(rt; inbox.octets().is_empty());
+    holds(rt, takes_in(inbox, b"abc", b"abc"), "three octets come");
+    holds(
+        rt,
+        lets_two_go(inbox),
+        "two octets are taken, and one comes",
+    );
+    holds(rt, clears_away(inbox), "none is left");
 }
 
 #[test]

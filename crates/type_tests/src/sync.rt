@@ -1,38 +1,66 @@
 //! Tables that are kept alike.
+use crate::asked::{holds, holds_at};
 use ov_sync::{Delta, SyncIn, SyncOut};
 use std::alloc::Global;
 use std::collections::BTreeMap;
 use std::process::Abort;
 
-type Pairs = &'static [(u8, u8)];
+fn puts(map: &mut BTreeMap<u8, u8>, key: u8, value: u8) -> bool {
+    let done: Result<_, _> = map.insert(key, value);
+    done.is_ok()
+}
 
-fn fill(rt: &impl Abort, map: &mut BTreeMap<u8, u8>, pairs: Pairs) {
-    for pair in pairs {
-        let done: Result<_, _> = map.insert(pair.0, pair.1);
-        done.expect(rt, "memory");
+fn fills(map: &mut BTreeMap<u8, u8>, pairs: &[(u8, u8)]) -> bool {
+    for (key, value) in pairs {
+        if !puts(map, *key, *value) {
+            return false;
+        }
+    }
+    true
+}
+
+/// Whether these changes are told of a wanted table.
+fn replaces(
+    out: &mut SyncOut<u8, u8>,
+    wanted: &BTreeMap<u8, u8>,
+    changes: &[Delta<u8, u8>],
+) -> bool {
+    match out.replace(wanted) {
+        Ok(told) => told.as_slice() == changes,
+        Err(_) => false,
     }
 }
 
-fn tells(
-    rt: &impl Abort,
-    alloc: Global,
-    out: &mut SyncOut<u8, u8>,
-    pairs: Pairs,
-    changes: &[Delta<u8, u8>],
-) {
+fn tells(alloc: Global, out: &mut SyncOut<u8, u8>, table: &Wanted) -> bool {
+    let (pairs, changes) = *table;
     let mut wanted = BTreeMap::new(alloc);
-    fill(rt, &mut wanted, pairs);
-    let told = out.replace(&wanted).expect(rt, "memory");
-    assert!(rt; told.as_slice() == changes);
+    fills(&mut wanted, pairs) && replaces(out, &wanted, changes)
 }
 
+/// A wanted table, and what is told of it.
+type Wanted = (&'static [(u8, u8)], &'static [Delta<u8, u8>]);
+
+static FIRST: Wanted = (
+    &[(3, 30), (1, 10), (5, 50)],
+    &[Delta::Put(1, 10), Delta::Put(3, 30), Delta::Put(5, 50)],
+);
+
+static SECOND: Wanted = (
+    &[(0, 7), (3, 31), (5, 50)],
+    &[Delta::Put(0, 7), Delta::Drop(1), Delta::Put(3, 31)],
+);
+
+static AFTER_RESET: Wanted = (&[(5, 50)], &[Delta::Put(5, 50)]);
+
 fn tell_in_order(rt: &impl Abort, alloc: Global, out: &mut SyncOut<u8, u8>) {
-    let puts = [Delta::Put(1, 10), Delta::Put(3, 30), Delta::Put(5, 50)];
-    tells(rt, alloc, out, &[(3, 30), (1, 10), (5, 50)], &puts);
-    let changes = [Delta::Put(0, 7), Delta::Drop(1), Delta::Put(3, 31)];
-    tells(rt, alloc, out, &[(0, 7), (3, 31), (5, 50)], &changes);
+    holds(rt, tells(alloc, out, &FIRST), "the first table");
+    holds(rt, tells(alloc, out, &SECOND), "the second table");
     out.reset();
-    tells(rt, alloc, out, &[(5, 50)], &[Delta::Put(5, 50)]);
+    holds(
+        rt,
+        tells(alloc, out, &AFTER_RESET),
+        "the table after a reset",
+    );
 }
 
 #[test]
@@ -42,7 +70,7 @@ fn tells_drops_and_puts_in_the_order_of_the_keys(rt: HostRuntime) {
 }
 
 /// Keys that are told one by one, each with its wanted value and the change that is told.
-const KEYS: [(u8, Option<u8>, Option<Delta<u8, u8>>); 7] = [
+static KEYS: [(u8, Option<u8>, Option<Delta<u8, u8>>); 7] = [
     (3, Some(30), Some(Delta::Put(3, 30))),
     (3, Some(30), None),
     (5, None, None),
@@ -52,41 +80,63 @@ const KEYS: [(u8, Option<u8>, Option<Delta<u8, u8>>); 7] = [
     (3, None, None),
 ];
 
-fn tell_keys(rt: &impl Abort, out: &mut SyncOut<u8, u8>) {
-    for (key, wanted, change) in KEYS {
-        let told = out.replace_key(key, wanted).expect(rt, "memory");
-        assert!(rt; told == change);
+fn tells_key(
+    out: &mut SyncOut<u8, u8>,
+    key: u8,
+    wanted: Option<u8>,
+    change: &Option<Delta<u8, u8>>,
+) -> bool {
+    match out.replace_key(key, wanted) {
+        Ok(told) => told == *change,
+        Err(_) => false,
     }
+}
+
+/// The table that is wanted behind them.
+static AFTER_KEYS: Wanted = (&[(3, 30), (5, 30)], &[Delta::Put(3, 30)]);
+
+fn tell_keys(rt: &impl Abort, alloc: Global, out: &mut SyncOut<u8, u8>) {
+    for (place, (key, wanted, change)) in KEYS.iter().enumerate() {
+        holds_at(rt, tells_key(out, *key, *wanted, change), place);
+    }
+    holds(rt, tells(alloc, out, &AFTER_KEYS), "the table");
 }
 
 #[test]
 fn tells_one_key_where_it_differs(rt: HostRuntime) {
     let mut out = SyncOut::new(rt.alloc());
-    tell_keys(&rt, &mut out);
-    tells(
-        &rt,
-        rt.alloc(),
-        &mut out,
-        &[(3, 30), (5, 30)],
-        &[Delta::Put(3, 30)],
-    );
+    tell_keys(&rt, rt.alloc(), &mut out);
 }
 
 /// Changes that are made in turn, each with what the key 4 then has.
-const CHANGES: [(Delta<u8, u8>, Option<u8>); 4] = [
+static CHANGES: [(Delta<u8, u8>, Option<u8>); 4] = [
     (Delta::Put(4, 40), Some(40)),
     (Delta::Drop(5), Some(40)),
     (Delta::Drop(4), None),
     (Delta::Put(4, 41), Some(41)),
 ];
 
+fn again(change: &Delta<u8, u8>) -> Delta<u8, u8> {
+    match change {
+        Delta::Put(key, value) => Delta::Put(*key, *value),
+        Delta::Drop(key) => Delta::Drop(*key),
+    }
+}
+
+fn applies(held: &mut SyncIn<u8, u8>, change: &Delta<u8, u8>) -> bool {
+    held.apply(again(change)).is_ok()
+}
+
+fn has(held: &SyncIn<u8, u8>, key: u8, value: Option<u8>) -> bool {
+    held.get(&key).copied() == value
+}
+
 fn hold(rt: &impl Abort, held: &mut SyncIn<u8, u8>) {
-    for (change, value) in CHANGES {
-        assert!(rt; held.apply(change) == Ok(()));
-        assert!(rt; held.get(&4).copied() == value);
+    for (place, (change, value)) in CHANGES.iter().enumerate() {
+        holds_at(rt, applies(held, change) && has(held, 4, *value), place);
     }
     held.reset();
-    assert!(rt; held.get(&4).is_none());
+    holds(rt, has(held, 4, None), "nothing after a reset");
 }
 
 #[test]
@@ -108,30 +158,71 @@ fn value_of(octet: u8) -> Option<u8> {
     }
 }
 
-fn fill_row(rt: &impl Abort, map: &mut BTreeMap<u8, u8>, row: &str) {
-    for (key, octet) in [0, 1, 2, 3, 4].into_iter().zip(row.bytes()) {
-        if let Some(value) = value_of(octet) {
-            let done: Result<_, _> = map.insert(key, value);
-            done.expect(rt, "memory");
-        }
+/// Whether the key has in a wanted table what an octet stands for.
+fn puts_octet(map: &mut BTreeMap<u8, u8>, key: u8, octet: u8) -> bool {
+    match value_of(octet) {
+        Some(value) => puts(map, key, value),
+        None => true,
     }
 }
 
-/// What is told of a wanted table is held.
-fn follow(
-    rt: &impl Abort,
+fn fills_row(map: &mut BTreeMap<u8, u8>, row: &str) -> bool {
+    let mut key = 0u8;
+    for octet in row.as_bytes() {
+        if !puts_octet(map, key, *octet) {
+            return false;
+        }
+        key = key.saturating_add(1);
+    }
+    key == 5
+}
+
+fn are_applied(held: &mut SyncIn<u8, u8>, told: &[Delta<u8, u8>]) -> bool {
+    for change in told {
+        if !applies(held, change) {
+            return false;
+        }
+    }
+    true
+}
+
+/// Whether what is told of a wanted table can be held.
+fn follows(
     out: &mut SyncOut<u8, u8>,
     held: &mut SyncIn<u8, u8>,
     wanted: &BTreeMap<u8, u8>,
-) {
-    for delta in out.replace(wanted).expect(rt, "memory") {
-        held.apply(delta).expect(rt, "memory");
+) -> bool {
+    match out.replace(wanted) {
+        Ok(told) => are_applied(held, told.as_slice()),
+        Err(_) => false,
     }
 }
 
-fn are_held(rt: &impl Abort, held: &SyncIn<u8, u8>, row: &str) {
-    for (key, octet) in [0, 1, 2, 3, 4].into_iter().zip(row.bytes()) {
-        assert!(rt; held.get(&key).copied() == value_of(octet), "{row}");
+fn are_held(held: &SyncIn<u8, u8>, row: &str) -> bool {
+    let mut key = 0u8;
+    for octet in row.as_bytes() {
+        if !has(held, key, value_of(*octet)) {
+            return false;
+        }
+        key = key.saturating_add(1);
+    }
+    true
+}
+
+/// Whether a wanted table is held once it is told.
+fn is_held(alloc: Global, out: &mut SyncOut<u8, u8>, held: &mut SyncIn<u8, u8>, row: &str) -> bool {
+    let mut wanted = BTreeMap::new(alloc);
+    fills_row(&mut wanted, row) && follows(out, held, &wanted) && are_held(held, row)
+}
+
+fn follow_all(
+    rt: &impl Abort,
+    alloc: Global,
+    out: &mut SyncOut<u8, u8>,
+    held: &mut SyncIn<u8, u8>,
+) {
+    for row in TABLES.split_whitespace() {
+        holds(rt, is_held(alloc, out, held, row), row);
     }
 }
 
@@ -139,10 +230,5 @@ fn are_held(rt: &impl Abort, held: &SyncIn<u8, u8>, row: &str) {
 fn what_is_held_follows_what_is_wanted(rt: HostRuntime) {
     let mut out = SyncOut::new(rt.alloc());
     let mut held = SyncIn::new(rt.alloc());
-    for row in TABLES.split_whitespace() {
-        let mut wanted = BTreeMap::new(rt.alloc());
-        fill_row(&rt, &mut wanted, row);
-        follow(&rt, &mut out, &mut held, &wanted);
-        are_held(&rt, &held, row);
-    }
+    follow_all(&rt, rt.alloc(), &mut out, &mut held);
 }

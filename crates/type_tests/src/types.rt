@@ -1,43 +1,59 @@
 //! Names, addresses, numbers and keys.
-use crate::asked::{precedes, prints};
+use crate::asked::{holds, holds_at, precedes, prints};
 use ov_types::written::{address_from, prefix_from};
 use ov_types::{
     Addr, DownKey, InstanceId, Items, LowKey, Name, Prefix, Rd, Target, Targets, UpKey, is_target,
 };
-use std::process::Abort;
+use std::alloc::Global;
 
-fn push_and_copy(rt: &impl Abort, items: &mut Items<u8>) {
-    items.push(7).expect(rt, "memory");
-    assert!(rt; items.clone().expect(rt, "memory").as_slice() == [7].as_slice());
+/// Whether a copy of a list has these.
+fn is_copied(items: &Items<u8>, want: &[u8]) -> bool {
+    match items.clone() {
+        Ok(copy) => copy.as_slice() == want,
+        Err(_) => false,
+    }
+}
+
+static SEVEN: [u8; 1] = [7];
+
+fn is_pushed_and_copied(items: &mut Items<u8>) -> bool {
+    items.push(7).is_ok() && is_copied(items, &SEVEN)
 }
 
 #[test]
 fn items_are_pushed_and_copied(rt: HostRuntime) {
     let mut items = Items::new(rt.alloc());
-    push_and_copy(&rt, &mut items);
+    holds(&rt, is_pushed_and_copied(&mut items), "a copy");
 }
+
+/// Texts, and whether each is a name.
+static NAMES: [(&str, bool); 4] = [("red", true), ("", false), ("Red", false), ("a-b_9", true)];
 
 #[test]
 fn reads_names(rt: HostRuntime) {
-    for (text, want) in [("red", true), ("", false), ("Red", false), ("a-b_9", true)] {
-        assert!(rt; Name::new(text).is_some() == want, "{text}");
+    for (text, want) in &NAMES {
+        holds(&rt, Name::new(text).is_some() == *want, text);
     }
 }
 
+/// Distinguishers, and how each is printed.
+static DISTINGUISHERS: [(u64, &str); 4] = [
+    (0x0000_fc00_0000_0001, "64512:1"),
+    (0x0001_c000_020b_0001, "192.0.2.11:1"),
+    (0x0002_0001_0000_0007, "L65536:7"),
+    (0x00ab_0000_0000_0001, "x00ab000000000001"),
+];
+
 #[test]
 fn distinguishers_are_printed_by_their_type(rt: HostRuntime) {
-    for (octets, text) in [
-        (0x0000_fc00_0000_0001, "64512:1"),
-        (0x0001_c000_020b_0001, "192.0.2.11:1"),
-        (0x0002_0001_0000_0007, "L65536:7"),
-        (0x00ab_0000_0000_0001, "x00ab000000000001"),
-    ] {
-        prints(&rt, rt.alloc(), &Rd(octets), text);
+    for (octets, text) in &DISTINGUISHERS {
+        holds(&rt, prints(rt.alloc(), &Rd(*octets), text), text);
     }
 }
 
 /// Keys, each less than the next.
-const ASCENDING: [LowKey; 6] = [
+static ASCENDING: [LowKey; 7] = [
+    LowKey::Instance(8),
     LowKey::Instance(9),
     LowKey::Instance(10),
     LowKey::Attach(1),
@@ -46,108 +62,191 @@ const ASCENDING: [LowKey; 6] = [
     LowKey::ChainUse(0),
 ];
 
+/// Whether a key is less than the next, also as the key of a slice.
+fn ascends(key: LowKey, next: LowKey) -> bool {
+    precedes(&key, &next) && precedes(&DownKey::Slice(key), &DownKey::Slice(next))
+}
+
+/// Whether each key is less than the one behind it.
+fn ascend(keys: &[LowKey]) -> bool {
+    match keys {
+        [key, rest @ ..] => {
+            let mut last = *key;
+            for next in rest {
+                if !ascends(last, *next) {
+                    return false;
+                }
+                last = *next;
+            }
+            true
+        }
+        [] => false,
+    }
+}
+
+/// Whether slices stand before routes.
+fn slices_precede_routes(host: Prefix) -> bool {
+    let use_key = DownKey::Slice(LowKey::ChainUse(3071));
+    precedes(&use_key, &DownKey::Route(InstanceId(1), host))
+}
+
+/// Whether what is published stands before what is subscribed to.
+fn publications_precede_subscriptions(host: Prefix) -> bool {
+    let published = UpKey::Publish(InstanceId(9), host);
+    precedes(&published, &UpKey::Subscribe(InstanceId(1)))
+}
+
 #[test]
 fn keys_ascend(rt: HostRuntime) {
-    let mut last = LowKey::Instance(8);
-    for key in ASCENDING {
-        precedes(&rt, &last, &key);
-        precedes(&rt, &DownKey::Slice(last), &DownKey::Slice(key));
-        last = key;
-    }
     let host = Prefix::host(Addr(0));
-    let use_key = DownKey::Slice(LowKey::ChainUse(3071));
-    precedes(&rt, &use_key, &DownKey::Route(InstanceId(1), host));
-    precedes(
+    holds(&rt, ascend(&ASCENDING), "keys of slices");
+    holds(&rt, slices_precede_routes(host), "slices before routes");
+    holds(
         &rt,
-        &UpKey::Publish(InstanceId(9), host),
-        &UpKey::Subscribe(InstanceId(1)),
+        publications_precede_subscriptions(host),
+        "publications",
     );
 }
 
-fn prefix(rt: &impl Abort, address: u32, length: u8) -> Prefix {
-    Prefix::new(Addr(address), length).expect(rt, "a prefix")
+/// Whether 10.1.0.0/16 is printed so, and has these addresses in it.
+fn is_the_net(alloc: Global, net: &Prefix) -> bool {
+    net.contains(Addr(0x0a01_ffff))
+        && !net.contains(Addr(0x0a02_0000))
+        && Prefix::host(Addr(0x0a01_0005)).within(net)
+        && prints(alloc, net, "10.1.0.0/16")
+}
+
+/// Whether that prefix is made, and none of it with a bit behind its length.
+fn is_made(alloc: Global) -> bool {
+    match Prefix::new(Addr(0x0a01_0000), 16) {
+        Some(net) => is_the_net(alloc, &net) && Prefix::new(Addr(0x0a01_0001), 16).is_none(),
+        None => false,
+    }
 }
 
 #[test]
 fn prefixes_are_read_and_printed(rt: HostRuntime) {
-    let net = prefix(&rt, 0x0a01_0000, 16);
-    prints(&rt, rt.alloc(), &net, "10.1.0.0/16");
-    assert!(rt; net.contains(Addr(0x0a01_ffff)));
-    assert!(rt; !net.contains(Addr(0x0a02_0000)));
-    assert!(rt; Prefix::host(Addr(0x0a01_0005)).within(&net));
-    assert!(rt; Prefix::new(Addr(0x0a01_0001), 16).is_none());
+    holds(&rt, is_made(rt.alloc()), "10.1.0.0/16");
+}
+
+/// Prefixes, each less than the next.
+static PREFIXES: [(u32, u8, u32, u8); 3] = [
+    (0x0a00_0000, 8, 0x0a00_0000, 24),
+    (0x0a00_0000, 24, 0x0a00_0005, 32),
+    (0x0a00_0005, 32, 0x0a01_0000, 16),
+];
+
+fn is_less(address: u32, length: u8, next: u32, next_length: u8) -> bool {
+    match (
+        Prefix::new(Addr(address), length),
+        Prefix::new(Addr(next), next_length),
+    ) {
+        (Some(one), Some(other)) => precedes(&one, &other),
+        _ => false,
+    }
 }
 
 #[test]
 fn prefixes_ascend_by_address_and_then_length(rt: HostRuntime) {
-    let host = Prefix::host(Addr(0x0a00_0005));
-    let narrow = prefix(&rt, 0x0a00_0000, 24);
-    precedes(&rt, &prefix(&rt, 0x0a00_0000, 8), &narrow);
-    precedes(&rt, &narrow, &host);
-    precedes(&rt, &host, &prefix(&rt, 0x0a01_0000, 16));
+    for (place, (address, length, next, next_length)) in PREFIXES.iter().enumerate() {
+        holds_at(&rt, is_less(*address, *length, *next, *next_length), place);
+    }
 }
+
+/// Communities, and whether each is a target.
+static COMMUNITIES: [(u64, bool); 6] = [
+    (0x0002_fc00_007a_1201, true),
+    (0x0102_c000_020b_0001, true),
+    (0x0202_0001_0000_0007, true),
+    (0x0302_fc00_007a_1201, false),
+    (0x0003_fc00_007a_1201, false),
+    (0x4002_fc00_007a_1201, false),
+];
 
 #[test]
 fn targets_are_told_from_other_communities(rt: HostRuntime) {
-    for (community, want) in [
-        (0x0002_fc00_007a_1201, true),
-        (0x0102_c000_020b_0001, true),
-        (0x0202_0001_0000_0007, true),
-        (0x0302_fc00_007a_1201, false),
-        (0x0003_fc00_007a_1201, false),
-        (0x4002_fc00_007a_1201, false),
-    ] {
-        assert!(rt; is_target(community) == want, "{community:016x}");
+    for (place, (community, want)) in COMMUNITIES.iter().enumerate() {
+        holds_at(&rt, is_target(*community) == *want, place);
     }
 }
 
-fn insert_and_copy(rt: &impl Abort, targets: &mut Targets) {
-    for number in [3, 1, 3] {
-        targets.insert(Target(number)).expect(rt, "memory");
+fn inserts(targets: &mut Targets, number: u64) -> bool {
+    targets.insert(Target(number)).is_ok()
+}
+
+/// Whether these are the targets, and those of a copy.
+fn are_targets(targets: &Targets, want: &[Target]) -> bool {
+    match targets.clone() {
+        Ok(copy) => targets.items() == want && copy.items() == want,
+        Err(_) => false,
     }
-    let want = [Target(1), Target(3)];
-    assert!(rt; targets.items() == want.as_slice());
-    assert!(rt; targets.clone().expect(rt, "memory").items() == want.as_slice());
+}
+
+static ONE_AND_THREE: [Target; 2] = [Target(1), Target(3)];
+
+fn are_in_order(targets: &mut Targets) -> bool {
+    inserts(targets, 3)
+        && inserts(targets, 1)
+        && inserts(targets, 3)
+        && are_targets(targets, &ONE_AND_THREE)
 }
 
 #[test]
 fn targets_stand_in_order_once(rt: HostRuntime) {
     let mut targets = Targets::new(rt.alloc());
-    insert_and_copy(&rt, &mut targets);
+    holds(&rt, are_in_order(&mut targets), "1 and 3");
 }
+
+/// Texts, each with its address where it is that of one.
+static ADDRESSES: [(&str, Option<u32>); 10] = [
+    ("0.0.0.0", Some(0)),
+    ("10.1.0.5", Some(0x0a01_0005)),
+    ("255.255.255.255", Some(0xffff_ffff)),
+    ("256.0.0.0", None),
+    ("10.01.0.5", None),
+    ("10.1.0", None),
+    ("10.1.0.5.6", None),
+    ("10.1.0.5 ", None),
+    ("+10.1.0.5", None),
+    ("", None),
+];
 
 #[test]
 fn each_address_has_one_text(rt: HostRuntime) {
-    for (text, address) in [
-        ("0.0.0.0", Some(0)),
-        ("10.1.0.5", Some(0x0a01_0005)),
-        ("255.255.255.255", Some(0xffff_ffff)),
-        ("256.0.0.0", None),
-        ("10.01.0.5", None),
-        ("10.1.0", None),
-        ("10.1.0.5.6", None),
-        ("10.1.0.5 ", None),
-        ("+10.1.0.5", None),
-        ("", None),
-    ] {
-        assert!(rt; address_from(text) == address, "{text}");
+    for (text, address) in &ADDRESSES {
+        holds(&rt, address_from(text) == *address, text);
     }
+}
+
+/// Texts, each with the address and the length of its prefix where it is that of one.
+static PREFIX_TEXTS: [(&str, Option<(u32, u8)>); 10] = [
+    ("0.0.0.0/0", Some((0, 0))),
+    ("10.1.0.0/16", Some((0x0a01_0000, 16))),
+    ("10.1.0.5/32", Some((0x0a01_0005, 32))),
+    ("10.1.0.5/33", None),
+    ("10.1.0.1/16", None),
+    ("10.1.0.0/016", None),
+    ("10.1.0.0/+16", None),
+    ("10.1.0.0/", None),
+    ("10.1.0.0", None),
+    ("/16", None),
+];
+
+/// Whether a text is read as this prefix, which there is, or as none.
+fn is_read(text: &str, wanted: Option<(u32, u8)>) -> bool {
+    match wanted {
+        Some((address, length)) => is_some_prefix(text, Prefix::new(Addr(address), length)),
+        None => prefix_from(text).is_none(),
+    }
+}
+
+fn is_some_prefix(text: &str, prefix: Option<Prefix>) -> bool {
+    prefix.is_some() && prefix_from(text) == prefix
 }
 
 #[test]
 fn each_prefix_has_one_text(rt: HostRuntime) {
-    for (text, prefix) in [
-        ("0.0.0.0/0", Prefix::new(Addr(0), 0)),
-        ("10.1.0.0/16", Prefix::new(Addr(0x0a01_0000), 16)),
-        ("10.1.0.5/32", Prefix::new(Addr(0x0a01_0005), 32)),
-        ("10.1.0.5/33", None),
-        ("10.1.0.1/16", None),
-        ("10.1.0.0/016", None),
-        ("10.1.0.0/+16", None),
-        ("10.1.0.0/", None),
-        ("10.1.0.0", None),
-        ("/16", None),
-    ] {
-        assert!(rt; prefix_from(text) == prefix, "{text}");
+    for (text, wanted) in &PREFIX_TEXTS {
+        holds(&rt, is_read(text, *wanted), text);
     }
 }

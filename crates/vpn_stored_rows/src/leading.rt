@@ -6,12 +6,12 @@ ghost use Rattle.vpn_tables.specs.Routes.{path_of};
 ghost use Rattle.vpn_stored_rows.specs.Led.{IsHeldSide, led_to, routes_at};
 ghost use Rattle.vpn_stored_rows.specs.Up.{up_from, ups_at, ups_of};
 
-use crate::sides::{Side, held_side};
+use crate::sides::held_side;
 use ov_types::{Addr, Items, Label, NoMemory, Prefix};
 use path_select::Path;
 use route_targets::{rd, target};
 use std::alloc::Global;
-use vpn_tables::{Route, VpnTables};
+use vpn_tables::{Route, Side, VpnTables};
 
 /// The session that a re-originated path counts as of.
 const OWN_SESSION: u16 = 65535;

@@ -6,10 +6,10 @@ ghost use Rattle.node_model.specs.Tables.{same_prefix};
 ghost use Rattle.vpn_stored_rows.specs.Led.{IsHeldSide};
 ghost use Rattle.vpn_stored_rows.specs.Up.{up_from, ups_at, ups_of};
 
-use crate::sides::{Side, held_side};
+use crate::sides::held_side;
 use ov_types::{Items, NoMemory, Prefix};
 use std::alloc::Global;
-use vpn_tables::VpnTables;
+use vpn_tables::{Side, VpnTables};
 
 /// Which subnets of a side are up: at each distance from its end, of each of its subnets in order.
 pub(crate) type Ups = Items<Items<bool>>;

@@ -15,11 +15,11 @@ ghost use Rattle.vpn_stored_rows.specs.Reached.{reached_at, reached_of, stored_a
 use crate::leading::routes_of;
 use crate::reaching::{Ups, ups_of};
 use crate::rows::RowKey;
-use crate::sides::{Side, held_side};
+use crate::sides::held_side;
 use ov_types::{InstanceId, Items, NoMemory, Prefix};
 use route_targets::{UseHop, hop_of};
 use std::alloc::Global;
-use vpn_tables::{Route, VpnTables};
+use vpn_tables::{Route, Side, VpnTables};
 
 /// Which subnets of a use are up, seen from its right end and from its left one, and the routes that lead them on.
 #[derive(Drop)]

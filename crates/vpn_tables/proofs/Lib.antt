@@ -11,6 +11,7 @@ pub mod Offers
 pub mod Whole
 pub mod Leads
 pub mod Uses
+pub mod PortWalks
 pub mod Farther
 pub mod Listed
 pub mod NoneLed

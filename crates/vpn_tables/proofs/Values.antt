@@ -12,9 +12,9 @@ use Rattle.ov_types.specs.declared.objects.LowValue.{LowValue}
 use Rattle.vpn_tables.specs.Ranges.{Fits}
 use Rattle.node_model.proofs.Directions.{low_total, low_exact}
 
-pub values_after : (es fs : List (LowKey × LowValue)) (d : Delta LowKey LowValue) → map_of low_order fs ≡ changed (map_of low_order es) d
-    → Values Fits (map_of low_order es) → PutOf Fits d → Values Fits (map_of low_order fs)
-values_after es fs d e h p = subst (λ (m : FinMap low_order LowValue). Values Fits m) (sym e) (changed_values Fits low_total low_exact (map_of low_order es) d h p)
+pub values_after : (P : LowKey → LowValue → Type 0) (es fs : List (LowKey × LowValue)) (d : Delta LowKey LowValue) → map_of low_order fs ≡ changed (map_of low_order es) d
+    → Values P (map_of low_order es) → PutOf P d → Values P (map_of low_order fs)
+values_after P es fs d e h p = subst (λ (m : FinMap low_order LowValue). Values P m) (sym e) (changed_values P low_total low_exact (map_of low_order es) d h p)
 
 pub fits_at : (es : List (LowKey × LowValue)) (k : LowKey) (o : Option (Bor LowValue)) → Values Fits (map_of low_order es) → option_copied o ≡ get (map_of low_order es) k
     → IfSome o (λ v. Fits k v.now)

@@ -1,5 +1,6 @@
 -- The files of definitions, in the order in which they stand on each other.
 pub mod Ranges
+pub mod Ports
 pub mod Codes
 pub mod Views
 pub mod Changes

@@ -11,9 +11,10 @@ use ov_types::{InstanceId, LowKey, LowValue, Prefix};
 use route_targets::{hop_instance, left_circuit, right_circuit};
 use std::marker::Model;
 
-/// A held use, seen from one of its ends. A distance counts places from that end.
+/// A held use, seen from one of its ends. A distance counts places from that end: place 0 is before the first service
+/// from the left, and each further one behind the next.
 #[derive(Drop)]
-pub(crate) struct Side<'a> {
+pub struct Side<'a> {
     number: u16,
     left: InstanceId,
     right: InstanceId,
@@ -45,33 +46,45 @@ impl<'a> Model for Side<'a> {
 }
 
 impl<'a> Side<'a> {
-    pub(crate) fn number(&self) -> u16
+    /// The number of the use, by which its object is held.
+    pub fn number(&self) -> u16
         ensures number { result ≡ self.now.chain.number }
         ensures at_most { result ≤ 3071 }
     {
         self.number
     }
 
-    pub(crate) fn services(&self) -> u8
+    /// How many services it has, and so the last of its places.
+    pub fn services(&self) -> u8
         ensures number { result ≡ self.now.chain.services }
         ensures at_most { result ≤ 15 }
     {
         self.services
     }
 
-    pub(crate) fn left(&self) -> InstanceId
+    /// The network at the left end, whichever end it is seen from.
+    pub fn left(&self) -> InstanceId
         ensures { result ≡ self.now.chain.left }
     {
         self.left
     }
 
-    pub(crate) fn right(&self) -> InstanceId
+    /// The network at the right end, whichever end it is seen from.
+    pub fn right(&self) -> InstanceId
         ensures { result ≡ self.now.chain.right }
     {
         self.right
     }
 
-    pub(crate) fn subnets(&self) -> &'a [Prefix]
+    /// Whether it is seen from the right end.
+    pub fn is_right(&self) -> bool
+        ensures { result ≡ self.now.is_right }
+    {
+        self.is_right
+    }
+
+    /// The subnets of the network at the end that it is seen from.
+    pub fn subnets(&self) -> &'a [Prefix]
         ensures { result.now ≡ subnets self.now }
     {
         if self.is_right {
@@ -81,8 +94,8 @@ impl<'a> Side<'a> {
         }
     }
 
-    /// The instance at a distance.
-    pub(crate) fn hop_at(&self, distance: u8) -> InstanceId
+    /// The instance of the place at a distance.
+    pub fn hop_at(&self, distance: u8) -> InstanceId
         requires { distance ≤ self.now.chain.services }
         ensures { result ≡ hop_at self.now distance }
     {
@@ -93,8 +106,9 @@ impl<'a> Side<'a> {
         }
     }
 
-    /// The circuit there that leads towards the end.
-    pub(crate) fn circuit_at(&self, distance: u8) -> u32
+    /// The circuit there that leads towards the end: of the service between the place and the next one nearer, where the
+    /// distance is not 0.
+    pub fn circuit_at(&self, distance: u8) -> u32
         requires { distance ≤ self.now.chain.services }
         ensures circuit { result ≡ circuit_at self.now distance }
         ensures at_most { result ≤ 131071 }
@@ -107,7 +121,7 @@ impl<'a> Side<'a> {
     }
 
     /// How far a place of the use is from the end.
-    pub(crate) fn distance_of(&self, place: u8) -> u8
+    pub fn distance_of(&self, place: u8) -> u8
         requires { place ≤ self.now.chain.services }
         ensures distance { result ≡ distance self.now place }
         ensures within { result ≤ self.now.chain.services }
@@ -149,8 +163,9 @@ pub(crate) fn side_of<'a>(key: &LowKey, value: &'a LowValue, is_right: bool) -> 
 }
 
 impl VpnTables {
-    /// The held use of a number, seen from an end.
-    pub(crate) fn side(&self, number: u16, is_right: bool) -> Option<Side<'_>>
+    /// The held use of a number, seen from an end: none where the object that is held at its key is no use. It takes no
+    /// memory.
+    pub fn side(&self, number: u16, is_right: bool) -> Option<Side<'_>>
         ensures { result ≡ side_at self.now.feed number is_right }
     {
         let key = LowKey::ChainUse(number);

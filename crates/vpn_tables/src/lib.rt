@@ -9,6 +9,7 @@ mod leading;
 mod least;
 mod listing;
 mod moved;
+mod ports;
 mod reaching;
 mod routes;
 mod sessions;
@@ -16,6 +17,7 @@ mod table;
 mod tables;
 mod touching;
 
+pub use chains::Side;
 pub use gathered::in_order;
 pub use routes::Route;
 pub use tables::VpnTables;

@@ -8,13 +8,14 @@ ghost use Rattle.node_model.specs.Paths.{own_path, own_paths};
 ghost use Rattle.node_model.specs.Reaching.{below};
 ghost use Rattle.node_model.specs.Tables.{known_instances, network_of};
 ghost use Rattle.node_model.specs.Uses.{hop};
-ghost use Rattle.node_model.specs.Wants.{is_at, is_in_slice, networks_at, port_at, slice, subscribed, subscriptions};
+ghost use Rattle.node_model.specs.Wants.{is_in_slice, networks_at, slice, subscribed, subscriptions};
 ghost use Rattle.vpn_tables.specs.Leading.{use_at};
 ghost use Rattle.vpn_tables.specs.Listing.{hops_of_held, in_slice, sliced, told_by, told_in};
 ghost use Rattle.vpn_tables.specs.Routes.{path_of};
 ghost use Rattle.vpn_tables.specs.Views.{agent_of};
 
 use crate::chains::Side;
+use crate::ports::is_attached;
 use crate::routes::Route;
 use crate::tables::{Agent, VpnTables};
 use ov_types::{Addr, InstanceId, LowKey, LowValue, NoMemory, UpKey};
@@ -74,7 +75,7 @@ impl VpnTables {
         Ok(objects)
     }
 
-    /// The object of a key, where it is of the slice of an address.
+    /// The object of a key, where it is of the slice of an address. It takes no memory but for the object.
     pub fn sliced(&self, address: Addr, key: &LowKey) -> Result<Option<LowValue>, NoMemory>
         ensures { IfOk result (λ object. object ≡ sliced self.now.feed address key.now) }
     {
@@ -92,25 +93,11 @@ impl VpnTables {
     ) -> Result<Option<LowValue>, NoMemory>
         ensures { IfOk result (λ object. object ≡ in_slice self.now.feed address key.now (Some value.now)) }
     {
-        let networks = self.networks_at(address)?;
-        if !belongs(networks.as_slice(), address, key, value) {
+        if !self.is_in_slice(address, key, value) {
             return Ok(None);
         }
         let object = copy_of(value)?;
         Ok(Some(object))
-    }
-
-    /// The networks of the ports at an address.
-    fn networks_at(&self, address: Addr) -> Result<Vec<InstanceId>, NoMemory>
-        ensures { IfOk result (λ networks. networks.items ≡ networks_at self.now.feed address) }
-    {
-        let mut networks = Vec::new(self.alloc);
-        for (_key, value) in self.low.iter() {
-            if let Some(network) = port_at(address, value) {
-                networks.push(network)?;
-            }
-        }
-        Ok(networks)
     }
 
     /// The instances that the agent of a session subscribed, in order: none where the session is no agent's.
@@ -235,16 +222,6 @@ fn has_number(networks: &[InstanceId], number: u16) -> bool
     networks.iter().any(|network| network.0 == number)
 }
 
-/// The network of a port at an address, where an object is one.
-fn port_at(address: Addr, value: &LowValue) -> Option<InstanceId>
-    ensures { result ≡ port_at address value.now }
-{
-    match value {
-        LowValue::AttachPort { instance, node, .. } if node.0 == address.0 => Some(*instance),
-        _ => None,
-    }
-}
-
 /// The network of a key, where it is a network's.
 fn network_of(key: &LowKey) -> Option<InstanceId>
     ensures { result ≡ network_of key.now }
@@ -262,17 +239,5 @@ fn subscribed(key: &UpKey) -> Option<InstanceId>
     match *key {
         UpKey::Subscribe(instance) => Some(instance),
         UpKey::Publish(_, _) => None,
-    }
-}
-
-/// Whether an attachment is at an address.
-fn is_attached(address: Addr, value: &LowValue) -> bool
-    ensures { result ≡ is_at address value.now }
-{
-    match value {
-        LowValue::AttachPort { node, .. } | LowValue::AttachCircuit { node, .. } => {
-            node.0 == address.0
-        }
-        _ => false,
     }
 }

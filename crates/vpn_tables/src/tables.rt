@@ -5,6 +5,7 @@ ghost use Rattle.node_model.specs.Maps.{object};
 ghost use Rattle.vpn_tables.specs.Ranges.{Fits};
 ghost use Rattle.vpn_tables.specs.Changes.{nothing, with_low, with_route, with_agent, with_publication, without};
 
+use crate::ports::{has_stray, puts_stray};
 use crate::sessions::{change_at, empty_agent, empty_at, name_agent, tell_agent};
 use ov_sync::{Delta, SyncIn};
 use ov_types::{Addr, Label, LowKey, LowValue, NoMemory, UpKey, VpnKey, VpnRoute};
@@ -17,6 +18,8 @@ use std::marker::Model;
 pub struct VpnTables {
     pub(crate) asn: u32,
     pub(crate) low: SyncIn<LowKey, LowValue>,
+    /// Whether a port may be held under a key that names no attachment, where a walk over attachments does not find it.
+    pub(crate) has_strays: bool,
     /// Of session 1, 2 and so on.
     pub(crate) peers: Vec<SyncIn<VpnKey, VpnRoute>>,
     /// In the order of their sessions.
@@ -41,9 +44,10 @@ impl Model for VpnTables {
 
     ghost coded = { coded_holdings };
 
-    ghost use Rattle.std.specs.Prelude.{◌≤◌, length, map};
+    ghost use Rattle.std.specs.Prelude.{◌≡◌, ◌≤◌, false, length, map};
     ghost use Rattle.ov_sync.specs.Keyed.{map_of, Values};
     ghost use Rattle.vpn_tables.specs.Ranges.{Fits};
+    ghost use Rattle.vpn_tables.specs.Ports.{IsNoStray};
     ghost use Rattle.vpn_tables.specs.Views.{low_order, feed_of, peer_of, agent_of};
 
     ghost view = { λ s. record {
@@ -53,7 +57,8 @@ impl Model for VpnTables {
       agents = map agent_of s.agents.items;
     } };
 
-    ghost invariant = { λ s. Values Fits (map_of low_order s.low) × (length s.peers.items ≤ 65535) };
+    ghost invariant = { λ s. Values Fits (map_of low_order s.low) × (length s.peers.items ≤ 65535)
+        × (s.has_strays ≡ false → Values IsNoStray (map_of low_order s.low)) };
 }
 
 impl VpnTables {
@@ -64,6 +69,7 @@ impl VpnTables {
         VpnTables {
             asn,
             low: SyncIn::new(alloc),
+            has_strays: false,
             peers: Vec::new(alloc),
             agents: Vec::new(alloc),
             alloc,
@@ -77,7 +83,9 @@ impl VpnTables {
         ensures err { OnErr result (self.new ≡ self.old) }
         ensures memory { OnErr result (IsPut delta) }
     {
+        let has_strays = has_stray(self.has_strays, puts_stray(&delta));
         self.low.apply(delta)?;
+        self.has_strays = has_strays;
         Ok(())
     }
 
@@ -126,6 +134,7 @@ impl VpnTables {
         empty_agent(&mut self.agents, session);
         if session == 0 {
             self.low.reset();
+            self.has_strays = false;
             return;
         }
         empty_at(&mut self.peers, usize::from(session - 1));

@@ -1,18 +1,19 @@
-//! The routes that lead the subnets of a chain on, found by what was told within a subnet.
+//! Which subnets are reachable along a chain, and the routes that lead them on, found by what was told within a subnet.
 ghost use Rattle.std.specs.Prelude.{◌≡◌, ◌≤◌, ◌||◌, ◌&&◌, ◌++◌, [], IsTrue, is_some, map, IfOk, OnOk};
 ghost use Rattle.std.specs.List.{cons_option, list_any};
 ghost use Rattle.node_model.specs.Reaching.{circuit_at, has_path_within, hop_at, is_up, publisher, subnets};
 ghost use Rattle.node_model.specs.Tables.{same_prefix};
 ghost use Rattle.path_select.specs.Selection.{plain};
+ghost use Rattle.vpn_tables.specs.Answers.{is_up_at};
 ghost use Rattle.vpn_tables.specs.At.{led_at, led_from};
 
 use crate::received::{keep, wanted};
-use crate::sides::{Side, held_side};
 use crate::tables::IndexedTables;
 use crate::within::{have_labels, have_routes};
 use ov_types::{InstanceId, NoMemory, Prefix};
 use path_select::Path;
 use route_targets::{UseHop, hop_of, rd};
+use vpn_tables::Side;
 
 /// The session that a re-originated path counts as of.
 const OWN_SESSION: u16 = 65535;
@@ -38,6 +39,26 @@ fn either(one: bool, other: bool) -> bool
 }
 
 impl IndexedTables {
+    /// Whether a subnet of a side of the use that the instance is a hop of is reachable from there: false for another
+    /// instance or subnet. It looks at what was told within the subnet, and at who publishes the circuits on the way.
+    pub fn up(&self, hop: InstanceId, subnet: &Prefix, right: bool) -> Result<bool, NoMemory>
+        ensures { IfOk result (λ up. up ≡ is_up_at self.now hop subnet.now right) }
+    {
+        let Some(UseHop { use_no, place }) = hop_of(hop) else {
+            return Ok(false);
+        };
+        let Some(side) = self.held().side(use_no, right) else {
+            return Ok(false);
+        };
+        if place > side.services() {
+            return Ok(false);
+        }
+        if !is_among(subnet, side.subnets()) {
+            return Ok(false);
+        }
+        self.is_up(&side, subnet, side.distance_of(place))
+    }
+
     /// Whether an instance received a path within a subnet. It looks at what begins in the subnet alone.
     fn has_path_within(&self, i: InstanceId, subnet: &Prefix) -> Result<bool, NoMemory>
         ensures { IfOk result (λ has. has ≡ has_path_within self.now i subnet.now) }
@@ -108,7 +129,7 @@ impl IndexedTables {
         let Some(UseHop { use_no, place }) = hop_of(i) else {
             return Ok(None);
         };
-        let Some(side) = held_side(self.held(), use_no, right) else {
+        let Some(side) = self.held().side(use_no, right) else {
             return Ok(None);
         };
         if place > side.services() {

@@ -9,7 +9,6 @@ mod leading;
 mod publishing;
 mod received;
 mod selecting;
-mod sides;
 mod tables;
 mod within;
 

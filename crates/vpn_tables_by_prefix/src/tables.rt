@@ -153,7 +153,8 @@ impl IndexedTables {
 
     /// Whether nothing is published on a session, whatever is subscribed. It takes no memory.
     pub fn publishes_nothing(&self, session: u16) -> bool
-        ensures { result ≡ true → PublishesNothing (told_in self.now.agents session).map }
+        ensures only_if_nothing { result ≡ true → PublishesNothing (told_in self.now.agents session).map }
+        ensures if_nothing { PublishesNothing (told_in self.now.agents session).map → result ≡ true }
     {
         !has_label(&self.labels, session)
     }

@@ -1,6 +1,6 @@
 //! The kinds of cases, and how one is held against what it wants.
 
-use crate::fault::CaseFault;
+use crate::fault::{CaseFault, told};
 use crate::octets::{octets, push_octets};
 use crate::{hearings, messages, record_sessions, records, restarts, sessions, updates};
 use ov_io::TextOut;
@@ -18,6 +18,18 @@ fn tell(alloc: Global, kind: &str, given: &str, out: &mut TextOut) -> Result<(),
         "written-updates" => updates::tell_written_updates(alloc, given, out),
         "marks" => restarts::tell_marks(alloc, given, out),
         "restart" => restarts::tell_restart(alloc, given, out),
+        _ => tell_session(alloc, kind, given, out),
+    }
+}
+
+/// What a case of records or of sessions comes to.
+fn tell_session(
+    alloc: Global,
+    kind: &str,
+    given: &str,
+    out: &mut TextOut,
+) -> Result<(), CaseFault> {
+    match kind {
         "session" => sessions::tell_session(alloc, given, out),
         "record" => records::tell_record(alloc, given, out),
         "frame" => records::tell_frame(alloc, given, out),
@@ -36,30 +48,48 @@ fn tell_wanted(
     out: &mut TextOut,
 ) -> Result<(), CaseFault> {
     if kind.starts_with("written") {
-        let octets = octets(alloc, wanted)?;
-        push_octets(octets.as_slice(), out)?;
+        tell_spelled(alloc, wanted, out)
     } else {
-        out.push(wanted.as_bytes())?;
+        told(out.push(wanted.as_bytes()))
     }
-    Ok(())
 }
 
-/// Whether a line is a case that comes to what it wants; what it comes to is left in `told`.
+fn tell_spelled(alloc: Global, wanted: &str, out: &mut TextOut) -> Result<(), CaseFault> {
+    let octets = octets(alloc, wanted)?;
+    told(push_octets(octets.as_slice(), out))
+}
+
+/// Whether what a case of this kind came to is what is wanted.
+fn is_wanted(alloc: Global, kind: &str, wanted: &str, came: &[u8]) -> Result<bool, CaseFault> {
+    let mut text = TextOut::new(alloc);
+    match tell_wanted(alloc, kind, wanted, &mut text) {
+        Ok(()) => Ok(came == text.octets()),
+        Err(fault) => Err(fault),
+    }
+}
+
+fn comes_to(
+    alloc: Global,
+    kind: &str,
+    given: &str,
+    wanted: &str,
+    came: &mut TextOut,
+) -> Result<bool, CaseFault> {
+    came.clear();
+    tell(alloc, kind, given, came)?;
+    is_wanted(alloc, kind, wanted, came.octets())
+}
+
+/// Whether a line is a case that comes to what it wants; what it comes to is left in `came`.
 ///
 /// A line is a kind, what is given, and behind `=>` what is wanted. Where nothing stands there it is what is given.
-pub(crate) fn holds(alloc: Global, line: &str, told: &mut TextOut) -> Result<bool, CaseFault> {
+pub(crate) fn holds(alloc: Global, line: &str, came: &mut TextOut) -> Result<bool, CaseFault> {
     let (case, behind) = line.split_once(" => ").unwrap_or((line, ""));
-    let (kind, given) = case.split_once(" ").ok_or(CaseFault::Unreadable)?;
-    let mut wanted = TextOut::new(alloc);
-    tell_wanted(
-        alloc,
-        kind,
-        if behind.is_empty() { given } else { behind },
-        &mut wanted,
-    )?;
-    told.clear();
-    tell(alloc, kind, given, told)?;
-    Ok(told.octets() == wanted.octets())
+    match case.split_once(" ") {
+        Some((kind, given)) if behind.is_empty() => comes_to(alloc, kind, given, given, came),
+        Some((kind, given)) => comes_to(alloc, kind, given, behind, came),
+        None => Err(CaseFault::Unreadable),
+    }
 }
 
 /// Whether a line has no case.

@@ -4,7 +4,6 @@ use hex::FromHexError;
 use ov_types::NoMemory;
 use std::alloc::{AllocError, AllocFailed};
 use std::fmt;
-use std::num::ParseIntError;
 
 #[derive(Clone, Copy)]
 pub(crate) enum CaseFault {
@@ -46,8 +45,10 @@ impl From<FromHexError> for CaseFault {
     }
 }
 
-impl From<ParseIntError> for CaseFault {
-    fn from(_e: ParseIntError) -> CaseFault {
-        CaseFault::Unreadable
+/// What telling came to.
+pub(crate) fn told(answer: Result<(), NoMemory>) -> Result<(), CaseFault> {
+    match answer {
+        Ok(()) => Ok(()),
+        Err(_) => Err(CaseFault::NoMemory),
     }
 }

@@ -1,6 +1,7 @@
 //! What messages say that come in octets.
+ghost use Rattle.std.specs.Prelude.{◌≢◌};
 
-use crate::fault::CaseFault;
+use crate::fault::{CaseFault, told};
 use crate::octets::{octets, push_octets};
 use bgp_wire::{
     Attribute, Message, OpenOut, OpenPart, UpdatePart, WireFault, attributes, read_message,
@@ -18,7 +19,7 @@ pub(crate) fn push_fault(fault: WireFault, out: &mut TextOut) -> Result<(), NoMe
 /// The message that the octets begin with, and how many of them it has.
 pub(crate) fn tell_message(alloc: Global, given: &str, out: &mut TextOut) -> Result<(), CaseFault> {
     let octets = octets(alloc, given)?;
-    Ok(tell_octets(octets.as_slice(), out)?)
+    told(tell_octets(octets.as_slice(), out))
 }
 
 pub(crate) fn tell_octets(octets: &[u8], out: &mut TextOut) -> Result<(), NoMemory> {
@@ -29,62 +30,119 @@ pub(crate) fn tell_octets(octets: &[u8], out: &mut TextOut) -> Result<(), NoMemo
     }
 }
 
+fn push_size(octets: &[u8], out: &mut TextOut) -> Result<(), NoMemory> {
+    match read_message(octets) {
+        Ok(Some((message, len))) => push_word(&message, len, out),
+        _ => out.push(b"another"),
+    }
+}
+
+fn push_word(message: &Message<'_>, len: usize, out: &mut TextOut) -> Result<(), NoMemory> {
+    match message {
+        Message::Hello(_) => write!(out, "open {len}"),
+        Message::Update(_) => write!(out, "update {len}"),
+        _ => out.push(b"another"),
+    }
+}
+
 /// Whether the octets are an OPEN or an UPDATE, and their number.
 pub(crate) fn tell_size(alloc: Global, given: &str, out: &mut TextOut) -> Result<(), CaseFault> {
     let octets = octets(alloc, given)?;
-    match read_message(octets.as_slice()) {
-        Ok(Some((Message::Hello(_), len))) => write!(out, "open {len}")?,
-        Ok(Some((Message::Update(_), len))) => write!(out, "update {len}")?,
-        _ => out.push(b"another")?,
-    }
-    Ok(())
+    told(push_size(octets.as_slice(), out))
 }
 
 fn push_message(message: &Message<'_>, len: usize, out: &mut TextOut) -> Result<(), NoMemory> {
-    match message {
-        Message::Hello(open) => push_open(open, out)?,
-        Message::Update(part) => push_update(part, out)?,
-        Message::Notification { code, subcode } => write!(out, "notification {code}/{subcode}")?,
-        Message::Keepalive => out.push(b"keepalive")?,
-    }
+    push_part(message, out)?;
     write!(out, " of {len}")
 }
 
+fn push_part(message: &Message<'_>, out: &mut TextOut) -> Result<(), NoMemory> {
+    match message {
+        Message::Hello(open) => push_open(open, out),
+        Message::Update(part) => push_update(part, out),
+        Message::Notification { code, subcode } => write!(out, "notification {code}/{subcode}"),
+        Message::Keepalive => out.push(b"keepalive"),
+    }
+}
+
 fn push_open(open: &OpenPart<'_>, out: &mut TextOut) -> Result<(), NoMemory> {
-    let my_as = open.my_as();
-    let asn = open.asn();
-    let hold = open.hold();
-    let id = open.id();
-    let wide = if open.wide() { " wide" } else { "" };
-    write!(out, "open {my_as:04x} as {asn}{wide} hold {hold} id {id}")?;
+    push_system(open, out)?;
+    push_times(open.hold(), open.id(), out)?;
+    push_capabilities(open, out)
+}
+
+fn push_capabilities(open: &OpenPart<'_>, out: &mut TextOut) -> Result<(), NoMemory> {
     for capability in open.capabilities() {
-        let kind = capability.kind;
-        write!(out, " {kind}:")?;
-        push_octets(capability.value, out)?;
+        push_capability(capability.kind, capability.value, out)?;
     }
     Ok(())
 }
 
+fn push_system(open: &OpenPart<'_>, out: &mut TextOut) -> Result<(), NoMemory> {
+    let my_as = open.my_as();
+    let asn = open.asn();
+    write!(out, "open {my_as:04x} as {asn}")?;
+    out.push(if open.wide() { b" wide" } else { b"" })
+}
+
+fn push_times(hold: u16, id: Addr, out: &mut TextOut) -> Result<(), NoMemory> {
+    write!(out, " hold {hold} id {id}")
+}
+
+fn push_capability(kind: u8, value: &[u8], out: &mut TextOut) -> Result<(), NoMemory> {
+    write!(out, " {kind}:")?;
+    push_octets(value, out)
+}
+
 fn push_update(part: &UpdatePart<'_>, out: &mut TextOut) -> Result<(), NoMemory> {
+    push_withdrawn(part.withdrawn, out)?;
+    push_attributes(part, out)?;
+    push_routes(part.routes, out)
+}
+
+fn push_withdrawn(withdrawn: &[u8], out: &mut TextOut) -> Result<(), NoMemory> {
     out.push(b"update ")?;
-    push_octets(part.withdrawn, out)?;
+    push_octets(withdrawn, out)?;
+    out.push(b"|")
+}
+
+fn push_routes(routes: &[u8], out: &mut TextOut) -> Result<(), NoMemory> {
     out.push(b"|")?;
+    push_octets(routes, out)
+}
+
+fn push_attributes(part: &UpdatePart<'_>, out: &mut TextOut) -> Result<(), NoMemory> {
     for item in attributes(part) {
-        match item {
-            Ok(attribute) => push_attribute(&attribute, out)?,
-            Err(fault) => push_fault(fault, out)?,
-        }
+        push_item(item, out)?;
     }
-    out.push(b"|")?;
-    push_octets(part.routes, out)
+    Ok(())
+}
+
+fn push_item(item: Result<Attribute<'_>, WireFault>, out: &mut TextOut) -> Result<(), NoMemory> {
+    match item {
+        Ok(attribute) => push_attribute(&attribute, out),
+        Err(fault) => push_fault(fault, out),
+    }
 }
 
 fn push_attribute(attribute: &Attribute<'_>, out: &mut TextOut) -> Result<(), NoMemory> {
     let flags = attribute.flags;
     let kind = attribute.kind;
     write!(out, "{flags:02x}/{kind}:")?;
-    push_octets(attribute.value, out)?;
+    push_value(attribute.value, out)
+}
+
+fn push_value(value: &[u8], out: &mut TextOut) -> Result<(), NoMemory> {
+    push_octets(value, out)?;
     out.push(b" ")
+}
+
+fn push_written_open(alloc: Global, part: &OpenOut, out: &mut TextOut) -> Result<(), NoMemory>
+    requires { part.now.id.0 ≢ 0 }
+{
+    let mut octets = Vec::new(alloc);
+    write_open(alloc, part, &mut octets)?;
+    push_octets(octets.as_slice(), out)
 }
 
 /// The OPEN of a system and an identifier, as two numbers.
@@ -93,17 +151,35 @@ pub(crate) fn tell_written_open(
     given: &str,
     out: &mut TextOut,
 ) -> Result<(), CaseFault> {
-    let (asn, id) = given.split_once(" ").ok_or(CaseFault::Unreadable)?;
-    let part = OpenOut {
-        asn: asn.parse()?,
-        id: Addr(id.parse()?),
-    };
+    match open_of(given) {
+        Some(part) => tell_open(alloc, &part, out),
+        None => Err(CaseFault::Unreadable),
+    }
+}
+
+fn open_of(given: &str) -> Option<OpenOut> {
+    let (asn, id) = given.split_once(" ")?;
+    let asn = asn.parse().ok()?;
+    let id = Addr(id.parse().ok()?);
+    Some(OpenOut { asn, id })
+}
+
+fn tell_open(alloc: Global, part: &OpenOut, out: &mut TextOut) -> Result<(), CaseFault> {
     if part.id.0 == 0 {
         return Err(CaseFault::Unreadable);
     }
-    let mut octets = Vec::new(alloc);
-    write_open(alloc, &part, &mut octets)?;
-    Ok(push_octets(octets.as_slice(), out)?)
+    told(push_written_open(alloc, part, out))
+}
+
+fn write_rest(alloc: Global, octets: &mut Vec<u8>) -> Result<(), NoMemory> {
+    write_notification(alloc, 5, 0, octets)?;
+    write_keepalive(alloc, octets)?;
+    write_attributes(alloc, &[0x40, 1, 1, 0], octets)
+}
+
+fn push_rest(alloc: Global, octets: &mut Vec<u8>, out: &mut TextOut) -> Result<(), NoMemory> {
+    write_rest(alloc, octets)?;
+    push_octets(octets.as_slice(), out)
 }
 
 /// A NOTIFICATION, a KEEPALIVE and an UPDATE of one attribute behind the octets that are given.
@@ -113,8 +189,5 @@ pub(crate) fn tell_written_rest(
     out: &mut TextOut,
 ) -> Result<(), CaseFault> {
     let mut octets = octets(alloc, given)?;
-    write_notification(alloc, 5, 0, &mut octets)?;
-    write_keepalive(alloc, &mut octets)?;
-    write_attributes(alloc, &[0x40, 1, 1, 0], &mut octets)?;
-    Ok(push_octets(octets.as_slice(), out)?)
+    told(push_rest(alloc, &mut octets, out))
 }

@@ -9,27 +9,52 @@ use std::alloc::Global;
 /// so many octets.
 pub(crate) fn octets(alloc: Global, text: &str) -> Result<Vec<u8>, CaseFault> {
     let mut octets = Vec::new(alloc);
-    for word in text.split_whitespace() {
-        push_word(alloc, word, &mut octets)?;
+    match push_words(alloc, text, &mut octets) {
+        Ok(()) => Ok(octets),
+        Err(fault) => Err(fault),
     }
-    Ok(octets)
+}
+
+fn push_words(alloc: Global, text: &str, octets: &mut Vec<u8>) -> Result<(), CaseFault> {
+    for word in text.split_whitespace() {
+        push_word(alloc, word, octets)?;
+    }
+    Ok(())
 }
 
 fn push_word(alloc: Global, word: &str, octets: &mut Vec<u8>) -> Result<(), CaseFault> {
-    if word == "M" {
-        octets.extend_from_slice(&[255; 16])?;
-        return Ok(());
-    }
     match word.split_once("*") {
-        Some((pair, count)) => push_times(alloc, pair, count.parse()?, octets),
+        Some((pair, count)) => push_counted(alloc, pair, count, octets),
+        None if word == "M" => push_slice(&MARKER, octets),
         None => push_pairs(alloc, word, octets),
+    }
+}
+
+static MARKER: [u8; 16] = [255; 16];
+
+/// Appends octets.
+pub(crate) fn push_slice(more: &[u8], octets: &mut Vec<u8>) -> Result<(), CaseFault> {
+    match octets.extend_from_slice(more) {
+        Ok(()) => Ok(()),
+        Err(_) => Err(CaseFault::NoMemory),
+    }
+}
+
+fn push_counted(
+    alloc: Global,
+    pair: &str,
+    count: &str,
+    octets: &mut Vec<u8>,
+) -> Result<(), CaseFault> {
+    match count.parse() {
+        Ok(count) => push_times(alloc, pair, count, octets),
+        Err(_) => Err(CaseFault::Unreadable),
     }
 }
 
 fn push_pairs(alloc: Global, pairs: &str, octets: &mut Vec<u8>) -> Result<(), CaseFault> {
     let more = hex::decode(alloc, pairs)?;
-    octets.extend_from_slice(more.as_slice())?;
-    Ok(())
+    push_slice(more.as_slice(), octets)
 }
 
 fn push_times(

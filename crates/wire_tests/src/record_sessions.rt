@@ -2,7 +2,7 @@
 ghost use Rattle.std.specs.Prelude.{◌≡◌, IfOk};
 ghost use Rattle.item_wire.specs.declared.event.ItemState.TheVariants.{Idle};
 
-use crate::fault::CaseFault;
+use crate::fault::{CaseFault, told};
 use crate::records::{push_fault, push_item};
 use item_wire::{
     Item, ItemCause, ItemEvent, ItemFrom, ItemRefusal, ItemSession, ItemState, TooLong, read_item,
@@ -23,17 +23,52 @@ fn direction(word: &str) -> Option<ItemFrom> {
     }
 }
 
+fn tell_input(
+    alloc: Global,
+    session: &mut ItemSession,
+    input: &str,
+    out: &mut TextOut,
+) -> Result<(), CaseFault> {
+    match at_input(alloc, session, input) {
+        Ok(event) => push_ended(alloc, &event, input, out),
+        Err(fault) => Err(fault),
+    }
+}
+
+fn push_ended(
+    alloc: Global,
+    event: &ItemEvent,
+    input: &str,
+    out: &mut TextOut,
+) -> Result<(), CaseFault> {
+    push_event(alloc, event, input, out)?;
+    told(out.push(b"; "))
+}
+
+fn tell_inputs(
+    alloc: Global,
+    session: &mut ItemSession,
+    inputs: &str,
+    out: &mut TextOut,
+) -> Result<(), CaseFault> {
+    for input in inputs.split(";") {
+        tell_input(alloc, session, input.trim(), out)?;
+    }
+    told(out.push(name_of(session.state())))
+}
+
 /// What a session with `c1` does at the inputs, which stand between semicolons behind the direction of the records, and the
 /// state that it is left in.
 pub(crate) fn tell_session(alloc: Global, given: &str, out: &mut TextOut) -> Result<(), CaseFault> {
-    let (word, inputs) = given.split_once(" ").ok_or(CaseFault::Unreadable)?;
-    let mut session = session_of(word)?;
-    for input in inputs.split(";") {
-        let event = at_input(alloc, &mut session, input.trim())?;
-        push_event(alloc, &event, input.trim(), out)?;
-        out.push(b"; ")?;
+    match given.split_once(" ") {
+        Some((word, inputs)) => tell_of(alloc, word, inputs, out),
+        None => Err(CaseFault::Unreadable),
     }
-    Ok(out.push(name_of(session.state()))?)
+}
+
+fn tell_of(alloc: Global, word: &str, inputs: &str, out: &mut TextOut) -> Result<(), CaseFault> {
+    let mut session = session_of(word)?;
+    tell_inputs(alloc, &mut session, inputs, out)
 }
 
 pub(crate) fn peer() -> Result<Name, CaseFault> {
@@ -85,13 +120,12 @@ fn push_event(
     out: &mut TextOut,
 ) -> Result<(), CaseFault> {
     match event {
-        ItemEvent::Quiet => out.push(b"-")?,
-        ItemEvent::SendHello => out.push(b"send hello")?,
-        ItemEvent::Up => out.push(b"up")?,
-        ItemEvent::Record(item) => return push_record(alloc, item, input, out),
-        ItemEvent::Down { cause } => push_down(*cause, out)?,
+        ItemEvent::Quiet => told(out.push(b"-")),
+        ItemEvent::SendHello => told(out.push(b"send hello")),
+        ItemEvent::Up => told(out.push(b"up")),
+        ItemEvent::Record(item) => push_record(alloc, item, input, out),
+        ItemEvent::Down { cause } => told(push_down(*cause, out)),
     }
-    Ok(())
 }
 
 /// Whether the record that is handed out is the one that came.
@@ -101,13 +135,18 @@ fn push_record(
     input: &str,
     out: &mut TextOut,
 ) -> Result<(), CaseFault> {
-    let came = read_item(alloc, input.as_bytes()).map_err(|_| CaseFault::Unreadable)?;
-    let word = if came == *item {
-        "record"
+    match read_item(alloc, input.as_bytes()) {
+        Ok(came) => told(out.push(word_of(came == *item))),
+        Err(_) => Err(CaseFault::Unreadable),
+    }
+}
+
+fn word_of(is_same: bool) -> &'static [u8] {
+    if is_same {
+        b"record"
     } else {
-        "another record"
-    };
-    Ok(out.push(word.as_bytes())?)
+        b"another record"
+    }
 }
 
 pub(crate) fn push_down(cause: ItemCause, out: &mut TextOut) -> Result<(), NoMemory> {

@@ -3,7 +3,7 @@ ghost use Rattle.std.specs.Prelude.{◌≤◌, length, IsTrue};
 ghost use Rattle.item_wire.specs.Ranges.{is_in_range};
 ghost use Rattle.item_wire.specs.Records.{json_text};
 
-use crate::fault::CaseFault;
+use crate::fault::{CaseFault, told};
 use crate::octets::{octets, push_octets};
 use item_wire::{Item, ItemFault, ItemRefusal, TooLong, frame, read_item, write_item};
 use ov_io::TextOut;
@@ -16,11 +16,10 @@ pub(crate) fn tell_record(alloc: Global, given: &str, out: &mut TextOut) -> Resu
         return Err(CaseFault::Unreadable);
     }
     match read_item(alloc, given.as_bytes()) {
-        Ok(item) => push_item(alloc, &item, out)?,
-        Err(ItemRefusal::Fault(fault)) => push_fault(fault, out)?,
-        Err(ItemRefusal::NoMemory) => return Err(CaseFault::NoMemory),
+        Ok(item) => told(push_item(alloc, &item, out)),
+        Err(ItemRefusal::Fault(fault)) => told(push_fault(fault, out)),
+        Err(ItemRefusal::NoMemory) => Err(CaseFault::NoMemory),
     }
-    Ok(())
 }
 
 /// Tells the record of an item, as a frame has it.
@@ -45,13 +44,16 @@ pub(crate) fn push_fault(fault: ItemFault, out: &mut TextOut) -> Result<(), NoMe
     write!(out, "{fault}")
 }
 
+fn push_framed(octets: &[u8], out: &mut TextOut) -> Result<(), NoMemory> {
+    match frame(octets) {
+        Ok(Some([])) => out.push(b"-"),
+        Ok(Some(record)) => push_octets(record, out),
+        framed => push_frame(framed, out),
+    }
+}
+
 /// The octets of the record that is framed.
 pub(crate) fn tell_frame(alloc: Global, given: &str, out: &mut TextOut) -> Result<(), CaseFault> {
     let octets = octets(alloc, given)?;
-    match frame(octets.as_slice()) {
-        Ok(Some([])) => out.push(b"-")?,
-        Ok(Some(record)) => push_octets(record, out)?,
-        framed => push_frame(framed, out)?,
-    }
-    Ok(())
+    told(push_framed(octets.as_slice(), out))
 }

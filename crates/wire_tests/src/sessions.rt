@@ -1,6 +1,6 @@
 //! What sessions of BGP do at their inputs.
 
-use crate::fault::CaseFault;
+use crate::fault::{CaseFault, told};
 use crate::octets::octets;
 use crate::updates::push_deltas;
 use bgp_session::{Cause, Reply, Session, SessionEvent, State};
@@ -28,16 +28,40 @@ const NOTIFICATION: &str = "M 0015 03 0602";
 
 const BAD_FRAME: &str = "M 0013 05";
 
+fn tell_input(
+    alloc: Global,
+    session: &mut Session,
+    input: &str,
+    out: &mut TextOut,
+) -> Result<(), CaseFault> {
+    match at_input(alloc, session, input) {
+        Ok(event) => told(push_ended(&event, out)),
+        Err(fault) => Err(fault),
+    }
+}
+
+fn push_ended(event: &SessionEvent, out: &mut TextOut) -> Result<(), NoMemory> {
+    push_event(event, out)?;
+    out.push(b"; ")
+}
+
+fn tell_inputs(
+    alloc: Global,
+    session: &mut Session,
+    given: &str,
+    out: &mut TextOut,
+) -> Result<(), CaseFault> {
+    for input in given.split(";") {
+        tell_input(alloc, session, input.trim(), out)?;
+    }
+    told(out.push(name_of(session.state())))
+}
+
 /// What a session of the autonomous system 64512 with the peer 192.0.2.2 does at the inputs, which stand between semicolons, and
 /// the state that it is left in.
 pub(crate) fn tell_session(alloc: Global, given: &str, out: &mut TextOut) -> Result<(), CaseFault> {
     let mut session = Session::new(64512, peer()?);
-    for input in given.split(";") {
-        let event = at_input(alloc, &mut session, input.trim())?;
-        push_event(&event, out)?;
-        out.push(b"; ")?;
-    }
-    Ok(out.push(name_of(session.state()))?)
+    tell_inputs(alloc, &mut session, given, out)
 }
 
 pub(crate) fn peer() -> Result<NodeId, CaseFault> {
@@ -104,13 +128,17 @@ pub(crate) fn push_down(
     reply: Option<(u8, u8)>,
     out: &mut TextOut,
 ) -> Result<(), NoMemory> {
+    push_cause(cause, out)?;
+    match reply {
+        Some((code, subcode)) => write!(out, " send {code}/{subcode}"),
+        None => Ok(()),
+    }
+}
+
+fn push_cause(cause: Cause, out: &mut TextOut) -> Result<(), NoMemory> {
     match cause {
-        Cause::Wire(WireFault { code, subcode }) => write!(out, "down {code}/{subcode}")?,
-        Cause::Notified { code, subcode } => write!(out, "down notified {code}/{subcode}")?,
-        Cause::Ended => out.push(b"down ended")?,
+        Cause::Wire(WireFault { code, subcode }) => write!(out, "down {code}/{subcode}"),
+        Cause::Notified { code, subcode } => write!(out, "down notified {code}/{subcode}"),
+        Cause::Ended => out.push(b"down ended"),
     }
-    if let Some((code, subcode)) = reply {
-        write!(out, " send {code}/{subcode}")?;
-    }
-    Ok(())
 }

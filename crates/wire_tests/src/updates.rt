@@ -1,7 +1,7 @@
 //! What UPDATEs change.
 ghost use Rattle.std.specs.Prelude.{◌≡◌};
 
-use crate::fault::CaseFault;
+use crate::fault::{CaseFault, told};
 use crate::messages::push_fault;
 use crate::octets::{octets, push_octets};
 use bgp_vpn::{UpdateFault, read_update, write_update};
@@ -19,14 +19,35 @@ pub(crate) fn tell_update(
     out: &mut TextOut,
 ) -> Result<(), CaseFault> {
     let (withdrawn, rest) = given.split_once("|").unwrap_or(("", given));
-    let (attributes, routes) = rest.split_once("|").unwrap_or((rest, ""));
     let withdrawn = octets(alloc, withdrawn)?;
-    let attributes = octets(alloc, attributes)?;
+    tell_rest(alloc, wide, withdrawn.as_slice(), rest, out)
+}
+
+fn tell_rest(
+    alloc: Global,
+    wide: bool,
+    withdrawn: &[u8],
+    rest: &str,
+    out: &mut TextOut,
+) -> Result<(), CaseFault> {
+    let (attributes, routes) = rest.split_once("|").unwrap_or((rest, ""));
     let routes = octets(alloc, routes)?;
+    tell_part(alloc, wide, withdrawn, attributes, routes.as_slice(), out)
+}
+
+fn tell_part(
+    alloc: Global,
+    wide: bool,
+    withdrawn: &[u8],
+    attributes: &str,
+    routes: &[u8],
+    out: &mut TextOut,
+) -> Result<(), CaseFault> {
+    let attributes = octets(alloc, attributes)?;
     let part = UpdatePart {
-        withdrawn: withdrawn.as_slice(),
+        withdrawn,
         attributes: attributes.as_slice(),
-        routes: routes.as_slice(),
+        routes,
     };
     push_reading(alloc, &part, wide, out)
 }
@@ -38,11 +59,10 @@ fn push_reading(
     out: &mut TextOut,
 ) -> Result<(), CaseFault> {
     match read_update(alloc, part, wide) {
-        Ok(deltas) => push_deltas(deltas.as_slice(), out)?,
-        Err(UpdateFault::Wire(fault)) => push_fault(fault, out)?,
-        Err(UpdateFault::NoMemory) => return Err(CaseFault::NoMemory),
+        Ok(deltas) => told(push_deltas(deltas.as_slice(), out)),
+        Err(UpdateFault::Wire(fault)) => told(push_fault(fault, out)),
+        Err(UpdateFault::NoMemory) => Err(CaseFault::NoMemory),
     }
-    Ok(())
 }
 
 /// The changes in their order.
@@ -52,12 +72,16 @@ pub(crate) fn push_deltas(
 ) -> Result<(), NoMemory> {
     out.push(b"changes")?;
     for delta in deltas {
-        match delta {
-            Delta::Put(key, route) => push_put(key, route, out)?,
-            Delta::Drop(key) => push_key(b" drop", key, out)?,
-        }
+        push_delta(delta, out)?;
     }
     Ok(())
+}
+
+fn push_delta(delta: &Delta<VpnKey, VpnRoute>, out: &mut TextOut) -> Result<(), NoMemory> {
+    match delta {
+        Delta::Put(key, route) => push_put(key, route, out),
+        Delta::Drop(key) => push_key(b" drop", key, out),
+    }
 }
 
 pub(crate) fn push_key(word: &[u8], key: &VpnKey, out: &mut TextOut) -> Result<(), NoMemory> {
@@ -68,11 +92,17 @@ pub(crate) fn push_key(word: &[u8], key: &VpnKey, out: &mut TextOut) -> Result<(
 }
 
 fn push_put(key: &VpnKey, route: &VpnRoute, out: &mut TextOut) -> Result<(), NoMemory> {
-    let next_hop = route.next_hop;
-    let label = route.label;
     push_key(b" put", key, out)?;
-    write!(out, " {next_hop} {label}")?;
-    for target in route.targets.items() {
+    push_hop(route.next_hop, route.label, out)?;
+    push_targets(route.targets.items(), out)
+}
+
+fn push_hop(next_hop: Addr, label: Label, out: &mut TextOut) -> Result<(), NoMemory> {
+    write!(out, " {next_hop} {label}")
+}
+
+fn push_targets(targets: &[Target], out: &mut TextOut) -> Result<(), NoMemory> {
+    for target in targets {
         write!(out, " {target}")?;
     }
     Ok(())
@@ -121,6 +151,22 @@ fn write_drop(alloc: Global, octets: &mut Vec<u8>) -> Result<(), NoMemory> {
     )
 }
 
+fn write_all(alloc: Global, network: Prefix, octets: &mut Vec<u8>) -> Result<(), NoMemory> {
+    write_put(alloc, octets)?;
+    write_put_without_targets(alloc, network, octets)?;
+    write_drop(alloc, octets)
+}
+
+fn push_written(
+    alloc: Global,
+    octets: &mut Vec<u8>,
+    network: Prefix,
+    out: &mut TextOut,
+) -> Result<(), NoMemory> {
+    write_all(alloc, network, octets)?;
+    push_octets(octets.as_slice(), out)
+}
+
 /// UPDATEs behind the octets that are given: a put with a target, one without of 10.1.0.0/16, and a drop.
 pub(crate) fn tell_written_updates(
     alloc: Global,
@@ -129,8 +175,5 @@ pub(crate) fn tell_written_updates(
 ) -> Result<(), CaseFault> {
     let network = Prefix::new(Addr(0x0a01_0000), 16).ok_or(CaseFault::Unreadable)?;
     let mut octets = octets(alloc, given)?;
-    write_put(alloc, &mut octets)?;
-    write_put_without_targets(alloc, network, &mut octets)?;
-    write_drop(alloc, &mut octets)?;
-    Ok(push_octets(octets.as_slice(), out)?)
+    told(push_written(alloc, &mut octets, network, out))
 }

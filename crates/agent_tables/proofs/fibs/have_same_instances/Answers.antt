@@ -12,7 +12,8 @@ same a b =
     (λ e. let h = d.0 e in λ i. record { 0 = h i }, λ e. d.1 (λ i. (e i).0))
 
 pub returns : goal.returns
-returns c = λ on.
+returns c =
     let d = slice_eq-Decides same c.as_slice.result.now c.as_slice-2.result.now c.eq.result c.eq.ensures in
-    sym (c.as_slice.ensures.value ∙ c.in_ok-instances_here.ensures) ∙ d.0 on
-    ∙ (c.as_slice-2.ensures.value ∙ c.in_ok-instances_there.ensures)
+    let here = c.as_slice.ensures.value ∙ c.in_ok-instances_here.ensures in
+    let there = c.as_slice-2.ensures.value ∙ c.in_ok-instances_there.ensures in
+    ((λ on. sym here ∙ d.0 on ∙ there), (λ e. d.1 (here ∙ e ∙ sym there)))

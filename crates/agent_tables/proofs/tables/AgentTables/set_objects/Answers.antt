@@ -13,7 +13,7 @@ returns-then-same-clause-set c = λ have.
     let of = c.in_ok-tables.ensures in
     let made = c.in_ok-tables.tables in
     let same : map (λ (f : Table). f.0) c.self.inside.fibs.entries ≡ map (λ (f : Table). f.0) made.fibs.entries =
-    c.in_ok-same.ensures c.if-same.true in
+    c.in_ok-same.ensures.0 c.if-same.true in
     let needs : (i : InstanceId) → is_listed c.args.self.now.instances i ≡ is_needed h i =
     λ i. ap (λ (u : Tabled). is_listed u.instances i) (sym c.self.view_is)
     ∙ ap (λ (is : List InstanceId). is_listed is i) same ∙ sym (has_listed made.fibs.entries i) ∙ of.tables i in

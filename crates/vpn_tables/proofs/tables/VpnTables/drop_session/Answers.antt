@@ -4,6 +4,7 @@ use Rattle.ov_sync.proofs.KeyedLaws.{empty_values}
 use Rattle.node_model.specs.Maps.{Map}
 use Rattle.node_model.specs.Paths.{Holdings}
 use Rattle.vpn_tables.specs.Changes.{without, at_session}
+use Rattle.vpn_tables.specs.Ports.{IsNoStray}
 use Rattle.vpn_tables.specs.Ranges.{Fits}
 use Rattle.vpn_tables.specs.Views.{low_order, feed_of, peer_of, agent_of}
 use Rattle.vpn_tables.proofs.Images.{feed-empty}
@@ -11,7 +12,7 @@ use Rattle.vpn_tables.proofs.Peers.{fit_emptied}
 use Rattle.vpn_tables.proofs.tables.VpnTables.drop_session.Goals as goal
 
 pub invariant_of-self : goal.invariant_of-self
-invariant_of-self c = (rw c.reset.ensures (empty_values low_order Fits), c.self.invariant.1)
+invariant_of-self c = (rw c.reset.ensures (empty_values low_order Fits), c.self.invariant.1, (λ _. rw c.reset.ensures (empty_values low_order IsNoStray)))
 
 pub returns-then-session-eq0 : goal.returns-then-session-eq0
 returns-then-session-eq0 c =
@@ -21,4 +22,4 @@ returns-then-session-eq0 c =
 
 pub invariant_of-self-2 : goal.invariant_of-self-2
 invariant_of-self-2 c =
-    (c.self.invariant.0, fit_emptied c.self.inside.peers.items c.empty_at.new.peers.items c.from.result 65535 c.empty_at.ensures c.self.invariant.1)
+    (c.self.invariant.0, fit_emptied c.self.inside.peers.items c.empty_at.new.peers.items c.from.result 65535 c.empty_at.ensures c.self.invariant.1, c.self.invariant.2)

@@ -1,20 +1,23 @@
-use Rattle.std.proofs.Common.{◌≡◌, ◌∙◌, ◌==◌, ap, sym, subst, refl, arith, List, [], ◌∷◌, ℕ, cond}
-use Rattle.std.specs.Prelude.{Bool, true, false, not, ◌||◌, Some, None}
+use Rattle.std.proofs.Common.{◌≡◌, ◌∙◌, ◌==◌, ap, sym, subst, refl, arith, List, [], ◌∷◌, ℕ, cond, inl, inr}
+use Rattle.std.specs.Prelude.{Bool, true, false, not, ◌||◌, Option, Some, None}
 use Rattle.std.specs.BTreeMap.{is_at}
 use Rattle.std.specs.Cmp.{Equal-is}
 use Rattle.std.specs.FinMap.{get}
 use Rattle.std.specs.List.{list_any}
 use Rattle.std.specs.Map.{lookup}
-use Rattle.std.proofs.lemmas.Bool.{true≢false}
+use Rattle.std.specs.Ordering.{is_eq}
+use Rattle.std.proofs.lemmas.Bool.{eqb-true, or_cases, true≢false}
 use Rattle.std.proofs.lemmas.Bool.Decides.{nat_tests}
 use Rattle.ov_types.specs.declared.numbers.Label.{Label as LabelNo}
 use Rattle.node_model.specs.Keys.{Publish}
 use Rattle.node_model.specs.Maps.{as_label}
 use Rattle.node_model.specs.Paths.{Holdings}
+use Rattle.node_model.proofs.Members.{none_some}
+use Rattle.control_silent_agent_laws.specs.Quiet.{PublishesNothing}
 use Rattle.vpn_tables.specs.Listing.{told_in}
-use Rattle.vpn_tables_by_prefix.specs.Indexed.{label_at, label_order}
+use Rattle.vpn_tables_by_prefix.specs.Indexed.{block_at, label_at, label_order}
 use Rattle.vpn_tables_by_prefix.specs.declared.keys.LabelAt.{LabelAt}
-use Rattle.vpn_tables_by_prefix.proofs.Places.{label_exact}
+use Rattle.vpn_tables_by_prefix.proofs.Places.{label_exact, label_itself}
 use Rattle.vpn_tables_by_prefix.proofs.tables.IndexedTables.publishes_nothing.Goals as goal
 
 neither : (a b : Bool) → (a || b) ≡ false → (a ≡ false) × (b ≡ false)
@@ -41,9 +44,43 @@ none_kept (e ∷ es) k none =
       | false ↦ λ _. none_kept es k both.1
     ] refl
 
-pub returns : goal.returns
-returns c = λ t i prefix.
+-- what is kept of a session is found at its place
+not_first : (b : Bool) (v : LabelNo) (o : Option LabelNo) → cond b (Some v) o ≡ None → o ≡ None
+not_first true v o e = absurd (none_some v (sym e))
+not_first false v o e = e
+
+kept_found : (es : List (LabelAt × LabelNo)) (session : ℕ) → list_any (λ (e : LabelAt × LabelNo). e.0.session == session) es ≡ true
+    → (k : LabelAt) × (k.session ≡ session) × (lookup (is_at (label_order k)) es ≡ None → ⊥)
+kept_found [] session any = absurd (true≢false (sym any))
+kept_found (e ∷ es) session any =
+    elim (or_cases (e.0.session == session) (list_any (λ (e : LabelAt × LabelNo). e.0.session == session) es) any)
+    as (λ _. (k : LabelAt) × (k.session ≡ session) × (lookup (is_at (label_order k)) (e ∷ es) ≡ None → ⊥)) [
+      | inl here ↦ (
+        e.0,
+        eqb-true e.0.session session here,
+        (λ none. none_some e.1 (sym (ap (λ r. cond (is_eq r) (Some e.1) (lookup (is_at (label_order e.0)) es)) (sym (label_itself e.0)) ∙ none))),
+      )
+      | inr later ↦
+          let q = kept_found es session later in
+          (q.0, q.1, (λ none. q.2 (not_first (is_at (label_order q.0) e.0) e.1 (lookup (is_at (label_order q.0)) es) none)))
+    ]
+
+pub returns-clause-only_if_nothing : goal.returns-clause-only_if_nothing
+returns-clause-only_if_nothing c = λ t i prefix.
     let s = c.self.inside in
     let k = label_at c.args.session i prefix in
     subst (λ (h : Holdings). as_label (get (told_in h.agents c.args.session).map (Publish i prefix)) ≡ None) c.self.view_is
     (sym (c.self.invariant.1.0 k) ∙ none_kept s.labels.entries k (sym c.has_label.ensures ∙ not_so c.has_label.result t))
+
+pub returns-clause-if_nothing : goal.returns-clause-if_nothing
+returns-clause-if_nothing c = λ nothing.
+    let s = c.self.inside in
+    let silent = subst (λ (h : Holdings). PublishesNothing (told_in h.agents c.args.session).map) (sym c.self.view_is) nothing in
+    elim c.has_label.result as (λ b. c.has_label.result ≡ b → not b ≡ true) [
+      | true ↦ λ t.
+          let q = kept_found s.labels.entries c.args.session (sym c.has_label.ensures ∙ t) in
+          absurd (q.2 (c.self.invariant.1.0 q.0
+          ∙ ap (λ n. as_label (get (told_in s.held.agents n).map (Publish q.0.instance (block_at q.0)))) q.1
+          ∙ silent q.0.instance (block_at q.0)))
+      | false ↦ λ _. refl
+    ] refl

@@ -1,0 +1,364 @@
+//! What the form wants at a place of a document, by the end of the place's path. The phrases are those of docs/FORMATS.md.
+ghost use Rattle.std.specs.Prelude.{◌≡◌};
+ghost use Rattle.explanations.specs.Wanted.{before_point, behind_point, is_item, member_name};
+ghost use Rattle.explanations.specs.Wanted.{item_wanted, member_wanted, wanted_at};
+ghost use Rattle.explanations.specs.Wanted.{controllers_item, policies_item};
+ghost use Rattle.explanations.specs.Wanted.{chain_member, configuration_member, controller_member, document_member};
+ghost use Rattle.explanations.specs.Wanted.{edit_member, event_member, group_member, kind_member, listed_member};
+ghost use Rattle.explanations.specs.Wanted.{network_member, node_member, packet_member, policy_member, port_member};
+ghost use Rattle.explanations.specs.Wanted.{rule_member, service_member, topology_member};
+
+/// Of a place that the form does not have.
+const NO_PHRASE: &str = "docs/FORMATS.md has it";
+
+const OBJECT: &str = "an object";
+
+const LIST: &str = "a list";
+
+const NAME: &str = "a name of 1 to 32 of the characters a to z, 0 to 9, - and _";
+
+const NODE_NAME: &str =
+    "a name of 1 to 32 of the characters a to z, 0 to 9, - and _, but not config";
+
+const NODE_ADDRESS: &str = "an address from 1.0.0.0 to 223.255.255.255";
+
+const ADDRESS: &str = "an address such as 10.1.0.5";
+
+const PORT_ID: &str = "a whole number from 0 to 524271";
+
+const SIXTEEN_BITS: &str = "a whole number from 0 to 65535";
+
+/// What is wanted at a path.
+#[tactic(auto, unfolding(crate::specs::Wanted::wanted_at))]
+pub(crate) fn wanted_at(path: &str) -> &'static str
+    ensures { result.now ≡ wanted_at path.now }
+{
+    let (front, word) = cut_at_point(path);
+    let (_, parent) = cut_at_point(front);
+    if is_item(word) {
+        item_wanted(member_name(parent), member_name(word))
+    } else {
+        member_wanted(member_name(parent), member_name(word))
+    }
+}
+
+/// A path cut at its last point; where there is none, nothing and the path.
+fn cut_at_point(path: &str) -> (&str, &str)
+    ensures front { result.0.now ≡ before_point path.now }
+    ensures back { result.1.now ≡ behind_point path.now }
+{
+    match path.rsplit_once('.') {
+        Some(parts) => parts,
+        None => ("", path),
+    }
+}
+
+/// A member without the place of an item.
+fn member_name(word: &str) -> &str
+    ensures { result.now ≡ member_name word.now }
+{
+    match word.split_once('[') {
+        Some((name, _)) => name,
+        None => word,
+    }
+}
+
+/// Whether a word leads to an item of its list.
+fn is_item(word: &str) -> bool
+    ensures { result ≡ is_item word.now }
+{
+    word.as_bytes().strip_suffix(b"]").is_some()
+}
+
+/// What is wanted of a member, by the one before it: the list that its object is in, or the object's kind in an edit.
+#[tactic(auto, unfolding(crate::specs::Wanted::member_wanted))]
+fn member_wanted(parent: &str, member: &str) -> &'static str
+    ensures { result.now ≡ member_wanted parent.now member.now }
+{
+    match parent {
+        "" => document_member(member),
+        "topology" => topology_member(member),
+        "controllers" => controller_member(member),
+        "nodes" | "node" => node_member(member),
+        "configuration" => configuration_member(member),
+        "networks" | "network" => network_member(member),
+        "ports" | "port" => port_member(member),
+        "policies" | "policy" => policy_member(member),
+        "rules" => rule_member(member),
+        "services" | "service" => service_member(member),
+        "chains" | "chain" => chain_member(member),
+        _ => listed_member(parent, member),
+    }
+}
+
+/// Of what the lists of the commands have, and of the edits in them.
+#[tactic(auto, unfolding(crate::specs::Wanted::listed_member))]
+fn listed_member(parent: &str, member: &str) -> &'static str
+    ensures { result.now ≡ listed_member parent.now member.now }
+{
+    match parent {
+        "packets" | "trace" => packet_member(member),
+        "groups" => group_member(member),
+        "events" | "steps" => event_member(member),
+        "edit" => edit_member(member),
+        "put" => kind_member(OBJECT, member),
+        "delete" => kind_member(NAME, member),
+        _ => NO_PHRASE,
+    }
+}
+
+/// Of a document, which the empty path leads to, and of its members, whatever the command.
+#[tactic(auto, unfolding(crate::specs::Wanted::document_member))]
+fn document_member(member: &str) -> &'static str
+    ensures { result.now ≡ document_member member.now }
+{
+    match member {
+        "" | "topology" | "configuration" => OBJECT,
+        "packets" | "groups" | "events" | "steps" => LIST,
+        "capacity" => "a whole number from 1 to 65535",
+        _ => NO_PHRASE,
+    }
+}
+
+/// Of the topology.
+#[tactic(auto, unfolding(crate::specs::Wanted::topology_member))]
+fn topology_member(member: &str) -> &'static str
+    ensures { result.now ≡ topology_member member.now }
+{
+    match member {
+        "as" => "a whole number from 1 to 4294967294, neither 23456 nor 65535",
+        "controllers" => "a list of at least one control node",
+        "nodes" => "a list of at least one compute node",
+        _ => NO_PHRASE,
+    }
+}
+
+/// Of a control node.
+#[tactic(auto, unfolding(crate::specs::Wanted::controller_member))]
+fn controller_member(member: &str) -> &'static str
+    ensures { result.now ≡ controller_member member.now }
+{
+    match member {
+        "name" => NODE_NAME,
+        "address" => NODE_ADDRESS,
+        _ => NO_PHRASE,
+    }
+}
+
+/// Of a compute node.
+#[tactic(auto, unfolding(crate::specs::Wanted::node_member))]
+fn node_member(member: &str) -> &'static str
+    ensures { result.now ≡ node_member member.now }
+{
+    match member {
+        "name" => NODE_NAME,
+        "address" => NODE_ADDRESS,
+        "controllers" => "a list of one or two names",
+        _ => NO_PHRASE,
+    }
+}
+
+/// Of the configuration.
+#[tactic(auto, unfolding(crate::specs::Wanted::configuration_member))]
+fn configuration_member(member: &str) -> &'static str
+    ensures { result.now ≡ configuration_member member.now }
+{
+    match member {
+        "networks" | "ports" | "policies" | "services" | "chains" => LIST,
+        _ => NO_PHRASE,
+    }
+}
+
+/// Of a network.
+#[tactic(auto, unfolding(crate::specs::Wanted::network_member))]
+fn network_member(member: &str) -> &'static str
+    ensures { result.now ≡ network_member member.now }
+{
+    match member {
+        "name" => "a name of 1 to 32 of the characters a to z, 0 to 9, - and _, but not any",
+        "id" => "a whole number from 1 to 16383",
+        "subnets" => "a list of prefixes",
+        "policies" => "a list of names",
+        _ => NO_PHRASE,
+    }
+}
+
+/// Of a port.
+#[tactic(auto, unfolding(crate::specs::Wanted::port_member))]
+fn port_member(member: &str) -> &'static str
+    ensures { result.now ≡ port_member member.now }
+{
+    match member {
+        "name" | "network" | "node" => NAME,
+        "id" => PORT_ID,
+        "address" => ADDRESS,
+        _ => NO_PHRASE,
+    }
+}
+
+/// Of a policy.
+#[tactic(auto, unfolding(crate::specs::Wanted::policy_member))]
+fn policy_member(member: &str) -> &'static str
+    ensures { result.now ≡ policy_member member.now }
+{
+    match member {
+        "name" => NAME,
+        "sequence" => SIXTEEN_BITS,
+        "rules" => LIST,
+        _ => NO_PHRASE,
+    }
+}
+
+/// Of a rule.
+#[tactic(auto, unfolding(crate::specs::Wanted::rule_member))]
+fn rule_member(member: &str) -> &'static str
+    ensures { result.now ≡ rule_member member.now }
+{
+    match member {
+        "direction" => "> or <>",
+        "source" | "destination" =>
+            "the name of a network, 1 to 32 of the characters a to z, 0 to 9, - and _, or any",
+        "protocol" => "a whole number from 0 to 255, or any",
+        "source_ports" | "destination_ports" =>
+            "a list of two numbers, the first not above the second",
+        "action" => "pass, deny or chain",
+        "chain" => NAME,
+        "use" => "a whole number from 0 to 3071",
+        _ => NO_PHRASE,
+    }
+}
+
+/// Of a service.
+#[tactic(auto, unfolding(crate::specs::Wanted::service_member))]
+fn service_member(member: &str) -> &'static str
+    ensures { result.now ≡ service_member member.now }
+{
+    match member {
+        "name" | "node" => NAME,
+        "id" => SIXTEEN_BITS,
+        _ => NO_PHRASE,
+    }
+}
+
+/// Of a chain.
+#[tactic(auto, unfolding(crate::specs::Wanted::chain_member))]
+fn chain_member(member: &str) -> &'static str
+    ensures { result.now ≡ chain_member member.now }
+{
+    match member {
+        "name" => NAME,
+        "hops" => "a list of at least one name",
+        _ => NO_PHRASE,
+    }
+}
+
+/// Of a packet.
+#[tactic(auto, unfolding(crate::specs::Wanted::packet_member))]
+fn packet_member(member: &str) -> &'static str
+    ensures { result.now ≡ packet_member member.now }
+{
+    match member {
+        "port" => PORT_ID,
+        "to" => ADDRESS,
+        "protocol" => "a whole number from 0 to 255",
+        "sport" | "dport" => SIXTEEN_BITS,
+        _ => NO_PHRASE,
+    }
+}
+
+/// Of a group.
+#[tactic(auto, unfolding(crate::specs::Wanted::group_member))]
+fn group_member(member: &str) -> &'static str
+    ensures { result.now ≡ group_member member.now }
+{
+    match member {
+        "service" => "the name of a service of the configuration, which no earlier group names",
+        "members" => "a list of 1 to 16 numbers, each below the next",
+        _ => NO_PHRASE,
+    }
+}
+
+/// Of an event of a schedule, of an entry of a log and of a step, which have no member in common that is another thing.
+#[tactic(auto, unfolding(crate::specs::Wanted::event_member))]
+fn event_member(member: &str) -> &'static str
+    ensures { result.now ≡ event_member member.now }
+{
+    match member {
+        "edit" => "an object with one member, put or delete",
+        "deliver" | "deliver-bytes" | "break" => "a list of two names and a number",
+        "lose" | "connect" => "a list of two names",
+        "restart" | "show" => NAME,
+        "trace" => OBJECT,
+        "opened" => "an OPEN without a fault, in pairs of hexadecimal digits",
+        "update" => "an UPDATE without a fault, in pairs of hexadecimal digits",
+        _ => NO_PHRASE,
+    }
+}
+
+/// Of an edit.
+#[tactic(auto, unfolding(crate::specs::Wanted::edit_member))]
+fn edit_member(member: &str) -> &'static str
+    ensures { result.now ≡ edit_member member.now }
+{
+    match member {
+        "put" | "delete" =>
+            "an object with one member: network, port, policy, service, chain or node",
+        _ => NO_PHRASE,
+    }
+}
+
+/// Of what is put or deleted, where this is wanted of each kind of object.
+#[tactic(auto, unfolding(crate::specs::Wanted::kind_member))]
+fn kind_member(phrase: &'static str, member: &str) -> &'static str
+    ensures { result.now ≡ kind_member phrase.now member.now }
+{
+    match member {
+        "network" | "port" | "policy" | "service" | "chain" | "node" => phrase,
+        _ => NO_PHRASE,
+    }
+}
+
+/// What is wanted of an item of a list, by the member before it where two lists have one name.
+#[tactic(auto, unfolding(crate::specs::Wanted::item_wanted))]
+fn item_wanted(parent: &str, member: &str) -> &'static str
+    ensures { result.now ≡ item_wanted parent.now member.now }
+{
+    match member {
+        "controllers" => controllers_item(parent),
+        "policies" => policies_item(parent),
+        "nodes" | "networks" | "ports" | "services" | "chains" | "rules" | "packets" | "groups" =>
+            OBJECT,
+        "subnets" => "a prefix such as 10.1.0.0/24, with no bit set past its length",
+        "source_ports" | "destination_ports" | "members" => SIXTEEN_BITS,
+        "hops" | "lose" | "connect" => NAME,
+        "deliver" | "deliver-bytes" | "break" =>
+            "a name of 1 to 32 of the characters a to z, 0 to 9, - and _, or in the third place a whole number from 1 to 1000000",
+        "steps" => "an object with one member, edit or trace",
+        "events" => "a word or an object with one member, as docs/FORMATS.md has them",
+        _ => NO_PHRASE,
+    }
+}
+
+/// Of the controllers of a topology, and of a node.
+#[tactic(auto, unfolding(crate::specs::Wanted::controllers_item))]
+fn controllers_item(parent: &str) -> &'static str
+    ensures { result.now ≡ controllers_item parent.now }
+{
+    match parent {
+        "topology" => OBJECT,
+        "nodes" | "node" => NAME,
+        _ => NO_PHRASE,
+    }
+}
+
+/// Of the policies of a configuration, and of a network.
+#[tactic(auto, unfolding(crate::specs::Wanted::policies_item))]
+fn policies_item(parent: &str) -> &'static str
+    ensures { result.now ≡ policies_item parent.now }
+{
+    match parent {
+        "configuration" => OBJECT,
+        "networks" | "network" => NAME,
+        _ => NO_PHRASE,
+    }
+}
