@@ -8,11 +8,16 @@ it, so that of each the last half of a second is not seen. The time of the whole
 of it; what no crate has of that is printed as the rest (`rt` itself, what links, and those ends). Looking takes less than a
 hundredth of one processor.
 
-usage: tests/gate_cost.py [--anew] [--log FILE] [CRATE ..]
+Above the table stand the kit, how many processors there are, and how many ways lead down from libraries through crates.txt
+(tests/ways.py).
 
-With --anew nothing is taken from earlier runs; without, what they kept costs nothing and is not told. With crates it is
-`rt ci CRATE ..`, of these and those below them. An `rt` whose help knows neither keeps nothing and tries all: it is given
-no word. What `rt` says goes to the file, or else to a new one in a temporary folder.
+usage: tests/gate_cost.py [--anew] [--log FILE] [CRATE ..]
+       tests/gate_cost.py --beside PID
+
+With --beside nothing is started: it looks at the `rt ci` that the process PID starts, as `.ci/run` does, and tells when that
+has ended. With --anew nothing is taken from earlier runs; without, what they kept costs nothing and is not told. With crates
+it is `rt ci CRATE ..`, of these and those below them. An `rt` whose help knows neither keeps nothing and tries all: it is
+given no word. What `rt` says goes to the file, or else to a new one in a temporary folder.
 Needs Python 3.8, Linux, and `rt`. Ends with the status of `rt ci`.
 """
 import os
@@ -23,6 +28,9 @@ import subprocess
 import sys
 import tempfile
 import time
+
+sys.dont_write_bytecode = True
+import ways  # noqa: E402
 
 TOP = os.path.dirname(os.path.dirname(os.path.abspath(__file__)))
 EVERY = 0.5  # seconds between two looks
@@ -36,18 +44,7 @@ def copy_of(top, to):
     os.mkdir(f"{to}/.git")  # (it is the top of a repository)
 
 
-def crates_of(top):
-    """The crates of the repository, each with those that it stands on, in the order of the file."""
-    found = {}
-    with open(f"{top}/crates.txt", encoding="utf-8") as file:
-        for line in file:
-            name, colon, below = line.partition("#")[0].partition(":")
-            if colon:
-                found[name.split()[0]] = below.split()
-    return {name: [it for it in below if it in found] for name, below in found.items()}
-
-
-NAMES = crates_of(TOP)
+NAMES = ways.crates_of(TOP)
 
 
 def words_of(pid):
@@ -135,7 +132,12 @@ def longest(crates, seconds):
     return max((chain(it) for it in crates), key=lambda it: it[0], default=(0, []))
 
 
+def said_by(*words):
+    return subprocess.run(words, stdin=subprocess.DEVNULL, stdout=subprocess.PIPE, text=True, check=False).stdout.strip()
+
+
 def tell(crates, watch, wall, total):
+    print(f"{said_by('rt', 'version')}; {len(os.sched_getaffinity(0))} processors; {ways.whole(TOP, crates):,} ways down from libraries")
     sums = watch.sums()
     of = lambda name, kind: sums.get((name, kind), (0, 0))
     print(f"{'crate':24}" + "".join(f"{it:>8}" for it in KINDS) + f"{'all':>8}  edits tried")
@@ -152,6 +154,35 @@ def tell(crates, watch, wall, total):
     print(f"by the clock: {wall:.0f} s ({wall / 60:.1f} min), on {len(os.sched_getaffinity(0))} processors; looking took {time.process_time():.1f} s")
 
 
+def child_of(parent):
+    """The `rt ci` that a process has started, or None."""
+    for it in os.listdir("/proc"):
+        try:
+            if it.isdigit() and times_of(int(it))[0] == parent and words_of(int(it))[-2:-1] == ["ci"]:
+                return int(it)
+        except (OSError, ValueError, IndexError):
+            continue
+    return None
+
+
+def look_beside(parent):
+    """Looks at the `rt ci` that a process starts, and tells once it has ended."""
+    rt = None
+    while rt is None and os.path.isdir(f"/proc/{parent}"):
+        time.sleep(EVERY)
+        rt = child_of(parent)
+    begun, watch, total = time.time(), Watch(rt), 0
+    try:
+        while rt is not None:
+            total = sum(times_of(rt)[1:])
+            watch.look()
+            time.sleep(EVERY)
+    except (OSError, KeyboardInterrupt):
+        pass  # (it has ended, or this is to end)
+    tell(ways.crates_of(TOP), watch, time.time() - begun, total)
+    return 0
+
+
 def words_for_rt(words):
     """Those of the words that `rt ci` takes: an older `rt`, whose help has no --anew, proves all anew and takes none."""
     said = subprocess.run(["rt", "help"], stdin=subprocess.DEVNULL, capture_output=True, text=True, check=False)
@@ -160,7 +191,7 @@ def words_for_rt(words):
 
 def measure(words, log, room):
     """Runs `rt ci`, and returns its status."""
-    crates, begun = crates_of(TOP), time.time()
+    crates, begun = ways.crates_of(TOP), time.time()
     ran = subprocess.Popen(["rt", "ci", *words_for_rt(words)], cwd=room, stdin=subprocess.DEVNULL, stdout=log, stderr=log)
     watch, ended = Watch(ran.pid), 0
     while not ended:
@@ -180,6 +211,8 @@ def measure(words, log, room):
 def main(words):
     # (to be stopped is to be interrupted: what was seen is told, and `rt` ends too)
     signal.signal(signal.SIGTERM, lambda number, frame: signal.raise_signal(signal.SIGINT))
+    if len(words) == 2 and words[0] == "--beside" and words[1].isdigit():
+        return look_beside(int(words[1]))
     path = None
     if "--log" in words[:-1]:
         at = words.index("--log")

@@ -8,12 +8,12 @@ use Rattle.ov_types.specs.declared.objects.AclAction.TheVariants as Does
 use Rattle.ov_types.specs.declared.objects.AclRule.{AclRule}
 use Rattle.ov_types.specs.declared.packet.RuleNo.{RuleNo}
 use Rattle.ov_types.specs.declared.packet.Tuple.{Tuple}
-use Rattle.config_model.specs.declared.config.Action.{Action}
-use Rattle.config_model.specs.declared.config.Action.TheVariants.{Pass, Deny, Through}
-use Rattle.config_model.specs.declared.config.Config.{Config}
-use Rattle.config_model.specs.declared.config.Network.{Network}
-use Rattle.config_model.specs.declared.config.Protocol.{Protocol}
-use Rattle.config_model.specs.declared.config.Protocol.TheVariants.{Any, Number}
+use Rattle.config_types.specs.declared.config.Action.{Action}
+use Rattle.config_types.specs.declared.config.Action.TheVariants.{Pass, Deny, Through}
+use Rattle.config_types.specs.declared.config.Config.{Config}
+use Rattle.config_types.specs.declared.config.Network.{Network}
+use Rattle.config_types.specs.declared.config.Protocol.{Protocol}
+use Rattle.config_types.specs.declared.config.Protocol.TheVariants.{Any, Number}
 use Rattle.chain_expand.specs.Expansion.{expansion}
 use Rattle.policy_rules.specs.declared.matching.Match.{Match}
 use Rattle.policy_rules.specs.declared.matching.Decision.{Decision}

@@ -7,10 +7,10 @@ use Rattle.std.proofs.lemmas.List.Elements.{All-cons, All-filter}
 use Rattle.ov_types.specs.Name.{is_name}
 use Rattle.ov_types.specs.First.{first_meeting}
 use Rattle.ov_types.proofs.FirstLemmas.{all_head, all_tail, all_here, first_meeting_none}
-use Rattle.config_model.specs.Form.{has_end_form, has_protocol_form, is_range, has_action_form, has_rule_form, has_policy_form, has_network_form, has_port_form, has_service_form, has_chain_form, has_config_form}
-use Rattle.config_model.specs.declared.config.Config.{Config}
-use Rattle.config_model.specs.declared.config.Policy.{Policy}
-use Rattle.config_model.specs.declared.config.Rule.{Rule}
+use Rattle.config_types.specs.Form.{has_end_form, has_protocol_form, is_range, has_action_form, has_rule_form, has_policy_form, has_network_form, has_port_form, has_service_form, has_chain_form, has_config_form}
+use Rattle.config_types.specs.declared.config.Config.{Config}
+use Rattle.config_types.specs.declared.config.Policy.{Policy}
+use Rattle.config_types.specs.declared.config.Rule.{Rule}
 use Rattle.chain_expand.specs.Expansion.{expansion, same_number, numbers_or_fault}
 use Rattle.chain_expand.proofs.Each.{of_each_name, numbers_apart}
 use Rattle.policy_rules.specs.Related.{put_by_sequence, by_sequence}

@@ -5,3 +5,5 @@ pub mod Listed
 pub mod Orders
 pub mod Ports
 pub mod Sorting
+pub mod ConfigCheck
+pub mod PolicyRules

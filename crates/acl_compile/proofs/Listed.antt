@@ -1,9 +1,9 @@
 -- The entries of the rules of policies.
 use Rattle.std.proofs.Common.{◌≡◌, ◌&&◌, ◌||◌, Bool, true, false, cond, List, [], ◌∷◌, ◌++◌, flat_map, filter, refl, sym, ap, ◌∙◌}
 use Rattle.ov_types.specs.declared.objects.AclRule.{AclRule}
-use Rattle.config_model.specs.declared.config.Config.{Config}
-use Rattle.config_model.specs.declared.config.Network.{Network}
-use Rattle.config_model.specs.declared.config.Policy.{Policy}
+use Rattle.config_types.specs.declared.config.Config.{Config}
+use Rattle.config_types.specs.declared.config.Network.{Network}
+use Rattle.config_types.specs.declared.config.Policy.{Policy}
 use Rattle.policy_rules.specs.Related.{numbered_rules, attaches, by_sequence, fits}
 use Rattle.policy_rules.specs.Matching.{speaks_both_ways}
 use Rattle.acl_compile.specs.Oriented.{forward_entry, mirrored_entry, entries_of, oriented}

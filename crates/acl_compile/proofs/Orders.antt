@@ -10,7 +10,7 @@ use Rattle.std.proofs.lemmas.Bool.{cases_lt, ltb-false}
 use Rattle.std.proofs.lemmas.Cmp.{nat_cmp_total, on_total, then_total, tied_itself}
 use Rattle.std.proofs.lemmas.List.Sorted.{ranks_by, IsPermutation-sym}
 use Rattle.ov_types.specs.Prefix.{Block, block_cmp}
-use Rattle.config_model.specs.declared.config.Policy.{Policy}
+use Rattle.config_types.specs.declared.config.Policy.{Policy}
 use Rattle.policy_rules.specs.Related.{put_by_sequence, by_sequence}
 use Rattle.acl_compile.specs.Laws.{ComesNoLater}
 use Rattle.acl_compile.specs.Oriented.{put_prefix, ascending}

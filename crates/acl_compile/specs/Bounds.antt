@@ -1,9 +1,9 @@
 -- What access lists rest on.
 use Rattle.std.specs.Prelude.{◌≢◌, ◌≤◌, IsTrue, length}
 use Rattle.std.specs.List.{All, AllPairs, list_all}
-use Rattle.config_model.specs.Form.{has_config_form, has_rule_form}
-use Rattle.config_model.specs.declared.config.Config.{Config}
-use Rattle.config_model.specs.declared.config.Policy.{Policy}
+use Rattle.config_types.specs.Form.{has_config_form, has_rule_form}
+use Rattle.config_types.specs.declared.config.Config.{Config}
+use Rattle.config_types.specs.declared.config.Policy.{Policy}
 use Rattle.chain_expand.specs.Expansion.{expansion}
 
 -- a configuration of the written form keeps those bounds of a valid one that its access lists rest on: few rules in

@@ -8,10 +8,10 @@ use Rattle.ov_types.specs.declared.objects.AclAction.TheVariants as Does
 use Rattle.ov_types.specs.declared.objects.AclRule.{AclRule}
 use Rattle.ov_types.specs.declared.packet.Tuple.{Tuple}
 use Rattle.route_targets.specs.Numbers.{left_circuit_of, right_circuit_of, circuit_instance_of}
-use Rattle.config_model.specs.declared.config.Action.{Action}
-use Rattle.config_model.specs.declared.config.Action.TheVariants.{Pass, Deny, Through}
-use Rattle.config_model.specs.declared.config.Config.{Config}
-use Rattle.config_model.specs.declared.config.Network.{Network}
+use Rattle.config_types.specs.declared.config.Action.{Action}
+use Rattle.config_types.specs.declared.config.Action.TheVariants.{Pass, Deny, Through}
+use Rattle.config_types.specs.declared.config.Config.{Config}
+use Rattle.config_types.specs.declared.config.Network.{Network}
 use Rattle.chain_expand.specs.Expansion.{expansion}
 use Rattle.policy_rules.specs.declared.matching.Match.{Match}
 use Rattle.acl_compile.specs.Oriented.{forward_entry, mirrored_entry, acl_rules}

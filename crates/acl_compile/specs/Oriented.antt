@@ -10,12 +10,12 @@ use Rattle.ov_types.specs.declared.objects.AclRule.{AclRule}
 use Rattle.ov_types.specs.declared.objects.LowValue.{LowValue}
 use Rattle.ov_types.specs.declared.objects.LowValue.TheVariants.{Acl}
 use Rattle.route_targets.specs.Numbers.{hop_instance_of}
-use Rattle.config_model.specs.declared.config.Action.{Action}
-use Rattle.config_model.specs.declared.config.Action.TheVariants.{Pass, Deny, Through}
-use Rattle.config_model.specs.declared.config.Config.{Config}
-use Rattle.config_model.specs.declared.config.Network.{Network}
-use Rattle.config_model.specs.declared.config.Protocol.{Protocol}
-use Rattle.config_model.specs.declared.config.Protocol.TheVariants.{Any, Number}
+use Rattle.config_types.specs.declared.config.Action.{Action}
+use Rattle.config_types.specs.declared.config.Action.TheVariants.{Pass, Deny, Through}
+use Rattle.config_types.specs.declared.config.Config.{Config}
+use Rattle.config_types.specs.declared.config.Network.{Network}
+use Rattle.config_types.specs.declared.config.Protocol.{Protocol}
+use Rattle.config_types.specs.declared.config.Protocol.TheVariants.{Any, Number}
 use Rattle.chain_expand.specs.Expansion.{expansion}
 use Rattle.policy_rules.specs.declared.numbered.NumberedRule.{NumberedRule}
 use Rattle.policy_rules.specs.Related.{fits, rules_between}

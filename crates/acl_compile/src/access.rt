@@ -6,7 +6,7 @@ ghost use Rattle.acl_compile.specs.Oriented.{oriented, acl_rules, acl_value};
 use crate::entries::entries_of;
 use crate::policies::shared_policies;
 use crate::subnets::ascending;
-use config_model::{Config, Network};
+use config_types::{Config, Network};
 use ov_types::{AclRule, Items, LowValue, NoMemory};
 use std::alloc::Global;
 

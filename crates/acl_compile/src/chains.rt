@@ -5,7 +5,7 @@ ghost use Rattle.acl_compile.specs.Bounds.{KeepsBounds};
 ghost use Rattle.acl_compile.specs.Oriented.{hop_entered};
 
 use chain_expand::expand_straight;
-use config_model::Config;
+use config_types::Config;
 use ov_types::Name;
 
 /// How many services a chain has.

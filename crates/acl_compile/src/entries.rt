@@ -1,7 +1,7 @@
 //! The entries of rules.
 ghost use Rattle.std.specs.Prelude.{◌≡◌, ◌&&◌, ◌++◌, flat_map, map, option_to_list, IsTrue, IfOk, OnOk};
 ghost use Rattle.std.specs.List.{All};
-ghost use Rattle.config_model.specs.Form.{has_action_form, has_rule_form};
+ghost use Rattle.config_types.specs.Form.{has_action_form, has_rule_form};
 ghost use Rattle.policy_rules.specs.Related.{fits, numbered_rules};
 ghost use Rattle.policy_rules.specs.Matching.{speaks_both_ways};
 ghost use Rattle.acl_compile.specs.Bounds.{KeepsBounds, IsBounded};
@@ -9,7 +9,7 @@ ghost use Rattle.acl_compile.specs.Oriented.{protocol_of, does, forward_entry, m
 ghost use Rattle.acl_compile.specs.Oriented.{entries_of};
 
 use crate::chains::hop_entered;
-use config_model::{Action, Config, Direction, Network, Policy, Protocol, Rule};
+use config_types::{Action, Config, Direction, Network, Policy, Protocol, Rule};
 use ov_types::{AclAction, AclRule, NoMemory, RuleNo};
 use policy_rules::{NumberedRule, fits};
 use route_targets::hop_instance;

@@ -12,8 +12,8 @@ use Rattle.item_wire.specs.declared.item.Item.{Item}
 use Rattle.node_items.specs.Told.{AllFit, ChangeFits, IsWritable, change_of, down_of, down_order, down_value}
 use Rattle.node_items.proofs.Changes.{read_fits}
 use Rattle.node_items.proofs.Maps.{changed_fits}
-use Rattle.node_model.specs.Keys.{of_down}
-use Rattle.node_model.specs.Maps.{Change, Map}
+use Rattle.node_core.specs.NodeModel.Keys.{of_down}
+use Rattle.node_core.specs.NodeModel.Maps.{Change, Map}
 use Rattle.agent_node.specs.Applying.{changed_by}
 use Rattle.agent_node.proofs.Images.{down-changed}
 

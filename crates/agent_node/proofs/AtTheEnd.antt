@@ -12,12 +12,12 @@ use Rattle.ov_link.specs.declared.step.NodeFault.TheVariants.{NoMemory}
 use Rattle.item_wire.specs.declared.event.ItemCause.{ItemCause}
 use Rattle.item_wire.specs.declared.event.ItemCause.TheVariants.{Ended}
 use Rattle.node_items.proofs.NotEnded.{never_ended_keeping}
-use Rattle.node_model.specs.Step.{Post}
+use Rattle.node_core.specs.NodeModel.Step.{Post}
 use Rattle.node_core.specs.Whole.{IsWholeStep}
 use Rattle.node_core.proofs.Closing.{never_closed}
 use Rattle.node_laws.specs.Stepped.{AreTold, WantsByHoldings}
 use Rattle.node_laws.proofs.AtTheEnd.{seen_alike, told_where_none_failed}
-use Rattle.node_model.specs.Agent.{wanted as wanted_of}
+use Rattle.node_core.specs.NodeModel.Agent.{wanted as wanted_of}
 use Rattle.agent_node.specs.Beginning.{BeginsKeeping, session_at}
 use Rattle.agent_node.specs.Core.{heard_at, is_up, kind}
 use Rattle.agent_node.specs.declared.plan.AgentPlan.{AgentPlan}

@@ -14,7 +14,7 @@ use Rattle.node_items.specs.Hearing.{heard}
 use Rattle.node_items.specs.Keeping.{Leaves}
 use Rattle.node_items.specs.Told.{change_of, up_of}
 use Rattle.node_items.proofs.States.{state_again}
-use Rattle.node_model.specs.Step.{Opened, Post, nothing, post}
+use Rattle.node_core.specs.NodeModel.Step.{Opened, Post, nothing, post}
 use Rattle.agent_tables.specs.declared.hearing.Hearing.{Hearing}
 use Rattle.agent_node.specs.Applying.{HasHeard, HasTaken}
 use Rattle.agent_node.specs.Beginning.{controller_at, no_node, session_at, state_at}

@@ -13,12 +13,12 @@ use Rattle.ov_types.specs.declared.keys.UpKey.{UpKey}
 use Rattle.ov_types.specs.declared.numbers.Label.{Label as LabelNo}
 use Rattle.node_items.specs.Told.{ChangeFits, up_of, up_order}
 use Rattle.node_items.proofs.Maps.{difference_fits}
-use Rattle.node_model.specs.Keys.{of_up}
-use Rattle.node_model.specs.Maps.{Change, difference}
-use Rattle.node_model.specs.Values.{Label, same_value}
-use Rattle.node_model.proofs.Orders.{key_total}
+use Rattle.node_core.specs.NodeModel.Keys.{of_up}
+use Rattle.node_core.specs.NodeModel.Maps.{Change, difference}
+use Rattle.node_core.specs.NodeModel.Values.{Label, same_value}
+use Rattle.node_core.proofs.NodeModel.Orders.{key_total}
 use Rattle.agent_node.specs.Ends.{Sent, SentFits}
-use Rattle.node_model.proofs.Directions.{up_exact, up_keeps, up_total}
+use Rattle.node_core.proofs.NodeModel.Directions.{up_exact, up_keeps, up_total}
 
 pub fits_at : (ds : List (Delta UpKey LabelNo)) (i : ℕ) (d : Delta UpKey LabelNo) → i < length ds → d ≡ get_or ds i d
     → All ChangeFits (map (moved_delta of_up Label) ds) → ChangeFits (moved_delta of_up Label d)

@@ -20,12 +20,12 @@ use Rattle.node_items.specs.Beginning.{phase_of}
 use Rattle.node_items.specs.Told.{change_of, down_of, spelled, up_of}
 use Rattle.node_laws.specs.Stepped.{AreTold, HoldTheSame}
 use Rattle.node_laws.proofs.AtTheEnd.{seen_alike}
-use Rattle.node_model.specs.Agent.{Holdings, told_of as told_by}
-use Rattle.node_model.specs.Keys.{Row}
-use Rattle.node_model.specs.Maps.{Change, Map, difference}
-use Rattle.node_model.specs.Step.{Post, nothing, post}
-use Rattle.node_model.specs.Values.{same_value}
-use Rattle.node_model.proofs.Alike.{same_value_decides}
+use Rattle.node_core.specs.NodeModel.Agent.{Holdings, told_of as told_by}
+use Rattle.node_core.specs.NodeModel.Keys.{Row}
+use Rattle.node_core.specs.NodeModel.Maps.{Change, Map, difference}
+use Rattle.node_core.specs.NodeModel.Step.{Post, nothing, post}
+use Rattle.node_core.specs.NodeModel.Values.{same_value}
+use Rattle.node_core.proofs.NodeModel.Alike.{same_value_decides}
 use Rattle.agent_tables.specs.Touched.{AgreeBut, RowKey, SameRoutes, route_key}
 use Rattle.agent_tables.specs.Views.{heard_of, is_up as is_heard_up}
 use Rattle.agent_tables.specs.declared.hearing.Hearing.{Hearing}

@@ -6,3 +6,4 @@ pub mod Applied
 pub mod Begins
 pub mod AtTheEnd
 pub mod Led
+pub mod AgentTables

@@ -9,9 +9,9 @@ use Rattle.node_items.specs.Hearing.{heard}
 use Rattle.node_items.specs.Keeping.{Leaves}
 use Rattle.node_items.specs.Taking as item
 use Rattle.node_items.specs.Told.{change_of, down_of}
-use Rattle.node_model.specs.Keys.{Row}
-use Rattle.node_model.specs.Maps.{Change, Map, objects}
-use Rattle.node_model.specs.Step.{Post, post}
+use Rattle.node_core.specs.NodeModel.Keys.{Row}
+use Rattle.node_core.specs.NodeModel.Maps.{Change, Map, objects}
+use Rattle.node_core.specs.NodeModel.Step.{Post, post}
 use Rattle.agent_tables.specs.Touched.{AgreeBut, RowKey, is_among}
 use Rattle.agent_tables.specs.declared.hearing.Hearing.{Hearing}
 use Rattle.agent_node.specs.Beginning.{session_at}

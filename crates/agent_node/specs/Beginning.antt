@@ -9,8 +9,8 @@ use Rattle.item_wire.specs.declared.event.ItemCause.{ItemCause}
 use Rattle.item_wire.specs.declared.event.ItemFrom.TheVariants.{Control}
 use Rattle.node_items.specs.Beginning as item
 pub use Rattle.node_items.specs.Beginning.{state_at}
-pub use Rattle.node_model.specs.Naming.{no_node}
-use Rattle.node_model.specs.Step.{Beginning, Phase, Post}
+pub use Rattle.node_core.specs.NodeModel.Naming.{no_node}
+use Rattle.node_core.specs.NodeModel.Step.{Beginning, Phase, Post}
 use Rattle.agent_node.specs.declared.plan.AgentPlan.{AgentPlan}
 
 -- the control node at the other end of a session

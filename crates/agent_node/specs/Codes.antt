@@ -3,8 +3,8 @@ use Rattle.std.specs.Prelude.{ℕ, List, Bool, refl}
 use Rattle.std.specs.Coded.{Coded, code_by, coded×, coded_bool, coded_list, coded_ℕ}
 use Rattle.ov_types.specs.declared.rows.AgentRows.{AgentRows}
 use Rattle.ov_types.specs.contracts.rows.AgentRows as rows
-use Rattle.node_model.specs.Codes.{coded_post}
-use Rattle.node_model.specs.Step.{Post}
+use Rattle.node_core.specs.NodeModel.Codes.{coded_post}
+use Rattle.node_core.specs.NodeModel.Step.{Post}
 use Rattle.agent_node.specs.Core.{Core}
 use Rattle.agent_node.specs.declared.plan.AgentPlan.{AgentPlan}
 use Rattle.agent_node.specs.contracts.plan.AgentPlan as plans

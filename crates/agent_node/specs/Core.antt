@@ -2,11 +2,11 @@
 use Rattle.std.specs.Prelude.{ℕ, List, [], map, length, Bool, false}
 use Rattle.ov_types.specs.declared.rows.AgentRows.{AgentRows}
 use Rattle.node_items.specs.Told.{spelled}
-use Rattle.node_model.specs.Agent.{Heard, Holdings, wanted as wanted_of}
-use Rattle.node_model.specs.Maps.{Map}
+use Rattle.node_core.specs.NodeModel.Agent.{Heard, Holdings, wanted as wanted_of}
+use Rattle.node_core.specs.NodeModel.Maps.{Map}
 pub use Rattle.node_core.specs.Keeping.{AreFew, AreOfLive, AreSwept, kept_at, nothing_kept}
 pub use Rattle.node_core.specs.Resting.{is_idle, is_up, may_send, nothings}
-use Rattle.node_model.specs.Step.{NodeKind, Post}
+use Rattle.node_core.specs.NodeModel.Step.{NodeKind, Post}
 use Rattle.agent_node.specs.declared.plan.AgentPlan.{AgentPlan}
 
 -- its ends are those of the control nodes, in the order in which it lists them

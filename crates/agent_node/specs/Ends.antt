@@ -11,8 +11,8 @@ use Rattle.item_wire.specs.declared.event.ItemFrom.{ItemFrom}
 use Rattle.item_wire.specs.declared.event.ItemFrom.TheVariants.{Control}
 use Rattle.node_items.specs.Beginning.{phase_of}
 use Rattle.node_items.specs.Told.{AllFit, down_of, up_of}
-use Rattle.node_model.specs.Codes.{coded_post}
-use Rattle.node_model.specs.Step.{Post}
+use Rattle.node_core.specs.NodeModel.Codes.{coded_post}
+use Rattle.node_core.specs.NodeModel.Step.{Post}
 use Rattle.agent_tables.specs.declared.hearing.Hearing.{Hearing}
 use Rattle.agent_node.specs.declared.plan.AgentPlan.{AgentPlan}
 use Rattle.agent_node.specs.contracts.plan.AgentPlan as plans

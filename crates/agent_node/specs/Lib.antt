@@ -5,3 +5,7 @@ pub mod Ends
 pub mod Planning
 pub mod Applying
 pub mod Codes
+pub mod NodeItems
+pub mod NodeCore
+pub mod NodeModel
+pub mod ItemWire

@@ -11,7 +11,7 @@ ghost use Rattle.node_core.specs.Begun.{HasBegun};
 ghost use Rattle.node_core.specs.Keeping.{left_in, size_of};
 ghost use Rattle.node_core.specs.Whole.{Comes, session_of};
 ghost use Rattle.node_items.specs.Told.{AllFit, IsWritable, change_of, down_of};
-ghost use Rattle.node_model.specs.Step.{Beginning, Idle, Opened, post};
+ghost use Rattle.node_core.specs.NodeModel.Step.{Beginning, Idle, Opened, post};
 ghost use Rattle.agent_node.specs.Beginning.{BeginsKeeping};
 ghost use Rattle.agent_node.specs.Core.{holdings, is_idle, sessions};
 ghost use Rattle.agent_node.specs.Ends.{HeldFits, whom};

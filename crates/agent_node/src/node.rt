@@ -3,8 +3,8 @@ ghost use Rattle.std.specs.Prelude.{◌≡◌, ◌≢◌, ◌≤◌, ◌<◌, �
 ghost use Rattle.ov_link.specs.declared.step.Stepped.TheVariants.{Closed};
 ghost use Rattle.item_wire.specs.declared.event.ItemCause.TheVariants.{Ended};
 ghost use Rattle.node_core.specs.Whole.{Comes, IsWholeStep, session_of};
-ghost use Rattle.node_model.specs.Agent.{rows as rows_of};
-ghost use Rattle.node_model.specs.Step.{post};
+ghost use Rattle.node_core.specs.NodeModel.Agent.{rows as rows_of};
+ghost use Rattle.node_core.specs.NodeModel.Step.{post};
 ghost use Rattle.node_laws.specs.Stepped.{AreTold};
 ghost use Rattle.flow_acl.specs.Flows.{AreOf};
 ghost use Rattle.agent_node.specs.Beginning.{BeginsKeeping};
@@ -32,7 +32,7 @@ pub struct AgentNode {
 
 impl Model for AgentNode {
     ghost use Rattle.std.specs.Prelude.{◌≡◌, false, length};
-    ghost use Rattle.node_model.specs.Agent.{rows as rows_of};
+    ghost use Rattle.node_core.specs.NodeModel.Agent.{rows as rows_of};
     ghost use Rattle.agent_node.specs.Codes.{coded_core};
     ghost use Rattle.agent_node.specs.Core.{AreFew, AreOfLive, Core, holdings};
     ghost use Rattle.flow_acl.specs.Flows.{AreOf};

@@ -4,8 +4,8 @@ ghost use Rattle.std.specs.List.{All};
 ghost use Rattle.ov_sync.specs.Embed.{moved_delta};
 ghost use Rattle.node_items.specs.Beginning.{phase_of};
 ghost use Rattle.node_items.specs.Told.{ChangeFits, spelled, up_of};
-ghost use Rattle.node_model.specs.Keys.{of_up};
-ghost use Rattle.node_model.specs.Values.{Label as LabelOf};
+ghost use Rattle.node_core.specs.NodeModel.Keys.{of_up};
+ghost use Rattle.node_core.specs.NodeModel.Values.{Label as LabelOf};
 ghost use Rattle.agent_node.specs.Ends.{SentFits};
 ghost use Rattle.agent_node.specs.Planning.{ArePlanned, messages_of, told_of};
 

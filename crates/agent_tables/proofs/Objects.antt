@@ -15,9 +15,9 @@ use Rattle.item_wire.specs.Ranges.{is_in_range, is_node_address}
 use Rattle.item_wire.specs.declared.item.Item.{Item}
 use Rattle.item_wire.specs.declared.item.Item.TheVariants as I
 use Rattle.item_wire.proofs.ChangeLemmas.{item_of_an_object}
-use Rattle.node_model.specs.Keys.{Low}
-use Rattle.node_model.specs.Values.{Object}
-use Rattle.node_model.proofs.Members.{none_some}
+use Rattle.node_items.specs.NodeModel.Keys.{Low}
+use Rattle.node_items.specs.NodeModel.Values.{Object}
+use Rattle.node_items.proofs.NodeModel.Members.{none_some}
 use Rattle.node_items.specs.Told.{Fits}
 use Rattle.agent_tables.specs.Objects.{is_of_a_use}
 

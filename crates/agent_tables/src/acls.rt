@@ -3,7 +3,7 @@ ghost use Rattle.std.specs.Prelude.{◌≡◌, IfOk, OnOk, map};
 ghost use Rattle.std.specs.List.{filter_map};
 ghost use Rattle.std.specs.List.Sorted.{IsStrictlySortedBy};
 ghost use Rattle.ov_types.specs.Keys.{low_key_cmp};
-ghost use Rattle.node_model.specs.Agent.{acl_entry};
+ghost use Rattle.node_items.specs.NodeModel.Agent.{acl_entry};
 ghost use Rattle.agent_tables.specs.Kept.{with_entry};
 ghost use Rattle.agent_tables.specs.Slice.{pairs_of};
 

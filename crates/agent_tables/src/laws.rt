@@ -3,9 +3,9 @@ ghost use Rattle.std.specs.Prelude.{◌≡◌, ℕ, None, Some, if◌then◌else
 ghost use Rattle.std.specs.List.{AllByRecursion};
 ghost use Rattle.ov_types.specs.declared.numbers.InstanceId.{InstanceId};
 ghost use Rattle.node_items.specs.Told.{AllFit};
-ghost use Rattle.node_model.specs.Agent.{Heard, Holdings, is_needed, route_from, routes, rows, slice_in_use, wanted};
-ghost use Rattle.node_model.specs.Maps.{Change};
-ghost use Rattle.node_model.specs.Step.{At};
+ghost use Rattle.node_items.specs.NodeModel.Agent.{Heard, Holdings, is_needed, route_from, routes, rows, slice_in_use, wanted};
+ghost use Rattle.node_items.specs.NodeModel.Maps.{Change};
+ghost use Rattle.node_items.specs.NodeModel.Step.{At};
 ghost use Rattle.agent_tables.specs.Touched.{RowKey, SameRoutes, route_key, told, with_row};
 
 /// Where what is held can be told, so can all that is wanted.

@@ -1,7 +1,7 @@
 //! The instances that an agent needs.
 ghost use Rattle.std.specs.Prelude.{◌≡◌, ◌++◌, IfOk, OnOk};
 ghost use Rattle.std.specs.List.{filter_map};
-ghost use Rattle.node_model.specs.Agent.{entered_by, needed_by, needed_for};
+ghost use Rattle.node_items.specs.NodeModel.Agent.{entered_by, needed_by, needed_for};
 ghost use Rattle.agent_tables.specs.Slice.{pairs_of};
 
 use crate::object::SliceObject;

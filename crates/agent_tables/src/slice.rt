@@ -3,9 +3,9 @@ ghost use Rattle.std.specs.Prelude.{◌≡◌, IfOk, map};
 ghost use Rattle.std.specs.List.{AllByRecursion};
 ghost use Rattle.std.specs.Option.{option_map};
 ghost use Rattle.node_items.specs.Told.{AllFit, Fits, down_of, down_value};
-ghost use Rattle.node_model.specs.Agent.{Heard, slice_in_use};
-ghost use Rattle.node_model.specs.Keys.{of_down};
-ghost use Rattle.node_model.specs.Maps.{low_entry, objects};
+ghost use Rattle.node_items.specs.NodeModel.Agent.{Heard, slice_in_use};
+ghost use Rattle.node_items.specs.NodeModel.Keys.{of_down};
+ghost use Rattle.node_items.specs.NodeModel.Maps.{low_entry, objects};
 ghost use Rattle.agent_tables.specs.Slice.{pair_of, pairs_of};
 ghost use Rattle.agent_tables.specs.Views.{heard_of};
 

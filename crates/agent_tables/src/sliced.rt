@@ -2,7 +2,7 @@
 ghost use Rattle.std.specs.Prelude.{IfOk, map};
 ghost use Rattle.std.specs.List.{AllByRecursion};
 ghost use Rattle.node_items.specs.Told.{AllFit};
-ghost use Rattle.node_model.specs.Agent.{Heard};
+ghost use Rattle.node_items.specs.NodeModel.Agent.{Heard};
 ghost use Rattle.agent_tables.specs.Sliced.{AreOfSlice};
 ghost use Rattle.agent_tables.specs.Views.{heard_of};
 

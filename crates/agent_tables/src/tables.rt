@@ -5,7 +5,7 @@ ghost use Rattle.ov_types.specs.Access.{verdict};
 ghost use Rattle.route_targets.specs.Forwarding.{attached, looked_up};
 ghost use Rattle.packet_trace.specs.Circuits.{IsOfAUse};
 ghost use Rattle.node_items.specs.Told.{AllFit};
-ghost use Rattle.node_model.specs.Agent.{Heard};
+ghost use Rattle.node_items.specs.NodeModel.Agent.{Heard};
 ghost use Rattle.flow_acl.specs.Flows.{AreOf};
 ghost use Rattle.agent_tables.specs.Touched.{AreTables, HaveRoutes, with_routes};
 ghost use Rattle.agent_tables.specs.Sliced.{AreOfSlice};

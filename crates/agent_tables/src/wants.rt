@@ -2,9 +2,9 @@
 ghost use Rattle.std.specs.Prelude.{◌≡◌, ◌∷◌, [], IfOk, OnOk, map};
 ghost use Rattle.std.specs.List.{AllByRecursion, flat_map};
 ghost use Rattle.node_items.specs.Told.{AllFit, up_of};
-ghost use Rattle.node_model.specs.Agent.{Heard, publication, wanted as wanted_of};
-ghost use Rattle.node_model.specs.Keys.{Subscribe, of_up};
-ghost use Rattle.node_model.specs.Values.{Label as LabelOf};
+ghost use Rattle.node_items.specs.NodeModel.Agent.{Heard, publication, wanted as wanted_of};
+ghost use Rattle.node_items.specs.NodeModel.Keys.{Subscribe, of_up};
+ghost use Rattle.node_items.specs.NodeModel.Values.{Label as LabelOf};
 ghost use Rattle.agent_tables.specs.Kept.{added, entries_of};
 ghost use Rattle.agent_tables.specs.Slice.{pairs_of};
 ghost use Rattle.agent_tables.specs.Views.{heard_of};

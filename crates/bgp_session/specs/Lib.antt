@@ -3,3 +3,4 @@ pub mod Table
 pub mod Happenings
 pub mod Words
 pub mod Reading
+pub mod BgpVpn

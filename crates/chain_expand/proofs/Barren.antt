@@ -4,8 +4,8 @@ use Rattle.std.specs.List.{flat_map}
 use Rattle.std.specs.Option.{option_map_or}
 use Rattle.std.proofs.lemmas.Bool.{cases_eq}
 use Rattle.std.proofs.lemmas.List.{append-nil, get_or-set_same, get_or-set_other, nil_from_length, get_or-replicate}
-use Rattle.config_model.specs.declared.config.Config.{Config}
-use Rattle.config_model.specs.declared.config.Service.{Service}
+use Rattle.config_types.specs.declared.config.Config.{Config}
+use Rattle.config_types.specs.declared.config.Service.{Service}
 use Rattle.chain_expand.specs.Expansion.{service_named, hops_of, services_within}
 use Rattle.chain_expand.specs.Links.{hops_at, place_of}
 use Rattle.chain_expand.specs.Room.{AreBarren}

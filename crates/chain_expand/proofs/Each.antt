@@ -6,9 +6,9 @@ use Rattle.std.proofs.lemmas.Bool.Decides.{nat_tests}
 use Rattle.std.proofs.lemmas.List.Elements.{All-contains}
 use Rattle.ov_types.specs.First.{same_name}
 use Rattle.ov_types.proofs.FirstLemmas.{found_is}
-use Rattle.config_model.specs.declared.config.Chain.{Chain}
-use Rattle.config_model.specs.declared.config.Config.{Config}
-use Rattle.config_model.specs.declared.config.Service.{Service}
+use Rattle.config_types.specs.declared.config.Chain.{Chain}
+use Rattle.config_types.specs.declared.config.Config.{Config}
+use Rattle.config_types.specs.declared.config.Service.{Service}
 use Rattle.chain_expand.specs.Expansion.{chain_named, expansion, same_number}
 
 -- what holds of the expansion of each chain holds of that of each name: where there is no such chain it is empty

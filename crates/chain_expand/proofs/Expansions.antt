@@ -4,8 +4,8 @@ use Rattle.std.proofs.lemmas.List.{append-nil}
 use Rattle.std.proofs.lemmas.List.Folds.{length-flat_map-take}
 use Rattle.std.specs.List.{flat_map}
 use Rattle.std.specs.Option.{option_map_or}
-use Rattle.config_model.specs.declared.config.Config.{Config}
-use Rattle.config_model.specs.declared.config.Service.{Service}
+use Rattle.config_types.specs.declared.config.Config.{Config}
+use Rattle.config_types.specs.declared.config.Service.{Service}
 use Rattle.std.proofs.lemmas.Bool.{le-ltb}
 use Rattle.ov_types.specs.First.{first_meeting}
 use Rattle.chain_expand.specs.Expansion.{service_named, hops_of, services_within, same_number, numbers_or_twice, numbers_or_fault}

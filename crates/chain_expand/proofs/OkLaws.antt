@@ -5,9 +5,9 @@ use Rattle.std.specs.Result.{IsOk}
 use Rattle.std.specs.Cmp.Lexicographic.{same_text}
 use Rattle.std.proofs.lemmas.Bool.{and_parts, lt-ltb, le-ltb, cases_lt, ne_eqb, or_cases}
 use Rattle.std.proofs.lemmas.List.{get_or_append_left}
-use Rattle.config_model.specs.declared.config.Chain.{Chain}
-use Rattle.config_model.specs.declared.config.Config.{Config}
-use Rattle.config_model.specs.declared.config.Service.{Service}
+use Rattle.config_types.specs.declared.config.Chain.{Chain}
+use Rattle.config_types.specs.declared.config.Config.{Config}
+use Rattle.config_types.specs.declared.config.Service.{Service}
 use Rattle.ov_types.specs.First.{same_name, meeting_after, first_meeting, ◌<|>◌}
 use Rattle.chain_expand.specs.Expansion.{leads, loops, loop_of, same_number, expansion, expansion_of, numbers_or_twice, unless_loop}
 use Rattle.chain_expand.specs.declared.fault.ChainFault.TheVariants.{TooLong}

@@ -4,10 +4,10 @@ use Rattle.std.specs.List.{list_any}
 use Rattle.std.specs.Option.{ForSome, IfSome, option_map_or}
 use Rattle.std.proofs.lemmas.Bool.{cases_lt}
 use Rattle.std.proofs.lemmas.Option.{slice_get-get_or, slice_get_past}
-use Rattle.config_model.specs.declared.config.Chain.{Chain}
+use Rattle.config_types.specs.declared.config.Chain.{Chain}
 use Rattle.std.proofs.lemmas.List.{get_or-set_same, get_or-set_other, length-set}
 use Rattle.std.proofs.lemmas.List.Folds.{list_any_more}
-use Rattle.config_model.specs.declared.config.Config.{Config}
+use Rattle.config_types.specs.declared.config.Config.{Config}
 use Rattle.chain_expand.specs.Links.{meets, with_mark, is_marked, place_named, HasNamed, hops_at, IsLinked}
 
 absorbed : (r m s : Bool) → (m || s) ≡ (r && m || s || m)

@@ -2,7 +2,7 @@
 use Rattle.std.proofs.Common.{◌≡◌, ℕ, ◌+◌, ◌<◌, List, [], ◌∷◌, ◌++◌, Bool, None, option_map, length, take, drop, get_or, ap, sym, ◌∙◌}
 use Rattle.std.specs.List.{find}
 use Rattle.std.proofs.lemmas.List.{take_more, drop_more}
-use Rattle.config_model.specs.declared.config.Service.{Service}
+use Rattle.config_types.specs.declared.config.Service.{Service}
 use Rattle.ov_types.specs.First.{meeting_after, ◌<|>◌}
 use Rattle.chain_expand.specs.Expansion.{same_number}
 

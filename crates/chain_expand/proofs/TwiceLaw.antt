@@ -1,8 +1,8 @@
 -- What the fault of a chain with a service twice names.
 use Rattle.std.proofs.Common.{◌≡◌, ℕ, suc, ◌<◌, Bool, true, false, cond, ltb, List, [], ◌∷◌, ◌++◌, length, Option, Some, None, option_map, Err, refl, sym, ap, ◌∙◌, subst, arith, append_assoc, eqb-true}
 use Rattle.std.specs.List.{find, Contains}
-use Rattle.config_model.specs.declared.config.Chain.{Chain}
-use Rattle.config_model.specs.declared.config.Service.{Service}
+use Rattle.config_types.specs.declared.config.Chain.{Chain}
+use Rattle.config_types.specs.declared.config.Service.{Service}
 use Rattle.ov_types.specs.First.{meeting_after, first_meeting, ◌<|>◌}
 use Rattle.chain_expand.specs.declared.fault.ChainFault.TheVariants.{TooLong, Twice}
 use Rattle.chain_expand.specs.Expansion.{same_number, loop_of, expansion, expansion_of, numbers_or_twice, unless_loop}

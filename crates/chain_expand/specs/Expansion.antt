@@ -4,9 +4,9 @@ use Rattle.std.specs.Prelude.{find, Option, Some, None, is_none, Result, Ok, Err
 use Rattle.std.specs.List.{list_any}
 use Rattle.std.specs.Option.{option_map_or}
 use Rattle.ov_types.specs.declared.numbers.ServiceNo.{ServiceNo}
-use Rattle.config_model.specs.declared.config.Chain.{Chain}
-use Rattle.config_model.specs.declared.config.Config.{Config}
-use Rattle.config_model.specs.declared.config.Service.{Service}
+use Rattle.config_types.specs.declared.config.Chain.{Chain}
+use Rattle.config_types.specs.declared.config.Config.{Config}
+use Rattle.config_types.specs.declared.config.Service.{Service}
 use Rattle.chain_expand.specs.declared.fault.ChainFault.{ChainFault}
 use Rattle.chain_expand.specs.declared.fault.ChainFault.TheVariants.{Loop, TooLong, Twice}
 use Rattle.ov_types.specs.First.{same_name, first_meeting}

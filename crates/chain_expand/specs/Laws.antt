@@ -1,7 +1,7 @@
 -- What a fault of a chain says.
 use Rattle.std.specs.Prelude.{◌≡◌, List, ◌∷◌, ◌++◌, ℕ, Contains, Err}
-use Rattle.config_model.specs.declared.config.Config.{Config}
-use Rattle.config_model.specs.declared.config.Service.{Service}
+use Rattle.config_types.specs.declared.config.Config.{Config}
+use Rattle.config_types.specs.declared.config.Service.{Service}
 use Rattle.chain_expand.specs.declared.fault.ChainFault.TheVariants.{Twice}
 use Rattle.chain_expand.specs.Expansion.{expansion, expansion_of}
 

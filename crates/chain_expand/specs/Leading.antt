@@ -1,8 +1,8 @@
 -- What chains lead to and expand to, as relations: a hop, and what its chain does.
 use Rattle.std.specs.Prelude.{◌≡◌, ◌⊎◌, ℕ, List, [], ◌∷◌, ◌++◌, Contains, IsTrue, IsSome, Some, None}
-use Rattle.config_model.specs.declared.config.Chain.{Chain}
-use Rattle.config_model.specs.declared.config.Config.{Config}
-use Rattle.config_model.specs.declared.config.Service.{Service}
+use Rattle.config_types.specs.declared.config.Chain.{Chain}
+use Rattle.config_types.specs.declared.config.Config.{Config}
+use Rattle.config_types.specs.declared.config.Service.{Service}
 use Rattle.chain_expand.specs.Expansion.{service_named, chain_named, names_chain, hops_of}
 
 -- a chain has a hop that names another chain

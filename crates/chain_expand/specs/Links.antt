@@ -3,7 +3,7 @@ use Rattle.std.specs.Prelude.{◌≡◌, ℕ, zero, suc, ◌<◌, ◌==◌, ◌&
 use Rattle.std.specs.Prelude.{slice_get, slice_index_or, slice_set, Option, Some, None, if◌then◌else◌}
 use Rattle.std.specs.List.{list_any, zip}
 use Rattle.std.specs.Option.{option_map_or}
-use Rattle.config_model.specs.declared.config.Config.{Config}
+use Rattle.config_types.specs.declared.config.Config.{Config}
 use Rattle.ov_types.specs.First.{same_name}
 use Rattle.chain_expand.specs.Expansion.{names_chain, leads_within}
 

@@ -1,8 +1,8 @@
 -- Appending while there is room.
 use Rattle.std.specs.Prelude.{◌≡◌, ◌<◌, ℕ, List, [], ◌++◌, length, slice_index}
 use Rattle.std.specs.List.{flat_map}
-use Rattle.config_model.specs.declared.config.Config.{Config}
-use Rattle.config_model.specs.declared.config.Service.{Service}
+use Rattle.config_types.specs.declared.config.Config.{Config}
+use Rattle.config_types.specs.declared.config.Service.{Service}
 use Rattle.chain_expand.specs.declared.append.Room.{Room}
 use Rattle.chain_expand.specs.declared.append.Room.TheVariants.{Fits, Full}
 use Rattle.chain_expand.specs.Expansion.{services_within}

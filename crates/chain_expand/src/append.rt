@@ -8,7 +8,7 @@ ghost use Rattle.std.specs.List.{flat_map};
 use crate::bounds::MOST_CHAINS;
 use crate::found::Found;
 use crate::{hops, links};
-use config_model::{Config, Service};
+use config_types::{Config, Service};
 use ov_types::Name;
 
 /// For the place of each chain a number of depths, below which the chain is known to have no service.

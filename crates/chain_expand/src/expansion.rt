@@ -8,7 +8,7 @@ use crate::found::Found;
 use crate::loops::first_loop_of;
 use crate::numbers::numbers_or_twice;
 use crate::{ChainFault, hops};
-use config_model::Config;
+use config_types::Config;
 use ov_types::{Name, Services};
 
 /// The numbers of the services that a chain gives, in order, without a look for loops: a hop that

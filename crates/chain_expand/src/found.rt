@@ -2,7 +2,7 @@
 ghost use Rattle.std.specs.Prelude.{◌≡◌, ◌==◌, ◌<◌, ◌≤◌, [], ◌∷◌, ◌++◌, length};
 
 use crate::bounds::MOST_SERVICES;
-use config_model::Service;
+use config_types::Service;
 use ov_types::{Name, ServiceNo};
 use std::marker::Model;
 
@@ -15,7 +15,7 @@ pub(crate) struct Found {
 
 impl Model for Found {
     ghost use Rattle.std.specs.Prelude.{List, ◌≡◌, ◌≤◌, take, length};
-    ghost use Rattle.config_model.specs.declared.config.Service.{Service as ServiceValue};
+    ghost use Rattle.config_types.specs.declared.config.Service.{Service as ServiceValue};
 
     ghost Value = { List ServiceValue };
 

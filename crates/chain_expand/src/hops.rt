@@ -3,7 +3,7 @@ ghost use Rattle.std.specs.Prelude.{◌≡◌, ◌<◌, length, option_copied};
 ghost use Rattle.chain_expand.specs.Expansion.{service_named, chain_named, hops_of};
 ghost use Rattle.chain_expand.specs.Links.{hops_at};
 
-use config_model::{Chain, Config, Service};
+use config_types::{Chain, Config, Service};
 use ov_types::Name;
 
 /// The first service of a name.

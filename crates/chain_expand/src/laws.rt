@@ -1,7 +1,7 @@
 //! Laws of the definitions of loops and expansions.
 ghost use Rattle.std.specs.Prelude.{◌≡◌, ◌≢◌, ◌≤◌, ◌↔◌, ℕ, List, length, IsTrue, IsOk, AllPairs};
-ghost use Rattle.config_model.specs.declared.config.Config.{Config as Configuration};
-ghost use Rattle.config_model.specs.declared.config.Service.{Service as Instance};
+ghost use Rattle.config_types.specs.declared.config.Config.{Config as Configuration};
+ghost use Rattle.config_types.specs.declared.config.Service.{Service as Instance};
 ghost use Rattle.chain_expand.specs.Expansion.{leads, hops_of, expansion, expansion_of};
 ghost use Rattle.chain_expand.specs.Leading.{Leads, Expands, IsLoopFree, NamesThings};
 ghost use Rattle.chain_expand.specs.Laws.{TwiceNamesTheService};

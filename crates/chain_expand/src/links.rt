@@ -5,7 +5,7 @@ ghost use Rattle.chain_expand.specs.Links.{place_of, place_named, with_mark, mee
 
 use crate::bounds::MOST_CHAINS;
 use crate::hops;
-use config_model::Config;
+use config_types::Config;
 use ov_types::Name;
 
 /// A mark for the place of each chain.

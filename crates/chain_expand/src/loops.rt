@@ -7,7 +7,7 @@ ghost use Rattle.chain_expand.specs.Links.{place_of, meets, IsLinked, IsReached,
 
 use crate::bounds::MOST_CHAINS;
 use crate::links::{Marks, Rows, do_meet, links_of, place_of};
-use config_model::Config;
+use config_types::Config;
 use ov_types::Name;
 
 /// Whether a place is the target, or leads to a marked one.

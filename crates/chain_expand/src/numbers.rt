@@ -6,7 +6,7 @@ ghost use Rattle.chain_expand.specs.Expansion.{same_number, numbers_or_twice};
 
 use crate::ChainFault;
 use crate::bounds::MOST_SERVICES;
-use config_model::Service;
+use config_types::Service;
 use ov_types::{Name, Services};
 
 /// The first service with the number of another.

@@ -13,11 +13,11 @@ use Rattle.std.proofs.lemmas.Option.{same_Some}
 use Rattle.ov_sync.proofs.Ascending.{Over, Ascends, ascends_entries}
 use Rattle.ov_types.specs.declared.vpn.VpnKey.{VpnKey}
 use Rattle.ov_types.specs.declared.vpn.VpnRoute.{VpnRoute}
-use Rattle.node_model.specs.Members.{Member}
-use Rattle.node_model.specs.Paths.{Path}
-use Rattle.node_model.proofs.Members.{none_some, get_member, member_get}
+use Rattle.vpn_tables.specs.NodeModel.Members.{Member}
+use Rattle.vpn_tables.specs.NodeModel.Paths.{Path}
+use Rattle.vpn_tables.proofs.NodeModel.Members.{none_some, get_member, member_get}
 use Rattle.vpn_tables.specs.Views.{vpn_order}
-use Rattle.node_model.proofs.Directions.{vpn_total, vpn_exact}
+use Rattle.vpn_tables.proofs.NodeModel.Directions.{vpn_total, vpn_exact}
 use Rattle.chain_reorigin.specs.Told.{told_key, told_path}
 use Rattle.chain_reorigin.specs.Laws.{IsFirst}
 

@@ -3,10 +3,10 @@ use Rattle.std.specs.Prelude.{◌≡◌, List, [], ◌∷◌, ◌++◌, true, fa
 use Rattle.std.specs.List.{flat_map}
 use Rattle.std.proofs.Common.{sym, ◌∙◌, ap, inl, inr}
 use Rattle.std.proofs.lemmas.List.{append_assoc}
-use Rattle.node_model.specs.Members.{Member}
-use Rattle.node_model.specs.Paths.{Holdings, Path}
-use Rattle.node_model.specs.Reaching.{sides_of}
-use Rattle.node_model.specs.Uses.{Use, uses}
+use Rattle.vpn_tables.specs.NodeModel.Members.{Member}
+use Rattle.vpn_tables.specs.NodeModel.Paths.{Holdings, Path}
+use Rattle.vpn_tables.specs.NodeModel.Reaching.{sides_of}
+use Rattle.vpn_tables.specs.NodeModel.Uses.{Use, uses}
 use Rattle.vpn_tables.specs.Leading.{leads}
 use Rattle.chain_reorigin.specs.Laws.{RightFirst}
 

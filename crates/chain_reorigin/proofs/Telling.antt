@@ -10,13 +10,13 @@ use Rattle.ov_sync.specs.Embed.{moved_entry}
 use Rattle.ov_sync.proofs.Ascending.{entries-empty, entries-map_of, ascends}
 use Rattle.ov_types.specs.declared.vpn.VpnKey.{VpnKey}
 use Rattle.ov_types.specs.declared.vpn.VpnRoute.{VpnRoute}
-use Rattle.node_model.specs.Keys.{Key, Vpn, key_cmp}
-use Rattle.node_model.specs.Values as values
-use Rattle.node_model.specs.Values.{Value}
-use Rattle.node_model.specs.Paths.{Path}
-use Rattle.node_model.specs.Wants.{route_entry}
-use Rattle.node_model.proofs.Directions.{vpn_keeps, vpn_total}
-use Rattle.node_model.proofs.Orders.{key_total}
+use Rattle.vpn_tables.specs.NodeModel.Keys.{Key, Vpn, key_cmp}
+use Rattle.vpn_tables.specs.NodeModel.Values as values
+use Rattle.vpn_tables.specs.NodeModel.Values.{Value}
+use Rattle.vpn_tables.specs.NodeModel.Paths.{Path}
+use Rattle.vpn_tables.specs.NodeModel.Wants.{route_entry}
+use Rattle.vpn_tables.proofs.NodeModel.Directions.{vpn_keeps, vpn_total}
+use Rattle.vpn_tables.proofs.NodeModel.Orders.{key_total}
 use Rattle.vpn_tables.specs.declared.routes.Route.{Route}
 use Rattle.vpn_tables.specs.Routes.{path_of}
 use Rattle.vpn_tables.specs.Views.{vpn_order}

@@ -2,10 +2,10 @@
 use Rattle.std.specs.Prelude.{◌≡◌, ◌≢◌, List, ◌∷◌, ◌++◌, true, false}
 use Rattle.ov_types.specs.declared.vpn.VpnKey.{VpnKey}
 use Rattle.ov_types.specs.declared.vpn.VpnRoute.{VpnRoute}
-use Rattle.node_model.specs.Members.{Member}
-use Rattle.node_model.specs.Paths.{Holdings, Path}
-use Rattle.node_model.specs.Reaching.{reoriginated_paths}
-use Rattle.node_model.specs.Uses.{Use}
+use Rattle.vpn_tables.specs.NodeModel.Members.{Member}
+use Rattle.vpn_tables.specs.NodeModel.Paths.{Holdings, Path}
+use Rattle.vpn_tables.specs.NodeModel.Reaching.{reoriginated_paths}
+use Rattle.vpn_tables.specs.NodeModel.Uses.{Use}
 use Rattle.vpn_tables.specs.Leading.{leads}
 use Rattle.chain_reorigin.specs.Told.{told_key, told_path}
 

@@ -3,8 +3,8 @@ use Rattle.std.specs.Prelude.{List, map}
 use Rattle.std.specs.FinMap.{entries, from_entries}
 use Rattle.ov_types.specs.declared.vpn.VpnKey.{VpnKey}
 use Rattle.ov_types.specs.declared.vpn.VpnRoute.{VpnRoute}
-use Rattle.node_model.specs.Paths.{Holdings, Path}
-use Rattle.node_model.specs.Reaching.{reoriginated_paths}
+use Rattle.vpn_tables.specs.NodeModel.Paths.{Holdings, Path}
+use Rattle.vpn_tables.specs.NodeModel.Reaching.{reoriginated_paths}
 use Rattle.vpn_tables.specs.Views.{vpn_order}
 
 -- a path as it is told

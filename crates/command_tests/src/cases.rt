@@ -1,86 +1,186 @@
-//! One run, and how it is held against what it wants.
+//! How a line is read, and how its run is held against what it wants.
 
+use crate::ends::{Ends, WHOLE_ENDS};
 use crate::fault::CaseFault;
-use ov_io::{MemSink, MemSource, TextOut};
-use ov_types::NoMemory;
+use crate::inputs::Input;
+use crate::telling::{Run, Telling, tell, tell_status};
+use ov_io::TextOut;
 use std::alloc::Global;
-use top_call::{Status, overlay};
+use top_call::{Net, Status};
 
-fn words_of(alloc: Global, command: &str) -> Result<Vec<String>, CaseFault> {
-    let mut words = Vec::new(alloc);
-    for word in command.split_whitespace() {
-        words.push(String::from_str(alloc, word)?)?;
-    }
-    Ok(words)
+/// A run, how it is made, and what is told of it.
+#[derive(Clone, Copy)]
+struct Case<'a> {
+    run: Run<'a>,
+    ends: Ends,
+    telling: Telling<'a>,
+    /// The run is made with pieces of 1 octet a call, of 2, up to so many. Where this is 0, it is made once with its ends.
+    pieces: usize,
 }
 
-/// The octets of an input, in which a line feed, a carriage return and a tab are spelled as in JSON.
-fn input_of(alloc: Global, text: &str) -> Result<Vec<u8>, CaseFault> {
-    let mut octets = Vec::new(alloc);
-    let mut is_escaped = false;
-    for octet in text.bytes() {
-        if is_escaped {
-            octets.push(escaped(octet))?;
-            is_escaped = false;
-        } else if octet == b'\\' {
-            is_escaped = true;
-        } else {
-            octets.push(octet)?;
+/// Whether a line is a case that comes to what it wants. What it comes to is left in `told`, and the network of its run in
+/// `net`.
+///
+/// A line is the words of the command, behind a bar the input, and behind `=>` the status and the lines. In place of the
+/// bar and the input, `of` names one that is made. Before the words, up to a colon, stands what is set for the run; where
+/// rows are told, what is wanted is a run with the same rows.
+pub(crate) fn holds(
+    alloc: Global,
+    line: &str,
+    net: &mut Option<Net>,
+    told: &mut TextOut,
+) -> Result<bool, CaseFault> {
+    let (given, wanted) = line.split_once(" => ").ok_or(CaseFault::Unreadable)?;
+    if given == "no memory" {
+        return is_number_of(Status::NoMemory, wanted.as_bytes(), told);
+    }
+    let case = case_of(given)?;
+    match case.telling {
+        Telling::RowsOf(_) => holds_as(alloc, case, case_of(wanted)?.run, net, told),
+        _ => comes_to(alloc, case, wanted.as_bytes(), net, told),
+    }
+}
+
+/// Whether a status that no run here has comes to that.
+fn is_number_of(status: Status, wanted: &[u8], told: &mut TextOut) -> Result<bool, CaseFault> {
+    told.clear();
+    tell_status(status, told)?;
+    Ok(told.octets() == wanted)
+}
+
+/// Whether the same is told of another run.
+fn holds_as(
+    alloc: Global,
+    case: Case,
+    other: Run,
+    net: &mut Option<Net>,
+    told: &mut TextOut,
+) -> Result<bool, CaseFault> {
+    let mut wanted = TextOut::new(alloc);
+    tell(alloc, other, WHOLE_ENDS, case.telling, net, &mut wanted)?;
+    comes_to(alloc, case, wanted.octets(), net, told)
+}
+
+fn comes_to(
+    alloc: Global,
+    case: Case,
+    wanted: &[u8],
+    net: &mut Option<Net>,
+    told: &mut TextOut,
+) -> Result<bool, CaseFault> {
+    if case.pieces == 0 {
+        return comes_to_once(alloc, case, wanted, net, told);
+    }
+    for most in 1..=case.pieces {
+        if !comes_to_once(alloc, in_pieces(case, most), wanted, net, told)? {
+            return Ok(false);
         }
     }
-    Ok(octets)
+    Ok(true)
 }
 
-fn escaped(octet: u8) -> u8 {
-    match octet {
-        b'n' => b'\n',
-        b'r' => b'\r',
-        b't' => b'\t',
-        _ => octet,
+/// A case with ends that move at most so many octets a call.
+fn in_pieces(case: Case, most: usize) -> Case {
+    let ends = Ends {
+        most_read: most,
+        most_written: most,
+        ..case.ends
+    };
+    Case { ends, ..case }
+}
+
+fn comes_to_once(
+    alloc: Global,
+    case: Case,
+    wanted: &[u8],
+    net: &mut Option<Net>,
+    told: &mut TextOut,
+) -> Result<bool, CaseFault> {
+    told.clear();
+    tell(alloc, case.run, case.ends, case.telling, net, told)?;
+    Ok(told.octets() == wanted)
+}
+
+fn case_of(text: &str) -> Result<Case, CaseFault> {
+    match text.split_once(" | ") {
+        Some((head, input)) => case_with(head, Some(input)),
+        None => case_with(text, None),
     }
 }
 
-/// How the run ended. The network that it leaves is let go.
-fn ran(alloc: Global, words: &[String], input: Vec<u8>, sink: &mut MemSink) -> Status {
-    let mut source = MemSource::new(alloc, input, Vec::new(alloc));
-    let mut net = None;
-    overlay(alloc, words, &mut source, sink, &mut net)
+/// A case by what stands before its bar and behind it.
+fn case_with<'a>(head: &'a str, input: Option<&'a str>) -> Result<Case<'a>, CaseFault> {
+    match head.split_once(": ") {
+        Some((settings, words)) => set_all(plain_case(run_of(words, input)?), settings),
+        None => Ok(plain_case(run_of(head, input)?)),
+    }
 }
 
-/// Tells the status of a run, and behind slashes its lines.
-fn tell(alloc: Global, command: &str, input: &str, out: &mut TextOut) -> Result<(), CaseFault> {
-    let words = words_of(alloc, command)?;
-    let input = input_of(alloc, input)?;
-    let mut sink = MemSink::new(alloc, Vec::new(alloc));
-    let status = ran(alloc, words.as_slice(), input, &mut sink);
-    let number = status.number();
-    write!(out, "{number}")?;
-    Ok(push_lines(sink.taken(), out)?)
+fn plain_case(run: Run) -> Case {
+    Case {
+        run,
+        ends: WHOLE_ENDS,
+        telling: Telling::Lines,
+        pieces: 0,
+    }
 }
 
-/// The last line ends as each does.
-fn push_lines(text: &[u8], out: &mut TextOut) -> Result<(), NoMemory> {
-    let lines = match text.split_last() {
-        None => return Ok(()),
-        Some((b'\n', lines)) => lines,
-        Some(_) => return out.push(b" and a line that is cut"),
-    };
-    for line in lines.split(|octet| *octet == b'\n') {
-        out.push(b" / ")?;
-        out.push(line)?;
+fn run_of<'a>(words: &'a str, input: Option<&'a str>) -> Result<Run<'a>, CaseFault> {
+    if let Some(text) = input {
+        return Ok(spelled_run(words, text));
+    }
+    match words.split_once(" of ") {
+        Some((command, things)) => made_run(command, things),
+        None => Ok(spelled_run(words, "")),
+    }
+}
+
+fn spelled_run<'a>(command: &'a str, text: &'a str) -> Run<'a> {
+    let input = Input::Spelled(text);
+    Run { command, input }
+}
+
+fn made_run<'a>(command: &'a str, things: &'a str) -> Result<Run<'a>, CaseFault> {
+    let (count, things) = things.split_once(" ").ok_or(CaseFault::Unreadable)?;
+    let input = Input::Made(number_of(count)?, things);
+    Ok(Run { command, input })
+}
+
+fn set_all<'a>(mut case: Case<'a>, settings: &'a str) -> Result<Case<'a>, CaseFault> {
+    for setting in settings.split(", ") {
+        set(&mut case, setting)?;
+    }
+    Ok(case)
+}
+
+fn set<'a>(case: &mut Case<'a>, setting: &'a str) -> Result<(), CaseFault> {
+    let (name, value) = setting.rsplit_once(' ').ok_or(CaseFault::Unreadable)?;
+    match name {
+        "failing read" => case.ends.failing_read = Some(number_of(value)?),
+        "failing write" => case.ends.failing_write = Some(number_of(value)?),
+        "reads of" => case.ends.most_read = number_of(value)?,
+        "pieces up to" => case.pieces = number_of(value)?,
+        "rows of" => case.telling = Telling::RowsOf(value),
+        "telling" => case.telling = telling_of(value)?,
+        _ => return Err(CaseFault::Unreadable),
     }
     Ok(())
 }
 
-/// Whether a line is a run that comes to what it wants; what it comes to is left in `told`.
-///
-/// A line is the words of the command, behind a bar the input, and behind `=>` the status and the lines.
-pub(crate) fn holds(alloc: Global, line: &str, told: &mut TextOut) -> Result<bool, CaseFault> {
-    let (case, wanted) = line.split_once(" => ").ok_or(CaseFault::Unreadable)?;
-    let (command, input) = case.split_once(" | ").ok_or(CaseFault::Unreadable)?;
-    told.clear();
-    tell(alloc, command, input, told)?;
-    Ok(told.octets() == wanted.as_bytes())
+fn telling_of(word: &str) -> Result<Telling<'static>, CaseFault> {
+    match word {
+        "octets" => Ok(Telling::Octets),
+        "lines" => Ok(Telling::LineCount),
+        "network" => Ok(Telling::Network),
+        _ => Err(CaseFault::Unreadable),
+    }
+}
+
+fn number_of(digits: &str) -> Result<usize, CaseFault> {
+    match digits.parse() {
+        Ok(number) => Ok(number),
+        Err(_) => Err(CaseFault::Unreadable),
+    }
 }
 
 /// Whether a line has no case.

@@ -8,6 +8,8 @@ use std::fmt;
 pub(crate) enum CaseFault {
     /// The case is not spelled as its kind wants it.
     Unreadable,
+    /// A node that is to show rows shows none.
+    NoRows,
     NoMemory,
 }
 
@@ -15,6 +17,7 @@ impl fmt::Display for CaseFault {
     fn fmt<W: fmt::Write>(&self, f: &mut fmt::Formatter<W>) -> fmt::Result {
         match self {
             CaseFault::Unreadable => write!(f, "the case can't be read"),
+            CaseFault::NoRows => write!(f, "a node shows no rows"),
             CaseFault::NoMemory => write!(f, "no memory"),
         }
     }

@@ -1,3 +1,4 @@
 pub mod Lines
 pub mod Outcomes
 pub mod Answers
+pub mod Leaving

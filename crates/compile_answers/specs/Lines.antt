@@ -2,14 +2,14 @@
 use Rattle.std.specs.Prelude.{ℕ, List, [], ◌∷◌, ◌++◌}
 use Rattle.ov_types.specs.declared.rows.AgentRows.{AgentRows}
 use Rattle.ov_types.specs.declared.rows.NodeId.{NodeId}
-use Rattle.config_model.specs.declared.topology.Node.{Node}
+use Rattle.config_types.specs.declared.topology.Node.{Node}
 use Rattle.config_check.specs.Checked.{Checked}
 use Rattle.report.specs.Objects.{low_lines}
 use Rattle.report.specs.Rows.{control_lines, agent_lines}
-use Rattle.transform_model.specs.Compiled.{compiled_tables}
-use Rattle.transform_model.specs.Objects.{low_objects}
-use Rattle.transform_model.specs.Tables.{Row}
-use Rattle.transform_model.specs.declared.tables.Compiled.{Compiled}
+use Rattle.schema_transform.specs.TransformModel.Compiled.{compiled_tables}
+use Rattle.schema_transform.specs.TransformModel.Objects.{low_objects}
+use Rattle.schema_transform.specs.TransformModel.Tables.{Row}
+use Rattle.schema_transform.specs.TransformModel.declared_tables_Compiled.{Compiled}
 
 -- the low-level objects
 abbrev pub objects_text : Checked → List ℕ

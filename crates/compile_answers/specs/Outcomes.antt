@@ -2,7 +2,7 @@
 use Rattle.std.specs.Prelude.{ℕ, ◌+◌, List, [], ◌∷◌, ◌++◌}
 use Rattle.ov_types.specs.declared.packet.Packet.{Packet}
 use Rattle.config_check.specs.Checked.{Checked}
-use Rattle.config_model.specs.declared.config.Config.{Config}
+use Rattle.config_types.specs.declared.config.Config.{Config}
 use Rattle.reach_plain.specs.Reachability.{reachability}
 use Rattle.report.specs.Outcomes.{outcome_line}
 

@@ -5,10 +5,10 @@ ghost use Rattle.ov_io.specs.Inputs.{TookFront};
 ghost use Rattle.ov_io.specs.Pieces.{HasWriteCause, IsOnItsWay};
 ghost use Rattle.compile_answers.specs.Lines.{agents_text, compile_text, controls_text, nodes_text, objects_text};
 ghost use Rattle.report.specs.Rows.{agent_lines};
-ghost use Rattle.transform_model.specs.Compiled.{compiled_tables};
+ghost use Rattle.schema_transform.specs.TransformModel.Compiled.{compiled_tables};
 
 use config_check::Valid;
-use config_model::Node;
+use config_types::Node;
 use ov_io::{Sink, TextOut, WriteRefusal, write_gathered, write_piece};
 use ov_types::{AgentRows, ControlRows, Name, NodeId};
 use report::{

@@ -1,6 +1,6 @@
 //! What an input is found to be, and the one line of what is not fit.
 ghost use Rattle.std.specs.Prelude.{◌≡◌, ◌≢◌, ℕ, List, None, IfOk, IfErr, OnOk, OnErr, IsTrue};
-ghost use Rattle.config_model.specs.Form.{has_topology_form, has_config_form};
+ghost use Rattle.config_types.specs.Form.{has_topology_form, has_config_form};
 ghost use Rattle.config_check.specs.Rules.{first_broken};
 ghost use Rattle.ov_io.specs.Inputs.{TookFront};
 ghost use Rattle.ov_io.specs.Pieces.{HasWriteCause};

@@ -5,17 +5,17 @@ use Rattle.std.specs.Option.{option_map_or}
 use Rattle.std.specs.Prelude.{IsTrue}
 use Rattle.std.proofs.lemmas.Bool.{and_parts}
 use Rattle.std.proofs.lemmas.List.Folds.{list_all-append}
-use Rattle.config_model.specs.declared.config.Config.{Config}
-use Rattle.config_model.specs.declared.edit.Edit.{Edit}
-use Rattle.config_model.specs.declared.edit.Edit.TheVariants.{Put, Delete}
-use Rattle.config_model.specs.declared.edit.Object.{Object}
-use Rattle.config_model.specs.declared.edit.Object.TheVariants as Objects
-use Rattle.config_model.specs.declared.edit.ObjectKind.{ObjectKind}
-use Rattle.config_model.specs.declared.edit.ObjectKind.TheVariants as Kinds
-use Rattle.config_model.specs.declared.topology.Node.{Node}
-use Rattle.config_model.specs.declared.topology.Topology.{Topology}
-use Rattle.config_model.specs.Form.{has_node_form, has_nodes_form, has_topology_form, is_as_number, has_controller_form, has_network_form, has_port_form, has_policy_form, has_service_form, has_chain_form, has_config_form}
-use Rattle.config_model.specs.Edit.{has_object_form, has_edit_form}
+use Rattle.config_types.specs.declared.config.Config.{Config}
+use Rattle.config_types.specs.declared.edit.Edit.{Edit}
+use Rattle.config_types.specs.declared.edit.Edit.TheVariants.{Put, Delete}
+use Rattle.config_types.specs.declared.edit.Object.{Object}
+use Rattle.config_types.specs.declared.edit.Object.TheVariants as Objects
+use Rattle.config_types.specs.declared.edit.ObjectKind.{ObjectKind}
+use Rattle.config_types.specs.declared.edit.ObjectKind.TheVariants as Kinds
+use Rattle.config_types.specs.declared.topology.Node.{Node}
+use Rattle.config_types.specs.declared.topology.Topology.{Topology}
+use Rattle.config_types.specs.Form.{has_node_form, has_nodes_form, has_topology_form, is_as_number, has_controller_form, has_network_form, has_port_form, has_policy_form, has_service_form, has_chain_form, has_config_form}
+use Rattle.config_types.specs.Form.{has_object_form, has_edit_form}
 use Rattle.config_check.specs.Edits.{place_of, with_put, without, network_name, port_name, policy_name, service_name, chain_name, node_name, with_object, without_object, edited_config, edited_topology}
 
 all_set : {A : Type 0} (p : A → Bool) (xs : List A) (i : ℕ) (x : A) → list_all p xs ≡ true → p x ≡ true → list_all p (set xs i x) ≡ true

@@ -14,3 +14,4 @@ pub mod OneHome
 pub mod Validity
 pub mod Edited
 pub mod EditLaws
+pub mod ChainExpand

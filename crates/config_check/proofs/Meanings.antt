@@ -9,13 +9,13 @@ use Rattle.std.proofs.lemmas.List.Kept.{AllPairs-cons}
 use Rattle.std.proofs.lemmas.Map.Views.{list_any-from_Contains, Contains-from_any}
 use Rattle.ov_types.specs.Prefix.{Block, contains, is_inside}
 use Rattle.ov_types.proofs.Blocks.{within_is}
-use Rattle.config_model.specs.declared.config.Action.{Action}
-use Rattle.config_model.specs.declared.config.Action.TheVariants.{Pass, Deny, Through}
-use Rattle.config_model.specs.declared.config.Config.{Config}
-use Rattle.config_model.specs.declared.config.End.{End}
-use Rattle.config_model.specs.declared.config.End.TheVariants as Ends
-use Rattle.config_model.specs.declared.config.Network.{Network}
-use Rattle.config_model.specs.declared.config.Port.{Port}
+use Rattle.config_types.specs.declared.config.Action.{Action}
+use Rattle.config_types.specs.declared.config.Action.TheVariants.{Pass, Deny, Through}
+use Rattle.config_types.specs.declared.config.Config.{Config}
+use Rattle.config_types.specs.declared.config.End.{End}
+use Rattle.config_types.specs.declared.config.End.TheVariants as Ends
+use Rattle.config_types.specs.declared.config.Network.{Network}
+use Rattle.config_types.specs.declared.config.Port.{Port}
 use Rattle.ov_types.specs.First.{same_name, first_meeting}
 use Rattle.config_check.specs.declared.refusal.IdKind.{IdKind}
 use Rattle.config_check.specs.declared.refusal.Refusal.{Refusal}

@@ -6,10 +6,10 @@ use Rattle.std.proofs.lemmas.List.{get_or_default}
 use Rattle.std.proofs.lemmas.List.Elements.{All-contains}
 use Rattle.ov_types.specs.Name.{is_name}
 use Rattle.ov_types.specs.Prefix.{Block, contains}
-use Rattle.config_model.specs.Form.{is_block, is_from_to, is_network_name, has_network_form, has_port_form, has_policy_form, has_service_form, has_chain_form, has_config_form}
-use Rattle.config_model.specs.declared.config.Config.{Config}
-use Rattle.config_model.specs.declared.config.Network.{Network}
-use Rattle.config_model.specs.declared.topology.Topology.{Topology}
+use Rattle.config_types.specs.Form.{is_block, is_from_to, is_network_name, has_network_form, has_port_form, has_policy_form, has_service_form, has_chain_form, has_config_form}
+use Rattle.config_types.specs.declared.config.Config.{Config}
+use Rattle.config_types.specs.declared.config.Network.{Network}
+use Rattle.config_types.specs.declared.topology.Topology.{Topology}
 use Rattle.config_check.specs.Rules.{holds_address}
 use Rattle.config_check.specs.Sentences.{Overlap, IsAround, AreApart, IsValid}
 use Rattle.config_check.proofs.Iffs.{list_all_true}

@@ -3,9 +3,9 @@ use Rattle.std.proofs.Common.{◌≡◌, ℕ, ◌<◌, ◌&&◌, ◌||◌, ltb, 
 use Rattle.std.specs.List.{find}
 use Rattle.ov_types.specs.First.{same_name, first_meeting}
 use Rattle.chain_expand.specs.Expansion.{leads, loops, loop_of, expansion, same_number, numbers_or_twice, numbers_or_fault}
-use Rattle.config_model.specs.declared.config.Chain.{Chain}
-use Rattle.config_model.specs.declared.config.Config.{Config}
-use Rattle.config_model.specs.declared.config.Service.{Service}
+use Rattle.config_types.specs.declared.config.Chain.{Chain}
+use Rattle.config_types.specs.declared.config.Config.{Config}
+use Rattle.config_types.specs.declared.config.Service.{Service}
 use Rattle.config_check.specs.declared.refusal.Refusal.TheVariants.{ChainLoop, ChainTooLong, ServiceTwice}
 use Rattle.config_check.specs.Rules.{broken_loop, broken_long, is_too_long, twice_in}
 use Rattle.config_check.specs.Twice.{twice_of}

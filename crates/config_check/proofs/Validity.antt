@@ -1,9 +1,9 @@
 -- A configuration breaks no rule exactly where the fourteen sentences hold.
 use Rattle.std.proofs.Common.{◌≡◌, ◌↔◌, Option, None, IsTrue, length, refl}
 use Rattle.std.proofs.lemmas.Bool.{le-leb}
-use Rattle.config_model.specs.Form.{has_nodes_form, has_topology_form}
-use Rattle.config_model.specs.declared.config.Config.{Config}
-use Rattle.config_model.specs.declared.topology.Topology.{Topology}
+use Rattle.config_types.specs.Form.{has_nodes_form, has_topology_form}
+use Rattle.config_types.specs.declared.config.Config.{Config}
+use Rattle.config_types.specs.declared.topology.Topology.{Topology}
 use Rattle.ov_types.specs.First.{◌<|>◌}
 use Rattle.config_check.specs.declared.refusal.Refusal.{Refusal}
 use Rattle.config_check.specs.Rules.{broken_limit, broken_name, broken_id, broken_reference, broken_reserved, broken_nested, broken_outside, broken_taken, broken_place, broken_needs, broken_same, broken_use, broken_loop, broken_long, broken_twice, broken_chain, broken_overlap, first_broken}

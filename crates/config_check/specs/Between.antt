@@ -1,8 +1,8 @@
 -- A network and those related to it, by the policies that it attaches.
 use Rattle.std.specs.Prelude.{◌&&◌, ◌||◌, Bool, List}
 use Rattle.std.specs.List.{list_any}
-use Rattle.config_model.specs.declared.config.Network.{Network}
-use Rattle.config_model.specs.declared.config.Policy.{Policy}
+use Rattle.config_types.specs.declared.config.Network.{Network}
+use Rattle.config_types.specs.declared.config.Policy.{Policy}
 use Rattle.ov_types.specs.First.{same_name}
 use Rattle.policy_rules.specs.Related.{attaches}
 use Rattle.policy_rules.specs.Wanted.{leads_between}

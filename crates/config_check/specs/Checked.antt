@@ -1,7 +1,7 @@
 -- What a check answers.
 use Rattle.std.specs.Prelude.{◌≡◌, Option, Some}
-use Rattle.config_model.specs.declared.config.Config.{Config}
-use Rattle.config_model.specs.declared.topology.Topology.{Topology}
+use Rattle.config_types.specs.declared.config.Config.{Config}
+use Rattle.config_types.specs.declared.topology.Topology.{Topology}
 use Rattle.config_check.specs.declared.refusal.CheckRefusal.{CheckRefusal}
 use Rattle.config_check.specs.declared.refusal.CheckRefusal.TheVariants.{Rule, NoMemory}
 use Rattle.config_check.specs.declared.refusal.Refusal.{Refusal}

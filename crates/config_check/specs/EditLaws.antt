@@ -1,15 +1,15 @@
 -- What an edit does to the list of its kind, and what it leaves.
 use Rattle.std.specs.Prelude.{◌≡◌, ◌≢◌, ◌↔◌, ℕ, ◌⊎◌, List, [], ◌∷◌, ◌++◌, map, None}
 use Rattle.std.specs.List.{All}
-use Rattle.config_model.specs.declared.config.Chain.{Chain}
-use Rattle.config_model.specs.declared.config.Network.{Network}
-use Rattle.config_model.specs.declared.config.Policy.{Policy}
-use Rattle.config_model.specs.declared.config.Port.{Port}
-use Rattle.config_model.specs.declared.config.Service.{Service}
-use Rattle.config_model.specs.declared.topology.Node.{Node}
-use Rattle.config_model.specs.declared.edit.Edit.TheVariants.{Put, Delete}
-use Rattle.config_model.specs.declared.edit.Object.{Object}
-use Rattle.config_model.specs.declared.edit.ObjectKind.{ObjectKind}
+use Rattle.config_types.specs.declared.config.Chain.{Chain}
+use Rattle.config_types.specs.declared.config.Network.{Network}
+use Rattle.config_types.specs.declared.config.Policy.{Policy}
+use Rattle.config_types.specs.declared.config.Port.{Port}
+use Rattle.config_types.specs.declared.config.Service.{Service}
+use Rattle.config_types.specs.declared.topology.Node.{Node}
+use Rattle.config_types.specs.declared.edit.Edit.TheVariants.{Put, Delete}
+use Rattle.config_types.specs.declared.edit.Object.{Object}
+use Rattle.config_types.specs.declared.edit.ObjectKind.{ObjectKind}
 use Rattle.config_check.specs.Sentences.{AreDistinct}
 use Rattle.config_check.specs.Checked.{Checked}
 use Rattle.config_check.specs.Edits.{edited, missing_name}

@@ -1,11 +1,11 @@
 -- What finds an object by its name, its number or its address.
 use Rattle.std.specs.Prelude.{◌≡◌, ◌↔◌, ◌==◌, ◌&&◌, ℕ, List, Option, Some, None, find}
 use Rattle.std.specs.List.{All, Contains}
-use Rattle.config_model.specs.declared.config.Config.{Config}
-use Rattle.config_model.specs.declared.config.Network.{Network}
-use Rattle.config_model.specs.declared.config.Port.{Port}
-use Rattle.config_model.specs.declared.topology.Node.{Node}
-use Rattle.config_model.specs.declared.topology.Topology.{Topology}
+use Rattle.config_types.specs.declared.config.Config.{Config}
+use Rattle.config_types.specs.declared.config.Network.{Network}
+use Rattle.config_types.specs.declared.config.Port.{Port}
+use Rattle.config_types.specs.declared.topology.Node.{Node}
+use Rattle.config_types.specs.declared.topology.Topology.{Topology}
 use Rattle.ov_types.specs.First.{same_name}
 
 abbrev pub network_named : Config → List ℕ → Option Network

@@ -7,3 +7,4 @@ pub mod Texts
 pub mod Sentences
 pub mod Edits
 pub mod EditLaws
+pub mod ChainExpand

@@ -4,18 +4,18 @@ use Rattle.std.specs.Prelude.{◌++◌, length, map, filter, find, Option, Some,
 use Rattle.std.specs.List.{list_any, list_all, filter_map}
 use Rattle.std.specs.Option.{option_map_or}
 use Rattle.ov_types.specs.Prefix.{Block, contains, is_inside}
-use Rattle.config_model.specs.declared.config.Action.{Action}
-use Rattle.config_model.specs.declared.config.Action.TheVariants.{Pass, Deny, Through}
-use Rattle.config_model.specs.declared.config.Chain.{Chain}
-use Rattle.config_model.specs.declared.config.Config.{Config}
-use Rattle.config_model.specs.declared.config.End.{End}
-use Rattle.config_model.specs.declared.config.End.TheVariants.{Any, Named}
-use Rattle.config_model.specs.declared.config.Network.{Network}
-use Rattle.config_model.specs.declared.config.Port.{Port}
-use Rattle.config_model.specs.declared.config.Rule.{Rule}
-use Rattle.config_model.specs.declared.config.Service.{Service}
-use Rattle.config_model.specs.declared.topology.Node.{Node}
-use Rattle.config_model.specs.declared.topology.Topology.{Topology}
+use Rattle.config_types.specs.declared.config.Action.{Action}
+use Rattle.config_types.specs.declared.config.Action.TheVariants.{Pass, Deny, Through}
+use Rattle.config_types.specs.declared.config.Chain.{Chain}
+use Rattle.config_types.specs.declared.config.Config.{Config}
+use Rattle.config_types.specs.declared.config.End.{End}
+use Rattle.config_types.specs.declared.config.End.TheVariants.{Any, Named}
+use Rattle.config_types.specs.declared.config.Network.{Network}
+use Rattle.config_types.specs.declared.config.Port.{Port}
+use Rattle.config_types.specs.declared.config.Rule.{Rule}
+use Rattle.config_types.specs.declared.config.Service.{Service}
+use Rattle.config_types.specs.declared.topology.Node.{Node}
+use Rattle.config_types.specs.declared.topology.Topology.{Topology}
 use Rattle.ov_types.specs.First.{same_name, ◌<|>◌, first_of, first_meeting}
 use Rattle.chain_expand.specs.Expansion.{loops, loop_of, expansion, same_number}
 pub use Rattle.config_check.specs.Finding.{network_named}

@@ -6,7 +6,7 @@ ghost use Rattle.config_check.specs.Rules.{is_too_long, twice_in, broken_loop, b
 
 use crate::refusal::Refusal;
 use chain_expand::{ChainFault, MOST_CHAINS, MOST_SERVICES, expand_straight, first_loop};
-use config_model::{Chain, Config};
+use config_types::{Chain, Config};
 use ov_types::{Name, Services};
 
 /// The first chain that leads back to itself.

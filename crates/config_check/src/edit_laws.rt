@@ -1,6 +1,6 @@
 //! What edits mean, as laws: each is the contract of a function that does nothing.
-ghost use Rattle.config_model.specs.declared.edit.Object.TheVariants as Objects;
-ghost use Rattle.config_model.specs.declared.edit.ObjectKind.TheVariants as Kinds;
+ghost use Rattle.config_types.specs.declared.edit.Object.TheVariants as Objects;
+ghost use Rattle.config_types.specs.declared.edit.ObjectKind.TheVariants as Kinds;
 ghost use Rattle.config_check.specs.Edits.{network_name, port_name, policy_name, service_name, chain_name};
 ghost use Rattle.config_check.specs.Edits.{node_name};
 ghost use Rattle.config_check.specs.EditLaws.{PutIs, DeleteIs, MissingIs, networks_of, ports_of, policies_of};

@@ -1,6 +1,6 @@
 //! Edits of a valid configuration.
 ghost use Rattle.std.specs.Prelude.{◌≡◌, None, IfOk, IfErr, IsTrue};
-ghost use Rattle.config_model.specs.Edit.{has_edit_form};
+ghost use Rattle.config_types.specs.Form.{has_edit_form};
 ghost use Rattle.config_check.specs.Edits.{has_object, with_object, without_object, with_node, without_node};
 ghost use Rattle.config_check.specs.Edits.{edited, edited_config, edited_topology, missing_name, edit_fault};
 ghost use Rattle.config_check.specs.Edits.{RefusesEdit};
@@ -8,7 +8,7 @@ ghost use Rattle.config_check.specs.Edits.{RefusesEdit};
 use crate::named::{place_of, with_put, without};
 use crate::refusal::{CheckRefusal, Refusal};
 use crate::valid::{Valid, check, copied_config, copied_topology};
-use config_model::{Config, Edit, Object, ObjectKind, Topology};
+use config_types::{Config, Edit, Object, ObjectKind, Topology};
 use ov_types::{Name, NoMemory};
 use std::alloc::{AllocError, Global};
 use thiserror::Error;

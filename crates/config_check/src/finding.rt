@@ -2,7 +2,7 @@
 ghost use Rattle.std.specs.Prelude.{◌≡◌, option_copied, IsSome, Some};
 ghost use Rattle.config_check.specs.Finding.{network_named, network_numbered, port_numbered, port_at, node_named};
 
-use config_model::{Config, Network, Node, Port, Topology};
+use config_types::{Config, Network, Node, Port, Topology};
 use ov_types::{Addr, InstanceId, Name, PortNo};
 
 /// The first network of a name.

@@ -6,7 +6,7 @@ ghost use Rattle.policy_rules.specs.Related.{all_rules};
 
 use crate::meeting::first_meeting;
 use crate::refusal::{IdKind, Refusal};
-use config_model::{Action, Config, Topology};
+use config_types::{Action, Config, Topology};
 use ov_types::NoMemory;
 use policy_rules::NumberedRule;
 use std::alloc::Global;

@@ -2,10 +2,10 @@
 ghost use Rattle.std.specs.Prelude.{◌≡◌, ◌≢◌, ◌↔◌, ◌≤◌, ℕ, IsTrue, List, length, false};
 ghost use Rattle.std.specs.List.{All, AllPairs, Contains};
 ghost use Rattle.ov_types.specs.Prefix.{contains};
-ghost use Rattle.config_model.specs.Form.{has_config_form};
-ghost use Rattle.config_model.specs.declared.config.Config.{Config};
-ghost use Rattle.config_model.specs.declared.config.Network.{Network};
-ghost use Rattle.config_model.specs.declared.topology.Topology.{Topology};
+ghost use Rattle.config_types.specs.Form.{has_config_form};
+ghost use Rattle.config_types.specs.declared.config.Config.{Config};
+ghost use Rattle.config_types.specs.declared.config.Network.{Network};
+ghost use Rattle.config_types.specs.declared.topology.Topology.{Topology};
 ghost use Rattle.chain_expand.specs.Expansion.{loops, expansion};
 ghost use Rattle.config_check.specs.Finding.{Finds, network_named, network_numbered, port_numbered, port_at};
 ghost use Rattle.config_check.specs.Finding.{node_named};

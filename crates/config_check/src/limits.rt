@@ -5,7 +5,7 @@ ghost use Rattle.config_check.specs.Rules.{limit_unless, broken_count, broken_pa
 
 use crate::refusal::{LimitKind, Refusal};
 use chain_expand::MOST_CHAINS;
-use config_model::{Chain, Config, Network, Policy, Topology};
+use config_types::{Chain, Config, Network, Policy, Topology};
 
 const CONTROLLERS: usize = 8;
 

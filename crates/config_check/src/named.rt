@@ -3,7 +3,7 @@ ghost use Rattle.std.specs.Prelude.{◌≡◌, List, ℕ, IfOk};
 ghost use Rattle.config_check.specs.Edits.{place_of, with_put, without, network_name, port_name, policy_name};
 ghost use Rattle.config_check.specs.Edits.{service_name, chain_name, node_name};
 
-use config_model::{Chain, Network, Node, Policy, Port, Service};
+use config_types::{Chain, Network, Node, Policy, Port, Service};
 use ov_types::{Items, Name, NoMemory};
 
 /// What has a name, which is its own among those of its kind.

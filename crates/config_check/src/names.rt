@@ -7,7 +7,7 @@ ghost use Rattle.ov_types.specs.First.{first_of};
 
 use crate::meeting::first_meeting;
 use crate::refusal::Refusal;
-use config_model::{Config, Node, Topology};
+use config_types::{Config, Node, Topology};
 use ov_types::{Name, NoMemory};
 use std::alloc::Global;
 

@@ -8,7 +8,7 @@ ghost use Rattle.config_check.specs.Rules.{broken_overlap};
 
 use crate::refusal::Refusal;
 use crate::subnets::overlap;
-use config_model::{Config, Network, Policy};
+use config_types::{Config, Network, Policy};
 use ov_types::{NoMemory, Prefix};
 use policy_rules::{attaches, some_rule_leads};
 use std::alloc::Global;

@@ -5,7 +5,7 @@ ghost use Rattle.config_check.specs.Rules.{holds_address, is_outside, broken_out
 
 use crate::meeting::{Meets, first_meeting, first_of_each_key};
 use crate::refusal::Refusal;
-use config_model::{Config, Network, Port};
+use config_types::{Config, Network, Port};
 use ov_types::{Addr, Name, NoMemory};
 use std::alloc::Global;
 use std::collections::BTreeMap;
@@ -52,7 +52,7 @@ impl<'a> Model for NamedNetworks<'a> {
     ghost use Rattle.std.specs.Cmp.Lexicographic.{slice_cmp};
     ghost use Rattle.std.specs.Ordering.{nat_cmp};
     ghost use Rattle.config_check.specs.Finding.{network_named};
-    ghost use Rattle.config_model.specs.declared.config.Config.{Config};
+    ghost use Rattle.config_types.specs.declared.config.Config.{Config};
 
     ghost Value = { Config };
 

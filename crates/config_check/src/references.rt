@@ -12,7 +12,7 @@ use crate::names::{
     chain_names, controller_names, hop_names, network_names, node_names, policy_names,
 };
 use crate::refusal::Refusal;
-use config_model::{Action, Chain, Config, End, Network, Node, Port, Service, Topology};
+use config_types::{Action, Chain, Config, End, Network, Node, Port, Service, Topology};
 use ov_types::{Name, NoMemory};
 use policy_rules::NumberedRule;
 use std::alloc::Global;

@@ -7,7 +7,7 @@ ghost use Rattle.config_check.specs.Rules.{broken_nested};
 
 use crate::asking::first_of;
 use crate::refusal::Refusal;
-use config_model::{Config, Network};
+use config_types::{Config, Network};
 use ov_types::{Addr, Prefix};
 
 fn is_inside(p: &Prefix, q: &Prefix) -> bool

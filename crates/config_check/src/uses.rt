@@ -4,7 +4,7 @@ ghost use Rattle.config_check.specs.Rules.{is_chain_rule, is_any, same_end, lack
 ghost use Rattle.config_check.specs.Rules.{broken_same};
 
 use crate::refusal::Refusal;
-use config_model::{Action, End, Rule};
+use config_types::{Action, End, Rule};
 use policy_rules::NumberedRule;
 
 fn is_chain_rule(action: &Action) -> bool

@@ -1,6 +1,6 @@
 //! Valid configurations.
 ghost use Rattle.std.specs.Prelude.{◌≡◌, ◌≤◌, length, IfOk, IfErr, IsTrue};
-ghost use Rattle.config_model.specs.Form.{has_nodes_form, has_topology_form, has_config_form};
+ghost use Rattle.config_types.specs.Form.{has_nodes_form, has_topology_form, has_config_form};
 ghost use Rattle.config_check.specs.Rules.{broken_place, broken_use, broken_chain, first_broken};
 ghost use Rattle.config_check.specs.Checked.{Checked, Refuses};
 
@@ -15,7 +15,7 @@ use crate::refusal::{CheckRefusal, Refusal};
 use crate::subnets::{broken_nested, broken_reserved};
 use crate::uses::{broken_needs, broken_same};
 use chain_expand::MOST_CHAINS;
-use config_model::{Config, Topology};
+use config_types::{Config, Topology};
 use ov_types::NoMemory;
 use policy_rules::{NumberedRule, all_rules};
 use std::alloc::{AllocError, Global};
@@ -30,7 +30,7 @@ pub struct Valid {
 
 impl Model for Valid {
     ghost use Rattle.std.specs.Prelude.{◌≡◌, None, IsTrue};
-    ghost use Rattle.config_model.specs.Form.{has_topology_form, has_config_form};
+    ghost use Rattle.config_types.specs.Form.{has_topology_form, has_config_form};
     ghost use Rattle.config_check.specs.Rules.{first_broken};
     ghost use Rattle.config_check.specs.Checked.{Checked};
 

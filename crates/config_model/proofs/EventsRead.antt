@@ -4,18 +4,19 @@ use Rattle.std.specs.List.{list_all}
 use Rattle.std.proofs.lemmas.Bool.{and_parts}
 use Rattle.serde_json.specs.Data.{string}
 use Rattle.ov_types.specs.Name.{is_name}
-use Rattle.config_model.specs.declared.edit.Edit.TheVariants.{Put, Delete}
-use Rattle.config_model.specs.declared.edit.Object.{Object}
-use Rattle.config_model.specs.declared.edit.Object.TheVariants as Objects
-use Rattle.config_model.specs.declared.edit.ObjectKind.{ObjectKind}
-use Rattle.config_model.specs.declared.edit.ObjectKind.TheVariants as Kinds
-use Rattle.config_model.specs.declared.event.Event.TheVariants as Events
+use Rattle.config_types.specs.declared.edit.Edit.TheVariants.{Put, Delete}
+use Rattle.config_types.specs.declared.edit.Object.{Object}
+use Rattle.config_types.specs.declared.edit.Object.TheVariants as Objects
+use Rattle.config_types.specs.declared.edit.ObjectKind.{ObjectKind}
+use Rattle.config_types.specs.declared.edit.ObjectKind.TheVariants as Kinds
+use Rattle.config_types.specs.declared.event.Event.TheVariants as Events
 use Rattle.config_model.specs.declared.fields.Count.TheVariants.{AnyNumber, Two}
-use Rattle.config_model.specs.Form.{is_from_to, has_topology_form, has_config_form}
+use Rattle.config_types.specs.Form.{is_from_to, has_topology_form, has_config_form}
 use Rattle.config_model.specs.Fields.{in_member, member_at, object_at, name_at, only_at}
 use Rattle.config_model.specs.OneMember.{one_member_at}
 use Rattle.config_model.specs.Edit.{object_of_kind_at, put_at, delete_at, edit_at}
-use Rattle.config_model.specs.Event.{two_names_at, three_at, names_and_number_at, event_from, event_at, run_at, has_event_form}
+use Rattle.config_model.specs.Event.{two_names_at, three_at, names_and_number_at, event_from, event_at, run_at}
+use Rattle.config_types.specs.Form.{has_event_form}
 use Rattle.config_model.specs.EventDocuments.{object_document, edit_document, two_names_document, names_and_number_document, event_document, run_document}
 use Rattle.config_model.specs.EventLaws.{object_form, edit_form, event_form, run_form}
 use Rattle.config_model.specs.Laws.{IsRead, compile_form}

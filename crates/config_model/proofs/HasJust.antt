@@ -8,9 +8,9 @@ use Rattle.std.proofs.lemmas.List.Folds.{list_all-append}
 use Rattle.serde_json.specs.Data.{Data, Members, no_members, member}
 use Rattle.serde_json.specs.Find.{get, as_object}
 use Rattle.config_model.specs.declared.fault.DocKind.{DocKind}
-use Rattle.config_model.specs.declared.config.Action.{Action}
-use Rattle.config_model.specs.declared.config.Action.TheVariants.{Pass, Deny, Through}
-use Rattle.config_model.specs.declared.config.Rule.{Rule}
+use Rattle.config_types.specs.declared.config.Action.{Action}
+use Rattle.config_types.specs.declared.config.Action.TheVariants.{Pass, Deny, Through}
+use Rattle.config_types.specs.declared.config.Rule.{Rule}
 use Rattle.config_model.specs.Faults.{Fault, ◌>>=◌, wanted}
 use Rattle.config_model.specs.Fields.{Reads, member_at, in_member, object_at, first_other, none_left, only_at, optional_all, name_at}
 use Rattle.config_model.specs.Laws.{names_of, is_one_of, HasJust, ControllerHasJust, NodeHasJust, TopologyHasJust, NetworkHasJust, PortHasJust, PolicyHasJust, RuleHasJust, ServiceHasJust, ChainHasJust, ConfigHasJust, PacketHasJust, CompileHasJust, ReachHasJust}

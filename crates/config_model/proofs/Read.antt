@@ -12,18 +12,18 @@ use Rattle.ov_types.specs.declared.packet.Range16.{Range16}
 use Rattle.ov_types.specs.declared.prefix.Addr.{Addr}
 use Rattle.config_model.specs.declared.fields.Count.{Count}
 use Rattle.config_model.specs.declared.fields.Count.TheVariants.{AnyNumber, AtLeastOne, OneOrTwo, Two}
-use Rattle.config_model.specs.declared.config.Action.{Action}
-use Rattle.config_model.specs.declared.config.Action.TheVariants.{Pass, Deny, Through}
-use Rattle.config_model.specs.declared.config.Direction.{Direction}
-use Rattle.config_model.specs.declared.config.Direction.TheVariants.{OneWay, BothWays}
-use Rattle.config_model.specs.declared.config.End.{End}
-use Rattle.config_model.specs.declared.config.End.TheVariants.{Any, Named}
-use Rattle.config_model.specs.declared.config.Protocol.{Protocol}
-use Rattle.config_model.specs.declared.config.Protocol.TheVariants as protocol
-use Rattle.config_model.specs.declared.config.Rule.{Rule}
+use Rattle.config_types.specs.declared.config.Action.{Action}
+use Rattle.config_types.specs.declared.config.Action.TheVariants.{Pass, Deny, Through}
+use Rattle.config_types.specs.declared.config.Direction.{Direction}
+use Rattle.config_types.specs.declared.config.Direction.TheVariants.{OneWay, BothWays}
+use Rattle.config_types.specs.declared.config.End.{End}
+use Rattle.config_types.specs.declared.config.End.TheVariants.{Any, Named}
+use Rattle.config_types.specs.declared.config.Protocol.{Protocol}
+use Rattle.config_types.specs.declared.config.Protocol.TheVariants as protocol
+use Rattle.config_types.specs.declared.config.Rule.{Rule}
 use Rattle.config_model.specs.Paths.{item_path}
 use Rattle.ov_types.specs.Written.{address_of, block_of}
-use Rattle.config_model.specs.Form.{is_from_to, is_as_number, is_reserved_as, is_node_name, is_node_address, is_network_name, is_range, has_end_form, has_protocol_form, has_action_form, has_controller_form, has_node_form, has_topology_form, has_network_form, has_port_form, has_policy_form, has_rule_form, has_service_form, has_chain_form, has_config_form, has_packet_form, is_block}
+use Rattle.config_types.specs.Form.{is_from_to, is_as_number, is_reserved_as, is_node_name, is_node_address, is_network_name, is_range, has_end_form, has_protocol_form, has_action_form, has_controller_form, has_node_form, has_topology_form, has_network_form, has_port_form, has_policy_form, has_rule_form, has_service_form, has_chain_form, has_config_form, has_packet_form, is_block}
 use Rattle.config_model.specs.Fields.{Reads, in_member, member_at, object_at, text_at, whole_at, name_at, name_but_at, address_at, prefix_at, only_at, allows, list_at, items_at, all_at, optional_all}
 use Rattle.config_model.specs.Topology.{as_at, node_address_at, controller_at, node_at, topology_at}
 use Rattle.config_model.specs.Rule.{direction_at, end_at, protocol_at, port_number_at, range_at, through_at, action_at, rule_at}

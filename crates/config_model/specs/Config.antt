@@ -2,12 +2,12 @@
 use Rattle.std.specs.Prelude.{ℕ, ◌∷◌, [], List, codes, Result, Ok}
 use Rattle.serde_json.specs.Data.{Data}
 use Rattle.config_model.specs.declared.fields.Count.TheVariants.{AnyNumber, AtLeastOne}
-use Rattle.config_model.specs.declared.config.Network.{Network}
-use Rattle.config_model.specs.declared.config.Port.{Port}
-use Rattle.config_model.specs.declared.config.Policy.{Policy}
-use Rattle.config_model.specs.declared.config.Service.{Service}
-use Rattle.config_model.specs.declared.config.Chain.{Chain}
-use Rattle.config_model.specs.declared.config.Config.{Config}
+use Rattle.config_types.specs.declared.config.Network.{Network}
+use Rattle.config_types.specs.declared.config.Port.{Port}
+use Rattle.config_types.specs.declared.config.Policy.{Policy}
+use Rattle.config_types.specs.declared.config.Service.{Service}
+use Rattle.config_types.specs.declared.config.Chain.{Chain}
+use Rattle.config_types.specs.declared.config.Config.{Config}
 use Rattle.config_model.specs.Faults.{Fault, ◌>>=◌}
 use Rattle.config_model.specs.Fields.{object_at, in_member, whole_at, name_at, name_but_at, address_at, prefix_at}
 use Rattle.config_model.specs.Fields.{only_at, all_at, optional_all}

@@ -1,19 +1,19 @@
--- The written form of an edit, and which edits a document can write.
+-- The written form of an edit.
 use Rattle.std.specs.Prelude.{ℕ, List, Bool, codes, Option, Some, None, Result, Ok, if◌then◌else◌}
 use Rattle.serde_json.specs.Data.{Data}
 use Rattle.ov_types.specs.First.{same_name}
 use Rattle.ov_types.specs.Name.{is_name}
 use Rattle.config_model.specs.declared.fault.DocKind.TheVariants.{Unknown}
-use Rattle.config_model.specs.declared.edit.Object.{Object}
-use Rattle.config_model.specs.declared.edit.Object.TheVariants as Objects
-use Rattle.config_model.specs.declared.edit.ObjectKind.{ObjectKind}
-use Rattle.config_model.specs.declared.edit.ObjectKind.TheVariants as Kinds
-use Rattle.config_model.specs.declared.edit.Edit.{Edit}
-use Rattle.config_model.specs.declared.edit.Edit.TheVariants.{Put, Delete}
+use Rattle.config_types.specs.declared.edit.Object.{Object}
+use Rattle.config_types.specs.declared.edit.Object.TheVariants as Objects
+use Rattle.config_types.specs.declared.edit.ObjectKind.{ObjectKind}
+use Rattle.config_types.specs.declared.edit.ObjectKind.TheVariants as Kinds
+use Rattle.config_types.specs.declared.edit.Edit.{Edit}
+use Rattle.config_types.specs.declared.edit.Edit.TheVariants.{Put, Delete}
 use Rattle.config_model.specs.Paths.{member_path}
 use Rattle.config_model.specs.Faults.{Fault, ◌>>=◌, refused, wanted}
 use Rattle.config_model.specs.Fields.{Reads, name_at}
-use Rattle.config_model.specs.Form.{has_network_form, has_port_form, has_policy_form, has_service_form, has_chain_form, has_node_form}
+use Rattle.config_types.specs.Form.{has_network_form, has_port_form, has_policy_form, has_service_form, has_chain_form, has_node_form}
 use Rattle.config_model.specs.Config.{network_at, port_at, policy_at, service_at, chain_at}
 use Rattle.config_model.specs.Topology.{node_at}
 use Rattle.config_model.specs.OneMember.{one_member_at}
@@ -69,17 +69,3 @@ unfoldable pub edit_at : Reads Edit
 edit_at path d = do
   entry ← one_member_at path d
   edit_from entry.0 (member_path path entry.0) entry.1
-
--- which objects a document can write
-abbrev pub has_object_form : Object → Bool
-has_object_form (Objects.Network x) = has_network_form x
-has_object_form (Objects.Port x) = has_port_form x
-has_object_form (Objects.Policy x) = has_policy_form x
-has_object_form (Objects.Service x) = has_service_form x
-has_object_form (Objects.Chain x) = has_chain_form x
-has_object_form (Objects.Node x) = has_node_form x
-
--- which edits a document can write
-unfoldable pub has_edit_form : Edit → Bool
-has_edit_form (Put x) = has_object_form x
-has_edit_form (Delete kind name) = is_name name

@@ -1,4 +1,4 @@
--- The written form of events and of what `run` takes, and which events a document can write.
+-- The written form of events and of what `run` takes.
 use Rattle.std.specs.Prelude.{ℕ, ◌&&◌, ◌∷◌, [], List, Bool, true, codes, Option, Some, None, Result, Ok, if◌then◌else◌}
 use Rattle.serde_json.specs.Data.{Data, Items, no_items, item}
 use Rattle.serde_json.specs.Find.{as_str, as_array}
@@ -6,18 +6,19 @@ use Rattle.ov_types.specs.First.{same_name}
 use Rattle.ov_types.specs.Name.{is_name}
 use Rattle.config_model.specs.declared.fault.DocKind.TheVariants.{Kind, Range, Unknown}
 use Rattle.config_model.specs.declared.fields.Count.TheVariants.{AnyNumber, Two}
-use Rattle.config_model.specs.declared.event.Event.{Event}
-use Rattle.config_model.specs.declared.event.Event.TheVariants as Events
-use Rattle.config_model.specs.declared.event.RunInput.{RunInput}
+use Rattle.config_types.specs.declared.event.Event.{Event}
+use Rattle.config_types.specs.declared.event.Event.TheVariants as Events
+use Rattle.config_model.specs.declared.input.RunInput.{RunInput}
 use Rattle.config_model.specs.Paths.{member_path, item_path}
 use Rattle.config_model.specs.Faults.{Fault, ◌>>=◌, refused, wanted}
-use Rattle.config_model.specs.Form.{is_from_to, has_packet_form}
+use Rattle.config_types.specs.Form.{is_from_to, has_packet_form}
 use Rattle.config_model.specs.Fields.{Reads, object_at, in_member, name_at, whole_at, only_at, all_at}
 use Rattle.config_model.specs.Topology.{topology_at}
 use Rattle.config_model.specs.Config.{config_at}
 use Rattle.config_model.specs.Input.{packet_at}
 use Rattle.config_model.specs.OneMember.{one_member_at}
-use Rattle.config_model.specs.Edit.{edit_at, has_edit_form}
+use Rattle.config_model.specs.Edit.{edit_at}
+use Rattle.config_types.specs.Form.{has_edit_form}
 
 abbrev pub two_of : List ℕ → List (List ℕ) → Result (List ℕ × List ℕ) Fault
 two_of path (a ∷ b ∷ []) = Ok (a, b)
@@ -97,17 +98,3 @@ run_at path d = do
   events ← in_member events_at path (codes "events") d
   done ← only_at path (codes "topology" ∷ codes "configuration" ∷ codes "events" ∷ []) members
   Ok (record { input = record { topology = topology; config = config }; events = events })
-
--- which events a document can write
-unfoldable pub has_event_form : Event → Bool
-has_event_form (Events.Edit x) = has_edit_form x
-has_event_form (Events.Deliver from to n) = is_name from && is_name to && is_from_to 1 1000000 n
-has_event_form (Events.DeliverOctets from to n) = is_name from && is_name to && is_from_to 1 1000000 n
-has_event_form (Events.Lose a b) = is_name a && is_name b
-has_event_form (Events.Connect a b) = is_name a && is_name b
-has_event_form (Events.Restart node) = is_name node
-has_event_form Events.Round = true
-has_event_form Events.Settle = true
-has_event_form (Events.Show node) = is_name node
-has_event_form (Events.Trace p) = has_packet_form p
-has_event_form (Events.Break from to n) = is_name from && is_name to && is_from_to 1 1000000 n

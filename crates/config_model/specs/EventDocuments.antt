@@ -1,15 +1,15 @@
 -- The documents of edits and events: a text, or an object with the one member that its word names.
 use Rattle.std.specs.Prelude.{ℕ, List, codes}
 use Rattle.serde_json.specs.Data.{Data, string, array, object, no_items, item, no_members, member}
-use Rattle.config_model.specs.declared.edit.Edit.{Edit}
-use Rattle.config_model.specs.declared.edit.Edit.TheVariants.{Put, Delete}
-use Rattle.config_model.specs.declared.edit.Object.{Object}
-use Rattle.config_model.specs.declared.edit.Object.TheVariants as Objects
-use Rattle.config_model.specs.declared.edit.ObjectKind.{ObjectKind}
-use Rattle.config_model.specs.declared.edit.ObjectKind.TheVariants as Kinds
-use Rattle.config_model.specs.declared.event.Event.{Event}
-use Rattle.config_model.specs.declared.event.Event.TheVariants as Events
-use Rattle.config_model.specs.declared.event.RunInput.{RunInput}
+use Rattle.config_types.specs.declared.edit.Edit.{Edit}
+use Rattle.config_types.specs.declared.edit.Edit.TheVariants.{Put, Delete}
+use Rattle.config_types.specs.declared.edit.Object.{Object}
+use Rattle.config_types.specs.declared.edit.Object.TheVariants as Objects
+use Rattle.config_types.specs.declared.edit.ObjectKind.{ObjectKind}
+use Rattle.config_types.specs.declared.edit.ObjectKind.TheVariants as Kinds
+use Rattle.config_types.specs.declared.event.Event.{Event}
+use Rattle.config_types.specs.declared.event.Event.TheVariants as Events
+use Rattle.config_model.specs.declared.input.RunInput.{RunInput}
 use Rattle.config_model.specs.Documents.{list_document, number_document, node_document, topology_document}
 use Rattle.config_model.specs.Documents.{network_document, port_document, policy_document, service_document, chain_document}
 use Rattle.config_model.specs.Documents.{config_document, packet_document}

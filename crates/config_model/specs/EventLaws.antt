@@ -5,19 +5,20 @@ use Rattle.serde_json.specs.Data.{Data, Members, string}
 use Rattle.serde_json.specs.Events.{members_len}
 use Rattle.serde_json.specs.Find.{as_str, as_object}
 use Rattle.ov_types.specs.Name.{is_name}
-use Rattle.config_model.specs.declared.edit.Edit.{Edit}
-use Rattle.config_model.specs.declared.edit.Edit.TheVariants.{Put, Delete}
-use Rattle.config_model.specs.declared.edit.Object.{Object}
-use Rattle.config_model.specs.declared.edit.Object.TheVariants as Objects
-use Rattle.config_model.specs.declared.event.Event.{Event}
-use Rattle.config_model.specs.declared.event.Event.TheVariants as Events
-use Rattle.config_model.specs.declared.event.RunInput.{RunInput}
+use Rattle.config_types.specs.declared.edit.Edit.{Edit}
+use Rattle.config_types.specs.declared.edit.Edit.TheVariants.{Put, Delete}
+use Rattle.config_types.specs.declared.edit.Object.{Object}
+use Rattle.config_types.specs.declared.edit.Object.TheVariants as Objects
+use Rattle.config_types.specs.declared.event.Event.{Event}
+use Rattle.config_types.specs.declared.event.Event.TheVariants as Events
+use Rattle.config_model.specs.declared.input.RunInput.{RunInput}
 use Rattle.config_model.specs.declared.fault.DocKind.TheVariants.{Kind, Range, Unknown}
 use Rattle.config_model.specs.Paths.{member_path}
 use Rattle.config_model.specs.Fields.{Reads}
-use Rattle.config_model.specs.Form.{has_network_form, has_port_form, has_policy_form, has_service_form, has_chain_form, has_node_form}
+use Rattle.config_types.specs.Form.{has_network_form, has_port_form, has_policy_form, has_service_form, has_chain_form, has_node_form}
 use Rattle.config_model.specs.Edit.{edit_at}
-use Rattle.config_model.specs.Event.{event_at, run_at, has_event_form}
+use Rattle.config_model.specs.Event.{event_at, run_at}
+use Rattle.config_types.specs.Form.{has_event_form}
 use Rattle.config_model.specs.EventDocuments.{one_document, edit_word, event_word}
 use Rattle.config_model.specs.Laws.{HasJust, ReadHasJust, compile_form, fault_at, is_among}
 

@@ -15,7 +15,7 @@ use Rattle.config_model.specs.declared.fields.Count.{Count}
 use Rattle.config_model.specs.declared.fields.Count.TheVariants.{AnyNumber, AtLeastOne, OneOrTwo, Two}
 use Rattle.config_model.specs.Paths.{member_path, item_path}
 use Rattle.config_model.specs.Faults.{Fault, ◌>>=◌, refused, wanted, kept}
-use Rattle.config_model.specs.Form.{is_from_to}
+use Rattle.config_types.specs.Form.{is_from_to}
 use Rattle.ov_types.specs.Written.{address_of, block_of}
 
 -- how to read a value at a path

@@ -6,14 +6,14 @@ use Rattle.std.specs.Cmp.Lexicographic.{pointwise}
 use Rattle.serde_json.specs.Data.{unsigned, negative, float, Data, string, Items, Members, no_members, member}
 use Rattle.serde_json.specs.Events.{items_len}
 use Rattle.serde_json.specs.Find.{get, as_number, as_str, as_array, as_object}
-use Rattle.config_model.specs.declared.config.Rule.{Rule}
+use Rattle.config_types.specs.declared.config.Rule.{Rule}
 use Rattle.config_model.specs.declared.fault.DocKind.{DocKind}
 use Rattle.config_model.specs.declared.fault.DocKind.TheVariants.{Missing, Kind, Range}
 use Rattle.config_model.specs.declared.fields.Count.{Count}
 use Rattle.config_model.specs.declared.input.CompileInput.{CompileInput}
 use Rattle.config_model.specs.declared.input.ReachInput.{ReachInput}
 use Rattle.config_model.specs.Faults.{Fault}
-use Rattle.config_model.specs.Form.{is_from_to, has_topology_form, has_config_form, has_packet_form}
+use Rattle.config_types.specs.Form.{is_from_to, has_topology_form, has_config_form, has_packet_form}
 use Rattle.config_model.specs.Paths.{member_path}
 use Rattle.config_model.specs.Fields.{Reads, whole_at, all_at, allows}
 use Rattle.config_model.specs.Topology.{controller_at, node_at, topology_at}

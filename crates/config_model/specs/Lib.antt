@@ -1,4 +1,3 @@
-pub mod Form
 pub mod Paths
 pub mod Faults
 pub mod Fields
@@ -13,3 +12,4 @@ pub mod Documents
 pub mod EventDocuments
 pub mod Laws
 pub mod EventLaws
+pub mod ConfigTypes

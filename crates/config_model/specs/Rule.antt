@@ -7,15 +7,15 @@ use Rattle.serde_json.specs.Find.{as_str}
 use Rattle.ov_types.specs.declared.packet.Range16.{Range16}
 use Rattle.config_model.specs.declared.fault.DocKind.TheVariants.{Range}
 use Rattle.config_model.specs.declared.fields.Count.TheVariants.{Two}
-use Rattle.config_model.specs.declared.config.Direction.{Direction}
-use Rattle.config_model.specs.declared.config.Direction.TheVariants.{OneWay, BothWays}
-use Rattle.config_model.specs.declared.config.End.{End}
-use Rattle.config_model.specs.declared.config.End.TheVariants as end
-use Rattle.config_model.specs.declared.config.Protocol.{Protocol}
-use Rattle.config_model.specs.declared.config.Protocol.TheVariants.{Any, Number}
-use Rattle.config_model.specs.declared.config.Action.{Action}
-use Rattle.config_model.specs.declared.config.Action.TheVariants.{Pass, Deny, Through}
-use Rattle.config_model.specs.declared.config.Rule.{Rule}
+use Rattle.config_types.specs.declared.config.Direction.{Direction}
+use Rattle.config_types.specs.declared.config.Direction.TheVariants.{OneWay, BothWays}
+use Rattle.config_types.specs.declared.config.End.{End}
+use Rattle.config_types.specs.declared.config.End.TheVariants as end
+use Rattle.config_types.specs.declared.config.Protocol.{Protocol}
+use Rattle.config_types.specs.declared.config.Protocol.TheVariants.{Any, Number}
+use Rattle.config_types.specs.declared.config.Action.{Action}
+use Rattle.config_types.specs.declared.config.Action.TheVariants.{Pass, Deny, Through}
+use Rattle.config_types.specs.declared.config.Rule.{Rule}
 use Rattle.config_model.specs.Paths.{member_path}
 use Rattle.config_model.specs.Faults.{Fault, ◌>>=◌, refused, wanted, kept}
 use Rattle.config_model.specs.Fields.{object_at, in_member, text_at, whole_at, name_at, only_at, all_at}

@@ -4,9 +4,9 @@ use Rattle.serde_json.specs.Data.{Data}
 use Rattle.ov_types.specs.declared.prefix.Addr.{Addr}
 use Rattle.ov_types.specs.declared.rows.NodeId.{NodeId}
 use Rattle.config_model.specs.declared.fields.Count.TheVariants.{AtLeastOne, OneOrTwo}
-use Rattle.config_model.specs.declared.topology.Node.{Node}
-use Rattle.config_model.specs.declared.topology.Topology.{Topology}
-use Rattle.config_model.specs.Form.{is_reserved_as}
+use Rattle.config_types.specs.declared.topology.Node.{Node}
+use Rattle.config_types.specs.declared.topology.Topology.{Topology}
+use Rattle.config_types.specs.Form.{is_reserved_as}
 use Rattle.config_model.specs.Faults.{Fault, ◌>>=◌, kept}
 use Rattle.config_model.specs.Fields.{object_at, in_member, whole_at, name_at, name_but_at, address_at, only_at, all_at}
 

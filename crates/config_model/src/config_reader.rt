@@ -2,18 +2,18 @@
 ghost use Rattle.std.specs.Prelude.{[], IsTrue, Result, IfOk};
 ghost use Rattle.serde_json.specs.View.{view};
 ghost use Rattle.config_model.specs.Faults.{Gives};
-ghost use Rattle.config_model.specs.Form.{has_network_form, has_port_form, has_policy_form, has_service_form};
-ghost use Rattle.config_model.specs.Form.{has_chain_form, has_config_form};
+ghost use Rattle.config_types.specs.Form.{has_network_form, has_port_form, has_policy_form, has_service_form};
+ghost use Rattle.config_types.specs.Form.{has_chain_form, has_config_form};
 ghost use Rattle.config_model.specs.Config.{network_at, port_at, policy_at, service_at, chain_at, config_at};
 
 use crate::bounds::{LAST_NETWORK, LAST_PORT, LAST_SEQUENCE, LAST_SERVICE};
-use crate::config::{Chain, Config, Network, Policy, Port, Rule, Service};
 use crate::fault::{DocumentPlace, ReadRefusal};
 use crate::fields::{
     Count, FromDocument, check_others, list_member, object_of, optional_list_member, read_member,
     whole_member,
 };
 use crate::values::{address_member, name_but_member};
+use config_types::{Chain, Config, Network, Policy, Port, Rule, Service};
 use ov_types::{InstanceId, Name, PortNo, Prefix, ServiceNo};
 use serde_json::Value;
 use std::alloc::Global;
@@ -23,7 +23,7 @@ impl FromDocument for Network {
 
     ghost has_form = { has_network_form };
 
-    #[tactic(auto, unfolding(crate::specs::Config::network_at, crate::specs::Form::has_network_form))]
+    #[tactic(auto, unfolding(crate::specs::Config::network_at, config_types::specs::Form::has_network_form))]
     fn read(alloc: Global, place: &DocumentPlace<'_>, value: &Value) -> Result<Self, ReadRefusal> {
         let members = object_of(alloc, place, value)?;
         let name = name_but_member(alloc, place, "name", "any", value)?;
@@ -50,7 +50,7 @@ impl FromDocument for Port {
 
     ghost has_form = { has_port_form };
 
-    #[tactic(auto, unfolding(crate::specs::Config::port_at, crate::specs::Form::has_port_form))]
+    #[tactic(auto, unfolding(crate::specs::Config::port_at, config_types::specs::Form::has_port_form))]
     fn read(alloc: Global, place: &DocumentPlace<'_>, value: &Value) -> Result<Self, ReadRefusal> {
         let members = object_of(alloc, place, value)?;
         let name = read_member::<Name>(alloc, place, "name", value)?;
@@ -79,7 +79,7 @@ impl FromDocument for Policy {
 
     ghost has_form = { has_policy_form };
 
-    #[tactic(auto, unfolding(crate::specs::Config::policy_at, crate::specs::Form::has_policy_form))]
+    #[tactic(auto, unfolding(crate::specs::Config::policy_at, config_types::specs::Form::has_policy_form))]
     fn read(alloc: Global, place: &DocumentPlace<'_>, value: &Value) -> Result<Self, ReadRefusal> {
         let members = object_of(alloc, place, value)?;
         let name = read_member::<Name>(alloc, place, "name", value)?;
@@ -99,7 +99,7 @@ impl FromDocument for Service {
 
     ghost has_form = { has_service_form };
 
-    #[tactic(auto, unfolding(crate::specs::Config::service_at, crate::specs::Form::has_service_form))]
+    #[tactic(auto, unfolding(crate::specs::Config::service_at, config_types::specs::Form::has_service_form))]
     fn read(alloc: Global, place: &DocumentPlace<'_>, value: &Value) -> Result<Self, ReadRefusal> {
         let members = object_of(alloc, place, value)?;
         let name = read_member::<Name>(alloc, place, "name", value)?;
@@ -119,7 +119,7 @@ impl FromDocument for Chain {
 
     ghost has_form = { has_chain_form };
 
-    #[tactic(auto, unfolding(crate::specs::Config::chain_at, crate::specs::Form::has_chain_form))]
+    #[tactic(auto, unfolding(crate::specs::Config::chain_at, config_types::specs::Form::has_chain_form))]
     fn read(alloc: Global, place: &DocumentPlace<'_>, value: &Value) -> Result<Self, ReadRefusal> {
         let members = object_of(alloc, place, value)?;
         let name = read_member::<Name>(alloc, place, "name", value)?;
@@ -134,7 +134,7 @@ impl FromDocument for Config {
 
     ghost has_form = { has_config_form };
 
-    #[tactic(auto, unfolding(crate::specs::Config::config_at, crate::specs::Form::has_config_form))]
+    #[tactic(auto, unfolding(crate::specs::Config::config_at, config_types::specs::Form::has_config_form))]
     fn read(alloc: Global, place: &DocumentPlace<'_>, value: &Value) -> Result<Self, ReadRefusal> {
         let members = object_of(alloc, place, value)?;
         let networks = optional_list_member::<Network>(alloc, place, "networks", value)?;

@@ -4,14 +4,12 @@ ghost use Rattle.serde_json.specs.View.{view};
 ghost use Rattle.config_model.specs.Paths.{place_text};
 ghost use Rattle.config_model.specs.Faults.{Gives};
 ghost use Rattle.config_model.specs.Edit.{kind_named, kind_at, object_of_kind_at, put_at, delete_at, edit_at};
-ghost use Rattle.config_model.specs.Edit.{has_object_form, has_edit_form};
+ghost use Rattle.config_types.specs.Form.{has_object_form, has_edit_form};
 
-use crate::config::{Chain, Network, Policy, Port, Service};
-use crate::edit::{Edit, Object, ObjectKind};
 use crate::fault::{DocKind, DocumentPlace, ReadRefusal};
 use crate::fields::FromDocument;
 use crate::one_member::one_member_of;
-use crate::topology::Node;
+use config_types::{Chain, Edit, Network, Node, Object, ObjectKind, Policy, Port, Service};
 use ov_types::Name;
 use serde_json::Value;
 use std::alloc::Global;
@@ -60,7 +58,7 @@ fn object_of_kind(
     }
 }
 
-#[tactic(auto, unfolding(crate::specs::Edit::put_at, crate::specs::Edit::has_edit_form))]
+#[tactic(auto, unfolding(crate::specs::Edit::put_at, config_types::specs::Form::has_edit_form))]
 fn put_of(alloc: Global, place: &DocumentPlace<'_>, value: &Value) -> Result<Edit, ReadRefusal>
     ensures reads { Gives (λ x. x) result (put_at (place_text place.now) (view value.now)) }
     ensures form { IfOk result (λ x. IsTrue (has_edit_form x)) }
@@ -72,7 +70,7 @@ fn put_of(alloc: Global, place: &DocumentPlace<'_>, value: &Value) -> Result<Edi
     Ok(Edit::Put(object))
 }
 
-#[tactic(auto, unfolding(crate::specs::Edit::delete_at, crate::specs::Edit::has_edit_form))]
+#[tactic(auto, unfolding(crate::specs::Edit::delete_at, config_types::specs::Form::has_edit_form))]
 fn delete_of(alloc: Global, place: &DocumentPlace<'_>, value: &Value) -> Result<Edit, ReadRefusal>
     ensures reads { Gives (λ x. x) result (delete_at (place_text place.now) (view value.now)) }
     ensures form { IfOk result (λ x. IsTrue (has_edit_form x)) }

@@ -5,20 +5,18 @@ ghost use Rattle.serde_json.specs.View.{view, items_view};
 ghost use Rattle.ov_types.specs.Name.{is_name};
 ghost use Rattle.config_model.specs.Paths.{place_text};
 ghost use Rattle.config_model.specs.Faults.{Gives};
-ghost use Rattle.config_model.specs.Form.{is_from_to, has_topology_form, has_config_form};
+ghost use Rattle.config_types.specs.Form.{is_from_to, has_topology_form, has_config_form};
 ghost use Rattle.config_model.specs.Event.{two_names_at, three_of, three_at, names_and_number_at};
-ghost use Rattle.config_model.specs.Event.{event_from, event_named, event_of_text, event_at, events_at, run_at, has_event_form};
+ghost use Rattle.config_model.specs.Event.{event_from, event_named, event_of_text, event_at, events_at, run_at};
+ghost use Rattle.config_types.specs.Form.{has_event_form};
 
-use crate::config::Config;
-use crate::edit::Edit;
-use crate::event::{Event, RunInput};
 use crate::fault::{DocKind, DocumentPlace, ReadRefusal};
 use crate::fields::{
     Count, FromDocument, check_others, list_member, object_of, read_list, read_member, whole_of,
 };
-use crate::input::CompileInput;
+use crate::input::{CompileInput, RunInput};
 use crate::one_member::one_member_of;
-use crate::topology::Topology;
+use config_types::{Config, Edit, Event, Topology};
 use ov_types::{Items, Name, Packet};
 use serde_json::Value;
 use std::alloc::Global;
@@ -93,7 +91,7 @@ fn names_and_number_of(
 }
 
 /// The event that a member of an object names.
-#[tactic(auto, unfolding(crate::specs::Event::event_from, crate::specs::Event::has_event_form))]
+#[tactic(auto, unfolding(crate::specs::Event::event_from, config_types::specs::Form::has_event_form))]
 fn event_from(
     alloc: Global,
     place: &DocumentPlace<'_>,
@@ -149,7 +147,7 @@ fn event_named(text: &str) -> Option<Event>
 }
 
 /// The event that a text is.
-#[tactic(auto, unfolding(crate::specs::Event::has_event_form))]
+#[tactic(auto, unfolding(config_types::specs::Form::has_event_form))]
 fn event_of_text(alloc: Global, place: &DocumentPlace<'_>, text: &str) -> Result<Event, ReadRefusal>
     ensures reads { Gives (λ x. x) result (event_of_text (place_text place.now) text.now) }
     ensures form { IfOk result (λ x. IsTrue (has_event_form x)) }

@@ -7,7 +7,7 @@ ghost use Rattle.serde_json.specs.Data.{Data};
 ghost use Rattle.serde_json.specs.View.{view, members_view, items_view};
 ghost use Rattle.config_model.specs.Paths.{place_text};
 ghost use Rattle.config_model.specs.Faults.{Gives, Fault};
-ghost use Rattle.config_model.specs.Form.{is_from_to};
+ghost use Rattle.config_types.specs.Form.{is_from_to};
 ghost use Rattle.config_model.specs.Fields.{member_at, in_member, object_at, text_at, list_at, whole_at, only_at};
 ghost use Rattle.config_model.specs.Fields.{first_other, items_at, all_at, optional_all, allows};
 

@@ -4,17 +4,16 @@ ghost use Rattle.std.specs.List.{list_all};
 ghost use Rattle.serde_json.specs.View.{view};
 ghost use Rattle.config_model.specs.Paths.{place_text};
 ghost use Rattle.config_model.specs.Faults.{Gives};
-ghost use Rattle.config_model.specs.Form.{has_topology_form, has_config_form, has_packet_form};
+ghost use Rattle.config_types.specs.Form.{has_topology_form, has_config_form, has_packet_form};
 ghost use Rattle.config_model.specs.Input.{packet_at, compile_at, reach_at};
 
 use crate::bounds::{LAST_PORT, LAST_PORT_NUMBER, LAST_PROTOCOL};
-use crate::config::Config;
 use crate::fault::{DocumentPlace, ReadRefusal};
 use crate::fields::{
     Count, FromDocument, check_others, list_member, object_of, read_member, whole_member,
 };
-use crate::topology::Topology;
 use crate::values::address_member;
+use config_types::{Config, Event, Topology};
 use ov_types::{Items, Packet, PortNo, Tuple};
 use serde_json::Value;
 use std::alloc::Global;
@@ -33,12 +32,19 @@ pub struct ReachInput {
     pub packets: Items<Packet>,
 }
 
+/// What there is and what is configured, and what happens.
+#[derive(Debug, Drop)]
+pub struct RunInput {
+    pub input: CompileInput,
+    pub events: Items<Event>,
+}
+
 impl FromDocument for Packet {
     ghost reads = { packet_at };
 
     ghost has_form = { has_packet_form };
 
-    #[tactic(auto, unfolding(crate::specs::Input::packet_at, crate::specs::Form::has_packet_form))]
+    #[tactic(auto, unfolding(crate::specs::Input::packet_at, config_types::specs::Form::has_packet_form))]
     fn read(alloc: Global, place: &DocumentPlace<'_>, value: &Value) -> Result<Self, ReadRefusal> {
         let members = object_of(alloc, place, value)?;
         let port = whole_member(alloc, place, "port", 0, LAST_PORT, value)?;

@@ -3,9 +3,9 @@ ghost use Rattle.config_model.specs.Laws.{ControllerHasJust, NodeHasJust, Topolo
 ghost use Rattle.config_model.specs.Laws.{PolicyHasJust, RuleHasJust, ServiceHasJust, ChainHasJust, ConfigHasJust};
 ghost use Rattle.config_model.specs.Laws.{PacketHasJust, CompileHasJust, ReachHasJust, FirstIsMissed};
 ghost use Rattle.config_model.specs.Laws.{IsRead, compile_form, reach_form};
-ghost use Rattle.config_model.specs.Form.{has_controller_form, has_node_form, has_topology_form, has_port_form};
-ghost use Rattle.config_model.specs.Form.{has_policy_form, has_rule_form, has_service_form, has_chain_form};
-ghost use Rattle.config_model.specs.Form.{has_network_form, has_config_form, has_packet_form};
+ghost use Rattle.config_types.specs.Form.{has_controller_form, has_node_form, has_topology_form, has_port_form};
+ghost use Rattle.config_types.specs.Form.{has_policy_form, has_rule_form, has_service_form, has_chain_form};
+ghost use Rattle.config_types.specs.Form.{has_network_form, has_config_form, has_packet_form};
 ghost use Rattle.config_model.specs.Documents.{controller_document, node_document, topology_document, network_document};
 ghost use Rattle.config_model.specs.Documents.{port_document, policy_document, rule_document, service_document};
 ghost use Rattle.config_model.specs.Documents.{chain_document, config_document, packet_document, compile_document};

@@ -3,18 +3,18 @@ ghost use Rattle.std.specs.Prelude.{◌≡◌, true, IsTrue, Result, IfOk, nat_l
 ghost use Rattle.serde_json.specs.View.{view, members_view};
 ghost use Rattle.config_model.specs.Paths.{place_text};
 ghost use Rattle.config_model.specs.Faults.{Gives};
-ghost use Rattle.config_model.specs.Form.{is_range, has_end_form, has_protocol_form, has_action_form, has_rule_form};
+ghost use Rattle.config_types.specs.Form.{is_range, has_end_form, has_protocol_form, has_action_form, has_rule_form};
 ghost use Rattle.config_model.specs.Fields.{in_member, text_at, only_at};
 ghost use Rattle.config_model.specs.Rule.{direction_of, direction_at, end_at, protocol_at, port_number_at, range_at};
 ghost use Rattle.config_model.specs.Rule.{through_at, action_at, members_with, rule_at};
 
 use crate::bounds::{LAST_PORT_NUMBER, LAST_PROTOCOL, LAST_USE};
-use crate::config::{Action, Direction, End, Protocol, Rule};
 use crate::fault::{DocKind, DocumentPlace, ReadRefusal};
 use crate::fields::{
     Count, FromDocument, check_others, member_of, object_of, read_list, read_member, text_of,
     whole_member, whole_of,
 };
+use config_types::{Action, Direction, End, Protocol, Rule};
 use ov_types::{Name, Range16};
 use serde_json::{Map, Value};
 use std::alloc::Global;
@@ -195,7 +195,7 @@ fn check_other_members(
 }
 
 /// The rule at a path.
-#[tactic(auto, unfolding(crate::specs::Rule::rule_at, crate::specs::Form::has_rule_form))]
+#[tactic(auto, unfolding(crate::specs::Rule::rule_at, config_types::specs::Form::has_rule_form))]
 fn rule_of(alloc: Global, place: &DocumentPlace<'_>, value: &Value) -> Result<Rule, ReadRefusal>
     ensures reads { Gives (λ x. x) result (rule_at (place_text place.now) (view value.now)) }
     ensures form { IfOk result (λ rule. IsTrue (has_rule_form rule)) }

@@ -3,7 +3,7 @@ ghost use Rattle.std.specs.Prelude.{◌≡◌, [], IsTrue, Result, IfOk};
 ghost use Rattle.serde_json.specs.View.{view};
 ghost use Rattle.config_model.specs.Paths.{place_text};
 ghost use Rattle.config_model.specs.Faults.{Gives};
-ghost use Rattle.config_model.specs.Form.{is_as_number, is_reserved_as, has_controller_form, has_node_form, has_topology_form};
+ghost use Rattle.config_types.specs.Form.{is_as_number, is_reserved_as, has_controller_form, has_node_form, has_topology_form};
 ghost use Rattle.config_model.specs.Fields.{in_member};
 ghost use Rattle.config_model.specs.Topology.{as_at, controller_at, node_at, topology_at};
 
@@ -12,8 +12,8 @@ use crate::fault::{DocKind, DocumentPlace, ReadRefusal};
 use crate::fields::{
     Count, FromDocument, check_others, list_member, member_of, object_of, whole_of,
 };
-use crate::topology::{Node, Topology};
 use crate::values::{address_member, name_but_member};
+use config_types::{Node, Topology};
 use ov_types::{Name, NodeId};
 use serde_json::Value;
 use std::alloc::Global;
@@ -57,7 +57,7 @@ impl FromDocument for NodeId {
 
     ghost has_form = { has_controller_form };
 
-    #[tactic(auto, unfolding(crate::specs::Topology::controller_at, crate::specs::Form::has_controller_form))]
+    #[tactic(auto, unfolding(crate::specs::Topology::controller_at, config_types::specs::Form::has_controller_form))]
     fn read(alloc: Global, place: &DocumentPlace<'_>, value: &Value) -> Result<Self, ReadRefusal> {
         let members = object_of(alloc, place, value)?;
         let name = name_but_member(alloc, place, "name", "config", value)?;
@@ -79,7 +79,7 @@ impl FromDocument for Node {
 
     ghost has_form = { has_node_form };
 
-    #[tactic(auto, unfolding(crate::specs::Topology::node_at, crate::specs::Form::has_node_form))]
+    #[tactic(auto, unfolding(crate::specs::Topology::node_at, config_types::specs::Form::has_node_form))]
     fn read(alloc: Global, place: &DocumentPlace<'_>, value: &Value) -> Result<Self, ReadRefusal> {
         let members = object_of(alloc, place, value)?;
         let name = name_but_member(alloc, place, "name", "config", value)?;
@@ -106,7 +106,7 @@ impl FromDocument for Topology {
 
     ghost has_form = { has_topology_form };
 
-    #[tactic(auto, unfolding(crate::specs::Topology::topology_at, crate::specs::Form::has_topology_form))]
+    #[tactic(auto, unfolding(crate::specs::Topology::topology_at, config_types::specs::Form::has_topology_form))]
     fn read(alloc: Global, place: &DocumentPlace<'_>, value: &Value) -> Result<Self, ReadRefusal> {
         let members = object_of(alloc, place, value)?;
         let asn = as_member(alloc, place, "as", value)?;

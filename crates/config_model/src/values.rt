@@ -5,7 +5,7 @@ ghost use Rattle.serde_json.specs.View.{view};
 ghost use Rattle.ov_types.specs.Name.{is_name};
 ghost use Rattle.config_model.specs.Paths.{place_text};
 ghost use Rattle.config_model.specs.Faults.{Gives};
-ghost use Rattle.config_model.specs.Form.{is_from_to, is_block};
+ghost use Rattle.config_types.specs.Form.{is_from_to, is_block};
 ghost use Rattle.config_model.specs.Fields.{in_member, name_at, name_but_at, address_at, prefix_at};
 
 use crate::fault::{DocKind, DocumentPlace, ReadRefusal};

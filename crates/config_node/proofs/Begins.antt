@@ -19,7 +19,7 @@ use Rattle.node_items.specs.Hearing.{heard}
 use Rattle.node_items.specs.Keeping.{Leaves}
 use Rattle.node_items.specs.Told.{change_of}
 use Rattle.node_items.proofs.States.{state_again}
-use Rattle.node_model.specs.Step.{Opened, Post, nothing, post}
+use Rattle.node_core.specs.NodeModel.Step.{Opened, Post, nothing, post}
 use Rattle.config_node.specs.Beginning.{controller_at, no_node, session_at, state_at}
 use Rattle.config_node.specs.Ends.{AreEnds, Objects, controller, end_at, low_of, posts_of, whom_at}
 use Rattle.config_node.specs.Taking.{HasHeard, HasTaken}

@@ -10,9 +10,9 @@ use Rattle.ov_types.specs.declared.objects.LowKey.{LowKey}
 use Rattle.ov_types.specs.declared.objects.LowValue.{LowValue}
 use Rattle.node_items.specs.Told.{AllFit, ChangeFits}
 use Rattle.node_items.proofs.Maps.{difference_fits}
-use Rattle.node_model.specs.Keys.{Low}
-use Rattle.node_model.specs.Maps.{Change, difference}
-use Rattle.node_model.specs.Values.{Object}
+use Rattle.node_core.specs.NodeModel.Keys.{Low}
+use Rattle.node_core.specs.NodeModel.Maps.{Change, difference}
+use Rattle.node_core.specs.NodeModel.Values.{Object}
 use Rattle.config_node.specs.Ends.{Objects, low_of}
 use Rattle.config_node.proofs.Images.{low_changes, low_differ}
 

@@ -12,11 +12,11 @@ use Rattle.ov_sync.proofs.EmbedLaws.{changed-embedded, difference-embedded}
 use Rattle.ov_types.specs.contracts.objects.LowValuePartialEq.TheImpl as low_values
 use Rattle.ov_types.specs.declared.objects.LowKey.{LowKey}
 use Rattle.ov_types.specs.declared.objects.LowValue.{LowValue}
-use Rattle.node_model.specs.Keys.{Low, key_cmp}
-use Rattle.node_model.specs.Maps.{Map, difference}
-use Rattle.node_model.specs.Values.{Object, same_value}
-use Rattle.node_model.proofs.Directions.{low_keeps, low_total, low_exact}
-use Rattle.node_model.proofs.Orders.{key_exact, key_total}
+use Rattle.node_core.specs.NodeModel.Keys.{Low, key_cmp}
+use Rattle.node_core.specs.NodeModel.Maps.{Map, difference}
+use Rattle.node_core.specs.NodeModel.Values.{Object, same_value}
+use Rattle.node_core.proofs.NodeModel.Directions.{low_keeps, low_total, low_exact}
+use Rattle.node_core.proofs.NodeModel.Orders.{key_exact, key_total}
 use Rattle.config_node.specs.Ends.{Objects, low_of, low_order}
 
 pub low-empty : low_of [] ≡ empty

@@ -5,3 +5,5 @@ pub mod Wanted
 pub mod Posts
 pub mod Begins
 pub mod AtTheEnd
+pub mod TransformRecordLaws
+pub mod MachineModel

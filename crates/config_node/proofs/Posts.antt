@@ -17,14 +17,14 @@ use Rattle.node_core.specs.Plans.{ArePlans}
 use Rattle.node_core.specs.declared.ends.Plan.{Plan}
 use Rattle.node_items.specs.Beginning.{phase_of}
 use Rattle.node_items.specs.Told.{AllFit, Fits, spelled}
-use Rattle.node_model.specs.Keys.{key_cmp}
-use Rattle.node_model.specs.Maps.{Change, difference}
+use Rattle.node_core.specs.NodeModel.Keys.{key_cmp}
+use Rattle.node_core.specs.NodeModel.Maps.{Change, difference}
 use Rattle.node_items.proofs.States.{closes}
 use Rattle.node_core.proofs.Lists.{all-at, all-set}
-use Rattle.node_model.specs.Step.{Post, changes, nothing, post, told_all}
-use Rattle.node_model.specs.Values.{same_value}
-use Rattle.node_model.proofs.Alike.{same_value_decides}
-use Rattle.machine_model.specs.Setup.{low_in}
+use Rattle.node_core.specs.NodeModel.Step.{Post, changes, nothing, post, told_all}
+use Rattle.node_core.specs.NodeModel.Values.{same_value}
+use Rattle.node_core.proofs.NodeModel.Alike.{same_value_decides}
+use Rattle.transform_record_laws.specs.MachineModel.Setup.{low_in}
 use Rattle.config_node.specs.Beginning.{no_node}
 use Rattle.config_node.specs.Core.{is_idle, kind, nothings}
 use Rattle.config_node.specs.Ends.{AreEnds, HasSent, Objects, controller, doubted, end_at, low_of, new_end, posts_of}

@@ -6,17 +6,17 @@ use Rattle.std.proofs.Common.{◌∙◌, ap}
 use Rattle.std.proofs.lemmas.Bool.{and_parts, leb-true}
 use Rattle.ov_sync.specs.Embed.{embedded}
 use Rattle.ov_sync.specs.Keyed.{map_of}
-use Rattle.config_model.specs.Form.{has_controller_form, has_node_form, has_topology_form, is_as_number}
-use Rattle.config_model.specs.declared.topology.Topology.{Topology}
-use Rattle.config_model.specs.declared.config.Config.{Config}
+use Rattle.config_types.specs.Form.{has_controller_form, has_node_form, has_topology_form, is_as_number}
+use Rattle.config_types.specs.declared.topology.Topology.{Topology}
+use Rattle.config_types.specs.declared.config.Config.{Config}
 use Rattle.config_check.specs.Checked.{Checked}
 use Rattle.config_check.specs.Rules.{first_broken}
 use Rattle.config_check.proofs.Few.{all_kept, counts_kept, first_none}
-use Rattle.transform_model.specs.Objects.{low_objects}
-use Rattle.node_model.specs.Keys.{Low, key_cmp}
-use Rattle.node_model.specs.Values.{Object}
-use Rattle.node_model.specs.Wants.{slice_entry}
-use Rattle.machine_model.specs.Setup.{low_in}
+use Rattle.schema_transform.specs.TransformModel.Objects.{low_objects}
+use Rattle.node_core.specs.NodeModel.Keys.{Low, key_cmp}
+use Rattle.node_core.specs.NodeModel.Values.{Object}
+use Rattle.node_core.specs.NodeModel.Wants.{slice_entry}
+use Rattle.transform_record_laws.specs.MachineModel.Setup.{low_in}
 use Rattle.config_node.specs.Ends.{Objects, low_of, low_order}
 use Rattle.config_node.proofs.Images.{low-entries}
 

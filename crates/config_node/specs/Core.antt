@@ -4,12 +4,12 @@ use Rattle.std.specs.Coded.{Coded, code_by, coded×, coded_bool, coded_list, cod
 use Rattle.config_check.specs.Checked.{Checked}
 use Rattle.config_check.specs.contracts.valid.Valid as valid
 use Rattle.node_items.specs.Told.{spelled}
-use Rattle.node_model.specs.Codes.{coded_post}
-use Rattle.node_model.specs.Maps.{Map}
+use Rattle.node_core.specs.NodeModel.Codes.{coded_post}
+use Rattle.node_core.specs.NodeModel.Maps.{Map}
 pub use Rattle.node_core.specs.Keeping.{AreFew, AreOfLive, AreSwept, kept_at, nothing_kept}
 pub use Rattle.node_core.specs.Resting.{is_idle, is_up, may_send, nothings}
-use Rattle.node_model.specs.Step.{NodeKind, Post}
-use Rattle.machine_model.specs.Setup.{low_in}
+use Rattle.node_core.specs.NodeModel.Step.{NodeKind, Post}
+use Rattle.transform_record_laws.specs.MachineModel.Setup.{low_in}
 
 -- its ends are those of the control nodes, in the order of the topology
 pub record Core : Type 0 where

@@ -3,7 +3,7 @@ use Rattle.std.specs.Prelude.{[], map, Bool, not, true, if◌then◌else◌}
 use Rattle.node_core.specs.declared.ends.Plan.{Plan}
 use Rattle.node_items.specs.Beginning.{phase_of}
 use Rattle.node_items.specs.Told.{spelled}
-use Rattle.node_model.specs.Maps.{difference}
+use Rattle.node_core.specs.NodeModel.Maps.{difference}
 use Rattle.config_node.specs.Core.{is_idle}
 use Rattle.config_node.specs.Ends.{Objects, low_of}
 use Rattle.config_node.specs.declared.ends.FeedEnd.{FeedEnd}

@@ -8,7 +8,7 @@ use Rattle.ov_link.specs.declared.step.NodeFault.{NodeFault}
 use Rattle.ov_link.specs.declared.step.NodeFault.TheVariants.{LinkFailed, NoMemory}
 use Rattle.config_check.specs.Checked.{Checked}
 use Rattle.node_core.specs.Naming.{Names}
-use Rattle.node_model.specs.Step.{Beginning, Post, Steps, post}
+use Rattle.node_core.specs.NodeModel.Step.{Beginning, Post, Steps, post}
 use Rattle.config_node.specs.Core.{kind}
 
 -- the session whose link failed once it was set

@@ -7,7 +7,7 @@ use Rattle.config_check.specs.Checked.{Checked}
 use Rattle.node_items.specs.Hearing.{heard}
 use Rattle.node_items.specs.Keeping.{Leaves}
 use Rattle.node_items.specs.Taking as item
-use Rattle.node_model.specs.Step.{Post}
+use Rattle.node_core.specs.NodeModel.Step.{Post}
 use Rattle.config_node.specs.Beginning.{session_at}
 
 -- a session once it heard octets that leave these. No record is handed out

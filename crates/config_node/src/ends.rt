@@ -1,6 +1,6 @@
 //! The ends of the configuration node's sessions.
 ghost use Rattle.std.specs.Prelude.{◌≡◌, ◌<◌, [], length, map, not, false, None, Some, IfOk, IfSome, IsTrue, OnErr};
-ghost use Rattle.config_model.specs.Form.{has_config_form, has_topology_form};
+ghost use Rattle.config_types.specs.Form.{has_config_form, has_topology_form};
 ghost use Rattle.config_check.specs.Rules.{first_broken};
 ghost use Rattle.item_wire.specs.Happenings.{after};
 ghost use Rattle.item_wire.specs.declared.input.Came.TheVariants.{Closed};
@@ -72,7 +72,7 @@ impl Ends for ConfigEnds {
     ghost use Rattle.std.specs.Prelude.{◌≡◌, refl};
     ghost use Rattle.std.proofs.Common.{◌∙◌};
     ghost use Rattle.node_items.proofs.Begun.{behind};
-    ghost use Rattle.node_model.specs.Naming.{config};
+    ghost use Rattle.node_core.specs.NodeModel.Naming.{config};
     ghost use Rattle.config_node.specs.Beginning.{BeginsKeeping, session_at};
     ghost use Rattle.config_node.specs.Core.{kind};
 

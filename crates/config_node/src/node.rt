@@ -3,10 +3,10 @@ ghost use Rattle.std.specs.Prelude.{◌≡◌, ◌≢◌, ◌<◌, ◌≤◌, �
 ghost use Rattle.std.specs.Prelude.{None, IfOk, IsTrue};
 ghost use Rattle.ov_link.specs.declared.step.Stepped.TheVariants.{Closed};
 ghost use Rattle.item_wire.specs.declared.event.ItemCause.TheVariants.{Ended};
-ghost use Rattle.config_model.specs.Form.{has_config_form, has_topology_form};
+ghost use Rattle.config_types.specs.Form.{has_config_form, has_topology_form};
 ghost use Rattle.config_check.specs.Rules.{first_broken};
 ghost use Rattle.node_core.specs.Whole.{Comes, IsWholeStep, session_of};
-ghost use Rattle.node_model.specs.Step.{post};
+ghost use Rattle.node_core.specs.NodeModel.Step.{post};
 ghost use Rattle.node_laws.specs.Stepped.{AreTold};
 ghost use Rattle.config_node.specs.Beginning.{BeginsKeeping};
 ghost use Rattle.config_node.specs.Core.{AreSwept, fresh, is_idle, is_up, kept_at, kind, sessions};

@@ -3,8 +3,8 @@ ghost use Rattle.std.specs.Prelude.{◌≡◌, IfOk, map, true, false};
 ghost use Rattle.std.specs.List.{All, AllByRecursion};
 ghost use Rattle.ov_sync.specs.Embed.{moved_delta};
 ghost use Rattle.node_items.specs.Told.{AllFit, ChangeFits, spelled};
-ghost use Rattle.node_model.specs.Keys.{Low};
-ghost use Rattle.node_model.specs.Values.{Object};
+ghost use Rattle.node_core.specs.NodeModel.Keys.{Low};
+ghost use Rattle.node_core.specs.NodeModel.Values.{Object};
 ghost use Rattle.config_node.specs.Ends.{HasSent, low_of};
 ghost use Rattle.config_node.specs.Planning.{once_told, plan_of, sends};
 

@@ -1,7 +1,7 @@
 //! What the control nodes are to be told of a configuration.
 ghost use Rattle.std.specs.Prelude.{◌≡◌, IfOk};
 ghost use Rattle.node_items.specs.Told.{AllFit};
-ghost use Rattle.machine_model.specs.Setup.{low_in};
+ghost use Rattle.transform_record_laws.specs.MachineModel.Setup.{low_in};
 ghost use Rattle.config_node.specs.Ends.{low_of};
 
 use config_check::Valid;

@@ -4,16 +4,16 @@ use Rattle.std.specs.List.{All, AllPairs, Any, Contains, slice_get}
 use Rattle.std.specs.Option.{IsSomeAnd}
 use Rattle.ov_types.specs.Prefix.{Block, contains}
 use Rattle.ov_types.specs.declared.packet.RuleNo.{RuleNo}
-use Rattle.config_model.specs.declared.config.Chain.{Chain}
-use Rattle.config_model.specs.declared.config.Config.{Config}
-use Rattle.config_model.specs.declared.config.End.TheVariants as Ends
-use Rattle.config_model.specs.declared.config.Network.{Network}
-use Rattle.config_model.specs.declared.config.Policy.{Policy}
-use Rattle.config_model.specs.declared.config.Port.{Port}
-use Rattle.config_model.specs.declared.config.Rule.{Rule}
-use Rattle.config_model.specs.declared.config.Service.{Service}
-use Rattle.config_model.specs.declared.topology.Node.{Node}
-use Rattle.config_model.specs.declared.topology.Topology.{Topology}
+use Rattle.config_types.specs.declared.config.Chain.{Chain}
+use Rattle.config_types.specs.declared.config.Config.{Config}
+use Rattle.config_types.specs.declared.config.End.TheVariants as Ends
+use Rattle.config_types.specs.declared.config.Network.{Network}
+use Rattle.config_types.specs.declared.config.Policy.{Policy}
+use Rattle.config_types.specs.declared.config.Port.{Port}
+use Rattle.config_types.specs.declared.config.Rule.{Rule}
+use Rattle.config_types.specs.declared.config.Service.{Service}
+use Rattle.config_types.specs.declared.topology.Node.{Node}
+use Rattle.config_types.specs.declared.topology.Topology.{Topology}
 use Rattle.chain_expand.specs.Expansion.{loops, expansion}
 use Rattle.chain_expand.proofs.LeadsLaws.{leads_from_Leads}
 use Rattle.config_check.specs.declared.refusal.IdKind.{IdKind}

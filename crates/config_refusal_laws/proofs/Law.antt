@@ -1,7 +1,7 @@
 -- What the first broken rule names breaks it: a refusal is the answer of one of the rules.
 use Rattle.std.proofs.Common.{◌≡◌, Option, Some, IfSome}
-use Rattle.config_model.specs.declared.config.Config.{Config}
-use Rattle.config_model.specs.declared.topology.Topology.{Topology}
+use Rattle.config_types.specs.declared.config.Config.{Config}
+use Rattle.config_types.specs.declared.topology.Topology.{Topology}
 use Rattle.ov_types.specs.First.{◌<|>◌}
 use Rattle.config_check.specs.declared.refusal.Refusal.{Refusal}
 use Rattle.config_check.specs.Rules.{broken_limit, broken_name, broken_id, broken_reference, broken_place, broken_use, broken_chain, broken_overlap, first_broken}

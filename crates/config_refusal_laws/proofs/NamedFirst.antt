@@ -4,13 +4,13 @@ use Rattle.std.specs.List.{All, Any}
 use Rattle.std.proofs.lemmas.Bool.{and_parts, and_from, ltb-true, lt-ltb}
 use Rattle.ov_types.specs.Prefix.{Block, contains}
 use Rattle.ov_types.specs.First.{same_name, ◌<|>◌, first_of, first_meeting}
-use Rattle.config_model.specs.declared.config.Chain.{Chain}
-use Rattle.config_model.specs.declared.config.Config.{Config}
-use Rattle.config_model.specs.declared.config.Network.{Network}
-use Rattle.config_model.specs.declared.config.Port.{Port}
-use Rattle.config_model.specs.declared.config.Service.{Service}
-use Rattle.config_model.specs.declared.topology.Node.{Node}
-use Rattle.config_model.specs.declared.topology.Topology.{Topology}
+use Rattle.config_types.specs.declared.config.Chain.{Chain}
+use Rattle.config_types.specs.declared.config.Config.{Config}
+use Rattle.config_types.specs.declared.config.Network.{Network}
+use Rattle.config_types.specs.declared.config.Port.{Port}
+use Rattle.config_types.specs.declared.config.Service.{Service}
+use Rattle.config_types.specs.declared.topology.Node.{Node}
+use Rattle.config_types.specs.declared.topology.Topology.{Topology}
 use Rattle.chain_expand.specs.Expansion.{loops, expansion, same_number}
 use Rattle.chain_expand.specs.Leading.{Leads}
 use Rattle.chain_expand.proofs.LeadsLaws.{Leads-from_leads, leads_from_Leads}

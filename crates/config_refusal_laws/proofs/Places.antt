@@ -6,10 +6,10 @@ use Rattle.std.specs.Option.{option_map_or, IsSomeAnd}
 use Rattle.std.proofs.lemmas.Bool.{and_parts, eqb-true}
 use Rattle.std.proofs.lemmas.List.Folds.{list_any-from_Any}
 use Rattle.ov_types.specs.Prefix.{Block, contains}
-use Rattle.config_model.specs.declared.config.Config.{Config}
-use Rattle.config_model.specs.declared.config.Network.{Network}
-use Rattle.config_model.specs.declared.config.Port.{Port}
-use Rattle.config_model.specs.declared.topology.Topology.{Topology}
+use Rattle.config_types.specs.declared.config.Config.{Config}
+use Rattle.config_types.specs.declared.config.Network.{Network}
+use Rattle.config_types.specs.declared.config.Port.{Port}
+use Rattle.config_types.specs.declared.topology.Topology.{Topology}
 use Rattle.ov_types.specs.First.{same_name, ◌<|>◌, first_meeting}
 use Rattle.config_check.specs.declared.refusal.Refusal.{Refusal}
 use Rattle.config_check.proofs.Meanings.{overlap_iff}

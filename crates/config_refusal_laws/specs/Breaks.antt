@@ -3,15 +3,15 @@ use Rattle.std.specs.Prelude.{◌≡◌, ◌⊎◌, ◌++◌, ◌<◌, ℕ, IsTr
 use Rattle.std.specs.List.{Any, Contains}
 use Rattle.std.specs.Option.{IsSomeAnd}
 use Rattle.ov_types.specs.Prefix.{contains}
-use Rattle.config_model.specs.declared.config.Action.{Action}
-use Rattle.config_model.specs.declared.config.Action.TheVariants.{Through}
-use Rattle.config_model.specs.declared.config.Config.{Config}
-use Rattle.config_model.specs.declared.config.End.TheVariants as Ends
-use Rattle.config_model.specs.declared.config.Network.{Network}
-use Rattle.config_model.specs.declared.config.Port.{Port}
-use Rattle.config_model.specs.declared.config.Rule.{Rule}
-use Rattle.config_model.specs.declared.config.Service.{Service}
-use Rattle.config_model.specs.declared.topology.Topology.{Topology}
+use Rattle.config_types.specs.declared.config.Action.{Action}
+use Rattle.config_types.specs.declared.config.Action.TheVariants.{Through}
+use Rattle.config_types.specs.declared.config.Config.{Config}
+use Rattle.config_types.specs.declared.config.End.TheVariants as Ends
+use Rattle.config_types.specs.declared.config.Network.{Network}
+use Rattle.config_types.specs.declared.config.Port.{Port}
+use Rattle.config_types.specs.declared.config.Rule.{Rule}
+use Rattle.config_types.specs.declared.config.Service.{Service}
+use Rattle.config_types.specs.declared.topology.Topology.{Topology}
 use Rattle.chain_expand.specs.Expansion.{expansion}
 use Rattle.chain_expand.specs.Leading.{Leads, IsLoopFree}
 use Rattle.config_check.specs.declared.refusal.IdKind.{IdKind}

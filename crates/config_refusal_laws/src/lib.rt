@@ -2,8 +2,8 @@
 #![tactic(auto)]
 
 ghost use Rattle.std.specs.Prelude.{◌≡◌, Some};
-ghost use Rattle.config_model.specs.declared.config.Config.{Config};
-ghost use Rattle.config_model.specs.declared.topology.Topology.{Topology};
+ghost use Rattle.config_types.specs.declared.config.Config.{Config};
+ghost use Rattle.config_types.specs.declared.topology.Topology.{Topology};
 ghost use Rattle.config_check.specs.declared.refusal.Refusal.{Refusal};
 ghost use Rattle.config_check.specs.Rules.{first_broken};
 ghost use Rattle.config_check.specs.Sentences.{IsValid};

@@ -9,17 +9,17 @@ use Rattle.config_check.specs.Checked.{Checked}
 use Rattle.compile_answers.specs.declared.unfit.Reception.{Reception}
 use Rattle.compile_answers.specs.declared.unfit.Reception.TheVariants.{Good}
 use Rattle.ov_io.specs.declared.pieces.WriteRefusal.{WriteRefusal}
-use Rattle.headline_laws.specs.Headline.{IsWritten}
-use Rattle.headline_laws.proofs.Written.{written_settle_settles}
+use Rattle.net_machine.specs.MachineLaws.Headline.{IsWritten}
+use Rattle.net_machine.proofs.MachineLaws.Written.{written_settle_settles}
 use Rattle.machine_model.specs.Events.{Settle, next}
 use Rattle.machine_model.specs.Setup.{opening}
 use Rattle.machine_model.specs.Steps.{is_settled}
 use Rattle.net_machine.specs.NetState.{NetState}
-use Rattle.running_model.specs.Stands.{message_size, moment}
-use Rattle.running_model.proofs.Sizes.{positive}
-use Rattle.running_peering_laws.proofs.Heard.{all_hear}
-use Rattle.running_telling_laws.specs.Moments.{IsMoment}
-use Rattle.running_telling_laws.proofs.Moments.{moment_of}
+use Rattle.net_machine.specs.RunningModel.Stands.{message_size, moment}
+use Rattle.net_machine.proofs.RunningModel.Sizes.{positive}
+use Rattle.net_machine.proofs.RunningLaws.HeardAtRest.{all_hear}
+use Rattle.net_machine.specs.RunningLaws.Moments.{IsMoment}
+use Rattle.net_machine.proofs.RunningLaws.Moments.{moment_of}
 use Rattle.constrain_answers.specs.Constraint.{constrain_text, settling}
 use Rattle.constrain_answers.specs.Networks.{HasSettled, IsLeftSettled, IsReadAs, NoneNeedsMore, TookConstraint, input_of}
 

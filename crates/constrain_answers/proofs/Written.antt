@@ -5,7 +5,7 @@ use Rattle.std.proofs.Common.{refl, sym, ap, ◌∙◌, subst, inl, inr}
 use Rattle.std.proofs.lemmas.List.{append_assoc}
 use Rattle.ov_types.specs.First.{same_name}
 use Rattle.ov_types.specs.declared.rows.NodeId.{NodeId}
-use Rattle.config_model.specs.declared.topology.Topology.{Topology}
+use Rattle.config_types.specs.declared.topology.Topology.{Topology}
 use Rattle.node_model.specs.Members.{Member}
 use Rattle.node_model.proofs.Members.{any_in}
 use Rattle.machine_model.specs.Network.{MachineState}

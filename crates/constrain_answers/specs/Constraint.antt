@@ -3,15 +3,15 @@ use Rattle.std.specs.Prelude.{◌≡◌, true, ℕ, List, [], ◌∷◌, ◌++�
 use Rattle.std.specs.List.{AllByRecursion, flat_map}
 use Rattle.ov_types.specs.First.{same_name}
 use Rattle.ov_types.specs.declared.rows.NodeId.{NodeId}
-use Rattle.config_model.specs.declared.event.Event.{Event}
-use Rattle.config_model.specs.declared.event.Event.TheVariants.{Settle}
-use Rattle.config_model.specs.declared.topology.Topology.{Topology}
+use Rattle.config_types.specs.declared.event.Event.{Event}
+use Rattle.config_types.specs.declared.event.Event.TheVariants.{Settle}
+use Rattle.config_types.specs.declared.topology.Topology.{Topology}
 use Rattle.config_check.specs.Checked.{Checked}
 use Rattle.node_model.specs.Maps.{Map}
 use Rattle.node_model.specs.Wants.{wanted_by_peers}
 use Rattle.machine_model.specs.Setup.{Name}
 use Rattle.machine_model.specs.Network.{MachineState}
-use Rattle.running_model.specs.Stands.{moment}
+use Rattle.net_machine.specs.RunningModel.Stands.{moment}
 use Rattle.net_machine.specs.Looking.{held_at, is_control_node}
 use Rattle.report.specs.Memberships.{asked_line, sent_line}
 use Rattle.rt_constrain.specs.Asking.{asked}

@@ -17,11 +17,11 @@ use Rattle.node_model.specs.Tables.{table}
 use Rattle.node_model.specs.Wants.{wanted_by_agent, wanted_by_peers}
 use Rattle.machine_model.specs.Network.{MachineState}
 use Rattle.machine_model.specs.Steps.{is_settled}
-use Rattle.running_model.specs.Stands.{StandsFor, moment}
+use Rattle.net_machine.specs.RunningModel.Stands.{StandsFor, moment}
 use Rattle.net_machine.specs.Looking.{held_at}
 use Rattle.net_machine.specs.NetState.{NetState}
 use Rattle.ov_json.specs.Json.{json_of}
-use Rattle.running_peering_laws.specs.Hearing.{AllHearTheirPeers}
+use Rattle.net_machine.specs.RunningLaws.Peering.{AllHearTheirPeers}
 use Rattle.rt_constrain.specs.Asking.{cut}
 use Rattle.rt_constrain.specs.Needed.{needed}
 use Rattle.constrain_answers.specs.Constraint.{constrain_text, settling}

@@ -1,11 +1,11 @@
 //! The answer of `constrain`.
-ghost use Rattle.std.specs.Prelude.{◌≡◌, ◌≢◌, [], Ok, Some, IfOk, IfErr, OnOk, OnErr};
+ghost use Rattle.std.specs.Prelude.{◌≡◌, ◌≢◌, [], Ok, IfOk, IfErr, OnOk, OnErr};
 ghost use Rattle.std.specs.Io.KnownBytes.{Appends};
 ghost use Rattle.serde_json.specs.View.{view};
 ghost use Rattle.config_model.specs.Input.{compile_at};
 ghost use Rattle.compile_answers.specs.Answers.{IsAnswered, WasGiven, answer_good};
-ghost use Rattle.headline_laws.specs.Headline.{IsWritten};
-ghost use Rattle.running_model.specs.Stands.{moment};
+ghost use Rattle.net_machine.specs.MachineLaws.Headline.{IsWritten};
+ghost use Rattle.net_machine.specs.RunningModel.Stands.{moment};
 ghost use Rattle.machine_model.specs.Setup.{opening};
 ghost use Rattle.ov_io.specs.Inputs.{TookFront};
 ghost use Rattle.ov_io.specs.Pieces.{HasWriteCause};
@@ -17,8 +17,9 @@ ghost use Rattle.constrain_answers.specs.Networks.{input_of};
 use crate::sending::write_constraint;
 use compile_answers::{Reception, Unfit, valid_of, write_unfit};
 use config_check::Valid;
-use config_model::{Event, ReadRefusal, read_compile};
-use net_machine::Net;
+use config_model::{ReadRefusal, read_compile};
+use config_types::Event;
+use net_machine::{Net, leave};
 use ov_io::{Sink, WriteRefusal};
 use ov_json::value_of;
 use ov_types::NoMemory;
@@ -54,7 +55,7 @@ fn constrain_asked(alloc: Global, octets: &[u8]) -> Result<Valid, Unfit>
 }
 
 /// A network in which the nodes of a valid configuration have settled.
-#[tactic(auto, unfolding(config_model::specs::Event::has_event_form))]
+#[tactic(auto, unfolding(config_types::specs::Form::has_event_form))]
 fn settled(alloc: Global, valid: Valid) -> Result<Net, NoMemory>
     ensures { IfOk result (HasSettled valid) }
 {
@@ -79,13 +80,6 @@ fn settled_and_written<K: Sink>(
     let net = settled(alloc, valid)?;
     write_constraint(alloc, &net, sink)?;
     Ok(net)
-}
-
-/// Leaves a network.
-fn leave(net: &mut Option<Net>, settled: Net)
-    ensures { net.new ≡ Some settled }
-{
-    *net = Some(settled);
 }
 
 /// What a valid configuration is.

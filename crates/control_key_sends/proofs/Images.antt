@@ -15,11 +15,11 @@ use Rattle.ov_types.specs.declared.keys.DownValue.TheVariants as Told
 use Rattle.ov_types.specs.declared.vpn.VpnKey.{VpnKey}
 use Rattle.ov_types.specs.declared.vpn.VpnRoute.{VpnRoute}
 use Rattle.node_items.specs.Told.{down_of, down_value}
-use Rattle.node_model.specs.Directions.{down_order, vpn_order}
-use Rattle.node_model.specs.Keys.{Vpn, of_down}
-use Rattle.node_model.specs.Values.{Route, same_value}
-use Rattle.node_model.proofs.Directions.{vpn_keeps, vpn_total, vpn_exact, down_keeps, down_total, down_exact}
-use Rattle.node_model.proofs.Orders.{key_exact, key_total}
+use Rattle.vpn_tables.specs.NodeModel.Directions.{down_order, vpn_order}
+use Rattle.vpn_tables.specs.NodeModel.Keys.{Vpn, of_down}
+use Rattle.vpn_tables.specs.NodeModel.Values.{Route, same_value}
+use Rattle.vpn_tables.proofs.NodeModel.Directions.{vpn_keeps, vpn_total, vpn_exact, down_keeps, down_total, down_exact}
+use Rattle.vpn_tables.proofs.NodeModel.Orders.{key_exact, key_total}
 use Rattle.vpn_tables.specs.Views.{peer_of}
 use Rattle.control_key_sends.proofs.Moved.{now_set, now_told}
 

@@ -11,11 +11,11 @@ use Rattle.std.specs.FinMap.{get}
 use Rattle.std.proofs.Common.{refl, sym, ◌∙◌, ap, arith, append_assoc}
 use Rattle.ov_sync.specs.Keyed.{AgreeBut, change, set_key, set_keys, told_keys}
 use Rattle.ov_sync.proofs.ByKeys.{set_by_keys, told_by_keys}
-use Rattle.node_model.specs.Keys.{Key, key_cmp}
-use Rattle.node_model.specs.Maps.{Change, Map, difference}
-use Rattle.node_model.specs.Values.{Value, same_value}
-use Rattle.node_model.proofs.Alike.{same_value_decides}
-use Rattle.node_model.proofs.Orders.{key_exact, key_total}
+use Rattle.vpn_tables.specs.NodeModel.Keys.{Key, key_cmp}
+use Rattle.vpn_tables.specs.NodeModel.Maps.{Change, Map, difference}
+use Rattle.vpn_tables.specs.NodeModel.Values.{Value, same_value}
+use Rattle.vpn_tables.proofs.NodeModel.Alike.{same_value_decides}
+use Rattle.vpn_tables.proofs.NodeModel.Orders.{key_exact, key_total}
 
 none_after : {X : Type 0} (xs : List X) → xs ++ [] ≡ xs
 none_after [] = refl

@@ -6,9 +6,9 @@ ghost use Rattle.std.specs.List.Sorted.{IsStrictlySortedBy};
 ghost use Rattle.std.specs.Option.{option_map};
 ghost use Rattle.ov_sync.specs.Embed.{moved_delta};
 ghost use Rattle.ov_sync.specs.Keyed.{AgreeBut, change, set_key};
-ghost use Rattle.node_model.specs.Keys.{Vpn};
-ghost use Rattle.node_model.specs.Maps.{Map, difference};
-ghost use Rattle.node_model.specs.Values.{Route, same_value};
+ghost use Rattle.vpn_tables.specs.NodeModel.Keys.{Vpn};
+ghost use Rattle.vpn_tables.specs.NodeModel.Maps.{Map, difference};
+ghost use Rattle.vpn_tables.specs.NodeModel.Values.{Route, same_value};
 ghost use Rattle.vpn_tables.specs.Views.{peer_of, vpn_order};
 
 use crate::pushing::push_change;

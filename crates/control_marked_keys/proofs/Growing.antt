@@ -4,8 +4,8 @@ use Rattle.std.proofs.Common.{subst, sym}
 use Rattle.ov_types.specs.declared.keys.DownKey.{DownKey}
 use Rattle.ov_types.specs.declared.prefix.Addr.{Addr}
 use Rattle.ov_types.specs.declared.vpn.VpnKey.{VpnKey}
-use Rattle.node_model.specs.Keys.{Key, Vpn, of_down}
-use Rattle.node_model.specs.Members.{Member}
+use Rattle.vpn_tables.specs.NodeModel.Keys.{Key, Vpn, of_down}
+use Rattle.vpn_tables.specs.NodeModel.Members.{Member}
 use Rattle.control_marked_keys.specs.Marks.{IsWithin, Marks}
 use Rattle.control_marked_keys.proofs.Sets.{before_last, mapped, unmapped}
 

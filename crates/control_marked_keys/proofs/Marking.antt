@@ -15,16 +15,16 @@ use Rattle.ov_types.specs.declared.objects.LowKey.{LowKey}
 use Rattle.ov_types.specs.declared.objects.LowKey.TheVariants as key
 use Rattle.ov_types.specs.declared.objects.LowValue.{LowValue}
 use Rattle.ov_types.specs.declared.prefix.Addr.{Addr}
-use Rattle.node_model.specs.Keys.{Key, Low}
-use Rattle.node_model.specs.Maps.{Map, object}
-use Rattle.node_model.specs.Paths.{Holdings}
-use Rattle.node_model.specs.Values.{Object}
-use Rattle.node_model.specs.Wants.{slice}
-use Rattle.node_model.proofs.Members.{none_some}
-use Rattle.node_model.proofs.Wanted.{slice_is}
+use Rattle.vpn_tables.specs.NodeModel.Keys.{Key, Low}
+use Rattle.vpn_tables.specs.NodeModel.Maps.{Map, object}
+use Rattle.vpn_tables.specs.NodeModel.Paths.{Holdings}
+use Rattle.vpn_tables.specs.NodeModel.Values.{Object}
+use Rattle.vpn_tables.specs.NodeModel.Wants.{slice}
+use Rattle.vpn_tables.proofs.NodeModel.Members.{none_some}
+use Rattle.vpn_tables.proofs.NodeModel.Wanted.{slice_is}
 use Rattle.vpn_tables.specs.Changes.{with_low}
 use Rattle.vpn_tables.specs.Listing.{told_in}
-use Rattle.control_touched_laws.proofs.Objects.{object_stays, peers_stay}
+use Rattle.control_touched_agent_laws.proofs.ControlTouchedLaws.Objects.{object_stays, peers_stay}
 use Rattle.control_touched_agent_laws.specs.Here.{IsListOfPort, port_here, put_by}
 use Rattle.control_touched_agent_laws.proofs.Ports.{held_object, object_put}
 use Rattle.control_touched_agent_laws.proofs.Slices.{attachment}

@@ -11,7 +11,7 @@ use Rattle.std.proofs.Common.{refl, sym, ◌∙◌, ap, inl, inr, arith}
 use Rattle.std.proofs.lemmas.Bool.Decides.{nat_tests}
 use Rattle.ov_types.specs.declared.prefix.Addr.{Addr}
 use Rattle.ov_sync.specs.Keyed.{map_of}
-use Rattle.node_model.specs.Members.{Member}
+use Rattle.vpn_tables.specs.NodeModel.Members.{Member}
 
 or_none : (a b : Bool) → (a || b) ≡ false → (a ≡ false) × (b ≡ false)
 or_none true b e = absurd (cc)

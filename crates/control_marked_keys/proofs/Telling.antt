@@ -16,19 +16,19 @@ use Rattle.ov_types.specs.declared.vpn.VpnKey.{VpnKey}
 use Rattle.ov_types.specs.declared.vpn.VpnRoute.{VpnRoute}
 use Rattle.ov_sync.specs.declared.Delta.{Delta}
 use Rattle.ov_sync.specs.Keyed.{key_of}
-use Rattle.node_model.specs.Keys.{Key, Low, Publish, Row, Subscribe, Vpn, key_cmp}
-use Rattle.node_model.specs.Members.{Member}
-use Rattle.node_model.specs.Paths.{Holdings, Path, own_paths}
-use Rattle.node_model.specs.Reaching.{AreShort, reoriginated_paths}
-use Rattle.node_model.specs.Wants.{route_entry, wanted_by_peers}
-use Rattle.node_model.proofs.Orders.{key_total}
+use Rattle.vpn_tables.specs.NodeModel.Keys.{Key, Low, Publish, Row, Subscribe, Vpn, key_cmp}
+use Rattle.vpn_tables.specs.NodeModel.Members.{Member}
+use Rattle.vpn_tables.specs.NodeModel.Paths.{Holdings, Path, own_paths}
+use Rattle.vpn_tables.specs.NodeModel.Reaching.{AreShort, reoriginated_paths}
+use Rattle.vpn_tables.specs.NodeModel.Wants.{route_entry, wanted_by_peers}
+use Rattle.vpn_tables.proofs.NodeModel.Orders.{key_total}
 use Rattle.vpn_tables.specs.Changes.{with_publication, with_route}
 use Rattle.vpn_tables.specs.Listing.{told_in}
 use Rattle.vpn_tables.specs.Moved.{targets_by_publication, targets_by_route}
 use Rattle.vpn_tables.specs.Touched.{rows_by_key, touched_rows}
 use Rattle.vpn_tables.specs.TouchedKeys.{key_published, keys_led}
-use Rattle.control_touched_laws.proofs.Covering.{publication_keys, publication_rows_by_key, route_keys}
-use Rattle.control_touched_laws.proofs.Touching as touching
+use Rattle.control_touched_agent_laws.proofs.ControlTouchedLaws.Covering.{publication_keys, publication_rows_by_key, route_keys}
+use Rattle.control_touched_agent_laws.proofs.ControlTouchedLaws.Touching as touching
 use Rattle.control_touched_agent_laws.specs.Here.{wanted_on}
 use Rattle.control_touched_agent_laws.proofs.Agents.{publication_address, publication_rows, route_address, route_rows, subscription_elsewhere}
 use Rattle.control_marked_keys.specs.Marks.{AreListsMarked, AreRoutesMarked, AreRowsMarked, Covers, IsCleanItem, IsCleanRoute, IsWithin, Marks}

@@ -15,10 +15,10 @@ use Rattle.ov_types.specs.declared.objects.LowKey.TheVariants as key
 use Rattle.ov_types.specs.declared.objects.LowValue.{LowValue}
 use Rattle.ov_types.specs.declared.prefix.Addr.{Addr}
 use Rattle.ov_types.specs.declared.vpn.VpnKey.{VpnKey}
-use Rattle.node_model.specs.Members.{Member}
-use Rattle.node_model.specs.Keys.{Key, Low, Row, Vpn, of_down}
-use Rattle.node_model.specs.Paths.{Holdings}
-use Rattle.node_model.specs.Wants.{wanted_by_peers}
+use Rattle.vpn_tables.specs.NodeModel.Members.{Member}
+use Rattle.vpn_tables.specs.NodeModel.Keys.{Key, Low, Row, Vpn, of_down}
+use Rattle.vpn_tables.specs.NodeModel.Paths.{Holdings}
+use Rattle.vpn_tables.specs.NodeModel.Wants.{wanted_by_peers}
 use Rattle.vpn_tables.specs.Listing.{told_in}
 use Rattle.control_touched_agent_laws.specs.Here.{port_here, wanted_on}
 

@@ -2,9 +2,9 @@
 ghost use Rattle.std.specs.Prelude.{◌≡◌, [], map, true, false};
 ghost use Rattle.std.specs.List.Sorted.{IsStrictlySortedBy};
 ghost use Rattle.ov_types.specs.declared.prefix.Addr.{Addr as At};
-ghost use Rattle.node_model.specs.Directions.{down_order, vpn_order};
-ghost use Rattle.node_model.specs.Keys.{Key, Vpn, of_down};
-ghost use Rattle.node_model.specs.Members.{Member};
+ghost use Rattle.vpn_tables.specs.NodeModel.Directions.{down_order, vpn_order};
+ghost use Rattle.vpn_tables.specs.NodeModel.Keys.{Key, Vpn, of_down};
+ghost use Rattle.vpn_tables.specs.NodeModel.Members.{Member};
 ghost use Rattle.control_marked_keys.specs.Marks.{IsCleanItem, IsCleanRoute, IsWithin};
 
 use ov_sync::{Delta, SyncIn};

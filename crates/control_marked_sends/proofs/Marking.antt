@@ -15,19 +15,19 @@ use Rattle.ov_types.specs.declared.keys.DownKey.{DownKey}
 use Rattle.ov_types.specs.declared.keys.DownValue.{DownValue}
 use Rattle.ov_types.specs.declared.vpn.VpnKey.{VpnKey}
 use Rattle.ov_types.specs.declared.vpn.VpnRoute.{VpnRoute}
-use Rattle.node_items.specs.Told.{down_of, down_value}
-use Rattle.node_model.specs.Directions.{down_order, vpn_order}
-use Rattle.node_model.specs.Keys.{Key, Vpn, key_cmp, of_down}
-use Rattle.node_model.specs.Maps.{Map, difference}
-use Rattle.node_model.specs.Members.{Member}
-use Rattle.node_model.specs.Paths.{Holdings}
-use Rattle.node_model.specs.Values.{Route, same_value}
-use Rattle.node_model.specs.Wants.{wanted_by_peers}
-use Rattle.node_model.proofs.Directions.{down_exact, down_keeps, down_total, vpn_exact, vpn_keeps, vpn_total}
-use Rattle.node_model.proofs.Orders.{key_total}
+use Rattle.control_key_sends.specs.NodeItems.Told.{down_of, down_value}
+use Rattle.vpn_tables.specs.NodeModel.Directions.{down_order, vpn_order}
+use Rattle.vpn_tables.specs.NodeModel.Keys.{Key, Vpn, key_cmp, of_down}
+use Rattle.vpn_tables.specs.NodeModel.Maps.{Map, difference}
+use Rattle.vpn_tables.specs.NodeModel.Members.{Member}
+use Rattle.vpn_tables.specs.NodeModel.Paths.{Holdings}
+use Rattle.vpn_tables.specs.NodeModel.Values.{Route, same_value}
+use Rattle.vpn_tables.specs.NodeModel.Wants.{wanted_by_peers}
+use Rattle.vpn_tables.proofs.NodeModel.Directions.{down_exact, down_keeps, down_total, vpn_exact, vpn_keeps, vpn_total}
+use Rattle.vpn_tables.proofs.NodeModel.Orders.{key_total}
 use Rattle.vpn_tables.specs.Listing.{told_in}
 use Rattle.vpn_tables.specs.Views.{peer_of}
-use Rattle.control_touched_agent_laws.specs.Here.{wanted_on}
+use Rattle.control_marked_keys.specs.ControlTouchedAgentLaws.Here.{wanted_on}
 use Rattle.control_marked_keys.specs.Marks.{Marks}
 use Rattle.control_key_sends.proofs.Images.{agree}
 use Rattle.control_marked_sends.specs.Wanted.{AreItems, AreRoutes, IsSentToAgent, IsSentToPeer}

@@ -10,12 +10,12 @@ use Rattle.ov_types.specs.declared.numbers.InstanceId.{InstanceId}
 use Rattle.ov_types.specs.declared.rows.Entry.{Entry as RouteEntry}
 use Rattle.control_wants.specs.Entries.{hop_of}
 use Rattle.control_wants.proofs.OneKey.{no_row_wanted, row_wanted}
-use Rattle.node_model.specs.Keys.{Row, Subscribe}
-use Rattle.node_model.specs.Paths.{Holdings}
-use Rattle.node_model.specs.Values.{Entry}
+use Rattle.vpn_tables.specs.NodeModel.Keys.{Row, Subscribe}
+use Rattle.vpn_tables.specs.NodeModel.Paths.{Holdings}
+use Rattle.vpn_tables.specs.NodeModel.Values.{Entry}
 use Rattle.vpn_tables.specs.At.{row_at}
 use Rattle.vpn_tables.specs.Listing.{told_in}
-use Rattle.control_touched_agent_laws.specs.Here.{wanted_on}
+use Rattle.control_marked_keys.specs.ControlTouchedAgentLaws.Here.{wanted_on}
 
 pub row_told : (h : Holdings) (session : ℕ) (i : InstanceId) (q : Block) (row : Option RouteEntry) → row ≡ option_map hop_of (row_at h i q)
     → (if is_some (get (told_in h.agents session).map (Subscribe i)) then option_map Entry row else None) ≡ get (wanted_on h session) (Row i q)

@@ -6,8 +6,8 @@ use Rattle.std.specs.Option.{option_map}
 use Rattle.ov_types.specs.declared.keys.DownKey.{DownKey}
 use Rattle.ov_types.specs.declared.keys.DownKey.TheVariants as key
 use Rattle.control_wants.specs.Entries.{hop_of}
-use Rattle.node_model.specs.Directions.{down_order}
-use Rattle.node_model.specs.Paths.{Holdings}
+use Rattle.vpn_tables.specs.NodeModel.Directions.{down_order}
+use Rattle.vpn_tables.specs.NodeModel.Paths.{Holdings}
 use Rattle.vpn_tables.specs.At.{row_at}
 use Rattle.control_marked_keys.specs.Marks.{Marks}
 use Rattle.control_marked_sends.specs.declared.marked.MarkedItem.{MarkedItem}

@@ -9,16 +9,16 @@ use Rattle.ov_types.specs.declared.keys.DownKey.{DownKey}
 use Rattle.ov_types.specs.declared.keys.DownValue.{DownValue}
 use Rattle.ov_types.specs.declared.vpn.VpnKey.{VpnKey}
 use Rattle.ov_types.specs.declared.vpn.VpnRoute.{VpnRoute}
-use Rattle.node_items.specs.Told.{down_value}
-use Rattle.node_model.specs.Directions.{down_order, vpn_order}
-use Rattle.node_model.specs.Keys.{Key, Vpn, of_down}
-use Rattle.node_model.specs.Maps.{Map}
-use Rattle.node_model.specs.Paths.{Holdings}
-use Rattle.node_model.specs.Values.{Route}
-use Rattle.node_model.specs.Wants.{wanted_by_peers}
+use Rattle.control_key_sends.specs.NodeItems.Told.{down_value}
+use Rattle.vpn_tables.specs.NodeModel.Directions.{down_order, vpn_order}
+use Rattle.vpn_tables.specs.NodeModel.Keys.{Key, Vpn, of_down}
+use Rattle.vpn_tables.specs.NodeModel.Maps.{Map}
+use Rattle.vpn_tables.specs.NodeModel.Paths.{Holdings}
+use Rattle.vpn_tables.specs.NodeModel.Values.{Route}
+use Rattle.vpn_tables.specs.NodeModel.Wants.{wanted_by_peers}
 use Rattle.vpn_tables.specs.Listing.{told_in}
 use Rattle.vpn_tables.specs.Views.{peer_of}
-use Rattle.control_touched_agent_laws.specs.Here.{wanted_on}
+use Rattle.control_marked_keys.specs.ControlTouchedAgentLaws.Here.{wanted_on}
 use Rattle.control_marked_keys.specs.Marks.{IsCleanItem, IsCleanRoute, Marks}
 use Rattle.control_marked_sends.specs.declared.routes.RoutesWanted.{RoutesWanted}
 use Rattle.control_marked_sends.specs.declared.routes.RoutesWanted.TheVariants.{Marked, Whole}

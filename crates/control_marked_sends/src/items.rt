@@ -2,12 +2,12 @@
 ghost use Rattle.std.specs.Prelude.{◌≡◌, [], false, map, IfOk, OnErr, OnOk};
 ghost use Rattle.std.specs.List.{AllByRecursion};
 ghost use Rattle.ov_sync.specs.Embed.{moved_delta};
-ghost use Rattle.node_items.specs.Told.{down_of, down_value};
-ghost use Rattle.node_model.specs.Keys.{of_down};
-ghost use Rattle.node_model.specs.Maps.{difference};
-ghost use Rattle.node_model.specs.Members.{Member};
+ghost use Rattle.control_key_sends.specs.NodeItems.Told.{down_of, down_value};
+ghost use Rattle.vpn_tables.specs.NodeModel.Keys.{of_down};
+ghost use Rattle.vpn_tables.specs.NodeModel.Maps.{difference};
+ghost use Rattle.vpn_tables.specs.NodeModel.Members.{Member};
 ghost use Rattle.vpn_tables.specs.Listing.{told_in};
-ghost use Rattle.control_touched_agent_laws.specs.Here.{wanted_on};
+ghost use Rattle.control_marked_keys.specs.ControlTouchedAgentLaws.Here.{wanted_on};
 ghost use Rattle.control_marked_keys.specs.Marks.{Marks};
 ghost use Rattle.control_marked_sends.specs.Marked.{AreMarkedItems, HasItsRow};
 ghost use Rattle.control_marked_sends.specs.Wanted.{AreItems, IsSentToAgent};

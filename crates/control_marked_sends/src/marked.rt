@@ -2,12 +2,12 @@
 ghost use Rattle.std.specs.Prelude.{◌≡◌, None, is_some, if◌then◌else◌, IfOk};
 ghost use Rattle.std.specs.FinMap.{get};
 ghost use Rattle.std.specs.Option.{option_map};
-ghost use Rattle.node_items.specs.Told.{down_value};
-ghost use Rattle.node_model.specs.Keys.{Subscribe, of_down};
-ghost use Rattle.node_model.specs.Values.{Entry as EntryOf};
+ghost use Rattle.control_key_sends.specs.NodeItems.Told.{down_value};
+ghost use Rattle.vpn_tables.specs.NodeModel.Keys.{Subscribe, of_down};
+ghost use Rattle.vpn_tables.specs.NodeModel.Values.{Entry as EntryOf};
 ghost use Rattle.control_wants.specs.Entries.{hop_of};
 ghost use Rattle.vpn_tables.specs.Listing.{told_in};
-ghost use Rattle.control_touched_agent_laws.specs.Here.{wanted_on};
+ghost use Rattle.control_marked_keys.specs.ControlTouchedAgentLaws.Here.{wanted_on};
 ghost use Rattle.control_marked_sends.specs.Marked.{AreMarkedItems, HasItsRow, marked_key};
 
 use control_marked_keys::Dirty;

@@ -1,10 +1,10 @@
 //! What peers are told.
 ghost use Rattle.std.specs.Prelude.{◌≡◌, map, IfOk, OnOk};
 ghost use Rattle.ov_sync.specs.Embed.{moved_delta};
-ghost use Rattle.node_model.specs.Keys.{Vpn};
-ghost use Rattle.node_model.specs.Maps.{difference};
-ghost use Rattle.node_model.specs.Values.{Route};
-ghost use Rattle.node_model.specs.Wants.{wanted_by_peers as wanted_among};
+ghost use Rattle.vpn_tables.specs.NodeModel.Keys.{Vpn};
+ghost use Rattle.vpn_tables.specs.NodeModel.Maps.{difference};
+ghost use Rattle.vpn_tables.specs.NodeModel.Values.{Route};
+ghost use Rattle.vpn_tables.specs.NodeModel.Wants.{wanted_by_peers as wanted_among};
 ghost use Rattle.vpn_tables.specs.Views.{peer_of};
 ghost use Rattle.control_marked_sends.specs.Wanted.{AreRoutes, AreRoutesWanted, IsSentToPeer};
 

@@ -4,7 +4,7 @@ use Rattle.std.specs.List.{AllByRecursion, cons_option, filter_map, list_all}
 use Rattle.std.proofs.Common.{refl, sym, ◌∙◌, ap, subst, arith}
 use Rattle.std.proofs.lemmas.Bool.{and_parts, leb-true}
 use Rattle.std.proofs.lemmas.Option.{same_Some}
-use Rattle.bgp_vpn.specs.Written.{IfPut}
+use Rattle.bgp_session.specs.BgpVpn.Written.{IfPut}
 use Rattle.ov_sync.specs.declared.Delta.{Delta}
 use Rattle.ov_sync.specs.declared.Delta.TheVariants.{Put, Drop}
 use Rattle.ov_sync.specs.Embed.{moved_delta}
@@ -29,11 +29,11 @@ use Rattle.item_wire.specs.declared.item.Item.TheVariants as I
 use Rattle.node_items.specs.Told.{AllFit, ChangeFits, IsWritable, change_of}
 use Rattle.node_items.proofs.Changes.{read_fits}
 use Rattle.node_items.proofs.Maps.{changed_fits}
-use Rattle.node_model.specs.Keys.{Low, Vpn, of_up}
-use Rattle.node_model.specs.Maps.{Map, Change}
-use Rattle.node_model.specs.Paths.{Holdings, Told}
-use Rattle.node_model.specs.Values.{Object, Route, Label}
-use Rattle.node_model.proofs.Orders.{key_exact, key_total}
+use Rattle.node_core.specs.NodeModel.Keys.{Low, Vpn, of_up}
+use Rattle.node_core.specs.NodeModel.Maps.{Map, Change}
+use Rattle.node_core.specs.NodeModel.Paths.{Holdings, Told}
+use Rattle.node_core.specs.NodeModel.Values.{Object, Route, Label}
+use Rattle.node_core.proofs.NodeModel.Orders.{key_exact, key_total}
 use Rattle.vpn_tables.specs.Changes.{at_session, changed_at, with_low, with_publication, with_route}
 use Rattle.vpn_tables.specs.Ranges as ranges
 use Rattle.control_wants.specs.Held.{RouteFits}

@@ -14,10 +14,10 @@ use Rattle.ov_link.specs.declared.step.NodeFault.TheVariants.{NoMemory}
 use Rattle.ov_types.specs.declared.rows.NodeId.{NodeId}
 use Rattle.bgp_session.specs.declared.event.Cause.TheVariants.{Ended as PeerEnded}
 use Rattle.item_wire.specs.declared.event.ItemCause.TheVariants.{Ended as ItemEnded}
-use Rattle.node_model.specs.Maps.{Map}
-use Rattle.node_model.specs.Paths.{Holdings}
-use Rattle.node_model.specs.Step.{Beginning, Post}
-use Rattle.node_model.specs.Wants.{wanted_by_agent, wanted_by_peers}
+use Rattle.node_core.specs.NodeModel.Maps.{Map}
+use Rattle.node_core.specs.NodeModel.Paths.{Holdings}
+use Rattle.node_core.specs.NodeModel.Step.{Beginning, Post}
+use Rattle.node_core.specs.NodeModel.Wants.{wanted_by_agent, wanted_by_peers}
 use Rattle.control_wants.specs.Held.{told_in}
 use Rattle.node_core.specs.Whole.{IsWholeStep}
 use Rattle.node_core.proofs.Closing.{never_closed}

@@ -9,10 +9,10 @@ use Rattle.ov_types.specs.declared.keys.DownValue.{DownValue}
 use Rattle.item_wire.specs.declared.event.ItemState.{ItemState}
 use Rattle.node_items.specs.Told.{AllFit, down_of, down_order, down_value}
 use Rattle.node_items.proofs.Maps.{nothing_fits}
-use Rattle.node_model.specs.Keys.{key_cmp, of_down}
-use Rattle.node_model.specs.Maps.{Map}
-use Rattle.node_model.specs.Paths.{Holdings, Told}
-use Rattle.node_model.specs.Step.{nothing}
+use Rattle.node_core.specs.NodeModel.Keys.{key_cmp, of_down}
+use Rattle.node_core.specs.NodeModel.Maps.{Map}
+use Rattle.node_core.specs.NodeModel.Paths.{Holdings, Told}
+use Rattle.node_core.specs.NodeModel.Step.{nothing}
 use Rattle.vpn_tables.specs.Changes.{emptied_at, without}
 use Rattle.vpn_tables.proofs.Images.{peer-empty}
 use Rattle.control_node.specs.declared.ends.AgentEnd.{AgentEnd}

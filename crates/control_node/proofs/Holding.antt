@@ -4,9 +4,9 @@ use Rattle.std.proofs.Common.{refl, sym, ◌∙◌, ap, arith}
 use Rattle.std.proofs.Math.Seq.{drop-append_seam, take-append_seam}
 use Rattle.std.proofs.lemmas.List.{length-map}
 use Rattle.item_wire.specs.Happenings.{SessionFields}
-use Rattle.node_model.specs.Maps.{Map}
-use Rattle.node_model.specs.Paths.{Holdings, Told}
-use Rattle.node_model.specs.Step.{Post}
+use Rattle.node_core.specs.NodeModel.Maps.{Map}
+use Rattle.node_core.specs.NodeModel.Paths.{Holdings, Told}
+use Rattle.node_core.specs.NodeModel.Step.{Post}
 use Rattle.ov_types.specs.declared.prefix.Addr.{Addr}
 use Rattle.ov_types.specs.declared.rows.NodeId.{NodeId}
 use Rattle.control_node.specs.Core.{holdings, told_from}

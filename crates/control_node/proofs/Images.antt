@@ -10,11 +10,11 @@ use Rattle.ov_types.specs.declared.keys.DownKey.{DownKey}
 use Rattle.ov_types.specs.declared.keys.DownValue.{DownValue}
 use Rattle.ov_types.specs.declared.vpn.VpnKey.{VpnKey}
 use Rattle.ov_types.specs.declared.vpn.VpnRoute.{VpnRoute}
-use Rattle.bgp_vpn.specs.Written.{IfPut}
+use Rattle.bgp_session.specs.BgpVpn.Written.{IfPut}
 use Rattle.node_items.specs.Told.{ChangeFits, down_value}
-use Rattle.node_model.specs.Keys.{Vpn, of_down}
-use Rattle.node_model.specs.Maps.{Change, Map, difference}
-use Rattle.node_model.specs.Values.{Route}
+use Rattle.node_core.specs.NodeModel.Keys.{Vpn, of_down}
+use Rattle.node_core.specs.NodeModel.Maps.{Change, Map, difference}
+use Rattle.node_core.specs.NodeModel.Values.{Route}
 use Rattle.node_routes.specs.Told.{IsWritable, route_change}
 use Rattle.node_routes.proofs.Writable.{among_all}
 

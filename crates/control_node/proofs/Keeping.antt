@@ -12,10 +12,10 @@ use Rattle.ov_types.specs.declared.rows.NodeId.{NodeId}
 use Rattle.item_wire.specs.Happenings.{SessionFields}
 use Rattle.node_items.specs.Told.{AllFit}
 use Rattle.node_items.proofs.Maps.{nothing_fits}
-use Rattle.node_model.specs.Keys.{key_cmp}
-use Rattle.node_model.specs.Values.{Value}
-use Rattle.node_model.specs.Maps.{Map}
-use Rattle.node_model.specs.Paths.{Holdings, Told}
+use Rattle.node_core.specs.NodeModel.Keys.{key_cmp}
+use Rattle.node_core.specs.NodeModel.Values.{Value}
+use Rattle.node_core.specs.NodeModel.Maps.{Map}
+use Rattle.node_core.specs.NodeModel.Paths.{Holdings, Told}
 use Rattle.control_wants.specs.Held.{RouteFits}
 use Rattle.vpn_tables.specs.Changes.{at_session, emptied_at, without}
 use Rattle.control_node.specs.declared.ends.AgentEnd.{AgentEnd}

@@ -21,3 +21,5 @@ pub mod Placed
 pub mod Seated
 pub mod Silent
 pub mod Removed
+pub mod ControlWants
+pub mod NodeRoutes

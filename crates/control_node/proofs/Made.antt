@@ -18,12 +18,12 @@ use Rattle.item_wire.specs.declared.event.ItemFrom.TheVariants as From
 use Rattle.item_wire.specs.declared.event.ItemState.TheVariants as ItemState
 use Rattle.control_wants.specs.Held.{RouteFits}
 use Rattle.node_items.specs.Told.{AllFit}
-use Rattle.node_model.specs.Keys.{Key, Vpn, key_cmp}
-use Rattle.node_model.specs.Maps.{Map}
-use Rattle.node_model.specs.Paths.{Holdings, Told}
-use Rattle.node_model.specs.Step.{Post, nothing}
-use Rattle.node_model.specs.Values.{Value}
-use Rattle.node_model.proofs.Orders.{key_exact, key_total}
+use Rattle.node_core.specs.NodeModel.Keys.{Key, Vpn, key_cmp}
+use Rattle.node_core.specs.NodeModel.Maps.{Map}
+use Rattle.node_core.specs.NodeModel.Paths.{Holdings, Told}
+use Rattle.node_core.specs.NodeModel.Step.{Post, nothing}
+use Rattle.node_core.specs.NodeModel.Values.{Value}
+use Rattle.node_core.proofs.NodeModel.Orders.{key_exact, key_total}
 use Rattle.vpn_tables.specs.Changes.{changed_at, named, with_nothing, with_route}
 use Rattle.vpn_tables.proofs.Images.{peer-empty}
 use Rattle.control_node.specs.Beginning.{config}

@@ -17,7 +17,7 @@ use Rattle.node_items.proofs.NotEnded as item_causes
 use Rattle.node_routes.specs.Beginning as route
 use Rattle.node_routes.proofs.Cutting as route_cutting
 use Rattle.node_routes.proofs.NotEnded as route_causes
-use Rattle.node_model.specs.Step.{Beginning, Post}
+use Rattle.node_core.specs.NodeModel.Step.{Beginning, Post}
 use Rattle.control_node.specs.Beginning.{BeginsKeeping, ItemKeeps, KeepsBy, PeerKeeps, item_session, peer_session}
 use Rattle.control_node.specs.Core.{is_peer}
 use Rattle.control_node.specs.declared.cause.NodeCause.{NodeCause}

@@ -17,12 +17,12 @@ use Rattle.node_core.specs.Plans.{ArePlans}
 use Rattle.node_core.specs.declared.ends.Plan.{Plan}
 use Rattle.node_items.specs.Beginning as item
 use Rattle.node_items.specs.Told as items
-use Rattle.node_model.specs.Maps.{Map, Change, difference}
-use Rattle.node_model.specs.Paths.{Holdings, Told}
-use Rattle.node_model.specs.Step.{NodeKind, Post, changes, post, told_all}
-use Rattle.node_model.specs.Values.{same_value}
-use Rattle.node_model.specs.Wants.{wanted_by_agent, wanted_by_peers}
-use Rattle.node_model.proofs.Alike.{same_value_decides}
+use Rattle.node_core.specs.NodeModel.Maps.{Map, Change, difference}
+use Rattle.node_core.specs.NodeModel.Paths.{Holdings, Told}
+use Rattle.node_core.specs.NodeModel.Step.{NodeKind, Post, changes, post, told_all}
+use Rattle.node_core.specs.NodeModel.Values.{same_value}
+use Rattle.node_core.specs.NodeModel.Wants.{wanted_by_agent, wanted_by_peers}
+use Rattle.node_core.proofs.NodeModel.Alike.{same_value_decides}
 use Rattle.node_routes.specs.Beginning as route
 use Rattle.node_routes.specs.Told as routes
 use Rattle.vpn_tables.specs.Views.{peer_of}

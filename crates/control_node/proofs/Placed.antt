@@ -2,7 +2,7 @@
 use Rattle.std.specs.Prelude.{◌≡◌, ℕ, zero, suc, ◌+◌, ◌-◌, ◌≤◌, ◌<◌, List, [], ◌∷◌, ◌++◌, drop, length, true}
 use Rattle.std.proofs.Common.{refl, ap, arith, set}
 use Rattle.node_core.specs.Keeping.{AreFew, AreOfLive, kept_at}
-use Rattle.node_model.specs.Step.{Post, is_idle, nothing, post}
+use Rattle.node_core.specs.NodeModel.Step.{Post, is_idle, nothing, post}
 use Rattle.ov_types.specs.declared.rows.NodeId.{NodeId}
 use Rattle.control_node.specs.Agents.{AreRetired, agents_with, number_for, put_at, with_retired}
 use Rattle.control_node.specs.Core.{sessions}

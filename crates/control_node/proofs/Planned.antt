@@ -16,11 +16,11 @@ use Rattle.control_wants.specs.Held.{told_in}
 use Rattle.node_core.specs.declared.ends.Plan.{Plan}
 use Rattle.node_items.specs.Told.{AllFit, Fits, down_of, down_value}
 use Rattle.node_items.specs.Told as items
-use Rattle.node_model.specs.Keys.{Vpn, key_cmp, of_down}
-use Rattle.node_model.specs.Maps.{Map, Change, difference}
-use Rattle.node_model.specs.Paths.{Holdings, Told}
-use Rattle.node_model.specs.Values.{Route}
-use Rattle.node_model.specs.Wants.{wanted_by_peers}
+use Rattle.node_core.specs.NodeModel.Keys.{Vpn, key_cmp, of_down}
+use Rattle.node_core.specs.NodeModel.Maps.{Map, Change, difference}
+use Rattle.node_core.specs.NodeModel.Paths.{Holdings, Told}
+use Rattle.node_core.specs.NodeModel.Values.{Route}
+use Rattle.node_core.specs.NodeModel.Wants.{wanted_by_peers}
 use Rattle.node_routes.specs.Told as routes
 use Rattle.vpn_tables.specs.Views.{peer_of}
 use Rattle.control_node.specs.Planning.{AreAgentsTold, ArePeersTold, IsAgentTold, IsPeerTold, agent_plan, agent_plans, agent_sends}

@@ -6,7 +6,7 @@ use Rattle.std.specs.declared.result.Result.TheVariants.{Ok, Err}
 use Rattle.std.proofs.Common.{subst, sym}
 use Rattle.ov_link.specs.declared.step.NodeFault.{NodeFault}
 use Rattle.ov_link.specs.declared.step.Input.{Input}
-use Rattle.node_model.specs.Step.{Beginning, Post, Steps}
+use Rattle.node_core.specs.NodeModel.Step.{Beginning, Post, Steps}
 use Rattle.node_laws.specs.Stepped.{AreTold}
 use Rattle.node_laws.proofs.AtTheEnd.{told_where_none_failed}
 use Rattle.control_node.specs.Agents.{closing, failed_in, with_retired}

@@ -12,9 +12,9 @@ use Rattle.control_wants.specs.Held.{HoldingsFit}
 use Rattle.node_core.proofs.Lists.{all-set}
 use Rattle.node_items.specs.Told.{AllFit}
 use Rattle.node_items.proofs.Maps.{nothing_fits}
-use Rattle.node_model.specs.Maps.{Map}
-use Rattle.node_model.specs.Paths.{Holdings, Told}
-use Rattle.node_model.specs.Step.{Post, nothing}
+use Rattle.node_core.specs.NodeModel.Maps.{Map}
+use Rattle.node_core.specs.NodeModel.Paths.{Holdings, Told}
+use Rattle.node_core.specs.NodeModel.Step.{Post, nothing}
 use Rattle.vpn_tables.specs.Changes.{named, with_agent, with_nothing, without}
 use Rattle.control_node.specs.Agents.{agents_with, put_at}
 use Rattle.control_node.specs.Seating.{seated}

@@ -9,13 +9,13 @@ use Rattle.ov_types.specs.Keys.{row_key_cmp}
 use Rattle.ov_types.specs.declared.objects.LowKey.TheVariants as key
 use Rattle.ov_types.specs.declared.objects.LowValue.{LowValue}
 use Rattle.node_items.specs.Told.{AllFit}
-use Rattle.node_model.specs.Keys.{Low}
-use Rattle.node_model.specs.Values.{Value, Object, Route, Entry, Label}
-use Rattle.node_model.specs.Maps.{Map, as_object}
-use Rattle.node_model.specs.Paths.{Holdings}
-use Rattle.node_model.specs.Reaching.{AreShort}
-use Rattle.node_model.specs.Tables.{rows}
-use Rattle.node_model.proofs.Members.{none_some}
+use Rattle.node_core.specs.NodeModel.Keys.{Low}
+use Rattle.node_core.specs.NodeModel.Values.{Value, Object, Route, Entry, Label}
+use Rattle.node_core.specs.NodeModel.Maps.{Map, as_object}
+use Rattle.node_core.specs.NodeModel.Paths.{Holdings}
+use Rattle.node_core.specs.NodeModel.Reaching.{AreShort}
+use Rattle.node_core.specs.NodeModel.Tables.{rows}
+use Rattle.node_core.proofs.NodeModel.Members.{none_some}
 use Rattle.node_laws.specs.Received.{AreNetworks}
 use Rattle.node_laws.proofs.Shown.{shown_in_order}
 use Rattle.control_wants.specs.Held.{HoldingsFit}

@@ -7,14 +7,14 @@ use Rattle.std.proofs.lemmas.Bool.{true≢false, eqb-true}
 use Rattle.std.proofs.lemmas.Bool.Decides.{nat_tests}
 use Rattle.ov_types.specs.declared.prefix.Addr.{Addr}
 use Rattle.ov_types.specs.declared.rows.NodeId.{NodeId}
-use Rattle.node_model.specs.Maps.{Map}
-use Rattle.node_model.specs.Paths.{Holdings, Told}
-use Rattle.node_model.specs.Wants.{wanted_by_agent, wanted_by_peers}
+use Rattle.node_core.specs.NodeModel.Maps.{Map}
+use Rattle.node_core.specs.NodeModel.Paths.{Holdings, Told}
+use Rattle.node_core.specs.NodeModel.Wants.{wanted_by_agent, wanted_by_peers}
 use Rattle.vpn_tables.specs.Changes.{at_session, named, with_agent, with_nothing, without}
 use Rattle.vpn_tables.specs.Listing.{told_in}
 use Rattle.vpn_tables_by_prefix.proofs.Agents.{told_apart}
-use Rattle.control_silent_agent_laws.specs.Quiet.{IsWithoutSilent, PublishesNothing, SameButSilent}
-use Rattle.control_silent_agent_laws.proofs.Quiet.{silent_by_agent, silent_by_peers, told_nothing}
+use Rattle.vpn_tables_by_prefix.specs.ControlSilentAgentLaws.Quiet.{IsWithoutSilent, PublishesNothing, SameButSilent}
+use Rattle.vpn_tables_by_prefix.proofs.ControlSilentAgentLaws.Quiet.{silent_by_agent, silent_by_peers, told_nothing}
 use Rattle.control_marked_keys.specs.Marks.{IsCleanItem, Marks}
 use Rattle.control_node.specs.Ends.{seat, seats}
 use Rattle.control_node.specs.Made.{new_agent}

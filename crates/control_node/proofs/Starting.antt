@@ -22,11 +22,11 @@ use Rattle.item_wire.specs.declared.item.Item.TheVariants.{Hello}
 use Rattle.node_items.specs.Beginning as item
 use Rattle.node_items.specs.Hearing as item_hearing
 use Rattle.node_items.specs.Told.{AllFit, change_of, down_of}
-use Rattle.node_model.specs.Keys.{Vpn}
-use Rattle.node_model.specs.Maps.{Change}
-use Rattle.node_model.specs.Paths.{Holdings}
-use Rattle.node_model.specs.Step.{Opened, Post, end_of, nothing, post}
-use Rattle.node_model.specs.Values.{Route}
+use Rattle.node_core.specs.NodeModel.Keys.{Vpn}
+use Rattle.node_core.specs.NodeModel.Maps.{Change}
+use Rattle.node_core.specs.NodeModel.Paths.{Holdings}
+use Rattle.node_core.specs.NodeModel.Step.{Opened, Post, end_of, nothing, post}
+use Rattle.node_core.specs.NodeModel.Values.{Route}
 use Rattle.node_routes.specs.Beginning as route
 use Rattle.node_routes.specs.Hearing as route_hearing
 use Rattle.node_routes.specs.Hearing.{open_octets}

@@ -10,9 +10,9 @@ use Rattle.ov_types.specs.declared.vpn.VpnKey.{VpnKey}
 use Rattle.ov_types.specs.declared.vpn.VpnRoute.{VpnRoute}
 use Rattle.node_core.proofs.Lists.{all-set}
 use Rattle.node_items.specs.Told.{down_of}
-use Rattle.node_model.specs.Maps.{Map}
-use Rattle.node_model.specs.Paths.{Holdings}
-use Rattle.node_model.specs.Wants.{wanted_by_peers}
+use Rattle.node_core.specs.NodeModel.Maps.{Map}
+use Rattle.node_core.specs.NodeModel.Paths.{Holdings}
+use Rattle.node_core.specs.NodeModel.Wants.{wanted_by_peers}
 use Rattle.vpn_tables.specs.Listing.{told_in}
 use Rattle.vpn_tables.specs.Views.{peer_of}
 use Rattle.control_marked_keys.specs.Marks.{Covers, IsCleanItem, IsWithin, Marks}

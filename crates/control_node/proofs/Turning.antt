@@ -19,9 +19,9 @@ use Rattle.ov_types.specs.declared.rows.NodeId.{NodeId}
 use Rattle.ov_types.specs.declared.vpn.VpnKey.{VpnKey}
 use Rattle.ov_types.specs.declared.vpn.VpnRoute.{VpnRoute}
 use Rattle.node_items.specs.Beginning as item
-use Rattle.node_model.specs.Maps.{Map}
-use Rattle.node_model.specs.Paths.{Holdings, Told}
-use Rattle.node_model.specs.Step.{Beginning, Post, post}
+use Rattle.node_core.specs.NodeModel.Maps.{Map}
+use Rattle.node_core.specs.NodeModel.Paths.{Holdings, Told}
+use Rattle.node_core.specs.NodeModel.Step.{Beginning, Post, post}
 use Rattle.node_routes.specs.Beginning as route
 use Rattle.control_node.specs.Beginning.{BeginsKeeping, KeepsBy, agent_at, config, item_session, item_state, no_node, peer_session, peer_state}
 use Rattle.control_node.specs.Core.{is_peer}

@@ -9,7 +9,7 @@ use Rattle.ov_link.specs.declared.step.NodeFault.{NodeFault}
 use Rattle.ov_link.specs.declared.step.NodeFault.TheVariants.{LinkFailed, NoMemory}
 use Rattle.ov_types.specs.declared.rows.NodeId.{NodeId}
 use Rattle.node_core.specs.Naming.{Names}
-use Rattle.node_model.specs.Step.{Beginning, NodeKind, Post, Steps, nothing}
+use Rattle.node_core.specs.NodeModel.Step.{Beginning, NodeKind, Post, Steps, nothing}
 use Rattle.control_node.specs.Core.{Core, sessions}
 use Rattle.control_node.specs.declared.plan.ControlPlan.{ControlPlan}
 

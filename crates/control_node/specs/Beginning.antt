@@ -14,8 +14,8 @@ use Rattle.item_wire.specs.declared.event.ItemFrom.TheVariants as From
 use Rattle.item_wire.specs.declared.event.ItemState.{ItemState}
 use Rattle.node_items.specs.Beginning as item
 use Rattle.node_routes.specs.Beginning as route
-pub use Rattle.node_model.specs.Naming.{config, no_node}
-use Rattle.node_model.specs.Step.{Beginning, Phase, Idle, Opened, Confirmed, Up, Post}
+pub use Rattle.node_core.specs.NodeModel.Naming.{config, no_node}
+use Rattle.node_core.specs.NodeModel.Step.{Beginning, Phase, Idle, Opened, Confirmed, Up, Post}
 use Rattle.control_node.specs.Core.{is_peer}
 use Rattle.control_node.specs.declared.cause.NodeCause.{NodeCause}
 use Rattle.control_node.specs.declared.cause.NodeCause.TheVariants as Cause

@@ -5,7 +5,7 @@ use Rattle.std.specs.declared.option.Option.TheVariants.{Some, None}
 use Rattle.std.specs.List.{slice_set}
 use Rattle.ov_link.specs.declared.step.Input.{Input}
 use Rattle.node_core.specs.Begun.{HasBegun}
-use Rattle.node_model.specs.Step.{Beginning, Post, post}
+use Rattle.node_core.specs.NodeModel.Step.{Beginning, Post, post}
 use Rattle.control_node.specs.Beginning.{BeginsKeeping}
 use Rattle.control_node.specs.declared.cause.NodeCause.{NodeCause}
 use Rattle.control_node.specs.declared.plan.ControlPlan.{ControlPlan}

@@ -1,8 +1,8 @@
 -- How control nodes are told apart: by the codes of their parts.
 use Rattle.std.specs.Prelude.{ℕ, List, Bool, refl}
 use Rattle.std.specs.Coded.{Coded, code_by, coded×, coded_bool, coded_list, coded_ℕ}
-use Rattle.node_model.specs.Codes.{coded_post}
-use Rattle.node_model.specs.Step.{Post}
+use Rattle.node_core.specs.NodeModel.Codes.{coded_post}
+use Rattle.node_core.specs.NodeModel.Step.{Post}
 use Rattle.control_node.specs.Core.{Core}
 use Rattle.control_node.specs.contracts.plan.ControlPlan as plans
 use Rattle.control_node.specs.declared.plan.ControlPlan.{ControlPlan}

@@ -3,10 +3,10 @@ use Rattle.std.specs.Prelude.{ℕ, suc, ◌+◌, List, [], ◌∷◌, map, lengt
 use Rattle.std.specs.Prelude.{nat_lt, nat_le}
 use Rattle.std.specs.FinMap.{empty}
 use Rattle.ov_types.specs.declared.rows.NodeId.{NodeId}
-use Rattle.node_model.specs.Paths.{Holdings, Told}
+use Rattle.node_core.specs.NodeModel.Paths.{Holdings, Told}
 pub use Rattle.node_core.specs.Keeping.{AreFew, AreOfLive, AreSwept, kept_at, nothing_kept}
 pub use Rattle.node_core.specs.Resting.{nothings}
-use Rattle.node_model.specs.Step.{Post, post}
+use Rattle.node_core.specs.NodeModel.Step.{Post, post}
 use Rattle.control_node.specs.declared.plan.ControlPlan.{ControlPlan}
 
 -- its ends are the feed's, then the peers', then the agents'

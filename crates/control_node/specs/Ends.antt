@@ -12,10 +12,10 @@ use Rattle.item_wire.specs.declared.event.ItemState.{ItemState}
 use Rattle.control_wants.specs.Held.{HoldingsFit}
 use Rattle.node_items.specs.Beginning as item
 use Rattle.node_items.specs.Told.{AllFit, down_of}
-use Rattle.node_model.specs.Codes.{coded_post}
-use Rattle.node_model.specs.Maps.{Map}
-use Rattle.node_model.specs.Paths.{Holdings, Told}
-use Rattle.node_model.specs.Step.{Post}
+use Rattle.node_core.specs.NodeModel.Codes.{coded_post}
+use Rattle.node_core.specs.NodeModel.Maps.{Map}
+use Rattle.node_core.specs.NodeModel.Paths.{Holdings, Told}
+use Rattle.node_core.specs.NodeModel.Step.{Post}
 use Rattle.node_routes.specs.Beginning as route
 use Rattle.vpn_tables.specs.Views.{peer_of}
 use Rattle.control_node.specs.Beginning.{config}

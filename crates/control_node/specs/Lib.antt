@@ -14,3 +14,6 @@ pub mod Begun
 pub mod Made
 pub mod Seating
 pub mod Codes
+pub mod ControlWants
+pub mod NodeRoutes
+pub mod BgpVpn

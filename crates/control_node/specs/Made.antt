@@ -5,7 +5,7 @@ use Rattle.ov_types.specs.declared.rows.NodeId.{NodeId}
 use Rattle.bgp_session.specs.Happenings as peers
 use Rattle.item_wire.specs.Happenings as items
 use Rattle.item_wire.specs.declared.event.ItemFrom.TheVariants as From
-use Rattle.node_model.specs.Paths.{Holdings}
+use Rattle.node_core.specs.NodeModel.Paths.{Holdings}
 use Rattle.control_node.specs.Core.{nothings, sessions, told_from}
 use Rattle.control_node.specs.Ends.{Ends}
 use Rattle.control_node.specs.declared.ends.AgentEnd.{AgentEnd}

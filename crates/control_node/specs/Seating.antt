@@ -1,7 +1,7 @@
 -- The ends of a control node's sessions, as an agent comes.
 use Rattle.std.specs.Prelude.{ℕ}
 use Rattle.ov_types.specs.declared.rows.NodeId.{NodeId}
-use Rattle.node_model.specs.Step.{nothing}
+use Rattle.node_core.specs.NodeModel.Step.{nothing}
 use Rattle.control_node.specs.Agents.{agents_with, put_at}
 use Rattle.control_node.specs.Ends.{Ends}
 

@@ -1,7 +1,7 @@
 -- What stays of what is held, as maps in it change.
 use Rattle.std.specs.Prelude.{◌≡◌, length, map}
 use Rattle.control_wants.specs.Held.{HoldingsFit}
-use Rattle.node_model.specs.Paths.{Holdings}
+use Rattle.node_core.specs.NodeModel.Paths.{Holdings}
 use Rattle.control_node.specs.Ends.{seat}
 
 -- the same sessions are held, and what is held still fits

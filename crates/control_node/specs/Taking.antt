@@ -17,8 +17,8 @@ use Rattle.item_wire.specs.declared.input.Came.{Came}
 use Rattle.node_items.specs.Hearing as item
 use Rattle.node_items.specs.Keeping as kept_items
 use Rattle.node_items.specs.Told.{change_of}
-use Rattle.node_model.specs.Maps.{Map, Change}
-use Rattle.node_model.specs.Paths.{Holdings}
+use Rattle.node_core.specs.NodeModel.Maps.{Map, Change}
+use Rattle.node_core.specs.NodeModel.Paths.{Holdings}
 use Rattle.node_routes.specs.Hearing as route
 use Rattle.node_routes.specs.Keeping as kept_routes
 use Rattle.vpn_tables.specs.Changes.{at_session}

@@ -3,10 +3,10 @@ use Rattle.std.specs.Prelude.{◌≡◌, ℕ, List, Bool, true, false, not, ◌=
 use Rattle.std.specs.FinMap.{empty}
 use Rattle.control_wants.specs.Held.{told_in}
 use Rattle.node_items.specs.Told as items
-use Rattle.node_model.specs.Maps.{Map, Change}
+use Rattle.node_core.specs.NodeModel.Maps.{Map, Change}
 pub use Rattle.node_core.specs.Resting.{is_idle, is_up}
-use Rattle.node_model.specs.Step.{NodeKind, Phase, Post, Idle}
-use Rattle.node_model.specs.Wants.{wanted_by_agent, wanted_by_peers}
+use Rattle.node_core.specs.NodeModel.Step.{NodeKind, Phase, Post, Idle}
+use Rattle.node_core.specs.NodeModel.Wants.{wanted_by_agent, wanted_by_peers}
 use Rattle.node_routes.specs.Told as routes
 use Rattle.control_node.specs.Core.{holdings, is_peer}
 use Rattle.control_node.specs.declared.plan.ControlPlan.{ControlPlan}

@@ -4,7 +4,7 @@ ghost use Rattle.std.specs.Option.{option_map};
 ghost use Rattle.ov_link.specs.declared.step.Input.TheVariants as input;
 ghost use Rattle.node_core.specs.Keeping.{left_in, size_of};
 ghost use Rattle.node_core.specs.Whole.{Comes, session_of};
-ghost use Rattle.node_model.specs.Step.{post};
+ghost use Rattle.node_core.specs.NodeModel.Step.{post};
 ghost use Rattle.control_node.specs.Begun.{IsBegun, IsHeard};
 ghost use Rattle.control_node.specs.Wanting.{is_idle};
 ghost use Rattle.control_node.specs.declared.cause.NodeCause.TheVariants as Because;

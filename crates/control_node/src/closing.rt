@@ -1,10 +1,10 @@
 //! Ends that are closed.
 ghost use Rattle.std.specs.Prelude.{◌≡◌, ◌<◌, ◌+◌, suc, true, false, length, slice_set};
 ghost use Rattle.item_wire.specs.declared.event.ItemState.TheVariants as ItemState;
-ghost use Rattle.node_model.specs.Step.{nothing};
+ghost use Rattle.node_core.specs.NodeModel.Step.{nothing};
 ghost use Rattle.vpn_tables.specs.Changes.{without};
 ghost use Rattle.vpn_tables.specs.Listing.{told_in};
-ghost use Rattle.control_silent_agent_laws.specs.Quiet.{PublishesNothing};
+ghost use Rattle.vpn_tables_by_prefix.specs.ControlSilentAgentLaws.Quiet.{PublishesNothing};
 ghost use Rattle.control_node.specs.Places.{IsPlace};
 ghost use Rattle.control_node.specs.Ends.{closed_peer, closed_agent};
 

@@ -4,7 +4,7 @@ ghost use Rattle.std.specs.List.{filter};
 ghost use Rattle.node_core.specs.Keeping.{AreFew, AreOfLive, AreSwept};
 ghost use Rattle.node_core.specs.Naming.{Names};
 ghost use Rattle.node_laws.specs.Stepped.{AreTold};
-ghost use Rattle.node_model.specs.Step.{Steps};
+ghost use Rattle.node_core.specs.NodeModel.Step.{Steps};
 ghost use Rattle.control_node.specs.Agents.{IsRemoval, closing, failed_in, inserted, is_agent, is_retired, retiring};
 ghost use Rattle.control_node.specs.Core.{sessions};
 ghost use Rattle.control_node.specs.Wanting.{kind};

@@ -1,6 +1,6 @@
 //! What a control node holds, and what its peers are to have been told.
 ghost use Rattle.std.specs.Prelude.{◌≡◌, IfOk};
-ghost use Rattle.node_model.specs.Wants.{wanted_by_peers as wanted_among};
+ghost use Rattle.node_core.specs.NodeModel.Wants.{wanted_by_peers as wanted_among};
 ghost use Rattle.vpn_tables.specs.Views.{peer_of};
 ghost use Rattle.control_node.specs.Core.{holdings};
 

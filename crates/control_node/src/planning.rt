@@ -2,9 +2,9 @@
 ghost use Rattle.std.specs.Prelude.{◌≡◌, ◌<◌, ◌≤◌, ◌+◌, ◌^◌, ◌++◌, [], false, length, map, IfOk};
 ghost use Rattle.std.specs.List.{AllByRecursion};
 ghost use Rattle.ov_sync.specs.Embed.{moved_delta};
-ghost use Rattle.bgp_vpn.specs.Written.{IfPut};
-ghost use Rattle.node_model.specs.Keys.{Vpn, of_down};
-ghost use Rattle.node_model.specs.Values.{Route};
+ghost use Rattle.bgp_session.specs.BgpVpn.Written.{IfPut};
+ghost use Rattle.node_core.specs.NodeModel.Keys.{Vpn, of_down};
+ghost use Rattle.node_core.specs.NodeModel.Values.{Route};
 ghost use Rattle.node_items.specs.Told.{ChangeFits, down_value, spelled as spelled_item};
 ghost use Rattle.node_routes.specs.Told.{IsWritable, spelled as spelled_route};
 ghost use Rattle.control_wants.specs.Held.{HoldingsFit};

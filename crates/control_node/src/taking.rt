@@ -3,11 +3,11 @@ ghost use Rattle.std.specs.Prelude.{◌≡◌, ◌≤◌, ◌<◌, ◌^◌, leng
 ghost use Rattle.std.specs.List.{AllByRecursion, filter_map};
 ghost use Rattle.ov_sync.specs.Embed.{moved_delta};
 ghost use Rattle.ov_sync.specs.Keyed.{after};
-ghost use Rattle.bgp_vpn.specs.Written.{IfPut};
+ghost use Rattle.bgp_session.specs.BgpVpn.Written.{IfPut};
 ghost use Rattle.item_wire.specs.Inputs.{is_of_agent, is_of_feed};
 ghost use Rattle.node_items.specs.Told.{IsWritable, change_of};
-ghost use Rattle.node_model.specs.Keys.{Vpn};
-ghost use Rattle.node_model.specs.Values.{Route as RouteOf};
+ghost use Rattle.node_core.specs.NodeModel.Keys.{Vpn};
+ghost use Rattle.node_core.specs.NodeModel.Values.{Route as RouteOf};
 ghost use Rattle.control_node.specs.Stays.{StaysHeld};
 ghost use Rattle.control_node.specs.Taking.{agent_by, changed_by, feed_by, peer_by};
 ghost use Rattle.control_node.specs.Tracking.{AreMarked};

@@ -5,11 +5,11 @@ use Rattle.std.specs.declared.option.Option.TheVariants.{Some, None}
 use Rattle.std.specs.List.{filter, filter_map, flat_map, list_any}
 use Rattle.std.specs.FinMap.{empty, entries, from_entries, get, get-empty}
 use Rattle.std.proofs.Common.{refl, sym, ◌∙◌, ap, inl, inr}
-use Rattle.ov_types.specs.Prefix.{Block, host_prefix, is_inside}
-use Rattle.ov_types.specs.declared.numbers.InstanceId.{InstanceId}
-use Rattle.ov_types.specs.declared.numbers.Label.{Label as LabelNo}
-use Rattle.ov_types.specs.declared.prefix.Addr.{Addr}
-use Rattle.route_targets.specs.Numbers.{target_of, circuit_address_of, circuit_instance_of}
+use Rattle.node_model.specs.OvTypes.Prefix.{Block, host_prefix, is_inside}
+use Rattle.node_model.specs.OvTypes.InstanceId.{InstanceId}
+use Rattle.node_model.specs.OvTypes.Label.{Label as LabelNo}
+use Rattle.node_model.specs.OvTypes.Addr.{Addr}
+use Rattle.node_model.specs.RouteTargets.Numbers.{target_of, circuit_address_of, circuit_instance_of}
 use Rattle.node_model.specs.Keys.{Key, Low, Vpn, Row, Publish, Subscribe, key_cmp}
 use Rattle.node_model.specs.Values.{Value, Object, Route, Entry, Label}
 use Rattle.node_model.specs.Maps.{Map, as_label}

@@ -2,8 +2,8 @@
 use Rattle.std.specs.Prelude.{◌≡◌, ◌⊎◌, List, [], ◌∷◌}
 use Rattle.std.specs.declared.option.Option.TheVariants.{None}
 use Rattle.std.specs.FinMap.{empty, get}
-use Rattle.ov_types.specs.Prefix.{Block}
-use Rattle.ov_types.specs.declared.numbers.InstanceId.{InstanceId}
+use Rattle.node_model.specs.OvTypes.Prefix.{Block}
+use Rattle.node_model.specs.OvTypes.InstanceId.{InstanceId}
 use Rattle.node_model.specs.Keys.{Publish}
 use Rattle.node_model.specs.Maps.{Map, as_label}
 use Rattle.node_model.specs.Paths.{Holdings, Told}

@@ -17,16 +17,16 @@ use Rattle.ov_sync.specs.declared.Delta.{Delta}
 use Rattle.ov_sync.specs.declared.Delta.TheVariants.{Put, Drop}
 use Rattle.ov_sync.specs.Embed.{moved_delta}
 use Rattle.ov_sync.specs.Keyed.{changed, key_of}
-use Rattle.node_model.specs.Keys.{Key, Row, key_cmp, of_up}
-use Rattle.node_model.specs.Values.{Label}
-use Rattle.node_model.specs.Maps.{Map}
-use Rattle.node_model.specs.Paths.{Holdings, Told}
-use Rattle.node_model.specs.Reaching.{AreShort}
-use Rattle.node_model.specs.Tables.{table}
-use Rattle.node_model.specs.Wants.{rows_of, slice, slice_entry, subscribed, subscriptions, wanted_by_agent}
-use Rattle.node_model.proofs.Orders.{key_total}
-use Rattle.vpn_tables.specs.Changes.{at_session, with_publication, with_route}
-use Rattle.vpn_tables.specs.Listing.{told_in}
+use Rattle.control_touched_laws.specs.NodeModel.Keys.{Key, Row, key_cmp, of_up}
+use Rattle.control_touched_laws.specs.NodeModel.Values.{Label}
+use Rattle.control_touched_laws.specs.NodeModel.Maps.{Map}
+use Rattle.control_touched_laws.specs.NodeModel.Paths.{Holdings, Told}
+use Rattle.control_touched_laws.specs.NodeModel.Reaching.{AreShort}
+use Rattle.control_touched_laws.specs.NodeModel.Tables.{table}
+use Rattle.control_touched_laws.specs.NodeModel.Wants.{rows_of, slice, slice_entry, subscribed, subscriptions, wanted_by_agent}
+use Rattle.control_touched_laws.proofs.NodeModel.Orders.{key_total}
+use Rattle.control_touched_laws.specs.VpnTables.Changes.{at_session, with_publication, with_route}
+use Rattle.control_touched_laws.specs.VpnTables.Listing.{told_in}
 use Rattle.control_touched_laws.proofs.Filtering.{found_after, found_in_each}
 use Rattle.control_touched_laws.proofs.OneKey.{changed_none}
 use Rattle.control_touched_laws.proofs.Touching.{subscription_rows}

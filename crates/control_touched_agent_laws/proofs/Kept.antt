@@ -12,12 +12,12 @@ use Rattle.std.proofs.Common.{refl, sym, ◌∙◌, ap, subst, inl, inr}
 use Rattle.ov_sync.specs.declared.Delta.TheVariants.{Put, Drop}
 use Rattle.ov_sync.specs.Keyed.{changed, key_of}
 use Rattle.ov_sync.proofs.Ascending.{entries-remove, three, without}
-use Rattle.node_model.specs.Members.{Member}
-use Rattle.node_model.specs.Keys.{Key, key_cmp}
-use Rattle.node_model.specs.Values.{Value}
-use Rattle.node_model.specs.Maps.{Change, Map}
-use Rattle.node_model.proofs.Members.{get_member}
-use Rattle.node_model.proofs.Orders.{key_exact, key_total}
+use Rattle.control_touched_laws.specs.NodeModel.Members.{Member}
+use Rattle.control_touched_laws.specs.NodeModel.Keys.{Key, key_cmp}
+use Rattle.control_touched_laws.specs.NodeModel.Values.{Value}
+use Rattle.control_touched_laws.specs.NodeModel.Maps.{Change, Map}
+use Rattle.control_touched_laws.proofs.NodeModel.Members.{get_member}
+use Rattle.control_touched_laws.proofs.NodeModel.Orders.{key_exact, key_total}
 
 -- the value that a change puts
 abbrev pub value_put : Change → Option Value

@@ -3,3 +3,4 @@ pub mod Kept
 pub mod Ports
 pub mod Slices
 pub mod Agents
+pub mod ControlTouchedLaws

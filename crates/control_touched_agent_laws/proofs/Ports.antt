@@ -19,14 +19,14 @@ use Rattle.ov_sync.specs.declared.Delta.{Delta}
 use Rattle.ov_sync.specs.declared.Delta.TheVariants.{Put, Drop}
 use Rattle.ov_sync.specs.Embed.{moved_delta}
 use Rattle.ov_sync.specs.Keyed.{changed, key_of}
-use Rattle.node_model.specs.Keys.{Key, Low, key_cmp}
-use Rattle.node_model.specs.Members.{Member}
-use Rattle.node_model.specs.Values.{Value, Object, Route, Entry, Label}
-use Rattle.node_model.specs.Maps.{Map, as_object, object, objects}
-use Rattle.node_model.specs.Wants.{networks_at, port_at}
-use Rattle.node_model.proofs.Members.{any_in, from_any, from_filter_map, iff_same, in_filter_map, none_some}
-use Rattle.node_model.proofs.Objects.{in_objects, object_of}
-use Rattle.node_model.proofs.Orders.{key_exact, key_total}
+use Rattle.control_touched_laws.specs.NodeModel.Keys.{Key, Low, key_cmp}
+use Rattle.control_touched_laws.specs.NodeModel.Members.{Member}
+use Rattle.control_touched_laws.specs.NodeModel.Values.{Value, Object, Route, Entry, Label}
+use Rattle.control_touched_laws.specs.NodeModel.Maps.{Map, as_object, object, objects}
+use Rattle.control_touched_laws.specs.NodeModel.Wants.{networks_at, port_at}
+use Rattle.control_touched_laws.proofs.NodeModel.Members.{any_in, from_any, from_filter_map, iff_same, in_filter_map, none_some}
+use Rattle.control_touched_laws.proofs.NodeModel.Objects.{in_objects, object_of}
+use Rattle.control_touched_laws.proofs.NodeModel.Orders.{key_exact, key_total}
 use Rattle.control_touched_laws.proofs.Objects.{object_stays}
 use Rattle.control_touched_agent_laws.specs.Here.{port_here, put_by}
 

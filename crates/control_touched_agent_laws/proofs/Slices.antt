@@ -18,16 +18,16 @@ use Rattle.ov_sync.specs.declared.Delta.{Delta}
 use Rattle.ov_sync.specs.declared.Delta.TheVariants.{Put, Drop}
 use Rattle.ov_sync.specs.Embed.{moved_delta}
 use Rattle.ov_sync.specs.Keyed.{changed, key_of}
-use Rattle.node_model.specs.Keys.{Key, Low, Vpn, Row, Publish, Subscribe, key_cmp}
-use Rattle.node_model.specs.Values.{Value, Object, Route, Entry, Label}
-use Rattle.node_model.specs.Maps.{Map, as_object, low_entry, object, objects}
-use Rattle.node_model.specs.Paths.{Holdings, Told}
-use Rattle.node_model.specs.Wants.{is_in_slice, networks_at, port_at, rows_of, slice, slice_entry, subscriptions, wanted_by_agent}
-use Rattle.node_model.proofs.Members.{none_some}
-use Rattle.node_model.proofs.Objects.{object_of}
-use Rattle.node_model.proofs.Orders.{key_exact, key_total}
-use Rattle.node_model.proofs.Wanted.{slice_is, wanted_object}
-use Rattle.vpn_tables.specs.Changes.{with_low}
+use Rattle.control_touched_laws.specs.NodeModel.Keys.{Key, Low, Vpn, Row, Publish, Subscribe, key_cmp}
+use Rattle.control_touched_laws.specs.NodeModel.Values.{Value, Object, Route, Entry, Label}
+use Rattle.control_touched_laws.specs.NodeModel.Maps.{Map, as_object, low_entry, object, objects}
+use Rattle.control_touched_laws.specs.NodeModel.Paths.{Holdings, Told}
+use Rattle.control_touched_laws.specs.NodeModel.Wants.{is_in_slice, networks_at, port_at, rows_of, slice, slice_entry, subscriptions, wanted_by_agent}
+use Rattle.control_touched_laws.proofs.NodeModel.Members.{none_some}
+use Rattle.control_touched_laws.proofs.NodeModel.Objects.{object_of}
+use Rattle.control_touched_laws.proofs.NodeModel.Orders.{key_exact, key_total}
+use Rattle.control_touched_laws.proofs.NodeModel.Wanted.{slice_is, wanted_object}
+use Rattle.control_touched_laws.specs.VpnTables.Changes.{with_low}
 use Rattle.control_touched_laws.proofs.Filtering.{filter_twice, found_among, found_in_each}
 use Rattle.control_touched_laws.proofs.Objects.{object_stays, tables_stay}
 use Rattle.control_touched_agent_laws.specs.Here.{IsListOfPort, is_here, port_here, put_by}

@@ -9,11 +9,11 @@ use Rattle.ov_types.specs.declared.objects.LowKey.{LowKey}
 use Rattle.ov_types.specs.declared.objects.LowKey.TheVariants as key
 use Rattle.ov_types.specs.declared.objects.LowValue.{LowValue}
 use Rattle.ov_types.specs.declared.prefix.Addr.{Addr}
-use Rattle.node_model.specs.Keys.{Key, Low}
-use Rattle.node_model.specs.Maps.{Map, object}
-use Rattle.node_model.specs.Paths.{Holdings}
-use Rattle.node_model.specs.Wants.{is_at, port_at, wanted_by_agent}
-use Rattle.vpn_tables.specs.Listing.{told_in}
+use Rattle.control_touched_laws.specs.NodeModel.Keys.{Key, Low}
+use Rattle.control_touched_laws.specs.NodeModel.Maps.{Map, object}
+use Rattle.control_touched_laws.specs.NodeModel.Paths.{Holdings}
+use Rattle.control_touched_laws.specs.NodeModel.Wants.{is_at, port_at, wanted_by_agent}
+use Rattle.control_touched_laws.specs.VpnTables.Listing.{told_in}
 
 -- an object that may not be there is attached at this address
 abbrev pub is_here : Addr → Option LowValue → Bool

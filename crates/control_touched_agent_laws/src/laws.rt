@@ -13,14 +13,14 @@ ghost use Rattle.ov_types.specs.declared.objects.LowKey.TheVariants as key;
 ghost use Rattle.ov_types.specs.declared.objects.LowValue.{LowValue};
 ghost use Rattle.ov_types.specs.declared.vpn.VpnKey.{VpnKey};
 ghost use Rattle.ov_types.specs.declared.vpn.VpnRoute.{VpnRoute};
-ghost use Rattle.node_model.specs.Keys.{Key, Low, Row};
-ghost use Rattle.node_model.specs.Maps.{object};
-ghost use Rattle.node_model.specs.Paths.{Holdings, Told};
-ghost use Rattle.node_model.specs.Reaching.{AreShort};
-ghost use Rattle.node_model.specs.Tables.{table};
-ghost use Rattle.node_model.specs.Wants.{wanted_by_agent};
-ghost use Rattle.vpn_tables.specs.Changes.{with_low, with_publication, with_route};
-ghost use Rattle.vpn_tables.specs.Listing.{told_in};
+ghost use Rattle.control_touched_laws.specs.NodeModel.Keys.{Key, Low, Row};
+ghost use Rattle.control_touched_laws.specs.NodeModel.Maps.{object};
+ghost use Rattle.control_touched_laws.specs.NodeModel.Paths.{Holdings, Told};
+ghost use Rattle.control_touched_laws.specs.NodeModel.Reaching.{AreShort};
+ghost use Rattle.control_touched_laws.specs.NodeModel.Tables.{table};
+ghost use Rattle.control_touched_laws.specs.NodeModel.Wants.{wanted_by_agent};
+ghost use Rattle.control_touched_laws.specs.VpnTables.Changes.{with_low, with_publication, with_route};
+ghost use Rattle.control_touched_laws.specs.VpnTables.Listing.{told_in};
 ghost use Rattle.control_touched_agent_laws.specs.Here.{IsListOfPort, is_here, port_here, put_by, wanted_on};
 
 /// A change of an object that is no instance and no use, as an attachment or an access list, changes of what an agent

@@ -18,12 +18,12 @@ use Rattle.ov_sync.specs.Embed.{moved_delta}
 use Rattle.ov_sync.specs.Keyed.{changed}
 use Rattle.ov_sync.proofs.KeyedLaws.{changed_apart}
 use Rattle.route_targets.specs.Numbers.{circuit_instance_of, circuit_address_of}
-use Rattle.node_model.specs.Keys.{Key, Low, Vpn, Row, Publish, Subscribe, key_cmp, of_up}
-use Rattle.node_model.specs.Values.{Value, Object, Route, Entry, Label}
-use Rattle.node_model.specs.Maps.{Map, as_label}
-use Rattle.node_model.specs.Paths.{Holdings, Path, Told, own_path}
-use Rattle.node_model.specs.Reaching.{published_by, published_in}
-use Rattle.node_model.proofs.Orders.{key_exact, key_total}
+use Rattle.vpn_tables.specs.NodeModel.Keys.{Key, Low, Vpn, Row, Publish, Subscribe, key_cmp, of_up}
+use Rattle.vpn_tables.specs.NodeModel.Values.{Value, Object, Route, Entry, Label}
+use Rattle.vpn_tables.specs.NodeModel.Maps.{Map, as_label}
+use Rattle.vpn_tables.specs.NodeModel.Paths.{Holdings, Path, Told, own_path}
+use Rattle.vpn_tables.specs.NodeModel.Reaching.{published_by, published_in}
+use Rattle.vpn_tables.proofs.NodeModel.Orders.{key_exact, key_total}
 use Rattle.vpn_tables.specs.Changes.{at_session}
 use Rattle.control_touched_laws.proofs.Moves.{told_otherwise}
 use Rattle.control_touched_laws.proofs.Filtering.{filter_append}

@@ -6,10 +6,10 @@ use Rattle.std.proofs.Common.{refl, sym, ◌∙◌, ap, arith}
 use Rattle.ov_types.specs.Prefix.{Block}
 use Rattle.ov_types.specs.declared.numbers.InstanceId.{InstanceId}
 use Rattle.ov_types.specs.declared.targets.Target.{Target}
-use Rattle.node_model.specs.Uses.{Use, uses, hop}
-use Rattle.node_model.specs.Paths.{Holdings}
-use Rattle.node_model.specs.Reaching.{below}
-use Rattle.node_model.specs.Tables.{known_instances}
+use Rattle.vpn_tables.specs.NodeModel.Uses.{Use, uses, hop}
+use Rattle.vpn_tables.specs.NodeModel.Paths.{Holdings}
+use Rattle.vpn_tables.specs.NodeModel.Reaching.{below}
+use Rattle.vpn_tables.specs.NodeModel.Tables.{known_instances}
 use Rattle.vpn_tables.specs.Listing.{hops}
 use Rattle.vpn_tables.specs.Touched.{imports_one, is_touched, rows_at_use, touched, touched_rows, weight}
 

@@ -18,16 +18,16 @@ use Rattle.ov_sync.specs.declared.Delta.TheVariants.{Put, Drop}
 use Rattle.ov_sync.specs.Embed.{moved_delta}
 use Rattle.ov_sync.specs.Keyed.{key_of}
 use Rattle.route_targets.specs.Numbers.{distinguisher_of}
-use Rattle.node_model.specs.Keys.{Key, Low, Vpn, Row, Publish, Subscribe, of_up}
-use Rattle.node_model.specs.Members.{Member}
-use Rattle.node_model.specs.Paths.{Holdings, Path, Told, own_path, peer_path}
-use Rattle.node_model.specs.Reaching.{AreShort, Side, below, circuit_at, hop_at, into, is_up, publisher, sides, sides_of, subnets, towards}
-use Rattle.node_model.specs.Tables.{table}
-use Rattle.node_model.specs.Uses.{Use, is_known, uses}
-use Rattle.node_model.specs.Values.{Value, Object, Route, Entry, Label}
-use Rattle.node_model.specs.Wants.{wanted_by_peers}
-use Rattle.node_model.proofs.Members.{from_flat_map, in_either, in_filter, in_flat_map, in_map, member_when}
-use Rattle.node_model.proofs.Objects.{side_use}
+use Rattle.vpn_tables.specs.NodeModel.Keys.{Key, Low, Vpn, Row, Publish, Subscribe, of_up}
+use Rattle.vpn_tables.specs.NodeModel.Members.{Member}
+use Rattle.vpn_tables.specs.NodeModel.Paths.{Holdings, Path, Told, own_path, peer_path}
+use Rattle.vpn_tables.specs.NodeModel.Reaching.{AreShort, Side, below, circuit_at, hop_at, into, is_up, publisher, sides, sides_of, subnets, towards}
+use Rattle.vpn_tables.specs.NodeModel.Tables.{table}
+use Rattle.vpn_tables.specs.NodeModel.Uses.{Use, is_known, uses}
+use Rattle.vpn_tables.specs.NodeModel.Values.{Value, Object, Route, Entry, Label}
+use Rattle.vpn_tables.specs.NodeModel.Wants.{wanted_by_peers}
+use Rattle.vpn_tables.proofs.NodeModel.Members.{from_flat_map, in_either, in_filter, in_flat_map, in_map, member_when}
+use Rattle.vpn_tables.proofs.NodeModel.Objects.{side_use}
 use Rattle.vpn_tables.specs.Changes.{with_publication, with_route}
 use Rattle.vpn_tables.specs.Leading.{leads}
 use Rattle.vpn_tables.specs.Moved.{map_at, moved_by, moved_by_publication, moved_by_route, targets_by_publication, targets_by_route, told_as, told_on}

@@ -13,3 +13,4 @@ pub mod Agents
 pub mod Touching
 pub mod Covering
 pub mod Objects
+pub mod NodeModel

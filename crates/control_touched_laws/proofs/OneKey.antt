@@ -12,13 +12,13 @@ use Rattle.std.proofs.Common.{refl, sym, ◌∙◌, ap, subst, inl, inr}
 use Rattle.ov_sync.specs.declared.Delta.TheVariants.{Put, Drop}
 use Rattle.ov_sync.specs.Keyed.{changed, key_of}
 use Rattle.ov_sync.proofs.Ascending.{entries-remove, three, without}
-use Rattle.node_model.specs.Members.{Member}
-use Rattle.node_model.specs.Keys.{Key, key_cmp}
-use Rattle.node_model.specs.Values.{Value}
-use Rattle.node_model.specs.Maps.{Change, Map}
-use Rattle.node_model.specs.Paths.{Path}
-use Rattle.node_model.proofs.Members.{get_member}
-use Rattle.node_model.proofs.Orders.{key_exact, key_total}
+use Rattle.vpn_tables.specs.NodeModel.Members.{Member}
+use Rattle.vpn_tables.specs.NodeModel.Keys.{Key, key_cmp}
+use Rattle.vpn_tables.specs.NodeModel.Values.{Value}
+use Rattle.vpn_tables.specs.NodeModel.Maps.{Change, Map}
+use Rattle.vpn_tables.specs.NodeModel.Paths.{Path}
+use Rattle.vpn_tables.proofs.NodeModel.Members.{get_member}
+use Rattle.vpn_tables.proofs.NodeModel.Orders.{key_exact, key_total}
 use Rattle.vpn_tables.specs.Moved.{moved_in, told_as}
 
 -- nothing of these passes

@@ -5,10 +5,10 @@ use Rattle.std.specs.FinMap.{empty, entries}
 use Rattle.std.proofs.Common.{refl, sym, ◌∙◌, ap, subst, arith}
 use Rattle.ov_sync.specs.Keyed.{changed}
 use Rattle.ov_sync.proofs.Ascending.{entries-empty}
-use Rattle.node_model.specs.Keys.{key_cmp}
-use Rattle.node_model.specs.Values.{Value}
-use Rattle.node_model.specs.Maps.{Change, Map}
-use Rattle.node_model.specs.Paths.{Path, peer_path}
+use Rattle.vpn_tables.specs.NodeModel.Keys.{key_cmp}
+use Rattle.vpn_tables.specs.NodeModel.Values.{Value}
+use Rattle.vpn_tables.specs.NodeModel.Maps.{Change, Map}
+use Rattle.vpn_tables.specs.NodeModel.Paths.{Path, peer_path}
 use Rattle.vpn_tables.specs.Changes.{changed_at}
 use Rattle.control_touched_laws.proofs.Filtering.{filter_append}
 use Rattle.vpn_tables.specs.Moved.{map_at, moved_in}

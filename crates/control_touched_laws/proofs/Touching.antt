@@ -19,15 +19,15 @@ use Rattle.ov_sync.specs.Embed.{moved_delta}
 use Rattle.ov_sync.specs.Keyed.{key_of}
 use Rattle.ov_types.specs.declared.targets.Target.{Target}
 use Rattle.route_targets.specs.Numbers.{target_of}
-use Rattle.node_model.proofs.Members.{in_either, in_flat_map}
-use Rattle.node_model.specs.Keys.{Key, Vpn, Row, Publish, Subscribe, of_up}
-use Rattle.node_model.specs.Values.{Value, Object, Route, Entry, Label}
-use Rattle.node_model.specs.Members.{Member}
-use Rattle.node_model.specs.Uses.{is_known, uses}
-use Rattle.node_model.specs.Paths.{Holdings, Path, Told, own_path, peer_path}
-use Rattle.node_model.specs.Reaching.{AreShort}
-use Rattle.node_model.specs.Tables.{known_instances, table}
-use Rattle.node_model.specs.Wants.{wanted_by_agent, wanted_by_peers}
+use Rattle.vpn_tables.proofs.NodeModel.Members.{in_either, in_flat_map}
+use Rattle.vpn_tables.specs.NodeModel.Keys.{Key, Vpn, Row, Publish, Subscribe, of_up}
+use Rattle.vpn_tables.specs.NodeModel.Values.{Value, Object, Route, Entry, Label}
+use Rattle.vpn_tables.specs.NodeModel.Members.{Member}
+use Rattle.vpn_tables.specs.NodeModel.Uses.{is_known, uses}
+use Rattle.vpn_tables.specs.NodeModel.Paths.{Holdings, Path, Told, own_path, peer_path}
+use Rattle.vpn_tables.specs.NodeModel.Reaching.{AreShort}
+use Rattle.vpn_tables.specs.NodeModel.Tables.{known_instances, table}
+use Rattle.vpn_tables.specs.NodeModel.Wants.{wanted_by_agent, wanted_by_peers}
 use Rattle.vpn_tables.specs.Changes.{with_publication, with_route}
 use Rattle.control_touched_laws.proofs.Moves.{Covers, Moves}
 use Rattle.control_touched_laws.specs.TouchedKeys.{IsTouchedKey}

@@ -12,18 +12,18 @@ use Rattle.ov_types.specs.Prefix.{Block, block_cmp}
 use Rattle.ov_types.specs.declared.numbers.InstanceId.{InstanceId}
 use Rattle.ov_types.specs.declared.targets.Target.{Target}
 use Rattle.route_targets.specs.Numbers.{target_of}
-use Rattle.node_model.specs.Members.{Member}
-use Rattle.node_model.specs.Keys.{Key, Low, Vpn, Row, Publish, Subscribe, key_cmp}
-use Rattle.node_model.specs.Values.{Value, Entry}
-use Rattle.node_model.specs.Maps.{Map}
-use Rattle.node_model.specs.Uses.{uses, imports}
-use Rattle.node_model.specs.Paths.{Holdings, Told, Path, has_target, own_paths, peer_paths, received}
-use Rattle.node_model.specs.Reaching.{Side, sides, reoriginated_paths, AreShort}
-use Rattle.node_model.specs.Tables.{known_instances, of_prefix, paths_of, same_prefix, table}
-use Rattle.node_model.specs.Wants.{route_entry, rows_of, slice, slice_entry, subscriptions, wanted_by_agent, wanted_by_peers}
-use Rattle.node_model.proofs.Members.{in_filter, in_flat_map, in_left, in_map, in_right, from_map, iff_same}
-use Rattle.node_model.proofs.Orders.{key_exact, key_total, prefix_exact, prefix_same, prefix_total}
-use Rattle.node_model.proofs.Objects.{side_use}
+use Rattle.vpn_tables.specs.NodeModel.Members.{Member}
+use Rattle.vpn_tables.specs.NodeModel.Keys.{Key, Low, Vpn, Row, Publish, Subscribe, key_cmp}
+use Rattle.vpn_tables.specs.NodeModel.Values.{Value, Entry}
+use Rattle.vpn_tables.specs.NodeModel.Maps.{Map}
+use Rattle.vpn_tables.specs.NodeModel.Uses.{uses, imports}
+use Rattle.vpn_tables.specs.NodeModel.Paths.{Holdings, Told, Path, has_target, own_paths, peer_paths, received}
+use Rattle.vpn_tables.specs.NodeModel.Reaching.{Side, sides, reoriginated_paths, AreShort}
+use Rattle.vpn_tables.specs.NodeModel.Tables.{known_instances, of_prefix, paths_of, same_prefix, table}
+use Rattle.vpn_tables.specs.NodeModel.Wants.{route_entry, rows_of, slice, slice_entry, subscriptions, wanted_by_agent, wanted_by_peers}
+use Rattle.vpn_tables.proofs.NodeModel.Members.{in_filter, in_flat_map, in_left, in_map, in_right, from_map, iff_same}
+use Rattle.vpn_tables.proofs.NodeModel.Orders.{key_exact, key_total, prefix_exact, prefix_same, prefix_total}
+use Rattle.vpn_tables.proofs.NodeModel.Objects.{side_use}
 use Rattle.vpn_tables.specs.Touched.{imports_one, is_touched, rows_at_use, touched_rows}
 use Rattle.control_touched_laws.proofs.Moves.{Covers, Moves, told_otherwise}
 use Rattle.vpn_tables.specs.Leading.{leads}

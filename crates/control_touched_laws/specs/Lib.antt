@@ -1,2 +1,4 @@
 -- The files of definitions, in the order in which they stand on each other.
 pub mod TouchedKeys
+pub mod VpnTables
+pub mod NodeModel

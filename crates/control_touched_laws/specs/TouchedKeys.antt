@@ -1,11 +1,11 @@
 -- The keys towards peers that a change of one route, or of one publication, touches.
 use Rattle.std.specs.Prelude.{◌≡◌, ◌⊎◌, List, true}
 use Rattle.ov_types.specs.declared.targets.Target.{Target}
-use Rattle.node_model.specs.Members.{Member}
-use Rattle.node_model.specs.Keys.{Key}
-use Rattle.node_model.specs.Paths.{Holdings, Path}
-use Rattle.node_model.specs.Reaching.{Side, sides}
-use Rattle.node_model.specs.Wants.{route_entry}
+use Rattle.vpn_tables.specs.NodeModel.Members.{Member}
+use Rattle.vpn_tables.specs.NodeModel.Keys.{Key}
+use Rattle.vpn_tables.specs.NodeModel.Paths.{Holdings, Path}
+use Rattle.vpn_tables.specs.NodeModel.Reaching.{Side, sides}
+use Rattle.vpn_tables.specs.NodeModel.Wants.{route_entry}
 use Rattle.vpn_tables.specs.Leading.{leads}
 use Rattle.vpn_tables.specs.Touched.{is_touched}
 

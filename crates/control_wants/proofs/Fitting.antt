@@ -22,26 +22,26 @@ use Rattle.ov_types.specs.declared.prefix.Addr.{Addr}
 use Rattle.ov_types.specs.declared.vpn.VpnKey.{VpnKey}
 use Rattle.ov_types.specs.declared.vpn.VpnRoute.{VpnRoute}
 use Rattle.route_targets.specs.Numbers.{target_of}
-use Rattle.item_wire.specs.Ranges.{is_in_range, is_instance, is_attached_label}
-use Rattle.item_wire.specs.Entries.{is_from_to}
-use Rattle.item_wire.specs.declared.item.Item.{Item}
-use Rattle.item_wire.specs.declared.item.Item.TheVariants as I
+use Rattle.node_items.specs.ItemWire.Ranges.{is_in_range, is_instance, is_attached_label}
+use Rattle.node_items.specs.ItemWire.Entries.{is_from_to}
+use Rattle.node_items.specs.ItemWire.Item.{Item}
+use Rattle.node_items.specs.ItemWire.Item.TheVariants as I
 use Rattle.node_items.specs.Told.{AllFit, Fits}
-use Rattle.node_model.specs.Members.{Member}
-use Rattle.node_model.specs.Keys.{Key, Low, Vpn, Row, Publish, Subscribe}
-use Rattle.node_model.specs.Values.{Value, Object, Route, Entry, Label}
-use Rattle.node_model.specs.Maps.{Map, objects}
-use Rattle.node_model.specs.Uses.{Use, as_use, imports, uses}
-use Rattle.node_model.specs.Paths.{Holdings, Told, Path, IsPublishedHere, has_target, own_paths, peer_path, peer_paths, received}
-use Rattle.node_model.specs.Reaching.{Side, circuit_at, hop_at, reoriginated_paths}
-use Rattle.node_model.specs.Tables.{paths_of, table}
-use Rattle.node_model.specs.Wants.{route_entry, rows_of, slice, slice_entry, subscriptions, wanted_by_agent, wanted_by_peers}
-use Rattle.node_model.proofs.Members.{none_some, in_either, from_map, from_filter, from_filter_map, from_flat_map, get_member, from_entry}
-use Rattle.node_model.proofs.Objects.{object_of, side_use}
-use Rattle.node_model.proofs.Orders.{key_total, key_exact, prefix_total}
-use Rattle.node_model.proofs.Routes.{own_route_from, reoriginated_from, published_here}
-use Rattle.node_model.proofs.Selection.{selected_least}
-use Rattle.node_model.proofs.Wanted.{row_of_path, slice_is, subscription_from}
+use Rattle.node_routes.specs.NodeModel.Members.{Member}
+use Rattle.node_routes.specs.NodeModel.Keys.{Key, Low, Vpn, Row, Publish, Subscribe}
+use Rattle.node_routes.specs.NodeModel.Values.{Value, Object, Route, Entry, Label}
+use Rattle.node_routes.specs.NodeModel.Maps.{Map, objects}
+use Rattle.node_routes.specs.NodeModel.Uses.{Use, as_use, imports, uses}
+use Rattle.node_routes.specs.NodeModel.Paths.{Holdings, Told, Path, IsPublishedHere, has_target, own_paths, peer_path, peer_paths, received}
+use Rattle.node_routes.specs.NodeModel.Reaching.{Side, circuit_at, hop_at, reoriginated_paths}
+use Rattle.node_routes.specs.NodeModel.Tables.{paths_of, table}
+use Rattle.node_routes.specs.NodeModel.Wants.{route_entry, rows_of, slice, slice_entry, subscriptions, wanted_by_agent, wanted_by_peers}
+use Rattle.node_routes.proofs.NodeModel.Members.{none_some, in_either, from_map, from_filter, from_filter_map, from_flat_map, get_member, from_entry}
+use Rattle.node_routes.proofs.NodeModel.Objects.{object_of, side_use}
+use Rattle.node_routes.proofs.NodeModel.Orders.{key_total, key_exact, prefix_total}
+use Rattle.node_routes.proofs.NodeModel.Routes.{own_route_from, reoriginated_from, published_here}
+use Rattle.node_routes.proofs.NodeModel.Selection.{selected_least}
+use Rattle.node_routes.proofs.NodeModel.Wanted.{row_of_path, slice_is, subscription_from}
 use Rattle.node_routes.specs.Told.{IsWritable}
 use Rattle.control_wants.specs.Held.{HoldingsFit, RouteFits}
 

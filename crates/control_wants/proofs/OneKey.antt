@@ -15,18 +15,18 @@ use Rattle.ov_types.specs.declared.objects.LowKey.{LowKey}
 use Rattle.ov_types.specs.declared.objects.LowValue.{LowValue}
 use Rattle.ov_types.specs.declared.prefix.Addr.{Addr}
 use Rattle.ov_types.specs.declared.vpn.VpnKey.{VpnKey}
-use Rattle.node_model.specs.Keys.{Key, Low, Publish, Row, Subscribe, Vpn, key_cmp}
-use Rattle.node_model.specs.Maps.{Map, as_object, object, objects}
-use Rattle.node_model.specs.Members.{Member}
-use Rattle.node_model.specs.Paths.{Holdings, Path, Told, own_paths}
-use Rattle.node_model.specs.Reaching.{reoriginated_paths}
-use Rattle.node_model.specs.Tables.{same_prefix, table, table_row}
-use Rattle.node_model.specs.Values.{Entry, Label, Object, Route, Value}
-use Rattle.node_model.specs.Wants.{is_in_slice, route_entry, rows_of, slice, slice_entry, subscriptions, wanted_by_agent, wanted_by_peers}
-use Rattle.node_model.proofs.Members.{from_entry, from_filter, from_flat_map, from_map, get_member, iff_same, in_either, in_filter, none_some}
-use Rattle.node_model.proofs.Objects.{in_objects, object_of}
-use Rattle.node_model.proofs.Orders.{key_exact, key_total, prefix_same, prefix_total, same_prefix-from}
-use Rattle.node_model.proofs.Wanted.{as_low, as_row, row_of_path, row_to, subscription_from, wanted_object, object_to}
+use Rattle.node_routes.specs.NodeModel.Keys.{Key, Low, Publish, Row, Subscribe, Vpn, key_cmp}
+use Rattle.node_routes.specs.NodeModel.Maps.{Map, as_object, object, objects}
+use Rattle.node_routes.specs.NodeModel.Members.{Member}
+use Rattle.node_routes.specs.NodeModel.Paths.{Holdings, Path, Told, own_paths}
+use Rattle.node_routes.specs.NodeModel.Reaching.{reoriginated_paths}
+use Rattle.node_routes.specs.NodeModel.Tables.{same_prefix, table, table_row}
+use Rattle.node_routes.specs.NodeModel.Values.{Entry, Label, Object, Route, Value}
+use Rattle.node_routes.specs.NodeModel.Wants.{is_in_slice, route_entry, rows_of, slice, slice_entry, subscriptions, wanted_by_agent, wanted_by_peers}
+use Rattle.node_routes.proofs.NodeModel.Members.{from_entry, from_filter, from_flat_map, from_map, get_member, iff_same, in_either, in_filter, none_some}
+use Rattle.node_routes.proofs.NodeModel.Objects.{in_objects, object_of}
+use Rattle.node_routes.proofs.NodeModel.Orders.{key_exact, key_total, prefix_same, prefix_total, same_prefix-from}
+use Rattle.node_routes.proofs.NodeModel.Wanted.{as_low, as_row, row_of_path, row_to, subscription_from, wanted_object, object_to}
 use Rattle.vpn_tables.specs.At.{row_at}
 use Rattle.vpn_tables.specs.Listing.{in_slice, sliced}
 use Rattle.vpn_tables.specs.TouchedKeys.{first_keyed, path_key, same_key}

@@ -17,14 +17,14 @@ use Rattle.ov_types.specs.declared.rows.TableRow.{TableRow}
 use Rattle.ov_types.specs.declared.vpn.VpnKey.{VpnKey}
 use Rattle.ov_types.specs.declared.vpn.VpnRoute.{VpnRoute}
 use Rattle.node_items.specs.Told.{down_of, down_order, down_value}
-use Rattle.node_model.specs.Keys.{Key, Row, Vpn, key_cmp, of_down}
-use Rattle.node_model.specs.Values.{Value, Entry, Route}
-use Rattle.node_model.specs.Paths.{Holdings, Path, Told, own_paths}
-use Rattle.node_model.specs.Reaching.{reoriginated_paths}
-use Rattle.node_model.specs.Tables.{table, table_row}
-use Rattle.node_model.specs.Wants.{route_entry, rows_of, slice, slice_entry, subscriptions, wanted_by_agent, wanted_by_peers}
-use Rattle.node_model.proofs.Directions.{down_keeps, down_total, vpn_total, vpn_keeps}
-use Rattle.node_model.proofs.Orders.{key_total}
+use Rattle.node_routes.specs.NodeModel.Keys.{Key, Row, Vpn, key_cmp, of_down}
+use Rattle.node_routes.specs.NodeModel.Values.{Value, Entry, Route}
+use Rattle.node_routes.specs.NodeModel.Paths.{Holdings, Path, Told, own_paths}
+use Rattle.node_routes.specs.NodeModel.Reaching.{reoriginated_paths}
+use Rattle.node_routes.specs.NodeModel.Tables.{table, table_row}
+use Rattle.node_routes.specs.NodeModel.Wants.{route_entry, rows_of, slice, slice_entry, subscriptions, wanted_by_agent, wanted_by_peers}
+use Rattle.node_routes.proofs.NodeModel.Directions.{down_keeps, down_total, vpn_total, vpn_keeps}
+use Rattle.node_routes.proofs.NodeModel.Orders.{key_total}
 use Rattle.vpn_tables.specs.Views.{peer_of, vpn_order}
 use Rattle.chain_reorigin.specs.Told.{told_path}
 use Rattle.chain_reorigin.proofs.Telling.{entries_all}

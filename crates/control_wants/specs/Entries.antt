@@ -10,7 +10,7 @@ use Rattle.ov_types.specs.declared.objects.LowKey.{LowKey}
 use Rattle.ov_types.specs.declared.objects.LowValue.{LowValue}
 use Rattle.ov_types.specs.declared.rows.Entry.{Entry as RouteEntry}
 use Rattle.ov_types.specs.declared.rows.TableRow.{TableRow}
-use Rattle.node_model.specs.Paths.{Holdings}
+use Rattle.node_routes.specs.NodeModel.Paths.{Holdings}
 use Rattle.vpn_tables.specs.Answers.{rows_at}
 
 -- an object of a slice, as an agent is told it

@@ -3,9 +3,9 @@ use Rattle.std.specs.Prelude.{◌<◌, ◌^◌}
 use Rattle.std.specs.List.{AllByRecursion}
 use Rattle.ov_sync.specs.Keyed.{Values}
 use Rattle.node_items.specs.Told.{AllFit}
-use Rattle.node_model.specs.Keys.{Key, Vpn}
-use Rattle.node_model.specs.Values.{Value, Route}
-use Rattle.node_model.specs.Paths.{Holdings, Told}
+use Rattle.node_routes.specs.NodeModel.Keys.{Key, Vpn}
+use Rattle.node_routes.specs.NodeModel.Values.{Value, Route}
+use Rattle.node_routes.specs.NodeModel.Paths.{Holdings, Told}
 pub use Rattle.vpn_tables.specs.Listing.{told_in}
 
 -- a route whose label has 20 bits

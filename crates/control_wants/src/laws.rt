@@ -4,10 +4,10 @@ ghost use Rattle.std.specs.FinMap.{get};
 ghost use Rattle.ov_types.specs.declared.vpn.VpnKey.{VpnKey};
 ghost use Rattle.ov_types.specs.declared.vpn.VpnRoute.{VpnRoute};
 ghost use Rattle.node_items.specs.Told.{AllFit};
-ghost use Rattle.node_model.specs.Keys.{Vpn};
-ghost use Rattle.node_model.specs.Values.{Route};
-ghost use Rattle.node_model.specs.Paths.{Holdings, Told};
-ghost use Rattle.node_model.specs.Wants.{wanted_by_agent, wanted_by_peers};
+ghost use Rattle.node_routes.specs.NodeModel.Keys.{Vpn};
+ghost use Rattle.node_routes.specs.NodeModel.Values.{Route};
+ghost use Rattle.node_routes.specs.NodeModel.Paths.{Holdings, Told};
+ghost use Rattle.node_routes.specs.NodeModel.Wants.{wanted_by_agent, wanted_by_peers};
 ghost use Rattle.node_routes.specs.Told.{IsWritable};
 ghost use Rattle.control_wants.specs.Held.{HoldingsFit};
 

@@ -2,7 +2,7 @@
 ghost use Rattle.std.specs.Prelude.{◌≡◌, ◌<◌, [], Ok, IfOk, IfErr, OnErr, IsTrue};
 ghost use Rattle.std.specs.List.{list_all};
 ghost use Rattle.serde_json.specs.View.{view};
-ghost use Rattle.config_model.specs.Form.{has_config_form};
+ghost use Rattle.config_types.specs.Form.{has_config_form};
 ghost use Rattle.ov_io.specs.Inputs.{TookFront};
 ghost use Rattle.ov_io.specs.Pieces.{HasWriteCause};
 ghost use Rattle.compile_answers.specs.Answers.{IsAnswered, WasGiven, answer_good};

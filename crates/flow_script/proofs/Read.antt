@@ -4,7 +4,7 @@ use Rattle.std.specs.List.{list_all}
 use Rattle.std.proofs.lemmas.Bool.{and_parts}
 use Rattle.ov_types.specs.Bounds.{is_from_to}
 use Rattle.config_model.specs.declared.fields.Count.TheVariants.{AnyNumber}
-use Rattle.config_model.specs.Form.{has_topology_form, has_config_form}
+use Rattle.config_types.specs.Form.{has_topology_form, has_config_form}
 use Rattle.config_model.specs.Fields.{in_member, member_at, object_at, only_at}
 use Rattle.config_model.specs.OneMember.{one_member_at}
 use Rattle.config_model.specs.Laws.{IsRead, compile_form}

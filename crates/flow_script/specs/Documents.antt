@@ -9,7 +9,7 @@ use Rattle.config_model.specs.Documents.{list_document, number_document, topolog
 use Rattle.config_model.specs.EventDocuments.{one_document, edit_document}
 use Rattle.config_model.specs.EventLaws.{edit_form}
 use Rattle.config_model.specs.Fields.{Reads}
-use Rattle.config_model.specs.Form.{has_packet_form}
+use Rattle.config_types.specs.Form.{has_packet_form}
 use Rattle.config_model.specs.Laws.{HasJust, ReadHasJust, compile_form, fault_at}
 use Rattle.flow_script.specs.declared.step.FlowsInput.{FlowsInput}
 use Rattle.flow_script.specs.declared.step.FlowStep.{FlowStep}

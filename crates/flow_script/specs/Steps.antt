@@ -5,13 +5,14 @@ use Rattle.config_model.specs.declared.fault.DocKind.TheVariants.{Unknown}
 use Rattle.config_model.specs.declared.fields.Count.TheVariants.{AnyNumber}
 use Rattle.config_model.specs.Paths.{member_path}
 use Rattle.config_model.specs.Faults.{◌>>=◌, refused}
-use Rattle.config_model.specs.Form.{has_packet_form}
+use Rattle.config_types.specs.Form.{has_packet_form}
 use Rattle.config_model.specs.Fields.{Reads, object_at, in_member, whole_at, only_at, all_at}
 use Rattle.config_model.specs.Topology.{topology_at}
 use Rattle.config_model.specs.Config.{config_at}
 use Rattle.config_model.specs.Input.{packet_at}
 use Rattle.config_model.specs.OneMember.{one_member_at}
-use Rattle.config_model.specs.Edit.{edit_at, has_edit_form}
+use Rattle.config_model.specs.Edit.{edit_at}
+use Rattle.config_types.specs.Form.{has_edit_form}
 use Rattle.flow_script.specs.declared.step.FlowsInput.{FlowsInput}
 use Rattle.flow_script.specs.declared.step.FlowStep.{FlowStep}
 use Rattle.flow_script.specs.declared.step.FlowStep.TheVariants.{Edit, Trace}

@@ -4,7 +4,7 @@ ghost use Rattle.std.specs.List.{list_all};
 ghost use Rattle.serde_json.specs.View.{view};
 ghost use Rattle.config_model.specs.Paths.{place_text};
 ghost use Rattle.config_model.specs.Faults.{Gives};
-ghost use Rattle.config_model.specs.Form.{has_topology_form, has_config_form};
+ghost use Rattle.config_types.specs.Form.{has_topology_form, has_config_form};
 ghost use Rattle.flow_script.specs.Steps.{capacity_at, flows_at, has_step_form, step_at, step_from};
 
 use crate::step::{FlowStep, FlowsInput};
@@ -12,7 +12,8 @@ use config_model::reading::{
     Count, DocumentPlace, FromDocument, check_others, list_member, object_of, one_member_of,
     read_member, whole_member,
 };
-use config_model::{CompileInput, Config, DocKind, Edit, ReadRefusal, Topology};
+use config_model::{CompileInput, DocKind, ReadRefusal};
+use config_types::{Config, Edit, Topology};
 use ov_types::Packet;
 use serde_json::Value;
 use std::alloc::Global;

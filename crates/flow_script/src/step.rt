@@ -1,5 +1,6 @@
 //! Steps.
-use config_model::{CompileInput, Edit};
+use config_model::CompileInput;
+use config_types::Edit;
 use ov_types::{Items, Packet};
 
 /// One step of a replay of flows.

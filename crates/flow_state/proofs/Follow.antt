@@ -1,7 +1,7 @@
 -- A table that is kept step by step is the flows of the uses.
 use Rattle.std.proofs.Common.{◌≡◌, ℕ, zero, suc, true, false, not, cond, List, [], ◌∷◌, take, Option, Some, None, refl, sym, ap, ◌∙◌, subst}
 use Rattle.std.specs.List.{IsDistinct}
-use Rattle.config_model.specs.declared.edit.Edit.{Edit}
+use Rattle.config_types.specs.declared.edit.Edit.{Edit}
 use Rattle.config_check.specs.Checked.{Checked}
 use Rattle.config_check.specs.Edits.{edited}
 use Rattle.run_ties.specs.Tied.{tied_fault}

@@ -1,6 +1,6 @@
 -- What is held of a replay goes by its ties, however they are kept.
 use Rattle.std.proofs.Common.{◌≡◌, ℕ, [], None}
-use Rattle.config_model.specs.declared.edit.Edit.{Edit}
+use Rattle.config_types.specs.declared.edit.Edit.{Edit}
 use Rattle.config_check.specs.Checked.{Checked}
 use Rattle.config_check.specs.Edits.{edited}
 use Rattle.run_ties.specs.Kept.{AreAlike, Kept, ties_in}

@@ -6,9 +6,9 @@ use Rattle.std.proofs.lemmas.List.Elements.{All-nil, All-take}
 use Rattle.ov_types.specs.First.{◌<|>◌}
 use Rattle.ov_types.specs.declared.packet.Packet.{Packet}
 use Rattle.ov_types.proofs.FirstLemmas.{all_cons}
-use Rattle.config_model.specs.Edit.{has_edit_form}
-use Rattle.config_model.specs.Form.{has_config_form}
-use Rattle.config_model.specs.declared.edit.Edit.{Edit}
+use Rattle.config_types.specs.Form.{has_edit_form}
+use Rattle.config_types.specs.Form.{has_config_form}
+use Rattle.config_types.specs.declared.edit.Edit.{Edit}
 use Rattle.config_check.specs.Checked.{Checked}
 use Rattle.config_check.specs.Edits.{edit_fault, edited_config, edited_topology, missing_name}
 use Rattle.config_check.specs.Rules.{first_broken}

@@ -13,12 +13,12 @@ use Rattle.ov_types.specs.declared.packet.Packet.{Packet}
 use Rattle.ov_types.specs.declared.packet.Tuple.{Tuple}
 use Rattle.ov_types.specs.declared.packet.Why.TheVariants.{NoSourcePort, NoDestination, NoRoute, Denied, NoLabel, TtlExpired}
 use Rattle.ov_types.specs.declared.prefix.Addr.{Addr}
-use Rattle.config_model.specs.declared.config.Config.{Config}
-use Rattle.config_model.specs.declared.config.Direction.{Direction}
-use Rattle.config_model.specs.declared.config.Direction.TheVariants.{OneWay, BothWays}
-use Rattle.config_model.specs.declared.config.Network.{Network}
-use Rattle.config_model.specs.declared.config.Port.{Port}
-use Rattle.config_model.specs.declared.topology.Topology.{Topology}
+use Rattle.config_types.specs.declared.config.Config.{Config}
+use Rattle.config_types.specs.declared.config.Direction.{Direction}
+use Rattle.config_types.specs.declared.config.Direction.TheVariants.{OneWay, BothWays}
+use Rattle.config_types.specs.declared.config.Network.{Network}
+use Rattle.config_types.specs.declared.config.Port.{Port}
+use Rattle.config_types.specs.declared.topology.Topology.{Topology}
 use Rattle.policy_rules.specs.declared.matching.Match.{Match}
 use Rattle.policy_rules.specs.Matching.{deciding, speaks_both_ways}
 use Rattle.config_check.specs.Finding.{port_numbered}

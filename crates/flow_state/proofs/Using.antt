@@ -8,12 +8,12 @@ use Rattle.ov_types.specs.declared.packet.Outcome.{Outcome}
 use Rattle.ov_types.specs.declared.packet.Outcome.TheVariants.{Delivered, Dropped}
 use Rattle.ov_types.specs.declared.packet.Packet.{Packet}
 use Rattle.ov_types.specs.declared.packet.Why.TheVariants.{NoSourcePort, NoDestination, NoRoute, Denied, NoLabel, TtlExpired}
-use Rattle.config_model.specs.Form.{has_config_form}
-use Rattle.config_model.specs.declared.config.Config.{Config}
-use Rattle.config_model.specs.declared.config.Direction.{Direction}
-use Rattle.config_model.specs.declared.config.Network.{Network}
-use Rattle.config_model.specs.declared.config.Port.{Port}
-use Rattle.config_model.specs.declared.topology.Topology.{Topology}
+use Rattle.config_types.specs.Form.{has_config_form}
+use Rattle.config_types.specs.declared.config.Config.{Config}
+use Rattle.config_types.specs.declared.config.Direction.{Direction}
+use Rattle.config_types.specs.declared.config.Network.{Network}
+use Rattle.config_types.specs.declared.config.Port.{Port}
+use Rattle.config_types.specs.declared.topology.Topology.{Topology}
 use Rattle.policy_rules.specs.Matching.{deciding, speaks_both_ways}
 use Rattle.config_check.specs.Finding.{port_numbered}
 use Rattle.config_check.specs.Rules.{first_broken}

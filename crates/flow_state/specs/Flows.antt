@@ -11,10 +11,10 @@ use Rattle.ov_types.specs.declared.packet.Outcome.TheVariants.{Delivered, Droppe
 use Rattle.ov_types.specs.declared.packet.Packet.{Packet}
 use Rattle.ov_types.specs.declared.packet.Tuple.{Tuple}
 use Rattle.ov_types.specs.declared.packet.Why.TheVariants.{Denied}
-use Rattle.config_model.specs.declared.config.Config.{Config}
-use Rattle.config_model.specs.declared.config.Direction.TheVariants.{OneWay}
-use Rattle.config_model.specs.declared.config.Network.{Network}
-use Rattle.config_model.specs.declared.config.Port.{Port}
+use Rattle.config_types.specs.declared.config.Config.{Config}
+use Rattle.config_types.specs.declared.config.Direction.TheVariants.{OneWay}
+use Rattle.config_types.specs.declared.config.Network.{Network}
+use Rattle.config_types.specs.declared.config.Port.{Port}
 use Rattle.policy_rules.specs.declared.matching.Match.{Match}
 use Rattle.policy_rules.specs.Answering.{answering}
 use Rattle.policy_rules.specs.Matching.{deciding, speaks_both_ways}

@@ -1,6 +1,6 @@
 -- A replay with its table kept beside what is configured.
 use Rattle.std.specs.Prelude.{◌≡◌, ℕ, List, [], ◌∷◌, Option, Some, None}
-use Rattle.config_model.specs.declared.edit.Edit.{Edit}
+use Rattle.config_types.specs.declared.edit.Edit.{Edit}
 use Rattle.config_check.specs.Checked.{Checked}
 use Rattle.config_check.specs.Edits.{edited}
 use Rattle.run_ties.specs.Kept.{Kept, ties_in}

@@ -1,6 +1,6 @@
 //! A replay of steps.
 ghost use Rattle.std.specs.Prelude.{◌≡◌, ◌<◌, List, IsTrue, IfOk, OnOk, OnErr};
-ghost use Rattle.config_model.specs.Edit.{has_edit_form};
+ghost use Rattle.config_types.specs.Form.{has_edit_form};
 ghost use Rattle.flow_script.specs.Steps.{has_step_form};
 ghost use Rattle.flow_script.specs.declared.step.FlowStep.{FlowStep as Asked};
 ghost use Rattle.flow_state.specs.Playing.{answer_in, answers_in, fault_in, opening, played, played_edit, playing};
@@ -9,7 +9,7 @@ ghost use Rattle.flow_state.specs.Replay.{answers, at_start, edit_answer};
 use crate::answer::FlowAnswer;
 use crate::table::FlowTable;
 use config_check::Valid;
-use config_model::Edit;
+use config_types::Edit;
 use flow_script::FlowStep;
 use ov_types::NoMemory;
 use run_ties::{TiedRefusal, Ties, apply_tied_edit};

@@ -6,7 +6,7 @@ ghost use Rattle.config_check.specs.Rules.{holds_address};
 ghost use Rattle.reach_plain.specs.Reachability.{network_towards};
 
 use config_check::holds_address;
-use config_model::{Config, Network};
+use config_types::{Config, Network};
 use ov_types::Addr;
 use policy_rules::are_related;
 

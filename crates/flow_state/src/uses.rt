@@ -6,7 +6,7 @@ ghost use Rattle.flow_state.specs.Flows.{speaks_one_way};
 
 use crate::flow::Flow;
 use config_check::{Valid, network_named, port_numbered};
-use config_model::{Config, Direction, Network};
+use config_types::{Config, Direction, Network};
 use ov_types::{Packet, PortNo, Tuple};
 use policy_rules::{Match, deciding};
 

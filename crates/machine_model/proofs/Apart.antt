@@ -6,12 +6,12 @@ use Rattle.std.proofs.lemmas.Bool.{and_parts, false_from_ne_true}
 use Rattle.std.proofs.Common.{refl, sym, ap, subst, inl, inr}
 use Rattle.ov_types.specs.First.{same_name}
 use Rattle.ov_types.specs.declared.rows.NodeId.{NodeId}
-use Rattle.config_model.specs.declared.topology.Node.{Node}
-use Rattle.config_model.specs.declared.topology.Topology.{Topology}
-use Rattle.config_check.specs.Checked.{Checked}
-use Rattle.config_check.specs.Rules.{controller_names, node_names}
-use Rattle.node_model.specs.Members.{Member}
-use Rattle.node_model.proofs.Members.{in_left, in_right, in_either, in_map, from_map, from_filter, from_flat_map}
+use Rattle.schedule_script.specs.ConfigTypes.Node.{Node}
+use Rattle.schedule_script.specs.ConfigTypes.Topology.{Topology}
+use Rattle.schedule_script.specs.ConfigCheck.Checked.{Checked}
+use Rattle.schedule_script.specs.ConfigCheck.Rules.{controller_names, node_names}
+use Rattle.transform_model.specs.NodeModel.Members.{Member}
+use Rattle.transform_model.proofs.NodeModel.Members.{in_left, in_right, in_either, in_map, from_map, from_filter, from_flat_map}
 use Rattle.machine_model.specs.Setup.{Name, lists}
 use Rattle.machine_model.specs.Session.{Role, Configuration, Controller, Agent, Session}
 use Rattle.machine_model.specs.Network.{start, feeds, peerings, accesses, fresh, config, AreNamed}

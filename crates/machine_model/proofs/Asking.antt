@@ -10,20 +10,20 @@ use Rattle.std.proofs.Common.{refl, sym, ◌∙◌, ap, subst, inl, inr}
 use Rattle.ov_types.specs.First.{same_name}
 use Rattle.ov_types.proofs.FirstLemmas.{contains_here, contains_later}
 use Rattle.ov_types.specs.declared.rows.NodeId.{NodeId}
-use Rattle.config_model.specs.declared.topology.Node.{Node}
-use Rattle.config_model.specs.declared.topology.Topology.{Topology}
-use Rattle.config_model.specs.declared.edit.Edit.{Edit}
-use Rattle.config_model.specs.declared.edit.Edit.TheVariants.{Put, Delete}
-use Rattle.config_model.specs.declared.edit.Object.TheVariants as Objects
-use Rattle.config_model.specs.declared.edit.ObjectKind.TheVariants as Kinds
-use Rattle.config_check.specs.Checked.{Checked}
-use Rattle.config_check.specs.Finding.{node_named}
-use Rattle.config_check.specs.EditLaws.{Appends, Removes, Replaces}
-use Rattle.config_check.specs.Edits.{edit_fault, edited as checked_edited, edited_config, edited_topology, node_name, with_put, without}
-use Rattle.config_check.proofs.EditLaws.{node_deleted, node_put}
-use Rattle.config_check.specs.Rules.{controller_names, node_names}
-use Rattle.node_model.specs.Members.{Member}
-use Rattle.node_model.proofs.Members.{in_filter, in_left, in_map, in_right}
+use Rattle.schedule_script.specs.ConfigTypes.Node.{Node}
+use Rattle.schedule_script.specs.ConfigTypes.Topology.{Topology}
+use Rattle.schedule_script.specs.ConfigTypes.Edit.{Edit}
+use Rattle.schedule_script.specs.ConfigTypes.Edit.TheVariants.{Put, Delete}
+use Rattle.schedule_script.specs.ConfigTypes.Object.TheVariants as Objects
+use Rattle.schedule_script.specs.ConfigTypes.ObjectKind.TheVariants as Kinds
+use Rattle.schedule_script.specs.ConfigCheck.Checked.{Checked}
+use Rattle.schedule_script.specs.ConfigCheck.Finding.{node_named}
+use Rattle.schedule_script.specs.ConfigCheck.EditLaws.{Appends, Removes, Replaces}
+use Rattle.schedule_script.specs.ConfigCheck.Edits.{edit_fault, edited as checked_edited, edited_config, edited_topology, node_name, with_put, without}
+use Rattle.schedule_script.proofs.ConfigCheck.EditLaws.{node_deleted, node_put}
+use Rattle.schedule_script.specs.ConfigCheck.Rules.{controller_names, node_names}
+use Rattle.transform_model.specs.NodeModel.Members.{Member}
+use Rattle.transform_model.proofs.NodeModel.Members.{in_filter, in_left, in_map, in_right}
 use Rattle.machine_model.specs.Setup.{Name, Move, Setup, checked, edited, edited_without, listed_by, lists, moves, remade, renumbered, stands}
 use Rattle.machine_model.specs.Session.{Controller, Agent, Message, Session}
 use Rattle.machine_model.specs.Network.{AreNamed, MachineState, accesses, accesses_of, asked, between, brought, config, feeds, is_of, peerings, replaced, same_role, start}

@@ -5,10 +5,10 @@ use Rattle.std.specs.List.{list_all, cons_option}
 use Rattle.std.proofs.lemmas.Bool.{true≢false, and_parts, eqb-true}
 use Rattle.std.proofs.Common.{refl, sym, ◌∙◌, ap, subst, inl, inr}
 use Rattle.ov_sync.specs.Keyed.{after as changed_by}
-use Rattle.node_model.specs.Maps.{Change}
-use Rattle.config_check.specs.Checked.{Checked}
+use Rattle.transform_model.specs.NodeModel.Maps.{Change}
+use Rattle.schedule_script.specs.ConfigCheck.Checked.{Checked}
 use Rattle.machine_model.specs.Setup.{Name, Setup}
-use Rattle.node_model.specs.Step.{Phase, Idle, Opened, Confirmed, Up}
+use Rattle.transform_model.specs.NodeModel.Step.{Phase, Idle, Opened, Confirmed, Up}
 use Rattle.machine_model.specs.Session.{Message, Carries, SessionEnd, Session, turned, is_idle, is_up, is_up_phase, is_peering, may_send_at, waiting}
 use Rattle.machine_model.specs.Network.{AreNamed, MachineState, start, sessions_of, is_at, View, views_of, wanted}
 use Rattle.machine_model.specs.Events.{MachineEvent, after}

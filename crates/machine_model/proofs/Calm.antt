@@ -3,8 +3,8 @@ use Rattle.std.specs.Prelude.{◌≡◌, ◌⊎◌, ℕ, List, [], ◌∷◌, �
 use Rattle.std.proofs.lemmas.Bool.{true≢false}
 use Rattle.std.proofs.Common.{refl, sym, ◌∙◌, ap, subst, inl, inr}
 use Rattle.ov_sync.specs.Keyed.{changed}
-use Rattle.node_model.specs.Maps.{Map, Change, difference}
-use Rattle.node_model.specs.Step.{Phase, Opened, Confirmed, Up}
+use Rattle.transform_model.specs.NodeModel.Maps.{Map, Change, difference}
+use Rattle.transform_model.specs.NodeModel.Step.{Phase, Opened, Confirmed, Up}
 use Rattle.machine_model.specs.Session.{Message, Open, Keepalive, Carries, SessionEnd, Session, closed, is_up_phase, are_peers, is_peering, may_send_at, may_send, shut, meets_break, counted, with_breaks, left, told, passed, with_phase, without_first, took_first, arrived}
 use Rattle.machine_model.proofs.SessionFact.{sends, append_nil, sends_left, Joined, greetings, meets, first_as, took_first_is}
 

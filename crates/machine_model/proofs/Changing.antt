@@ -11,23 +11,23 @@ use Rattle.std.proofs.Common.{refl, sym, ◌∙◌, ap, subst, inl, inr}
 use Rattle.ov_types.specs.First.{same_name}
 use Rattle.ov_types.specs.declared.rows.NodeId.{NodeId}
 use Rattle.ov_types.proofs.FirstLemmas.{both_none, mapped_none}
-use Rattle.config_model.specs.declared.edit.Edit.{Edit}
-use Rattle.config_model.specs.declared.edit.Edit.TheVariants.{Put, Delete}
-use Rattle.config_model.specs.declared.edit.Object.TheVariants as Objects
-use Rattle.config_model.specs.declared.edit.ObjectKind.TheVariants as Kinds
-use Rattle.config_model.specs.declared.topology.Node.{Node}
-use Rattle.config_model.specs.declared.topology.Topology.{Topology}
-use Rattle.config_check.specs.Checked.{Checked}
-use Rattle.config_check.specs.Finding.{node_named}
-use Rattle.config_check.specs.Rules.{controller_names, node_names, first_broken}
-use Rattle.config_check.specs.Sentences.{IsValid}
-use Rattle.config_check.specs.EditLaws.{Replaces, Appends, Removes}
-use Rattle.config_check.specs.Edits.{edit_fault, edited_config, edited_topology, missing_name, node_name, with_put, without}
-use Rattle.config_check.specs.declared.edits.EditFault.TheVariants.{Missing, Rule}
-use Rattle.config_check.proofs.Validity.{valid_iff}
-use Rattle.config_check.proofs.EditLaws.{node_put, node_deleted}
-use Rattle.node_model.specs.Members.{Member}
-use Rattle.node_model.proofs.Members.{in_map, in_right}
+use Rattle.schedule_script.specs.ConfigTypes.Edit.{Edit}
+use Rattle.schedule_script.specs.ConfigTypes.Edit.TheVariants.{Put, Delete}
+use Rattle.schedule_script.specs.ConfigTypes.Object.TheVariants as Objects
+use Rattle.schedule_script.specs.ConfigTypes.ObjectKind.TheVariants as Kinds
+use Rattle.schedule_script.specs.ConfigTypes.Node.{Node}
+use Rattle.schedule_script.specs.ConfigTypes.Topology.{Topology}
+use Rattle.schedule_script.specs.ConfigCheck.Checked.{Checked}
+use Rattle.schedule_script.specs.ConfigCheck.Finding.{node_named}
+use Rattle.schedule_script.specs.ConfigCheck.Rules.{controller_names, node_names, first_broken}
+use Rattle.schedule_script.specs.ConfigCheck.Sentences.{IsValid}
+use Rattle.schedule_script.specs.ConfigCheck.EditLaws.{Replaces, Appends, Removes}
+use Rattle.schedule_script.specs.ConfigCheck.Edits.{edit_fault, edited_config, edited_topology, missing_name, node_name, with_put, without}
+use Rattle.schedule_script.specs.ConfigCheck.EditFault.TheVariants.{Missing, Rule}
+use Rattle.schedule_script.proofs.ConfigCheck.Validity.{valid_iff}
+use Rattle.schedule_script.proofs.ConfigCheck.EditLaws.{node_put, node_deleted}
+use Rattle.transform_model.specs.NodeModel.Members.{Member}
+use Rattle.transform_model.proofs.NodeModel.Members.{in_map, in_right}
 use Rattle.machine_model.specs.Setup.{Name, Move, Numbers, agents_in, came_at, has_name, id_of, is_listed, listed_by, moves, renumbered_at, stands, with_agent, without_agent}
 use Rattle.machine_model.proofs.Distinct.{Apart, same_false, apart_of, apart_right, apart_between}
 

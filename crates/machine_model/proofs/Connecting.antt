@@ -6,8 +6,8 @@ use Rattle.std.specs.Option.{unwrap_or, option_map}
 use Rattle.std.specs.Cmp.Lexicographic.{bytes_decides}
 use Rattle.std.proofs.lemmas.Bool.{and_parts}
 use Rattle.std.proofs.Common.{refl, sym, ◌∙◌, ap, subst}
-use Rattle.node_model.specs.Maps.{Map}
-use Rattle.node_model.specs.Step.{Opened}
+use Rattle.transform_model.specs.NodeModel.Maps.{Map}
+use Rattle.transform_model.specs.NodeModel.Step.{Opened}
 use Rattle.machine_model.specs.Setup.{Name}
 use Rattle.machine_model.specs.Session.{Message, Session, turned, may_send, greeting, opened, passed}
 use Rattle.machine_model.specs.Network.{MachineState, is_at, view, views_of, wanted}

@@ -7,11 +7,11 @@ use Rattle.std.specs.Cmp.Lexicographic.{bytes_decides}
 use Rattle.std.proofs.lemmas.Bool.{true≢false, and_parts, false_from_ne_true, eqb-true, eq-eqb}
 use Rattle.std.proofs.Common.{refl, sym, ◌∙◌, ap, subst, inl, inr, arith}
 use Rattle.ov_types.specs.First.{same_name}
-use Rattle.config_model.specs.declared.edit.Edit.{Edit}
-use Rattle.config_check.specs.declared.edits.EditFault.{EditFault}
-use Rattle.config_check.specs.Edits.{edit_fault, edited as checked_edited}
-use Rattle.node_model.specs.Members.{Member}
-use Rattle.node_model.proofs.Members.{any_in, from_any}
+use Rattle.schedule_script.specs.ConfigTypes.Edit.{Edit}
+use Rattle.schedule_script.specs.ConfigCheck.EditFault.{EditFault}
+use Rattle.schedule_script.specs.ConfigCheck.Edits.{edit_fault, edited as checked_edited}
+use Rattle.transform_model.specs.NodeModel.Members.{Member}
+use Rattle.transform_model.proofs.NodeModel.Members.{any_in, from_any}
 use Rattle.machine_model.specs.Setup.{Name, Move, Setup, checked, edited_without, moves, renumbered, remade}
 use Rattle.machine_model.specs.Session.{Message, Session, turned, shut, lost, told, left, meets_break, counted, with_breaks, arrived}
 use Rattle.machine_model.specs.Network.{MachineState, is_at, sessions_of, brought, replaced}

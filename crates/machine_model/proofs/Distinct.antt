@@ -4,9 +4,9 @@ use Rattle.std.specs.Cmp.Lexicographic.{bytes_decides}
 use Rattle.std.proofs.lemmas.Bool.{false_from_ne_true}
 use Rattle.std.proofs.Common.{sym, ◌∙◌, arith, inl, inr}
 use Rattle.ov_types.specs.First.{same_name}
-use Rattle.config_check.specs.Sentences.{AreDistinct}
-use Rattle.node_model.specs.Members.{Member}
-use Rattle.node_model.proofs.Members.{in_left, in_right}
+use Rattle.schedule_script.specs.ConfigCheck.Sentences.{AreDistinct}
+use Rattle.transform_model.specs.NodeModel.Members.{Member}
+use Rattle.transform_model.proofs.NodeModel.Members.{in_left, in_right}
 use Rattle.machine_model.specs.Setup.{Name}
 
 pub same_false : (a b : Name) → (a ≡ b → ⊥) → same_name a b ≡ false

@@ -4,9 +4,9 @@ use Rattle.std.specs.declared.option.Option.TheVariants.{Some, None}
 use Rattle.std.proofs.lemmas.Bool.{true≢false}
 use Rattle.std.proofs.lemmas.Option.{same_Some}
 use Rattle.std.proofs.Common.{refl, sym, ◌∙◌, ap, subst, inl, inr}
-use Rattle.config_check.specs.Checked.{Checked}
-use Rattle.node_model.specs.Maps.{Change}
-use Rattle.node_model.specs.Step.{Phase, Idle, Opened, Confirmed, Up}
+use Rattle.schedule_script.specs.ConfigCheck.Checked.{Checked}
+use Rattle.transform_model.specs.NodeModel.Maps.{Change}
+use Rattle.transform_model.specs.NodeModel.Step.{Phase, Idle, Opened, Confirmed, Up}
 use Rattle.machine_model.specs.Setup.{Name}
 use Rattle.machine_model.specs.Session.{SessionEnd, Session, Message, Open, Keepalive, Hello, Carries, turned, is_idle, is_live, is_peering, may_send_at, with_phase, shut, told, peer_took, item_took, took}
 use Rattle.machine_model.specs.Network.{AreNamed, MachineState, start}

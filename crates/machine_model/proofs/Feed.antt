@@ -17,13 +17,13 @@ use Rattle.ov_sync.proofs.EmbedLaws.{entries-embedded}
 use Rattle.machine_model.specs.Setup.{Setup}
 use Rattle.transform_model.specs.Objects.{LowObject, objects as made, with_objects, low_objects}
 use Rattle.transform_model.specs.Uses.{ConfiguredUse, uses}
-use Rattle.node_model.specs.Members.{Member}
-use Rattle.node_model.specs.Keys.{Key, Low, key_cmp, numbers}
-use Rattle.node_model.specs.Values.{Value, Object as ObjectOf}
-use Rattle.node_model.specs.Maps.{low_entry, objects}
-use Rattle.node_model.specs.Wants.{slice_entry}
-use Rattle.node_model.proofs.Images.{low_keeps}
-use Rattle.node_model.proofs.Orders.{key_total, key_exact}
+use Rattle.transform_model.specs.NodeModel.Members.{Member}
+use Rattle.transform_model.specs.NodeModel.Keys.{Key, Low, key_cmp, numbers}
+use Rattle.transform_model.specs.NodeModel.Values.{Value, Object as ObjectOf}
+use Rattle.transform_model.specs.NodeModel.Maps.{low_entry, objects}
+use Rattle.transform_model.specs.NodeModel.Wants.{slice_entry}
+use Rattle.transform_model.proofs.NodeModel.Images.{low_keeps}
+use Rattle.transform_model.proofs.NodeModel.Orders.{key_total, key_exact}
 use Rattle.machine_model.specs.Setup.{low, low_in, longest, longest_in, longest_of}
 
 -- ---- the order of low-level keys

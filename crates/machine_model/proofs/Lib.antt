@@ -31,3 +31,8 @@ pub mod Feed
 pub mod IdleWhere
 pub mod Stops
 pub mod Connecting
+pub mod OvSync
+pub mod TransformModel
+pub mod AclCompile
+pub mod ConfigCheck
+pub mod ChainExpand

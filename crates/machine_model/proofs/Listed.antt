@@ -9,15 +9,15 @@ use Rattle.std.proofs.lemmas.Option.{same_Some}
 use Rattle.std.proofs.Common.{refl, sym, ◌∙◌, ap, subst, inl, inr}
 use Rattle.ov_types.specs.First.{same_name}
 use Rattle.ov_types.specs.declared.rows.NodeId.{NodeId}
-use Rattle.config_model.specs.declared.edit.Edit.{Edit}
-use Rattle.config_model.specs.declared.topology.Node.{Node}
-use Rattle.config_model.specs.declared.topology.Topology.{Topology}
-use Rattle.config_check.specs.Checked.{Checked}
-use Rattle.config_check.specs.Finding.{node_named}
-use Rattle.config_check.specs.Rules.{controller_names, node_names}
-use Rattle.config_check.specs.Edits.{edit_fault, edited as checked_edited}
-use Rattle.node_model.specs.Members.{Member}
-use Rattle.node_model.proofs.Members.{from_any, from_filter, in_map}
+use Rattle.schedule_script.specs.ConfigTypes.Edit.{Edit}
+use Rattle.schedule_script.specs.ConfigTypes.Node.{Node}
+use Rattle.schedule_script.specs.ConfigTypes.Topology.{Topology}
+use Rattle.schedule_script.specs.ConfigCheck.Checked.{Checked}
+use Rattle.schedule_script.specs.ConfigCheck.Finding.{node_named}
+use Rattle.schedule_script.specs.ConfigCheck.Rules.{controller_names, node_names}
+use Rattle.schedule_script.specs.ConfigCheck.Edits.{edit_fault, edited as checked_edited}
+use Rattle.transform_model.specs.NodeModel.Members.{Member}
+use Rattle.transform_model.proofs.NodeModel.Members.{from_any, from_filter, in_map}
 use Rattle.machine_model.specs.Setup.{Name, Move, Numbers, Setup, agents_in, agents_of, came_at, checked, edited, edited_without, first_numbers, id_of, is_listed, listed_by, lists, moves, remade, renumbered, renumbered_at, with_agent, without_agent}
 use Rattle.machine_model.specs.Session.{Role, Configuration, Controller, Agent, Message, Session}
 use Rattle.machine_model.specs.Network.{MachineState, AreNamed, accesses, asked, between, brought, config, feeds, is_of, peerings, replaced, same_role, start}

@@ -5,11 +5,11 @@ use Rattle.std.specs.declared.option.Option.TheVariants.{Some, None}
 use Rattle.std.proofs.lemmas.Bool.{true≢false}
 use Rattle.std.proofs.Common.{refl, sym, ◌∙◌, ap, subst}
 use Rattle.ov_types.specs.First.{same_name}
-use Rattle.config_model.specs.declared.edit.Edit.{Edit}
-use Rattle.config_check.specs.Edits.{edit_fault, edited as checked_edited}
-use Rattle.config_check.specs.declared.edits.EditFault.{EditFault}
-use Rattle.node_model.specs.Maps.{Map, difference}
-use Rattle.node_model.specs.Step.{Idle}
+use Rattle.schedule_script.specs.ConfigTypes.Edit.{Edit}
+use Rattle.schedule_script.specs.ConfigCheck.Edits.{edit_fault, edited as checked_edited}
+use Rattle.schedule_script.specs.ConfigCheck.EditFault.{EditFault}
+use Rattle.transform_model.specs.NodeModel.Maps.{Map, difference}
+use Rattle.transform_model.specs.NodeModel.Step.{Idle}
 use Rattle.machine_model.specs.Setup.{Name, Move, Setup, checked, edited_without, moves, remade, renumbered}
 use Rattle.machine_model.specs.Session.{Agent, Carries, Message, Session, is_peering, may_send_at, passed, told, turned}
 use Rattle.machine_model.specs.Network.{MachineState, brought, config, is_at, is_of, replaced, same_role, view, views_of, wanted}

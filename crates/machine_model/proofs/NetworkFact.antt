@@ -7,7 +7,7 @@ use Rattle.std.specs.Bool.{MatchBool}
 use Rattle.std.proofs.lemmas.Option.{same_Some}
 use Rattle.std.proofs.lemmas.Bool.{true≢false, and_parts, not-true}
 use Rattle.std.proofs.Common.{refl, sym, ◌∙◌, ap, subst, inl, inr}
-use Rattle.node_model.specs.Maps.{Map, difference}
+use Rattle.transform_model.specs.NodeModel.Maps.{Map, difference}
 use Rattle.machine_model.specs.Setup.{Name, Setup, Move, edited, moves}
 use Rattle.ov_types.specs.First.{same_name}
 use Rattle.ov_link.specs.Breaks.{with_break}

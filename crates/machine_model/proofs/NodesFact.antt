@@ -1,9 +1,9 @@
 -- The sessions and their nodes stay.
 use Rattle.std.specs.Prelude.{◌≡◌, ℕ, ◌+◌, ◌-◌, List, [], ◌∷◌, map, true, false, cond, nat_lt}
 use Rattle.std.proofs.Common.{refl, sym, ◌∙◌, ap, subst}
-use Rattle.config_model.specs.declared.edit.Edit.{Edit}
+use Rattle.schedule_script.specs.ConfigTypes.Edit.{Edit}
 use Rattle.machine_model.specs.Setup.{Name, edited, moves}
-use Rattle.node_model.specs.Step.{Phase, Idle, Opened, Confirmed, Up}
+use Rattle.transform_model.specs.NodeModel.Step.{Phase, Idle, Opened, Confirmed, Up}
 use Rattle.machine_model.specs.Session.{Message, Open, Keepalive, Hello, Carries, Session, turned, closed, is_peering, shut, lost, passed, opened, with_phase, peer_took, item_took, took, without_first, took_first, arrived, took_octets, octets_arrived}
 use Rattle.machine_model.specs.Network.{MachineState, wanted, view, views_of}
 use Rattle.machine_model.specs.Events.{MachineEvent, edits, passes, add_break, next, after}

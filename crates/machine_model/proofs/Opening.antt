@@ -4,8 +4,8 @@ use Rattle.std.specs.FinMap.{empty}
 use Rattle.std.proofs.lemmas.Bool.{true≢false}
 use Rattle.std.proofs.Common.{refl, sym, ◌∙◌, ap, subst, inl, inr}
 use Rattle.ov_sync.specs.Keyed.{after}
-use Rattle.node_model.specs.Maps.{Map, Change, difference}
-use Rattle.node_model.specs.Step.{Phase, Idle, Opened, Confirmed, Up}
+use Rattle.transform_model.specs.NodeModel.Maps.{Map, Change, difference}
+use Rattle.transform_model.specs.NodeModel.Step.{Phase, Idle, Opened, Confirmed, Up}
 use Rattle.machine_model.specs.Moments.{IsPartly}
 use Rattle.machine_model.specs.Session.{Message, Open, Hello, Carries, SessionEnd, Session, turned, is_idle, are_peers, is_peering, may_send_at, may_send, with_breaks, told, passed, greeting, opened}
 use Rattle.machine_model.proofs.SessionFact.{sends, told_cases, meets, greetings, IsTidy, Down, Fact, shut_down, map_append, next_difference, partly_append, told_keeps, passed_keeps, are_peers-turned, build}

@@ -5,7 +5,7 @@ use Rattle.std.specs.declared.option.Option.TheVariants.{Some, None}
 use Rattle.std.specs.List.{filter}
 use Rattle.std.proofs.Common.{refl}
 use Rattle.ov_types.specs.declared.rows.NodeId.{NodeId}
-use Rattle.config_model.specs.declared.topology.Node.{Node}
+use Rattle.schedule_script.specs.ConfigTypes.Node.{Node}
 use Rattle.machine_model.specs.Setup.{Name, lists}
 use Rattle.machine_model.specs.Session.{Role, Controller, Agent, Session}
 use Rattle.machine_model.specs.Network.{brought, fresh, is_of, replaced}

@@ -9,7 +9,7 @@ use Rattle.std.specs.Cmp.Lexicographic.{bytes_decides}
 use Rattle.std.proofs.lemmas.Bool.{true≢false, and_parts, and_from, eqb-true}
 use Rattle.std.proofs.lemmas.Option.{same_Some}
 use Rattle.std.proofs.Common.{refl, sym, ◌∙◌, ap, subst, inl, inr, arith}
-use Rattle.node_model.specs.Maps.{Map, difference}
+use Rattle.transform_model.specs.NodeModel.Maps.{Map, difference}
 use Rattle.machine_model.specs.Setup.{Name}
 use Rattle.ov_types.specs.First.{same_name}
 use Rattle.machine_model.specs.Session.{Message, Carries, Session, turned, may_send, passed, arrived, waiting}

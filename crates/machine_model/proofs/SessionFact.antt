@@ -8,13 +8,13 @@ use Rattle.std.proofs.lemmas.Bool.{true≢false, ltb-true}
 use Rattle.std.proofs.Common.{refl, sym, ◌∙◌, ap, subst, inl, inr, arith, append_assoc}
 use Rattle.ov_sync.specs.Keyed.{after}
 use Rattle.ov_sync.proofs.KeyedLaws.{after-append, after-difference}
-use Rattle.node_model.proofs.Orders.{key_total, key_exact}
-use Rattle.node_model.specs.Values.{same_value}
-use Rattle.node_model.proofs.Alike.{same_value_decides}
-use Rattle.node_model.specs.Maps.{Map, Change, difference}
+use Rattle.transform_model.proofs.NodeModel.Orders.{key_total, key_exact}
+use Rattle.transform_model.specs.NodeModel.Values.{same_value}
+use Rattle.transform_model.proofs.NodeModel.Alike.{same_value_decides}
+use Rattle.transform_model.specs.NodeModel.Maps.{Map, Change, difference}
 use Rattle.machine_model.specs.Moments.{IsPartly}
 use Rattle.machine_model.specs.Session.{Role, Configuration, Controller, Agent, Message, Open, Keepalive, Hello, Carries, SessionEnd, Session, turned, is_idle, is_live, are_peers, is_peering, may_send_at, may_send, closed, noticed, shut, lost, meets_break, counted, with_breaks, left, told, passed, peer_took, item_took, took, without_first, took_first, arrived, took_octets, octets_arrived}
-use Rattle.node_model.specs.Step.{Phase, Idle, Opened, Confirmed, Up}
+use Rattle.transform_model.specs.NodeModel.Step.{Phase, Idle, Opened, Confirmed, Up}
 
 -- ---- what a list of sends makes of a session
 abbrev pub sends : List Message → Session → Session

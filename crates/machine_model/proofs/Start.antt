@@ -4,10 +4,10 @@ use Rattle.std.specs.declared.option.Option.TheVariants.{Some, None}
 use Rattle.std.specs.List.{filter, cons_option}
 use Rattle.std.proofs.lemmas.Bool.{true≢false}
 use Rattle.std.proofs.Common.{refl, sym, ◌∙◌, inr}
-use Rattle.config_check.specs.Checked.{Checked}
+use Rattle.schedule_script.specs.ConfigCheck.Checked.{Checked}
 use Rattle.machine_model.specs.Setup.{Name, Setup, lists, opening}
 use Rattle.ov_types.specs.declared.rows.NodeId.{NodeId}
-use Rattle.config_model.specs.declared.topology.Node.{Node}
+use Rattle.schedule_script.specs.ConfigTypes.Node.{Node}
 use Rattle.machine_model.specs.Session.{Role, Configuration, Controller, Agent, Message, Session, turned}
 use Rattle.machine_model.specs.Network.{start, peerings, accesses, fresh, config, sessions_of, is_at}
 use Rattle.machine_model.proofs.SessionFact.{DownEnd, Down, Fact}

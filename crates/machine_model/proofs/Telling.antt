@@ -8,11 +8,11 @@ use Rattle.std.specs.Cmp.Lexicographic.{bytes_decides}
 use Rattle.std.proofs.lemmas.Bool.{true≢false}
 use Rattle.std.proofs.Common.{refl, sym, ◌∙◌, ap, subst, inl, inr}
 use Rattle.ov_types.specs.First.{same_name}
-use Rattle.config_model.specs.declared.edit.Edit.{Edit}
-use Rattle.config_check.specs.Edits.{edit_fault, edited as checked_edited}
-use Rattle.config_check.specs.declared.edits.EditFault.{EditFault}
-use Rattle.node_model.specs.Maps.{Map, difference}
-use Rattle.node_model.specs.Members.{Member}
+use Rattle.schedule_script.specs.ConfigTypes.Edit.{Edit}
+use Rattle.schedule_script.specs.ConfigCheck.Edits.{edit_fault, edited as checked_edited}
+use Rattle.schedule_script.specs.ConfigCheck.EditFault.{EditFault}
+use Rattle.transform_model.specs.NodeModel.Maps.{Map, difference}
+use Rattle.transform_model.specs.NodeModel.Members.{Member}
 use Rattle.machine_model.specs.Setup.{Name, Move, Setup, checked, edited_without, moves, remade, renumbered}
 use Rattle.machine_model.specs.Session.{Carries, Message, Session, may_send, passed, told, turned}
 use Rattle.machine_model.specs.Network.{MachineState, View, brought, config, is_at, replaced, sessions_of, view, views_of, wanted}

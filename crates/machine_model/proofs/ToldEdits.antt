@@ -8,15 +8,15 @@ use Rattle.std.proofs.lemmas.Bool.{true≢false, and_parts}
 use Rattle.std.proofs.Common.{refl, sym, ◌∙◌, ap, subst, inl, inr}
 use Rattle.ov_types.specs.First.{same_name}
 use Rattle.ov_types.specs.declared.rows.NodeId.{NodeId}
-use Rattle.config_model.specs.declared.edit.Edit.{Edit}
-use Rattle.config_model.specs.declared.topology.Node.{Node}
-use Rattle.config_model.specs.declared.topology.Topology.{Topology}
-use Rattle.config_check.specs.Finding.{node_named}
-use Rattle.config_check.specs.Rules.{controller_names}
-use Rattle.config_check.specs.Edits.{edit_fault, edited as checked_edited}
-use Rattle.node_model.specs.Agent as agent
-use Rattle.node_model.specs.Members.{Member}
-use Rattle.node_model.proofs.Members.{from_map, in_filter}
+use Rattle.schedule_script.specs.ConfigTypes.Edit.{Edit}
+use Rattle.schedule_script.specs.ConfigTypes.Node.{Node}
+use Rattle.schedule_script.specs.ConfigTypes.Topology.{Topology}
+use Rattle.schedule_script.specs.ConfigCheck.Finding.{node_named}
+use Rattle.schedule_script.specs.ConfigCheck.Rules.{controller_names}
+use Rattle.schedule_script.specs.ConfigCheck.Edits.{edit_fault, edited as checked_edited}
+use Rattle.transform_model.specs.NodeModel.Agent as agent
+use Rattle.transform_model.specs.NodeModel.Members.{Member}
+use Rattle.transform_model.proofs.NodeModel.Members.{from_map, in_filter}
 use Rattle.machine_model.specs.Setup.{Name, Move, Setup, agents_in, agents_of, checked, edited, edited_without, has_name, is_listed, listed_by, lists, moves, remade, renumbered}
 use Rattle.machine_model.specs.Session.{Role, Configuration, Controller, Agent, Session, turned}
 use Rattle.machine_model.specs.Network.{MachineState, View, between, brought, config, heard_from, is_at, is_of, replaced, same_role, seen_by, sessions_of, view, views_of, wanted, wanted_from, wanted_from_control}

@@ -7,10 +7,10 @@ use Rattle.std.specs.List.{cons_option}
 use Rattle.std.specs.Cmp.Lexicographic.{bytes_decides}
 use Rattle.std.proofs.lemmas.Bool.{true≢false, and_parts}
 use Rattle.std.proofs.Common.{refl, sym, ◌∙◌, ap, subst, inl, inr}
-use Rattle.node_model.specs.Maps.{Map, difference}
+use Rattle.transform_model.specs.NodeModel.Maps.{Map, difference}
 use Rattle.machine_model.specs.Setup.{Name, Setup}
 use Rattle.ov_types.specs.First.{same_name}
-use Rattle.node_model.specs.Step.{Phase, Idle, Opened, Confirmed, Up}
+use Rattle.transform_model.specs.NodeModel.Step.{Phase, Idle, Opened, Confirmed, Up}
 use Rattle.machine_model.specs.Session.{Message, Open, Keepalive, Hello, Carries, SessionEnd, Session, turned, closed, are_peers, is_peering, may_send_at, may_send, shut, with_breaks, told, passed, with_phase, peer_took, item_took, took, without_first, took_first, arrived}
 use Rattle.machine_model.specs.Network.{MachineState, View, view, views_of, sessions_of, seen_by, wanted, is_at}
 use Rattle.machine_model.specs.Steps.{at_node, joins, with_session, change_session, pass}

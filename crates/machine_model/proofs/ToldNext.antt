@@ -11,7 +11,7 @@ use Rattle.std.proofs.Common.{refl, sym, ◌∙◌, ap, subst}
 use Rattle.machine_model.specs.Setup.{Name, Setup}
 use Rattle.ov_types.specs.First.{same_name}
 use Rattle.machine_model.specs.Session.{Message, Session, turned, closed, shut, lost, greeting, opened, took, without_first, took_octets, octets_arrived, arrived}
-use Rattle.node_model.specs.Step.{Opened}
+use Rattle.transform_model.specs.NodeModel.Step.{Opened}
 use Rattle.machine_model.specs.Network.{MachineState, View, view, sessions_of, seen_by, is_at}
 use Rattle.machine_model.specs.Events.{MachineEvent, add_break, next, after}
 use Rattle.machine_model.specs.Steps.{at_node, joins, with_session, change_session, change_node, pass, session_in, round, is_broken, around, connect, connect_all, without_breaks}

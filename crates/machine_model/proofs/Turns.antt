@@ -9,8 +9,8 @@ use Rattle.std.specs.Cmp.Lexicographic.{bytes_decides}
 use Rattle.std.proofs.lemmas.Bool.{true≢false, and_parts}
 use Rattle.std.proofs.Common.{refl, sym, ◌∙◌, ap, subst, inl, inr, arith}
 use Rattle.ov_types.specs.First.{same_name}
-use Rattle.node_model.specs.Maps.{Map, difference}
-use Rattle.node_model.specs.Step.{Phase, Idle, Opened, Confirmed, Up}
+use Rattle.transform_model.specs.NodeModel.Maps.{Map, difference}
+use Rattle.transform_model.specs.NodeModel.Step.{Phase, Idle, Opened, Confirmed, Up}
 use Rattle.machine_model.specs.Setup.{Name, checked}
 use Rattle.machine_model.specs.Session.{Message, Open, Keepalive, Hello, Carries, Session, turned, closed, is_peering, may_send, told, passed, with_phase, peer_took, item_took, took, without_first, took_first, arrived, waiting}
 use Rattle.machine_model.specs.Network.{MachineState, start, is_at, view, views_of, wanted}

@@ -5,7 +5,7 @@ use Rattle.std.specs.declared.option.Option.TheVariants.{Some, None}
 use mathlib.Core.Bool.{beq}
 use Rattle.std.proofs.lemmas.Option.{same_Some}
 use Rattle.std.proofs.Common.{refl, sym, ◌∙◌, ap, subst}
-use Rattle.config_model.specs.declared.edit.Edit.{Edit}
+use Rattle.schedule_script.specs.ConfigTypes.Edit.{Edit}
 use Rattle.machine_model.specs.Setup.{Name, edited, longest, moves}
 use Rattle.machine_model.specs.Session.{Message, Session, shut, lost, arrived, octets_arrived}
 use Rattle.machine_model.specs.Network.{MachineState}

@@ -5,15 +5,15 @@ use Rattle.std.specs.declared.option.Option.TheVariants.{Some, None}
 use Rattle.std.specs.FinMap.{empty}
 use Rattle.std.specs.List.{slice_index_or}
 use Rattle.ov_types.specs.declared.rows.NodeId.{NodeId}
-use Rattle.config_model.specs.declared.edit.Edit.{Edit}
-use Rattle.config_model.specs.declared.edit.Edit.TheVariants.{Put, Delete}
-use Rattle.config_model.specs.declared.edit.Object.TheVariants as objects
-use Rattle.config_model.specs.declared.edit.ObjectKind.TheVariants as kinds
-use Rattle.config_model.specs.declared.topology.Node.{Node}
-use Rattle.config_model.specs.declared.topology.Topology.{Topology}
-use Rattle.config_check.specs.Finding.{node_named}
-use Rattle.node_model.specs.Members.{Member}
-use Rattle.node_model.specs.Step.{Idle, Opened}
+use Rattle.schedule_script.specs.ConfigTypes.Edit.{Edit}
+use Rattle.schedule_script.specs.ConfigTypes.Edit.TheVariants.{Put, Delete}
+use Rattle.schedule_script.specs.ConfigTypes.Object.TheVariants as objects
+use Rattle.schedule_script.specs.ConfigTypes.ObjectKind.TheVariants as kinds
+use Rattle.schedule_script.specs.ConfigTypes.Node.{Node}
+use Rattle.schedule_script.specs.ConfigTypes.Topology.{Topology}
+use Rattle.schedule_script.specs.ConfigCheck.Finding.{node_named}
+use Rattle.transform_model.specs.NodeModel.Members.{Member}
+use Rattle.transform_model.specs.NodeModel.Step.{Idle, Opened}
 use Rattle.machine_model.specs.Setup.{Name}
 use Rattle.machine_model.specs.Session.{SessionEnd, Session}
 use Rattle.machine_model.specs.Network.{MachineState, is_at, is_of, sessions_of, views_of}

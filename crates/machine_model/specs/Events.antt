@@ -10,17 +10,17 @@ use Rattle.ov_types.specs.declared.rows.NodeId.{NodeId}
 use Rattle.ov_types.specs.declared.rows.NodeRows.{NodeRows}
 use Rattle.ov_types.specs.declared.rows.NodeRows.TheVariants as Rows
 use Rattle.route_targets.specs.Forwarding.{Forwarder, forwarding}
-use Rattle.config_model.specs.declared.edit.Edit.{Edit}
-use Rattle.config_model.specs.declared.event.Event.{Event as Written}
-use Rattle.config_model.specs.declared.event.Event.TheVariants as written
-use Rattle.config_model.specs.declared.topology.Node.{Node}
-use Rattle.config_check.specs.Edits.{edit_fault}
-use Rattle.config_check.specs.Finding.{node_named}
-use Rattle.config_check.specs.declared.edits.EditFault.{EditFault}
+use Rattle.schedule_script.specs.ConfigTypes.Edit.{Edit}
+use Rattle.schedule_script.specs.ConfigTypes.Event.{Event as Written}
+use Rattle.schedule_script.specs.ConfigTypes.Event.TheVariants as written
+use Rattle.schedule_script.specs.ConfigTypes.Node.{Node}
+use Rattle.schedule_script.specs.ConfigCheck.Edits.{edit_fault}
+use Rattle.schedule_script.specs.ConfigCheck.Finding.{node_named}
+use Rattle.schedule_script.specs.ConfigCheck.EditFault.{EditFault}
 use Rattle.schedule_script.specs.declared.answer.Answer.{Answer}
 use Rattle.schedule_script.specs.declared.answer.Answer.TheVariants.{Did, Idle, EditRefused, Rounds, Shown, Traced}
-use Rattle.node_model.specs.Tables.{rows}
-use Rattle.node_model.specs.Agent as agent
+use Rattle.transform_model.specs.NodeModel.Tables.{rows}
+use Rattle.transform_model.specs.NodeModel.Agent as agent
 use Rattle.machine_model.specs.Setup.{Name, Setup, Move, checked, edited, moves}
 use Rattle.machine_model.specs.Session.{Session, Message, lost, shut}
 use Rattle.machine_model.specs.Network.{MachineState, config, views_of, control_holdings, agent_holdings}

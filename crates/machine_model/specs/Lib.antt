@@ -7,3 +7,8 @@ pub mod Events
 pub mod Rounds
 pub mod Moments
 pub mod Deeds
+pub mod OvSync
+pub mod TransformModel
+pub mod AclCompile
+pub mod ConfigCheck
+pub mod ChainExpand

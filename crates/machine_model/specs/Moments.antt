@@ -6,12 +6,12 @@ use Rattle.std.specs.List.{AllByRecursion}
 use Rattle.std.specs.FinMap.{empty}
 use Rattle.ov_sync.specs.Keyed.{IsInStep}
 use Rattle.ov_types.specs.declared.rows.NodeId.{NodeId}
-use Rattle.config_model.specs.declared.topology.Node.{Node}
-use Rattle.config_model.specs.declared.topology.Topology.{Topology}
-use Rattle.node_model.specs.Members.{Member}
-use Rattle.config_check.specs.Checked.{Checked}
-use Rattle.node_model.specs.Maps.{Change}
-use Rattle.node_model.specs.Step.{Phase, Idle, Opened, Confirmed, Up}
+use Rattle.schedule_script.specs.ConfigTypes.Node.{Node}
+use Rattle.schedule_script.specs.ConfigTypes.Topology.{Topology}
+use Rattle.transform_model.specs.NodeModel.Members.{Member}
+use Rattle.schedule_script.specs.ConfigCheck.Checked.{Checked}
+use Rattle.transform_model.specs.NodeModel.Maps.{Change}
+use Rattle.transform_model.specs.NodeModel.Step.{Phase, Idle, Opened, Confirmed, Up}
 use Rattle.machine_model.specs.Setup.{Name, Setup, agents_of, edited, id_of, lists}
 use Rattle.machine_model.specs.Session.{Role, SessionEnd, Session, Message, Open, Keepalive, Hello, Carries, is_live}
 use Rattle.machine_model.specs.Session.{is_peering, may_send, may_send_at}

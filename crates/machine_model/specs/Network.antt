@@ -8,18 +8,18 @@ use Rattle.std.specs.FinMap.{empty}
 use Rattle.ov_types.specs.First.{same_name}
 use Rattle.ov_types.specs.declared.prefix.Addr.{Addr}
 use Rattle.ov_types.specs.declared.rows.NodeId.{NodeId}
-use Rattle.config_model.specs.declared.topology.Node.{Node}
-use Rattle.config_model.specs.declared.topology.Topology.{Topology}
-use Rattle.config_check.specs.Checked.{Checked}
-use Rattle.config_check.specs.Finding.{node_named}
-use Rattle.config_check.specs.Rules.{controller_names, node_names}
-use Rattle.config_check.specs.Sentences.{AreDistinct}
-use Rattle.node_model.specs.Maps.{Map}
-pub use Rattle.node_model.specs.Naming.{config}
-use Rattle.node_model.specs.Paths as control
-use Rattle.node_model.specs.Wants.{wanted_by_peers, wanted_by_agent}
-use Rattle.node_model.specs.Agent as agent
-use Rattle.node_model.specs.Step.{Phase, Idle}
+use Rattle.schedule_script.specs.ConfigTypes.Node.{Node}
+use Rattle.schedule_script.specs.ConfigTypes.Topology.{Topology}
+use Rattle.schedule_script.specs.ConfigCheck.Checked.{Checked}
+use Rattle.schedule_script.specs.ConfigCheck.Finding.{node_named}
+use Rattle.schedule_script.specs.ConfigCheck.Rules.{controller_names, node_names}
+use Rattle.schedule_script.specs.ConfigCheck.Sentences.{AreDistinct}
+use Rattle.transform_model.specs.NodeModel.Maps.{Map}
+pub use Rattle.transform_model.specs.NodeModel.Naming.{config}
+use Rattle.transform_model.specs.NodeModel.Paths as control
+use Rattle.transform_model.specs.NodeModel.Wants.{wanted_by_peers, wanted_by_agent}
+use Rattle.transform_model.specs.NodeModel.Agent as agent
+use Rattle.transform_model.specs.NodeModel.Step.{Phase, Idle}
 pub use Rattle.machine_model.specs.Setup.{lists}
 use Rattle.machine_model.specs.Setup.{Name, Setup, low, listed_by, opening, agents_of}
 use Rattle.machine_model.specs.Session.{Session, SessionEnd, Role, Configuration, Controller, Agent, turned, is_up_phase}

@@ -6,9 +6,9 @@ use Rattle.std.specs.FinMap.{empty}
 pub use Rattle.ov_link.specs.Breaks.{counted}
 use Rattle.ov_link.specs.Breaks.{is_break}
 use Rattle.ov_sync.specs.Keyed.{changed}
-use Rattle.node_model.specs.Maps.{Map, Change, difference}
-pub use Rattle.node_model.specs.Step.{is_idle, is_up as is_up_phase}
-use Rattle.node_model.specs.Step.{Phase, Idle, Opened, Confirmed, Up}
+use Rattle.transform_model.specs.NodeModel.Maps.{Map, Change, difference}
+pub use Rattle.transform_model.specs.NodeModel.Step.{is_idle, is_up as is_up_phase}
+use Rattle.transform_model.specs.NodeModel.Step.{Phase, Idle, Opened, Confirmed, Up}
 use Rattle.machine_model.specs.Setup.{Name}
 
 pub data Role : Type 0 where

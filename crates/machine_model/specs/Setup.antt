@@ -9,23 +9,23 @@ use Rattle.std.specs.Cmp.Lexicographic.{pointwise}
 use Rattle.std.specs.FinMap.{from_entries}
 use Rattle.ov_types.specs.First.{same_name}
 use Rattle.ov_types.specs.declared.rows.NodeId.{NodeId}
-use Rattle.config_model.specs.declared.edit.Edit.{Edit}
-use Rattle.config_model.specs.declared.edit.Edit.TheVariants.{Put, Delete}
-use Rattle.config_model.specs.declared.edit.Object.{Object}
-use Rattle.config_model.specs.declared.edit.Object.TheVariants as objects
-use Rattle.config_model.specs.declared.edit.ObjectKind.{ObjectKind}
-use Rattle.config_model.specs.declared.edit.ObjectKind.TheVariants as kinds
-use Rattle.config_model.specs.declared.config.Config.{Config}
-use Rattle.config_model.specs.declared.topology.Node.{Node}
-use Rattle.config_model.specs.declared.topology.Topology.{Topology}
-use Rattle.config_check.specs.Checked.{Checked}
-use Rattle.config_check.specs.Finding.{node_named}
-use Rattle.config_check.specs.declared.edits.EditFault.{EditFault}
-use Rattle.config_check.specs.Edits as edits
+use Rattle.schedule_script.specs.ConfigTypes.Edit.{Edit}
+use Rattle.schedule_script.specs.ConfigTypes.Edit.TheVariants.{Put, Delete}
+use Rattle.schedule_script.specs.ConfigTypes.Object.{Object}
+use Rattle.schedule_script.specs.ConfigTypes.Object.TheVariants as objects
+use Rattle.schedule_script.specs.ConfigTypes.ObjectKind.{ObjectKind}
+use Rattle.schedule_script.specs.ConfigTypes.ObjectKind.TheVariants as kinds
+use Rattle.schedule_script.specs.ConfigTypes.Config.{Config}
+use Rattle.schedule_script.specs.ConfigTypes.Node.{Node}
+use Rattle.schedule_script.specs.ConfigTypes.Topology.{Topology}
+use Rattle.schedule_script.specs.ConfigCheck.Checked.{Checked}
+use Rattle.schedule_script.specs.ConfigCheck.Finding.{node_named}
+use Rattle.schedule_script.specs.ConfigCheck.EditFault.{EditFault}
+use Rattle.schedule_script.specs.ConfigCheck.Edits as edits
 use Rattle.transform_model.specs.Objects.{low_objects}
 use Rattle.transform_model.specs.Uses.{ConfiguredUse, uses}
-use Rattle.node_model.specs.Maps.{Map}
-use Rattle.node_model.specs.Wants.{slice_entry}
+use Rattle.transform_model.specs.NodeModel.Maps.{Map}
+use Rattle.transform_model.specs.NodeModel.Wants.{slice_entry}
 
 abbrev pub Name : Type 0
 Name = List ℕ

@@ -2,12 +2,12 @@
 ghost use Rattle.std.specs.Prelude.{◌≡◌, ◌≢◌, ◌↔◌, ◌==◌, ℕ, List, Some, None, [], map, length, false, true};
 ghost use Rattle.std.specs.Option.{option_map};
 ghost use Rattle.ov_types.specs.declared.rows.NodeId.{NodeId};
-ghost use Rattle.config_model.specs.declared.edit.Edit.{Edit};
-ghost use Rattle.config_model.specs.declared.topology.Node.{Node};
-ghost use Rattle.config_check.specs.Edits as edits;
-ghost use Rattle.config_check.specs.declared.edits.EditFault.{EditFault};
+ghost use Rattle.schedule_script.specs.ConfigTypes.Edit.{Edit};
+ghost use Rattle.schedule_script.specs.ConfigTypes.Node.{Node};
+ghost use Rattle.schedule_script.specs.ConfigCheck.Edits as edits;
+ghost use Rattle.schedule_script.specs.ConfigCheck.EditFault.{EditFault};
 ghost use Rattle.schedule_script.specs.declared.answer.Answer.TheVariants.{Idle, EditRefused};
-ghost use Rattle.node_model.specs.Members.{Member};
+ghost use Rattle.transform_model.specs.NodeModel.Members.{Member};
 ghost use Rattle.machine_model.specs.Setup.{Name, Move, agents_of, checked, id_of, lists, moves, with_agent, without_agent};
 ghost use Rattle.machine_model.specs.Session.{Message, Session, lost, shut, told};
 ghost use Rattle.machine_model.specs.Network.{MachineState, sessions_of};

@@ -1,9 +1,9 @@
 //! Laws of every moment and of settled moments, from the empty state after any schedule: each is the contract of a
 //! function that does nothing.
 ghost use Rattle.std.specs.Prelude.{◌≡◌, Some, None, true, false};
-ghost use Rattle.node_model.specs.Step.{Phase};
+ghost use Rattle.transform_model.specs.NodeModel.Step.{Phase};
 ghost use Rattle.ov_types.specs.declared.rows.NodeId.{NodeId};
-ghost use Rattle.node_model.specs.Members.{Member};
+ghost use Rattle.transform_model.specs.NodeModel.Members.{Member};
 ghost use Rattle.machine_model.specs.Setup.{Name, agents_of};
 ghost use Rattle.machine_model.specs.Session.{Message, Session, is_peering, shut, took};
 ghost use Rattle.machine_model.specs.Steps.{is_settled};

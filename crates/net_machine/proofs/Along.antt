@@ -7,7 +7,7 @@ use Rattle.std.specs.List.{cons_option, list_all}
 use Rattle.std.proofs.Common.{refl, ◌∙◌, ap, arith, get_or}
 use Rattle.std.proofs.lemmas.List.{append-nil, append_assoc, at_drop_more, drop_all}
 use Rattle.transform_model.specs.Uses.{ConfiguredUse}
-use Rattle.machine_model.specs.Setup.{longest_of}
+use Rattle.running_nodes.specs.MachineModel.Setup.{longest_of}
 use Rattle.net_machine.specs.declared.ends.SessionEnds.{SessionEnds}
 use Rattle.net_machine.specs.Longest.{services_in}
 use Rattle.net_machine.specs.Seating.{is_earlier, same_ends, turned}

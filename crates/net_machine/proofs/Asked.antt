@@ -7,12 +7,12 @@ use Rattle.std.specs.declared.result.Result.TheVariants.{Ok, Err}
 use Rattle.std.proofs.Common.{refl, sym, ◌∙◌, ap, subst}
 use Rattle.config_check.specs.Checked.{Checked}
 use Rattle.config_check.specs.Finding.{node_named}
-use Rattle.config_model.specs.declared.edit.Object.TheVariants as objects
-use Rattle.config_model.specs.declared.topology.Node.{Node}
-use Rattle.config_model.specs.declared.topology.Topology.{Topology}
-use Rattle.machine_model.specs.Setup.{Move, Name, listed_by, put_moves, stands}
-use Rattle.running_model.specs.Moving.{Moves, MovesIf}
-use Rattle.running_model.specs.Seats.{Configuring, Seat, seat}
+use Rattle.config_types.specs.declared.edit.Object.TheVariants as objects
+use Rattle.config_types.specs.declared.topology.Node.{Node}
+use Rattle.config_types.specs.declared.topology.Topology.{Topology}
+use Rattle.running_nodes.specs.MachineModel.Setup.{Move, Name, listed_by, put_moves, stands}
+use Rattle.running_nodes.specs.RunningModel.Moving.{Moves, MovesIf}
+use Rattle.running_nodes.specs.RunningModel.Seats.{Configuring, Seat, seat}
 use Rattle.net_machine.specs.declared.editing.Moved.{Moved}
 use Rattle.net_machine.specs.declared.editing.Moved.TheVariants.{Yes, No}
 use Rattle.net_machine.specs.declared.ends.SessionEnds.{SessionEnds}

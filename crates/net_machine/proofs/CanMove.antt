@@ -17,38 +17,38 @@ use Rattle.config_check.specs.Finding.{node_named}
 use Rattle.config_check.specs.Rules.{controller_names}
 use Rattle.config_check.proofs.Edited.{nodes_form_is_kept}
 use Rattle.config_check.proofs.Validity.{form_of}
-use Rattle.config_model.specs.Edit.{has_edit_form}
-use Rattle.config_model.specs.Event.{has_event_form}
-use Rattle.config_model.specs.declared.edit.Edit.{Edit}
-use Rattle.config_model.specs.declared.event.Event.{Event}
-use Rattle.config_model.specs.declared.event.Event.TheVariants as event
-use Rattle.config_model.specs.declared.topology.Node.{Node}
-use Rattle.config_model.specs.declared.topology.Topology.{Topology}
-use Rattle.machine_compiled_laws.specs.Setups.{IsNamed}
-use Rattle.headline_laws.specs.Headline.{IsWritten}
-use Rattle.headline_laws.proofs.Written.{none_broken}
-use Rattle.machine_model.specs.Network.{MachineState}
-use Rattle.machine_model.specs.Session.{Agent, Configuration, Controller}
-use Rattle.machine_model.specs.Setup.{Move, Name, Setup, checked, id_of, listed_by, lists, moves}
-use Rattle.machine_model.proofs.Changing.{MoverIs, Moves, renews}
-use Rattle.machine_model.proofs.Distinct.{Apart, apart_of}
+use Rattle.config_types.specs.Form.{has_edit_form}
+use Rattle.config_types.specs.Form.{has_event_form}
+use Rattle.config_types.specs.declared.edit.Edit.{Edit}
+use Rattle.config_types.specs.declared.event.Event.{Event}
+use Rattle.config_types.specs.declared.event.Event.TheVariants as event
+use Rattle.config_types.specs.declared.topology.Node.{Node}
+use Rattle.config_types.specs.declared.topology.Topology.{Topology}
+use Rattle.running_laws.specs.MachineLaws.Setups.{IsNamed}
+use Rattle.running_laws.specs.MachineLaws.Headline.{IsWritten}
+use Rattle.running_laws.proofs.MachineLaws.Written.{none_broken}
+use Rattle.running_nodes.specs.MachineModel.Network.{MachineState}
+use Rattle.running_nodes.specs.MachineModel.Session.{Agent, Configuration, Controller}
+use Rattle.running_nodes.specs.MachineModel.Setup.{Move, Name, Setup, checked, id_of, listed_by, lists, moves}
+use Rattle.running_nodes.proofs.MachineModel.Changing.{MoverIs, Moves, renews}
+use Rattle.running_nodes.proofs.MachineModel.Distinct.{Apart, apart_of}
 use Rattle.node_model.specs.Members.{Member}
 use Rattle.node_model.proofs.Members.{any_in, contains_of, from_map, none_some}
-use Rattle.running_model.specs.Controls.{Controls, first_agent}
-use Rattle.running_model.specs.Seats.{Who, Controlling, Forwarding, Seat, agent_plan, control_plan}
-use Rattle.running_model.specs.Seats.{name_of, name_there, names_of, nobody, other, others_of, place_at, place_of, role_of, seat}
-use Rattle.running_model.specs.Seats.{seat_named, session_with, whos}
-use Rattle.running_model.specs.declared.place.SessionPlace.{SessionPlace}
-use Rattle.running_model.specs.Stands.{StandsFor}
+use Rattle.running_nodes.specs.RunningModel.Controls.{Controls, first_agent}
+use Rattle.running_nodes.specs.RunningModel.Seats.{Who, Controlling, Forwarding, Seat, agent_plan, control_plan}
+use Rattle.running_nodes.specs.RunningModel.Seats.{name_of, name_there, names_of, nobody, other, others_of, place_at, place_of, role_of, seat}
+use Rattle.running_nodes.specs.RunningModel.Seats.{seat_named, session_with, whos}
+use Rattle.running_nodes.specs.RunningModel.SessionPlace.{SessionPlace}
+use Rattle.running_nodes.specs.RunningModel.Stands.{StandsFor}
 use Rattle.running_nodes.specs.Fresh.{IsSetUp}
 use Rattle.running_nodes.proofs.SetUp.{set_up}
-use Rattle.running_step_laws.proofs.Lists.{who_at}
-use Rattle.running_holding_laws.specs.Wiring.{HasNumbers, IsPlace, name_at, other_at}
-use Rattle.running_holding_laws.proofs.Parties.{site_in}
-use Rattle.running_holding_laws.proofs.Seating.{ListsApart, seat_found, seat_of}
-use Rattle.running_holding_laws.proofs.Written.{place_found, written_apart, written_named}
-use Rattle.running_telling_laws.specs.Moments.{IsMoment}
-use Rattle.running_telling_laws.proofs.Moments.{moment_numbers, moment_written}
+use Rattle.running_laws.proofs.Lists.{who_at}
+use Rattle.running_laws.specs.Wiring.{HasNumbers, IsPlace, name_at, other_at}
+use Rattle.running_laws.proofs.Parties.{site_in}
+use Rattle.running_laws.proofs.Seating.{ListsApart, seat_found, seat_of}
+use Rattle.running_laws.proofs.Written.{place_found, written_apart, written_named}
+use Rattle.running_laws.specs.Moments.{IsMoment}
+use Rattle.running_laws.proofs.Moments.{moment_numbers, moment_written}
 use Rattle.net_machine.specs.Moving.{AreLeft, CanCome, CanHappen, CanMoveIf, Differ, HasAgent, HasAgentsBehind, HasControls, HasRoom}
 use Rattle.net_machine.specs.Moving.{control_at, control_name}
 use Rattle.net_machine.proofs.Coming.{get_past}

@@ -11,16 +11,16 @@ use Rattle.std.proofs.lemmas.List.{ext_get_or, get_or-map, length-append, length
 use Rattle.std.proofs.lemmas.Option.{same_Some}
 use Rattle.ov_types.specs.First.{same_name}
 use Rattle.ov_types.specs.declared.rows.NodeId.{NodeId}
-use Rattle.config_model.specs.declared.topology.Node.{Node}
-use Rattle.config_model.specs.declared.topology.Topology.{Topology}
-use Rattle.control_node.specs.Agents.{put_at}
-use Rattle.machine_model.specs.Setup.{Name, id_of, is_listed, lists, with_agent}
-use Rattle.running_model.specs.Controls.{Controls, first_agent}
-use Rattle.running_model.specs.Moving.{came, is_listed_who, joined, joined_at, joined_by, number_in}
-use Rattle.running_model.specs.Seats.{Who, Configuring, Controlling, Forwarding, Seat, name_there, names_of, nobody, others_of}
-use Rattle.running_model.specs.Seats.{seat}
-use Rattle.running_model.specs.Stands.{IsLong}
-use Rattle.running_model.specs.Steps.{with_seat}
+use Rattle.config_types.specs.declared.topology.Node.{Node}
+use Rattle.config_types.specs.declared.topology.Topology.{Topology}
+use Rattle.running_nodes.specs.ControlNode.Agents.{put_at}
+use Rattle.running_nodes.specs.MachineModel.Setup.{Name, id_of, is_listed, lists, with_agent}
+use Rattle.running_nodes.specs.RunningModel.Controls.{Controls, first_agent}
+use Rattle.running_nodes.specs.RunningModel.Moving.{came, is_listed_who, joined, joined_at, joined_by, number_in}
+use Rattle.running_nodes.specs.RunningModel.Seats.{Who, Configuring, Controlling, Forwarding, Seat, name_there, names_of, nobody, others_of}
+use Rattle.running_nodes.specs.RunningModel.Seats.{seat}
+use Rattle.running_nodes.specs.RunningModel.Stands.{IsLong}
+use Rattle.running_nodes.specs.RunningModel.Steps.{with_seat}
 use Rattle.net_machine.specs.Moving.{HasControls, HasRoom, came_seat, control_name}
 use Rattle.net_machine.specs.Seating.{AreLong}
 use Rattle.net_machine.proofs.Kept.{with_count, with_here, with_there}

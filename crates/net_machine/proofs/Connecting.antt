@@ -4,15 +4,15 @@ use Rattle.std.specs.declared.option.Option.TheVariants.{Some}
 use Rattle.std.specs.List.{AllByRecursion, cons_option}
 use Rattle.std.proofs.Common.{refl, sym, ◌∙◌, ap, subst}
 use Rattle.ov_types.specs.First.{same_name}
-use Rattle.machine_model.specs.Setup.{Name}
-use Rattle.machine_model.specs.Session.{Session}
-use Rattle.machine_model.specs.Network.{MachineState}
-use Rattle.machine_model.specs.Steps.{connect_all, connect_if, joins}
-use Rattle.machine_model.specs.Events.{Connect, is_earlier, next}
-use Rattle.machine_model.specs.Moments.{NodePair, nodes}
-use Rattle.machine_model.proofs.NodesFact.{connect_if_nodes}
-use Rattle.running_model.specs.Seats.{Seat}
-use Rattle.running_model.specs.Stands.{message_size}
+use Rattle.running_nodes.specs.MachineModel.Setup.{Name}
+use Rattle.running_nodes.specs.MachineModel.Session.{Session}
+use Rattle.running_nodes.specs.MachineModel.Network.{MachineState}
+use Rattle.running_nodes.specs.MachineModel.Steps.{connect_all, connect_if, joins}
+use Rattle.running_nodes.specs.MachineModel.Events.{Connect, is_earlier, next}
+use Rattle.running_nodes.specs.MachineModel.Moments.{NodePair, nodes}
+use Rattle.running_nodes.proofs.MachineModel.NodesFact.{connect_if_nodes}
+use Rattle.running_nodes.specs.RunningModel.Seats.{Seat}
+use Rattle.running_nodes.specs.RunningModel.Stands.{message_size}
 use Rattle.net_machine.specs.declared.ends.SessionEnds.{SessionEnds}
 use Rattle.net_machine.specs.Connections.{Connects, ConnectsAll}
 use Rattle.net_machine.specs.Seating.{Keeps, ends_of, order_among}

@@ -6,33 +6,33 @@ use Rattle.std.specs.declared.option.Option.TheVariants.{Some, None}
 use Rattle.std.proofs.Common.{refl, sym, ◌∙◌, ap, subst, arith, Bor}
 use Rattle.ov_types.specs.First.{same_name}
 use Rattle.ov_types.specs.declared.rows.NodeId.{NodeId}
-use Rattle.config_model.specs.declared.topology.Node.{Node}
+use Rattle.config_types.specs.declared.topology.Node.{Node}
 use Rattle.node_model.specs.Members.{Member}
 use Rattle.node_model.specs.Paths.{Holdings}
 use Rattle.node_model.specs.Step.{Post}
 use Rattle.node_model.proofs.Members.{any_in, from_any, in_map, none_some}
-use Rattle.control_node.specs.Core.{Core, holdings}
-use Rattle.running_model.specs.Controls.{Controls}
+use Rattle.running_nodes.specs.ControlNode.Core.{Core, holdings}
+use Rattle.running_nodes.specs.RunningModel.Controls.{Controls}
 use Rattle.control_silent_agent_laws.specs.Quiet.{SameButQuiet}
-use Rattle.machine_model.specs.Network.{MachineState, config}
-use Rattle.machine_model.specs.Setup.{Name, checked}
-use Rattle.machine_model.proofs.Apart.{NamesApart}
-use Rattle.machine_compiled_laws.specs.Setups.{IsNamed}
-use Rattle.machine_compiled_laws.proofs.Names.{apart_names}
-use Rattle.headline_laws.specs.Headline.{IsWritten}
-use Rattle.running_model.specs.Seats.{Configuring, Controlling, Forwarding, Seat, Who, agent_plan, control_plan, name_of, seat}
-use Rattle.running_model.specs.Seats.{seat_named}
-use Rattle.running_model.specs.Stands.{StandsFor}
+use Rattle.running_nodes.specs.MachineModel.Network.{MachineState, config}
+use Rattle.running_nodes.specs.MachineModel.Setup.{Name, checked}
+use Rattle.running_nodes.proofs.MachineModel.Apart.{NamesApart}
+use Rattle.running_laws.specs.MachineLaws.Setups.{IsNamed}
+use Rattle.running_laws.proofs.MachineLaws.KindNames.{apart_names}
+use Rattle.running_laws.specs.MachineLaws.Headline.{IsWritten}
+use Rattle.running_nodes.specs.RunningModel.Seats.{Configuring, Controlling, Forwarding, Seat, Who, agent_plan, control_plan, name_of, seat}
+use Rattle.running_nodes.specs.RunningModel.Seats.{seat_named}
+use Rattle.running_nodes.specs.RunningModel.Stands.{StandsFor}
 use Rattle.running_nodes.specs.Cores.{HoldsAs, held_by, present}
-use Rattle.running_holding_laws.specs.Wiring.{HasNumbers, HasSessions}
-use Rattle.running_holding_laws.proofs.Ends.{Ends, seat_ends}
-use Rattle.running_holding_laws.proofs.Going.{site_holds}
-use Rattle.running_holding_laws.proofs.Parties.{by_node, site_in}
-use Rattle.running_holding_laws.proofs.Seating.{ListsApart, root_at, seat_found, seat_is, seat_of, who_above}
-use Rattle.running_holding_laws.proofs.Sessions.{all_found}
-use Rattle.running_holding_laws.proofs.Written.{written_apart, written_named}
-use Rattle.running_telling_laws.specs.Moments.{IsMoment}
-use Rattle.running_telling_laws.proofs.Moments.{moment_numbers, moment_sessions, moment_written}
+use Rattle.running_laws.specs.Wiring.{HasNumbers, HasSessions}
+use Rattle.running_laws.proofs.PostEnds.{Ends, seat_ends}
+use Rattle.running_laws.proofs.Going.{site_holds}
+use Rattle.running_laws.proofs.Parties.{by_node, site_in}
+use Rattle.running_laws.proofs.Seating.{ListsApart, root_at, seat_found, seat_is, seat_of, who_above}
+use Rattle.running_laws.proofs.Sessions.{all_found}
+use Rattle.running_laws.proofs.Written.{written_apart, written_named}
+use Rattle.running_laws.specs.Moments.{IsMoment}
+use Rattle.running_laws.proofs.Moments.{moment_numbers, moment_sessions, moment_written}
 use Rattle.net_machine.specs.Looking.{held_at, is_control_node}
 
 -- what is found by a name, or nothing, is what the control node of that name holds

@@ -4,13 +4,13 @@ use mathlib.Core.Bool.{beq}
 use Rattle.std.specs.declared.option.Option.TheVariants.{Some}
 use Rattle.std.specs.Option.{option_map, unwrap_or}
 use Rattle.std.proofs.Common.{refl, sym, ◌∙◌, ap, subst}
-use Rattle.machine_model.specs.Setup.{Name}
-use Rattle.machine_model.specs.Session.{Session}
-use Rattle.machine_model.specs.Network.{MachineState}
-use Rattle.machine_model.specs.Steps.{Due as Waiting, deliver, deliver_all, deliver_due, notice_stands, repeat}
-use Rattle.machine_model.specs.Events.{Deliver, DeliverOctets, next}
-use Rattle.running_model.specs.Seats.{Seat, notice_at}
-use Rattle.running_model.specs.Stands.{message_size}
+use Rattle.running_nodes.specs.MachineModel.Setup.{Name}
+use Rattle.running_nodes.specs.MachineModel.Session.{Session}
+use Rattle.running_nodes.specs.MachineModel.Network.{MachineState}
+use Rattle.running_nodes.specs.MachineModel.Steps.{Due as Waiting, deliver, deliver_all, deliver_due, notice_stands, repeat}
+use Rattle.running_nodes.specs.MachineModel.Events.{Deliver, DeliverOctets, next}
+use Rattle.running_nodes.specs.RunningModel.Seats.{Seat, notice_at}
+use Rattle.running_nodes.specs.RunningModel.Stands.{message_size}
 use Rattle.net_machine.specs.declared.ends.SessionEnds.{SessionEnds}
 use Rattle.net_machine.specs.declared.round.Due.{Due}
 use Rattle.net_machine.specs.Deliveries.{Delivers, DeliversMany, DeliversOctets}

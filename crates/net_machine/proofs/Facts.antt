@@ -3,27 +3,27 @@ use Rattle.std.specs.Prelude.{◌≡◌, ◌<◌, ℕ, suc, List, map, true, fal
 use Rattle.std.specs.declared.option.Option.{Option}
 use Rattle.std.specs.declared.option.Option.TheVariants.{Some, None}
 use Rattle.std.specs.List.{AllByRecursion}
-use Rattle.config_model.specs.declared.edit.Edit.{Edit}
-use Rattle.config_model.specs.Edit.{has_edit_form}
+use Rattle.config_types.specs.declared.edit.Edit.{Edit}
+use Rattle.config_types.specs.Form.{has_edit_form}
 use Rattle.config_check.specs.Edits.{edit_fault}
-use Rattle.machine_model.specs.Setup.{Name, checked}
-use Rattle.machine_model.specs.Session as session
-use Rattle.machine_model.specs.Session.{Session}
-use Rattle.machine_model.specs.Network.{MachineState}
-use Rattle.machine_model.specs.Steps as steps
-use Rattle.machine_model.specs.Steps.{connect_if, deliver, deliver_octets, session_of}
-use Rattle.machine_model.specs.Events as events
-use Rattle.machine_model.specs.Events.{MachineEvent, Break, DeliverOctets, Edits as Changes, Lose, Restart, forwarders, is_node}
-use Rattle.machine_model.specs.Events.{next, shown}
-use Rattle.running_model.specs.Seats.{Seat, notice_at, seat, seat_named}
-use Rattle.running_model.specs.Stands.{StandsFor, message_size}
-use Rattle.running_model.specs.Steps.{forwarders_of, shown_by, unbroken as unbroken_seat, with_break_at}
-use Rattle.running_telling_laws.specs.Moments.{unbroken}
+use Rattle.running_nodes.specs.MachineModel.Setup.{Name, checked}
+use Rattle.running_nodes.specs.MachineModel.Session as session
+use Rattle.running_nodes.specs.MachineModel.Session.{Session}
+use Rattle.running_nodes.specs.MachineModel.Network.{MachineState}
+use Rattle.running_nodes.specs.MachineModel.Steps as steps
+use Rattle.running_nodes.specs.MachineModel.Steps.{connect_if, deliver, deliver_octets, session_of}
+use Rattle.running_nodes.specs.MachineModel.Events as events
+use Rattle.running_nodes.specs.MachineModel.Events.{MachineEvent, Break, DeliverOctets, Edits as Changes, Lose, Restart, forwarders, is_node}
+use Rattle.running_nodes.specs.MachineModel.Events.{next, shown}
+use Rattle.running_nodes.specs.RunningModel.Seats.{Seat, notice_at, seat, seat_named}
+use Rattle.running_nodes.specs.RunningModel.Stands.{StandsFor, message_size}
+use Rattle.running_nodes.specs.RunningModel.Steps.{forwarders_of, shown_by, unbroken as unbroken_seat, with_break_at}
+use Rattle.running_laws.specs.Moments.{unbroken}
 use Rattle.net_machine.specs.declared.ends.SessionEnds.{SessionEnds}
 use Rattle.net_machine.specs.Connections.{Connects, may_connect}
 use Rattle.net_machine.specs.Deliveries.{Delivers, DeliversOctets}
 use Rattle.net_machine.specs.Happenings.{EditsUnless}
-use Rattle.running_step_laws.specs.Losing.{restarted}
+use Rattle.running_laws.specs.Losing.{restarted}
 use Rattle.net_machine.specs.Losses.{lost}
 use Rattle.net_machine.specs.Seating.{ends_of, is_down, turned, waiting}
 use Rattle.net_machine.specs.Settling.{is_rested}

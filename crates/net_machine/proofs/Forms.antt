@@ -9,19 +9,19 @@ use Rattle.std.proofs.lemmas.Option.{same_Some}
 use Rattle.ov_types.specs.Bounds.{is_from_to}
 use Rattle.ov_types.specs.Name.{is_name}
 use Rattle.ov_types.specs.declared.packet.Packet.{Packet}
-use Rattle.config_model.specs.declared.edit.Edit.{Edit as Change}
-use Rattle.config_model.specs.declared.event.Event.TheVariants.{Break, DeliverOctets, Edit, Trace}
-use Rattle.config_model.specs.Edit.{has_edit_form}
-use Rattle.config_model.specs.Event.{has_event_form}
-use Rattle.config_model.specs.Form.{has_packet_form}
+use Rattle.config_types.specs.declared.edit.Edit.{Edit as Change}
+use Rattle.config_types.specs.declared.event.Event.TheVariants.{Break, DeliverOctets, Edit, Trace}
+use Rattle.config_types.specs.Form.{has_edit_form}
+use Rattle.config_types.specs.Form.{has_event_form}
+use Rattle.config_types.specs.Form.{has_packet_form}
 use Rattle.config_check.specs.Edits as edits
 use Rattle.config_check.specs.Edits.{edit_fault}
 use Rattle.config_check.specs.declared.edits.EditFault.{EditFault}
 use Rattle.config_check.proofs.Edited.{form_is_kept, nodes_form_is_kept}
 use Rattle.config_check.proofs.Validity.{form_of}
-use Rattle.machine_model.specs.Setup.{Setup, checked, edited, edited_without, moves, remade, renumbered}
-use Rattle.headline_laws.specs.Headline.{IsOfForm, IsWritten}
-use Rattle.headline_laws.proofs.Written.{none_broken}
+use Rattle.running_nodes.specs.MachineModel.Setup.{Setup, checked, edited, edited_without, moves, remade, renumbered}
+use Rattle.running_laws.specs.MachineLaws.Headline.{IsOfForm, IsWritten}
+use Rattle.running_laws.proofs.MachineLaws.Written.{none_broken}
 
 pub edit_form : (e : Change) → IsTrue (has_event_form (Edit e)) → IsTrue (has_edit_form e)
 unfolding has_event_form

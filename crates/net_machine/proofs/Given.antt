@@ -1,14 +1,14 @@
 -- What single steps make of the state for which seats stand, as it is proved.
-use Rattle.running_telling_laws.specs.Moments.{IsMoment}
-use Rattle.running_step_laws.proofs.Asked.{sessions_said}
-use Rattle.running_step_laws.proofs.Broken.{breaks_are_removed, breaks_are_set}
-use Rattle.running_step_laws.proofs.Connections.{connections_are_made, near_is_earlier, nothing_is_connected}
-use Rattle.running_step_laws.proofs.Delivered.{messages_are_delivered, nothing_is_delivered, notices_are_delivered}
-use Rattle.running_step_laws.proofs.Edited.{edits_are_made, faulty_edits_are_refused}
-use Rattle.running_step_laws.proofs.Given.{given}
-use Rattle.running_step_laws.proofs.Lost.{losses_are_made, nothing_is_lost}
-use Rattle.running_step_laws.proofs.Octets.{notices_count_as_octets, octets_are_delivered}
-use Rattle.running_step_laws.proofs.Restarted.{restarts_are_made}
+use Rattle.running_laws.specs.Moments.{IsMoment}
+use Rattle.running_laws.proofs.Asked.{sessions_said}
+use Rattle.running_laws.proofs.Broken.{breaks_are_removed, breaks_are_set}
+use Rattle.running_laws.proofs.Connections.{connections_are_made, near_is_earlier, nothing_is_connected}
+use Rattle.running_laws.proofs.Delivered.{messages_are_delivered, nothing_is_delivered, notices_are_delivered}
+use Rattle.running_laws.proofs.Edited.{edits_are_made, faulty_edits_are_refused}
+use Rattle.running_laws.proofs.Given.{given}
+use Rattle.running_laws.proofs.Lost.{losses_are_made, nothing_is_lost}
+use Rattle.running_laws.proofs.Octets.{notices_count_as_octets, octets_are_delivered}
+use Rattle.running_laws.proofs.Restarted.{restarts_are_made}
 use Rattle.net_machine.proofs.Facts.{Facts}
 use Rattle.net_machine.proofs.Known.{known}
 use Rattle.net_machine.proofs.Proved.{Proved}

@@ -4,27 +4,27 @@ use Rattle.std.specs.declared.option.Option.{Option}
 use Rattle.std.specs.declared.option.Option.TheVariants.{Some, None}
 use Rattle.std.specs.Option.{option_map, unwrap_or}
 use Rattle.std.proofs.Common.{refl, sym, ◌∙◌, ap, subst}
-use Rattle.config_model.specs.declared.event.Event.{Event as Written}
-use Rattle.config_model.specs.declared.event.Event.TheVariants as event
+use Rattle.config_types.specs.declared.event.Event.{Event as Written}
+use Rattle.config_types.specs.declared.event.Event.TheVariants as event
 use Rattle.config_check.specs.Checked.{Checked}
 use Rattle.config_check.specs.Edits.{edit_fault}
 use Rattle.route_targets.specs.Forwarding.{forwarding}
 use Rattle.schedule_script.specs.declared.answer.Answer.{Answer}
 use Rattle.schedule_script.specs.declared.answer.Answer.TheVariants.{Idle, Rounds, Shown, Traced}
-use Rattle.machine_model.specs.Setup.{Name, checked, longest_in}
-use Rattle.machine_model.specs.Session as session
-use Rattle.machine_model.specs.Session.{Session, shut}
-use Rattle.machine_model.specs.Network.{MachineState}
-use Rattle.machine_model.specs.Steps as steps
-use Rattle.machine_model.specs.Steps.{connect_found, connect_if, deliver, in_flight, is_broken, repeat, session_of, settle}
-use Rattle.machine_model.specs.Steps.{change_node, change_session, deliver_octets, joins, pass, session_in, with_session}
-use Rattle.machine_model.specs.Session.{arrived, octets_arrived}
-use Rattle.machine_model.specs.Events as events
-use Rattle.machine_model.specs.Events.{Break, Connect, Deliver, DeliverOctets, Edits as Changes, Lose, Restart}
-use Rattle.machine_model.specs.Events.{add_break, answer_to, edit_answer}
-use Rattle.machine_model.specs.Events.{event_of, is_node, lose, next, shown, unless}
-use Rattle.running_model.specs.Seats.{Seat, seat_named}
-use Rattle.running_model.specs.Stands.{message_size}
+use Rattle.running_nodes.specs.MachineModel.Setup.{Name, checked, longest_in}
+use Rattle.running_nodes.specs.MachineModel.Session as session
+use Rattle.running_nodes.specs.MachineModel.Session.{Session, shut}
+use Rattle.running_nodes.specs.MachineModel.Network.{MachineState}
+use Rattle.running_nodes.specs.MachineModel.Steps as steps
+use Rattle.running_nodes.specs.MachineModel.Steps.{connect_found, connect_if, deliver, in_flight, is_broken, repeat, session_of, settle}
+use Rattle.running_nodes.specs.MachineModel.Steps.{change_node, change_session, deliver_octets, joins, pass, session_in, with_session}
+use Rattle.running_nodes.specs.MachineModel.Session.{arrived, octets_arrived}
+use Rattle.running_nodes.specs.MachineModel.Events as events
+use Rattle.running_nodes.specs.MachineModel.Events.{Break, Connect, Deliver, DeliverOctets, Edits as Changes, Lose, Restart}
+use Rattle.running_nodes.specs.MachineModel.Events.{add_break, answer_to, edit_answer}
+use Rattle.running_nodes.specs.MachineModel.Events.{event_of, is_node, lose, next, shown, unless}
+use Rattle.running_nodes.specs.RunningModel.Seats.{Seat, seat_named}
+use Rattle.running_nodes.specs.RunningModel.Stands.{message_size}
 use Rattle.net_machine.specs.declared.ends.SessionEnds.{SessionEnds}
 use Rattle.net_machine.specs.Connections.{Connects}
 use Rattle.net_machine.specs.Happenings.{BreaksOn, ConnectsOn, DeliversOctetsOn, DeliversOn, EditsUnless, Happens, LosesOn}

@@ -8,15 +8,15 @@ use Rattle.std.proofs.Common.{refl, sym, ◌∙◌, ap, subst, arith, inl, inr, 
 use Rattle.std.proofs.lemmas.Bool.{cases_eq}
 use Rattle.std.proofs.lemmas.List.{length-set, get_or-set_same, get_or-set_other, set-set}
 use Rattle.ov_types.specs.First.{same_name}
-use Rattle.config_model.specs.declared.topology.Topology.{Topology}
-use Rattle.machine_model.specs.Setup.{Name}
-use Rattle.machine_model.specs.Session.{Session}
-use Rattle.machine_model.specs.Network.{asked}
-use Rattle.running_model.specs.Seats.{Seat, far_of, index_from, is_name, name_of, nobody, other, others_of, place_at, place_of, seat}
-use Rattle.running_model.specs.Seats.{seat_named}
-use Rattle.running_model.specs.Stands.{IsLong}
-use Rattle.running_model.specs.Steps.{with_seat}
-use Rattle.running_model.specs.declared.place.SessionPlace.{SessionPlace}
+use Rattle.config_types.specs.declared.topology.Topology.{Topology}
+use Rattle.running_nodes.specs.MachineModel.Setup.{Name}
+use Rattle.running_nodes.specs.MachineModel.Session.{Session}
+use Rattle.running_nodes.specs.MachineModel.Network.{asked}
+use Rattle.running_nodes.specs.RunningModel.Seats.{Seat, far_of, index_from, is_name, name_of, nobody, other, others_of, place_at, place_of, seat}
+use Rattle.running_nodes.specs.RunningModel.Seats.{seat_named}
+use Rattle.running_nodes.specs.RunningModel.Stands.{IsLong}
+use Rattle.running_nodes.specs.RunningModel.Steps.{with_seat}
+use Rattle.running_nodes.specs.RunningModel.SessionPlace.{SessionPlace}
 use Rattle.net_machine.specs.declared.ends.SessionEnds.{SessionEnds}
 use Rattle.net_machine.specs.Seating.{AreLong, AreSeated, HasOther, IsSeated, Keeps, ends_at, ends_from, ends_of, order_among, order_of}
 

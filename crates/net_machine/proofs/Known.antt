@@ -11,34 +11,34 @@ use Rattle.std.proofs.lemmas.Option.{same_Some}
 use Rattle.ov_types.specs.First.{same_name}
 use Rattle.ov_link.specs.declared.step.Input.{Input}
 use Rattle.ov_link.specs.declared.step.Input.TheVariants.{Bytes, Closed, Opened}
-use Rattle.config_model.specs.declared.edit.Edit.{Edit}
+use Rattle.config_types.specs.declared.edit.Edit.{Edit}
 use Rattle.config_check.specs.Edits.{edit_fault}
 use Rattle.config_check.specs.declared.edits.EditFault.{EditFault}
-use Rattle.machine_model.specs.Setup.{Name, checked}
-use Rattle.machine_model.specs.Session as session
-use Rattle.machine_model.specs.Session.{arrived, octets_arrived}
-use Rattle.machine_model.specs.Network.{MachineState}
-use Rattle.machine_model.specs.Steps as machine
-use Rattle.machine_model.specs.Steps.{change_session, connect_if, deliver, deliver_octets, pass}
-use Rattle.machine_model.specs.Events.{Connect, Deliver, DeliverOctets, Break, MachineEvent, Edits as Changes, Lose, Restart}
-use Rattle.machine_model.specs.Events.{Round, Settle, Show, Trace, is_node, next, shown}
-use Rattle.machine_model.proofs.NetworkFact.{found}
-use Rattle.machine_model.proofs.Twins.{itself}
-use Rattle.machine_model.specs.Moments.{EditIsValid}
-use Rattle.headline_laws.specs.Headline.{IsOfForm}
-use Rattle.running_model.specs.Seats.{Seat, is_down_at, is_live, kept_at, link_at, live_at, name_of, notice_at, seat}
-use Rattle.running_model.specs.Seats.{seat_named}
-use Rattle.running_model.specs.Seats.{whole_at, whole_there}
-use Rattle.running_model.specs.Steps.{Takes, cleared, shown_by, untaken, with_link, with_notice, with_seat}
-use Rattle.running_model.specs.Stands.{StandsFor, message_size}
-use Rattle.running_model.specs.declared.place.SessionPlace.{SessionPlace}
-use Rattle.running_telling_laws.specs.Moments.{IsMoment}
-use Rattle.running_telling_laws.proofs.Moments.{moment_next, moment_numbers, moment_sessions, moment_written}
-use Rattle.running_holding_laws.specs.Wiring.{name_at, other_at}
-use Rattle.running_holding_laws.proofs.Written.{forwarders_are, has_far, has_session, names_differ, no_node_above, place_is, shows_at}
-use Rattle.running_step_laws.specs.Connecting.{OpensBehind, OpensBoth}
-use Rattle.running_step_laws.specs.Delivering as deliveries
-use Rattle.running_step_laws.specs.Losing.{cut, restarted}
+use Rattle.running_nodes.specs.MachineModel.Setup.{Name, checked}
+use Rattle.running_nodes.specs.MachineModel.Session as session
+use Rattle.running_nodes.specs.MachineModel.Session.{arrived, octets_arrived}
+use Rattle.running_nodes.specs.MachineModel.Network.{MachineState}
+use Rattle.running_nodes.specs.MachineModel.Steps as machine
+use Rattle.running_nodes.specs.MachineModel.Steps.{change_session, connect_if, deliver, deliver_octets, pass}
+use Rattle.running_nodes.specs.MachineModel.Events.{Connect, Deliver, DeliverOctets, Break, MachineEvent, Edits as Changes, Lose, Restart}
+use Rattle.running_nodes.specs.MachineModel.Events.{Round, Settle, Show, Trace, is_node, next, shown}
+use Rattle.running_nodes.proofs.MachineModel.NetworkFact.{found}
+use Rattle.running_nodes.proofs.MachineModel.Twins.{itself}
+use Rattle.running_nodes.specs.MachineModel.Moments.{EditIsValid}
+use Rattle.running_laws.specs.MachineLaws.Headline.{IsOfForm}
+use Rattle.running_nodes.specs.RunningModel.Seats.{Seat, is_down_at, is_live, kept_at, link_at, live_at, name_of, notice_at, seat}
+use Rattle.running_nodes.specs.RunningModel.Seats.{seat_named}
+use Rattle.running_nodes.specs.RunningModel.Seats.{whole_at, whole_there}
+use Rattle.running_nodes.specs.RunningModel.Steps.{Takes, cleared, shown_by, untaken, with_link, with_notice, with_seat}
+use Rattle.running_nodes.specs.RunningModel.Stands.{StandsFor, message_size}
+use Rattle.running_nodes.specs.RunningModel.SessionPlace.{SessionPlace}
+use Rattle.running_laws.specs.Moments.{IsMoment}
+use Rattle.running_laws.proofs.Moments.{moment_next, moment_numbers, moment_sessions, moment_written}
+use Rattle.running_laws.specs.Wiring.{name_at, other_at}
+use Rattle.running_laws.proofs.Written.{forwarders_are, has_far, has_session, names_differ, no_node_above, place_is, shows_at}
+use Rattle.running_laws.specs.Connecting.{OpensBehind, OpensBoth}
+use Rattle.running_laws.specs.Delivering as deliveries
+use Rattle.running_laws.specs.Losing.{cut, restarted}
 use Rattle.net_machine.specs.declared.ends.SessionEnds.{SessionEnds}
 use Rattle.net_machine.specs.Connections.{ConnectsAt, ConnectsIf, OpensSecond, goes_on, may_connect}
 use Rattle.net_machine.specs.Deliveries.{DeliversIf, DeliversOctetsIf, DeliversOctetsTo, DeliversTo, TakesAt}

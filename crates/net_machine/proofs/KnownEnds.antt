@@ -4,28 +4,28 @@ use Rattle.std.specs.declared.option.Option.{Option}
 use Rattle.std.specs.declared.option.Option.TheVariants.{Some, None}
 use Rattle.std.specs.List.{AllByRecursion}
 use Rattle.std.proofs.Common.{refl, sym, ◌∙◌, ap, subst, inl, inr}
-use Rattle.headline_laws.specs.Headline.{IsWritten}
-use Rattle.headline_laws.proofs.Written.{sound_setup}
-use Rattle.machine_model.specs.Setup.{Name, checked}
-use Rattle.machine_model.specs.Session as session
-use Rattle.machine_model.specs.Session.{Session, is_idle, is_peering}
-use Rattle.machine_model.specs.Network.{MachineState}
-use Rattle.machine_model.specs.Steps as steps
-use Rattle.machine_model.specs.Steps.{session_of}
-use Rattle.machine_model.specs.Events as events
-use Rattle.machine_model.specs.Moments.{Each, nodes}
-use Rattle.machine_model.proofs.Apart.{no_twins}
-use Rattle.machine_model.proofs.NetworkFact.{found}
-use Rattle.machine_model.proofs.SessionFact.{Fact, Fact-turned, live_receiver}
-use Rattle.machine_model.proofs.Twins.{Found, NoTwins, found_each}
-use Rattle.running_model.specs.Seats.{Seat, far_of, place_of, whole_at, whole_there}
-use Rattle.running_model.specs.Stands.{StandsFor, message_size}
-use Rattle.running_model.specs.declared.place.SessionPlace.{SessionPlace}
-use Rattle.running_telling_laws.specs.Moments.{IsMoment}
-use Rattle.running_telling_laws.proofs.Moments.{moment_numbers, moment_sessions, moment_sound, moment_written}
-use Rattle.running_holding_laws.specs.Wiring.{AreSeats, HasNumbers, HasSessions, IsFound}
-use Rattle.running_holding_laws.proofs.Written.{far_is, has_far, place_is, session_without_place, sessions_found}
-use Rattle.running_step_laws.specs.Asking.{AreAt}
+use Rattle.running_laws.specs.MachineLaws.Headline.{IsWritten}
+use Rattle.running_laws.proofs.MachineLaws.Written.{sound_setup}
+use Rattle.running_nodes.specs.MachineModel.Setup.{Name, checked}
+use Rattle.running_nodes.specs.MachineModel.Session as session
+use Rattle.running_nodes.specs.MachineModel.Session.{Session, is_idle, is_peering}
+use Rattle.running_nodes.specs.MachineModel.Network.{MachineState}
+use Rattle.running_nodes.specs.MachineModel.Steps as steps
+use Rattle.running_nodes.specs.MachineModel.Steps.{session_of}
+use Rattle.running_nodes.specs.MachineModel.Events as events
+use Rattle.running_nodes.specs.MachineModel.Moments.{Each, nodes}
+use Rattle.running_nodes.proofs.MachineModel.Apart.{no_twins}
+use Rattle.running_nodes.proofs.MachineModel.NetworkFact.{found}
+use Rattle.running_nodes.proofs.MachineModel.SessionFact.{Fact, Fact-turned, live_receiver}
+use Rattle.running_nodes.proofs.MachineModel.Twins.{Found, NoTwins, found_each}
+use Rattle.running_nodes.specs.RunningModel.Seats.{Seat, far_of, place_of, whole_at, whole_there}
+use Rattle.running_nodes.specs.RunningModel.Stands.{StandsFor, message_size}
+use Rattle.running_nodes.specs.RunningModel.SessionPlace.{SessionPlace}
+use Rattle.running_laws.specs.Moments.{IsMoment}
+use Rattle.running_laws.proofs.Moments.{moment_numbers, moment_sessions, moment_sound, moment_written}
+use Rattle.running_laws.specs.Wiring.{AreSeats, HasNumbers, HasSessions, IsFound}
+use Rattle.running_laws.proofs.Written.{far_is, has_far, place_is, session_without_place, sessions_found}
+use Rattle.running_laws.specs.Asking.{AreAt}
 use Rattle.net_machine.specs.declared.ends.SessionEnds.{SessionEnds}
 use Rattle.net_machine.specs.Seating.{ends_at, ends_from, ends_of, turned}
 use Rattle.net_machine.proofs.Facts.{IsStood, SaysOf}

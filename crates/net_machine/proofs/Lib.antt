@@ -32,3 +32,8 @@ pub mod Asked
 pub mod CanMove
 pub mod Ran
 pub mod ControlNodes
+pub mod ScheduleLaws
+pub mod RunningLaws
+pub mod RunningModel
+pub mod MachineLaws
+pub mod Taking

@@ -5,17 +5,17 @@ use Rattle.std.specs.declared.option.Option.TheVariants.{Some, None}
 use Rattle.std.proofs.Common.{refl, sym, ◌∙◌, ap, subst}
 use Rattle.config_check.specs.Checked.{Checked}
 use Rattle.config_check.specs.Edits.{edited, edited_topology}
-use Rattle.config_model.specs.declared.edit.Edit.{Edit}
-use Rattle.config_model.specs.declared.edit.Edit.TheVariants.{Put, Delete}
-use Rattle.config_model.specs.declared.edit.Object.TheVariants as objects
-use Rattle.config_model.specs.declared.edit.ObjectKind.TheVariants as kinds
-use Rattle.config_model.specs.declared.topology.Topology.{Topology}
-use Rattle.machine_model.specs.Setup.{Move, moves}
-use Rattle.running_model.specs.Moving.{MovesIf}
-use Rattle.running_model.specs.Seats.{Who, Configuring, Seat, name_of, names_of, others_of, seat}
-use Rattle.running_model.specs.Steps.{Configures, cleared, with_seat}
-use Rattle.running_step_laws.specs.Editing.{MakesEdit}
-use Rattle.running_step_laws.proofs.Lists.{same_who}
+use Rattle.config_types.specs.declared.edit.Edit.{Edit}
+use Rattle.config_types.specs.declared.edit.Edit.TheVariants.{Put, Delete}
+use Rattle.config_types.specs.declared.edit.Object.TheVariants as objects
+use Rattle.config_types.specs.declared.edit.ObjectKind.TheVariants as kinds
+use Rattle.config_types.specs.declared.topology.Topology.{Topology}
+use Rattle.running_nodes.specs.MachineModel.Setup.{Move, moves}
+use Rattle.running_nodes.specs.RunningModel.Moving.{MovesIf}
+use Rattle.running_nodes.specs.RunningModel.Seats.{Who, Configuring, Seat, name_of, names_of, others_of, seat}
+use Rattle.running_nodes.specs.RunningModel.Steps.{Configures, cleared, with_seat}
+use Rattle.running_laws.specs.Editing.{MakesEdit}
+use Rattle.running_laws.proofs.Lists.{same_who}
 use Rattle.net_machine.specs.Moving.{CanMoveIf}
 use Rattle.net_machine.specs.Seating.{AreLong, Keeps}
 use Rattle.net_machine.proofs.Alike.{cleared_alike}

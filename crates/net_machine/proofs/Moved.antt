@@ -11,19 +11,19 @@ use Rattle.std.proofs.lemmas.Option.{same_Some}
 use Rattle.ov_types.specs.First.{same_name}
 use Rattle.config_check.specs.Checked.{Checked}
 use Rattle.config_check.specs.Rules.{controller_names}
-use Rattle.config_model.specs.declared.topology.Node.{Node}
-use Rattle.config_model.specs.declared.topology.Topology.{Topology}
-use Rattle.machine_model.specs.Network.{same_role}
-use Rattle.machine_model.specs.Session.{Role, Agent, Configuration, Controller}
-use Rattle.machine_model.specs.Setup.{Move, Name, id_of}
-use Rattle.running_model.specs.Controls.{Controls}
-use Rattle.running_model.specs.Moving.{LeavesAll, LeavesAt, Moves, came, is_agent_named, is_listed_who, joined, reseated, retired_of}
-use Rattle.running_model.specs.Moving.{seats_of}
-use Rattle.running_model.specs.Seats.{Who, Configuring, Controlling, Forwarding, Seat, index_from, name_of, nobody, other}
-use Rattle.running_model.specs.Seats.{others_of}
-use Rattle.running_model.specs.Seats.{role_of, seat, session_with}
-use Rattle.running_model.specs.Stands.{IsLong}
-use Rattle.running_model.specs.Steps.{fresh_seat}
+use Rattle.config_types.specs.declared.topology.Node.{Node}
+use Rattle.config_types.specs.declared.topology.Topology.{Topology}
+use Rattle.running_nodes.specs.MachineModel.Network.{same_role}
+use Rattle.running_nodes.specs.MachineModel.Session.{Role, Agent, Configuration, Controller}
+use Rattle.running_nodes.specs.MachineModel.Setup.{Move, Name, id_of}
+use Rattle.running_nodes.specs.RunningModel.Controls.{Controls}
+use Rattle.running_nodes.specs.RunningModel.Moving.{LeavesAll, LeavesAt, Moves, came, is_agent_named, is_listed_who, joined, reseated, retired_of}
+use Rattle.running_nodes.specs.RunningModel.Moving.{seats_of}
+use Rattle.running_nodes.specs.RunningModel.Seats.{Who, Configuring, Controlling, Forwarding, Seat, index_from, name_of, nobody, other}
+use Rattle.running_nodes.specs.RunningModel.Seats.{others_of}
+use Rattle.running_nodes.specs.RunningModel.Seats.{role_of, seat, session_with}
+use Rattle.running_nodes.specs.RunningModel.Stands.{IsLong}
+use Rattle.running_nodes.specs.RunningModel.Steps.{fresh_seat}
 use Rattle.net_machine.specs.Moving.{AreLeft, CanMove, HasAgent, HasAgentsBehind, HasControls, HasRoom}
 use Rattle.net_machine.specs.Moving.{CanCome, came_seat, control_name}
 use Rattle.net_machine.specs.Seating.{AreLong}

@@ -9,14 +9,14 @@ use Rattle.std.proofs.lemmas.Bool.{and_parts}
 use Rattle.std.proofs.lemmas.Bool.Decides.{nat_tests}
 use Rattle.std.proofs.lemmas.Option.{same_Some}
 use Rattle.ov_types.specs.First.{same_name}
-use Rattle.machine_model.specs.Setup.{Name}
-use Rattle.machine_model.specs.Session.{Session}
-use Rattle.machine_model.specs.Network.{MachineState}
-use Rattle.machine_model.specs.Steps.{joins}
-use Rattle.machine_model.specs.Events as events
-use Rattle.machine_model.proofs.Twins.{itself}
-use Rattle.running_model.specs.Seats.{Seat, far_of, place_of}
-use Rattle.running_model.specs.declared.place.SessionPlace.{SessionPlace}
+use Rattle.running_nodes.specs.MachineModel.Setup.{Name}
+use Rattle.running_nodes.specs.MachineModel.Session.{Session}
+use Rattle.running_nodes.specs.MachineModel.Network.{MachineState}
+use Rattle.running_nodes.specs.MachineModel.Steps.{joins}
+use Rattle.running_nodes.specs.MachineModel.Events as events
+use Rattle.running_nodes.proofs.MachineModel.Twins.{itself}
+use Rattle.running_nodes.specs.RunningModel.Seats.{Seat, far_of, place_of}
+use Rattle.running_nodes.specs.RunningModel.SessionPlace.{SessionPlace}
 use Rattle.net_machine.specs.declared.ends.SessionEnds.{SessionEnds}
 use Rattle.net_machine.specs.Seating.{ends_at, ends_from, ends_of, is_earlier, order_among, same_ends, same_place, turned}
 use Rattle.net_machine.proofs.Facts.{At, Facts, IsStood}

@@ -5,24 +5,24 @@ use Rattle.std.specs.declared.option.Option.TheVariants.{Some, None}
 use Rattle.std.proofs.Common.{refl, sym, ◌∙◌, ap, subst}
 use Rattle.config_check.specs.Edits.{edit_fault}
 use Rattle.config_check.specs.declared.edits.EditFault.{EditFault}
-use Rattle.config_model.specs.declared.edit.Edit.{Edit}
-use Rattle.config_model.specs.declared.event.Event.{Event as Written}
-use Rattle.config_model.specs.declared.event.Event.TheVariants as written
+use Rattle.config_types.specs.declared.edit.Edit.{Edit}
+use Rattle.config_types.specs.declared.event.Event.{Event as Written}
+use Rattle.config_types.specs.declared.event.Event.TheVariants as written
 use Rattle.run_ties.specs.declared.breaking.Tie.{Tie}
-use Rattle.machine_isolation_laws.specs.Refusing.{TiedNetwork, next_tied}
-use Rattle.machine_model.specs.Events.{Edits, MachineEvent, answer_to, edit_answer, edits, event_of, next}
-use Rattle.machine_model.specs.Moments.{HasSessions, NodePair, nodes}
-use Rattle.machine_model.specs.Network.{MachineState, asked, config}
-use Rattle.machine_model.specs.Setup.{Move, Setup, checked, edited_without, moves, remade, renumbered}
-use Rattle.machine_model.proofs.NodesFact.{Holds, holds_steps, pass_nodes}
-use Rattle.machine_model.proofs.Walk.{next_walk}
+use Rattle.running_laws.specs.MachineLaws.Refusing.{TiedNetwork, next_tied}
+use Rattle.running_nodes.specs.MachineModel.Events.{Edits, MachineEvent, answer_to, edit_answer, edits, event_of, next}
+use Rattle.running_nodes.specs.MachineModel.Moments.{HasSessions, NodePair, nodes}
+use Rattle.running_nodes.specs.MachineModel.Network.{MachineState, asked, config}
+use Rattle.running_nodes.specs.MachineModel.Setup.{Move, Setup, checked, edited_without, moves, remade, renumbered}
+use Rattle.running_nodes.proofs.MachineModel.NodesFact.{Holds, holds_steps, pass_nodes}
+use Rattle.running_nodes.proofs.MachineModel.Walk.{next_walk}
 use Rattle.config_check.specs.Edits as config_edits
-use Rattle.running_model.specs.Seats.{Configuring, Seat, seat}
-use Rattle.running_model.specs.Stands.{message_size}
+use Rattle.running_nodes.specs.RunningModel.Seats.{Configuring, Seat, seat}
+use Rattle.running_nodes.specs.RunningModel.Stands.{message_size}
 use Rattle.schedule_script.specs.declared.answer.Answer.{Answer}
 use Rattle.schedule_tied_answers.specs.declared.answer.TiedAnswer.{TiedAnswer}
 use Rattle.schedule_tied_answers.specs.declared.answer.TiedAnswer.TheVariants.{Answered, EditTied}
-use Rattle.schedule_tied_laws.specs.Runs.{answer_tied, tie_broken, unless_tied}
+use Rattle.schedule_laws.specs.Runs.{answer_tied, tie_broken, unless_tied}
 use Rattle.net_machine.specs.declared.ends.SessionEnds.{SessionEnds}
 use Rattle.net_machine.specs.Seating.{Keeps, order_among, order_of}
 use Rattle.net_machine.specs.Tying.{Orders, OrdersAs, moved_by}

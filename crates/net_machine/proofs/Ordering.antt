@@ -7,11 +7,11 @@ use Rattle.std.proofs.Common.{refl, sym, ◌∙◌, ap, subst, arith, get_or}
 use Rattle.std.proofs.lemmas.List.{append-nil, append_assoc, at_drop_more, drop_all}
 use Rattle.std.proofs.lemmas.List.Elements.{All-append, All-cons, filter_map-append}
 use Rattle.ov_types.specs.declared.rows.NodeId.{NodeId}
-use Rattle.config_model.specs.declared.topology.Node.{Node}
-use Rattle.config_model.specs.declared.topology.Topology.{Topology}
-use Rattle.machine_model.specs.Session.{Session, Agent, Controller}
-use Rattle.machine_model.specs.Network.{accesses, accesses_of, between, feeds, lists, peerings}
-use Rattle.running_model.specs.Seats.{Seat}
+use Rattle.config_types.specs.declared.topology.Node.{Node}
+use Rattle.config_types.specs.declared.topology.Topology.{Topology}
+use Rattle.running_nodes.specs.MachineModel.Session.{Session, Agent, Controller}
+use Rattle.running_nodes.specs.MachineModel.Network.{accesses, accesses_of, between, feeds, lists, peerings}
+use Rattle.running_nodes.specs.RunningModel.Seats.{Seat}
 use Rattle.net_machine.specs.declared.ends.SessionEnds.{SessionEnds}
 use Rattle.net_machine.specs.declared.round.Due.{Due}
 use Rattle.net_machine.specs.Rounds.{IsDueSeated, due_at, dues}

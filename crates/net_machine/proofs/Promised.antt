@@ -3,23 +3,23 @@ use Rattle.std.specs.Prelude.{◌≡◌, ◌<◌, ℕ, zero, suc, List, length, 
 use Rattle.std.proofs.Common.{sym, ◌∙◌, ap, subst, arith}
 use Rattle.std.proofs.lemmas.Option.{same_Some}
 use Rattle.config_check.specs.Checked.{Checked}
-use Rattle.machine_model.specs.Network.{MachineState, start}
-use Rattle.machine_model.specs.Events.{MachineEvent, after, shown}
-use Rattle.machine_model.specs.Steps.{is_settled}
-use Rattle.machine_model.specs.Moments.{EditsAreValid}
-use Rattle.machine_model.specs.Setup.{checked}
-use Rattle.machine_model.specs.Setup.{opening as opening_setup}
-use Rattle.headline_laws.specs.Headline.{AgentsShowRows, ControlNodesShowTables, IsOfForm, IsWritten}
-use Rattle.headline_laws.proofs.Configured.{agents_show_rows, control_nodes_show_tables}
-use Rattle.running_model.specs.Seats.{Configuring, Seat, Who, name_of, seat}
-use Rattle.running_model.specs.Stands.{StandsFor, message_size}
-use Rattle.running_model.specs.Steps.{shown_by}
-use Rattle.running_model.proofs.Sizes.{positive}
-use Rattle.running_holding_laws.proofs.Parties.{by_node}
-use Rattle.running_holding_laws.proofs.Seating.{root_at, seat_found, who_above}
-use Rattle.running_holding_laws.proofs.Written.{seats_are_nodes, shows_at, written_apart, written_named}
-use Rattle.running_telling_laws.specs.Moments.{IsMoment}
-use Rattle.running_telling_laws.proofs.Moments.{moment_numbers, moment_of, moment_sessions, moment_written}
+use Rattle.running_nodes.specs.MachineModel.Network.{MachineState, start}
+use Rattle.running_nodes.specs.MachineModel.Events.{MachineEvent, after, shown}
+use Rattle.running_nodes.specs.MachineModel.Steps.{is_settled}
+use Rattle.running_nodes.specs.MachineModel.Moments.{EditsAreValid}
+use Rattle.running_nodes.specs.MachineModel.Setup.{checked}
+use Rattle.running_nodes.specs.MachineModel.Setup.{opening as opening_setup}
+use Rattle.running_laws.specs.MachineLaws.Headline.{AgentsShowRows, ControlNodesShowTables, IsOfForm, IsWritten}
+use Rattle.running_laws.proofs.MachineLaws.Configured.{agents_show_rows, control_nodes_show_tables}
+use Rattle.running_nodes.specs.RunningModel.Seats.{Configuring, Seat, Who, name_of, seat}
+use Rattle.running_nodes.specs.RunningModel.Stands.{StandsFor, message_size}
+use Rattle.running_nodes.specs.RunningModel.Steps.{shown_by}
+use Rattle.running_nodes.proofs.RunningModel.Sizes.{positive}
+use Rattle.running_laws.proofs.Parties.{by_node}
+use Rattle.running_laws.proofs.Seating.{root_at, seat_found, who_above}
+use Rattle.running_laws.proofs.Written.{seats_are_nodes, shows_at, written_apart, written_named}
+use Rattle.running_laws.specs.Moments.{IsMoment}
+use Rattle.running_laws.proofs.Moments.{moment_numbers, moment_of, moment_sessions, moment_written}
 use Rattle.net_machine.specs.Shown.{ShowsCompiled, compiled_for}
 
 -- ---- what all schedules promise, of the state after one

@@ -1,11 +1,11 @@
 -- What single steps make of the state for which seats stand.
-use Rattle.running_step_laws.specs.Asking.{PlacesSayWhatSessionsAre}
-use Rattle.running_step_laws.specs.Breaking.{BreaksAreRemoved, BreaksAreSet}
-use Rattle.running_step_laws.specs.Connecting.{ConnectionsAreMade, NearIsEarlier, NothingIsConnected}
-use Rattle.running_step_laws.specs.Delivering.{MessagesAreDelivered, NothingIsDelivered, NoticesAreDelivered}
-use Rattle.running_step_laws.specs.Delivering.{NoticesCountAsOctets, OctetsAreDelivered}
-use Rattle.running_step_laws.specs.Editing.{EditsAreMade, FaultyEditsAreRefused}
-use Rattle.running_step_laws.specs.Losing.{LossesAreMade, NothingIsLost, RestartsAreMade}
+use Rattle.running_laws.specs.Asking.{PlacesSayWhatSessionsAre}
+use Rattle.running_laws.specs.Breaking.{BreaksAreRemoved, BreaksAreSet}
+use Rattle.running_laws.specs.Connecting.{ConnectionsAreMade, NearIsEarlier, NothingIsConnected}
+use Rattle.running_laws.specs.Delivering.{MessagesAreDelivered, NothingIsDelivered, NoticesAreDelivered}
+use Rattle.running_laws.specs.Delivering.{NoticesCountAsOctets, OctetsAreDelivered}
+use Rattle.running_laws.specs.Editing.{EditsAreMade, FaultyEditsAreRefused}
+use Rattle.running_laws.specs.Losing.{LossesAreMade, NothingIsLost, RestartsAreMade}
 
 pub record Proved : Type 0 where
   pub say : PlacesSayWhatSessionsAre

@@ -5,36 +5,36 @@ use Rattle.std.specs.List.{All, cons_option, list_all}
 use Rattle.std.proofs.Common.{refl, sym, ◌∙◌, ap, subst, arith}
 use Rattle.std.proofs.lemmas.Bool.{and_from, and_parts}
 use Rattle.std.proofs.lemmas.List.Elements.{All-cons}
-use Rattle.config_model.specs.declared.event.Event.{Event}
-use Rattle.config_model.specs.declared.event.Event.TheVariants.{Break, Connect, Deliver, DeliverOctets, Edit, Lose, Restart}
-use Rattle.config_model.specs.declared.event.Event.TheVariants.{Round, Settle, Show, Trace}
-use Rattle.config_model.specs.Event.{has_event_form}
+use Rattle.config_types.specs.declared.event.Event.{Event}
+use Rattle.config_types.specs.declared.event.Event.TheVariants.{Break, Connect, Deliver, DeliverOctets, Edit, Lose, Restart}
+use Rattle.config_types.specs.declared.event.Event.TheVariants.{Round, Settle, Show, Trace}
+use Rattle.config_types.specs.Form.{has_event_form}
 use Rattle.config_check.specs.Checked.{Checked}
 use Rattle.run_ties.specs.Kept.{AreAlike, Kept, ties_in}
 use Rattle.run_ties.specs.Ties.{Ties}
 use Rattle.run_ties.specs.Tying.{ties_of}
 use Rattle.run_ties.proofs.Alike.{alike_is_one}
-use Rattle.headline_laws.specs.Headline.{IsWritten}
-use Rattle.machine_isolation_laws.specs.Refusing.{TiedNetwork, kept_events, next_tied, tied_start}
-use Rattle.machine_isolation_laws.proofs.Refused.{keeps_what_is_not_refused}
-use Rattle.machine_model.specs.Session.{Session}
-use Rattle.machine_model.specs.Network.{asked, start}
-use Rattle.machine_model.specs.Events.{event_of}
-use Rattle.machine_model.specs.Setup.{checked, opening}
-use Rattle.machine_model.specs.Steps as machine
-use Rattle.running_model.specs.Seats.{Configuring, Seat, Who, seat, whos}
-use Rattle.running_model.specs.Stands.{StandsFor, message_size}
-use Rattle.running_telling_laws.specs.Moments.{IsMoment}
-use Rattle.running_telling_laws.proofs.Moments.{moment_sessions}
-use Rattle.running_model.specs.Steps.{fresh_seat}
-use Rattle.running_step_laws.proofs.Given.{given}
-use Rattle.running_step_laws.proofs.Started.{fresh_seats_stand}
+use Rattle.running_laws.specs.MachineLaws.Headline.{IsWritten}
+use Rattle.running_laws.specs.MachineLaws.Refusing.{TiedNetwork, kept_events, next_tied, tied_start}
+use Rattle.running_laws.proofs.MachineLaws.Refused.{keeps_what_is_not_refused}
+use Rattle.running_nodes.specs.MachineModel.Session.{Session}
+use Rattle.running_nodes.specs.MachineModel.Network.{asked, start}
+use Rattle.running_nodes.specs.MachineModel.Events.{event_of}
+use Rattle.running_nodes.specs.MachineModel.Setup.{checked, opening}
+use Rattle.running_nodes.specs.MachineModel.Steps as machine
+use Rattle.running_nodes.specs.RunningModel.Seats.{Configuring, Seat, Who, seat, whos}
+use Rattle.running_nodes.specs.RunningModel.Stands.{StandsFor, message_size}
+use Rattle.running_laws.specs.Moments.{IsMoment}
+use Rattle.running_laws.proofs.Moments.{moment_sessions}
+use Rattle.running_nodes.specs.RunningModel.Steps.{fresh_seat}
+use Rattle.running_laws.proofs.Given.{given}
+use Rattle.running_laws.proofs.Started.{fresh_seats_stand}
 use Rattle.schedule_tied_answers.specs.declared.answer.TiedAnswer.{TiedAnswer}
-use Rattle.schedule_tied_laws.specs.Compiled.{EndsAtOnce, IsAsCompiled}
-use Rattle.schedule_tied_laws.specs.Isolated.{DeliversSoFar, DeliversTied}
-use Rattle.schedule_tied_laws.specs.Runs.{answer_tied, tied_moment}
-use Rattle.schedule_tied_laws.proofs.Kept.{asked_with_ties, tied_more}
-use Rattle.schedule_tied_laws.proofs.Moments.{compiled_here, ends_here, isolated_here, joined_here}
+use Rattle.schedule_laws.specs.TiedCompiled.{EndsAtOnce, IsAsCompiled}
+use Rattle.schedule_laws.specs.Isolated.{DeliversSoFar, DeliversTied}
+use Rattle.schedule_laws.specs.Runs.{answer_tied, tied_moment}
+use Rattle.schedule_laws.proofs.Kept.{asked_with_ties, tied_more}
+use Rattle.schedule_laws.proofs.Moments.{compiled_here, ends_here, isolated_here, joined_here}
 use Rattle.net_machine.specs.declared.ends.SessionEnds.{SessionEnds}
 use Rattle.net_machine.specs.Running.{IsRunning}
 use Rattle.net_machine.specs.Seating.{AreLong, AreSeated, IsConfigured, ends_of, order_among, order_of}

@@ -2,11 +2,11 @@
 use Rattle.std.specs.Prelude.{◌≡◌, ◌&&◌, ◌==◌, List, [], ◌∷◌, Bool}
 use Rattle.std.specs.List.{AllByRecursion, cons_option, list_all}
 use Rattle.std.proofs.Common.{refl, ◌∙◌, ap}
-use Rattle.machine_model.specs.Session as session
-use Rattle.machine_model.specs.Session.{Session}
-use Rattle.machine_model.specs.Network.{MachineState}
-use Rattle.machine_model.specs.Steps as steps
-use Rattle.running_model.specs.Seats.{Seat}
+use Rattle.running_nodes.specs.MachineModel.Session as session
+use Rattle.running_nodes.specs.MachineModel.Session.{Session}
+use Rattle.running_nodes.specs.MachineModel.Network.{MachineState}
+use Rattle.running_nodes.specs.MachineModel.Steps as steps
+use Rattle.running_nodes.specs.RunningModel.Seats.{Seat}
 use Rattle.net_machine.specs.declared.ends.SessionEnds.{SessionEnds}
 use Rattle.net_machine.specs.Seating.{order_among}
 use Rattle.net_machine.specs.Settling.{is_quiet, is_rested, is_settled, is_still}

@@ -11,23 +11,23 @@ use Rattle.ov_types.specs.declared.rows.NodeId.{NodeId}
 use Rattle.config_check.specs.Checked.{Checked}
 use Rattle.config_check.specs.Edits.{edit_fault, edited as checked_edited}
 use Rattle.config_check.specs.declared.edits.EditFault.{EditFault}
-use Rattle.config_model.specs.declared.edit.Edit.{Edit}
-use Rattle.config_model.specs.declared.topology.Node.{Node}
-use Rattle.headline_laws.specs.Headline.{IsOfForm, IsWritten}
-use Rattle.machine_settling_laws.proofs.EachFact.{Keeps, after_keeps, edit_valid}
-use Rattle.machine_model.specs.Events.{MachineEvent, next}
-use Rattle.machine_model.specs.Moments.{AreOnce, Each, EditIsValid, NumbersFit}
-use Rattle.machine_model.specs.Network.{MachineState, sessions_of}
-use Rattle.machine_model.specs.Session.{Session}
-use Rattle.machine_model.specs.Setup.{Move, Name, Numbers, Setup, agents_in, agents_of, came_at, checked, edited, edited_without, first_numbers, has_name, id_of}
-use Rattle.machine_model.specs.Setup.{is_listed, lists, moves, opening, remade, renumbered, renumbered_at, with_agent, without_agent}
+use Rattle.config_types.specs.declared.edit.Edit.{Edit}
+use Rattle.config_types.specs.declared.topology.Node.{Node}
+use Rattle.running_laws.specs.MachineLaws.Headline.{IsOfForm, IsWritten}
+use Rattle.running_laws.proofs.MachineLaws.EachFact.{Keeps, after_keeps, edit_valid}
+use Rattle.running_nodes.specs.MachineModel.Events.{MachineEvent, next}
+use Rattle.running_nodes.specs.MachineModel.Moments.{AreOnce, Each, EditIsValid, NumbersFit}
+use Rattle.running_nodes.specs.MachineModel.Network.{MachineState, sessions_of}
+use Rattle.running_nodes.specs.MachineModel.Session.{Session}
+use Rattle.running_nodes.specs.MachineModel.Setup.{Move, Name, Numbers, Setup, agents_in, agents_of, came_at, checked, edited, edited_without, first_numbers, has_name, id_of}
+use Rattle.running_nodes.specs.MachineModel.Setup.{is_listed, lists, moves, opening, remade, renumbered, renumbered_at, with_agent, without_agent}
 use Rattle.node_model.proofs.Members.{none_some}
 use Rattle.node_model.specs.Maps.{Map}
 use Rattle.node_model.specs.Members.{Member}
-use Rattle.running_model.specs.Stands.{message_size}
+use Rattle.running_nodes.specs.RunningModel.Stands.{message_size}
 use Rattle.running_nodes.proofs.SetUp.{set_up}
-use Rattle.running_telling_laws.specs.Moments.{IsMoment}
-use Rattle.running_telling_laws.proofs.Moments.{Follows, at_first, at_moment, follows_edit, follows_next}
+use Rattle.running_laws.specs.Moments.{IsMoment}
+use Rattle.running_laws.proofs.Moments.{Follows, at_first, at_moment, follows_edit, follows_next}
 
 -- ---- in lists
 pub few_filtered : {A : Type 0} (p : A → Bool) (xs : List A) → length (filter p xs) ≤ length xs

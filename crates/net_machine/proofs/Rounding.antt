@@ -3,13 +3,13 @@ use Rattle.std.specs.Prelude.{◌≡◌, List, [], ◌∷◌, map}
 use Rattle.std.specs.List.{AllByRecursion, cons_option, filter_map, flat_map}
 use Rattle.std.proofs.Common.{refl, sym, ◌∙◌, ap, subst}
 use Rattle.std.proofs.lemmas.Option.{same_Some}
-use Rattle.machine_model.specs.Session as session
-use Rattle.machine_model.specs.Session.{Session}
-use Rattle.machine_model.specs.Network.{MachineState}
-use Rattle.machine_model.specs.Steps as steps
-use Rattle.machine_model.specs.Steps.{round}
-use Rattle.machine_model.specs.Moments.{NodePair, nodes}
-use Rattle.running_model.specs.Seats.{Seat}
+use Rattle.running_nodes.specs.MachineModel.Session as session
+use Rattle.running_nodes.specs.MachineModel.Session.{Session}
+use Rattle.running_nodes.specs.MachineModel.Network.{MachineState}
+use Rattle.running_nodes.specs.MachineModel.Steps as steps
+use Rattle.running_nodes.specs.MachineModel.Steps.{round}
+use Rattle.running_nodes.specs.MachineModel.Moments.{NodePair, nodes}
+use Rattle.running_nodes.specs.RunningModel.Seats.{Seat}
 use Rattle.net_machine.specs.declared.ends.SessionEnds.{SessionEnds}
 use Rattle.net_machine.specs.Rounds.{IsRound, due_at, dues}
 use Rattle.net_machine.specs.Seating.{Keeps, ends_of, order_among, turned}

@@ -1,16 +1,16 @@
 -- What settling makes of the state for which seats stand.
 use Rattle.std.specs.Prelude.{◌≡◌, ◌+◌, ℕ, zero, suc, List, [], ◌∷◌, map, true, false, cond, MatchBool}
 use Rattle.std.proofs.Common.{refl, sym, ◌∙◌, ap, subst}
-use Rattle.machine_model.specs.Setup.{longest}
-use Rattle.machine_model.specs.Session.{Session}
-use Rattle.machine_model.specs.Network.{MachineState}
-use Rattle.machine_model.specs.Steps as steps
-use Rattle.machine_model.specs.Steps.{connect_all, round, rounds_from, settle, without_breaks}
-use Rattle.machine_model.specs.Moments.{nodes}
-use Rattle.machine_model.proofs.NodesFact.{connect_all_nodes, round_nodes}
-use Rattle.running_model.specs.Seats.{Seat}
-use Rattle.running_model.specs.Steps.{unbroken as unbroken_seat}
-use Rattle.running_telling_laws.specs.Moments.{unbroken}
+use Rattle.running_nodes.specs.MachineModel.Setup.{longest}
+use Rattle.running_nodes.specs.MachineModel.Session.{Session}
+use Rattle.running_nodes.specs.MachineModel.Network.{MachineState}
+use Rattle.running_nodes.specs.MachineModel.Steps as steps
+use Rattle.running_nodes.specs.MachineModel.Steps.{connect_all, round, rounds_from, settle, without_breaks}
+use Rattle.running_nodes.specs.MachineModel.Moments.{nodes}
+use Rattle.running_nodes.proofs.MachineModel.NodesFact.{connect_all_nodes, round_nodes}
+use Rattle.running_nodes.specs.RunningModel.Seats.{Seat}
+use Rattle.running_nodes.specs.RunningModel.Steps.{unbroken as unbroken_seat}
+use Rattle.running_laws.specs.Moments.{unbroken}
 use Rattle.net_machine.specs.declared.ends.SessionEnds.{SessionEnds}
 use Rattle.net_machine.specs.Rounds.{IsRound}
 use Rattle.net_machine.specs.Seating.{Keeps, order_among}

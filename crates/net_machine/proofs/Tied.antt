@@ -3,26 +3,26 @@ use Rattle.std.specs.Prelude.{◌≡◌, List, Bool, cond, is_some}
 use Rattle.std.specs.declared.option.Option.{Option}
 use Rattle.std.specs.declared.option.Option.TheVariants.{Some, None}
 use Rattle.std.proofs.Common.{refl, sym, ◌∙◌, ap, subst}
-use Rattle.config_model.specs.declared.edit.Edit.{Edit}
-use Rattle.config_model.specs.declared.event.Event.{Event as Written}
-use Rattle.config_model.specs.declared.event.Event.TheVariants as written
+use Rattle.config_types.specs.declared.edit.Edit.{Edit}
+use Rattle.config_types.specs.declared.event.Event.{Event as Written}
+use Rattle.config_types.specs.declared.event.Event.TheVariants as written
 use Rattle.config_check.specs.Checked.{Checked}
 use Rattle.config_check.specs.Edits.{edit_fault}
 use Rattle.config_check.specs.declared.edits.EditFault.{EditFault}
 use Rattle.run_ties.specs.Kept.{AreAlike, Kept, ties_in}
 use Rattle.run_ties.specs.Ties.{Ties}
 use Rattle.run_ties.specs.declared.breaking.Tie.{Tie}
-use Rattle.machine_isolation_laws.specs.Refusing.{TiedNetwork, next_tied}
-use Rattle.machine_isolation_laws.specs.Running.{ties_next, ties_with}
-use Rattle.machine_model.specs.Events.{MachineEvent, answer_to, event_of, next}
-use Rattle.machine_model.specs.Setup.{Setup, checked, edited_without, opening}
-use Rattle.running_model.specs.Seats.{Seat}
-use Rattle.running_model.specs.Stands.{StandsFor, message_size}
-use Rattle.running_telling_laws.specs.Moments.{IsMoment}
+use Rattle.running_laws.specs.MachineLaws.Refusing.{TiedNetwork, next_tied}
+use Rattle.running_laws.specs.MachineLaws.Running.{ties_next, ties_with}
+use Rattle.running_nodes.specs.MachineModel.Events.{MachineEvent, answer_to, event_of, next}
+use Rattle.running_nodes.specs.MachineModel.Setup.{Setup, checked, edited_without, opening}
+use Rattle.running_nodes.specs.RunningModel.Seats.{Seat}
+use Rattle.running_nodes.specs.RunningModel.Stands.{StandsFor, message_size}
+use Rattle.running_laws.specs.Moments.{IsMoment}
 use Rattle.schedule_tied_answers.specs.declared.answer.TiedAnswer.{TiedAnswer}
 use Rattle.schedule_tied_answers.specs.declared.answer.TiedAnswer.TheVariants.{Answered, EditTied}
-use Rattle.schedule_tied_laws.specs.Runs.{answer_tied, broken_by, tie_broken, unless_tied}
-use Rattle.schedule_tied_laws.proofs.Kept.{refused_is}
+use Rattle.schedule_laws.specs.Runs.{answer_tied, broken_by, tie_broken, unless_tied}
+use Rattle.schedule_laws.proofs.Kept.{refused_is}
 use Rattle.net_machine.specs.declared.ends.SessionEnds.{SessionEnds}
 use Rattle.net_machine.specs.Seating.{order_among}
 use Rattle.net_machine.specs.Tying.{HappensTied, OfTie, broken_at, ties_then}

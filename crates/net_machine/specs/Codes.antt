@@ -3,11 +3,11 @@ use Rattle.std.specs.Prelude.{List, Bool, refl}
 use Rattle.std.specs.Coded.{Coded, code_by, coded×, coded_bool, coded_list}
 use Rattle.config_check.specs.Checked.{Checked}
 use Rattle.config_check.specs.contracts.valid.Valid as valid
-use Rattle.config_model.specs.declared.event.Event.{Event}
-use Rattle.config_model.specs.contracts.event.Event as events
+use Rattle.config_types.specs.declared.event.Event.{Event}
+use Rattle.config_types.specs.contracts.event.Event as events
 use Rattle.run_ties.specs.Kept.{Kept}
 use Rattle.run_ties.specs.contracts.kept.Ties as ties
-use Rattle.running_model.specs.Seats.{Seat}
+use Rattle.running_nodes.specs.RunningModel.Seats.{Seat}
 use Rattle.running_nodes.specs.Codes.{coded_seat}
 use Rattle.net_machine.specs.NetState.{NetState}
 

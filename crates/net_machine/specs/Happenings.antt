@@ -3,23 +3,23 @@ use Rattle.std.specs.Prelude.{◌≡◌, ℕ, suc, List, false, ◌==◌, not, i
 use Rattle.std.specs.declared.option.Option.{Option}
 use Rattle.std.specs.declared.option.Option.TheVariants.{Some, None}
 use Rattle.route_targets.specs.Forwarding.{forwarding}
-use Rattle.config_model.specs.declared.edit.Edit.{Edit}
-use Rattle.config_model.specs.declared.event.Event.{Event}
-use Rattle.config_model.specs.declared.event.Event.TheVariants as event
+use Rattle.config_types.specs.declared.edit.Edit.{Edit}
+use Rattle.config_types.specs.declared.event.Event.{Event}
+use Rattle.config_types.specs.declared.event.Event.TheVariants as event
 use Rattle.config_check.specs.Checked.{Checked}
 use Rattle.config_check.specs.Edits.{edit_fault}
 use Rattle.config_check.specs.declared.edits.EditFault.{EditFault}
 use Rattle.schedule_script.specs.declared.answer.Answer.{Answer}
 use Rattle.schedule_script.specs.declared.answer.Answer.TheVariants.{Did, Idle, Rounds, Shown, Traced}
-use Rattle.machine_model.specs.Setup.{longest_in}
-use Rattle.machine_model.specs.Events.{edit_answer, unless}
-use Rattle.running_model.specs.Seats.{Seat, seat, seat_named}
-use Rattle.running_model.specs.Steps.{forwarders_of, shown_by, with_break_at}
-use Rattle.running_step_laws.specs.Editing.{MakesEdit}
+use Rattle.running_nodes.specs.MachineModel.Setup.{longest_in}
+use Rattle.running_nodes.specs.MachineModel.Events.{edit_answer, unless}
+use Rattle.running_nodes.specs.RunningModel.Seats.{Seat, seat, seat_named}
+use Rattle.running_nodes.specs.RunningModel.Steps.{forwarders_of, shown_by, with_break_at}
+use Rattle.running_laws.specs.Editing.{MakesEdit}
 use Rattle.net_machine.specs.declared.ends.SessionEnds.{SessionEnds}
 use Rattle.net_machine.specs.Connections.{Connects, may_connect}
 use Rattle.net_machine.specs.Deliveries.{DeliversMany, DeliversOctets}
-use Rattle.running_step_laws.specs.Losing.{restarted}
+use Rattle.running_laws.specs.Losing.{restarted}
 use Rattle.net_machine.specs.Losses.{lost}
 use Rattle.net_machine.specs.Rounds.{IsRound}
 use Rattle.net_machine.specs.Seating.{ends_of, is_down, is_earlier, turned, waiting}

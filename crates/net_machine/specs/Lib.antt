@@ -1,5 +1,6 @@
 -- The files of definitions, in the order in which they stand on each other.
 pub mod NetState
+pub mod Taken
 pub mod Seating
 pub mod Moving
 pub mod Deliveries
@@ -14,4 +15,8 @@ pub mod Shown
 pub mod Running
 pub mod Codes
 pub mod Looking
-pub use Rattle.schedule_tied_laws.specs.Runs
+pub use Rattle.schedule_laws.specs.Runs
+pub mod ScheduleLaws
+pub mod RunningLaws
+pub mod RunningModel
+pub mod MachineLaws

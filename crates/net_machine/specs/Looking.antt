@@ -3,10 +3,10 @@ use Rattle.std.specs.Prelude.{Bool}
 use Rattle.std.specs.List.{list_any}
 use Rattle.ov_types.specs.First.{same_name}
 use Rattle.ov_types.specs.declared.rows.NodeId.{NodeId}
-use Rattle.config_model.specs.declared.topology.Topology.{Topology}
+use Rattle.config_types.specs.declared.topology.Topology.{Topology}
 use Rattle.node_model.specs.Paths.{Holdings}
-use Rattle.machine_model.specs.Setup.{Name}
-use Rattle.machine_model.specs.Network.{MachineState, control_holdings, views_of}
+use Rattle.running_nodes.specs.MachineModel.Setup.{Name}
+use Rattle.running_nodes.specs.MachineModel.Network.{MachineState, control_holdings, views_of}
 
 -- a control node of a topology has the name
 abbrev pub is_control_node : Topology → Name → Bool

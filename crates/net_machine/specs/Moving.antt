@@ -9,18 +9,18 @@ use Rattle.ov_types.specs.declared.rows.NodeId.{NodeId}
 use Rattle.config_check.specs.Checked.{Checked}
 use Rattle.config_check.specs.Edits.{edit_fault, edited}
 use Rattle.config_check.specs.Rules.{controller_names}
-use Rattle.config_model.specs.declared.edit.Edit.{Edit}
-use Rattle.config_model.specs.declared.event.Event.{Event}
-use Rattle.config_model.specs.declared.event.Event.TheVariants as event
-use Rattle.config_model.specs.declared.topology.Node.{Node}
-use Rattle.config_model.specs.declared.topology.Topology.{Topology}
-use Rattle.machine_model.specs.Setup.{Move, Name, id_of, moves}
-use Rattle.machine_model.specs.Session.{Agent}
-use Rattle.running_model.specs.Controls.{Controls, first_agent}
-use Rattle.running_model.specs.Moving.{is_listed_who, joined}
-use Rattle.running_model.specs.Seats.{Who, Configuring, Controlling, Forwarding, Seat, other, role_of, seat, seat_named}
-use Rattle.running_model.specs.Seats.{session_with}
-use Rattle.running_model.specs.declared.place.SessionPlace.{SessionPlace}
+use Rattle.config_types.specs.declared.edit.Edit.{Edit}
+use Rattle.config_types.specs.declared.event.Event.{Event}
+use Rattle.config_types.specs.declared.event.Event.TheVariants as event
+use Rattle.config_types.specs.declared.topology.Node.{Node}
+use Rattle.config_types.specs.declared.topology.Topology.{Topology}
+use Rattle.running_nodes.specs.MachineModel.Setup.{Move, Name, id_of, moves}
+use Rattle.running_nodes.specs.MachineModel.Session.{Agent}
+use Rattle.running_nodes.specs.RunningModel.Controls.{Controls, first_agent}
+use Rattle.running_nodes.specs.RunningModel.Moving.{is_listed_who, joined}
+use Rattle.running_nodes.specs.RunningModel.Seats.{Who, Configuring, Controlling, Forwarding, Seat, other, role_of, seat, seat_named}
+use Rattle.running_nodes.specs.RunningModel.Seats.{session_with}
+use Rattle.running_nodes.specs.RunningModel.SessionPlace.{SessionPlace}
 use Rattle.net_machine.specs.declared.editing.Moved.{Moved}
 use Rattle.net_machine.specs.declared.editing.Moved.TheVariants.{Yes, No}
 

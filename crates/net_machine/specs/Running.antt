@@ -2,15 +2,15 @@
 use Rattle.std.specs.Prelude.{◌≡◌, List, IsTrue}
 use Rattle.std.specs.List.{list_all}
 use Rattle.config_check.specs.Checked.{Checked}
-use Rattle.config_model.specs.Event.{has_event_form}
-use Rattle.config_model.specs.declared.event.Event.{Event}
+use Rattle.config_types.specs.Form.{has_event_form}
+use Rattle.config_types.specs.declared.event.Event.{Event}
 use Rattle.run_ties.specs.Kept.{AreAlike, Kept, ties_in}
-use Rattle.headline_laws.specs.Headline.{IsWritten}
-use Rattle.machine_model.specs.Setup.{checked}
-use Rattle.machine_model.specs.Setup.{opening as opening_setup}
-use Rattle.running_model.specs.Seats.{Seat}
-use Rattle.running_model.specs.Stands.{StandsFor}
-use Rattle.schedule_tied_laws.specs.Runs.{tied_moment}
+use Rattle.running_laws.specs.MachineLaws.Headline.{IsWritten}
+use Rattle.running_nodes.specs.MachineModel.Setup.{checked}
+use Rattle.running_nodes.specs.MachineModel.Setup.{opening as opening_setup}
+use Rattle.running_nodes.specs.RunningModel.Seats.{Seat}
+use Rattle.running_nodes.specs.RunningModel.Stands.{StandsFor}
+use Rattle.schedule_laws.specs.Runs.{tied_moment}
 use Rattle.net_machine.specs.declared.ends.SessionEnds.{SessionEnds}
 use Rattle.net_machine.specs.Seating.{order_of}
 

@@ -6,15 +6,15 @@ use Rattle.std.specs.declared.option.Option.TheVariants.{Some, None}
 use Rattle.std.specs.Option.{option_map}
 use Rattle.std.specs.List.{filter_map}
 use Rattle.ov_types.specs.declared.rows.NodeId.{NodeId}
-use Rattle.config_model.specs.declared.topology.Topology.{Topology}
+use Rattle.config_types.specs.declared.topology.Topology.{Topology}
 use Rattle.config_check.specs.Checked.{Checked}
-use Rattle.machine_model.specs.Setup.{Name}
-use Rattle.machine_model.specs.Session.{Session, Controller}
-use Rattle.machine_model.specs.Network.{asked, between}
-use Rattle.running_model.specs.Seats.{Configuring, Seat, far_of, link_at, name_of, notice_at, other, others_of}
-use Rattle.running_model.specs.Seats.{place_of, seat, whole_at}
-use Rattle.running_model.specs.Stands.{IsLong}
-use Rattle.running_model.specs.declared.place.SessionPlace.{SessionPlace}
+use Rattle.running_nodes.specs.MachineModel.Setup.{Name}
+use Rattle.running_nodes.specs.MachineModel.Session.{Session, Controller}
+use Rattle.running_nodes.specs.MachineModel.Network.{asked, between}
+use Rattle.running_nodes.specs.RunningModel.Seats.{Configuring, Seat, far_of, link_at, name_of, notice_at, other, others_of}
+use Rattle.running_nodes.specs.RunningModel.Seats.{place_of, seat, whole_at}
+use Rattle.running_nodes.specs.RunningModel.Stands.{IsLong}
+use Rattle.running_nodes.specs.RunningModel.SessionPlace.{SessionPlace}
 use Rattle.net_machine.specs.declared.ends.SessionEnds.{SessionEnds}
 
 -- ---- places

@@ -5,19 +5,19 @@ use Rattle.std.specs.declared.option.Option.TheVariants.{Some, None}
 use Rattle.config_check.specs.Checked.{Checked}
 use Rattle.config_check.specs.Edits.{edit_fault}
 use Rattle.config_check.specs.Edits.{edited as edit_made}
-use Rattle.config_model.specs.declared.event.Event.{Event}
-use Rattle.config_model.specs.declared.edit.Edit.{Edit}
-use Rattle.config_model.specs.declared.event.Event.TheVariants as event
+use Rattle.config_types.specs.declared.event.Event.{Event}
+use Rattle.config_types.specs.declared.edit.Edit.{Edit}
+use Rattle.config_types.specs.declared.event.Event.TheVariants as event
 use Rattle.run_ties.specs.Kept.{AreAlike, Kept, ties_in}
 use Rattle.run_ties.specs.Ties.{Ties}
 use Rattle.run_ties.specs.declared.breaking.Tie.{Tie}
-use Rattle.machine_isolation_laws.specs.Running.{ties_with}
-use Rattle.machine_model.specs.Setup.{Move, edited, moves, opening}
-use Rattle.running_model.specs.Seats.{Configuring, Seat, seat}
+use Rattle.running_laws.specs.MachineLaws.Running.{ties_with}
+use Rattle.running_nodes.specs.MachineModel.Setup.{Move, edited, moves, opening}
+use Rattle.running_nodes.specs.RunningModel.Seats.{Configuring, Seat, seat}
 use Rattle.schedule_script.specs.declared.answer.Answer.TheVariants.{Did}
 use Rattle.schedule_tied_answers.specs.declared.answer.TiedAnswer.{TiedAnswer}
 use Rattle.schedule_tied_answers.specs.declared.answer.TiedAnswer.TheVariants.{Answered, EditTied}
-use Rattle.schedule_tied_laws.specs.Runs.{broken_by}
+use Rattle.schedule_laws.specs.Runs.{broken_by}
 use Rattle.net_machine.specs.declared.ends.SessionEnds.{SessionEnds}
 use Rattle.net_machine.specs.declared.editing.Moved.{Moved}
 use Rattle.net_machine.specs.declared.editing.Moved.TheVariants.{Yes, No}

@@ -1,7 +1,7 @@
 //! Connections.
 ghost use Rattle.std.specs.Prelude.{◌≡◌, false, IfOk};
 ghost use Rattle.std.specs.List.{All};
-ghost use Rattle.running_model.specs.Seats.{live_at};
+ghost use Rattle.running_nodes.specs.RunningModel.Seats.{live_at};
 ghost use Rattle.net_machine.specs.Connections.{Connects, ConnectsAll, ConnectsAt, Opens, OpensFar, may_connect};
 ghost use Rattle.net_machine.specs.Seating.{AreLong, AreSeated, HasOther, IsSeated, Keeps};
 
@@ -9,8 +9,7 @@ use crate::clear::clear_node;
 use crate::ends::SessionEnds;
 use ov_link::Input;
 use ov_types::NoMemory;
-use running_model::SessionPlace;
-use running_nodes::Nodes;
+use running_nodes::{Nodes, SessionPlace};
 
 /// Whether both ends are closed.
 pub(crate) fn may_connect(nodes: &Nodes, ends: SessionEnds) -> bool

@@ -2,18 +2,18 @@
 ghost use Rattle.std.specs.Prelude.{◌≡◌, IfOk, None};
 ghost use Rattle.config_check.specs.Checked.{Checked};
 ghost use Rattle.config_check.specs.Edits.{edited};
-ghost use Rattle.config_model.specs.declared.edit.Object.TheVariants as objects;
-ghost use Rattle.machine_model.specs.Setup.{delete_moves, moves, put_moves};
-ghost use Rattle.running_model.specs.Moving.{MovesIf};
-ghost use Rattle.running_model.specs.Seats.{Configuring, seat};
-ghost use Rattle.running_step_laws.specs.Editing.{MakesEdit};
+ghost use Rattle.config_types.specs.declared.edit.Object.TheVariants as objects;
+ghost use Rattle.running_nodes.specs.MachineModel.Setup.{delete_moves, moves, put_moves};
+ghost use Rattle.running_nodes.specs.RunningModel.Moving.{MovesIf};
+ghost use Rattle.running_nodes.specs.RunningModel.Seats.{Configuring, seat};
+ghost use Rattle.running_laws.specs.Editing.{MakesEdit};
 ghost use Rattle.net_machine.specs.Moving.{CanMoveIf, did_move};
 ghost use Rattle.net_machine.specs.Seating.{AreLong, IsConfigured, Keeps};
 
 use crate::clear::clear_node;
 use crate::moving::{move_node, stands};
 use config_check::Valid;
-use config_model::{Edit, Node, Object, ObjectKind, Topology};
+use config_types::{Edit, Node, Object, ObjectKind, Topology};
 use ov_types::{Name, NoMemory};
 use running_nodes::Nodes;
 use std::alloc::Global;

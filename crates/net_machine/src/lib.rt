@@ -7,6 +7,7 @@ mod deliver;
 mod editing;
 mod ends;
 mod happen;
+mod left;
 mod longest;
 mod looking;
 mod lose;
@@ -18,5 +19,6 @@ mod settle;
 mod tying;
 
 pub use ends::SessionEnds;
+pub use left::{leave, leave_none};
 pub use net::Net;
 pub use round::Due;

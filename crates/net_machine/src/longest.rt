@@ -3,12 +3,12 @@ ghost use Rattle.std.specs.Prelude.{◌≡◌, ◌≤◌, max, length, option_co
 ghost use Rattle.acl_compile.specs.Bounds.{KeepsBounds};
 ghost use Rattle.chain_expand.specs.Expansion.{expansion};
 ghost use Rattle.transform_model.specs.Uses.{network_at, use_between, use_by, uses_of};
-ghost use Rattle.machine_model.specs.Setup.{longest_in, longest_of};
+ghost use Rattle.running_nodes.specs.MachineModel.Setup.{longest_in, longest_of};
 ghost use Rattle.net_machine.specs.Longest.{services_in};
 
 use chain_expand::expand_straight;
 use config_check::{Valid, network_named};
-use config_model::{Action, Config, End, Network, Policy, Rule};
+use config_types::{Action, Config, End, Network, Policy, Rule};
 use ov_types::Name;
 use policy_rules::attaches;
 

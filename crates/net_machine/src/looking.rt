@@ -1,14 +1,14 @@
 //! The control nodes of a network that runs.
 ghost use Rattle.std.specs.Prelude.{◌≡◌, false, is_some, option_copied, IfSome};
-ghost use Rattle.control_node.specs.Core.{holdings};
+ghost use Rattle.running_nodes.specs.ControlNode.Core.{holdings};
 ghost use Rattle.running_nodes.specs.Cores.{present};
 ghost use Rattle.control_silent_agent_laws.specs.Quiet.{SameButQuiet};
-ghost use Rattle.schedule_tied_laws.specs.Runs.{tied_moment};
+ghost use Rattle.schedule_laws.specs.Runs.{tied_moment};
 ghost use Rattle.net_machine.specs.Looking.{held_at, is_control_node};
 
 use crate::net::Net;
-use control_node::ControlNode;
 use ov_types::Name;
+use running_nodes::ControlNode;
 
 impl Net {
     /// The control node of this name. Of the sessions that are somebody's it holds what the machine's node of this name

@@ -1,14 +1,13 @@
 //! Lost sessions, and nodes that restart.
 ghost use Rattle.std.specs.Prelude.{◌≡◌, ◌<◌, [], length, false};
-ghost use Rattle.running_model.specs.Seats as seats_of;
-ghost use Rattle.running_model.specs.Steps.{told_of_loss, with_link, with_notice};
-ghost use Rattle.running_step_laws.specs.Losing.{cut, restarted};
+ghost use Rattle.running_nodes.specs.RunningModel.Seats as seats_of;
+ghost use Rattle.running_nodes.specs.RunningModel.Steps.{told_of_loss, with_link, with_notice};
+ghost use Rattle.running_laws.specs.Losing.{cut, restarted};
 ghost use Rattle.net_machine.specs.Losses.{lost};
 ghost use Rattle.net_machine.specs.Seating.{AreLong, AreSeated, IsSeated, Keeps};
 
 use crate::ends::{SessionEnds, is_down};
-use running_model::SessionPlace;
-use running_nodes::Nodes;
+use running_nodes::{Nodes, SessionPlace};
 
 /// Whether a notice waits at an end from now on.
 pub(crate) fn set_notice(nodes: &mut Nodes, place: SessionPlace, waits: bool)

@@ -2,20 +2,19 @@
 ghost use Rattle.std.specs.Prelude.{◌≡◌, ◌<◌, ◌≤◌, ◌+◌, length, option_copied, IfOk, Some};
 ghost use Rattle.config_check.specs.Checked.{Checked};
 ghost use Rattle.config_check.specs.Finding.{node_named};
-ghost use Rattle.machine_model.specs.Setup.{listed_by, stands};
-ghost use Rattle.running_model.specs.Moving.{LeavesAll, LeavesAt, Moves, came};
-ghost use Rattle.running_model.specs.Seats as seats_of;
-ghost use Rattle.running_model.specs.Seats.{Configuring, seat};
-ghost use Rattle.running_model.specs.Steps.{with_seat};
+ghost use Rattle.running_nodes.specs.MachineModel.Setup.{listed_by, stands};
+ghost use Rattle.running_nodes.specs.RunningModel.Moving.{LeavesAll, LeavesAt, Moves, came};
+ghost use Rattle.running_nodes.specs.RunningModel.Seats as seats_of;
+ghost use Rattle.running_nodes.specs.RunningModel.Seats.{Configuring, seat};
+ghost use Rattle.running_nodes.specs.RunningModel.Steps.{with_seat};
 ghost use Rattle.net_machine.specs.Moving.{AreLeft, CanMove, HasAgent, HasControls, HasRoom, IsAgentPlace};
 ghost use Rattle.net_machine.specs.Moving.{came_seat, control_name};
 ghost use Rattle.net_machine.specs.Seating.{AreLong};
 
 use crate::clear::clear_node;
-use config_model::{Node, Topology};
+use config_types::{Node, Topology};
 use ov_types::{Name, NoMemory, NodeId};
-use running_model::SessionPlace;
-use running_nodes::{Nodes, lists};
+use running_nodes::{Nodes, SessionPlace, lists};
 use std::alloc::Global;
 
 /// The compute node of a name.

@@ -1,12 +1,12 @@
 //! The sessions of a network, in the order of a round.
 ghost use Rattle.std.specs.Prelude.{◌≡◌, ◌≤◌, ◌++◌, ◌∷◌, [], drop, length, option_to_list, IfOk, OnOk};
 ghost use Rattle.std.specs.List.{All};
-ghost use Rattle.machine_model.specs.Network.{accesses, accesses_of, feeds, peerings};
+ghost use Rattle.running_nodes.specs.MachineModel.Network.{accesses, accesses_of, feeds, peerings};
 ghost use Rattle.net_machine.specs.Seating.{AreLong, AreSeated, ends_of, order_among, order_of};
 ghost use Rattle.net_machine.specs.Seating.{peerings_of};
 
 use crate::ends::{SessionEnds, ends_of};
-use config_model::{Node, Topology};
+use config_types::{Node, Topology};
 use node_items::config_name;
 use ov_types::{Name, NoMemory, NodeId};
 use running_nodes::{Nodes, lists};

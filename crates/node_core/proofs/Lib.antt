@@ -7,3 +7,5 @@ pub mod Passing
 pub mod Told
 pub mod Closing
 pub mod Kept
+pub mod NodeModel
+pub mod OvLink

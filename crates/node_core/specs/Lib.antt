@@ -7,3 +7,5 @@ pub mod Keeping
 pub mod Naming
 pub mod Answers
 pub mod Whole
+pub mod NodeModel
+pub mod OvLink

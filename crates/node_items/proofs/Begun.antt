@@ -4,13 +4,13 @@ use Rattle.std.specs.List.{slice_set}
 use Rattle.std.specs.declared.option.Option.{Option}
 use Rattle.std.specs.declared.option.Option.TheVariants.{Some, None}
 use Rattle.std.proofs.Common.{refl, sym, ◌∙◌, ap, arith, subst, Bor}
-use Rattle.ov_link.specs.declared.step.Input.{Input}
-use Rattle.ov_link.specs.declared.step.Input.TheVariants as In
+use Rattle.node_core.specs.OvLink.Input.{Input}
+use Rattle.node_core.specs.OvLink.Input.TheVariants as In
 use Rattle.item_wire.specs.Happenings.{SessionFields}
 use Rattle.item_wire.specs.Records.{spelling}
 use Rattle.item_wire.specs.declared.event.ItemCause.{ItemCause}
 use Rattle.item_wire.specs.declared.item.Item.TheVariants.{Hello}
-use Rattle.node_model.specs.Step.{Beginning, Opened, Phase, Post, end_of, nothing, post}
+use Rattle.node_core.specs.NodeModel.Step.{Beginning, Opened, Phase, Post, end_of, nothing, post}
 use Rattle.node_core.specs.Begun.{HasBegun}
 use Rattle.node_core.specs.Keeping.{IsBehind, left_in}
 use Rattle.node_core.specs.Whole.{session_of}

@@ -17,9 +17,9 @@ use Rattle.item_wire.specs.Records.{spelling}
 use Rattle.item_wire.specs.declared.item.Item.{Item}
 use Rattle.item_wire.specs.declared.item.Item.TheVariants as I
 use Rattle.item_wire.proofs.Spelled.{one_item}
-use Rattle.node_model.specs.Keys.{Low, Row, Publish, Subscribe}
-use Rattle.node_model.specs.Values.{Object, Entry, Label}
-use Rattle.node_model.specs.Maps.{Change}
+use Rattle.node_core.specs.NodeModel.Keys.{Low, Row, Publish, Subscribe}
+use Rattle.node_core.specs.NodeModel.Values.{Object, Entry, Label}
+use Rattle.node_core.specs.NodeModel.Maps.{Change}
 use Rattle.item_wire.proofs.ChangeLemmas.{itself}
 use Rattle.node_items.specs.Told.{is_hello, change_of, item_of, spelled, spelling_of, IsWritable, CanBeTold, KeyFits, ChangeFits, IsTyped}
 use Rattle.node_items.proofs.Fitting.{without_lists}

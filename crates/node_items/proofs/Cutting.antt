@@ -14,7 +14,7 @@ use Rattle.item_wire.specs.declared.event.ItemState.TheVariants.{Idle, Opened, U
 use Rattle.item_wire.specs.declared.input.Came.{Came}
 use Rattle.item_wire.specs.declared.input.Came.TheVariants as Comes
 use Rattle.item_wire.proofs.Cutting.{FrameIs, part_of, long_of, whole_of, read_frame}
-use Rattle.node_model.proofs.Members.{none_some}
+use Rattle.node_core.proofs.NodeModel.Members.{none_some}
 use Rattle.node_items.specs.Hearing.{came_with, next_of, next_in, GoesOn, Hears, ItemHearing, heard, and_record, cause_in}
 use Rattle.node_items.specs.Keeping.{GoesOnLeaving, Leaves, session_after, and_then, WhileUp, PartsLeave}
 use Rattle.node_items.proofs.Hearings.{with_event}

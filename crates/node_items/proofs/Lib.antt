@@ -8,3 +8,5 @@ pub mod States
 pub mod Cutting
 pub mod NotEnded
 pub mod Begun
+pub mod NodeModel
+pub mod ItemWire

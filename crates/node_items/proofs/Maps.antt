@@ -5,10 +5,10 @@ use Rattle.std.specs.List.{AllByRecursion, filter_map, cons_option}
 use Rattle.ov_sync.specs.declared.Delta.TheVariants.{Put, Drop}
 use Rattle.ov_sync.specs.Keyed.{changed, after, change, change_at, keys_of_either, PutOf}
 use Rattle.ov_sync.proofs.KeyedLaws.{changed_values, empty_values}
-use Rattle.node_model.specs.Keys.{Key, Low, Row, Publish, Subscribe, key_cmp}
-use Rattle.node_model.specs.Values.{Value, Entry, Label, same_value}
-use Rattle.node_model.specs.Maps.{Map, Change, difference}
-use Rattle.node_model.proofs.Orders.{key_total, key_exact}
+use Rattle.node_core.specs.NodeModel.Keys.{Key, Low, Row, Publish, Subscribe, key_cmp}
+use Rattle.node_core.specs.NodeModel.Values.{Value, Entry, Label, same_value}
+use Rattle.node_core.specs.NodeModel.Maps.{Map, Change, difference}
+use Rattle.node_core.proofs.NodeModel.Orders.{key_total, key_exact}
 use Rattle.node_items.specs.Told.{KeyFits, Fits, ChangeFits, AllFit}
 
 -- a key under which something fits is in range

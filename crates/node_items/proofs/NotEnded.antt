@@ -3,8 +3,8 @@ use Rattle.std.specs.Prelude.{nat_eq}
 use Rattle.std.specs.Cmp.Lexicographic.{pointwise}
 use Rattle.std.proofs.Common.{◌≡◌, ◌≢◌, ℕ, Bool, true, false, cond, List, [], ◌∷◌, ◌++◌, Some, None, Option, Ok, Err, Result, sym, subst, ◌∙◌}
 use Rattle.std.proofs.lemmas.Option.{same_Some}
-use Rattle.ov_link.specs.declared.step.Input.{Input}
-use Rattle.ov_link.specs.declared.step.Input.TheVariants as input
+use Rattle.node_core.specs.OvLink.Input.{Input}
+use Rattle.node_core.specs.OvLink.Input.TheVariants as input
 use Rattle.item_wire.specs.Frames.{frame_of}
 use Rattle.item_wire.specs.Happenings.{SessionFields, after, answer, cause_of, next_event}
 use Rattle.item_wire.specs.Inputs.{may_send, came_by}
@@ -22,8 +22,8 @@ use Rattle.item_wire.specs.declared.input.Came.{Came}
 use Rattle.item_wire.specs.declared.input.Came.TheVariants as Comes
 use Rattle.item_wire.specs.declared.item.Item.{Item}
 use Rattle.item_wire.specs.declared.item.Item.TheVariants as I
-use Rattle.node_model.specs.Step.{Beginning, Post}
-use Rattle.node_model.proofs.Members.{none_some}
+use Rattle.node_core.specs.NodeModel.Step.{Beginning, Post}
+use Rattle.node_core.proofs.NodeModel.Members.{none_some}
 use Rattle.node_items.specs.Beginning.{Begins, BeginsKeeping}
 use Rattle.node_items.specs.Hearing.{came_with, next_of, GoesOn, Hears, ItemHearing, and_record, heard, cause_in}
 use Rattle.node_items.proofs.Cutting.{leaving_hears}

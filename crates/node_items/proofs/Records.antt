@@ -18,7 +18,7 @@ use Rattle.item_wire.specs.declared.item.Item.{Item}
 use Rattle.item_wire.specs.declared.item.Item.TheVariants as I
 use Rattle.item_wire.proofs.Framed.{framed_is_read}
 use Rattle.item_wire.proofs.Spelled.{item_reads}
-use Rattle.node_model.specs.Maps.{Change}
+use Rattle.node_core.specs.NodeModel.Maps.{Change}
 use Rattle.node_items.specs.Told.{IsWritable, CanBeTold, spelled}
 use Rattle.node_items.specs.Hearing.{came_with, next_of, next_in}
 use Rattle.node_items.proofs.Fitting.{without_lists}

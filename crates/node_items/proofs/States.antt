@@ -4,7 +4,7 @@ use Rattle.item_wire.specs.Happenings.{next_state}
 use Rattle.item_wire.specs.declared.event.ItemState.{ItemState}
 use Rattle.item_wire.specs.declared.event.ItemState.TheVariants as State
 use Rattle.item_wire.specs.declared.input.Came.TheVariants.{Closed}
-use Rattle.node_model.specs.Step.{Idle}
+use Rattle.node_core.specs.NodeModel.Step.{Idle}
 use Rattle.node_items.specs.Beginning.{phase_of, state_at}
 
 pub idle_state : (state : ItemState) → phase_of state ≡ Idle → state ≡ State.Idle

@@ -1,8 +1,8 @@
 -- What an input makes of an end of a session of items.
 use Rattle.std.specs.Prelude.{◌≡◌, ℕ, List, [], ◌∷◌, ◌++◌, Option, Some, None}
 use Rattle.std.specs.List.{filter_map}
-use Rattle.ov_link.specs.declared.step.Input.{Input}
-use Rattle.ov_link.specs.declared.step.Input.TheVariants as input
+use Rattle.node_core.specs.OvLink.Input.{Input}
+use Rattle.node_core.specs.OvLink.Input.TheVariants as input
 use Rattle.ov_sync.specs.Keyed.{after}
 use Rattle.item_wire.specs.Happenings.{SessionFields}
 use Rattle.item_wire.specs.Records.{spelling}
@@ -11,7 +11,7 @@ use Rattle.item_wire.specs.declared.event.ItemState.{ItemState}
 use Rattle.item_wire.specs.declared.event.ItemState.TheVariants as State
 use Rattle.item_wire.specs.declared.input.Came.{Came}
 use Rattle.item_wire.specs.declared.item.Item.TheVariants.{Hello}
-use Rattle.node_model.specs.Step.{Beginning, Phase, Idle, Opened, Up, Post}
+use Rattle.node_core.specs.NodeModel.Step.{Beginning, Phase, Idle, Opened, Up, Post}
 use Rattle.node_items.specs.Told.{change_of}
 use Rattle.node_items.specs.Hearing.{Hears, ItemHearing, heard}
 use Rattle.node_items.specs.Keeping.{Leaves}

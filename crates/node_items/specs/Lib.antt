@@ -4,3 +4,5 @@ pub mod Hearing
 pub mod Keeping
 pub mod Beginning
 pub mod Taking
+pub mod ItemWire
+pub mod NodeModel

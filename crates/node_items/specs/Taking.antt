@@ -5,7 +5,7 @@ use Rattle.std.specs.List.{slice_set}
 use Rattle.item_wire.specs.Happenings.{SessionFields}
 use Rattle.item_wire.specs.declared.event.ItemCause.{ItemCause}
 use Rattle.item_wire.specs.declared.input.Came.{Came}
-use Rattle.node_model.specs.Step.{Phase, Post, end_of, post}
+use Rattle.node_core.specs.NodeModel.Step.{Phase, Post, end_of, post}
 use Rattle.node_items.specs.Beginning.{left_by}
 use Rattle.node_items.specs.Hearing.{heard}
 use Rattle.node_items.specs.Keeping.{Leaves}

@@ -18,10 +18,10 @@ use Rattle.item_wire.specs.Ranges.{is_in_range, is_instance, is_attached_label, 
 use Rattle.item_wire.specs.Records.{json_text, spelling}
 use Rattle.item_wire.specs.declared.item.Item.{Item}
 use Rattle.item_wire.specs.declared.item.Item.TheVariants as I
-pub use Rattle.node_model.specs.Directions.{down_order, up_order}
-use Rattle.node_model.specs.Keys.{Key, Low, Vpn, Row, Publish, Subscribe, key_cmp, of_down, of_up}
-use Rattle.node_model.specs.Values.{Value, Object, Entry, Label}
-use Rattle.node_model.specs.Maps.{Map, Change}
+pub use Rattle.node_core.specs.NodeModel.Directions.{down_order, up_order}
+use Rattle.node_core.specs.NodeModel.Keys.{Key, Low, Vpn, Row, Publish, Subscribe, key_cmp, of_down, of_up}
+use Rattle.node_core.specs.NodeModel.Values.{Value, Object, Entry, Label}
+use Rattle.node_core.specs.NodeModel.Maps.{Map, Change}
 
 -- whether an item says who is at the other end
 abbrev pub is_hello : Item → Bool

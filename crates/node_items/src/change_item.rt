@@ -4,8 +4,8 @@ ghost use Rattle.ov_sync.specs.Embed.{moved_delta};
 ghost use Rattle.ov_sync.specs.declared.Delta.TheVariants.{Put};
 ghost use Rattle.item_wire.specs.Changes.{item_of_key, item_of_object};
 ghost use Rattle.item_wire.specs.Ranges.{is_in_range};
-ghost use Rattle.node_model.specs.Keys.{Low, Row, Publish, Subscribe, of_down, of_up};
-ghost use Rattle.node_model.specs.Values.{Object, Entry as EntryOf, Label as LabelOf};
+ghost use Rattle.node_core.specs.NodeModel.Keys.{Low, Row, Publish, Subscribe, of_down, of_up};
+ghost use Rattle.node_core.specs.NodeModel.Values.{Object, Entry as EntryOf, Label as LabelOf};
 ghost use Rattle.node_items.specs.Told.{CanBeTold, ChangeFits, Fits, IsWritable, KeyFits, down_value, item_of};
 
 use item_wire::Item;

@@ -1,6 +1,6 @@
 //! The configuration node's name.
 ghost use Rattle.std.specs.Prelude.{◌≡◌};
-ghost use Rattle.node_model.specs.Naming.{config};
+ghost use Rattle.node_core.specs.NodeModel.Naming.{config};
 
 use ov_types::Name;
 

@@ -5,8 +5,8 @@ ghost use Rattle.ov_sync.specs.Embed.{moved_delta};
 ghost use Rattle.item_wire.specs.Inputs.{is_of_feed, is_of_control, is_of_agent};
 ghost use Rattle.item_wire.specs.Ranges.{is_in_range};
 ghost use Rattle.item_wire.specs.Records.{spelling};
-ghost use Rattle.node_model.specs.Keys.{Low, of_down, of_up};
-ghost use Rattle.node_model.specs.Values.{Object, Label as LabelOf};
+ghost use Rattle.node_core.specs.NodeModel.Keys.{Low, of_down, of_up};
+ghost use Rattle.node_core.specs.NodeModel.Values.{Object, Label as LabelOf};
 ghost use Rattle.node_items.specs.Told.{ChangeFits, IsWritable, change_of, down_value, spelled, spelling_of};
 
 use crate::change_item::{down_item, low_item, up_item};

@@ -7,3 +7,4 @@ pub mod Worked
 pub mod Counting
 pub mod Published
 pub mod Leading
+pub mod NodeModel

@@ -10,7 +10,7 @@ use Rattle.std.proofs.lemmas.List.{get_or-set_same, get_or-set_other, get_or_def
 use Rattle.std.proofs.Math.ListN.{drop_of_length-le}
 use Rattle.std.proofs.Math.Seq.{take-append_seam}
 use Rattle.std.proofs.Common.{refl, sym, ◌∙◌, ap, subst, arith}
-use Rattle.ov_link.specs.Delivery.{Took, Delivers}
+use Rattle.node_model.specs.OvLink.Delivery.{Took, Delivers}
 use Rattle.node_model.specs.Maps.{difference}
 use Rattle.node_model.specs.Step.{Beginning, NodeKind, Post, StepAt, Steps, begun, changes, end_of, nothing, planned, post, replies, told_all}
 use Rattle.node_model.proofs.Members.{none_some, iff_same}

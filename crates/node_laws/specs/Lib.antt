@@ -4,3 +4,4 @@ pub mod Received
 pub mod Labelled
 pub mod Chain
 pub mod Counts
+pub mod NodeModel

@@ -2,7 +2,7 @@
 use Rattle.std.specs.Prelude.{◌≡◌, ◌≢◌, ◌↔◌, ℕ, ◌<◌, List, [], ◌++◌, map, length, Bool, true, false}
 use Rattle.std.specs.declared.option.Option.{Option}
 use Rattle.std.specs.declared.option.Option.TheVariants.{Some, None}
-use Rattle.ov_link.specs.Delivery.{Took}
+use Rattle.node_model.specs.OvLink.Delivery.{Took}
 use Rattle.node_model.specs.Maps.{difference}
 use Rattle.node_model.specs.Step.{At, Beginning, Idle, NodeKind, Post, end_of, nothing, post}
 

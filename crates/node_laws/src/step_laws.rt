@@ -2,7 +2,7 @@
 //! does nothing.
 ghost use Rattle.std.specs.Prelude.{◌≡◌, ◌≢◌, ◌↔◌, ℕ, List, length, Option, IsTrue};
 ghost use Rattle.std.specs.FinMap.{get};
-ghost use Rattle.ov_sync.specs.Keyed.{after, is_changed};
+ghost use Rattle.node_model.specs.OvSync.Keyed.{after, is_changed};
 ghost use Rattle.node_model.specs.Keys.{Key, key_cmp};
 ghost use Rattle.node_model.specs.Maps.{Map, difference};
 ghost use Rattle.node_model.specs.Step.{Beginning, NodeKind, Post, Steps};

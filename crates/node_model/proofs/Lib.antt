@@ -17,3 +17,5 @@ pub mod Places
 pub mod Locality
 pub mod Local
 pub mod Needed
+pub mod OvSync
+pub mod OvLink

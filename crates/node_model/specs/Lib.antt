@@ -14,3 +14,7 @@ pub mod Agent
 pub mod Ranks
 pub mod Step
 pub mod Codes
+pub mod OvSync
+pub mod RouteTargets
+pub mod OvLink
+pub mod OvTypes

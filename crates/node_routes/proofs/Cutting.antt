@@ -7,7 +7,7 @@ use Rattle.bgp_wire.specs.declared.fault.WireFault.{WireFault}
 use Rattle.bgp_wire.specs.Frames.{IsProperPrefix}
 use Rattle.bgp_wire.specs.Messages.{AreOctets}
 use Rattle.bgp_wire.proofs.Readings.{message_stays, fault_stays, proper_prefix_is_short}
-use Rattle.ov_link.proofs.Ends.{IsEnd, nothing_end, end_on}
+use Rattle.node_model.proofs.OvLink.Ends.{IsEnd, nothing_end, end_on}
 use Rattle.bgp_session.specs.declared.event.Cause.{Cause}
 use Rattle.bgp_session.specs.declared.event.State.{State}
 use Rattle.bgp_session.specs.declared.event.State.TheVariants.{Idle, OpenSent, OpenConfirm, Established}

@@ -6,3 +6,4 @@ pub mod Writable
 pub mod Some
 pub mod Cutting
 pub mod NotEnded
+pub mod NodeModel

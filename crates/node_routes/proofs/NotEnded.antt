@@ -1,8 +1,8 @@
 -- Octets never say that their session ended.
 use Rattle.std.specs.Prelude.{◌≢◌, ℕ, Bool, List, [], ◌∷◌, Option, Some, None}
 use Rattle.std.proofs.Common.{sym, ◌∙◌, ap, subst}
-use Rattle.ov_link.specs.declared.step.Input.{Input}
-use Rattle.ov_link.specs.declared.step.Input.TheVariants as input
+use Rattle.node_model.specs.OvLink.Input.{Input}
+use Rattle.node_model.specs.OvLink.Input.TheVariants as input
 use Rattle.ov_types.specs.declared.prefix.Addr.{Addr}
 use Rattle.bgp_wire.specs.declared.fault.WireFault.{WireFault}
 use Rattle.bgp_wire.specs.Content.{Content, UpdateFields, Opens, Updates, Notifies, KeepsAlive}

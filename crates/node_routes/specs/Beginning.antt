@@ -1,7 +1,7 @@
 -- What an input makes of an end of a session between control nodes.
 use Rattle.std.specs.Prelude.{◌≡◌, ℕ, List, [], ◌∷◌, ◌++◌, map, Option, Some, None}
-use Rattle.ov_link.specs.declared.step.Input.{Input}
-use Rattle.ov_link.specs.declared.step.Input.TheVariants as input
+use Rattle.node_model.specs.OvLink.Input.{Input}
+use Rattle.node_model.specs.OvLink.Input.TheVariants as input
 use Rattle.ov_sync.specs.Embed.{moved_delta}
 use Rattle.ov_sync.specs.Keyed as keyed
 use Rattle.ov_types.specs.declared.prefix.Addr.{Addr}

@@ -5,3 +5,4 @@ pub mod Keeping
 pub mod Taking
 pub mod Beginning
 pub mod First
+pub mod NodeModel

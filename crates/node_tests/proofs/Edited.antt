@@ -1,10 +1,10 @@
 -- An edit changes no control node.
 use Rattle.std.specs.Prelude.{◌≡◌, refl}
-use Rattle.config_model.specs.declared.edit.Edit.{Edit}
-use Rattle.config_model.specs.declared.edit.Edit.TheVariants.{Put, Delete}
-use Rattle.config_model.specs.declared.edit.Object.TheVariants as objects
-use Rattle.config_model.specs.declared.edit.ObjectKind.TheVariants as kinds
-use Rattle.config_model.specs.declared.topology.Topology.{Topology}
+use Rattle.config_types.specs.declared.edit.Edit.{Edit}
+use Rattle.config_types.specs.declared.edit.Edit.TheVariants.{Put, Delete}
+use Rattle.config_types.specs.declared.edit.Object.TheVariants as objects
+use Rattle.config_types.specs.declared.edit.ObjectKind.TheVariants as kinds
+use Rattle.config_types.specs.declared.topology.Topology.{Topology}
 use Rattle.config_check.specs.Edits.{edited_topology}
 
 pub controllers_stay : (e : Edit) (t : Topology) → (edited_topology e t).controllers ≡ t.controllers

@@ -1,8 +1,8 @@
 -- The written form of a topology.
 use Rattle.std.specs.Prelude.{IsTrue, length, nat_le}
 use Rattle.std.proofs.lemmas.Bool.{and_parts}
-use Rattle.config_model.specs.declared.topology.Topology.{Topology}
-use Rattle.config_model.specs.Form.{has_nodes_form, has_topology_form}
+use Rattle.config_types.specs.declared.topology.Topology.{Topology}
+use Rattle.config_types.specs.Form.{has_nodes_form, has_topology_form}
 
 -- is the form of its nodes, and that there is a compute node
 pub nodes_form : (t : Topology) → IsTrue (has_topology_form t) → IsTrue (has_nodes_form t)

@@ -1,10 +1,11 @@
 ghost use Rattle.std.specs.Prelude.{◌≡◌, IfOk, IfSome, IsTrue};
-ghost use Rattle.config_model.specs.Edit.{has_edit_form};
+ghost use Rattle.config_types.specs.Form.{has_edit_form};
 
 use crate::links::{add_queues, were_sent};
 use config_check::{EditFault, EditRefusal, Refusal, Valid, apply_edit, check};
-use config_model::{Edit, read_compile, read_edit};
+use config_model::{read_compile, read_edit};
 use config_node::ConfigNode;
+use config_types::Edit;
 use item_wire::ItemCause;
 use ov_link::{FailingLink, Input, Link, Links, NodeFault, QueueLink, Stepped};
 use ov_types::{Addr, Name};

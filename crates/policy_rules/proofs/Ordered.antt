@@ -2,9 +2,9 @@
 use Rattle.std.proofs.Common.{◌≡◌, ℕ, ◌+◌, ◌<◌, ◌≤◌, ◌&&◌, ◌||◌, ltb, Bool, true, false, cond, List, [], ◌∷◌, Option, Some, None, flat_map, filter, length, get_or, drop, refl, sym, ap, ◌∙◌, arith}
 use Rattle.std.proofs.lemmas.Bool.{ltb-true, ltb-false, le-ltb, lt-ltb}
 use Rattle.ov_types.specs.declared.packet.Tuple.{Tuple}
-use Rattle.config_model.specs.declared.config.Network.{Network}
-use Rattle.config_model.specs.declared.config.Policy.{Policy}
-use Rattle.config_model.specs.declared.config.Rule.{Rule}
+use Rattle.config_types.specs.declared.config.Network.{Network}
+use Rattle.config_types.specs.declared.config.Policy.{Policy}
+use Rattle.config_types.specs.declared.config.Rule.{Rule}
 use Rattle.ov_types.specs.First.{◌<|>◌, first_of}
 use Rattle.ov_types.proofs.FirstLemmas.{first_flat, first_kept, next_is, all_here}
 use Rattle.policy_rules.specs.declared.numbered.NumberedRule.{NumberedRule}

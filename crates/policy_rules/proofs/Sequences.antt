@@ -5,7 +5,7 @@ use Rattle.std.proofs.lemmas.Bool.{ltb-true, ltb-false, eqb-true}
 use Rattle.std.proofs.lemmas.List.Elements.{All-cons, All-weaker}
 use Rattle.std.proofs.lemmas.List.Kept.{AllPairs-cons}
 use Rattle.ov_types.proofs.FirstLemmas.{pairs_head, pairs_tail}
-use Rattle.config_model.specs.declared.config.Policy.{Policy}
+use Rattle.config_types.specs.declared.config.Policy.{Policy}
 use Rattle.policy_rules.specs.Related.{put_by_sequence, by_sequence}
 use Rattle.policy_rules.proofs.Deciders.{all_put}
 

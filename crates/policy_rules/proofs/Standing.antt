@@ -8,12 +8,12 @@ use Rattle.std.proofs.lemmas.Bool.Decides.{Decides-and, Decides-or}
 use Rattle.std.proofs.lemmas.List.Elements.{All-nil, All-cons, All-head, All-tail, All-append, All-weaker, All-contains, Contains-get_or, All-contains_itself}
 use Rattle.std.proofs.lemmas.List.Kept.{AllPairs-cons, AllPairs-filter}
 use Rattle.std.proofs.lemmas.Map.Views.{list_any-from_Contains, Contains-from_any}
-use Rattle.config_model.specs.declared.config.Config.{Config}
-use Rattle.config_model.specs.declared.config.End.{End}
-use Rattle.config_model.specs.declared.config.End.TheVariants.{Any, Named}
-use Rattle.config_model.specs.declared.config.Network.{Network}
-use Rattle.config_model.specs.declared.config.Policy.{Policy}
-use Rattle.config_model.specs.declared.config.Rule.{Rule}
+use Rattle.config_types.specs.declared.config.Config.{Config}
+use Rattle.config_types.specs.declared.config.End.{End}
+use Rattle.config_types.specs.declared.config.End.TheVariants.{Any, Named}
+use Rattle.config_types.specs.declared.config.Network.{Network}
+use Rattle.config_types.specs.declared.config.Policy.{Policy}
+use Rattle.config_types.specs.declared.config.Rule.{Rule}
 use Rattle.ov_types.proofs.FirstLemmas.{same_name_iff, pairs_head, pairs_tail, contains_here, contains_later, contains_cases}
 use Rattle.policy_rules.specs.declared.numbered.NumberedRule.{NumberedRule}
 use Rattle.policy_rules.specs.Related.{numbered_from, numbered_rules, attaches, put_by_sequence, by_sequence, end_fits, fits, rules_between}

@@ -5,13 +5,13 @@ use Rattle.std.specs.List.{All, slice_get}
 use Rattle.std.proofs.lemmas.Bool.{leb-true, le-leb, and_parts, eqb-true, eq-eqb, and_from}
 use Rattle.ov_types.specs.declared.packet.Range16.{Range16}
 use Rattle.ov_types.specs.declared.packet.Tuple.{Tuple}
-use Rattle.config_model.specs.declared.config.Config.{Config}
-use Rattle.config_model.specs.declared.config.Direction.{Direction}
-use Rattle.config_model.specs.declared.config.Direction.TheVariants.{OneWay, BothWays}
-use Rattle.config_model.specs.declared.config.Network.{Network}
-use Rattle.config_model.specs.declared.config.Protocol.{Protocol}
-use Rattle.config_model.specs.declared.config.Protocol.TheVariants.{Any, Number}
-use Rattle.config_model.specs.declared.config.Rule.{Rule}
+use Rattle.config_types.specs.declared.config.Config.{Config}
+use Rattle.config_types.specs.declared.config.Direction.{Direction}
+use Rattle.config_types.specs.declared.config.Direction.TheVariants.{OneWay, BothWays}
+use Rattle.config_types.specs.declared.config.Network.{Network}
+use Rattle.config_types.specs.declared.config.Protocol.{Protocol}
+use Rattle.config_types.specs.declared.config.Protocol.TheVariants.{Any, Number}
+use Rattle.config_types.specs.declared.config.Rule.{Rule}
 use Rattle.ov_types.specs.First.{◌<|>◌, first_of}
 use Rattle.ov_types.proofs.FirstLemmas.{mapped_none, first_of_none}
 use Rattle.policy_rules.specs.Related.{NumberedRule, fits, rules_between}

@@ -3,11 +3,11 @@ use Rattle.std.specs.Prelude.{◌≡◌, ◌≢◌, ℕ, List, Option, option_ma
 use Rattle.std.specs.List.{All}
 use Rattle.ov_types.specs.declared.packet.RuleNo.{RuleNo}
 use Rattle.ov_types.specs.declared.packet.Tuple.{Tuple}
-use Rattle.config_model.specs.declared.config.Config.{Config}
-use Rattle.config_model.specs.declared.config.Direction.TheVariants.{BothWays}
-use Rattle.config_model.specs.declared.config.End.TheVariants.{Named}
-use Rattle.config_model.specs.declared.config.Network.{Network}
-use Rattle.config_model.specs.declared.config.Rule.{Rule}
+use Rattle.config_types.specs.declared.config.Config.{Config}
+use Rattle.config_types.specs.declared.config.Direction.TheVariants.{BothWays}
+use Rattle.config_types.specs.declared.config.End.TheVariants.{Named}
+use Rattle.config_types.specs.declared.config.Network.{Network}
+use Rattle.config_types.specs.declared.config.Rule.{Rule}
 use Rattle.policy_rules.specs.Related.{rules_between}
 use Rattle.policy_rules.specs.declared.matching.Decision.{Decision}
 

@@ -1,8 +1,8 @@
 -- The match of the policy that comes first by sequence, policy by policy in the document's order.
 use Rattle.std.specs.Prelude.{◌&&◌, nat_lt, Option, Some, None, if◌then◌else◌}
 use Rattle.ov_types.specs.declared.packet.Tuple.{Tuple}
-use Rattle.config_model.specs.declared.config.Network.{Network}
-use Rattle.config_model.specs.declared.config.Policy.{Policy}
+use Rattle.config_types.specs.declared.config.Network.{Network}
+use Rattle.config_types.specs.declared.config.Policy.{Policy}
 use Rattle.ov_types.specs.First.{first_of}
 use Rattle.policy_rules.specs.Related.{attaches, numbered_rules}
 use Rattle.policy_rules.specs.Matching.{Match, match_by}

@@ -2,14 +2,14 @@
 use Rattle.std.specs.Prelude.{◌≡◌, ◌≢◌, ◌⊎◌, ℕ, ◌+◌, ◌<◌, slice_get, Some}
 use Rattle.std.specs.List.{Contains}
 use Rattle.ov_types.specs.declared.packet.RuleNo.{RuleNo}
-use Rattle.config_model.specs.declared.config.Action.{Action}
-use Rattle.config_model.specs.declared.config.Action.TheVariants.{Pass, Deny, Through}
-use Rattle.config_model.specs.declared.config.Config.{Config}
-use Rattle.config_model.specs.declared.config.End.{End}
-use Rattle.config_model.specs.declared.config.End.TheVariants.{Any, Named}
-use Rattle.config_model.specs.declared.config.Network.{Network}
-use Rattle.config_model.specs.declared.config.Policy.{Policy}
-use Rattle.config_model.specs.declared.config.Rule.{Rule}
+use Rattle.config_types.specs.declared.config.Action.{Action}
+use Rattle.config_types.specs.declared.config.Action.TheVariants.{Pass, Deny, Through}
+use Rattle.config_types.specs.declared.config.Config.{Config}
+use Rattle.config_types.specs.declared.config.End.{End}
+use Rattle.config_types.specs.declared.config.End.TheVariants.{Any, Named}
+use Rattle.config_types.specs.declared.config.Network.{Network}
+use Rattle.config_types.specs.declared.config.Policy.{Policy}
+use Rattle.config_types.specs.declared.config.Rule.{Rule}
 use Rattle.policy_rules.specs.declared.numbered.NumberedRule.{NumberedRule}
 
 -- a rule's number comes before another: its sequence is lesser, or they are equal and its position is lesser

@@ -1,10 +1,10 @@
 -- Whether some rule between two networks does what is wanted, policy by policy: their order is no matter there.
 use Rattle.std.specs.Prelude.{◌&&◌, ◌||◌, Bool}
 use Rattle.std.specs.List.{list_any}
-use Rattle.config_model.specs.declared.config.Action.{Action}
-use Rattle.config_model.specs.declared.config.Network.{Network}
-use Rattle.config_model.specs.declared.config.Policy.{Policy}
-use Rattle.config_model.specs.declared.config.Rule.{Rule}
+use Rattle.config_types.specs.declared.config.Action.{Action}
+use Rattle.config_types.specs.declared.config.Network.{Network}
+use Rattle.config_types.specs.declared.config.Policy.{Policy}
+use Rattle.config_types.specs.declared.config.Rule.{Rule}
 use Rattle.policy_rules.specs.Related.{attaches, fits, lets_through, passes}
 use Rattle.policy_rules.specs.declared.between.Wanted.{Wanted}
 use Rattle.policy_rules.specs.declared.between.Wanted.TheVariants.{Passing, LettingThrough}

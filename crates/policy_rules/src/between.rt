@@ -5,7 +5,7 @@ ghost use Rattle.policy_rules.specs.Related.{passes, rules_between, are_related,
 ghost use Rattle.policy_rules.specs.Wanted.{is_wanted, serves, joins, leads_between};
 
 use crate::fitting::{attaches, fits};
-use config_model::{Action, Config, Network, Policy, Rule};
+use config_types::{Action, Config, Network, Policy, Rule};
 
 /// What is wanted of a rule between two networks.
 #[derive(Clone, Copy, PartialEq, Eq)]

@@ -10,7 +10,7 @@ ghost use Rattle.policy_rules.specs.Least.{match_in, least};
 use crate::fitting::attaches;
 use crate::matching::{Decision, Match, decision_by, match_by};
 use crate::numbered::NumberedRule;
-use config_model::{Config, Network, Policy};
+use config_types::{Config, Network, Policy};
 use ov_types::{RuleNo, Tuple};
 
 /// The first match among the rules of a policy.

@@ -2,7 +2,7 @@
 ghost use Rattle.std.specs.Prelude.{◌≡◌};
 ghost use Rattle.policy_rules.specs.Related.{attaches, end_fits, fits};
 
-use config_model::{End, Network, Policy, Rule};
+use config_types::{End, Network, Policy, Rule};
 
 /// Whether a network attaches a policy.
 pub fn attaches(network: &Network, policy: &Policy) -> bool

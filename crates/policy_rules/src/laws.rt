@@ -2,9 +2,9 @@
 ghost use Rattle.std.specs.Prelude.{◌≡◌, ◌≢◌, ◌↔◌, ◌⊎◌, ◌≤◌, ◌==◌, ℕ, List, filter, not, IsTrue};
 ghost use Rattle.std.specs.List.{All, AllPairs, Contains};
 ghost use Rattle.ov_types.specs.declared.packet.Tuple.{Tuple};
-ghost use Rattle.config_model.specs.declared.config.Config.{Config};
-ghost use Rattle.config_model.specs.declared.config.Network.{Network};
-ghost use Rattle.config_model.specs.declared.config.Policy.{Policy};
+ghost use Rattle.config_types.specs.declared.config.Config.{Config};
+ghost use Rattle.config_types.specs.declared.config.Network.{Network};
+ghost use Rattle.config_types.specs.declared.config.Policy.{Policy};
 ghost use Rattle.policy_rules.specs.Related.{NumberedRule, by_sequence, rules_between, are_related, imports};
 ghost use Rattle.policy_rules.specs.Matching.{Match, deciding, decision};
 ghost use Rattle.policy_rules.specs.Standing.{ComesBefore, IsBetween, AreRelated, PassesBetween};

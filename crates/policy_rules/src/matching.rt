@@ -6,7 +6,7 @@ ghost use Rattle.policy_rules.specs.Matching.{matches_mirrored, match_by, decisi
 
 use crate::fitting::fits;
 use crate::numbered::NumberedRule;
-use config_model::{Direction, Network, Protocol, Rule};
+use config_types::{Direction, Network, Protocol, Rule};
 use ov_types::{Range16, RuleNo, Tuple};
 
 /// A rule that matches a packet, and whether mirrored.

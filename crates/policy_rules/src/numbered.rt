@@ -3,7 +3,7 @@ ghost use Rattle.std.specs.Prelude.{◌≡◌, ◌++◌, ◌≤◌, nat_le, leng
 ghost use Rattle.std.specs.List.{list_all};
 ghost use Rattle.policy_rules.specs.Related.{numbered_rules, all_rules};
 
-use config_model::{Config, Policy, Rule};
+use config_types::{Config, Policy, Rule};
 use ov_types::{NoMemory, RuleNo};
 use std::alloc::Global;
 

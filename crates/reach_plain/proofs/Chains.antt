@@ -1,12 +1,12 @@
 -- Chain rules decide on a packet and its answer in opposite directions.
 use Rattle.std.proofs.Common.{◌≡◌, ◌≢◌, ℕ, not, List, Some, None, refl, sym, ap}
 use Rattle.ov_types.specs.declared.packet.Tuple.{Tuple}
-use Rattle.config_model.specs.declared.config.Action.TheVariants.{Through}
-use Rattle.config_model.specs.declared.config.Config.{Config}
-use Rattle.config_model.specs.declared.config.End.{End}
-use Rattle.config_model.specs.declared.config.End.TheVariants.{Any, Named}
-use Rattle.config_model.specs.declared.config.Network.{Network}
-use Rattle.config_model.specs.declared.topology.Topology.{Topology}
+use Rattle.config_types.specs.declared.config.Action.TheVariants.{Through}
+use Rattle.config_types.specs.declared.config.Config.{Config}
+use Rattle.config_types.specs.declared.config.End.{End}
+use Rattle.config_types.specs.declared.config.End.TheVariants.{Any, Named}
+use Rattle.config_types.specs.declared.config.Network.{Network}
+use Rattle.config_types.specs.declared.topology.Topology.{Topology}
 use Rattle.policy_rules.specs.Matching.{deciding}
 use Rattle.policy_rules.specs.declared.matching.Match.{Match}
 use Rattle.policy_rules.specs.Answering.{answering, SpeakBothWays}

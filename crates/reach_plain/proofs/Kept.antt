@@ -2,8 +2,8 @@
 use Rattle.std.proofs.Common.{◌≡◌, ◌≢◌, ℕ, ◌≤◌, leb, ltb, true, false, List, None, Ok, map, length, get_or, refl, arith}
 use Rattle.std.specs.List.{AllPairs, list_all}
 use Rattle.std.proofs.lemmas.Bool.{le-ltb}
-use Rattle.config_model.specs.declared.config.Config.{Config}
-use Rattle.config_model.specs.declared.topology.Topology.{Topology}
+use Rattle.config_types.specs.declared.config.Config.{Config}
+use Rattle.config_types.specs.declared.topology.Topology.{Topology}
 use Rattle.ov_types.specs.First.{first_meeting}
 use Rattle.chain_expand.specs.Expansion.{expansion, same_number, numbers_or_fault}
 use Rattle.chain_expand.proofs.Each.{of_each_name, numbers_apart}

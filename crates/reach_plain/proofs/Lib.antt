@@ -3,3 +3,5 @@ pub mod Chains
 pub mod Found
 pub mod Kept
 pub mod Once
+pub mod ConfigCheck
+pub mod PolicyRules

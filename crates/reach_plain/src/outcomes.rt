@@ -7,7 +7,7 @@ ghost use Rattle.reach_plain.specs.Reachability.{network_towards, arrival_at, ou
 
 use crate::services::services_through;
 use config_check::{Valid, holds_address, network_named, port_at, port_numbered};
-use config_model::{Action, Config, Network, Port};
+use config_types::{Action, Config, Network, Port};
 use ov_types::{Addr, Outcome, Packet, Services, Why};
 use policy_rules::{Match, are_related, deciding};
 

@@ -1,8 +1,8 @@
 -- The lines of answers: the number of the event, and what it answers.
 use Rattle.std.specs.Prelude.{ℕ, Bool, List, [], ◌∷◌, ◌++◌, codes, decimal, if◌then◌else◌, ⊤}
-use Rattle.config_model.specs.declared.event.Event.{Event}
-use Rattle.config_model.specs.declared.event.Event.TheVariants.{Show}
-use Rattle.run_ties.specs.Texts.{tie_text}
+use Rattle.config_types.specs.declared.event.Event.{Event}
+use Rattle.config_types.specs.declared.event.Event.TheVariants.{Show}
+use Rattle.schedule_tied_answers.specs.RunTies.Texts.{tie_text}
 use Rattle.ov_types.specs.declared.rows.NodeRows.{NodeRows}
 use Rattle.report.specs.Outcomes.{outcome_line}
 use Rattle.report.specs.Refusals.{edit_fault_text}

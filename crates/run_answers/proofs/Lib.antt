@@ -1,4 +1,2 @@
 pub mod Scheduled
-pub mod Unfit
 pub mod Ending
-pub mod Summed

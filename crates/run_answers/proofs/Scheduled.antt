@@ -2,14 +2,14 @@
 use Rattle.std.proofs.Common.{◌≡◌, ℕ, suc, ◌+◌, List, [], ◌∷◌, ◌++◌, map, length, Option, sym, ap, subst, ◌∙◌, arith}
 use Rattle.std.proofs.lemmas.List.{append_assoc, append-nil}
 use Rattle.config_check.specs.Checked.{Checked}
-use Rattle.config_model.specs.declared.event.Event.{Event}
-use Rattle.machine_isolation_laws.specs.Refusing.{TiedNetwork, after_tied, next_tied, tied_start}
+use Rattle.config_types.specs.declared.event.Event.{Event}
+use Rattle.net_machine.specs.MachineLaws.Refusing.{TiedNetwork, after_tied, next_tied, tied_start}
 use Rattle.machine_model.specs.Events.{event_of}
-use Rattle.running_model.specs.Stands.{message_size}
+use Rattle.net_machine.specs.RunningModel.Stands.{message_size}
 use Rattle.ov_io.specs.Inputs.{TookFront}
 use Rattle.ov_io.specs.Pieces.{IsOnItsWay}
 use Rattle.report.specs.Answers.{tied_answer_lines}
-use Rattle.schedule_tied_laws.specs.Runs.{answer_tied, run_tied, tied_moment}
+use Rattle.net_machine.specs.ScheduleLaws.Runs.{answer_tied, run_tied, tied_moment}
 use Rattle.run_answers.specs.Schedules.{lines_from, run_text}
 use Rattle.compile_answers.proofs.Ways.{front_first, front_then, way_then}
 

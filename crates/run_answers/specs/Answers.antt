@@ -1,14 +1,12 @@
--- What is answered to a schedule and to the number of a scenario.
+-- What is answered to a schedule.
 use Rattle.std.specs.Prelude.{ℕ, List, [], Result, Ok, Err}
 use Rattle.serde_json.specs.Data.{Data}
-use Rattle.config_model.specs.declared.event.RunInput.{RunInput}
+use Rattle.config_model.specs.declared.input.RunInput.{RunInput}
 use Rattle.config_model.specs.Faults.{Fault}
 use Rattle.config_model.specs.Event.{run_at}
 use Rattle.config_check.specs.Rules.{first_broken}
 use Rattle.compile_answers.specs.Answers.{DocumentAnswer, answer_bad, answer_checked, of_json}
 use Rattle.ov_json.specs.Json.{json_of}
-use Rattle.scenario_gen.specs.Scenario.{scenario}
-use Rattle.run_answers.specs.Generating.{summary_text}
 use Rattle.run_answers.specs.Schedules.{run_text}
 
 -- of what was read for `run`, or not, it writes the answers of the events
@@ -25,7 +23,3 @@ run_value d = run_reading (run_at [] d)
 -- what `run` answers to a document
 unfoldable pub run_answer : List ℕ → DocumentAnswer
 run_answer octets = of_json run_value (json_of octets)
-
--- what `gen` answers of a scenario
-unfoldable pub gen_answer : ℕ → DocumentAnswer
-gen_answer n = answer_checked (first_broken (scenario n).topology (scenario n).config) (summary_text n)

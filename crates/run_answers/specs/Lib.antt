@@ -1,5 +1,4 @@
 pub mod Schedules
-pub mod Generating
 pub mod Answers
 pub mod Networks
-pub use Rattle.scenario_run.specs.NetState
+pub use Rattle.net_machine.specs.NetState

@@ -2,8 +2,8 @@
 use Rattle.std.proofs.Common.{◌≡◌, Option, Some, None, ap, refl}
 use Rattle.std.proofs.lemmas.Bool.{or_left, or_right}
 use Rattle.ov_types.specs.First.{◌<|>◌}
-use Rattle.config_model.specs.declared.config.Config.{Config}
-use Rattle.config_model.specs.declared.topology.Topology.{Topology}
+use Rattle.config_types.specs.declared.config.Config.{Config}
+use Rattle.config_types.specs.declared.topology.Topology.{Topology}
 use Rattle.config_check.specs.Checked.{Checked}
 use Rattle.config_check.specs.Sentences.{IsValid}
 use Rattle.run_ties.specs.Ties.{AreNodesTied, BreaksNone, Grows, IsTiedBy, NodesBreakNone, Ties}

@@ -7,3 +7,4 @@ pub mod Broken
 pub mod Adding
 pub mod Alike
 pub mod OfPolicies
+pub mod ConfigCheck

@@ -9,9 +9,9 @@ use Rattle.ov_types.specs.First.{first_of, same_name, ◌<|>◌}
 use Rattle.ov_types.specs.declared.prefix.Addr.{Addr}
 use Rattle.ov_types.proofs.FirstLemmas.{contains_at, first_of_none}
 use Rattle.policy_rules.proofs.Taking.{first_answer}
-use Rattle.config_model.specs.declared.config.Config.{Config}
-use Rattle.config_model.specs.declared.topology.Node.{Node}
-use Rattle.config_model.specs.declared.topology.Topology.{Topology}
+use Rattle.config_types.specs.declared.config.Config.{Config}
+use Rattle.config_types.specs.declared.topology.Node.{Node}
+use Rattle.config_types.specs.declared.topology.Topology.{Topology}
 use Rattle.config_check.specs.Finding.{node_named}
 use Rattle.config_check.specs.Sentences.{IsValid}
 use Rattle.config_check.proofs.Finders.{back_pairs, finds_node_named}

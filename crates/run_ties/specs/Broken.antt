@@ -4,13 +4,13 @@ use Rattle.ov_types.specs.First.{first_of, same_name, ◌<|>◌}
 use Rattle.ov_types.specs.declared.numbers.InstanceId.{InstanceId}
 use Rattle.ov_types.specs.declared.numbers.PortNo.{PortNo}
 use Rattle.ov_types.specs.declared.prefix.Addr.{Addr}
-use Rattle.config_model.specs.declared.config.Action.{Action}
-use Rattle.config_model.specs.declared.config.Action.TheVariants.{Pass, Deny, Through}
-use Rattle.config_model.specs.declared.config.Config.{Config}
-use Rattle.config_model.specs.declared.config.Port.{Port}
-use Rattle.config_model.specs.declared.config.Rule.{Rule}
-use Rattle.config_model.specs.declared.topology.Node.{Node}
-use Rattle.config_model.specs.declared.topology.Topology.{Topology}
+use Rattle.config_types.specs.declared.config.Action.{Action}
+use Rattle.config_types.specs.declared.config.Action.TheVariants.{Pass, Deny, Through}
+use Rattle.config_types.specs.declared.config.Config.{Config}
+use Rattle.config_types.specs.declared.config.Port.{Port}
+use Rattle.config_types.specs.declared.config.Rule.{Rule}
+use Rattle.config_types.specs.declared.topology.Node.{Node}
+use Rattle.config_types.specs.declared.topology.Topology.{Topology}
 use Rattle.config_check.specs.Checked.{Checked}
 use Rattle.policy_rules.specs.Related.{all_rules}
 use Rattle.run_ties.specs.declared.breaking.Tie.{Tie}

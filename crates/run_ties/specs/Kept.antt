@@ -10,9 +10,9 @@ use Rattle.ov_types.specs.First.{same_name, ◌<|>◌}
 use Rattle.ov_types.specs.declared.prefix.Addr.{Addr}
 use Rattle.ov_types.specs.declared.numbers.InstanceId.{InstanceId}
 use Rattle.ov_types.specs.declared.numbers.PortNo.{PortNo}
-use Rattle.config_model.specs.declared.config.Config.{Config}
-use Rattle.config_model.specs.declared.config.Port.{Port}
-use Rattle.config_model.specs.declared.topology.Node.{Node}
+use Rattle.config_types.specs.declared.config.Config.{Config}
+use Rattle.config_types.specs.declared.config.Port.{Port}
+use Rattle.config_types.specs.declared.topology.Node.{Node}
 use Rattle.run_ties.specs.Ties.{Ties}
 use Rattle.run_ties.specs.Tying.{home_id}
 

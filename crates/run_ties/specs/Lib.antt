@@ -6,3 +6,4 @@ pub mod Kept
 pub mod Relating
 pub mod Texts
 pub mod Tied
+pub mod ConfigCheck

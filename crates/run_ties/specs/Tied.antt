@@ -1,7 +1,7 @@
 -- When an edit is refused by what it makes, or by the ties of the configurations so far.
 use Rattle.std.specs.Prelude.{◌≡◌, Option, Some, option_map}
 use Rattle.ov_types.specs.First.{◌<|>◌}
-use Rattle.config_model.specs.declared.edit.Edit.{Edit}
+use Rattle.config_types.specs.declared.edit.Edit.{Edit}
 use Rattle.config_check.specs.Checked.{Checked}
 use Rattle.config_check.specs.Edits.{edit_fault, edited}
 use Rattle.config_check.specs.declared.edits.EditRefusal.{EditRefusal}

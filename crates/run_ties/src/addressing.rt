@@ -5,7 +5,7 @@ ghost use Rattle.run_ties.specs.Kept.{Adds, address_by, address_in, name_in};
 ghost use Rattle.run_ties.specs.Tying.{name_by};
 
 use crate::kept::{Addresses, Names};
-use config_model::{Node, Topology};
+use config_types::{Node, Topology};
 use ov_types::NoMemory;
 use std::alloc::AllocError;
 

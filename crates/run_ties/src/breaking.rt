@@ -9,7 +9,7 @@ ghost use Rattle.run_ties.specs.Kept.{ties_in};
 use crate::kept::Ties;
 use crate::naming::{ends_of, home_id};
 use config_check::Valid;
-use config_model::{Action, Config, Node, Port, Rule, Topology};
+use config_types::{Action, Config, Node, Port, Rule, Topology};
 use ov_types::{Addr, InstanceId, Name, PortNo};
 use policy_rules::NumberedRule;
 

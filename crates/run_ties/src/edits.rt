@@ -1,6 +1,6 @@
 //! Edits that keep the ties of the configurations so far.
 ghost use Rattle.std.specs.Prelude.{◌≡◌, None, IfOk, IfErr, IsTrue};
-ghost use Rattle.config_model.specs.Edit.{has_edit_form};
+ghost use Rattle.config_types.specs.Form.{has_edit_form};
 ghost use Rattle.config_check.specs.Edits.{edited};
 ghost use Rattle.run_ties.specs.Kept.{AreAlike, ties_in};
 ghost use Rattle.run_ties.specs.Tied.{RefusesTied, tie_fault, tied_fault};
@@ -10,7 +10,7 @@ use crate::breaking::{Tie, broken_tie};
 use crate::joining::{joined, rules_of};
 use crate::kept::Ties;
 use config_check::{EditFault, EditRefusal, Valid, apply_edit};
-use config_model::Edit;
+use config_types::Edit;
 use ov_types::NoMemory;
 use std::alloc::Global;
 

@@ -10,7 +10,7 @@ use crate::kept::{Ports, Ties, Uses};
 use crate::naming::{ends_of, home_id};
 use crate::relating::joined_related;
 use config_check::Valid;
-use config_model::{Action, Config, Port, Rule};
+use config_types::{Action, Config, Port, Rule};
 use ov_types::NoMemory;
 use policy_rules::{NumberedRule, all_rules};
 use std::alloc::{AllocError, Global};

@@ -3,8 +3,8 @@ ghost use Rattle.std.specs.Prelude.{◌≡◌, ◌↔◌, ℕ, IsTrue, List, Non
 ghost use Rattle.ov_types.specs.declared.numbers.InstanceId.{InstanceId};
 ghost use Rattle.ov_types.specs.declared.numbers.PortNo.{PortNo};
 ghost use Rattle.ov_types.specs.declared.prefix.Addr.{Addr};
-ghost use Rattle.config_model.specs.declared.config.Config.{Config};
-ghost use Rattle.config_model.specs.declared.topology.Topology.{Topology};
+ghost use Rattle.config_types.specs.declared.config.Config.{Config};
+ghost use Rattle.config_types.specs.declared.topology.Topology.{Topology};
 ghost use Rattle.config_check.specs.Checked.{Checked};
 ghost use Rattle.config_check.specs.Sentences.{IsValid};
 ghost use Rattle.run_ties.specs.Ties.{BreaksNone, Grows, HasNode, HasPort, HasRelated, HasUse, IsTiedBy, Ties};

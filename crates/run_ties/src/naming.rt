@@ -3,7 +3,7 @@ ghost use Rattle.std.specs.Prelude.{◌≡◌};
 ghost use Rattle.run_ties.specs.Tying.{end_id, ends_of, home_id, network_id};
 
 use config_check::network_named;
-use config_model::{Config, End, Port, Rule};
+use config_types::{Config, End, Port, Rule};
 use ov_types::{InstanceId, Name};
 
 fn network_id(config: &Config, name: &Name) -> Option<InstanceId>

@@ -8,7 +8,7 @@ ghost use Rattle.run_ties.specs.Relating.{is_related_by, relates_by, relates_one
 ghost use Rattle.run_ties.specs.Tying.{relates};
 
 use crate::kept::Related;
-use config_model::{Config, Network, Policy};
+use config_types::{Config, Network, Policy};
 use ov_types::NoMemory;
 use policy_rules::{attaches, some_rule_leads};
 use std::alloc::{AllocError, Global};

@@ -1,9 +1,9 @@
 -- Every message has an octet.
 use Rattle.std.proofs.Common.{◌<◌, ℕ, suc, List, [], ◌∷◌, length, arith}
-use Rattle.machine_model.specs.Moments.{ArePositive}
-use Rattle.machine_model.specs.Session.{Open, Keepalive, Hello, Carries}
-use Rattle.item_wire.specs.Records.{spelling}
-use Rattle.item_wire.specs.declared.item.Item.TheVariants.{Hello as HelloItem}
+use Rattle.config_node.specs.MachineModel.Moments.{ArePositive}
+use Rattle.config_node.specs.MachineModel.Session.{Open, Keepalive, Hello, Carries}
+use Rattle.agent_node.specs.ItemWire.Records.{spelling}
+use Rattle.agent_node.specs.ItemWire.Item.TheVariants.{Hello as HelloItem}
 use Rattle.running_model.specs.Stands.{at_least_one, carried_octets, message_size}
 
 one_at_least : (octets : List ℕ) → 0 < at_least_one octets

@@ -11,11 +11,11 @@ use Rattle.control_node.specs.Agents.{is_retired}
 use Rattle.control_node.specs.Wanting as wanting
 use Rattle.control_node.specs.Core as core
 use Rattle.control_node.specs.declared.plan.ControlPlan.{ControlPlan}
-use Rattle.control_wants.specs.Held.{told_in}
-use Rattle.node_model.specs.Maps.{Map}
-use Rattle.node_model.specs.Paths.{Holdings, Told}
-use Rattle.node_model.specs.Step.{NodeKind, Post, post}
-use Rattle.node_model.specs.Wants.{wanted_by_agent, wanted_by_peers}
+use Rattle.control_node.specs.ControlWants.Held.{told_in}
+use Rattle.agent_node.specs.NodeModel.Maps.{Map}
+use Rattle.agent_node.specs.NodeModel.Paths.{Holdings, Told}
+use Rattle.agent_node.specs.NodeModel.Step.{NodeKind, Post, post}
+use Rattle.agent_node.specs.NodeModel.Wants.{wanted_by_agent, wanted_by_peers}
 
 -- who it is, and who is at the other ends: session 0 is the feed, then come the peers, and then the agents by their
 -- numbers

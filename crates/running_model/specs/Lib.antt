@@ -6,3 +6,9 @@ pub mod Moving
 pub mod Stands
 pub mod Telling
 pub mod Taking
+pub mod ControlNode
+pub mod ConfigNode
+pub mod AgentNode
+pub mod ControlWants
+pub mod MachineModel
+pub mod NodeRoutes

@@ -5,14 +5,14 @@ use Rattle.std.specs.declared.option.Option.TheVariants.{Some, None}
 use Rattle.std.specs.List.{filter, list_any, slice_set}
 use Rattle.ov_types.specs.First.{same_name}
 use Rattle.ov_types.specs.declared.rows.NodeId.{NodeId}
-use Rattle.config_model.specs.declared.topology.Node.{Node}
-use Rattle.config_model.specs.declared.topology.Topology.{Topology}
+use Rattle.config_types.specs.declared.topology.Node.{Node}
+use Rattle.config_types.specs.declared.topology.Topology.{Topology}
 use Rattle.control_node.specs.Agents.{put_at}
-use Rattle.node_core.specs.Keeping.{AreSwept}
-use Rattle.node_model.specs.Step.{nothing}
-use Rattle.machine_model.specs.Setup.{Move, Name, id_of, is_listed, with_agent, without_agent}
-use Rattle.machine_model.specs.Session.{Role, Agent}
-use Rattle.machine_model.specs.Network.{same_role}
+use Rattle.agent_node.specs.NodeCore.Keeping.{AreSwept}
+use Rattle.agent_node.specs.NodeModel.Step.{nothing}
+use Rattle.config_node.specs.MachineModel.Setup.{Move, Name, id_of, is_listed, with_agent, without_agent}
+use Rattle.config_node.specs.MachineModel.Session.{Role, Agent}
+use Rattle.config_node.specs.MachineModel.Network.{same_role}
 use Rattle.running_model.specs.Controls.{Controls, first_agent}
 use Rattle.running_model.specs.Seats.{Who, Configuring, Controlling, Forwarding, Seat, agent_plan, name_of, role_of, seat}
 use Rattle.running_model.specs.Seats.{seat_named, session_with}

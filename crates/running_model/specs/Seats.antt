@@ -7,14 +7,14 @@ use Rattle.std.specs.Option.{option_map, unwrap_or}
 use Rattle.std.specs.List.{filter, slice_index_or}
 use Rattle.ov_types.specs.First.{same_name}
 use Rattle.ov_types.specs.declared.rows.NodeId.{NodeId}
-use Rattle.config_model.specs.declared.topology.Node.{Node}
-use Rattle.config_model.specs.declared.topology.Topology.{Topology}
-use Rattle.config_check.specs.Checked.{Checked}
-pub use Rattle.node_model.specs.Naming.{no_node}
-use Rattle.node_model.specs.Step.{NodeKind, Post, post}
-use Rattle.machine_model.specs.Setup.{Name, Setup, agents_of, checked, id_of}
-use Rattle.machine_model.specs.Network.{config}
-use Rattle.machine_model.specs.Session.{Role, Configuration, Controller, Agent, is_idle, is_up_phase}
+use Rattle.config_types.specs.declared.topology.Node.{Node}
+use Rattle.config_types.specs.declared.topology.Topology.{Topology}
+use Rattle.config_node.specs.ConfigCheck.Checked.{Checked}
+pub use Rattle.agent_node.specs.NodeModel.Naming.{no_node}
+use Rattle.agent_node.specs.NodeModel.Step.{NodeKind, Post, post}
+use Rattle.config_node.specs.MachineModel.Setup.{Name, Setup, agents_of, checked, id_of}
+use Rattle.config_node.specs.MachineModel.Network.{config}
+use Rattle.config_node.specs.MachineModel.Session.{Role, Configuration, Controller, Agent, is_idle, is_up_phase}
 use Rattle.config_node.specs.Core as configuration
 use Rattle.agent_node.specs.Core as agent
 use Rattle.agent_node.specs.declared.plan.AgentPlan.{AgentPlan}

@@ -4,22 +4,22 @@ use Rattle.std.specs.declared.option.Option.TheVariants.{Some, None}
 use Rattle.std.specs.List.{AllByRecursion}
 use Rattle.bgp_wire.specs.Content.{KeepsAlive}
 use Rattle.bgp_wire.specs.Spelling as wire
-use Rattle.item_wire.specs.Records as record_of
-use Rattle.item_wire.specs.declared.item.Item.TheVariants.{Hello as HelloItem}
+use Rattle.agent_node.specs.ItemWire.Records as record_of
+use Rattle.agent_node.specs.ItemWire.Item.TheVariants.{Hello as HelloItem}
 use Rattle.ov_sync.specs.declared.Delta.TheVariants.{Put, Drop}
-use Rattle.config_check.specs.Checked.{Checked}
-use Rattle.config_model.specs.declared.event.Event.{Event as Written}
-use Rattle.node_items.specs.Told as items
-use Rattle.node_model.specs.Keys.{Vpn}
-use Rattle.node_model.specs.Maps.{Change}
-use Rattle.node_model.specs.Step.{nothing, post}
-use Rattle.node_routes.specs.Hearing.{open_octets}
-use Rattle.node_routes.specs.Told as routes
-use Rattle.machine_model.specs.Setup.{Name}
-use Rattle.machine_model.specs.Session.{Message, Open, Keepalive, Hello, Carries, SessionEnd, Session, is_live, is_peering}
-use Rattle.machine_model.specs.Network.{MachineState, start}
-use Rattle.machine_model.specs.Steps.{session_of}
-use Rattle.machine_model.specs.Events.{after, event_of}
+use Rattle.config_node.specs.ConfigCheck.Checked.{Checked}
+use Rattle.config_types.specs.declared.event.Event.{Event as Written}
+use Rattle.agent_node.specs.NodeItems.Told as items
+use Rattle.agent_node.specs.NodeModel.Keys.{Vpn}
+use Rattle.agent_node.specs.NodeModel.Maps.{Change}
+use Rattle.agent_node.specs.NodeModel.Step.{nothing, post}
+use Rattle.control_node.specs.NodeRoutes.Hearing.{open_octets}
+use Rattle.control_node.specs.NodeRoutes.Told as routes
+use Rattle.config_node.specs.MachineModel.Setup.{Name}
+use Rattle.config_node.specs.MachineModel.Session.{Message, Open, Keepalive, Hello, Carries, SessionEnd, Session, is_live, is_peering}
+use Rattle.config_node.specs.MachineModel.Network.{MachineState, start}
+use Rattle.config_node.specs.MachineModel.Steps.{session_of}
+use Rattle.config_node.specs.MachineModel.Events.{after, event_of}
 use Rattle.running_model.specs.Seats.{Who, Controlling, Seat, whos, name_of, others_of}
 use Rattle.running_model.specs.Seats.{breaks_in, far_of, kept_at, kept_in, link, link_at, notice, notice_at, other, seat, taken_in}
 use Rattle.running_model.specs.declared.place.SessionPlace.{SessionPlace}

@@ -6,16 +6,16 @@ use Rattle.std.specs.declared.option.Option.TheVariants.{Some, None}
 use Rattle.std.specs.List.{filter_map, slice_set}
 use Rattle.ov_link.specs.Breaks.{counted, is_break, with_break}
 use Rattle.ov_link.specs.declared.step.Input.{Input}
-use Rattle.item_wire.specs.declared.event.ItemCause.{ItemCause}
+use Rattle.agent_node.specs.ItemWire.ItemCause.{ItemCause}
 use Rattle.ov_types.specs.declared.rows.NodeRows.{NodeRows}
 use Rattle.ov_types.specs.declared.rows.NodeRows.TheVariants as Rows
 use Rattle.route_targets.specs.Forwarding.{Forwarder}
-use Rattle.config_check.specs.Checked.{Checked}
-use Rattle.node_core.specs.Keeping.{AreSwept}
-use Rattle.node_core.specs.Whole.{session_of}
-use Rattle.node_model.specs.Agent.{rows as agent_rows}
-use Rattle.node_model.specs.Tables.{rows as control_rows}
-use Rattle.node_model.specs.Step.{Beginning, Post, nothing, post, begun, planned, told_all}
+use Rattle.config_node.specs.ConfigCheck.Checked.{Checked}
+use Rattle.agent_node.specs.NodeCore.Keeping.{AreSwept}
+use Rattle.agent_node.specs.NodeCore.Whole.{session_of}
+use Rattle.agent_node.specs.NodeModel.Agent.{rows as agent_rows}
+use Rattle.agent_node.specs.NodeModel.Tables.{rows as control_rows}
+use Rattle.agent_node.specs.NodeModel.Step.{Beginning, Post, nothing, post, begun, planned, told_all}
 use Rattle.config_node.specs.Beginning as configuration
 use Rattle.control_node.specs.Beginning as control
 use Rattle.control_node.specs.declared.cause.NodeCause.{NodeCause}

@@ -3,10 +3,10 @@ use Rattle.std.specs.Prelude.{List, [], ◌∷◌, ◌++◌, map, Bool, true, if
 use Rattle.std.specs.Option.{unwrap_or}
 use Rattle.std.specs.declared.option.Option.TheVariants.{Some, None}
 use Rattle.ov_sync.specs.Keyed.{changed}
-use Rattle.node_model.specs.Maps.{Map}
-use Rattle.node_model.specs.Step.{Beginning, Phase, Opened, Post}
-use Rattle.machine_model.specs.Session.{Message, Open, Keepalive, Hello, Carries}
-use Rattle.machine_model.specs.Moments.{cell}
+use Rattle.agent_node.specs.NodeModel.Maps.{Map}
+use Rattle.agent_node.specs.NodeModel.Step.{Beginning, Phase, Opened, Post}
+use Rattle.config_node.specs.MachineModel.Session.{Message, Open, Keepalive, Hello, Carries}
+use Rattle.config_node.specs.MachineModel.Moments.{cell}
 use Rattle.running_model.specs.Seats.{Who}
 use Rattle.running_model.specs.Stands.{octets_of}
 

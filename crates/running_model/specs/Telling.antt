@@ -5,18 +5,18 @@ use Rattle.ov_types.specs.declared.vpn.VpnKey.{VpnKey}
 use Rattle.ov_types.specs.declared.vpn.VpnRoute.{VpnRoute}
 use Rattle.ov_sync.specs.Embed.{moved_delta}
 use Rattle.ov_sync.specs.declared.Delta.{Delta}
-use Rattle.bgp_vpn.specs.Written.{IfPut}
-use Rattle.item_wire.specs.Inputs.{may_send}
-use Rattle.item_wire.specs.declared.event.ItemFrom.{ItemFrom}
-use Rattle.item_wire.specs.declared.event.ItemFrom.TheVariants as From
-use Rattle.node_items.specs.Told.{CanBeTold}
-use Rattle.node_model.specs.Keys.{Vpn}
-use Rattle.node_model.specs.Maps.{Change}
-use Rattle.node_model.specs.Values.{Route}
-use Rattle.node_routes.specs.First.{ChangeFitsItsTypes}
-use Rattle.node_routes.specs.Told.{IsWritable}
-use Rattle.machine_model.specs.Session.{Role, Configuration, Controller, Agent, are_peers}
-use Rattle.machine_model.specs.Session.{Message, Carries, Session}
+use Rattle.control_node.specs.BgpVpn.Written.{IfPut}
+use Rattle.agent_node.specs.ItemWire.Inputs.{may_send}
+use Rattle.agent_node.specs.ItemWire.ItemFrom.{ItemFrom}
+use Rattle.agent_node.specs.ItemWire.ItemFrom.TheVariants as From
+use Rattle.agent_node.specs.NodeItems.Told.{CanBeTold}
+use Rattle.agent_node.specs.NodeModel.Keys.{Vpn}
+use Rattle.agent_node.specs.NodeModel.Maps.{Change}
+use Rattle.agent_node.specs.NodeModel.Values.{Route}
+use Rattle.control_node.specs.NodeRoutes.First.{ChangeFitsItsTypes}
+use Rattle.control_node.specs.NodeRoutes.Told.{IsWritable}
+use Rattle.config_node.specs.MachineModel.Session.{Role, Configuration, Controller, Agent, are_peers}
+use Rattle.config_node.specs.MachineModel.Session.{Message, Carries, Session}
 
 -- which records a node may send to another, besides its hello
 abbrev pub from_of : Role → Role → ItemFrom

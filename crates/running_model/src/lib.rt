@@ -4,4 +4,7 @@
 
 mod place;
 
+pub use agent_node::{AgentNode, AgentPlan};
+pub use config_node::ConfigNode;
+pub use control_node::{ControlNode, ControlPlan};
 pub use place::SessionPlace;

@@ -4,12 +4,12 @@ use Rattle.std.proofs.Common.{inl, inr}
 use Rattle.std.specs.List.{list_any}
 use Rattle.ov_types.specs.declared.rows.NodeId.{NodeId}
 use Rattle.node_model.specs.Step.{nothing, post}
-use Rattle.control_node.specs.Agents.{AreRetired, Ascend, is_retired, joined, number_for, put_at, with_agent}
-use Rattle.control_node.specs.Core as control
-use Rattle.control_node.specs.declared.plan.ControlPlan.{ControlPlan}
-use Rattle.control_node.proofs.Retired.{first_bounds, first_gone, first_least, first_taken}
-use Rattle.machine_model.specs.Setup.{Name}
-use Rattle.machine_model.specs.Setup as model
+use Rattle.running_model.specs.ControlNode.Agents.{AreRetired, Ascend, is_retired, joined, number_for, put_at, with_agent}
+use Rattle.running_model.specs.ControlNode.Core as control
+use Rattle.running_model.specs.ControlNode.ControlPlan.{ControlPlan}
+use Rattle.running_model.proofs.ControlNodeBelow.Retired.{first_bounds, first_gone, first_least, first_taken}
+use Rattle.running_model.specs.MachineModel.Setup.{Name}
+use Rattle.running_model.specs.MachineModel.Setup as model
 use Rattle.running_model.specs.Controls.{Controls, agents_at, controls_of}
 use Rattle.running_model.specs.Moving as moving
 use Rattle.running_model.specs.Moving.{number_in}

@@ -8,13 +8,13 @@ use Rattle.ov_types.proofs.FirstLemmas.{same_name_iff, same_name_self}
 use Rattle.ov_types.specs.declared.rows.NodeId.{NodeId}
 use Rattle.node_core.specs.Keeping.{AreSwept}
 use Rattle.node_model.specs.Step.{NodeKind, Post, begun, changes, nothing, post, replies, told_all}
-use Rattle.config_node.specs.Setting.{as_it_is}
-use Rattle.control_node.specs.Agents.{AreRetired, closing, is_retired, retiring}
-use Rattle.control_node.specs.Core as control
-use Rattle.control_node.specs.Wanting as wanting
-use Rattle.control_node.specs.declared.plan.ControlPlan.{ControlPlan}
-use Rattle.control_node.proofs.Retired.{one_more}
-use Rattle.machine_model.specs.Setup.{Name, has_name, without_agent}
+use Rattle.running_model.specs.ConfigNode.Setting.{as_it_is}
+use Rattle.running_model.specs.ControlNode.Agents.{AreRetired, closing, is_retired, retiring}
+use Rattle.running_model.specs.ControlNode.Core as control
+use Rattle.running_model.specs.ControlNode.Wanting as wanting
+use Rattle.running_model.specs.ControlNode.ControlPlan.{ControlPlan}
+use Rattle.running_model.proofs.ControlNodeBelow.Retired.{one_more}
+use Rattle.running_model.specs.MachineModel.Setup.{Name, has_name, without_agent}
 use Rattle.running_model.specs.Controls as controls
 use Rattle.running_model.specs.Controls.{Controls, agents_at, controls_of}
 use Rattle.running_model.specs.Moving.{retired_of, vacated, vacated_from}

@@ -20,3 +20,5 @@ pub mod Reseating
 pub mod Moved
 pub mod Seating
 pub mod Shifts
+pub mod RunningModel
+pub mod MachineModel

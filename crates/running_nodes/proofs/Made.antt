@@ -8,15 +8,15 @@ use Rattle.ov_types.specs.First.{same_name}
 use Rattle.ov_types.proofs.FirstLemmas.{same_name_iff, same_name_self}
 use Rattle.ov_types.specs.declared.rows.NodeId.{NodeId}
 use Rattle.config_check.specs.Checked.{Checked}
-use Rattle.config_model.specs.declared.topology.Node.{Node}
-use Rattle.config_model.specs.declared.topology.Topology.{Topology}
-use Rattle.machine_model.specs.Setup.{Name, agents_in, first_numbers, id_of, lists, opening}
+use Rattle.config_types.specs.declared.topology.Node.{Node}
+use Rattle.config_types.specs.declared.topology.Topology.{Topology}
+use Rattle.running_model.specs.MachineModel.Setup.{Name, agents_in, first_numbers, id_of, lists, opening}
 use Rattle.running_model.specs.Controls.{Controls, agents_at, controls_of}
 use Rattle.node_core.specs.Keeping.{nothing_kept}
 use Rattle.node_core.specs.Resting.{nothings}
 use Rattle.node_model.specs.Step.{nothing}
-use Rattle.config_node.specs.Core as configuration
-use Rattle.control_node.specs.Core as control
+use Rattle.running_model.specs.ConfigNode.Core as configuration
+use Rattle.running_model.specs.ControlNode.Core as control
 use Rattle.agent_node.specs.Core as agent
 use Rattle.running_model.specs.Seats.{Configuring, Controlling, Forwarding, Seat, Who, agent_plan, control_plan, controller_named, names_of, others_of, whos}
 use Rattle.running_model.specs.Steps.{fresh_seat}

@@ -5,9 +5,9 @@ use Rattle.ov_link.specs.FailingState.{FailingState}
 use Rattle.ov_types.specs.declared.rows.NodeId.{NodeId}
 use Rattle.node_core.specs.Keeping.{AreSwept}
 use Rattle.node_model.specs.Step.{Post, nothing}
-use Rattle.control_node.specs.Agents.{put_at}
-use Rattle.control_node.proofs.Placed.{put_alike, put_behind, put_there}
-use Rattle.machine_model.specs.Setup.{Name}
+use Rattle.running_model.specs.ControlNode.Agents.{put_at}
+use Rattle.running_model.proofs.ControlNodeBelow.Placed.{put_alike, put_behind, put_there}
+use Rattle.running_model.specs.MachineModel.Setup.{Name}
 use Rattle.running_model.specs.Controls.{Controls}
 use Rattle.running_model.specs.Moving.{Leaves, joined, number_for, retired_of, vacated}
 use Rattle.running_model.specs.Seats.{Who, Configuring, Controlling, Forwarding, Seat, name_of, others_of}

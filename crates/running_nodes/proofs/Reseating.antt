@@ -3,14 +3,14 @@ use Rattle.std.proofs.Common.{◌≡◌, ◌<◌, ◌≤◌, ◌+◌, ◌-◌, �
 use Rattle.std.specs.Option.{option_map}
 use Rattle.std.specs.List.{All}
 use Rattle.ov_types.specs.First.{same_name}
-use Rattle.config_model.specs.declared.topology.Node.{Node}
-use Rattle.config_model.specs.declared.topology.Topology.{Topology}
-use Rattle.config_node.specs.Core as configuration
-use Rattle.control_node.specs.Core as control
+use Rattle.config_types.specs.declared.topology.Node.{Node}
+use Rattle.config_types.specs.declared.topology.Topology.{Topology}
+use Rattle.running_model.specs.ConfigNode.Core as configuration
+use Rattle.running_model.specs.ControlNode.Core as control
 use Rattle.agent_node.specs.Core as agent
-use Rattle.machine_model.specs.Session.{Agent}
-use Rattle.machine_model.specs.Network.{same_role}
-use Rattle.machine_model.specs.Setup.{Name}
+use Rattle.running_model.specs.MachineModel.Session.{Agent}
+use Rattle.running_model.specs.MachineModel.Network.{same_role}
+use Rattle.running_model.specs.MachineModel.Setup.{Name}
 use Rattle.running_model.specs.Moving.{is_agent_named, reseated, seats_of}
 use Rattle.running_model.specs.Seats.{Forwarding, Seat, agent_plan, index_from, name_of, names_of, others_of, role_of}
 use Rattle.running_model.specs.Steps.{fresh_seat}

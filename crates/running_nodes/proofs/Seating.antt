@@ -6,12 +6,12 @@ use Rattle.std.specs.Option.{option_map}
 use Rattle.std.specs.List.{All}
 use Rattle.ov_types.specs.declared.rows.NodeId.{NodeId}
 use Rattle.ov_types.specs.First.{same_name}
-use Rattle.config_model.specs.declared.topology.Node.{Node}
-use Rattle.config_model.specs.declared.topology.Topology.{Topology}
+use Rattle.config_types.specs.declared.topology.Node.{Node}
+use Rattle.config_types.specs.declared.topology.Topology.{Topology}
 use Rattle.agent_node.specs.Core as agent
-use Rattle.config_node.specs.Core as configuration
-use Rattle.control_node.specs.Core as control
-use Rattle.machine_model.specs.Setup.{Name}
+use Rattle.running_model.specs.ConfigNode.Core as configuration
+use Rattle.running_model.specs.ControlNode.Core as control
+use Rattle.running_model.specs.MachineModel.Setup.{Name}
 use Rattle.running_model.specs.Controls.{Controls, first_agent}
 use Rattle.running_model.specs.Moving.{Leaves, number_for, number_in, reseated, seats_of}
 use Rattle.running_model.specs.Seats.{Controlling, Seat, index_from, Who, name_there, names_of, other, others_of, seat}

@@ -4,7 +4,7 @@ use Rattle.ov_link.specs.FailingState.{FailingState}
 use Rattle.ov_link.specs.declared.step.Input.{Input}
 use Rattle.config_check.specs.Checked.{Checked}
 use Rattle.node_core.specs.Keeping.{AreSwept}
-use Rattle.machine_model.specs.Setup.{Name}
+use Rattle.running_model.specs.MachineModel.Setup.{Name}
 use Rattle.running_model.specs.Seats.{Seat, Configuring, nobody, others_of, seat}
 use Rattle.running_model.specs.Steps.{Configures, IsStepped, Takes, as_it_is, with_seat}
 use Rattle.running_nodes.specs.Changes.{ChangesOne, SetsOver, TakesOver}

@@ -19,16 +19,16 @@ use Rattle.node_model.specs.Maps.{Map, difference}
 use Rattle.node_model.specs.Paths.{Told}
 use Rattle.node_model.specs.Step.{Beginning, NodeKind, Post, Steps, begun, changes, nothing, planned, post, replies, told_all}
 use Rattle.node_model.specs.Wants.{wanted_by_agent, wanted_by_peers}
-use Rattle.control_wants.specs.Held.{told_in}
-use Rattle.control_node.specs.Agents.{AreRetired, Ascend, is_retired}
-use Rattle.control_node.specs.Beginning.{BeginsKeeping, KeepsBy, agent_at, config, item_session, item_state, no_node}
-use Rattle.control_node.specs.Core as core
-use Rattle.control_node.specs.Wanting as wanting
-use Rattle.control_node.specs.declared.cause.NodeCause.{NodeCause}
-use Rattle.control_node.specs.declared.cause.NodeCause.TheVariants as Cause
-use Rattle.control_node.specs.declared.plan.ControlPlan.{ControlPlan}
-use Rattle.machine_model.specs.Setup.{Name}
-use Rattle.machine_model.specs.Network.{config as named_config}
+use Rattle.running_model.specs.ControlWants.Held.{told_in}
+use Rattle.running_model.specs.ControlNode.Agents.{AreRetired, Ascend, is_retired}
+use Rattle.running_model.specs.ControlNode.Beginning.{BeginsKeeping, KeepsBy, agent_at, config, item_session, item_state, no_node}
+use Rattle.running_model.specs.ControlNode.Core as core
+use Rattle.running_model.specs.ControlNode.Wanting as wanting
+use Rattle.running_model.specs.ControlNode.NodeCause.{NodeCause}
+use Rattle.running_model.specs.ControlNode.NodeCause.TheVariants as Cause
+use Rattle.running_model.specs.ControlNode.ControlPlan.{ControlPlan}
+use Rattle.running_model.specs.MachineModel.Setup.{Name}
+use Rattle.running_model.specs.MachineModel.Network.{config as named_config}
 use Rattle.control_silent_agent_laws.specs.Quiet.{IsWithout, SameButQuiet}
 use Rattle.control_silent_agent_laws.proofs.Quiet.{quiet_by_agent, quiet_by_peers}
 use Rattle.running_model.specs.Controls as controls

@@ -10,8 +10,8 @@ use Rattle.ov_types.specs.declared.rows.NodeRows.{NodeRows}
 use Rattle.route_targets.specs.Forwarding.{Forwarder}
 use Rattle.node_core.specs.Keeping.{AreSwept}
 use Rattle.node_model.specs.Step.{nothing}
-use Rattle.control_node.specs.Agents.{put_at}
-use Rattle.machine_model.specs.Setup.{Name, with_agent}
+use Rattle.running_model.specs.ControlNode.Agents.{put_at}
+use Rattle.running_model.specs.MachineModel.Setup.{Name, with_agent}
 use Rattle.running_model.specs.Controls.{Controls, first_agent}
 use Rattle.running_model.specs.Moving.{number_for, retired_of}
 use Rattle.running_model.specs.Seats.{Who, Configuring, Controlling, name_of, others_of}

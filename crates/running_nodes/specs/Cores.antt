@@ -5,9 +5,9 @@ use Rattle.std.specs.declared.option.Option.TheVariants.{Some, None}
 use Rattle.node_model.specs.Agent.{rows as rows_of}
 use Rattle.node_model.specs.Paths.{Holdings}
 use Rattle.node_model.specs.Step.{Post, nothing, post}
-use Rattle.config_node.specs.Core as configuration
-use Rattle.control_node.specs.Agents.{is_retired}
-use Rattle.control_node.specs.Core as control
+use Rattle.running_model.specs.ConfigNode.Core as configuration
+use Rattle.running_model.specs.ControlNode.Agents.{is_retired}
+use Rattle.running_model.specs.ControlNode.Core as control
 use Rattle.agent_node.specs.Core as agent
 use Rattle.control_silent_agent_laws.specs.Quiet.{SameButQuiet}
 use Rattle.running_model.specs.Controls as controls

@@ -4,12 +4,12 @@ use Rattle.std.specs.declared.option.Option.{Option}
 use Rattle.std.specs.declared.option.Option.TheVariants.{Some, None}
 use Rattle.std.specs.List.{All, Contains, filter}
 use Rattle.config_check.specs.Rules.{controller_names}
-use Rattle.config_model.specs.declared.topology.Node.{Node}
-use Rattle.config_model.specs.declared.topology.Topology.{Topology}
+use Rattle.config_types.specs.declared.topology.Node.{Node}
+use Rattle.config_types.specs.declared.topology.Topology.{Topology}
 use Rattle.agent_node.specs.Core as agent
-use Rattle.control_node.specs.declared.plan.ControlPlan.{ControlPlan}
+use Rattle.running_model.specs.ControlNode.ControlPlan.{ControlPlan}
 use Rattle.node_model.specs.Step.{nothing}
-use Rattle.machine_model.specs.Setup.{id_of, lists}
+use Rattle.running_model.specs.MachineModel.Setup.{id_of, lists}
 use Rattle.ov_types.specs.First.{same_name}
 use Rattle.ov_types.specs.declared.rows.NodeId.{NodeId}
 use Rattle.running_model.specs.Seats.{Who, Forwarding, agent_plan, name_of, others_of}

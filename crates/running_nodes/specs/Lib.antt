@@ -4,3 +4,6 @@ pub mod Cores
 pub mod Codes
 pub mod Changes
 pub mod Fresh
+pub mod RunningModel
+pub mod ControlNode
+pub mod MachineModel

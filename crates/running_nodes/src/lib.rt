@@ -13,3 +13,4 @@ mod plans;
 
 pub use nodes::Nodes;
 pub use plans::lists;
+pub use running_model::{ControlNode, SessionPlace};

@@ -12,7 +12,7 @@ use Rattle.ov_types.specs.Bounds.{is_from_to}
 use Rattle.ov_types.specs.First.{same_name}
 use Rattle.ov_types.specs.Name.{is_name}
 use Rattle.ov_types.proofs.FirstLemmas.{same_name_iff, all_head, all_tail, pairs_head, pairs_tail}
-use Rattle.config_model.specs.declared.config.Config.{Config}
+use Rattle.config_types.specs.declared.config.Config.{Config}
 use Rattle.config_model.specs.declared.fields.Count.TheVariants.{AnyNumber}
 use Rattle.config_model.specs.Documents.{items_of, list_document, number_document}
 use Rattle.config_model.specs.Faults.{Fault, ◌>>=◌, kept}

@@ -8,7 +8,7 @@ use Rattle.serde_json.specs.View.{view, items_view}
 use Rattle.serde_json.specs.declared.value.Value.{Value}
 use Rattle.serde_json.proofs.Views.{items_len-items_view}
 use Rattle.ov_types.specs.Bounds.{is_from_to}
-use Rattle.config_model.specs.declared.config.Config.{Config}
+use Rattle.config_types.specs.declared.config.Config.{Config}
 use Rattle.config_model.specs.declared.fault.DocKind.TheVariants.{Range}
 use Rattle.config_model.specs.declared.fault.ReadRefusal.{ReadRefusal}
 use Rattle.config_model.specs.declared.fault.ReadRefusal.TheVariants.{Doc, NoMemory}

@@ -11,8 +11,8 @@ use Rattle.ov_types.specs.First.{same_name}
 use Rattle.ov_types.specs.Name.{is_name}
 use Rattle.ov_types.proofs.FirstLemmas.{found_is, pairs_head}
 use Rattle.ov_types.specs.declared.numbers.ServiceNo.{ServiceNo}
-use Rattle.config_model.specs.declared.config.Config.{Config}
-use Rattle.config_model.specs.declared.config.Service.{Service}
+use Rattle.config_types.specs.declared.config.Config.{Config}
+use Rattle.config_types.specs.declared.config.Service.{Service}
 use Rattle.config_check.proofs.Iffs.{list_all_true}
 use Rattle.scale_out.specs.declared.groups.Group.{Group}
 use Rattle.scale_out.specs.Choice.{score, chosen, IsChosen}

@@ -5,7 +5,7 @@ use Rattle.serde_json.specs.Data.{Items, no_items, item}
 use Rattle.serde_json.specs.Events.{items_len}
 use Rattle.ov_types.specs.Bounds.{is_from_to}
 use Rattle.ov_types.specs.First.{same_name}
-use Rattle.config_model.specs.declared.config.Config.{Config}
+use Rattle.config_types.specs.declared.config.Config.{Config}
 use Rattle.config_model.specs.declared.fields.Count.TheVariants.{AnyNumber}
 use Rattle.config_model.specs.Paths.{item_path}
 use Rattle.config_model.specs.Faults.{Fault, ◌>>=◌, kept}

@@ -6,7 +6,7 @@ use Rattle.ov_types.specs.declared.numbers.ServiceNo.{ServiceNo}
 use Rattle.ov_types.specs.declared.packet.Outcome.{Outcome}
 use Rattle.ov_types.specs.declared.packet.Outcome.TheVariants as Outcomes
 use Rattle.ov_types.specs.declared.packet.Packet.{Packet}
-use Rattle.config_model.specs.declared.config.Config.{Config}
+use Rattle.config_types.specs.declared.config.Config.{Config}
 use Rattle.policy_rules.specs.Answering.{answering}
 use Rattle.config_check.specs.Finding.{port_numbered}
 use Rattle.reach_plain.specs.Reachability.{reachability}

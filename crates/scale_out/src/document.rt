@@ -5,14 +5,15 @@ ghost use Rattle.serde_json.specs.View.{view};
 ghost use Rattle.config_model.specs.Paths.{place_text};
 ghost use Rattle.config_model.specs.Faults.{Gives};
 ghost use Rattle.config_model.specs.Fields.{in_member};
-ghost use Rattle.config_model.specs.Form.{has_topology_form, has_config_form, has_packet_form};
+ghost use Rattle.config_types.specs.Form.{has_topology_form, has_config_form, has_packet_form};
 ghost use Rattle.scale_out.specs.Reading.{groups_at, scale_at};
 
 use crate::groups::Groups;
 use config_model::reading::{
     Count, DocumentPlace, check_others, list_member, member_of, object_of, read_member,
 };
-use config_model::{CompileInput, Config, ReadRefusal, Topology};
+use config_model::{CompileInput, ReadRefusal};
+use config_types::{Config, Topology};
 use ov_types::{Items, Packet};
 use serde_json::Value;
 use std::alloc::Global;

@@ -15,7 +15,8 @@ use crate::groups::Group;
 use config_model::reading::{
     Count, DocumentPlace, FromDocument, check_others, list_of, member_of, object_of, whole_of,
 };
-use config_model::{Config, DocKind, ReadRefusal};
+use config_model::{DocKind, ReadRefusal};
+use config_types::Config;
 use ov_types::{Items, Name};
 use serde_json::Value;
 use std::alloc::Global;

@@ -8,8 +8,9 @@ ghost use Rattle.scale_out.specs.Form.{has_group_form};
 ghost use Rattle.scale_out.specs.Reading.{groups_at};
 
 use crate::group_reader::groups_of;
+use config_model::ReadRefusal;
 use config_model::reading::DocumentPlace;
-use config_model::{Config, ReadRefusal};
+use config_types::Config;
 use ov_types::{Items, Name};
 use serde_json::Value;
 use std::alloc::Global;

@@ -11,7 +11,7 @@ use crate::choice::choose;
 use crate::groups::{Group, Groups};
 use crate::visits::{Spread, Visit, Visits};
 use config_check::{Valid, port_numbered};
-use config_model::{Config, Service};
+use config_types::{Config, Service};
 use ov_types::{Name, Outcome, Packet, ServiceNo};
 use reach_plain::reach;
 

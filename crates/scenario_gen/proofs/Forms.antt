@@ -8,7 +8,7 @@ use Rattle.std.proofs.lemmas.Bool.{and_parts, and_from}
 use Rattle.std.proofs.lemmas.Bool.Decides.{nat_tests}
 use Rattle.std.proofs.lemmas.Fmt.{decimal_by_steps}
 use Rattle.std.proofs.lemmas.List.Folds.{list_all-append}
-use Rattle.config_model.specs.Form.{is_from_to, is_network_name, is_node_name}
+use Rattle.config_types.specs.Form.{is_from_to, is_network_name, is_node_name}
 use Rattle.scenario_gen.specs.Naming.{numbered}
 use Rattle.scenario_gen.proofs.Names.{numbered_is_name}
 

@@ -1,6 +1,6 @@
 -- The topology has the written form.
 use Rattle.std.proofs.Common.{◌≡◌, ℕ, ◌<◌, ◌+◌, ◌%◌, true, codes, refl, arith}
-use Rattle.config_model.specs.Form.{has_controller_form, has_node_form, has_topology_form, is_node_address, is_node_name}
+use Rattle.config_types.specs.Form.{has_controller_form, has_node_form, has_topology_form, is_node_address, is_node_name}
 use Rattle.ov_types.specs.Name.{is_name}
 use Rattle.scenario_gen.specs.Naming.{numbered, address}
 use Rattle.scenario_gen.specs.Nodes.{controller, node, topology, controller_at, node_at}

@@ -4,7 +4,7 @@ use Rattle.std.proofs.lemmas.List.{length-map}
 use Rattle.std.specs.List.{range_with_len, flat_map}
 use Rattle.std.proofs.lemmas.List.Concat.{flat_map-append}
 use Rattle.std.proofs.lemmas.List.FromFn.{length-range_with_len, length-map-range_with_len}
-use Rattle.config_model.specs.declared.config.Policy.{Policy}
+use Rattle.config_types.specs.declared.config.Policy.{Policy}
 use Rattle.scenario_gen.specs.Laws.{use_of, uses_of}
 use Rattle.scenario_gen.specs.Networks.{networks_of}
 use Rattle.scenario_gen.specs.Policies.{policies_of, front_rules, back_rules, management_rules}

@@ -6,8 +6,8 @@ use Rattle.std.proofs.lemmas.List.Elements.{Contains-get_or}
 use Rattle.std.proofs.lemmas.Nat.{mod-mul-add, div-mul-add, div_below, mod_below, mul-add-lt}
 use Rattle.std.proofs.Math.Nat.{mod-mod_of_dvd, dvd-mul_right}
 use Rattle.ov_types.specs.Prefix.{contains}
-use Rattle.config_model.specs.declared.config.Network.{Network}
-use Rattle.config_model.specs.declared.config.Port.{Port}
+use Rattle.config_types.specs.declared.config.Network.{Network}
+use Rattle.config_types.specs.declared.config.Port.{Port}
 use Rattle.scenario_gen.specs.Laws.{IsNetworkAt, IsPortAt, HasNetwork}
 use Rattle.scenario_gen.specs.Naming.{address}
 use Rattle.scenario_gen.specs.Networks.{subnet, networks_of, web_network, application_network, database_network, management_network}

@@ -1,12 +1,12 @@
 -- Policies have the written form.
 use Rattle.std.proofs.Common.{◌≡◌, ℕ, ◌<◌, ◌≤◌, ◌+◌, ◌*◌, ◌&&◌, true, nat_le, List, codes, refl, arith}
 use Rattle.std.specs.List.{list_all}
-use Rattle.config_model.specs.declared.config.Action.{Action}
-use Rattle.config_model.specs.declared.config.Action.TheVariants.{Pass, Deny, Through}
-use Rattle.config_model.specs.declared.config.End.{End}
-use Rattle.config_model.specs.declared.config.End.TheVariants.{Any, Named}
-use Rattle.config_model.specs.declared.config.Rule.{Rule}
-use Rattle.config_model.specs.Form.{has_policy_form, has_rule_form, has_end_form, has_action_form}
+use Rattle.config_types.specs.declared.config.Action.{Action}
+use Rattle.config_types.specs.declared.config.Action.TheVariants.{Pass, Deny, Through}
+use Rattle.config_types.specs.declared.config.End.{End}
+use Rattle.config_types.specs.declared.config.End.TheVariants.{Any, Named}
+use Rattle.config_types.specs.declared.config.Rule.{Rule}
+use Rattle.config_types.specs.Form.{has_policy_form, has_rule_form, has_end_form, has_action_form}
 use Rattle.ov_types.specs.Name.{is_name}
 use Rattle.scenario_gen.specs.Tenants.{web, application, database, management, front_policy, back_policy, management_policy, chain_name}
 use Rattle.scenario_gen.specs.Policies.{rule_of, policy_of, front_rules, back_rules, management_rules, policies_of}

@@ -1,7 +1,7 @@
 -- What tenants have has the written form.
 use Rattle.std.proofs.Common.{◌≡◌, ℕ, ◌<◌, ◌≤◌, ◌+◌, ◌*◌, true, List, length, [], ◌∷◌, codes, refl, arith}
 use Rattle.std.specs.List.{list_all}
-use Rattle.config_model.specs.Form.{has_network_form, has_service_form, has_chain_form, is_network_name, is_from_to, is_block}
+use Rattle.config_types.specs.Form.{has_network_form, has_service_form, has_chain_form, is_network_name, is_from_to, is_block}
 use Rattle.ov_types.specs.Name.{is_name}
 use Rattle.scenario_gen.specs.Naming.{numbered}
 use Rattle.scenario_gen.specs.Nodes.{node_at}

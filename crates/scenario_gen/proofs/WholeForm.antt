@@ -1,9 +1,9 @@
 -- The topology, the configuration, the events and the packets of a scenario have the written form.
 use Rattle.std.proofs.Common.{◌≡◌, ℕ, ◌<◌, ◌≤◌, ◌+◌, ◌*◌, length, ◌/◌, ◌%◌, ◌==◌, true, false, Bool, cond, List, codes, refl, arith}
 use Rattle.std.specs.List.{list_all}
-use Rattle.config_model.specs.Edit.{has_edit_form}
-use Rattle.config_model.specs.Event.{has_event_form}
-use Rattle.config_model.specs.Form.{has_config_form, has_network_form, has_port_form, has_policy_form, has_service_form, has_chain_form, has_packet_form}
+use Rattle.config_types.specs.Form.{has_edit_form}
+use Rattle.config_types.specs.Form.{has_event_form}
+use Rattle.config_types.specs.Form.{has_config_form, has_network_form, has_port_form, has_policy_form, has_service_form, has_chain_form, has_packet_form}
 use Rattle.ov_types.specs.Name.{is_name}
 use Rattle.scenario_gen.specs.Naming.{numbered}
 use Rattle.scenario_gen.specs.Networks.{networks_of}

@@ -2,7 +2,7 @@
 use Rattle.std.specs.Prelude.{ℕ, List, [], ◌∷◌, ◌+◌, ◌*◌}
 use Rattle.std.specs.List.{flat_map}
 use Rattle.ov_types.specs.Prefix.{Block}
-use Rattle.config_model.specs.declared.config.Network.{Network}
+use Rattle.config_types.specs.declared.config.Network.{Network}
 use Rattle.scenario_gen.specs.Naming.{below, address}
 use Rattle.scenario_gen.specs.Tenants.{tenants, web, application, database, management}
 use Rattle.scenario_gen.specs.Tenants.{front_policy, back_policy, management_policy}

@@ -1,14 +1,14 @@
 -- The policies: three of each tenant.
 use Rattle.std.specs.Prelude.{ℕ, List, [], ◌∷◌, ◌+◌, ◌*◌}
 use Rattle.std.specs.List.{flat_map}
-use Rattle.config_model.specs.declared.config.Action.{Action}
-use Rattle.config_model.specs.declared.config.Action.TheVariants.{Pass, Deny, Through}
-use Rattle.config_model.specs.declared.config.Direction.TheVariants.{BothWays}
-use Rattle.config_model.specs.declared.config.End.{End}
-use Rattle.config_model.specs.declared.config.End.TheVariants.{Any, Named}
-use Rattle.config_model.specs.declared.config.Policy.{Policy}
-use Rattle.config_model.specs.declared.config.Protocol.TheVariants.{Number}
-use Rattle.config_model.specs.declared.config.Rule.{Rule}
+use Rattle.config_types.specs.declared.config.Action.{Action}
+use Rattle.config_types.specs.declared.config.Action.TheVariants.{Pass, Deny, Through}
+use Rattle.config_types.specs.declared.config.Direction.TheVariants.{BothWays}
+use Rattle.config_types.specs.declared.config.End.{End}
+use Rattle.config_types.specs.declared.config.End.TheVariants.{Any, Named}
+use Rattle.config_types.specs.declared.config.Policy.{Policy}
+use Rattle.config_types.specs.declared.config.Protocol.TheVariants.{Number}
+use Rattle.config_types.specs.declared.config.Rule.{Rule}
 use Rattle.scenario_gen.specs.Naming.{below}
 use Rattle.scenario_gen.specs.Tenants.{tenants, web, application, database, management, chain_name}
 use Rattle.scenario_gen.specs.Tenants.{front_policy, back_policy, management_policy}

@@ -1,6 +1,6 @@
 -- The ports: sixteen of each network, dealt out to the networks in turn.
 use Rattle.std.specs.Prelude.{ℕ, List, ◌+◌, ◌*◌, ◌/◌, ◌%◌, ◌==◌, map, codes, if◌then◌else◌}
-use Rattle.config_model.specs.declared.config.Port.{Port}
+use Rattle.config_types.specs.declared.config.Port.{Port}
 use Rattle.scenario_gen.specs.Naming.{below, numbered, address}
 use Rattle.scenario_gen.specs.Nodes.{node_at}
 use Rattle.scenario_gen.specs.Tenants.{tenants, web, application, database, management}

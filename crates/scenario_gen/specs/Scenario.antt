@@ -1,6 +1,6 @@
 -- A scenario by its number.
 use Rattle.std.specs.Prelude.{ℕ}
-use Rattle.config_model.specs.declared.config.Config.{Config}
+use Rattle.config_types.specs.declared.config.Config.{Config}
 use Rattle.scenario_gen.specs.declared.whole.Scenario.{Scenario}
 use Rattle.scenario_gen.specs.Nodes.{topology}
 use Rattle.scenario_gen.specs.Networks.{networks}

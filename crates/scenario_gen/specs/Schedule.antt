@@ -1,10 +1,10 @@
 -- The events of a scenario, and the packets that are traced after them.
 use Rattle.std.specs.Prelude.{ℕ, List, [], ◌∷◌, ◌+◌, ◌*◌, ◌/◌, ◌%◌, ◌==◌, map, codes, if◌then◌else◌}
 use Rattle.ov_types.specs.declared.packet.Packet.{Packet}
-use Rattle.config_model.specs.declared.edit.Edit.TheVariants.{Delete}
-use Rattle.config_model.specs.declared.edit.ObjectKind.TheVariants.{Port}
-use Rattle.config_model.specs.declared.event.Event.{Event}
-use Rattle.config_model.specs.declared.event.Event.TheVariants.{Settle, Lose, Restart, Edit}
+use Rattle.config_types.specs.declared.edit.Edit.TheVariants.{Delete}
+use Rattle.config_types.specs.declared.edit.ObjectKind.TheVariants.{Port}
+use Rattle.config_types.specs.declared.event.Event.{Event}
+use Rattle.config_types.specs.declared.event.Event.TheVariants.{Settle, Lose, Restart, Edit}
 use Rattle.scenario_gen.specs.Naming.{below, numbered, address}
 use Rattle.scenario_gen.specs.Nodes.{node_at}
 use Rattle.scenario_gen.specs.Ports.{ports_count}

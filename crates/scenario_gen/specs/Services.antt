@@ -1,8 +1,8 @@
 -- The services, two of each tenant, and the chains of them.
 use Rattle.std.specs.Prelude.{ℕ, List, [], ◌∷◌, ◌+◌, ◌*◌, map}
 use Rattle.std.specs.List.{flat_map}
-use Rattle.config_model.specs.declared.config.Service.{Service}
-use Rattle.config_model.specs.declared.config.Chain.{Chain}
+use Rattle.config_types.specs.declared.config.Service.{Service}
+use Rattle.config_types.specs.declared.config.Chain.{Chain}
 use Rattle.scenario_gen.specs.Naming.{below}
 use Rattle.scenario_gen.specs.Nodes.{node_at}
 use Rattle.scenario_gen.specs.Tenants.{tenants, firewall, balancer, chain_name}

@@ -1,8 +1,8 @@
 //! What scenarios promise, as laws: each is the contract of a function that does nothing.
 ghost use Rattle.std.specs.Prelude.{◌≡◌, ◌≤◌, ◌<◌, ◌+◌, ◌*◌, ℕ, length, map};
 ghost use Rattle.std.specs.List.{All, Contains, range_with_len};
-ghost use Rattle.config_model.specs.declared.config.Network.{Network};
-ghost use Rattle.config_model.specs.declared.config.Port.{Port};
+ghost use Rattle.config_types.specs.declared.config.Network.{Network};
+ghost use Rattle.config_types.specs.declared.config.Port.{Port};
 ghost use Rattle.scenario_gen.specs.Laws.{uses_of, IsNetworkAt, IsPortAt, HasNetwork, NamesWhatIs, node_names};
 ghost use Rattle.scenario_gen.specs.Schedule.{events, packets};
 ghost use Rattle.scenario_gen.specs.Scenario.{config};

@@ -1,8 +1,8 @@
 //! The scenario of a number.
 ghost use Rattle.std.specs.Prelude.{◌≡◌, ◌≤◌, IfOk, IsTrue};
 ghost use Rattle.std.specs.List.{list_all};
-ghost use Rattle.config_model.specs.Event.{has_event_form};
-ghost use Rattle.config_model.specs.Form.{has_topology_form, has_config_form, has_packet_form};
+ghost use Rattle.config_types.specs.Form.{has_event_form};
+ghost use Rattle.config_types.specs.Form.{has_topology_form, has_config_form, has_packet_form};
 ghost use Rattle.scenario_gen.specs.Scenario.{config, scenario};
 
 use crate::listing::{all_numbered, of_all_tenants};
@@ -11,7 +11,7 @@ use crate::ports::ports_count;
 use crate::schedule::events;
 use crate::tenancy::tenants;
 use crate::whole::Scenario;
-use config_model::Config;
+use config_types::Config;
 use ov_types::NoMemory;
 use std::alloc::Global;
 

@@ -5,7 +5,7 @@ ghost use Rattle.scenario_gen.specs.Networks.{database_network, management_netwo
 
 use crate::listing::OfTenant;
 use crate::naming::{address, numbered};
-use config_model::Network;
+use config_types::Network;
 use ov_types::{InstanceId, Items, Name, NoMemory, Prefix};
 use std::alloc::Global;
 

@@ -4,7 +4,7 @@ ghost use Rattle.scenario_gen.specs.Nodes.{controller, node, topology};
 
 use crate::listing::{Numbered, all_numbered};
 use crate::naming::{address, controller_at, numbered};
-use config_model::{Node, Topology};
+use config_types::{Node, Topology};
 use ov_types::{Items, NoMemory, NodeId};
 use std::alloc::Global;
 

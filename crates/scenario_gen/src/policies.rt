@@ -5,7 +5,7 @@ ghost use Rattle.scenario_gen.specs.Policies.{policies_of};
 
 use crate::listing::OfTenant;
 use crate::naming::numbered;
-use config_model::{Action, Direction, End, Policy, Protocol, Rule};
+use config_types::{Action, Direction, End, Policy, Protocol, Rule};
 use ov_types::{Items, NoMemory, Range16};
 use std::alloc::Global;
 

@@ -5,7 +5,7 @@ ghost use Rattle.scenario_gen.specs.Ports.{networks_count, ports_count, network_
 use crate::listing::Numbered;
 use crate::naming::{address, node_at, numbered};
 use crate::tenancy::tenants;
-use config_model::Port;
+use config_types::Port;
 use ov_types::{Name, NoMemory, PortNo};
 use std::alloc::Global;
 

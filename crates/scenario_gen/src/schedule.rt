@@ -5,7 +5,7 @@ ghost use Rattle.scenario_gen.specs.Schedule.{events, asked_port, packet};
 use crate::listing::Numbered;
 use crate::naming::{address, node_at, numbered};
 use crate::ports::ports_count;
-use config_model::{Edit, Event, ObjectKind};
+use config_types::{Edit, Event, ObjectKind};
 use ov_types::{Items, NoMemory, Packet, PortNo, Tuple};
 use std::alloc::Global;
 

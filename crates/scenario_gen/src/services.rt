@@ -3,7 +3,7 @@ ghost use Rattle.scenario_gen.specs.Services.{services_of, chain};
 
 use crate::listing::{Numbered, OfTenant};
 use crate::naming::{node_at, numbered};
-use config_model::{Chain, Service};
+use config_types::{Chain, Service};
 use ov_types::{Items, NoMemory, ServiceNo};
 use std::alloc::Global;
 

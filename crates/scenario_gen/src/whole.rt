@@ -1,6 +1,6 @@
 //! Whole scenarios.
 
-use config_model::{Config, Event, Topology};
+use config_types::{Config, Event, Topology};
 use ov_types::{Items, NoMemory, Packet};
 use std::alloc::Global;
 

@@ -1,7 +1,7 @@
 -- What is said of answers where ties are kept.
 use Rattle.std.specs.Prelude.{⊤}
-use Rattle.config_model.specs.declared.event.Event.{Event}
-use Rattle.config_model.specs.declared.event.Event.TheVariants.{Edit}
+use Rattle.config_types.specs.declared.event.Event.{Event}
+use Rattle.config_types.specs.declared.event.Event.TheVariants.{Edit}
 use Rattle.schedule_script.specs.declared.answer.Answer.{Answer}
 use Rattle.schedule_tied_answers.specs.declared.answer.TiedAnswer.{TiedAnswer}
 use Rattle.schedule_tied_answers.specs.declared.answer.TiedAnswer.TheVariants.{Answered, EditTied}

@@ -10,9 +10,9 @@ use Rattle.ov_types.specs.declared.numbers.InstanceId.{InstanceId}
 use Rattle.ov_types.proofs.FirstLemmas.{contains_here, contains_later, pairs_head, pairs_tail}
 use Rattle.route_targets.specs.Numbers.{hop_instance_of, hop_of}
 use Rattle.route_targets.specs.declared.numbers.UseHop.{UseHop}
-use Rattle.config_model.specs.declared.config.Config.{Config}
-use Rattle.config_model.specs.declared.config.Network.{Network}
-use Rattle.config_model.specs.declared.topology.Topology.{Topology}
+use Rattle.config_types.specs.declared.config.Config.{Config}
+use Rattle.config_types.specs.declared.config.Network.{Network}
+use Rattle.config_types.specs.declared.topology.Topology.{Topology}
 use Rattle.config_check.specs.Finding.{network_numbered}
 use Rattle.transform_model.specs.Tables.{Row, circuit_row, circuits_in, end_rows, hop_rows, instance_table, rows_of, subnet_rows, with_rows}
 use Rattle.transform_model.specs.Uses.{Circuit, ConfiguredUse, left_circuits, right_circuits, first_hop, last_hop, uses}

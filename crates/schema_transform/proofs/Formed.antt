@@ -4,13 +4,13 @@ use Rattle.std.specs.List.{list_all}
 use Rattle.ov_types.specs.Name.{is_name}
 use Rattle.ov_types.proofs.FirstLemmas.{all_here}
 use Rattle.std.specs.Prelude.{nat_le}
-use Rattle.config_model.specs.Form.{has_chain_form, has_config_form, has_network_form, has_policy_form, has_port_form}
-use Rattle.config_model.specs.Form.{has_action_form, has_rule_form, has_service_form}
-use Rattle.config_model.specs.declared.config.Policy.{Policy}
-use Rattle.config_model.specs.declared.config.Rule.{Rule}
+use Rattle.config_types.specs.Form.{has_chain_form, has_config_form, has_network_form, has_policy_form, has_port_form}
+use Rattle.config_types.specs.Form.{has_action_form, has_rule_form, has_service_form}
+use Rattle.config_types.specs.declared.config.Policy.{Policy}
+use Rattle.config_types.specs.declared.config.Rule.{Rule}
 use Rattle.acl_compile.proofs.Kept.{action_form as acts_formed}
-use Rattle.config_model.specs.declared.config.Config.{Config}
-use Rattle.config_model.specs.declared.topology.Topology.{Topology}
+use Rattle.config_types.specs.declared.config.Config.{Config}
+use Rattle.config_types.specs.declared.topology.Topology.{Topology}
 use Rattle.std.proofs.lemmas.Bool.{and_parts}
 use Rattle.config_check.specs.Rules.{first_broken}
 use Rattle.config_check.specs.Sentences.{IsValid}

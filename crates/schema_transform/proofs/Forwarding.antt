@@ -4,10 +4,10 @@ use Rattle.ov_types.specs.declared.packet.Outcome.TheVariants.{Dropped}
 use Rattle.ov_types.specs.declared.packet.Packet.{Packet}
 use Rattle.ov_types.specs.declared.packet.Why.TheVariants.{NoLabel, TtlExpired}
 use Rattle.route_targets.specs.Forwarding.{forwarding}
-use Rattle.config_model.specs.Form.{has_config_form}
+use Rattle.config_types.specs.Form.{has_config_form}
 use Rattle.config_check.specs.Checked.{Checked}
 use Rattle.config_check.specs.Rules.{first_broken}
-use Rattle.reach_plain.specs.Reachability.{reachability}
+use Rattle.transform_forwarding_laws.specs.ReachPlain.Reachability.{reachability}
 use Rattle.transform_forwarding_laws.proofs.Law.{forwarding_is_reachability, labels_lead_on, none_expires}
 use Rattle.transform_model.specs.Compiled.{compiled_tables, forwarders}
 use Rattle.transform_model.specs.declared.tables.Compiled.{Compiled}

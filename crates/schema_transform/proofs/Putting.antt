@@ -11,8 +11,8 @@ use Rattle.std.proofs.lemmas.List.{append_assoc}
 use Rattle.schema_transform.specs.Towards.{rows_if_in}
 use Rattle.schema_transform.proofs.Towards.{rows_are}
 use Rattle.std.specs.List.{filter_map, cons_option}
-use Rattle.config_model.specs.declared.config.Config.{Config}
-use Rattle.config_model.specs.declared.topology.Topology.{Topology}
+use Rattle.config_types.specs.declared.config.Config.{Config}
+use Rattle.config_types.specs.declared.topology.Topology.{Topology}
 use Rattle.std.proofs.Common.{Option, Some, None}
 use Rattle.std.proofs.lemmas.List.Elements.{filter_map-append, filter-append}
 use Rattle.transform_model.specs.Objects.{LowObject, acl_objects, circuit_object, circuit_objects, instance_cmp}

@@ -6,8 +6,8 @@ use Rattle.std.specs.List.{AllPairs, Contains, filter_map, cons_option}
 use Rattle.std.proofs.lemmas.Bool.Decides.{nat_tests}
 use Rattle.std.proofs.lemmas.List.Elements.{All-contains}
 use Rattle.ov_types.proofs.FirstLemmas.{found_is, find_none, contains_here, contains_later}
-use Rattle.config_model.specs.declared.config.Config.{Config}
-use Rattle.config_model.specs.declared.config.Service.{Service}
+use Rattle.config_types.specs.declared.config.Config.{Config}
+use Rattle.config_types.specs.declared.config.Service.{Service}
 use Rattle.chain_expand.specs.Expansion.{expansion, numbers_or_fault}
 use Rattle.config_check.proofs.OneHome.{two_among}
 use Rattle.acl_compile.proofs.Kept.{chain_expands, chain_is_short}

@@ -4,9 +4,9 @@ use Rattle.std.specs.List.{All}
 use Rattle.std.proofs.lemmas.List.{get_or_default}
 use Rattle.std.proofs.lemmas.List.Elements.{All-filter}
 use Rattle.ov_types.specs.declared.prefix.Addr.{Addr}
-use Rattle.config_model.specs.Form.{has_config_form}
-use Rattle.config_model.specs.declared.config.Config.{Config}
-use Rattle.config_model.specs.declared.topology.Topology.{Topology}
+use Rattle.config_types.specs.Form.{has_config_form}
+use Rattle.config_types.specs.declared.config.Config.{Config}
+use Rattle.config_types.specs.declared.topology.Topology.{Topology}
 use Rattle.config_check.specs.Rules.{first_broken}
 use Rattle.config_check.specs.Sentences.{IsValid}
 use Rattle.config_check.proofs.Validity.{valid_iff}

@@ -6,7 +6,7 @@ use Rattle.ov_types.specs.declared.objects.LowKey.{LowKey}
 use Rattle.ov_types.specs.declared.objects.LowKey.TheVariants.{Attach, Acl}
 use Rattle.ov_types.specs.declared.objects.LowValue.{LowValue}
 use Rattle.ov_types.specs.declared.prefix.Addr.{Addr}
-use Rattle.node_model.specs.Wants.{is_at}
+use Rattle.transform_model.specs.NodeModel.Wants.{is_at}
 
 -- the attachments at an address, and the access lists of these networks
 abbrev pub concerns_among : List InstanceId → Addr → LowKey → LowValue → Bool

@@ -4,3 +4,4 @@ pub mod HeldUses
 pub mod Concerning
 pub mod Towards
 pub mod ByNumber
+pub mod TransformModel

@@ -1,7 +1,7 @@
 -- What the transformer rests on.
 use Rattle.std.specs.Prelude.{◌≢◌, ◌≤◌}
 use Rattle.std.specs.List.{AllPairs}
-use Rattle.config_model.specs.declared.config.Config.{Config}
+use Rattle.config_types.specs.declared.config.Config.{Config}
 use Rattle.ov_types.specs.declared.objects.LowValue.{LowValue}
 use Rattle.ov_types.specs.declared.objects.LowValue.TheVariants.{AttachCircuit}
 use Rattle.acl_compile.specs.Bounds.{KeepsBounds}

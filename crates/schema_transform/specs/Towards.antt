@@ -3,9 +3,9 @@ use Rattle.std.specs.Prelude.{◌==◌, ◌||◌, List, [], ◌∷◌, if◌then
 use Rattle.ov_types.specs.First.{same_name}
 use Rattle.ov_types.specs.declared.numbers.InstanceId.{InstanceId}
 use Rattle.route_targets.specs.Numbers.{circuit_instance_of}
-use Rattle.config_model.specs.declared.config.Config.{Config}
-use Rattle.config_model.specs.declared.config.Network.{Network}
-use Rattle.config_model.specs.declared.topology.Topology.{Topology}
+use Rattle.config_types.specs.declared.config.Config.{Config}
+use Rattle.config_types.specs.declared.config.Network.{Network}
+use Rattle.config_types.specs.declared.topology.Topology.{Topology}
 use Rattle.policy_rules.specs.Related.{are_related}
 use Rattle.transform_model.specs.Objects.{LowObject, acl_object}
 use Rattle.transform_model.specs.Tables.{Row, subnet_rows}

@@ -1,8 +1,8 @@
 //! The rows of agents.
 ghost use Rattle.std.specs.Prelude.{◌≡◌, ◌==◌, map, IfOk, OnOk};
 ghost use Rattle.std.specs.List.{All, filter_map, list_any};
-ghost use Rattle.node_model.specs.Agent.{acl_entry, attached, entered_by, needed_by, needed_for};
-ghost use Rattle.node_model.specs.Wants.{is_at, port_at};
+ghost use Rattle.transform_model.specs.NodeModel.Agent.{acl_entry, attached, entered_by, needed_by, needed_for};
+ghost use Rattle.transform_model.specs.NodeModel.Wants.{is_at, port_at};
 ghost use Rattle.transform_model.specs.Compiled.{agent_rows, agent_rows_by, networks_at, route_of, slice_of};
 ghost use Rattle.schema_transform.specs.Concerning.{concerns_among};
 ghost use Rattle.transform_model.specs.Objects.{ascending_instances, low_objects, with_instances};
@@ -13,7 +13,7 @@ ghost use Rattle.schema_transform.specs.Sound.{IsSmall, IsSound};
 use crate::numbered::UsesByNumber;
 use crate::objects::instances_of;
 use crate::rows::{Row, Rows, entries_of, put_table};
-use config_model::{Config, Topology};
+use config_types::{Config, Topology};
 use ov_types::{
     AclAction, AclRule, Addr, AgentRows, Attached, Entry, InstanceId, Items, Label, Low, LowKey,
     LowValue, NoMemory, Prefix, TableRow,

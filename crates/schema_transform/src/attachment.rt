@@ -1,7 +1,7 @@
 //! A circuit of a service.
 ghost use Rattle.std.specs.Prelude.{◌≤◌};
 
-use config_model::Service;
+use config_types::Service;
 
 /// What attaches one side of a service to the instance there: a circuit's number, and the service.
 #[derive(Clone, Copy, PartialEq, Eq)]

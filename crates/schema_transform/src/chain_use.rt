@@ -4,7 +4,7 @@ ghost use Rattle.transform_model.specs.Uses.{left_circuits_from, right_circuits_
 ghost use Rattle.schema_transform.specs.Held.{circuit_of};
 
 use crate::attachment::Attachment;
-use config_model::{Network, Service};
+use config_types::{Network, Service};
 use ov_types::Items;
 
 /// A use of a chain that is in effect: its number, the networks that its rule names, the services of its chain, and

@@ -4,7 +4,7 @@ ghost use Rattle.transform_model.specs.Uses.{left_circuits_from, right_circuits_
 ghost use Rattle.schema_transform.specs.Held.{circuit_of};
 
 use crate::attachment::Attachment;
-use config_model::Service;
+use config_types::Service;
 use ov_types::{Items, NoMemory};
 use route_targets::{left_circuit, right_circuit};
 use std::alloc::Global;

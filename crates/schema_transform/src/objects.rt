@@ -3,7 +3,7 @@ ghost use Rattle.std.specs.Prelude.{◌≡◌, ◌||◌, [], flat_map, map, IfOk
 ghost use Rattle.std.specs.BTreeMap.{insert_entry};
 ghost use Rattle.std.specs.List.{filter_map, list_all};
 ghost use Rattle.ov_types.specs.Keys.{low_key_cmp};
-ghost use Rattle.config_model.specs.Form.{has_port_form};
+ghost use Rattle.config_types.specs.Form.{has_port_form};
 ghost use Rattle.policy_rules.specs.Related.{imports};
 ghost use Rattle.acl_compile.specs.Oriented.{ascending};
 ghost use Rattle.transform_model.specs.Objects.{acl_objects, circuit_object};
@@ -21,7 +21,7 @@ use crate::attachment::Attachment;
 use crate::chain_use::ChainUse;
 use acl_compile::{acl_between, ascending};
 use config_check::{network_named, node_named};
-use config_model::{Config, Network, Port, Service, Topology};
+use config_types::{Config, Network, Port, Service, Topology};
 use ov_types::{Addr, InstanceId, Items, LowKey, LowValue, NoMemory, ServiceNo};
 use policy_rules::{are_related, imports};
 use route_targets::{circuit_label, port_label};
@@ -86,7 +86,7 @@ fn put_instances(alloc: Global, config: &Config, low: &mut Objects) -> Result<()
 }
 
 /// A port, in the instance of its network and at its node.
-#[tactic(auto, unfolding(config_model::specs::Form::has_port_form))]
+#[tactic(auto, unfolding(config_types::specs::Form::has_port_form))]
 fn port_object(topology: &Topology, config: &Config, port: &Port) -> Option<LowObject>
     requires { IsTrue (has_port_form port.now) }
     ensures { result ≡ port_object topology.now config.now port.now }

@@ -4,7 +4,7 @@ ghost use Rattle.std.specs.List.{filter_map, list_all, position};
 ghost use Rattle.policy_rules.specs.Related.{imports};
 ghost use Rattle.ov_types.specs.First.{same_name};
 ghost use Rattle.ov_types.specs.Prefix.{contains};
-ghost use Rattle.config_model.specs.Form.{has_port_form};
+ghost use Rattle.config_types.specs.Form.{has_port_form};
 ghost use Rattle.transform_model.specs.Tables.{circuit_row, circuits_in, end_row, end_rows, holds_port};
 ghost use Rattle.transform_model.specs.Tables.{host_route, hop_rows, instance_table, network_rows, port_row};
 ghost use Rattle.transform_model.specs.Tables.{row_towards, rows_of, subnet_rows, with_rows};
@@ -21,7 +21,7 @@ use crate::chain_use::ChainUse;
 use crate::hops::{first_hop, last_hop};
 use crate::numbered::{UsesByNumber, use_at};
 use config_check::{network_named, network_numbered, node_named};
-use config_model::{Config, Network, Node, Port, Topology};
+use config_types::{Config, Network, Node, Port, Topology};
 use ov_types::{ControlRows, InstanceId, Items, Name, NoMemory, Prefix, TableRow};
 use policy_rules::imports;
 use route_targets::{circuit_address, circuit_instance, circuit_label, port_label, rd};
@@ -35,7 +35,7 @@ pub(crate) type Row = ((InstanceId, Prefix), TableRow);
 pub(crate) type Rows = BTreeMap<(InstanceId, Prefix), TableRow>;
 
 /// In an instance, the route to a port of a network at a node.
-#[tactic(auto, unfolding(config_model::specs::Form::has_port_form))]
+#[tactic(auto, unfolding(config_types::specs::Form::has_port_form))]
 fn host_route(instance: InstanceId, home: &Network, node: &Node, port: &Port) -> Row
     requires { IsTrue (has_port_form port.now) }
     ensures { result ≡ host_route instance home.now node.now port.now }

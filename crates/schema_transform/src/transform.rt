@@ -6,9 +6,9 @@ ghost use Rattle.ov_types.specs.declared.packet.Outcome.TheVariants.{Dropped};
 ghost use Rattle.ov_types.specs.declared.packet.Packet.{Packet};
 ghost use Rattle.ov_types.specs.declared.packet.Why.TheVariants.{NoLabel, TtlExpired};
 ghost use Rattle.route_targets.specs.Forwarding.{forwarding};
-ghost use Rattle.config_model.specs.Form.{has_config_form};
+ghost use Rattle.config_types.specs.Form.{has_config_form};
 ghost use Rattle.config_check.specs.Rules.{first_broken};
-ghost use Rattle.reach_plain.specs.Reachability.{reachability};
+ghost use Rattle.transform_forwarding_laws.specs.ReachPlain.Reachability.{reachability};
 ghost use Rattle.transform_model.specs.Compiled.{agent_rows, compiled_tables, forwarders};
 ghost use Rattle.transform_model.specs.Objects.{low_objects};
 ghost use Rattle.transform_model.specs.Tables.{control_rows, instances};
@@ -25,7 +25,7 @@ use crate::objects::objects_of;
 use crate::rows::entries_of;
 use crate::uses::uses_in_effect;
 use config_check::Valid;
-use config_model::{Config, Network, Topology};
+use config_types::{Config, Network, Topology};
 use ov_types::{
     AgentRows, ControlRows, InstanceId, Items, Low, LowKey, LowValue, NoMemory, NodeId,
 };

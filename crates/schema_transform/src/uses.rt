@@ -2,7 +2,7 @@
 ghost use Rattle.std.specs.Prelude.{◌≡◌, ◌≤◌, ◌++◌, ◌==◌, length, map, find, option_copied, option_map, IfOk, OnOk};
 ghost use Rattle.std.specs.Prelude.{IsTrue, option_to_list};
 ghost use Rattle.std.specs.List.{filter_map, list_all};
-ghost use Rattle.config_model.specs.Form.{has_action_form, has_rule_form};
+ghost use Rattle.config_types.specs.Form.{has_action_form, has_rule_form};
 ghost use Rattle.chain_expand.specs.Expansion.{expansion};
 ghost use Rattle.transform_model.specs.Uses.{network_at, use_between, use_by};
 ghost use Rattle.transform_model.specs.Uses.{uses, uses_of};
@@ -13,7 +13,7 @@ use crate::chain_use::ChainUse;
 use crate::circuits::{left_circuits, right_circuits};
 use chain_expand::expand_straight;
 use config_check::network_named;
-use config_model::{Action, Config, End, Network, Policy, Rule, Service};
+use config_types::{Action, Config, End, Network, Policy, Rule, Service};
 use ov_types::{Items, Name, NoMemory, ServiceNo};
 use policy_rules::attaches;
 use std::alloc::Global;

@@ -9,7 +9,7 @@ use Rattle.ov_io.specs.declared.pieces.WriteRefusal.{WriteRefusal}
 use Rattle.run_answers.specs.NetState.{NetState}
 use Rattle.compile_answers.specs.declared.unfit.Reception.{Reception}
 use Rattle.compile_answers.specs.declared.unfit.Reception.TheVariants.{Good, NotJson, BadDocument, Refused}
-use Rattle.run_answers.specs.Networks.{LeftOn, PromisedOn}
+use Rattle.compile_answers.specs.Leaving.{LeftOn, PromisedOn}
 
 -- a network is left where the answer is good, and else none
 pub left_on : (Is : Option NetState → Type 0) (r : Result Reception WriteRefusal) (old left : Option NetState) → old ≡ None

@@ -9,7 +9,8 @@ use Rattle.decode_answers.specs.Decoding.{spelled}
 use Rattle.decode_answers.proofs.Spelled.{text_spelled}
 use Rattle.graceful_answers.proofs.Written.{some_written}
 use Rattle.scale_answers.specs.Answers.{scale_answer}
-use Rattle.run_answers.specs.Answers.{gen_answer, run_answer}
+use Rattle.gen_answers.specs.Answers.{gen_answer}
+use Rattle.run_answers.specs.Answers.{run_answer}
 use Rattle.top_call.specs.declared.command.Command.{Command}
 use Rattle.top_call.specs.declared.command.Command.TheVariants.{Compile, Reach, Scale, Constrain, Graceful, Flows, Run, Decode, Gen}
 use Rattle.top_call.specs.Answers.{Writes}

@@ -7,7 +7,8 @@ use Rattle.flow_answers.specs.Answers.{flows_answer}
 use Rattle.decode_answers.specs.Decoding.{WritesSpelled, decode_verdict, spelled}
 use Rattle.graceful_answers.specs.Answers.{WritesLog, graceful_verdict, log_in}
 use Rattle.scale_answers.specs.Answers.{scale_answer}
-use Rattle.run_answers.specs.Answers.{gen_answer, run_answer}
+use Rattle.gen_answers.specs.Answers.{gen_answer}
+use Rattle.run_answers.specs.Answers.{run_answer}
 use Rattle.top_call.specs.declared.command.Command.{Command}
 use Rattle.top_call.specs.declared.command.Command.TheVariants.{Compile, Reach, Scale, Constrain, Graceful, Flows, Run, Decode, Gen}
 

@@ -9,7 +9,9 @@ use Rattle.flow_answers.specs.Answers.{TookReplies}
 use Rattle.graceful_answers.specs.Answers.{TookLog}
 use Rattle.run_answers.specs.NetState.{NetState}
 use Rattle.compile_answers.specs.declared.unfit.Reception.{Reception}
-use Rattle.run_answers.specs.Networks.{IsLeftOf, IsLeftOfScenario, LeftOn, PromisedOn, TookAnswers, TookSummary}
+use Rattle.compile_answers.specs.Leaving.{LeftOn, PromisedOn}
+use Rattle.gen_answers.specs.Answers.{IsLeftOfScenario, TookSummary}
+use Rattle.run_answers.specs.Networks.{IsLeftOf, TookAnswers}
 use Rattle.top_call.specs.declared.command.Command.{Command}
 use Rattle.top_call.specs.declared.command.Command.TheVariants.{Constrain, Graceful, Flows, Run, Gen}
 

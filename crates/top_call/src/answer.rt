@@ -10,9 +10,10 @@ use compile_answers::{Reception, answer_compile, answer_reach};
 use constrain_answers::answer_constrain;
 use decode_answers::answer_decode;
 use flow_answers::answer_flows;
+use gen_answers::answer_gen;
 use graceful_answers::answer_graceful;
 use ov_io::{Sink, WriteRefusal};
-use run_answers::{Net, answer_gen, answer_run};
+use run_answers::{Net, answer_run};
 use scale_answers::answer_scale;
 use std::alloc::Global;
 

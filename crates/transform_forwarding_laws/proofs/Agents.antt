@@ -16,18 +16,18 @@ use Rattle.ov_types.specs.declared.rows.Attached.TheVariants.{Port, Circuit}
 use Rattle.ov_types.specs.declared.rows.Entry.{Entry}
 use Rattle.ov_types.proofs.FirstLemmas.{found_is}
 use Rattle.route_targets.specs.Forwarding.{Forwarder, agent_at, attached, looked_up, route_in}
-use Rattle.config_model.specs.Form.{has_config_form}
-use Rattle.config_model.specs.declared.config.Config.{Config}
-use Rattle.config_model.specs.declared.topology.Node.{Node}
-use Rattle.config_model.specs.declared.topology.Topology.{Topology}
-use Rattle.config_check.specs.Sentences.{IsValid}
-use Rattle.node_model.specs.Agent.{attached as listed, needed_by, needed_for}
-use Rattle.node_model.specs.Wants.{is_at}
+use Rattle.reach_plain.specs.ConfigTypes.Form.{has_config_form}
+use Rattle.reach_plain.specs.ConfigTypes.Config.{Config}
+use Rattle.reach_plain.specs.ConfigTypes.Node.{Node}
+use Rattle.reach_plain.specs.ConfigTypes.Topology.{Topology}
+use Rattle.reach_plain.specs.ConfigCheck.Sentences.{IsValid}
+use Rattle.transform_model.specs.NodeModel.Agent.{attached as listed, needed_by, needed_for}
+use Rattle.transform_model.specs.NodeModel.Wants.{is_at}
 use Rattle.transform_model.specs.Compiled.{agent_rows, concerns, slice_of, route_of}
 use Rattle.transform_model.specs.IsRow.{IsRow}
 use Rattle.transform_model.specs.Objects.{LowObject, low_objects, ascending_instances}
 use Rattle.transform_model.specs.Tables.{Row, tables_of}
-use Rattle.policy_rules.proofs.Lists.{is_mapped, mapped_is, is_kept, kept_is, is_joined}
+use Rattle.reach_plain.proofs.PolicyRules.Lists.{is_mapped, mapped_is, is_kept, kept_is, is_joined}
 use Rattle.transform_model.proofs.Lists.{gives, given}
 use Rattle.transform_forwarding_laws.proofs.Held.{instance_of_row, one_object, row_of_table, in_tables}
 use Rattle.reach_plain.proofs.Found.{finds}

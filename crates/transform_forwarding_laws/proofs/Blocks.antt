@@ -6,14 +6,14 @@ use Rattle.ov_types.specs.Prefix.{Block, contains, host_prefix}
 use Rattle.ov_types.proofs.Blocks.{contains_from, ranges}
 use Rattle.ov_types.proofs.FirstLemmas.{any_of}
 use Rattle.route_targets.specs.Numbers.{circuit_address_of}
-use Rattle.config_model.specs.Form.{has_config_form}
-use Rattle.config_model.specs.declared.config.Config.{Config}
-use Rattle.config_model.specs.declared.config.Network.{Network}
-use Rattle.config_model.specs.declared.topology.Topology.{Topology}
-use Rattle.config_check.specs.Rules.{circuit_addresses}
-use Rattle.config_check.specs.Sentences.{IsValid, Overlap}
-use Rattle.config_check.proofs.Nested.{overlap_at}
-use Rattle.config_check.proofs.OneHome.{two_among}
+use Rattle.reach_plain.specs.ConfigTypes.Form.{has_config_form}
+use Rattle.reach_plain.specs.ConfigTypes.Config.{Config}
+use Rattle.reach_plain.specs.ConfigTypes.Network.{Network}
+use Rattle.reach_plain.specs.ConfigTypes.Topology.{Topology}
+use Rattle.reach_plain.specs.ConfigCheck.Rules.{circuit_addresses}
+use Rattle.reach_plain.specs.ConfigCheck.Sentences.{IsValid, Overlap}
+use Rattle.reach_plain.proofs.ConfigCheck.Nested.{overlap_at}
+use Rattle.reach_plain.proofs.ConfigCheck.OneHome.{two_among}
 use Rattle.transform_model.specs.IsRow.{HoldsPort}
 use Rattle.transform_forwarding_laws.proofs.Valid.{subnet_form}
 

@@ -11,14 +11,14 @@ use Rattle.ov_types.specs.declared.objects.LowKey.TheVariants as Key
 use Rattle.ov_types.specs.declared.objects.LowValue.TheVariants as Value
 use Rattle.ov_types.proofs.FirstLemmas.{contains_at, contains_here}
 use Rattle.route_targets.specs.Numbers.{hop_instance_of, left_circuit_of, right_circuit_of, circuit_instance_of, circuit_address_of, circuit_label_of, other_side_of}
-use Rattle.config_model.specs.Form.{has_config_form}
-use Rattle.config_model.specs.declared.config.Config.{Config}
-use Rattle.config_model.specs.declared.config.Network.{Network}
-use Rattle.config_model.specs.declared.config.Port.{Port}
-use Rattle.config_model.specs.declared.config.Service.{Service}
-use Rattle.config_model.specs.declared.topology.Node.{Node}
-use Rattle.config_model.specs.declared.topology.Topology.{Topology}
-use Rattle.config_check.specs.Sentences.{IsValid}
+use Rattle.reach_plain.specs.ConfigTypes.Form.{has_config_form}
+use Rattle.reach_plain.specs.ConfigTypes.Config.{Config}
+use Rattle.reach_plain.specs.ConfigTypes.Network.{Network}
+use Rattle.reach_plain.specs.ConfigTypes.Port.{Port}
+use Rattle.reach_plain.specs.ConfigTypes.Service.{Service}
+use Rattle.reach_plain.specs.ConfigTypes.Node.{Node}
+use Rattle.reach_plain.specs.ConfigTypes.Topology.{Topology}
+use Rattle.reach_plain.specs.ConfigCheck.Sentences.{IsValid}
 use Rattle.transform_model.specs.IsObject.IsObject.{of_left_circuit, of_right_circuit}
 use Rattle.transform_model.specs.IsRow.{IsPort, IsCircuitAt, HoldsPort}
 use Rattle.transform_model.specs.IsRow.IsRow.{to_right_subnet, to_left_subnet, at_left_end, at_right_end}

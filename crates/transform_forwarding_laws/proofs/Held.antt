@@ -11,11 +11,11 @@ use Rattle.ov_types.specs.Keys.{low_key_cmp}
 use Rattle.ov_types.specs.declared.numbers.InstanceId.{InstanceId}
 use Rattle.ov_types.specs.declared.objects.LowKey.{LowKey}
 use Rattle.ov_types.specs.declared.objects.LowKey.TheVariants.{Instance, Attach, Acl, ChainUse}
-use Rattle.config_model.specs.Form.{has_config_form}
-use Rattle.config_model.specs.declared.config.Config.{Config}
-use Rattle.config_model.specs.declared.topology.Topology.{Topology}
-use Rattle.config_check.specs.Sentences.{IsValid}
-use Rattle.config_check.proofs.OneHome.{two_among}
+use Rattle.reach_plain.specs.ConfigTypes.Form.{has_config_form}
+use Rattle.reach_plain.specs.ConfigTypes.Config.{Config}
+use Rattle.reach_plain.specs.ConfigTypes.Topology.{Topology}
+use Rattle.reach_plain.specs.ConfigCheck.Sentences.{IsValid}
+use Rattle.reach_plain.proofs.ConfigCheck.OneHome.{two_among}
 use Rattle.transform_model.specs.IsObject.{IsObject}
 use Rattle.transform_model.specs.IsRow.{IsRow}
 use Rattle.transform_model.specs.IsRow.IsRow.{to_port, to_left_circuit, to_right_circuit, to_right_subnet, to_left_subnet, at_left_end, at_right_end}
@@ -23,7 +23,7 @@ use Rattle.transform_model.specs.Objects.{LowObject, low_objects, ascending_inst
 use Rattle.transform_model.specs.Tables.{Row, instance_table, tables_of}
 use Rattle.transform_model.proofs.Ascending.{Rises, is_ascending, ascending_rises}
 use Rattle.transform_model.proofs.Kept.{tables_kept}
-use Rattle.policy_rules.proofs.Lists.{joined_is, is_joined}
+use Rattle.reach_plain.proofs.PolicyRules.Lists.{joined_is, is_joined}
 use Rattle.transform_model.proofs.LowKeys.{low_in_order, low_iff}
 use Rattle.transform_model.proofs.Rows.{rows_iff}
 

@@ -21,38 +21,38 @@ use Rattle.ov_types.specs.declared.packet.Why.TheVariants as Why
 use Rattle.ov_types.proofs.FirstLemmas.{same_name_iff, contains_at, contains_here, found_is}
 use Rattle.route_targets.specs.Forwarding.{Forwarder, admitted, departed, forwarding, source_at, walk}
 use Rattle.route_targets.specs.Numbers.{hop_instance_of, port_label_of}
-use Rattle.config_model.specs.Form.{has_config_form}
-use Rattle.config_model.specs.declared.config.Action.{Action}
-use Rattle.config_model.specs.declared.config.Action.TheVariants.{Pass, Deny, Through}
-use Rattle.config_model.specs.declared.config.Config.{Config}
-use Rattle.config_model.specs.declared.config.End.{End}
-use Rattle.config_model.specs.declared.config.End.TheVariants.{Any as Anyone, Named}
-use Rattle.config_model.specs.declared.config.Network.{Network}
-use Rattle.config_model.specs.declared.config.Port.{Port}
-use Rattle.config_model.specs.declared.config.Service.{Service}
-use Rattle.config_model.specs.declared.topology.Node.{Node}
-use Rattle.config_model.specs.declared.topology.Topology.{Topology}
-use Rattle.chain_expand.specs.Expansion.{expansion}
-use Rattle.policy_rules.specs.declared.matching.Match.{Match}
-use Rattle.policy_rules.specs.declared.numbered.NumberedRule.{NumberedRule}
-use Rattle.policy_rules.specs.Matching.{deciding}
-use Rattle.policy_rules.specs.Related.{rules_between}
-use Rattle.policy_rules.specs.Standing.{IsEnd, IsBetween, AreRelated, LetsThrough, PassesBetween}
-use Rattle.policy_rules.specs.Taking.{IsTaken, IsDeciding}
-use Rattle.policy_rules.proofs.Deciders.{of_decider}
-use Rattle.policy_rules.proofs.Standing.{between_iff}
-use Rattle.policy_rules.proofs.Taking.{deciding_iff}
-use Rattle.config_check.specs.Checked.{Checked}
-use Rattle.config_check.specs.Finding.{network_named, port_at, port_numbered}
-use Rattle.config_check.specs.Rules.{first_broken}
-use Rattle.config_check.specs.Sentences.{NamesEnds, IsValid}
-use Rattle.config_check.proofs.Finders.{finds_network_named, finds_port_numbered}
-use Rattle.config_check.proofs.Validity.{valid_iff}
-use Rattle.acl_compile.specs.Oriented.{acl_rules, acl_value, does}
-use Rattle.acl_compile.specs.Laws.{entry_by}
-use Rattle.acl_compile.proofs.Deciding.{first_entry}
-use Rattle.node_model.specs.Agent.{entered_by}
-use Rattle.node_model.specs.Wants.{port_at as network_at}
+use Rattle.reach_plain.specs.ConfigTypes.Form.{has_config_form}
+use Rattle.reach_plain.specs.ConfigTypes.Action.{Action}
+use Rattle.reach_plain.specs.ConfigTypes.Action.TheVariants.{Pass, Deny, Through}
+use Rattle.reach_plain.specs.ConfigTypes.Config.{Config}
+use Rattle.reach_plain.specs.ConfigTypes.End.{End}
+use Rattle.reach_plain.specs.ConfigTypes.End.TheVariants.{Any as Anyone, Named}
+use Rattle.reach_plain.specs.ConfigTypes.Network.{Network}
+use Rattle.reach_plain.specs.ConfigTypes.Port.{Port}
+use Rattle.reach_plain.specs.ConfigTypes.Service.{Service}
+use Rattle.reach_plain.specs.ConfigTypes.Node.{Node}
+use Rattle.reach_plain.specs.ConfigTypes.Topology.{Topology}
+use Rattle.reach_plain.specs.ChainExpand.Expansion.{expansion}
+use Rattle.reach_plain.specs.PolicyRules.Match.{Match}
+use Rattle.reach_plain.specs.PolicyRules.NumberedRule.{NumberedRule}
+use Rattle.reach_plain.specs.PolicyRules.Matching.{deciding}
+use Rattle.reach_plain.specs.PolicyRules.Related.{rules_between}
+use Rattle.reach_plain.specs.PolicyRules.Standing.{IsEnd, IsBetween, AreRelated, LetsThrough, PassesBetween}
+use Rattle.reach_plain.specs.PolicyRules.Taking.{IsTaken, IsDeciding}
+use Rattle.reach_plain.proofs.PolicyRules.Deciders.{of_decider}
+use Rattle.reach_plain.proofs.PolicyRules.Standing.{between_iff}
+use Rattle.reach_plain.proofs.PolicyRules.Taking.{deciding_iff}
+use Rattle.reach_plain.specs.ConfigCheck.Checked.{Checked}
+use Rattle.reach_plain.specs.ConfigCheck.Finding.{network_named, port_at, port_numbered}
+use Rattle.reach_plain.specs.ConfigCheck.Rules.{first_broken}
+use Rattle.reach_plain.specs.ConfigCheck.Sentences.{NamesEnds, IsValid}
+use Rattle.reach_plain.proofs.ConfigCheck.Finders.{finds_network_named, finds_port_numbered}
+use Rattle.reach_plain.proofs.ConfigCheck.Validity.{valid_iff}
+use Rattle.transform_model.specs.AclCompile.Oriented.{acl_rules, acl_value, does}
+use Rattle.transform_model.specs.AclCompile.Laws.{entry_by}
+use Rattle.transform_model.proofs.AclCompile.Deciding.{first_entry}
+use Rattle.transform_model.specs.NodeModel.Agent.{entered_by}
+use Rattle.transform_model.specs.NodeModel.Wants.{port_at as network_at}
 use Rattle.reach_plain.specs.Outcomes.{IsTowards}
 use Rattle.reach_plain.specs.Reachability.{network_towards, services_through, arrival_at, outcome_of, outcome_by, outcome_between, outcome_towards, outcome_from, outcome_at, reachability}
 use Rattle.reach_plain.proofs.Becoming.{outcome_iff, apart}

@@ -9,3 +9,5 @@ pub mod Chains
 pub mod Verdicts
 pub mod Sources
 pub mod Law
+pub mod TransformModel
+pub mod AclCompile

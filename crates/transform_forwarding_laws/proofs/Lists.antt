@@ -6,7 +6,7 @@ use Rattle.ov_types.specs.First.{first_of}
 use Rattle.ov_types.specs.Prefix.{Block, contains}
 use Rattle.ov_types.specs.Routing.{longer, longest}
 use Rattle.ov_types.proofs.FirstLemmas.{pairs_head, pairs_tail, contains_here, contains_later, contains_cases, found_is, first_of_none, of_first, answered}
-use Rattle.policy_rules.proofs.Lists.{is_mapped}
+use Rattle.reach_plain.proofs.PolicyRules.Lists.{is_mapped}
 
 pub nothing_in : {A : Type 0} (P : Type 0) (x : A) → Contains [] x → P
 nothing_in P x h = absurd (omega (arith, h.1))

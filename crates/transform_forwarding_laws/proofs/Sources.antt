@@ -16,20 +16,20 @@ use Rattle.ov_types.specs.declared.rows.Attached.{Attached}
 use Rattle.ov_types.specs.declared.rows.Attached.TheVariants as Is
 use Rattle.route_targets.specs.Forwarding.{Forwarder, attached, as_port, source_at}
 use Rattle.route_targets.specs.Numbers.{port_label_of}
-use Rattle.config_model.specs.Form.{has_config_form}
-use Rattle.config_model.specs.declared.config.Config.{Config}
-use Rattle.config_model.specs.declared.config.Network.{Network}
-use Rattle.config_model.specs.declared.config.Port.{Port}
-use Rattle.config_model.specs.declared.topology.Node.{Node}
-use Rattle.config_model.specs.declared.topology.Topology.{Topology}
-use Rattle.config_check.specs.Sentences.{IsValid}
-use Rattle.node_model.specs.Agent.{attached as listed}
-use Rattle.node_model.specs.Wants.{is_at}
+use Rattle.reach_plain.specs.ConfigTypes.Form.{has_config_form}
+use Rattle.reach_plain.specs.ConfigTypes.Config.{Config}
+use Rattle.reach_plain.specs.ConfigTypes.Network.{Network}
+use Rattle.reach_plain.specs.ConfigTypes.Port.{Port}
+use Rattle.reach_plain.specs.ConfigTypes.Node.{Node}
+use Rattle.reach_plain.specs.ConfigTypes.Topology.{Topology}
+use Rattle.reach_plain.specs.ConfigCheck.Sentences.{IsValid}
+use Rattle.transform_model.specs.NodeModel.Agent.{attached as listed}
+use Rattle.transform_model.specs.NodeModel.Wants.{is_at}
 use Rattle.transform_model.specs.IsObject.{IsObject}
 use Rattle.transform_model.specs.IsObject.IsObject.{of_network, of_port, of_left_circuit, of_right_circuit, of_networks, of_use}
 use Rattle.transform_model.specs.IsRow.{IsPort}
 use Rattle.transform_model.specs.Objects.{LowObject, low_objects, attached_port}
-use Rattle.policy_rules.proofs.Lists.{is_mapped, mapped_is}
+use Rattle.reach_plain.proofs.PolicyRules.Lists.{is_mapped, mapped_is}
 use Rattle.transform_forwarding_laws.proofs.Agents.{forwarder, agents_of, label_leads, under_label}
 use Rattle.transform_forwarding_laws.proofs.Held.{object_is, is_object, one_object}
 use Rattle.transform_forwarding_laws.proofs.Lists.{only_answer, no_answer}

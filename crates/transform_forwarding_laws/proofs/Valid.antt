@@ -4,19 +4,19 @@ use Rattle.std.specs.List.{Any, Contains}
 use Rattle.std.proofs.lemmas.List.Elements.{All-contains}
 use Rattle.ov_types.specs.Prefix.{Block, contains}
 use Rattle.ov_types.proofs.FirstLemmas.{answered}
-use Rattle.config_model.specs.Form.{is_block, has_config_form}
-use Rattle.config_model.specs.declared.config.Config.{Config}
-use Rattle.config_model.specs.declared.config.Network.{Network}
-use Rattle.config_model.specs.declared.config.Port.{Port}
-use Rattle.config_model.specs.declared.config.Service.{Service}
-use Rattle.config_model.specs.declared.topology.Node.{Node}
-use Rattle.config_model.specs.declared.topology.Topology.{Topology}
-use Rattle.config_check.specs.Rules.{controller_names, network_names, node_names}
-use Rattle.config_check.specs.Sentences.{IsValid}
-use Rattle.config_check.specs.Finding.{network_named}
-use Rattle.config_check.proofs.OneHome.{HasBlocks, blocks_of, two_among}
-use Rattle.config_check.proofs.Finders.{finds_network_named, back_pairs}
-use Rattle.policy_rules.proofs.Lists.{mapped_is}
+use Rattle.reach_plain.specs.ConfigTypes.Form.{is_block, has_config_form}
+use Rattle.reach_plain.specs.ConfigTypes.Config.{Config}
+use Rattle.reach_plain.specs.ConfigTypes.Network.{Network}
+use Rattle.reach_plain.specs.ConfigTypes.Port.{Port}
+use Rattle.reach_plain.specs.ConfigTypes.Service.{Service}
+use Rattle.reach_plain.specs.ConfigTypes.Node.{Node}
+use Rattle.reach_plain.specs.ConfigTypes.Topology.{Topology}
+use Rattle.reach_plain.specs.ConfigCheck.Rules.{controller_names, network_names, node_names}
+use Rattle.reach_plain.specs.ConfigCheck.Sentences.{IsValid}
+use Rattle.reach_plain.specs.ConfigCheck.Finding.{network_named}
+use Rattle.reach_plain.proofs.ConfigCheck.OneHome.{HasBlocks, blocks_of, two_among}
+use Rattle.reach_plain.proofs.ConfigCheck.Finders.{finds_network_named, back_pairs}
+use Rattle.reach_plain.proofs.PolicyRules.Lists.{mapped_is}
 use Rattle.transform_forwarding_laws.proofs.Lists.{one_by_key}
 
 module _ (t : Topology) (c : Config) (v : IsValid t c) where

@@ -12,14 +12,14 @@ use Rattle.ov_types.specs.declared.objects.LowKey.TheVariants as Key
 use Rattle.ov_types.specs.declared.objects.LowValue.{LowValue}
 use Rattle.ov_types.specs.declared.prefix.Addr.{Addr}
 use Rattle.ov_types.proofs.FirstLemmas.{contains_here, contains_later, contains_cases, any_of}
-use Rattle.config_model.specs.Form.{has_config_form}
-use Rattle.config_model.specs.declared.config.Config.{Config}
-use Rattle.config_model.specs.declared.config.Network.{Network}
-use Rattle.config_model.specs.declared.topology.Topology.{Topology}
-use Rattle.policy_rules.specs.Standing.{AreRelated}
-use Rattle.config_check.specs.Sentences.{IsValid}
-use Rattle.acl_compile.specs.Oriented.{acl_rules, acl_value, ascending, put_prefix}
-use Rattle.node_model.specs.Agent.{acl_entry}
+use Rattle.reach_plain.specs.ConfigTypes.Form.{has_config_form}
+use Rattle.reach_plain.specs.ConfigTypes.Config.{Config}
+use Rattle.reach_plain.specs.ConfigTypes.Network.{Network}
+use Rattle.reach_plain.specs.ConfigTypes.Topology.{Topology}
+use Rattle.reach_plain.specs.PolicyRules.Standing.{AreRelated}
+use Rattle.reach_plain.specs.ConfigCheck.Sentences.{IsValid}
+use Rattle.transform_model.specs.AclCompile.Oriented.{acl_rules, acl_value, ascending, put_prefix}
+use Rattle.transform_model.specs.NodeModel.Agent.{acl_entry}
 use Rattle.reach_plain.specs.Outcomes.{IsTowards}
 use Rattle.reach_plain.specs.Reachability.{network_towards}
 use Rattle.reach_plain.proofs.Found.{target_is}
@@ -27,7 +27,7 @@ use Rattle.transform_model.specs.Compiled.{agent_rows, concerns, networks_at, sl
 use Rattle.transform_model.specs.IsObject.{IsObject}
 use Rattle.transform_model.specs.IsObject.IsObject.{of_network, of_port, of_left_circuit, of_right_circuit, of_networks, of_use}
 use Rattle.transform_model.specs.Objects.{LowObject, low_objects}
-use Rattle.policy_rules.proofs.Lists.{is_kept, kept_is}
+use Rattle.reach_plain.proofs.PolicyRules.Lists.{is_kept, kept_is}
 use Rattle.transform_model.proofs.Lists.{gives, given}
 use Rattle.transform_model.proofs.Objects.{one_named, one_numbered}
 use Rattle.transform_forwarding_laws.proofs.Held.{object_is, is_object}

@@ -18,16 +18,16 @@ use Rattle.ov_types.specs.declared.rows.Entry.{Entry}
 use Rattle.ov_types.proofs.FirstLemmas.{same_name_iff, found_is, find_none}
 use Rattle.route_targets.specs.Forwarding.{Forwarder, agent_at, attached, looked_up, visited, handed, followed, walk}
 use Rattle.route_targets.specs.Numbers.{port_label_of, circuit_label_of, circuit_instance_of, other_side_of}
-use Rattle.config_model.specs.Form.{has_config_form}
-use Rattle.config_model.specs.declared.config.Config.{Config}
-use Rattle.config_model.specs.declared.config.Network.{Network}
-use Rattle.config_model.specs.declared.config.Port.{Port}
-use Rattle.config_model.specs.declared.config.Service.{Service}
-use Rattle.config_model.specs.declared.topology.Node.{Node}
-use Rattle.config_model.specs.declared.topology.Topology.{Topology}
-use Rattle.config_check.specs.Finding.{port_at}
-use Rattle.config_check.specs.Sentences.{IsValid}
-use Rattle.config_check.proofs.Finders.{finds_port_at}
+use Rattle.reach_plain.specs.ConfigTypes.Form.{has_config_form}
+use Rattle.reach_plain.specs.ConfigTypes.Config.{Config}
+use Rattle.reach_plain.specs.ConfigTypes.Network.{Network}
+use Rattle.reach_plain.specs.ConfigTypes.Port.{Port}
+use Rattle.reach_plain.specs.ConfigTypes.Service.{Service}
+use Rattle.reach_plain.specs.ConfigTypes.Node.{Node}
+use Rattle.reach_plain.specs.ConfigTypes.Topology.{Topology}
+use Rattle.reach_plain.specs.ConfigCheck.Finding.{port_at}
+use Rattle.reach_plain.specs.ConfigCheck.Sentences.{IsValid}
+use Rattle.reach_plain.proofs.ConfigCheck.Finders.{finds_port_at}
 use Rattle.reach_plain.specs.Reachability.{arrival_at}
 use Rattle.transform_model.specs.IsObject.IsObject.{of_port}
 use Rattle.transform_model.specs.IsRow.{IsRow, IsPort, IsCircuitAt, HoldsPort}

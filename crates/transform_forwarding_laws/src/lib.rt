@@ -7,9 +7,9 @@ ghost use Rattle.ov_types.specs.declared.packet.Outcome.TheVariants.{Dropped};
 ghost use Rattle.ov_types.specs.declared.packet.Packet.{Packet};
 ghost use Rattle.ov_types.specs.declared.packet.Why.TheVariants.{NoLabel, TtlExpired};
 ghost use Rattle.route_targets.specs.Forwarding.{forwarding};
-ghost use Rattle.config_model.specs.Form.{has_config_form};
-ghost use Rattle.config_check.specs.Checked.{Checked};
-ghost use Rattle.config_check.specs.Rules.{first_broken};
+ghost use Rattle.reach_plain.specs.ConfigTypes.Form.{has_config_form};
+ghost use Rattle.reach_plain.specs.ConfigCheck.Checked.{Checked};
+ghost use Rattle.reach_plain.specs.ConfigCheck.Rules.{first_broken};
 ghost use Rattle.reach_plain.specs.Reachability.{reachability};
 ghost use Rattle.transform_model.specs.Compiled.{compiled_tables, forwarders};
 

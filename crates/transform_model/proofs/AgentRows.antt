@@ -19,13 +19,13 @@ use Rattle.ov_types.specs.declared.prefix.Addr.{Addr}
 use Rattle.ov_types.specs.declared.rows.Attached.{Attached}
 use Rattle.ov_types.specs.declared.rows.Attached.TheVariants as Is
 use Rattle.ov_types.specs.declared.rows.Entry.{Entry}
-use Rattle.config_model.specs.Form.{has_config_form}
-use Rattle.config_model.specs.declared.config.Config.{Config}
-use Rattle.config_model.specs.declared.config.Network.{Network}
-use Rattle.config_model.specs.declared.config.Port.{Port}
-use Rattle.config_model.specs.declared.topology.Node.{Node}
-use Rattle.config_model.specs.declared.topology.Topology.{Topology}
-use Rattle.config_check.specs.Sentences.{IsValid}
+use Rattle.acl_compile.specs.ConfigTypes.Form.{has_config_form}
+use Rattle.acl_compile.specs.ConfigTypes.Config.{Config}
+use Rattle.acl_compile.specs.ConfigTypes.Network.{Network}
+use Rattle.acl_compile.specs.ConfigTypes.Port.{Port}
+use Rattle.acl_compile.specs.ConfigTypes.Node.{Node}
+use Rattle.acl_compile.specs.ConfigTypes.Topology.{Topology}
+use Rattle.acl_compile.specs.ConfigCheck.Sentences.{IsValid}
 use Rattle.node_model.specs.Agent.{acl_entry, attached, needed_by}
 use Rattle.transform_model.specs.Compiled.{agent_rows, concerns, route_of, slice_of}
 use Rattle.transform_model.specs.IsNeeded.{IsAccessList, IsNeeded, IsRoute}
@@ -38,7 +38,7 @@ use Rattle.transform_model.specs.Uses.{Circuit}
 use Rattle.transform_model.proofs.Ascending.{Rises, ascending_is, is_ascending, ascending_rises}
 use Rattle.transform_model.proofs.Kept.{instance_of_row, tables_in_order, tables_kept}
 use Rattle.transform_model.proofs.Keys.{less_is}
-use Rattle.policy_rules.proofs.Lists.{is_joined, joined_is, is_kept, kept_is, is_mapped, mapped_is}
+use Rattle.acl_compile.proofs.PolicyRules.Lists.{is_joined, joined_is, is_kept, kept_is, is_mapped, mapped_is}
 use Rattle.transform_model.proofs.Lists.{given, gives, pairs_given_by, pairs_mapped, pairs_weaker}
 use Rattle.transform_model.proofs.LowKeys.{low_in_order, low_is, is_low}
 use Rattle.transform_model.proofs.Needed.{has_port, port_there, needed_for_is, is_needed_for}

@@ -4,8 +4,8 @@ use Rattle.std.specs.List.{AllPairs, Contains, slice_get}
 use Rattle.std.proofs.lemmas.List.Elements.{Contains-get_or}
 use Rattle.std.proofs.lemmas.List.Kept.{AllPairs-cons}
 use Rattle.ov_types.proofs.FirstLemmas.{contains_here, contains_later, contains_cases}
-use Rattle.route_targets.specs.Numbers.{hop_instance_of, left_circuit_of, right_circuit_of, circuit_instance_of}
-use Rattle.config_model.specs.declared.config.Service.{Service}
+use Rattle.node_model.specs.RouteTargets.Numbers.{hop_instance_of, left_circuit_of, right_circuit_of, circuit_instance_of}
+use Rattle.acl_compile.specs.ConfigTypes.Service.{Service}
 use Rattle.transform_model.specs.IsUse.{IsLeftCircuit, IsRightCircuit}
 use Rattle.transform_model.specs.Uses.{ConfiguredUse, Circuit, left_circuits_from, right_circuits_from, left_circuits, right_circuits}
 use Rattle.transform_model.proofs.Lists.{no_pairs, pairs_append_by}

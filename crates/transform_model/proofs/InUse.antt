@@ -6,31 +6,31 @@ use Rattle.std.proofs.lemmas.Bool.{and_parts, and_from}
 use Rattle.std.proofs.lemmas.List.Elements.{All-contains}
 use Rattle.ov_types.specs.First.{same_name}
 use Rattle.ov_types.proofs.FirstLemmas.{same_name_iff, found_is}
-use Rattle.config_model.specs.declared.config.Action.{Action}
-use Rattle.config_model.specs.declared.config.Action.TheVariants.{Pass, Deny, Through}
-use Rattle.config_model.specs.declared.config.Chain.{Chain}
-use Rattle.config_model.specs.declared.config.Config.{Config}
-use Rattle.config_model.specs.declared.config.End.{End}
-use Rattle.config_model.specs.declared.config.End.TheVariants.{Any, Named}
-use Rattle.config_model.specs.declared.config.Network.{Network}
-use Rattle.config_model.specs.declared.config.Policy.{Policy}
-use Rattle.config_model.specs.declared.config.Rule.{Rule}
-use Rattle.config_model.specs.declared.config.Service.{Service}
-use Rattle.config_model.specs.declared.topology.Topology.{Topology}
-use Rattle.chain_expand.specs.Expansion.{expansion, services_within, service_named, hops_of}
-use Rattle.policy_rules.specs.declared.numbered.NumberedRule.{NumberedRule}
-use Rattle.policy_rules.specs.Related.{all_rules, attaches, numbered_from, numbered_rules}
-use Rattle.policy_rules.specs.Standing.{IsEnd, AreRelated, LetsThrough}
-use Rattle.policy_rules.proofs.Relations.{related_iff}
-use Rattle.config_check.specs.Finding.{network_named}
-use Rattle.config_check.specs.Rules.{use_of, chain_names, network_names}
-use Rattle.config_check.specs.Sentences.{IsValid, IsAround, NamesTwo, EndExists, ChainExists}
-use Rattle.config_check.proofs.Finders.{finds_network_named}
-use Rattle.config_check.proofs.OneHome.{two_among}
-use Rattle.policy_rules.proofs.Standing.{attaches_iff}
+use Rattle.acl_compile.specs.ConfigTypes.Action.{Action}
+use Rattle.acl_compile.specs.ConfigTypes.Action.TheVariants.{Pass, Deny, Through}
+use Rattle.acl_compile.specs.ConfigTypes.Chain.{Chain}
+use Rattle.acl_compile.specs.ConfigTypes.Config.{Config}
+use Rattle.acl_compile.specs.ConfigTypes.End.{End}
+use Rattle.acl_compile.specs.ConfigTypes.End.TheVariants.{Any, Named}
+use Rattle.acl_compile.specs.ConfigTypes.Network.{Network}
+use Rattle.acl_compile.specs.ConfigTypes.Policy.{Policy}
+use Rattle.acl_compile.specs.ConfigTypes.Rule.{Rule}
+use Rattle.acl_compile.specs.ConfigTypes.Service.{Service}
+use Rattle.acl_compile.specs.ConfigTypes.Topology.{Topology}
+use Rattle.acl_compile.specs.ChainExpand.Expansion.{expansion, services_within, service_named, hops_of}
+use Rattle.acl_compile.specs.PolicyRules.NumberedRule.{NumberedRule}
+use Rattle.acl_compile.specs.PolicyRules.Related.{all_rules, attaches, numbered_from, numbered_rules}
+use Rattle.acl_compile.specs.PolicyRules.Standing.{IsEnd, AreRelated, LetsThrough}
+use Rattle.acl_compile.proofs.PolicyRules.Relations.{related_iff}
+use Rattle.acl_compile.specs.ConfigCheck.Finding.{network_named}
+use Rattle.acl_compile.specs.ConfigCheck.Rules.{use_of, chain_names, network_names}
+use Rattle.acl_compile.specs.ConfigCheck.Sentences.{IsValid, IsAround, NamesTwo, EndExists, ChainExists}
+use Rattle.acl_compile.proofs.ConfigCheck.Finders.{finds_network_named}
+use Rattle.acl_compile.proofs.ConfigCheck.OneHome.{two_among}
+use Rattle.acl_compile.proofs.PolicyRules.Standing.{attaches_iff}
 use Rattle.transform_model.specs.IsUse.{IsUse}
 use Rattle.transform_model.specs.Uses.{ConfiguredUse, network_at, use_between, use_by, uses_of, uses}
-use Rattle.policy_rules.proofs.Lists.{is_joined, joined_is, mapped_is}
+use Rattle.acl_compile.proofs.PolicyRules.Lists.{is_joined, joined_is, mapped_is}
 use Rattle.transform_model.proofs.Lists.{given, gives, some_if, is_some, at_place, pairs_joined_by, pairs_given_by, pairs_in_part, pairs_of_parts, pairs_mapped, pairs_ungiven, Across}
 
 -- the network of a name

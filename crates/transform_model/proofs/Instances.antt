@@ -6,18 +6,18 @@ use Rattle.std.proofs.lemmas.List.Elements.{Contains-get_or, Contains-append_lef
 use Rattle.std.proofs.lemmas.List.Kept.{AllPairs-cons}
 use Rattle.ov_types.specs.declared.numbers.InstanceId.{InstanceId}
 use Rattle.ov_types.proofs.FirstLemmas.{contains_here, contains_later, contains_cases}
-use Rattle.route_targets.specs.Numbers.{hop_instance_of}
-use Rattle.config_model.specs.Form.{has_config_form}
-use Rattle.config_model.specs.declared.config.Config.{Config}
-use Rattle.config_model.specs.declared.config.Network.{Network}
-use Rattle.config_model.specs.declared.topology.Topology.{Topology}
-use Rattle.config_check.specs.Sentences.{IsValid}
+use Rattle.node_model.specs.RouteTargets.Numbers.{hop_instance_of}
+use Rattle.acl_compile.specs.ConfigTypes.Form.{has_config_form}
+use Rattle.acl_compile.specs.ConfigTypes.Config.{Config}
+use Rattle.acl_compile.specs.ConfigTypes.Network.{Network}
+use Rattle.acl_compile.specs.ConfigTypes.Topology.{Topology}
+use Rattle.acl_compile.specs.ConfigCheck.Sentences.{IsValid}
 use Rattle.transform_model.specs.IsUse.{IsInstance, of_network, of_hop}
 use Rattle.transform_model.specs.Tables.{instances}
 use Rattle.transform_model.specs.Uses.{ConfiguredUse, uses, hops_from, hops}
 use Rattle.transform_model.proofs.InUse.{use_is, is_use, uses_differ, few_services}
 use Rattle.transform_model.proofs.InUse as in_use
-use Rattle.policy_rules.proofs.Lists.{mapped_is, is_mapped, joined_is, is_joined}
+use Rattle.acl_compile.proofs.PolicyRules.Lists.{mapped_is, is_mapped, joined_is, is_joined}
 use Rattle.transform_model.proofs.Lists.{no_pairs, pairs_append_by, pairs_joined_by, pairs_mapped, pairs_of_map}
 use Rattle.transform_model.proofs.Prefixes.{same_hop, network_number}
 

@@ -8,14 +8,14 @@ use Rattle.ov_types.specs.declared.numbers.Label.{Label}
 use Rattle.ov_types.specs.declared.prefix.Addr.{Addr}
 use Rattle.ov_types.specs.declared.rows.Attached.{Attached}
 use Rattle.ov_types.specs.declared.rows.Attached.TheVariants as Is
-use Rattle.route_targets.specs.Numbers.{circuit_address_of, circuit_instance_of, circuit_label_of, port_label_of}
-use Rattle.config_model.specs.Form.{has_config_form}
-use Rattle.config_model.specs.declared.config.Config.{Config}
-use Rattle.config_model.specs.declared.config.Network.{Network}
-use Rattle.config_model.specs.declared.config.Port.{Port}
-use Rattle.config_model.specs.declared.topology.Node.{Node}
-use Rattle.config_model.specs.declared.topology.Topology.{Topology}
-use Rattle.config_check.specs.Sentences.{IsValid}
+use Rattle.node_model.specs.RouteTargets.Numbers.{circuit_address_of, circuit_instance_of, circuit_label_of, port_label_of}
+use Rattle.acl_compile.specs.ConfigTypes.Form.{has_config_form}
+use Rattle.acl_compile.specs.ConfigTypes.Config.{Config}
+use Rattle.acl_compile.specs.ConfigTypes.Network.{Network}
+use Rattle.acl_compile.specs.ConfigTypes.Port.{Port}
+use Rattle.acl_compile.specs.ConfigTypes.Node.{Node}
+use Rattle.acl_compile.specs.ConfigTypes.Topology.{Topology}
+use Rattle.acl_compile.specs.ConfigCheck.Sentences.{IsValid}
 use Rattle.node_model.specs.Agent.{attached}
 use Rattle.transform_model.specs.Compiled.{agent_rows, concerns, slice_of}
 use Rattle.transform_model.specs.IsLabel.{IsLabel, instance_of}
@@ -27,7 +27,7 @@ use Rattle.transform_model.specs.Objects.{LowObject, attached_port, attached_cir
 use Rattle.transform_model.specs.Tables.{Row, host_route, circuit_route, instance_table}
 use Rattle.transform_model.specs.Uses.{ConfiguredUse, Circuit}
 use Rattle.transform_model.proofs.Circuits.{left_instance, right_instance}
-use Rattle.policy_rules.proofs.Lists.{kept_is, is_kept}
+use Rattle.acl_compile.proofs.PolicyRules.Lists.{kept_is, is_kept}
 use Rattle.transform_model.proofs.Lists.{given, gives}
 use Rattle.transform_model.proofs.LowKeys.{low_is, is_low}
 use Rattle.transform_model.proofs.Rows.{row_is, is_row}

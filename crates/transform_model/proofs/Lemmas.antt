@@ -11,14 +11,14 @@ use Rattle.ov_types.specs.declared.numbers.Label.{Label}
 use Rattle.ov_types.specs.declared.prefix.Addr.{Addr}
 use Rattle.ov_types.specs.declared.rows.Attached.{Attached}
 use Rattle.ov_types.specs.declared.rows.Entry.{Entry}
-use Rattle.config_model.specs.Form.{has_config_form}
-use Rattle.config_model.specs.declared.config.Config.{Config}
-use Rattle.config_model.specs.declared.config.Network.{Network}
-use Rattle.config_model.specs.declared.config.Port.{Port}
-use Rattle.config_model.specs.declared.topology.Node.{Node}
-use Rattle.config_model.specs.declared.topology.Topology.{Topology}
-use Rattle.config_check.specs.Rules.{first_broken}
-use Rattle.config_check.proofs.Validity.{valid_iff}
+use Rattle.acl_compile.specs.ConfigTypes.Form.{has_config_form}
+use Rattle.acl_compile.specs.ConfigTypes.Config.{Config}
+use Rattle.acl_compile.specs.ConfigTypes.Network.{Network}
+use Rattle.acl_compile.specs.ConfigTypes.Port.{Port}
+use Rattle.acl_compile.specs.ConfigTypes.Node.{Node}
+use Rattle.acl_compile.specs.ConfigTypes.Topology.{Topology}
+use Rattle.acl_compile.specs.ConfigCheck.Rules.{first_broken}
+use Rattle.acl_compile.proofs.ConfigCheck.Validity.{valid_iff}
 use Rattle.node_model.specs.Agent.{needed_by}
 use Rattle.transform_model.specs.Compiled.{agent_rows, slice_of}
 use Rattle.transform_model.specs.IsLabel.{IsLabel, instance_of}

@@ -14,3 +14,5 @@ pub mod Needed
 pub mod Labels
 pub mod AgentRows
 pub mod Lemmas
+pub mod AclCompile
+pub mod NodeModel

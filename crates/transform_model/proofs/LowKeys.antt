@@ -9,14 +9,14 @@ use Rattle.std.proofs.lemmas.List.Sorted.{IsPermutation-sym, Contains-permutatio
 use Rattle.ov_types.specs.First.{same_name}
 use Rattle.ov_types.specs.Keys.{kind_of, low_key_cmp}
 use Rattle.ov_types.specs.declared.objects.LowKey.TheVariants as Key
-use Rattle.config_model.specs.Form.{has_config_form}
-use Rattle.config_model.specs.declared.config.Config.{Config}
-use Rattle.config_model.specs.declared.config.Network.{Network}
-use Rattle.config_model.specs.declared.config.Port.{Port}
-use Rattle.config_model.specs.declared.topology.Topology.{Topology}
-use Rattle.policy_rules.specs.Related.{are_related}
-use Rattle.config_check.specs.Rules.{group_of}
-use Rattle.config_check.specs.Sentences.{IsValid}
+use Rattle.acl_compile.specs.ConfigTypes.Form.{has_config_form}
+use Rattle.acl_compile.specs.ConfigTypes.Config.{Config}
+use Rattle.acl_compile.specs.ConfigTypes.Network.{Network}
+use Rattle.acl_compile.specs.ConfigTypes.Port.{Port}
+use Rattle.acl_compile.specs.ConfigTypes.Topology.{Topology}
+use Rattle.acl_compile.specs.PolicyRules.Related.{are_related}
+use Rattle.acl_compile.specs.ConfigCheck.Rules.{group_of}
+use Rattle.acl_compile.specs.ConfigCheck.Sentences.{IsValid}
 use Rattle.transform_model.specs.IsObject.{IsObject}
 use Rattle.transform_model.specs.Objects.{LowObject, instance_object, port_object, circuit_object, circuit_objects, acl_object, acl_objects, use_object, objects, low_objects}
 use Rattle.transform_model.specs.Uses.{ConfiguredUse, Circuit, uses, left_circuits, right_circuits}
@@ -25,7 +25,7 @@ use Rattle.transform_model.proofs.Circuits as circuit
 use Rattle.transform_model.proofs.InUse.{use_is, uses_differ, few_services}
 use Rattle.transform_model.proofs.InUse as in_use
 use Rattle.transform_model.proofs.Keys.{objects_in_order, objects_added}
-use Rattle.policy_rules.proofs.Lists.{mapped_is, joined_is}
+use Rattle.acl_compile.proofs.PolicyRules.Lists.{mapped_is, joined_is}
 use Rattle.transform_model.proofs.Lists.{given, pairs_append_by, pairs_given_by, pairs_joined_by, pairs_mapped, pairs_of_map, pairs_weaker, place_within}
 use Rattle.transform_model.proofs.Objects.{from_port, from_circuit, instance_part, port_part, circuit_part, acl_part, use_part, object_is, is_object}
 use Rattle.transform_model.proofs.Prefixes.{port_number}

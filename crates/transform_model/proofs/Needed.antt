@@ -12,27 +12,27 @@ use Rattle.ov_types.specs.declared.objects.AclAction.TheVariants as Does
 use Rattle.ov_types.specs.declared.objects.AclRule.{AclRule}
 use Rattle.ov_types.specs.declared.prefix.Addr.{Addr}
 use Rattle.ov_types.proofs.FirstLemmas.{any_of, contains_at, contains_cases, contains_here, same_name_iff}
-use Rattle.route_targets.specs.Numbers.{circuit_instance_of, hop_instance_of}
-use Rattle.config_model.specs.Form.{has_config_form}
-use Rattle.config_model.specs.declared.config.Action.{Action}
-use Rattle.config_model.specs.declared.config.Action.TheVariants.{Pass, Deny, Through}
-use Rattle.config_model.specs.declared.config.Config.{Config}
-use Rattle.config_model.specs.declared.config.Direction.{Direction}
-use Rattle.config_model.specs.declared.config.Direction.TheVariants.{OneWay, BothWays}
-use Rattle.config_model.specs.declared.config.End.{End}
-use Rattle.config_model.specs.declared.config.End.TheVariants.{Any as AnyNetwork, Named}
-use Rattle.config_model.specs.declared.config.Network.{Network}
-use Rattle.config_model.specs.declared.config.Rule.{Rule}
-use Rattle.config_model.specs.declared.config.Service.{Service}
-use Rattle.config_model.specs.declared.topology.Node.{Node}
-use Rattle.config_model.specs.declared.topology.Topology.{Topology}
-use Rattle.chain_expand.specs.Expansion.{expansion}
-use Rattle.policy_rules.specs.declared.numbered.NumberedRule.{NumberedRule}
-use Rattle.policy_rules.specs.Matching.{speaks_both_ways}
-use Rattle.policy_rules.specs.Related.{all_rules, fits, rules_between}
-use Rattle.policy_rules.specs.Standing.{AreRelated, IsBetween, IsEnd, Fits}
-use Rattle.policy_rules.proofs.Standing.{between_iff, fits_iff}
-use Rattle.config_check.specs.Sentences.{IsValid, NamesEnds}
+use Rattle.node_model.specs.RouteTargets.Numbers.{circuit_instance_of, hop_instance_of}
+use Rattle.acl_compile.specs.ConfigTypes.Form.{has_config_form}
+use Rattle.acl_compile.specs.ConfigTypes.Action.{Action}
+use Rattle.acl_compile.specs.ConfigTypes.Action.TheVariants.{Pass, Deny, Through}
+use Rattle.acl_compile.specs.ConfigTypes.Config.{Config}
+use Rattle.acl_compile.specs.ConfigTypes.Direction.{Direction}
+use Rattle.acl_compile.specs.ConfigTypes.Direction.TheVariants.{OneWay, BothWays}
+use Rattle.acl_compile.specs.ConfigTypes.End.{End}
+use Rattle.acl_compile.specs.ConfigTypes.End.TheVariants.{Any as AnyNetwork, Named}
+use Rattle.acl_compile.specs.ConfigTypes.Network.{Network}
+use Rattle.acl_compile.specs.ConfigTypes.Rule.{Rule}
+use Rattle.acl_compile.specs.ConfigTypes.Service.{Service}
+use Rattle.acl_compile.specs.ConfigTypes.Node.{Node}
+use Rattle.acl_compile.specs.ConfigTypes.Topology.{Topology}
+use Rattle.acl_compile.specs.ChainExpand.Expansion.{expansion}
+use Rattle.acl_compile.specs.PolicyRules.NumberedRule.{NumberedRule}
+use Rattle.acl_compile.specs.PolicyRules.Matching.{speaks_both_ways}
+use Rattle.acl_compile.specs.PolicyRules.Related.{all_rules, fits, rules_between}
+use Rattle.acl_compile.specs.PolicyRules.Standing.{AreRelated, IsBetween, IsEnd, Fits}
+use Rattle.acl_compile.proofs.PolicyRules.Standing.{between_iff, fits_iff}
+use Rattle.acl_compile.specs.ConfigCheck.Sentences.{IsValid, NamesEnds}
 use Rattle.acl_compile.specs.Oriented.{does, forward_entry, mirrored_entry, forwards, backwards, entries_of, oriented, acl_rules}
 use Rattle.node_model.specs.Agent.{entered_by, needed_for, needed_by}
 use Rattle.node_model.specs.Wants.{port_at}
@@ -46,7 +46,7 @@ use Rattle.transform_model.specs.Objects.{LowObject, acl_object, attached_circui
 use Rattle.transform_model.specs.Uses.{ConfiguredUse}
 use Rattle.transform_model.proofs.Circuits.{left_instance, right_instance}
 use Rattle.transform_model.proofs.InUse.{numbered, among_all, ends_related}
-use Rattle.policy_rules.proofs.Lists.{is_joined, joined_is, is_kept, kept_is}
+use Rattle.acl_compile.proofs.PolicyRules.Lists.{is_joined, joined_is, is_kept, kept_is}
 use Rattle.transform_model.proofs.Lists.{given, gives, is_some, is_there, some_if, at_place, place_within}
 use Rattle.transform_model.proofs.LowKeys.{low_is, is_low}
 use Rattle.transform_model.proofs.Objects.{one_numbered}

@@ -10,20 +10,20 @@ use Rattle.ov_types.specs.declared.objects.LowKey.TheVariants as Key
 use Rattle.ov_types.specs.declared.objects.LowValue.TheVariants as Value
 use Rattle.ov_types.specs.declared.prefix.Addr.{Addr}
 use Rattle.ov_types.proofs.FirstLemmas.{contains_here, contains_later}
-use Rattle.config_model.specs.declared.config.Config.{Config}
-use Rattle.config_model.specs.declared.config.Network.{Network}
-use Rattle.config_model.specs.declared.config.Port.{Port}
-use Rattle.config_model.specs.declared.config.Service.{Service}
-use Rattle.config_model.specs.declared.topology.Node.{Node}
-use Rattle.config_model.specs.declared.topology.Topology.{Topology}
-use Rattle.policy_rules.specs.Related.{imports, are_related}
-use Rattle.policy_rules.specs.Standing.{AreRelated}
-use Rattle.policy_rules.proofs.Relations.{imports_iff, related_iff}
-use Rattle.config_check.specs.Finding.{network_named, network_numbered, node_named}
-use Rattle.config_check.specs.Rules.{group_of, node_names}
-use Rattle.config_check.specs.Sentences.{IsValid, IsAround}
-use Rattle.config_check.proofs.Finders.{finds_network_named, finds_network_numbered}
-use Rattle.config_check.proofs.Meanings.{around_test}
+use Rattle.acl_compile.specs.ConfigTypes.Config.{Config}
+use Rattle.acl_compile.specs.ConfigTypes.Network.{Network}
+use Rattle.acl_compile.specs.ConfigTypes.Port.{Port}
+use Rattle.acl_compile.specs.ConfigTypes.Service.{Service}
+use Rattle.acl_compile.specs.ConfigTypes.Node.{Node}
+use Rattle.acl_compile.specs.ConfigTypes.Topology.{Topology}
+use Rattle.acl_compile.specs.PolicyRules.Related.{imports, are_related}
+use Rattle.acl_compile.specs.PolicyRules.Standing.{AreRelated}
+use Rattle.acl_compile.proofs.PolicyRules.Relations.{imports_iff, related_iff}
+use Rattle.acl_compile.specs.ConfigCheck.Finding.{network_named, network_numbered, node_named}
+use Rattle.acl_compile.specs.ConfigCheck.Rules.{group_of, node_names}
+use Rattle.acl_compile.specs.ConfigCheck.Sentences.{IsValid, IsAround}
+use Rattle.acl_compile.proofs.ConfigCheck.Finders.{finds_network_named, finds_network_numbered}
+use Rattle.acl_compile.proofs.ConfigCheck.Meanings.{around_test}
 use Rattle.acl_compile.specs.Oriented.{ascending}
 use Rattle.transform_model.specs.IsObject.{IsObject, of_network, of_port, of_left_circuit, of_right_circuit, of_networks, of_use, AreImports, IsHop}
 use Rattle.transform_model.specs.IsRow.{IsPort, IsCircuitAt}
@@ -33,7 +33,7 @@ use Rattle.transform_model.specs.Uses.{ConfiguredUse, Circuit, uses, left_circui
 use Rattle.transform_model.proofs.Ascending.{ascending_is, is_ascending, ascending_rises, one_list}
 use Rattle.transform_model.proofs.Circuits.{left_is, is_left, right_is, is_right}
 use Rattle.transform_model.proofs.InUse.{named, use_is, is_use, services_are}
-use Rattle.policy_rules.proofs.Lists.{kept_is, is_kept, mapped_is, is_mapped, joined_is, is_joined}
+use Rattle.acl_compile.proofs.PolicyRules.Lists.{kept_is, is_kept, mapped_is, is_mapped, joined_is, is_joined}
 use Rattle.transform_model.proofs.Lists.{given, gives, mapped_some}
 use Rattle.transform_model.proofs.Rows.{node_is, is_node}
 

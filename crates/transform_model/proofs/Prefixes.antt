@@ -12,24 +12,24 @@ use Rattle.ov_types.specs.declared.numbers.InstanceId.{InstanceId}
 use Rattle.ov_types.proofs.Blocks.{contains_from}
 use Rattle.ov_types.specs.First.{same_name}
 use Rattle.ov_types.proofs.FirstLemmas.{found_is, any_of, same_name_iff}
-use Rattle.route_targets.specs.Numbers.{circuit_address_of, hop_instance_of, left_circuit_of, right_circuit_of}
-use Rattle.config_model.specs.Form.{is_block, is_from_to, is_network_name, is_range, has_end_form, has_protocol_form, has_action_form, has_rule_form, has_policy_form, has_network_form, has_port_form, has_service_form, has_chain_form, has_config_form}
-use Rattle.config_model.specs.declared.config.Action.{Action}
-use Rattle.config_model.specs.declared.config.Action.TheVariants.{Through}
-use Rattle.config_model.specs.declared.config.Config.{Config}
-use Rattle.config_model.specs.declared.config.Network.{Network}
-use Rattle.config_model.specs.declared.config.Policy.{Policy}
-use Rattle.config_model.specs.declared.config.Port.{Port}
-use Rattle.config_model.specs.declared.config.Rule.{Rule}
-use Rattle.config_model.specs.declared.topology.Topology.{Topology}
-use Rattle.config_check.specs.Finding.{network_named, network_numbered}
-use Rattle.config_check.specs.Rules.{circuit_addresses}
-use Rattle.config_check.specs.Sentences.{IsValid, IsAround, AreApart, Overlap}
-use Rattle.config_check.proofs.Circuits.{circuits_iff}
-use Rattle.config_check.proofs.Finders.{finds_network_named}
-use Rattle.config_check.proofs.Iffs.{list_all_true}
-use Rattle.config_check.proofs.Nested.{overlap_at}
-use Rattle.config_check.proofs.OneHome.{HasBlocks, blocks_of, meet, one_home, two_among, networks_have_form}
+use Rattle.node_model.specs.RouteTargets.Numbers.{circuit_address_of, hop_instance_of, left_circuit_of, right_circuit_of}
+use Rattle.acl_compile.specs.ConfigTypes.Form.{is_block, is_from_to, is_network_name, is_range, has_end_form, has_protocol_form, has_action_form, has_rule_form, has_policy_form, has_network_form, has_port_form, has_service_form, has_chain_form, has_config_form}
+use Rattle.acl_compile.specs.ConfigTypes.Action.{Action}
+use Rattle.acl_compile.specs.ConfigTypes.Action.TheVariants.{Through}
+use Rattle.acl_compile.specs.ConfigTypes.Config.{Config}
+use Rattle.acl_compile.specs.ConfigTypes.Network.{Network}
+use Rattle.acl_compile.specs.ConfigTypes.Policy.{Policy}
+use Rattle.acl_compile.specs.ConfigTypes.Port.{Port}
+use Rattle.acl_compile.specs.ConfigTypes.Rule.{Rule}
+use Rattle.acl_compile.specs.ConfigTypes.Topology.{Topology}
+use Rattle.acl_compile.specs.ConfigCheck.Finding.{network_named, network_numbered}
+use Rattle.acl_compile.specs.ConfigCheck.Rules.{circuit_addresses}
+use Rattle.acl_compile.specs.ConfigCheck.Sentences.{IsValid, IsAround, AreApart, Overlap}
+use Rattle.acl_compile.proofs.ConfigCheck.Circuits.{circuits_iff}
+use Rattle.acl_compile.proofs.ConfigCheck.Finders.{finds_network_named}
+use Rattle.acl_compile.proofs.ConfigCheck.Iffs.{list_all_true}
+use Rattle.acl_compile.proofs.ConfigCheck.Nested.{overlap_at}
+use Rattle.acl_compile.proofs.ConfigCheck.OneHome.{HasBlocks, blocks_of, meet, one_home, two_among, networks_have_form}
 use Rattle.transform_model.specs.IsUse.{IsUse}
 use Rattle.transform_model.specs.Tables.{Row, port_row, network_rows, rows_of, row_towards, circuits_in, circuit_row, holds_port, held_subnets, subnet_rows, end_row, end_rows, hop_rows, instance_table}
 use Rattle.transform_model.specs.Uses.{ConfiguredUse, Circuit, uses, first_hop, last_hop, left_circuits, right_circuits}
@@ -37,7 +37,7 @@ use Rattle.transform_model.proofs.Circuits as circuit
 use Rattle.transform_model.proofs.Circuits.{left_number, right_number, lefts_differ, rights_differ, circuits_differ}
 use Rattle.transform_model.proofs.InUse.{named, few_services, ends_differ, around_right, use_is, uses_differ}
 use Rattle.transform_model.proofs.InUse as in_use
-use Rattle.policy_rules.proofs.Lists.{joined_is}
+use Rattle.acl_compile.proofs.PolicyRules.Lists.{joined_is}
 use Rattle.transform_model.proofs.Lists.{given, no_pairs, pairs_append_by, pairs_given_by, pairs_joined_by, place_within}
 use Rattle.transform_model.proofs.Related.{is_around}
 use Rattle.transform_model.proofs.Rows.{from_port, from_network, towards, LeftIn, RightIn, left_in, right_in, either_in, AtEnd, at_end, TowardsSubnet, towards_subnet, circuit_part, right_part, left_part, first_part, last_part, is_in}

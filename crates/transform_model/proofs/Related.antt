@@ -1,15 +1,15 @@
 -- A network that is imported is the network itself, or related to it.
 use Rattle.std.proofs.Common.{◌⊎◌, inl, inr, ◌||◌, ◌&&◌, Bool, true, false, not, IsTrue, List, refl, sym}
 use Rattle.std.specs.List.{list_any}
-use Rattle.config_model.specs.declared.config.Action.{Action}
-use Rattle.config_model.specs.declared.config.Action.TheVariants.{Pass, Deny, Through}
-use Rattle.config_model.specs.declared.config.Config.{Config}
-use Rattle.config_model.specs.declared.config.Network.{Network}
+use Rattle.acl_compile.specs.ConfigTypes.Action.{Action}
+use Rattle.acl_compile.specs.ConfigTypes.Action.TheVariants.{Pass, Deny, Through}
+use Rattle.acl_compile.specs.ConfigTypes.Config.{Config}
+use Rattle.acl_compile.specs.ConfigTypes.Network.{Network}
 use Rattle.ov_types.specs.First.{same_name}
 use Rattle.ov_types.proofs.FirstLemmas.{same_name_iff}
-use Rattle.policy_rules.specs.declared.numbered.NumberedRule.{NumberedRule}
-use Rattle.policy_rules.specs.Related.{passes, lets_through, rules_between, imports}
-use Rattle.config_check.specs.Sentences.{IsAround}
+use Rattle.acl_compile.specs.PolicyRules.NumberedRule.{NumberedRule}
+use Rattle.acl_compile.specs.PolicyRules.Related.{passes, lets_through, rules_between, imports}
+use Rattle.acl_compile.specs.ConfigCheck.Sentences.{IsAround}
 use Rattle.transform_model.proofs.Lists.{any_weaker}
 
 passes_through : (a : Action) → IsTrue (passes a) → IsTrue (lets_through a)

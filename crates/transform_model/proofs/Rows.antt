@@ -9,25 +9,25 @@ use Rattle.ov_types.specs.First.{same_name}
 use Rattle.ov_types.specs.Prefix.{Block, contains, host_prefix}
 use Rattle.ov_types.specs.declared.numbers.InstanceId.{InstanceId}
 use Rattle.ov_types.proofs.FirstLemmas.{found_is, same_name_iff, any_of}
-use Rattle.route_targets.specs.Numbers.{circuit_address_of, circuit_instance_of, hop_instance_of}
-use Rattle.config_model.specs.declared.config.Config.{Config}
-use Rattle.config_model.specs.declared.config.Network.{Network}
-use Rattle.config_model.specs.declared.config.Port.{Port}
-use Rattle.config_model.specs.declared.topology.Node.{Node}
-use Rattle.config_model.specs.declared.topology.Topology.{Topology}
-use Rattle.policy_rules.specs.Related.{imports}
-use Rattle.policy_rules.specs.Standing.{PassesBetween}
-use Rattle.policy_rules.proofs.Relations.{imports_iff}
-use Rattle.config_check.specs.Finding.{network_named, network_numbered, node_named}
-use Rattle.config_check.specs.Sentences.{IsValid}
-use Rattle.config_check.proofs.Finders.{finds_network_named, finds_network_numbered, finds_node_named}
+use Rattle.node_model.specs.RouteTargets.Numbers.{circuit_address_of, circuit_instance_of, hop_instance_of}
+use Rattle.acl_compile.specs.ConfigTypes.Config.{Config}
+use Rattle.acl_compile.specs.ConfigTypes.Network.{Network}
+use Rattle.acl_compile.specs.ConfigTypes.Port.{Port}
+use Rattle.acl_compile.specs.ConfigTypes.Node.{Node}
+use Rattle.acl_compile.specs.ConfigTypes.Topology.{Topology}
+use Rattle.acl_compile.specs.PolicyRules.Related.{imports}
+use Rattle.acl_compile.specs.PolicyRules.Standing.{PassesBetween}
+use Rattle.acl_compile.proofs.PolicyRules.Relations.{imports_iff}
+use Rattle.acl_compile.specs.ConfigCheck.Finding.{network_named, network_numbered, node_named}
+use Rattle.acl_compile.specs.ConfigCheck.Sentences.{IsValid}
+use Rattle.acl_compile.proofs.ConfigCheck.Finders.{finds_network_named, finds_network_numbered, finds_node_named}
 use Rattle.transform_model.specs.IsRow.{IsRow, to_port, to_left_circuit, to_right_circuit, to_right_subnet, to_left_subnet, at_left_end, at_right_end, IsPort, IsCircuitAt, HoldsPort}
 use Rattle.transform_model.specs.IsUse.{IsUse, IsLeftCircuit, IsRightCircuit}
 use Rattle.transform_model.specs.Tables.{Row, host_route, row_if, port_row, network_rows, rows_of, circuit_route, row_towards, circuits_in, circuit_row, holds_port, held_subnets, subnet_rows, end_row, end_rows, hop_rows, instance_table}
 use Rattle.transform_model.specs.Uses.{ConfiguredUse, Circuit, uses, first_hop, last_hop, left_circuits, right_circuits}
 use Rattle.transform_model.proofs.Circuits.{left_is, is_left, right_is, is_right, left_instance, right_instance}
 use Rattle.transform_model.proofs.InUse.{named, use_is, is_use}
-use Rattle.policy_rules.proofs.Lists.{joined_is, is_joined, kept_is, is_kept}
+use Rattle.acl_compile.proofs.PolicyRules.Lists.{joined_is, is_joined, kept_is, is_kept}
 use Rattle.transform_model.proofs.Lists.{given, gives, there_if, is_there, mapped_some}
 
 -- ---- nodes

@@ -10,11 +10,11 @@ use Rattle.ov_types.specs.declared.prefix.Addr.{Addr}
 use Rattle.ov_types.specs.declared.rows.AgentRows.{AgentRows}
 use Rattle.ov_types.specs.declared.rows.Entry.{Entry}
 use Rattle.ov_types.specs.declared.rows.NodeId.{NodeId}
-use Rattle.route_targets.specs.Forwarding.{Forwarder}
-use Rattle.config_model.specs.declared.config.Config.{Config}
-use Rattle.config_model.specs.declared.topology.Node.{Node}
-use Rattle.config_model.specs.declared.topology.Topology.{Topology}
-use Rattle.config_check.specs.Checked.{Checked}
+use Rattle.node_model.specs.RouteTargets.Forwarding.{Forwarder}
+use Rattle.acl_compile.specs.ConfigTypes.Config.{Config}
+use Rattle.acl_compile.specs.ConfigTypes.Node.{Node}
+use Rattle.acl_compile.specs.ConfigTypes.Topology.{Topology}
+use Rattle.acl_compile.specs.ConfigCheck.Checked.{Checked}
 use Rattle.node_model.specs.Agent.{acl_entry, attached, needed_by}
 use Rattle.node_model.specs.Wants.{is_at, port_at}
 use Rattle.transform_model.specs.Objects.{LowObject, ascending_instances, low_objects}

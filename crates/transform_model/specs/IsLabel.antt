@@ -5,12 +5,12 @@ use Rattle.ov_types.specs.declared.numbers.Label.{Label}
 use Rattle.ov_types.specs.declared.prefix.Addr.{Addr}
 use Rattle.ov_types.specs.declared.rows.Attached.{Attached}
 use Rattle.ov_types.specs.declared.rows.Attached.TheVariants as Is
-use Rattle.route_targets.specs.Numbers.{port_label_of, circuit_instance_of, circuit_label_of}
-use Rattle.config_model.specs.declared.config.Config.{Config}
-use Rattle.config_model.specs.declared.config.Network.{Network}
-use Rattle.config_model.specs.declared.config.Port.{Port}
-use Rattle.config_model.specs.declared.topology.Node.{Node}
-use Rattle.config_model.specs.declared.topology.Topology.{Topology}
+use Rattle.node_model.specs.RouteTargets.Numbers.{port_label_of, circuit_instance_of, circuit_label_of}
+use Rattle.acl_compile.specs.ConfigTypes.Config.{Config}
+use Rattle.acl_compile.specs.ConfigTypes.Network.{Network}
+use Rattle.acl_compile.specs.ConfigTypes.Port.{Port}
+use Rattle.acl_compile.specs.ConfigTypes.Node.{Node}
+use Rattle.acl_compile.specs.ConfigTypes.Topology.{Topology}
 use Rattle.transform_model.specs.IsRow.{IsCircuitAt, IsPort}
 use Rattle.transform_model.specs.IsUse.{IsUse, IsLeftCircuit, IsRightCircuit}
 use Rattle.transform_model.specs.Uses.{ConfiguredUse, Circuit}

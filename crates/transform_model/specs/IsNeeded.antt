@@ -6,14 +6,14 @@ use Rattle.ov_types.specs.declared.numbers.InstanceId.{InstanceId}
 use Rattle.ov_types.specs.declared.objects.LowKey.TheVariants as Key
 use Rattle.ov_types.specs.declared.prefix.Addr.{Addr}
 use Rattle.ov_types.specs.declared.rows.Entry.{Entry}
-use Rattle.route_targets.specs.Numbers.{circuit_instance_of, hop_instance_of}
-use Rattle.config_model.specs.declared.config.Config.{Config}
-use Rattle.config_model.specs.declared.config.Direction.TheVariants.{BothWays}
-use Rattle.config_model.specs.declared.config.Network.{Network}
-use Rattle.config_model.specs.declared.config.Port.{Port}
-use Rattle.config_model.specs.declared.topology.Node.{Node}
-use Rattle.config_model.specs.declared.topology.Topology.{Topology}
-use Rattle.policy_rules.specs.Standing.{AreRelated}
+use Rattle.node_model.specs.RouteTargets.Numbers.{circuit_instance_of, hop_instance_of}
+use Rattle.acl_compile.specs.ConfigTypes.Config.{Config}
+use Rattle.acl_compile.specs.ConfigTypes.Direction.TheVariants.{BothWays}
+use Rattle.acl_compile.specs.ConfigTypes.Network.{Network}
+use Rattle.acl_compile.specs.ConfigTypes.Port.{Port}
+use Rattle.acl_compile.specs.ConfigTypes.Node.{Node}
+use Rattle.acl_compile.specs.ConfigTypes.Topology.{Topology}
+use Rattle.acl_compile.specs.PolicyRules.Standing.{AreRelated}
 use Rattle.acl_compile.specs.Oriented.{acl_value}
 use Rattle.transform_model.specs.IsRow.{IsCircuitAt, IsPort, IsRow}
 use Rattle.transform_model.specs.IsUse.{IsUse, IsLeftCircuit, IsRightCircuit}

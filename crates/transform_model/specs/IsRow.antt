@@ -3,13 +3,13 @@ use Rattle.std.specs.Prelude.{◌≡◌, ◌⊎◌, ℕ, IsTrue}
 use Rattle.std.specs.List.{Contains}
 use Rattle.ov_types.specs.Prefix.{Block, contains, host_prefix}
 use Rattle.ov_types.specs.declared.numbers.InstanceId.{InstanceId}
-use Rattle.route_targets.specs.Numbers.{circuit_address_of, hop_instance_of}
-use Rattle.config_model.specs.declared.config.Config.{Config}
-use Rattle.config_model.specs.declared.config.Network.{Network}
-use Rattle.config_model.specs.declared.config.Port.{Port}
-use Rattle.config_model.specs.declared.topology.Node.{Node}
-use Rattle.config_model.specs.declared.topology.Topology.{Topology}
-use Rattle.policy_rules.specs.Standing.{PassesBetween}
+use Rattle.node_model.specs.RouteTargets.Numbers.{circuit_address_of, hop_instance_of}
+use Rattle.acl_compile.specs.ConfigTypes.Config.{Config}
+use Rattle.acl_compile.specs.ConfigTypes.Network.{Network}
+use Rattle.acl_compile.specs.ConfigTypes.Port.{Port}
+use Rattle.acl_compile.specs.ConfigTypes.Node.{Node}
+use Rattle.acl_compile.specs.ConfigTypes.Topology.{Topology}
+use Rattle.acl_compile.specs.PolicyRules.Standing.{PassesBetween}
 use Rattle.std.specs.Prelude.{length, ◌+◌}
 use Rattle.transform_model.specs.IsUse.{IsUse, IsLeftCircuit, IsRightCircuit}
 use Rattle.transform_model.specs.Tables.{Row, host_route, circuit_route}

@@ -2,14 +2,14 @@
 use Rattle.std.specs.Prelude.{◌≡◌, ℕ, ◌+◌, ◌≤◌, slice_get, List, length, Some}
 use Rattle.std.specs.List.{Contains}
 use Rattle.ov_types.specs.declared.numbers.InstanceId.{InstanceId}
-use Rattle.route_targets.specs.Numbers.{hop_instance_of, left_circuit_of, right_circuit_of}
-use Rattle.config_model.specs.declared.config.Action.TheVariants.{Through}
-use Rattle.config_model.specs.declared.config.Config.{Config}
-use Rattle.config_model.specs.declared.config.End.TheVariants.{Named}
-use Rattle.config_model.specs.declared.config.Network.{Network}
-use Rattle.config_model.specs.declared.config.Policy.{Policy}
-use Rattle.config_model.specs.declared.config.Rule.{Rule}
-use Rattle.chain_expand.specs.Expansion.{expansion}
+use Rattle.node_model.specs.RouteTargets.Numbers.{hop_instance_of, left_circuit_of, right_circuit_of}
+use Rattle.acl_compile.specs.ConfigTypes.Action.TheVariants.{Through}
+use Rattle.acl_compile.specs.ConfigTypes.Config.{Config}
+use Rattle.acl_compile.specs.ConfigTypes.End.TheVariants.{Named}
+use Rattle.acl_compile.specs.ConfigTypes.Network.{Network}
+use Rattle.acl_compile.specs.ConfigTypes.Policy.{Policy}
+use Rattle.acl_compile.specs.ConfigTypes.Rule.{Rule}
+use Rattle.acl_compile.specs.ChainExpand.Expansion.{expansion}
 use Rattle.transform_model.specs.Uses.{ConfiguredUse, Circuit}
 
 -- a use is in effect: a rule of a policy leads through a chain by the use's number, from the left network to the right

@@ -2,10 +2,10 @@
 use Rattle.std.specs.Prelude.{◌≡◌}
 use Rattle.ov_types.specs.Prefix.{Block, host_prefix}
 use Rattle.ov_types.specs.declared.numbers.InstanceId.{InstanceId}
-use Rattle.route_targets.specs.Numbers.{circuit_label_of, distinguisher_of, port_label_of}
-use Rattle.config_model.specs.declared.config.Network.{Network}
-use Rattle.config_model.specs.declared.config.Port.{Port}
-use Rattle.config_model.specs.declared.topology.Node.{Node}
+use Rattle.node_model.specs.RouteTargets.Numbers.{circuit_label_of, distinguisher_of, port_label_of}
+use Rattle.acl_compile.specs.ConfigTypes.Network.{Network}
+use Rattle.acl_compile.specs.ConfigTypes.Port.{Port}
+use Rattle.acl_compile.specs.ConfigTypes.Node.{Node}
 use Rattle.transform_model.specs.Tables.{Row}
 use Rattle.transform_model.specs.Uses.{Circuit}
 

@@ -8,3 +8,5 @@ pub mod IsObject
 pub mod IsLabel
 pub mod IsNeeded
 pub mod Leads
+pub mod AclCompile
+pub mod NodeModel

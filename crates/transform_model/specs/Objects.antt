@@ -14,16 +14,16 @@ use Rattle.ov_types.specs.declared.objects.LowKey.TheVariants as Key
 use Rattle.ov_types.specs.declared.objects.LowValue.{LowValue}
 use Rattle.ov_types.specs.declared.objects.LowValue.TheVariants as Value
 use Rattle.ov_types.specs.declared.prefix.Addr.{Addr}
-use Rattle.route_targets.specs.Numbers.{port_label_of, circuit_label_of}
-use Rattle.config_model.specs.declared.config.Config.{Config}
-use Rattle.config_model.specs.declared.config.Network.{Network}
-use Rattle.config_model.specs.declared.config.Port.{Port}
-use Rattle.config_model.specs.declared.config.Service.{Service}
-use Rattle.config_model.specs.declared.topology.Node.{Node}
-use Rattle.config_model.specs.declared.topology.Topology.{Topology}
-use Rattle.policy_rules.specs.Related.{imports}
-use Rattle.config_check.specs.Finding.{network_named, node_named}
-use Rattle.config_check.specs.Rules.{group_of}
+use Rattle.node_model.specs.RouteTargets.Numbers.{port_label_of, circuit_label_of}
+use Rattle.acl_compile.specs.ConfigTypes.Config.{Config}
+use Rattle.acl_compile.specs.ConfigTypes.Network.{Network}
+use Rattle.acl_compile.specs.ConfigTypes.Port.{Port}
+use Rattle.acl_compile.specs.ConfigTypes.Service.{Service}
+use Rattle.acl_compile.specs.ConfigTypes.Node.{Node}
+use Rattle.acl_compile.specs.ConfigTypes.Topology.{Topology}
+use Rattle.acl_compile.specs.PolicyRules.Related.{imports}
+use Rattle.acl_compile.specs.ConfigCheck.Finding.{network_named, node_named}
+use Rattle.acl_compile.specs.ConfigCheck.Rules.{group_of}
 use Rattle.acl_compile.specs.Oriented.{acl_value, ascending}
 use Rattle.transform_model.specs.Uses.{ConfiguredUse, Circuit, uses, left_circuits, right_circuits}
 

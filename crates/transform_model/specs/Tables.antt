@@ -8,15 +8,15 @@ use Rattle.ov_types.specs.Keys.{row_key_cmp}
 use Rattle.ov_types.specs.Prefix.{Block, contains, host_prefix}
 use Rattle.ov_types.specs.declared.numbers.InstanceId.{InstanceId}
 use Rattle.ov_types.specs.declared.rows.TableRow.{TableRow}
-use Rattle.route_targets.specs.Numbers.{port_label_of, distinguisher_of, circuit_address_of, circuit_instance_of}
-use Rattle.route_targets.specs.Numbers.{circuit_label_of}
-use Rattle.config_model.specs.declared.config.Config.{Config}
-use Rattle.config_model.specs.declared.config.Network.{Network}
-use Rattle.config_model.specs.declared.config.Port.{Port}
-use Rattle.config_model.specs.declared.topology.Node.{Node}
-use Rattle.config_model.specs.declared.topology.Topology.{Topology}
-use Rattle.policy_rules.specs.Related.{imports}
-use Rattle.config_check.specs.Finding.{network_named, network_numbered, node_named}
+use Rattle.node_model.specs.RouteTargets.Numbers.{port_label_of, distinguisher_of, circuit_address_of, circuit_instance_of}
+use Rattle.node_model.specs.RouteTargets.Numbers.{circuit_label_of}
+use Rattle.acl_compile.specs.ConfigTypes.Config.{Config}
+use Rattle.acl_compile.specs.ConfigTypes.Network.{Network}
+use Rattle.acl_compile.specs.ConfigTypes.Port.{Port}
+use Rattle.acl_compile.specs.ConfigTypes.Node.{Node}
+use Rattle.acl_compile.specs.ConfigTypes.Topology.{Topology}
+use Rattle.acl_compile.specs.PolicyRules.Related.{imports}
+use Rattle.acl_compile.specs.ConfigCheck.Finding.{network_named, network_numbered, node_named}
 use Rattle.transform_model.specs.Uses.{ConfiguredUse, Circuit, uses, hops, first_hop, last_hop, left_circuits, right_circuits}
 
 -- an instance and a prefix, and where the instance's table leads for it

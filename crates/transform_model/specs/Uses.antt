@@ -3,19 +3,19 @@ use Rattle.std.specs.Prelude.{ℕ, zero, suc, ◌+◌, ◌&&◌, List, [], ◌�
 use Rattle.std.specs.Prelude.{if◌then◌else◌}
 use Rattle.std.specs.List.{filter_map}
 use Rattle.ov_types.specs.declared.numbers.InstanceId.{InstanceId}
-use Rattle.route_targets.specs.Numbers.{hop_instance_of, left_circuit_of, right_circuit_of}
-use Rattle.config_model.specs.declared.config.Action.{Action}
-use Rattle.config_model.specs.declared.config.Action.TheVariants.{Pass, Deny, Through}
-use Rattle.config_model.specs.declared.config.Config.{Config}
-use Rattle.config_model.specs.declared.config.End.{End}
-use Rattle.config_model.specs.declared.config.End.TheVariants.{Any, Named}
-use Rattle.config_model.specs.declared.config.Network.{Network}
-use Rattle.config_model.specs.declared.config.Policy.{Policy}
-use Rattle.config_model.specs.declared.config.Rule.{Rule}
-use Rattle.config_model.specs.declared.config.Service.{Service}
-use Rattle.chain_expand.specs.Expansion.{expansion}
-use Rattle.policy_rules.specs.Related.{attaches}
-use Rattle.config_check.specs.Finding.{network_named}
+use Rattle.node_model.specs.RouteTargets.Numbers.{hop_instance_of, left_circuit_of, right_circuit_of}
+use Rattle.acl_compile.specs.ConfigTypes.Action.{Action}
+use Rattle.acl_compile.specs.ConfigTypes.Action.TheVariants.{Pass, Deny, Through}
+use Rattle.acl_compile.specs.ConfigTypes.Config.{Config}
+use Rattle.acl_compile.specs.ConfigTypes.End.{End}
+use Rattle.acl_compile.specs.ConfigTypes.End.TheVariants.{Any, Named}
+use Rattle.acl_compile.specs.ConfigTypes.Network.{Network}
+use Rattle.acl_compile.specs.ConfigTypes.Policy.{Policy}
+use Rattle.acl_compile.specs.ConfigTypes.Rule.{Rule}
+use Rattle.acl_compile.specs.ConfigTypes.Service.{Service}
+use Rattle.acl_compile.specs.ChainExpand.Expansion.{expansion}
+use Rattle.acl_compile.specs.PolicyRules.Related.{attaches}
+use Rattle.acl_compile.specs.ConfigCheck.Finding.{network_named}
 
 -- the use of a chain by a rule: its number, the networks that the rule names, and the services of the chain
 pub record ConfiguredUse : Type 0 where

@@ -11,35 +11,35 @@ use Rattle.ov_types.specs.declared.objects.LowValue.{LowValue}
 use Rattle.ov_types.specs.declared.objects.LowValue.TheVariants as Value
 use Rattle.ov_types.specs.declared.prefix.Addr.{Addr}
 use Rattle.route_targets.specs.Numbers.{circuit_label_of, port_label_of}
-use Rattle.config_model.specs.Form.{has_config_form, has_topology_form}
-use Rattle.config_model.specs.declared.config.Config.{Config}
-use Rattle.config_model.specs.declared.config.Network.{Network}
-use Rattle.config_model.specs.declared.config.Port.{Port}
-use Rattle.config_model.specs.declared.config.Service.{Service}
-use Rattle.config_model.specs.declared.topology.Node.{Node}
-use Rattle.config_model.specs.declared.topology.Topology.{Topology}
-use Rattle.config_check.specs.Sentences.{IsValid}
-use Rattle.acl_compile.specs.Oriented.{acl_rules, ascending, acl_value}
-use Rattle.acl_compile.proofs.Orders.{ascending_permutes}
-use Rattle.transform_model.specs.IsObject.{AreImports, IsHop, IsObject, of_left_circuit, of_network, of_networks, of_port, of_right_circuit, of_use}
-use Rattle.transform_model.specs.IsRow.{IsCircuitAt, IsPort}
-use Rattle.transform_model.specs.IsUse.{IsUse, IsLeftCircuit, IsRightCircuit}
-use Rattle.transform_model.specs.Objects.{LowObject}
-use Rattle.transform_model.specs.Uses.{ConfiguredUse, Circuit}
-use Rattle.transform_model.proofs.Circuits.{left_number, right_number}
-use Rattle.transform_model.proofs.InUse.{few_services, services_are}
-use Rattle.transform_model.proofs.Lists.{place_within}
-use Rattle.transform_model.proofs.Prefixes.{use_number}
+use Rattle.config_types.specs.Form.{has_config_form, has_topology_form}
+use Rattle.config_types.specs.declared.config.Config.{Config}
+use Rattle.config_types.specs.declared.config.Network.{Network}
+use Rattle.config_types.specs.declared.config.Port.{Port}
+use Rattle.config_types.specs.declared.config.Service.{Service}
+use Rattle.config_types.specs.declared.topology.Node.{Node}
+use Rattle.config_types.specs.declared.topology.Topology.{Topology}
+use Rattle.machine_model.specs.ConfigCheck.Sentences.{IsValid}
+use Rattle.machine_model.specs.AclCompile.Oriented.{acl_rules, ascending, acl_value}
+use Rattle.machine_model.proofs.AclCompile.Orders.{ascending_permutes}
+use Rattle.machine_model.specs.TransformModel.IsObject.{AreImports, IsHop, IsObject, of_left_circuit, of_network, of_networks, of_port, of_right_circuit, of_use}
+use Rattle.machine_model.specs.TransformModel.IsRow.{IsCircuitAt, IsPort}
+use Rattle.machine_model.specs.TransformModel.IsUse.{IsUse, IsLeftCircuit, IsRightCircuit}
+use Rattle.machine_model.specs.TransformModel.Objects.{LowObject}
+use Rattle.machine_model.specs.TransformModel.Uses.{ConfiguredUse, Circuit}
+use Rattle.machine_model.proofs.TransformModel.Circuits.{left_number, right_number}
+use Rattle.machine_model.proofs.TransformModel.InUse.{few_services, services_are}
+use Rattle.machine_model.proofs.TransformModel.Lists.{place_within}
+use Rattle.machine_model.proofs.TransformModel.Prefixes.{use_number}
 use Rattle.ov_types.proofs.FirstLemmas.{contains_at}
-use Rattle.node_model.specs.Keys.{Low}
-use Rattle.node_model.specs.Values.{Object}
-use Rattle.item_wire.specs.Changes.{item_of_key, item_of_object}
-use Rattle.item_wire.specs.Entries.{is_from_to}
-use Rattle.item_wire.specs.Ranges.{is_address, is_block, is_hop, is_import, is_in_range, is_network, is_node_address, is_rule}
-use Rattle.item_wire.specs.Records.{has_lists}
-use Rattle.item_wire.specs.declared.item.Item.{Item}
-use Rattle.item_wire.specs.declared.item.Item.TheVariants as I
-use Rattle.item_wire.proofs.ShortRecords.{most_are_short}
+use Rattle.node_items.specs.NodeModel.Keys.{Low}
+use Rattle.node_items.specs.NodeModel.Values.{Object}
+use Rattle.node_items.specs.ItemWire.Changes.{item_of_key, item_of_object}
+use Rattle.node_items.specs.ItemWire.Entries.{is_from_to}
+use Rattle.node_items.specs.ItemWire.Ranges.{is_address, is_block, is_hop, is_import, is_in_range, is_network, is_node_address, is_rule}
+use Rattle.node_items.specs.ItemWire.Records.{has_lists}
+use Rattle.node_items.specs.ItemWire.Item.{Item}
+use Rattle.node_items.specs.ItemWire.Item.TheVariants as I
+use Rattle.node_items.proofs.ItemWire.ShortRecords.{most_are_short}
 use Rattle.node_items.specs.Told.{Fits, IsWritable}
 use Rattle.transform_record_laws.proofs.Entries.{between, entries_in_range}
 use Rattle.transform_record_laws.proofs.Few.{few_entries, few_imports, few_subnets}

@@ -8,28 +8,28 @@ use Rattle.ov_types.specs.Name.{is_name}
 use Rattle.ov_types.specs.declared.objects.AclRule.{AclRule}
 use Rattle.ov_types.specs.declared.packet.Range16.{Range16}
 use Rattle.ov_types.proofs.FirstLemmas.{contains_at, contains_cases}
-use Rattle.config_model.specs.Form.{has_action_form, has_config_form, has_protocol_form}
-use Rattle.config_model.specs.declared.config.Action.{Action}
-use Rattle.config_model.specs.declared.config.Action.TheVariants.{Pass, Deny, Through}
-use Rattle.config_model.specs.declared.config.Config.{Config}
-use Rattle.config_model.specs.declared.config.Network.{Network}
-use Rattle.config_model.specs.declared.config.Policy.{Policy}
-use Rattle.config_model.specs.declared.config.Protocol.{Protocol}
-use Rattle.config_model.specs.declared.config.Protocol.TheVariants.{Any, Number}
-use Rattle.config_model.specs.declared.topology.Topology.{Topology}
+use Rattle.config_types.specs.Form.{has_action_form, has_config_form, has_protocol_form}
+use Rattle.config_types.specs.declared.config.Action.{Action}
+use Rattle.config_types.specs.declared.config.Action.TheVariants.{Pass, Deny, Through}
+use Rattle.config_types.specs.declared.config.Config.{Config}
+use Rattle.config_types.specs.declared.config.Network.{Network}
+use Rattle.config_types.specs.declared.config.Policy.{Policy}
+use Rattle.config_types.specs.declared.config.Protocol.{Protocol}
+use Rattle.config_types.specs.declared.config.Protocol.TheVariants.{Any, Number}
+use Rattle.config_types.specs.declared.topology.Topology.{Topology}
 use Rattle.policy_rules.specs.Matching.{speaks_both_ways}
 use Rattle.policy_rules.specs.Related.{fits, rules_between}
 use Rattle.policy_rules.specs.Standing.{IsBetween}
 use Rattle.policy_rules.specs.declared.numbered.NumberedRule.{NumberedRule}
 use Rattle.policy_rules.proofs.Standing.{between_iff}
-use Rattle.config_check.specs.Sentences.{IsValid}
-use Rattle.acl_compile.specs.Bounds.{KeepsBounds}
-use Rattle.acl_compile.specs.Oriented.{acl_rules, backwards, does, entries_of, forward_entry, forwards, hop_entered, mirrored_entry, oriented, protocol_of}
-use Rattle.acl_compile.proofs.Kept.{chain_is_short}
+use Rattle.machine_model.specs.ConfigCheck.Sentences.{IsValid}
+use Rattle.machine_model.specs.AclCompile.Bounds.{KeepsBounds}
+use Rattle.machine_model.specs.AclCompile.Oriented.{acl_rules, backwards, does, entries_of, forward_entry, forwards, hop_entered, mirrored_entry, oriented, protocol_of}
+use Rattle.machine_model.proofs.AclCompile.Kept.{chain_is_short}
 use Rattle.policy_rules.proofs.Lists.{joined_is}
-use Rattle.transform_model.proofs.Lists.{place_within, there_if}
-use Rattle.item_wire.specs.Entries.{is_from_to}
-use Rattle.item_wire.specs.Ranges.{are_ports, is_action, is_protocol, is_rule, is_rule_number}
+use Rattle.machine_model.proofs.TransformModel.Lists.{place_within, there_if}
+use Rattle.node_items.specs.ItemWire.Entries.{is_from_to}
+use Rattle.node_items.specs.ItemWire.Ranges.{are_ports, is_action, is_protocol, is_rule, is_rule_number}
 use Rattle.transform_record_laws.proofs.Forms.{RuleFits, policy_fits}
 
 -- a number between two

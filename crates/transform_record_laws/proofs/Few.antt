@@ -13,23 +13,23 @@ use Rattle.std.proofs.lemmas.Map.Views.{Contains-from_any}
 use Rattle.ov_types.specs.First.{same_name}
 use Rattle.ov_types.specs.declared.numbers.InstanceId.{InstanceId}
 use Rattle.ov_types.proofs.FirstLemmas.{same_name_iff}
-use Rattle.config_model.specs.Form.{has_config_form}
-use Rattle.config_model.specs.declared.config.Config.{Config}
-use Rattle.config_model.specs.declared.config.Network.{Network}
-use Rattle.config_model.specs.declared.config.Policy.{Policy}
-use Rattle.config_model.specs.declared.config.Rule.{Rule}
-use Rattle.config_model.specs.declared.topology.Topology.{Topology}
-use Rattle.config_check.specs.Sentences.{IsValid}
+use Rattle.config_types.specs.Form.{has_config_form}
+use Rattle.config_types.specs.declared.config.Config.{Config}
+use Rattle.config_types.specs.declared.config.Network.{Network}
+use Rattle.config_types.specs.declared.config.Policy.{Policy}
+use Rattle.config_types.specs.declared.config.Rule.{Rule}
+use Rattle.config_types.specs.declared.topology.Topology.{Topology}
+use Rattle.machine_model.specs.ConfigCheck.Sentences.{IsValid}
 use Rattle.policy_rules.specs.Matching.{speaks_both_ways}
 use Rattle.policy_rules.specs.Related.{attaches, by_sequence, fits, numbered_from, numbered_rules, put_by_sequence, rules_between}
 use Rattle.policy_rules.specs.declared.numbered.NumberedRule.{NumberedRule}
-use Rattle.acl_compile.specs.Bounds.{IsBounded, KeepsBounds}
-use Rattle.acl_compile.specs.Oriented.{acl_rules, ascending, backwards, entries_of, forward_entry, forwards, mirrored_entry, oriented}
-use Rattle.acl_compile.proofs.Kept.{all_bounded}
-use Rattle.acl_compile.proofs.Orders.{ascending_permutes}
-use Rattle.transform_model.specs.IsObject.{AreImports}
+use Rattle.machine_model.specs.AclCompile.Bounds.{IsBounded, KeepsBounds}
+use Rattle.machine_model.specs.AclCompile.Oriented.{acl_rules, ascending, backwards, entries_of, forward_entry, forwards, mirrored_entry, oriented}
+use Rattle.machine_model.proofs.AclCompile.Kept.{all_bounded}
+use Rattle.machine_model.proofs.AclCompile.Orders.{ascending_permutes}
+use Rattle.machine_model.specs.TransformModel.IsObject.{AreImports}
 use Rattle.policy_rules.proofs.Lists.{is_mapped, kept_is, mapped_is}
-use Rattle.transform_model.proofs.Lists.{pairs_mapped, pairs_of_map, pairs_weaker}
+use Rattle.machine_model.proofs.TransformModel.Lists.{pairs_mapped, pairs_of_map, pairs_weaker}
 use Rattle.transform_record_laws.proofs.Lists.{length_kept, length_sixteen, length_twice, no_more}
 
 -- ---- entries

@@ -4,17 +4,17 @@ use Rattle.std.specs.List.{Contains, list_all}
 use Rattle.std.proofs.lemmas.Bool.{and_parts, leb-true}
 use Rattle.ov_types.specs.Name.{is_name}
 use Rattle.ov_types.specs.Prefix.{Block, is_block}
-use Rattle.config_model.specs.Form.{has_chain_form, has_config_form, has_controller_form, has_end_form, has_network_form, has_node_form, has_policy_form, has_port_form, has_protocol_form, has_action_form, has_rule_form, has_service_form, has_topology_form, is_as_number, is_from_to, is_network_name, is_node_address, is_node_name, is_range}
-use Rattle.config_model.specs.declared.config.Chain.{Chain}
-use Rattle.config_model.specs.declared.config.Config.{Config}
-use Rattle.config_model.specs.declared.config.Network.{Network}
-use Rattle.config_model.specs.declared.config.Policy.{Policy}
-use Rattle.config_model.specs.declared.config.Port.{Port}
-use Rattle.config_model.specs.declared.config.Rule.{Rule}
-use Rattle.config_model.specs.declared.config.Service.{Service}
-use Rattle.config_model.specs.declared.topology.Node.{Node}
-use Rattle.config_model.specs.declared.topology.Topology.{Topology}
-use Rattle.item_wire.specs.Ranges.{are_ports, is_network}
+use Rattle.config_types.specs.Form.{has_chain_form, has_config_form, has_controller_form, has_end_form, has_network_form, has_node_form, has_policy_form, has_port_form, has_protocol_form, has_action_form, has_rule_form, has_service_form, has_topology_form, is_as_number, is_from_to, is_network_name, is_node_address, is_node_name, is_range}
+use Rattle.config_types.specs.declared.config.Chain.{Chain}
+use Rattle.config_types.specs.declared.config.Config.{Config}
+use Rattle.config_types.specs.declared.config.Network.{Network}
+use Rattle.config_types.specs.declared.config.Policy.{Policy}
+use Rattle.config_types.specs.declared.config.Port.{Port}
+use Rattle.config_types.specs.declared.config.Rule.{Rule}
+use Rattle.config_types.specs.declared.config.Service.{Service}
+use Rattle.config_types.specs.declared.topology.Node.{Node}
+use Rattle.config_types.specs.declared.topology.Topology.{Topology}
+use Rattle.node_items.specs.ItemWire.Ranges.{are_ports, is_network}
 use Rattle.transform_record_laws.proofs.Lists.{passes_at}
 
 -- ---- the five lists of a configuration

@@ -2,17 +2,17 @@
 use Rattle.std.specs.Prelude.{◌≡◌, IsTrue, map}
 use Rattle.std.specs.declared.option.Option.TheVariants.{None}
 use Rattle.std.proofs.Common.{subst}
-use Rattle.config_model.specs.Form.{has_config_form, has_topology_form}
-use Rattle.config_check.specs.Checked.{Checked}
-use Rattle.config_check.specs.Rules.{first_broken}
-use Rattle.config_check.proofs.Validity.{valid_iff}
-use Rattle.transform_model.specs.Objects.{low_objects}
-use Rattle.transform_model.proofs.LowKeys.{low_is}
-use Rattle.node_model.specs.Keys.{Key}
-use Rattle.node_model.specs.Values.{Value}
-use Rattle.node_model.specs.Wants.{slice_entry}
-use Rattle.node_model.proofs.Members.{from_entry, from_map, contains_of}
-use Rattle.node_model.proofs.Orders.{key_exact, key_total}
+use Rattle.config_types.specs.Form.{has_config_form, has_topology_form}
+use Rattle.machine_model.specs.ConfigCheck.Checked.{Checked}
+use Rattle.machine_model.specs.ConfigCheck.Rules.{first_broken}
+use Rattle.machine_model.proofs.ConfigCheck.Validity.{valid_iff}
+use Rattle.machine_model.specs.TransformModel.Objects.{low_objects}
+use Rattle.machine_model.proofs.TransformModel.LowKeys.{low_is}
+use Rattle.node_items.specs.NodeModel.Keys.{Key}
+use Rattle.node_items.specs.NodeModel.Values.{Value}
+use Rattle.node_items.specs.NodeModel.Wants.{slice_entry}
+use Rattle.node_items.proofs.NodeModel.Members.{from_entry, from_map, contains_of}
+use Rattle.node_items.proofs.NodeModel.Orders.{key_exact, key_total}
 use Rattle.node_items.specs.Told.{AllFit, Fits}
 use Rattle.machine_model.specs.Setup.{low_in}
 use Rattle.transform_record_laws.proofs.Each.{object_told}

@@ -8,3 +8,4 @@ pub mod Few
 pub mod Entries
 pub mod Each
 pub mod Law
+pub mod MachineModel

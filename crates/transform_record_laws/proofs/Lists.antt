@@ -9,7 +9,7 @@ use Rattle.std.proofs.lemmas.List.Sums.{count_by-le-length, length-filter}
 use Rattle.std.proofs.lemmas.Map.Made.{IsDistinct-from_AllPairs, length-le_from_is_member}
 use Rattle.std.proofs.lemmas.Map.Views.{Contains-from_any, list_any-from_Contains}
 use Rattle.ov_types.proofs.FirstLemmas.{contains_cases, contains_here, contains_later}
-use Rattle.config_check.proofs.Iffs.{list_all_true}
+use Rattle.machine_model.proofs.ConfigCheck.Iffs.{list_all_true}
 
 -- ---- tests that each item passes
 pub each_passes : {A : Type 0} (p : A → Bool) (xs : List A) → ((x : A) → Contains xs x → p x ≡ true) → list_all p xs ≡ true

@@ -6,27 +6,27 @@ use Rattle.std.specs.Option.{IsSome, option_map_or}
 use Rattle.std.proofs.lemmas.List.Elements.{All-contains, Contains-append_cases}
 use Rattle.ov_types.specs.First.{same_name}
 use Rattle.ov_types.proofs.FirstLemmas.{find_none, found_is, same_name_iff}
-use Rattle.config_model.specs.Form.{has_config_form}
-use Rattle.config_model.specs.declared.config.Action.TheVariants.{Through}
-use Rattle.config_model.specs.declared.config.Chain.{Chain}
-use Rattle.config_model.specs.declared.config.Config.{Config}
-use Rattle.config_model.specs.declared.config.Rule.{Rule}
-use Rattle.config_model.specs.declared.config.Service.{Service}
-use Rattle.config_model.specs.declared.topology.Topology.{Topology}
-use Rattle.chain_expand.specs.Expansion.{chain_named, expansion, hops_of}
-use Rattle.chain_expand.specs.Leading.{Expands, IsLoopFree, NamesThings}
-use Rattle.chain_expand.specs.Leading.Expands.{of_chain, of_nothing, of_service}
-use Rattle.chain_expand.proofs.ExpandsLaws.{expansion_expands}
-use Rattle.chain_expand.proofs.OkLaws.{loop_free}
+use Rattle.config_types.specs.Form.{has_config_form}
+use Rattle.config_types.specs.declared.config.Action.TheVariants.{Through}
+use Rattle.config_types.specs.declared.config.Chain.{Chain}
+use Rattle.config_types.specs.declared.config.Config.{Config}
+use Rattle.config_types.specs.declared.config.Rule.{Rule}
+use Rattle.config_types.specs.declared.config.Service.{Service}
+use Rattle.config_types.specs.declared.topology.Topology.{Topology}
+use Rattle.machine_model.specs.ChainExpand.Expansion.{chain_named, expansion, hops_of}
+use Rattle.machine_model.specs.ChainExpand.Leading.{Expands, IsLoopFree, NamesThings}
+use Rattle.machine_model.specs.ChainExpand.Leading.Expands.{of_chain, of_nothing, of_service}
+use Rattle.machine_model.proofs.ChainExpand.ExpandsLaws.{expansion_expands}
+use Rattle.machine_model.proofs.ChainExpand.OkLaws.{loop_free}
 use Rattle.policy_rules.specs.Related.{all_rules}
 use Rattle.policy_rules.specs.declared.numbered.NumberedRule.{NumberedRule}
-use Rattle.config_check.specs.Rules.{chain_names, network_names, service_names}
-use Rattle.config_check.specs.Sentences.{ChainExists, EndExists, IsValid}
-use Rattle.config_check.proofs.EachRule.{straight_iff}
-use Rattle.config_check.proofs.Straight.{no_loop}
-use Rattle.transform_model.specs.IsUse.{IsUse}
-use Rattle.transform_model.specs.Uses.{ConfiguredUse}
-use Rattle.transform_model.proofs.InUse.{among_all, numbered}
+use Rattle.machine_model.specs.ConfigCheck.Rules.{chain_names, network_names, service_names}
+use Rattle.machine_model.specs.ConfigCheck.Sentences.{ChainExists, EndExists, IsValid}
+use Rattle.machine_model.proofs.ConfigCheck.EachRule.{straight_iff}
+use Rattle.machine_model.proofs.ConfigCheck.Straight.{no_loop}
+use Rattle.machine_model.specs.TransformModel.IsUse.{IsUse}
+use Rattle.machine_model.specs.TransformModel.Uses.{ConfiguredUse}
+use Rattle.machine_model.proofs.TransformModel.InUse.{among_all, numbered}
 use Rattle.policy_rules.proofs.Lists.{mapped_is}
 use Rattle.transform_record_laws.proofs.Forms.{chain_has_hops}
 

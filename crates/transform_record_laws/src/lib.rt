@@ -2,9 +2,9 @@
 #![tactic(auto)]
 
 ghost use Rattle.std.specs.Prelude.{◌≡◌, IsTrue, None};
-ghost use Rattle.config_model.specs.Form.{has_config_form, has_topology_form};
-ghost use Rattle.config_check.specs.Checked.{Checked};
-ghost use Rattle.config_check.specs.Rules.{first_broken};
+ghost use Rattle.config_types.specs.Form.{has_config_form, has_topology_form};
+ghost use Rattle.machine_model.specs.ConfigCheck.Checked.{Checked};
+ghost use Rattle.machine_model.specs.ConfigCheck.Rules.{first_broken};
 ghost use Rattle.node_items.specs.Told.{AllFit};
 ghost use Rattle.machine_model.specs.Setup.{low_in};
 

@@ -4,14 +4,10 @@
 #[cfg(test)]
 mod asked;
 #[cfg(test)]
-mod cells;
-#[cfg(test)]
 mod ends;
 #[cfg(test)]
 mod links;
 #[cfg(test)]
 mod numbers;
-#[cfg(test)]
-mod sync;
 #[cfg(test)]
 mod types;

@@ -1,10 +1,7 @@
 //! The numbers that follow from the configuration's own.
-use crate::asked::{holds, holds_at, prints};
-use ov_types::{Addr, InstanceId, Label, PortNo, Target};
-use route_targets::{
-    circuit_address, circuit_instance, circuit_label, hop_instance, hop_of, left_circuit,
-    other_side, port_label, rd, right_circuit, target,
-};
+use crate::asked::{holds, prints};
+use ov_types::{InstanceId, Label, Target};
+use route_targets::{circuit_address, circuit_label, hop_instance, other_side, target};
 use std::alloc::Global;
 
 /// Whether a circuit has this label, this address, and this one on its other side.
@@ -17,19 +14,27 @@ fn has_numbers(alloc: Global, circuit: u32, label: u32, address: &str, other: u3
         && prints(alloc, &circuit_address(circuit), address)
 }
 
-/// Circuits of the first use, each with its label, its address and the circuit on its other side.
-static FIRST_CIRCUITS: [(u32, u32, &str, u32); 4] = [
+/// Circuits of the first use and of the last, each with its label, its address and the circuit on its other side.
+static CIRCUITS: [(u32, u32, &str, u32); 6] = [
     (32_769, 557_057, "250.0.128.1", 32_770),
     (32_770, 557_058, "250.0.128.2", 32_769),
     (32_771, 557_059, "250.0.128.3", 32_772),
     (32_772, 557_060, "250.0.128.4", 32_771),
+    (131_069, 655_357, "250.1.255.253", 131_070),
+    (131_070, 655_358, "250.1.255.254", 131_069),
 ];
 
+/// Whether hops of the first use and of the last have these instances.
+fn are_instances() -> bool {
+    hop_instance(0, 0).0 == 16384
+        && hop_instance(0, 2).0 == 16386
+        && hop_instance(3071, 15).0 == 65535
+}
+
 #[test]
-fn numbers_of_the_first_use(rt: HostRuntime) {
-    let has_instances = hop_instance(0, 0).0 == 16384 && hop_instance(0, 2).0 == 16386;
-    holds(&rt, has_instances, "instances");
-    for (circuit, label, address, other) in &FIRST_CIRCUITS {
+fn numbers_of_uses(rt: HostRuntime) {
+    holds(&rt, are_instances(), "instances");
+    for (circuit, label, address, other) in &CIRCUITS {
         let is_so = has_numbers(rt.alloc(), *circuit, *label, address, *other);
         holds(&rt, is_so, address);
     }
@@ -67,94 +72,5 @@ fn targets_are_of_two_types(rt: HostRuntime) {
     for (asn, instance, number, text) in &TARGETS {
         let is_so = has_target(rt.alloc(), *asn, *instance, *number, text);
         holds(&rt, is_so, text);
-    }
-}
-
-/// Circuits of the last use, each with its label, its address and the circuit on its other side.
-static LAST_CIRCUITS: [(u32, u32, &str, u32); 2] = [
-    (131_069, 655_357, "250.1.255.253", 131_070),
-    (131_070, 655_358, "250.1.255.254", 131_069),
-];
-
-/// Whether the first and the last port have their labels.
-fn are_labels() -> bool {
-    port_label(PortNo(0)) == Label(16) && port_label(PortNo(524_271)) == Label(524_287)
-}
-
-/// Whether an instance is the last, and the last compute node's distinguisher of it has its text.
-fn is_last(alloc: Global, instance: InstanceId) -> bool {
-    instance == InstanceId(65535)
-        && prints(
-            alloc,
-            &rd(Addr(0xdfff_ffff), instance),
-            "223.255.255.255:65535",
-        )
-}
-
-#[test]
-fn numbers_at_the_ends_of_the_ranges(rt: HostRuntime) {
-    holds(&rt, are_labels(), "labels of ports");
-    holds(
-        &rt,
-        is_last(rt.alloc(), hop_instance(3071, 15)),
-        "the last instance",
-    );
-    for (circuit, label, address, other) in &LAST_CIRCUITS {
-        let is_so = has_numbers(rt.alloc(), *circuit, *label, address, *other);
-        holds(&rt, is_so, address);
-    }
-}
-
-/// Instances, each with the use and the place of its hop, where it is a hop's.
-static HOPS: [(u16, Option<(u16, u8)>); 7] = [
-    (1, None),
-    (16_383, None),
-    (16_384, Some((0, 0))),
-    (16_385, Some((0, 1))),
-    (16_399, Some((0, 15))),
-    (16_400, Some((1, 0))),
-    (65_535, Some((3071, 15))),
-];
-
-fn is_hop(instance: u16, hop: Option<(u16, u8)>) -> bool {
-    match (hop_of(InstanceId(instance)), hop) {
-        (Some(found), Some((use_no, place))) => found.use_no == use_no && found.place == place,
-        (None, None) => true,
-        _ => false,
-    }
-}
-
-#[test]
-fn instances_go_back_to_their_hops(rt: HostRuntime) {
-    for (place, (instance, hop)) in HOPS.iter().enumerate() {
-        holds_at(&rt, is_hop(*instance, *hop), place);
-    }
-}
-
-/// Uses and places, each with its circuits on the left and on the right.
-static CIRCUITS: [(u16, u8, u32, u32); 4] = [
-    (0, 1, 32_769, 32_770),
-    (0, 2, 32_771, 32_772),
-    (1, 1, 32_801, 32_802),
-    (3071, 15, 131_069, 131_070),
-];
-
-fn has_circuits(use_no: u16, place: u8, left: u32, right: u32) -> bool {
-    if use_no > 3071 || place < 1 || place > 15 {
-        return false;
-    }
-    if left < 32_769 || left > 131_070 || right > 131_071 {
-        return false;
-    }
-    left_circuit(use_no, place) == left
-        && right_circuit(use_no, place) == right
-        && other_side(left) == right
-        && circuit_instance(right) == hop_instance(use_no, place)
-}
-
-#[test]
-fn circuits_go_back_to_their_instances(rt: HostRuntime) {
-    for (row, (use_no, place, left, right)) in CIRCUITS.iter().enumerate() {
-        holds_at(&rt, has_circuits(*use_no, *place, *left, *right), row);
     }
 }

@@ -1,9 +1,7 @@
 //! Names, addresses, numbers and keys.
 use crate::asked::{holds, holds_at, precedes, prints};
 use ov_types::written::{address_from, prefix_from};
-use ov_types::{
-    Addr, DownKey, InstanceId, Items, LowKey, Name, Prefix, Rd, Target, Targets, UpKey, is_target,
-};
+use ov_types::{Addr, DownKey, InstanceId, Items, LowKey, Name, Prefix, Rd, UpKey, is_target};
 use std::alloc::Global;
 
 /// Whether a copy of a list has these.
@@ -168,33 +166,6 @@ fn targets_are_told_from_other_communities(rt: HostRuntime) {
     for (place, (community, want)) in COMMUNITIES.iter().enumerate() {
         holds_at(&rt, is_target(*community) == *want, place);
     }
-}
-
-fn inserts(targets: &mut Targets, number: u64) -> bool {
-    targets.insert(Target(number)).is_ok()
-}
-
-/// Whether these are the targets, and those of a copy.
-fn are_targets(targets: &Targets, want: &[Target]) -> bool {
-    match targets.clone() {
-        Ok(copy) => targets.items() == want && copy.items() == want,
-        Err(_) => false,
-    }
-}
-
-static ONE_AND_THREE: [Target; 2] = [Target(1), Target(3)];
-
-fn are_in_order(targets: &mut Targets) -> bool {
-    inserts(targets, 3)
-        && inserts(targets, 1)
-        && inserts(targets, 3)
-        && are_targets(targets, &ONE_AND_THREE)
-}
-
-#[test]
-fn targets_stand_in_order_once(rt: HostRuntime) {
-    let mut targets = Targets::new(rt.alloc());
-    holds(&rt, are_in_order(&mut targets), "1 and 3");
 }
 
 /// Texts, each with its address where it is that of one.

@@ -7,8 +7,8 @@ use Rattle.std.proofs.Common.{refl, sym, ◌∙◌, ap, arith, get_or}
 use Rattle.ov_types.specs.declared.keys.UpKey.{UpKey}
 use Rattle.ov_types.specs.declared.numbers.Label.{Label as LabelNo}
 use Rattle.ov_types.specs.declared.prefix.Addr.{Addr}
-use Rattle.node_model.specs.Maps.{Map}
-use Rattle.node_model.specs.Paths.{Told}
+use Rattle.path_select.specs.NodeModel.Maps.{Map}
+use Rattle.path_select.specs.NodeModel.Paths.{Told}
 use Rattle.vpn_tables.specs.declared.tables.Agent.{Agent}
 use Rattle.vpn_tables.specs.Views.{told_of, agent_of}
 use Rattle.vpn_tables.specs.Changes.{with_nothing, named, at_session}

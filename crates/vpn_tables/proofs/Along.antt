@@ -7,8 +7,8 @@ use Rattle.std.proofs.Common.{refl, sym, ◌∙◌, ap}
 use Rattle.std.proofs.lemmas.List.{append_assoc}
 use Rattle.ov_types.specs.declared.objects.LowKey.{LowKey}
 use Rattle.ov_types.specs.declared.objects.LowValue.{LowValue}
-use Rattle.node_model.specs.Maps.{Map, object}
-use Rattle.node_model.specs.Uses.{Use, as_use}
+use Rattle.path_select.specs.NodeModel.Maps.{Map, object}
+use Rattle.path_select.specs.NodeModel.Uses.{Use, as_use}
 use Rattle.vpn_tables.specs.Leading.{use_at}
 use Rattle.vpn_tables.specs.Listing.{each_of}
 use Rattle.vpn_tables.proofs.Uses.{use_is}

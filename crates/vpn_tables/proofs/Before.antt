@@ -18,10 +18,10 @@ use Rattle.ov_types.specs.Prefix.{Block}
 use Rattle.ov_types.specs.declared.keys.UpKey.{UpKey}
 use Rattle.ov_types.specs.declared.keys.UpKey.TheVariants as Up
 use Rattle.ov_types.specs.declared.numbers.InstanceId.{InstanceId}
-use Rattle.node_model.specs.Keys.{Key, Vpn, key_cmp, of_up}
-use Rattle.node_model.specs.Values.{Value, Route}
-use Rattle.node_model.specs.Maps.{Map}
-use Rattle.node_model.specs.Paths.{Holdings, Path, peer_path}
+use Rattle.path_select.specs.NodeModel.Keys.{Key, Vpn, key_cmp, of_up}
+use Rattle.path_select.specs.NodeModel.Values.{Value, Route}
+use Rattle.path_select.specs.NodeModel.Maps.{Map}
+use Rattle.path_select.specs.NodeModel.Paths.{Holdings, Path, peer_path}
 use Rattle.vpn_tables.specs.Moved.{map_at, place_in, targets_by_route, told_as, value_of}
 use Rattle.vpn_tables.specs.Views.{peer_of}
 use Rattle.std.proofs.lemmas.List.{append-nil, append_assoc}

@@ -14,16 +14,16 @@ use Rattle.std.proofs.lemmas.Option.{same_Some}
 use Rattle.std.proofs.Common.{refl, sym, ◌∙◌, ap, subst, inl, inr}
 use Rattle.ov_types.specs.Prefix.{Block}
 use Rattle.ov_types.specs.declared.numbers.InstanceId.{InstanceId}
-use Rattle.node_model.specs.Members.{Member}
-use Rattle.node_model.specs.Paths as model
-use Rattle.node_model.specs.Paths.{Holdings}
-use Rattle.node_model.specs.Tables.{of_prefix, paths_of, same_prefix, selected, table}
-use Rattle.node_model.proofs.Members.{from_filter, from_map, in_filter, in_map, none_some}
-use Rattle.node_model.proofs.Orders.{prefix_same, same_prefix-from}
-use Rattle.node_model.proofs.Selection.{selected_found, selected_least}
+use Rattle.path_select.specs.NodeModel.Members.{Member}
+use Rattle.path_select.specs.NodeModel.Paths as model
+use Rattle.path_select.specs.NodeModel.Paths.{Holdings}
+use Rattle.path_select.specs.NodeModel.Tables.{of_prefix, paths_of, same_prefix, selected, table}
+use Rattle.path_select.proofs.NodeModel.Members.{from_filter, from_map, in_filter, in_map, none_some}
+use Rattle.path_select.proofs.NodeModel.Orders.{prefix_same, same_prefix-from}
+use Rattle.path_select.proofs.NodeModel.Selection.{selected_found, selected_least}
 use Rattle.path_select.specs.declared.selection.Path.{Path}
 use Rattle.path_select.specs.Selection.{IsFirstOfLeast, is_better, numbers, plain}
-use Rattle.node_model.specs.Tables.{table_row}
+use Rattle.path_select.specs.NodeModel.Tables.{table_row}
 use Rattle.vpn_tables.specs.At.{IsChosen, paths_at, row_at, shown}
 
 -- ---- places and members

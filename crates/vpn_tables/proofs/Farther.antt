@@ -4,8 +4,8 @@ use Rattle.std.proofs.Math.Seq.{drop-cons}
 use Rattle.std.proofs.lemmas.List.{get_or-map}
 use Rattle.std.proofs.Common.{refl, sym, ◌∙◌, ap, subst, arith, get_or}
 use Rattle.ov_types.specs.Prefix.{Block}
-use Rattle.node_model.specs.Paths.{Holdings}
-use Rattle.node_model.specs.Reaching.{Side, circuit_at, has_path_within, hop_at, is_up, publisher, subnets}
+use Rattle.path_select.specs.NodeModel.Paths.{Holdings}
+use Rattle.path_select.specs.NodeModel.Reaching.{Side, circuit_at, has_path_within, hop_at, is_up, publisher, subnets}
 
 next_place : (d : ℕ) → d + 1 ≡ suc d
 next_place d = omega arith

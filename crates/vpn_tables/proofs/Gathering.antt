@@ -19,13 +19,13 @@ use Rattle.ov_types.specs.declared.objects.LowKey.{LowKey}
 use Rattle.ov_types.specs.declared.objects.LowKey.TheVariants as key
 use Rattle.ov_types.specs.declared.objects.LowValue.{LowValue}
 use Rattle.ov_types.specs.declared.objects.LowValue.TheVariants as low
-use Rattle.node_model.specs.Keys.{Key, Low, of_up}
-use Rattle.node_model.specs.Values.{Value, Label, Object}
-use Rattle.node_model.specs.Maps.{Map, object, objects, as_object}
-use Rattle.node_model.specs.Members.{Member}
-use Rattle.node_model.specs.Uses.{Use, as_use}
-use Rattle.node_model.proofs.Members.{from_filter_map, none_some}
-use Rattle.node_model.proofs.Objects.{object_of}
+use Rattle.path_select.specs.NodeModel.Keys.{Key, Low, of_up}
+use Rattle.path_select.specs.NodeModel.Values.{Value, Label, Object}
+use Rattle.path_select.specs.NodeModel.Maps.{Map, object, objects, as_object}
+use Rattle.path_select.specs.NodeModel.Members.{Member}
+use Rattle.path_select.specs.NodeModel.Uses.{Use, as_use}
+use Rattle.path_select.proofs.NodeModel.Members.{from_filter_map, none_some}
+use Rattle.path_select.proofs.NodeModel.Objects.{object_of}
 use Rattle.vpn_tables.specs.declared.tables.Agent.{Agent}
 use Rattle.vpn_tables.specs.Gathered.{in_order, keyed, keys_told, up_key, UsesAreInRange}
 use Rattle.vpn_tables.specs.Ranges.{Fits}

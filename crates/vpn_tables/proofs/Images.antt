@@ -13,12 +13,12 @@ use Rattle.ov_types.specs.declared.objects.LowKey.{LowKey}
 use Rattle.ov_types.specs.declared.objects.LowValue.{LowValue}
 use Rattle.ov_types.specs.declared.vpn.VpnKey.{VpnKey}
 use Rattle.ov_types.specs.declared.vpn.VpnRoute.{VpnRoute}
-use Rattle.node_model.specs.Keys.{Low, Vpn, of_up}
-use Rattle.node_model.specs.Values as values
-use Rattle.node_model.specs.Values.{Route, Label}
-use Rattle.node_model.specs.Maps.{object, as_object, as_label}
-use Rattle.node_model.proofs.Directions.{low_keeps, low_total, low_exact, vpn_keeps, vpn_total, vpn_exact, up_keeps, up_total, up_exact}
-use Rattle.node_model.proofs.Directions.{image-empty, image-changed, image-get, image-entries}
+use Rattle.path_select.specs.NodeModel.Keys.{Low, Vpn, of_up}
+use Rattle.path_select.specs.NodeModel.Values as values
+use Rattle.path_select.specs.NodeModel.Values.{Route, Label}
+use Rattle.path_select.specs.NodeModel.Maps.{object, as_object, as_label}
+use Rattle.path_select.proofs.NodeModel.Directions.{low_keeps, low_total, low_exact, vpn_keeps, vpn_total, vpn_exact, up_keeps, up_total, up_exact}
+use Rattle.path_select.proofs.NodeModel.Directions.{image-empty, image-changed, image-get, image-entries}
 use Rattle.vpn_tables.specs.Views.{low_order, vpn_order, up_order, feed_of, peer_of, told_of}
 
 -- ---- the feed

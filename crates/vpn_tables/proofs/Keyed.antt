@@ -9,11 +9,11 @@ use Rattle.std.proofs.lemmas.List.{append-nil, append_assoc}
 use Rattle.std.proofs.lemmas.Option.{same_Some}
 use Rattle.ov_types.specs.Prefix.{Block}
 use Rattle.ov_types.specs.declared.vpn.VpnKey.{VpnKey}
-use Rattle.node_model.specs.Agent.{first_some}
-use Rattle.node_model.specs.Members.{Member}
-use Rattle.node_model.specs.Paths.{Holdings, Path}
-use Rattle.node_model.specs.Reaching.{Side, circuit_at, hop_at, into, publisher, subnets, towards}
-use Rattle.node_model.proofs.Members.{none_some}
+use Rattle.path_select.specs.NodeModel.Agent.{first_some}
+use Rattle.path_select.specs.NodeModel.Members.{Member}
+use Rattle.path_select.specs.NodeModel.Paths.{Holdings, Path}
+use Rattle.path_select.specs.NodeModel.Reaching.{Side, circuit_at, hop_at, into, publisher, subnets, towards}
+use Rattle.path_select.proofs.NodeModel.Members.{none_some}
 use Rattle.vpn_tables.specs.TouchedKeys.{always, first_keyed, keys_along, may_lead, path_key, same_key}
 
 -- ---- the first path of a key

@@ -4,8 +4,8 @@ use Rattle.std.specs.declared.option.Option.TheVariants.{None}
 use Rattle.std.specs.List.{flat_map}
 use Rattle.std.proofs.Common.{refl, sym, ◌∙◌, ap, arith}
 use Rattle.ov_types.specs.Prefix.{Block}
-use Rattle.node_model.specs.Paths.{Holdings, Path}
-use Rattle.node_model.specs.Reaching.{Side, circuit_at, hop_at, into, is_up, publisher, subnets, towards}
+use Rattle.path_select.specs.NodeModel.Paths.{Holdings, Path}
+use Rattle.path_select.specs.NodeModel.Reaching.{Side, circuit_at, hop_at, into, is_up, publisher, subnets, towards}
 
 -- what leads one subnet on
 abbrev pub led_to : Holdings → Side → ℕ → Block → List Path

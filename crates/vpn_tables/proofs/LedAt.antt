@@ -13,20 +13,20 @@ use Rattle.ov_types.specs.declared.objects.LowKey.TheVariants as key
 use Rattle.ov_types.specs.declared.prefix.Addr.{Addr}
 use Rattle.ov_types.specs.declared.vpn.VpnKey.{VpnKey}
 use Rattle.route_targets.specs.Numbers.{distinguisher_of, target_of}
-use Rattle.node_model.specs.Agent.{first_some}
-use Rattle.node_model.specs.Maps.{object}
-use Rattle.node_model.specs.Members.{Member}
-use Rattle.node_model.specs.Paths.{Holdings, Path, has_target}
-use Rattle.node_model.specs.Ranks.{instance_in}
-use Rattle.node_model.specs.Reaching.{AreShort, Side, below, circuit_at, hop_at, into, is_up, publisher, reoriginated_paths, sides, sides_of, subnets, towards}
-use Rattle.node_model.specs.Tables.{same_prefix}
-use Rattle.node_model.specs.Uses.{Use, is_hop, place_of, use_from, use_of, uses}
-use Rattle.node_model.proofs.Members.{any_in, from_any, from_filter, from_flat_map, in_either, in_filter, in_flat_map, in_left, in_right, member_when, none_some}
-use Rattle.node_model.proofs.Objects.{in_sides, is_hop-hop, place_of-hop, side_use, use_held, use_of-hop}
-use Rattle.node_model.proofs.Orders.{prefix_same, same_prefix-from}
-use Rattle.node_model.proofs.Places.{instance_in-distinguisher, use_found}
-use Rattle.node_model.proofs.Routes.{from_below, in_below}
-use Rattle.node_model.proofs.Unknown.{le_trans, place_at, place_at-within, target_from, target_in}
+use Rattle.path_select.specs.NodeModel.Agent.{first_some}
+use Rattle.path_select.specs.NodeModel.Maps.{object}
+use Rattle.path_select.specs.NodeModel.Members.{Member}
+use Rattle.path_select.specs.NodeModel.Paths.{Holdings, Path, has_target}
+use Rattle.path_select.specs.NodeModel.Ranks.{instance_in}
+use Rattle.path_select.specs.NodeModel.Reaching.{AreShort, Side, below, circuit_at, hop_at, into, is_up, publisher, reoriginated_paths, sides, sides_of, subnets, towards}
+use Rattle.path_select.specs.NodeModel.Tables.{same_prefix}
+use Rattle.path_select.specs.NodeModel.Uses.{Use, is_hop, place_of, use_from, use_of, uses}
+use Rattle.path_select.proofs.NodeModel.Members.{any_in, from_any, from_filter, from_flat_map, in_either, in_filter, in_flat_map, in_left, in_right, member_when, none_some}
+use Rattle.path_select.proofs.NodeModel.Objects.{in_sides, is_hop-hop, place_of-hop, side_use, use_held, use_of-hop}
+use Rattle.path_select.proofs.NodeModel.Orders.{prefix_same, same_prefix-from}
+use Rattle.path_select.proofs.NodeModel.Places.{instance_in-distinguisher, use_found}
+use Rattle.path_select.proofs.NodeModel.Routes.{from_below, in_below}
+use Rattle.path_select.proofs.NodeModel.Unknown.{le_trans, place_at, place_at-within, target_from, target_in}
 use Rattle.vpn_tables.specs.Answers.{distance, seen_from}
 use Rattle.vpn_tables.specs.At.{is_led_at, led_at, led_from, led_on_side}
 use Rattle.vpn_tables.specs.Leading.{leads}

@@ -25,3 +25,4 @@ pub mod LedAt
 pub mod Once
 pub mod Rowed
 pub mod Gathering
+pub mod NodeModel

@@ -13,11 +13,11 @@ use Rattle.ov_types.specs.declared.numbers.InstanceId.{InstanceId}
 use Rattle.ov_types.specs.declared.numbers.Label.{Label as LabelNo}
 use Rattle.ov_types.specs.declared.objects.LowKey.{LowKey}
 use Rattle.ov_types.specs.declared.objects.LowValue.{LowValue}
-use Rattle.node_model.specs.Keys.{Key, key_cmp, of_up}
-use Rattle.node_model.specs.Values.{Value, Label}
-use Rattle.node_model.specs.Maps.{Map, object, objects, low_entry}
-use Rattle.node_model.specs.Uses.{Use, as_use}
-use Rattle.node_model.specs.Wants.{subscribed, subscriptions}
+use Rattle.path_select.specs.NodeModel.Keys.{Key, key_cmp, of_up}
+use Rattle.path_select.specs.NodeModel.Values.{Value, Label}
+use Rattle.path_select.specs.NodeModel.Maps.{Map, object, objects, low_entry}
+use Rattle.path_select.specs.NodeModel.Uses.{Use, as_use}
+use Rattle.path_select.specs.NodeModel.Wants.{subscribed, subscriptions}
 use Rattle.vpn_tables.specs.Leading.{use_at}
 use Rattle.vpn_tables.specs.Listing.{hops, hops_of_held}
 use Rattle.vpn_tables.specs.Views.{feed_of, low_order, told_of, up_order}

@@ -5,15 +5,15 @@ use Rattle.std.specs.Option.{is_some}
 use Rattle.std.proofs.Common.{refl, sym, ◌∙◌, ap, inl, inr, arith}
 use Rattle.std.proofs.lemmas.Option.{same_Some}
 use Rattle.route_targets.specs.declared.numbers.UseHop.{UseHop}
-use Rattle.node_model.specs.Uses.{use_of}
-use Rattle.node_model.proofs.Members.{none_some}
+use Rattle.path_select.specs.NodeModel.Uses.{use_of}
+use Rattle.path_select.proofs.NodeModel.Members.{none_some}
 use Rattle.ov_types.specs.declared.numbers.InstanceId.{InstanceId}
 use Rattle.route_targets.specs.Numbers.{target_of, hop_of}
-use Rattle.node_model.specs.Members.{Member}
-use Rattle.node_model.specs.Paths.{Holdings, Path, has_target}
-use Rattle.node_model.specs.Reaching.{hop_at, reoriginated_paths}
-use Rattle.node_model.proofs.Routes.{reoriginated_from}
-use Rattle.node_model.proofs.Unknown.{place_at, target_from}
+use Rattle.path_select.specs.NodeModel.Members.{Member}
+use Rattle.path_select.specs.NodeModel.Paths.{Holdings, Path, has_target}
+use Rattle.path_select.specs.NodeModel.Reaching.{hop_at, reoriginated_paths}
+use Rattle.path_select.proofs.NodeModel.Routes.{reoriginated_from}
+use Rattle.path_select.proofs.NodeModel.Unknown.{place_at, target_from}
 
 none_pass : (p : Path → Bool) (xs : List Path) → ((x : Path) → Member x xs → p x ≡ false) → filter p xs ≡ []
 none_pass p [] h = refl

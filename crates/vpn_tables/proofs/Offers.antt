@@ -4,7 +4,7 @@ use Rattle.std.specs.List.{filter, flat_map}
 use Rattle.std.specs.FinMap.{FinMap}
 use Rattle.std.proofs.Math.Seq.{drop-cons}
 use Rattle.std.proofs.Common.{refl, sym, ◌∙◌, ap, get_or}
-use Rattle.node_model.specs.Paths.{Path, Holdings}
+use Rattle.path_select.specs.NodeModel.Paths.{Path, Holdings}
 use Rattle.vpn_tables.specs.declared.tables.Agent.{Agent}
 use Rattle.vpn_tables.specs.Views.{agent_of}
 use Rattle.vpn_tables.proofs.Walks.{own_of, next_place}

@@ -13,14 +13,14 @@ use Rattle.ov_types.specs.declared.numbers.InstanceId.{InstanceId}
 use Rattle.ov_types.specs.declared.objects.LowKey.TheVariants as key
 use Rattle.ov_types.specs.declared.objects.LowValue.TheVariants as low
 use Rattle.route_targets.specs.Numbers.{target_of}
-use Rattle.node_model.specs.Keys.{Key, Low, Vpn, Row, Publish, Subscribe, key_cmp}
-use Rattle.node_model.specs.Maps.{Map, as_object, low_entry, object}
-use Rattle.node_model.specs.Members.{Member}
-use Rattle.node_model.specs.Paths.{Holdings, Path, has_target}
-use Rattle.node_model.specs.Reaching.{AreShort, reoriginated_paths, sides_of}
-use Rattle.node_model.specs.Uses.{Use, as_use, use_from, use_of, uses}
-use Rattle.node_model.specs.Values.{Entry, Label, Object, Route, Value}
-use Rattle.node_model.proofs.Orders.{key_exact, key_total}
+use Rattle.path_select.specs.NodeModel.Keys.{Key, Low, Vpn, Row, Publish, Subscribe, key_cmp}
+use Rattle.path_select.specs.NodeModel.Maps.{Map, as_object, low_entry, object}
+use Rattle.path_select.specs.NodeModel.Members.{Member}
+use Rattle.path_select.specs.NodeModel.Paths.{Holdings, Path, has_target}
+use Rattle.path_select.specs.NodeModel.Reaching.{AreShort, reoriginated_paths, sides_of}
+use Rattle.path_select.specs.NodeModel.Uses.{Use, as_use, use_from, use_of, uses}
+use Rattle.path_select.specs.NodeModel.Values.{Entry, Label, Object, Route, Value}
+use Rattle.path_select.proofs.NodeModel.Orders.{key_exact, key_total}
 use Rattle.std.proofs.lemmas.List.{append-nil}
 use Rattle.vpn_tables.specs.Leading.{leads, sides_of_held, use_at}
 use Rattle.vpn_tables.proofs.LedAt.{led_elsewhere}

@@ -8,9 +8,9 @@ use Rattle.ov_sync.specs.Keyed.{changed, map_of}
 use Rattle.ov_sync.specs.Embed.{moved_delta}
 use Rattle.ov_types.specs.declared.vpn.VpnKey.{VpnKey}
 use Rattle.ov_types.specs.declared.vpn.VpnRoute.{VpnRoute}
-use Rattle.node_model.specs.Keys.{Vpn}
-use Rattle.node_model.specs.Values.{Route}
-use Rattle.node_model.specs.Maps.{Map, Change}
+use Rattle.path_select.specs.NodeModel.Keys.{Vpn}
+use Rattle.path_select.specs.NodeModel.Values.{Route}
+use Rattle.path_select.specs.NodeModel.Maps.{Map, Change}
 use Rattle.vpn_tables.specs.Views.{vpn_order, peer_of}
 use Rattle.vpn_tables.specs.Changes.{changed_at, emptied_at}
 use Rattle.vpn_tables.specs.Seats.{nothings}

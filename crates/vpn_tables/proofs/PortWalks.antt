@@ -21,10 +21,10 @@ use Rattle.ov_types.specs.declared.objects.LowKey.TheVariants as key
 use Rattle.ov_types.specs.declared.objects.LowValue.{LowValue}
 use Rattle.ov_types.specs.declared.objects.LowValue.TheVariants as low
 use Rattle.ov_types.specs.declared.prefix.Addr.{Addr}
-use Rattle.node_model.specs.Directions.{low_order}
-use Rattle.node_model.specs.Maps.{Map, object}
-use Rattle.node_model.specs.Wants.{port_at}
-use Rattle.node_model.proofs.Directions.{low_total}
+use Rattle.path_select.specs.NodeModel.Directions.{low_order}
+use Rattle.path_select.specs.NodeModel.Maps.{Map, object}
+use Rattle.path_select.specs.NodeModel.Wants.{port_at}
+use Rattle.path_select.proofs.NodeModel.Directions.{low_total}
 use Rattle.vpn_tables.specs.Ports.{IsNoStray, IsPastPorts, is_numbered, is_port, is_stray, puts_stray}
 use Rattle.vpn_tables.specs.Views.{feed_of}
 use Rattle.vpn_tables.proofs.Images.{feed-object}

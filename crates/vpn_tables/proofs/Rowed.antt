@@ -6,12 +6,12 @@ use Rattle.std.proofs.lemmas.List.{append_assoc}
 use Rattle.ov_types.specs.Prefix.{Block}
 use Rattle.ov_types.specs.declared.numbers.InstanceId.{InstanceId}
 use Rattle.route_targets.specs.Numbers.{target_of}
-use Rattle.node_model.specs.Members.{Member}
-use Rattle.node_model.specs.Paths as model
-use Rattle.node_model.specs.Paths.{Holdings, has_target, own_paths, peer_paths, received}
-use Rattle.node_model.specs.Reaching.{AreShort, reoriginated_paths}
-use Rattle.node_model.specs.Tables.{same_prefix}
-use Rattle.node_model.proofs.Members.{from_map, in_either, in_left, in_map, in_right}
+use Rattle.path_select.specs.NodeModel.Members.{Member}
+use Rattle.path_select.specs.NodeModel.Paths as model
+use Rattle.path_select.specs.NodeModel.Paths.{Holdings, has_target, own_paths, peer_paths, received}
+use Rattle.path_select.specs.NodeModel.Reaching.{AreShort, reoriginated_paths}
+use Rattle.path_select.specs.NodeModel.Tables.{same_prefix}
+use Rattle.path_select.proofs.NodeModel.Members.{from_map, in_either, in_left, in_map, in_right}
 use Rattle.path_select.specs.declared.selection.Path.{Path}
 use Rattle.path_select.specs.Selection.{plain}
 use Rattle.vpn_tables.specs.Answers.{is_wanted}

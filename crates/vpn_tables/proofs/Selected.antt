@@ -13,12 +13,12 @@ use Rattle.ov_sync.proofs.Ascending.{entries-map_of, ascends}
 use Rattle.ov_sync.proofs.EmbedLaws.{entries-embedded, get_embedded}
 use Rattle.ov_types.specs.Prefix.{Block, block_cmp}
 use Rattle.ov_types.specs.declared.rows.TableRow.{TableRow}
-use Rattle.node_model.specs.Paths as model
-use Rattle.node_model.specs.Tables.{is_better as better, least, of_prefix, same_prefix, selected, table_row}
-use Rattle.node_model.proofs.Orders.{prefix_total, prefix_exact, prefix_same, same_prefix-from}
-use Rattle.node_model.specs.Members.{Member}
-use Rattle.node_model.proofs.Members.{iff_same, from_filter}
-use Rattle.node_model.proofs.Selection.{better_itself}
+use Rattle.path_select.specs.NodeModel.Paths as model
+use Rattle.path_select.specs.NodeModel.Tables.{is_better as better, least, of_prefix, same_prefix, selected, table_row}
+use Rattle.path_select.proofs.NodeModel.Orders.{prefix_total, prefix_exact, prefix_same, same_prefix-from}
+use Rattle.path_select.specs.NodeModel.Members.{Member}
+use Rattle.path_select.proofs.NodeModel.Members.{iff_same, from_filter}
+use Rattle.path_select.proofs.NodeModel.Selection.{better_itself}
 use Rattle.path_select.specs.declared.selection.Path.{Path}
 use Rattle.path_select.specs.Selection.{plain, is_better}
 use Rattle.vpn_tables.specs.Least.{prefix_order, least_of, stays, offered, offer_all, row_of}

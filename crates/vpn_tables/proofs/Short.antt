@@ -7,12 +7,12 @@ use Rattle.ov_types.specs.declared.objects.LowKey.{LowKey}
 use Rattle.ov_types.specs.declared.objects.LowKey.TheVariants as key
 use Rattle.ov_types.specs.declared.objects.LowValue.{LowValue}
 use Rattle.ov_types.specs.declared.objects.LowValue.TheVariants as low
-use Rattle.node_model.specs.Members.{Member}
-use Rattle.node_model.specs.Maps.{Map, as_object, objects}
-use Rattle.node_model.specs.Reaching.{AreShort}
-use Rattle.node_model.specs.Uses.{Use, as_use, uses}
-use Rattle.node_model.proofs.Members.{from_filter_map, none_some}
-use Rattle.node_model.proofs.Objects.{object_of}
+use Rattle.path_select.specs.NodeModel.Members.{Member}
+use Rattle.path_select.specs.NodeModel.Maps.{Map, as_object, objects}
+use Rattle.path_select.specs.NodeModel.Reaching.{AreShort}
+use Rattle.path_select.specs.NodeModel.Uses.{Use, as_use, uses}
+use Rattle.path_select.proofs.NodeModel.Members.{from_filter_map, none_some}
+use Rattle.path_select.proofs.NodeModel.Objects.{object_of}
 use Rattle.std.specs.declared.option.Option.TheVariants.{Some}
 use Rattle.vpn_tables.specs.Ranges.{Fits}
 use Rattle.vpn_tables.specs.Views.{feed_of, low_order}

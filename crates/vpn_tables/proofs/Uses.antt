@@ -12,17 +12,17 @@ use Rattle.ov_sync.proofs.Ascending.{entries-map_of, ascends}
 use Rattle.ov_types.specs.declared.objects.LowKey.{LowKey}
 use Rattle.ov_types.specs.declared.objects.LowKey.TheVariants as key
 use Rattle.ov_types.specs.declared.objects.LowValue.{LowValue}
-use Rattle.node_model.specs.Keys.{Key, Low}
-use Rattle.node_model.specs.Values.{Value, Object}
-use Rattle.node_model.specs.Maps.{Map, object, low_entry}
-use Rattle.node_model.specs.Members.{Member}
-use Rattle.node_model.specs.Uses.{Use, as_use, use_from}
-use Rattle.node_model.specs.Paths.{Holdings, Path}
-use Rattle.node_model.specs.Reaching.{Side, sides_of, sides, reoriginated_paths}
-use Rattle.node_model.proofs.Members.{get_member}
+use Rattle.path_select.specs.NodeModel.Keys.{Key, Low}
+use Rattle.path_select.specs.NodeModel.Values.{Value, Object}
+use Rattle.path_select.specs.NodeModel.Maps.{Map, object, low_entry}
+use Rattle.path_select.specs.NodeModel.Members.{Member}
+use Rattle.path_select.specs.NodeModel.Uses.{Use, as_use, use_from}
+use Rattle.path_select.specs.NodeModel.Paths.{Holdings, Path}
+use Rattle.path_select.specs.NodeModel.Reaching.{Side, sides_of, sides, reoriginated_paths}
+use Rattle.path_select.proofs.NodeModel.Members.{get_member}
 use Rattle.vpn_tables.specs.Leading.{leads, use_at, sides_of_held}
 use Rattle.vpn_tables.specs.Views.{low_order, feed_of}
-use Rattle.node_model.proofs.Directions.{low_total}
+use Rattle.path_select.proofs.NodeModel.Directions.{low_total}
 use Rattle.vpn_tables.proofs.Images.{feed-entries, feed-object}
 
 abbrev Entry : Type 0

@@ -10,7 +10,7 @@ use Rattle.vpn_tables.specs.Views.{low_order}
 use Rattle.ov_types.specs.declared.objects.LowKey.{LowKey}
 use Rattle.ov_types.specs.declared.objects.LowValue.{LowValue}
 use Rattle.vpn_tables.specs.Ranges.{Fits}
-use Rattle.node_model.proofs.Directions.{low_total, low_exact}
+use Rattle.path_select.proofs.NodeModel.Directions.{low_total, low_exact}
 
 pub values_after : (P : LowKey → LowValue → Type 0) (es fs : List (LowKey × LowValue)) (d : Delta LowKey LowValue) → map_of low_order fs ≡ changed (map_of low_order es) d
     → Values P (map_of low_order es) → PutOf P d → Values P (map_of low_order fs)

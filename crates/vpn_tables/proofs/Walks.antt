@@ -16,13 +16,13 @@ use Rattle.ov_types.specs.declared.keys.UpKey.{UpKey}
 use Rattle.ov_types.specs.declared.numbers.Label.{Label as LabelNo}
 use Rattle.ov_types.specs.declared.vpn.VpnKey.{VpnKey}
 use Rattle.ov_types.specs.declared.vpn.VpnRoute.{VpnRoute}
-use Rattle.node_model.specs.Keys.{Key, Vpn, of_up}
-use Rattle.node_model.specs.Values.{Value, Route, Label}
-use Rattle.node_model.specs.Maps.{Map}
+use Rattle.path_select.specs.NodeModel.Keys.{Key, Vpn, of_up}
+use Rattle.path_select.specs.NodeModel.Values.{Value, Route, Label}
+use Rattle.path_select.specs.NodeModel.Maps.{Map}
 use Rattle.route_targets.specs.Numbers.{target_of}
-use Rattle.node_model.specs.Paths.{Holdings, Told, Path, own_path, peer_path, own_paths, peer_paths, has_target}
-use Rattle.node_model.specs.Reaching.{has_path_within}
-use Rattle.node_model.specs.Uses.{imports}
+use Rattle.path_select.specs.NodeModel.Paths.{Holdings, Told, Path, own_path, peer_path, own_paths, peer_paths, has_target}
+use Rattle.path_select.specs.NodeModel.Reaching.{has_path_within}
+use Rattle.path_select.specs.NodeModel.Uses.{imports}
 use Rattle.vpn_tables.specs.Answers.{leads_within}
 use Rattle.vpn_tables.specs.declared.tables.Agent.{Agent}
 use Rattle.vpn_tables.specs.Views.{agent_of, peer_of, up_order, vpn_order}

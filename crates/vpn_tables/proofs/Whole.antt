@@ -7,9 +7,9 @@ use Rattle.std.proofs.Common.{sym, ◌∙◌, ap}
 use Rattle.ov_types.specs.Prefix.{Block}
 use Rattle.ov_types.specs.declared.numbers.InstanceId.{InstanceId}
 use Rattle.route_targets.specs.Numbers.{target_of}
-use Rattle.node_model.specs.Paths.{Holdings, has_target, own_paths, peer_paths}
-use Rattle.node_model.specs.Reaching.{reoriginated_paths}
-use Rattle.node_model.specs.Tables.{paths_of}
+use Rattle.path_select.specs.NodeModel.Paths.{Holdings, has_target, own_paths, peer_paths}
+use Rattle.path_select.specs.NodeModel.Reaching.{reoriginated_paths}
+use Rattle.path_select.specs.NodeModel.Tables.{paths_of}
 use Rattle.path_select.specs.declared.selection.Path.{Path}
 use Rattle.vpn_tables.specs.Answers.{is_wanted, rows_at}
 use Rattle.vpn_tables.specs.Least.{prefix_order, least_of, offer_all, row_of}

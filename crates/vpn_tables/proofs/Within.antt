@@ -3,7 +3,7 @@ use Rattle.std.specs.Prelude.{◌≡◌, ◌↔◌, ℕ, Bool, IsTrue}
 use Rattle.std.proofs.Common.{refl}
 use Rattle.ov_types.specs.Prefix.{Block, contains, is_inside}
 use Rattle.ov_types.proofs.Blocks.{within_is}
-use Rattle.node_model.proofs.Members.{iff_same}
+use Rattle.path_select.proofs.NodeModel.Members.{iff_same}
 
 pub within_same : (x y : Block) (b : Bool) → (IsTrue b ↔ ((a : ℕ) → IsTrue (contains x a) → IsTrue (contains y a))) → b ≡ is_inside x y
 within_same x y b h =

@@ -10,12 +10,12 @@ use Rattle.ov_types.specs.declared.numbers.InstanceId.{InstanceId}
 use Rattle.ov_types.specs.declared.objects.LowKey.TheVariants as key
 use Rattle.ov_types.specs.declared.rows.TableRow.{TableRow}
 use Rattle.route_targets.specs.Numbers.{target_of}
-use Rattle.node_model.specs.Keys.{Key, Publish}
-use Rattle.node_model.specs.Maps.{Map, object}
-use Rattle.node_model.specs.Uses.{Use, use_from, use_of, place_of, is_hop, imports}
-use Rattle.node_model.specs.Paths.{Holdings, Path, has_target}
-use Rattle.node_model.specs.Reaching.{Side, subnets, is_up}
-use Rattle.node_model.specs.Tables.{same_prefix, table, table_row}
+use Rattle.path_select.specs.NodeModel.Keys.{Key, Publish}
+use Rattle.path_select.specs.NodeModel.Maps.{Map, object}
+use Rattle.path_select.specs.NodeModel.Uses.{Use, use_from, use_of, place_of, is_hop, imports}
+use Rattle.path_select.specs.NodeModel.Paths.{Holdings, Path, has_target}
+use Rattle.path_select.specs.NodeModel.Reaching.{Side, subnets, is_up}
+use Rattle.path_select.specs.NodeModel.Tables.{same_prefix, table, table_row}
 
 -- ---- a held use, seen from an end
 abbrev pub seen_from : Bool → Use → Side

@@ -9,13 +9,13 @@ use Rattle.ov_types.specs.Prefix.{Block}
 use Rattle.ov_types.specs.declared.numbers.InstanceId.{InstanceId}
 use Rattle.ov_types.specs.declared.rows.TableRow.{TableRow}
 use Rattle.ov_types.specs.declared.targets.Target.{Target}
-use Rattle.node_model.specs.Members.{Member}
-use Rattle.node_model.specs.Keys.{Key, Publish}
-use Rattle.node_model.specs.Uses.{is_hop, place_of, use_of}
-use Rattle.node_model.specs.Paths as model
-use Rattle.node_model.specs.Paths.{Holdings, has_target}
-use Rattle.node_model.specs.Reaching.{Side, circuit_at, hop_at, is_up, publisher, subnets, towards}
-use Rattle.node_model.specs.Tables.{of_prefix, paths_of, same_prefix, table, table_row}
+use Rattle.path_select.specs.NodeModel.Members.{Member}
+use Rattle.path_select.specs.NodeModel.Keys.{Key, Publish}
+use Rattle.path_select.specs.NodeModel.Uses.{is_hop, place_of, use_of}
+use Rattle.path_select.specs.NodeModel.Paths as model
+use Rattle.path_select.specs.NodeModel.Paths.{Holdings, has_target}
+use Rattle.path_select.specs.NodeModel.Reaching.{Side, circuit_at, hop_at, is_up, publisher, subnets, towards}
+use Rattle.path_select.specs.NodeModel.Tables.{of_prefix, paths_of, same_prefix, table, table_row}
 use Rattle.path_select.specs.declared.selection.Path.{Path}
 use Rattle.path_select.specs.Selection.{is_better, plain}
 use Rattle.vpn_tables.specs.Answers.{distance, is_wanted, side_at}

@@ -11,10 +11,10 @@ use Rattle.ov_types.specs.declared.objects.LowValue.{LowValue}
 use Rattle.ov_types.specs.declared.prefix.Addr.{Addr}
 use Rattle.ov_types.specs.declared.vpn.VpnKey.{VpnKey}
 use Rattle.ov_types.specs.declared.vpn.VpnRoute.{VpnRoute}
-use Rattle.node_model.specs.Keys.{Low, Vpn, of_up}
-use Rattle.node_model.specs.Values.{Object, Route, Label}
-use Rattle.node_model.specs.Maps.{Map, Change}
-use Rattle.node_model.specs.Paths.{Holdings, Told}
+use Rattle.path_select.specs.NodeModel.Keys.{Low, Vpn, of_up}
+use Rattle.path_select.specs.NodeModel.Values.{Object, Route, Label}
+use Rattle.path_select.specs.NodeModel.Maps.{Map, Change}
+use Rattle.path_select.specs.NodeModel.Paths.{Holdings, Told}
 
 -- nothing was told
 abbrev pub nothing : ℕ → Holdings

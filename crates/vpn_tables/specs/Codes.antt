@@ -3,9 +3,9 @@ use Rattle.std.specs.Prelude.{ℕ, List, refl}
 use Rattle.std.specs.Coded.{Coded, code_by, coded×, coded_list, coded_ℕ}
 use Rattle.ov_types.specs.declared.prefix.Addr.{Addr}
 use Rattle.ov_types.specs.contracts.prefix.Addr as addresses
-use Rattle.node_model.specs.Codes.{coded_map}
-use Rattle.node_model.specs.Maps.{Map}
-use Rattle.node_model.specs.Paths.{Holdings, Told}
+use Rattle.path_select.specs.NodeModel.Codes.{coded_map}
+use Rattle.path_select.specs.NodeModel.Maps.{Map}
+use Rattle.path_select.specs.NodeModel.Paths.{Holdings, Told}
 
 abbrev pub coded_told : Coded Told
 coded_told =

@@ -7,12 +7,12 @@ use Rattle.std.specs.List.{filter_map, flat_map}
 use Rattle.std.specs.FinMap.{entries, from_entries, keys}
 use Rattle.ov_types.specs.declared.keys.UpKey.{UpKey}
 use Rattle.ov_types.specs.declared.keys.UpKey.TheVariants as Up
-use Rattle.node_model.specs.Keys.{Key, Publish, Subscribe}
-use Rattle.node_model.specs.Members.{Member}
-use Rattle.node_model.specs.Values.{Value, Label}
-use Rattle.node_model.specs.Maps.{Map}
-use Rattle.node_model.specs.Uses.{Use, uses}
-use Rattle.node_model.specs.Paths.{Holdings, Told}
+use Rattle.path_select.specs.NodeModel.Keys.{Key, Publish, Subscribe}
+use Rattle.path_select.specs.NodeModel.Members.{Member}
+use Rattle.path_select.specs.NodeModel.Values.{Value, Label}
+use Rattle.path_select.specs.NodeModel.Maps.{Map}
+use Rattle.path_select.specs.NodeModel.Uses.{Use, uses}
+use Rattle.path_select.specs.NodeModel.Paths.{Holdings, Told}
 
 abbrev pub keyed : {K : Type 0} → K → K × Unit {0}
 keyed x = (x, tt)

@@ -5,10 +5,10 @@ use Rattle.std.specs.declared.option.Option.TheVariants.{Some, None}
 use Rattle.std.specs.List.{flat_map}
 use Rattle.ov_types.specs.declared.objects.LowKey.{LowKey}
 use Rattle.ov_types.specs.declared.objects.LowKey.TheVariants as key
-use Rattle.node_model.specs.Maps.{Map, object}
-use Rattle.node_model.specs.Uses.{Use, use_from}
-use Rattle.node_model.specs.Paths.{Holdings, Path}
-use Rattle.node_model.specs.Reaching.{Side, below, into, is_up, sides_of}
+use Rattle.path_select.specs.NodeModel.Maps.{Map, object}
+use Rattle.path_select.specs.NodeModel.Uses.{Use, use_from}
+use Rattle.path_select.specs.NodeModel.Paths.{Holdings, Path}
+use Rattle.path_select.specs.NodeModel.Reaching.{Side, below, into, is_up, sides_of}
 
 -- those of a side
 abbrev pub leads : Holdings → Side → List Path

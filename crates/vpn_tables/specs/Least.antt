@@ -8,7 +8,7 @@ use Rattle.ov_sync.specs.Keyed.{map_of}
 use Rattle.ov_types.specs.Prefix.{Block}
 use Rattle.ov_types.specs.contracts.prefix.PrefixOrd.TheImpl as prefixes
 use Rattle.ov_types.specs.declared.rows.TableRow.{TableRow}
-use Rattle.node_model.specs.Paths as model
+use Rattle.path_select.specs.NodeModel.Paths as model
 use Rattle.path_select.specs.declared.selection.Path.{Path}
 use Rattle.path_select.specs.Selection.{plain, is_better}
 

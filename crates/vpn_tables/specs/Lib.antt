@@ -15,3 +15,4 @@ pub mod Moved
 pub mod Touched
 pub mod TouchedKeys
 pub mod Gathered
+pub mod NodeModel

@@ -6,11 +6,11 @@ use Rattle.ov_types.specs.declared.numbers.InstanceId.{InstanceId}
 use Rattle.ov_types.specs.declared.objects.LowKey.{LowKey}
 use Rattle.ov_types.specs.declared.objects.LowValue.{LowValue}
 use Rattle.ov_types.specs.declared.prefix.Addr.{Addr}
-use Rattle.node_model.specs.Maps.{Map, object}
-use Rattle.node_model.specs.Paths.{Told}
-use Rattle.node_model.specs.Reaching.{below}
-use Rattle.node_model.specs.Uses.{Use, hop}
-use Rattle.node_model.specs.Wants.{is_in_slice}
+use Rattle.path_select.specs.NodeModel.Maps.{Map, object}
+use Rattle.path_select.specs.NodeModel.Paths.{Told}
+use Rattle.path_select.specs.NodeModel.Reaching.{below}
+use Rattle.path_select.specs.NodeModel.Uses.{Use, hop}
+use Rattle.path_select.specs.NodeModel.Wants.{is_in_slice}
 use Rattle.vpn_tables.specs.declared.tables.Agent.{Agent}
 use Rattle.vpn_tables.specs.Changes.{with_nothing}
 use Rattle.vpn_tables.specs.Views.{agent_of}

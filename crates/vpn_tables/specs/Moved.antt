@@ -15,10 +15,10 @@ use Rattle.ov_types.specs.declared.numbers.Label.{Label as LabelNo}
 use Rattle.ov_types.specs.declared.targets.Target.{Target}
 use Rattle.ov_types.specs.declared.vpn.VpnKey.{VpnKey}
 use Rattle.ov_types.specs.declared.vpn.VpnRoute.{VpnRoute}
-use Rattle.node_model.specs.Keys.{Key, Publish, Vpn, of_up}
-use Rattle.node_model.specs.Values.{Value, Route, Label}
-use Rattle.node_model.specs.Maps.{Change, Map}
-use Rattle.node_model.specs.Paths.{Holdings, Path, Told, own_path, peer_path}
+use Rattle.path_select.specs.NodeModel.Keys.{Key, Publish, Vpn, of_up}
+use Rattle.path_select.specs.NodeModel.Values.{Value, Route, Label}
+use Rattle.path_select.specs.NodeModel.Maps.{Change, Map}
+use Rattle.path_select.specs.NodeModel.Paths.{Holdings, Path, Told, own_path, peer_path}
 use Rattle.route_targets.specs.Numbers.{target_of}
 
 -- ---- one change of a map

@@ -10,8 +10,8 @@ use Rattle.ov_types.specs.declared.objects.LowKey.{LowKey}
 use Rattle.ov_types.specs.declared.objects.LowKey.TheVariants as key
 use Rattle.ov_types.specs.declared.objects.LowValue.{LowValue}
 use Rattle.ov_types.specs.declared.objects.LowValue.TheVariants as low
-use Rattle.node_model.specs.Directions.{low_order}
-use Rattle.node_model.specs.Maps.{Map, object}
+use Rattle.path_select.specs.NodeModel.Directions.{low_order}
+use Rattle.path_select.specs.NodeModel.Maps.{Map, object}
 
 abbrev pub is_port : LowValue → Bool
 is_port (low.AttachPort port instance host node) = true

@@ -1,6 +1,6 @@
 -- The routes of a control node's own.
 use Rattle.std.specs.Prelude.{[], ◌∷◌}
-use Rattle.node_model.specs.Paths.{Path}
+use Rattle.path_select.specs.NodeModel.Paths.{Path}
 use Rattle.vpn_tables.specs.declared.routes.Route.{Route}
 
 -- a route as a path, with its one target

@@ -8,9 +8,9 @@ use Rattle.ov_types.specs.declared.keys.UpKey.TheVariants as Up
 use Rattle.ov_types.specs.declared.numbers.InstanceId.{InstanceId}
 use Rattle.ov_types.specs.declared.targets.Target.{Target}
 use Rattle.route_targets.specs.Numbers.{target_of}
-use Rattle.node_model.specs.Uses.{Use, uses, imports}
-use Rattle.node_model.specs.Paths.{Holdings}
-use Rattle.node_model.specs.Tables.{known_instances}
+use Rattle.path_select.specs.NodeModel.Uses.{Use, uses, imports}
+use Rattle.path_select.specs.NodeModel.Paths.{Holdings}
+use Rattle.path_select.specs.NodeModel.Tables.{known_instances}
 use Rattle.vpn_tables.specs.Listing.{hops}
 
 -- an instance imports one of these targets

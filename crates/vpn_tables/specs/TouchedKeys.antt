@@ -9,10 +9,10 @@ use Rattle.ov_types.specs.declared.keys.UpKey.TheVariants as Up
 use Rattle.ov_types.specs.declared.targets.Target.{Target}
 use Rattle.ov_types.specs.declared.vpn.VpnKey.{VpnKey}
 use Rattle.route_targets.specs.Numbers.{distinguisher_of}
-use Rattle.node_model.specs.Uses.{Use, uses}
-use Rattle.node_model.specs.Paths.{Holdings, Path, Told}
-use Rattle.node_model.specs.Reaching.{Side, below, into, sides_of}
-use Rattle.node_model.specs.Tables.{same_prefix}
+use Rattle.path_select.specs.NodeModel.Uses.{Use, uses}
+use Rattle.path_select.specs.NodeModel.Paths.{Holdings, Path, Told}
+use Rattle.path_select.specs.NodeModel.Reaching.{Side, below, into, sides_of}
+use Rattle.path_select.specs.NodeModel.Tables.{same_prefix}
 use Rattle.vpn_tables.specs.Moved.{told_on}
 use Rattle.vpn_tables.specs.Touched.{is_touched}
 

@@ -8,11 +8,11 @@ use Rattle.ov_types.specs.declared.objects.LowKey.{LowKey}
 use Rattle.ov_types.specs.declared.objects.LowValue.{LowValue}
 use Rattle.ov_types.specs.declared.vpn.VpnKey.{VpnKey}
 use Rattle.ov_types.specs.declared.vpn.VpnRoute.{VpnRoute}
-pub use Rattle.node_model.specs.Directions.{low_order, vpn_order, up_order}
-use Rattle.node_model.specs.Keys.{Low, Vpn, key_cmp, of_up}
-use Rattle.node_model.specs.Values.{Object, Route, Label}
-use Rattle.node_model.specs.Maps.{Map}
-use Rattle.node_model.specs.Paths.{Told}
+pub use Rattle.path_select.specs.NodeModel.Directions.{low_order, vpn_order, up_order}
+use Rattle.path_select.specs.NodeModel.Keys.{Low, Vpn, key_cmp, of_up}
+use Rattle.path_select.specs.NodeModel.Values.{Object, Route, Label}
+use Rattle.path_select.specs.NodeModel.Maps.{Map}
+use Rattle.path_select.specs.NodeModel.Paths.{Told}
 use Rattle.vpn_tables.specs.declared.tables.Agent.{Agent}
 
 abbrev pub feed_of : List (LowKey × LowValue) → Map

@@ -3,12 +3,12 @@ ghost use Rattle.std.specs.Prelude.{◌≡◌, ◌↔◌, ◌≤◌, ◌++◌, [
 ghost use Rattle.std.specs.List.{cons_option, filter, filter_map, list_any};
 ghost use Rattle.std.specs.Option.{option_map};
 ghost use Rattle.std.specs.FinMap.{entries};
-ghost use Rattle.node_model.specs.Keys.{Vpn, of_up};
-ghost use Rattle.node_model.specs.Members.{Member};
-ghost use Rattle.node_model.specs.Paths.{own_path, own_paths, peer_path, peer_paths};
-ghost use Rattle.node_model.specs.Reaching.{subnets};
-ghost use Rattle.node_model.specs.Tables.{same_prefix};
-ghost use Rattle.node_model.specs.Values.{Label as LabelOf, Route as RouteOf};
+ghost use Rattle.path_select.specs.NodeModel.Keys.{Vpn, of_up};
+ghost use Rattle.path_select.specs.NodeModel.Members.{Member};
+ghost use Rattle.path_select.specs.NodeModel.Paths.{own_path, own_paths, peer_path, peer_paths};
+ghost use Rattle.path_select.specs.NodeModel.Reaching.{subnets};
+ghost use Rattle.path_select.specs.NodeModel.Tables.{same_prefix};
+ghost use Rattle.path_select.specs.NodeModel.Values.{Label as LabelOf, Route as RouteOf};
 ghost use Rattle.path_select.specs.declared.selection.Path.{Path as PathOf};
 ghost use Rattle.path_select.specs.Selection.{plain};
 ghost use Rattle.vpn_tables.specs.At.{IsChosen, is_wanted_at, led_at, led_from, paths_at, publishes_to, row_at, shown};

@@ -1,8 +1,8 @@
 //! The held uses of chains, each seen from an end.
 ghost use Rattle.std.specs.Prelude.{◌≡◌, ◌≤◌};
 ghost use Rattle.std.specs.Option.{option_map};
-ghost use Rattle.node_model.specs.Reaching.{hop_at, circuit_at, subnets};
-ghost use Rattle.node_model.specs.Uses.{as_use};
+ghost use Rattle.path_select.specs.NodeModel.Reaching.{hop_at, circuit_at, subnets};
+ghost use Rattle.path_select.specs.NodeModel.Uses.{as_use};
 ghost use Rattle.vpn_tables.specs.Ranges.{Fits};
 ghost use Rattle.vpn_tables.specs.Answers.{distance, seen_from, side_at};
 
@@ -25,7 +25,7 @@ pub struct Side<'a> {
 }
 
 impl<'a> Model for Side<'a> {
-    ghost use Rattle.node_model.specs.Reaching.{Side as SideValue};
+    ghost use Rattle.path_select.specs.NodeModel.Reaching.{Side as SideValue};
     ghost use Rattle.std.specs.Prelude.{◌≤◌};
 
     ghost Value = { SideValue };

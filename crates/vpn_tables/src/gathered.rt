@@ -2,7 +2,7 @@
 ghost use Rattle.std.specs.Prelude.{◌≡◌, ◌++◌, Some, IfOk, OnOk, map};
 ghost use Rattle.std.specs.BTreeMap.{IsOrdered};
 ghost use Rattle.route_targets.specs.Numbers.{hop_of};
-ghost use Rattle.node_model.specs.Uses.{hop_imports, imports};
+ghost use Rattle.path_select.specs.NodeModel.Uses.{hop_imports, imports};
 ghost use Rattle.vpn_tables.specs.Gathered.{held_keys, in_order, keyed, keys_told, UsesAreInRange};
 ghost use Rattle.vpn_tables.specs.Views.{agent_of, up_order};
 

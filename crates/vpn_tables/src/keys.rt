@@ -3,12 +3,12 @@ ghost use Rattle.std.specs.Prelude.{◌≡◌, ◌<◌, ◌+◌, ◌++◌, [], t
 ghost use Rattle.std.specs.List.{cons_option, filter_map, flat_map};
 ghost use Rattle.std.specs.Option.{option_map};
 ghost use Rattle.std.specs.FinMap.{entries, get};
-ghost use Rattle.node_model.specs.Keys.{Subscribe, of_up};
-ghost use Rattle.node_model.specs.Paths.{own_path, own_paths};
-ghost use Rattle.node_model.specs.Ranks.{instance_in};
-ghost use Rattle.node_model.specs.Reaching.{circuit_at, into, publisher, reoriginated_paths};
-ghost use Rattle.node_model.specs.Uses.{uses};
-ghost use Rattle.node_model.specs.Values.{Label as LabelOf};
+ghost use Rattle.path_select.specs.NodeModel.Keys.{Subscribe, of_up};
+ghost use Rattle.path_select.specs.NodeModel.Paths.{own_path, own_paths};
+ghost use Rattle.path_select.specs.NodeModel.Ranks.{instance_in};
+ghost use Rattle.path_select.specs.NodeModel.Reaching.{circuit_at, into, publisher, reoriginated_paths};
+ghost use Rattle.path_select.specs.NodeModel.Uses.{uses};
+ghost use Rattle.path_select.specs.NodeModel.Values.{Label as LabelOf};
 ghost use Rattle.vpn_tables.specs.At.{led_at};
 ghost use Rattle.vpn_tables.specs.Leading.{use_at};
 ghost use Rattle.vpn_tables.specs.Listing.{each_of, told_in};

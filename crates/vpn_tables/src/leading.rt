@@ -1,7 +1,7 @@
 //! The routes that lead the reachable subnets of held chains on.
 ghost use Rattle.std.specs.Prelude.{◌≡◌, ◌<◌, ◌++◌, ◌+◌, Some, OnOk, IfOk, map};
 ghost use Rattle.std.specs.List.{flat_map};
-ghost use Rattle.node_model.specs.Reaching.{below, circuit_at, into, is_up, publisher, reoriginated_paths, subnets};
+ghost use Rattle.path_select.specs.NodeModel.Reaching.{below, circuit_at, into, is_up, publisher, reoriginated_paths, subnets};
 ghost use Rattle.vpn_tables.specs.Leading.{leads, sides_of_held, use_at};
 ghost use Rattle.vpn_tables.specs.Routes.{path_of};
 

@@ -6,10 +6,10 @@ ghost use Rattle.ov_sync.specs.declared.Delta.TheVariants.{Put as PutOf, Drop as
 ghost use Rattle.ov_sync.specs.Embed.{moved_delta};
 ghost use Rattle.ov_sync.specs.Keyed.{key_of};
 ghost use Rattle.ov_types.specs.declared.numbers.Label.{Label as LabelOf};
-ghost use Rattle.node_model.specs.Keys.{Vpn};
-ghost use Rattle.node_model.specs.Maps.{Map};
-ghost use Rattle.node_model.specs.Values.{Route};
-ghost use Rattle.node_model.specs.Paths.{Path as PathOf, peer_path};
+ghost use Rattle.path_select.specs.NodeModel.Keys.{Vpn};
+ghost use Rattle.path_select.specs.NodeModel.Maps.{Map};
+ghost use Rattle.path_select.specs.NodeModel.Values.{Route};
+ghost use Rattle.path_select.specs.NodeModel.Paths.{Path as PathOf, peer_path};
 ghost use Rattle.vpn_tables.specs.Moved.{map_at, place_by, place_in, told_as, told_on};
 ghost use Rattle.vpn_tables.specs.Moved.{targets_by_publication, targets_by_route, value_of};
 ghost use Rattle.vpn_tables.specs.Views.{agent_of, peer_of};

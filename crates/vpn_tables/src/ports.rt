@@ -3,7 +3,7 @@
 ghost use Rattle.std.specs.Prelude.{◌≡◌, ◌==◌, ◌||◌, ◌++◌, [], IsTrue, IfOk, OnOk, nat_lt};
 ghost use Rattle.std.specs.List.{cons_option, list_any};
 ghost use Rattle.ov_types.specs.Keys.{kind_of};
-ghost use Rattle.node_model.specs.Wants.{is_at, is_in_slice, networks_at, port_at};
+ghost use Rattle.path_select.specs.NodeModel.Wants.{is_at, is_in_slice, networks_at, port_at};
 ghost use Rattle.vpn_tables.specs.Ports.{IsPastPorts, is_numbered, is_port, is_stray, puts_stray};
 
 use crate::tables::VpnTables;

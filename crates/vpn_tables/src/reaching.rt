@@ -2,11 +2,11 @@
 ghost use Rattle.std.specs.Prelude.{◌≡◌, ◌≤◌, ◌<◌, ◌+◌, ◌&&◌, ◌||◌, ℕ, [], is_some, IfOk, map};
 ghost use Rattle.std.specs.List.{cons_option, list_any, filter_map};
 ghost use Rattle.std.specs.FinMap.{entries};
-ghost use Rattle.node_model.specs.Paths.{own_path, own_paths, peer_path, peer_paths};
-ghost use Rattle.node_model.specs.Reaching.{circuit_at, has_path_within, hop_at, is_up, publisher, subnets};
-ghost use Rattle.node_model.specs.Tables.{same_prefix};
-ghost use Rattle.node_model.specs.Keys.{of_up};
-ghost use Rattle.node_model.specs.Values.{Label as LabelOf};
+ghost use Rattle.path_select.specs.NodeModel.Paths.{own_path, own_paths, peer_path, peer_paths};
+ghost use Rattle.path_select.specs.NodeModel.Reaching.{circuit_at, has_path_within, hop_at, is_up, publisher, subnets};
+ghost use Rattle.path_select.specs.NodeModel.Tables.{same_prefix};
+ghost use Rattle.path_select.specs.NodeModel.Keys.{of_up};
+ghost use Rattle.path_select.specs.NodeModel.Values.{Label as LabelOf};
 ghost use Rattle.vpn_tables.specs.Answers.{is_up_at, leads_within, publishes_within};
 ghost use Rattle.vpn_tables.specs.Views.{agent_of, peer_of};
 

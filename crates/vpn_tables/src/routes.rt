@@ -4,12 +4,12 @@ ghost use Rattle.std.specs.List.{list_any};
 ghost use Rattle.std.specs.Option.{option_map};
 ghost use Rattle.ov_types.specs.Prefix.{is_inside as is_inside_of};
 ghost use Rattle.route_targets.specs.Numbers.{hop_of, target_of};
-ghost use Rattle.node_model.specs.Keys.{of_up};
-ghost use Rattle.node_model.specs.Values.{Label as LabelOf};
-ghost use Rattle.node_model.specs.Reaching.{published_by, publisher};
-ghost use Rattle.node_model.specs.Uses.{imports, is_known};
-ghost use Rattle.node_model.specs.Paths.{own_path};
-ghost use Rattle.node_model.specs.Tables.{same_prefix};
+ghost use Rattle.path_select.specs.NodeModel.Keys.{of_up};
+ghost use Rattle.path_select.specs.NodeModel.Values.{Label as LabelOf};
+ghost use Rattle.path_select.specs.NodeModel.Reaching.{published_by, publisher};
+ghost use Rattle.path_select.specs.NodeModel.Uses.{imports, is_known};
+ghost use Rattle.path_select.specs.NodeModel.Paths.{own_path};
+ghost use Rattle.path_select.specs.NodeModel.Tables.{same_prefix};
 ghost use Rattle.vpn_tables.specs.Routes.{path_of};
 ghost use Rattle.vpn_tables.specs.Views.{agent_of};
 

@@ -3,8 +3,8 @@ ghost use Rattle.std.specs.Prelude.{◌≡◌, ◌≤◌, ◌<◌, ◌-◌, ◌+
 ghost use Rattle.std.specs.FinMap.{empty};
 ghost use Rattle.ov_sync.specs.Keyed.{changed};
 ghost use Rattle.ov_sync.specs.Embed.{moved_delta};
-ghost use Rattle.node_model.specs.Keys.{Vpn, of_up};
-ghost use Rattle.node_model.specs.Values.{Route, Label as LabelOf};
+ghost use Rattle.path_select.specs.NodeModel.Keys.{Vpn, of_up};
+ghost use Rattle.path_select.specs.NodeModel.Values.{Route, Label as LabelOf};
 ghost use Rattle.vpn_tables.specs.Changes.{changed_at, emptied_at, named, at_session};
 ghost use Rattle.vpn_tables.specs.Views.{peer_of, agent_of};
 ghost use Rattle.vpn_tables.specs.Seats.{nothings, IsSeat};

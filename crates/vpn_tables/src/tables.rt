@@ -1,7 +1,7 @@
 //! What a control node holds.
 ghost use Rattle.std.specs.Prelude.{◌≡◌, OnOk, OnErr, IfSome, option_copied};
 ghost use Rattle.ov_sync.specs.Keyed.{PutOf, IsPut};
-ghost use Rattle.node_model.specs.Maps.{object};
+ghost use Rattle.path_select.specs.NodeModel.Maps.{object};
 ghost use Rattle.vpn_tables.specs.Ranges.{Fits};
 ghost use Rattle.vpn_tables.specs.Changes.{nothing, with_low, with_route, with_agent, with_publication, without};
 
@@ -36,7 +36,7 @@ pub(crate) struct Agent {
 }
 
 impl Model for VpnTables {
-    ghost use Rattle.node_model.specs.Paths.{Holdings};
+    ghost use Rattle.path_select.specs.NodeModel.Paths.{Holdings};
 
     ghost Value = { Holdings };
 

@@ -24,13 +24,13 @@ use Rattle.ov_types.specs.declared.numbers.InstanceId.{InstanceId}
 use Rattle.ov_types.specs.declared.numbers.Label.{Label as LabelNo}
 use Rattle.ov_types.specs.declared.prefix.Addr.{Addr}
 use Rattle.ov_types.specs.declared.vpn.VpnRoute.{VpnRoute}
-use Rattle.node_model.specs.Keys.{Key, Low, Vpn, Row, Publish, Subscribe, key_cmp, of_up}
-use Rattle.node_model.specs.Maps.{Map, as_label}
-use Rattle.node_model.specs.Members.{Member}
-use Rattle.node_model.specs.Paths.{Holdings, Told}
-use Rattle.node_model.specs.Values.{Label, Value}
-use Rattle.node_model.proofs.Members.{none_some}
-use Rattle.node_model.proofs.Orders.{key_exact, key_total}
+use Rattle.control_silent_agent_laws.specs.NodeModel.Keys.{Key, Low, Vpn, Row, Publish, Subscribe, key_cmp, of_up}
+use Rattle.control_silent_agent_laws.specs.NodeModel.Maps.{Map, as_label}
+use Rattle.control_silent_agent_laws.specs.NodeModel.Members.{Member}
+use Rattle.control_silent_agent_laws.specs.NodeModel.Paths.{Holdings, Told}
+use Rattle.control_silent_agent_laws.specs.NodeModel.Values.{Label, Value}
+use Rattle.control_silent_agent_laws.proofs.NodeModel.Members.{none_some}
+use Rattle.control_silent_agent_laws.proofs.NodeModel.Orders.{key_exact, key_total}
 use Rattle.vpn_tables.specs.Changes.{at_session, named, with_agent, with_nothing, with_publication, without}
 use Rattle.vpn_tables.specs.Listing.{told_in}
 use Rattle.vpn_tables.specs.Moved.{told_on}

@@ -16,16 +16,16 @@ use Rattle.ov_types.specs.declared.targets.Target.{Target}
 use Rattle.ov_types.specs.declared.vpn.VpnKey.{VpnKey}
 use Rattle.ov_types.specs.declared.vpn.VpnRoute.{VpnRoute}
 use Rattle.route_targets.specs.Numbers.{distinguisher_of, target_of}
-use Rattle.node_model.specs.Keys.{Key, Low, Vpn, Row, Publish, Subscribe, key_cmp}
-use Rattle.node_model.specs.Maps.{Map, as_label}
-use Rattle.node_model.specs.Members.{Member}
-use Rattle.node_model.specs.Paths as model
-use Rattle.node_model.specs.Paths.{Holdings, Told, has_target, own_path, own_paths, peer_path, peer_paths, received}
-use Rattle.node_model.specs.Tables.{of_prefix, same_prefix}
-use Rattle.node_model.specs.Uses.{is_known}
-use Rattle.node_model.specs.Values.{Value, Object, Route, Entry, Label}
-use Rattle.node_model.proofs.Members.{contains_of, from_filter, from_filter_map, from_flat_map, from_map, get_member, in_either, in_filter, in_filter_map, in_flat_map, in_left, in_map, in_right, member_get, member_of, none_some}
-use Rattle.node_model.proofs.Orders.{key_exact, key_total}
+use Rattle.control_silent_agent_laws.specs.NodeModel.Keys.{Key, Low, Vpn, Row, Publish, Subscribe, key_cmp}
+use Rattle.control_silent_agent_laws.specs.NodeModel.Maps.{Map, as_label}
+use Rattle.control_silent_agent_laws.specs.NodeModel.Members.{Member}
+use Rattle.control_silent_agent_laws.specs.NodeModel.Paths as model
+use Rattle.control_silent_agent_laws.specs.NodeModel.Paths.{Holdings, Told, has_target, own_path, own_paths, peer_path, peer_paths, received}
+use Rattle.control_silent_agent_laws.specs.NodeModel.Tables.{of_prefix, same_prefix}
+use Rattle.control_silent_agent_laws.specs.NodeModel.Uses.{is_known}
+use Rattle.control_silent_agent_laws.specs.NodeModel.Values.{Value, Object, Route, Entry, Label}
+use Rattle.control_silent_agent_laws.proofs.NodeModel.Members.{contains_of, from_filter, from_filter_map, from_flat_map, from_map, get_member, in_either, in_filter, in_filter_map, in_flat_map, in_left, in_map, in_right, member_get, member_of, none_some}
+use Rattle.control_silent_agent_laws.proofs.NodeModel.Orders.{key_exact, key_total}
 use Rattle.path_select.specs.declared.selection.Path.{Path}
 use Rattle.path_select.specs.Selection.{plain}
 use Rattle.vpn_tables.specs.Changes.{with_nothing}

@@ -6,12 +6,12 @@ use Rattle.std.proofs.Common.{refl, sym, ◌∙◌, ap, subst, inl, inr}
 use Rattle.ov_types.specs.Prefix.{Block}
 use Rattle.ov_types.specs.declared.numbers.InstanceId.{InstanceId}
 use Rattle.route_targets.specs.Numbers.{target_of}
-use Rattle.node_model.specs.Members.{Member}
-use Rattle.node_model.specs.Paths as model
-use Rattle.node_model.specs.Paths.{Holdings, has_target, received}
-use Rattle.node_model.specs.Reaching.{AreShort, reoriginated_paths}
-use Rattle.node_model.specs.Tables.{of_prefix, paths_of, same_prefix}
-use Rattle.node_model.proofs.Members.{from_filter, from_map, in_either, in_filter, in_left, in_map, in_right}
+use Rattle.control_silent_agent_laws.specs.NodeModel.Members.{Member}
+use Rattle.control_silent_agent_laws.specs.NodeModel.Paths as model
+use Rattle.control_silent_agent_laws.specs.NodeModel.Paths.{Holdings, has_target, received}
+use Rattle.control_silent_agent_laws.specs.NodeModel.Reaching.{AreShort, reoriginated_paths}
+use Rattle.control_silent_agent_laws.specs.NodeModel.Tables.{of_prefix, paths_of, same_prefix}
+use Rattle.control_silent_agent_laws.proofs.NodeModel.Members.{from_filter, from_map, in_either, in_filter, in_left, in_map, in_right}
 use Rattle.path_select.specs.declared.selection.Path.{Path}
 use Rattle.path_select.specs.Selection.{plain}
 use Rattle.vpn_tables.specs.At.{is_led_at, led_at, paths_at}

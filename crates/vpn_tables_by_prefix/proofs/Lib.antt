@@ -6,3 +6,4 @@ pub mod Agents
 pub mod Gathered
 pub mod Subnets
 pub mod Led
+pub mod ControlSilentAgentLaws

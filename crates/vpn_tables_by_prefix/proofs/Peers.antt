@@ -13,11 +13,11 @@ use Rattle.ov_sync.specs.Keyed.{changed, key_of}
 use Rattle.ov_sync.proofs.KeyedLaws.{changed_apart}
 use Rattle.ov_types.specs.declared.vpn.VpnKey.{VpnKey}
 use Rattle.ov_types.specs.declared.vpn.VpnRoute.{VpnRoute}
-use Rattle.node_model.specs.Keys.{Key, Low, Vpn, Row, Publish, Subscribe, key_cmp}
-use Rattle.node_model.specs.Maps.{Change, Map}
-use Rattle.node_model.specs.Paths.{Holdings}
-use Rattle.node_model.specs.Values.{Route, Value}
-use Rattle.node_model.proofs.Orders.{key_exact, key_total}
+use Rattle.control_silent_agent_laws.specs.NodeModel.Keys.{Key, Low, Vpn, Row, Publish, Subscribe, key_cmp}
+use Rattle.control_silent_agent_laws.specs.NodeModel.Maps.{Change, Map}
+use Rattle.control_silent_agent_laws.specs.NodeModel.Paths.{Holdings}
+use Rattle.control_silent_agent_laws.specs.NodeModel.Values.{Route, Value}
+use Rattle.control_silent_agent_laws.proofs.NodeModel.Orders.{key_exact, key_total}
 use Rattle.vpn_tables.specs.Changes.{changed_at, emptied_at, with_route, without}
 use Rattle.vpn_tables.specs.Moved.{map_at}
 use Rattle.vpn_tables_by_prefix.specs.Indexed.{as_route, route_at, route_told, told_by_peer, vpn_key}

@@ -11,13 +11,13 @@ use Rattle.ov_types.specs.declared.numbers.InstanceId.{InstanceId}
 use Rattle.ov_types.specs.declared.numbers.Label.{Label as LabelNo}
 use Rattle.ov_types.specs.declared.targets.Target.{Target}
 use Rattle.ov_types.specs.declared.vpn.VpnRoute.{VpnRoute}
-use Rattle.node_model.specs.Members.{Member}
-use Rattle.node_model.specs.Paths as model
-use Rattle.node_model.specs.Paths.{Holdings, received}
-use Rattle.node_model.specs.Reaching.{has_path_within}
-use Rattle.node_model.specs.Tables.{of_prefix, same_prefix}
-use Rattle.node_model.proofs.Members.{any_in, from_any, from_filter, from_filter_map, from_map, iff_same, in_either, in_filter, in_filter_map, in_left, in_map, in_right, none_some}
-use Rattle.node_model.proofs.Orders.{prefix_same, same_prefix-from}
+use Rattle.control_silent_agent_laws.specs.NodeModel.Members.{Member}
+use Rattle.control_silent_agent_laws.specs.NodeModel.Paths as model
+use Rattle.control_silent_agent_laws.specs.NodeModel.Paths.{Holdings, received}
+use Rattle.control_silent_agent_laws.specs.NodeModel.Reaching.{has_path_within}
+use Rattle.control_silent_agent_laws.specs.NodeModel.Tables.{of_prefix, same_prefix}
+use Rattle.control_silent_agent_laws.proofs.NodeModel.Members.{any_in, from_any, from_filter, from_filter_map, from_map, iff_same, in_either, in_filter, in_filter_map, in_left, in_map, in_right, none_some}
+use Rattle.control_silent_agent_laws.proofs.NodeModel.Orders.{prefix_same, same_prefix-from}
 use Rattle.path_select.specs.declared.selection.Path.{Path}
 use Rattle.path_select.specs.Selection.{plain}
 use Rattle.vpn_tables_by_prefix.specs.Indexed.{AreInOrder, AreLabels, AreRoutes, block_at, is_label_to, is_label_within, is_route_to, is_route_within, label_order, label_path, leads_label, leads_route, received_at, route_order, route_path, vpn_key, wanted_by}

@@ -16,13 +16,13 @@ use Rattle.ov_types.specs.declared.targets.Target.{Target}
 use Rattle.ov_types.specs.declared.vpn.VpnKey.{VpnKey}
 use Rattle.ov_types.specs.declared.vpn.VpnRoute.{VpnRoute}
 use Rattle.route_targets.specs.Numbers.{distinguisher_of, target_of}
-use Rattle.node_model.specs.Keys.{Publish, Vpn}
-use Rattle.node_model.specs.Maps.{Map, as_label}
-use Rattle.node_model.specs.Paths as model
-use Rattle.node_model.specs.Paths.{Holdings, Told, received}
-use Rattle.node_model.specs.Tables.{of_prefix}
-use Rattle.node_model.specs.Uses.{imports, is_known}
-use Rattle.node_model.specs.Values.{Route, Value}
+use Rattle.control_silent_agent_laws.specs.NodeModel.Keys.{Publish, Vpn}
+use Rattle.control_silent_agent_laws.specs.NodeModel.Maps.{Map, as_label}
+use Rattle.control_silent_agent_laws.specs.NodeModel.Paths as model
+use Rattle.control_silent_agent_laws.specs.NodeModel.Paths.{Holdings, Told, received}
+use Rattle.control_silent_agent_laws.specs.NodeModel.Tables.{of_prefix}
+use Rattle.control_silent_agent_laws.specs.NodeModel.Uses.{imports, is_known}
+use Rattle.control_silent_agent_laws.specs.NodeModel.Values.{Route, Value}
 use Rattle.path_select.specs.declared.selection.Path.{Path}
 use Rattle.path_select.specs.Selection.{plain}
 use Rattle.vpn_tables.specs.Listing.{told_in}

@@ -3,7 +3,7 @@ ghost use Rattle.std.specs.Prelude.{◌≡◌, ◌≢◌, ◌<◌, if◌then◌e
 ghost use Rattle.std.specs.BTreeMap as tree;
 ghost use Rattle.std.specs.BTreeMap.{is_at};
 ghost use Rattle.ov_sync.specs.declared.Delta.TheVariants.{Put as PutOf, Drop as DropOf};
-ghost use Rattle.node_model.specs.Paths.{Holdings};
+ghost use Rattle.control_silent_agent_laws.specs.NodeModel.Paths.{Holdings};
 ghost use Rattle.ov_types.specs.declared.numbers.Label.{Label as LabelOf};
 ghost use Rattle.vpn_tables.specs.Changes.{with_publication, with_route};
 ghost use Rattle.vpn_tables_by_prefix.specs.Indexed.{AreLabels, AreRoutes, label_order, place_told, route_order};

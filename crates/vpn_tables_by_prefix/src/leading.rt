@@ -1,8 +1,8 @@
 //! Which subnets are reachable along a chain, and the routes that lead them on, found by what was told within a subnet.
 ghost use Rattle.std.specs.Prelude.{◌≡◌, ◌≤◌, ◌||◌, ◌&&◌, ◌++◌, [], IsTrue, is_some, map, IfOk, OnOk};
 ghost use Rattle.std.specs.List.{cons_option, list_any};
-ghost use Rattle.node_model.specs.Reaching.{circuit_at, has_path_within, hop_at, is_up, publisher, subnets};
-ghost use Rattle.node_model.specs.Tables.{same_prefix};
+ghost use Rattle.control_silent_agent_laws.specs.NodeModel.Reaching.{circuit_at, has_path_within, hop_at, is_up, publisher, subnets};
+ghost use Rattle.control_silent_agent_laws.specs.NodeModel.Tables.{same_prefix};
 ghost use Rattle.path_select.specs.Selection.{plain};
 ghost use Rattle.vpn_tables.specs.Answers.{is_up_at};
 ghost use Rattle.vpn_tables.specs.At.{led_at, led_from};

@@ -2,8 +2,8 @@
 ghost use Rattle.std.specs.Prelude.{◌≡◌, ◌↔◌, OnOk, OnErr, IfOk};
 ghost use Rattle.std.specs.Prelude.{Some, true};
 ghost use Rattle.ov_sync.specs.Keyed.{PutOf, IsPut, key_of};
-ghost use Rattle.node_model.specs.Members.{Member};
-ghost use Rattle.node_model.specs.Reaching.{AreShort};
+ghost use Rattle.control_silent_agent_laws.specs.NodeModel.Members.{Member};
+ghost use Rattle.control_silent_agent_laws.specs.NodeModel.Reaching.{AreShort};
 ghost use Rattle.control_silent_agent_laws.specs.Quiet.{PublishesNothing};
 ghost use Rattle.path_select.specs.declared.selection.Path.{Path as PathOf};
 ghost use Rattle.vpn_tables.specs.At.{paths_at, row_at};
@@ -38,7 +38,7 @@ pub struct IndexedTables {
 }
 
 impl Model for IndexedTables {
-    ghost use Rattle.node_model.specs.Paths.{Holdings};
+    ghost use Rattle.control_silent_agent_laws.specs.NodeModel.Paths.{Holdings};
     ghost use Rattle.vpn_tables.specs.Codes.{coded_holdings};
     ghost use Rattle.vpn_tables_by_prefix.specs.Indexed.{AreInOrder, AreLabels, AreRoutes};
 

@@ -1,7 +1,6 @@
 //! The kinds of cases, and how one is held against what it wants.
 
-use crate::fault::{CaseFault, told};
-use crate::octets::{octets, push_octets};
+use crate::fault::CaseFault;
 use crate::{hearings, messages, record_sessions, records, restarts, sessions, updates};
 use ov_io::TextOut;
 use std::alloc::Global;
@@ -40,56 +39,16 @@ fn tell_session(
     }
 }
 
-/// What is wanted of a kind, as it is told: octets are spelled in one way.
-fn tell_wanted(
-    alloc: Global,
-    kind: &str,
-    wanted: &str,
-    out: &mut TextOut,
-) -> Result<(), CaseFault> {
-    if kind.starts_with("written") {
-        tell_spelled(alloc, wanted, out)
-    } else {
-        told(out.push(wanted.as_bytes()))
-    }
-}
-
-fn tell_spelled(alloc: Global, wanted: &str, out: &mut TextOut) -> Result<(), CaseFault> {
-    let octets = octets(alloc, wanted)?;
-    told(push_octets(octets.as_slice(), out))
-}
-
-/// Whether what a case of this kind came to is what is wanted.
-fn is_wanted(alloc: Global, kind: &str, wanted: &str, came: &[u8]) -> Result<bool, CaseFault> {
-    let mut text = TextOut::new(alloc);
-    match tell_wanted(alloc, kind, wanted, &mut text) {
-        Ok(()) => Ok(came == text.octets()),
-        Err(fault) => Err(fault),
-    }
-}
-
-fn comes_to(
-    alloc: Global,
-    kind: &str,
-    given: &str,
-    wanted: &str,
-    came: &mut TextOut,
-) -> Result<bool, CaseFault> {
-    came.clear();
-    tell(alloc, kind, given, came)?;
-    is_wanted(alloc, kind, wanted, came.octets())
-}
-
 /// Whether a line is a case that comes to what it wants; what it comes to is left in `came`.
 ///
 /// A line is a kind, what is given, and behind `=>` what is wanted. Where nothing stands there it is what is given.
 pub(crate) fn holds(alloc: Global, line: &str, came: &mut TextOut) -> Result<bool, CaseFault> {
     let (case, behind) = line.split_once(" => ").unwrap_or((line, ""));
-    match case.split_once(" ") {
-        Some((kind, given)) if behind.is_empty() => comes_to(alloc, kind, given, given, came),
-        Some((kind, given)) => comes_to(alloc, kind, given, behind, came),
-        None => Err(CaseFault::Unreadable),
-    }
+    let (kind, given) = case.split_once(" ").ok_or(CaseFault::Unreadable)?;
+    came.clear();
+    tell(alloc, kind, given, came)?;
+    let wanted = if behind.is_empty() { given } else { behind };
+    Ok(came.octets() == wanted.as_bytes())
 }
 
 /// Whether a line has no case.

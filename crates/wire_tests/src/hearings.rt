@@ -110,17 +110,12 @@ fn push_text(text: &str, missing: usize, octets: &mut Vec<u8>) -> Result<(), Cas
     push_slice(&text.as_bytes()[..there], octets)
 }
 
+/// Appends the length of a text in four octets.
 fn push_length(length: usize, octets: &mut Vec<u8>) -> Result<(), CaseFault> {
-    match u16::try_from(length) {
-        Ok(length) => push_number(length, octets),
-        Err(_) => Err(CaseFault::Unreadable),
+    if length > 65_535 {
+        return Err(CaseFault::Unreadable);
     }
-}
-
-/// Appends a number in four octets.
-fn push_number(number: u16, octets: &mut Vec<u8>) -> Result<(), CaseFault> {
-    let [high, low] = number.to_be_bytes();
-    push_slice(&[0, 0, high, low], octets)
+    push_slice(&[0, 0, (length / 256) as u8, (length % 256) as u8], octets)
 }
 
 /// Whether a part is the record of an item.

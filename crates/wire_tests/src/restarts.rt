@@ -12,29 +12,29 @@ use ov_types::NoMemory;
 use std::alloc::Global;
 
 /// The route of 10.1.0.5/32, distinguisher 192.0.2.11:1, is put, with label 23.
-const PUT: &str =
+static PUT: &str =
     "M 0054 02 0000 003d 40010100 400200 40050400000064 800e21 000180 0c 0000000000000000 c000020b 00 78 000171 0001c000020b0001 0a010005 c01008 0002fc00007a1201";
 
 /// It is put with label 24, and then with label 23.
-const PUT_TWICE: &str =
+static PUT_TWICE: &str =
     "M 0064 02 0000 004d 40010100 400200 40050400000064 800e31 000180 0c 0000000000000000 c000020b 00 78 000181 0001c000020b0001 0a010005 78 000171 0001c000020b0001 0a010005 c01008 0002fc00007a1201";
 
 /// The route of 10.1.0.6/32 of the same distinguisher is put.
-const PUT_ANOTHER: &str =
+static PUT_ANOTHER: &str =
     "M 0054 02 0000 003d 40010100 400200 40050400000064 800e21 000180 0c 0000000000000000 c000020b 00 78 000171 0001c000020b0001 0a010006 c01008 0002fc00007a1201";
 
 /// The first route is dropped.
-const DROP: &str = "M 002d 02 0000 0016 800f13 000180 78 800000 0001c000020b0001 0a010005";
+static DROP: &str = "M 002d 02 0000 0016 800f13 000180 78 800000 0001c000020b0001 0a010005";
 
 /// It is dropped and put.
-const DROP_AND_PUT: &str =
+static DROP_AND_PUT: &str =
     "M 006a 02 0000 0053 40010100 400200 40050400000064 800e21 000180 0c 0000000000000000 c000020b 00 78 000171 0001c000020b0001 0a010005 800f13 000180 78 800000 0001c000020b0001 0a010005 c01008 0002fc00007a1201";
 
 /// The end of the first routes.
-const END: &str = "M 001d 02 0000 0006 800f03 000180";
+static END: &str = "M 001d 02 0000 0006 800f03 000180";
 
 /// ORIGIN 3.
-const WRONG: &str = "M 001b 02 0000 0004 40010103";
+static WRONG: &str = "M 001b 02 0000 0004 40010103";
 
 /// Whether an OPEN names the routes, and whether their peer kept them; of an UPDATE, whether it marks their end.
 pub(crate) fn tell_marks(alloc: Global, given: &str, out: &mut TextOut) -> Result<(), CaseFault> {

@@ -10,23 +10,23 @@ use ov_types::{Addr, Name, NoMemory, NodeId};
 use std::alloc::Global;
 
 /// Autonomous system 64512, with numbers of two octets.
-const OPEN: &str = "M 001d 01 04 fc00 0000 c0000202 00";
+static OPEN: &str = "M 001d 01 04 fc00 0000 c0000202 00";
 
-const OPEN_OF_ANOTHER_SYSTEM: &str = "M 001d 01 04 fc01 0000 c0000202 00";
+static OPEN_OF_ANOTHER_SYSTEM: &str = "M 001d 01 04 fc01 0000 c0000202 00";
 
-const OPEN_OF_ANOTHER_NODE: &str = "M 001d 01 04 fc00 0000 c0000203 00";
+static OPEN_OF_ANOTHER_NODE: &str = "M 001d 01 04 fc00 0000 c0000203 00";
 
-const KEEPALIVE: &str = "M 0013 04";
+static KEEPALIVE: &str = "M 0013 04";
 
 /// It withdraws 10.1.0.5/32 of the distinguisher 192.0.2.11:1.
-const UPDATE: &str = "M 002d 02 0000 0016 800f13 000180 78 800000 0001c000020b0001 0a010005";
+static UPDATE: &str = "M 002d 02 0000 0016 800f13 000180 78 800000 0001c000020b0001 0a010005";
 
 /// ORIGIN 3.
-const WRONG_UPDATE: &str = "M 001b 02 0000 0004 40010103";
+static WRONG_UPDATE: &str = "M 001b 02 0000 0004 40010103";
 
-const NOTIFICATION: &str = "M 0015 03 0602";
+static NOTIFICATION: &str = "M 0015 03 0602";
 
-const BAD_FRAME: &str = "M 0013 05";
+static BAD_FRAME: &str = "M 0013 05";
 
 fn tell_input(
     alloc: Global,

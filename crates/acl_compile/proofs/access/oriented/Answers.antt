@@ -1,5 +1,5 @@
 use Rattle.std.proofs.Common.{◌&&◌, List, map, ap, ◌∙◌, Bor}
-use Rattle.config_model.specs.declared.config.Policy.{Policy}
+use Rattle.config_types.specs.declared.config.Policy.{Policy}
 use Rattle.policy_rules.specs.Related.{attaches}
 use Rattle.acl_compile.proofs.Kept.{all_bounded}
 use Rattle.acl_compile.proofs.Listed.{oriented_by}

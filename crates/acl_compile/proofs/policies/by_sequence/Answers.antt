@@ -1,6 +1,6 @@
 use Rattle.std.proofs.Common.{◌≡◌, ℕ, Bor, rules}
 use Rattle.std.proofs.lemmas.List.Sorted.{answers_always}
-use Rattle.config_model.specs.declared.config.Policy.{Policy}
+use Rattle.config_types.specs.declared.config.Policy.{Policy}
 use Rattle.acl_compile.proofs.Orders.{sorted_by_sequence}
 use Rattle.acl_compile.proofs.policies.by_sequence.Goals as goal
 

@@ -5,7 +5,7 @@ use Rattle.item_wire.specs.declared.event.ItemState.{ItemState}
 use Rattle.item_wire.specs.declared.event.ItemState.TheVariants.{Idle, Opened, Up}
 use Rattle.node_items.specs.Beginning.{phase_of}
 use Rattle.node_items.specs.Told.{spelled, up_of}
-use Rattle.node_model.specs.Maps.{Map, Change, difference}
+use Rattle.node_core.specs.NodeModel.Maps.{Map, Change, difference}
 use Rattle.agent_node.specs.Planning.{messages_of}
 use Rattle.agent_node.proofs.Changes.{told_fits, told_as}
 use Rattle.agent_node.proofs.planning.plan_one.Goals as goal

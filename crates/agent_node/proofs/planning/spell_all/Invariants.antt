@@ -1,8 +1,8 @@
 use Rattle.std.proofs.Common.{◌≡◌, map, take}
 use Rattle.ov_sync.specs.Embed.{moved_delta}
 use Rattle.node_items.specs.Told.{spelled}
-use Rattle.node_model.specs.Keys.{of_up}
-use Rattle.node_model.specs.Values.{Label as LabelOf}
+use Rattle.node_core.specs.NodeModel.Keys.{of_up}
+use Rattle.node_core.specs.NodeModel.Values.{Label as LabelOf}
 use Rattle.agent_node.proofs.planning.spell_all.Given as goal
 
 abbrev pub invariant-loop-delta : goal.invariant-loop-delta

@@ -1,7 +1,7 @@
 use Rattle.chain_expand.specs.Expansion.{services_within}
 use Rattle.std.specs.List.{flat_map}
 use Rattle.std.proofs.Common.{arith, length, ◌≡◌, ◌++◌, ◌∙◌, sym, ap, List}
-use Rattle.config_model.specs.declared.config.Service.{Service}
+use Rattle.config_types.specs.declared.config.Service.{Service}
 use Rattle.chain_expand.proofs.Expansions.{too_long}
 use Rattle.chain_expand.proofs.Barren.{barren_with, none_added, adds_nothing, services_of_place, services_of_no_place}
 use Rattle.chain_expand.specs.Links.{hops_at}

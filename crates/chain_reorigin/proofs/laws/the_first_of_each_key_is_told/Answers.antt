@@ -1,4 +1,4 @@
-use Rattle.node_model.specs.Reaching.{reoriginated_paths}
+use Rattle.vpn_tables.specs.NodeModel.Reaching.{reoriginated_paths}
 use Rattle.chain_reorigin.proofs.First.{exactly_first, told_in_order}
 use Rattle.chain_reorigin.proofs.laws.the_first_of_each_key_is_told.Goals as goal
 

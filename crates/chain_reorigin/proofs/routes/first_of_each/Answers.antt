@@ -3,7 +3,7 @@ use Rattle.ov_sync.specs.Keyed.{map_of}
 use Rattle.ov_sync.proofs.Ascending.{map_of-insert}
 use Rattle.vpn_tables.specs.declared.routes.Route.{Route}
 use Rattle.vpn_tables.specs.Views.{vpn_order}
-use Rattle.node_model.proofs.Directions.{vpn_total}
+use Rattle.vpn_tables.proofs.NodeModel.Directions.{vpn_total}
 use Rattle.chain_reorigin.specs.Counting.{keyed}
 use Rattle.chain_reorigin.proofs.Telling.{turn}
 use Rattle.chain_reorigin.proofs.routes.first_of_each.Goals as goal

@@ -2,9 +2,9 @@ use Rattle.std.proofs.Common.{ap, ◌∙◌, map, List}
 use Rattle.ov_sync.specs.Embed.{moved_entry}
 use Rattle.ov_types.specs.declared.vpn.VpnKey.{VpnKey}
 use Rattle.ov_types.specs.declared.vpn.VpnRoute.{VpnRoute}
-use Rattle.node_model.specs.Keys.{Vpn}
-use Rattle.node_model.specs.Values.{Route}
-use Rattle.node_model.specs.Reaching.{reoriginated_paths}
+use Rattle.vpn_tables.specs.NodeModel.Keys.{Vpn}
+use Rattle.vpn_tables.specs.NodeModel.Values.{Route}
+use Rattle.vpn_tables.specs.NodeModel.Reaching.{reoriginated_paths}
 use Rattle.chain_reorigin.proofs.Telling.{told_is, of_all_sessions}
 use Rattle.chain_reorigin.proofs.routes.reoriginated.Goals as goal
 

@@ -2,7 +2,7 @@ use Rattle.std.proofs.Common.{◌≡◌, ◌++◌, ◌∙◌, [], subst}
 use Rattle.std.specs.Prelude.{OnOk}
 use Rattle.ov_io.specs.Pieces.{IsOnItsWay}
 use Rattle.report.specs.Objects.{low_lines}
-use Rattle.transform_model.specs.Objects.{low_objects}
+use Rattle.schema_transform.specs.TransformModel.Objects.{low_objects}
 use Rattle.compile_answers.proofs.lines.write_low.Goals as goal
 
 pub returns-clause-ok : goal.returns-clause-ok

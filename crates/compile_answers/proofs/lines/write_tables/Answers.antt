@@ -2,7 +2,7 @@ use Rattle.std.proofs.Common.{◌++◌, ℕ, List, [], refl, ap, subst}
 use Rattle.ov_io.specs.Inputs.{TookFront}
 use Rattle.ov_io.specs.Pieces.{IsOnItsWay}
 use Rattle.ov_io.proofs.PieceLemmas.{ends_cut, ends_whole, on_err}
-use Rattle.transform_model.specs.Compiled.{compiled_tables}
+use Rattle.schema_transform.specs.TransformModel.Compiled.{compiled_tables}
 use Rattle.compile_answers.specs.Lines.{compile_text, nodes_text}
 use Rattle.compile_answers.proofs.Ways.{front_first, front_then, way_then}
 use Rattle.compile_answers.proofs.lines.write_tables.Goals as goal

@@ -1,7 +1,7 @@
 use Rattle.std.proofs.Common.{length}
 use Rattle.std.specs.Prelude.{nat_le}
 use Rattle.std.proofs.lemmas.Bool.{and_parts}
-use Rattle.config_model.specs.Form.{has_nodes_form, has_topology_form}
+use Rattle.config_types.specs.Form.{has_nodes_form, has_topology_form}
 use Rattle.compile_answers.proofs.unfit.valid_of.Goals as goal
 
 pub check-requires-clause-topology_form : goal.check-requires-clause-topology_form

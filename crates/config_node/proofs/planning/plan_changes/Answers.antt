@@ -1,6 +1,6 @@
 use Rattle.std.proofs.Common.{ap, ◌∙◌, map, sym}
 use Rattle.node_items.specs.Told.{spelled}
-use Rattle.node_model.specs.Maps.{Change}
+use Rattle.node_core.specs.NodeModel.Maps.{Change}
 use Rattle.config_node.proofs.Changes.{told_as, told_fits}
 use Rattle.config_node.proofs.Posts.{plan_is}
 use Rattle.config_node.proofs.planning.plan_changes.Goals as goal

@@ -1,6 +1,6 @@
 use Rattle.std.proofs.Common.{ap, subst, sym, ◌∙◌}
 use Rattle.config_check.specs.Checked.{Checked}
-use Rattle.config_model.specs.declared.topology.Topology.{Topology}
+use Rattle.config_types.specs.declared.topology.Topology.{Topology}
 use Rattle.net_machine.specs.Runs.{tied_moment}
 use Rattle.constrain_answers.specs.Constraint.{AreControlNodes}
 use Rattle.constrain_answers.proofs.Written.{controllers_are_there}

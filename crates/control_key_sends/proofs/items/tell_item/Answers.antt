@@ -2,7 +2,7 @@ use Rattle.std.proofs.Common.{ap, map, ◌∙◌}
 use Rattle.std.specs.Option.{option_map}
 use Rattle.ov_sync.specs.Embed.{moved_delta}
 use Rattle.node_items.specs.Told.{down_value}
-use Rattle.node_model.specs.Keys.{of_down}
+use Rattle.vpn_tables.specs.NodeModel.Keys.{of_down}
 use Rattle.control_key_sends.proofs.Images.{item_set, item_told}
 use Rattle.control_key_sends.proofs.Moved.{follows}
 use Rattle.control_key_sends.proofs.items.tell_item.Goals as goal

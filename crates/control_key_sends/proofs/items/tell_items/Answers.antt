@@ -8,11 +8,11 @@ use Rattle.ov_sync.specs.Embed.{moved_delta}
 use Rattle.ov_sync.specs.Keyed.{change, set_key}
 use Rattle.ov_types.specs.declared.keys.DownKey.{DownKey}
 use Rattle.ov_types.specs.declared.keys.DownValue.{DownValue}
-use Rattle.node_model.specs.Directions.{down_order}
+use Rattle.vpn_tables.specs.NodeModel.Directions.{down_order}
 use Rattle.node_items.specs.Told.{down_of, down_value}
-use Rattle.node_model.specs.Keys.{of_down}
-use Rattle.node_model.specs.Values.{same_value}
-use Rattle.node_model.proofs.Directions.{down_keeps}
+use Rattle.vpn_tables.specs.NodeModel.Keys.{of_down}
+use Rattle.vpn_tables.specs.NodeModel.Values.{same_value}
+use Rattle.vpn_tables.proofs.NodeModel.Directions.{down_keeps}
 use Rattle.control_key_sends.proofs.Told.{SoFar, all_sent, all_told, so_far_more, so_far_none}
 use Rattle.control_key_sends.proofs.items.tell_items.Goals as goal
 

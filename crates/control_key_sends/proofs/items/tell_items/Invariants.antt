@@ -1,7 +1,7 @@
 use Rattle.std.proofs.Common.{map}
 use Rattle.ov_sync.specs.Embed.{moved_delta}
 use Rattle.node_items.specs.Told.{down_value}
-use Rattle.node_model.specs.Keys.{of_down}
+use Rattle.vpn_tables.specs.NodeModel.Keys.{of_down}
 use Rattle.node_items.specs.Told.{down_of}
 use Rattle.control_key_sends.proofs.Told.{SoFar}
 use Rattle.control_key_sends.proofs.items.tell_items.Given as goal

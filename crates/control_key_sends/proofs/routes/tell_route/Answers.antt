@@ -1,8 +1,8 @@
 use Rattle.std.proofs.Common.{ap, map, ◌∙◌}
 use Rattle.std.specs.Option.{option_map}
 use Rattle.ov_sync.specs.Embed.{moved_delta}
-use Rattle.node_model.specs.Keys.{Vpn}
-use Rattle.node_model.specs.Values.{Route}
+use Rattle.vpn_tables.specs.NodeModel.Keys.{Vpn}
+use Rattle.vpn_tables.specs.NodeModel.Values.{Route}
 use Rattle.control_key_sends.proofs.Images.{route_set, route_told}
 use Rattle.control_key_sends.proofs.Moved.{follows}
 use Rattle.control_key_sends.proofs.routes.tell_route.Goals as goal

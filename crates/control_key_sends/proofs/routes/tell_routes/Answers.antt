@@ -8,11 +8,11 @@ use Rattle.ov_sync.specs.Embed.{moved_delta}
 use Rattle.ov_sync.specs.Keyed.{change, set_key}
 use Rattle.ov_types.specs.declared.vpn.VpnKey.{VpnKey}
 use Rattle.ov_types.specs.declared.vpn.VpnRoute.{VpnRoute}
-use Rattle.node_model.specs.Directions.{vpn_order}
-use Rattle.node_model.specs.Keys.{Vpn}
-use Rattle.node_model.specs.Values.{Route, same_value}
+use Rattle.vpn_tables.specs.NodeModel.Directions.{vpn_order}
+use Rattle.vpn_tables.specs.NodeModel.Keys.{Vpn}
+use Rattle.vpn_tables.specs.NodeModel.Values.{Route, same_value}
 use Rattle.vpn_tables.specs.Views.{peer_of}
-use Rattle.node_model.proofs.Directions.{vpn_keeps}
+use Rattle.vpn_tables.proofs.NodeModel.Directions.{vpn_keeps}
 use Rattle.control_key_sends.proofs.Told.{SoFar, all_sent, all_told, so_far_more, so_far_none}
 use Rattle.control_key_sends.proofs.routes.tell_routes.Goals as goal
 

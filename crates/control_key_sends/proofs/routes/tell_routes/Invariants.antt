@@ -1,7 +1,7 @@
 use Rattle.std.proofs.Common.{map}
 use Rattle.ov_sync.specs.Embed.{moved_delta}
-use Rattle.node_model.specs.Keys.{Vpn}
-use Rattle.node_model.specs.Values.{Route}
+use Rattle.vpn_tables.specs.NodeModel.Keys.{Vpn}
+use Rattle.vpn_tables.specs.NodeModel.Values.{Route}
 use Rattle.vpn_tables.specs.Views.{peer_of}
 use Rattle.control_key_sends.proofs.Told.{SoFar}
 use Rattle.control_key_sends.proofs.routes.tell_routes.Given as goal

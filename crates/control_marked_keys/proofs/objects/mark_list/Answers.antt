@@ -1,6 +1,6 @@
 use Rattle.std.proofs.Common.{subst}
 use Rattle.ov_types.specs.declared.objects.LowKey.{LowKey}
-use Rattle.node_model.specs.Keys.{Low}
+use Rattle.vpn_tables.specs.NodeModel.Keys.{Low}
 use Rattle.control_marked_keys.specs.Marks.{IsCleanItem}
 use Rattle.control_marked_keys.proofs.objects.mark_list.Goals as goal
 

@@ -1,5 +1,5 @@
 use Rattle.std.proofs.Common.{subst}
-use Rattle.node_model.specs.Keys.{Key}
+use Rattle.vpn_tables.specs.NodeModel.Keys.{Key}
 use Rattle.ov_types.specs.declared.prefix.Addr.{Addr}
 use Rattle.control_marked_keys.specs.Marks.{IsCleanItem}
 use Rattle.control_marked_keys.proofs.told.mark_own.Goals as goal

@@ -2,9 +2,9 @@ use Rattle.std.proofs.Common.{◌≡◌, map, take}
 use Rattle.std.specs.FinMap.{get}
 use Rattle.std.specs.List.{AllByRecursion}
 use Rattle.std.specs.Option.{option_map}
-use Rattle.node_items.specs.Told.{down_value}
-use Rattle.node_model.specs.Keys.{of_down}
-use Rattle.control_touched_agent_laws.specs.Here.{wanted_on}
+use Rattle.control_key_sends.specs.NodeItems.Told.{down_value}
+use Rattle.vpn_tables.specs.NodeModel.Keys.{of_down}
+use Rattle.control_marked_keys.specs.ControlTouchedAgentLaws.Here.{wanted_on}
 use Rattle.control_marked_sends.specs.Marked.{marked_key}
 use Rattle.control_marked_sends.proofs.items.marked_items.Given as goal
 

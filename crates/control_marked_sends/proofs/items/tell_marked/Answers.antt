@@ -3,8 +3,8 @@ use Rattle.std.proofs.lemmas.Result.{IfOk-weaker, on_ok_weaker}
 use Rattle.std.specs.declared.option.Option.{Option}
 use Rattle.ov_types.specs.declared.keys.DownKey.{DownKey}
 use Rattle.ov_types.specs.declared.keys.DownValue.{DownValue}
-use Rattle.node_items.specs.Told.{down_of}
-use Rattle.control_touched_agent_laws.specs.Here.{wanted_on}
+use Rattle.control_key_sends.specs.NodeItems.Told.{down_of}
+use Rattle.control_marked_keys.specs.ControlTouchedAgentLaws.Here.{wanted_on}
 use Rattle.control_marked_sends.specs.Wanted.{AreItems}
 use Rattle.control_marked_sends.proofs.Marking.{items_agree}
 use Rattle.control_marked_sends.proofs.items.tell_marked.Goals as goal

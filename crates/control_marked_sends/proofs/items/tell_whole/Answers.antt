@@ -1,8 +1,8 @@
 use Rattle.std.proofs.Common.{ap, map, ◌∙◌}
 use Rattle.ov_sync.specs.Embed.{moved_delta}
-use Rattle.node_items.specs.Told.{down_of, down_value}
-use Rattle.node_model.specs.Keys.{of_down}
-use Rattle.node_model.specs.Maps.{Map, difference}
+use Rattle.control_key_sends.specs.NodeItems.Told.{down_of, down_value}
+use Rattle.vpn_tables.specs.NodeModel.Keys.{of_down}
+use Rattle.vpn_tables.specs.NodeModel.Maps.{Map, difference}
 use Rattle.control_marked_sends.proofs.Marking.{items_differ}
 use Rattle.control_marked_sends.proofs.items.tell_whole.Goals as goal
 

@@ -1,7 +1,7 @@
 use Rattle.std.proofs.Common.{◌∙◌, ap, sym}
 use Rattle.std.specs.FinMap.{get}
-use Rattle.node_model.specs.Keys.{of_down}
-use Rattle.control_touched_agent_laws.specs.Here.{wanted_on}
+use Rattle.vpn_tables.specs.NodeModel.Keys.{of_down}
+use Rattle.control_marked_keys.specs.ControlTouchedAgentLaws.Here.{wanted_on}
 use Rattle.control_marked_sends.specs.Marked.{marked_key}
 use Rattle.control_marked_sends.specs.declared.marked.MarkedItem.{MarkedItem}
 use Rattle.control_marked_sends.proofs.Rows.{row_told}

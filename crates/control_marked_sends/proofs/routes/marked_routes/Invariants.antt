@@ -2,9 +2,9 @@ use Rattle.std.proofs.Common.{◌≡◌, ◌++◌, map}
 use Rattle.std.specs.FinMap.{get}
 use Rattle.std.specs.List.{AllByRecursion}
 use Rattle.std.specs.Option.{option_map}
-use Rattle.node_model.specs.Keys.{Vpn}
-use Rattle.node_model.specs.Values.{Route}
-use Rattle.node_model.specs.Wants.{wanted_by_peers}
+use Rattle.vpn_tables.specs.NodeModel.Keys.{Vpn}
+use Rattle.vpn_tables.specs.NodeModel.Values.{Route}
+use Rattle.vpn_tables.specs.NodeModel.Wants.{wanted_by_peers}
 use Rattle.control_marked_sends.proofs.routes.marked_routes.Given as goal
 
 abbrev pub invariant-loop-key : goal.invariant-loop-key

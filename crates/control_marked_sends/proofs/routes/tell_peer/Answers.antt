@@ -4,10 +4,10 @@ use Rattle.std.specs.declared.option.Option.{Option}
 use Rattle.ov_sync.specs.Embed.{moved_delta}
 use Rattle.ov_types.specs.declared.vpn.VpnKey.{VpnKey}
 use Rattle.ov_types.specs.declared.vpn.VpnRoute.{VpnRoute}
-use Rattle.node_model.specs.Keys.{Vpn}
-use Rattle.node_model.specs.Maps.{Map, difference}
-use Rattle.node_model.specs.Values.{Route}
-use Rattle.node_model.specs.Wants.{wanted_by_peers}
+use Rattle.vpn_tables.specs.NodeModel.Keys.{Vpn}
+use Rattle.vpn_tables.specs.NodeModel.Maps.{Map, difference}
+use Rattle.vpn_tables.specs.NodeModel.Values.{Route}
+use Rattle.vpn_tables.specs.NodeModel.Wants.{wanted_by_peers}
 use Rattle.vpn_tables.specs.Views.{peer_of}
 use Rattle.control_marked_sends.specs.Wanted.{AreRoutes, AreRoutesWanted}
 use Rattle.control_marked_sends.specs.declared.routes.RoutesWanted.{RoutesWanted}

@@ -1,5 +1,5 @@
 use Rattle.std.proofs.Common.{refl, subst}
-use Rattle.node_model.specs.Step.{NodeKind, Steps}
+use Rattle.node_core.specs.NodeModel.Step.{NodeKind, Steps}
 use Rattle.control_node.specs.Agents.{closing}
 use Rattle.control_node.proofs.going.tell_closed.Goals as goal
 

@@ -7,8 +7,8 @@ use Rattle.ov_types.specs.declared.keys.DownValue.{DownValue}
 use Rattle.control_wants.specs.Held.{HoldingsFit, told_in}
 use Rattle.node_items.specs.Told.{AllFit, ChangeFits, down_of, down_value}
 use Rattle.node_items.proofs.Maps.{difference_fits, nothing_fits}
-use Rattle.node_model.specs.Keys.{of_down}
-use Rattle.node_model.specs.Paths.{Holdings}
+use Rattle.node_core.specs.NodeModel.Keys.{of_down}
+use Rattle.node_core.specs.NodeModel.Paths.{Holdings}
 use Rattle.control_node.specs.Ends.{IsAgentEnd}
 use Rattle.control_node.specs.Planning.{agent_sends, wanted_on}
 use Rattle.control_node.specs.declared.ends.AgentEnd.{AgentEnd}

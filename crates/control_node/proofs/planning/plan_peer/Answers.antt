@@ -3,8 +3,8 @@ use Rattle.std.specs.List.{AllByRecursion}
 use Rattle.ov_sync.specs.declared.Delta.{Delta}
 use Rattle.ov_types.specs.declared.vpn.VpnKey.{VpnKey}
 use Rattle.ov_types.specs.declared.vpn.VpnRoute.{VpnRoute}
-use Rattle.bgp_vpn.specs.Written.{IfPut}
-use Rattle.node_model.specs.Wants.{wanted_by_peers}
+use Rattle.bgp_session.specs.BgpVpn.Written.{IfPut}
+use Rattle.node_core.specs.NodeModel.Wants.{wanted_by_peers}
 use Rattle.node_routes.specs.Told.{IsWritable}
 use Rattle.vpn_tables.specs.Views.{peer_of}
 use Rattle.control_wants.proofs.Fitting.{peers_fit}

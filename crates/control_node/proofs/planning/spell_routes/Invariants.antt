@@ -1,7 +1,7 @@
 use Rattle.std.proofs.Common.{◌≡◌, map, take}
 use Rattle.ov_sync.specs.Embed.{moved_delta}
-use Rattle.node_model.specs.Keys.{Vpn}
-use Rattle.node_model.specs.Values.{Route}
+use Rattle.node_core.specs.NodeModel.Keys.{Vpn}
+use Rattle.node_core.specs.NodeModel.Values.{Route}
 use Rattle.node_routes.specs.Told.{spelled}
 use Rattle.control_node.proofs.planning.spell_routes.Given as goal
 

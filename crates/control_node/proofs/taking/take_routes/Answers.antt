@@ -4,8 +4,8 @@ use Rattle.ov_sync.specs.Embed.{moved_delta}
 use Rattle.ov_sync.specs.Keyed.{after}
 use Rattle.ov_types.specs.declared.vpn.VpnKey.{VpnKey}
 use Rattle.ov_types.specs.declared.vpn.VpnRoute.{VpnRoute}
-use Rattle.node_model.specs.Keys.{Vpn}
-use Rattle.node_model.specs.Values.{Route}
+use Rattle.node_core.specs.NodeModel.Keys.{Vpn}
+use Rattle.node_core.specs.NodeModel.Values.{Route}
 use Rattle.control_node.specs.Taking.{peer_by}
 use Rattle.control_node.proofs.Applied.{peer-next, peer-same, stays-route, stays-same, stays-then}
 use Rattle.control_node.proofs.Iterated.{none_left}

@@ -2,9 +2,9 @@ use Rattle.std.proofs.Common.{◌≡◌, ◌<◌, ◌^◌, map}
 use Rattle.std.specs.List.{AllByRecursion}
 use Rattle.ov_sync.specs.Embed.{moved_delta}
 use Rattle.ov_sync.specs.Keyed.{after}
-use Rattle.bgp_vpn.specs.Written.{IfPut}
-use Rattle.node_model.specs.Keys.{Vpn}
-use Rattle.node_model.specs.Values.{Route}
+use Rattle.bgp_session.specs.BgpVpn.Written.{IfPut}
+use Rattle.node_core.specs.NodeModel.Keys.{Vpn}
+use Rattle.node_core.specs.NodeModel.Values.{Route}
 use Rattle.control_node.specs.Stays.{StaysHeld}
 use Rattle.control_node.specs.Taking.{peer_by}
 use Rattle.control_node.specs.Tracking.{AreMarked}

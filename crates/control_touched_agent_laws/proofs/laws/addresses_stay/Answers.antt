@@ -1,5 +1,5 @@
-use Rattle.node_model.specs.Keys.{of_up}
-use Rattle.node_model.specs.Values.{Label}
+use Rattle.control_touched_laws.specs.NodeModel.Keys.{of_up}
+use Rattle.control_touched_laws.specs.NodeModel.Values.{Label}
 use Rattle.ov_sync.specs.Embed.{moved_delta}
 use Rattle.ov_sync.specs.Keyed.{changed}
 use Rattle.control_touched_agent_laws.proofs.Agents.{route_address, same_address}

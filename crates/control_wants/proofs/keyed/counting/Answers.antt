@@ -1,8 +1,8 @@
 use Rattle.std.proofs.Common.{ap, sym, ◌∙◌}
 use Rattle.std.specs.Option.{option_map}
-use Rattle.node_model.specs.Agent.{first_some}
-use Rattle.node_model.specs.Paths.{Path, own_paths}
-use Rattle.node_model.specs.Reaching.{reoriginated_paths}
+use Rattle.node_routes.specs.NodeModel.Agent.{first_some}
+use Rattle.node_routes.specs.NodeModel.Paths.{Path, own_paths}
+use Rattle.node_routes.specs.NodeModel.Reaching.{reoriginated_paths}
 use Rattle.std.specs.declared.option.Option.{Option}
 use Rattle.vpn_tables.specs.Routes.{path_of}
 use Rattle.vpn_tables.specs.TouchedKeys.{first_keyed}

@@ -1,6 +1,6 @@
 use Rattle.std.proofs.Common.{ap, sym, ◌∙◌}
 use Rattle.std.specs.Option.{option_map}
-use Rattle.node_model.specs.Values.{Entry}
+use Rattle.node_routes.specs.NodeModel.Values.{Entry}
 use Rattle.control_wants.specs.Entries.{hop_of}
 use Rattle.control_wants.specs.Held.{told_in}
 use Rattle.control_wants.proofs.OneKey.{no_row_wanted, row_wanted}

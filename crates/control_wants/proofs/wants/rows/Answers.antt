@@ -2,7 +2,7 @@ use Rattle.std.proofs.Common.{◌++◌, ◌∙◌, ap, append-nil, sym, List}
 use Rattle.std.proofs.lemmas.List.{at_drop_all}
 use Rattle.std.specs.List.{flat_map}
 use Rattle.ov_types.specs.declared.numbers.InstanceId.{InstanceId}
-use Rattle.node_model.specs.Tables.{known_instances}
+use Rattle.node_routes.specs.NodeModel.Tables.{known_instances}
 use Rattle.control_wants.specs.Entries.{shown_rows}
 use Rattle.control_wants.proofs.Wanting.{rows_shown}
 use Rattle.control_wants.proofs.wants.rows.Goals as goal

@@ -1,6 +1,6 @@
 use Rattle.std.proofs.Common.{subst}
-use Rattle.config_model.specs.declared.edit.ObjectKind.{ObjectKind}
-use Rattle.machine_model.specs.Setup.{delete_moves}
+use Rattle.config_types.specs.declared.edit.ObjectKind.{ObjectKind}
+use Rattle.running_nodes.specs.MachineModel.Setup.{delete_moves}
 use Rattle.net_machine.specs.Moving.{CanMoveIf}
 use Rattle.net_machine.proofs.editing.move_deleted.Goals as goal
 

@@ -1,6 +1,6 @@
 use Rattle.std.proofs.Common.{subst}
-use Rattle.config_model.specs.declared.edit.Edit.{Edit}
-use Rattle.machine_model.specs.Setup.{moves}
+use Rattle.config_types.specs.declared.edit.Edit.{Edit}
+use Rattle.running_nodes.specs.MachineModel.Setup.{moves}
 use Rattle.net_machine.specs.Moving.{CanMoveIf}
 use Rattle.net_machine.proofs.editing.move_edited.Goals as goal
 

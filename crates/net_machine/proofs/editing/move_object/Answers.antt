@@ -1,6 +1,6 @@
 use Rattle.std.proofs.Common.{subst}
-use Rattle.config_model.specs.declared.edit.Object.{Object}
-use Rattle.machine_model.specs.Setup.{put_moves}
+use Rattle.config_types.specs.declared.edit.Object.{Object}
+use Rattle.running_nodes.specs.MachineModel.Setup.{put_moves}
 use Rattle.net_machine.specs.Moving.{CanMoveIf}
 use Rattle.net_machine.proofs.editing.move_object.Goals as goal
 

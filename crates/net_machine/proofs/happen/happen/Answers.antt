@@ -1,6 +1,6 @@
 use Rattle.std.proofs.Common.{IsTrue, subst}
-use Rattle.config_model.specs.declared.event.Event.{Event}
-use Rattle.config_model.specs.Event.{has_event_form}
+use Rattle.config_types.specs.declared.event.Event.{Event}
+use Rattle.config_types.specs.Form.{has_event_form}
 use Rattle.net_machine.specs.Happenings.{IsNotEdit}
 use Rattle.net_machine.proofs.Forms.{break_form, trace_source}
 use Rattle.net_machine.proofs.happen.happen.Goals as goal

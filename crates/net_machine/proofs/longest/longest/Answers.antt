@@ -3,9 +3,9 @@ use Rattle.std.specs.List.{flat_map}
 use Rattle.std.proofs.lemmas.List.{at_drop_more, drop_all}
 use Rattle.acl_compile.proofs.Bounded.{keeps_bounds}
 use Rattle.acl_compile.specs.Bounds.{KeepsBounds}
-use Rattle.config_model.specs.declared.config.Config.{Config}
-use Rattle.config_model.specs.declared.config.Policy.{Policy}
-use Rattle.machine_model.specs.Setup.{longest_in, longest_of}
+use Rattle.config_types.specs.declared.config.Config.{Config}
+use Rattle.config_types.specs.declared.config.Policy.{Policy}
+use Rattle.running_nodes.specs.MachineModel.Setup.{longest_in, longest_of}
 use Rattle.transform_model.specs.Uses.{uses_of}
 use Rattle.net_machine.proofs.Along.{longest_both}
 use Rattle.net_machine.proofs.longest.longest.Goals as goal

@@ -1,6 +1,6 @@
 use Rattle.std.proofs.Common.{◌≡◌, ◌≤◌, max, drop}
 use Rattle.std.specs.List.{flat_map}
-use Rattle.machine_model.specs.Setup.{longest_of}
+use Rattle.running_nodes.specs.MachineModel.Setup.{longest_of}
 use Rattle.transform_model.specs.Uses.{uses_of}
 use Rattle.net_machine.proofs.longest.longest.Given as goal
 

@@ -1,8 +1,8 @@
 use Rattle.std.proofs.Common.{◌≡◌, ◌+◌, List, ◌∷◌, max, drop, sym, ◌∙◌, ap, arith}
 use Rattle.std.proofs.lemmas.List.{at_drop_more, drop_all}
 use Rattle.std.specs.List.{filter_map}
-use Rattle.config_model.specs.declared.config.Rule.{Rule}
-use Rattle.machine_model.specs.Setup.{longest_of}
+use Rattle.config_types.specs.declared.config.Rule.{Rule}
+use Rattle.running_nodes.specs.MachineModel.Setup.{longest_of}
 use Rattle.transform_model.specs.Uses.{use_by}
 use Rattle.net_machine.proofs.Along.{longest_more}
 use Rattle.net_machine.proofs.longest.longest_by.Goals as goal

@@ -1,8 +1,8 @@
 use Rattle.std.proofs.Common.{◌≡◌, ◌≤◌, max, drop}
-use Rattle.machine_model.specs.Setup.{longest_of}
+use Rattle.running_nodes.specs.MachineModel.Setup.{longest_of}
 use Rattle.transform_model.specs.Uses.{use_by}
 use Rattle.std.specs.List.{filter_map}
-use Rattle.config_model.specs.declared.config.Rule.{Rule}
+use Rattle.config_types.specs.declared.config.Rule.{Rule}
 use Rattle.net_machine.proofs.longest.longest_by.Given as goal
 
 abbrev pub invariant-loop-rule : goal.invariant-loop-rule

@@ -1,5 +1,5 @@
 use Rattle.std.proofs.Common.{sym, ◌∙◌, ap, subst, arith, ◌+◌, ◌-◌}
-use Rattle.running_step_laws.specs.Losing.{all_told}
+use Rattle.running_laws.specs.Losing.{all_told}
 use Rattle.net_machine.specs.Seating.{Keeps}
 use Rattle.net_machine.proofs.Changes.{emptied_keeps}
 use Rattle.net_machine.proofs.Going.{all_left, told_more, told_none}

@@ -1,5 +1,5 @@
 use Rattle.std.proofs.Common.{◌≡◌, ◌-◌, false}
-use Rattle.running_step_laws.specs.Losing.{all_told}
+use Rattle.running_laws.specs.Losing.{all_told}
 use Rattle.net_machine.specs.Seating.{Keeps}
 use Rattle.net_machine.proofs.lose.restart.Given as goal
 

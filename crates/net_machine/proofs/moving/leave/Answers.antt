@@ -1,6 +1,6 @@
 use Rattle.std.proofs.Common.{ℕ, IfOk, sym, ◌∙◌, subst}
 use Rattle.std.specs.declared.option.Option.{Option}
-use Rattle.running_model.specs.Moving.{LeavesAt}
+use Rattle.running_nodes.specs.RunningModel.Moving.{LeavesAt}
 use Rattle.net_machine.proofs.Leaving.{no_place, place_is_agents, place_node}
 use Rattle.net_machine.proofs.moving.leave.Goals as goal
 

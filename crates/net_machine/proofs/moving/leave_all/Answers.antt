@@ -1,7 +1,7 @@
 use Rattle.std.proofs.Common.{refl, sym, ◌∙◌, subst}
-use Rattle.machine_model.specs.Setup.{Name}
-use Rattle.running_model.specs.Moving.{LeavesAt}
-use Rattle.running_model.specs.Seats.{seat_named}
+use Rattle.running_nodes.specs.MachineModel.Setup.{Name}
+use Rattle.running_nodes.specs.RunningModel.Moving.{LeavesAt}
+use Rattle.running_nodes.specs.RunningModel.Seats.{seat_named}
 use Rattle.net_machine.specs.Moving.{HasAgent}
 use Rattle.net_machine.proofs.Leaving.{first_left, leaves_more, leaves_none, next_left, rest_left}
 use Rattle.net_machine.proofs.moving.leave_all.Goals as goal

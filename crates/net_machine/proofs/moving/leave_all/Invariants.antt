@@ -1,6 +1,6 @@
 use Rattle.std.proofs.Common.{◌≡◌, List, drop}
-use Rattle.running_model.specs.Moving.{LeavesAll}
-use Rattle.running_model.specs.Seats.{Seat}
+use Rattle.running_nodes.specs.RunningModel.Moving.{LeavesAll}
+use Rattle.running_nodes.specs.RunningModel.Seats.{Seat}
 use Rattle.net_machine.specs.Moving.{AreLeft}
 use Rattle.net_machine.specs.Seating.{AreLong}
 use Rattle.net_machine.proofs.moving.leave_all.Given as goal

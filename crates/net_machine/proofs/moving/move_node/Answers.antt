@@ -1,7 +1,7 @@
 use Rattle.std.proofs.Common.{◌∙◌, ap}
 use Rattle.config_check.specs.Finding.{node_named}
-use Rattle.config_model.specs.declared.topology.Topology.{Topology}
-use Rattle.machine_model.specs.Setup.{listed_by}
+use Rattle.config_types.specs.declared.topology.Topology.{Topology}
+use Rattle.running_nodes.specs.MachineModel.Setup.{listed_by}
 use Rattle.net_machine.proofs.Asked.{can_move, moves_so, ok_then}
 use Rattle.net_machine.proofs.moving.move_node.Goals as goal
 

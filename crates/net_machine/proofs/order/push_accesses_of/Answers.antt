@@ -1,5 +1,5 @@
 use Rattle.std.proofs.Common.{refl, ◌∙◌, ◌∷◌, []}
-use Rattle.machine_model.specs.Network.{accesses_of}
+use Rattle.running_nodes.specs.MachineModel.Network.{accesses_of}
 use Rattle.net_machine.specs.Seating.{order_among}
 use Rattle.net_machine.proofs.Ordering.{access_step, pushed_all, pushed_some}
 use Rattle.net_machine.proofs.order.push_accesses_of.Goals as goal

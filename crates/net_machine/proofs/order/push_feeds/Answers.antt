@@ -1,7 +1,7 @@
 use Rattle.std.proofs.Common.{◌≡◌, ◌++◌, refl, ◌∙◌, ap}
 use Rattle.std.specs.Option.{option_to_list}
 use Rattle.ov_types.specs.declared.rows.NodeId.{NodeId}
-use Rattle.machine_model.specs.Network.{config, feeds}
+use Rattle.running_nodes.specs.MachineModel.Network.{config, feeds}
 use Rattle.net_machine.specs.Seating.{ends_of, order_among}
 use Rattle.net_machine.proofs.Ordering.{pushed_all, pushed_one}
 use Rattle.net_machine.proofs.order.push_feeds.Goals as goal

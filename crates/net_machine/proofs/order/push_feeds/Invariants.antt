@@ -1,6 +1,6 @@
 use Rattle.std.proofs.Common.{◌≡◌, ◌++◌, drop}
 use Rattle.std.specs.List.{All}
-use Rattle.machine_model.specs.Network.{feeds}
+use Rattle.running_nodes.specs.MachineModel.Network.{feeds}
 use Rattle.net_machine.specs.Seating.{AreSeated, order_among}
 use Rattle.net_machine.proofs.order.push_feeds.Given as goal
 

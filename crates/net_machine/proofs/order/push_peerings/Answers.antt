@@ -1,5 +1,5 @@
 use Rattle.std.proofs.Common.{◌≡◌, ◌++◌, ◌+◌, drop, refl, ◌∙◌, ap}
-use Rattle.machine_model.specs.Network.{peerings}
+use Rattle.running_nodes.specs.MachineModel.Network.{peerings}
 use Rattle.net_machine.specs.Seating.{order_among, peerings_of}
 use Rattle.net_machine.proofs.Ordering.{peerings_step, pushed_all, pushed_some}
 use Rattle.net_machine.proofs.order.push_peerings.Goals as goal

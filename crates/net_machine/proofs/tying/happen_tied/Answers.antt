@@ -1,9 +1,9 @@
 use Rattle.std.proofs.Common.{IsTrue, ◌≡◌, List, refl, subst, sym}
 use Rattle.std.specs.List.{All}
-use Rattle.config_model.specs.declared.edit.Edit.{Edit as Change}
-use Rattle.config_model.specs.declared.event.Event.{Event}
-use Rattle.config_model.specs.declared.event.Event.TheVariants as event
-use Rattle.config_model.specs.Event.{has_event_form}
+use Rattle.config_types.specs.declared.edit.Edit.{Edit as Change}
+use Rattle.config_types.specs.declared.event.Event.{Event}
+use Rattle.config_types.specs.declared.event.Event.TheVariants as event
+use Rattle.config_types.specs.Form.{has_event_form}
 use Rattle.net_machine.specs.Happenings.{IsNotEdit}
 use Rattle.net_machine.specs.Moving.{CanHappen}
 use Rattle.net_machine.specs.Seating.{AreSeated}

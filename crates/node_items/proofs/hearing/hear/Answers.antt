@@ -7,7 +7,7 @@ use Rattle.item_wire.specs.declared.item.Item.{Item}
 use Rattle.node_items.specs.Told.{IsWritable}
 use Rattle.node_items.specs.Hearing.{records_in}
 use Rattle.node_items.specs.Keeping.{Leaves}
-use Rattle.ov_link.proofs.Ends.{IsEnd, all_dropped, end_on, end_is}
+use Rattle.node_core.proofs.OvLink.Ends.{IsEnd, all_dropped, end_on, end_is}
 use Rattle.node_items.proofs.Cutting.{leaving_hears}
 use Rattle.node_items.proofs.Hearings.{LeadsFrom, all_append, leads_past, leads_to_end, leads_to_down}
 use Rattle.node_items.proofs.hearing.hear.Goals as goal

@@ -2,7 +2,7 @@ use Rattle.std.proofs.Common.{◌≡◌, IsTrue, length}
 use Rattle.std.specs.List.{AllByRecursion}
 use Rattle.item_wire.specs.Inputs.{may_send}
 use Rattle.node_items.specs.Told.{IsWritable}
-use Rattle.ov_link.proofs.Ends.{IsEnd}
+use Rattle.node_core.proofs.OvLink.Ends.{IsEnd}
 use Rattle.node_items.proofs.Hearings.{LeadsFrom}
 use Rattle.node_items.proofs.hearing.hear.Given as goal
 

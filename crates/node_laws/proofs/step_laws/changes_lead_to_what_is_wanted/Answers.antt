@@ -1,4 +1,4 @@
-use Rattle.ov_sync.proofs.KeyedLaws.{after-difference, is_changed-difference}
+use Rattle.node_model.proofs.OvSync.KeyedLaws.{after-difference, is_changed-difference}
 use Rattle.node_model.specs.Values.{same_value}
 use Rattle.node_model.proofs.Alike.{same_value_decides}
 use Rattle.node_model.proofs.Orders.{key_exact, key_total}

@@ -1,7 +1,7 @@
 use Rattle.std.proofs.Common.{◌∙◌, List, ℕ, [], length, drop, sym, ap, subst}
 use Rattle.bgp_session.specs.Happenings.{SessionFields}
 use Rattle.node_routes.proofs.Leading.{OutcomeLeaving, no_cause, goes_down, stays_up, ends}
-use Rattle.ov_link.proofs.Ends.{all_dropped, end_is}
+use Rattle.node_model.proofs.OvLink.Ends.{all_dropped, end_is}
 use Rattle.node_routes.proofs.Cutting.{end_past, outcome_hears}
 use Rattle.node_routes.proofs.Labels.{labels_of}
 use Rattle.node_routes.proofs.hearing.hear.Goals as goal

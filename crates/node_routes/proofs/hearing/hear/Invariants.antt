@@ -1,6 +1,6 @@
 use Rattle.std.proofs.Common.{◌≡◌, length, None}
 use Rattle.node_routes.proofs.Leading.{Leads}
-use Rattle.ov_link.proofs.Ends.{IsEnd}
+use Rattle.node_model.proofs.OvLink.Ends.{IsEnd}
 use Rattle.node_routes.proofs.hearing.hear.Given as goal
 
 abbrev pub decreases-messages : goal.decreases-messages

@@ -1,7 +1,7 @@
 use Rattle.std.proofs.Common.{◌≡◌, ◌∙◌, ◌++◌, ◌∷◌, [], sym, ap, arith, refl}
 use Rattle.std.proofs.lemmas.Grind.{common_steps}
 use Rattle.ov_io.proofs.PieceLemmas.{ends_cut, ends_whole, on_err}
-use Rattle.scenario_run.proofs.Counting.{one_by_one}
+use Rattle.net_machine.proofs.Taking.{one_by_one}
 use Rattle.run_answers.proofs.Scheduled.{front_steps, way_of_all, way_steps}
 use Rattle.run_answers.proofs.running.write_answers.Goals as goal
 

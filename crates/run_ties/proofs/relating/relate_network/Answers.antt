@@ -1,6 +1,6 @@
 use Rattle.std.proofs.Common.{◌||◌, Bool, List, ap, map, ◌∙◌}
 use Rattle.std.specs.List.{list_any}
-use Rattle.config_model.specs.declared.config.Network.{Network}
+use Rattle.config_types.specs.declared.config.Network.{Network}
 use Rattle.run_ties.specs.Kept.{are_in}
 use Rattle.run_ties.specs.Relating.{relates_by}
 use Rattle.run_ties.proofs.OfPolicies.{one_related}

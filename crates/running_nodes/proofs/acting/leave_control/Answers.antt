@@ -3,8 +3,8 @@ use Rattle.std.specs.Prelude.{⊤}
 use Rattle.std.proofs.Common.{lt-ltb}
 use Rattle.ov_link.specs.declared.step.NodeFault.{NodeFault}
 use Rattle.ov_link.specs.declared.step.NodeFault.TheVariants.{LinkFailed, NoMemory}
-use Rattle.control_node.specs.Agents.{failed_in}
-use Rattle.control_node.specs.Core.{fresh, sessions}
+use Rattle.running_model.specs.ControlNode.Agents.{failed_in}
+use Rattle.running_model.specs.ControlNode.Core.{fresh, sessions}
 use Rattle.running_nodes.proofs.Leaving.{above_of, has_left, within_others}
 use Rattle.running_nodes.proofs.Stepping.{control_long, fresh_vacated}
 use Rattle.running_nodes.proofs.Vacant.{sessions_there, taken_stays}

@@ -1,6 +1,6 @@
 use Rattle.std.proofs.Common.{ap, ◌∙◌}
 use Rattle.ov_types.specs.declared.rows.NodeRows.TheVariants as Rows
-use Rattle.control_node.specs.Core as core
+use Rattle.running_model.specs.ControlNode.Core as core
 use Rattle.running_model.specs.Controls as controls
 use Rattle.running_model.specs.Controls.{controls_of}
 use Rattle.control_silent_agent_laws.proofs.Quiet.{quiet_rows}

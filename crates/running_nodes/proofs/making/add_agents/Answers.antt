@@ -2,7 +2,7 @@ use Rattle.std.proofs.Common.{ap, subst, sym, ◌<◌, ◌≤◌, ◌≡◌, ◌
 use Rattle.std.proofs.lemmas.List.{append-nil}
 use Rattle.std.specs.List.{All, Contains}
 use Rattle.config_check.specs.Rules.{controller_names}
-use Rattle.config_model.specs.declared.topology.Node.{Node}
+use Rattle.config_types.specs.declared.topology.Node.{Node}
 use Rattle.agent_node.specs.Core.{fresh}
 use Rattle.running_model.specs.Seats.{Forwarding, agent_plan}
 use Rattle.running_nodes.specs.Cores.{IsRight}

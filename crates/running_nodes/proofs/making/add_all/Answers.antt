@@ -1,9 +1,9 @@
 use Rattle.std.specs.List.{All}
 use Rattle.std.proofs.Common.{ap, subst, sym, ◌∙◌, ◌++◌, ◌∷◌, [], List, map, refl}
 use Rattle.ov_types.specs.declared.rows.NodeId.{NodeId}
-use Rattle.config_model.specs.declared.topology.Node.{Node}
-use Rattle.config_model.specs.declared.topology.Topology.{Topology}
-use Rattle.control_node.specs.Core as control
+use Rattle.config_types.specs.declared.topology.Node.{Node}
+use Rattle.config_types.specs.declared.topology.Topology.{Topology}
+use Rattle.running_model.specs.ControlNode.Core as control
 use Rattle.agent_node.specs.Core as agent
 use Rattle.running_model.specs.Seats.{Configuring, agent_plan}
 use Rattle.running_nodes.specs.Cores.{IsRight, IsVacated}

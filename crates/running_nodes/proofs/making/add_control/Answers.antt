@@ -1,5 +1,5 @@
 use Rattle.std.proofs.Common.{ap, length, subst, sym, ◌+◌, ◌<◌, ◌≡◌, ◌∙◌, arith}
-use Rattle.control_node.specs.declared.plan.ControlPlan.{ControlPlan}
+use Rattle.running_model.specs.ControlNode.ControlPlan.{ControlPlan}
 use Rattle.running_model.specs.Controls.{controls_of}
 use Rattle.running_model.specs.Seats.{Controlling, others_of}
 use Rattle.running_nodes.specs.Fresh.{opening_plan}

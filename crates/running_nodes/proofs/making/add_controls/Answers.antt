@@ -1,7 +1,7 @@
 use Rattle.std.proofs.Common.{ap, sym, ◌≤◌, ◌++◌, ◌∙◌, List, length, map, refl, arith}
 use Rattle.std.proofs.lemmas.List.{append-nil}
 use Rattle.ov_types.specs.declared.rows.NodeId.{NodeId}
-use Rattle.control_node.specs.Core.{fresh}
+use Rattle.running_model.specs.ControlNode.Core.{fresh}
 use Rattle.running_model.specs.Controls.{controls_of}
 use Rattle.running_model.specs.Seats.{Controlling}
 use Rattle.running_nodes.specs.Fresh.{fresh_outer, opening_plan}

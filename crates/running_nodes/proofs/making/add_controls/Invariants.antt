@@ -1,5 +1,5 @@
 use Rattle.std.proofs.Common.{◌≡◌, ◌++◌, map, take}
-use Rattle.control_node.specs.Core.{fresh}
+use Rattle.running_model.specs.ControlNode.Core.{fresh}
 use Rattle.running_model.specs.Controls.{controls_of}
 use Rattle.running_model.specs.Seats.{Controlling}
 use Rattle.running_nodes.specs.Fresh.{fresh_outer, opening_plan}

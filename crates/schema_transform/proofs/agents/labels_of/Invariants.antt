@@ -1,7 +1,7 @@
 use Rattle.std.proofs.Common.{◌≡◌, drop}
 use Rattle.std.specs.List.{filter_map}
 use Rattle.std.specs.Prelude.{◌++◌}
-use Rattle.node_model.specs.Agent.{attached}
+use Rattle.transform_model.specs.NodeModel.Agent.{attached}
 use Rattle.schema_transform.proofs.agents.labels_of.Given as goal
 
 abbrev pub invariant-loop-object : goal.invariant-loop-object

@@ -1,4 +1,4 @@
-use Rattle.node_model.specs.Agent.{needed_for}
+use Rattle.transform_model.specs.NodeModel.Agent.{needed_for}
 use Rattle.schema_transform.proofs.Putting.{needs_go_on}
 use Rattle.schema_transform.proofs.agents.needed_by.Goals as goal
 

@@ -1,6 +1,6 @@
 use Rattle.std.proofs.Common.{◌≡◌, drop}
 use Rattle.std.specs.Prelude.{[], flat_map}
-use Rattle.node_model.specs.Agent.{needed_for}
+use Rattle.transform_model.specs.NodeModel.Agent.{needed_for}
 use Rattle.transform_model.specs.Objects.{with_instances}
 use Rattle.schema_transform.proofs.agents.needed_by.Given as goal
 

@@ -1,6 +1,6 @@
 use Rattle.std.proofs.Common.{◌≡◌, drop}
 use Rattle.std.specs.List.{filter_map}
-use Rattle.node_model.specs.Agent.{entered_by}
+use Rattle.transform_model.specs.NodeModel.Agent.{entered_by}
 use Rattle.transform_model.specs.Objects.{with_instances}
 use Rattle.schema_transform.proofs.agents.put_entered.Given as goal
 

@@ -2,8 +2,8 @@ use Rattle.std.proofs.Common.{◌≡◌, ◌∙◌, Bool, Some, List, ap, get_or
 use Rattle.std.specs.Option.{option_copied}
 use Rattle.std.specs.Prelude.{option_map}
 use Rattle.std.proofs.lemmas.List.{get_or_default}
-use Rattle.config_model.specs.declared.config.Network.{Network}
-use Rattle.config_model.specs.declared.topology.Node.{Node}
+use Rattle.config_types.specs.declared.config.Network.{Network}
+use Rattle.config_types.specs.declared.topology.Node.{Node}
 use Rattle.config_check.specs.Finding.{node_named}
 use Rattle.transform_model.specs.Tables.{host_route, row_if}
 use Rattle.schema_transform.proofs.Homes.{home_row}

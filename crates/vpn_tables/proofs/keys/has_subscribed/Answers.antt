@@ -1,7 +1,7 @@
 use Rattle.std.proofs.Common.{ap, sym, ◌∙◌}
 use Rattle.std.specs.Option.{is_some, option_map}
 use Rattle.ov_types.specs.declared.keys.UpKey.TheVariants.{Subscribe}
-use Rattle.node_model.specs.Values.{Label}
+use Rattle.path_select.specs.NodeModel.Values.{Label}
 use Rattle.vpn_tables.proofs.Images.{told-get}
 use Rattle.vpn_tables.proofs.keys.has_subscribed.Goals as goal
 

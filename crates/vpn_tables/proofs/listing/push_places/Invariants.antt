@@ -1,6 +1,6 @@
 use Rattle.std.proofs.Common.{◌≡◌, ◌++◌, map}
-use Rattle.node_model.specs.Reaching.{below}
-use Rattle.node_model.specs.Uses.{hop}
+use Rattle.path_select.specs.NodeModel.Reaching.{below}
+use Rattle.path_select.specs.NodeModel.Uses.{hop}
 use Rattle.vpn_tables.proofs.listing.push_places.Given as goal
 
 abbrev pub invariant-loop-place : goal.invariant-loop-place

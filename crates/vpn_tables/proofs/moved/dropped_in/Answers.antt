@@ -1,6 +1,6 @@
 use Rattle.std.proofs.Common.{Some, None, ap, sym, ◌∙◌}
 use Rattle.std.specs.Option.{option_map}
-use Rattle.node_model.specs.Values.{Label}
+use Rattle.path_select.specs.NodeModel.Values.{Label}
 use Rattle.vpn_tables.specs.Views.{told_of}
 use Rattle.vpn_tables.proofs.Before.{dropped_place}
 use Rattle.vpn_tables.proofs.Images.{told-get}

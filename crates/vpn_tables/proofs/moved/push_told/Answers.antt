@@ -1,8 +1,8 @@
 use Rattle.std.proofs.Common.{◌++◌, Some, None, ap, sym, ◌∙◌}
 use Rattle.std.specs.Option.{option_map}
 use Rattle.std.proofs.lemmas.Result.{on_ok_weaker}
-use Rattle.node_model.specs.Keys.{Vpn}
-use Rattle.node_model.specs.Values.{Route}
+use Rattle.path_select.specs.NodeModel.Keys.{Vpn}
+use Rattle.path_select.specs.NodeModel.Values.{Route}
 use Rattle.vpn_tables.proofs.Before.{targets_told, told_targets}
 use Rattle.vpn_tables.proofs.Images.{peer-get}
 use Rattle.std.proofs.lemmas.List.{append-nil}

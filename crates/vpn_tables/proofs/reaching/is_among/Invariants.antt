@@ -1,6 +1,6 @@
 use Rattle.std.proofs.Common.{◌≡◌, drop}
 use Rattle.std.specs.List.{list_any}
-use Rattle.node_model.specs.Tables.{same_prefix}
+use Rattle.path_select.specs.NodeModel.Tables.{same_prefix}
 use Rattle.vpn_tables.proofs.reaching.is_among.Given as goal
 
 abbrev pub invariant-loop-other : goal.invariant-loop-other

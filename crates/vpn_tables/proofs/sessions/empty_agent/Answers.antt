@@ -1,6 +1,6 @@
 use Rattle.std.proofs.Common.{◌∙◌, ap}
 use Rattle.std.specs.FinMap.{empty}
-use Rattle.node_model.specs.Maps.{Map}
+use Rattle.path_select.specs.NodeModel.Maps.{Map}
 use Rattle.vpn_tables.specs.Views.{told_of}
 use Rattle.vpn_tables.proofs.Agents.{told_taken, told_nowhere}
 use Rattle.vpn_tables.proofs.Images.{told-empty}

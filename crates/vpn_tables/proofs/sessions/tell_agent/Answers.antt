@@ -1,6 +1,6 @@
-use Rattle.node_model.specs.Keys.{of_up}
-use Rattle.node_model.specs.Values.{Label}
-use Rattle.node_model.specs.Maps.{Map}
+use Rattle.path_select.specs.NodeModel.Keys.{of_up}
+use Rattle.path_select.specs.NodeModel.Values.{Label}
+use Rattle.path_select.specs.NodeModel.Maps.{Map}
 use Rattle.ov_sync.specs.Keyed.{changed}
 use Rattle.ov_sync.specs.Embed.{moved_delta}
 use Rattle.vpn_tables.proofs.Agents.{told_taken, told_nowhere}

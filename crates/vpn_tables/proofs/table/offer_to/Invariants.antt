@@ -1,6 +1,6 @@
 use Rattle.std.proofs.Common.{◌≡◌, ◌∷◌, [], map, drop}
 use Rattle.std.specs.List.{filter}
-use Rattle.node_model.specs.Paths.{has_target}
+use Rattle.path_select.specs.NodeModel.Paths.{has_target}
 use Rattle.vpn_tables.specs.Least.{least_of, offer_all}
 use Rattle.vpn_tables.specs.Routes.{path_of}
 use Rattle.vpn_tables.proofs.table.offer_to.Given as goal

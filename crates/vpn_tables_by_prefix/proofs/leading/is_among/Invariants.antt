@@ -1,6 +1,6 @@
 use Rattle.std.proofs.Common.{◌≡◌, drop}
 use Rattle.std.specs.List.{list_any}
-use Rattle.node_model.specs.Tables.{same_prefix}
+use Rattle.control_silent_agent_laws.specs.NodeModel.Tables.{same_prefix}
 use Rattle.vpn_tables_by_prefix.proofs.leading.is_among.Given as goal
 
 abbrev pub invariant-loop-other : goal.invariant-loop-other

@@ -1,6 +1,6 @@
 use Rattle.std.specs.Prelude.{[]}
 use Rattle.node_core.specs.Whole.{session_of}
-use Rattle.node_model.specs.Step.{post}
+use Rattle.node_core.specs.NodeModel.Step.{post}
 use Rattle.node_items.proofs.Begun.{begun_bytes, begun_closed, begun_opened, left_few}
 use Rattle.agent_node.specs.Beginning.{session_at}
 use Rattle.agent_node.proofs.ends.AgentEnds.apply.Goals as goal

@@ -1,6 +1,6 @@
 use Rattle.std.proofs.Common.{◌≡◌, ◌<◌, length, slice_set, ap, ◌∙◌, arith}
 use Rattle.item_wire.specs.Happenings.{SessionFields}
-use Rattle.node_model.specs.Step.{nothing}
+use Rattle.node_core.specs.NodeModel.Step.{nothing}
 use Rattle.agent_node.specs.Ends.{Ends, posts_of, whom}
 use Rattle.agent_node.proofs.Posts.{ends_long, ends_set, nothing_held, nothing_sent, posts_long, posts_set, shut_at}
 use Rattle.agent_node.proofs.ends.AgentEnds.close.Goals as goal

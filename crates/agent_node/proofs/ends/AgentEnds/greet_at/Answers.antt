@@ -1,6 +1,6 @@
 use Rattle.std.proofs.Common.{◌≡◌, ◌<◌, length, slice_index_or, slice_set, subst, sym, ap, ◌∙◌, arith}
 use Rattle.item_wire.specs.Happenings.{SessionFields}
-use Rattle.node_model.specs.Step.{Opened, Post, post}
+use Rattle.node_core.specs.NodeModel.Step.{Opened, Post, post}
 use Rattle.agent_tables.specs.declared.hearing.Hearing.{Hearing}
 use Rattle.agent_node.specs.Ends.{Ends, HeldFits, whom}
 use Rattle.node_items.proofs.States.{idle_state}

@@ -1,7 +1,7 @@
 use Rattle.std.proofs.Common.{◌<◌, ℕ, drop, length, slice_set, set, subst, sym}
 use Rattle.std.proofs.Common.{ap, ◌∙◌, arith, Some, None}
 use Rattle.std.proofs.lemmas.List.{length-set}
-use Rattle.node_model.specs.Step.{nothing}
+use Rattle.node_core.specs.NodeModel.Step.{nothing}
 use Rattle.agent_node.specs.Applying.{AreLed, HasHeard, HasLed, HasTaken}
 use Rattle.agent_tables.specs.Touched.{SameRoutes}
 use Rattle.agent_node.specs.Core.{holdings}

@@ -1,6 +1,6 @@
 use Rattle.std.proofs.Common.{◌≡◌, subst, sym, ap, ◌∙◌, map}
 use Rattle.std.specs.Result.{OnOk}
-use Rattle.node_model.specs.Agent.{Holdings}
+use Rattle.node_core.specs.NodeModel.Agent.{Holdings}
 use Rattle.agent_tables.specs.Touched.{with_routes}
 use Rattle.agent_tables.specs.Views.{heard_of}
 use Rattle.agent_node.specs.Core.{holdings}

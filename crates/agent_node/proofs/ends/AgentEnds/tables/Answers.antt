@@ -1,6 +1,6 @@
 use Rattle.std.proofs.Common.{◌≡◌, map, sym, ap, ◌∙◌, subst}
 use Rattle.std.specs.Result.{IfOk}
-use Rattle.node_model.specs.Agent.{Holdings}
+use Rattle.node_core.specs.NodeModel.Agent.{Holdings}
 use Rattle.agent_tables.specs.Touched.{AreTables, Tabled}
 use Rattle.agent_tables.specs.Views.{heard_of}
 use Rattle.agent_node.specs.Core.{holdings}

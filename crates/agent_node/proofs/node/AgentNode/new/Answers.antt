@@ -2,7 +2,7 @@ use Rattle.std.proofs.Common.{List, ℕ, length, ◌∙◌, sym, ap, subst}
 use Rattle.std.proofs.lemmas.List.{length-replicate}
 use Rattle.node_core.specs.Keeping.{AreFew, AreOfLive}
 use Rattle.node_core.proofs.Kept.{none_few, none_live}
-use Rattle.node_model.specs.Agent.{rows as rows_of}
+use Rattle.node_core.specs.NodeModel.Agent.{rows as rows_of}
 use Rattle.flow_acl.proofs.Keeping.{none_kept}
 use Rattle.agent_node.specs.Core.{holdings, sessions}
 use Rattle.agent_node.specs.Ends.{Forwarding}

@@ -3,8 +3,8 @@ use Rattle.std.proofs.lemmas.List.{length-replicate}
 use Rattle.std.specs.Prelude.{List}
 use Rattle.node_core.specs.Keeping.{AreFew, AreOfLive}
 use Rattle.node_core.proofs.Kept.{none_few, none_live, nothings_long}
-use Rattle.node_model.specs.Agent.{rows as rows_of}
-use Rattle.node_model.specs.Step.{Post}
+use Rattle.node_core.specs.NodeModel.Agent.{rows as rows_of}
+use Rattle.node_core.specs.NodeModel.Step.{Post}
 use Rattle.flow_acl.proofs.Keeping.{none_kept}
 use Rattle.agent_node.specs.Core.{holdings}
 use Rattle.agent_node.proofs.Posts.{nothing_shown}

@@ -1,9 +1,9 @@
 use Rattle.std.proofs.Common.{List, subst, sym}
 use Rattle.std.specs.Result.{IfOk}
-use Rattle.node_model.specs.Step.{Post}
+use Rattle.node_core.specs.NodeModel.Step.{Post}
 use Rattle.node_laws.specs.Stepped.{AreTold}
 use Rattle.agent_node.specs.Core.{kind}
-use Rattle.node_model.specs.Step.{post}
+use Rattle.node_core.specs.NodeModel.Step.{post}
 use Rattle.node_core.specs.Whole.{session_of}
 use Rattle.agent_node.proofs.AtTheEnd.{all_told, never_closed_as_ended}
 use Rattle.agent_node.proofs.node.AgentNode.step.Goals as goal

@@ -2,7 +2,7 @@ use Rattle.std.proofs.Common.{subst, sym, ◌∙◌, ap, length}
 use Rattle.std.proofs.lemmas.Bool.{true≢false}
 use Rattle.node_core.specs.Plans.{ArePlans}
 use Rattle.node_laws.specs.Stepped.{AreTold}
-use Rattle.node_model.specs.Agent.{Holdings}
+use Rattle.node_core.specs.NodeModel.Agent.{Holdings}
 use Rattle.agent_tables.specs.Touched.{HaveRoutes}
 use Rattle.agent_node.specs.Core.{kind}
 use Rattle.agent_node.specs.Ends.{Forwarding}

@@ -2,7 +2,7 @@ use Rattle.std.proofs.Common.{List, ap, ◌∙◌}
 use Rattle.std.specs.Cmp.Lexicographic.{slice_cmp}
 use Rattle.std.specs.List.{find}
 use Rattle.std.specs.Ordering.{nat_cmp}
-use Rattle.config_model.specs.declared.config.Network.{Network}
+use Rattle.config_types.specs.declared.config.Network.{Network}
 use Rattle.config_check.specs.Edits.{network_name}
 use Rattle.config_check.proofs.Keyed.{has_key, first_named}
 use Rattle.config_check.proofs.ports.NamedNetworks.new.Goals as goal

@@ -1,5 +1,5 @@
 use Rattle.std.proofs.Common.{◌≡◌, ◌<◌, length, slice_set, ap, ◌∙◌, arith}
-use Rattle.node_model.specs.Step.{Opened, post}
+use Rattle.node_core.specs.NodeModel.Step.{Opened, post}
 use Rattle.config_node.specs.Ends.{Ends, whom, whom_at}
 use Rattle.config_node.specs.declared.ends.FeedEnd.{FeedEnd}
 use Rattle.config_node.proofs.Begins.{greeted}

@@ -1,5 +1,5 @@
 use Rattle.std.proofs.Common.{◌<◌, ℕ, drop, length, slice_set, subst, sym, ap, ◌∙◌, arith, Some, None}
-use Rattle.node_model.specs.Step.{nothing}
+use Rattle.node_core.specs.NodeModel.Step.{nothing}
 use Rattle.config_node.specs.Ends.{Ends, posts_of, whom_at}
 use Rattle.config_node.specs.Taking.{HasTaken}
 use Rattle.config_node.specs.declared.ends.FeedEnd.{FeedEnd}

@@ -1,5 +1,5 @@
 use Rattle.std.proofs.Common.{◌≡◌, map, ap, ◌∙◌, sym, subst}
-use Rattle.config_model.specs.declared.topology.Topology.{Topology}
+use Rattle.config_types.specs.declared.topology.Topology.{Topology}
 use Rattle.config_check.specs.Checked.{Checked}
 use Rattle.config_node.specs.Ends.{AreEnds, new_end, posts_of}
 use Rattle.config_node.proofs.Posts.{fresh_ends, fresh_posts}

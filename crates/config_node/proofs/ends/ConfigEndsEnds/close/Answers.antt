@@ -1,5 +1,5 @@
 use Rattle.std.proofs.Common.{◌≡◌, slice_set, ap, ◌∙◌}
-use Rattle.node_model.specs.Step.{nothing}
+use Rattle.node_core.specs.NodeModel.Step.{nothing}
 use Rattle.config_node.specs.Ends.{posts_of, whom, whom_at}
 use Rattle.config_node.proofs.Posts.{ends_set, nothing_sent, posts_set, shut_at}
 use Rattle.config_node.proofs.ends.ConfigEndsEnds.close.Goals as goal

@@ -1,5 +1,5 @@
 use Rattle.std.proofs.Common.{IfOk, sym, subst}
-use Rattle.node_model.specs.Step.{NodeKind, post}
+use Rattle.node_core.specs.NodeModel.Step.{NodeKind, post}
 use Rattle.node_core.specs.Whole.{session_of}
 use Rattle.node_laws.specs.Stepped.{AreTold}
 use Rattle.config_node.proofs.AtTheEnd.{all_told, never_closed_as_ended}

@@ -1,6 +1,6 @@
 use Rattle.std.proofs.Common.{List, subst, sym}
 use Rattle.ov_types.specs.declared.prefix.Addr.{Addr}
-use Rattle.node_model.specs.Members.{Member}
+use Rattle.vpn_tables.specs.NodeModel.Members.{Member}
 use Rattle.control_marked_keys.specs.Marks.{IsWithin, Marks}
 use Rattle.control_marked_keys.specs.contracts.dirty.Dirty.{the_view}
 use Rattle.control_marked_keys.proofs.Growing.{within_address}

@@ -1,7 +1,7 @@
 use Rattle.std.proofs.Common.{map, subst}
-use Rattle.node_model.specs.Directions.{down_order}
-use Rattle.node_model.specs.Keys.{of_down}
-use Rattle.node_model.proofs.Directions.{down_exact, down_total}
+use Rattle.vpn_tables.specs.NodeModel.Directions.{down_order}
+use Rattle.vpn_tables.specs.NodeModel.Keys.{of_down}
+use Rattle.vpn_tables.proofs.NodeModel.Directions.{down_exact, down_total}
 use Rattle.control_marked_keys.specs.Marks.{IsWithin, Marks}
 use Rattle.control_marked_keys.specs.contracts.dirty.Dirty.{the_view}
 use Rattle.control_marked_keys.proofs.Growing.{within_items}

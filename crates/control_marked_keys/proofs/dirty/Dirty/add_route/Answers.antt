@@ -1,7 +1,7 @@
 use Rattle.std.proofs.Common.{map, subst}
-use Rattle.node_model.specs.Directions.{vpn_order}
-use Rattle.node_model.specs.Keys.{Vpn}
-use Rattle.node_model.proofs.Directions.{vpn_exact, vpn_total}
+use Rattle.vpn_tables.specs.NodeModel.Directions.{vpn_order}
+use Rattle.vpn_tables.specs.NodeModel.Keys.{Vpn}
+use Rattle.vpn_tables.proofs.NodeModel.Directions.{vpn_exact, vpn_total}
 use Rattle.control_marked_keys.specs.Marks.{IsWithin, Marks}
 use Rattle.control_marked_keys.specs.contracts.dirty.Dirty.{the_view}
 use Rattle.control_marked_keys.proofs.Growing.{within_routes}

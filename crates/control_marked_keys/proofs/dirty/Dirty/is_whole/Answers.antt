@@ -1,7 +1,7 @@
 use Rattle.std.proofs.Common.{ap, sym, subst, ◌∙◌}
 use Rattle.std.specs.List.{list_any}
 use Rattle.ov_types.specs.declared.prefix.Addr.{Addr}
-use Rattle.node_model.specs.Members.{Member}
+use Rattle.vpn_tables.specs.NodeModel.Members.{Member}
 use Rattle.control_marked_keys.specs.Marks.{Marks}
 use Rattle.control_marked_keys.proofs.Sets.{same_number, not_found}
 use Rattle.control_marked_keys.proofs.dirty.Dirty.is_whole.Goals as goal

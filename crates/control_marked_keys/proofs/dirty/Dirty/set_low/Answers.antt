@@ -1,9 +1,9 @@
 use Rattle.std.proofs.Common.{◌≡◌, subst, sym, ap, ◌∙◌}
 use Rattle.ov_types.specs.declared.objects.LowKey.{LowKey}
 use Rattle.ov_sync.specs.Keyed.{key_of}
-use Rattle.node_model.specs.Keys.{Low}
-use Rattle.node_model.specs.Maps.{object}
-use Rattle.node_model.specs.Paths.{Holdings}
+use Rattle.vpn_tables.specs.NodeModel.Keys.{Low}
+use Rattle.vpn_tables.specs.NodeModel.Maps.{object}
+use Rattle.vpn_tables.specs.NodeModel.Paths.{Holdings}
 use Rattle.vpn_tables.specs.Changes.{with_low}
 use Rattle.control_touched_agent_laws.specs.Here.{IsListOfPort, port_here, put_by}
 use Rattle.control_marked_keys.specs.Marks.{Covers, IsCleanItem}

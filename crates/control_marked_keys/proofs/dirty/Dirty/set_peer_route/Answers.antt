@@ -1,8 +1,8 @@
 use Rattle.std.proofs.Common.{List, subst, sym, ap, ◌∙◌}
 use Rattle.ov_types.specs.declared.targets.Target.{Target}
 use Rattle.ov_types.specs.declared.vpn.VpnKey.{VpnKey}
-use Rattle.node_model.specs.Keys.{Vpn}
-use Rattle.node_model.specs.Paths.{Holdings}
+use Rattle.vpn_tables.specs.NodeModel.Keys.{Vpn}
+use Rattle.vpn_tables.specs.NodeModel.Paths.{Holdings}
 use Rattle.vpn_tables.specs.Changes.{with_route}
 use Rattle.vpn_tables.specs.Moved.{targets_by_route}
 use Rattle.vpn_tables.specs.TouchedKeys.{keys_led}

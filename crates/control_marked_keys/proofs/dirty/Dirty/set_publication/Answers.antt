@@ -1,7 +1,7 @@
 use Rattle.std.proofs.Common.{List, subst, sym, ap, ◌∙◌}
 use Rattle.ov_types.specs.declared.targets.Target.{Target}
-use Rattle.node_model.specs.Keys.{Vpn}
-use Rattle.node_model.specs.Paths.{Holdings}
+use Rattle.vpn_tables.specs.NodeModel.Keys.{Vpn}
+use Rattle.vpn_tables.specs.NodeModel.Paths.{Holdings}
 use Rattle.vpn_tables.specs.Changes.{with_publication}
 use Rattle.vpn_tables.specs.Moved.{targets_by_publication}
 use Rattle.vpn_tables.specs.TouchedKeys.{key_published, keys_led}

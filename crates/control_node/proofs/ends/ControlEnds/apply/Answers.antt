@@ -2,7 +2,7 @@ use Rattle.std.proofs.Common.{subst, sym, [], None}
 use Rattle.ov_link.specs.declared.step.Input.{Input}
 use Rattle.node_core.specs.Keeping.{left_in}
 use Rattle.node_core.specs.Whole.{session_of}
-use Rattle.node_model.specs.Step.{post}
+use Rattle.node_core.specs.NodeModel.Step.{post}
 use Rattle.control_node.specs.Begun.{IsBegun}
 use Rattle.control_node.proofs.Starting.{closed-begins}
 use Rattle.control_node.proofs.ends.ControlEnds.apply.Goals as goal

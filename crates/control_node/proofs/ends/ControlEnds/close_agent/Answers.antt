@@ -1,7 +1,7 @@
 use Rattle.std.proofs.Common.{◌+◌, ◌∙◌, ap, subst, sym, set, suc, get_or}
 use Rattle.std.specs.FinMap.{empty}
-use Rattle.node_model.specs.Paths.{Told}
-use Rattle.node_model.specs.Step.{nothing}
+use Rattle.node_core.specs.NodeModel.Paths.{Told}
+use Rattle.node_core.specs.NodeModel.Step.{nothing}
 use Rattle.control_node.specs.Ends.{Ends, IsAgentEnd, closed_agent, posts_of}
 use Rattle.control_node.specs.Planning.{agent_sends}
 use Rattle.control_node.specs.declared.ends.AgentEnd.{AgentEnd}

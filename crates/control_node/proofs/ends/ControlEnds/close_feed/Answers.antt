@@ -1,6 +1,6 @@
 use Rattle.std.proofs.Common.{◌∙◌, ap, set}
 use Rattle.item_wire.specs.Happenings.{SessionFields}
-use Rattle.node_model.specs.Step.{nothing}
+use Rattle.node_core.specs.NodeModel.Step.{nothing}
 use Rattle.control_node.specs.Ends.{Ends, posts_of}
 use Rattle.control_node.proofs.Closed.{feed-closed}
 use Rattle.control_node.proofs.Keeping.{ends-feed, stays-without}

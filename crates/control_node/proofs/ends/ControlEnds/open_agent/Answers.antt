@@ -1,7 +1,7 @@
 use Rattle.std.proofs.Common.{◌≡◌, ◌+◌, ◌∙◌, ap, arith, length, subst, sym, get_or, set, suc, None, []}
 use Rattle.ov_link.specs.declared.step.Input.TheVariants as input
-use Rattle.node_model.specs.Paths.{Holdings}
-use Rattle.node_model.specs.Step.{post}
+use Rattle.node_core.specs.NodeModel.Paths.{Holdings}
+use Rattle.node_core.specs.NodeModel.Step.{post}
 use Rattle.ov_types.specs.declared.prefix.Addr.{Addr}
 use Rattle.vpn_tables.specs.Listing.{told_in}
 use Rattle.control_marked_keys.specs.Marks.{IsCleanItem}

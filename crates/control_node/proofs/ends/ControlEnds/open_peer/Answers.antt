@@ -1,6 +1,6 @@
 use Rattle.std.proofs.Common.{◌∙◌, ap, subst, set, None, []}
 use Rattle.ov_link.specs.declared.step.Input.TheVariants as input
-use Rattle.node_model.specs.Step.{post}
+use Rattle.node_core.specs.NodeModel.Step.{post}
 use Rattle.control_node.specs.Begun.{IsBegun}
 use Rattle.control_node.specs.Ends.{Ends, opened_peer, posts_of}
 use Rattle.control_node.specs.Wanting.{is_idle}

@@ -5,7 +5,7 @@ use Rattle.ov_types.specs.Keys.{row_key_cmp}
 use Rattle.ov_types.specs.Prefix.{Block}
 use Rattle.ov_types.specs.declared.numbers.InstanceId.{InstanceId}
 use Rattle.ov_types.specs.declared.rows.TableRow.{TableRow}
-use Rattle.node_model.specs.Tables.{rows}
+use Rattle.node_core.specs.NodeModel.Tables.{rows}
 use Rattle.control_node.specs.Core.{holdings}
 use Rattle.control_node.specs.Ends.{Ends}
 use Rattle.control_node.proofs.Holding.{holdings_are}

@@ -1,8 +1,8 @@
 use Rattle.std.proofs.Common.{◌+◌, ◌∙◌, ap, subst, suc}
-use Rattle.node_model.specs.Paths.{Holdings}
+use Rattle.node_core.specs.NodeModel.Paths.{Holdings}
 use Rattle.vpn_tables.specs.Changes.{without}
 use Rattle.vpn_tables.specs.Listing.{told_in}
-use Rattle.control_silent_agent_laws.specs.Quiet.{PublishesNothing}
+use Rattle.vpn_tables_by_prefix.specs.ControlSilentAgentLaws.Quiet.{PublishesNothing}
 use Rattle.control_node.specs.Ends.{Ends}
 use Rattle.control_node.specs.declared.ends.AgentEnd.{AgentEnd}
 use Rattle.control_node.specs.declared.ends.PeerEnd.{PeerEnd}

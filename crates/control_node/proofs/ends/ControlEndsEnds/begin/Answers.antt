@@ -1,7 +1,7 @@
 use Rattle.std.proofs.Common.{[]}
 use Rattle.node_core.specs.Keeping.{left_in}
 use Rattle.node_core.specs.Whole.{session_of}
-use Rattle.node_model.specs.Step.{post}
+use Rattle.node_core.specs.NodeModel.Step.{post}
 use Rattle.control_node.proofs.Octets.{left_few}
 use Rattle.control_node.proofs.ends.ControlEndsEnds.begin.Goals as goal
 

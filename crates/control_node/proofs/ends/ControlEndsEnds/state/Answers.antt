@@ -4,8 +4,8 @@ use Rattle.bgp_session.specs.declared.event.State.{State}
 use Rattle.item_wire.specs.declared.event.ItemState.{ItemState}
 use Rattle.node_core.specs.Resting.{end_at}
 use Rattle.node_items.specs.Beginning as item
-use Rattle.node_model.specs.Paths.{Told}
-use Rattle.node_model.specs.Step.{Post, post}
+use Rattle.node_core.specs.NodeModel.Paths.{Told}
+use Rattle.node_core.specs.NodeModel.Step.{Post, post}
 use Rattle.node_routes.specs.Beginning as route
 use Rattle.control_node.specs.Ends.{Ends}
 use Rattle.control_node.specs.declared.ends.AgentEnd.{AgentEnd}

@@ -1,6 +1,6 @@
 use Rattle.std.proofs.Common.{◌≡◌, ◌+◌, ◌≤◌, ◌<◌, ◌∙◌, ℕ, List, [], ap, arith, length, subst, sym}
 use Rattle.node_core.specs.Keeping.{AreFew, AreOfLive}
-use Rattle.node_model.specs.Step.{Post, nothing}
+use Rattle.node_core.specs.NodeModel.Step.{Post, nothing}
 use Rattle.control_node.specs.Agents.{AreRetired, number_for, put_at, with_retired}
 use Rattle.control_node.specs.Core.{Core, sessions}
 use Rattle.control_node.specs.Ends.{Ends}

@@ -1,6 +1,6 @@
 use Rattle.std.proofs.Common.{IfOk, ap, subst, sym}
 use Rattle.node_laws.specs.Stepped.{AreTold}
-use Rattle.node_model.specs.Step.{NodeKind}
+use Rattle.node_core.specs.NodeModel.Step.{NodeKind}
 use Rattle.control_node.specs.Wanting.{kind}
 use Rattle.control_node.proofs.Removed.{removed_told}
 use Rattle.control_node.proofs.node.ControlNode.remove_agent.Goals as goal

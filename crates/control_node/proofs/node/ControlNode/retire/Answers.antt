@@ -1,5 +1,5 @@
 use Rattle.std.proofs.Common.{◌≡◌, ◌<◌, ◌+◌, ◌∙◌, ℕ, List, [], ap, arith, false, length, length-set, subst, sym}
-use Rattle.node_model.specs.Step.{Steps}
+use Rattle.node_core.specs.NodeModel.Step.{Steps}
 use Rattle.control_node.specs.Agents.{AreRetired, closing, inserted, is_retired, with_retired}
 use Rattle.control_node.specs.Core.{Core, sessions}
 use Rattle.control_node.specs.Wanting.{kind}

@@ -1,6 +1,6 @@
 use Rattle.std.proofs.Common.{◌≢◌, ℕ, List, Err, IfOk, sym, subst, set}
 use Rattle.ov_link.specs.declared.step.NodeFault.TheVariants.{NoMemory}
-use Rattle.node_model.specs.Step.{NodeKind, post}
+use Rattle.node_core.specs.NodeModel.Step.{NodeKind, post}
 use Rattle.node_core.specs.Keeping.{AreSwept, kept_at}
 use Rattle.node_core.specs.Whole.{IsWholeStep, session_of}
 use Rattle.node_laws.specs.Stepped.{AreTold}

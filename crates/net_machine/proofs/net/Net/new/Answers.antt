@@ -2,9 +2,9 @@ use Rattle.std.proofs.Common.{IfOk, map, sym, ◌∙◌, ◌≡◌, ap, subst}
 use Rattle.config_check.specs.Checked.{Checked}
 use Rattle.run_ties.specs.Kept.{AreAlike, ties_in}
 use Rattle.run_ties.specs.Tying.{ties_of}
-use Rattle.machine_model.specs.Setup.{opening as opening_setup}
-use Rattle.running_model.specs.Seats.{whos}
-use Rattle.running_model.specs.Steps.{fresh_seat}
+use Rattle.running_nodes.specs.MachineModel.Setup.{opening as opening_setup}
+use Rattle.running_nodes.specs.RunningModel.Seats.{whos}
+use Rattle.running_nodes.specs.RunningModel.Steps.{fresh_seat}
 use Rattle.net_machine.specs.NetState.{NetState}
 use Rattle.net_machine.proofs.net.Net.new.Goals as goal
 

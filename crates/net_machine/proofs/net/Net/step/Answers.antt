@@ -1,11 +1,11 @@
 use Rattle.std.proofs.Common.{◌∙◌, ap, subst}
 use Rattle.std.specs.Prelude.{◌≡◌}
 use Rattle.run_ties.specs.Kept.{ties_in}
-use Rattle.machine_model.specs.Events.{event_of}
-use Rattle.schedule_tied_laws.specs.Compiled.{EndsAtOnce, IsAsCompiled}
-use Rattle.schedule_tied_laws.specs.Isolated.{DeliversSoFar, DeliversTied}
-use Rattle.schedule_tied_laws.specs.Runs.{answer_tied, tied_moment}
-use Rattle.schedule_tied_laws.proofs.Moments.{tied_rounds}
+use Rattle.running_nodes.specs.MachineModel.Events.{event_of}
+use Rattle.schedule_laws.specs.TiedCompiled.{EndsAtOnce, IsAsCompiled}
+use Rattle.schedule_laws.specs.Isolated.{DeliversSoFar, DeliversTied}
+use Rattle.schedule_laws.specs.Runs.{answer_tied, tied_moment}
+use Rattle.schedule_laws.proofs.Moments.{tied_rounds}
 use Rattle.net_machine.specs.NetState.{NetState}
 use Rattle.net_machine.specs.Tying.{OfTie}
 use Rattle.net_machine.proofs.Ran.{run_can, run_configured, run_seated, step_answers, step_compiled, step_ends, step_isolated}

@@ -1,6 +1,6 @@
 use Rattle.std.proofs.Common.{arith, ap, subst, sym, ◌≡◌, ◌∙◌, IfOk, OnErr, OnOk, length}
 use Rattle.std.proofs.lemmas.Result.{on_err_weaker}
-use Rattle.control_node.specs.declared.plan.ControlPlan.{ControlPlan}
+use Rattle.running_model.specs.ControlNode.ControlPlan.{ControlPlan}
 use Rattle.running_model.specs.Controls.{controls_of}
 use Rattle.running_model.specs.Moving.{retired_of}
 use Rattle.running_model.specs.Seats.{Configuring, Controlling, Forwarding, others_of}

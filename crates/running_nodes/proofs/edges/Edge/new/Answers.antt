@@ -1,6 +1,6 @@
 use Rattle.std.proofs.Common.{ap, sym, ◌∙◌, ◌≤◌, ◌≡◌, false, Option, List, [], length, take, refl, arith}
 use Rattle.std.proofs.lemmas.List.{length-take-le}
-use Rattle.machine_model.specs.Setup.{Name}
+use Rattle.running_model.specs.MachineModel.Setup.{Name}
 use Rattle.running_model.specs.Steps.{all_of}
 use Rattle.running_nodes.specs.Halves.{accepted_of, breaks_of}
 use Rattle.ov_link.specs.FailingState.{FailingState}

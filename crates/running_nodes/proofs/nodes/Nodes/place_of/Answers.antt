@@ -2,7 +2,7 @@ use Rattle.std.proofs.Common.{List, ap, arith, length, sym, ◌<◌, ◌≡◌, 
 use Rattle.std.specs.declared.option.Option.{Option}
 use Rattle.std.specs.Option.{option_map}
 use Rattle.ov_types.specs.First.{same_name}
-use Rattle.machine_model.specs.Setup.{Name}
+use Rattle.running_model.specs.MachineModel.Setup.{Name}
 use Rattle.running_model.specs.Seats.{Seat, index_from, is_name, place_at, seat, seat_named, session_with}
 use Rattle.running_model.specs.declared.place.SessionPlace.{SessionPlace}
 use Rattle.running_nodes.specs.Halves.{Outer, Standing}

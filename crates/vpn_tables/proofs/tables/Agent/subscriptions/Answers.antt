@@ -5,8 +5,8 @@ use Rattle.std.proofs.lemmas.Map.Iter.{rest_all}
 use Rattle.std.proofs.lemmas.List.{append-nil}
 use Rattle.ov_types.specs.declared.keys.UpKey.{UpKey}
 use Rattle.ov_types.specs.declared.numbers.Label.{Label}
-use Rattle.node_model.specs.Keys.{of_up}
-use Rattle.node_model.specs.Wants.{subscribed}
+use Rattle.path_select.specs.NodeModel.Keys.{of_up}
+use Rattle.path_select.specs.NodeModel.Wants.{subscribed}
 use Rattle.vpn_tables.proofs.Listed.{subscriptions_are}
 use Rattle.vpn_tables.proofs.tables.Agent.subscriptions.Goals as goal
 

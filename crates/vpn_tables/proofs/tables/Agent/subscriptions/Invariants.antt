@@ -1,7 +1,7 @@
 use Rattle.std.proofs.Common.{◌≡◌, ◌++◌}
 use Rattle.std.specs.List.{filter_map}
-use Rattle.node_model.specs.Keys.{of_up}
-use Rattle.node_model.specs.Wants.{subscribed}
+use Rattle.path_select.specs.NodeModel.Keys.{of_up}
+use Rattle.path_select.specs.NodeModel.Wants.{subscribed}
 use Rattle.vpn_tables.proofs.tables.Agent.subscriptions.Given as goal
 
 abbrev pub invariant-loop-key : goal.invariant-loop-key

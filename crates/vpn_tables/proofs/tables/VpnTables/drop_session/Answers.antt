@@ -1,8 +1,8 @@
 use Rattle.std.proofs.Common.{◌∙◌, ap, sym, map, ℕ}
 use Rattle.std.specs.FinMap.{empty}
 use Rattle.ov_sync.proofs.KeyedLaws.{empty_values}
-use Rattle.node_model.specs.Maps.{Map}
-use Rattle.node_model.specs.Paths.{Holdings}
+use Rattle.path_select.specs.NodeModel.Maps.{Map}
+use Rattle.path_select.specs.NodeModel.Paths.{Holdings}
 use Rattle.vpn_tables.specs.Changes.{without, at_session}
 use Rattle.vpn_tables.specs.Ports.{IsNoStray}
 use Rattle.vpn_tables.specs.Ranges.{Fits}

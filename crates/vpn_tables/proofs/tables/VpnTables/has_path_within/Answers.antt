@@ -1,6 +1,6 @@
 use Rattle.std.proofs.Common.{◌||◌, ap, sym, ◌∙◌}
 use Rattle.std.specs.List.{list_any}
-use Rattle.node_model.specs.Paths.{peer_paths}
+use Rattle.path_select.specs.NodeModel.Paths.{peer_paths}
 use Rattle.vpn_tables.specs.Answers.{leads_within}
 use Rattle.vpn_tables.proofs.Walks.{path_within}
 use Rattle.vpn_tables.proofs.tables.VpnTables.has_path_within.Goals as goal

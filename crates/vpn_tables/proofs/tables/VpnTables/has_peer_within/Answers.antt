@@ -5,7 +5,7 @@ use Rattle.std.proofs.lemmas.Map.Iter.{rest_more, rest_all}
 use Rattle.ov_types.specs.Prefix.{is_inside}
 use Rattle.ov_types.specs.declared.vpn.VpnKey.{VpnKey}
 use Rattle.ov_types.specs.declared.vpn.VpnRoute.{VpnRoute}
-use Rattle.node_model.specs.Paths.{Path}
+use Rattle.path_select.specs.NodeModel.Paths.{Path}
 use Rattle.vpn_tables.specs.Answers.{leads_within}
 use Rattle.vpn_tables.proofs.Walks.{peer_typed, peer_is, one_with}
 use Rattle.vpn_tables.proofs.tables.VpnTables.has_peer_within.Goals as goal

@@ -3,7 +3,7 @@ use Rattle.std.specs.List.{list_any, filter_map}
 use Rattle.std.specs.FinMap.{entries}
 use Rattle.ov_types.specs.declared.vpn.VpnKey.{VpnKey}
 use Rattle.ov_types.specs.declared.vpn.VpnRoute.{VpnRoute}
-use Rattle.node_model.specs.Paths.{Holdings, peer_path}
+use Rattle.path_select.specs.NodeModel.Paths.{Holdings, peer_path}
 use Rattle.vpn_tables.specs.Answers.{leads_within}
 use Rattle.vpn_tables.specs.Views.{peer_of}
 use Rattle.vpn_tables.proofs.Walks.{peers_from, peers_turn, part_with, part_without}

@@ -3,7 +3,7 @@ use Rattle.std.specs.Map.Iter.{deref_pair}
 use Rattle.std.proofs.lemmas.Map.Iter.{rest_more, rest_all}
 use Rattle.ov_types.specs.declared.objects.LowKey.{LowKey}
 use Rattle.ov_types.specs.declared.objects.LowValue.{LowValue}
-use Rattle.node_model.specs.Paths.{Holdings}
+use Rattle.path_select.specs.NodeModel.Paths.{Holdings}
 use Rattle.vpn_tables.proofs.Listed.{objects_are}
 use Rattle.vpn_tables.proofs.PortWalks.{Ends, ends, ends_next, has_number, none_left, number_now, ports}
 use Rattle.vpn_tables.proofs.tables.VpnTables.has_port.Goals as goal

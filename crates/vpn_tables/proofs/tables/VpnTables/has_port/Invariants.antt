@@ -1,5 +1,5 @@
 use Rattle.std.proofs.Common.{◌≡◌}
-use Rattle.node_model.specs.Wants.{networks_at}
+use Rattle.path_select.specs.NodeModel.Wants.{networks_at}
 use Rattle.vpn_tables.proofs.PortWalks.{Ends, has_number, ports}
 use Rattle.vpn_tables.proofs.tables.VpnTables.has_port.Given as goal
 

@@ -1,7 +1,7 @@
 use Rattle.std.proofs.Common.{◌≡◌, ◌==◌, map, drop}
 use Rattle.std.specs.List.{list_any}
 use Rattle.ov_types.specs.declared.targets.Target.{Target}
-use Rattle.node_model.specs.Uses.{imports}
+use Rattle.path_select.specs.NodeModel.Uses.{imports}
 use Rattle.route_targets.specs.Numbers.{target_of}
 use Rattle.vpn_tables.proofs.tables.VpnTables.imports_any.Given as goal
 

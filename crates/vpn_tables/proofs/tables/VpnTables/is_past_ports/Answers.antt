@@ -1,5 +1,5 @@
 use Rattle.std.proofs.Common.{◌∙◌, ap, sym}
-use Rattle.node_model.specs.Paths.{Holdings}
+use Rattle.path_select.specs.NodeModel.Paths.{Holdings}
 use Rattle.vpn_tables.proofs.PortWalks.{past_ports}
 use Rattle.vpn_tables.proofs.tables.VpnTables.is_past_ports.Goals as goal
 

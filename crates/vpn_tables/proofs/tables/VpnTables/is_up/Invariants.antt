@@ -1,5 +1,5 @@
 use Rattle.std.proofs.Common.{◌≡◌}
-use Rattle.node_model.specs.Reaching.{is_up}
+use Rattle.path_select.specs.NodeModel.Reaching.{is_up}
 use Rattle.vpn_tables.proofs.tables.VpnTables.is_up.Given as goal
 
 abbrev pub invariant-loop-nearer : goal.invariant-loop-nearer

@@ -1,6 +1,6 @@
 use Rattle.std.proofs.Common.{◌≡◌, ◌++◌}
 use Rattle.std.specs.List.{AllByRecursion, flat_map}
-use Rattle.node_model.specs.Uses.{uses}
+use Rattle.path_select.specs.NodeModel.Uses.{uses}
 use Rattle.vpn_tables.specs.TouchedKeys.{keys_if_touched}
 use Rattle.vpn_tables.proofs.Along.{along}
 use Rattle.vpn_tables.proofs.Uses.{IsHeld}

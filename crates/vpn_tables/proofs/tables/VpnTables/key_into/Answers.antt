@@ -1,5 +1,5 @@
 use Rattle.std.proofs.Common.{ap, sym, ◌∙◌}
-use Rattle.node_model.specs.Reaching.{publisher}
+use Rattle.path_select.specs.NodeModel.Reaching.{publisher}
 use Rattle.vpn_tables.proofs.Keyed.{none_keyed}
 use Rattle.vpn_tables.proofs.tables.VpnTables.key_into.Goals as goal
 

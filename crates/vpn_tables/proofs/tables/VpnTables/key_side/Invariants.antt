@@ -1,6 +1,6 @@
 use Rattle.std.proofs.Common.{◌≡◌, ◌++◌, map}
 use Rattle.std.specs.List.{flat_map}
-use Rattle.node_model.specs.Reaching.{below, into}
+use Rattle.path_select.specs.NodeModel.Reaching.{below, into}
 use Rattle.vpn_tables.specs.TouchedKeys.{always, path_key}
 use Rattle.vpn_tables.proofs.tables.VpnTables.key_side.Given as goal
 

@@ -1,6 +1,6 @@
 use Rattle.std.proofs.Common.{◌++◌, ap, ◌∙◌, List}
 use Rattle.ov_types.specs.declared.vpn.VpnKey.{VpnKey}
-use Rattle.node_model.specs.Uses.{uses}
+use Rattle.path_select.specs.NodeModel.Uses.{uses}
 use Rattle.std.specs.List.{flat_map}
 use Rattle.vpn_tables.specs.Touched.{is_touched}
 use Rattle.vpn_tables.specs.TouchedKeys.{keys_along, keys_if_touched}

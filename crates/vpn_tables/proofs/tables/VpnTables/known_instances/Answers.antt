@@ -4,9 +4,9 @@ use Rattle.std.specs.Map.Iter.{deref_pair}
 use Rattle.std.proofs.lemmas.Map.Iter.{rest_more}
 use Rattle.ov_types.specs.declared.objects.LowKey.{LowKey}
 use Rattle.ov_types.specs.declared.objects.LowValue.{LowValue}
-use Rattle.node_model.specs.Maps.{objects}
-use Rattle.node_model.specs.Paths.{Holdings}
-use Rattle.node_model.specs.Tables.{network_of}
+use Rattle.path_select.specs.NodeModel.Maps.{objects}
+use Rattle.path_select.specs.NodeModel.Paths.{Holdings}
+use Rattle.path_select.specs.NodeModel.Tables.{network_of}
 use Rattle.vpn_tables.proofs.Listed.{objects_are, places, places_turn}
 use Rattle.vpn_tables.proofs.Uses.{all_held, IsHeld}
 use Rattle.vpn_tables.proofs.tables.VpnTables.known_instances.Goals as goal

@@ -1,6 +1,6 @@
 use Rattle.std.proofs.Common.{◌≡◌, ◌++◌}
 use Rattle.std.specs.List.{AllByRecursion}
-use Rattle.node_model.specs.Tables.{known_instances}
+use Rattle.path_select.specs.NodeModel.Tables.{known_instances}
 use Rattle.vpn_tables.proofs.Listed.{places}
 use Rattle.vpn_tables.proofs.Uses.{IsHeld}
 use Rattle.vpn_tables.proofs.tables.VpnTables.known_instances.Given as goal

@@ -1,5 +1,5 @@
 use Rattle.std.proofs.Common.{ap, sym, ◌∙◌, map}
-use Rattle.node_model.specs.Reaching.{publisher}
+use Rattle.path_select.specs.NodeModel.Reaching.{publisher}
 use Rattle.vpn_tables.specs.Routes.{path_of}
 use Rattle.vpn_tables.proofs.Leads.{none_led}
 use Rattle.vpn_tables.proofs.tables.VpnTables.lead_into.Goals as goal

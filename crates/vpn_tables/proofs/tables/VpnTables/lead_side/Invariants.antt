@@ -1,6 +1,6 @@
 use Rattle.std.proofs.Common.{◌≡◌, ◌++◌, map}
 use Rattle.std.specs.List.{flat_map}
-use Rattle.node_model.specs.Reaching.{below, into, is_up, subnets}
+use Rattle.path_select.specs.NodeModel.Reaching.{below, into, is_up, subnets}
 use Rattle.vpn_tables.specs.Routes.{path_of}
 use Rattle.vpn_tables.proofs.tables.VpnTables.lead_side.Given as goal
 

@@ -2,10 +2,10 @@ use Rattle.std.proofs.Common.{ap, sym, ◌∙◌, true, false, subst}
 use Rattle.std.specs.declared.option.Option.{Option}
 use Rattle.std.specs.Option.{option_map}
 use Rattle.ov_types.specs.declared.numbers.InstanceId.{InstanceId}
-use Rattle.node_model.specs.Agent.{first_some}
-use Rattle.node_model.specs.Paths.{Holdings, Path}
-use Rattle.node_model.specs.Ranks.{instance_in}
-use Rattle.node_model.specs.Reaching.{AreShort}
+use Rattle.path_select.specs.NodeModel.Agent.{first_some}
+use Rattle.path_select.specs.NodeModel.Paths.{Holdings, Path}
+use Rattle.path_select.specs.NodeModel.Ranks.{instance_in}
+use Rattle.path_select.specs.NodeModel.Reaching.{AreShort}
 use Rattle.vpn_tables.specs.At.{led_at}
 use Rattle.vpn_tables.specs.Routes.{path_of}
 use Rattle.vpn_tables.specs.TouchedKeys.{first_keyed}

@@ -1,6 +1,6 @@
 use Rattle.std.proofs.Common.{sym, ap, ◌∙◌}
-use Rattle.node_model.specs.Maps.{object}
-use Rattle.node_model.specs.Paths.{Holdings}
+use Rattle.path_select.specs.NodeModel.Maps.{object}
+use Rattle.path_select.specs.NodeModel.Paths.{Holdings}
 use Rattle.vpn_tables.proofs.Images.{feed-object}
 use Rattle.vpn_tables.proofs.Values.{fits_at}
 use Rattle.vpn_tables.proofs.tables.VpnTables.low.Goals as goal

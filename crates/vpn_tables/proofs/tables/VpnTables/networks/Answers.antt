@@ -2,8 +2,8 @@ use Rattle.std.proofs.Common.{◌++◌, ◌∙◌, ap}
 use Rattle.std.specs.List.{filter_map}
 use Rattle.ov_types.specs.declared.objects.LowKey.{LowKey}
 use Rattle.ov_types.specs.declared.objects.LowValue.{LowValue}
-use Rattle.node_model.specs.Paths.{Holdings}
-use Rattle.node_model.specs.Tables.{network_of}
+use Rattle.path_select.specs.NodeModel.Paths.{Holdings}
+use Rattle.path_select.specs.NodeModel.Tables.{network_of}
 use Rattle.vpn_tables.proofs.Listed.{objects_are}
 use Rattle.vpn_tables.proofs.tables.VpnTables.networks.Goals as goal
 

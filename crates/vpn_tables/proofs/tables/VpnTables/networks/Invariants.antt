@@ -1,7 +1,7 @@
 use Rattle.std.proofs.Common.{◌≡◌, ◌++◌}
 use Rattle.std.specs.List.{filter_map}
-use Rattle.node_model.specs.Maps.{objects}
-use Rattle.node_model.specs.Tables.{network_of}
+use Rattle.path_select.specs.NodeModel.Maps.{objects}
+use Rattle.path_select.specs.NodeModel.Tables.{network_of}
 use Rattle.vpn_tables.proofs.tables.VpnTables.networks.Given as goal
 
 abbrev pub invariant-loop-key : goal.invariant-loop-key

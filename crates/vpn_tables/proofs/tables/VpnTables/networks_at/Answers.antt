@@ -3,7 +3,7 @@ use Rattle.std.specs.Map.Iter.{deref_pair}
 use Rattle.std.proofs.lemmas.Map.Iter.{rest_more}
 use Rattle.ov_types.specs.declared.objects.LowKey.{LowKey}
 use Rattle.ov_types.specs.declared.objects.LowValue.{LowValue}
-use Rattle.node_model.specs.Paths.{Holdings}
+use Rattle.path_select.specs.NodeModel.Paths.{Holdings}
 use Rattle.vpn_tables.proofs.Listed.{objects_are}
 use Rattle.vpn_tables.proofs.PortWalks.{Ends, all_found, ends, ends_next, network_turn, ports}
 use Rattle.vpn_tables.proofs.tables.VpnTables.networks_at.Goals as goal

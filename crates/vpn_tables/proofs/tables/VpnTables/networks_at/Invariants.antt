@@ -1,5 +1,5 @@
 use Rattle.std.proofs.Common.{◌≡◌, ◌++◌}
-use Rattle.node_model.specs.Wants.{networks_at}
+use Rattle.path_select.specs.NodeModel.Wants.{networks_at}
 use Rattle.vpn_tables.proofs.PortWalks.{Ends, ports}
 use Rattle.vpn_tables.proofs.tables.VpnTables.networks_at.Given as goal
 

@@ -1,6 +1,6 @@
 use Rattle.std.proofs.Common.{ap, sym, ◌∙◌, ◌+◌, List, map, drop}
 use Rattle.std.specs.List.{filter, flat_map}
-use Rattle.node_model.specs.Paths.{Path}
+use Rattle.path_select.specs.NodeModel.Paths.{Path}
 use Rattle.vpn_tables.specs.Answers.{is_wanted}
 use Rattle.vpn_tables.specs.Least.{least_of, offer_all}
 use Rattle.vpn_tables.specs.Views.{agent_of}

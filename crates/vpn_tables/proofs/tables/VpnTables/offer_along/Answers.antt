@@ -2,8 +2,8 @@ use Rattle.std.proofs.Common.{◌++◌, ◌∷◌, [], List, ap, ◌∙◌, map,
 use Rattle.std.specs.List.{filter, flat_map}
 use Rattle.ov_types.specs.declared.objects.LowKey.TheVariants as key
 use Rattle.route_targets.specs.Numbers.{target_of}
-use Rattle.node_model.specs.Paths.{Holdings, Path, has_target}
-use Rattle.node_model.specs.Reaching.{AreShort}
+use Rattle.path_select.specs.NodeModel.Paths.{Holdings, Path, has_target}
+use Rattle.path_select.specs.NodeModel.Reaching.{AreShort}
 use Rattle.vpn_tables.specs.Leading.{leads, sides_of_held, use_at}
 use Rattle.vpn_tables.specs.Least.{least_of, offer_all}
 use Rattle.vpn_tables.specs.Routes.{path_of}

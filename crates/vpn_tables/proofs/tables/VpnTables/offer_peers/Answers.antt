@@ -1,7 +1,7 @@
 use Rattle.std.proofs.Common.{ap, sym, ◌∙◌, ◌+◌, List, map, drop}
 use Rattle.std.specs.List.{filter, filter_map}
 use Rattle.std.specs.FinMap.{entries}
-use Rattle.node_model.specs.Paths.{Path, peer_path}
+use Rattle.path_select.specs.NodeModel.Paths.{Path, peer_path}
 use Rattle.vpn_tables.specs.Answers.{is_wanted}
 use Rattle.vpn_tables.specs.Least.{least_of, offer_all}
 use Rattle.vpn_tables.specs.Views.{peer_of}

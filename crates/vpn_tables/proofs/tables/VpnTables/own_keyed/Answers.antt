@@ -1,7 +1,7 @@
 use Rattle.std.proofs.Common.{ap, sym, ◌∙◌, ◌+◌, List, map, drop}
 use Rattle.std.specs.List.{flat_map}
 use Rattle.std.specs.Option.{option_map}
-use Rattle.node_model.specs.Paths.{Holdings, Told}
+use Rattle.path_select.specs.NodeModel.Paths.{Holdings, Told}
 use Rattle.vpn_tables.specs.Routes.{path_of}
 use Rattle.vpn_tables.specs.TouchedKeys.{first_keyed}
 use Rattle.vpn_tables.specs.Views.{agent_of}

@@ -1,6 +1,6 @@
 use Rattle.std.proofs.Common.{subst}
-use Rattle.node_model.specs.Paths.{Holdings}
-use Rattle.node_model.specs.Reaching.{AreShort}
+use Rattle.path_select.specs.NodeModel.Paths.{Holdings}
+use Rattle.path_select.specs.NodeModel.Reaching.{AreShort}
 use Rattle.vpn_tables.proofs.Rowed.{gathered}
 use Rattle.vpn_tables.proofs.Short.{short_feed}
 use Rattle.vpn_tables.proofs.tables.VpnTables.paths_at.Goals as goal

@@ -1,5 +1,5 @@
 use Rattle.std.proofs.Common.{◌≡◌, map, drop}
-use Rattle.node_model.specs.Reaching.{published_in}
+use Rattle.path_select.specs.NodeModel.Reaching.{published_in}
 use Rattle.vpn_tables.specs.Views.{agent_of}
 use Rattle.vpn_tables.proofs.tables.VpnTables.publisher.Given as goal
 

@@ -5,8 +5,8 @@ use Rattle.std.proofs.lemmas.Option.{slice_get-get_or}
 use Rattle.std.proofs.lemmas.Result.{on_ok_weaker}
 use Rattle.vpn_tables.specs.Views.{peer_of}
 use Rattle.vpn_tables.specs.Moved.{map_at}
-use Rattle.node_model.specs.Keys.{Vpn}
-use Rattle.node_model.specs.Paths.{Holdings}
+use Rattle.path_select.specs.NodeModel.Keys.{Vpn}
+use Rattle.path_select.specs.NodeModel.Paths.{Holdings}
 use Rattle.vpn_tables.proofs.Before.{map_is, map_past, nothing_told, targets_told}
 use Rattle.std.proofs.lemmas.List.{append-nil}
 use Rattle.vpn_tables.proofs.tables.VpnTables.push_before.Goals as goal

@@ -5,7 +5,7 @@ use Rattle.std.proofs.lemmas.Map.Iter.{rest_all}
 use Rattle.std.proofs.lemmas.List.{append-nil}
 use Rattle.ov_types.specs.declared.keys.UpKey.{UpKey}
 use Rattle.ov_types.specs.declared.numbers.Label.{Label}
-use Rattle.node_model.specs.Paths.{Path}
+use Rattle.path_select.specs.NodeModel.Paths.{Path}
 use Rattle.vpn_tables.specs.Routes.{path_of}
 use Rattle.vpn_tables.proofs.Walks.{own_typed, own_is}
 use Rattle.vpn_tables.proofs.tables.VpnTables.push_own.Goals as goal

@@ -5,7 +5,7 @@ use Rattle.std.proofs.lemmas.List.{append-nil}
 use Rattle.std.proofs.lemmas.Map.Iter.{rest_all, rest_more}
 use Rattle.ov_types.specs.declared.vpn.VpnKey.{VpnKey}
 use Rattle.ov_types.specs.declared.vpn.VpnRoute.{VpnRoute}
-use Rattle.node_model.specs.Paths.{Path}
+use Rattle.path_select.specs.NodeModel.Paths.{Path}
 use Rattle.path_select.specs.Selection.{plain}
 use Rattle.vpn_tables.specs.At.{is_wanted_at}
 use Rattle.vpn_tables.proofs.Keeping.{kept_turn}

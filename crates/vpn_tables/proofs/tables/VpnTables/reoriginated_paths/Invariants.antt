@@ -1,6 +1,6 @@
 use Rattle.std.proofs.Common.{◌≡◌, ◌++◌, map}
 use Rattle.std.specs.List.{AllByRecursion}
-use Rattle.node_model.specs.Reaching.{reoriginated_paths}
+use Rattle.path_select.specs.NodeModel.Reaching.{reoriginated_paths}
 use Rattle.vpn_tables.specs.Routes.{path_of}
 use Rattle.vpn_tables.proofs.Uses.{total, IsHeld}
 use Rattle.vpn_tables.proofs.tables.VpnTables.reoriginated_paths.Given as goal

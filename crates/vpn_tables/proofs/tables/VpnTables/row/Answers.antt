@@ -1,5 +1,5 @@
 use Rattle.std.proofs.Common.{◌↔◌, List, sym, ◌∙◌, subst}
-use Rattle.node_model.specs.Members.{Member}
+use Rattle.path_select.specs.NodeModel.Members.{Member}
 use Rattle.path_select.specs.declared.selection.Path.{Path}
 use Rattle.vpn_tables.specs.At.{paths_at}
 use Rattle.vpn_tables.proofs.Choosing.{chosen_row}

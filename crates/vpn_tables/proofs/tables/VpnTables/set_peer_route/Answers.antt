@@ -1,7 +1,7 @@
 use Rattle.std.proofs.Common.{◌<◌, arith}
 use Rattle.ov_sync.specs.Embed.{moved_delta}
-use Rattle.node_model.specs.Keys.{Vpn}
-use Rattle.node_model.specs.Values.{Route}
+use Rattle.path_select.specs.NodeModel.Keys.{Vpn}
+use Rattle.path_select.specs.NodeModel.Values.{Route}
 use Rattle.vpn_tables.proofs.Peers.{fit_changed}
 use Rattle.vpn_tables.proofs.tables.VpnTables.set_peer_route.Goals as goal
 

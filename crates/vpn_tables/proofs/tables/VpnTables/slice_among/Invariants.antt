@@ -1,6 +1,6 @@
 use Rattle.std.proofs.Common.{◌≡◌, ◌++◌}
 use Rattle.std.specs.List.{filter}
-use Rattle.node_model.specs.Wants.{is_in_slice, slice}
+use Rattle.path_select.specs.NodeModel.Wants.{is_in_slice, slice}
 use Rattle.vpn_tables.proofs.tables.VpnTables.slice_among.Given as goal
 
 abbrev pub invariant-loop-key : goal.invariant-loop-key

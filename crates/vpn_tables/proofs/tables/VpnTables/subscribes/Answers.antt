@@ -2,9 +2,9 @@ use Rattle.std.proofs.Common.{ap, sym, ◌∙◌, Bor}
 use Rattle.std.specs.Prelude.{Option, option_copied}
 use Rattle.std.specs.Option.{is_some}
 use Rattle.std.specs.FinMap.{get, get-empty}
-use Rattle.node_model.specs.Keys.{Subscribe, key_cmp}
-use Rattle.node_model.specs.Paths.{Told}
-use Rattle.node_model.specs.Values.{Value}
+use Rattle.path_select.specs.NodeModel.Keys.{Subscribe, key_cmp}
+use Rattle.path_select.specs.NodeModel.Paths.{Told}
+use Rattle.path_select.specs.NodeModel.Values.{Value}
 use Rattle.vpn_tables.specs.declared.tables.Agent.{Agent}
 use Rattle.vpn_tables.specs.Listing.{told_by}
 use Rattle.vpn_tables.proofs.tables.VpnTables.subscribes.Goals as goal

@@ -1,7 +1,7 @@
 use Rattle.std.proofs.Common.{ap, sym, ◌∙◌, Bor}
 use Rattle.std.specs.Prelude.{Option, option_copied}
-use Rattle.node_model.specs.Paths.{Told}
-use Rattle.node_model.specs.Wants.{subscriptions}
+use Rattle.path_select.specs.NodeModel.Paths.{Told}
+use Rattle.path_select.specs.NodeModel.Wants.{subscriptions}
 use Rattle.vpn_tables.specs.declared.tables.Agent.{Agent}
 use Rattle.vpn_tables.specs.Listing.{told_by}
 use Rattle.vpn_tables.proofs.Listed.{none_subscribed}

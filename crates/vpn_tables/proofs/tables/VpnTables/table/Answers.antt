@@ -1,6 +1,6 @@
 use Rattle.std.proofs.Common.{◌∙◌, ap, List}
 use Rattle.std.specs.List.{filter}
-use Rattle.node_model.specs.Paths.{own_paths}
+use Rattle.path_select.specs.NodeModel.Paths.{own_paths}
 use Rattle.ov_types.specs.Prefix.{Block}
 use Rattle.path_select.specs.declared.selection.Path.{Path}
 use Rattle.vpn_tables.specs.Answers.{is_wanted}

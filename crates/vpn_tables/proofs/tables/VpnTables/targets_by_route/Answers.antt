@@ -1,7 +1,7 @@
 use Rattle.std.proofs.Common.{◌≡◌, ◌≢◌, ◌-◌, ℕ, suc, ◌++◌, ap, ◌∙◌, arith}
 use Rattle.std.specs.FinMap.{get}
 use Rattle.vpn_tables.specs.Moved.{map_at}
-use Rattle.node_model.specs.Keys.{Vpn}
+use Rattle.path_select.specs.NodeModel.Keys.{Vpn}
 use Rattle.vpn_tables.proofs.Before.{by_route, targets_told}
 use Rattle.vpn_tables.proofs.tables.VpnTables.targets_by_route.Goals as goal
 

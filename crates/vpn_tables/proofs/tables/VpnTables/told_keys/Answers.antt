@@ -1,5 +1,5 @@
 use Rattle.std.proofs.Common.{ap}
-use Rattle.node_model.specs.Paths.{Holdings}
+use Rattle.path_select.specs.NodeModel.Paths.{Holdings}
 use Rattle.vpn_tables.proofs.Gathering.{uses_in_range}
 use Rattle.vpn_tables.proofs.tables.VpnTables.told_keys.Goals as goal
 

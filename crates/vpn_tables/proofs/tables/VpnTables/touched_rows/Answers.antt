@@ -3,7 +3,7 @@ use Rattle.std.specs.List.{filter}
 use Rattle.ov_types.specs.Prefix.{Block}
 use Rattle.ov_types.specs.declared.numbers.InstanceId.{InstanceId}
 use Rattle.vpn_tables.specs.Touched.{imports_one, is_touched, rows_at_use}
-use Rattle.node_model.specs.Uses.{uses}
+use Rattle.path_select.specs.NodeModel.Uses.{uses}
 use Rattle.vpn_tables.proofs.Along.{along_passing}
 use Rattle.vpn_tables.proofs.tables.VpnTables.touched_rows.Goals as goal
 

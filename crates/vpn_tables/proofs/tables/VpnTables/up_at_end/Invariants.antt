@@ -1,5 +1,5 @@
 use Rattle.std.proofs.Common.{◌≡◌, ◌++◌, map, drop}
-use Rattle.node_model.specs.Reaching.{is_up}
+use Rattle.path_select.specs.NodeModel.Reaching.{is_up}
 use Rattle.vpn_tables.proofs.tables.VpnTables.up_at_end.Given as goal
 
 abbrev pub invariant-loop-subnet : goal.invariant-loop-subnet

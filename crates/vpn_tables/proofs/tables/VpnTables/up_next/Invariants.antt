@@ -1,5 +1,5 @@
 use Rattle.std.proofs.Common.{◌≡◌, ◌++◌, ◌+◌, map, drop}
-use Rattle.node_model.specs.Reaching.{is_up}
+use Rattle.path_select.specs.NodeModel.Reaching.{is_up}
 use Rattle.vpn_tables.proofs.tables.VpnTables.up_next.Given as goal
 
 abbrev pub invariant-loop-index : goal.invariant-loop-index

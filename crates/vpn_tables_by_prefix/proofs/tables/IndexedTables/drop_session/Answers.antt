@@ -1,8 +1,8 @@
 use Rattle.std.proofs.Common.{◌≡◌, ◌∙◌, ◌==◌, ap, sym, subst, cond, ℕ, zero, suc}
 use Rattle.std.specs.Prelude.{None}
 use Rattle.std.specs.FinMap.{empty}
-use Rattle.node_model.specs.Maps.{Map}
-use Rattle.node_model.specs.Paths.{Holdings}
+use Rattle.control_silent_agent_laws.specs.NodeModel.Maps.{Map}
+use Rattle.control_silent_agent_laws.specs.NodeModel.Paths.{Holdings}
 use Rattle.vpn_tables.specs.Changes.{without}
 use Rattle.vpn_tables_by_prefix.specs.Indexed.{AreInOrder, label_told, route_told}
 use Rattle.vpn_tables_by_prefix.specs.declared.keys.LabelAt.{LabelAt}

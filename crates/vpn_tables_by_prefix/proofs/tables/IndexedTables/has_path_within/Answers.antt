@@ -1,8 +1,8 @@
 use Rattle.std.proofs.Common.{◌∙◌, ap}
 use Rattle.std.specs.Prelude.{◌||◌}
 use Rattle.std.specs.List.{list_any}
-use Rattle.node_model.specs.Paths.{Holdings}
-use Rattle.node_model.specs.Reaching.{has_path_within}
+use Rattle.control_silent_agent_laws.specs.NodeModel.Paths.{Holdings}
+use Rattle.control_silent_agent_laws.specs.NodeModel.Reaching.{has_path_within}
 use Rattle.vpn_tables_by_prefix.specs.Indexed.{leads_label, leads_route}
 use Rattle.vpn_tables_by_prefix.proofs.Subnets.{any_is}
 use Rattle.vpn_tables_by_prefix.proofs.tables.IndexedTables.has_path_within.Goals as goal

@@ -3,9 +3,9 @@ use Rattle.std.specs.Prelude.{None}
 use Rattle.std.specs.FinMap.{empty, get, get-empty}
 use Rattle.std.specs.Map.{lookup}
 use Rattle.std.specs.BTreeMap.{is_at}
-use Rattle.node_model.specs.Keys.{Publish, Vpn, key_cmp}
-use Rattle.node_model.specs.Maps.{as_label}
-use Rattle.node_model.specs.Paths.{Holdings}
+use Rattle.control_silent_agent_laws.specs.NodeModel.Keys.{Publish, Vpn, key_cmp}
+use Rattle.control_silent_agent_laws.specs.NodeModel.Maps.{as_label}
+use Rattle.control_silent_agent_laws.specs.NodeModel.Paths.{Holdings}
 use Rattle.vpn_tables.specs.Changes.{nothing}
 use Rattle.vpn_tables_by_prefix.specs.Indexed.{AreInOrder, as_route, block_at, label_order, label_told, route_order, route_told, told_by_peer, vpn_key}
 use Rattle.vpn_tables_by_prefix.specs.declared.keys.LabelAt.{LabelAt}

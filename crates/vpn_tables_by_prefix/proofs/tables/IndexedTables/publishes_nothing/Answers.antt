@@ -9,10 +9,10 @@ use Rattle.std.specs.Ordering.{is_eq}
 use Rattle.std.proofs.lemmas.Bool.{eqb-true, or_cases, true≢false}
 use Rattle.std.proofs.lemmas.Bool.Decides.{nat_tests}
 use Rattle.ov_types.specs.declared.numbers.Label.{Label as LabelNo}
-use Rattle.node_model.specs.Keys.{Publish}
-use Rattle.node_model.specs.Maps.{as_label}
-use Rattle.node_model.specs.Paths.{Holdings}
-use Rattle.node_model.proofs.Members.{none_some}
+use Rattle.control_silent_agent_laws.specs.NodeModel.Keys.{Publish}
+use Rattle.control_silent_agent_laws.specs.NodeModel.Maps.{as_label}
+use Rattle.control_silent_agent_laws.specs.NodeModel.Paths.{Holdings}
+use Rattle.control_silent_agent_laws.proofs.NodeModel.Members.{none_some}
 use Rattle.control_silent_agent_laws.specs.Quiet.{PublishesNothing}
 use Rattle.vpn_tables.specs.Listing.{told_in}
 use Rattle.vpn_tables_by_prefix.specs.Indexed.{block_at, label_at, label_order}

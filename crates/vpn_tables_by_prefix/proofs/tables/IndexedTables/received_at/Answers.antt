@@ -1,7 +1,7 @@
 use Rattle.std.proofs.Common.{◌≡◌, ◌∙◌, List, subst}
 use Rattle.std.specs.Prelude.{◌↔◌}
-use Rattle.node_model.specs.Members.{Member}
-use Rattle.node_model.specs.Paths.{Holdings}
+use Rattle.control_silent_agent_laws.specs.NodeModel.Members.{Member}
+use Rattle.control_silent_agent_laws.specs.NodeModel.Paths.{Holdings}
 use Rattle.path_select.specs.declared.selection.Path.{Path}
 use Rattle.vpn_tables_by_prefix.specs.Indexed.{received_at}
 use Rattle.vpn_tables_by_prefix.proofs.Gathered.{all_gathered}

@@ -1,6 +1,6 @@
 use Rattle.std.proofs.Common.{List, sym, ◌∙◌, subst}
 use Rattle.std.specs.Prelude.{◌↔◌}
-use Rattle.node_model.specs.Members.{Member}
+use Rattle.control_silent_agent_laws.specs.NodeModel.Members.{Member}
 use Rattle.path_select.specs.declared.selection.Path.{Path}
 use Rattle.vpn_tables.specs.At.{paths_at}
 use Rattle.vpn_tables.proofs.Choosing.{chosen_row}

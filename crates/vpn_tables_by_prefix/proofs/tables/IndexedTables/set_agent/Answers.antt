@@ -7,9 +7,9 @@ use Rattle.std.specs.FinMap.{get}
 use Rattle.ov_types.specs.declared.numbers.Label.{Label}
 use Rattle.ov_types.specs.declared.prefix.Addr.{Addr}
 use Rattle.ov_types.specs.declared.vpn.VpnRoute.{VpnRoute}
-use Rattle.node_model.specs.Keys.{Publish}
-use Rattle.node_model.specs.Maps.{Map, as_label}
-use Rattle.node_model.specs.Paths.{Holdings}
+use Rattle.control_silent_agent_laws.specs.NodeModel.Keys.{Publish}
+use Rattle.control_silent_agent_laws.specs.NodeModel.Maps.{Map, as_label}
+use Rattle.control_silent_agent_laws.specs.NodeModel.Paths.{Holdings}
 use Rattle.vpn_tables.specs.Changes.{with_agent}
 use Rattle.vpn_tables_by_prefix.specs.Indexed.{AreInOrder, AreLabels, AreRoutes, block_at}
 use Rattle.vpn_tables_by_prefix.specs.declared.keys.LabelAt.{LabelAt}

@@ -1,6 +1,6 @@
 use Rattle.std.proofs.Common.{subst}
-use Rattle.node_model.specs.Paths.{Holdings}
-use Rattle.node_model.specs.Reaching.{AreShort}
+use Rattle.control_silent_agent_laws.specs.NodeModel.Paths.{Holdings}
+use Rattle.control_silent_agent_laws.specs.NodeModel.Reaching.{AreShort}
 use Rattle.vpn_tables_by_prefix.proofs.tables.IndexedTables.uses_are_short.Goals as goal
 
 pub returns : goal.returns

@@ -1,0 +1,5 @@
+-- What is passed on of `config_check`, so that the crates above need not list it.
+pub use Rattle.config_check.specs.Checked
+pub use Rattle.config_check.specs.Finding
+pub use Rattle.config_check.specs.Rules
+pub use Rattle.config_check.specs.Sentences

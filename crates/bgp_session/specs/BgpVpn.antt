@@ -1,0 +1,2 @@
+-- What is passed on of `bgp_vpn`, so that the crates above need not list it.
+pub use Rattle.bgp_vpn.specs.Written

@@ -1,0 +1,34 @@
+-- What is answered to the number of a scenario, and what is left and promised of it.
+use Rattle.std.specs.Prelude.{◌≡◌, ℕ, List}
+use Rattle.std.specs.declared.option.Option.{Option}
+use Rattle.std.specs.declared.option.Option.TheVariants.{Some}
+use Rattle.std.specs.Io.KnownBytes.{Appends}
+use Rattle.config_check.specs.Rules.{first_broken}
+use Rattle.compile_answers.specs.Answers.{DocumentAnswer, answer_checked}
+use Rattle.scenario_gen.specs.Scenario.{scenario}
+use Rattle.net_machine.specs.NetState.{NetState}
+use Rattle.net_machine.specs.Taken.{HasTaken}
+use Rattle.net_machine.specs.ScheduleLaws.TiedCompiled.{AreAsCompiled}
+use Rattle.net_machine.specs.ScheduleLaws.Isolated.{IsIsolated}
+use Rattle.net_machine.specs.ScheduleLaws.Runs.{answers}
+use Rattle.gen_answers.specs.Agreed.{PacketsAgree}
+use Rattle.gen_answers.specs.Scheduled.{opening, schedule}
+use Rattle.gen_answers.specs.Generating.{summary_text}
+
+-- what `gen` answers of a scenario
+unfoldable pub gen_answer : ℕ → DocumentAnswer
+gen_answer n = answer_checked (first_broken (scenario n).topology (scenario n).config) (summary_text n)
+
+-- the network that `gen` leaves of a scenario: it took the scenario's events, and then a trace for each of its packets
+pub record IsLeftOfScenario (n : ℕ) (left : Option NetState) : Type 0 where
+  pub net : NetState
+  pub is_left : left ≡ Some net
+  pub took : HasTaken (opening n) (schedule n) net
+
+-- what was taken is the summary of a scenario, whose answers are as compiled and isolated: each of its packets has the
+-- outcome that policies give
+pub record TookSummary (n : ℕ) (old new : Option (List ℕ)) : Type 0 where
+  pub taken : Appends old new (summary_text n)
+  pub compiled : AreAsCompiled (opening n) (schedule n) (answers (opening n) (schedule n))
+  pub isolated : IsIsolated (opening n) (schedule n) (answers (opening n) (schedule n))
+  pub agree : PacketsAgree n

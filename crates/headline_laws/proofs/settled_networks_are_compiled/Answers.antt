@@ -1,5 +1,0 @@
-use Rattle.headline_laws.proofs.Written.{written_tables_are_compiled}
-use Rattle.headline_laws.proofs.settled_networks_are_compiled.Goals as goal
-
-pub returns : goal.returns
-returns c = written_tables_are_compiled

@@ -1,2 +1,0 @@
--- The file of definitions.
-pub mod Headline

@@ -1,5 +1,0 @@
-use Rattle.machine_closing_laws.proofs.Staying.{nodes_stay_joined}
-use Rattle.machine_closing_laws.proofs.nodes_close_no_session_but_by_a_failed_send.Goals as goal
-
-pub returns : goal.returns
-returns c = nodes_stay_joined

@@ -1,5 +1,0 @@
-use Rattle.machine_compiled_laws.proofs.Final.{tables_are_compiled}
-use Rattle.machine_compiled_laws.proofs.moment_laws.tables_are_compiled.Goals as goal
-
-pub returns : goal.returns
-returns c = tables_are_compiled

@@ -1,5 +1,0 @@
-use Rattle.machine_isolation_laws.proofs.Yet.{moves_nothing_yet}
-use Rattle.machine_isolation_laws.proofs.edits_move_no_packet_yet.Goals as goal
-
-pub returns : goal.returns
-returns c = moves_nothing_yet

@@ -1,5 +1,0 @@
-use Rattle.machine_isolation_laws.proofs.Past.{not_present}
-use Rattle.machine_isolation_laws.proofs.relations_of_the_past_are_needed.Goals as goal
-
-pub returns : goal.returns
-returns c = not_present

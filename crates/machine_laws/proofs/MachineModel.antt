@@ -1,0 +1,20 @@
+-- What is passed on of `machine_model`, so that the crates above need not list it.
+pub use Rattle.machine_model.proofs.Apart
+pub use Rattle.machine_model.proofs.Asking
+pub use Rattle.machine_model.proofs.AtRest
+pub use Rattle.machine_model.proofs.Changing
+pub use Rattle.machine_model.proofs.Deeds
+pub use Rattle.machine_model.proofs.Distinct
+pub use Rattle.machine_model.proofs.EveryMoment
+pub use Rattle.machine_model.proofs.Feed
+pub use Rattle.machine_model.proofs.Idle
+pub use Rattle.machine_model.proofs.Listed
+pub use Rattle.machine_model.proofs.NetworkFact
+pub use Rattle.machine_model.proofs.NodesFact
+pub use Rattle.machine_model.proofs.Numbered
+pub use Rattle.machine_model.proofs.Replaced
+pub use Rattle.machine_model.proofs.SessionFact
+pub use Rattle.machine_model.proofs.Start
+pub use Rattle.machine_model.proofs.ToldEdits
+pub use Rattle.machine_model.proofs.ToldNext
+pub use Rattle.machine_model.proofs.Twins

@@ -1,0 +1,19 @@
+-- The files of definitions, in the order in which they stand on each other.
+pub mod Settling
+pub mod Small
+pub mod Closing
+pub mod Compiled
+pub mod Sound
+pub mod Goal
+pub mod Setups
+pub mod Moments
+pub mod Headline
+pub mod Tied
+pub mod TiedMoments
+pub mod Running
+pub mod Stood
+pub mod Refusing
+pub mod Untied
+pub mod Past
+pub mod MachineModel
+pub mod TransformModel

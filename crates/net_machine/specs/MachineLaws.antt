@@ -1,0 +1,3 @@
+-- What is passed on of `machine_laws`, so that the crates above need not list it.
+pub use Rattle.running_laws.specs.MachineLaws.Headline
+pub use Rattle.running_laws.specs.MachineLaws.Refusing

@@ -1,0 +1,4 @@
+-- What is passed on of `config_node`, so that the crates above need not list it.
+pub use Rattle.config_node.specs.Beginning
+pub use Rattle.config_node.specs.Core
+pub use Rattle.config_node.specs.Setting

@@ -1,6 +1,0 @@
-use Rattle.running_step_laws.proofs.Started.{fresh_seats_stand}
-use Rattle.running_step_laws.proofs.Given.{given}
-use Rattle.running_step_laws.proofs.fresh_seats_stand_for_the_start.Goals as goal
-
-pub returns : goal.returns
-returns c = fresh_seats_stand given

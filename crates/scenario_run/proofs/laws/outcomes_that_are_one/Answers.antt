@@ -1,5 +1,0 @@
-use Rattle.scenario_run.proofs.Sameness.{same_is_one}
-use Rattle.scenario_run.proofs.laws.outcomes_that_are_one.Goals as goal
-
-pub returns : goal.returns
-returns c = same_is_one

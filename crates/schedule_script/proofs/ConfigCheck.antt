@@ -1,0 +1,6 @@
+-- What is passed on of `config_check`, so that the crates above need not list it.
+pub use Rattle.config_check.proofs.EachRule
+pub use Rattle.config_check.proofs.EditLaws
+pub use Rattle.config_check.proofs.Iffs
+pub use Rattle.config_check.proofs.Straight
+pub use Rattle.config_check.proofs.Validity

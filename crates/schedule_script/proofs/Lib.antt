@@ -1,0 +1,2 @@
+pub mod ConfigCheck
+pub mod ChainExpand

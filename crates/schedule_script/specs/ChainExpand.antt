@@ -1,0 +1,3 @@
+-- What is passed on of `chain_expand`, so that the crates above need not list it.
+pub use Rattle.config_check.specs.ChainExpand.Expansion
+pub use Rattle.config_check.specs.ChainExpand.Leading

@@ -1,0 +1,3 @@
+pub mod ConfigCheck
+pub mod ConfigTypes
+pub mod ChainExpand

@@ -1,0 +1,3 @@
+pub mod TransformModel
+pub mod ReachPlain
+pub mod AclCompile
