@@ -3,14 +3,16 @@
 cookbook.py PROGRAM
 
 A line of a page that is indented and begins with `$ ` is a command, and the indented lines under it, up to the next one, are its
-output; in the manual page these lines are literal displays. The commands are run in order by bash, in a temporary folder with
-`examples` in it, and with PROGRAM, a built `overlay`, in place of `crates/overlay/out/overlay`; what they write to standard output
-and to standard error is compared, but for what tshark says to root. Needs Python 3.8, bash, and the commands that the pages use:
-cut, diff, grep, sed, tshark, uniq. Ends with status 1 where an output differs, or where the manual page is not the one that the
-gate reads.
+output, with the empty lines between them; in the manual page these lines are literal displays. The commands are run in order by
+bash, in a temporary folder with links to `examples`, `tests` and `tools`, where PROGRAM, a built `overlay`, is first on the path,
+and stands in the place of `out/overlay-unproved` and of `crates/overlay/out/overlay`. A `make &&` in front of a command is left
+out: it would build. What is written to standard output and to standard error is compared. No command is to leave a file at the
+top. Needs Python 3.10, bash, and the commands that the pages use: cut, diff, grep, jq, sed, uniq, yq. Ends with status 1 where an
+output differs, where a file is left, or where the manual page is not the one that the gate reads.
 """
 import os
 import pathlib
+import re
 import shlex
 import subprocess
 import sys
@@ -19,10 +21,12 @@ import tempfile
 TOP = pathlib.Path(__file__).resolve().parent.parent
 PAGES = ("README.md", "docs/COOKBOOK.md", "docs/overlay.1")
 READ = "crates/man_page_tests/stdin"
-WRITTEN = "crates/overlay/out/overlay"
+WRITTEN = re.compile("crates/overlay/out/overlay|out/overlay-unproved")
+BUILDS = "make && "
+LINKS = ("examples", "tests", "tools")
+MADE = ("bin", "out")  # folders that are there before, beside the links
 INDENT = "    "
 PROMPT = "$ "
-WARNING = 'Running as user "root" and group "root". This could be dangerous.'
 SECONDS = 600
 
 
@@ -34,8 +38,7 @@ def printed(text):
             inside = line == ".Bd -literal -offset indent"
             yield ""
         else:
-            plain = line.replace("\\-", "-").replace(f"{PROMPT}overlay ", f"{PROMPT}{WRITTEN} ")
-            yield INDENT + plain if inside else ""
+            yield INDENT + line.replace("\\-", "-") if inside else ""
 
 
 def lines_of(page):
@@ -45,41 +48,61 @@ def lines_of(page):
 
 def commands_of(page):
     """The place of each command of a page, the command, and the lines of its output."""
-    commands, inside = [], False
+    commands, inside, blank = [], False, []
     for number, line in enumerate(lines_of(page), 1):
         text = line[len(INDENT):]
-        if not line.startswith(INDENT):
+        if not line:
+            blank.append("")
+        elif not line.startswith(INDENT):
             inside = False
         elif text.startswith(PROMPT):
             commands.append((f"{page}:{number}", text[len(PROMPT):], []))
             inside = True
         elif inside:
-            commands[-1][2].append(text)
+            commands[-1][2].extend([*blank, text])
+        if line:
+            blank = []
     return commands
+
+
+def runnable(program, command):
+    """A command as it is run here."""
+    command = WRITTEN.sub(lambda _: shlex.quote(program), command)
+    return command[len(BUILDS):] if command.startswith(BUILDS) else command
 
 
 def differs(program, folder, command, wanted):
     """Returns what differs in the output of a command, or an empty text."""
-    words = ["bash", "-c", command.replace(WRITTEN, shlex.quote(program))]
+    words = ["bash", "-c", runnable(program, command)]
     nothing, ends = subprocess.DEVNULL, {"stdout": subprocess.PIPE, "stderr": subprocess.STDOUT}
+    path = os.pathsep.join([os.path.join(folder, "bin"), os.environ["PATH"]])
     try:
-        ran = subprocess.run(words, cwd=folder, stdin=nothing, timeout=SECONDS, **ends)
+        ran = subprocess.run(words, cwd=folder, env={**os.environ, "PATH": path}, stdin=nothing, timeout=SECONDS, **ends)
     except subprocess.TimeoutExpired:
         return f"no answer in {SECONDS} seconds"
-    got = [line for line in ran.stdout.decode(errors="replace").splitlines() if line != WARNING]
+    got = ran.stdout.decode(errors="replace").splitlines()
     if got != wanted:
         place = next((i for i, (a, b) in enumerate(zip(got, wanted)) if a != b), min(len(got), len(wanted)))
         return f"output {place + 1}: {got[place:place + 1]} in place of {wanted[place:place + 1]}"
-    return ""
+    left = sorted(set(os.listdir(folder)) - {*LINKS, *MADE})
+    return f"it leaves {left} at the top" if left else ""
+
+
+def prepare(program, folder):
+    for name in LINKS:
+        os.symlink(TOP / name, os.path.join(folder, name))
+    for name in MADE:
+        os.mkdir(os.path.join(folder, name))
+    os.symlink(program, os.path.join(folder, "bin", "overlay"))
 
 
 def main(program):
     commands = [command for page in PAGES for command in commands_of(page)]
     agree = 0
     with tempfile.TemporaryDirectory() as folder:
-        os.symlink(TOP / "examples", os.path.join(folder, "examples"))
+        prepare(program, folder)
         for place, command, wanted in commands:
-            said = differs(os.path.abspath(program), folder, command, wanted)
+            said = differs(program, folder, command, wanted)
             agree += not said
             if said:
                 print(f"{place}: {command}: {said}")
@@ -93,4 +116,4 @@ def main(program):
 if __name__ == "__main__":
     if len(sys.argv) != 2:
         sys.exit(__doc__)
-    sys.exit(main(sys.argv[1]))
+    sys.exit(main(os.path.abspath(sys.argv[1])))
