@@ -3,6 +3,8 @@
 #![tactic(auto)]
 
 mod answers;
+mod entries;
+mod line;
 mod lined;
 mod lines;
 mod lists;

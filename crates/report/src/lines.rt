@@ -5,8 +5,8 @@ ghost use Rattle.ov_types.specs.Texts.{address_text};
 ghost use Rattle.report.specs.Lines.{drop_line, fault_line, incomplete_line, key_text, notification_line, open_line};
 ghost use Rattle.report.specs.Lines.{put_line, route_line};
 
+use crate::line::Line;
 use crate::targets::line_end;
-use line_text::Line;
 use ov_io::TextOut;
 use ov_types::{Addr, Label, NoMemory, Rd, VpnKey, VpnRoute};
 use std::alloc::Global;
@@ -58,7 +58,7 @@ pub fn put_lines(
 }
 
 /// Whether a distinguisher is of a type that has a form of its own.
-fn is_named(rd: Rd) -> bool
+pub(crate) fn is_named(rd: Rd) -> bool
     ensures { IsTrue result → rd.0 / 2 ^ 48 ≤ 2 }
 {
     rd.0 >> 48 <= 2

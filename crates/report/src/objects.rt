@@ -1,23 +1,21 @@
 //! The lines of low-level objects.
 ghost use Rattle.std.specs.Prelude.{◌≡◌, ◌++◌, Some, IfOk, OnOk, OnErr, string_bytes};
 ghost use Rattle.ov_types.specs.Texts.{address_text};
-ghost use Rattle.report.specs.Objects.{action_text, entry_line, entry_text, home_text, key_text, lines_behind};
-ghost use Rattle.report.specs.Objects.{low_lines, object_line, object_lines, protocol_text, range_text, rules_of};
-ghost use Rattle.report.specs.Objects.{said_text, side_text};
+ghost use Rattle.report.specs.Objects.{home_text, key_text, lines_behind, low_lines, object_line, object_lines};
+ghost use Rattle.report.specs.Objects.{rules_of, said_text, side_text};
 ghost use Rattle.route_targets.specs.Numbers.{circuit_address_of};
 
+use crate::entries::append_entries;
 use crate::lined::{LinesOf, append_each};
 use crate::lists::joined;
 use ov_io::TextOut;
-use ov_types::{
-    AclAction, AclRule, Addr, InstanceId, Low, LowKey, LowValue, NoMemory, Prefix, Range16,
-};
+use ov_types::{AclRule, Addr, InstanceId, Low, LowKey, LowValue, NoMemory, Prefix};
 use std::alloc::{AllocError, Global};
 use std::fmt;
 
 /// What names an object, as it is printed.
 #[derive(Clone, Copy)]
-struct KeyText(LowKey);
+pub(crate) struct KeyText(pub(crate) LowKey);
 
 impl fmt::Display for KeyText {
     ghost output = { λ k. Some (key_text k.0) };
@@ -63,66 +61,6 @@ impl fmt::Display for HomeText {
     }
 }
 
-#[derive(Clone, Copy)]
-struct ProtocolText(Option<u8>);
-
-impl fmt::Display for ProtocolText {
-    ghost output = { λ p. Some (protocol_text p.0) };
-
-    fn fmt<W: fmt::Write>(&self, f: &mut fmt::Formatter<W>) -> fmt::Result {
-        match self.0 {
-            None => write!(f, "any"),
-            Some(protocol) => write!(f, "{protocol}"),
-        }
-    }
-}
-
-#[derive(Clone, Copy)]
-struct RangeText(Range16);
-
-impl fmt::Display for RangeText {
-    ghost output = { λ r. Some (range_text r.0) };
-
-    fn fmt<W: fmt::Write>(&self, f: &mut fmt::Formatter<W>) -> fmt::Result {
-        let lo = self.0.lo;
-        let hi = self.0.hi;
-        write!(f, "{lo}-{hi}")
-    }
-}
-
-#[derive(Clone, Copy)]
-struct ActionText(AclAction);
-
-impl fmt::Display for ActionText {
-    ghost output = { λ a. Some (action_text a.0) };
-
-    fn fmt<W: fmt::Write>(&self, f: &mut fmt::Formatter<W>) -> fmt::Result {
-        match self.0 {
-            AclAction::Pass => write!(f, "pass"),
-            AclAction::Deny => write!(f, "deny"),
-            AclAction::Enter(instance) => write!(f, "enter {instance}"),
-        }
-    }
-}
-
-/// An entry of an access list, as it is printed.
-#[derive(Clone, Copy)]
-struct EntryText(AclRule);
-
-impl fmt::Display for EntryText {
-    ghost output = { λ e. Some (entry_text e.0) };
-
-    #[tactic(auto, unfolding(crate::specs::Objects::entry_text))]
-    fn fmt<W: fmt::Write>(&self, f: &mut fmt::Formatter<W>) -> fmt::Result {
-        let rule = self.0.rule;
-        let protocol = ProtocolText(self.0.protocol);
-        let sports = RangeText(self.0.sports);
-        let dports = RangeText(self.0.dports);
-        let action = ActionText(self.0.action);
-        write!(f, "{rule} {protocol} {sports} {dports} {action}")
-    }
-}
-
 /// The host address of a circuit of any number. Past the last circuit it goes on, and then begins anew.
 fn circuit_address(circuit: u32) -> Addr
     ensures { address_text result.0 ≡ address_text (circuit_address_of circuit).0 }
@@ -137,25 +75,6 @@ fn append_line(front: &str, key: LowKey, said: &str, out: &mut TextOut) -> Resul
 {
     let key = KeyText(key);
     write!(out, "{front}{key} {said}\n")
-}
-
-/// The lines of the entries of an access list, each behind a front.
-#[derive(Clone, Copy)]
-struct EntryLines<'a> {
-    front: &'a str,
-    key: LowKey,
-}
-
-impl LinesOf<AclRule> for EntryLines<'_> {
-    ghost lines = { λ w rule. entry_line w.front.now w.key rule };
-
-    #[tactic(auto, unfolding(crate::specs::Objects::object_line, crate::specs::Objects::entry_line))]
-    fn append(&self, _alloc: Global, rule: &AclRule, out: &mut TextOut) -> Result<(), NoMemory> {
-        let front = self.front;
-        let key = KeyText(self.key);
-        let entry = EntryText(*rule);
-        write!(out, "{front}{key} rule {entry}\n")
-    }
 }
 
 /// One side of a chain's use: its network, and the subnets there.
@@ -235,11 +154,7 @@ pub(crate) fn lines_behind(
     let said = said_of(alloc, &object.1)?;
     let mut lines = TextOut::new(alloc);
     append_line(front, object.0, said.as_str(), &mut lines)?;
-    let entries = EntryLines {
-        front,
-        key: object.0,
-    };
-    append_each(alloc, &entries, rules_of(&object.1), &mut lines)?;
+    append_entries(alloc, front, object.0, rules_of(&object.1), &mut lines)?;
     out.push(lines.octets())
 }
 

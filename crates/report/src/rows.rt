@@ -1,9 +1,12 @@
 //! The lines of the rows of nodes.
-ghost use Rattle.std.specs.Prelude.{◌≡◌, ◌++◌, Some, OnOk, OnErr};
+ghost use Rattle.std.specs.Prelude.{◌≡◌, ◌≤◌, ◌+◌, ◌/◌, ◌^◌, ◌++◌, length, Some, OnOk, OnErr};
+ghost use Rattle.ov_types.specs.Rows.{table_row_text};
 ghost use Rattle.report.specs.Rows.{agent_acl_lines, agent_label_line, agent_lines, agent_row_line, attached_text};
 ghost use Rattle.report.specs.Rows.{control_lines, control_row_line, node_lines};
 
+use crate::line::Line;
 use crate::lined::{LinesOf, append_each};
+use crate::lines::is_named;
 use crate::objects::lines_behind;
 use ov_io::TextOut;
 use ov_types::{
@@ -12,6 +15,62 @@ use ov_types::{
 };
 use std::alloc::Global;
 use std::fmt;
+
+/// Puts where a row leads before a line.
+#[tactic(auto, unfolding(ov_types::specs::Rows::table_row_text))]
+fn prepend_row(line: &mut Line, row: &TableRow)
+    requires named { row.now.rd.0 / 2 ^ 48 ≤ 2 }
+    requires room { length line.old + 48 ≤ 128 }
+    ensures text { line.new ≡ table_row_text row.now ++ line.old }
+    ensures short { length line.new ≤ length line.old + 48 }
+{
+    line.prepend_number(row.label.0);
+    line.prepend(b" ");
+    line.prepend_address(row.next_hop);
+    line.prepend(b" ");
+    line.prepend_distinguisher(row.rd);
+}
+
+/// The line of a row of a control node, where its distinguisher has a form of its own.
+#[tactic(auto, unfolding(crate::specs::Rows::control_row_line))]
+fn control_row_line(node: &Name, row: &((InstanceId, Prefix), TableRow)) -> Line
+    requires { row.now.1.rd.0 / 2 ^ 48 ≤ 2 }
+    ensures { result ≡ control_row_line node.now row.now }
+{
+    let (instance, prefix) = row.0;
+    let mut line = Line::new();
+    line.prepend(b"\n");
+    prepend_row(&mut line, &row.1);
+    line.prepend(b" ");
+    line.prepend_prefix(&prefix);
+    line.prepend(b" ");
+    line.prepend_short_number(instance.0);
+    line.prepend(b" table ");
+    line.prepend_name(node);
+    line.prepend(b"control ");
+    line
+}
+
+/// The line of a row of an agent.
+#[tactic(auto, unfolding(crate::specs::Rows::agent_row_line))]
+fn agent_row_line(node: &Name, row: &((InstanceId, Prefix), Entry)) -> Line
+    ensures { result ≡ agent_row_line node.now row.now }
+{
+    let (instance, prefix) = row.0;
+    let mut line = Line::new();
+    line.prepend(b"\n");
+    line.prepend_number(row.1.label.0);
+    line.prepend(b" ");
+    line.prepend_address(row.1.next_hop);
+    line.prepend(b" ");
+    line.prepend_prefix(&prefix);
+    line.prepend(b" ");
+    line.prepend_short_number(instance.0);
+    line.prepend(b" table ");
+    line.prepend_name(node);
+    line.prepend(b"agent ");
+    line
+}
 
 /// The lines of the rows of a control node.
 #[derive(Clone, Copy)]
@@ -29,9 +88,11 @@ impl LinesOf<((InstanceId, Prefix), TableRow)> for ControlRowLines {
         row: &((InstanceId, Prefix), TableRow),
         out: &mut TextOut,
     ) -> Result<(), NoMemory> {
+        if is_named(row.1.rd) {
+            return out.push(control_row_line(&self.node, row).octets());
+        }
         let node = self.node;
-        let instance = row.0.0;
-        let prefix = row.0.1;
+        let (instance, prefix) = row.0;
         let leads = row.1;
         write!(out, "control {node} table {instance} {prefix} {leads}\n")
     }
@@ -128,22 +189,13 @@ pub struct AgentRowLines {
 impl LinesOf<((InstanceId, Prefix), Entry)> for AgentRowLines {
     ghost lines = { λ w row. agent_row_line w.node row };
 
-    #[tactic(auto, unfolding(crate::specs::Rows::agent_row_line))]
     fn append(
         &self,
         _alloc: Global,
         row: &((InstanceId, Prefix), Entry),
         out: &mut TextOut,
     ) -> Result<(), NoMemory> {
-        let node = self.node;
-        let instance = row.0.0;
-        let prefix = row.0.1;
-        let next_hop = row.1.next_hop;
-        let label = row.1.label;
-        write!(
-            out,
-            "agent {node} table {instance} {prefix} {next_hop} {label}\n"
-        )
+        out.push(agent_row_line(&self.node, row).octets())
     }
 }
 

@@ -1,9 +1,11 @@
-//! Lines of numbers and addresses, made of octets from their end to their front.
+//! Lines of numbers and addresses, made of octets from their end to their front, without a formatter.
 ghost use Rattle.std.specs.Prelude.{◌≡◌, ◌≤◌, ◌+◌, ◌/◌, ◌++◌, ◌^◌, [], length, decimal};
+ghost use Rattle.std.specs.Prelude.{IsTrue};
 ghost use Rattle.ov_types.specs.Texts.{address_text, distinguisher_text, kinded_text, prefix_text};
+ghost use Rattle.report.specs.Objects.{range_text};
 
 use itoa::write_digits;
-use ov_types::{Addr, Prefix, Rd};
+use ov_types::{Addr, Name, Prefix, Range16, Rd};
 use std::marker::Model;
 
 /// How many octets a line has at most.
@@ -11,7 +13,7 @@ const ROOM: usize = 128;
 
 /// A line before which more can be put: its octets stand at the end of those that there is room for.
 #[derive(Drop)]
-pub struct Line {
+pub(crate) struct Line {
     octets: [u8; ROOM],
     start: usize,
 }
@@ -28,7 +30,7 @@ impl Model for Line {
 
 impl Line {
     /// No octets.
-    pub fn new() -> Line
+    pub(crate) fn new() -> Line
         ensures { result ≡ [] }
     {
         Line {
@@ -37,7 +39,7 @@ impl Line {
         }
     }
 
-    pub fn octets(&self) -> &[u8]
+    pub(crate) fn octets(&self) -> &[u8]
         ensures { result.now ≡ self.now }
     {
         &self.octets[self.start..]
@@ -45,7 +47,7 @@ impl Line {
 
     /// Puts a text before the line.
     #[inline(always)]
-    pub fn prepend(&mut self, text: &[u8])
+    pub(crate) fn prepend(&mut self, text: &[u8])
         requires { length self.old + length text.now ≤ 128 }
         ensures { self.new ≡ text.now ++ self.old }
     {
@@ -65,7 +67,7 @@ impl Line {
     }
 
     /// Puts a number in decimal before the line.
-    pub fn prepend_number(&mut self, n: u32)
+    pub(crate) fn prepend_number(&mut self, n: u32)
         requires { length self.old + 10 ≤ 128 }
         ensures text { self.new ≡ decimal n ++ self.old }
         ensures short { length self.new ≤ length self.old + 10 }
@@ -74,7 +76,7 @@ impl Line {
     }
 
     /// Puts a number of two octets in decimal before the line.
-    pub fn prepend_short_number(&mut self, n: u16)
+    pub(crate) fn prepend_short_number(&mut self, n: u16)
         requires { length self.old + 5 ≤ 128 }
         ensures text { self.new ≡ decimal n ++ self.old }
         ensures short { length self.new ≤ length self.old + 5 }
@@ -83,7 +85,7 @@ impl Line {
     }
 
     /// Puts a number of one octet in decimal before the line.
-    pub fn prepend_octet(&mut self, n: u8)
+    pub(crate) fn prepend_octet(&mut self, n: u8)
         requires { length self.old + 3 ≤ 128 }
         ensures text { self.new ≡ decimal n ++ self.old }
         ensures short { length self.new ≤ length self.old + 3 }
@@ -92,7 +94,7 @@ impl Line {
     }
 
     /// Puts an address before the line.
-    pub fn prepend_address(&mut self, address: Addr)
+    pub(crate) fn prepend_address(&mut self, address: Addr)
         requires { length self.old + 15 ≤ 128 }
         ensures text { self.new ≡ address_text address.0 ++ self.old }
         ensures short { length self.new ≤ length self.old + 15 }
@@ -108,7 +110,7 @@ impl Line {
     }
 
     /// Puts a prefix before the line.
-    pub fn prepend_prefix(&mut self, prefix: &Prefix)
+    pub(crate) fn prepend_prefix(&mut self, prefix: &Prefix)
         requires { length self.old + 19 ≤ 128 }
         ensures text { self.new ≡ prefix_text prefix.now ++ self.old }
         ensures short { length self.new ≤ length self.old + 19 }
@@ -116,6 +118,26 @@ impl Line {
         self.prepend_octet(prefix.len());
         self.prepend(b"/");
         self.prepend_address(prefix.addr());
+    }
+
+    /// Puts a range of ports before the line.
+    pub(crate) fn prepend_range(&mut self, range: Range16)
+        requires { length self.old + 11 ≤ 128 }
+        ensures text { self.new ≡ range_text range ++ self.old }
+        ensures short { length self.new ≤ length self.old + 11 }
+    {
+        self.prepend_short_number(range.hi);
+        self.prepend(b"-");
+        self.prepend_short_number(range.lo);
+    }
+
+    /// Puts a name before the line.
+    pub(crate) fn prepend_name(&mut self, name: &Name)
+        requires { length self.old + 32 ≤ 128 }
+        ensures text { self.new ≡ name.now ++ self.old }
+        ensures short { length self.new ≤ length self.old + 32 }
+    {
+        self.prepend(name.text().as_bytes());
     }
 
     /// Puts a distinguisher or a target before the line that is `AS:N` with two octets and four.
@@ -170,7 +192,7 @@ impl Line {
     }
 
     /// Puts a distinguisher before the line, of a type that has a form of its own.
-    pub fn prepend_distinguisher(&mut self, rd: Rd)
+    pub(crate) fn prepend_distinguisher(&mut self, rd: Rd)
         requires named { rd.0 / 2 ^ 48 ≤ 2 }
         requires room { length self.old + 21 ≤ 128 }
         ensures text { self.new ≡ distinguisher_text rd.0 ++ self.old }

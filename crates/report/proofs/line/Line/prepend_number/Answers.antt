@@ -1,6 +1,6 @@
 use Rattle.std.proofs.Common.{rules}
 use Rattle.std.proofs.lemmas.Fmt.{length-decimal-le}
-use Rattle.line_text.proofs.line.Line.prepend_number.Goals as goal
+use Rattle.report.proofs.line.Line.prepend_number.Goals as goal
 
 pub prepend_digits-requires : goal.prepend_digits-requires
 prepend_digits-requires c = search (rules, length-decimal-le 10)

@@ -1,9 +1,9 @@
 use Rattle.std.proofs.Common.{rules}
 use Rattle.std.proofs.lemmas.Fmt.{length-decimal-le}
-use Rattle.line_text.proofs.line.Line.prepend_short_number.Goals as goal
+use Rattle.report.proofs.line.Line.prepend_octet.Goals as goal
 
 pub prepend_digits-requires : goal.prepend_digits-requires
-prepend_digits-requires c = search (rules, length-decimal-le 5)
+prepend_digits-requires c = search (rules, length-decimal-le 3)
 
 pub returns-clause-short : goal.returns-clause-short
-returns-clause-short c = search (rules, length-decimal-le 5)
+returns-clause-short c = search (rules, length-decimal-le 3)
