@@ -32,6 +32,8 @@ use Rattle.running_laws.proofs.Started.{fresh_seats_stand}
 use Rattle.schedule_tied_answers.specs.declared.answer.TiedAnswer.{TiedAnswer}
 use Rattle.schedule_laws.specs.TiedCompiled.{EndsAtOnce, IsAsCompiled}
 use Rattle.schedule_laws.specs.Isolated.{DeliversSoFar, DeliversTied}
+use Rattle.machine_revocation_laws.specs.Schedules.{RevokedSoFar}
+use Rattle.machine_revocation_laws.proofs.Placed.{revoked_here}
 use Rattle.schedule_laws.specs.Runs.{answer_tied, tied_moment}
 use Rattle.schedule_laws.proofs.Kept.{asked_with_ties, tied_more}
 use Rattle.schedule_laws.proofs.Moments.{compiled_here, ends_here, isolated_here, joined_here}
@@ -187,6 +189,9 @@ module _ (x : Checked) (es : List Event) (ties : Kept) (seats : List Seat) (orde
 
     pub step_isolated : DeliversSoFar x es e answer
     step_isolated = subst (DeliversSoFar x es e) (sym step_answers) (isolated_here x r.written es r.forms e)
+
+    pub step_revoked : RevokedSoFar x es e answer
+    step_revoked = subst (RevokedSoFar x es e) (sym step_answers) (revoked_here x r.written es r.forms e)
 
     pub step_joined : DeliversTied (ties_in ties) e answer
     step_joined =

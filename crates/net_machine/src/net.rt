@@ -15,6 +15,7 @@ ghost use Rattle.running_nodes.specs.RunningModel.Steps.{fresh_seat};
 ghost use Rattle.schedule_tied_answers.specs.Answers.{OfAnswer};
 ghost use Rattle.schedule_laws.specs.TiedCompiled.{EndsAtOnce, IsAsCompiled};
 ghost use Rattle.schedule_laws.specs.Isolated.{DeliversSoFar, DeliversTied};
+ghost use Rattle.machine_revocation_laws.specs.Schedules.{RevokedSoFar};
 ghost use Rattle.schedule_laws.specs.Runs.{answer_tied, tied_moment};
 ghost use Rattle.net_machine.specs.Shown.{ShowsCompiled};
 ghost use Rattle.net_machine.specs.Tying.{OfTie};
@@ -134,6 +135,9 @@ impl Net {
         // Isolation, settled or not.
         ensures every_moment { IfOk result (DeliversSoFar self.old.opening self.old.events event) }
         ensures joined { IfOk result (DeliversTied (ties_in self.old.ties) event) }
+
+        // What an edit took away, two rounds later.
+        ensures revoked { IfOk result (RevokedSoFar self.old.opening self.old.events event) }
 
         ensures opening { self.new.opening ≡ self.old.opening }
         ensures events { OnOk result (self.new.events ≡ self.old.events ++ event ∷ []) }

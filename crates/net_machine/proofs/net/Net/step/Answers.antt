@@ -4,11 +4,12 @@ use Rattle.run_ties.specs.Kept.{ties_in}
 use Rattle.running_nodes.specs.MachineModel.Events.{event_of}
 use Rattle.schedule_laws.specs.TiedCompiled.{EndsAtOnce, IsAsCompiled}
 use Rattle.schedule_laws.specs.Isolated.{DeliversSoFar, DeliversTied}
+use Rattle.machine_revocation_laws.specs.Schedules.{RevokedSoFar}
 use Rattle.schedule_laws.specs.Runs.{answer_tied, tied_moment}
 use Rattle.schedule_laws.proofs.Moments.{tied_rounds}
 use Rattle.net_machine.specs.NetState.{NetState}
 use Rattle.net_machine.specs.Tying.{OfTie}
-use Rattle.net_machine.proofs.Ran.{run_can, run_configured, run_seated, step_answers, step_compiled, step_ends, step_isolated}
+use Rattle.net_machine.proofs.Ran.{run_can, run_configured, run_seated, step_answers, step_compiled, step_ends, step_isolated, step_revoked}
 use Rattle.net_machine.proofs.Ran.{step_joined, step_runs, step_unchanged}
 use Rattle.net_machine.proofs.net.Net.step.Goals as goal
 
@@ -104,6 +105,14 @@ returns-clause-every_moment c =
     let n = c.self.inside in
     subst (λ (s : NetState). DeliversSoFar s.opening s.events c.args.event c.in_ok-answer.answer) c.self.view_is
     (step_isolated n.opening n.events n.ties n.nodes.seats n.order.items (c.self.invariant c.if-self.false).0
+    c.args.event c.in_ok-answer.answer c.happen_tied.new.ties c.happen_tied.new.nodes.seats c.happen_tied.new.order.items c.requires.form
+    c.in_ok-answer.ensures.happens c.in_ok-answer.ensures.orders)
+
+pub returns-clause-revoked : goal.returns-clause-revoked
+returns-clause-revoked c =
+    let n = c.self.inside in
+    subst (λ (s : NetState). RevokedSoFar s.opening s.events c.args.event c.in_ok-answer.answer) c.self.view_is
+    (step_revoked n.opening n.events n.ties n.nodes.seats n.order.items (c.self.invariant c.if-self.false).0
     c.args.event c.in_ok-answer.answer c.happen_tied.new.ties c.happen_tied.new.nodes.seats c.happen_tied.new.order.items c.requires.form
     c.in_ok-answer.ensures.happens c.in_ok-answer.ensures.orders)
 

@@ -1,0 +1,22 @@
+-- Lemmas, in the order in which they stand on each other.
+pub mod Drains
+pub mod Rounds
+pub mod Fed
+pub mod Feeds
+pub mod Slices
+pub mod RoundsAsOne
+pub mod TwoRounds
+pub mod InUse
+pub mod Addresses
+pub mod SentStays
+pub mod Quiet
+pub mod FeedsStay
+pub mod PassTells
+pub mod Acting
+pub mod StepsTold
+pub mod EditsTold
+pub mod SlicesTold
+pub mod Refusals
+pub mod Dropped
+pub mod Revoked
+pub mod Placed
