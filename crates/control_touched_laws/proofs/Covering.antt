@@ -1,8 +1,8 @@
 -- The keys and rows that are listed cover what a change touches.
-use Rattle.std.specs.Prelude.{◌≡◌, ◌≢◌, ℕ, zero, suc, List, [], ◌∷◌, ◌++◌, map, Bool, true, false, cond, is_some}
+use Rattle.std.specs.Prelude.{◌≡◌, ◌≢◌, ℕ, zero, suc, List, [], map, Bool, true, false, cond}
 use Rattle.std.specs.declared.option.Option.{Option}
 use Rattle.std.specs.declared.option.Option.TheVariants.{Some, None}
-use Rattle.std.specs.List.{cons_option, filter, flat_map}
+use Rattle.std.specs.List.{cons_option, filter}
 use Rattle.std.specs.FinMap.{get}
 use Rattle.std.proofs.Common.{refl, sym, ◌∙◌, ap, subst, inl, inr}
 use Rattle.ov_types.specs.Prefix.{Block}
@@ -15,7 +15,6 @@ use Rattle.ov_types.specs.declared.vpn.VpnKey.{VpnKey}
 use Rattle.ov_types.specs.declared.vpn.VpnRoute.{VpnRoute}
 use Rattle.ov_sync.specs.declared.Delta.{Delta}
 use Rattle.ov_sync.specs.declared.Delta.TheVariants.{Put, Drop}
-use Rattle.ov_sync.specs.Embed.{moved_delta}
 use Rattle.ov_sync.specs.Keyed.{key_of}
 use Rattle.route_targets.specs.Numbers.{distinguisher_of}
 use Rattle.vpn_tables.specs.NodeModel.Keys.{Key, Low, Vpn, Row, Publish, Subscribe, of_up}
@@ -23,7 +22,7 @@ use Rattle.vpn_tables.specs.NodeModel.Members.{Member}
 use Rattle.vpn_tables.specs.NodeModel.Paths.{Holdings, Path, Told, own_path, peer_path}
 use Rattle.vpn_tables.specs.NodeModel.Reaching.{AreShort, Side, below, circuit_at, hop_at, into, is_up, publisher, sides, sides_of, subnets, towards}
 use Rattle.vpn_tables.specs.NodeModel.Tables.{table}
-use Rattle.vpn_tables.specs.NodeModel.Uses.{Use, is_known, uses}
+use Rattle.vpn_tables.specs.NodeModel.Uses.{is_known, uses}
 use Rattle.vpn_tables.specs.NodeModel.Values.{Value, Object, Route, Entry, Label}
 use Rattle.vpn_tables.specs.NodeModel.Wants.{wanted_by_peers}
 use Rattle.vpn_tables.proofs.NodeModel.Members.{from_flat_map, in_either, in_filter, in_flat_map, in_map, member_when}

@@ -13,4 +13,5 @@ pub mod Agents
 pub mod Touching
 pub mod Covering
 pub mod Objects
+pub mod Importing
 pub mod NodeModel

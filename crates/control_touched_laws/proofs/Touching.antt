@@ -212,7 +212,7 @@ untargeted : (h : Holdings) (is : List InstanceId) → list_any (imports_one h [
 untargeted h [] = refl
 untargeted h (i ∷ is) = untargeted h is
 
-no_rows : (h : Holdings) (q : Block) → touched_rows h [] q ≡ []
+pub no_rows : (h : Holdings) (q : Block) → touched_rows h [] q ≡ []
 no_rows h q =
     λ k. map (λ (i : InstanceId). at_row i q) (filter_none (imports_one h []) (known_instances h.feed) (λ i _. refl) k)
     ++ flat_map rows_at_use (filter_none (is_touched h []) (uses h.feed) (λ u _. untargeted h (hops u)) k)

@@ -1,7 +1,8 @@
 //! Laws of what a change touches: each is the contract of a function that does nothing.
-ghost use Rattle.std.specs.Prelude.{◌≡◌, ◌≢◌, [], ℕ, List, Some, length};
+ghost use Rattle.std.specs.Prelude.{◌≡◌, ◌≢◌, ◌↔◌, ◌⊎◌, [], ℕ, List, None, Some, length, suc};
 ghost use Rattle.std.specs.FinMap.{get};
 ghost use Rattle.ov_sync.specs.declared.Delta.{Delta};
+ghost use Rattle.ov_sync.specs.declared.Delta.TheVariants.{Drop};
 ghost use Rattle.ov_sync.specs.Keyed.{key_of};
 ghost use Rattle.ov_types.specs.Prefix.{Block};
 ghost use Rattle.ov_types.specs.declared.keys.UpKey.{UpKey};
@@ -15,15 +16,16 @@ ghost use Rattle.ov_types.specs.declared.targets.Target.{Target};
 ghost use Rattle.ov_types.specs.declared.vpn.VpnKey.{VpnKey};
 ghost use Rattle.ov_types.specs.declared.vpn.VpnRoute.{VpnRoute};
 ghost use Rattle.vpn_tables.specs.NodeModel.Members.{Member};
-ghost use Rattle.vpn_tables.specs.NodeModel.Keys.{Key, Row, Vpn};
+ghost use Rattle.vpn_tables.specs.NodeModel.Keys.{Key, Publish, Row, Vpn};
 ghost use Rattle.vpn_tables.specs.NodeModel.Paths.{Holdings, Told};
 ghost use Rattle.vpn_tables.specs.NodeModel.Reaching.{AreShort};
 ghost use Rattle.vpn_tables.specs.NodeModel.Tables.{table};
 ghost use Rattle.vpn_tables.specs.NodeModel.Wants.{wanted_by_agent, wanted_by_peers};
 ghost use Rattle.vpn_tables.specs.Changes.{with_low, with_publication, with_route};
 ghost use Rattle.vpn_tables.specs.Moved.{moved_by_publication, moved_by_route};
-ghost use Rattle.vpn_tables.specs.Moved.{targets_by_publication, targets_by_route};
+ghost use Rattle.vpn_tables.specs.Moved.{targets_by_publication, targets_by_route, told_on};
 ghost use Rattle.vpn_tables.specs.Touched.{rows_by_key, touched, touched_rows};
+ghost use Rattle.control_touched_laws.specs.Importing.{IsAlongUse, IsAtPrefix, IsOfPublication, IsOfRoute, held_of, route_put};
 ghost use Rattle.control_touched_laws.specs.TouchedKeys.{IsTouchedKey};
 ghost use Rattle.vpn_tables.specs.TouchedKeys.{key_published, keys_led};
 
@@ -31,6 +33,31 @@ ghost use Rattle.vpn_tables.specs.TouchedKeys.{key_published, keys_led};
 pub fn touched_rows_are_counted()
     ensures { (h : Holdings) (targets : List Target) (prefix : Block)
         → length (touched_rows h targets prefix) ≡ touched h targets }
+{}
+
+/// A row is touched exactly where it is that of the prefix in a known instance that imports one of the targets, or that
+/// of a subnet at a place of a held use of which a place imports one.
+pub fn touched_rows_are_those_that_import()
+    ensures { (h : Holdings) (targets : List Target) (prefix : Block) (i : InstanceId) (q : Block)
+        → Member (i, q) (touched_rows h targets prefix)
+        ↔ (IsAtPrefix h targets prefix i q ⊎ IsAlongUse h targets i q) }
+{}
+
+/// The targets of a change of a route are exactly those of the route that was held and of the one that is put, and of a
+/// change of a publication that of its instance, where something is put or was told. So a drop of what is not there
+/// touches nothing. What the feed tells are no routes.
+pub fn targets_are_those_before_and_after()
+    ensures route { (h : Holdings) (place : ℕ) (d : Delta VpnKey VpnRoute) (t : Target)
+        → Member t (targets_by_route h (suc place) d)
+        ↔ (IsOfRoute (held_of h place (key_of d)) t ⊎ IsOfRoute (route_put d) t) }
+    ensures feed { (h : Holdings) (d : Delta VpnKey VpnRoute) → targets_by_route h 0 d ≡ [] }
+    ensures publication { (h : Holdings) (session : ℕ) (d : Delta UpKey LabelNo) (t : Target)
+        → Member t (targets_by_publication h session d) ↔ IsOfPublication h session d t }
+    ensures no_route { (h : Holdings) (place : ℕ) (k : VpnKey) → held_of h place k ≡ None
+        → touched h (targets_by_route h (suc place) (Drop k)) ≡ 0 }
+    ensures no_publication { (h : Holdings) (session : ℕ) (i : InstanceId) (prefix : Block) (a : Told)
+        → told_on h.agents session ≡ Some a → get a.map (Publish i prefix) ≡ None
+        → touched h (targets_by_publication h session (Drop (Up.Publish i prefix))) ≡ 0 }
 {}
 
 /// A change of a peer's route changes tables and what agents are to be told at touched rows alone, and what peers are

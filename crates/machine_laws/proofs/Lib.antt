@@ -66,3 +66,7 @@ pub mod AtOnce
 pub mod Untied
 pub mod Past
 pub mod MachineModel
+pub mod Rounding
+pub mod Relating
+pub mod Earlier
+pub mod Opening

@@ -2,6 +2,7 @@
 pub mod Settling
 pub mod Small
 pub mod Closing
+pub mod Rounding
 pub mod Compiled
 pub mod Sound
 pub mod Goal
@@ -12,6 +13,7 @@ pub mod Tied
 pub mod TiedMoments
 pub mod Running
 pub mod Stood
+pub mod Relating
 pub mod Refusing
 pub mod Untied
 pub mod Past

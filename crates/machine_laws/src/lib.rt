@@ -6,4 +6,6 @@ pub mod closing_laws;
 pub mod compiled_laws;
 pub mod headline_laws;
 pub mod isolation_laws;
+pub mod round_laws;
 pub mod settling_laws;
+pub mod tie_laws;

@@ -34,9 +34,12 @@ use Rattle.schedule_tied_answers.specs.Answers.{OfAnswer}
 use Rattle.schedule_tied_answers.specs.declared.answer.TiedAnswer.TheVariants.{Answered}
 use Rattle.machine_laws.specs.TiedMoments.{AreJoined}
 use Rattle.machine_laws.specs.Refusing.{TiedNetwork, next_tied}
+use Rattle.machine_laws.proofs.Relating.{in_some, near_by, stands_port, stood}
+use Rattle.machine_laws.specs.Relating.{StandsIn}
+use Rattle.run_ties.specs.Ties.{HasPort}
 use Rattle.machine_laws.proofs.Refused.{among_with_ties, isolated_with_ties, joined_with_ties}
 use Rattle.schedule_laws.specs.TiedCompiled.{EndsAtOnce, IsAsCompiled}
-use Rattle.schedule_laws.specs.Isolated.{DeliversSoFar, DeliversTied, OfDelivery, StayJoined}
+use Rattle.schedule_laws.specs.Isolated.{DeliversRelated, DeliversSoFar, DeliversTied, OfDelivery, StayJoined, StayRelated}
 use Rattle.schedule_laws.specs.Runs.{answer_tied, configs_so_far, tie_broken, tied_moment, unless_tied}
 use Rattle.schedule_laws.proofs.Kept.{asked_of_kept, asked_with_ties, kept, same_moment}
 
@@ -166,3 +169,18 @@ module _ (x : Checked) (valid : IsWritten (opening x)) (es : List Written) (form
 
   pub isolated_here : (e : Written) → DeliversSoFar x es e (answer_tied s (event_of e))
   isolated_here e = of_delivery (StayJoined (configs_so_far x es)) s stay_joined e
+
+  stay_related : (p : Packet) (q : PortNo) (services : List ServiceNo)
+      → forwarding (forwarders s.network) p ≡ Delivered q services → StayRelated (configs_so_far x es) p.source q
+  stay_related p q services is =
+      let cs = configs_so_far x es in
+      let joined = stay_joined p q services is in
+      record {
+        stood = stood cs p.source q joined.stood;
+        near = λ m n a b. near_by cs m n (joined.near m n
+            (in_some (λ c. StandsIn c p.source m) (λ c. HasPort c p.source m) (λ c h. stands_port c p.source m h) cs a)
+            (in_some (λ c. StandsIn c q n) (λ c. HasPort c q n) (λ c h. stands_port c q n h) cs b));
+      }
+
+  pub related_here : (e : Written) → DeliversRelated x es e (answer_tied s (event_of e))
+  related_here e = of_delivery (StayRelated (configs_so_far x es)) s stay_related e

@@ -15,9 +15,9 @@ use Rattle.schedule_laws.proofs.AsCompiled.{forms_of_front}
 use Rattle.schedule_tied_answers.specs.declared.answer.TiedAnswer.{TiedAnswer}
 use Rattle.machine_laws.specs.Refusing.{TiedNetwork, after_tied, next_tied, tied_start}
 use Rattle.schedule_laws.specs.TiedCompiled.{AreAsCompiled, EndsAtOnce, IsAsCompiled}
-use Rattle.schedule_laws.specs.Isolated.{DeliversSoFar, IsIsolated, StandsAt}
+use Rattle.schedule_laws.specs.Isolated.{DeliversRelated, DeliversSoFar, IsIsolated, StandsAt, StaysAmongRelated}
 use Rattle.schedule_laws.specs.Runs.{answer_tied, answers, run_tied, tied_moment}
-use Rattle.schedule_laws.proofs.Moments.{compiled_here, ends_here, isolated_here}
+use Rattle.schedule_laws.proofs.Moments.{compiled_here, ends_here, isolated_here, related_here}
 
 at_place : (es : List Written) (s : TiedNetwork) (place : ℕ) (e : Written) (a : TiedAnswer)
     → slice_get es place ≡ Some e → slice_get (run_tied message_size s (map event_of es)) place ≡ Some a
@@ -64,3 +64,8 @@ module _ (x : Checked) (valid : IsWritten (opening x)) (es : List Written) (form
   isolated = λ place e a at.
       subst (DeliversSoFar x (take place es) e) (sym (answer_at place e a at))
       (isolated_here x valid (take place es) (fronts place) e)
+
+  pub related : StaysAmongRelated x es (answers x es)
+  related = λ place e a at.
+      subst (DeliversRelated x (take place es) e) (sym (answer_at place e a at))
+      (related_here x valid (take place es) (fronts place) e)

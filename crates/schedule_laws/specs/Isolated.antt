@@ -13,6 +13,7 @@ use Rattle.schedule_script.specs.declared.answer.Answer.TheVariants.{Traced}
 use Rattle.schedule_tied_answers.specs.declared.answer.TiedAnswer.{TiedAnswer}
 use Rattle.schedule_tied_answers.specs.declared.answer.TiedAnswer.TheVariants.{Answered}
 use Rattle.machine_laws.specs.TiedMoments.{AreJoined}
+use Rattle.machine_laws.specs.Relating.{AreRelatedIn, StandsIn, StoodRelated}
 use Rattle.machine_laws.specs.Stood.{InSome, WereJoined}
 use Rattle.schedule_laws.specs.Runs.{configs_so_far}
 
@@ -52,3 +53,20 @@ pub record StandsAt (es : List Event) (answered : List TiedAnswer) (place : ℕ)
 abbrev pub IsIsolated : Checked → List Event → List TiedAnswer → Type 0
 IsIsolated x es answered =
     (place : ℕ) (e : Event) (a : TiedAnswer) → StandsAt es answered place e a → DeliversSoFar x (take place es) e a
+
+-- ---- the same with no definition of ties
+-- both port numbers stood in configurations so far, in networks that are one or between which a configuration so far had a
+-- rule that lets packets through; and so are whichever networks configurations so far had the two in
+pub record StayRelated (cs : List Config) (p q : PortNo) : Type 0 where
+  pub stood : StoodRelated cs p q
+  pub near : (m n : InstanceId) → InSome cs (λ c. StandsIn c p m) → InSome cs (λ c. StandsIn c q n)
+      → (m ≡ n) ⊎ InSome cs (λ c. AreRelatedIn c m n)
+
+-- a packet that is delivered after these events stays among ports so related
+abbrev pub DeliversRelated : Checked → List Event → Event → TiedAnswer → Type 0
+DeliversRelated x es e a = OfDelivery (StayRelated (configs_so_far x es)) e a
+
+-- at every place of a schedule, settled or not
+abbrev pub StaysAmongRelated : Checked → List Event → List TiedAnswer → Type 0
+StaysAmongRelated x es answered =
+    (place : ℕ) (e : Event) (a : TiedAnswer) → StandsAt es answered place e a → DeliversRelated x (take place es) e a

@@ -10,7 +10,7 @@ ghost use Rattle.machine_laws.specs.Refusing.{TiedNetwork, refuses};
 ghost use Rattle.machine_laws.specs.MachineModel.Events.{MachineEvent as Happening};
 ghost use Rattle.machine_laws.specs.MachineModel.Setup.{opening};
 ghost use Rattle.schedule_laws.specs.TiedCompiled.{AreAsCompiled};
-ghost use Rattle.schedule_laws.specs.Isolated.{IsIsolated};
+ghost use Rattle.schedule_laws.specs.Isolated.{IsIsolated, StaysAmongRelated};
 ghost use Rattle.schedule_laws.specs.Runs.{answers, tie_broken};
 
 /// From any valid configuration and after any events: what a settled network shows is what the configuration of that
@@ -26,6 +26,14 @@ pub fn answers_are_as_compiled()
 pub fn deliveries_are_isolated()
     ensures { (x : Checked) → IsWritten (opening x) → (es : List Event) → IsTrue (list_all has_event_form es)
         → IsIsolated x es (answers x es) }
+{}
+
+/// The same with no definition of ties: a packet is delivered only between ports that stood in configurations so far, in
+/// networks that are one or between which a configuration so far had a rule that passes packets or leads them through a
+/// chain.
+pub fn deliveries_stay_among_networks_related_by_rules()
+    ensures { (x : Checked) → IsWritten (opening x) → (es : List Event) → IsTrue (list_all has_event_form es)
+        → StaysAmongRelated x es (answers x es) }
 {}
 
 /// An edit is answered with a tie exactly where the machine that keeps ties refuses it.
