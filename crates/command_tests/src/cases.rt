@@ -161,6 +161,7 @@ fn set<'a>(case: &mut Case<'a>, setting: &'a str) -> Result<(), CaseFault> {
         "reads of" => case.ends.most_read = number_of(value)?,
         "pieces up to" => case.pieces = number_of(value)?,
         "rows of" => case.telling = Telling::RowsOf(value),
+        "asked by" => case.telling = Telling::AskedBy(value),
         "telling" => case.telling = telling_of(value)?,
         _ => return Err(CaseFault::Unreadable),
     }

@@ -3,6 +3,9 @@
 use crate::fault::CaseFault;
 use config_types::Event;
 use ov_io::TextOut;
+use ov_types::{Name, NoMemory};
+use rt_constrain::{Asked, asked};
+use std::alloc::Global;
 use top_call::Net;
 
 /// Tells the number of the system, the events that were taken, and whether all is settled.
@@ -52,4 +55,38 @@ fn state_of(net: &Net) -> &'static str {
     } else {
         " / not settled"
     }
+}
+
+/// Tells what a control node of the network asks of its peers.
+pub(crate) fn tell_asked(
+    alloc: Global,
+    net: &Option<Net>,
+    node: &str,
+    out: &mut TextOut,
+) -> Result<(), CaseFault> {
+    match net {
+        Some(net) => tell_asked_in(alloc, net, node, out),
+        None => Ok(out.push(b" / no network")?),
+    }
+}
+
+fn tell_asked_in(alloc: Global, net: &Net, node: &str, out: &mut TextOut) -> Result<(), CaseFault> {
+    if net.failed() {
+        return Err(CaseFault::NoMemory);
+    }
+    let name = Name::new(node).ok_or(CaseFault::Unreadable)?;
+    let tables = net.control(&name).ok_or(CaseFault::Unreadable)?.tables();
+    let entries = asked(alloc, tables, tables.asn())?;
+    for entry in entries.as_slice() {
+        push_asked(entry, out)?;
+    }
+    Ok(())
+}
+
+/// The length, who asks, and the eight octets of the target.
+fn push_asked(asked: &Asked, out: &mut TextOut) -> Result<(), NoMemory> {
+    let length = asked.length;
+    let origin = asked.origin;
+    let target = asked.target.0;
+    write!(out, " / {length} {origin} {target:016x}")
 }

@@ -3,7 +3,7 @@
 use crate::ends::{Ends, ShortSink, ShortSource};
 use crate::fault::CaseFault;
 use crate::inputs::Input;
-use crate::networks::tell_network;
+use crate::networks::{tell_asked, tell_network};
 use ov_io::TextOut;
 use std::alloc::Global;
 use std::str;
@@ -29,6 +29,8 @@ pub(crate) enum Telling<'a> {
     RowsOf(&'a str),
     /// The network that it leaves.
     Network,
+    /// What the control node with this name asks of its peers in that network.
+    AskedBy(&'a str),
 }
 
 /// Tells the status of a run, and what is asked for of it. The network that the run leaves is left in `net`.
@@ -44,7 +46,7 @@ pub(crate) fn tell(
     let source = ends.source_of(alloc, run.input.octets(alloc)?)?;
     let mut sink = ends.sink(alloc)?;
     let status = ran(alloc, words.as_slice(), source, &mut sink, net);
-    tell_end(status, sink.taken(), telling, net, out)
+    tell_end(alloc, status, sink.taken(), telling, net, out)
 }
 
 /// The words of a command. A blank in a word is spelled `\s`.
@@ -67,6 +69,7 @@ fn ran(
 }
 
 fn tell_end(
+    alloc: Global,
     status: Status,
     text: &[u8],
     telling: Telling,
@@ -80,6 +83,7 @@ fn tell_end(
         Telling::LineCount => push_count(lines_in(text), out),
         Telling::RowsOf(node) => push_rows(text, node, out),
         Telling::Network => tell_network(net, out),
+        Telling::AskedBy(node) => tell_asked(alloc, net, node, out),
     }
 }
 

@@ -17,6 +17,13 @@ use Rattle.flow_acl.specs.contracts.flow.FlowKeyPartialEq.TheImpl as flows
 abbrev pub flow_of : InstanceId → Packet → FlowKey
 flow_of network p = record { network = network; destination = p.destination; tuple = p.tuple }
 
+-- two packets that leave networks agree in all that a flow is: the network, where they go, and their tuple. Which ports
+-- they come from is no part of it
+pub record GoAlike (left other : InstanceId) (p q : Packet) : Type 0 where
+  pub network : left ≡ other
+  pub destination : p.destination ≡ q.destination
+  pub tuple : p.tuple ≡ q.tuple
+
 -- a packet of a flow, from a port
 abbrev pub packet_of : FlowKey → PortNo → Packet
 packet_of f source = record { source = source; destination = f.destination; tuple = f.tuple }

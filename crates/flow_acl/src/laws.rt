@@ -2,6 +2,7 @@
 ghost use Rattle.std.specs.Prelude.{◌≡◌, ◌≢◌, ◌↔◌, ◌<◌, ◌++◌, ◌∷◌, [], ℕ, IsTrue, List, None, length};
 ghost use Rattle.std.specs.List.{All, Contains};
 ghost use Rattle.ov_types.specs.Access.{holds, verdict, verdict_of};
+ghost use Rattle.ov_types.specs.declared.numbers.InstanceId.{InstanceId};
 ghost use Rattle.ov_types.specs.declared.objects.AclRule.{AclRule};
 ghost use Rattle.ov_types.specs.declared.objects.LowKey.{LowKey};
 ghost use Rattle.ov_types.specs.declared.objects.LowValue.{LowValue};
@@ -10,7 +11,7 @@ ghost use Rattle.ov_types.specs.declared.packet.Tuple.{Tuple};
 ghost use Rattle.ov_types.specs.declared.verdict.Verdict.{Verdict};
 ghost use Rattle.ov_types.specs.declared.verdict.Verdict.TheVariants.{Pass, Denied, NoDestination};
 ghost use Rattle.flow_acl.specs.Deciding.{Decides, Holds, IsMap, Leads};
-ghost use Rattle.flow_acl.specs.Flows.{with_new};
+ghost use Rattle.flow_acl.specs.Flows.{GoAlike, flow_of, is_flow, with_new};
 ghost use Rattle.flow_acl.specs.declared.flow.FlowKey.{FlowKey};
 
 /// There is no destination exactly where no list of the network holds it.
@@ -40,6 +41,13 @@ pub fn the_least_list_decides()
 /// An entry holds the tuples of its protocol, or of any, whose ports lie in its ranges, both ends included.
 pub fn an_entry_holds_its_tuples()
     ensures { (r : AclRule) (t : Tuple) → IsTrue (holds r t) ↔ Holds r t }
+{}
+
+/// Two packets are of one flow exactly where they leave one network, go to one destination and have one tuple, whatever
+/// ports of the network they come from.
+pub fn a_flow_is_of_a_network_and_not_of_a_port()
+    ensures { (left other : InstanceId) (p q : Packet)
+        → IsTrue (is_flow (flow_of left p) (flow_of other q)) ↔ GoAlike left other p q }
 {}
 
 /// Of verdicts 1,024 are kept and no more: a new one stands before those that were there, all of them where there were

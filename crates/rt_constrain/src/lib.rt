@@ -10,4 +10,5 @@ mod sharing;
 pub use asking::asked;
 pub use covering::{covers, restrict};
 pub use needing::needed;
+pub use rt_membership::{Asked, read_membership, write_membership};
 pub use sharing::{Share, share_of};

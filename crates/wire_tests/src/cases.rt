@@ -1,7 +1,9 @@
 //! The kinds of cases, and how one is held against what it wants.
 
 use crate::fault::CaseFault;
-use crate::{hearings, messages, record_sessions, records, restarts, sessions, updates};
+use crate::{
+    hearings, memberships, messages, record_sessions, records, restarts, sessions, updates,
+};
 use ov_io::TextOut;
 use std::alloc::Global;
 
@@ -15,6 +17,8 @@ fn tell(alloc: Global, kind: &str, given: &str, out: &mut TextOut) -> Result<(),
         "update" => updates::tell_update(alloc, false, given, out),
         "wide-update" => updates::tell_update(alloc, true, given, out),
         "written-updates" => updates::tell_written_updates(alloc, given, out),
+        "memberships" => memberships::tell_memberships(alloc, given, out),
+        "written-membership" => memberships::tell_written_membership(alloc, given, out),
         "marks" => restarts::tell_marks(alloc, given, out),
         "restart" => restarts::tell_restart(alloc, given, out),
         _ => tell_session(alloc, kind, given, out),

@@ -4,6 +4,7 @@
 pub(crate) fn laws() {
     messages();
     updates();
+    memberships();
     sessions();
     records();
     restarts();
@@ -32,6 +33,14 @@ fn updates() {
     bgp_vpn::laws::tests_hold_of_exactly_the_lists();
     bgp_vpn::laws::readings_differ_in_segments_alone();
     bgp_vpn::laws::a_path_without_segments_reads_alike();
+}
+
+fn memberships() {
+    rt_membership::laws::a_membership_says_one_thing();
+    rt_membership::laws::the_test_holds_of_exactly_the_entries();
+    rt_membership::laws::the_checks_on_every_update_come_first();
+    rt_membership::laws::entries_are_what_is_asked();
+    rt_membership::laws::spellings_of_memberships_are_one();
 }
 
 fn sessions() {

@@ -6,6 +6,7 @@ mod cases;
 mod fault;
 mod hearings;
 mod laws;
+mod memberships;
 mod messages;
 mod octets;
 mod record_sessions;
